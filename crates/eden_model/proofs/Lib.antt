@@ -1,0 +1,6 @@
+pub mod Walks
+pub mod Listings
+pub mod Lookups
+pub mod OneReply
+pub mod Sorted
+pub mod Wholes

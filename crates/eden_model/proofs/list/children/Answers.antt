@@ -1,0 +1,8 @@
+use Rattle.std.specs.Ordering.{nat_cmp}
+use Rattle.std.specs.Cmp.Lexicographic.{slice_cmp}
+use Rattle.std.specs.BTreeMap as tree
+use Rattle.eden_model.proofs.Listings.{children_more}
+use Rattle.eden_model.proofs.list.children.Goals as goal
+
+pub loop-row-preserved : goal.loop-row-preserved
+loop-row-preserved c = λ n. children_more c.args.rows.now c.args.dir.now n c.loop-row.row-index c.loop-row-item.result (tree.get (slice_cmp nat_cmp) c.loop-row.all n) _ c.loop-row-test.true c.loop-row-item.is (c.loop-row.invariant n) (c.in_ok-note_row.ensures n)

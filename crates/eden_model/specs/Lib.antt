@@ -1,0 +1,11 @@
+pub mod Names
+pub mod Paths
+pub mod Faults
+pub mod Trees
+pub mod Shown
+pub mod Repository
+pub mod Operations
+pub mod Histories
+pub mod Rows
+pub mod Walks
+pub mod Laws
