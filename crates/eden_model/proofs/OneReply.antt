@@ -1,5 +1,5 @@
 -- The table gives at most one reply, and neither a fault nor a change with an error.
-use Rattle.std.proofs.Common.{◌≡◌, ℕ, List, [], length, take, drop, sym, refl, ◌∙◌, ap, Option, Some, None, Bool, true, false, nat_lt, eqb}
+use Rattle.std.proofs.Common.{◌≡◌, ℕ, List, [], length, take, sym, refl, ◌∙◌, ap, Option, Some, None, Bool, true, false, nat_lt, eqb}
 use Rattle.std.specs.Prelude.{◌||◌}
 use Rattle.std.proofs.lemmas.Cmp.{nat_list_cmp_total}
 use Rattle.std.proofs.lemmas.Map.Lookups.{exact_bytes}

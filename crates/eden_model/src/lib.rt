@@ -19,6 +19,7 @@ mod node;
 mod path;
 mod reply;
 mod request;
+mod shape;
 mod tree;
 mod tree_entry;
 mod walk;

@@ -1,4 +1,4 @@
-ghost use Rattle.std.specs.Prelude.{◌≡◌, IfOk, IfSome, IfNone, OnErr};
+ghost use Rattle.std.specs.Prelude.{◌≡◌, IfOk, IfSome, IfNone, IsOk, OnErr};
 ghost use Rattle.eden_model.specs.Rows.{AreTree, Steps};
 
 use crate::list::list;
@@ -7,6 +7,7 @@ use crate::node::Node;
 use crate::path::Path;
 use crate::reply::Reply;
 use crate::request::Request;
+use crate::shape::are_tree;
 use std::alloc::{AllocError, Global};
 use std::marker::Model;
 
@@ -44,6 +45,21 @@ fn look(
 }
 
 impl WholeTree {
+    /// The tree of those rows. None where a path comes twice, or the rows are no tree: the root is a directory, and
+    /// what stands above every other row is a directory whose entries are known. Rows are kept as they are, so that no
+    /// memory is wanted and the answer is never an error. It takes time with the square of the rows.
+    pub fn new(_alloc: Global, rows: Vec<(Path, Node)>) -> Result<Option<WholeTree>, AllocError>
+        ensures ok { IsOk result }
+        ensures tree { IfOk result (λ o. IfSome o (λ t. (t ≡ rows.items) × AreTree rows.items)) }
+        ensures none { IfOk result (λ o. IfNone o (¬ AreTree rows.items)) }
+    {
+        if are_tree(rows.as_slice()) {
+            Ok(Some(WholeTree { rows }))
+        } else {
+            Ok(None)
+        }
+    }
+
     /// One request: the reply that the table gives, and the tree after it. None means that the table gives no reply,
     /// since the request looks into contents that are lost or unlisted; then nothing changes. After the only error,
     /// want of memory, nothing has changed either.
