@@ -20,6 +20,8 @@ mod path;
 mod reply;
 mod request;
 mod shape;
+#[cfg(test)]
+mod tests;
 mod tree;
 mod tree_entry;
 mod walk;
