@@ -68,10 +68,17 @@ abbrev pub is_after : Option Name → Name → Bool
 is_after None n = true
 is_after (Some a) n = name_lt a n
 
+-- in strictly rising byte order of names
+abbrev pub IsRising : List (Name × Kind) → Type 0
+IsRising all = IsStrictlySortedBy (slice_cmp nat_cmp) (keys_of all)
+
+abbrev pub kind_at : List (Name × Kind) → Name → Option Kind
+kind_at all n = lookup (is_at (slice_cmp nat_cmp n)) all
+
 -- the children of a directory, all of them, in byte order of their names
 pub record IsListing (F : Tree) (p : Path) (all : List (Name × Kind)) : Type 0 where
-  pub rising : IsStrictlySortedBy (slice_cmp nat_cmp) (keys_of all)
-  pub children : (n : Name) → lookup (is_at (slice_cmp nat_cmp n)) all ≡ option_map kind_of (F (p ++ n ∷ []))
+  pub rising : IsRising all
+  pub children : (n : Name) → kind_at all n ≡ option_map kind_of (F (p ++ n ∷ []))
 
 -- the entries whose names are greater than `after`
 abbrev pub beyond : Option Name → List (Name × Kind) → List (Name × Kind)

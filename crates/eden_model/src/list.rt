@@ -1,70 +1,46 @@
-ghost use Rattle.std.specs.Prelude.{◌≡◌, IfOk, OnErr, ℕ, List, [], ◌∷◌, ◌++◌, Some, None, if◌then◌else◌};
-ghost use Rattle.std.specs.Str.{bytes_eq};
-ghost use Rattle.std.specs.Ordering.{nat_cmp};
-ghost use Rattle.std.specs.Cmp.Lexicographic.{slice_cmp};
-ghost use Rattle.std.specs.BTreeMap as tree;
-ghost use Rattle.eden_model.specs.Operations.{Tells, Lists, ListsSome, kind_of, IsListing, beyond, is_after};
+ghost use Rattle.std.specs.Prelude.{◌≡◌, IfOk, OnOk, ℕ, List, [], ◌∷◌, ◌++◌, Some, None, if◌then◌else◌};
+ghost use Rattle.std.specs.Option.{option_map};
+ghost use Rattle.eden_model.specs.Operations.{Tells, Lists, ListsSome, kind_of, kind_at};
 ghost use Rattle.eden_model.specs.Paths.{path_eq};
 ghost use Rattle.eden_model.specs.Rows.{Steps, tree_of, first_of};
 ghost use Rattle.eden_model.specs.declared.request.Request.TheVariants as ask;
 
 use crate::errno::Errno;
-use crate::kind::Kind;
+use crate::listing::Listing;
 use crate::name::Name;
 use crate::node::Node;
 use crate::path::{Path, child};
-use crate::reply::{Entries, Reply};
+use crate::reply::Reply;
 use crate::walk::{Met, meet};
 use std::alloc::{AllocError, Global};
-use std::collections::BTreeMap;
-
-/// Notes a child, where none of its name is noted yet.
-fn note(
-    alloc: Global,
-    all: &mut BTreeMap<Name, Kind>,
-    name: &Name,
-    kind: Kind,
-) -> Result<(), AllocError>
-    ensures { IfOk result (λ _. (n : List ℕ) → tree.get (slice_cmp nat_cmp) all.new n ≡ first_of (tree.get (slice_cmp nat_cmp) all.old n) (if bytes_eq n name.now then Some kind else None)) }
-{
-    if !all.contains_key(name) {
-        all.insert(name.copy(alloc)?, kind)?;
-    }
-    Ok(())
-}
 
 /// Notes a row's node, where the row is a child of that directory.
 fn note_row(
     alloc: Global,
-    all: &mut BTreeMap<Name, Kind>,
+    all: &mut Listing,
     dir: &[Name],
     row: &Path,
     node: &Node,
 ) -> Result<(), AllocError>
-    ensures { IfOk result (λ _. (n : List ℕ) → tree.get (slice_cmp nat_cmp) all.new n ≡ first_of (tree.get (slice_cmp nat_cmp) all.old n) (if path_eq (dir.now ++ n ∷ []) row.now then Some (kind_of node.now) else None)) }
+    ensures { OnOk result ((n : List ℕ) → kind_at all.new n ≡ first_of (kind_at all.old n) (if path_eq (dir.now ++ n ∷ []) row.now then Some (kind_of node.now) else None)) }
 {
     match child(dir, row.as_slice()) {
         None => Ok(()),
         Some(name) => {
-            note(alloc, all, name, node.kind())?;
+            all.note(alloc, name, node.kind())?;
             Ok(())
         }
     }
 }
 
 /// All children of a directory.
-fn children(
-    alloc: Global,
-    rows: &[(Path, Node)],
-    dir: &[Name],
-) -> Result<BTreeMap<Name, Kind>, AllocError>
-    ensures { IfOk result (λ m. IsListing (tree_of rows.now) dir.now m.entries) }
+fn children(alloc: Global, rows: &[(Path, Node)], dir: &[Name]) -> Result<Listing, AllocError>
+    ensures { IfOk result (λ all. (n : List ℕ) → kind_at all n ≡ option_map kind_of (tree_of rows.now (dir.now ++ n ∷ []))) }
 {
-    let mut all = BTreeMap::new(alloc);
+    let mut all = Listing::new(alloc);
     for (row, node) in rows {
         note_row(alloc, &mut all, dir, row, node)?;
     }
-    let _count = all.len();
     Ok(all)
 }
 
@@ -77,20 +53,7 @@ fn entries(
 ) -> Result<Reply, AllocError>
     ensures { IfOk result (λ r. ListsSome (tree_of rows.now) dir.now after.now limit r) }
 {
-    let all = children(alloc, rows, dir)?;
-    let mut found: Vec<(Name, Kind)> = all.into_iter().collect(alloc)?;
-    keep_after(&mut found, after);
-    let more = found.len() as u64 > limit;
-    if more {
-        found.truncate(limit as usize);
-    }
-    Ok(Reply::Entries(Entries::new(found), more))
-}
-
-fn keep_after(found: &mut Vec<(Name, Kind)>, after: &Option<Name>)
-    ensures { found.new.items ≡ beyond after.now found.old.items }
-{
-    found.retain(|row| is_after_name(after, &row.0));
+    children(alloc, rows, dir)?.page(alloc, after, limit)
 }
 
 fn list_node(
@@ -135,14 +98,5 @@ pub(crate) fn list(
         Met::Silent => Ok(None),
         Met::Absent => Ok(Some(Reply::Err(Errno::ENOENT))),
         Met::Here(node) => list_node(alloc, rows, path.as_slice(), after, limit, node),
-    }
-}
-
-fn is_after_name(after: &Option<Name>, name: &Name) -> bool
-    ensures { result ≡ is_after after.now name.now }
-{
-    match after {
-        None => true,
-        Some(a) => *a < *name,
     }
 }
