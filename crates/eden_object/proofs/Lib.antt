@@ -1,0 +1,6 @@
+pub mod Cuts
+pub mod FrameLemmas
+pub mod RowLemmas
+pub mod NameLemmas
+pub mod CheckLemmas
+pub mod OrderLemmas

@@ -1,0 +1,233 @@
+-- Lemmas on Git's order of entries.
+use Rattle.std.proofs.Common.{Bool, true, false, None, replicate, set, take, slice_index_or, length-set, ◌≡◌, ◌≢◌, ℕ, ◌<◌, ◌≤◌, List, [], ◌∷◌, length, slice_index, sym, ap, ◌∙◌, subst, arith, ◌⊎◌, inl, inr, refl}
+use Rattle.std.proofs.lemmas.List.{get_or_append_left, get_or-set_other, get_or-set_same, get_or-take, get_or-replicate, get_or_past, length-replicate, length-take-le, take_all, ext_get_or}
+use Rattle.std.proofs.lemmas.Bool.{cases_order, cases_lt}
+use Rattle.eden_model.specs.declared.tree_entry.TreeEntry.{TreeEntry}
+use Rattle.eden_object.specs.Order.{key_of, key_end}
+use Rattle.eden_model.specs.Names.{name_refusal}
+use Rattle.eden_object.specs.Rows.{BeginsWith}
+use Rattle.eden_object.proofs.RowLemmas.{behind_entry, name_short}
+use Rattle.eden_object.proofs.CheckLemmas.{both}
+use Rattle.eden_object.specs.Trees.{IsFree, NamesDiffer, AreEntries}
+
+-- the first byte that differs is smaller in the first; past the end of one stands a 0, which no name has
+pub record IsBelow (first second : List ℕ) : Type 0 where
+  pub shared : ℕ
+  pub same : (i : ℕ) → i < shared → slice_index first i ≡ slice_index second i
+  pub smaller : slice_index first shared < slice_index second shared
+
+-- .. and it is a byte of the first
+pub record IsPast (name key : List ℕ) : Type 0 where
+  pub below : IsBelow name key
+  pub inside : below.shared < length name
+
+-- the next entry is behind this
+abbrev pub IsBehind : TreeEntry → List TreeEntry → Type 0
+IsBehind e [] = Unit {0}
+IsBehind e (f ∷ fs) = IsBelow (key_of e) (key_of f)
+
+-- in Git's order, no two alike
+abbrev pub IsOrdered : List TreeEntry → Type 0
+IsOrdered [] = Unit {0}
+IsOrdered (e ∷ es) = IsBehind e es × IsOrdered es
+
+-- an entry's key begins with its name
+pub key_front : (e : TreeEntry) (i : ℕ) → i < length e.name → slice_index (key_of e) i ≡ slice_index e.name i
+key_front e i h = get_or_append_left e.name (key_end e.mode) 0 i h
+
+pub is_past : (name : List ℕ) (e : TreeEntry) (n : ℕ) → n < length name → n ≤ length e.name → ((i : ℕ) → i < n → slice_index name i ≡ slice_index e.name i) → slice_index name n < slice_index (key_of e) n → IsPast name (key_of e)
+is_past name e n inside short same less =
+    record {
+      below = record { shared = n; same = λ i h. same i h ∙ sym (key_front e i (omega arith)); smaller = less };
+      inside = inside;
+    }
+
+-- no entry with the name is past it
+pub past_other : (name : List ℕ) (e : TreeEntry) → IsPast name (key_of e) → e.name ≢ name
+past_other name e p same =
+    let n = p.below.shared in
+    let inside : n < length e.name = subst (λ t. n < length t) (sym same) p.inside in
+    let here : slice_index (key_of e) n ≡ slice_index name n = key_front e n inside ∙ ap (λ t. slice_index t n) same in
+    let less = p.below.smaller in
+    omega arith
+
+-- what comes behind is past it too
+pub past_on : (name key next : List ℕ) → IsPast name key → IsBelow key next → IsPast name next
+past_on name key next p b = go (cases_order p.below.shared b.shared)
+  where
+    go : (p.below.shared ≡ b.shared) ⊎ ((p.below.shared < b.shared) ⊎ (b.shared < p.below.shared)) → IsPast name next
+    go (inl at) = record {
+      below = record {
+        shared = p.below.shared;
+        same = λ i h. p.below.same i h ∙ b.same i (omega arith);
+        smaller = let less = p.below.smaller in let more = b.smaller in let here = ap (slice_index key) at in let there = ap (slice_index next) at in omega arith;
+      };
+      inside = p.inside;
+    }
+    go (inr (inl before)) = record {
+      below = record {
+        shared = p.below.shared;
+        same = λ i h. p.below.same i h ∙ b.same i (omega arith);
+        smaller = let less = p.below.smaller in let here = b.same p.below.shared before in omega arith;
+      };
+      inside = p.inside;
+    }
+    go (inr (inr behind)) = record {
+      below = record {
+        shared = b.shared;
+        same = λ i h. p.below.same i (omega arith) ∙ b.same i h;
+        smaller = let more = b.smaller in let here = p.below.same b.shared behind in omega arith;
+      };
+      inside = let inside = p.inside in omega arith;
+    }
+
+-- in order, no entry behind one that is past the name has it
+pub past_free : (name : List ℕ) (e : TreeEntry) (es : List TreeEntry) → IsOrdered (e ∷ es) → IsPast name (key_of e) → IsFree name (e ∷ es)
+past_free name e [] o p = (past_other name e p, tt)
+past_free name e (f ∷ fs) o p = (past_other name e p, past_free name f fs o.1 (past_on name (key_of e) (key_of f) p o.0))
+
+-- the marks are of lengths up to this
+pub record Marks (fronts : List Bool) (longest : ℕ) : Type 0 where
+  pub size : length fronts ≡ 256
+  pub short : longest ≤ 255
+  pub within : (n : ℕ) → slice_index_or fronts n false ≡ true → n ≤ longest
+
+-- no name that is marked comes again, nor one of these twice
+pub record GoesOn (fronts : List Bool) (last : TreeEntry) (fs : List TreeEntry) : Type 0 where
+  pub free : (n : ℕ) → slice_index_or fronts n false ≡ true → IsFree (take n last.name) fs
+  pub differ : NamesDiffer fs
+
+-- all names differ exactly if it goes on so: if the rest is in order, where one asks whether that is enough
+pub record StandsFor (fronts : List Bool) (last : TreeEntry) (es fs : List TreeEntry) : Type 0 where
+  pub needed : NamesDiffer es → GoesOn fronts last fs
+  pub enough : IsOrdered (last ∷ fs) → GoesOn fronts last fs → NamesDiffer es
+
+abbrev pub Stands : List Bool → TreeEntry → List ℕ → List ℕ → Type 0
+Stands fronts last body rest = (es : List TreeEntry) → AreEntries es body → (fs : List TreeEntry) × AreEntries fs rest × StandsFor fronts last es fs
+
+-- one mark alone
+only : (k n : ℕ) → slice_index_or (set (replicate 256 false) k true) n false ≡ true → n ≡ k
+only k n h = go (cases_order n k)
+  where
+    none : (i : ℕ) → slice_index_or (replicate 256 false) i false ≡ false
+    none i = there i (cases_lt i 256)
+      where
+        there : (i : ℕ) → (i < 256) ⊎ (256 ≤ i) → slice_index_or (replicate 256 false) i false ≡ false
+        there i (inl h) = get_or-replicate 256 i false false h
+        there i (inr h) = get_or_past (replicate 256 false) i false (let size = length-replicate 256 false in omega arith)
+
+    go : (n ≡ k) ⊎ ((n < k) ⊎ (k < n)) → n ≡ k
+    go (inl same) = same
+    go (inr (inl less)) = absurd (both true refl (sym h ∙ get_or-set_other (replicate 256 false) k n true false (omega arith) ∙ none n))
+    go (inr (inr more)) = absurd (both true refl (sym h ∙ get_or-set_other (replicate 256 false) k n true false (omega arith) ∙ none n))
+
+pub marks_start : (k : ℕ) → k ≤ 255 → Marks (set (replicate 256 false) k true) k
+marks_start k h = record {
+  size = length-set (replicate 256 false) k true ∙ length-replicate 256 false;
+  short = h;
+  within = λ n m. let same = only k n m in omega arith;
+}
+
+pub stands_start : (first : TreeEntry) (body rest : List ℕ) → length first.name ≤ 255 → BeginsWith first body rest → Stands (set (replicate 256 false) (length first.name) true) first body rest
+stands_start first body rest short b = λ es h.
+    let behind = behind_entry first es body rest b h in
+    let own : slice_index_or (set (replicate 256 false) (length first.name) true) (length first.name) false ≡ true = get_or-set_same (replicate 256 false) (length first.name) true false (let size = length-replicate 256 false in omega arith) in (
+      behind.0,
+      behind.2,
+      record {
+        needed = λ p. let here = subst NamesDiffer behind.1 p in record {
+          free = λ n m. subst (λ t. IsFree t behind.0) (sym (take_all n first.name (let same = only (length first.name) n m in omega arith))) here.0;
+          differ = here.1;
+        };
+        enough = λ o g. subst NamesDiffer (sym behind.1) (subst (λ t. IsFree t behind.0) (take_all (length first.name) first.name (omega arith)) (g.free (length first.name) own), g.differ);
+      },
+    )
+
+-- the fronts of two names that begin alike
+take_same : (n : ℕ) (xs ys : List ℕ) → n ≤ length xs → n ≤ length ys → ((i : ℕ) → i < n → slice_index xs i ≡ slice_index ys i) → take n xs ≡ take n ys
+take_same n xs ys h k same =
+    let long = length-take-le n xs h in
+    let wide = length-take-le n ys k in
+    ext_get_or 0 (take n xs) (take n ys) (omega arith) (λ i within. get_or-take n xs i 0 (omega arith) ∙ same i (omega arith) ∙ sym (get_or-take n ys i 0 (omega arith)))
+
+-- the last entry and the next, which is behind it: what they share, and the marks before and after
+pub record IsStep (old new : List Bool) (last next : TreeEntry) (shared : ℕ) : Type 0 where
+  pub marks : Marks old (length last.name)
+  pub good : name_refusal next.name ≡ None
+  pub first : shared ≤ length last.name
+  pub second : shared ≤ length next.name
+  pub same : (i : ℕ) → i < shared → slice_index last.name i ≡ slice_index next.name i
+  pub smaller : slice_index (key_of last) shared < slice_index (key_of next) shared
+  pub size : length new ≡ length old
+  pub own : slice_index_or new (length next.name) false ≡ true
+  pub kept : (n : ℕ) → n ≤ shared → slice_index_or old n false ≡ true → slice_index_or new n false ≡ true
+  pub others : (n : ℕ) → n ≤ length last.name → n ≢ length next.name → slice_index_or new n false ≡ true → (n ≤ shared) × (slice_index_or old n false ≡ true)
+  pub above : (n : ℕ) → length last.name < n → n ≢ length next.name → slice_index_or new n false ≡ slice_index_or old n false
+
+-- a new mark is the next name's or an old one
+pub marked : (old new : List Bool) (last next : TreeEntry) (shared : ℕ) → IsStep old new last next shared → (n : ℕ) → n ≢ length next.name → slice_index_or new n false ≡ true → (n ≤ shared) × (slice_index_or old n false ≡ true)
+marked old new last next shared s n other m = go (cases_lt (length last.name) n)
+  where
+    go : (length last.name < n) ⊎ (n ≤ length last.name) → (n ≤ shared) × (slice_index_or old n false ≡ true)
+    go (inl far) = let within = s.marks.within n (sym (s.above n far other) ∙ m) in absurd (omega arith)
+    go (inr near) = s.others n near other m
+
+pub marks_on : (old new : List Bool) (last next : TreeEntry) (shared : ℕ) → IsStep old new last next shared → Marks new (length next.name)
+marks_on old new last next shared s = record {
+  size = s.size ∙ s.marks.size;
+  short = name_short next.name s.good;
+  within = λ n m. go n m (cases_order n (length next.name));
+}
+  where
+    go : (n : ℕ) → slice_index_or new n false ≡ true → (n ≡ length next.name) ⊎ ((n < length next.name) ⊎ (length next.name < n)) → n ≤ length next.name
+    go n m (inl same) = omega arith
+    go n m (inr (inl less)) = omega arith
+    go n m (inr (inr more)) = let old_one = marked old new last next shared s n (omega arith) m in let within = old_one.0 in let second = s.second in omega arith
+
+below : (old new : List Bool) (last next : TreeEntry) (shared : ℕ) → IsStep old new last next shared → IsBelow (key_of last) (key_of next)
+below old new last next shared s = record {
+  shared = shared;
+  same = λ i h. key_front last i (let first = s.first in omega arith) ∙ s.same i h ∙ sym (key_front next i (let second = s.second in omega arith));
+  smaller = s.smaller;
+}
+
+-- a front that is longer than what they share is past
+front_past : (old new : List Bool) (last next : TreeEntry) (shared : ℕ) → IsStep old new last next shared → (n : ℕ) → shared < n → n ≤ length last.name → IsPast (take n last.name) (key_of next)
+front_past old new last next shared s n far within =
+    is_past (take n last.name) next shared (let long = length-take-le n last.name within in omega arith) s.second
+    (λ i h. get_or-take n last.name i 0 (omega arith) ∙ s.same i h)
+    (let here = get_or-take n last.name shared 0 far in let key = key_front last shared (omega arith) in let less = s.smaller in omega arith)
+
+-- the next entry's name isn't marked, so no marked name is it
+front_other : (old new : List Bool) (last next : TreeEntry) (shared : ℕ) → IsStep old new last next shared → (shared ≡ length next.name → slice_index_or old shared false ≡ false) → (n : ℕ) → n ≤ shared → slice_index_or old n false ≡ true → next.name ≢ take n last.name
+front_other old new last next shared s not n near m e =
+    let long = ap length e ∙ length-take-le n last.name (let first = s.first in omega arith) in
+    let second = s.second in
+    let end : n ≡ shared = omega arith in
+    both true refl (sym m ∙ ap (λ i. slice_index_or old i false) end ∙ not (omega arith))
+
+pub step_on : (old new : List Bool) (last next : TreeEntry) (shared : ℕ) → IsStep old new last next shared → (shared ≡ length next.name → slice_index_or old shared false ≡ false) → (es gs : List TreeEntry) → StandsFor old last es (next ∷ gs) → StandsFor new next es gs
+step_on old new last next shared s not es gs st = record {
+  needed = λ p. let g = st.needed p in record { free = λ n m. free g n m (cases_order n (length next.name)); differ = g.differ.1 };
+  enough = λ o g. st.enough (below old new last next shared s, o) (record {
+    free = λ n m. all o g n m (cases_lt shared n);
+    differ = (subst (λ t. IsFree t gs) (take_all (length next.name) next.name (omega arith)) (g.free (length next.name) s.own), g.differ);
+  });
+}
+  where
+    old_free : GoesOn old last (next ∷ gs) → (n : ℕ) → (n ≤ shared) × (slice_index_or old n false ≡ true) → IsFree (take n next.name) gs
+    old_free g n m = subst (λ t. IsFree t gs) (take_same n last.name next.name (let first = s.first in let near = m.0 in omega arith) (let second = s.second in let near = m.0 in omega arith) (λ i h. s.same i (let near = m.0 in omega arith))) (g.free n m.1).1
+
+    free : GoesOn old last (next ∷ gs) → (n : ℕ) → slice_index_or new n false ≡ true → (n ≡ length next.name) ⊎ ((n < length next.name) ⊎ (length next.name < n)) → IsFree (take n next.name) gs
+    free g n m (inl same) = subst (λ t. IsFree t gs) (sym (take_all n next.name (omega arith))) g.differ.0
+    free g n m (inr (inl less)) = old_free g n (marked old new last next shared s n (omega arith) m)
+    free g n m (inr (inr more)) = old_free g n (marked old new last next shared s n (omega arith) m)
+
+    all : IsOrdered (next ∷ gs) → GoesOn new next gs → (n : ℕ) → slice_index_or old n false ≡ true → (shared < n) ⊎ (n ≤ shared) → IsFree (take n last.name) (next ∷ gs)
+    all o g n m (inl far) = past_free (take n last.name) next gs o (front_past old new last next shared s n far (s.marks.within n m))
+    all o g n m (inr near) = (front_other old new last next shared s not n near m, subst (λ t. IsFree t gs) (sym (take_same n last.name next.name (let first = s.first in omega arith) (let second = s.second in omega arith) (λ i h. s.same i (omega arith)))) (g.free n (s.kept n near m)))
+
+-- a name that is marked and comes again
+pub comes_again : (fronts : List Bool) (last next : TreeEntry) (shared : ℕ) (es gs : List TreeEntry) → StandsFor fronts last es (next ∷ gs) → shared ≤ length last.name → shared ≡ length next.name → ((i : ℕ) → i < shared → slice_index last.name i ≡ slice_index next.name i) → slice_index_or fronts shared false ≡ true → NamesDiffer es → ⊥
+comes_again fronts last next shared es gs st first whole same m p =
+    ((st.needed p).free shared m).0 (sym (take_all shared next.name (omega arith)) ∙ sym (take_same shared last.name next.name first (omega arith) same))

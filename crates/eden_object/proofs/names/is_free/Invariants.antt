@@ -1,0 +1,10 @@
+use Rattle.std.proofs.Common.{◌↔◌, List, length}
+use Rattle.eden_model.specs.declared.tree_entry.TreeEntry.{TreeEntry}
+use Rattle.eden_object.specs.Trees.{AreEntries, IsFree}
+use Rattle.eden_object.proofs.names.is_free.Given as goal
+
+abbrev pub invariant-rows : goal.invariant-rows
+invariant-rows l = (es : List TreeEntry) → AreEntries es l.body → (fs : List TreeEntry) × AreEntries fs l.rest × (IsFree l.name es ↔ IsFree l.name fs)
+
+abbrev pub decreases-rows : goal.decreases-rows
+decreases-rows l = length l.rest

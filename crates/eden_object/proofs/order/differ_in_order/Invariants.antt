@@ -1,0 +1,13 @@
+use Rattle.std.proofs.Common.{length}
+use Rattle.eden_object.specs.Rows.{entry_of}
+use Rattle.eden_object.proofs.OrderLemmas.{Marks, Stands}
+use Rattle.eden_object.proofs.order.differ_in_order.Given as goal
+
+abbrev pub invariant-rows : goal.invariant-rows
+invariant-rows l = record {
+  marks : Marks l.fronts (length l.last.name.now);
+  stands : Stands l.fronts (entry_of l.last) l.body l.rest;
+}
+
+abbrev pub decreases-rows : goal.decreases-rows
+decreases-rows l = length l.rest

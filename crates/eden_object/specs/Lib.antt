@@ -1,0 +1,6 @@
+pub mod Frames
+pub mod Trees
+pub mod Objects
+pub mod Order
+pub mod Rows
+pub mod Laws

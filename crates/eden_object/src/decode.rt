@@ -1,0 +1,48 @@
+// Decoding a tree's body.
+ghost use Rattle.std.specs.Prelude.{◌≡◌, ◌↔◌, ℕ, List, IsTrue, IfOk, IfSome, IfNone};
+ghost use Rattle.eden_model.specs.declared.tree_entry.TreeEntry.{TreeEntry};
+ghost use Rattle.eden_object.specs.Trees.{AreEntries, IsTreeBody};
+
+use crate::names::names_differ;
+use crate::rows::{first_row, has_entries};
+use eden_model::{Name, TreeEntry};
+use std::alloc::{AllocError, Global};
+
+/// Whether the body is a tree's.
+pub(crate) fn is_tree(body: &[u8]) -> bool
+    ensures { IsTrue result ↔ ((es : List TreeEntry) × IsTreeBody es body.now) }
+{
+    has_entries(body) && names_differ(body)
+}
+
+fn read_entries(alloc: Global, body: &[u8]) -> Result<Vec<TreeEntry>, AllocError>
+    ensures { IfOk result (λ found. (es : List TreeEntry) → AreEntries es body.now → found.items ≡ es) }
+{
+    let mut entries = Vec::new(alloc);
+    let mut rest = body;
+    'rows: while let Some((row, more)) = first_row(rest) {
+        let Ok(name) = Name::new(Vec::from_slice(alloc, row.name)?) else {
+            unreachable!()
+        };
+        entries.push(TreeEntry {
+            mode: row.mode,
+            name,
+            id: row.id,
+        })?;
+        rest = more;
+    }
+    Ok(entries)
+}
+
+/// The entries of a tree's body, in the order in which they stand. `None` where the body is no tree's: an entry is cut,
+/// its mode is none of the known ones, its name is no name or comes twice. The only error is want of memory.
+pub fn decode_tree(alloc: Global, body: &[u8]) -> Result<Option<Vec<TreeEntry>>, AllocError>
+    ensures found { IfOk result (λ read. IfSome read (λ entries. IsTreeBody entries.items body.now)) }
+    ensures none { IfOk result (λ read. IfNone read ((es : List TreeEntry) → IsTreeBody es body.now → ⊥)) }
+{
+    if !is_tree(body) {
+        return Ok(None);
+    }
+    let entries = read_entries(alloc, body)?;
+    Ok(Some(entries))
+}
