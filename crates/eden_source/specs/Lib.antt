@@ -1,0 +1,3 @@
+pub mod Fetching
+pub mod InMemory
+pub mod InFolder
