@@ -1,0 +1,13 @@
+pub mod Slices
+pub mod Growing
+pub mod NumberLemmas
+pub mod Escapes
+pub mod HexPieces
+pub mod NameLemmas
+pub mod PathLemmas
+pub mod Scanning
+pub mod Splitting
+pub mod Decoding
+pub mod Fields
+pub mod SessionLemmas
+pub mod RunLemmas

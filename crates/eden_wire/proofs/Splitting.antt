@@ -1,0 +1,74 @@
+-- Lemmas on bytes that are cut at a mark.
+use Rattle.std.proofs.Common.{◌==◌, ◌≡◌, ◌≢◌, ℕ, ◌+◌, ◌-◌, ◌<◌, ◌≤◌, List, [], ◌∷◌, ◌++◌, take, drop, length, suc, Bool, true, false, sym, ap, ◌∙◌, subst, refl, append_assoc, take-append-drop, get_or, get_or-take, length-take-le, length-drop, drop-cons, arith}
+use Rattle.std.proofs.Math.Seq.{drop-length, take-add}
+use Rattle.std.proofs.lemmas.Bool.{eq-eqb, eqb-true}
+use Rattle.std.proofs.lemmas.List.{drop-drop}
+use Rattle.std.proofs.lemmas.List.Elements.{All-from_get_or, recursion_from_All}
+use Rattle.std.specs.Prelude.{slice_index}
+use Rattle.memchr.specs.Find.{Nowhere, NoneBefore, Passes, is_byte}
+use Rattle.eden_wire.specs.Lines.{IsLineOf, IsOneLine}
+use Rattle.eden_wire.specs.Splits.{Lacks, IsSplit, IsCutAt, IsFirstPart}
+use Rattle.eden_wire.proofs.PathLemmas.{first_part, lacks-append}
+
+pub lacks_from : (mark : ℕ) (bytes : List ℕ) → ((k : ℕ) → k < length bytes → get_or bytes k 0 ≢ mark) → Lacks mark bytes
+lacks_from mark bytes h = recursion_from_All (λ b. b ≢ mark) bytes (All-from_get_or (λ b. b ≢ mark) bytes 0 h)
+
+front_lacks : (mark : ℕ) (bytes : List ℕ) (n : ℕ) → n ≤ length bytes → ((k : ℕ) → k < n → get_or bytes k 0 ≢ mark) → Lacks mark (take n bytes)
+front_lacks mark bytes n within h =
+    let size = length-take-le n bytes within in
+    lacks_from mark (take n bytes) (λ k inside e.
+    let low : k < n = omega arith in
+    h k low (sym (get_or-take n bytes k 0 low) ∙ e))
+
+pub none_found : (mark : ℕ) (bytes : List ℕ) → Nowhere (Passes (is_byte mark) bytes) 0 (length bytes) → Lacks mark bytes
+none_found mark bytes none = lacks_from mark bytes (λ k inside e. none k (omega arith) inside (eq-eqb (get_or bytes k 0) mark e))
+
+pub found_part : (mark : ℕ) (bytes : List ℕ) (n : ℕ) → NoneBefore (Passes (is_byte mark) bytes) 0 (length bytes) n → Passes (is_byte mark) bytes n → IsFirstPart bytes mark n
+found_part mark bytes n first here =
+    let inside = first.high in
+    record {
+      within = omega arith;
+      plain = front_lacks mark bytes n (omega arith) (λ k low e. first.before k (omega arith) low (eq-eqb (get_or bytes k 0) mark e));
+      cut = subst (IsCutAt mark) (sym (drop-cons bytes n 0 inside)) (eqb-true (get_or bytes n 0) mark here);
+    }
+
+pub whole_part : (mark : ℕ) (bytes : List ℕ) → Nowhere (Passes (is_byte mark) bytes) 0 (length bytes) → IsFirstPart bytes mark (length bytes)
+whole_part mark bytes none = record {
+  within = omega arith;
+  plain = front_lacks mark bytes (length bytes) (omega arith) (λ k low e. none k (omega arith) low (eq-eqb (get_or bytes k 0) mark e));
+  cut = subst (IsCutAt mark) (sym (drop-length bytes)) tt;
+}
+
+pub lacks_not : (mark : ℕ) (front rest : List ℕ) → Lacks mark (front ++ mark ∷ rest) → ⊥
+lacks_not mark [] rest h = h.0 refl
+lacks_not mark (b ∷ front) rest h = lacks_not mark front rest h.1
+
+-- a list is cut at its first mark in one way
+pub split_same : (mark : ℕ) (bytes a x b y : List ℕ) → IsSplit bytes mark a x → Lacks mark b → bytes ≡ b ++ mark ∷ y → (a ≡ b) × (x ≡ y)
+split_same mark bytes a x b y cut lacks e =
+    let both = first_part mark a b (mark ∷ x) (mark ∷ y) cut.first lacks refl refl (sym cut.whole ∙ e) in
+    let behind = both.1 in
+    (both.0, cc)
+
+pub none_split : (mark : ℕ) (bytes b y : List ℕ) → Lacks mark bytes → bytes ≡ b ++ mark ∷ y → ⊥
+none_split mark bytes b y lacks e = lacks_not mark b y (subst (Lacks mark) e lacks)
+
+-- the first line feed, of which the first bytes were searched before
+pub line_none : (bytes slice : List ℕ) (s : ℕ) → slice ≡ drop s bytes → IsOneLine (take s bytes) → Nowhere (Passes (is_byte 10) slice) 0 (length slice) → IsOneLine bytes
+line_none bytes slice s e before none = subst IsOneLine (take-append-drop s bytes) (lacks-append 10 (take s bytes) (drop s bytes) before (subst IsOneLine e (none_found 10 slice none)))
+
+pub line_found : (bytes slice : List ℕ) (s n : ℕ) → slice ≡ drop s bytes → s ≤ length bytes → IsOneLine (take s bytes) → NoneBefore (Passes (is_byte 10) slice) 0 (length slice) n → Passes (is_byte 10) slice n → IsLineOf bytes (s + n)
+line_found bytes slice s n e within before first here =
+    let inside = first.high in
+    let size = ap length e in
+    let rest = length-drop s bytes in
+    let part = found_part 10 slice n first here in
+    let front : take (s + n) bytes ≡ take s bytes ++ take n slice = take-add s n bytes ∙ ap (λ l. take s bytes ++ take n l) (sym e) in
+    let byte : get_or slice n 0 ≡ 10 = eqb-true (get_or slice n 0) 10 here in
+    let behind : drop n slice ≡ 10 ∷ drop (s + n + 1) bytes =
+    drop-cons slice n 0 inside ∙ ap (λ b. b ∷ drop (suc n) slice) byte ∙ ap (λ l. 10 ∷ drop (suc n) l) e ∙ ap (λ l. 10 ∷ l) (drop-drop (suc n) s bytes ∙ ap (λ k. drop k bytes) (omega arith)) in
+    record {
+      inside = omega arith;
+      split = sym (take-append-drop s bytes) ∙ ap (λ l. take s bytes ++ l) (sym e ∙ sym (take-append-drop n slice) ∙ ap (λ l. take n slice ++ l) behind) ∙ sym (append_assoc (take s bytes) (take n slice) (10 ∷ drop (s + n + 1) bytes)) ∙ ap (λ l. l ++ 10 ∷ drop (s + n + 1) bytes) (sym front);
+      one = subst IsOneLine (sym front) (lacks-append 10 (take s bytes) (take n slice) before part.plain);
+    }

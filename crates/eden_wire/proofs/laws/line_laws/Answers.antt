@@ -1,0 +1,5 @@
+use Rattle.eden_wire.proofs.Fields.{one_item}
+use Rattle.eden_wire.proofs.laws.line_laws.Goals as goal
+
+pub returns : goal.returns
+returns c = record { one_item = one_item }

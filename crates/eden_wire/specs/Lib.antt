@@ -1,0 +1,11 @@
+pub mod Names
+pub mod Requests
+pub mod Replies
+pub mod Lines
+pub mod Writing
+pub mod Reading
+pub mod Serving
+pub mod Faults
+pub mod Splits
+pub mod Scans
+pub mod Turns

@@ -1,0 +1,35 @@
+-- How names and paths are spelled: percent-encoding (RFC 3986, section 2.1) with one spelling for each byte.
+use Rattle.std.specs.Prelude.{ℕ, ◌+◌, ◌/◌, ◌%◌, ◌<◌, ◌≡◌, Bool, ◌||◌, ◌&&◌, ◌==◌, nat_lt, nat_le, List, [], ◌∷◌, length, if◌then◌else◌, None}
+use Rattle.std.specs.List.{flat_map, AllByRecursion}
+use Rattle.eden_model.specs.Names.{name_refusal}
+
+-- ASCII letters and digits, `.` and `_`
+abbrev pub is_plain : ℕ → Bool
+is_plain b = (nat_le 48 b && nat_le b 57) || (nat_le 65 b && nat_le b 90) || (nat_le 97 b && nat_le b 122) || b == 46 || b == 95
+
+-- the digit of a number below 16, in upper case
+abbrev pub upper_digit : ℕ → ℕ
+upper_digit d = if nat_lt d 10 then 48 + d else 55 + d
+
+-- a plain byte stands for itself, any other is `%` and two digits
+abbrev pub byte_text : ℕ → List ℕ
+byte_text b = if is_plain b then b ∷ [] else 37 ∷ upper_digit (b / 16) ∷ upper_digit (b % 16) ∷ []
+
+abbrev pub name_text : List ℕ → List ℕ
+name_text name = flat_map byte_text name
+
+-- `/`, or for each component `/` and its text
+abbrev pub component_text : List ℕ → List ℕ
+component_text name = 47 ∷ name_text name
+
+abbrev pub path_text : List (List ℕ) → List ℕ
+path_text [] = 47 ∷ []
+path_text (name ∷ names) = flat_map component_text (name ∷ names)
+
+-- bytes, one at least
+abbrev pub IsComponent : List ℕ → Type 0
+IsComponent name = (0 < length name) × AllByRecursion (λ b. b < 256) name
+
+-- the text of a name
+abbrev pub SpellsName : List ℕ → Type 0
+SpellsName text = (name : List ℕ) × IsComponent name × (text ≡ name_text name) × (name_refusal name ≡ None)

@@ -1,0 +1,59 @@
+-- What a session says: the texts of the answers to the lines that it read.
+use Rattle.std.specs.Prelude.{ℕ, ◌≡◌, List, [], ◌∷◌, ◌++◌, Option, Some, None, Result, Ok, Err, ⊤, ◌⊎◌}
+use Rattle.std.specs.Borrow.{Bor}
+use Rattle.std.specs.Io.KnownBytes.{Appends, Consumes, Keeps}
+use Rattle.eden_model.specs.declared.errno.Errno.TheVariants.{EPROTO}
+use Rattle.eden_model.specs.declared.request.Request.{Request}
+use Rattle.eden_model.specs.declared.reply.Reply.{Reply}
+use Rattle.eden_model.specs.declared.fault.CallFault.{CallFault}
+use Rattle.eden_wire.specs.Replies.{answer_text, error_text}
+use Rattle.eden_wire.specs.Lines.{Lines, Ends, IsOneLine}
+use Rattle.eden_wire.specs.Writing.{WritesFront}
+use Rattle.eden_wire.specs.declared.request.Item.{Item}
+use Rattle.eden_wire.specs.declared.request.Item.TheVariants.{Asks, Refuses, Bad}
+use Rattle.eden_wire.specs.declared.session_fault.SessionFault.{SessionFault}
+use Rattle.eden_wire.specs.declared.session_fault.SessionFault.TheVariants as fault
+
+-- what a call answered, without where the reply lies
+abbrev pub answered : Result (Bor Reply) CallFault → Result Reply CallFault
+answered (Ok r) = Ok r.now
+answered (Err e) = Err e
+
+-- an answer for each request, and the fixed text for each refusal
+abbrev pub texts : List Item → List (Option (Result Reply CallFault)) → List ℕ
+texts [] given = []
+texts (Asks q ∷ items) [] = []
+texts (Asks q ∷ items) (a ∷ given) = answer_text a ++ texts items given
+texts (Refuses e ∷ items) given = error_text e ++ texts items given
+texts (Bad ∷ items) given = error_text EPROTO ++ texts items given
+
+module _ {S : Type 0} (answers : S → Request → Result Reply CallFault → S → Type 0) where
+  -- each request in order was answered by the service, or for want of memory not asked
+  abbrev pub Serves : S → List Item → List (Option (Result Reply CallFault)) → S → Type 0
+  Serves s [] [] t = s ≡ t
+  Serves s [] (a ∷ given) t = ⊥
+  Serves s (Asks q ∷ items) [] t = ⊥
+  Serves s (Asks q ∷ items) (None ∷ given) t = Serves s items given t
+  Serves s (Asks q ∷ items) (Some a ∷ given) t = (u : S) × answers s q a u × Serves u items given t
+  Serves s (Refuses e ∷ items) given t = Serves s items given t
+  Serves s (Bad ∷ items) given t = Serves s items given t
+
+-- how a session ended: with the input's end, or with a bad line; at a failed read after the whole lines that were
+-- read; at a failed write with a beginning of the texts; for want of memory before the first read
+abbrev pub Said : Result ⊤ SessionFault → List ℕ → List Item → List ℕ → Option (List ℕ) → Option (List ℕ) → Option (List ℕ) → List ℕ → Type 0
+Said (Ok _) read last rest unread old new text = Ends rest unread last × Appends old new text
+Said (Err fault.Read) read last rest unread old new text = (last ≡ []) × IsOneLine rest × Appends old new text
+Said (Err fault.Write) read last rest unread old new text = ((last ≡ []) ⊎ Ends rest unread last) × WritesFront old new text
+Said (Err fault.Memory) read last rest unread old new text = (read ≡ []) × Keeps old new
+
+-- a session: the bytes that it read are lines, which the service answered, and the texts of the answers were written
+pub record Session {S : Type 0} (answers : S → Request → Result Reply CallFault → S → Type 0) (s t : S) (in_old in_new out_old out_new : Option (List ℕ)) (r : Result ⊤ SessionFault) : Type 0 where
+  pub read : List ℕ
+  pub items : List Item
+  pub last : List Item
+  pub given : List (Option (Result Reply CallFault))
+  pub rest : List ℕ
+  pub consumed : Consumes in_old in_new read
+  pub lines : Lines read items rest
+  pub served : Serves answers s (items ++ last) given t
+  pub said : Said r read last rest in_new out_old out_new (texts (items ++ last) given)

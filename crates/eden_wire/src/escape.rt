@@ -1,0 +1,34 @@
+ghost use Rattle.std.specs.Prelude.{◌≡◌, ◌<◌, ◌++◌, List, ℕ, MatchOption};
+ghost use Rattle.eden_wire.specs.Names.{is_plain, upper_digit, byte_text};
+
+/// Whether a byte of a name stands for itself: a letter, a digit, `.` or `_`.
+fn is_plain(b: u8) -> bool
+    ensures { result ≡ is_plain b }
+{
+    matches!(b, b'0'..=b'9' | b'A'..=b'Z' | b'a'..=b'z' | b'.' | b'_')
+}
+
+/// The digit's number, if it is one in upper case.
+fn digit(c: u8) -> Option<u8>
+    ensures { MatchOption result ((d : ℕ) → d < 16 → c ≡ upper_digit d → ⊥) (λ d. (d < 16) × (c ≡ upper_digit d)) }
+{
+    match c {
+        b'0'..=b'9' => Some(c - b'0'),
+        b'A'..=b'F' => Some(c - 55),
+        _ => None,
+    }
+}
+
+/// The byte that the front of the text spells, and the text after it.
+pub(crate) fn first_byte(text: &[u8]) -> Option<(u8, &[u8])>
+    ensures { MatchOption result ((b : ℕ) (rest : List ℕ) → b < 256 → text.now ≡ byte_text b ++ rest → ⊥) (λ x. (text.now ≡ byte_text x.0 ++ x.1.now) × (x.0 < 256)) }
+{
+    match text {
+        [b, rest @ ..] if is_plain(*b) => Some((*b, rest)),
+        [b'%', high, low, rest @ ..] => {
+            let b = 16 * digit(*high)? + digit(*low)?;
+            if is_plain(b) { None } else { Some((b, rest)) }
+        }
+        _ => None,
+    }
+}

@@ -1,0 +1,94 @@
+ghost use Rattle.std.specs.Prelude.{◌≡◌, ◌||◌, ◌==◌, MatchOption, IfOk};
+ghost use Rattle.eden_wire.specs.Names.{name_text, IsComponent, SpellsName};
+ghost use Rattle.eden_wire.specs.Scans.{is_dots, refusal_by, ScansName, SpellsNoName, ScansAfter, SpellsNoAfter};
+ghost use Rattle.eden_wire.specs.Requests.{SpellsAfter, IsAfter, after_text};
+
+use crate::escape::first_byte;
+use eden_model::{Errno, Name};
+use percent_encoding::percent_decode;
+use std::alloc::{AllocError, Global};
+
+/// What is known of a component by its text alone, so that a refusal needs no memory.
+#[derive(Clone, Copy)]
+pub(crate) struct ScannedName {
+    /// How many bytes the component has.
+    pub(crate) len: usize,
+    /// Why it is no name.
+    pub(crate) refusal: Option<Errno>,
+}
+
+fn is_barred(before: bool, b: u8) -> bool
+    ensures { result ≡ ((before || b == 47) || b == 0) }
+{
+    before || b == b'/' || b == 0
+}
+
+fn is_no_name(barred: bool, text: &[u8]) -> bool
+    ensures { result ≡ (barred || is_dots text.now) }
+{
+    barred || text == b".".as_slice() || text == b"..".as_slice()
+}
+
+fn refusal_by(no_name: bool, len: usize) -> Option<Errno>
+    ensures { result ≡ refusal_by no_name len }
+{
+    if no_name {
+        Some(Errno::EINVAL)
+    } else if len > 255 {
+        Some(Errno::ENAMETOOLONG)
+    } else {
+        None
+    }
+}
+
+/// Looks through the text of a component: none where it isn't the spelling of at least one byte.
+pub(crate) fn scan_name(text: &[u8]) -> Option<ScannedName>
+    ensures { MatchOption result (SpellsNoName text.now) (λ s. ScansName text.now s.len s.refusal) }
+{
+    if text.is_empty() {
+        return None;
+    }
+    let mut len = 0;
+    let mut barred = false;
+    let mut rest = text;
+    'bytes: while !rest.is_empty() {
+        let (b, more) = first_byte(rest)?;
+        barred = is_barred(barred, b);
+        len += 1;
+        rest = more;
+    }
+    let refusal = refusal_by(is_no_name(barred, text), len);
+    Some(ScannedName { len, refusal })
+}
+
+/// The name that the text spells. The only error is want of memory.
+pub(crate) fn read_name(alloc: Global, text: &[u8]) -> Result<Name, AllocError>
+    requires { SpellsName text.now }
+    ensures { IfOk result (λ n. IsComponent n × (text.now ≡ name_text n)) }
+{
+    let mut bytes = Vec::new(alloc);
+    percent_decode(text).append_to(&mut bytes)?;
+    Ok(Name::new(bytes).unwrap())
+}
+
+/// Looks through the field AFTER, and says why it is refused; none where it is neither `-` nor the text of a component.
+pub(crate) fn scan_after(text: &[u8]) -> Option<Option<Errno>>
+    ensures { MatchOption result (SpellsNoAfter text.now) (ScansAfter text.now) }
+{
+    if text == b"-".as_slice() {
+        return Some(None);
+    }
+    let name = scan_name(text)?;
+    Some(name.refusal)
+}
+
+/// The name that the field AFTER spells, or none for `-`. The only error is want of memory.
+pub(crate) fn read_after(alloc: Global, text: &[u8]) -> Result<Option<Name>, AllocError>
+    requires { SpellsAfter text.now }
+    ensures { IfOk result (λ after. IsAfter after × (text.now ≡ after_text after)) }
+{
+    if text == b"-".as_slice() {
+        return Ok(None);
+    }
+    Ok(Some(read_name(alloc, text)?))
+}

@@ -1,0 +1,271 @@
+ghost use Rattle.std.specs.Prelude.{◌≡◌, ◌≤◌, ◌++◌, length, decimal, IfOk};
+ghost use Rattle.std.specs.List.{flat_map};
+ghost use Rattle.hex.specs.Hex.{encode_lower};
+ghost use Rattle.eden_wire.specs.Writing.{Writes, Grows};
+ghost use Rattle.eden_wire.specs.Names.{name_text};
+ghost use Rattle.eden_wire.specs.Replies.{kind_word, data_field, entry_text, more_word, line_feed, kind_text, data_text, entries_text, error_text, cause_word, fetch_text, fault_text, call_fault_text, history_text, foreign_text, start_fault_text, reply_text};
+
+use crate::output::{Output, WriteFailed};
+use eden_model::{CallFault, Cause, Entries, Errno, Fault, Id, Kind, Name, Reply, StartFault};
+use itoa::Buffer;
+use percent_encoding::{AsciiSet, NON_ALPHANUMERIC, ascii_set, percent_encode};
+use std::alloc::{AllocError, Global};
+use std::io::Write;
+
+/// All but letters, digits, `.` and `_`.
+const ESCAPED: AsciiSet = ascii_set!(NON_ALPHANUMERIC.remove(b'.').remove(b'_'));
+
+// An escaped name of 255 bytes.
+const LONGEST_NAME: usize = 765;
+
+/// Room in which `write_reply` puts a text together. It is made once, for as many replies as one likes.
+#[derive(Drop)]
+pub struct Scratch {
+    output: Output,
+}
+
+impl Scratch {
+    /// Reserves the 765 bytes of an escaped name.
+    pub fn new(alloc: Global) -> Result<Scratch, AllocError> {
+        let output = Output::new(alloc, LONGEST_NAME)?;
+        Ok(Scratch { output })
+    }
+}
+
+fn put_number<W: Write>(output: &mut Output, writer: &mut W, n: u64)
+    ensures { Grows (W.contents writer.old) (W.contents writer.new) output.old output.new (decimal n) }
+{
+    let mut buffer = Buffer::new();
+    output.put(writer, buffer.format(n).as_bytes());
+}
+
+fn put_name<W: Write>(output: &mut Output, writer: &mut W, name: &[u8])
+    ensures { Grows (W.contents writer.old) (W.contents writer.new) output.old output.new (name_text name.now) }
+{
+    'pieces: for piece in percent_encode(name, ESCAPED) {
+        output.put(writer, piece.as_bytes());
+    }
+}
+
+// Two lower-case digits a byte, 256 bytes at a time.
+fn put_hex<W: Write>(output: &mut Output, writer: &mut W, bytes: &[u8])
+    ensures { Grows (W.contents writer.old) (W.contents writer.new) output.old output.new (encode_lower bytes.now) }
+{
+    let mut rest = bytes;
+    'pieces: while !rest.is_empty() {
+        let (piece, more) = rest.split_at(rest.len().min(256));
+        put_piece(output, writer, piece);
+        rest = more;
+    }
+}
+
+fn put_piece<W: Write>(output: &mut Output, writer: &mut W, piece: &[u8])
+    requires { length piece.now ≤ 256 }
+    ensures { Grows (W.contents writer.old) (W.contents writer.new) output.old output.new (encode_lower piece.now) }
+{
+    let mut digits = [0; 512];
+    let text = &mut digits[..2 * piece.len()];
+    hex::encode_to_slice(piece, text).unwrap();
+    output.put(writer, text);
+}
+
+fn put_kind_word<W: Write>(output: &mut Output, writer: &mut W, kind: Kind)
+    ensures { Grows (W.contents writer.old) (W.contents writer.new) output.old output.new (kind_word kind) }
+{
+    match kind {
+        Kind::File => output.put(writer, b"file"),
+        Kind::Exec => output.put(writer, b"exec"),
+        Kind::Link => output.put(writer, b"link"),
+        Kind::Dir => output.put(writer, b"dir"),
+    }
+}
+
+fn put_kind<W: Write>(output: &mut Output, writer: &mut W, kind: Kind)
+    ensures { Grows (W.contents writer.old) (W.contents writer.new) output.old output.new (kind_text kind) }
+{
+    output.put(writer, b"kind ");
+    put_kind_word(output, writer, kind);
+    output.put(writer, b"\n");
+}
+
+// Nothing for no bytes.
+fn put_data_field<W: Write>(output: &mut Output, writer: &mut W, bytes: &[u8])
+    ensures { Grows (W.contents writer.old) (W.contents writer.new) output.old output.new (data_field bytes.now) }
+{
+    if bytes.is_empty() {
+        return;
+    }
+    output.put(writer, b" ");
+    put_hex(output, writer, bytes);
+}
+
+fn put_data<W: Write>(output: &mut Output, writer: &mut W, bytes: &[u8])
+    ensures { Grows (W.contents writer.old) (W.contents writer.new) output.old output.new (data_text bytes.now) }
+{
+    output.put(writer, b"data ");
+    put_number(output, writer, bytes.len() as u64);
+    put_data_field(output, writer, bytes);
+    output.put(writer, b"\n");
+}
+
+fn put_entry<W: Write>(output: &mut Output, writer: &mut W, entry: &(Name, Kind))
+    ensures { Grows (W.contents writer.old) (W.contents writer.new) output.old output.new (entry_text entry.now) }
+{
+    let (name, kind) = entry;
+    output.put(writer, b" ");
+    put_kind_word(output, writer, *kind);
+    output.put(writer, b" ");
+    put_name(output, writer, name.as_slice());
+}
+
+fn put_rows<W: Write>(output: &mut Output, writer: &mut W, rows: &[(Name, Kind)])
+    ensures { Grows (W.contents writer.old) (W.contents writer.new) output.old output.new (flat_map entry_text rows.now) }
+{
+    'rows: for entry in rows {
+        put_entry(output, writer, entry);
+    }
+}
+
+fn put_more<W: Write>(output: &mut Output, writer: &mut W, more: bool)
+    ensures { Grows (W.contents writer.old) (W.contents writer.new) output.old output.new (more_word more) }
+{
+    if more {
+        output.put(writer, b" more");
+    } else {
+        output.put(writer, b" end");
+    }
+}
+
+fn put_entries<W: Write>(output: &mut Output, writer: &mut W, entries: &Entries, more: bool)
+    ensures { Grows (W.contents writer.old) (W.contents writer.new) output.old output.new (entries_text entries.now more) }
+{
+    output.put(writer, b"entries ");
+    put_number(output, writer, entries.len() as u64);
+    put_rows(output, writer, entries.as_slice());
+    put_more(output, writer, more);
+    output.put(writer, b"\n");
+}
+
+fn error_line(errno: Errno) -> &'static [u8]
+    ensures { result.now ≡ error_text errno }
+{
+    match errno {
+        Errno::ENOENT => b"err 2 ENOENT\n",
+        Errno::EBUSY => b"err 16 EBUSY\n",
+        Errno::EEXIST => b"err 17 EEXIST\n",
+        Errno::ENOTDIR => b"err 20 ENOTDIR\n",
+        Errno::EISDIR => b"err 21 EISDIR\n",
+        Errno::EINVAL => b"err 22 EINVAL\n",
+        Errno::EFBIG => b"err 27 EFBIG\n",
+        Errno::ENAMETOOLONG => b"err 36 ENAMETOOLONG\n",
+        Errno::ENOTEMPTY => b"err 39 ENOTEMPTY\n",
+        Errno::EPROTO => b"err 71 EPROTO\n",
+    }
+}
+
+/// Hands over the text of an error.
+pub(crate) fn put_error<W: Write>(output: &mut Output, writer: &mut W, errno: Errno)
+    ensures { Grows (W.contents writer.old) (W.contents writer.new) output.old output.new (error_text errno) }
+{
+    output.put(writer, error_line(errno));
+}
+
+fn cause_line(cause: Cause) -> &'static [u8]
+    ensures { result.now ≡ cause_word cause ++ line_feed }
+{
+    match cause {
+        Cause::Missing => b"Missing\n",
+        Cause::Device => b"Device\n",
+        Cause::BadDigest => b"BadDigest\n",
+        Cause::Malformed => b"Malformed\n",
+        Cause::WrongKind => b"WrongKind\n",
+        Cause::TooLarge => b"TooLarge\n",
+        Cause::Memory => b"Memory\n",
+    }
+}
+
+fn put_fetch<W: Write>(output: &mut Output, writer: &mut W, id: Id, cause: Cause)
+    ensures { Grows (W.contents writer.old) (W.contents writer.new) output.old output.new (fetch_text id.bytes cause) }
+{
+    output.put(writer, b"fault fetch ");
+    put_piece(output, writer, &id.bytes);
+    output.put(writer, b" ");
+    output.put(writer, cause_line(cause));
+}
+
+fn put_fault<W: Write>(output: &mut Output, writer: &mut W, fault: Fault)
+    ensures { Grows (W.contents writer.old) (W.contents writer.new) output.old output.new (fault_text fault) }
+{
+    match fault {
+        Fault::Fetch(id, cause) => put_fetch(output, writer, id, cause),
+        Fault::Memory => output.put(writer, b"fault memory\n"),
+        Fault::Overlay => output.put(writer, b"fault overlay\n"),
+        Fault::Numbers => output.put(writer, b"fault numbers\n"),
+    }
+}
+
+fn put_history<W: Write>(output: &mut Output, writer: &mut W, limit: u32)
+    ensures { Grows (W.contents writer.old) (W.contents writer.new) output.old output.new (history_text limit) }
+{
+    output.put(writer, b"fault history ");
+    put_number(output, writer, u64::from(limit));
+    output.put(writer, b"\n");
+}
+
+fn put_start_fault<W: Write>(output: &mut Output, writer: &mut W, fault: StartFault)
+    ensures { Grows (W.contents writer.old) (W.contents writer.new) output.old output.new (start_fault_text fault) }
+{
+    match fault {
+        StartFault::Busy => output.put(writer, b"fault busy\n"),
+        StartFault::HistoryFull(limit) => put_history(output, writer, limit),
+        StartFault::Memory => output.put(writer, b"fault memory\n"),
+        StartFault::NoPass => output.put(writer, b"fault nopass\n"),
+    }
+}
+
+fn put_foreign<W: Write>(output: &mut Output, writer: &mut W, floor: u64, length: u32)
+    ensures { Grows (W.contents writer.old) (W.contents writer.new) output.old output.new (foreign_text floor length) }
+{
+    output.put(writer, b"fault foreign ");
+    put_number(output, writer, floor);
+    output.put(writer, b" ");
+    put_number(output, writer, u64::from(length));
+    output.put(writer, b"\n");
+}
+
+/// Hands over the text of a fault of a call.
+pub(crate) fn put_call_fault<W: Write>(output: &mut Output, writer: &mut W, fault: CallFault)
+    ensures { Grows (W.contents writer.old) (W.contents writer.new) output.old output.new (call_fault_text fault) }
+{
+    match fault {
+        CallFault::Start(start) => put_start_fault(output, writer, start),
+        CallFault::Foreign { floor, length } => put_foreign(output, writer, floor, length),
+        CallFault::Stopped => output.put(writer, b"fault stopped\n"),
+    }
+}
+
+/// Hands over the text of a reply.
+pub(crate) fn put_reply<W: Write>(output: &mut Output, writer: &mut W, reply: &Reply)
+    ensures { Grows (W.contents writer.old) (W.contents writer.new) output.old output.new (reply_text reply.now) }
+{
+    match reply {
+        Reply::Kind(kind) => put_kind(output, writer, *kind),
+        Reply::Data(bytes) => put_data(output, writer, bytes.as_slice()),
+        Reply::Entries(entries, more) => put_entries(output, writer, entries, *more),
+        Reply::Err(errno) => put_error(output, writer, *errno),
+        Reply::Fault(fault) => put_fault(output, writer, *fault),
+    }
+}
+
+/// Writes the text of a reply, and takes no memory. At an error a beginning of the text was written.
+pub fn write_reply<W: Write>(
+    writer: &mut W,
+    scratch: &mut Scratch,
+    reply: &Reply,
+) -> Result<(), WriteFailed>
+    ensures { Writes (W.contents writer.old) (W.contents writer.new) result (reply_text reply.now) }
+{
+    scratch.output.clear();
+    put_reply(&mut scratch.output, writer, reply);
+    scratch.output.flush(writer)
+}

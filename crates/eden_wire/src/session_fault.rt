@@ -1,0 +1,26 @@
+ghost use Rattle.std.specs.Prelude.{◌≡◌};
+ghost use Rattle.eden_wire.specs.Faults.{session_fault_name};
+
+/// Why a session ended early.
+#[derive(Clone, Copy, Debug, PartialEq, Eq)]
+pub enum SessionFault {
+    /// A read failed, or 2^64 - 1 reads brought no end.
+    Read = 1,
+    /// A write failed.
+    Write = 2,
+    /// No memory for the buffers, before anything was read.
+    Memory = 3,
+}
+
+impl SessionFault {
+    /// The fault's name.
+    pub fn name(self) -> &'static str
+        ensures { result.now ≡ session_fault_name self }
+    {
+        match self {
+            SessionFault::Read => "Read",
+            SessionFault::Write => "Write",
+            SessionFault::Memory => "Memory",
+        }
+    }
+}

@@ -1,0 +1,524 @@
+use super::*;
+use eden_model::{
+    Bytes, CallFault, Cause, Entries, Errno, Fault, Id, Kind, Name, Reply, Request, StartFault,
+};
+use std::alloc::Global;
+use std::cell::Cell;
+use std::io;
+use std::io::{Read, Write};
+use std::test::Fail;
+
+// A mount in which everything is a directory with one entry and a file of ten bytes.
+#[derive(Drop)]
+struct Small {
+    kind: Reply,
+    content: Reply,
+    listing: Reply,
+    refused: Option<CallFault>,
+}
+
+impl Service for Small {
+    ghost answers = { λ s q r t. t ≡ s };
+
+    fn call(&mut self, request: Request) -> Result<&Reply, CallFault> {
+        if let Some(fault) = self.refused {
+            return Err(fault);
+        }
+        match request {
+            Request::Kind(_) => Ok(&self.kind),
+            Request::Read(_, _, _) => Ok(&self.content),
+            Request::List(_, _, _) => Ok(&self.listing),
+        }
+    }
+}
+
+fn name(alloc: Global, bytes: &[u8]) -> Result<Name, Fail> {
+    Ok(Name::new(Vec::from_slice(alloc, bytes)?)?)
+}
+
+fn data(alloc: Global, bytes: &[u8]) -> Result<Reply, Fail> {
+    Ok(Reply::Data(Bytes::new(Vec::from_slice(alloc, bytes)?)))
+}
+
+fn entry(alloc: Global, bytes: &[u8], kind: Kind, more: bool) -> Result<Reply, Fail> {
+    let mut rows = Vec::new(alloc);
+    rows.push((name(alloc, bytes)?, kind))?;
+    Ok(Reply::Entries(Entries::new(rows), more))
+}
+
+fn make_small(alloc: Global) -> Result<Small, Fail> {
+    Ok(Small {
+        kind: Reply::Kind(Kind::Dir),
+        content: data(alloc, b"version 1\n")?,
+        listing: entry(alloc, b"test.txt", Kind::File, false)?,
+        refused: None,
+    })
+}
+
+// Gives at most `size` bytes a call; call number `bad` fails.
+#[derive(Drop)]
+struct Pieces<'a> {
+    bytes: &'a [u8],
+    size: usize,
+    calls: u32,
+    bad: u32,
+}
+
+impl<'a> Read for Pieces<'a> {
+    fn read(&mut self, buf: &mut [u8]) -> io::Result<usize> {
+        self.calls = self.calls.saturating_add(1);
+        if self.calls == self.bad {
+            return Err(io::Error::from(io::ErrorKind::BrokenPipe));
+        }
+        let n = self.size.min(buf.len()).min(self.bytes.len());
+        buf[..n].copy_from_slice(&self.bytes[..n]);
+        self.bytes = &self.bytes[n..];
+        Ok(n)
+    }
+}
+
+fn make_pieces(bytes: &[u8], size: usize) -> Pieces<'_> {
+    Pieces {
+        bytes,
+        size,
+        calls: 0,
+        bad: 0,
+    }
+}
+
+// Takes at most `size` bytes a call; call number `bad` fails, be it a write or a flush.
+#[derive(Drop)]
+struct Sink {
+    got: Vec<u8>,
+    size: usize,
+    calls: u32,
+    bad: u32,
+}
+
+impl Sink {
+    fn count(&mut self) -> io::Result<()> {
+        self.calls = self.calls.saturating_add(1);
+        if self.calls == self.bad {
+            return Err(io::Error::from(io::ErrorKind::BrokenPipe));
+        }
+        Ok(())
+    }
+}
+
+impl Write for Sink {
+    fn write(&mut self, buf: &[u8]) -> io::Result<usize> {
+        self.count()?;
+        let n = self.size.min(buf.len());
+        self.got.extend_from_slice(&buf[..n])?;
+        Ok(n)
+    }
+
+    fn flush(&mut self) -> io::Result<()> {
+        self.count()
+    }
+}
+
+fn make_sink(alloc: Global, size: usize) -> Sink {
+    Sink {
+        got: Vec::new(alloc),
+        size,
+        calls: 0,
+        bad: 0,
+    }
+}
+
+const MOST: usize = 1 << 20;
+
+const LINES: &[u8] = b"kind /\nread /test.txt 0 20\nlist / - 1\nkind /%2F\nkind /..\n";
+
+const TEXTS: &[u8] =
+    b"kind dir\ndata 10 76657273696f6e20310a\nentries 1 file test.txt end\nerr 22 EINVAL\nerr 22 EINVAL\n";
+
+// What a session says to this input.
+fn said(alloc: Global, input: &[u8], size: usize) -> Result<Vec<u8>, Fail> {
+    let mut writer = make_sink(alloc, size);
+    session(
+        alloc,
+        &mut make_pieces(input, size),
+        &mut writer,
+        &mut make_small(alloc)?,
+    )?;
+    Ok(writer.got)
+}
+
+#[test]
+fn pieces_of_any_size(rt: HostRuntime) -> Result<(), Fail> {
+    for size in [1, 2, 7, 8, MOST] {
+        assert_eq!(rt;
+            said(rt.alloc(), LINES, size)?.as_slice(),
+            TEXTS,
+            "pieces of {size}"
+        );
+    }
+    Ok(())
+}
+
+#[test]
+fn each_failed_read_or_write(rt: HostRuntime) -> Result<(), Fail> {
+    let alloc = rt.alloc();
+    for bad in 1..=LINES.len() as u32 {
+        let mut reader = Pieces {
+            bytes: LINES,
+            size: 1,
+            calls: 0,
+            bad,
+        };
+        let mut writer = make_sink(alloc, 1);
+        let outcome = session(alloc, &mut reader, &mut writer, &mut make_small(alloc)?);
+        assert_eq!(rt; outcome, Err(SessionFault::Read), "read {bad}");
+        assert!(rt; TEXTS.starts_with(writer.got.as_slice()), "read {bad}");
+        assert_eq!(rt; writer.got.ends_with(b"\n"), bad > 7, "read {bad}");
+    }
+    for bad in 1..=TEXTS.len() as u32 + 5 {
+        let mut writer = Sink {
+            got: Vec::new(alloc),
+            size: 1,
+            calls: 0,
+            bad,
+        };
+        let outcome = session(
+            alloc,
+            &mut make_pieces(LINES, 1),
+            &mut writer,
+            &mut make_small(alloc)?,
+        );
+        assert_eq!(rt; outcome, Err(SessionFault::Write), "write {bad}");
+        assert!(rt; TEXTS.starts_with(writer.got.as_slice()), "write {bad}");
+        assert_eq!(rt; writer.calls, bad, "write {bad}");
+    }
+    Ok(())
+}
+
+#[test]
+fn ends_of_input(rt: HostRuntime) -> Result<(), Fail> {
+    for (input, want) in [
+        (b"".as_slice(), b"".as_slice()),
+        (b"kind /", b"err 71 EPROTO\n"),
+        (b"\n", b"err 71 EPROTO\n"),
+        (b"kind /\n\nkind /\n", b"kind dir\nerr 71 EPROTO\n"),
+        (b"kind /\nx\nkind /\n", b"kind dir\nerr 71 EPROTO\n"),
+    ] {
+        assert_eq!(rt;
+            said(rt.alloc(), input, MOST)?.as_slice(),
+            want,
+            "after {input:?}"
+        );
+    }
+    Ok(())
+}
+
+// What a session says to one line.
+fn reply_to(alloc: Global, line: &[u8]) -> Result<Vec<u8>, Fail> {
+    let mut input = Vec::from_slice(alloc, line)?;
+    input.push(b'\n')?;
+    said(alloc, input.as_slice(), MOST)
+}
+
+#[test]
+fn lines_that_are_no_requests(rt: HostRuntime) -> Result<(), Fail> {
+    for line in [
+        b"read /a 00 1".as_slice(),
+        b"read /a 0  1",
+        b"read /a 0 1 ",
+        b"read /a 18446744073709551616 1",
+        b"read /.. x 1",
+        b"read /a 0",
+        b"kind //",
+        b"kind /a/",
+        b"kind a",
+        b"kind ",
+        b"kind",
+        b"kind / ",
+        b"kind /%61",
+        b"kind /%2f",
+        b"kind /%2",
+        b"kind /a-b",
+        b"list / a- 1",
+        b"list /  1",
+        b"look /",
+        b"write /a 0 AB",
+    ] {
+        assert_eq!(rt;
+            reply_to(rt.alloc(), line)?.as_slice(),
+            b"err 71 EPROTO\n".as_slice(),
+            "line {line:?}"
+        );
+    }
+    Ok(())
+}
+
+#[test]
+fn lines_that_are_refused(rt: HostRuntime) -> Result<(), Fail> {
+    for line in [
+        b"kind /%2F".as_slice(),
+        b"kind /.",
+        b"kind /..",
+        b"kind /%00",
+        b"kind /a/../b",
+        b"list / .. 1",
+        b"list / %2F 1",
+    ] {
+        assert_eq!(rt;
+            reply_to(rt.alloc(), line)?.as_slice(),
+            b"err 22 EINVAL\n".as_slice(),
+            "line {line:?}"
+        );
+    }
+    for line in [b"kind /...".as_slice(), b"kind /a%20%FFz", b"kind /.a/b_"] {
+        assert_eq!(rt;
+            reply_to(rt.alloc(), line)?.as_slice(),
+            b"kind dir\n".as_slice(),
+            "line {line:?}"
+        );
+    }
+    let last = reply_to(rt.alloc(), b"read /a 18446744073709551615 0")?;
+    assert_eq!(rt;
+        last.as_slice(),
+        b"data 10 76657273696f6e20310a\n".as_slice()
+    );
+    Ok(())
+}
+
+// A line `kind` of a path of so many names, each of so many bytes `a`.
+fn deep(alloc: Global, names: usize, len: usize) -> Result<Vec<u8>, Fail> {
+    let mut line = Vec::from_slice(alloc, b"kind ")?;
+    for _ in 0..names {
+        line.push(b'/')?;
+        for _ in 0..len {
+            line.push(b'a')?;
+        }
+    }
+    Ok(line)
+}
+
+#[test]
+fn long_names_and_paths(rt: HostRuntime) -> Result<(), Fail> {
+    for (names, len, want) in [
+        (1, 255, b"kind dir\n".as_slice()),
+        (1, 256, b"err 36 ENAMETOOLONG\n"),
+        (256, 1, b"kind dir\n"),
+        (257, 1, b"err 36 ENAMETOOLONG\n"),
+        (15, 255, b"kind dir\n"),
+        (16, 255, b"err 36 ENAMETOOLONG\n"),
+    ] {
+        let line = deep(rt.alloc(), names, len)?;
+        assert_eq!(rt;
+            reply_to(rt.alloc(), line.as_slice())?.as_slice(),
+            want,
+            "{names} names of {len}"
+        );
+    }
+    let mut line = deep(rt.alloc(), 1, 256)?;
+    line.extend_from_slice(b"/..")?;
+    assert_eq!(rt;
+        reply_to(rt.alloc(), line.as_slice())?.as_slice(),
+        b"err 36 ENAMETOOLONG\n".as_slice()
+    );
+    Ok(())
+}
+
+#[test]
+fn the_longest_line(rt: HostRuntime) -> Result<(), Fail> {
+    let alloc = rt.alloc();
+    let mut line = deep(alloc, 1, 149_994)?;
+    assert_eq!(rt; line.len(), LONGEST_LINE);
+    line.push(b'\n')?;
+    assert_eq!(rt;
+        said(alloc, line.as_slice(), 1)?.as_slice(),
+        b"err 36 ENAMETOOLONG\n".as_slice()
+    );
+    let line = deep(alloc, 1, 149_995)?;
+    let mut reader = Pieces {
+        bytes: line.as_slice(),
+        size: 1,
+        calls: 0,
+        bad: 150_002,
+    };
+    let mut writer = make_sink(alloc, MOST);
+    session(alloc, &mut reader, &mut writer, &mut make_small(alloc)?)?;
+    assert_eq!(rt; writer.got.as_slice(), b"err 71 EPROTO\n".as_slice());
+    assert_eq!(rt; reader.calls, 150_001);
+    Ok(())
+}
+
+#[test]
+fn many_replies_in_few_writes(rt: HostRuntime) -> Result<(), Fail> {
+    let alloc = rt.alloc();
+    let mut input = Vec::new(alloc);
+    for _ in 0..100_000 {
+        input.extend_from_slice(b"kind /\n")?;
+    }
+    let mut writer = make_sink(alloc, MOST);
+    session(
+        alloc,
+        &mut make_pieces(input.as_slice(), 65_536),
+        &mut writer,
+        &mut make_small(alloc)?,
+    )?;
+    assert_eq!(rt; writer.got.len(), 900_000);
+    assert!(rt; writer.calls < 1_000);
+    Ok(())
+}
+
+// Sends a line once the reply to the one before is there, and fails otherwise.
+#[derive(Drop)]
+struct Waiting<'a> {
+    replies: &'a Cell<u32>,
+    sent: u32,
+}
+
+impl<'a> Read for Waiting<'a> {
+    fn read(&mut self, buf: &mut [u8]) -> io::Result<usize> {
+        if self.replies.get() != self.sent {
+            return Err(io::Error::from(io::ErrorKind::TimedOut));
+        }
+        if self.sent == 3 || buf.len() < 7 {
+            return Ok(0);
+        }
+        self.sent = self.sent.saturating_add(1);
+        buf[..7].copy_from_slice(b"kind /\n");
+        Ok(7)
+    }
+}
+
+// Counts the line feeds that are flushed.
+#[derive(Drop)]
+struct Counting<'a> {
+    replies: &'a Cell<u32>,
+    unflushed: u32,
+}
+
+impl<'a> Write for Counting<'a> {
+    fn write(&mut self, buf: &[u8]) -> io::Result<usize> {
+        for b in buf {
+            if *b == b'\n' {
+                self.unflushed = self.unflushed.saturating_add(1);
+            }
+        }
+        Ok(buf.len())
+    }
+
+    fn flush(&mut self) -> io::Result<()> {
+        self.replies
+            .set(self.replies.get().saturating_add(self.unflushed));
+        self.unflushed = 0;
+        Ok(())
+    }
+}
+
+#[test]
+fn a_client_that_waits_gets_its_reply(rt: HostRuntime) -> Result<(), Fail> {
+    let replies = Cell::new(0);
+    let mut reader = Waiting {
+        replies: &replies,
+        sent: 0,
+    };
+    let mut writer = Counting {
+        replies: &replies,
+        unflushed: 0,
+    };
+    session(
+        rt.alloc(),
+        &mut reader,
+        &mut writer,
+        &mut make_small(rt.alloc())?,
+    )?;
+    assert_eq!(rt; replies.get(), 3);
+    Ok(())
+}
+
+#[test]
+fn texts_of_call_faults(rt: HostRuntime) -> Result<(), Fail> {
+    let alloc = rt.alloc();
+    for (fault, want) in [
+        (
+            CallFault::Start(StartFault::Busy),
+            b"fault busy\n".as_slice(),
+        ),
+        (
+            CallFault::Start(StartFault::HistoryFull(3)),
+            b"fault history 3\n",
+        ),
+        (CallFault::Start(StartFault::Memory), b"fault memory\n"),
+        (CallFault::Start(StartFault::NoPass), b"fault nopass\n"),
+        (
+            CallFault::Foreign {
+                floor: 7,
+                length: 2,
+            },
+            b"fault foreign 7 2\n",
+        ),
+        (CallFault::Stopped, b"fault stopped\n"),
+    ] {
+        let mut service = make_small(alloc)?;
+        service.refused = Some(fault);
+        let mut writer = make_sink(alloc, MOST);
+        session(
+            alloc,
+            &mut make_pieces(b"kind /\n", MOST),
+            &mut writer,
+            &mut service,
+        )?;
+        assert_eq!(rt; writer.got.as_slice(), want);
+    }
+    Ok(())
+}
+
+// The tree of one file `test.txt`, as `git write-tree` names it.
+const TREE: Id = Id {
+    bytes: [
+        0xd8, 0x32, 0x9f, 0xc1, 0xcc, 0x93, 0x87, 0x80, 0xff, 0xdd, 0x9f, 0x94, 0xe0, 0xd3, 0x64,
+        0xe0, 0xea, 0x74, 0xf5, 0x79,
+    ],
+};
+
+#[test]
+fn texts_of_replies(rt: HostRuntime) -> Result<(), Fail> {
+    let alloc = rt.alloc();
+    let mut scratch = Scratch::new(alloc)?;
+    for (reply, want) in [
+        (Reply::Kind(Kind::Exec), b"kind exec\n".as_slice()),
+        (data(alloc, b"")?, b"data 0\n"),
+        (
+            data(alloc, b"version 1\n")?,
+            b"data 10 76657273696f6e20310a\n",
+        ),
+        (
+            entry(alloc, b"-a %\n\xff", Kind::Link, true)?,
+            b"entries 1 link %2Da%20%25%0A%FF more\n",
+        ),
+        (Reply::Err(Errno::ENOENT), b"err 2 ENOENT\n"),
+        (Reply::Err(Errno::ENOTEMPTY), b"err 39 ENOTEMPTY\n"),
+        (
+            Reply::Fault(Fault::Fetch(TREE, Cause::Missing)),
+            b"fault fetch d8329fc1cc938780ffdd9f94e0d364e0ea74f579 Missing\n",
+        ),
+        (Reply::Fault(Fault::Memory), b"fault memory\n"),
+        (Reply::Fault(Fault::Overlay), b"fault overlay\n"),
+        (Reply::Fault(Fault::Numbers), b"fault numbers\n"),
+    ] {
+        let mut writer = make_sink(alloc, 3);
+        write_reply(&mut writer, &mut scratch, &reply)?;
+        assert_eq!(rt; writer.got.as_slice(), want);
+    }
+    Ok(())
+}
+
+#[test]
+fn much_data_in_few_writes(rt: HostRuntime) -> Result<(), Fail> {
+    let alloc = rt.alloc();
+    let mut scratch = Scratch::new(alloc)?;
+    let reply = Reply::Data(Bytes::new(vec![in alloc; 0xa5; 65_536]?));
+    let mut writer = make_sink(alloc, MOST);
+    write_reply(&mut writer, &mut scratch, &reply)?;
+    assert!(rt; writer.got.starts_with(b"data 65536 a5a5"));
+    assert!(rt; writer.got.ends_with(b"a5a5\n"));
+    assert_eq!(rt; writer.got.len(), 131_084);
+    assert!(rt; writer.calls < 300);
+    Ok(())
+}
