@@ -1,0 +1,45 @@
+//! Benchmarks: `eden_bench WORKLOAD COUNT [timed]` runs a workload over so many entries and prints what came of it, and
+//! with `timed` how long each part took. `make bench` runs them at full size.
+#![tactic(auto)]
+
+mod timing;
+mod tree;
+
+use std::alloc::Global;
+use std::process::ExitCode;
+use std::rt::{Clock, Env};
+use std::{env, io};
+use timing::Timing;
+
+const USAGE: &str = "usage: eden_bench tree COUNT [timed]";
+
+/// Runs the workload that the words name. False where they name none.
+fn run<R: Print + Clock + AllocGlobal>(rt: &R, words: &[String]) -> io::Result<bool> {
+    let (name, count, timing) = match words {
+        [_, name, count] => (name, count, Timing::Untimed),
+        [_, name, count, last] if last.as_str() == "timed" => (name, count, Timing::Timed),
+        _ => return Ok(false),
+    };
+    let Ok(count) = count.as_str().parse::<u32>() else {
+        return Ok(false);
+    };
+    match name.as_str() {
+        "tree" => tree::run(rt, count, timing)?,
+        _ => return Ok(false),
+    }
+    Ok(true)
+}
+
+fn words(rt: &(impl Env + Alloc<A = Global>)) -> io::Result<Vec<String>> {
+    let words: Vec<String> = env::args(rt)?.collect(rt.alloc())?;
+    Ok(words)
+}
+
+fn main(rt: HostRuntime) -> io::Result<ExitCode> {
+    let words = words(&rt)?;
+    if run(&rt, words.as_slice())? {
+        return Ok(ExitCode::SUCCESS);
+    }
+    eprintln!(rt; "{USAGE}")?;
+    Ok(ExitCode::from(2))
+}

@@ -1,0 +1,8 @@
+pub mod FilledRows
+pub mod IdLemmas
+pub mod LineLemmas
+pub mod Looking
+pub mod Meeting
+pub mod Replying
+pub mod TakenLines
+pub mod Walking

@@ -1,0 +1,170 @@
+-- What is looked at where a path leads.
+use Rattle.std.proofs.Common.{◌≡◌, ◌<◌, ◌+◌, ℕ, List, [], ◌∷◌, ◌++◌, length, get_or, take, drop, sym, refl, ◌∙◌, ap, subst, arith, inl, inr, Option, Some, None, Err, Bool, true, false, cond, nat_lt, eqb}
+use Rattle.std.specs.Prelude.{◌⊎◌, if◌then◌else◌, find}
+use Rattle.std.specs.Option.{option_map, option_and_then, is_some}
+use Rattle.std.specs.Str.{bytes_eq}
+use Rattle.std.proofs.lemmas.Bool.{ne_eqb}
+use Rattle.std.proofs.lemmas.List.{take_more}
+use Rattle.eden_model.specs.declared.fault.Fault.{Fault}
+use Rattle.eden_model.specs.declared.id.Id.{Id}
+use Rattle.eden_model.specs.declared.kind.Kind.{Kind}
+use Rattle.eden_model.specs.declared.kind.Kind.TheVariants as kind
+use Rattle.eden_model.specs.declared.kind.Mode.{Mode}
+use Rattle.eden_model.specs.declared.kind.Mode.TheVariants as mode
+use Rattle.eden_model.specs.declared.node.Node.TheVariants as node
+use Rattle.eden_model.specs.declared.reply.Reply.{Reply}
+use Rattle.eden_model.specs.declared.reply.Reply.TheVariants as say
+use Rattle.eden_model.specs.declared.tree_entry.TreeEntry.{TreeEntry}
+use Rattle.eden_model.specs.Rows.{first_of}
+use Rattle.eden_model.specs.Trees.{Name, Path, Tree}
+use Rattle.eden_model.specs.Shown.{Item, Items, Ground, shown, node_of, node_from, if_dir}
+use Rattle.eden_model.specs.Repository.{Repository, Source, ground_of, item_by, items_of, entry_named, entries_from, content_from, root_of, Whole}
+use Rattle.eden_model.specs.Operations.{Whether, Says, Into, Reads, kind_of, Lists, IsRising, kind_at, beyond}
+use Rattle.eden_source.specs.Fetching.{Ask, Answer}
+use Rattle.eden_source.proofs.Fetches.{Fetches-one}
+use Rattle.mountd.specs.declared.place.Place.{Place}
+use Rattle.mountd.specs.Commit.{At, found, from_kind, from_entry, blob_of, tree_of}
+use Rattle.mountd.specs.Serving.{IsLawful, Gets, IsLook, Looks, ReadsAt, ListsEntries, ListsBy, ListsAt, IsPart, IsPage, item_of}
+use Rattle.mountd.proofs.Walking.{all_front, front_same}
+use Rattle.mountd.proofs.Replying.{kind_node}
+
+-- ---- one object was asked for
+
+module _ {S : Type 0} (fetched : S → Id → Answer → S → Type 0) (R : Repository) (honest : Type 0) where
+  pub looks_one : (K : Item Source → Reply → Type 0) (s t : S) (place : Place) (objects : List Id) (answer : Answer) (reply : Reply) → objects ≡ place.id ∷ [] → fetched s place.id answer t
+      → IsLook honest place K (record { id = place.id; answer = answer } ∷ []) reply → Looks fetched R honest s t place K objects reply
+  looks_one K s t place objects answer reply e asked said = record {
+    asks = record { id = place.id; answer = answer } ∷ [];
+    asked = Fetches-one fetched s t place.id answer asked;
+    few = omega arith;
+    only_needed = λ honesty. front_same (place.id ∷ []) (place.id ∷ []) objects (sym e) (all_front (place.id ∷ []));
+    said = said;
+  }
+
+  pub looks_fault : {V : Type 0} (Is : V → Type 0) (K : Item Source → Reply → Type 0) (s t : S) (place : Place) (objects : List Id) (f : Fault) → objects ≡ place.id ∷ [] → Gets fetched Is s t place.id (Err f) → Looks fetched R honest s t place K objects (say.Fault f)
+  looks_fault Is K s t place objects f e w = looks_one K s t place objects w.answer (say.Fault f) e w.asked w.got
+
+-- ---- reading
+
+abbrev pub IsFile : Mode → Type 0
+IsFile m = (m ≡ mode.File) ⊎ (m ≡ mode.Exec)
+
+pub blob_here : (place : Place) (count : ℕ) → IsFile place.mode → (count ≡ 0 → ⊥) → (if eqb count 0 then [] else blob_of (item_of place)) ≡ place.id ∷ []
+blob_here place count is_file some =
+    ap (λ (b : Bool). if b then [] else blob_of (item_of place)) (ne_eqb count 0 some)
+    ∙ elim is_file [ inl e ↦ ap (λ (m : Mode). blob_of (item_by m place.id)) e | inr e ↦ ap (λ (m : Mode). blob_of (item_by m place.id)) e ]
+
+reads_file : (offset count : ℕ) (x : Bool) (c : Option (List ℕ)) (content bytes : List ℕ) → eqb count 0 ≡ false → c ≡ Some content → bytes ≡ take count (drop offset content) → Reads offset count (node.File x c) (say.Data bytes)
+reads_file offset count x c content bytes some e is =
+    subst (λ (o : Option (List ℕ)). Reads offset count (node.File x o) (say.Data bytes)) (sym e)
+    (subst (λ (b : Bool). Whether b (Says (say.Data [])) (Into (Some content) (λ l. say.Data (take count (drop offset l)))) (say.Data bytes)) (sym some) (ap say.Data is))
+
+module _ (R : Repository) (honest : Type 0) where
+  pub reads_part : (place : Place) (offset count : ℕ) (content held : List ℕ) (asks : List Ask) (reply : Reply) → IsFile place.mode → (count ≡ 0 → ⊥) → (honest → R.blob place.id ≡ Some held) → content ≡ held
+      → IsPart content offset count reply → IsLook honest place (ReadsAt R offset count) asks reply
+  reads_part place offset count content held asks (say.Kind k) is_file some had same h = absurd h
+  reads_part place offset count content held asks (say.Entries es more) is_file some had same h = absurd h
+  reads_part place offset count content held asks (say.Err e) is_file some had same h = absurd h
+  reads_part place offset count content held asks (say.Fault f) is_file some had same h = subst (λ (x : Fault). IsLawful asks x) (sym h) tt
+  reads_part place offset count content held asks (say.Data bytes) is_file some had same h = λ honesty.
+      let file : (x : Bool) → Reads offset count (node.File x (R.blob place.id)) (say.Data bytes) = λ x. reads_file offset count x (R.blob place.id) held bytes (ne_eqb count 0 some) (had honesty) (h ∙ ap (λ (l : List ℕ). take count (drop offset l)) same) in
+      elim is_file [
+        | inl e ↦ subst (λ (m : Mode). Reads offset count (node_of (ground_of R) (item_by m place.id)) (say.Data bytes)) (sym e) (file false)
+        | inr e ↦ subst (λ (m : Mode). Reads offset count (node_of (ground_of R) (item_by m place.id)) (say.Data bytes)) (sym e) (file true)
+      ]
+
+-- ---- listing
+
+find-push : {X : Type 0} (test : X → Bool) (xs : List X) (x : X) → find test (xs ++ x ∷ []) ≡ first_of (find test xs) (if test x then Some x else None)
+find-push {X} test [] x = refl
+find-push {X} test (y ∷ ys) x = by (test y) (find test ys) (find test (ys ++ x ∷ [])) (if test x then Some x else None) (find-push test ys x)
+  where
+    by : (b : Bool) (tail all last : Option X) → all ≡ first_of tail last → cond b (Some y) all ≡ first_of (cond b (Some y) tail) last
+    by true tail all last e = refl
+    by false tail all last e = e
+
+abbrev pub kind_in : List TreeEntry → Name → Option Kind
+kind_in es n = option_map (λ j. j.kind) (items_of es n)
+
+map_first : (o : Option TreeEntry) (b : Bool) (e : TreeEntry) (k : Kind) → k ≡ (item_by e.mode e.id).kind
+    → first_of (option_map (λ (j : Item Source). j.kind) (option_map (λ (x : TreeEntry). item_by x.mode x.id) o)) (if b then Some k else None)
+    ≡ option_map (λ (j : Item Source). j.kind) (option_map (λ (x : TreeEntry). item_by x.mode x.id) (first_of o (if b then Some e else None)))
+map_first None true e k same = ap Some same
+map_first None false e k same = refl
+map_first (Some x) b e k same = refl
+
+pub listed_more : (es : List TreeEntry) (n : Name) (i : ℕ) (e : TreeEntry) (k : Kind) (old new : Option Kind) → i < length es → e ≡ get_or es i e → k ≡ (item_by e.mode e.id).kind
+    → old ≡ kind_in (take i es) n → new ≡ first_of old (if bytes_eq n e.name then Some k else None) → new ≡ kind_in (take (i + 1) es) n
+listed_more es n i e k old new lt at same was is =
+    is ∙ ap (λ (o : Option Kind). first_of o (if bytes_eq n e.name then Some k else None)) was
+    ∙ map_first (entry_named n (take i es)) (bytes_eq n e.name) e k same
+    ∙ ap (λ (o : Option TreeEntry). option_map (λ (j : Item Source). j.kind) (option_map (λ (x : TreeEntry). item_by x.mode x.id) o)) (sym (find-push (λ (x : TreeEntry). bytes_eq n x.name) (take i es) e))
+    ∙ ap (λ (x : TreeEntry). kind_in (take i es ++ x ∷ []) n) at
+    ∙ ap (λ (l : List TreeEntry). kind_in l n) (sym (take_more es i e lt))
+
+pub paged : (es : Items Source) (after : Option Name) (limit : ℕ) (all : List (Name × Kind)) (reply : Reply) → IsRising all → ((n : Name) → kind_at all n ≡ option_map (λ j. j.kind) (es n))
+    → reply ≡ say.Entries (take limit (beyond after all)) (nat_lt limit (length (beyond after all))) → IsPage es after limit reply
+paged es after limit all reply rising at is = subst (λ (r : Reply). IsPage es after limit r) (sym is) (all, rising, at, refl)
+
+module _ (R : Repository) (honest : Type 0) where
+  abbrev pub IsDirectory : Place → Items Source → Type 0
+  IsDirectory place es = ((item_of place).kind ≡ kind.Dir) × (honest → entries_from R (item_of place).source ≡ Some es)
+
+  listed : (k : Kind) (source : Source) (es : Items Source) (after : Option Name) (limit : ℕ) (r : Reply) → k ≡ kind.Dir → entries_from R source ≡ Some es → ListsEntries (Some es) after limit r → ListsBy k (entries_from R source) after limit r
+  listed k source es after limit r e had h =
+      subst (λ (x : Kind). ListsBy x (entries_from R source) after limit r) (sym e) (subst (λ (o : Option (Items Source)). ListsEntries o after limit r) (sym had) h)
+
+  pub lists_page : (place : Place) (es : Items Source) (after : Option Name) (limit : ℕ) (asks : List Ask) (reply : Reply) → IsDirectory place es → IsPage es after limit reply → IsLook honest place (ListsAt R after limit) asks reply
+  lists_page place es after limit asks (say.Kind k) d h = absurd h
+  lists_page place es after limit asks (say.Data bytes) d h = absurd h
+  lists_page place es after limit asks (say.Err e) d h = absurd h
+  lists_page place es after limit asks (say.Fault f) d h = subst (λ (x : Fault). IsLawful asks x) (sym h) tt
+  lists_page place es after limit asks (say.Entries rows more) d h = λ honesty. listed (item_of place).kind (item_of place).source es after limit (say.Entries rows more) d.0 (d.1 honesty) h
+
+  -- the entries of a tree that was had
+  pub in_tree : (place : Place) (es entries : List TreeEntry) → place.mode ≡ mode.Dir → entries ≡ es → (honest → R.tree place.id ≡ Some es) → IsDirectory place (items_of entries)
+  in_tree place es entries e same had = (
+    ap (λ (m : Mode). (item_by m place.id).kind) e,
+    λ honesty. ap (λ (m : Mode). entries_from R (item_by m place.id).source) e ∙ ap (option_map items_of) (had honesty ∙ ap Some (sym same)),
+  )
+
+pub tree_here : (place : Place) → place.mode ≡ mode.Dir → tree_of (item_of place) ≡ place.id ∷ []
+tree_here place e = ap (λ (m : Mode). tree_of (item_by m place.id)) e
+
+-- ---- what the whole tree has below a place
+
+module _ {S : Type 0} (G : Ground S) where
+  shown_entry : (o : Option (Item S)) (j : Item S) (p q : Path) → ((i : Item S) → found G i p ≡ At j → shown G i (p ++ q) ≡ shown G j q) → from_entry o p (λ i. found G i p) ≡ At j → option_and_then (λ i. shown G i (p ++ q)) o ≡ shown G j q
+  shown_entry None j [] q ih e = cc
+  shown_entry None j (n ∷ p) q ih e = cc
+  shown_entry (Some i) j p q ih e = ih i e
+
+  shown_kind : (k : Kind) (es : Option (Items S)) (n : Name) (j : Item S) (p q : Path) → ((i : Item S) → found G i p ≡ At j → shown G i (p ++ q) ≡ shown G j q) → from_kind k es n p (λ i. found G i p) ≡ At j
+      → option_and_then (λ i. shown G i (p ++ q)) (if_dir k (option_and_then (λ (f : Items S). f n) es)) ≡ shown G j q
+  shown_kind kind.File es n j p q ih e = cc
+  shown_kind kind.Exec es n j p q ih e = cc
+  shown_kind kind.Link es n j p q ih e = cc
+  shown_kind kind.Dir None n j p q ih e = cc
+  shown_kind kind.Dir (Some es) n j p q ih e = shown_entry (es n) j p q ih e
+
+  -- below where a path leads stands what that entry shows
+  pub shown_found : (p q : Path) (i j : Item S) → found G i p ≡ At j → shown G i (p ++ q) ≡ shown G j q
+  shown_found [] q i j e = let same : i ≡ j = cc in ap (λ (x : Item S). shown G x q) same
+  shown_found (n ∷ p) q i j e = shown_kind i.kind (G.entries i.source) n j p q (λ k h. shown_found p q k j h) e
+
+  kinds : (o : Option (Item S)) → option_map (λ j. j.kind) o ≡ option_map kind_of (option_and_then (λ j. shown G j []) o)
+  kinds None = refl
+  kinds (Some j) = ap Some (sym (kind_node G j))
+
+  pub lists_below : (F : Tree) (p : Path) (after : Option Name) (limit : ℕ) (k : Kind) (c : Option (List ℕ)) (es : Option (Items S)) (r : Reply) → ((n : Name) → F (p ++ n ∷ []) ≡ option_and_then (λ j. shown G j []) (if_dir k (option_and_then (λ (f : Items S). f n) es)))
+      → ListsBy k es after limit r → Lists F p after limit (node_from k c (is_some es)) r
+  lists_below F p after limit kind.File c es r at h = h
+  lists_below F p after limit kind.Exec c es r at h = h
+  lists_below F p after limit kind.Link c es r at h = h
+  lists_below F p after limit kind.Dir c None r at h = h
+  lists_below F p after limit kind.Dir c (Some es) r at h = (h.0, record { rising = h.1; children = λ n. h.2 n ∙ kinds (es n) ∙ ap (option_map kind_of) (sym (at n)) }, h.3)
+
+pub lists_mean : (R : Repository) (root : Id) (p : Path) (after : Option Name) (limit : ℕ) (place : Place) (r : Reply) → found (ground_of R) (root_of root) p ≡ At (item_of place) → ListsAt R after limit (item_of place) r → Lists (Whole R root) p after limit (node_of (ground_of R) (item_of place)) r
+lists_mean R root p after limit place r e h =
+    lists_below (ground_of R) (Whole R root) p after limit (item_of place).kind (content_from R (item_of place).source) (entries_from R (item_of place).source) r
+    (λ n. shown_found (ground_of R) p (n ∷ []) (root_of root) (item_of place) e) h

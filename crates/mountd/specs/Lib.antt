@@ -1,0 +1,4 @@
+pub mod CommandLine
+pub mod IdText
+pub mod Commit
+pub mod Serving

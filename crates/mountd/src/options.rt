@@ -1,0 +1,146 @@
+//! The command line.
+ghost use Rattle.std.specs.Prelude.{◌≡◌, ◌⊎◌, ◌↔◌, IfErr, IfOk, IsErrOf, OnOk, false, map, option_map, string_bytes};
+ghost use Rattle.clap.specs.declared.builder.command.Command.TheViews.{out-Command as fields_of};
+ghost use Rattle.clap.specs.Words.{app_of, kind_of, rule_of, subcommand_of, subcommand_rows_of};
+ghost use Rattle.clap.specs.declared.error.kind.ErrorKind.TheVariants.{OutOfMemory};
+ghost use Rattle.hex.specs.Hex.{encode_lower};
+ghost use Rattle.mountd.specs.CommandLine.{AsksFor, IsTaken, Refuses, mountd_line, required_option, stdio_line, stdio_values};
+ghost use Rattle.mountd.specs.IdText.{IsIdText};
+ghost use Rattle.mountd.specs.declared.options.OptionsError.TheVariants as error;
+
+use crate::id_text::parse_id;
+use clap::error::ErrorKind;
+use clap::{Arg, ArgMatches};
+use eden_model::Id;
+use std::alloc::{AllocError, Global};
+use std::convert::AsStr;
+use thiserror::Error;
+
+/// What `mountd stdio` is asked to serve.
+#[derive(Debug, Drop)]
+pub struct StdioOptions {
+    /// The root directory's tree.
+    pub root: Id,
+    /// The folder that the objects lie in.
+    pub objects: String,
+}
+
+/// What the program is asked for.
+#[derive(Debug, Drop)]
+pub enum Command {
+    Stdio(StdioOptions),
+}
+
+/// Why a command line is refused.
+#[derive(Debug, Drop, Error)]
+pub enum OptionsError {
+    /// The words are no command line, or ask for help; the text is `clap`'s and ends its own last line.
+    #[error("{0}")]
+    Refused(clap::Error),
+    /// The value of `--root` is no id.
+    #[error("mountd: --root takes 40 lower-case hexadecimal digits")]
+    Root,
+    #[error("mountd: out of memory")]
+    Memory,
+}
+
+impl From<AllocError> for OptionsError {
+    ghost from_gives = { λ _ e. e ≡ error.Memory };
+
+    fn from(_error: AllocError) -> OptionsError {
+        OptionsError::Memory
+    }
+}
+
+/// Reads the command line, of which the first word is the program's name.
+///
+/// `Memory` may come at any words.
+pub fn options<S: AsStr>(alloc: Global, words: &[S]) -> Result<Command, OptionsError>
+    ensures taken { OnOk result (IsTaken (map S.text words.now)) }
+    ensures ok { IfOk result (AsksFor (map S.text words.now)) }
+    ensures err { IfErr result (Refuses (map S.text words.now)) }
+{
+    let matches = matches_of(alloc, words)?;
+    // `clap` has seen that the subcommand and both options are there.
+    let (root, objects) = stdio_values(&matches).unwrap();
+    Ok(Command::Stdio(stdio_options(alloc, root, objects)?))
+}
+
+fn stdio_options(alloc: Global, root: &str, objects: &str) -> Result<StdioOptions, OptionsError>
+    ensures root { IfOk result (λ options. encode_lower options.root.bytes ≡ root.now) }
+    ensures objects { IfOk result (λ options. string_bytes options.objects ≡ objects.now) }
+    ensures bad_root { IsErrOf result error.Root ↔ ¬ IsIdText root.now }
+    ensures err { IfErr result (λ why. (why ≡ error.Root) ⊎ (why ≡ error.Memory)) }
+{
+    let root = parse_id(root).ok_or(OptionsError::Root)?;
+    let objects = String::from_str(alloc, objects)?;
+    Ok(StdioOptions { root, objects })
+}
+
+/// The values of `--root` and `--objects`.
+fn stdio_values<'a>(matches: &ArgMatches<'a>) -> Option<(&'a str, &'a str)>
+    ensures { option_map (λ values. (values.0.now, values.1.now)) result
+        ≡ stdio_values (subcommand_rows_of matches.now) }
+{
+    let given = matches.subcommand_matches("stdio")?;
+    Some((given.get_str("root")?, given.get_str("objects")?))
+}
+
+/// What `clap` finds in the words.
+fn matches_of<'a, S: AsStr>(alloc: Global, words: &'a [S]) -> Result<ArgMatches<'a>, OptionsError>
+    ensures taken { OnOk result (IsTaken (map S.text words.entry.now)) }
+    ensures subcommand { IfOk result (λ matches.
+        subcommand_rows_of matches ≡ subcommand_of mountd_line (map S.text words.entry.now)) }
+    ensures err { IfErr result (Refuses (map S.text words.entry.now)) }
+{
+    match command_line(alloc)?.try_get_matches_from(words) {
+        Ok(matches) => Ok(matches),
+        Err(error) => Err(refusal(error)),
+    }
+}
+
+fn refusal(reason: clap::Error) -> OptionsError
+    ensures memory { kind_of reason ≡ OutOfMemory → result ≡ error.Memory }
+    ensures one { (result ≡ error.Refused reason) ⊎ ((result ≡ error.Memory) × (kind_of reason ≡ OutOfMemory)) }
+{
+    if reason.kind() == ErrorKind::OutOfMemory {
+        OptionsError::Memory
+    } else {
+        OptionsError::Refused(reason)
+    }
+}
+
+/// The program's grammar.
+fn command_line<'a>(alloc: Global) -> Result<clap::Command<'a>, AllocError>
+    ensures { IfOk result (λ command. app_of command ≡ mountd_line) }
+{
+    let stdio = stdio_line(alloc)?;
+    clap::Command::new(alloc, "mountd")
+        .about("Answers requests on the files of a Git commit")
+        .subcommand_required(true)
+        .subcommand(stdio)
+}
+
+fn stdio_line<'a>(alloc: Global) -> Result<clap::Command<'a>, AllocError>
+    ensures shape { IfOk result (λ command. app_of command ≡ stdio_line) }
+    ensures local { IfOk result (λ command. (fields_of command).has_globals ≡ false) }
+{
+    let root = required_option(alloc, "root", "ID").help(
+        "The root directory's tree: 40 lower-case hexadecimal digits",
+    );
+    let objects = required_option(alloc, "objects", "DIR").help("The folder of Git objects");
+    clap::Command::new(alloc, "stdio")
+        .about("Serves one session over standard input and output")
+        .arg(root)?
+        .arg(objects)
+}
+
+fn required_option<'a>(alloc: Global, name: &'a str, value: &'a str) -> Arg<'a>
+    ensures rule { rule_of result ≡ required_option name.entry.now }
+    ensures local { result.global ≡ false }
+{
+    Arg::new(alloc, name)
+        .long(name)
+        .value_name(value)
+        .required(true)
+}
