@@ -1,0 +1,21 @@
+# The program, its proofs and its tests. `make` alone says what there is.
+
+ROOT := d8329fc1cc938780ffdd9f94e0d364e0ea74f579
+
+.PHONY: help run test bench fmt
+
+help: ## says what each target does
+	@sed -n 's/^\([a-z]*\): ##/\1:/p' Makefile
+
+run: ## proves and builds mountd, and serves examples/first-run.txt on the sample commit
+	@cd crates/mountd && rt run -- stdio --root $(ROOT) --objects $(CURDIR)/examples/objects < $(CURDIR)/examples/first-run.txt
+
+test: ## proves everything from nothing, and runs every test; its last line counts the end-to-end checks
+	rt ci
+	tests/end-to-end
+
+bench: ## times the work that grows with its input, at full size
+	@cd crates/eden_bench && rt run -- tree 1000000 timed
+
+fmt: ## lays out every source and proof file
+	@for crate in crates/*/; do (cd $$crate && rt fmt) || exit 1; done
