@@ -7,6 +7,9 @@ use Rattle.std.proofs.lemmas.Bool.{ne_eqb}
 use Rattle.std.proofs.lemmas.List.{take_more}
 use Rattle.eden_model.specs.declared.fault.Fault.{Fault}
 use Rattle.eden_model.specs.declared.id.Id.{Id}
+use Rattle.eden_model.specs.declared.id.Key.{Key}
+use Rattle.eden_model.specs.declared.id.ObjKind.{ObjKind}
+use Rattle.eden_model.specs.declared.id.ObjKind.TheVariants as objects
 use Rattle.eden_model.specs.declared.kind.Kind.{Kind}
 use Rattle.eden_model.specs.declared.kind.Kind.TheVariants as kind
 use Rattle.eden_model.specs.declared.kind.Mode.{Mode}
@@ -24,32 +27,33 @@ use Rattle.eden_source.specs.Fetching.{Ask, Answer}
 use Rattle.eden_source.proofs.Fetches.{Fetches-one}
 use Rattle.mountd.specs.declared.place.Place.{Place}
 use Rattle.mountd.specs.Commit.{At, found, from_kind, from_entry, blob_of, tree_of}
-use Rattle.mountd.specs.Serving.{IsLawful, Gets, IsLook, Looks, ReadsAt, ListsEntries, ListsBy, ListsAt, IsPart, IsPage, item_of}
+use Rattle.mountd.specs.Serving.{Asked, IsLawful}
+use Rattle.mountd.specs.Steps.{Gets, IsLook, Looks, ReadsAt, ListsEntries, ListsBy, ListsAt, IsPart, IsPage, item_of}
 use Rattle.mountd.proofs.Walking.{all_front, front_same}
 use Rattle.mountd.proofs.Replying.{kind_node}
 
 -- ---- one object was asked for
 
 module _ {S : Type 0} (fetched : S → Id → Answer → S → Type 0) (R : Repository) (honest : Type 0) where
-  pub looks_one : (K : Item Source → Reply → Type 0) (s t : S) (place : Place) (objects : List Id) (answer : Answer) (reply : Reply) → objects ≡ place.id ∷ [] → fetched s place.id answer t
-      → IsLook honest place K (record { id = place.id; answer = answer } ∷ []) reply → Looks fetched R honest s t place K objects reply
-  looks_one K s t place objects answer reply e asked said = record {
-    asks = record { id = place.id; answer = answer } ∷ [];
-    asked = Fetches-one fetched s t place.id answer asked;
+  pub looks_one : (K : Item Source → Reply → Type 0) (s t : S) (place : Place) (k : Key) (needed : List Key) (answer : Answer) (reply : Reply) → needed ≡ k ∷ [] → fetched s k.id answer t
+      → IsLook honest place K (record { key = k; answer = answer } ∷ []) reply → Looks fetched R honest s t place K needed reply
+  looks_one K s t place k needed answer reply e asked said = record {
+    asks = record { key = k; answer = answer } ∷ [];
+    asked = Fetches-one fetched s t k.id answer asked;
     few = omega arith;
-    only_needed = λ honesty. front_same (place.id ∷ []) (place.id ∷ []) objects (sym e) (all_front (place.id ∷ []));
+    only_needed = λ honesty. front_same (k ∷ []) (k ∷ []) needed (sym e) (all_front (k ∷ []));
     said = said;
   }
 
-  pub looks_fault : {V : Type 0} (Is : V → Type 0) (K : Item Source → Reply → Type 0) (s t : S) (place : Place) (objects : List Id) (f : Fault) → objects ≡ place.id ∷ [] → Gets fetched Is s t place.id (Err f) → Looks fetched R honest s t place K objects (say.Fault f)
-  looks_fault Is K s t place objects f e w = looks_one K s t place objects w.answer (say.Fault f) e w.asked w.got
+  pub looks_fault : {V : Type 0} (Is : V → Type 0) (K : Item Source → Reply → Type 0) (s t : S) (place : Place) (k : Key) (needed : List Key) (f : Fault) → needed ≡ k ∷ [] → Gets fetched Is s t k (Err f) → Looks fetched R honest s t place K needed (say.Fault f)
+  looks_fault Is K s t place k needed f e w = looks_one K s t place k needed w.answer (say.Fault f) e w.asked w.got
 
 -- ---- reading
 
 abbrev pub IsFile : Mode → Type 0
 IsFile m = (m ≡ mode.File) ⊎ (m ≡ mode.Exec)
 
-pub blob_here : (place : Place) (count : ℕ) → IsFile place.mode → (count ≡ 0 → ⊥) → (if eqb count 0 then [] else blob_of (item_of place)) ≡ place.id ∷ []
+pub blob_here : (place : Place) (count : ℕ) → IsFile place.mode → (count ≡ 0 → ⊥) → (if eqb count 0 then [] else blob_of (item_of place)) ≡ record { kind = objects.Blob; id = place.id } ∷ []
 blob_here place count is_file some =
     ap (λ (b : Bool). if b then [] else blob_of (item_of place)) (ne_eqb count 0 some)
     ∙ elim is_file [ inl e ↦ ap (λ (m : Mode). blob_of (item_by m place.id)) e | inr e ↦ ap (λ (m : Mode). blob_of (item_by m place.id)) e ]
@@ -60,7 +64,7 @@ reads_file offset count x c content bytes some e is =
     (subst (λ (b : Bool). Whether b (Says (say.Data [])) (Into (Some content) (λ l. say.Data (take count (drop offset l)))) (say.Data bytes)) (sym some) (ap say.Data is))
 
 module _ (R : Repository) (honest : Type 0) where
-  pub reads_part : (place : Place) (offset count : ℕ) (content held : List ℕ) (asks : List Ask) (reply : Reply) → IsFile place.mode → (count ≡ 0 → ⊥) → (honest → R.blob place.id ≡ Some held) → content ≡ held
+  pub reads_part : (place : Place) (offset count : ℕ) (content held : List ℕ) (asks : List Asked) (reply : Reply) → IsFile place.mode → (count ≡ 0 → ⊥) → (honest → R.blob place.id ≡ Some held) → content ≡ held
       → IsPart content offset count reply → IsLook honest place (ReadsAt R offset count) asks reply
   reads_part place offset count content held asks (say.Kind k) is_file some had same h = absurd h
   reads_part place offset count content held asks (say.Entries es more) is_file some had same h = absurd h
@@ -114,7 +118,7 @@ module _ (R : Repository) (honest : Type 0) where
   listed k source es after limit r e had h =
       subst (λ (x : Kind). ListsBy x (entries_from R source) after limit r) (sym e) (subst (λ (o : Option (Items Source)). ListsEntries o after limit r) (sym had) h)
 
-  pub lists_page : (place : Place) (es : Items Source) (after : Option Name) (limit : ℕ) (asks : List Ask) (reply : Reply) → IsDirectory place es → IsPage es after limit reply → IsLook honest place (ListsAt R after limit) asks reply
+  pub lists_page : (place : Place) (es : Items Source) (after : Option Name) (limit : ℕ) (asks : List Asked) (reply : Reply) → IsDirectory place es → IsPage es after limit reply → IsLook honest place (ListsAt R after limit) asks reply
   lists_page place es after limit asks (say.Kind k) d h = absurd h
   lists_page place es after limit asks (say.Data bytes) d h = absurd h
   lists_page place es after limit asks (say.Err e) d h = absurd h
@@ -128,7 +132,7 @@ module _ (R : Repository) (honest : Type 0) where
     λ honesty. ap (λ (m : Mode). entries_from R (item_by m place.id).source) e ∙ ap (option_map items_of) (had honesty ∙ ap Some (sym same)),
   )
 
-pub tree_here : (place : Place) → place.mode ≡ mode.Dir → tree_of (item_of place) ≡ place.id ∷ []
+pub tree_here : (place : Place) → place.mode ≡ mode.Dir → tree_of (item_of place) ≡ record { kind = objects.Tree; id = place.id } ∷ []
 tree_here place e = ap (λ (m : Mode). tree_of (item_by m place.id)) e
 
 -- ---- what the whole tree has below a place

@@ -5,6 +5,7 @@ use Rattle.std.specs.Option.{is_some}
 use Rattle.eden_model.specs.declared.errno.Errno.{Errno}
 use Rattle.eden_model.specs.declared.errno.Errno.TheVariants.{ENOENT, EINVAL}
 use Rattle.eden_model.specs.declared.id.Id.{Id}
+use Rattle.eden_model.specs.declared.id.Key.{Key}
 use Rattle.eden_model.specs.declared.kind.Kind.{Kind}
 use Rattle.eden_model.specs.declared.kind.Kind.TheVariants as kind
 use Rattle.eden_model.specs.declared.node.Node.{Node}
@@ -17,12 +18,12 @@ use Rattle.eden_model.specs.Shown.{Item, Ground, node_of, node_from}
 use Rattle.eden_model.specs.Repository.{Repository, Source, Whole, ground_of, root_of}
 use Rattle.eden_model.specs.Operations.{Meets, Says, Refuses, Whether, Reads, Lists, Replies, kind_of}
 use Rattle.eden_source.specs.Fetching.{Ask, Answer}
-use Rattle.eden_source.proofs.Fetches.{Fetches-append}
 use Rattle.mountd.specs.declared.place.Place.{Place}
 use Rattle.mountd.specs.Commit.{Found, Stopped, Lost, Nothing, At, found, reach_of, EndsWith, above, own, along, needed, blob_of, tree_of, IsFront}
-use Rattle.mountd.specs.Serving.{ids, IsServed, most_asks, Serves, item_of, IsStop, IsLook, Looks, Walks}
+use Rattle.mountd.specs.Serving.{Asked, keys, IsServed, most_asks, Serves}
+use Rattle.mountd.specs.Steps.{item_of, IsStop, IsLook, Looks, Walks}
 use Rattle.mountd.proofs.Meeting.{reach_found}
-use Rattle.mountd.proofs.Walking.{front_append, front_behind, front_same, ids-append, lawful_behind}
+use Rattle.mountd.proofs.Walking.{heard_on, front_append, front_behind, front_same, keys-append, lawful_behind}
 
 -- a node's kind is its entry's
 pub kind_node : {S : Type 0} (G : Ground S) (i : Item S) → kind_of (node_of G i) ≡ i.kind
@@ -36,7 +37,7 @@ kind_node G i = by i.kind (G.content i.source) (is_some (G.entries i.source))
 
 module _ (R : Repository) (root : Id) where
   -- what the table says of a request that walks along a path and then looks at what stands there
-  pub record Opens (q : Request) (p : Path) (f : Item Source → List Id) (H : Node → Reply → Type 0) : Type 0 where
+  pub record Opens (q : Request) (p : Path) (f : Item Source → List Key) (H : Node → Reply → Type 0) : Type 0 where
     pub needs : needed R root q ≡ along R root p f
     pub few : length p ≤ most_asks q
     pub table : (r : Reply) → Meets (reach (Whole R root) p) (Refuses ENOENT) H r → Replies (Whole R root) q r
@@ -67,8 +68,8 @@ module _ (R : Repository) (root : Id) where
   met_end Nothing H e h = ap say.Err h
   met_end (At i) H e h = absurd h
 
-  module _ {S : Type 0} (fetched : S → Id → Answer → S → Type 0) (honest : Type 0) (q : Request) (p : Path) (f : Item Source → List Id) (H : Node → Reply → Type 0) (looks : Opens q p f H) where
-    stop_served : (asks : List Ask) (reply : Reply) → IsStop R honest (root_of root) p asks reply → IsServed R honest root q asks reply
+  module _ {S : Type 0} (fetched : S → Id → Answer → S → Type 0) (honest : Type 0) (q : Request) (p : Path) (f : Item Source → List Key) (H : Node → Reply → Type 0) (looks : Opens q p f H) where
+    stop_served : (asks : List Asked) (reply : Reply) → IsStop R honest (root_of root) p asks reply → IsServed R honest root q asks reply
     stop_served asks (say.Kind k) h = absurd h
     stop_served asks (say.Data bytes) h = absurd h
     stop_served asks (say.Entries es more) h = absurd h
@@ -81,7 +82,7 @@ module _ (R : Repository) (root : Id) where
       asks = w.asks;
       asked = w.asked;
       few = let h = w.few in let k = looks.few in omega arith;
-      only_needed = λ honesty. front_same (ids w.asks) (along R root p f) (needed R root q) (sym looks.needs) (front_append (ids w.asks) (above R (root_of root) p) (own (found (ground_of R) (root_of root) p) f) (w.only_needed honesty));
+      only_needed = λ honesty. front_same (keys w.asks) (along R root p f) (needed R root q) (sym looks.needs) (front_append (keys w.asks) (above R (root_of root) p) (own (found (ground_of R) (root_of root) p) f) (w.only_needed honesty));
       served = stop_served w.asks reply w.ended;
     }
 
@@ -92,26 +93,26 @@ module _ (R : Repository) (root : Id) where
     at_place : (place : Place) (r : Reply) → found (ground_of R) (root_of root) p ≡ At (item_of place) → H (node_of (ground_of R) (item_of place)) r → Replies (Whole R root) q r
     at_place place r e h = looks.table r (met p (At (item_of place)) (Refuses ENOENT) H r e h)
 
-    said_served : (K : Item Source → Reply → Type 0) → Means K → (place : Place) (asks more : List Ask) (reply : Reply) → (honest → found (ground_of R) (root_of root) p ≡ At (item_of place)) → IsLook honest place K more reply → IsServed R honest root q (asks ++ more) reply
+    said_served : (K : Item Source → Reply → Type 0) → Means K → (place : Place) (asks more : List Asked) (reply : Reply) → (honest → found (ground_of R) (root_of root) p ≡ At (item_of place)) → IsLook honest place K more reply → IsServed R honest root q (asks ++ more) reply
     said_served K means place asks more (say.Kind k) e h = λ honesty. at_place place (say.Kind k) (e honesty) (means place (say.Kind k) (e honesty) (h honesty))
     said_served K means place asks more (say.Data bytes) e h = λ honesty. at_place place (say.Data bytes) (e honesty) (means place (say.Data bytes) (e honesty) (h honesty))
     said_served K means place asks more (say.Entries es others) e h = λ honesty. at_place place (say.Entries es others) (e honesty) (means place (say.Entries es others) (e honesty) (h honesty))
     said_served K means place asks more (say.Err errno) e h = λ honesty. at_place place (say.Err errno) (e honesty) (means place (say.Err errno) (e honesty) (h honesty))
     said_served K means place asks more (say.Fault x) e h = lawful_behind asks more x h
 
-    needed_here : (place : Place) (asks more : List Ask) → found (ground_of R) (root_of root) p ≡ At (item_of place) → ids asks ≡ above R (root_of root) p → IsFront (ids more) (f (item_of place)) → IsFront (ids (asks ++ more)) (needed R root q)
+    needed_here : (place : Place) (asks more : List Asked) → found (ground_of R) (root_of root) p ≡ At (item_of place) → keys asks ≡ above R (root_of root) p → IsFront (keys more) (f (item_of place)) → IsFront (keys (asks ++ more)) (needed R root q)
     needed_here place asks more e same h =
         let whole : above R (root_of root) p ++ f (item_of place) ≡ needed R root q = ap (λ (x : Found Source). above R (root_of root) p ++ own x f) (sym e) ∙ sym looks.needs in
-        let front : ids asks ++ ids more ≡ ids (asks ++ more) = sym (ids-append asks more) in
-        front_same (ids (asks ++ more)) (above R (root_of root) p ++ f (item_of place)) (needed R root q) whole
-        (let P : List Id → Type 0 = λ l. IsFront l (above R (root_of root) p ++ f (item_of place)) in
-        subst P (ap (λ (l : List Id). l ++ ids more) (sym same) ∙ front) (front_behind (above R (root_of root) p) (ids more) (f (item_of place)) h))
+        let front : keys asks ++ keys more ≡ keys (asks ++ more) = sym (keys-append asks more) in
+        front_same (keys (asks ++ more)) (above R (root_of root) p ++ f (item_of place)) (needed R root q) whole
+        (let P : List Key → Type 0 = λ l. IsFront l (above R (root_of root) p ++ f (item_of place)) in
+        subst P (ap (λ (l : List Key). l ++ keys more) (sym same) ∙ front) (front_behind (above R (root_of root) p) (keys more) (f (item_of place)) h))
 
     -- the walk leads to a place, and the reply comes from there
     pub serves_at : (K : Item Source → Reply → Type 0) → Means K → (s t u : S) (place : Place) (reply : Reply) → Walks fetched R honest s t (root_of root) p (Ok place) → (v : Looks fetched R honest t u place K (f (item_of place)) reply) → length p + length v.asks ≤ most_asks q → Serves fetched R honest s u root q reply
     serves_at K means s t u place reply w v few = record {
       asks = w.asks ++ v.asks;
-      asked = Fetches-append fetched s t u w.asks v.asks w.asked v.asked;
+      asked = heard_on fetched s t u w.asks v.asks w.asked v.asked;
       few = let h = w.few in simp length-append (omega arith);
       only_needed = λ honesty. needed_here place w.asks v.asks (w.ended honesty).0 (w.ended honesty).1 (v.only_needed honesty);
       served = said_served K means place w.asks v.asks reply (λ honesty. (w.ended honesty).0) v.said;

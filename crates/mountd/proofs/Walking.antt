@@ -7,6 +7,8 @@ use Rattle.eden_model.specs.declared.fault.Cause.{Cause}
 use Rattle.eden_model.specs.declared.fault.Fault.{Fault}
 use Rattle.eden_model.specs.declared.fault.Fault.TheVariants as fault
 use Rattle.eden_model.specs.declared.id.Id.{Id}
+use Rattle.eden_model.specs.declared.id.Key.{Key}
+use Rattle.eden_model.specs.declared.id.ObjKind.TheVariants as objects
 use Rattle.eden_model.specs.declared.kind.Kind.{Kind}
 use Rattle.eden_model.specs.declared.kind.Kind.TheVariants as kind
 use Rattle.eden_model.specs.declared.kind.Mode.{Mode}
@@ -17,11 +19,12 @@ use Rattle.eden_model.specs.declared.tree_entry.TreeEntry.{TreeEntry}
 use Rattle.eden_model.specs.Trees.{Name, Path}
 use Rattle.eden_model.specs.Shown.{Item, Items, entry_in, if_dir}
 use Rattle.eden_model.specs.Repository.{Repository, Source, ground_of, item_by, items_of, entry_named, entries_from}
-use Rattle.eden_source.specs.Fetching.{Ask, Answer}
+use Rattle.eden_source.specs.Fetching.{Ask, Answer, Fetches}
 use Rattle.eden_source.proofs.Fetches.{Fetches-none, Fetches-one, Fetches-append}
 use Rattle.mountd.specs.declared.place.Place.{Place}
 use Rattle.mountd.specs.Commit.{Found, At, found, from_kind, from_entries, from_entry, EndsWith, tree_of, of_entry, above, IsFront}
-use Rattle.mountd.specs.Serving.{ids, Failed, IsLawful, item_of, place_of, Gets, IsStop, Ends, Walks}
+use Rattle.mountd.specs.Serving.{Asked, keys, heard, Failed, IsLawful}
+use Rattle.mountd.specs.Steps.{item_of, place_of, Gets, IsStop, Ends, Walks}
 use Rattle.mountd.proofs.Meeting.{found_on, ends_on}
 
 -- ---- fronts
@@ -47,19 +50,30 @@ front_same {X} xs ys zs e h = let P : List X → Type 0 = λ l. IsFront xs l in 
 
 -- ---- more asks
 
-pub ids-append : (xs ys : List Ask) → ids (xs ++ ys) ≡ ids xs ++ ids ys
-ids-append [] ys = refl
-ids-append (x ∷ xs) ys = ap (λ (l : List Id). x.id ∷ l) (ids-append xs ys)
+pub keys-append : (xs ys : List Asked) → keys (xs ++ ys) ≡ keys xs ++ keys ys
+keys-append [] ys = refl
+keys-append (x ∷ xs) ys = ap (λ (l : List Key). x.key ∷ l) (keys-append xs ys)
 
-pub failed_behind : (xs ys : List Ask) (id : Id) (cause : Cause) → Failed ys id cause → Failed (xs ++ ys) id cause
+heard-append : (xs ys : List Asked) → heard (xs ++ ys) ≡ heard xs ++ heard ys
+heard-append [] ys = refl
+heard-append (x ∷ xs) ys = ap (λ (l : List Ask). record { id = x.key.id; answer = x.answer } ∷ l) (heard-append xs ys)
+
+-- one run of asks after another
+pub heard_on : {S : Type 0} (fetched : S → Id → Answer → S → Type 0) (s t u : S) (xs ys : List Asked) → Fetches fetched s (heard xs) t → Fetches fetched t (heard ys) u → Fetches fetched s (heard (xs ++ ys)) u
+heard_on fetched s t u xs ys a b = subst (λ (l : List Ask). Fetches fetched s l u) (sym (heard-append xs ys)) (Fetches-append fetched s t u (heard xs) (heard ys) a b)
+
+pub failed_behind : (xs ys : List Asked) (id : Id) (cause : Cause) → Failed ys id cause → Failed (xs ++ ys) id cause
 failed_behind [] ys id cause h = h
 failed_behind (x ∷ xs) ys id cause h = inr (failed_behind xs ys id cause h)
 
-pub lawful_behind : (xs ys : List Ask) (f : Fault) → IsLawful ys f → IsLawful (xs ++ ys) f
+pub lawful_behind : (xs ys : List Asked) (f : Fault) → IsLawful ys f → IsLawful (xs ++ ys) f
 lawful_behind xs ys (fault.Fetch id cause) h = failed_behind xs ys id cause h
 lawful_behind xs ys fault.Memory h = tt
 lawful_behind xs ys fault.Overlay h = absurd h
 lawful_behind xs ys fault.Numbers h = absurd h
+
+abbrev pub tree_key : Id → Key
+tree_key id = record { kind = objects.Tree; id = id }
 
 -- ---- the trees above a path
 
@@ -89,9 +103,9 @@ module _ (R : Repository) where
   above_on : (i j : Item Source) (n : Name) (p : Path) → found (ground_of R) i (n ∷ []) ≡ At j → above R i (n ∷ p) ≡ above R i (n ∷ []) ++ above R j p
   above_on i j n p e =
       ap (λ (o : Option (Item Source)). tree_of i ++ of_entry o (λ k. above R k p)) (entry_at i j n e)
-      ∙ ap (λ (l : List Id). l ++ above R j p) (sym (ap (λ (o : Option (Item Source)). tree_of i ++ of_entry o (λ k. above R k [])) (entry_at i j n e) ∙ append_none (tree_of i)))
+      ∙ ap (λ (l : List Key). l ++ above R j p) (sym (ap (λ (o : Option (Item Source)). tree_of i ++ of_entry o (λ k. above R k [])) (entry_at i j n e) ∙ append_none (tree_of i)))
     where
-      append_none : (ys : List Id) → ys ++ [] ≡ ys
+      append_none : (ys : List Key) → ys ++ [] ≡ ys
       append_none [] = refl
       append_none (y ∷ ys) = ap (λ zs. y ∷ zs) (append_none ys)
 
@@ -101,7 +115,7 @@ module _ {S : Type 0} (fetched : S → Id → Answer → S → Type 0) (R : Repo
   pub walks_nowhere : (s : S) (place : Place) → Walks fetched R honest s s (item_of place) [] (Ok place)
   walks_nowhere s place = record { asks = []; asked = Fetches-none fetched s; few = omega arith; only_needed = λ h. no_front []; ended = λ h. (refl, refl) }
 
-  stops_on : (i : Item Source) (n : Name) (p : Path) (asks : List Ask) (reply : Reply) → IsStop R honest i (n ∷ []) asks reply → IsStop R honest i (n ∷ p) asks reply
+  stops_on : (i : Item Source) (n : Name) (p : Path) (asks : List Asked) (reply : Reply) → IsStop R honest i (n ∷ []) asks reply → IsStop R honest i (n ∷ p) asks reply
   stops_on i n p asks (say.Kind k) h = h
   stops_on i n p asks (say.Data bytes) h = h
   stops_on i n p asks (say.Entries es more) h = h
@@ -109,8 +123,8 @@ module _ {S : Type 0} (fetched : S → Id → Answer → S → Type 0) (R : Repo
   stops_on i n p asks (say.Fault f) h = h
 
   -- what is asked for one name comes before what is asked for the others
-  front_more : (i : Item Source) (n : Name) (p : Path) (asks : List Ask) → IsFront (ids asks) (above R i (n ∷ [])) → IsFront (ids asks) (above R i (n ∷ p))
-  front_more i n p asks h = front_same (ids asks) (above R i (n ∷ []) ++ (above_front R i n p).0) (above R i (n ∷ p)) (sym (above_front R i n p).1) (front_append (ids asks) (above R i (n ∷ [])) (above_front R i n p).0 h)
+  front_more : (i : Item Source) (n : Name) (p : Path) (asks : List Asked) → IsFront (keys asks) (above R i (n ∷ [])) → IsFront (keys asks) (above R i (n ∷ p))
+  front_more i n p asks h = front_same (keys asks) (above R i (n ∷ []) ++ (above_front R i n p).0) (above R i (n ∷ p)) (sym (above_front R i n p).1) (front_append (keys asks) (above R i (n ∷ [])) (above_front R i n p).0 h)
 
   -- a walk that stops at its first name
   pub walks_stop : (s t : S) (i : Item Source) (n : Name) (p : Path) (reply : Reply) → Walks fetched R honest s t i (n ∷ []) (Err reply) → Walks fetched R honest s t i (n ∷ p) (Err reply)
@@ -122,20 +136,20 @@ module _ {S : Type 0} (fetched : S → Id → Answer → S → Type 0) (R : Repo
     ended = stops_on i n p w.asks reply w.ended;
   }
 
-  ids_on : (i j : Item Source) (n : Name) (p : Path) (xs ys : List Ask) → found (ground_of R) i (n ∷ []) ≡ At j → ids xs ≡ above R i (n ∷ []) → above R i (n ∷ []) ++ ids ys ≡ ids (xs ++ ys)
-  ids_on i j n p xs ys e same = ap (λ (l : List Id). l ++ ids ys) (sym same) ∙ sym (ids-append xs ys)
+  keys_on : (i j : Item Source) (n : Name) (p : Path) (xs ys : List Asked) → found (ground_of R) i (n ∷ []) ≡ At j → keys xs ≡ above R i (n ∷ []) → above R i (n ∷ []) ++ keys ys ≡ keys (xs ++ ys)
+  keys_on i j n p xs ys e same = ap (λ (l : List Key). l ++ keys ys) (sym same) ∙ sym (keys-append xs ys)
 
-  stop_behind : (i : Item Source) (place : Place) (n : Name) (p : Path) (xs ys : List Ask) (reply : Reply) → (honest → found (ground_of R) i (n ∷ []) ≡ At (item_of place)) → IsStop R honest (item_of place) p ys reply → IsStop R honest i (n ∷ p) (xs ++ ys) reply
+  stop_behind : (i : Item Source) (place : Place) (n : Name) (p : Path) (xs ys : List Asked) (reply : Reply) → (honest → found (ground_of R) i (n ∷ []) ≡ At (item_of place)) → IsStop R honest (item_of place) p ys reply → IsStop R honest i (n ∷ p) (xs ++ ys) reply
   stop_behind i place n p xs ys (say.Kind k) e h = h
   stop_behind i place n p xs ys (say.Data bytes) e h = h
   stop_behind i place n p xs ys (say.Entries es more) e h = h
   stop_behind i place n p xs ys (say.Err errno) e h = λ honesty. subst (λ (x : Found Source). EndsWith x errno) (sym (found_on (ground_of R) i (item_of place) n p (e honesty))) (h honesty)
   stop_behind i place n p xs ys (say.Fault f) e h = lawful_behind xs ys f h
 
-  ended_behind : (i : Item Source) (place : Place) (n : Name) (p : Path) (xs ys : List Ask) (r : Result Place Reply) → (honest → (found (ground_of R) i (n ∷ []) ≡ At (item_of place)) × (ids xs ≡ above R i (n ∷ []))) → Ends R honest (item_of place) p ys r → Ends R honest i (n ∷ p) (xs ++ ys) r
+  ended_behind : (i : Item Source) (place : Place) (n : Name) (p : Path) (xs ys : List Asked) (r : Result Place Reply) → (honest → (found (ground_of R) i (n ∷ []) ≡ At (item_of place)) × (keys xs ≡ above R i (n ∷ []))) → Ends R honest (item_of place) p ys r → Ends R honest i (n ∷ p) (xs ++ ys) r
   ended_behind i place n p xs ys (Ok q) e h = λ honesty. (
     found_on (ground_of R) i (item_of place) n p (e honesty).0 ∙ (h honesty).0,
-    sym (ids_on i (item_of place) n p xs ys (e honesty).0 (e honesty).1) ∙ ap (λ (l : List Id). above R i (n ∷ []) ++ l) (h honesty).1 ∙ sym (above_on R i (item_of place) n p (e honesty).0),
+    sym (keys_on i (item_of place) n p xs ys (e honesty).0 (e honesty).1) ∙ ap (λ (l : List Key). above R i (n ∷ []) ++ l) (h honesty).1 ∙ sym (above_on R i (item_of place) n p (e honesty).0),
   )
   ended_behind i place n p xs ys (Err reply) e h = stop_behind i place n p xs ys reply (λ honesty. (e honesty).0) h
 
@@ -143,13 +157,13 @@ module _ {S : Type 0} (fetched : S → Id → Answer → S → Type 0) (R : Repo
   pub walks_on : (s t u : S) (i : Item Source) (place : Place) (n : Name) (p : Path) (r : Result Place Reply) → Walks fetched R honest s t i (n ∷ []) (Ok place) → Walks fetched R honest t u (item_of place) p r → Walks fetched R honest s u i (n ∷ p) r
   walks_on s t u i place n p r w v = record {
     asks = w.asks ++ v.asks;
-    asked = Fetches-append fetched s t u w.asks v.asks w.asked v.asked;
+    asked = heard_on fetched s t u w.asks v.asks w.asked v.asked;
     few = let h = w.few in let k = v.few in simp length-append (omega arith);
     only_needed = λ honesty.
         let e = w.ended honesty in
-        front_same (ids (w.asks ++ v.asks)) (above R i (n ∷ []) ++ above R (item_of place) p) (above R i (n ∷ p)) (sym (above_on R i (item_of place) n p e.0))
-        (let P : List Id → Type 0 = λ l. IsFront l (above R i (n ∷ []) ++ above R (item_of place) p) in
-        subst P (ids_on i (item_of place) n p w.asks v.asks e.0 e.1) (front_behind (above R i (n ∷ [])) (ids v.asks) (above R (item_of place) p) (v.only_needed honesty)));
+        front_same (keys (w.asks ++ v.asks)) (above R i (n ∷ []) ++ above R (item_of place) p) (above R i (n ∷ p)) (sym (above_on R i (item_of place) n p e.0))
+        (let P : List Key → Type 0 = λ l. IsFront l (above R i (n ∷ []) ++ above R (item_of place) p) in
+        subst P (keys_on i (item_of place) n p w.asks v.asks e.0 e.1) (front_behind (above R i (n ∷ [])) (keys v.asks) (above R (item_of place) p) (v.only_needed honesty)));
     ended = ended_behind i place n p w.asks v.asks r w.ended v.ended;
   }
 
@@ -158,12 +172,12 @@ module _ {S : Type 0} (fetched : S → Id → Answer → S → Type 0) (R : Repo
   pub steps_nowhere : (s : S) (i : Item Source) (n : Name) (e : Errno) → EndsWith (found (ground_of R) i (n ∷ [])) e → Walks fetched R honest s s i (n ∷ []) (Err (say.Err e))
   steps_nowhere s i n e h = record { asks = []; asked = Fetches-none fetched s; few = omega arith; only_needed = λ honesty. no_front (above R i (n ∷ [])); ended = λ honesty. h }
 
-  asked_tree : (id : Id) (n : Name) → IsFront (id ∷ []) (above R (item_by mode.Dir id) (n ∷ []))
+  asked_tree : (id : Id) (n : Name) → IsFront (tree_key id ∷ []) (above R (item_by mode.Dir id) (n ∷ []))
   asked_tree id n = (of_entry (entry_in (ground_of R) (item_by mode.Dir id) n) (λ j. above R j []), refl)
 
-  pub steps_fault : (s t : S) (id : Id) (n : Name) (answer : Answer) (f : Fault) → fetched s id answer t → IsLawful (record { id = id; answer = answer } ∷ []) f → Walks fetched R honest s t (item_by mode.Dir id) (n ∷ []) (Err (say.Fault f))
+  pub steps_fault : (s t : S) (id : Id) (n : Name) (answer : Answer) (f : Fault) → fetched s id answer t → IsLawful (record { key = tree_key id; answer = answer } ∷ []) f → Walks fetched R honest s t (item_by mode.Dir id) (n ∷ []) (Err (say.Fault f))
   steps_fault s t id n answer f asked h = record {
-    asks = record { id = id; answer = answer } ∷ [];
+    asks = record { key = tree_key id; answer = answer } ∷ [];
     asked = Fetches-one fetched s t id answer asked;
     few = omega arith;
     only_needed = λ honesty. asked_tree id n;
@@ -173,18 +187,18 @@ module _ {S : Type 0} (fetched : S → Id → Answer → S → Type 0) (R : Repo
   in_tree : (id : Id) (n : Name) (es : List TreeEntry) → R.tree id ≡ Some es → found (ground_of R) (item_by mode.Dir id) (n ∷ []) ≡ from_entry (items_of es n) [] (λ j. At j)
   in_tree id n es e = ap (λ (o : Option (List TreeEntry)). from_entries (option_map items_of o) n [] (λ j. At j)) e
 
-  tree_above : (id : Id) (n : Name) → id ∷ [] ≡ above R (item_by mode.Dir id) (n ∷ [])
+  tree_above : (id : Id) (n : Name) → tree_key id ∷ [] ≡ above R (item_by mode.Dir id) (n ∷ [])
   tree_above id n = by (entry_in (ground_of R) (item_by mode.Dir id) n)
     where
-      by : (o : Option (Item Source)) → id ∷ [] ≡ (id ∷ []) ++ of_entry o (λ j. above R j [])
+      by : (o : Option (Item Source)) → tree_key id ∷ [] ≡ (tree_key id ∷ []) ++ of_entry o (λ j. above R j [])
       by None = refl
       by (Some j) = refl
 
-  abbrev pub Leads : Id → Name → List Ask → Option Place → Type 0
+  abbrev pub Leads : Id → Name → List Asked → Option Place → Type 0
   Leads id n asks None = Ends R honest (item_by mode.Dir id) (n ∷ []) asks (Err (say.Err ENOENT))
   Leads id n asks (Some place) = Ends R honest (item_by mode.Dir id) (n ∷ []) asks (Ok place)
 
-  leads : (id : Id) (n : Name) (asks : List Ask) (es : List TreeEntry) → ids asks ≡ id ∷ [] → (honest → R.tree id ≡ Some es) → (o : Option TreeEntry) → entry_named n es ≡ o → Leads id n asks (option_map place_of o)
+  leads : (id : Id) (n : Name) (asks : List Asked) (es : List TreeEntry) → keys asks ≡ tree_key id ∷ [] → (honest → R.tree id ≡ Some es) → (o : Option TreeEntry) → entry_named n es ≡ o → Leads id n asks (option_map place_of o)
   leads id n asks es same had None e = λ honesty.
       subst (λ (x : Found Source). EndsWith x ENOENT) (sym (in_tree id n es (had honesty) ∙ ap (λ (o : Option TreeEntry). from_entry (option_map (λ e. item_by e.mode e.id) o) [] (λ j. At j)) e)) refl
   leads id n asks es same had (Some entry) e = λ honesty. (
@@ -193,14 +207,14 @@ module _ {S : Type 0} (fetched : S → Id → Answer → S → Type 0) (R : Repo
   )
 
   pub steps_in : (s t : S) (id : Id) (n : Name) (answer : Answer) (es : List TreeEntry) (o : Option Place) → fetched s id answer t → (honest → R.tree id ≡ Some es) → o ≡ option_map place_of (entry_named n es)
-      → Leads id n (record { id = id; answer = answer } ∷ []) o
+      → Leads id n (record { key = tree_key id; answer = answer } ∷ []) o
   steps_in s t id n answer es o asked had e =
-      let asks : List Ask = record { id = id; answer = answer } ∷ [] in
+      let asks : List Asked = record { key = tree_key id; answer = answer } ∷ [] in
       subst (λ (p : Option Place). Leads id n asks p) (sym e) (leads id n asks es refl had (entry_named n es) refl)
 
-  pub steps_to : (s t : S) (id : Id) (n : Name) (answer : Answer) (r : Result Place Reply) → fetched s id answer t → Ends R honest (item_by mode.Dir id) (n ∷ []) (record { id = id; answer = answer } ∷ []) r → Walks fetched R honest s t (item_by mode.Dir id) (n ∷ []) r
+  pub steps_to : (s t : S) (id : Id) (n : Name) (answer : Answer) (r : Result Place Reply) → fetched s id answer t → Ends R honest (item_by mode.Dir id) (n ∷ []) (record { key = tree_key id; answer = answer } ∷ []) r → Walks fetched R honest s t (item_by mode.Dir id) (n ∷ []) r
   steps_to s t id n answer r asked h = record {
-    asks = record { id = id; answer = answer } ∷ [];
+    asks = record { key = tree_key id; answer = answer } ∷ [];
     asked = Fetches-one fetched s t id answer asked;
     few = omega arith;
     only_needed = λ honesty. asked_tree id n;
@@ -215,15 +229,15 @@ module _ {S : Type 0} (fetched : S → Id → Answer → S → Type 0) (R : Repo
   at_place : (s t : S) (place : Place) (n : Name) (r : Result Place Reply) → place.mode ≡ mode.Dir → Walks fetched R honest s t (item_by mode.Dir place.id) (n ∷ []) r → Walks fetched R honest s t (item_of place) (n ∷ []) r
   at_place s t place n r e w = subst (λ (m : Mode). Walks fetched R honest s t (item_by m place.id) (n ∷ []) r) (sym e) w
 
-  pub step_fault : {V : Type 0} (Is : V → Type 0) (s t : S) (place : Place) (n : Name) (f : Fault) → place.mode ≡ mode.Dir → Gets fetched Is s t place.id (Err f) → Walks fetched R honest s t (item_of place) (n ∷ []) (Err (say.Fault f))
+  pub step_fault : {V : Type 0} (Is : V → Type 0) (s t : S) (place : Place) (n : Name) (f : Fault) → place.mode ≡ mode.Dir → Gets fetched Is s t (tree_key place.id) (Err f) → Walks fetched R honest s t (item_of place) (n ∷ []) (Err (say.Fault f))
   step_fault Is s t place n f e w = at_place s t place n (Err (say.Fault f)) e (steps_fault s t place.id n w.answer f w.asked w.got)
 
-  pub step_nothing : (s t : S) (place : Place) (n : Name) (es : Vec TreeEntry Global) (entries : List TreeEntry) → place.mode ≡ mode.Dir → Gets fetched (λ (v : Vec TreeEntry Global). Had v.items place.id) s t place.id (Ok es)
+  pub step_nothing : (s t : S) (place : Place) (n : Name) (es : Vec TreeEntry Global) (entries : List TreeEntry) → place.mode ≡ mode.Dir → Gets fetched (λ (v : Vec TreeEntry Global). Had v.items place.id) s t (tree_key place.id) (Ok es)
       → entries ≡ es.items → None ≡ option_map place_of (entry_named n entries) → Walks fetched R honest s t (item_of place) (n ∷ []) (Err (say.Err ENOENT))
   step_nothing s t place n es entries e w same o = at_place s t place n (Err (say.Err ENOENT)) e (steps_to s t place.id n w.answer (Err (say.Err ENOENT)) w.asked
       (steps_in s t place.id n w.answer es.items None w.asked w.got (o ∙ ap (λ (l : List TreeEntry). option_map place_of (entry_named n l)) same)))
 
-  pub step_place : (s t : S) (place below : Place) (n : Name) (es : Vec TreeEntry Global) (entries : List TreeEntry) → place.mode ≡ mode.Dir → Gets fetched (λ (v : Vec TreeEntry Global). Had v.items place.id) s t place.id (Ok es)
+  pub step_place : (s t : S) (place below : Place) (n : Name) (es : Vec TreeEntry Global) (entries : List TreeEntry) → place.mode ≡ mode.Dir → Gets fetched (λ (v : Vec TreeEntry Global). Had v.items place.id) s t (tree_key place.id) (Ok es)
       → entries ≡ es.items → Some below ≡ option_map place_of (entry_named n entries) → Walks fetched R honest s t (item_of place) (n ∷ []) (Ok below)
   step_place s t place below n es entries e w same o = at_place s t place n (Ok below) e (steps_to s t place.id n w.answer (Ok below) w.asked
       (steps_in s t place.id n w.answer es.items (Some below) w.asked w.got (o ∙ ap (λ (l : List TreeEntry). option_map place_of (entry_named n l)) same)))

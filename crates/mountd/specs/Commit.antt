@@ -3,6 +3,9 @@ use Rattle.std.specs.Prelude.{◌≡◌, ◌||◌, ◌==◌, nat_lt, List, [], �
 use Rattle.eden_model.specs.declared.errno.Errno.{Errno}
 use Rattle.eden_model.specs.declared.errno.Errno.TheVariants.{ENOENT, ENOTDIR}
 use Rattle.eden_model.specs.declared.id.Id.{Id}
+use Rattle.eden_model.specs.declared.id.Key.{Key}
+use Rattle.eden_model.specs.declared.id.ObjKind.{ObjKind}
+use Rattle.eden_model.specs.declared.id.ObjKind.TheVariants as objects
 use Rattle.eden_model.specs.declared.kind.Kind.{Kind}
 use Rattle.eden_model.specs.declared.kind.Kind.TheVariants as kind
 use Rattle.eden_model.specs.declared.request.Request.{Request}
@@ -59,51 +62,51 @@ EndsWith (At i) e = ⊥
 
 -- ---- which objects a request looks into
 
-abbrev pub object_of : Source → List Id
-object_of (Object id) = id ∷ []
-object_of Empty = []
+abbrev pub key_of : ObjKind → Source → List Key
+key_of k (Object id) = record { kind = k; id = id } ∷ []
+key_of k Empty = []
 
-abbrev pub tree_by : Kind → Source → List Id
+abbrev pub tree_by : Kind → Source → List Key
 tree_by kind.File s = []
 tree_by kind.Exec s = []
 tree_by kind.Link s = []
-tree_by kind.Dir s = object_of s
+tree_by kind.Dir s = key_of objects.Tree s
 
 -- the tree object of a directory
-abbrev pub tree_of : Item Source → List Id
+abbrev pub tree_of : Item Source → List Key
 tree_of i = tree_by i.kind i.source
 
-abbrev pub blob_by : Kind → Source → List Id
-blob_by kind.File s = object_of s
-blob_by kind.Exec s = object_of s
+abbrev pub blob_by : Kind → Source → List Key
+blob_by kind.File s = key_of objects.Blob s
+blob_by kind.Exec s = key_of objects.Blob s
 blob_by kind.Link s = []
 blob_by kind.Dir s = []
 
 -- the blob of a file
-abbrev pub blob_of : Item Source → List Id
+abbrev pub blob_of : Item Source → List Key
 blob_of i = blob_by i.kind i.source
 
-abbrev pub of_entry : Option (Item Source) → (Item Source → List Id) → List Id
+abbrev pub of_entry : Option (Item Source) → (Item Source → List Key) → List Key
 of_entry None f = []
 of_entry (Some i) f = f i
 
 -- the trees of the directories above a path
-abbrev pub above : Repository → Item Source → Path → List Id
+abbrev pub above : Repository → Item Source → Path → List Key
 above R i [] = []
 above R i (n ∷ p) = tree_of i ++ of_entry (entry_in (ground_of R) i n) (λ j. above R j p)
 
 -- what a request looks into at the entry where its path leads
-abbrev pub own : Found Source → (Item Source → List Id) → List Id
+abbrev pub own : Found Source → (Item Source → List Key) → List Key
 own (Stopped e) f = []
 own Lost f = []
 own Nothing f = []
 own (At i) f = f i
 
-abbrev pub along : Repository → Id → Path → (Item Source → List Id) → List Id
+abbrev pub along : Repository → Id → Path → (Item Source → List Key) → List Key
 along R t p f = above R (root_of t) p ++ own (found (ground_of R) (root_of t) p) f
 
 -- the objects that a request needs, in the order in which it needs them
-abbrev pub needed : Repository → Id → Request → List Id
+abbrev pub needed : Repository → Id → Request → List Key
 needed R t (ask.Kind p) = along R t p (λ i. [])
 needed R t (ask.Read p offset count) = if nat_lt 65536 count then [] else along R t p (λ i. if count == 0 then [] else blob_of i)
 needed R t (ask.List p after limit) = if limit == 0 || nat_lt 1000 limit then [] else along R t p tree_of

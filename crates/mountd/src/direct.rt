@@ -5,7 +5,9 @@ ghost use Rattle.eden_model.specs.Repository.{entry_named, items_of, root_of};
 ghost use Rattle.eden_model.specs.declared.request.Request.TheVariants as ask;
 ghost use Rattle.eden_model.specs.Operations.{kind_at};
 ghost use Rattle.mountd.specs.Commit.{blob_of, tree_of};
-ghost use Rattle.mountd.specs.Serving.{Gets, IsFetched, Walks, Looks, Serves, IsPart, IsPage, ReadsAt, ListsAt, item_of, place_of};
+ghost use Rattle.eden_model.specs.declared.id.ObjKind.TheVariants as objects;
+ghost use Rattle.mountd.specs.Serving.{Serves};
+ghost use Rattle.mountd.specs.Steps.{Gets, IsFetched, Walks, Looks, IsPart, IsPage, ReadsAt, ListsAt, item_of, place_of};
 
 use crate::place::Place;
 use eden_model::{
@@ -20,7 +22,7 @@ use std::marker::{Model, PhantomData};
 
 // The object that is asked for, checked.
 fn object<W: World, S: Source<W>>(alloc: Global, source: &mut S, key: Key) -> Result<Object, Fault>
-    ensures { Gets S.fetched (IsFetched W.repository W.honest key) source.old source.new key.id result }
+    ensures { Gets S.fetched (IsFetched W.repository W.honest key) source.old source.new key result }
 {
     match source.fetch(alloc, key.id) {
         Err(cause) => Err(Fault::Fetch(key.id, cause)),
@@ -33,7 +35,7 @@ fn object<W: World, S: Source<W>>(alloc: Global, source: &mut S, key: Key) -> Re
 
 // The content of a blob.
 fn blob<W: World, S: Source<W>>(alloc: Global, source: &mut S, id: Id) -> Result<Object, Fault>
-    ensures { Gets S.fetched (λ o. W.honest → W.repository.blob id ≡ Some o.bytes) source.old source.new id result }
+    ensures { Gets S.fetched (λ o. W.honest → W.repository.blob id ≡ Some o.bytes) source.old source.new (record { kind = objects.Blob; id = id }) result }
 {
     let kind = ObjKind::Blob;
     object::<W, S>(alloc, source, Key { kind, id })
@@ -45,7 +47,7 @@ fn tree<W: World, S: Source<W>>(
     source: &mut S,
     id: Id,
 ) -> Result<Vec<TreeEntry>, Fault>
-    ensures { Gets S.fetched (λ es. W.honest → W.repository.tree id ≡ Some es.items) source.old source.new id result }
+    ensures { Gets S.fetched (λ es. W.honest → W.repository.tree id ≡ Some es.items) source.old source.new (record { kind = objects.Tree; id = id }) result }
 {
     let kind = ObjKind::Tree;
     match object::<W, S>(alloc, source, Key { kind, id }) {

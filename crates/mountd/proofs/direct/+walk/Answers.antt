@@ -1,6 +1,6 @@
 use Rattle.std.proofs.Common.{sym, subst, Err}
 use Rattle.eden_model.specs.Trees.{Path}
-use Rattle.mountd.specs.Serving.{Walks, item_of}
+use Rattle.mountd.specs.Steps.{Walks, item_of}
 use Rattle.mountd.proofs.Walking.{walks_stop, walks_on}
 use Rattle.mountd.proofs.direct.+walk.Goals as goal
 

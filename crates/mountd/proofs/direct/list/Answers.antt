@@ -1,7 +1,7 @@
 use Rattle.std.proofs.Common.{◌≡◌, ◌≤◌, ℕ, false, nat_lt, eqb, ap, arith, ◌∙◌}
 use Rattle.std.specs.Prelude.{◌||◌}
 use Rattle.std.proofs.lemmas.Bool.{ne_eqb, le-ltb}
-use Rattle.mountd.specs.Serving.{ListsAt}
+use Rattle.mountd.specs.Steps.{ListsAt}
 use Rattle.mountd.proofs.Looking.{lists_mean}
 use Rattle.mountd.proofs.Replying.{list_looks, serves_stop, serves_at}
 use Rattle.mountd.proofs.direct.list.Goals as goal

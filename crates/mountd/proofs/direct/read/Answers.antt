@@ -1,6 +1,6 @@
 use Rattle.std.proofs.Common.{arith}
 use Rattle.std.proofs.lemmas.Bool.{le-ltb}
-use Rattle.mountd.specs.Serving.{ReadsAt}
+use Rattle.mountd.specs.Steps.{ReadsAt}
 use Rattle.mountd.proofs.Replying.{read_looks, serves_stop, serves_at}
 use Rattle.mountd.proofs.direct.read.Goals as goal
 
