@@ -1,35 +1,22 @@
 -- Lemmas on Git's order of entries.
-use Rattle.std.proofs.Common.{Bool, true, false, None, replicate, set, take, slice_index_or, length-set, ◌≡◌, ◌≢◌, ℕ, ◌<◌, ◌≤◌, List, [], ◌∷◌, length, slice_index, sym, ap, ◌∙◌, subst, arith, ◌⊎◌, inl, inr, refl}
-use Rattle.std.proofs.lemmas.List.{get_or_append_left, get_or-set_other, get_or-set_same, get_or-take, get_or-replicate, get_or_past, length-replicate, length-take-le, take_all, ext_get_or}
+use Rattle.std.proofs.Common.{Bool, true, false, None, replicate, set, take, slice_index_or, length-set, ◌≡◌, ◌≢◌, ℕ, ◌<◌, ◌≤◌, List, [], ◌∷◌, length, slice_index, sym, ap, ◌∙◌, subst, arith, ◌⊎◌, inl, inr, refl, zero, suc, ◌++◌, ◌-◌}
+use Rattle.std.proofs.lemmas.List.{get_or-append_right, get_or_append_left, get_or-set_other, get_or-set_same, get_or-take, get_or-replicate, get_or_past, length-replicate, length-take-le, take_all, ext_get_or}
 use Rattle.std.proofs.lemmas.Bool.{cases_order, cases_lt}
 use Rattle.eden_model.specs.declared.tree_entry.TreeEntry.{TreeEntry}
-use Rattle.eden_object.specs.Order.{key_of, key_end}
+use Rattle.eden_object.specs.Order.{key_of, key_end, IsBelow, IsOrdered}
 use Rattle.eden_model.specs.Names.{name_refusal}
 use Rattle.eden_object.specs.Rows.{BeginsWith}
-use Rattle.eden_object.proofs.RowLemmas.{behind_entry, name_short}
+use Rattle.eden_object.proofs.RowLemmas.{name_lacks, behind_entry, name_short}
+use Rattle.eden_object.proofs.Cuts.{Lacks}
+use Rattle.eden_model.specs.declared.kind.Mode.{Mode}
+use Rattle.eden_model.specs.declared.kind.Mode.TheVariants.{File, Exec, Link, Dir, Gitlink}
 use Rattle.eden_object.proofs.CheckLemmas.{both}
 use Rattle.eden_object.specs.Trees.{IsFree, NamesDiffer, AreEntries}
 
--- the first byte that differs is smaller in the first; past the end of one stands a 0, which no name has
-pub record IsBelow (first second : List ℕ) : Type 0 where
-  pub shared : ℕ
-  pub same : (i : ℕ) → i < shared → slice_index first i ≡ slice_index second i
-  pub smaller : slice_index first shared < slice_index second shared
-
--- .. and it is a byte of the first
+-- the key comes behind each key that begins with the name
 pub record IsPast (name key : List ℕ) : Type 0 where
   pub below : IsBelow name key
   pub inside : below.shared < length name
-
--- the next entry is behind this
-abbrev pub IsBehind : TreeEntry → List TreeEntry → Type 0
-IsBehind e [] = Unit {0}
-IsBehind e (f ∷ fs) = IsBelow (key_of e) (key_of f)
-
--- in Git's order, no two alike
-abbrev pub IsOrdered : List TreeEntry → Type 0
-IsOrdered [] = Unit {0}
-IsOrdered (e ∷ es) = IsBehind e es × IsOrdered es
 
 -- an entry's key begins with its name
 pub key_front : (e : TreeEntry) (i : ℕ) → i < length e.name → slice_index (key_of e) i ≡ slice_index e.name i
@@ -99,6 +86,7 @@ pub record GoesOn (fronts : List Bool) (last : TreeEntry) (fs : List TreeEntry) 
 
 -- all names differ exactly if it goes on so: if the rest is in order, where one asks whether that is enough
 pub record StandsFor (fronts : List Bool) (last : TreeEntry) (es fs : List TreeEntry) : Type 0 where
+  pub order : IsOrdered es → IsOrdered (last ∷ fs)
   pub needed : NamesDiffer es → GoesOn fronts last fs
   pub enough : IsOrdered (last ∷ fs) → GoesOn fronts last fs → NamesDiffer es
 
@@ -135,6 +123,7 @@ stands_start first body rest short b = λ es h.
       behind.0,
       behind.2,
       record {
+        order = λ o. subst IsOrdered behind.1 o;
         needed = λ p. let here = subst NamesDiffer behind.1 p in record {
           free = λ n m. subst (λ t. IsFree t behind.0) (sym (take_all n first.name (let same = only (length first.name) n m in omega arith))) here.0;
           differ = here.1;
@@ -208,6 +197,7 @@ front_other old new last next shared s not n near m e =
 
 pub step_on : (old new : List Bool) (last next : TreeEntry) (shared : ℕ) → IsStep old new last next shared → (shared ≡ length next.name → slice_index_or old shared false ≡ false) → (es gs : List TreeEntry) → StandsFor old last es (next ∷ gs) → StandsFor new next es gs
 step_on old new last next shared s not es gs st = record {
+  order = λ o. (st.order o).1;
   needed = λ p. let g = st.needed p in record { free = λ n m. free g n m (cases_order n (length next.name)); differ = g.differ.1 };
   enough = λ o g. st.enough (below old new last next shared s, o) (record {
     free = λ n m. all o g n m (cases_lt shared n);
@@ -231,3 +221,70 @@ step_on old new last next shared s not es gs st = record {
 pub comes_again : (fronts : List Bool) (last next : TreeEntry) (shared : ℕ) (es gs : List TreeEntry) → StandsFor fronts last es (next ∷ gs) → shared ≤ length last.name → shared ≡ length next.name → ((i : ℕ) → i < shared → slice_index last.name i ≡ slice_index next.name i) → slice_index_or fronts shared false ≡ true → NamesDiffer es → ⊥
 comes_again fronts last next shared es gs st first whole same m p =
     ((st.needed p).free shared m).0 (sym (take_all shared next.name (omega arith)) ∙ sym (take_same shared last.name next.name first (omega arith) same))
+
+-- behind a name
+behind_name : (name rest : List ℕ) (n : ℕ) → n ≡ length name → slice_index (name ++ rest) n ≡ slice_index rest 0
+behind_name name rest n at = get_or-append_right name rest n n 0 (sym at) (omega arith) ∙ ap (slice_index rest) (let none : n - n ≡ 0 = omega arith in none)
+
+lacks_at : (c : ℕ) (xs : List ℕ) (i : ℕ) → Lacks c xs → i < length xs → slice_index xs i ≢ c
+lacks_at c [] i p h e = absurd (omega arith)
+lacks_at c (x ∷ xs) zero p h e = p.0 e
+lacks_at c (x ∷ xs) (suc i) p h e = lacks_at c xs i p.1 (omega arith) e
+
+-- a byte of a name is none that stands behind one
+inside_end : (name : List ℕ) (byte n : ℕ) → name_refusal name ≡ None → n < length name → byte ≡ slice_index name n → {other : ℕ} → (other ≡ 0) ⊎ (other ≡ 47) → byte ≡ other → ⊥
+inside_end name byte n good h is (inl zero_byte) e = lacks_at 0 name n (name_lacks name good).1 h (sym is ∙ e ∙ zero_byte)
+inside_end name byte n good h is (inr slash) e = lacks_at 47 name n (name_lacks name good).0 h (sym is ∙ e ∙ slash)
+
+-- what stands behind a name is no byte of a name, or nothing
+end_byte : (e : TreeEntry) (n : ℕ) → n ≡ length e.name → (slice_index (key_of e) n ≡ 0) ⊎ (slice_index (key_of e) n ≡ 47)
+end_byte e n at = by_mode e.mode
+  where
+    by_mode : (m : Mode) → (slice_index (e.name ++ key_end m) n ≡ 0) ⊎ (slice_index (e.name ++ key_end m) n ≡ 47)
+    by_mode File = inl (behind_name e.name [] n at)
+    by_mode Exec = inl (behind_name e.name [] n at)
+    by_mode Link = inl (behind_name e.name [] n at)
+    by_mode Dir = inr (behind_name e.name (47 ∷ []) n at)
+    by_mode Gitlink = inl (behind_name e.name [] n at)
+
+-- equal names before equal ends are equal keys
+end_same : (d e : TreeEntry) (n : ℕ) → n ≡ length d.name → n ≡ length e.name → d.name ≡ e.name → slice_index (key_of d) n ≡ slice_index (key_of e) n → key_of d ≡ key_of e
+end_same d e n p q same at = ap (λ t. t ++ key_end d.mode) same ∙ ap (λ t. e.name ++ t) (alike (key_end d.mode) (key_end e.mode) (ends d.mode) (ends e.mode) (sym (behind_name d.name (key_end d.mode) n p) ∙ at ∙ behind_name e.name (key_end e.mode) n q))
+  where
+    ends : (m : Mode) → (key_end m ≡ []) ⊎ (key_end m ≡ 47 ∷ [])
+    ends File = inl refl
+    ends Exec = inl refl
+    ends Link = inl refl
+    ends Dir = inr refl
+    ends Gitlink = inl refl
+
+    alike : (x y : List ℕ) → (x ≡ []) ⊎ (x ≡ 47 ∷ []) → (y ≡ []) ⊎ (y ≡ 47 ∷ []) → slice_index x 0 ≡ slice_index y 0 → x ≡ y
+    alike x y (inl p) (inl q) e = p ∙ sym q
+    alike x y (inl p) (inr q) e = let one = ap (λ t. slice_index t 0) p in let two = ap (λ t. slice_index t 0) q in absurd (omega arith)
+    alike x y (inr p) (inl q) e = let one = ap (λ t. slice_index t 0) p in let two = ap (λ t. slice_index t 0) q in absurd (omega arith)
+    alike x y (inr p) (inr q) e = p ∙ sym q
+
+-- an entry whose key isn't smaller where the names part isn't before the next
+pub not_below : (last next : TreeEntry) (shared : ℕ) → name_refusal last.name ≡ None → name_refusal next.name ≡ None → shared ≤ length last.name → shared ≤ length next.name → ((i : ℕ) → i < shared → slice_index last.name i ≡ slice_index next.name i) → (shared < length last.name → shared < length next.name → slice_index last.name shared ≢ slice_index next.name shared) → slice_index (key_of next) shared ≤ slice_index (key_of last) shared → IsBelow (key_of last) (key_of next) → ⊥
+not_below last next shared good fine first second same most less b = go (cases_order b.shared shared)
+  where
+    apart : slice_index (key_of last) shared ≡ slice_index (key_of next) shared → (shared < length last.name) ⊎ (length last.name ≤ shared) → (shared < length next.name) ⊎ (length next.name ≤ shared) → ⊥
+    apart e (inl p) (inl q) = most p q (sym (key_front last shared p) ∙ e ∙ key_front next shared q)
+    apart e (inl p) (inr q) = inside_end last.name (slice_index (key_of last) shared) shared good p (key_front last shared p) (end_byte next shared (omega arith)) e
+    apart e (inr p) (inl q) = inside_end next.name (slice_index (key_of next) shared) shared fine q (key_front next shared q) (end_byte last shared (omega arith)) (sym e)
+    apart e (inr p) (inr q) =
+        let names : last.name ≡ next.name = ext_get_or 0 last.name next.name (omega arith) (λ i h. same i (omega arith)) in
+        let keys = end_same last next shared (omega arith) (omega arith) names e in
+        let smaller = b.smaller in
+        let here = ap (λ k. slice_index k b.shared) keys in
+        omega arith
+
+    go : (b.shared ≡ shared) ⊎ ((b.shared < shared) ⊎ (shared < b.shared)) → ⊥
+    go (inl at) = let smaller = b.smaller in let one = ap (slice_index (key_of last)) at in let two = ap (slice_index (key_of next)) at in omega arith
+    go (inr (inl before)) =
+        let smaller = b.smaller in
+        let one = key_front last b.shared (omega arith) in
+        let two = key_front next b.shared (omega arith) in
+        let alike = same b.shared before in
+        omega arith
+    go (inr (inr behind)) = apart (b.same shared behind) (cases_lt shared (length last.name)) (cases_lt shared (length next.name))

@@ -1,7 +1,7 @@
 // The order in which Git writes the entries of a tree.
-ghost use Rattle.std.specs.Prelude.{◌≡◌, ◌≢◌, ◌↔◌, List, ℕ, ◌<◌, ◌≤◌, false, true, length, slice_index, slice_index_or, IsTrue, IfSome};
+ghost use Rattle.std.specs.Prelude.{◌≡◌, ◌≢◌, ◌↔◌, List, ℕ, ◌<◌, ◌≤◌, false, true, length, slice_index, slice_index_or, IsTrue, IfSome, IfNone};
 ghost use Rattle.eden_model.specs.declared.tree_entry.TreeEntry.{TreeEntry};
-ghost use Rattle.eden_object.specs.Order.{key_of};
+ghost use Rattle.eden_object.specs.Order.{key_of, IsOrdered};
 ghost use Rattle.eden_object.specs.Rows.{entry_of};
 ghost use Rattle.eden_object.specs.Trees.{AreEntries, NamesDiffer};
 
@@ -14,6 +14,7 @@ fn shared_len(a: &[u8], b: &[u8]) -> usize
     ensures first { result ≤ length a.now }
     ensures second { result ≤ length b.now }
     ensures same { (i : ℕ) → i < result → slice_index a.now i ≡ slice_index b.now i }
+    ensures most { result < length a.now → result < length b.now → slice_index a.now result ≢ slice_index b.now result }
 {
     let mut shared = 0;
     'bytes: while shared < a.len() && shared < b.len() && a[shared] == b[shared] {
@@ -57,7 +58,8 @@ fn mark_fronts(fronts: &mut [bool], shared: usize, last: usize, own: usize)
 /// In that order a name comes again only behind names that begin with it. So it is enough to know of which earlier names
 /// the last one begins with, and their lengths tell them.
 pub(crate) fn differ_in_order(body: &[u8]) -> Option<bool>
-    ensures { IfSome result (λ differ. (es : List TreeEntry) → AreEntries es body.now → IsTrue differ ↔ NamesDiffer es) }
+    ensures found { IfSome result (λ differ. (es : List TreeEntry) → AreEntries es body.now → IsTrue differ ↔ NamesDiffer es) }
+    ensures none { IfNone result ((es : List TreeEntry) → AreEntries es body.now → IsOrdered es → ⊥) }
 {
     let Some((first, behind)) = first_row(body) else {
         return Some(true);

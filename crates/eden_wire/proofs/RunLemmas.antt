@@ -110,7 +110,7 @@ module _ {S : Type 0} (answers : S → Request → Result Reply CallFault → S 
   }
 
   pub session_none : (s : S) (i o : Option (List ℕ)) → Session answers s s i i o o (Err fault.Memory)
-  session_none s i o = record { read = []; items = []; last = []; given = []; rest = []; consumed = Consumes-nil i; lines = refl; served = refl; said = (refl, Keeps-refl o) }
+  session_none s i o = record { read = []; items = []; last = []; given = []; rest = []; consumed = Consumes-nil i; lines = refl; served = refl; said = (refl, refl, Keeps-refl o) }
 
   session_closed : (r : Result ⊤ SessionFault) (s t : S) (i j o p q : Option (List ℕ)) (rest : List ℕ) (last : List Item) → SoFar s t i j o p rest → Serves answers t last [] t → Ends rest j last → r ≡ Ok tt → Appends p q (texts last []) → Session answers s t i j o q r
   session_closed r s t i j o p q rest last so served ends e wrote = subst (Session answers s t i j o q) (sym e) record {

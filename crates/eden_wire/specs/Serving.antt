@@ -44,7 +44,7 @@ abbrev pub Said : Result ⊤ SessionFault → List ℕ → List Item → List �
 Said (Ok _) read last rest unread old new text = Ends rest unread last × Appends old new text
 Said (Err fault.Read) read last rest unread old new text = (last ≡ []) × IsOneLine rest × Appends old new text
 Said (Err fault.Write) read last rest unread old new text = ((last ≡ []) ⊎ Ends rest unread last) × WritesFront old new text
-Said (Err fault.Memory) read last rest unread old new text = (read ≡ []) × Keeps old new
+Said (Err fault.Memory) read last rest unread old new text = (read ≡ []) × (last ≡ []) × Keeps old new
 
 -- a session: the bytes that it read are lines, which the service answered, and the texts of the answers were written
 pub record Session {S : Type 0} (answers : S → Request → Result Reply CallFault → S → Type 0) (s t : S) (in_old in_new out_old out_new : Option (List ℕ)) (r : Result ⊤ SessionFault) : Type 0 where

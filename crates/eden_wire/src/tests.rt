@@ -1,3 +1,5 @@
+ghost use Rattle.std.specs.Prelude.{◌≡◌};
+
 use super::*;
 use eden_model::{
     Bytes, CallFault, Cause, Entries, Errno, Fault, Id, Kind, Name, Reply, Request, StartFault,
