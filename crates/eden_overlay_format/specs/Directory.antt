@@ -1,0 +1,70 @@
+-- Which bytes store the entries of a directory.
+use Rattle.std.specs.Prelude.{◌≡◌, ◌≤◌, ◌<◌, ◌^◌, ◌++◌, ℕ, List, [], ◌∷◌, length, map, None}
+use Rattle.std.specs.List.{flat_map, AllByRecursion}
+use Rattle.std.specs.List.Sorted.{IsStrictlySortedBy}
+use Rattle.std.specs.Cmp.Lexicographic.{slice_cmp}
+use Rattle.std.specs.Ordering.{nat_cmp}
+use Rattle.std.specs.Int.{w32, w64, to_be_bytes}
+use Rattle.eden_model.specs.declared.kind.Kind.{Kind}
+use Rattle.eden_model.specs.declared.kind.Kind.TheVariants as kind
+use Rattle.eden_model.specs.declared.kind.Origin.{Origin}
+use Rattle.eden_model.specs.declared.kind.Origin.TheVariants as origin
+use Rattle.eden_model.specs.Names.{name_refusal}
+use Rattle.eden_overlay_format.specs.declared.header.Identifier.TheVariants as identifier
+use Rattle.eden_overlay_format.specs.declared.stored_entry.StoredEntry.{StoredEntry}
+use Rattle.eden_overlay_format.specs.Stored.{IsStored}
+
+abbrev pub kind_code : Kind → ℕ
+kind_code kind.File = 0
+kind_code kind.Exec = 1
+kind_code kind.Link = 2
+kind_code kind.Dir = 3
+
+abbrev pub origin_code : Origin → ℕ
+origin_code (origin.Object id) = 0
+origin_code origin.Own = 1
+origin_code origin.Empty = 2
+
+-- an object's id stands behind the number
+abbrev pub origin_bytes : Origin → List ℕ
+origin_bytes (origin.Object id) = id.bytes
+origin_bytes origin.Own = []
+origin_bytes origin.Empty = []
+
+-- a row: the kind, the origin, the number, an object's id, and the name behind its length
+abbrev pub row : StoredEntry → List ℕ
+row e = (kind_code e.kind ∷ origin_code e.origin ∷ []) ++ to_be_bytes w64 e.number ++ origin_bytes e.origin ++ (length e.name ∷ e.name)
+
+-- the count of the entries, and their rows
+abbrev pub directory_body : List StoredEntry → List ℕ
+directory_body es = to_be_bytes w32 (length es) ++ flat_map row es
+
+-- an id has 20 bytes, and `Empty` stands with a directory alone
+abbrev pub HasOrigin : Kind → Origin → Type 0
+HasOrigin k (origin.Object id) = length id.bytes ≡ 20
+HasOrigin k origin.Own = Unit {0}
+HasOrigin k origin.Empty = k ≡ kind.Dir
+
+-- an entry that has a row
+pub record IsEntry (e : StoredEntry) : Type 0 where
+  pub name : name_refusal e.name ≡ None
+  pub origin : HasOrigin e.kind e.origin
+  pub least : 2 ≤ e.number
+  pub most : e.number < 2 ^ 63
+
+abbrev pub names_of : List StoredEntry → List (List ℕ)
+names_of es = map (λ e. e.name) es
+
+-- each name comes before the next in byte order, so none comes twice
+abbrev pub IsRising : List StoredEntry → Type 0
+IsRising es = IsStrictlySortedBy (slice_cmp nat_cmp) (names_of es)
+
+-- what a directory can hold
+pub record AreEntries (es : List StoredEntry) : Type 0 where
+  pub count : length es < 2 ^ 32
+  pub rising : IsRising es
+  pub each : AllByRecursion IsEntry es
+
+pub record IsDirectory (bytes : List ℕ) (es : List StoredEntry) : Type 0 where
+  pub stored : IsStored identifier.Directory bytes (directory_body es)
+  pub entries : AreEntries es

@@ -1,0 +1,39 @@
+-- What every stored file is: a header of 64 bytes, and a body behind it. This alone says what a header is.
+-- The two identifiers and the header's length are those of EdenFS's overlay files; the rest is this project's own.
+use Rattle.std.specs.Prelude.{◌≡◌, ◌≤◌, ℕ, List, ◌++◌, length, take, drop, replicate, codes, nat_lt, if◌then◌else◌}
+use Rattle.std.specs.Int.{w32, to_be_bytes}
+use Rattle.std.specs.Str.{bytes_eq}
+use Rattle.eden_overlay_format.specs.declared.header.Identifier.{Identifier}
+use Rattle.eden_overlay_format.specs.declared.header.Identifier.TheVariants as identifier
+use Rattle.eden_overlay_format.specs.declared.refusal.Refusal.{Refusal}
+use Rattle.eden_overlay_format.specs.declared.refusal.Refusal.TheVariants.{Short, BadIdentifier, BadVersion, BadBody}
+
+-- bytes 0 to 3
+abbrev pub identifier_bytes : Identifier → List ℕ
+identifier_bytes identifier.File = codes "OVFL"
+identifier_bytes identifier.Directory = codes "OVDR"
+
+-- bytes 4 to 7
+abbrev pub version_bytes : List ℕ
+version_bytes = to_be_bytes w32 1
+
+-- the header as it is written, with zeros for bytes 8 to 63
+unfoldable pub header : Identifier → List ℕ
+header i = identifier_bytes i ++ version_bytes ++ replicate 56 0
+
+-- the file as it is written
+abbrev pub written : Identifier → List ℕ → List ℕ
+written i body = header i ++ body
+
+-- The bytes are a header with that identifier, and that body behind it. Bytes 8 to 63 are not looked at.
+pub record IsStored (i : Identifier) (bytes body : List ℕ) : Type 0 where
+  pub long : 64 ≤ length bytes
+  pub identifier : take 4 bytes ≡ identifier_bytes i
+  pub version : take 4 (drop 4 bytes) ≡ version_bytes
+  pub behind : drop 64 bytes ≡ body
+
+-- Why bytes that were asked for under that identifier are refused, where they are.
+abbrev pub first_refusal : Identifier → List ℕ → Refusal
+first_refusal i bytes =
+    if nat_lt (length bytes) 64 then Short
+    else (if bytes_eq (take 4 bytes) (identifier_bytes i) then (if bytes_eq (take 4 (drop 4 bytes)) version_bytes then BadBody else BadVersion) else BadIdentifier)

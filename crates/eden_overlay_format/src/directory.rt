@@ -1,0 +1,92 @@
+//! The entries of a directory.
+
+ghost use Rattle.std.specs.Prelude.{◌≡◌, ◌≢◌, ◌≤◌, ◌*◌, ◌↔◌, List, length, IfOk, IfErr, MatchResult, IsTrue};
+ghost use Rattle.eden_overlay_format.specs.Stored.{first_refusal, written};
+ghost use Rattle.eden_overlay_format.specs.Directory.{IsDirectory, IsRising, AreEntries, directory_body};
+ghost use Rattle.eden_overlay_format.specs.Reading.{Gives, rows_at, all_rows_of};
+ghost use Rattle.eden_overlay_format.specs.declared.header.Identifier.TheVariants as identifier;
+ghost use Rattle.eden_overlay_format.specs.declared.refusal.DecodeFault.TheVariants as fault;
+ghost use Rattle.eden_overlay_format.specs.declared.refusal.Refusal.TheVariants as refusal;
+ghost use Rattle.eden_overlay_format.specs.declared.stored_entry.StoredEntry.{StoredEntry};
+
+use crate::fields::{row_of, u32_of};
+use crate::header::{Identifier, body_of, start};
+use crate::refusal::{DecodeFault, Refusal};
+use crate::stored_entry::StoredEntry;
+use crate::writing::put_row;
+use std::alloc::{AllocError, Global};
+
+/// The least length of a row, in bytes: that of an entry with a name of one byte and no id.
+const ROW_LEAST: usize = 12;
+
+/// Whether each name comes before the next in byte order, as a stored directory needs it.
+pub fn is_rising(entries: &[StoredEntry]) -> bool
+    ensures { IsTrue result ↔ IsRising entries.now }
+{
+    entries.is_sorted_by(|a, b| a.name < b.name)
+}
+
+/// The stored file of a directory with those entries: fewer than 2^32, each name before the next in byte order
+/// (`is_rising`), each number from 2 to 2^63 - 1, and `Empty` with a directory alone. The only error is want of memory.
+pub fn encode_dir(alloc: Global, entries: &[StoredEntry]) -> Result<Vec<u8>, AllocError>
+    requires { AreEntries entries.now }
+    ensures bytes { IfOk result (λ v. v.items ≡ written identifier.Directory (directory_body entries.now)) }
+    ensures read_again { IfOk result (λ v. IsDirectory v.items entries.now) }
+{
+    let mut out = start(alloc, Identifier::Directory, entries.len() * ROW_LEAST)?;
+    out.extend_from_slice(&(entries.len() as u32).to_be_bytes())?;
+    for entry in entries {
+        put_row(&mut out, entry)?;
+    }
+    Ok(out)
+}
+
+fn rows_of(
+    alloc: Global,
+    count: u32,
+    bytes: &[u8],
+) -> Result<(Vec<StoredEntry>, &[u8]), DecodeFault>
+    requires room { 12 * count ≤ length bytes.now }
+    ensures { Gives (λ x. (x.0.items, x.1.now)) result (rows_at count bytes.now) }
+{
+    let mut rows = Vec::with_capacity(alloc, count as usize)?;
+    let mut rest = bytes;
+    for _ in 0..count {
+        let (row, after) = row_of(alloc, rest)?;
+        rows.push(row)?;
+        rest = after;
+    }
+    Ok((rows, rest))
+}
+
+/// The rows of a whole body. A count that its bytes can't hold is refused before any room is made.
+#[tactic(auto, unfolding(crate::specs::Reading::all_rows_of))]
+fn all_rows(alloc: Global, body: &[u8]) -> Result<Vec<StoredEntry>, DecodeFault>
+    ensures { Gives (λ v. v.items) result (all_rows_of body.now) }
+{
+    let (count, rest) = u32_of(body)?;
+    if rest.len() < ROW_LEAST * count as usize {
+        return Err(DecodeFault::Refused(Refusal::BadBody));
+    }
+    let (rows, rest) = rows_of(alloc, count, rest)?;
+    if !rest.is_empty() {
+        return Err(DecodeFault::Refused(Refusal::BadBody));
+    }
+    Ok(rows)
+}
+
+/// The entries that the bytes store, or the first refusal.
+pub fn decode_dir(alloc: Global, bytes: &[u8]) -> Result<Vec<StoredEntry>, DecodeFault>
+    ensures found { IfOk result (λ v. IsDirectory bytes.now v.items) }
+    ensures only { (es : List StoredEntry) → IsDirectory bytes.now es → MatchResult result (λ v. v.items ≡ es) (λ f. f ≡ fault.Memory) }
+    ensures refused { IfErr result (λ f. f ≢ fault.Memory → f ≡ fault.Refused (first_refusal identifier.Directory bytes.now)) }
+    // Memory is asked for only behind a good header.
+    ensures memory { IfErr result (λ f. f ≡ fault.Memory → first_refusal identifier.Directory bytes.now ≡ refusal.BadBody) }
+{
+    let body = body_of(Identifier::Directory, bytes)?;
+    let entries = all_rows(alloc, body)?;
+    if !is_rising(&entries) {
+        return Err(DecodeFault::Refused(Refusal::BadBody));
+    }
+    Ok(entries)
+}

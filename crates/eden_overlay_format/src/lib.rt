@@ -1,0 +1,27 @@
+//! The files of an overlay as bytes: a header of 64 bytes, and behind it a content, a directory or the state.
+//!
+//! The definitions in `specs/` say which bytes are which value. Each decoder answers a value exactly where its bytes
+//! are one, and otherwise the first refusal, in the order of `Refusal`; what an encoder writes, its decoder reads.
+//! All numbers are big-endian. Nothing here reads or stores a file.
+#![tactic(auto)]
+
+mod content;
+mod directory;
+mod fields;
+mod header;
+mod laws;
+mod refusal;
+mod state;
+mod stored_entry;
+mod writing;
+
+pub use content::{CONTENT_MOST, decode_file, encode_file};
+pub use directory::{decode_dir, encode_dir, is_rising};
+pub use header::{HEADER_LEN, Identifier};
+pub use laws::format_laws;
+pub use refusal::{DecodeFault, Refusal};
+pub use state::{State, decode_state, encode_state};
+pub use stored_entry::StoredEntry;
+
+#[cfg(test)]
+mod tests;

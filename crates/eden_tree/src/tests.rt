@@ -1,0 +1,323 @@
+use crate::{Dir, Entry};
+use eden_model::{Kind, Name, Origin};
+use linked_list_allocator::LocalHeap;
+use std::alloc::{AllocError, Allocator, Global};
+use std::collections::BTreeMap;
+use std::process::Abort;
+use std::test::Fail;
+use std::thread;
+
+/// Knuth's linear congruential generator, its upper half.
+fn random(state: &mut u64) -> u32 {
+    *state = state
+        .wrapping_mul(6364136223846793005)
+        .wrapping_add(1442695040888963407);
+    (*state >> 32) as u32
+}
+
+/// A letter for each base-16 digit: names of one length, in the order of their numbers.
+fn name(alloc: Global, number: u32) -> Result<Name, AllocError> {
+    let mut letters = [b'a'; 8];
+    let mut rest = number;
+    for letter in letters.iter_mut().rev() {
+        *letter = b'a' + (rest % 16) as u8;
+        rest /= 16;
+    }
+    match Name::new(Vec::from_slice(alloc, letters.as_slice())?) {
+        Ok(name) => Ok(name),
+        Err(_) => Err(AllocError),
+    }
+}
+
+fn entry<A: Allocator>(number: u64, child: Option<Box<Dir<A>, A>>) -> Entry<A> {
+    Entry {
+        number,
+        kind: Kind::Dir,
+        origin: Origin::Own,
+        child,
+    }
+}
+
+fn put<A: Allocator>(dir: &mut Dir<A>, name: Name, entry: Entry<A>) -> Result<(), AllocError> {
+    match dir.insert(name, entry) {
+        Ok(()) => Ok(()),
+        Err(_) => Err(AllocError),
+    }
+}
+
+fn again<A: Allocator + Clone>(tree: &A) -> Result<A, AllocError> {
+    tree.clone()
+}
+
+/// A directory of the names of the first numbers.
+fn wide<A: Allocator>(alloc: Global, tree: A, count: u32) -> Result<Dir<A>, AllocError> {
+    let mut dir = Dir::new(tree, 0);
+    for number in 0..count {
+        put(
+            &mut dir,
+            name(alloc, number)?,
+            entry(u64::from(number), None),
+        )?;
+    }
+    Ok(dir)
+}
+
+/// A directory of one entry, which holds that directory.
+fn above<A: Allocator + Clone>(
+    alloc: Global,
+    tree: &A,
+    below: Dir<A>,
+) -> Result<Dir<A>, AllocError> {
+    let stamp = below.stamp().wrapping_add(1);
+    let child = Box::new(again(tree)?, below).map_err(AllocError::from)?;
+    let mut dir = Dir::new(again(tree)?, stamp);
+    put(&mut dir, name(alloc, 7)?, entry(stamp, Some(child)))?;
+    Ok(dir)
+}
+
+/// Loaded directories of one entry each, one inside another; the stamp is how many are below.
+fn nested<A: Allocator + Clone>(
+    alloc: Global,
+    tree: &A,
+    levels: u64,
+) -> Result<Dir<A>, AllocError> {
+    let mut dir = Dir::new(again(tree)?, 0);
+    for _ in 1..levels {
+        dir = above(alloc, tree, dir)?;
+    }
+    Ok(dir)
+}
+
+/// Puts into both, or takes out of both, and compares what they answer.
+fn change_both<A: Allocator>(
+    rt: &impl Abort,
+    alloc: Global,
+    dir: &mut Dir<A>,
+    map: &mut BTreeMap<Name, u64>,
+    word: u32,
+) -> Result<(), AllocError> {
+    let key = name(alloc, word % 3000)?;
+    let number = u64::from(word);
+    if word / 3000 % 2 == 0 {
+        let taken = dir.remove(&key).map(|e| e.number);
+        assert!(rt; taken == map.remove(&key));
+        return Ok(());
+    }
+    match dir.insert(key.copy(alloc)?, entry(number, None)) {
+        Ok(()) => {
+            assert!(rt; map.get(&key).is_none());
+            map.insert(key, number).map_err(AllocError::from)?;
+        }
+        Err((back, handed)) => {
+            assert!(rt; map.get(&key).is_some());
+            assert!(rt; back == key && handed.number == number);
+        }
+    }
+    Ok(())
+}
+
+fn assert_alike<A: Allocator>(rt: &impl Abort, dir: &Dir<A>, map: &BTreeMap<Name, u64>) {
+    assert!(rt; dir.count() as usize == map.len());
+    let mut position = 0u32;
+    for (key, number) in map {
+        let (there, entry) = dir.at(position).expect(rt, "an entry at each position");
+        assert!(rt; *there == *key && entry.number == *number);
+        assert!(rt; dir.get_counted(key).0 == Some(position));
+        position = position.wrapping_add(1);
+    }
+    assert!(rt; dir.at(position).is_none());
+}
+
+fn change_often<A: Allocator>(
+    rt: &impl Abort,
+    alloc: Global,
+    dir: &mut Dir<A>,
+    map: &mut BTreeMap<Name, u64>,
+) -> Result<(), AllocError> {
+    let mut state = 1;
+    for _ in 0..10 {
+        for _ in 0..1000 {
+            let word = random(&mut state);
+            change_both(rt, alloc, dir, map, word)?;
+        }
+        assert_alike(rt, dir, map);
+    }
+    Ok(())
+}
+
+fn change_at_random<A: Allocator>(
+    rt: &impl Abort,
+    alloc: Global,
+    tree: A,
+) -> Result<(), AllocError> {
+    let mut dir = Dir::new(tree, 0);
+    let mut map = BTreeMap::new(alloc);
+    change_often(rt, alloc, &mut dir, &mut map)
+}
+
+#[test]
+fn random_changes_agree_with_an_ordered_map(rt: HostRuntime) -> Result<(), Fail> {
+    Ok(change_at_random(&rt, rt.alloc(), rt.alloc())?)
+}
+
+/// Whether an insert found room. A refused one hands name and entry back, and changes nothing.
+fn finds_room<A: Allocator>(
+    rt: &impl Abort,
+    alloc: Global,
+    dir: &mut Dir<A>,
+    number: u32,
+) -> Result<bool, AllocError> {
+    let key = name(alloc, number)?;
+    let before = dir.count();
+    match dir.insert(key.copy(alloc)?, entry(u64::from(number), None)) {
+        Ok(()) => Ok(true),
+        Err((back, handed)) => {
+            assert!(rt; back == key && handed.number == u64::from(number));
+            assert!(rt; dir.count() == before && dir.get(&key).is_none());
+            Ok(false)
+        }
+    }
+}
+
+/// Inserts until one is refused, and answers how many went in.
+fn fill<A: Allocator>(rt: &impl Abort, alloc: Global, dir: &mut Dir<A>) -> Result<u32, AllocError> {
+    for number in 0..100_000u32 {
+        if !finds_room(rt, alloc, dir, number)? {
+            return Ok(number);
+        }
+    }
+    Ok(100_000)
+}
+
+fn fill_from<A: Allocator>(rt: &impl Abort, alloc: Global, tree: A) -> Result<u32, AllocError> {
+    let mut dir = Dir::new(tree, 0);
+    fill(rt, alloc, &mut dir)
+}
+
+#[test]
+fn each_refused_growth_hands_name_and_entry_back(rt: HostRuntime) -> Result<(), Fail> {
+    let alloc = rt.alloc();
+    let mut most = 0u32;
+    let mut size = 64usize;
+    for _ in 0..16 {
+        let heap = LocalHeap::new(alloc, size)?;
+        let count = fill_from(&rt, alloc, &heap)?;
+        assert!(rt; heap.used() == 0);
+        assert!(rt;
+            count / 2 <= most.saturating_add(2),
+            "no growth at {most} was refused"
+        );
+        most = count;
+        size = size.saturating_mul(2);
+    }
+    assert!(rt; most > 1000);
+    Ok(())
+}
+
+fn assert_few_compared<A: Allocator>(
+    rt: &impl Abort,
+    alloc: Global,
+    dir: &Dir<A>,
+    most: u32,
+) -> Result<(), AllocError> {
+    for number in 0..1100u32 {
+        let (position, compared) = dir.get_counted(&name(alloc, number)?);
+        assert!(rt; position.is_some() == (number < dir.count()));
+        assert!(rt; compared <= most);
+    }
+    Ok(())
+}
+
+fn count_compared<A: Allocator + Clone>(
+    rt: &impl Abort,
+    alloc: Global,
+    tree: &A,
+) -> Result<(), AllocError> {
+    assert_few_compared(rt, alloc, &wide(alloc, again(tree)?, 0)?, 0)?;
+    assert_few_compared(rt, alloc, &wide(alloc, again(tree)?, 1)?, 1)?;
+    assert_few_compared(rt, alloc, &wide(alloc, again(tree)?, 1000)?, 10)?;
+    assert_few_compared(rt, alloc, &wide(alloc, again(tree)?, 1024)?, 11)
+}
+
+#[test]
+fn few_names_are_compared(rt: HostRuntime) -> Result<(), Fail> {
+    Ok(count_compared(&rt, rt.alloc(), &rt.alloc())?)
+}
+
+/// Attaches where the entry is a directory's and holds none.
+fn attach_where_free<A: Allocator>(
+    rt: &impl Abort,
+    dir: &mut Dir<A>,
+    name: &Name,
+    child: Box<Dir<A>, A>,
+) {
+    let there = dir.get(name).expect(rt, "an entry");
+    assert!(rt; there.kind == Kind::Dir);
+    assert!(rt; there.child.is_none());
+    dir.attach(name, child);
+}
+
+/// Moves what is below one directory's entry to another's, and takes that entry out.
+fn move_subtree<A: Allocator>(
+    rt: &impl Abort,
+    alloc: Global,
+    from: &mut Dir<A>,
+    to: &mut Dir<A>,
+) -> Result<(), AllocError> {
+    let (first, second) = (name(alloc, 7)?, name(alloc, 8)?);
+    let moved = from.detach(&first).expect(rt, "a loaded directory");
+    assert!(rt; from.depth() == 1 && from.detach(&first).is_none());
+    attach_where_free(rt, to, &second, moved);
+    assert!(rt; to.depth() == 4);
+    let entry = to.remove(&second).expect(rt, "an entry");
+    let child = entry.child.expect(rt, "a loaded directory");
+    assert!(rt; child.stamp() == 2 && !child.unsaved());
+    assert!(rt; to.depth() == 1 && to.count() == 8);
+    Ok(())
+}
+
+fn move_into_wide<A: Allocator + Clone>(
+    rt: &impl Abort,
+    alloc: Global,
+    tree: &A,
+    from: &mut Dir<A>,
+) -> Result<(), AllocError> {
+    let mut to = wide(alloc, again(tree)?, 9)?;
+    move_subtree(rt, alloc, from, &mut to)
+}
+
+fn move_from_nested<A: Allocator + Clone>(
+    rt: &impl Abort,
+    alloc: Global,
+    tree: &A,
+) -> Result<(), AllocError> {
+    let mut from = nested(alloc, tree, 4)?;
+    move_into_wide(rt, alloc, tree, &mut from)
+}
+
+#[test]
+fn a_subtree_moves_without_a_copy(rt: HostRuntime) -> Result<(), Fail> {
+    Ok(move_from_nested(&rt, rt.alloc(), &rt.alloc())?)
+}
+
+/// Makes a directory of depth 256 and one of a million entries, and drops them.
+fn drops<A: Allocator + Clone>(alloc: Global, tree: &A) -> Result<bool, AllocError> {
+    let depth = nested(alloc, tree, 256)?.depth();
+    let count = wide(alloc, again(tree)?, 1_000_000)?.count();
+    Ok(depth == 256 && count == 1_000_000)
+}
+
+#[test]
+fn deep_and_wide_directories_are_dropped(rt: HostRuntime) -> Result<(), Fail> {
+    let alloc = rt.alloc();
+    assert!(rt; drops(alloc, &alloc)?);
+    Ok(())
+}
+
+#[test]
+fn a_thread_drops_them_too(rt: HostRuntime) -> Result<(), Fail> {
+    let alloc = rt.alloc();
+    let done = thread::spawn(&rt, move || matches!(drops(alloc, &alloc), Ok(true)))?.join(&rt);
+    assert!(rt; done);
+    Ok(())
+}
