@@ -2,6 +2,7 @@
 //! with `timed` how long each part took. `make bench` runs them at full size.
 #![tactic(auto)]
 
+mod directory;
 mod timing;
 mod tree;
 
@@ -11,7 +12,7 @@ use std::rt::{Clock, Env};
 use std::{env, io};
 use timing::Timing;
 
-const USAGE: &str = "usage: eden_bench tree COUNT [timed]";
+const USAGE: &str = "usage: eden_bench tree|directory COUNT [timed]";
 
 /// Runs the workload that the words name. False where they name none.
 fn run<R: Print + Clock + AllocGlobal>(rt: &R, words: &[String]) -> io::Result<bool> {
@@ -24,6 +25,7 @@ fn run<R: Print + Clock + AllocGlobal>(rt: &R, words: &[String]) -> io::Result<b
         return Ok(false);
     };
     match name.as_str() {
+        "directory" => directory::run(rt, count, timing)?,
         "tree" => tree::run(rt, count, timing)?,
         _ => return Ok(false),
     }
