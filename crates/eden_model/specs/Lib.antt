@@ -1,6 +1,7 @@
 pub mod Names
 pub mod Paths
 pub mod Faults
+pub mod Failures
 pub mod Trees
 pub mod Shown
 pub mod Repository

@@ -1,5 +1,5 @@
 -- What a source is asked, and what it answers.
-use Rattle.std.specs.Prelude.{◌≡◌, ◌<◌, ◌-◌, ◌^◌, ℕ, List, [], ◌∷◌, Result}
+use Rattle.std.specs.Prelude.{◌≡◌, ℕ, List, [], ◌∷◌, Result}
 use Rattle.std.specs.Result.{result_map_both}
 use Rattle.std.specs.declared.alloc.Global.{Global}
 use Rattle.std.specs.declared.vec.Vec.{Vec}
@@ -23,10 +23,6 @@ IsSourceCause cause.Malformed = ⊥
 IsSourceCause cause.WrongKind = ⊥
 IsSourceCause cause.TooLarge = Unit {0}
 IsSourceCause cause.Memory = Unit {0}
-
--- the count of failures rose; at its end it stays, and that counts as risen
-abbrev pub Rose : ℕ → ℕ → Type 0
-Rose old new = old < 2 ^ 64 - 1 → old < new
 
 -- one question to a source, and its answer
 pub record Ask : Type 0 where

@@ -7,7 +7,8 @@ pub trait Source<W: World> {
     ghost use Rattle.eden_model.specs.declared.id.Id.{Id};
     ghost use Rattle.eden_model.specs.declared.fault.Cause.{Cause};
     ghost use Rattle.eden_object.specs.Objects.{IsHonest};
-    ghost use Rattle.eden_source.specs.Fetching.{answer_of, IsSourceCause, Rose};
+    ghost use Rattle.eden_model.specs.Failures.{Rose};
+    ghost use Rattle.eden_source.specs.Fetching.{answer_of, IsSourceCause};
 
     /// The source was as the first says, was asked for the id and answered so, which left it as the last says.
     ghost fetched: { Self → Id → Result (List ℕ) Cause → Self → Type 0 };
