@@ -1,4 +1,5 @@
 // A directory of many names: inserts in byte order and in another order, and look-ups.
+use crate::name::name;
 use crate::timing::Timing;
 use eden_model::{Kind, Name, Origin};
 use eden_tree::{Dir, Entry};
@@ -16,13 +17,6 @@ const LOOKED_UP: u32 = 1_000;
 
 /// A step that has no factor in common with the counts, which are powers of ten.
 const STRIDE: u64 = 48271;
-
-/// The name of that number, or none for want of memory.
-fn name(alloc: Global, number: u64) -> Result<Option<Name>, AllocError> {
-    let text = format!(in alloc; "file{number:010}")?;
-    let bytes = Vec::from_slice(alloc, text.as_bytes())?;
-    Ok(Name::new(bytes).ok())
-}
 
 /// The number that comes at a turn, where each turn goes so far through the numbers below the count.
 fn turned(turn: u32, stride: u64, count: u32) -> u64 {

@@ -3,6 +3,8 @@
 #![tactic(auto)]
 
 mod directory;
+mod name;
+mod overlay;
 mod timing;
 mod tree;
 
@@ -12,7 +14,7 @@ use std::rt::{Clock, Env};
 use std::{env, io};
 use timing::Timing;
 
-const USAGE: &str = "usage: eden_bench tree|directory COUNT [timed]";
+const USAGE: &str = "usage: eden_bench tree|directory|overlay COUNT [timed]";
 
 /// Runs the workload that the words name. False where they name none.
 fn run<R: Print + Clock + AllocGlobal>(rt: &R, words: &[String]) -> io::Result<bool> {
@@ -26,6 +28,7 @@ fn run<R: Print + Clock + AllocGlobal>(rt: &R, words: &[String]) -> io::Result<b
     };
     match name.as_str() {
         "directory" => directory::run(rt, count, timing)?,
+        "overlay" => overlay::run(rt, count, timing)?,
         "tree" => tree::run(rt, count, timing)?,
         _ => return Ok(false),
     }

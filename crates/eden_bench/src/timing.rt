@@ -20,4 +20,21 @@ impl Timing {
             }
         }
     }
+
+    /// Tells how long each of so many took since they started.
+    pub fn tell_each<R: Print + Clock>(
+        self,
+        rt: &R,
+        part: &str,
+        start: &Instant,
+        count: u32,
+    ) -> io::Result<()> {
+        match self {
+            Timing::Untimed => Ok(()),
+            Timing::Timed => {
+                let nanoseconds = start.elapsed(rt)?.as_secs_f64() * 1e9 / f64::from(count.max(1));
+                println!(rt; "  {part}: {nanoseconds:.1} ns")
+            }
+        }
+    }
 }
