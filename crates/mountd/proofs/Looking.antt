@@ -1,10 +1,11 @@
 -- What is looked at where a path leads.
 use Rattle.std.proofs.Common.{◌≡◌, ◌<◌, ◌+◌, ℕ, List, [], ◌∷◌, ◌++◌, length, get_or, take, drop, sym, refl, ◌∙◌, ap, subst, arith, inl, inr, Option, Some, None, Err, Bool, true, false, cond, nat_lt, eqb}
 use Rattle.std.specs.Prelude.{◌⊎◌, if◌then◌else◌, find}
-use Rattle.std.specs.Option.{option_map, option_and_then, is_some}
+use Rattle.std.specs.Option.{option_map, option_and_then, option_or, is_some}
 use Rattle.std.specs.Str.{bytes_eq}
 use Rattle.std.proofs.lemmas.Bool.{ne_eqb}
 use Rattle.std.proofs.lemmas.List.{take_more}
+use Rattle.std.proofs.lemmas.List.Folds.{find-append}
 use Rattle.eden_model.specs.declared.fault.Fault.{Fault}
 use Rattle.eden_model.specs.declared.id.Id.{Id}
 use Rattle.eden_model.specs.declared.id.Key.{Key}
@@ -18,7 +19,6 @@ use Rattle.eden_model.specs.declared.node.Node.TheVariants as node
 use Rattle.eden_model.specs.declared.reply.Reply.{Reply}
 use Rattle.eden_model.specs.declared.reply.Reply.TheVariants as say
 use Rattle.eden_model.specs.declared.tree_entry.TreeEntry.{TreeEntry}
-use Rattle.eden_model.specs.Rows.{first_of}
 use Rattle.eden_model.specs.Trees.{Name, Path, Tree}
 use Rattle.eden_model.specs.Shown.{Item, Items, Ground, shown, node_of, node_from, if_dir}
 use Rattle.eden_model.specs.Repository.{Repository, Source, ground_of, item_by, items_of, entry_named, entries_from, content_from, root_of, Whole}
@@ -79,30 +79,22 @@ module _ (R : Repository) (honest : Type 0) where
 
 -- ---- listing
 
-find-push : {X : Type 0} (test : X → Bool) (xs : List X) (x : X) → find test (xs ++ x ∷ []) ≡ first_of (find test xs) (if test x then Some x else None)
-find-push {X} test [] x = refl
-find-push {X} test (y ∷ ys) x = by (test y) (find test ys) (find test (ys ++ x ∷ [])) (if test x then Some x else None) (find-push test ys x)
-  where
-    by : (b : Bool) (tail all last : Option X) → all ≡ first_of tail last → cond b (Some y) all ≡ first_of (cond b (Some y) tail) last
-    by true tail all last e = refl
-    by false tail all last e = e
-
 abbrev pub kind_in : List TreeEntry → Name → Option Kind
 kind_in es n = option_map (λ j. j.kind) (items_of es n)
 
 map_first : (o : Option TreeEntry) (b : Bool) (e : TreeEntry) (k : Kind) → k ≡ (item_by e.mode e.id).kind
-    → first_of (option_map (λ (j : Item Source). j.kind) (option_map (λ (x : TreeEntry). item_by x.mode x.id) o)) (if b then Some k else None)
-    ≡ option_map (λ (j : Item Source). j.kind) (option_map (λ (x : TreeEntry). item_by x.mode x.id) (first_of o (if b then Some e else None)))
+    → option_or (option_map (λ (j : Item Source). j.kind) (option_map (λ (x : TreeEntry). item_by x.mode x.id) o)) (if b then Some k else None)
+    ≡ option_map (λ (j : Item Source). j.kind) (option_map (λ (x : TreeEntry). item_by x.mode x.id) (option_or o (if b then Some e else None)))
 map_first None true e k same = ap Some same
 map_first None false e k same = refl
 map_first (Some x) b e k same = refl
 
 pub listed_more : (es : List TreeEntry) (n : Name) (i : ℕ) (e : TreeEntry) (k : Kind) (old new : Option Kind) → i < length es → e ≡ get_or es i e → k ≡ (item_by e.mode e.id).kind
-    → old ≡ kind_in (take i es) n → new ≡ first_of old (if bytes_eq n e.name then Some k else None) → new ≡ kind_in (take (i + 1) es) n
+    → old ≡ kind_in (take i es) n → new ≡ option_or old (if bytes_eq n e.name then Some k else None) → new ≡ kind_in (take (i + 1) es) n
 listed_more es n i e k old new lt at same was is =
-    is ∙ ap (λ (o : Option Kind). first_of o (if bytes_eq n e.name then Some k else None)) was
+    is ∙ ap (λ (o : Option Kind). option_or o (if bytes_eq n e.name then Some k else None)) was
     ∙ map_first (entry_named n (take i es)) (bytes_eq n e.name) e k same
-    ∙ ap (λ (o : Option TreeEntry). option_map (λ (j : Item Source). j.kind) (option_map (λ (x : TreeEntry). item_by x.mode x.id) o)) (sym (find-push (λ (x : TreeEntry). bytes_eq n x.name) (take i es) e))
+    ∙ ap (λ (o : Option TreeEntry). option_map (λ (j : Item Source). j.kind) (option_map (λ (x : TreeEntry). item_by x.mode x.id) o)) (sym (find-append (λ (x : TreeEntry). bytes_eq n x.name) (take i es) (e ∷ [])))
     ∙ ap (λ (x : TreeEntry). kind_in (take i es ++ x ∷ []) n) at
     ∙ ap (λ (l : List TreeEntry). kind_in l n) (sym (take_more es i e lt))
 
