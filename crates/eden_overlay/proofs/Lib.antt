@@ -1,0 +1,8 @@
+pub mod Held
+pub mod Reading
+pub mod Puts
+pub mod Strays
+pub mod Contents
+pub mod Directories
+pub mod Cycles
+pub mod Entering

@@ -1,0 +1,41 @@
+use Rattle.eden_overlay.proofs.Strays.{numbers_from_two, rootless_sound, strays_stay, strays_dont_count, strays_stay_strays}
+use Rattle.eden_overlay.proofs.Contents.{contents_held, entries_held, contents_stay}
+use Rattle.eden_overlay.proofs.Directories.{dropped_stay, dropped_unnamed}
+use Rattle.eden_overlay.proofs.Entering.{added_stay, entered_stay}
+use Rattle.eden_overlay.proofs.laws.overlay_laws.Goals as goal
+
+pub returns-clause-contents_held : goal.returns-clause-contents_held
+returns-clause-contents_held c = contents_held
+
+pub returns-clause-entries_held : goal.returns-clause-entries_held
+returns-clause-entries_held c = entries_held
+
+pub returns-clause-numbers : goal.returns-clause-numbers
+returns-clause-numbers c = numbers_from_two
+
+pub returns-clause-rootless : goal.returns-clause-rootless
+returns-clause-rootless c = rootless_sound
+
+pub returns-clause-strays : goal.returns-clause-strays
+returns-clause-strays c = strays_stay
+
+pub returns-clause-strays_dont_count : goal.returns-clause-strays_dont_count
+returns-clause-strays_dont_count c = strays_dont_count
+
+pub returns-clause-contents : goal.returns-clause-contents
+returns-clause-contents c = contents_stay
+
+pub returns-clause-dropped : goal.returns-clause-dropped
+returns-clause-dropped c = dropped_stay
+
+pub returns-clause-added : goal.returns-clause-added
+returns-clause-added c = added_stay
+
+pub returns-clause-entered : goal.returns-clause-entered
+returns-clause-entered c = entered_stay
+
+pub returns-clause-strays_stay_strays : goal.returns-clause-strays_stay_strays
+returns-clause-strays_stay_strays c = strays_stay_strays
+
+pub returns-clause-dropped_unnamed : goal.returns-clause-dropped_unnamed
+returns-clause-dropped_unnamed c = dropped_unnamed

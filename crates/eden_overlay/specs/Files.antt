@@ -1,0 +1,14 @@
+-- Files by their numbers, as contracts see them.
+use Rattle.std.specs.Prelude.{ℕ, ◌==◌, List, Option, if◌then◌else◌, IsSome, All, Contains}
+
+abbrev pub Stored : Type 0
+Stored = ℕ → Option (List ℕ)
+
+-- f, with w at k
+abbrev pub put : Stored → ℕ → Option (List ℕ) → Stored
+put f k w = λ q. if k == q then w else f q
+
+-- the numbers of the files, and no others
+pub record Lists (ks : List ℕ) (f : Stored) : Type 0 where
+  pub there : All (λ k. IsSome (f k)) ks
+  pub all : (k : ℕ) → IsSome (f k) → Contains ks k

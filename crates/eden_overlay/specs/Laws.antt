@@ -1,0 +1,107 @@
+-- What a caller needs to know of soundness, to show that an overlay stays sound.
+use Rattle.std.specs.Prelude.{◌≡◌, ◌≢◌, ◌≤◌, ◌^◌, ◌⊎◌, ◌↔◌, ℕ, List, [], Option, None, length, Contains}
+use Rattle.eden_model.specs.declared.kind.Origin.TheVariants as origin
+use Rattle.eden_overlay_format.specs.declared.stored_entry.StoredEntry.{StoredEntry}
+use Rattle.eden_overlay_format.specs.Directory.{AreEntries}
+use Rattle.eden_overlay.specs.Files.{Stored, put}
+use Rattle.eden_overlay.specs.Held.{HoldsContent, HoldsEntries, with_content, with_entries}
+use Rattle.eden_overlay.specs.Soundness.{Names, LeadsOn, Reached, Counts, HasOwn, IsSound}
+
+-- what is stored is held
+abbrev pub ContentsHeld : Type 0
+ContentsHeld = (F : Stored) (k : ℕ) (content : List ℕ) → length content ≤ 2 ^ 30 → HoldsContent (with_content F k content) k content
+
+abbrev pub EntriesHeld : Type 0
+EntriesHeld = (F : Stored) (k : ℕ) (entries : List StoredEntry) → AreEntries entries → HoldsEntries (with_entries F k entries) k entries
+
+-- the number of an entry is never the root's, nor the state's
+abbrev pub NumbersFromTwo : Type 0
+NumbersFromTwo = (F : Stored) (d : ℕ) (e : StoredEntry) → Names F d e → 2 ≤ e.number
+
+-- without file 1 nothing counts: so an overlay without files is sound
+abbrev pub RootlessSound : Type 0
+RootlessSound = (F : Stored) → F 1 ≡ None → IsSound F
+
+-- file k isn't the root's, and no directory that counts names it as an entry's own
+pub record IsStray (F : Stored) (k : ℕ) : Type 0 where
+  pub not_root : k ≢ 1
+  pub not_own : (d : ℕ) (e : StoredEntry) → Counts F d → Names F d e → e.origin ≡ origin.Own → e.number ≢ k
+
+-- a stray may be stored, changed or taken out
+abbrev pub StraysStay : Type 0
+StraysStay = (F : Stored) (k : ℕ) (w : Option (List ℕ)) → IsStray F k → IsSound F → IsSound (put F k w)
+
+-- and the same directories count then
+abbrev pub StraysDontCount : Type 0
+StraysDontCount = (F : Stored) (k : ℕ) (w : Option (List ℕ)) → IsStray F k → (d : ℕ) → Counts (put F k w) d ↔ Counts F d
+
+-- and another stray stays one
+abbrev pub StraysStayStrays : Type 0
+StraysStayStrays = (F : Stored) (j k : ℕ) (w : Option (List ℕ)) → IsStray F j → IsStray F k → IsStray (put F j w) k
+
+-- a stored content may be replaced by another
+abbrev pub ContentsStay : Type 0
+ContentsStay = (F : Stored) (k : ℕ) (old new : List ℕ) → HoldsContent F k old → length new ≤ 2 ^ 30 → IsSound F → IsSound (with_content F k new)
+
+-- a directory may be stored with entries left out
+abbrev pub DroppedStay : Type 0
+DroppedStay = (F : Stored) (d : ℕ) (old new : List StoredEntry) → HoldsEntries F d old → AreEntries new
+    → ((e : StoredEntry) → Contains new e → Contains old e)
+    → IsSound F → IsSound (with_entries F d new)
+
+-- no directory that counts names the number
+abbrev pub IsUnnamed : Stored → ℕ → Type 0
+IsUnnamed F k = (d : ℕ) (e : StoredEntry) → Counts F d → Names F d e → e.number ≢ k
+
+-- and then nothing names what was left out, so that its file may be taken out, or its number named elsewhere
+abbrev pub DroppedUnnamed : Type 0
+DroppedUnnamed = (F : Stored) (d : ℕ) (old new : List StoredEntry) (dropped : StoredEntry) → HoldsEntries F d old → AreEntries new
+    → ((e : StoredEntry) → Contains new e → Contains old e)
+    → Counts F d → Contains old dropped → ¬ Contains new dropped
+    → IsSound F → IsUnnamed (with_entries F d new) dropped.number
+
+-- ---- entries put into a directory
+
+-- what a directory that counts may name anew: an entry whose file is stored where it is its own, whose number no other
+-- directory that counts names, and which has nothing below it
+pub record IsFresh (F : Stored) (d : ℕ) (e : StoredEntry) : Type 0 where
+  pub own : HasOwn F e
+  pub free : (c : ℕ) (f : StoredEntry) → Counts F c → Names F c f → f.number ≡ e.number → c ≡ d
+  pub empty : LeadsOn e → HoldsEntries F e.number []
+
+-- a directory that counts may be stored with fresh entries beside those that it has or in their place, each number once
+abbrev pub AddedStay : Type 0
+AddedStay = (F : Stored) (d : ℕ) (new : List StoredEntry) → Counts F d → AreEntries new
+    → ((e f : StoredEntry) → Contains new e → Contains new f → e.number ≡ f.number → e ≡ f)
+    → ((e : StoredEntry) → Contains new e → Names F d e ⊎ IsFresh F d e)
+    → IsSound F → IsSound (with_entries F d new)
+
+-- a directory that is k, or is reached from it, names the number
+pub record NamedFrom (F : Stored) (k number : ℕ) : Type 0 where
+  pub directory : ℕ
+  pub entry : StoredEntry
+  pub reached : Reached F k directory
+  pub named : Names F directory entry
+  pub is : entry.number ≡ number
+
+-- the number is the entry's, or is named below it
+abbrev pub Brings : Stored → StoredEntry → ℕ → Type 0
+Brings F e number = (e.number ≡ number) ⊎ (LeadsOn e × NamedFrom F e.number number)
+
+-- what a directory that counts may name anew, with all that is below it, when it is stored with those entries
+pub record MayEnter (F : Stored) (d : ℕ) (new : List StoredEntry) (e : StoredEntry) : Type 0 where
+  -- what is named as its own is stored: the entry's file, and each below it
+  pub own : HasOwn F e
+  pub owned : LeadsOn e → (c : ℕ) (f : StoredEntry) → Reached F e.number c → Names F c f → HasOwn F f
+  -- below it no number is named twice, and its own isn't named
+  pub once : LeadsOn e → (b c : ℕ) (f g : StoredEntry) → Reached F e.number b → Reached F e.number c → Names F b f → Names F c g → f.number ≡ g.number → (b ≡ c) × (f ≡ g)
+  pub not_below : LeadsOn e → ¬ NamedFrom F e.number e.number
+  -- no other directory that counts, and no other entry of the new ones, has a number that it brings
+  pub free : (number c : ℕ) (f : StoredEntry) → Brings F e number → Counts F c → Names F c f → f.number ≡ number → c ≡ d
+  pub apart : (number : ℕ) (f : StoredEntry) → Contains new f → Brings F e number → Brings F f number → e ≡ f
+
+-- a directory that counts may be stored with any entries that it has or that may enter
+abbrev pub EnteredStay : Type 0
+EnteredStay = (F : Stored) (d : ℕ) (new : List StoredEntry) → Counts F d → AreEntries new
+    → ((e : StoredEntry) → Contains new e → Names F d e ⊎ MayEnter F d new e)
+    → IsSound F → IsSound (with_entries F d new)

@@ -1,0 +1,10 @@
+pub mod Files
+pub mod InMemory
+pub mod InFolder
+pub mod Counting
+pub mod Failing
+pub mod Stopping
+pub mod Held
+pub mod Soundness
+pub mod Getting
+pub mod Laws

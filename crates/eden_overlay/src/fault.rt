@@ -1,0 +1,47 @@
+//! Why a stored file gave no value.
+
+ghost use Rattle.std.specs.Prelude.{◌≡◌};
+
+use crate::files::FilesFault;
+use eden_overlay_format::{DecodeFault, Refusal};
+
+/// Why a stored file gave no value.
+#[derive(Clone, Copy, Debug, PartialEq, Eq)]
+pub enum GetFault {
+    /// No file of that number is stored.
+    Absent,
+    /// A file of that number is stored, and its bytes are no such value.
+    Damaged(Refusal),
+    /// The device failed.
+    Device,
+    /// No memory.
+    Memory,
+}
+
+impl From<FilesFault> for GetFault {
+    ghost use Rattle.std.specs.Prelude.{◌≡◌};
+    ghost use Rattle.eden_overlay.specs.Getting.{of_files};
+
+    ghost from_gives = { λ e f. f ≡ of_files e };
+
+    fn from(e: FilesFault) -> GetFault {
+        match e {
+            FilesFault::Device => GetFault::Device,
+            FilesFault::Memory => GetFault::Memory,
+        }
+    }
+}
+
+impl From<DecodeFault> for GetFault {
+    ghost use Rattle.std.specs.Prelude.{◌≡◌};
+    ghost use Rattle.eden_overlay.specs.Getting.{of_decoding};
+
+    ghost from_gives = { λ e f. f ≡ of_decoding e };
+
+    fn from(e: DecodeFault) -> GetFault {
+        match e {
+            DecodeFault::Refused(refusal) => GetFault::Damaged(refusal),
+            DecodeFault::Memory => GetFault::Memory,
+        }
+    }
+}

@@ -1,0 +1,17 @@
+ghost use Rattle.eden_overlay.specs.Laws.{ContentsHeld, EntriesHeld, NumbersFromTwo, RootlessSound, StraysStay, StraysDontCount, StraysStayStrays, ContentsStay, DroppedStay, DroppedUnnamed, AddedStay, EnteredStay};
+
+/// What a caller of `Overlay` needs to show that an overlay stays sound.
+pub fn overlay_laws()
+    ensures contents_held { ContentsHeld }
+    ensures entries_held { EntriesHeld }
+    ensures numbers { NumbersFromTwo }
+    ensures rootless { RootlessSound }
+    ensures strays { StraysStay }
+    ensures strays_dont_count { StraysDontCount }
+    ensures strays_stay_strays { StraysStayStrays }
+    ensures contents { ContentsStay }
+    ensures dropped { DroppedStay }
+    ensures dropped_unnamed { DroppedUnnamed }
+    ensures added { AddedStay }
+    ensures entered { EnteredStay }
+{}

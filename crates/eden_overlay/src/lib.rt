@@ -1,0 +1,40 @@
+//! The stored files of a mount, and that no name in them dangles.
+//!
+//! `Files` says what storing, reading, removing and listing files by their numbers promise: what is stored is known
+//! where the World is honest, and a failure of the device is told from want of memory by a count. `MemoryFiles` keeps
+//! the promises for every World; a folder is nobody's proof of honesty, so `FolderFiles` serves the World `Outside`
+//! alone. `FailingFiles` and `StopFiles` are for tests: they hold files and fail where they were told to.
+//!
+//! An `Overlay` stores contents, directories and the state in such files, and gets them again. Whoever stores or
+//! removes a file shows first that the overlay stays sound: each entry of a directory that counts whose contents are
+//! its own has its file, and no number is named twice. `overlay_laws` has what such a caller needs. A value that is got
+//! is what the file as it stands holds, and otherwise the fault says why there is none.
+//!
+//! Strays, files that no directory that counts names as its own, may be left behind, and nothing removes them.
+#![tactic(auto)]
+
+mod content;
+mod failing;
+mod fault;
+mod files;
+mod folder;
+mod laws;
+mod memory;
+mod names;
+mod overlay;
+mod stopping;
+
+pub use content::Content;
+pub use failing::FailingFiles;
+pub use fault::GetFault;
+pub use files::{Files, FilesFault};
+pub use folder::{FolderFiles, LONGEST_FILE};
+pub use laws::overlay_laws;
+pub use memory::MemoryFiles;
+pub use overlay::Overlay;
+pub use stopping::StopFiles;
+
+#[cfg(test)]
+mod overlay_tests;
+#[cfg(test)]
+mod tests;

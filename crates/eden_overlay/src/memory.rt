@@ -1,0 +1,87 @@
+ghost use Rattle.std.specs.Prelude.{◌≡◌, [], IfOk};
+ghost use Rattle.std.specs.Option.{option_copied, option_map};
+ghost use Rattle.std.specs.Ordering.{nat_cmp};
+ghost use Rattle.std.specs.List.Sorted.{IsStrictlySortedBy};
+ghost use Rattle.eden_overlay.specs.Files.{Lists};
+ghost use Rattle.eden_overlay.specs.InMemory.{files_of, stored_in};
+
+use crate::files::{Files, FilesFault};
+use eden_model::World;
+use std::alloc::{AllocError, Global};
+use std::collections::BTreeMap;
+use std::marker::{Model, PhantomData};
+
+/// Files in memory. Their one error is want of memory.
+///
+/// Contracts see the list of numbers and bytes, in rising order of the numbers.
+#[derive(Drop)]
+pub struct MemoryFiles<W: World> {
+    files: BTreeMap<u64, Vec<u8>>,
+    world: PhantomData<W>,
+}
+
+impl<W: World> Model for MemoryFiles<W> {
+    ghost use Rattle.std.specs.Prelude.{ℕ, List};
+    ghost use Rattle.eden_overlay.specs.InMemory.{files_of};
+
+    ghost Value = { List (ℕ × List ℕ) };
+
+    ghost view = { λ s. files_of s.files.entries };
+}
+
+impl<W: World> MemoryFiles<W> {
+    /// No files.
+    pub fn new(alloc: Global) -> Self
+        ensures { result ≡ [] }
+    {
+        MemoryFiles {
+            files: BTreeMap::new(alloc),
+            world: PhantomData,
+        }
+    }
+}
+
+impl<W: World> Files<W> for MemoryFiles<W> {
+    ghost use Rattle.eden_overlay.specs.InMemory.{stored_in};
+
+    ghost stored = { stored_in };
+
+    ghost failures = { λ _. 0 };
+
+    fn read(&mut self, alloc: Global, number: u64) -> Result<Option<Vec<u8>>, FilesFault> {
+        Ok(copied(alloc, self.files.get(&number))?)
+    }
+
+    fn replace(&mut self, alloc: Global, number: u64, bytes: &[u8]) -> Result<(), FilesFault> {
+        let bytes = Vec::from_slice(alloc, bytes)?;
+        self.files.insert(number, bytes)?;
+        Ok(())
+    }
+
+    fn remove(&mut self, _alloc: Global, number: u64) -> Result<(), FilesFault> {
+        self.files.remove(&number);
+        Ok(())
+    }
+
+    fn list(&mut self, alloc: Global) -> Result<Vec<u64>, FilesFault> {
+        Ok(numbers(alloc, &self.files)?)
+    }
+}
+
+// A copy of the bytes, if there are any.
+fn copied(alloc: Global, bytes: Option<&Vec<u8>>) -> Result<Option<Vec<u8>>, AllocError>
+    ensures { IfOk result (λ o. option_map (λ v. v.items) o ≡ option_map (λ v. v.items) (option_copied bytes.entry)) }
+{
+    match bytes {
+        None => Ok(None),
+        Some(bytes) => Ok(Some(Vec::from_slice(alloc, bytes.as_slice())?)),
+    }
+}
+
+// The numbers of the files.
+fn numbers(alloc: Global, files: &BTreeMap<u64, Vec<u8>>) -> Result<Vec<u64>, AllocError>
+    ensures rising { IfOk result (λ v. IsStrictlySortedBy nat_cmp v.items) }
+    ensures all { IfOk result (λ v. Lists v.items (stored_in (files_of files.now.entries))) }
+{
+    files.keys().copied().collect(alloc)
+}
