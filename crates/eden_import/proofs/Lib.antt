@@ -1,0 +1,4 @@
+mod KeyLemmas
+mod WantLemmas
+mod StepLemmas
+mod LawLemmas

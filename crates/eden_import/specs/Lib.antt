@@ -1,0 +1,4 @@
+pub mod Keys
+pub mod Queue
+pub mod Seen
+pub mod Laws
