@@ -1,0 +1,8 @@
+pub mod Same
+pub mod Newest
+pub mod Weights
+pub mod Fronts
+pub mod Tallies
+pub mod Sizes
+pub mod Found
+pub mod CacheLaws

@@ -1,0 +1,42 @@
+use Rattle.std.proofs.Common.{◌≤◌, ◌^◌, length, refl, ap, ◌∙◌, arith}
+use Rattle.eden_model.specs.declared.id.Key.{Key}
+use Rattle.eden_object.specs.Objects.{Body}
+use Rattle.lru.specs.LruCache.{LruCache}
+use Rattle.eden_cache.proofs.Sizes.{size_put}
+use Rattle.eden_cache.proofs.Tallies.{put_some, put_few, put_sum, put_front, put_tallied}
+use Rattle.eden_cache.proofs.cache.ObjectCache.put.Goals as goal
+use Rattle.eden_cache.proofs.cache.ObjectCache.put.Goals.{in-Blob, in-Tree}
+
+pub overflow_sub-weight : goal.overflow_sub-weight
+overflow_sub-weight g c =
+    rw (c.let_go-gone.ensures, c.in-Ok.ensures.old, c.body.ensures.bytes) (omega (arith, put_sum _ _ c.self.inside.objects c.args.key c.args.object c.self.invariant.0))
+
+pub evict-self-inside-requires-clause-few : goal.evict-self-inside-requires-clause-few
+evict-self-inside-requires-clause-few g c = rw c.in-Ok.ensures.entries (put_few _ _ c.self.inside.objects c.args.key c.args.object c.self.invariant.0)
+
+pub evict-self-inside-requires-clause-sum : goal.evict-self-inside-requires-clause-sum
+evict-self-inside-requires-clause-sum g c =
+    rw (c.in-Ok.ensures.entries, c.let_go-gone.ensures, c.in-Ok.ensures.old, c.body.ensures.bytes) (omega (arith, put_sum _ _ c.self.inside.objects c.args.key c.args.object c.self.invariant.0))
+
+pub invariant_of-self-in-Blob : goal.invariant_of-self-in-Blob
+invariant_of-self-in-Blob g c =
+    let front = rw c.in-Ok.ensures.entries at c.evict-self-inside.ensures.front in
+    let cap = rw c.in-Ok.ensures.entries at c.evict-self-inside.ensures.cap in
+    let short : length c.args.object.bytes ≤ 2 ^ 40 = omega (arith, c.body.ensures.sound.short) in
+    let size = size_put c.self.inside.sizes c.put.new.self c.args.key.id (length c.body.result.now) c.put.result c.self.invariant.1 c.put.ensures.entries c.put.ensures.err c.put.ensures.succeeds in
+    (put_tallied _ _ c.self.inside.objects c.args.key c.args.object c.self.invariant.0 c.evict-self-inside.result c.evict-self-inside.new.objects front c.evict-self-inside.ensures.sum cap short, size.0)
+
+pub returns-clause-objects : goal.returns-clause-objects
+returns-clause-objects g c =
+    let front = rw c.in-Ok.ensures.entries at c.evict-self-inside.ensures.front in
+    let kept = put_front _ _ c.self.inside.objects c.args.key c.args.object c.self.invariant.0 c.evict-self-inside.new.objects.entries front in
+    rw (← c.self.view_is) (elim c.match-key.branch [ in-Blob w ↦ rw w.self-is kept | in-Tree w ↦ rw w.self-is kept ])
+
+pub returns-clause-size : goal.returns-clause-size
+returns-clause-size g c = elim c.match-key.branch [
+  | in-Blob w ↦
+      let size = size_put c.self.inside.sizes w.put.new.self c.args.key.id (length c.body.result.now) w.put.result c.self.invariant.1 w.put.ensures.entries w.put.ensures.err w.put.ensures.succeeds in
+      let kept = rw c.body.ensures.bytes at size.2 in
+      rw (w.in-Blob.is, w.self-is, ← c.self.view_is) kept
+  | in-Tree w ↦ rw (w.in-Tree.is, w.self-is, ← c.self.view_is) refl
+]

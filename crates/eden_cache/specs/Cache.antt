@@ -1,0 +1,53 @@
+-- What a cache is seen as, and what is true of each.
+use Rattle.std.specs.Prelude.{◌≡◌, ℕ, ◌^◌, ◌<◌, ◌≤◌, Bool, ◌⊎◌, List, length, take, None}
+use Rattle.std.specs.List.{IsDistinct}
+use Rattle.std.specs.Map.{keys_of, lookup}
+use Rattle.lru.specs.LruCache.{LruCache}
+use Rattle.eden_model.specs.declared.id.Id.{Id}
+use Rattle.eden_model.specs.declared.id.Key.{Key}
+use Rattle.eden_model.specs.declared.id.ObjKind.{ObjKind}
+use Rattle.eden_model.specs.declared.id.ObjKind.TheVariants.{Blob, Tree}
+use Rattle.eden_model.specs.contracts.id.IdPartialEq.TheImpl as id_eq
+use Rattle.eden_model.specs.contracts.id.KeyPartialEq.TheImpl as key_eq
+use Rattle.eden_object.specs.Objects.{Body}
+use Rattle.eden_cache.specs.Bounded.{newest, weight_of, Fits}
+
+-- the objects and the lengths of blobs, the newest of each first, and how many there may be
+pub record Cache : Type 0 where
+  pub objects : List (Key × Body)
+  pub sizes : List (Id × ℕ)
+  pub most_entries : ℕ
+  pub most_bytes : ℕ
+  pub most_sizes : ℕ
+
+-- what `==` says of two keys, and of two ids
+abbrev pub same_key : Key → Key → Bool
+same_key = (key_eq.ghosts).eq
+
+abbrev pub same_id : Id → Id → Bool
+same_id = (id_eq.ghosts).eq
+
+-- what holds of every cache
+pub record IsSound (c : Cache) : Type 0 where
+  pub keys : IsDistinct same_key (keys_of c.objects)
+  pub bounded : Fits c.most_entries c.most_bytes c.objects
+  pub ids : IsDistinct same_id (keys_of c.sizes)
+  pub sizes : length c.sizes ≤ c.most_sizes
+
+-- the sizes after a put of an object of that length: a blob's is the newest, or finds no memory; a tree's is not kept
+abbrev pub KeepsSize : ObjKind → Cache → Id → ℕ → List (Id × ℕ) → Type 0
+KeepsSize Blob c id n sizes = (sizes ≡ take c.most_sizes (newest same_id id n c.sizes)) ⊎ ((lookup (same_id id) c.sizes ≡ None) × (sizes ≡ c.sizes))
+KeepsSize Tree c id n sizes = sizes ≡ c.sizes
+
+-- the running sum is what the objects weigh, and they are within their bounds
+pub record IsTallied (weight bytes : ℕ) (objects : LruCache Key Body) : Type 0 where
+  pub sum : weight ≡ weight_of objects.entries
+  pub fits : Fits objects.cap bytes objects.entries
+  pub room : 0 < objects.cap
+  pub light : weight ≤ 2 ^ 40
+  pub limit : bytes ≤ 2 ^ 40
+
+-- the sizes are within their bound
+pub record IsWithin (sizes : LruCache Id ℕ) : Type 0 where
+  pub few : length sizes.entries ≤ sizes.cap
+  pub room : 0 < sizes.cap

@@ -1,0 +1,4 @@
+pub mod Bounded
+pub mod Cache
+pub mod Laws
+pub mod Lends

@@ -1,0 +1,133 @@
+ghost use Rattle.std.specs.Prelude.{◌≡◌, ◌^◌, ◌≤◌, [], length, IfOk, OnOk, OnErr, IfErr, IsSome, IsOk};
+ghost use Rattle.std.specs.Borrow.{sem};
+ghost use Rattle.std.specs.Map.{lookup};
+ghost use Rattle.std.specs.Option.{option_copied};
+ghost use Rattle.lru.specs.LruCache.{promoted};
+ghost use Rattle.eden_cache.specs.Bounded.{newest, weight_of, IsLongestFront};
+
+use crate::evict::{evict, let_go};
+use eden_model::{Id, Key, ObjKind};
+use eden_object::Object;
+use lru::{DefaultHasher, LruCache};
+use std::alloc::{AllocError, Allocator};
+use std::marker::Model;
+use std::num::NonZeroUsize;
+
+/// How many objects a cache holds, what they weigh together in bytes, and how many sizes it holds.
+#[derive(Clone, Copy, Debug, PartialEq, Eq)]
+pub struct Held {
+    pub objects: usize,
+    pub bytes: u64,
+    pub sizes: usize,
+}
+
+/// Objects by their keys and blobs' lengths by their ids, each the most recently used first.
+///
+/// Contracts see the two lists and the three bounds. An object weighs its body's length in bytes. The objects keep both
+/// their bounds, or are one object alone, which weighs more than the bound.
+#[derive(Drop)]
+pub struct ObjectCache<A: Allocator> {
+    objects: LruCache<Key, Object, DefaultHasher, A>,
+    weight: u64,
+    bytes: u64,
+    sizes: LruCache<Id, u64, DefaultHasher, A>,
+}
+
+impl<A: Allocator> Model for ObjectCache<A> {
+    ghost use Rattle.eden_cache.specs.Cache.{Cache, IsTallied, IsWithin};
+
+    ghost Value = { Cache };
+
+    ghost view = { λ c. record { objects = c.objects.entries; sizes = c.sizes.entries; most_entries = c.objects.cap; most_bytes = c.bytes; most_sizes = c.sizes.cap } };
+
+    ghost invariant = { λ c. IsTallied c.weight c.bytes c.objects × IsWithin c.sizes };
+}
+
+impl<A: Allocator + Clone> ObjectCache<A> {
+    ghost use Rattle.eden_cache.specs.Cache.{same_key, same_id, IsSound, KeepsSize};
+    ghost use Rattle.eden_cache.specs.Lends.{ends_used};
+
+    /// A cache without objects and sizes, for at most so many objects of so many bytes together, and so many sizes.
+    ///
+    /// It takes the memory of an empty cache, whatever the bounds; the only error is want of it.
+    pub fn new(alloc: A, entries: usize, bytes: u64, sizes: usize) -> Result<Self, AllocError>
+        requires some_entries { 1 ≤ entries }
+        requires entries { entries ≤ 65536 }
+        requires some_bytes { 1 ≤ bytes }
+        requires bytes { bytes ≤ 2 ^ 40 }
+        requires some_sizes { 1 ≤ sizes }
+        requires sizes { sizes ≤ 65536 }
+        ensures { IfOk result (λ c. c ≡ record { objects = []; sizes = []; most_entries = entries; most_bytes = bytes; most_sizes = sizes }) }
+    {
+        let Some(entries) = NonZeroUsize::new(entries) else {
+            unreachable!();
+        };
+        let Some(most_sizes) = NonZeroUsize::new(sizes) else {
+            unreachable!();
+        };
+        let objects = LruCache::sparse(alloc.clone()?, entries)?;
+        let sizes = LruCache::sparse(alloc, most_sizes)?;
+        Ok(ObjectCache {
+            objects,
+            weight: 0,
+            bytes,
+            sizes,
+        })
+    }
+
+    /// How much the cache holds.
+    pub fn held(&self) -> Held
+        ensures value { result ≡ record { objects = length self.now.objects; bytes = weight_of self.now.objects; sizes = length self.now.sizes } }
+        ensures sound { IsSound self.now }
+    {
+        Held {
+            objects: self.objects.len(),
+            bytes: self.weight,
+            sizes: self.sizes.len(),
+        }
+    }
+
+    /// The length of the blob of that id, if it is kept. It is then the newest size.
+    pub fn size_of(&mut self, id: Id) -> Option<u64>
+        ensures value { result ≡ lookup (same_id id) self.old.sizes }
+        ensures used { self.new ≡ record self.old { sizes = promoted (same_id id) self.old.sizes } }
+    {
+        self.sizes.get(&id).copied()
+    }
+
+    /// Lends the object of that key, if it is there. It is then the newest.
+    pub fn get(&mut self, key: Key) -> Option<&Object>
+        ensures* used { sem 𝓛 (ends_used A.row A.Allocator self.entry key) }
+        ensures value { option_copied result ≡ lookup (same_key key) self.old.objects }
+    {
+        self.objects.get(&key)
+    }
+
+    /// Keeps an object as the newest, in place of one under the same key; those used longest ago leave until both
+    /// bounds hold or it is alone. A blob's length is kept as the newest size, where there is memory for it.
+    ///
+    /// The only error is want of memory for the object: it comes back, and nothing has changed.
+    pub fn put(&mut self, key: Key, object: Object) -> Result<(), Object>
+        ensures objects { OnOk result (IsLongestFront self.old.most_entries self.old.most_bytes (newest same_key key object self.old.objects) self.new.objects) }
+        ensures size { OnOk result (KeepsSize key.kind self.old key.id (length object.bytes) self.new.sizes) }
+        ensures bounds { self.new ≡ record self.old { objects = self.new.objects; sizes = self.new.sizes } }
+        ensures err { OnErr result (self.new ≡ self.old) }
+        ensures handed_back { IfErr result (λ o. o ≡ object) }
+        ensures succeeds { IsSome (lookup (same_key key) self.old.objects) → IsOk result }
+    {
+        let length = object.body().len() as u64;
+        let gone = match self.objects.push(key, object) {
+            Ok(displaced) => let_go(displaced),
+            Err(failed) => return Err(failed.value.1),
+        };
+        let weight = self.weight + length - gone;
+        self.weight = evict(&mut self.objects, weight, self.bytes);
+        match key.kind {
+            ObjKind::Blob => {
+                let _ = self.sizes.put(key.id, length);
+            }
+            ObjKind::Tree => {}
+        }
+        Ok(())
+    }
+}
