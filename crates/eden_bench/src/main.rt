@@ -2,6 +2,7 @@
 //! with `timed` how long each part took. `make bench` runs them at full size.
 #![tactic(auto)]
 
+mod cache;
 mod directory;
 mod name;
 mod overlay;
@@ -14,7 +15,7 @@ use std::rt::{Clock, Env};
 use std::{env, io};
 use timing::Timing;
 
-const USAGE: &str = "usage: eden_bench tree|directory|overlay COUNT [timed]";
+const USAGE: &str = "usage: eden_bench cache|directory|overlay|tree COUNT [timed]";
 
 /// Runs the workload that the words name. False where they name none.
 fn run<R: Print + Clock + AllocGlobal>(rt: &R, words: &[String]) -> io::Result<bool> {
@@ -27,6 +28,7 @@ fn run<R: Print + Clock + AllocGlobal>(rt: &R, words: &[String]) -> io::Result<b
         return Ok(false);
     };
     match name.as_str() {
+        "cache" => cache::run(rt, count, timing)?,
         "directory" => directory::run(rt, count, timing)?,
         "overlay" => overlay::run(rt, count, timing)?,
         "tree" => tree::run(rt, count, timing)?,

@@ -32,9 +32,14 @@ impl Timing {
         match self {
             Timing::Untimed => Ok(()),
             Timing::Timed => {
-                let nanoseconds = start.elapsed(rt)?.as_secs_f64() * 1e9 / f64::from(count.max(1));
+                let nanoseconds = nanoseconds_each(rt, start, count)?;
                 println!(rt; "  {part}: {nanoseconds:.1} ns")
             }
         }
     }
+}
+
+/// How many nanoseconds each of so many took since they started.
+pub fn nanoseconds_each<R: Clock>(rt: &R, start: &Instant, count: u32) -> io::Result<f64> {
+    Ok(start.elapsed(rt)?.as_secs_f64() * 1e9 / f64::from(count.max(1)))
 }

@@ -9,8 +9,8 @@ use Rattle.eden_overlay_format.specs.Content.{IsFile}
 use Rattle.eden_overlay_format.specs.Directory.{AreEntries, IsDirectory, directory_body}
 use Rattle.eden_overlay_format.proofs.Headers.{stored_again}
 use Rattle.eden_overlay.specs.Files.{Stored, put}
-use Rattle.eden_overlay.specs.Held.{HoldsContent, HoldsEntries, with_content, with_entries}
-use Rattle.eden_overlay.specs.Soundness.{Names, Reached, here, below, Counts, HoldsKind, IsSound}
+use Rattle.eden_overlay.specs.Held.{HoldsContent, with_content}
+use Rattle.eden_overlay.specs.Soundness.{Names, here, below, Counts, HoldsKind, IsSound}
 use Rattle.eden_overlay.specs.Laws.{ContentsHeld, EntriesHeld, ContentsStay}
 use Rattle.eden_overlay.proofs.Puts.{put_here, put_apart, same_or_apart, moved, names_moved, kind_moved, one_kind}
 

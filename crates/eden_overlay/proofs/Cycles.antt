@@ -1,7 +1,6 @@
 -- What is reached, and that no directory that counts is below itself.
-use Rattle.std.proofs.Common.{◌≡◌, ◌≢◌, ◌⊎◌, ◌∙◌, ◌≤◌, ℕ, List, Option, Some, None, IfSome, IsSomeAnd, refl, sym, ap, subst, inl, inr, arith}
+use Rattle.std.proofs.Common.{◌≡◌, ◌≢◌, ◌⊎◌, ◌≤◌, ℕ, List, Option, Some, None, IfSome, IsSomeAnd, refl, sym, subst, inl, inr, arith}
 use Rattle.eden_model.specs.declared.kind.Kind.{Kind}
-use Rattle.eden_model.specs.declared.kind.Kind.TheVariants as kind
 use Rattle.eden_overlay_format.specs.declared.stored_entry.StoredEntry.{StoredEntry}
 use Rattle.eden_overlay_format.specs.Directory.{IsDirectory}
 use Rattle.eden_overlay.specs.Files.{Stored}

@@ -1,5 +1,5 @@
 -- Directories, stored one for another.
-use Rattle.std.proofs.Common.{◌≡◌, ◌≢◌, ◌⊎◌, ℕ, List, Option, Some, None, IfSome, IsSomeAnd, Contains, refl, sym, subst, inl, inr}
+use Rattle.std.proofs.Common.{◌≡◌, ◌≢◌, ◌⊎◌, ℕ, List, Option, Some, None, IfSome, IsSomeAnd, Contains, sym, subst, inl, inr}
 use Rattle.eden_model.specs.declared.kind.Kind.{Kind}
 use Rattle.eden_model.specs.declared.kind.Kind.TheVariants as kind
 use Rattle.eden_overlay_format.specs.declared.header.Identifier.TheVariants as identifier
@@ -7,9 +7,9 @@ use Rattle.eden_overlay_format.specs.declared.stored_entry.StoredEntry.{StoredEn
 use Rattle.eden_overlay_format.specs.Stored.{written}
 use Rattle.eden_overlay_format.specs.Directory.{AreEntries, IsDirectory, directory_body}
 use Rattle.eden_overlay_format.proofs.Bodies.{one_listing}
-use Rattle.eden_overlay.specs.Files.{Stored, put}
+use Rattle.eden_overlay.specs.Files.{Stored}
 use Rattle.eden_overlay.specs.Held.{HoldsEntries, with_entries}
-use Rattle.eden_overlay.specs.Soundness.{Names, Reached, here, below, Counts, HoldsKind, IsSound}
+use Rattle.eden_overlay.specs.Soundness.{Names, here, below, Counts, HoldsKind, IsSound}
 use Rattle.eden_overlay.specs.Laws.{DroppedStay, DroppedUnnamed}
 use Rattle.eden_overlay.proofs.Puts.{put_apart, same_or_apart, names_moved, kind_moved, one_kind}
 use Rattle.eden_overlay.proofs.Contents.{entries_held}
@@ -70,7 +70,7 @@ module _ (F : Stored) (d : ℕ) (new : List StoredEntry) (are : AreEntries new) 
 -- ---- entries left out
 
 module _ (F : Stored) (d : ℕ) (old new : List StoredEntry) (was : HoldsEntries F d old) (are : AreEntries new) (fewer : (e : StoredEntry) → Contains new e → Contains old e) where
-  was_named : (c : ℕ) (e : StoredEntry) → Names (with_entries F d new) c e → Names F c e
+  pub was_named : (c : ℕ) (e : StoredEntry) → Names (with_entries F d new) c e → Names F c e
   was_named c e n = elim (named F d new are c e n) [
     | inl h ↦
         (let P : ℕ → Type 0 = λ q. HoldsEntries F q old in
@@ -78,7 +78,7 @@ module _ (F : Stored) (d : ℕ) (old new : List StoredEntry) (was : HoldsEntries
     | inr h ↦ h.1
   ]
 
-  counted : (c : ℕ) → Counts (with_entries F d new) c → Counts F c
+  pub counted : (c : ℕ) → Counts (with_entries F d new) c → Counts F c
   counted c here = here
   counted c (below b e r n leads) = below b e (counted b r) (was_named b e n) leads
 
@@ -95,12 +95,12 @@ module _ (F : Stored) (d : ℕ) (old new : List StoredEntry) (was : HoldsEntries
       let same = s.once c d f e (counted c r) counts (was_named c f n) (record { entries = old; held = was; there = there }) is in
       let P : StoredEntry → Type 0 = λ x. Contains new x in
       elim (named F d new are c f n) [
-          inl h ↦ gone (subst P same.1 h.1)
+        | inl h ↦ gone (subst P same.1 h.1)
         | inr h ↦ h.0 (sym same.0)
       ]
 
 pub dropped_stay : DroppedStay
-dropped_stay F d old new was are fewer s = fewer_stay F d old new was are fewer s
+dropped_stay F d old new drops s = fewer_stay F d old new drops.held drops.are drops.fewer s
 
 pub dropped_unnamed : DroppedUnnamed
-dropped_unnamed F d old new e was are fewer counts there gone s = unnamed F d old new was are fewer e s counts there gone
+dropped_unnamed F d old new e drops counts there gone s = unnamed F d old new drops.held drops.are drops.fewer e s counts there gone

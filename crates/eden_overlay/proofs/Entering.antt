@@ -1,5 +1,5 @@
 -- Directories stored with entries put in.
-use Rattle.std.proofs.Common.{◌≡◌, ◌≢◌, ◌⊎◌, ◌∙◌, ◌≤◌, ◌<◌, ℕ, List, [], Option, Some, None, IfSome, IsSomeAnd, Contains, refl, sym, ap, subst, inl, inr, arith}
+use Rattle.std.proofs.Common.{◌≡◌, ◌≢◌, ◌⊎◌, ◌∙◌, ℕ, List, [], Option, None, IsSomeAnd, Contains, refl, sym, ap, subst, inl, inr, arith}
 use Rattle.eden_model.specs.declared.kind.Kind.{Kind}
 use Rattle.eden_model.specs.declared.kind.Kind.TheVariants as kind
 use Rattle.eden_overlay_format.specs.declared.stored_entry.StoredEntry.{StoredEntry}
@@ -8,11 +8,11 @@ use Rattle.eden_overlay_format.specs.Directory.{IsEntry, AreEntries, IsDirectory
 use Rattle.eden_overlay.specs.Files.{Stored}
 use Rattle.eden_overlay.specs.Held.{HoldsEntries, with_entries}
 use Rattle.eden_overlay.specs.Soundness.{Names, LeadsOn, Reached, here, below, Counts, HasOwn, HoldsKind, IsSound}
-use Rattle.eden_overlay.specs.Laws.{NamedFrom, Brings, MayEnter, IsFresh, EnteredStay, AddedStay}
+use Rattle.eden_overlay.specs.Laws.{NamedFrom, Brings, MayEnter, IsFresh, IsUnnamed, EnteredStay, AddedStay}
 use Rattle.eden_overlay.proofs.Puts.{same_or_apart, kind_moved}
 use Rattle.eden_overlay.proofs.Strays.{each_at}
 use Rattle.eden_overlay.proofs.Directories.{apart, named, kind_kept, top_kept, one_held}
-use Rattle.eden_overlay.proofs.Cycles.{joined, last, not_to_root, NamedBy, named_by, no_cycle, directory_there}
+use Rattle.eden_overlay.proofs.Cycles.{joined, last, not_to_root, named_by, no_cycle, directory_there}
 
 nothing_there : (F : Stored) (k : ℕ) (t : Kind) → F k ≡ None → HoldsKind F k t → ⊥
 nothing_there F k kind.Dir none h = let P : Option (List ℕ) → Type 0 = λ o. IsSomeAnd o (λ b. IsDirectory b h.0) in subst P none h.1
@@ -130,6 +130,36 @@ module _ (F : Stored) (d : ℕ) (new : List StoredEntry) (counts : Counts F d) (
     owned = λ c e r n own. kind_after e.number e.kind (has_own c e (site c e (stood c r) n) own);
     once = λ b c e f r t n m is. one_site b c e f (site b e (stood b r) n) (site c f (stood c t) m) is;
   }
+
+  -- what d named and names no more is named by nothing, where no entry that enters brings its number
+  module _ (gone : StoredEntry) (was : Names F d gone) (out : ¬ Contains new gone) (unbrought : (e : StoredEntry) → Contains new e → Names F d e ⊎ (¬ Brings F e gone.number)) where
+    another : (f : StoredEntry) → Contains new f → Names F d f → f.number ≢ gone.number
+    another f there n is =
+        let P : StoredEntry → Type 0 = λ x. Contains new x in
+        out (subst P (s.once d d f gone counts counts n was is).1 there)
+
+    not_now : (c : ℕ) (f : StoredEntry) → Site c f → f.number ≢ gone.number
+    not_now c f (as_before r n k) is =
+        let same = s.once c d f gone r counts n was is in
+        let P : StoredEntry → Type 0 = λ x. Contains new x in
+        out (subst P same.1 (k (sym same.0)))
+    not_now c f (anew at there may) is = elim (unbrought f there) [
+      | inl n ↦ another f there n is
+      | inr none ↦ none (inl is)
+    ]
+    not_now c f (under i m) is = elim (unbrought i.entry i.there) [
+      | inl n ↦
+          (let same = s.once c d f gone (joined F 1 i.entry.number c (below d i.entry counts n i.leads) i.reached) counts m was is in
+          let P : ℕ → Type 0 = λ q. Reached F i.entry.number q in
+          no_cycle F s d i.entry counts n i.leads (subst P same.0 i.reached))
+      | inr none ↦ none (inr (i.leads, record { directory = c; entry = f; reached = i.reached; named = m; is = is }))
+    ]
+
+    unnamed : IsUnnamed (with_entries F d new) gone.number
+    unnamed c f r n is = not_now c f (site c f (stood c r) n) is
+
+pub entered_unnamed : (F : Stored) (d : ℕ) (new : List StoredEntry) → Counts F d → AreEntries new → ((e : StoredEntry) → Contains new e → Names F d e ⊎ MayEnter F d new e) → IsSound F → (gone : StoredEntry) → Names F d gone → ¬ Contains new gone → ((e : StoredEntry) → Contains new e → Names F d e ⊎ (¬ Brings F e gone.number)) → IsUnnamed (with_entries F d new) gone.number
+entered_unnamed F d new counts are each s gone was out unbrought = unnamed F d new counts are each s gone was out unbrought
 
 pub entered_stay : EnteredStay
 entered_stay F d new counts are each s = entered F d new counts are each s

@@ -6,3 +6,4 @@ pub mod Contents
 pub mod Directories
 pub mod Cycles
 pub mod Entering
+pub mod Moving

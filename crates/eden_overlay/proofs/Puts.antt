@@ -1,16 +1,15 @@
 -- The files with one of them put in.
-use Rattle.std.proofs.Common.{◌≡◌, ◌≢◌, ℕ, Bool, true, false, List, Option, Some, None, IfSome, IsSomeAnd, cond, eqb, eq-eqb, get_or, sym, ap, subst, inl, inr, ◌⊎◌, ◌∙◌, arith}
+use Rattle.std.proofs.Common.{◌≡◌, ◌≢◌, ℕ, List, Option, Some, None, IsSomeAnd, cond, eq-eqb, get_or, sym, ap, subst, inl, inr, ◌⊎◌, ◌∙◌, arith}
 use Rattle.std.proofs.lemmas.Bool.{ne_eqb}
 use Rattle.std.proofs.lemmas.Bool.Decides.{eqb_tells}
 use Rattle.eden_model.specs.declared.kind.Kind.{Kind}
 use Rattle.eden_model.specs.declared.kind.Kind.TheVariants as kind
 use Rattle.eden_overlay_format.specs.declared.header.Identifier.TheVariants as identifier
 use Rattle.eden_overlay_format.specs.declared.stored_entry.StoredEntry.{StoredEntry}
-use Rattle.eden_overlay_format.specs.Stored.{IsStored, identifier_bytes}
+use Rattle.eden_overlay_format.specs.Stored.{identifier_bytes}
 use Rattle.eden_overlay_format.specs.Content.{IsFile}
 use Rattle.eden_overlay_format.specs.Directory.{IsDirectory}
 use Rattle.eden_overlay.specs.Files.{Stored, put}
-use Rattle.eden_overlay.specs.Held.{HoldsContent, HoldsEntries}
 use Rattle.eden_overlay.specs.Soundness.{Names, HoldsKind}
 
 pub put_here : (F : Stored) (k q : ℕ) (w : Option (List ℕ)) → k ≡ q → put F k w q ≡ w

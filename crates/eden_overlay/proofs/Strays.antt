@@ -1,12 +1,10 @@
 -- Files that no directory that counts names as an entry's own.
-use Rattle.std.proofs.Common.{◌≡◌, ◌≢◌, ◌≤◌, ◌<◌, ◌↔◌, ℕ, zero, suc, List, [], ◌∷◌, length, get_or, Option, Some, None, Result, Ok, Err, OnOk, OnErr, IfSome, IsSomeAnd, Contains, sym, ap, subst, arith}
+use Rattle.std.proofs.Common.{◌≡◌, ◌≢◌, ◌≤◌, ◌<◌, ℕ, zero, suc, List, [], ◌∷◌, length, get_or, Option, Some, None, Result, Ok, Err, OnOk, OnErr, IfSome, IsSomeAnd, Contains, sym, subst, arith}
 use Rattle.std.specs.List.{AllByRecursion}
-use Rattle.eden_model.specs.declared.kind.Origin.TheVariants as origin
 use Rattle.eden_overlay_format.specs.declared.stored_entry.StoredEntry.{StoredEntry}
 use Rattle.eden_overlay_format.specs.Directory.{IsEntry, IsDirectory}
 use Rattle.eden_overlay.specs.Files.{Stored, put}
-use Rattle.eden_overlay.specs.Held.{HoldsEntries}
-use Rattle.eden_overlay.specs.Soundness.{Names, LeadsOn, Reached, here, below, Counts, HasOwn, IsSound}
+use Rattle.eden_overlay.specs.Soundness.{Names, here, below, Counts, IsSound}
 use Rattle.eden_overlay.specs.Laws.{NumbersFromTwo, RootlessSound, IsStray, StraysStay, StraysDontCount, StraysStayStrays}
 use Rattle.eden_overlay.proofs.Puts.{put_apart, names_moved, kind_moved}
 

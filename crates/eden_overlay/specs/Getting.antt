@@ -24,6 +24,7 @@ SaysNothing (get.Damaged refusal) = ⊥
 SaysNothing get.Device = Unit {0}
 SaysNothing get.Memory = Unit {0}
 
+-- a fault of the files, and one of a decoder, as a get tells it
 abbrev pub of_files : FilesFault → GetFault
 of_files files.Device = get.Device
 of_files files.Memory = get.Memory

@@ -43,11 +43,17 @@ StraysStayStrays = (F : Stored) (j k : ℕ) (w : Option (List ℕ)) → IsStray 
 abbrev pub ContentsStay : Type 0
 ContentsStay = (F : Stored) (k : ℕ) (old new : List ℕ) → HoldsContent F k old → length new ≤ 2 ^ 30 → IsSound F → IsSound (with_content F k new)
 
+-- ---- entries left out
+
+-- the directory d had the old entries, and the new ones are some of them
+pub record Drops (F : Stored) (d : ℕ) (old new : List StoredEntry) : Type 0 where
+  pub held : HoldsEntries F d old
+  pub are : AreEntries new
+  pub fewer : (e : StoredEntry) → Contains new e → Contains old e
+
 -- a directory may be stored with entries left out
 abbrev pub DroppedStay : Type 0
-DroppedStay = (F : Stored) (d : ℕ) (old new : List StoredEntry) → HoldsEntries F d old → AreEntries new
-    → ((e : StoredEntry) → Contains new e → Contains old e)
-    → IsSound F → IsSound (with_entries F d new)
+DroppedStay = (F : Stored) (d : ℕ) (old new : List StoredEntry) → Drops F d old new → IsSound F → IsSound (with_entries F d new)
 
 -- no directory that counts names the number
 abbrev pub IsUnnamed : Stored → ℕ → Type 0
@@ -55,10 +61,9 @@ IsUnnamed F k = (d : ℕ) (e : StoredEntry) → Counts F d → Names F d e → e
 
 -- and then nothing names what was left out, so that its file may be taken out, or its number named elsewhere
 abbrev pub DroppedUnnamed : Type 0
-DroppedUnnamed = (F : Stored) (d : ℕ) (old new : List StoredEntry) (dropped : StoredEntry) → HoldsEntries F d old → AreEntries new
-    → ((e : StoredEntry) → Contains new e → Contains old e)
-    → Counts F d → Contains old dropped → ¬ Contains new dropped
-    → IsSound F → IsUnnamed (with_entries F d new) dropped.number
+DroppedUnnamed = (F : Stored) (d : ℕ) (old new : List StoredEntry) (left : StoredEntry) → Drops F d old new
+    → Counts F d → Contains old left → ¬ Contains new left
+    → IsSound F → IsUnnamed (with_entries F d new) left.number
 
 -- ---- entries put into a directory
 
@@ -105,3 +110,51 @@ abbrev pub EnteredStay : Type 0
 EnteredStay = (F : Stored) (d : ℕ) (new : List StoredEntry) → Counts F d → AreEntries new
     → ((e : StoredEntry) → Contains new e → Names F d e ⊎ MayEnter F d new e)
     → IsSound F → IsSound (with_entries F d new)
+
+-- ---- entries renamed and moved
+
+-- one inode, whatever its name
+pub record IsSameInode (e f : StoredEntry) : Type 0 where
+  pub kind : e.kind ≡ f.kind
+  pub origin : e.origin ≡ f.origin
+  pub number : e.number ≡ f.number
+
+-- the directory d had the old entries, and the new ones are some of their inodes, each once, under any names
+pub record Renames (F : Stored) (d : ℕ) (old new : List StoredEntry) : Type 0 where
+  pub held : HoldsEntries F d old
+  pub are : AreEntries new
+  pub distinct : (e f : StoredEntry) → Contains new e → Contains new f → e.number ≡ f.number → e ≡ f
+  pub each : (e : StoredEntry) → Contains new e → (f : StoredEntry) × (Contains old f × IsSameInode e f)
+
+-- a directory may be stored with entries left out and others under new names
+abbrev pub RenamedStay : Type 0
+RenamedStay = (F : Stored) (d : ℕ) (old new : List StoredEntry) → Renames F d old new → IsSound F → IsSound (with_entries F d new)
+
+-- and then nothing names an inode that was left out
+abbrev pub RenamedUnnamed : Type 0
+RenamedUnnamed = (F : Stored) (d : ℕ) (old new : List StoredEntry) (left : StoredEntry) → Renames F d old new
+    → Counts F d → Contains old left → ((e : StoredEntry) → Contains new e → e.number ≢ left.number)
+    → IsSound F → IsUnnamed (with_entries F d new) left.number
+
+-- an entry that the directory `from` leaves out, when it is stored, is that inode which the directory `to`, which still
+-- counts then, has beside entries of its own, when it is stored next
+pub record Moves (F : Stored) (from to : ℕ) (old kept new : List StoredEntry) (left moved : StoredEntry) : Type 0 where
+  pub drops : Drops F from old kept
+  pub counts : Counts F from
+  pub there : Contains old left
+  pub gone : ¬ Contains kept left
+  pub same : IsSameInode moved left
+  pub counts_still : Counts (with_entries F from kept) to
+  pub are : AreEntries new
+  pub each : (e : StoredEntry) → Contains new e → Names (with_entries F from kept) to e ⊎ (e ≡ moved)
+
+-- what was left out of one directory may stand in another, with all that is below it
+abbrev pub MovedStay : Type 0
+MovedStay = (F : Stored) (from to : ℕ) (old kept new : List StoredEntry) (left moved : StoredEntry) → Moves F from to old kept new left moved
+    → IsSound F → IsSound (with_entries (with_entries F from kept) to new)
+
+-- and then nothing names what it stands in place of
+abbrev pub MovedUnnamed : Type 0
+MovedUnnamed = (F : Stored) (from to : ℕ) (old kept new : List StoredEntry) (left moved replaced : StoredEntry) → Moves F from to old kept new left moved
+    → Names (with_entries F from kept) to replaced → ¬ Contains new replaced
+    → IsSound F → IsUnnamed (with_entries (with_entries F from kept) to new) replaced.number

@@ -1,7 +1,5 @@
 //! Why a stored file gave no value.
 
-ghost use Rattle.std.specs.Prelude.{◌≡◌};
-
 use crate::files::FilesFault;
 use eden_overlay_format::{DecodeFault, Refusal};
 

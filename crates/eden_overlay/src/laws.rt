@@ -1,4 +1,4 @@
-ghost use Rattle.eden_overlay.specs.Laws.{ContentsHeld, EntriesHeld, NumbersFromTwo, RootlessSound, StraysStay, StraysDontCount, StraysStayStrays, ContentsStay, DroppedStay, DroppedUnnamed, AddedStay, EnteredStay};
+ghost use Rattle.eden_overlay.specs.Laws.{ContentsHeld, EntriesHeld, NumbersFromTwo, RootlessSound, StraysStay, StraysDontCount, StraysStayStrays, ContentsStay, DroppedStay, DroppedUnnamed, AddedStay, EnteredStay, RenamedStay, RenamedUnnamed, MovedStay, MovedUnnamed};
 
 /// What a caller of `Overlay` needs to show that an overlay stays sound.
 pub fn overlay_laws()
@@ -14,4 +14,8 @@ pub fn overlay_laws()
     ensures dropped_unnamed { DroppedUnnamed }
     ensures added { AddedStay }
     ensures entered { EnteredStay }
+    ensures renamed { RenamedStay }
+    ensures renamed_unnamed { RenamedUnnamed }
+    ensures moved { MovedStay }
+    ensures moved_unnamed { MovedUnnamed }
 {}

@@ -1,6 +1,6 @@
 //! The files of an overlay, stored and got as what they hold.
 
-ghost use Rattle.std.specs.Prelude.{◌≡◌, ◌≤◌, ◌⊎◌, ◌^◌, ℕ, List, Some, None, length, OnOk, OnErr, IfOk, IfErr, MatchResult, IsSomeAnd};
+ghost use Rattle.std.specs.Prelude.{◌≡◌, ◌≤◌, ◌⊎◌, ◌^◌, ℕ, List, Some, None, length, OnOk, OnErr, IfOk, IfErr, MatchResult};
 ghost use Rattle.std.specs.Ordering.{nat_cmp};
 ghost use Rattle.std.specs.List.Sorted.{IsStrictlySortedBy};
 ghost use Rattle.eden_model.specs.Failures.{Rose};

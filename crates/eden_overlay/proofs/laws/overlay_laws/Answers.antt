@@ -2,6 +2,7 @@ use Rattle.eden_overlay.proofs.Strays.{numbers_from_two, rootless_sound, strays_
 use Rattle.eden_overlay.proofs.Contents.{contents_held, entries_held, contents_stay}
 use Rattle.eden_overlay.proofs.Directories.{dropped_stay, dropped_unnamed}
 use Rattle.eden_overlay.proofs.Entering.{added_stay, entered_stay}
+use Rattle.eden_overlay.proofs.Moving.{renamed_stay, renamed_unnamed, moved_stay, moved_unnamed}
 use Rattle.eden_overlay.proofs.laws.overlay_laws.Goals as goal
 
 pub returns-clause-contents_held : goal.returns-clause-contents_held
@@ -39,3 +40,15 @@ returns-clause-strays_stay_strays c = strays_stay_strays
 
 pub returns-clause-dropped_unnamed : goal.returns-clause-dropped_unnamed
 returns-clause-dropped_unnamed c = dropped_unnamed
+
+pub returns-clause-renamed : goal.returns-clause-renamed
+returns-clause-renamed c = renamed_stay
+
+pub returns-clause-moved : goal.returns-clause-moved
+returns-clause-moved c = moved_stay
+
+pub returns-clause-renamed_unnamed : goal.returns-clause-renamed_unnamed
+returns-clause-renamed_unnamed c = renamed_unnamed
+
+pub returns-clause-moved_unnamed : goal.returns-clause-moved_unnamed
+returns-clause-moved_unnamed c = moved_unnamed
