@@ -6,11 +6,10 @@ use Rattle.std.specs.Option.{IfSome}
 use Rattle.std.proofs.lemmas.Bool.{cases_Bool, or_cases, or_left, or_right, and_parts, and_from, not-true, not_from_false, both_ways}
 use Rattle.std.proofs.lemmas.Map.Keys.{IsDistinct-push, IsDistinct-tail}
 use Rattle.eden_model.specs.declared.id.Key.{Key}
-use Rattle.eden_model.specs.declared.fault.Cause.{Cause}
 use Rattle.eden_import.specs.Keys.{same_key, has_key, without}
-use Rattle.eden_import.specs.Queue.{Queue, Mark, IsQueue, IsPass, WantsNoOther, want_of, stands, wants_key, is_wanted, empty, wanting, unwanting, leaving, next_key, taking, end_wants, landing, put_marks, failing, forgetting}
+use Rattle.eden_import.specs.Queue.{Queue, Mark, IsQueue, IsPass, WantsNoOther, want_of, stands, wants_key, is_wanted, empty, wanting, unwanting, taking, end_wants, landing}
 use Rattle.eden_import.proofs.KeyLemmas.{same_key-Decides, same_key-equiv, has_key-append, has_key-without, without_absent, length-without-le, apart, distinct_without_left, distinct_without_right}
-use Rattle.eden_import.proofs.WantLemmas.{is_wanted-set_some, is_wanted-set_none, is_wanted-set_none_le, is_wanted-end_wants, length-end_wants, length-put_marks, length-le_from_wanted}
+use Rattle.eden_import.proofs.WantLemmas.{is_wanted-set_some, is_wanted-set_none, is_wanted-set_none_le, is_wanted-end_wants, length-end_wants, length-le_from_wanted}
 
 -- ---- how many keys are queued
 
@@ -199,13 +198,6 @@ leave_dropped k p q ks h t e is =
     let Q : List Key → Type 0 = λ l. IsQueue (record q { queue = l; wants = set q.wants (p - 1) None }) in
     subst Q (sym is) (subst P e (unwant_keeps k p q h t))
 
-pub leave_keeps : (k : Key) (p : ℕ) (q : Queue) → IsQueue q → IsQueue (leaving k p q)
-leave_keeps k p q h = at (wants_key k (want_of p q)) refl
-  where
-    at : (b : Bool) → wants_key k (want_of p q) ≡ b → IsQueue (cond b (unwanting k (set q.wants (p - 1) None) q) q)
-    at true e = unwant_keeps k p q h e
-    at false e = h
-
 -- ---- `take`
 
 moved : (a b c : Bool) → (a || (b || c)) ≡ true → ((a || (b || false)) || c) ≡ true
@@ -225,10 +217,7 @@ take_fields (k ∷ ks) fs ws ms n m true e h = record {
   each_pass_has_mark = h.each_pass_has_mark;
 }
 
-pub take_keeps : (q : Queue) → IsQueue q → IsQueue (taking (next_key q) q)
-take_keeps q h = take_fields q.queue q.flight q.wants q.marks q.passes q.flights (nat_lt (length q.flight) q.flights) refl h
-
--- the same, with what was taken
+-- a key is taken
 pub take_moves : (k : Key) (rest now : List Key) (q : Queue) → IsQueue q → length q.flight < q.flights → q.queue ≡ k ∷ rest → now ≡ q.flight ++ k ∷ [] → IsQueue (record q { queue = rest; flight = now })
 take_moves k rest now q h few is moved =
     let Q : List Key → Type 0 = λ l. IsQueue (record q { queue = l }) in
@@ -236,7 +225,7 @@ take_moves k rest now q h few is moved =
     let old : IsQueue (record q { queue = k ∷ rest }) = subst Q is h in
     subst P (sym moved) (take_fields (k ∷ rest) q.flight q.wants q.marks q.passes q.flights true (lt-ltb (length q.flight) q.flights few) old)
 
--- ---- `done`, `failed` and `failure`
+-- ---- `done`
 
 pub land_keeps : (k : Key) (q : Queue) → IsQueue q → has_key k q.flight ≡ true → IsQueue (landing k q)
 land_keeps k q h t = record {
@@ -262,19 +251,3 @@ land_drops k q fs ws h t is ends =
     let P : List Key → Type 0 = λ l. IsQueue (record q { flight = l; wants = ws }) in
     let Q : List (Option Key) → Type 0 = λ l. IsQueue (record q { flight = without k q.flight; wants = l }) in
     subst P (sym is) (subst Q (sym ends) (land_keeps k q h t))
-
-pub marks_keep : (ms : List (Option Mark)) (q : Queue) → IsQueue q → length ms ≡ q.passes → IsQueue (record q { marks = ms })
-marks_keep ms q h e = record {
-  once = h.once;
-  wanted = h.wanted;
-  awaited = h.awaited;
-  within_flights = h.within_flights;
-  each_pass_wants = h.each_pass_wants;
-  each_pass_has_mark = e;
-}
-
-pub fail_keeps : (k : Key) (c : Cause) (q : Queue) → IsQueue q → has_key k q.flight ≡ true → IsQueue (failing k c q)
-fail_keeps k c q h t = marks_keep (put_marks k c q.wants q.marks) (landing k q) (land_keeps k q h t) (length-put_marks k c q.wants q.marks ∙ h.each_pass_has_mark)
-
-pub forget_keeps : (p : ℕ) (q : Queue) → IsQueue q → IsQueue (forgetting p q)
-forget_keeps p q h = marks_keep (set q.marks (p - 1) None) q h (length-set q.marks (p - 1) None ∙ h.each_pass_has_mark)

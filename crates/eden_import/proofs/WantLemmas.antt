@@ -126,11 +126,6 @@ marked_more k c ws ms now i h e is =
     let P : List (Option Mark) → Type 0 = λ l. cond (wants_key k (get_or ws i None)) (set l i (Some (k, c))) l ≡ marked k c (i + 1) ws ms in
     subst P (sym is) (rw add-one (marked_suc k c ws ms i h e))
 
-pub length-put_marks : (k : Key) (c : Cause) (ws : List (Option Key)) (ms : List (Option Mark)) → length (put_marks k c ws ms) ≡ length ms
-length-put_marks k c [] ms = refl
-length-put_marks k c (w ∷ ws) [] = refl
-length-put_marks k c (w ∷ ws) (m ∷ ms) = omega (arith, length-put_marks k c ws ms)
-
 -- ---- keys that differ and are all wanted are no more than the wants
 
 wanted_keys : List (Option Key) → List Key

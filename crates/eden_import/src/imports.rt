@@ -46,10 +46,12 @@ impl<A: Allocator> Model for Imports<A> {
 }
 
 impl<A: Allocator> Imports<A> {
-    /// Nothing queued, in flight, wanted or marked. The only error is want of memory.
+    /// Nothing queued, in flight, wanted or marked. Passes and flights are 1 to 64 each.
+    ///
+    /// It makes all the room that the other calls need. The only error is want of memory.
     pub fn new(alloc: A, passes: u32, flights: u32) -> Result<Imports<A>, AllocError>
     where
-        A: Clone + Drop,
+        A: Clone,
         requires some_pass { 1 ≤ passes }
         requires few_passes { passes ≤ 64 }
         requires some_flight { 1 ≤ flights }
