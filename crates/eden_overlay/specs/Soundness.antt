@@ -36,6 +36,7 @@ HoldsKind F k _ = (content : List ℕ) × HoldsContent F k content
 abbrev pub HasOwn : Stored → StoredEntry → Type 0
 HasOwn F e = e.origin ≡ origin.Own → HoldsKind F e.number e.kind
 
+-- no name dangles; strays, files that no directory that counts names as its own, may hold anything
 pub record IsSound (F : Stored) : Type 0 where
   -- file 1, where it stands, is a directory
   pub top : IfSome (F 1) (λ bytes. (entries : List StoredEntry) × IsDirectory bytes entries)

@@ -41,7 +41,7 @@ impl<R> Model for FolderFiles<R> {
 }
 
 impl<R> FolderFiles<R> {
-    /// The files in that folder. Nothing has failed yet.
+    /// The files in that folder, which has to be there before one can be stored or listed. Nothing has failed yet.
     pub fn new(files: R, folder: PathBuf) -> Self
         ensures { result ≡ record { path = path_buf_bytes folder; failures = 0 } }
     {
@@ -78,7 +78,7 @@ impl<R: rt::Files + Alloc + Clone + Drop> Files<Outside> for FolderFiles<R> {
 
     ghost failures = { λ s. s.failures };
 
-    /// `Device` too for a name that is no plain file, which is never opened, and for a file over `LONGEST_FILE`.
+    /// `Device` too where the name isn't a plain file's, which is never opened, or the file is over `LONGEST_FILE`.
     fn read(&mut self, alloc: Global, number: u64) -> Result<Option<Vec<u8>>, FilesFault>
         ensures counts { Counts self.old result self.new }
     {

@@ -62,7 +62,8 @@ impl<W: World, F: Files<W>> Overlay<W, F> {
         self.files
     }
 
-    /// Stores a content as the file of that number, in place of any that was there. After an error nothing has changed.
+    /// Stores a content of at most 2^30 bytes as the file of that number, in place of any that was there. After an error
+    /// nothing has changed.
     pub fn put_file(&mut self, alloc: Global, number: u64, content: &[u8]) -> Result<(), FilesFault>
         requires short { length content.now ≤ 2 ^ 30 }
         requires sound { W.honest → IsSound (with_content (F.stored self.old) number content.now) }
@@ -79,8 +80,8 @@ impl<W: World, F: Files<W>> Overlay<W, F> {
         }
     }
 
-    /// Stores a directory as the file of that number, in place of any that was there. After an error nothing has
-    /// changed.
+    /// Stores a directory as the file of that number, in place of any that was there: the root's is 1. After an error
+    /// nothing has changed.
     pub fn put_dir(
         &mut self,
         alloc: Global,
@@ -102,8 +103,8 @@ impl<W: World, F: Files<W>> Overlay<W, F> {
         }
     }
 
-    /// Stores a new file and then the directory that names it. After an error nothing has changed, or the new file
-    /// alone is stored.
+    /// Stores a new file and then the directory that names it, so that the name never dangles. After an error nothing
+    /// has changed, or the new file alone is stored.
     pub fn put_new(
         &mut self,
         alloc: Global,
@@ -142,7 +143,7 @@ impl<W: World, F: Files<W>> Overlay<W, F> {
         }
     }
 
-    /// The content of the file of that number.
+    /// The content of the file of that number, or why there is none.
     pub fn get_file(&mut self, alloc: Global, number: u64) -> Result<Content, GetFault>
         ensures found { W.honest → IfOk result (λ content. HoldsContent (F.stored self.old) number content) }
         ensures only { W.honest → (content : List ℕ) → HoldsContent (F.stored self.old) number content → MatchResult result (λ found. found ≡ content) SaysNothing }
@@ -156,7 +157,7 @@ impl<W: World, F: Files<W>> Overlay<W, F> {
         Content::of_file(file).map_err(GetFault::Damaged)
     }
 
-    /// The entries of the directory of that number.
+    /// The entries of the directory of that number, or why there are none.
     pub fn get_dir(&mut self, alloc: Global, number: u64) -> Result<Vec<StoredEntry>, GetFault>
         ensures found { W.honest → IfOk result (λ v. HoldsEntries (F.stored self.old) number v.items) }
         ensures only { W.honest → (entries : List StoredEntry) → HoldsEntries (F.stored self.old) number entries → MatchResult result (λ v. v.items ≡ entries) SaysNothing }
@@ -182,7 +183,8 @@ impl<W: World, F: Files<W>> Overlay<W, F> {
         self.files.remove(alloc, number)
     }
 
-    /// Stores the state as file 0, in place of any that was there. After an error nothing has changed.
+    /// Stores the state as file 0, in place of any that was there. After an error nothing has changed. It takes no part
+    /// in soundness, since no entry has the number 0.
     pub fn put_state(&mut self, alloc: Global, state: State) -> Result<(), FilesFault>
         requires least { 2 ≤ state.next }
         requires most { state.next ≤ 2 ^ 63 }
@@ -199,7 +201,7 @@ impl<W: World, F: Files<W>> Overlay<W, F> {
         }
     }
 
-    /// The state in file 0.
+    /// The state in file 0, or why there is none.
     pub fn get_state(&mut self, alloc: Global) -> Result<State, GetFault>
         ensures found { W.honest → IfOk result (λ state. HoldsState (F.stored self.old) state) }
         ensures only { W.honest → (state : State) → HoldsState (F.stored self.old) state → MatchResult result (λ found. found ≡ state) SaysNothing }

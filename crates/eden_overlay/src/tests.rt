@@ -10,77 +10,94 @@ use std::rc::Rc;
 use std::test::Fail;
 use std::{env, fs, process};
 
-// One call, and what it answers.
 #[derive(Clone, Copy)]
-enum Step {
-    Read(u64, Option<&'static [u8]>),
+enum Call {
+    Read(u64),
     Replace(u64, &'static [u8]),
     Remove(u64),
-    List(&'static [u64]),
+    List,
 }
 
-// Whether the files answer the call so.
-fn answers<W: World, F: Files<W>>(
-    files: &mut F,
-    alloc: Global,
-    step: &Step,
-) -> Result<bool, FilesFault> {
-    match step {
-        Step::Read(number, want) => {
-            let bytes = files.read(alloc, *number)?;
-            Ok(bytes.as_ref().map(|bytes| bytes.as_slice()) == *want)
-        }
-        Step::Replace(number, bytes) => files.replace(alloc, *number, bytes).map(|()| true),
-        Step::Remove(number) => files.remove(alloc, *number).map(|()| true),
-        Step::List(want) => Ok(files.list(alloc)?.as_slice() == *want),
+#[derive(Clone, Copy)]
+enum Answer {
+    Bytes(Option<&'static [u8]>),
+    Done,
+    Numbers(&'static [u64]),
+    Device,
+}
+
+// Whether the files give that answer to the call.
+fn gives<W: World, F: Files<W>>(files: &mut F, alloc: Global, call: Call, want: Answer) -> bool {
+    match call {
+        Call::Read(number) => match (files.read(alloc, number), want) {
+            (Ok(bytes), Answer::Bytes(want)) => {
+                bytes.as_ref().map(|bytes| bytes.as_slice()) == want
+            }
+            (Err(FilesFault::Device), Answer::Device) => true,
+            _ => false,
+        },
+        Call::Replace(number, bytes) => is_done(files.replace(alloc, number, bytes), want),
+        Call::Remove(number) => is_done(files.remove(alloc, number), want),
+        Call::List => match (files.list(alloc), want) {
+            (Ok(numbers), Answer::Numbers(want)) => numbers.as_slice() == want,
+            (Err(FilesFault::Device), Answer::Device) => true,
+            _ => false,
+        },
     }
 }
 
-// The first step at which files that are empty at first answer otherwise than files do.
-fn misbehaves<W: World, F: Files<W>>(
+fn is_done(answer: Result<(), FilesFault>, want: Answer) -> bool {
+    match (answer, want) {
+        (Ok(()), Answer::Done) => true,
+        (Err(FilesFault::Device), Answer::Device) => true,
+        _ => false,
+    }
+}
+
+// The first of the calls, made one after another, to which the files give another answer.
+fn first_wrong<W: World, F: Files<W>>(
     files: &mut F,
     alloc: Global,
-) -> Result<Option<usize>, FilesFault> {
-    let steps = [
-        Step::List(&[]),
-        Step::Read(10, None),
-        Step::Replace(10, b"ten"),
-        Step::Read(10, Some(b"ten")),
-        Step::Read(1, None),
-        Step::Replace(2, b""),
-        Step::Read(2, Some(b"")),
-        Step::List(&[2, 10]),
-        Step::Replace(10, b"x"),
-        Step::Read(10, Some(b"x")),
-        Step::Replace(u64::MAX, b"\0\xff"),
-        Step::Replace(0, b"zero"),
-        Step::List(&[0, 2, 10, u64::MAX]),
-        Step::Read(u64::MAX, Some(b"\0\xff")),
-        Step::Remove(10),
-        Step::Read(10, None),
-        Step::Remove(10),
-        Step::List(&[0, 2, u64::MAX]),
-        Step::Read(0, Some(b"zero")),
-    ];
-    for (index, step) in steps.iter().enumerate() {
-        if !answers::<W, F>(files, alloc, step)? {
-            return Ok(Some(index));
-        }
-    }
-    Ok(None)
+    calls: &[(Call, Answer)],
+) -> Option<usize> {
+    calls
+        .iter()
+        .position(|(call, want)| !gives::<W, F>(files, alloc, *call, *want))
 }
+
+// What every kind of files answers that is empty at first.
+const BEHAVIOUR: &[(Call, Answer)] = &[
+    (Call::List, Answer::Numbers(&[])),
+    (Call::Read(10), Answer::Bytes(None)),
+    (Call::Replace(10, b"ten"), Answer::Done),
+    (Call::Read(10), Answer::Bytes(Some(b"ten"))),
+    (Call::Read(1), Answer::Bytes(None)),
+    (Call::Replace(2, b""), Answer::Done),
+    (Call::Read(2), Answer::Bytes(Some(b""))),
+    (Call::List, Answer::Numbers(&[2, 10])),
+    (Call::Replace(10, b"x"), Answer::Done),
+    (Call::Read(10), Answer::Bytes(Some(b"x"))),
+    (Call::Replace(u64::MAX, b"\0\xff"), Answer::Done),
+    (Call::Replace(0, b"zero"), Answer::Done),
+    (Call::List, Answer::Numbers(&[0, 2, 10, u64::MAX])),
+    (Call::Read(u64::MAX), Answer::Bytes(Some(b"\0\xff"))),
+    (Call::Remove(10), Answer::Done),
+    (Call::Read(10), Answer::Bytes(None)),
+    (Call::Remove(10), Answer::Done),
+    (Call::List, Answer::Numbers(&[0, 2, u64::MAX])),
+    (Call::Read(0), Answer::Bytes(Some(b"zero"))),
+];
 
 #[test]
-fn memory_behaves(rt: HostRuntime) -> Result<(), Fail> {
-    let mut files = MemoryFiles::new(rt.alloc());
+fn memory_behaves(rt: HostRuntime) {
+    let mut files = MemoryFiles::<Outside>::new(rt.alloc());
     assert_eq!(rt;
-        misbehaves::<Outside, MemoryFiles<Outside>>(&mut files, rt.alloc())?,
+        first_wrong::<Outside, _>(&mut files, rt.alloc(), BEHAVIOUR),
         None
     );
-    Ok(())
 }
 
-// An empty folder of that name.
+// Makes an empty folder of that name.
 fn empty_folder(rt: &HostRuntime, name: &str) -> Result<PathBuf, Fail> {
     let alloc = rt.alloc();
     let name = format!(in alloc; "eden-overlay-{name}-{}", process::id(rt.process()))?;
@@ -95,7 +112,7 @@ fn folder_behaves(rt: HostRuntime) -> Result<(), Fail> {
     let folder = empty_folder(&rt, "behaves")?;
     let mut files = FolderFiles::new(&rt, folder.clone()?);
     assert_eq!(rt;
-        misbehaves::<Outside, FolderFiles<&HostRuntime>>(&mut files, rt.alloc())?,
+        first_wrong::<Outside, _>(&mut files, rt.alloc(), BEHAVIOUR),
         None
     );
     assert_eq!(rt; files.failures(), 0);
@@ -103,102 +120,128 @@ fn folder_behaves(rt: HostRuntime) -> Result<(), Fail> {
     Ok(())
 }
 
-// Makes plain files of these names, a directory 4, the links 6 and 7, of which one leads nowhere, and a file 8 that is
-// too long.
+// Makes plain files of some names that are numbers and some that aren't, a directory 4, the links 6 and 7, of which one
+// leads nowhere, and a file 8 that is too long.
 fn make_odd(rt: &HostRuntime, folder: &PathBuf) -> Result<(), Fail> {
-    let alloc = rt.alloc();
+    let path = |name: &str| folder.join(rt.alloc(), name);
     for name in ["3.new", "5", "02", "x", "+9", "18446744073709551616"] {
-        fs::write(rt, folder.join(alloc, name)?, name.as_bytes())?;
+        fs::write(rt, path(name)?, name.as_bytes())?;
     }
-    fs::create_dir(rt, folder.join(alloc, "4")?)?;
-    symlink(rt, "5", folder.join(alloc, "6")?)?;
-    symlink(rt, "nothing", folder.join(alloc, "7")?)?;
-    fs::File::create(rt, folder.join(alloc, "8")?)?.set_len(1_073_741_889)?;
+    fs::create_dir(rt, path("4")?)?;
+    symlink(rt, "5", path("6")?)?;
+    symlink(rt, "nothing", path("7")?)?;
+    fs::File::create(rt, path("8")?)?.set_len(1_073_741_889)?;
     Ok(())
 }
 
+const ODD: &[(Call, Answer)] = &[
+    (Call::List, Answer::Numbers(&[4, 5, 6, 7, 8])),
+    (Call::Read(2), Answer::Bytes(None)),
+    (Call::Read(3), Answer::Bytes(None)),
+    (Call::Read(4), Answer::Device),
+    (Call::Read(5), Answer::Bytes(Some(b"5"))),
+    (Call::Read(6), Answer::Device),
+    (Call::Read(7), Answer::Device),
+    (Call::Read(8), Answer::Device),
+    (Call::Read(9), Answer::Bytes(None)),
+    (Call::Remove(4), Answer::Device),
+];
+
 #[test]
 fn folder_reads_plain_files_alone(rt: HostRuntime) -> Result<(), Fail> {
-    let alloc = rt.alloc();
     let folder = empty_folder(&rt, "odd")?;
     make_odd(&rt, &folder)?;
     let mut files = FolderFiles::new(&rt, folder.clone()?);
-    for (number, want, failures) in [
-        (2, Ok(None), 0),
-        (3, Ok(None), 0),
-        (4, Err(FilesFault::Device), 1),
-        (5, Ok(Some(b"5".as_slice())), 1),
-        (6, Err(FilesFault::Device), 2),
-        (7, Err(FilesFault::Device), 3),
-        (8, Err(FilesFault::Device), 4),
-        (9, Ok(None), 4),
-    ] {
-        let answer = files.read(alloc, number);
-        let seen = answer
-            .as_ref()
-            .map(|bytes| bytes.as_ref().map(|bytes| bytes.as_slice()))
-            .map_err(|fault| *fault);
-        assert!(rt; seen == want, "at {number}");
-        assert_eq!(rt; files.failures(), failures, "at {number}");
-    }
-    assert!(rt; files.list(alloc)?.as_slice() == [4, 5, 6, 7, 8].as_slice());
-    assert!(rt; files.remove(alloc, 4) == Err(FilesFault::Device));
+    assert_eq!(rt;
+        first_wrong::<Outside, _>(&mut files, rt.alloc(), ODD),
+        None
+    );
     assert_eq!(rt; files.failures(), 5);
     fs::remove_dir_all(&rt, folder.as_path())?;
     Ok(())
+}
+
+const REFUSED: &[(Call, Answer)] = &[
+    (Call::Replace(5, b"new"), Answer::Device),
+    (Call::Read(5), Answer::Bytes(Some(b"old"))),
+];
+
+// The first answer that is wrong where such a link stands in the way of file 5's replacement.
+fn refused_by(
+    rt: &HostRuntime,
+    files: &mut FolderFiles<&HostRuntime>,
+    folder: &PathBuf,
+    target: &str,
+) -> Result<Option<usize>, Fail> {
+    let new = folder.join(rt.alloc(), "5.new")?;
+    symlink(rt, target, new.as_path())?;
+    let wrong = first_wrong::<Outside, _>(files, rt.alloc(), REFUSED);
+    fs::remove_file(rt, new.as_path())?;
+    Ok(wrong)
+}
+
+// Whether the folder has a file `other` of five bytes.
+fn has_other(rt: &HostRuntime, folder: &PathBuf) -> Result<bool, Fail> {
+    let metadata = fs::metadata(rt, folder.join(rt.alloc(), "other")?)?;
+    Ok(metadata.is_file() && metadata.len() == 5)
 }
 
 #[test]
 fn a_failed_replacement_leaves_the_file(rt: HostRuntime) -> Result<(), Fail> {
-    let alloc = rt.alloc();
     let folder = empty_folder(&rt, "full")?;
+    fs::write(&rt, folder.join(rt.alloc(), "other")?, b"other")?;
     let mut files = FolderFiles::new(&rt, folder.clone()?);
-    files.replace(alloc, 5, b"old")?;
-    let new = folder.join(alloc, "5.new")?;
-    // A disk that is full, a device that takes everything, another file, and nothing.
-    fs::write(&rt, folder.join(alloc, "other")?, b"other")?;
-    for (index, target) in ["/dev/full", "/dev/null", "other", "nothing"]
-        .iter()
-        .enumerate()
-    {
-        symlink(&rt, *target, new.as_path())?;
-        assert!(rt;
-            files.replace(alloc, 5, b"new") == Err(FilesFault::Device),
-            "{target}"
-        );
-        assert_eq!(rt; files.failures(), index as u64 + 1, "{target}");
-        fs::remove_file(&rt, new.as_path())?;
-        assert!(rt;
-            answers::<Outside, _>(&mut files, alloc, &Step::Read(5, Some(b"old")))?,
-            "{target}"
-        );
+    files.replace(rt.alloc(), 5, b"old")?;
+    // A disk that is full, a device that takes everything, another file, a folder, and nothing.
+    for target in ["/dev/full", "/dev/null", "other", ".", "nothing"] {
+        let wrong = refused_by(&rt, &mut files, &folder, target)?;
+        assert!(rt; wrong.is_none(), "{target}");
     }
-    assert!(rt; fs::read(&rt, folder.join(alloc, "other")?)?.as_slice() == b"other".as_slice());
-    assert!(rt; answers::<Outside, _>(&mut files, alloc, &Step::List(&[5]))?);
-    fs::create_dir(&rt, new.as_path())?;
-    assert!(rt; files.replace(alloc, 5, b"new") == Err(FilesFault::Device));
-    fs::remove_dir(&rt, new.as_path())?;
-    // A longer file that an earlier failure left.
-    fs::write(&rt, new.as_path(), b"left over")?;
-    assert!(rt; answers::<Outside, _>(&mut files, alloc, &Step::Read(5, Some(b"old")))?);
-    files.replace(alloc, 5, b"new")?;
-    assert!(rt; answers::<Outside, _>(&mut files, alloc, &Step::Read(5, Some(b"new")))?);
-    assert!(rt; !fs::exists(&rt, new.as_path())?);
     assert_eq!(rt; files.failures(), 5);
+    assert!(rt; has_other(&rt, &folder)?);
     fs::remove_dir_all(&rt, folder.as_path())?;
     Ok(())
 }
 
+const LEFT_OVER: &[(Call, Answer)] = &[
+    (Call::Read(5), Answer::Bytes(None)),
+    (Call::List, Answer::Numbers(&[])),
+    (Call::Replace(5, b"new"), Answer::Done),
+    (Call::Read(5), Answer::Bytes(Some(b"new"))),
+    (Call::List, Answer::Numbers(&[5])),
+];
+
+#[test]
+fn what_a_failure_left_is_no_file(rt: HostRuntime) -> Result<(), Fail> {
+    let folder = empty_folder(&rt, "left")?;
+    let new = folder.join(rt.alloc(), "5.new")?;
+    fs::write(&rt, new.as_path(), b"left over")?;
+    let mut files = FolderFiles::new(&rt, folder.clone()?);
+    assert_eq!(rt;
+        first_wrong::<Outside, _>(&mut files, rt.alloc(), LEFT_OVER),
+        None
+    );
+    assert!(rt; !fs::exists(&rt, new.as_path())?);
+    fs::remove_dir_all(&rt, folder.as_path())?;
+    Ok(())
+}
+
+const GONE: &[(Call, Answer)] = &[
+    (Call::Read(1), Answer::Bytes(None)),
+    (Call::Remove(1), Answer::Done),
+    (Call::Replace(1, b""), Answer::Device),
+    (Call::List, Answer::Device),
+];
+
 #[test]
 fn a_missing_folder_fails(rt: HostRuntime) -> Result<(), Fail> {
-    let alloc = rt.alloc();
     let folder = empty_folder(&rt, "gone")?;
     fs::remove_dir(&rt, folder.as_path())?;
     let mut files = FolderFiles::new(&rt, folder);
-    assert!(rt; files.read(alloc, 1) == Ok(None));
-    assert!(rt; files.remove(alloc, 1) == Ok(()));
-    assert!(rt; files.replace(alloc, 1, b"") == Err(FilesFault::Device));
-    assert!(rt; files.list(alloc) == Err(FilesFault::Device));
+    assert_eq!(rt;
+        first_wrong::<Outside, _>(&mut files, rt.alloc(), GONE),
+        None
+    );
     assert_eq!(rt; files.failures(), 2);
     Ok(())
 }
@@ -233,24 +276,19 @@ fn a_cut_read_is_no_file(rt: HostRuntime) {
     }
 }
 
-// Which of the calls fail.
-fn failing<W: World, F: Files<W>>(files: &mut F, alloc: Global, steps: &[Step; 4]) -> [bool; 4] {
-    let mut failed = [false; 4];
-    for (index, step) in steps.iter().enumerate() {
-        failed[index] = answers::<W, F>(files, alloc, step) == Err(FilesFault::Device);
-    }
-    failed
+// Stores a file, reads it, removes it, and lists what is left. Which of the four calls fail?
+fn failing<W: World, F: Files<W>>(files: &mut F, alloc: Global) -> [bool; 4] {
+    [
+        Call::Replace(7, b"a"),
+        Call::Read(7),
+        Call::Remove(7),
+        Call::List,
+    ]
+    .map(|call| gives::<W, F>(files, alloc, call, Answer::Device))
 }
 
 #[test]
-fn one_call_fails(rt: HostRuntime) -> Result<(), Fail> {
-    let alloc = rt.alloc();
-    let steps = [
-        Step::Replace(7, b"a"),
-        Step::Read(7, None),
-        Step::Remove(7),
-        Step::List(&[]),
-    ];
+fn one_call_fails(rt: HostRuntime) {
     for (call, want, left) in [
         (0, [false, false, false, false], [].as_slice()),
         (1, [true, false, false, false], [].as_slice()),
@@ -259,44 +297,38 @@ fn one_call_fails(rt: HostRuntime) -> Result<(), Fail> {
         (4, [false, false, false, true], [].as_slice()),
         (5, [false, false, false, false], [].as_slice()),
     ] {
-        let mut files = FailingFiles::new(MemoryFiles::<Outside>::new(alloc), call);
-        let failed = failing::<Outside, _>(&mut files, alloc, &steps);
+        let mut files = FailingFiles::new(MemoryFiles::<Outside>::new(rt.alloc()), call);
+        let failed = failing::<Outside, _>(&mut files, rt.alloc());
         assert!(rt; failed == want, "at call {call}");
-        let failures = if want.contains(&true) { 1 } else { 0 };
-        assert_eq!(rt; files.failures(), failures, "at call {call}");
-        assert!(rt;
-            files.into_files().list(alloc)?.as_slice() == left,
+        assert_eq!(rt;
+            files.failures() == 1,
+            want.contains(&true),
             "at call {call}"
         );
+        let mut files = files.into_files();
+        let listed = gives::<Outside, _>(&mut files, rt.alloc(), Call::List, Answer::Numbers(left));
+        assert!(rt; listed, "at call {call}");
     }
-    Ok(())
 }
 
 #[test]
 fn files_stop_and_are_mended(rt: HostRuntime) -> Result<(), Fail> {
-    let alloc = rt.alloc();
-    let allowed = Rc::new(alloc, Cell::new(1))?;
-    let mut files = StopFiles::new(MemoryFiles::<Outside>::new(alloc), allowed.clone()?);
-    let steps = [
-        Step::Replace(7, b"a"),
-        Step::Read(7, None),
-        Step::Remove(7),
-        Step::List(&[]),
-    ];
-    for (calls, want, failures, left) in [
-        (1, [false, true, true, true], 3, [7].as_slice()),
-        (3, [false, false, false, true], 4, [].as_slice()),
-        (0, [true, true, true, true], 8, [].as_slice()),
-        (4, [false, false, false, false], 8, [].as_slice()),
+    let allowed = Rc::new(rt.alloc(), Cell::new(0))?;
+    let files = MemoryFiles::<Outside>::new(rt.alloc());
+    let mut files = StopFiles::new(files, allowed.clone()?);
+    for (calls, want, failures) in [
+        (1, [false, true, true, true], 3),
+        (3, [false, false, false, true], 4),
+        (0, [true, true, true, true], 8),
+        (4, [false, false, false, false], 8),
     ] {
         allowed.set(calls);
-        let failed = failing::<Outside, _>(&mut files, alloc, &steps);
+        let failed = failing::<Outside, _>(&mut files, rt.alloc());
         assert!(rt; failed == want, "with {calls} calls");
         assert_eq!(rt; allowed.get(), 0, "with {calls} calls");
         assert_eq!(rt; files.failures(), failures, "with {calls} calls");
-        allowed.set(1);
-        assert!(rt; files.list(alloc)?.as_slice() == left, "with {calls} calls");
     }
-    files.into_files();
+    let mut files = files.into_files();
+    assert!(rt; gives::<Outside, _>(&mut files, rt.alloc(), Call::List, Answer::Numbers(&[])));
     Ok(())
 }
