@@ -7,9 +7,9 @@ use Rattle.eden_model.specs.declared.id.Key.{Key}
 use Rattle.eden_model.specs.contracts.id.KeyEq.TheImpl.Laws.{laws-law}
 use Rattle.eden_object.specs.Objects.{Body}
 use Rattle.eden_cache.specs.Bounded.{newest, KeepsBounds, IsLongestFront}
-use Rattle.eden_cache.specs.Cache.{same_key, same_id}
+use Rattle.eden_model.specs.Keys.{same_key, same_id}
 use Rattle.eden_cache.specs.Laws.{OneFront, FindsWhatWasPut, FindsNoOther, FindsNoOtherSize, UseFindsTheSame, UseFindsTheSameSize}
-use Rattle.eden_cache.proofs.Same.{same_key-true, same_id-true}
+use Rattle.eden_model.proofs.Keys.{same_key-Decides, same_id-Decides}
 use Rattle.eden_cache.proofs.Found.{lookup-take, lookup-newest, lookup-promoted}
 
 -- a front that keeps its bounds is no longer than the longest
@@ -39,13 +39,13 @@ finds_what_was_put entries bytes k b es kept front =
 pub finds_no_other : FindsNoOther
 finds_no_other entries bytes k b es kept front j a found =
     let in_front = subst (λ (l : List (Key × Body)). lookup (same_key j) l ≡ Some a) front.front found in
-    lookup-newest same_key same_key-true j k b es a (lookup-take (same_key j) (length kept) (newest same_key k b es) a in_front)
+    lookup-newest same_key (λ a b. (same_key-Decides a b).0) j k b es a (lookup-take (same_key j) (length kept) (newest same_key k b es) a in_front)
 
 pub finds_no_other_size : FindsNoOtherSize
-finds_no_other_size most id n es j m found = lookup-newest same_id same_id-true j id n es m (lookup-take (same_id j) most (newest same_id id n es) m found)
+finds_no_other_size most id n es j m found = lookup-newest same_id (λ a b. (same_id-Decides a b).0) j id n es m (lookup-take (same_id j) most (newest same_id id n es) m found)
 
 pub use_finds_the_same : UseFindsTheSame
-use_finds_the_same k j es = lookup-promoted same_key same_key-true j k es
+use_finds_the_same k j es = lookup-promoted same_key (λ a b. (same_key-Decides a b).0) j k es
 
 pub use_finds_the_same_size : UseFindsTheSameSize
-use_finds_the_same_size k j es = lookup-promoted same_id same_id-true j k es
+use_finds_the_same_size k j es = lookup-promoted same_id (λ a b. (same_id-Decides a b).0) j k es

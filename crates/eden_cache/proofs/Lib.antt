@@ -1,4 +1,3 @@
-pub mod Same
 pub mod Newest
 pub mod Weights
 pub mod Fronts

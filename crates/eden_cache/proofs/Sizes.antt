@@ -5,8 +5,9 @@ use Rattle.std.proofs.lemmas.List.{length-take}
 use Rattle.eden_model.specs.declared.id.Id.{Id}
 use Rattle.lru.specs.LruCache.{LruCache, lru_cache, put_entries, promoted}
 use Rattle.eden_cache.specs.Bounded.{newest}
-use Rattle.eden_cache.specs.Cache.{same_id, IsWithin}
-use Rattle.eden_cache.proofs.Same.{same_id-true}
+use Rattle.eden_model.specs.Keys.{same_id}
+use Rattle.eden_cache.specs.Cache.{IsWithin}
+use Rattle.eden_model.proofs.Keys.{same_id-Decides}
 use Rattle.eden_cache.proofs.Newest.{length-promoted, put_entries-newest}
 
 pub IsWithin-promoted : (test : Id → Bool) (c : LruCache Id ℕ) → IsWithin c → IsWithin (lru_cache (promoted test c.entries) c.cap)
@@ -26,7 +27,7 @@ pub size_put : {E : Type 0} (c d : LruCache Id ℕ) (id : Id) (n : ℕ) (r : Res
     → OnOk r (d ≡ lru_cache (put_entries same_id c id n) c.cap) → OnErr r (d ≡ c) → (IsSome (lookup (same_id id) c.entries) → IsOk r)
     → KeptOrNot c id n d
 size_put c d id n (Ok o) within ok err succeeds =
-    let same : put_entries same_id c id n ≡ take c.cap (newest same_id id n c.entries) = put_entries-newest same_id same_id-true c id n within.few within.room in
+    let same : put_entries same_id c id n ≡ take c.cap (newest same_id id n c.entries) = put_entries-newest same_id (λ a b. (same_id-Decides a b).0) c id n within.few within.room in
     let few : length (put_entries same_id c id n) ≤ c.cap = omega (arith, ap length same, length-take c.cap (newest same_id id n c.entries)) in
     let all : KeptOrNot c id n (lru_cache (put_entries same_id c id n) c.cap) = (record { few = few; room = within.room }, refl, inl same) in
     subst (KeptOrNot c id n) (sym ok) all

@@ -5,8 +5,9 @@ use Rattle.eden_model.specs.declared.id.Key.{Key}
 use Rattle.eden_object.specs.Objects.{Body}
 use Rattle.lru.specs.LruCache.{LruCache, lru_cache, put_entries, displaced, promoted}
 use Rattle.eden_cache.specs.Bounded.{newest, weight_of, weight_gone, Fits, IsLongestFront}
-use Rattle.eden_cache.specs.Cache.{same_key, IsTallied}
-use Rattle.eden_cache.proofs.Same.{same_key-true}
+use Rattle.eden_model.specs.Keys.{same_key}
+use Rattle.eden_cache.specs.Cache.{IsTallied}
+use Rattle.eden_model.proofs.Keys.{same_key-Decides}
 use Rattle.eden_cache.proofs.Newest.{length-promoted, put_entries-newest}
 use Rattle.eden_cache.proofs.Weights.{weight_of-promoted, weight_of-put_entries}
 use Rattle.eden_cache.proofs.Fronts.{IsLongestFront-cut, light_front}
@@ -34,7 +35,7 @@ module _ (weight bytes : ℕ) (c : LruCache Key Body) (k : Key) (v : Body) (t : 
   few = few_where_fits c.cap bytes c.entries t.room t.fits
 
   same : put_entries same_key c k v ≡ take c.cap (newest same_key k v c.entries)
-  same = put_entries-newest same_key same_key-true c k v few t.room
+  same = put_entries-newest same_key (λ a b. (same_key-Decides a b).0) c k v few t.room
 
   count : length (put_entries same_key c k v) ≡ min c.cap (length (newest same_key k v c.entries))
   count = ap length same ∙ length-take c.cap (newest same_key k v c.entries)

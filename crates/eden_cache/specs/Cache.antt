@@ -1,5 +1,5 @@
 -- What a cache is seen as, and what is true of each.
-use Rattle.std.specs.Prelude.{◌≡◌, ℕ, ◌^◌, ◌<◌, ◌≤◌, Bool, ◌⊎◌, List, length, take, None}
+use Rattle.std.specs.Prelude.{◌≡◌, ℕ, ◌^◌, ◌<◌, ◌≤◌, ◌⊎◌, List, length, take, None}
 use Rattle.std.specs.List.{IsDistinct}
 use Rattle.std.specs.Map.{keys_of, lookup}
 use Rattle.lru.specs.LruCache.{LruCache}
@@ -7,8 +7,7 @@ use Rattle.eden_model.specs.declared.id.Id.{Id}
 use Rattle.eden_model.specs.declared.id.Key.{Key}
 use Rattle.eden_model.specs.declared.id.ObjKind.{ObjKind}
 use Rattle.eden_model.specs.declared.id.ObjKind.TheVariants.{Blob, Tree}
-use Rattle.eden_model.specs.contracts.id.IdPartialEq.TheImpl as id_eq
-use Rattle.eden_model.specs.contracts.id.KeyPartialEq.TheImpl as key_eq
+use Rattle.eden_model.specs.Keys.{same_id, same_key}
 use Rattle.eden_object.specs.Objects.{Body}
 use Rattle.eden_cache.specs.Bounded.{newest, weight_of, Fits}
 
@@ -19,13 +18,6 @@ pub record Cache : Type 0 where
   pub most_entries : ℕ
   pub most_bytes : ℕ
   pub most_sizes : ℕ
-
--- what `==` says of two keys, and of two ids
-abbrev pub same_key : Key → Key → Bool
-same_key = (key_eq.ghosts).eq
-
-abbrev pub same_id : Id → Id → Bool
-same_id = (id_eq.ghosts).eq
 
 -- what holds of every cache
 pub record IsSound (c : Cache) : Type 0 where

@@ -6,7 +6,7 @@ use Rattle.eden_model.specs.declared.id.Key.{Key}
 use Rattle.eden_object.specs.Objects.{Body}
 use Rattle.lru.specs.LruCache.{promoted}
 use Rattle.eden_cache.specs.Bounded.{newest, IsLongestFront}
-use Rattle.eden_cache.specs.Cache.{same_key, same_id}
+use Rattle.eden_model.specs.Keys.{same_key, same_id}
 
 -- there is one longest front
 abbrev pub OneFront : Type 0

@@ -5,7 +5,8 @@ use Rattle.std.specs.declared.alloc.Allocator.{Ghosts}
 use mathlib.Core.Option.{none}
 use Rattle.eden_model.specs.declared.id.Key.{Key}
 use Rattle.lru.specs.LruCache.{promoted}
-use Rattle.eden_cache.specs.Cache.{Cache, same_key}
+use Rattle.eden_model.specs.Keys.{same_key}
+use Rattle.eden_cache.specs.Cache.{Cache}
 use Rattle.eden_cache.specs.contracts.cache.ObjectCache.{the_row}
 
 -- the object of that key is its newest

@@ -44,7 +44,8 @@ impl<A: Allocator> Model for ObjectCache<A> {
 }
 
 impl<A: Allocator + Clone> ObjectCache<A> {
-    ghost use Rattle.eden_cache.specs.Cache.{same_key, same_id, IsSound, KeepsSize};
+    ghost use Rattle.eden_model.specs.Keys.{same_key, same_id};
+    ghost use Rattle.eden_cache.specs.Cache.{IsSound, KeepsSize};
     ghost use Rattle.eden_cache.specs.Lends.{ends_used};
 
     /// A cache without objects and sizes, for at most so many objects of so many bytes together, and so many sizes.

@@ -1,41 +1,15 @@
 -- Lemmas on keys and lists of keys.
 use Rattle.std.proofs.Common.{◌≡◌, ◌≤◌, ◌+◌, ℕ, Bool, true, false, not, ◌&&◌, ◌||◌, cond, List, [], ◌∷◌, ◌++◌, length, refl, sym, ap, ◌∙◌, subst, arith}
-use Rattle.std.specs.Bool.{Decides}
 use Rattle.std.specs.Cmp.{IsEquivalence, decided}
 use Rattle.std.specs.List.{IsDistinct, AllByRecursion, filter}
-use Rattle.std.specs.Str.{bytes_eq}
-use Rattle.std.proofs.lemmas.Slice.Eq.{bytes_eq-Decides}
-use Rattle.std.proofs.lemmas.Bool.{and_parts, and_from, or_parts}
+use Rattle.std.proofs.lemmas.Bool.{or_parts}
 use Rattle.std.proofs.lemmas.List.Folds.{list_any-append}
 use Rattle.std.proofs.lemmas.List.Elements.{filter-append}
 use Rattle.std.proofs.lemmas.Map.Made.{is_member-filter}
 use Rattle.eden_model.specs.declared.id.Key.{Key}
-use Rattle.eden_model.specs.declared.id.ObjKind.{ObjKind}
-use Rattle.eden_model.specs.declared.id.ObjKind.TheVariants.{Blob, Tree}
-use Rattle.eden_import.specs.Keys.{same_kind, same_key, has_key, without}
-
-same_kind-Decides : (a b : ObjKind) → Decides (same_kind a b) (a ≡ b)
-same_kind-Decides Blob Blob = ((λ _. refl), (λ _. refl))
-same_kind-Decides Blob Tree = ((λ e. cc), (λ e. cc))
-same_kind-Decides Tree Blob = ((λ e. cc), (λ e. cc))
-same_kind-Decides Tree Tree = ((λ _. refl), (λ _. refl))
-
-pub key_of : ObjKind → List ℕ → Key
-key_of d bs = record { kind = d; id = record { bytes = bs } }
-
--- two keys of one kind and one id are one key
-pub same_key-Decides : (a b : Key) → Decides (same_key a b) (a ≡ b)
-unfolding key_of
-same_key-Decides a b = (
-  (λ t.
-      let both = and_parts (same_kind a.kind b.kind) (bytes_eq a.id.bytes b.id.bytes) t in
-      let kinds : a.kind ≡ b.kind = (same_kind-Decides a.kind b.kind).0 both.0 in
-      let ids : a.id.bytes ≡ b.id.bytes = (bytes_eq-Decides a.id.bytes b.id.bytes).0 both.1 in
-      ap (λ d. key_of d a.id.bytes) kinds ∙ ap (λ bs. key_of b.kind bs) ids),
-  (λ e. and_from (same_kind a.kind b.kind) (bytes_eq a.id.bytes b.id.bytes)
-      ((same_kind-Decides a.kind b.kind).1 (ap (λ (k : Key). k.kind) e))
-      ((bytes_eq-Decides a.id.bytes b.id.bytes).1 (ap (λ (k : Key). k.id.bytes) e))),
-)
+use Rattle.eden_model.specs.Keys.{same_key}
+use Rattle.eden_model.proofs.Keys.{same_key-Decides}
+use Rattle.eden_import.specs.Keys.{has_key, without}
 
 pub same_key-equiv : IsEquivalence same_key
 same_key-equiv = decided same_key same_key-Decides

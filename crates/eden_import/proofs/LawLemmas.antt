@@ -9,7 +9,8 @@ use Rattle.eden_model.specs.declared.id.Key.{Key}
 use Rattle.eden_model.specs.declared.fault.Cause.{Cause}
 use Rattle.eden_import.specs.Queue.{Mark, want_of, wants_key, is_wanted, unwanting, put_marks}
 use Rattle.eden_import.specs.Laws.{HasIsContains, EachStandsOnce, QueuedAreWanted, WantedStand, OneWants, OneLeaves, AllAreMet, WantersAreMarked, OneForgets}
-use Rattle.eden_import.proofs.KeyLemmas.{same_key-Decides, same_key-refl}
+use Rattle.eden_model.proofs.Keys.{same_key-Decides}
+use Rattle.eden_import.proofs.KeyLemmas.{same_key-refl}
 
 pub has_is_contains : HasIsContains
 has_is_contains ks k = is_member-Decides same_key-Decides ks k

@@ -6,9 +6,11 @@ use Rattle.std.specs.Option.{IfSome}
 use Rattle.std.proofs.lemmas.Bool.{cases_Bool, or_cases, or_left, or_right, and_parts, and_from, not-true, not_from_false, both_ways}
 use Rattle.std.proofs.lemmas.Map.Keys.{IsDistinct-push, IsDistinct-tail}
 use Rattle.eden_model.specs.declared.id.Key.{Key}
-use Rattle.eden_import.specs.Keys.{same_key, has_key, without}
+use Rattle.eden_model.specs.Keys.{same_key}
+use Rattle.eden_import.specs.Keys.{has_key, without}
 use Rattle.eden_import.specs.Queue.{Queue, Mark, IsQueue, IsPass, WantsNoOther, want_of, stands, wants_key, is_wanted, empty, wanting, unwanting, taking, end_wants, landing}
-use Rattle.eden_import.proofs.KeyLemmas.{same_key-Decides, same_key-equiv, has_key-append, has_key-without, without_absent, length-without-le, apart, distinct_without_left, distinct_without_right}
+use Rattle.eden_model.proofs.Keys.{same_key-Decides}
+use Rattle.eden_import.proofs.KeyLemmas.{same_key-equiv, has_key-append, has_key-without, without_absent, length-without-le, apart, distinct_without_left, distinct_without_right}
 use Rattle.eden_import.proofs.WantLemmas.{is_wanted-set_some, is_wanted-set_none, is_wanted-set_none_le, is_wanted-end_wants, length-end_wants, length-le_from_wanted}
 
 -- ---- how many keys are queued

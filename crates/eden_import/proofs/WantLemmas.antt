@@ -5,9 +5,11 @@ use Rattle.std.specs.List.{IsDistinct}
 use Rattle.std.proofs.lemmas.Map.Made.{length-le_from_is_member}
 use Rattle.eden_model.specs.declared.id.Key.{Key}
 use Rattle.eden_model.specs.declared.fault.Cause.{Cause}
-use Rattle.eden_import.specs.Keys.{same_key, has_key}
+use Rattle.eden_model.specs.Keys.{same_key}
+use Rattle.eden_import.specs.Keys.{has_key}
 use Rattle.eden_import.specs.Queue.{Mark, wants_key, is_wanted, end_wants, put_marks}
-use Rattle.eden_import.proofs.KeyLemmas.{same_key-equiv, same_key-Decides}
+use Rattle.eden_model.proofs.Keys.{same_key-Decides}
+use Rattle.eden_import.proofs.KeyLemmas.{same_key-equiv}
 
 -- a want for the key in the place of one that was for it or for none
 pub is_wanted-set_some : (j k : Key) (ws : List (Option Key)) (i : ℕ) → i < length ws → (wants_key j (get_or ws i None) ≡ true → same_key j k ≡ true) → is_wanted j (set ws i (Some k)) ≡ (is_wanted j ws || same_key j k)

@@ -4,7 +4,8 @@ use Rattle.std.specs.Bool.{Decides}
 use Rattle.std.specs.List.{AllPairs, Contains}
 use Rattle.eden_model.specs.declared.id.Key.{Key}
 use Rattle.eden_model.specs.declared.fault.Cause.{Cause}
-use Rattle.eden_import.specs.Keys.{same_key, has_key}
+use Rattle.eden_model.specs.Keys.{same_key}
+use Rattle.eden_import.specs.Keys.{has_key}
 use Rattle.eden_import.specs.Queue.{Queue, IsQueue, IsPass, want_of, mark_of, stands, wants_key, wanting, leaving, landing, failing, forgetting}
 
 -- keys that test as one are one, and the test of a list finds what it contains

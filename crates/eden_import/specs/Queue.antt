@@ -3,7 +3,8 @@ use Rattle.std.specs.Prelude.{◌≡◌, ◌≤◌, ◌-◌, ℕ, Bool, true, fa
 use Rattle.std.specs.List.{IsDistinct, list_any}
 use Rattle.eden_model.specs.declared.id.Key.{Key}
 use Rattle.eden_model.specs.declared.fault.Cause.{Cause}
-use Rattle.eden_import.specs.Keys.{same_key, has_key, without}
+use Rattle.eden_model.specs.Keys.{same_key}
+use Rattle.eden_import.specs.Keys.{has_key, without}
 
 -- what is kept of a failed key for a pass that wanted it
 abbrev pub Mark : Type 0

@@ -5,3 +5,4 @@ pub mod OneReply
 pub mod Shapes
 pub mod Sorted
 pub mod Wholes
+pub mod Keys

@@ -1,6 +1,6 @@
 use Rattle.std.proofs.Common.{rules, not}
 use Rattle.std.proofs.lemmas.Fn.{filter_same}
-use Rattle.eden_import.specs.Keys.{same_key}
+use Rattle.eden_model.specs.Keys.{same_key}
 use Rattle.eden_import.proofs.KeyLemmas.{same_key-equiv}
 use Rattle.eden_import.proofs.keys.unqueue.Goals as goal
 

@@ -1,4 +1,4 @@
-use Rattle.eden_import.proofs.KeyLemmas.{same_key-Decides}
+use Rattle.eden_model.proofs.Keys.{same_key-Decides}
 use Rattle.eden_import.proofs.StepLemmas.{length-queue-le}
 use Rattle.eden_import.proofs.LawLemmas.{has_is_contains, each_stands_once, queued_are_wanted, wanted_stand, one_wants, one_leaves, all_are_met, wanters_are_marked, one_forgets}
 use Rattle.eden_import.proofs.laws.queue_laws.Goals as goal

@@ -1,4 +1,4 @@
-use Rattle.eden_cache.specs.Cache.{same_key}
+use Rattle.eden_model.specs.Keys.{same_key}
 use Rattle.eden_cache.proofs.Tallies.{IsTallied-promoted}
 use Rattle.eden_cache.proofs.cache.ObjectCache.get.Goals as goal
 

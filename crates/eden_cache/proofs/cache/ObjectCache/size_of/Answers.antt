@@ -1,4 +1,4 @@
-use Rattle.eden_cache.specs.Cache.{same_id}
+use Rattle.eden_model.specs.Keys.{same_id}
 use Rattle.eden_cache.proofs.Sizes.{IsWithin-promoted}
 use Rattle.eden_cache.proofs.cache.ObjectCache.size_of.Goals as goal
 
