@@ -1,10 +1,10 @@
 -- The longest front within bounds, as objects leave one by one.
-use Rattle.std.proofs.Common.{◌≡◌, ℕ, zero, suc, ◌+◌, ◌-◌, ◌<◌, ◌≤◌, ◌⊎◌, inl, inr, List, [], ◌∷◌, length, take, slice_get, Some, refl, sym, ap, ◌∙◌, subst, min, arith}
+use Rattle.std.proofs.Common.{◌≡◌, ℕ, zero, suc, ◌+◌, ◌-◌, ◌<◌, ◌≤◌, ◌⊎◌, inl, inr, List, [], ◌∷◌, length, take, slice_get, refl, sym, ap, ◌∙◌, subst, min, arith}
 use Rattle.std.proofs.Math.Seq.{take-length}
 use Rattle.std.proofs.lemmas.List.{length-take, length-take-le}
 use Rattle.eden_model.specs.declared.id.Key.{Key}
 use Rattle.eden_object.specs.Objects.{Body}
-use Rattle.eden_cache.specs.Bounded.{weight_of, weight_gone, KeepsBounds, Fits, IsLongestFront}
+use Rattle.eden_cache.specs.Bounded.{weight_of, weight_gone, KeepsBounds, IsLongestFront}
 use Rattle.eden_cache.proofs.Weights.{weight_of-take, weight_of-cons}
 
 -- what is left of all, while objects leave: a front, not empty, of that weight, and each longer front is too heavy

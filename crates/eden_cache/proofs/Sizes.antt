@@ -1,5 +1,5 @@
 -- The sizes, around the calls of the map behind them.
-use Rattle.std.proofs.Common.{◌≡◌, ℕ, ◌≤◌, ◌⊎◌, inl, inr, Bool, true, false, length, take, Option, Some, None, Result, Ok, Err, OnOk, OnErr, IsSome, IsOk, is_some, is_ok, refl, ap, ◌∙◌, subst, sym, min, arith}
+use Rattle.std.proofs.Common.{◌≡◌, ℕ, ◌≤◌, ◌⊎◌, inl, inr, Bool, true, false, length, take, Option, Some, None, Result, Ok, Err, OnOk, OnErr, IsSome, IsOk, refl, ap, subst, sym, arith}
 use Rattle.std.specs.Map.{lookup}
 use Rattle.std.proofs.lemmas.List.{length-take}
 use Rattle.eden_model.specs.declared.id.Id.{Id}

@@ -1,5 +1,5 @@
 -- The running sum and the bounds, around the calls of the map behind the cache.
-use Rattle.std.proofs.Common.{◌≡◌, ℕ, ◌+◌, ◌^◌, ◌<◌, ◌≤◌, ◌⊎◌, inl, inr, Bool, List, ◌∷◌, length, take, subst, sym, ap, ◌∙◌, min, arith}
+use Rattle.std.proofs.Common.{◌≡◌, ℕ, ◌+◌, ◌^◌, ◌<◌, ◌≤◌, inl, inr, Bool, List, length, take, subst, sym, ap, ◌∙◌, min, arith}
 use Rattle.std.proofs.lemmas.List.{length-take}
 use Rattle.eden_model.specs.declared.id.Key.{Key}
 use Rattle.eden_object.specs.Objects.{Body}
@@ -39,9 +39,6 @@ module _ (weight bytes : ℕ) (c : LruCache Key Body) (k : Key) (v : Body) (t : 
 
   count : length (put_entries same_key c k v) ≡ min c.cap (length (newest same_key k v c.entries))
   count = ap length same ∙ length-take c.cap (newest same_key k v c.entries)
-
-  pub put_some : 0 < length (put_entries same_key c k v)
-  put_some = omega (arith, count, t.room)
 
   pub put_few : length (put_entries same_key c k v) ≤ c.cap
   put_few = omega (arith, count)

@@ -1,4 +1,5 @@
-ghost use Rattle.std.specs.Prelude.{◌≡◌, ◌<◌, ◌≤◌, length};
+ghost use Rattle.std.specs.Prelude.{◌≡◌, ◌-◌, ◌<◌, ◌≤◌, length, take};
+ghost use Rattle.lru.specs.LruCache.{lru_cache, last_entry};
 ghost use Rattle.eden_cache.specs.Bounded.{weight_of, weight_gone, IsLongestFront};
 
 use eden_model::Key;
@@ -22,9 +23,17 @@ pub(crate) fn evict<A: Allocator>(
 {
     let mut left = weight;
     while left > bytes && objects.len() > 1 {
-        left -= let_go(objects.pop_lru());
+        left -= let_oldest_go(objects);
     }
     left
+}
+
+/// Lets the least recently used object go, and answers what it weighed.
+fn let_oldest_go<A: Allocator>(objects: &mut LruCache<Key, Object, DefaultHasher, A>) -> u64
+    ensures weight { result ≡ weight_gone (last_entry objects.old.entries) }
+    ensures left { objects.new ≡ lru_cache (take (length objects.old.entries - 1) objects.old.entries) objects.old.cap }
+{
+    let_go(objects.pop_lru())
 }
 
 /// Drops the object that left, if one did, and answers what it weighed.

@@ -1,9 +1,6 @@
-use Rattle.std.proofs.Common.{◌≤◌, ◌^◌, length, refl, ap, ◌∙◌, arith}
-use Rattle.eden_model.specs.declared.id.Key.{Key}
-use Rattle.eden_object.specs.Objects.{Body}
-use Rattle.lru.specs.LruCache.{LruCache}
+use Rattle.std.proofs.Common.{◌≤◌, ◌^◌, length, refl, arith}
 use Rattle.eden_cache.proofs.Sizes.{size_put}
-use Rattle.eden_cache.proofs.Tallies.{put_some, put_few, put_sum, put_front, put_tallied}
+use Rattle.eden_cache.proofs.Tallies.{put_few, put_sum, put_front, put_tallied}
 use Rattle.eden_cache.proofs.cache.ObjectCache.put.Goals as goal
 use Rattle.eden_cache.proofs.cache.ObjectCache.put.Goals.{in-Blob, in-Tree}
 
