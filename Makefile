@@ -2,7 +2,7 @@
 
 ROOT := d8329fc1cc938780ffdd9f94e0d364e0ea74f579
 
-.PHONY: help run test bench fmt
+.PHONY: help run check test soak bench fmt
 
 help: ## says what each target does
 	@sed -n 's/^\([a-z]*\): ##/\1:/p' Makefile
@@ -10,9 +10,16 @@ help: ## says what each target does
 run: ## proves and builds mountd, and serves examples/first-run.txt on the sample commit
 	@cd crates/mountd && rt run -- stdio --root $(ROOT) --objects $(CURDIR)/examples/objects < $(CURDIR)/examples/first-run.txt
 
+check: ## proves and tests the crates that changed since they last passed, and those above them, for daily work
+	@scripts/check-changed
+
 test: ## proves everything from nothing, and runs every test; its last line counts the end-to-end checks
 	rt ci
+	tests/oracle
 	tests/end-to-end
+
+soak: ## compares the slow oracle with the second table of operations over a million random requests
+	tests/oracle 1000000
 
 bench: ## times the work that grows with its input, at full size
 	@cd crates/eden_bench && rt run -- tree 1000000 timed

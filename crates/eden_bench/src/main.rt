@@ -5,6 +5,7 @@
 mod cache;
 mod directory;
 mod name;
+mod oracle;
 mod overlay;
 mod timing;
 mod tree;
@@ -15,7 +16,8 @@ use std::rt::{Clock, Env};
 use std::{env, io};
 use timing::Timing;
 
-const USAGE: &str = "usage: eden_bench cache|directory|overlay|tree COUNT [timed]";
+const USAGE: &str =
+    "usage: eden_bench cache|directory|overlay|tree COUNT [timed], or eden_bench oracle";
 
 /// Runs the workload that the words name. False where they name none.
 fn run<R: Print + Clock + AllocGlobal>(rt: &R, words: &[String]) -> io::Result<bool> {
@@ -42,8 +44,26 @@ fn words(rt: &(impl Env + Alloc<A = Global>)) -> io::Result<Vec<String>> {
     Ok(words)
 }
 
+/// Answers the requests of standard input on the slow oracle.
+fn answer(rt: &HostRuntime) -> io::Result<ExitCode> {
+    let mut reader = rt.stdin();
+    let mut writer = rt.stdout();
+    match oracle::run(rt.alloc(), &mut reader, &mut writer) {
+        Ok(()) => Ok(ExitCode::SUCCESS),
+        Err(fault) => {
+            eprintln!(rt; "eden_bench: session {}", fault.name())?;
+            Ok(ExitCode::from(4))
+        }
+    }
+}
+
 fn main(rt: HostRuntime) -> io::Result<ExitCode> {
     let words = words(&rt)?;
+    if let [_, name] = words.as_slice()
+        && name.as_str() == "oracle"
+    {
+        return answer(&rt);
+    }
     if run(&rt, words.as_slice())? {
         return Ok(ExitCode::SUCCESS);
     }

@@ -1,0 +1,211 @@
+"""A whole tree as a dictionary from paths to nodes, and what each request answers on it and makes of it.
+
+This is the table of operations a second time, written from its description and not from the repository's own
+definition, so that the two can be compared. A path is a tuple of names; a node is a tuple:
+
+    ("file", executable, content)    ("link", content)    ("dir", listed)
+
+A content is bytes, or None where it is lost. `reply` gives the text of the reply, or None where there is none, since the
+request looks into a lost content or a directory whose entries are not known.
+"""
+
+LONGEST_FILE = 1 << 30
+LONGEST_DATA = 65_536
+LONGEST_TARGET = 4_095
+MOST_ENTRIES = 1_000
+
+NUMBERS = {"ENOENT": 2, "EBUSY": 16, "EEXIST": 17, "ENOTDIR": 20, "EISDIR": 21, "EINVAL": 22, "EFBIG": 27,
+           "ENAMETOOLONG": 36, "ENOTEMPTY": 39}
+
+
+class Refused(Exception):
+    """An error number's name."""
+
+
+class Unknown(Exception):
+    """The request looks into what isn't known."""
+
+
+def need(condition, error):
+    if not condition:
+        raise Refused(error)
+
+
+def known(content):
+    if content is None:
+        raise Unknown
+    return content
+
+
+class WholeTree:
+    def __init__(self, nodes=None):
+        self.nodes = nodes if nodes is not None else {(): ("dir", True)}
+
+    # ---- looking
+
+    def walk(self, path):
+        """Goes over the proper fronts of the path, the shortest first."""
+        for count in range(len(path)):
+            node = self.nodes.get(path[:count])
+            need(node is not None, "ENOENT")
+            need(node[0] == "dir", "ENOTDIR")
+            if not node[1]:
+                raise Unknown
+
+    def present(self, path):
+        self.walk(path)
+        node = self.nodes.get(path)
+        need(node is not None, "ENOENT")
+        return node
+
+    def absent(self, path):
+        """For a request that makes something where nothing is."""
+        need(path != (), "EEXIST")
+        self.walk(path)
+        need(path not in self.nodes, "EEXIST")
+
+    def children(self, path):
+        """The names in a directory whose entries are known, in byte order."""
+        if not self.nodes[path][1]:
+            raise Unknown
+        return sorted(other[-1] for other in self.nodes if other != () and other[:-1] == path)
+
+    def kind_word(self, node):
+        return b"exec" if node[0] == "file" and node[1] else node[0].encode()
+
+    def file_at(self, path):
+        node = self.present(path)
+        need(node[0] != "link", "EINVAL")
+        need(node[0] != "dir", "EISDIR")
+        return node
+
+    # ---- requests that change nothing
+
+    def kind(self, path):
+        return b"kind " + self.kind_word(self.present(path))
+
+    def stat(self, path):
+        node = self.present(path)
+        size = 0 if node[0] == "dir" else len(known(node[-1]))
+        return b"stat %s %d" % (self.kind_word(node), size)
+
+    def read(self, path, offset, length):
+        need(length <= LONGEST_DATA, "EINVAL")
+        node = self.file_at(path)
+        return data_reply(known(node[2])[offset : offset + length] if length else b"")
+
+    def readlink(self, path):
+        node = self.present(path)
+        need(node[0] == "link", "EINVAL")
+        return data_reply(known(node[1]))
+
+    def list(self, path, after, limit):
+        need(1 <= limit <= MOST_ENTRIES, "EINVAL")
+        need(self.present(path)[0] == "dir", "ENOTDIR")
+        names = [name for name in self.children(path) if after is None or name > after]
+        rows = [(self.kind_word(self.nodes[path + (name,)]), name) for name in names[:limit]]
+        return entries_reply(rows, len(names) > limit)
+
+    # ---- requests that change one node
+
+    def write(self, path, offset, data):
+        need(len(data) <= LONGEST_DATA, "EINVAL")
+        _, executable, old = self.file_at(path)
+        if not data:
+            return b"count 0"
+        end = offset + len(data)
+        need(end <= LONGEST_FILE, "EFBIG")
+        old = known(old)
+        new = bytearray(max(len(old), end))
+        new[: len(old)] = old
+        new[offset:end] = data
+        self.nodes[path] = ("file", executable, bytes(new))
+        return b"count %d" % len(data)
+
+    def truncate(self, path, size):
+        _, executable, old = self.file_at(path)
+        need(size <= LONGEST_FILE, "EFBIG")
+        new = known(old)[:size].ljust(size, b"\0") if size else b""
+        self.nodes[path] = ("file", executable, new)
+        return b"ok"
+
+    def setexec(self, path, executable):
+        content = self.file_at(path)[2]
+        self.nodes[path] = ("file", executable, content)
+        return b"ok"
+
+    # ---- requests that make something
+
+    def make(self, path, node):
+        self.absent(path)
+        self.nodes[path] = node
+        return b"ok"
+
+    def create(self, path):
+        return self.make(path, ("file", False, b""))
+
+    def mkdir(self, path):
+        return self.make(path, ("dir", True))
+
+    def symlink(self, path, target):
+        need(target != b"", "ENOENT")
+        need(len(target) <= LONGEST_TARGET, "ENAMETOOLONG")
+        return self.make(path, ("link", target))
+
+    # ---- requests that take something away
+
+    def unlink(self, path):
+        need(path != (), "EISDIR")
+        need(self.present(path)[0] != "dir", "EISDIR")
+        del self.nodes[path]
+        return b"ok"
+
+    def rmdir(self, path):
+        need(path != (), "EBUSY")
+        need(self.present(path)[0] == "dir", "ENOTDIR")
+        need(not self.children(path), "ENOTEMPTY")
+        del self.nodes[path]
+        return b"ok"
+
+    def rename(self, source, target):
+        need(source != () and target != (), "EBUSY")
+        node = self.present(source)
+        if source == target:
+            return b"ok"
+        if node[0] == "dir":
+            need(target[: len(source)] != source, "EINVAL")
+        need(source[: len(target)] != target, "ENOTEMPTY")
+        self.walk(target)
+        there = self.nodes.get(target)
+        if there is not None:
+            if node[0] == "dir":
+                need(there[0] == "dir", "ENOTDIR")
+                need(not self.children(target), "ENOTEMPTY")
+            else:
+                need(there[0] != "dir", "EISDIR")
+            del self.nodes[target]
+        moved = [path for path in self.nodes if path[: len(source)] == source]
+        for path in moved:
+            self.nodes[target + path[len(source) :]] = self.nodes.pop(path)
+        return b"ok"
+
+    def reply(self, word, *fields):
+        """The text of the reply to a request; None where there is none."""
+        try:
+            return getattr(self, word)(*fields)
+        except Refused as refusal:
+            name = refusal.args[0]
+            return b"err %d %s" % (NUMBERS[name], name.encode())
+        except Unknown:
+            return None
+
+
+def data_reply(data):
+    return b"data %d" % len(data) + (b" " + data.hex().encode() if data else b"")
+
+
+def entries_reply(rows, more):
+    from protocol import name_text
+
+    body = b"".join(b" %s %s" % (kind, name_text(name)) for kind, name in rows)
+    return b"entries %d%s %s" % (len(rows), body, b"more" if more else b"end")
