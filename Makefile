@@ -16,6 +16,7 @@ check: ## proves and tests the crates that changed since they last passed, and t
 test: ## proves everything from nothing, and runs every test; its last line counts the end-to-end checks
 	rt ci
 	tests/oracle
+	tests/exporter
 	tests/end-to-end
 
 soak: ## compares the slow oracle with the second table of operations over a million random requests

@@ -1,0 +1,115 @@
+"""A Git repository as a source of objects: what objects-from-git and git-objects share.
+
+Git runs free of the caller's GIT_* variables, so that the repository is the named one, and without replaced objects, so
+that an id gives the bytes that it names. A refusal carries Git's own last line.
+"""
+
+import os
+import re
+import subprocess
+
+PIECE = 1 << 20
+MODES = {b"40000", b"040000", b"100644", b"100664", b"100755", b"120000", b"160000"}
+FOLDERS = {b"40000", b"040000"}
+SUBMODULE = b"160000"
+
+
+class Refusal(Exception):
+    """What is wrong, in one line."""
+
+
+def environment():
+    clean = {name: value for name, value in os.environ.items() if not name.startswith("GIT_")}
+    return {**clean, "GIT_NO_REPLACE_OBJECTS": "1", "LC_ALL": "C"}
+
+
+def last_line(done):
+    """What Git said went wrong, and its last line, for a refusal."""
+    lines = [line.strip() for line in done.stderr.decode(errors="replace").splitlines() if line.strip()]
+    said = [line for line in lines if line.startswith(("fatal:", "error:"))][:1] + lines[-1:]
+    return "".join(f": {line}" for line in dict.fromkeys(said))
+
+
+def framed(word, length, pieces):
+    """An object's bytes, in pieces: its header, and its body."""
+    yield f"{word} {length}\0".encode()
+    yield from pieces
+
+
+class Repository:
+    def __init__(self, path):
+        self.path = path
+        done = self.git("rev-parse", "--git-dir")
+        if done.returncode != 0:
+            raise Refusal(f"{path} can't be read as a Git repository{last_line(done)}")
+        names = self.git("rev-parse", "--show-object-format")
+        if names.stdout.strip() != b"sha1":
+            raise Refusal(f"{path} names its objects by {names.stdout.decode().strip() or 'something'}, not by SHA-1")
+
+    def git(self, *words):
+        return subprocess.run(["git", "-C", self.path, *words], stdin=subprocess.DEVNULL, capture_output=True,
+                              env=environment())
+
+    def tree_of(self, revision):
+        """The id of a commit's tree, or of a tree that is named itself, as `HEAD:folder`."""
+        named = self.git("rev-parse", "--verify", "--end-of-options", revision)
+        found = named
+        if named.returncode == 0:
+            found = self.git("rev-parse", "--verify", named.stdout.decode().strip() + "^{tree}")
+        if found.returncode != 0:
+            raise Refusal(f"{revision} names no commit or tree of {self.path}{last_line(found)}")
+        return found.stdout.decode().strip()
+
+    def objects(self):
+        return Objects(self.path)
+
+
+class Objects:
+    """One `git cat-file` that is asked for one object after another."""
+
+    def __init__(self, path):
+        self.process = subprocess.Popen(["git", "-C", path, "cat-file", "--batch"], stdin=subprocess.PIPE,
+                                        stdout=subprocess.PIPE, stderr=subprocess.DEVNULL, env=environment())
+
+    def ask(self, object_id):
+        """The object's word and its length, and the body must be read next; None where the repository lacks it."""
+        try:
+            self.process.stdin.write(object_id.encode() + b"\n")
+            self.process.stdin.flush()
+        except BrokenPipeError:
+            raise Refusal("git ended before it was asked for all objects") from None
+        fields = self.process.stdout.readline().split()
+        if len(fields) == 3:
+            return fields[1].decode(), int(fields[2])
+        if fields[1:] == [b"missing"]:
+            return None
+        raise Refusal(f"git can't read the object {object_id}")
+
+    def pieces(self, length):
+        """The body, in pieces."""
+        while length > 0:
+            piece = self.process.stdout.read(min(length, PIECE))
+            if not piece:
+                raise Refusal("git ended in the middle of an object")
+            length -= len(piece)
+            yield piece
+        self.process.stdout.read(1)
+
+    def end(self):
+        """Ends git, wherever it is."""
+        self.process.kill()
+        self.process.communicate()
+
+
+ENTRY = re.compile(rb"([0-7]+) ([^\0]+)\0(.{20})", re.DOTALL)
+
+
+def entries(tree_id, body):
+    """The mode, the name and the id of each entry of a tree's body."""
+    at = 0
+    while at < len(body):
+        entry = ENTRY.match(body, at)
+        if entry is None:
+            raise Refusal(f"the tree {tree_id} is cut or damaged")
+        yield entry.group(1), entry.group(2), entry.group(3).hex()
+        at = entry.end()

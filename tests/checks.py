@@ -1,0 +1,86 @@
+"""What the end-to-end scripts share: counted checks, Git without the user's settings, and a repository with everything."""
+
+import os
+import subprocess
+
+passed = 0
+failed = 0
+
+
+def check(name, got, wanted):
+    global passed, failed
+    if got == wanted:
+        passed += 1
+    else:
+        failed += 1
+        print(f"FAILED {name}: got {got!r:.300}, wanted {wanted!r:.300}")
+
+
+# ---- Git
+
+
+def git(repository, *words, data=None, text=True):
+    """Runs git, free of the user's own settings."""
+    settings = ["-c", "user.name=Test", "-c", "user.email=test@example.org", "-c", "protocol.file.allow=always",
+                "-c", "commit.gpgsign=false", "-c", "init.defaultBranch=main"]
+    environment = {**os.environ, "GIT_CONFIG_GLOBAL": os.devnull, "GIT_CONFIG_SYSTEM": os.devnull}
+    done = subprocess.run(["git", *settings, "-C", str(repository), *words], input=data, capture_output=True,
+                          check=True, env=environment)
+    return done.stdout.decode().strip() if text else done.stdout
+
+
+def make_repository(folder):
+    """A repository with one of everything that a checkout can hold."""
+    inner = folder / "inner"
+    inner.mkdir()
+    git(inner, "init", "-q")
+    (inner / "a").write_text("a\n")
+    git(inner, "add", ".")
+    git(inner, "commit", "-qm", "inner")
+    outer = folder / "outer"
+    outer.mkdir()
+    git(outer, "init", "-q")
+    files = {
+        b"plain.txt": b"plain\n",
+        b"empty": b"",
+        b"with space": b"space\n",
+        b"per%cent": b"percent\n",
+        b"new\nline": b"line feed\n",
+        b"\xc3\xa9t\xc3\xa9": b"ete\n",
+        b"\xff\xfe": b"no text\n",
+        b"large.bin": bytes((i * i + i // 251) % 256 for i in range(300_000)),
+        b"page.bin": b"p" * (2 * 65_536),
+        b"dir/a": b"1", b"dir-x": b"2", b"dir.x": b"3", b"dir0": b"4",
+    }
+    files.update({b"many/%d" % i: b"%d\n" % i for i in range(30)})
+    files[b"/".join(b"d%d" % i for i in range(60)) + b"/deep"] = b"deep\n"
+    for name, content in files.items():
+        place = os.path.join(os.fsencode(outer), name)
+        os.makedirs(os.path.dirname(place), exist_ok=True)
+        with open(place, "wb") as file:
+            file.write(content)
+    program = outer / "run.sh"
+    program.write_text("#!/bin/sh\n")
+    program.chmod(0o755)
+    os.symlink("plain.txt", outer / "link")
+    os.symlink("no/where", outer / "dir" / "dangling")
+    git(outer, "submodule", "--quiet", "add", str(inner), "sub")
+    git(outer, "add", "-A")
+    git(outer, "commit", "-qm", "outer")
+    return outer
+
+
+def whole_tree(repository):
+    """Each path of the commit: its mode and its object's id."""
+    rows = {}
+    for row in git(repository, "ls-tree", "-rtz", "HEAD", text=False).split(b"\0")[:-1]:
+        head, path = row.split(b"\t", 1)
+        mode, _, object_id = head.split()
+        rows[path] = (mode, object_id.decode())
+    return rows
+
+
+def closing_line():
+    """Prints 'N passed, M failed', and gives the status."""
+    print(f"{passed} passed, {failed} failed")
+    return 1 if failed else 0
