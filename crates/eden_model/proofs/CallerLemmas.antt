@@ -10,6 +10,8 @@ use Rattle.std.proofs.lemmas.Slice.Eq.{bytes_eq-Decides}
 use Rattle.eden_model.specs.Trees.{Name}
 use Rattle.eden_model.specs.Named.{named, AreRising}
 pub use Rattle.eden_model.proofs.Keys.{same_id-Decides, same_key-Decides}
+pub use Rattle.eden_model.proofs.ShownLemmas.{follows_sources, sees_its_own, grafts_entry}
+pub use Rattle.eden_model.proofs.Wholes.{shown_is_tree}
 
 -- the value that a look-up of a name gives is that of the row of the name
 pub lookup-named : {V : Type 0} (n : Name) (rows : List (Name × V)) → lookup (bytes_eq n) rows ≡ option_map (λ r. r.1) (named (λ r. r.0) n rows)

@@ -4,6 +4,7 @@ pub mod Listings
 pub mod Lookups
 pub mod OneReply
 pub mod Shapes
+pub mod ShownLemmas
 pub mod Sorted
 pub mod Wholes
 pub mod Keys
