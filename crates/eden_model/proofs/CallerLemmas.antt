@@ -1,14 +1,12 @@
 -- What callers' proofs cite of the words in `specs/`.
-use Rattle.std.proofs.Common.{◌≡◌, ℕ, Bool, true, false, cond, List, [], ◌∷◌, Contains, Option, Some, None, refl, sym, ap, ◌∙◌}
+use Rattle.std.proofs.Common.{◌≡◌, Bool, true, false, cond, List, [], ◌∷◌, Option, Some, refl, sym, ap, ◌∙◌}
 use Rattle.std.specs.Str.{bytes_eq}
 use Rattle.std.specs.Map.{lookup}
 use Rattle.std.specs.Option.{option_map}
-use Rattle.std.specs.Ordering.{nat_cmp}
-use Rattle.std.specs.Cmp.{eq_by_cmp_equiv}
-use Rattle.std.proofs.lemmas.Cmp.{nat_list_cmp_total}
 use Rattle.std.proofs.lemmas.Slice.Eq.{bytes_eq-Decides}
 use Rattle.eden_model.specs.Trees.{Name}
-use Rattle.eden_model.specs.Named.{named, AreRising}
+use Rattle.eden_model.specs.Named.{named}
+pub use Rattle.eden_model.proofs.HistoryLemmas.{replay-append, Legal-append}
 pub use Rattle.eden_model.proofs.Keys.{same_id-Decides, same_key-Decides}
 pub use Rattle.eden_model.proofs.ShownLemmas.{follows_sources, sees_its_own, grafts_entry}
 pub use Rattle.eden_model.proofs.Wholes.{shown_is_tree}

@@ -1,5 +1,6 @@
 pub mod CallerLemmas
 pub mod Walks
+pub mod HistoryLemmas
 pub mod Listings
 pub mod Lookups
 pub mod OneReply

@@ -1,12 +1,11 @@
 -- What grounds show, path by path.
-use Rattle.std.proofs.Common.{◌≡◌, ◌≢◌, ℕ, Bool, true, false, cond, List, [], ◌∷◌, ◌++◌, Option, Some, None, refl, sym, ap, ◌∙◌}
+use Rattle.std.proofs.Common.{◌≡◌, ◌≢◌, Bool, true, false, cond, [], ◌∷◌, Option, Some, None, refl, sym, ap, ◌∙◌}
 use Rattle.std.proofs.Math.Path.{fun_ext}
 use Rattle.std.specs.Option.{option_map, option_and_then, is_some}
 use Rattle.std.specs.Str.{bytes_eq}
 use Rattle.std.proofs.lemmas.Slice.Eq.{bytes_eq-Decides}
 use Rattle.eden_model.specs.declared.kind.Kind.{Kind}
 use Rattle.eden_model.specs.declared.kind.Kind.TheVariants as kind
-use Rattle.eden_model.specs.declared.node.Node.{Node}
 use Rattle.eden_model.specs.Paths.{behind_of}
 use Rattle.eden_model.specs.Trees.{Name, Path, Tree, grafted, graft}
 use Rattle.eden_model.specs.Shown.{Item, Items, Ground, node_from, node_of, if_dir, entry_in, shown, shown_at, item_at, map_item, map_items, Agree}
