@@ -1,6 +1,7 @@
 pub mod Children
 pub mod Halving
 pub mod NameOrder
-pub mod Pointwise
+pub mod Edits
+pub mod Lookups
 pub mod Rising
 pub mod RowLemmas

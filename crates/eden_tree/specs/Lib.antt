@@ -1,4 +1,5 @@
 pub mod Directory
+pub mod Coding
 pub mod Rows
 pub mod Places
 pub mod Paths
