@@ -2,11 +2,11 @@
 use Rattle.std.proofs.Common.{◌≡◌, ℕ, Bool, true, false, cond, List, [], ◌∷◌, ◌++◌, Option, Some, None, length, refl, sym, ap, ◌∙◌, subst, arith}
 use Rattle.std.specs.Option.{option_map, option_and_then}
 use Rattle.std.specs.Str.{bytes_eq}
-use Rattle.eden_model.specs.Trees.{Name, Path}
+use Rattle.eden_model.specs.Trees.{Name, Path, grafted}
 use Rattle.eden_model.specs.Paths.{behind_of}
 use Rattle.eden_tree.specs.Directory.{Row, Directory, child_of, with_child, change_child, change_rows}
 use Rattle.eden_tree.specs.Rows.{find_row, put_row, drop_row, change_row, set_row}
-use Rattle.eden_tree.specs.Paths.{row_at, edit_row, stamped_along, Standing, standing, standing_at, stamped, grafted}
+use Rattle.eden_tree.specs.Paths.{row_at, edit_row, stamped_along, Standing, standing, standing_at, stamped}
 use Rattle.eden_tree.specs.Laws.{PutsOne, DropsOne, ChangesOne, ReadsOn, EditsOn, EditsThere, EditsNotBeside, EditsOne, EditsNothing, EditsSame, EditsTwice, PutsAt, DropsAt, StampsAlong, HoldsWhatWasPut, PutsBackChild, StepsDown, StepsBack}
 use Rattle.eden_tree.proofs.NameOrder.{same-≡, same-refl, same-both}
 use Rattle.eden_tree.proofs.RowLemmas.{set_row-same, change_row-found, change_row-absent}

@@ -1,11 +1,12 @@
 -- What the equations of the calls say path by path.
-use Rattle.std.specs.Prelude.{◌≡◌, [], ◌∷◌, ◌++◌, ℕ, Option, Some, None}
+use Rattle.std.specs.Prelude.{◌≡◌, [], ◌∷◌, ◌++◌, ℕ, List, Option, Some, None}
 use Rattle.std.specs.Option.{option_and_then, option_map}
-use Rattle.eden_model.specs.Trees.{Name, Path}
+use Rattle.eden_model.specs.Trees.{Name, Path, grafted}
 use Rattle.eden_model.specs.Paths.{behind_of}
 use Rattle.eden_tree.specs.Directory.{Row, Directory, child_of, with_child, change_rows}
-use Rattle.eden_tree.specs.Rows.{find_row, put_row, drop_row, change_row, set_row, AreRising}
-use Rattle.eden_tree.specs.Paths.{row_at, edit_row, stamped_along, standing_at, standing_in, stamped, grafted}
+use Rattle.eden_tree.specs.Rows.{find_row, put_row, drop_row, change_row, set_row}
+use Rattle.eden_model.specs.Named.{AreRising}
+use Rattle.eden_tree.specs.Paths.{row_at, edit_row, stamped_along, standing_at, standing_in, stamped}
 
 -- ---- in one directory
 
@@ -16,13 +17,44 @@ PutsOne = (d : Directory) (n : Name) (x : Row) (q : Path) → find_row n d.rows 
 
 -- with an entry taken out, nothing stands at and below its name, and every other path is as it was
 abbrev pub DropsOne : Type 0
-DropsOne = (d : Directory) (n : Name) (q : Path) → AreRising d.rows
+DropsOne = (d : Directory) (n : Name) (q : Path) → AreRising (λ r. r.0) d.rows
     → standing_in q (record d { rows = drop_row n d.rows }) ≡ grafted (behind_of (n ∷ []) q) (λ r. None) (standing_in q d)
 
 -- with an entry changed, the new one stands at and below its name, and every other path is as it was
 abbrev pub ChangesOne : Type 0
 ChangesOne = (d : Directory) (n : Name) (f : Row → Row) (x : Row) (q : Path) → find_row n d.rows ≡ Some x
     → standing_in q (record d { rows = change_row n f d.rows }) ≡ grafted (behind_of (n ∷ []) q) (λ r. standing_at r (f x)) (standing_in q d)
+
+-- what was put in and is taken out, taken out and put in, or set and set back, is as it was
+abbrev pub PutsUndone : Type 0
+PutsUndone = (n : Name) (x : Row) (rows : List (Name × Row)) → find_row n rows ≡ None → drop_row n (put_row n x rows) ≡ rows
+
+abbrev pub DropsUndone : Type 0
+DropsUndone = (n : Name) (x : Row) (rows : List (Name × Row)) → AreRising (λ r. r.0) rows → find_row n rows ≡ Some x → put_row n x (drop_row n rows) ≡ rows
+
+abbrev pub SetsUndone : Type 0
+SetsUndone = (n : Name) (x y : Row) (rows : List (Name × Row)) → find_row n rows ≡ Some y → set_row n y (set_row n x rows) ≡ rows
+
+-- what stands before and behind the entry x of a name, and stays there
+pub record IsSplit (n : Name) (x : Row) (rows : List (Name × Row)) : Type 0 where
+  pub front : List (Name × Row)
+  pub back : List (Name × Row)
+  pub is : rows ≡ front ++ (n, x) ∷ back
+  pub dropped : drop_row n rows ≡ front ++ back
+  pub changed : (f : Row → Row) → change_row n f rows ≡ front ++ (n, f x) ∷ back
+
+abbrev pub Splits : Type 0
+Splits = (n : Name) (x : Row) (rows : List (Name × Row)) → find_row n rows ≡ Some x → IsSplit n x rows
+
+-- what stands before and behind an entry that is put in, and stays there
+pub record IsBetween (n : Name) (x : Row) (rows : List (Name × Row)) : Type 0 where
+  pub front : List (Name × Row)
+  pub back : List (Name × Row)
+  pub is : rows ≡ front ++ back
+  pub put : put_row n x rows ≡ front ++ (n, x) ∷ back
+
+abbrev pub PutsBetween : Type 0
+PutsBetween = (n : Name) (x : Row) (rows : List (Name × Row)) → IsBetween n x rows
 
 -- ---- from an entry on
 
@@ -63,7 +95,7 @@ PutsAt = (p : Path) (n : Name) (z x y : Row) (d : Directory) (q : Path) → row_
     → standing_at q (edit_row p (change_rows (put_row n z)) x) ≡ grafted (behind_of (p ++ n ∷ []) q) (λ r. standing_at r z) (standing_at q x)
 
 abbrev pub DropsAt : Type 0
-DropsAt = (p : Path) (n : Name) (x y : Row) (d : Directory) (q : Path) → row_at p x ≡ Some y → child_of y ≡ Some d → AreRising d.rows
+DropsAt = (p : Path) (n : Name) (x y : Row) (d : Directory) (q : Path) → row_at p x ≡ Some y → child_of y ≡ Some d → AreRising (λ r. r.0) d.rows
     → standing_at q (edit_row p (change_rows (drop_row n)) x) ≡ grafted (behind_of (p ++ n ∷ []) q) (λ r. None) (standing_at q x)
 
 -- the directories of the path are stamped, and every other path is as it was

@@ -68,9 +68,3 @@ abbrev mutual
 -- this one among them
 abbrev pub depth_of : Directory → ℕ
 depth_of d = suc (deepest (rows_of d.rows))
-
--- ---- below a path this, and elsewhere that
-
-abbrev pub grafted : {X : Type 0} → Option Path → (Path → X) → X → X
-grafted None below elsewhere = elsewhere
-grafted (Some r) below elsewhere = below r

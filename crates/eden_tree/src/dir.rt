@@ -3,7 +3,8 @@ ghost use Rattle.std.specs.Borrow.{sem};
 ghost use Rattle.std.specs.Map.{keys_of};
 ghost use Rattle.std.specs.Option.{option_copied, option_copied_mut, option_map, option_and_then};
 ghost use Rattle.eden_tree.specs.Directory.{child_of, with_child};
-ghost use Rattle.eden_tree.specs.Rows.{find_row, put_row, drop_row, change_row, set_row, AreRising};
+ghost use Rattle.eden_tree.specs.Rows.{find_row, put_row, drop_row, change_row, set_row};
+ghost use Rattle.eden_model.specs.Named.{AreRising};
 ghost use Rattle.eden_tree.specs.Paths.{directory_at, depth_of};
 
 use crate::search::{place, search};
@@ -163,7 +164,7 @@ impl<A: Allocator> Dir<A> {
     /// How many entries there are.
     pub fn count(&self) -> u32
         ensures value { result ≡ length self.now.rows }
-        ensures rising { AreRising self.now.rows }
+        ensures rising { AreRising (λ r. r.0) self.now.rows }
     {
         self.items.len() as u32
     }

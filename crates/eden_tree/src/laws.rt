@@ -1,4 +1,5 @@
 ghost use Rattle.eden_tree.specs.Laws.{PutsOne, DropsOne, ChangesOne, ReadsOn, EditsOn, EditsThere, EditsNotBeside, EditsOne, EditsNothing, EditsSame, EditsTwice};
+ghost use Rattle.eden_tree.specs.Laws.{PutsUndone, DropsUndone, SetsUndone, Splits, PutsBetween};
 ghost use Rattle.eden_tree.specs.Laws.{PutsAt, DropsAt, StampsAlong, HoldsWhatWasPut, PutsBackChild, StepsDown, StepsBack};
 
 /// What the equations of a directory's calls say path by path: one entry changes, and every other path is as before.
@@ -8,6 +9,11 @@ pub fn directory_laws()
     ensures puts { PutsOne }
     ensures drops { DropsOne }
     ensures changes { ChangesOne }
+    ensures puts_undone { PutsUndone }
+    ensures drops_undone { DropsUndone }
+    ensures sets_undone { SetsUndone }
+    ensures splits { Splits }
+    ensures between { PutsBetween }
 
     ensures reads_on { ReadsOn }
     ensures edits_on { EditsOn }

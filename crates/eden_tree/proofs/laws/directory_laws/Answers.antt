@@ -1,4 +1,6 @@
 use Rattle.eden_tree.proofs.Edits.{puts_one, drops_one, changes_one, reads_on, edits_on, edits_there, edits_not_beside, edits_one, edits_nothing, edits_same, edits_twice, puts_at, drops_at, stamps_along, holds_what_was_put, puts_back_child, steps_down, steps_back}
+use Rattle.eden_tree.proofs.Lookups.{puts_undone, drops_undone, sets_undone}
+use Rattle.eden_tree.proofs.Positions.{splits, puts_between}
 use Rattle.eden_tree.proofs.laws.directory_laws.Goals as goal
 
 pub returns-clause-puts : goal.returns-clause-puts
@@ -54,3 +56,18 @@ returns-clause-steps_down c = steps_down
 
 pub returns-clause-steps_back : goal.returns-clause-steps_back
 returns-clause-steps_back c = steps_back
+
+pub returns-clause-puts_undone : goal.returns-clause-puts_undone
+returns-clause-puts_undone c = puts_undone
+
+pub returns-clause-drops_undone : goal.returns-clause-drops_undone
+returns-clause-drops_undone c = drops_undone
+
+pub returns-clause-sets_undone : goal.returns-clause-sets_undone
+returns-clause-sets_undone c = sets_undone
+
+pub returns-clause-splits : goal.returns-clause-splits
+returns-clause-splits c = splits
+
+pub returns-clause-between : goal.returns-clause-between
+returns-clause-between c = puts_between
