@@ -3,10 +3,8 @@ use Rattle.std.proofs.Common.{◌≡◌, ℕ, ◌<◌, suc, zero, ◌+◌, List,
 use Rattle.std.specs.Option.{option_map, option_and_then}
 use Rattle.eden_model.specs.declared.kind.Kind.{Kind}
 use Rattle.eden_model.specs.declared.kind.Origin.{Origin}
-use Rattle.eden_model.specs.Trees.{Name, Path}
+use Rattle.eden_model.specs.Trees.{Name}
 use Rattle.eden_tree.specs.Directory.{Child, unloaded, loaded, Rows, end, row, Row, Directory, rows_of, listed, directory_in, child_from, child_of, with_child, child_size, rows_size, row_size, directory_size}
-use Rattle.eden_tree.specs.Rows.{find_row}
-use Rattle.eden_tree.specs.Paths.{directory_at}
 use Rattle.eden_tree.specs.Seen.{row_from}
 
 pub listed-rows_of : (es : List (Name × Row)) → listed (rows_of es) ≡ es
@@ -50,11 +48,6 @@ module _ {A : Type 0} (k : ℕ) (d : Kind) (o : Origin) (c : Option (Box Directo
 pub itself : {X : Type 0} (o : Option X) → option_and_then (λ x. Some x) o ≡ o
 itself None = refl
 itself (Some x) = refl
-
--- ---- one step of a walk
-
-pub walked : (n : Name) (p : Path) (d : Directory) (x : Row) (e : Option Directory) → find_row n d.rows ≡ Some x → child_of x ≡ e → directory_at (n ∷ p) d ≡ option_and_then (directory_at p) e
-walked n p d x e f h = ap (option_and_then (λ x. option_and_then (directory_at p) (child_of x))) f ∙ ap (option_and_then (directory_at p)) h
 
 -- an entry's child is smaller than the rows
 pub child_smaller : (es : List (Name × Row)) (i : ℕ) (x : Name × Row) → i < length es → x ≡ get_or es i x → child_size x.1.child < rows_size (rows_of es)

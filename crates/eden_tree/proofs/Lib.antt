@@ -1,6 +1,9 @@
+pub mod CallerLemmas
 pub mod Children
 pub mod Halving
 pub mod NameOrder
-pub mod Pointwise
+pub mod Edits
+pub mod Lookups
+pub mod Positions
 pub mod Rising
 pub mod RowLemmas

@@ -11,7 +11,8 @@ use Rattle.std.proofs.lemmas.Bool.{cases_lt}
 use Rattle.eden_model.specs.Trees.{Name}
 use Rattle.eden_model.specs.Operations.{name_lt}
 use Rattle.eden_tree.specs.Directory.{Row}
-use Rattle.eden_tree.specs.Rows.{find_row, put_row, drop_row, change_row, set_row, set_at, AreRising, AreRows}
+use Rattle.eden_tree.specs.Rows.{find_row, put_row, drop_row, change_row, set_row, set_at, AreRows}
+use Rattle.eden_model.specs.Named.{AreRising}
 use Rattle.eden_tree.specs.Places.{IsAt, IsGap}
 use Rattle.eden_tree.proofs.Rising.{IsBelow, first_below, others, none_rise, joined}
 use Rattle.eden_tree.proofs.NameOrder.{order, same-less, same-equal, same-greater, lt-less, lt-greater, greater-less, less-greater, equal-≡, lt-≡, beyond}
@@ -28,7 +29,7 @@ IsBelow-get n [] k d p h = absurd (omega arith)
 IsBelow-get n (e ∷ es) zero d p h = p.0
 IsBelow-get n (e ∷ es) (suc k) d p h = IsBelow-get n es k d p.1 (omega arith)
 
-pub rises : (es : List Named) (j k : ℕ) (d : Named) → AreRising es → j < k → k < length es → order (get_or es j d).0 (get_or es k d).0 ≡ Less
+pub rises : (es : List Named) (j k : ℕ) (d : Named) → AreRising (λ r. r.0) es → j < k → k < length es → order (get_or es j d).0 (get_or es k d).0 ≡ Less
 rises [] j k d p h g = absurd (omega arith)
 rises (e ∷ es) zero zero d p h g = absurd (omega arith)
 rises (e ∷ es) zero (suc k) d p h g = IsBelow-get e.0 es k d (first_below e es p) (omega arith)
@@ -37,7 +38,7 @@ rises (e ∷ es) (suc j) (suc k) d p h g = rises es j k d (others e es p) (omega
 
 -- ---- a binary search
 
-pub less_through : (es : List Named) (n : Name) (mid : ℕ) (x : Named) → AreRising es → mid < length es → order (get_or es mid x).0 n ≡ Less
+pub less_through : (es : List Named) (n : Name) (mid : ℕ) (x : Named) → AreRising (λ r. r.0) es → mid < length es → order (get_or es mid x).0 n ≡ Less
     → (j : ℕ) (d : Named) → j < mid + 1 → order (get_or es j d).0 n ≡ Less
 less_through es n mid x p lt h j d below =
     let here : order (get_or es mid d).0 n ≡ Less = rw (get_or_default es mid d x lt) h in
@@ -46,7 +47,7 @@ less_through es n mid x p lt h j d below =
       | inr from ↦ subst (λ k. order (get_or es k d).0 n ≡ Less) {x = mid} (omega arith) here
     ]
 
-pub greater_through : (es : List Named) (n : Name) (mid : ℕ) (x : Named) → AreRising es → mid < length es → order (get_or es mid x).0 n ≡ Greater
+pub greater_through : (es : List Named) (n : Name) (mid : ℕ) (x : Named) → AreRising (λ r. r.0) es → mid < length es → order (get_or es mid x).0 n ≡ Greater
     → (j : ℕ) (d : Named) → mid ≤ j → j < length es → order (get_or es j d).0 n ≡ Greater
 greater_through es n mid x p lt h j d from within =
     let here : order (get_or es mid d).0 n ≡ Greater = rw (get_or_default es mid d x lt) h in
@@ -60,7 +61,7 @@ at_here es n mid x lt h d = rw (get_or_default es mid d x lt) h
 
 -- ---- places
 
-before_at : (e : Named) (es : List Named) (n : Name) (i : ℕ) → AreRising (e ∷ es) → IsAt (e ∷ es) n (suc i) → order e.0 n ≡ Less
+before_at : (e : Named) (es : List Named) (n : Name) (i : ℕ) → AreRising (λ r. r.0) (e ∷ es) → IsAt (e ∷ es) n (suc i) → order e.0 n ≡ Less
 before_at e es n i p h = subst (λ m. order e.0 m ≡ Less) (equal-≡ (get_or es i e).0 n (h.same e)) (rises (e ∷ es) 0 (suc i) e p (omega arith) h.in_range)
 
 at_tail : (e : Named) (es : List Named) (n : Name) (i : ℕ) → IsAt (e ∷ es) n (suc i) → IsAt es n i
@@ -73,7 +74,7 @@ gap_tail e es n i h = record {
   greater_from = λ j d le lt. h.greater_from (suc j) d (omega arith) (omega arith);
 }
 
-gap_below : (es : List Named) (n : Name) → AreRising es → IsGap es n zero → IsBelow n es
+gap_below : (es : List Named) (n : Name) → AreRising (λ r. r.0) es → IsGap es n zero → IsBelow n es
 gap_below [] n p h = tt
 gap_below (e ∷ es) n p h = let less = greater-less e.0 n (h.greater_from 0 e (omega arith) (omega arith)) in (less, IsBelow-trans n e.0 es less (first_below e es p))
 
@@ -88,12 +89,12 @@ pub find_row-below : (n : Name) (es : List Named) → IsBelow n es → find_row 
 find_row-below n [] p = refl
 find_row-below n (e ∷ es) p = passed _ _ _ (same-greater e.0 n (less-greater n e.0 p.0)) ∙ find_row-below n es p.1
 
-pub find_row-at : (es : List Named) (n : Name) (i : ℕ) (d : Named) → AreRising es → IsAt es n i → find_row n es ≡ Some (get_or es i d).1
+pub find_row-at : (es : List Named) (n : Name) (i : ℕ) (d : Named) → AreRising (λ r. r.0) es → IsAt es n i → find_row n es ≡ Some (get_or es i d).1
 find_row-at [] n i d p h = absurd (omega (arith, h.in_range))
 find_row-at (e ∷ es) n zero d p h = chosen _ _ _ (same-equal e.0 n (h.same d))
 find_row-at (e ∷ es) n (suc i) d p h = passed _ _ _ (same-less e.0 n (before_at e es n i p h)) ∙ find_row-at es n i d (others e es p) (at_tail e es n i h)
 
-pub find_row-gap : (es : List Named) (n : Name) (i : ℕ) → AreRising es → IsGap es n i → find_row n es ≡ None
+pub find_row-gap : (es : List Named) (n : Name) (i : ℕ) → AreRising (λ r. r.0) es → IsGap es n i → find_row n es ≡ None
 find_row-gap es n zero p h = find_row-below n es (gap_below es n p h)
 find_row-gap [] n (suc i) p h = refl
 find_row-gap (e ∷ es) n (suc i) p h = passed _ _ _ (same-less e.0 n (h.less_before 0 e (omega arith))) ∙ find_row-gap es n i (others e es p) (gap_tail e es n i h)
@@ -116,12 +117,12 @@ IsBelow-put_row m n x [] h p = (h, tt)
 IsBelow-put_row m n x (e ∷ es) h p = elim (name_lt n e.0) as (λ b. IsBelow m (cond b ((n, x) ∷ (e ∷ es)) (e ∷ put_row n x es))) [ true ↦ (h, p) | false ↦ (p.0, IsBelow-put_row m n x es h p.1) ]
 
 -- the names still rise
-pub AreRising-put_row : (n : Name) (x : Row) (es : List Named) → find_row n es ≡ None → AreRising es → AreRising (put_row n x es)
+pub AreRising-put_row : (n : Name) (x : Row) (es : List Named) → find_row n es ≡ None → AreRising (λ r. r.0) es → AreRising (λ r. r.0) (put_row n x es)
 AreRising-put_row n x [] h p = joined (n, x) [] tt none_rise
 AreRising-put_row n x (e ∷ es) h p =
-    elim (bytes_eq n e.0) as (λ b. bytes_eq n e.0 ≡ b → cond b (Some e.1) (find_row n es) ≡ None → AreRising (put_row n x (e ∷ es))) [
+    elim (bytes_eq n e.0) as (λ b. bytes_eq n e.0 ≡ b → cond b (Some e.1) (find_row n es) ≡ None → AreRising (λ r. r.0) (put_row n x (e ∷ es))) [
       | true ↦ λ s k. absurd (cc)
-      | false ↦ λ s k. elim (name_lt n e.0) as (λ b. name_lt n e.0 ≡ b → AreRising (cond b ((n, x) ∷ (e ∷ es)) (e ∷ put_row n x es))) [
+      | false ↦ λ s k. elim (name_lt n e.0) as (λ b. name_lt n e.0 ≡ b → AreRising (λ r. r.0) (cond b ((n, x) ∷ (e ∷ es)) (e ∷ put_row n x es))) [
         | true ↦ λ l. joined (n, x) (e ∷ es) (lt-≡ n e.0 l, IsBelow-trans n e.0 es (lt-≡ n e.0 l) (first_below e es p)) p
         | false ↦ λ l. joined e (put_row n x es) (IsBelow-put_row e.0 n x es (beyond n e.0 l s) (first_below e es p)) (AreRising-put_row n x es k (others e es p))
       ] refl
@@ -133,7 +134,7 @@ length-put_row n x (e ∷ es) = elim (name_lt n e.0) as (λ b. length (cond b ((
 
 -- ---- remove
 
-pub remove-at : (es : List Named) (n : Name) (i : ℕ) → AreRising es → IsAt es n i → remove es i ≡ drop_row n es
+pub remove-at : (es : List Named) (n : Name) (i : ℕ) → AreRising (λ r. r.0) es → IsAt es n i → remove es i ≡ drop_row n es
 remove-at [] n i p h = absurd (omega (arith, h.in_range))
 remove-at (e ∷ es) n zero p h = sym (chosen _ _ _ (same-equal e.0 n (h.same e)))
 remove-at (e ∷ es) n (suc i) p h = ap (λ l. e ∷ l) (remove-at es n i (others e es p) (at_tail e es n i h)) ∙ sym (passed _ _ _ (same-less e.0 n (before_at e es n i p h)))
@@ -150,9 +151,9 @@ IsBelow-drop_row : (m n : Name) (es : List Named) → IsBelow m es → IsBelow m
 IsBelow-drop_row m n [] p = tt
 IsBelow-drop_row m n (e ∷ es) p = elim (bytes_eq n e.0) as (λ b. IsBelow m (cond b es (e ∷ drop_row n es))) [ true ↦ p.1 | false ↦ (p.0, IsBelow-drop_row m n es p.1) ]
 
-pub AreRising-drop_row : (n : Name) (es : List Named) → AreRising es → AreRising (drop_row n es)
+pub AreRising-drop_row : (n : Name) (es : List Named) → AreRising (λ r. r.0) es → AreRising (λ r. r.0) (drop_row n es)
 AreRising-drop_row n [] p = none_rise
-AreRising-drop_row n (e ∷ es) p = elim (bytes_eq n e.0) as (λ b. AreRising (cond b es (e ∷ drop_row n es))) [ true ↦ others e es p | false ↦ joined e (drop_row n es) (IsBelow-drop_row e.0 n es (first_below e es p)) (AreRising-drop_row n es (others e es p)) ]
+AreRising-drop_row n (e ∷ es) p = elim (bytes_eq n e.0) as (λ b. AreRising (λ r. r.0) (cond b es (e ∷ drop_row n es))) [ true ↦ others e es p | false ↦ joined e (drop_row n es) (IsBelow-drop_row e.0 n es (first_below e es p)) (AreRising-drop_row n es (others e es p)) ]
 
 pub length-drop_row : (n : Name) (es : List Named) → IsSome (find_row n es) → suc (length (drop_row n es)) ≡ length es
 length-drop_row n [] h = absurd (cc)
@@ -164,7 +165,7 @@ length-drop_row n (e ∷ es) h =
 
 -- ---- change
 
-pub set-at : (es : List Named) (n : Name) (i : ℕ) (d : Named) (x : Row) → AreRising es → IsAt es n i → set es i ((get_or es i d).0, x) ≡ set_row n x es
+pub set-at : (es : List Named) (n : Name) (i : ℕ) (d : Named) (x : Row) → AreRising (λ r. r.0) es → IsAt es n i → set es i ((get_or es i d).0, x) ≡ set_row n x es
 set-at [] n i d x p h = absurd (omega (arith, h.in_range))
 set-at (e ∷ es) n zero d x p h = sym (chosen _ _ _ (same-equal e.0 n (h.same d)))
 set-at (e ∷ es) n (suc i) d x p h = ap (λ l. e ∷ l) (set-at es n i d x (others e es p) (at_tail e es n i h)) ∙ sym (passed _ _ _ (same-less e.0 n (before_at e es n i p h)))
@@ -224,7 +225,7 @@ slice_get-beyond (e ∷ es) (suc i) h = slice_get-beyond es i (omega arith)
 
 -- ---- what every directory keeps
 
-length-keys : (es : List Named) → length (keys_of es) ≡ length es
+pub length-keys : (es : List Named) → length (keys_of es) ≡ length es
 length-keys [] = refl
 length-keys (e ∷ es) = ap suc (length-keys es)
 

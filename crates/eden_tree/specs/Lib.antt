@@ -1,7 +1,9 @@
 pub mod Directory
+pub mod Coding
 pub mod Rows
 pub mod Places
 pub mod Paths
+pub mod Changes
 pub mod Laws
 pub mod Seen
 pub mod SeenFalls

@@ -1,15 +1,13 @@
 -- The rows of one directory.
 use Rattle.std.specs.Prelude.{ℕ, zero, suc, ◌<◌, ◌≡◌, ◌^◌, if◌then◌else◌, List, [], ◌∷◌, length, Option}
 use Rattle.std.specs.Option.{IsSome}
-use Rattle.std.specs.Map.{lookup, keys_of}
+use Rattle.std.specs.Map.{lookup}
 use Rattle.std.specs.Str.{bytes_eq}
-use Rattle.std.specs.Ordering.{nat_cmp}
-use Rattle.std.specs.Cmp.Lexicographic.{slice_cmp}
-use Rattle.std.specs.List.Sorted.{IsStrictlySortedBy}
 use Rattle.eden_model.specs.declared.kind.Kind.TheVariants as kind
 use Rattle.eden_model.specs.declared.kind.Origin.TheVariants as origin
 use Rattle.eden_model.specs.Trees.{Name}
 use Rattle.eden_model.specs.Operations.{name_lt}
+use Rattle.eden_model.specs.Named.{AreRising}
 use Rattle.eden_tree.specs.Directory.{Row, child_of}
 
 -- the entry of that name
@@ -41,10 +39,6 @@ set_at i x [] = []
 set_at zero x (e ∷ es) = (e.0, x) ∷ es
 set_at (suc i) x (e ∷ es) = e ∷ set_at i x es
 
--- names rise, in byte order, so none comes twice
-abbrev pub AreRising : List (Name × Row) → Type 0
-AreRising rows = IsStrictlySortedBy (slice_cmp nat_cmp) (keys_of rows)
-
 -- a loaded directory and the origin Empty stand with a directory alone
 pub record IsEntry (x : Row) : Type 0 where
   pub loaded : IsSome (child_of x) → x.kind ≡ kind.Dir
@@ -52,5 +46,5 @@ pub record IsEntry (x : Row) : Type 0 where
 
 -- what every directory keeps
 pub record AreRows (rows : List (Name × Row)) : Type 0 where
-  pub rising : AreRising rows
+  pub rising : AreRising (λ r. r.0) rows
   pub few : length rows < 2 ^ 32

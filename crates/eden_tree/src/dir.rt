@@ -3,7 +3,8 @@ ghost use Rattle.std.specs.Borrow.{sem};
 ghost use Rattle.std.specs.Map.{keys_of};
 ghost use Rattle.std.specs.Option.{option_copied, option_copied_mut, option_map, option_and_then};
 ghost use Rattle.eden_tree.specs.Directory.{child_of, with_child};
-ghost use Rattle.eden_tree.specs.Rows.{find_row, put_row, drop_row, change_row, set_row, AreRising};
+ghost use Rattle.eden_tree.specs.Rows.{find_row, put_row, drop_row, change_row, set_row};
+ghost use Rattle.eden_model.specs.Named.{AreRising};
 ghost use Rattle.eden_tree.specs.Paths.{directory_at, depth_of};
 
 use crate::search::{place, search};
@@ -27,7 +28,8 @@ pub struct Entry<A: Allocator> {
 }
 
 impl<A: Allocator> Model for Entry<A> {
-    ghost use Rattle.eden_tree.specs.Directory.{Row, row_code, row_size};
+    ghost use Rattle.eden_tree.specs.Directory.{Row, row_size};
+    ghost use Rattle.eden_tree.specs.Coding.{row_code};
 
     ghost Value = { Row };
 
@@ -47,6 +49,45 @@ impl<A: Allocator> Model for Entry<A> {
     ghost size_decreases = { λ e h. entry_falls A.Allocator e };
 }
 
+impl<A: Allocator> Entry<A> {
+    ghost use Rattle.eden_tree.specs.Paths.{row_at, stamped_along};
+
+    /// The entry at a path from this one on, through loaded directories: one look-up for each name.
+    pub fn walk(&self, path: &[Name]) -> Option<&Entry<A>>
+        ensures { option_copied result ≡ row_at path.now self.now }
+    {
+        match path.split_first() {
+            None => Some(self),
+            Some((name, rest)) => match &self.child {
+                None => None,
+                Some(child) => match child.get(name) {
+                    None => None,
+                    Some(entry) => entry.walk(rest),
+                },
+            },
+        }
+    }
+
+    /// Stamps the loaded directories of a path, this entry's and that at the end among them, as far as they are loaded.
+    pub fn stamp_along(&mut self, path: &[Name], stamp: u64)
+        ensures { self.new ≡ stamped_along path.now stamp self.old }
+    {
+        match &mut self.child {
+            None => return,
+            Some(child) => {
+                child.set_stamp(stamp);
+                match path.split_first() {
+                    None => return,
+                    Some((name, rest)) => match child.get_mut(name) {
+                        None => return,
+                        Some(entry) => entry.stamp_along(rest, stamp),
+                    },
+                }
+            }
+        }
+    }
+}
+
 /// A loaded directory: its entries by name, the clock of its last use, and a mark that a change of it is unsaved.
 ///
 /// It has at most 2^32 - 1 entries. Only `insert` takes memory.
@@ -59,7 +100,8 @@ pub struct Dir<A: Allocator> {
 }
 
 impl<A: Allocator> Model for Dir<A> {
-    ghost use Rattle.eden_tree.specs.Directory.{Directory, directory_code, directory_size};
+    ghost use Rattle.eden_tree.specs.Directory.{Directory, directory_size};
+    ghost use Rattle.eden_tree.specs.Coding.{directory_code};
 
     ghost Value = { Directory };
 
@@ -122,7 +164,7 @@ impl<A: Allocator> Dir<A> {
     /// How many entries there are.
     pub fn count(&self) -> u32
         ensures value { result ≡ length self.now.rows }
-        ensures rising { AreRising self.now.rows }
+        ensures rising { AreRising (λ r. r.0) self.now.rows }
     {
         self.items.len() as u32
     }
@@ -185,10 +227,11 @@ impl<A: Allocator> Dir<A> {
 
     /// Puts in an entry under a name that isn't there.
     ///
-    /// Where the name is there, the directory is full or there is no memory, it is refused: name and entry come back,
-    /// and nothing has changed.
+    /// Where the name is there, there are 2^32 - 1 entries or there is no memory, it is refused: name and entry come
+    /// back, and nothing has changed.
     pub fn insert(&mut self, name: Name, entry: Entry<A>) -> Result<(), (Name, Entry<A>)>
         ensures absent { OnOk result (find_row name self.old.rows ≡ None) }
+        ensures room { OnOk result (length self.old.rows < u32.MAX) }
         ensures ok { OnOk result (self.new ≡ record self.old { rows = put_row name entry self.old.rows }) }
         ensures err { OnErr result (self.new ≡ self.old) }
         ensures handed_back { IfErr result (λ e. e ≡ (name, entry)) }
@@ -235,7 +278,7 @@ impl<A: Allocator> Dir<A> {
 
     /// Takes out the loaded directory under the entry of that name; the entry stays.
     pub fn detach(&mut self, name: &Name) -> Option<Box<Dir<A>, A>>
-        ensures taken { option_map (λ b. b.value) result ≡ directory_at (name.now ∷ []) self.old }
+        ensures taken { option_map (λ b. b.value) result ≡ option_and_then child_of (find_row name.now self.old.rows) }
         ensures left { self.new ≡ record self.old { rows = change_row name.now (with_child None) self.old.rows } }
     {
         match self.get_mut(name) {
@@ -255,7 +298,7 @@ impl<A: Allocator> Dir<A> {
         }
     }
 
-    /// The loaded directory at a path.
+    /// The loaded directory at a path: one look-up for each name.
     pub fn walk(&self, path: &[Name]) -> Option<&Dir<A>>
         ensures { option_copied result ≡ directory_at path.now self.now }
     {
@@ -263,9 +306,12 @@ impl<A: Allocator> Dir<A> {
             None => Some(self),
             Some((name, rest)) => match self.get(name) {
                 None => None,
-                Some(entry) => match &entry.child {
+                Some(entry) => match entry.walk(rest) {
                     None => None,
-                    Some(child) => child.walk(rest),
+                    Some(last) => match &last.child {
+                        None => None,
+                        Some(child) => Some(child),
+                    },
                 },
             },
         }

@@ -6,11 +6,13 @@
 //! entry's `child`; `directory_laws` says what the calls' equations mean path by path. Nothing here loads or stores.
 #![tactic(auto)]
 
+mod change;
 mod dir;
 mod laws;
 mod search;
 #[cfg(test)]
 mod tests;
 
+pub use change::Change;
 pub use dir::{Dir, Entry};
 pub use laws::directory_laws;

@@ -1,16 +1,16 @@
-use Rattle.std.proofs.Common.{Some, None, ap, sym, ◌∙◌}
+use Rattle.std.proofs.Common.{None, ap, sym, ◌∙◌}
 use Rattle.std.specs.Option.{option_map, option_and_then}
 use Rattle.eden_tree.specs.Directory.{child_of, with_child}
 use Rattle.eden_tree.specs.Rows.{set_row}
 use Rattle.eden_tree.specs.Seen.{directory_from, row_from}
-use Rattle.eden_tree.proofs.Children.{held, itself}
+use Rattle.eden_tree.proofs.Children.{held}
 use Rattle.eden_tree.proofs.RowLemmas.{change_row-found, change_row-absent}
 use Rattle.eden_tree.proofs.dir.Dir.detach.Goals as goal
 
 pub returns-in-Some-clause-taken : goal.returns-in-Some-clause-taken
 returns-in-Some-clause-taken g c =
     ap (option_map (λ b. b.value)) c.take.ensures.value
-    ∙ sym (ap (option_and_then (λ x. option_and_then (λ d. Some d) (child_of x))) (sym c.in-Some.ensures.value) ∙ itself (child_of c.in-Some.there.now) ∙ held _ _ _ c.there.inside.child _ c.there.view_is)
+    ∙ sym (ap (option_and_then child_of) (sym c.in-Some.ensures.value) ∙ held _ _ _ c.there.inside.child _ c.there.view_is)
 
 pub returns-in-Some-clause-left : goal.returns-in-Some-clause-left
 returns-in-Some-clause-left g c =
