@@ -1,5 +1,5 @@
 // What is kept after puts and uses, by objects of Git, and what a refused put leaves.
-use crate::ObjectCache;
+use crate::{BYTES_LIMIT, OBJECTS_LIMIT, ObjectCache, SIZES_LIMIT};
 use eden_model::{Id, Key, ObjKind};
 use eden_object::{Object, check};
 use linked_list_allocator::LocalHeap;
@@ -186,7 +186,7 @@ fn run_row<A: Allocator + Clone>(
     for step in row.steps {
         take_step(rt, alloc, cache, *step)?;
     }
-    assert_eq!(rt; cache.held().bytes, row.weight);
+    assert_eq!(rt; cache.usage().bytes, row.weight);
     for (sample, there) in SAMPLES.iter().zip(row.objects.iter()) {
         assert_eq!(rt; holds(rt, cache, *sample), *there, "{sample:?}");
     }
@@ -201,9 +201,9 @@ fn what_was_used_last_stays(rt: HostRuntime) -> Result<(), Fail> {
     let alloc = rt.alloc();
     for row in &ROWS {
         let (entries, bytes, sizes) = (row.entries, row.bytes, row.sizes);
-        assert!(rt; 1 <= entries && entries <= 65_536);
-        assert!(rt; 1 <= bytes && bytes <= 1 << 40);
-        assert!(rt; 1 <= sizes && sizes <= 65_536);
+        assert!(rt; 1 <= entries && entries <= OBJECTS_LIMIT);
+        assert!(rt; 1 <= bytes && bytes <= BYTES_LIMIT);
+        assert!(rt; 1 <= sizes && sizes <= SIZES_LIMIT);
         let mut cache = ObjectCache::new(alloc, entries, bytes, sizes)?;
         run_row(&rt, alloc, &mut cache, row)?;
     }
@@ -225,13 +225,13 @@ fn finds_memory<A: Allocator + Clone>(
     cache: &mut ObjectCache<A>,
     sample: Sample,
 ) -> Result<bool, AllocError> {
-    let held = cache.held();
+    let usage = cache.usage();
     match cache.put(sample.key(), sample.object(rt, alloc)?) {
         Ok(()) => Ok(true),
         Err(object) => {
             assert!(rt; object.kind() == sample.key().kind);
             assert!(rt; sample.framed().ends_with(object.body()));
-            assert!(rt; cache.held() == held);
+            assert!(rt; cache.usage() == usage);
             assert!(rt; !holds(rt, cache, sample));
             assert!(rt; cache.size_of(sample.key().id).is_none());
             Ok(false)

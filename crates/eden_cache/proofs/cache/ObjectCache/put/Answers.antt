@@ -1,6 +1,7 @@
 use Rattle.std.proofs.Common.{◌≤◌, ◌^◌, length, refl, arith}
 use Rattle.eden_cache.proofs.Sizes.{size_put}
 use Rattle.eden_cache.proofs.Tallies.{put_few, put_sum, put_front, put_tallied}
+use Rattle.eden_cache.proofs.CacheLaws.{finds_what_was_put}
 use Rattle.eden_cache.proofs.cache.ObjectCache.put.Goals as goal
 use Rattle.eden_cache.proofs.cache.ObjectCache.put.Goals.{in-Blob, in-Tree}
 
@@ -28,6 +29,13 @@ returns-clause-objects g c =
     let front = rw c.in-Ok.ensures.entries at c.evict-self-inside.ensures.front in
     let kept = put_front _ _ c.self.inside.objects c.args.key c.args.object c.self.invariant.0 c.evict-self-inside.new.objects.entries front in
     rw (← c.self.view_is) (elim c.match-key.branch [ in-Blob w ↦ rw w.self-is kept | in-Tree w ↦ rw w.self-is kept ])
+
+pub returns-clause-found : goal.returns-clause-found
+returns-clause-found g c =
+    let front = rw c.in-Ok.ensures.entries at c.evict-self-inside.ensures.front in
+    let kept = put_front _ _ c.self.inside.objects c.args.key c.args.object c.self.invariant.0 c.evict-self-inside.new.objects.entries front in
+    let found = finds_what_was_put c.self.inside.objects.cap c.self.inside.bytes c.args.key c.args.object c.self.inside.objects.entries c.evict-self-inside.new.objects.entries kept in
+    elim c.match-key.branch [ in-Blob w ↦ rw w.self-is found | in-Tree w ↦ rw w.self-is found ]
 
 pub returns-clause-size : goal.returns-clause-size
 returns-clause-size g c = elim c.match-key.branch [
