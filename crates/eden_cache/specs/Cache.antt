@@ -1,6 +1,6 @@
 -- What a cache is seen as, and what is true of each.
 use Rattle.std.specs.Prelude.{◌≡◌, ℕ, ◌<◌, ◌≤◌, ◌⊎◌, List, [], length, take, None}
-use Rattle.std.specs.List.{IsDistinct}
+use Rattle.std.specs.List.{All, IsDistinct}
 use Rattle.std.specs.Map.{keys_of, lookup}
 use Rattle.lru.specs.LruCache.{LruCache}
 use Rattle.eden_model.specs.declared.id.Id.{Id}
@@ -27,9 +27,17 @@ empty entries bytes sizes = record { objects = []; sizes = []; most_entries = en
 abbrev pub usage_of : Cache → Usage
 usage_of c = record { objects = length c.objects; bytes = weight_of c.objects; sizes = length c.sizes }
 
+-- an object is of its key's kind
+abbrev pub IsOfItsKind : Key × Body → Type 0
+IsOfItsKind e = e.1.kind ≡ e.0.kind
+
+abbrev pub AreOfTheirKinds : List (Key × Body) → Type 0
+AreOfTheirKinds objects = All IsOfItsKind objects
+
 -- what holds of every cache
 pub record IsSound (c : Cache) : Type 0 where
   pub keys : IsDistinct same_key (keys_of c.objects)
+  pub kinds : AreOfTheirKinds c.objects
   pub bounded : Fits c.most_entries c.most_bytes c.objects
   pub ids : IsDistinct same_id (keys_of c.sizes)
   pub sizes : length c.sizes ≤ c.most_sizes
@@ -47,6 +55,7 @@ KeepsSize Tree c id n sizes = sizes ≡ c.sizes
 pub record IsTallied (weight bytes : ℕ) (objects : LruCache Key Body) : Type 0 where
   pub sum : weight ≡ weight_of objects.entries
   pub fits : Fits objects.cap bytes objects.entries
+  pub kinds : AreOfTheirKinds objects.entries
   pub room : 0 < objects.cap
   pub light : weight ≤ BYTES_LIMIT
   pub limit : bytes ≤ BYTES_LIMIT

@@ -106,6 +106,7 @@ impl<A: Allocator + Clone> ObjectCache<A> {
     pub fn get(&mut self, key: Key) -> Option<&Object>
         ensures* used { sem 𝓛 (ends_used A.row A.Allocator self.entry key) }
         ensures value { option_copied result ≡ lookup (same_key key) self.old.objects }
+        ensures kind { IfSome (option_copied result) (λ object. object.kind ≡ key.kind) }
     {
         self.objects.get(&key)
     }
