@@ -4,7 +4,7 @@ ghost use Rattle.eden_model.specs.declared.id.ObjKind.TheVariants.{Blob};
 ghost use Rattle.eden_object.specs.Objects.{IsFramed};
 
 use crate::timing::{Timing, nanoseconds_each};
-use eden_cache::ObjectCache;
+use eden_cache::{BYTES_LIMIT, OBJECTS_LIMIT, ObjectCache};
 use eden_model::{Id, Key, ObjKind};
 use eden_object::{Object, check, id_of};
 use std::alloc::{AllocError, Allocator, Global};
@@ -35,17 +35,14 @@ fn random(state: &mut u64) -> u32 {
     (*state >> 32) as u32
 }
 
-/// The next key, one of twice as many as there may be objects.
-fn next_key(state: &mut u64, entries: u32) -> Key {
+/// The next id, one of twice as many as there may be objects.
+fn next_id(state: &mut u64, entries: u32) -> Id {
     let number = u64::from(random(state)) % u64::from(entries).saturating_mul(2).max(1);
     let mut bytes = [0; 20];
     for (byte, digit) in bytes.iter_mut().zip(number.to_be_bytes()) {
         *byte = digit;
     }
-    Key {
-        kind: ObjKind::Blob,
-        id: Id { bytes },
-    }
+    Id { bytes }
 }
 
 fn object(alloc: Global, framed: &[u8]) -> Result<Object, AllocError>
@@ -74,7 +71,11 @@ fn put_all<A: Allocator + Clone>(
     let mut state = 1;
     let mut refused = 0u32;
     for object in objects {
-        if cache.put(next_key(&mut state, entries), object).is_err() {
+        let key = Key {
+            kind: object.kind(),
+            id: next_id(&mut state, entries),
+        };
+        if cache.put(key, object).is_err() {
             refused = refused.saturating_add(1);
         }
     }
@@ -86,7 +87,11 @@ fn get_all<A: Allocator + Clone>(cache: &mut ObjectCache<A>, count: u32, entries
     let mut state = 2;
     let mut found = 0u32;
     for _ in 0..count {
-        if cache.get(next_key(&mut state, entries)).is_some() {
+        let key = Key {
+            kind: ObjKind::Blob,
+            id: next_id(&mut state, entries),
+        };
+        if cache.get(key).is_some() {
             found = found.saturating_add(1);
         }
     }
@@ -108,23 +113,22 @@ fn measure_calls<R: Print + Clock + AllocGlobal, A: Allocator + Clone>(
     let start = Instant::now(rt)?;
     let found = get_all(cache, count, entries);
     let get = nanoseconds_each(rt, &start, count)?;
-    let held = cache.held();
+    let usage = cache.usage();
     println!(rt;
         "cache of {entries}: {refused} of {count} puts refused, {found} of {count} gets found their object"
     )?;
     println!(rt;
         "  it holds {} objects of {} bytes, and {} sizes",
-        held.objects, held.bytes, held.sizes
+        usage.objects, usage.bytes, usage.sizes
     )?;
     Ok(Times { put, get })
 }
 
 fn measure<R: Print + Clock + AllocGlobal>(rt: &R, count: u32, entries: u32) -> io::Result<Times>
-    requires some { 1 ≤ entries }
-    requires limit { entries ≤ 65536 }
+    requires { (1 ≤ entries) × (entries ≤ OBJECTS_LIMIT) }
 {
     let most = entries as usize;
-    let mut cache = ObjectCache::new(rt.alloc(), most, 1 << 40, most)?;
+    let mut cache = ObjectCache::new(rt.alloc(), most, BYTES_LIMIT, most)?;
     measure_calls(rt, &mut cache, count, entries)
 }
 

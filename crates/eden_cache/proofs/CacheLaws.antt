@@ -8,7 +8,7 @@ use Rattle.eden_model.specs.contracts.id.KeyEq.TheImpl.Laws.{laws-law}
 use Rattle.eden_object.specs.Objects.{Body}
 use Rattle.eden_cache.specs.Bounded.{newest, KeepsBounds, IsLongestFront}
 use Rattle.eden_model.specs.Keys.{same_key, same_id}
-use Rattle.eden_cache.specs.Laws.{OneFront, FindsWhatWasPut, FindsNoOther, FindsNoOtherSize, UseFindsTheSame, UseFindsTheSameSize}
+use Rattle.eden_cache.specs.Laws.{OneFront, FindsNoOther, FindsNoOtherSize, UseFindsTheSame, UseFindsTheSameSize}
 use Rattle.eden_model.proofs.Keys.{same_key-Decides, same_id-Decides}
 use Rattle.eden_cache.proofs.Found.{lookup-take, lookup-newest, lookup-promoted}
 
@@ -32,7 +32,8 @@ found_first : (n : ℕ) (k : Key) (b : Body) (es : List (Key × Body)) → 0 < n
 found_first zero k b es h = absurd (omega arith)
 found_first (suc n) k b es h = let itself = laws-law.refl k in rw itself
 
-pub finds_what_was_put : FindsWhatWasPut
+-- the object of a put is found under its key
+pub finds_what_was_put : (entries bytes : ℕ) (k : Key) (b : Body) (es kept : List (Key × Body)) → IsLongestFront entries bytes (newest same_key k b es) kept → lookup (same_key k) kept ≡ Some b
 finds_what_was_put entries bytes k b es kept front =
     subst (λ (l : List (Key × Body)). lookup (same_key k) l ≡ Some b) (sym front.front) (found_first (length kept) k b (remove_entry (same_key k) es) front.some)
 

@@ -5,3 +5,4 @@ pub mod Tallies
 pub mod Sizes
 pub mod Found
 pub mod CacheLaws
+pub mod KeyKinds

@@ -12,11 +12,7 @@ use Rattle.eden_model.specs.Keys.{same_key, same_id}
 abbrev pub OneFront : Type 0
 OneFront = (entries bytes : ℕ) (all kept others : List (Key × Body)) → IsLongestFront entries bytes all kept → IsLongestFront entries bytes all others → kept ≡ others
 
--- after a put, its object is found under its key
-abbrev pub FindsWhatWasPut : Type 0
-FindsWhatWasPut = (entries bytes : ℕ) (k : Key) (b : Body) (es kept : List (Key × Body)) → IsLongestFront entries bytes (newest same_key k b es) kept → lookup (same_key k) kept ≡ Some b
-
--- .. and what else is found was there under that key
+-- what is found after a put is its object under its key, or was there under that key
 abbrev pub FindsNoOther : Type 0
 FindsNoOther = (entries bytes : ℕ) (k : Key) (b : Body) (es kept : List (Key × Body)) → IsLongestFront entries bytes (newest same_key k b es) kept
     → (j : Key) (a : Body) → lookup (same_key j) kept ≡ Some a → ((j ≡ k) × (a ≡ b)) ⊎ (lookup (same_key j) es ≡ Some a)

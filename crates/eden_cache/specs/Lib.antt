@@ -2,3 +2,4 @@ pub mod Bounded
 pub mod Cache
 pub mod Laws
 pub mod Lends
+pub mod Seen

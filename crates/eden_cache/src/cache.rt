@@ -1,9 +1,8 @@
-ghost use Rattle.std.specs.Prelude.{◌≡◌, ◌^◌, ◌≤◌, [], length, IfOk, OnOk, OnErr, IfErr, IsSome, IsOk};
+ghost use Rattle.std.specs.Prelude.{◌≡◌, ◌≤◌, Some, length, IfOk, IfSome, OnOk, OnErr, IfErr, IsSome, IsOk};
 ghost use Rattle.std.specs.Borrow.{sem};
 ghost use Rattle.std.specs.Map.{lookup};
 ghost use Rattle.std.specs.Option.{option_copied};
 ghost use Rattle.lru.specs.LruCache.{promoted};
-ghost use Rattle.eden_cache.specs.Bounded.{newest, weight_of, IsLongestFront};
 
 use crate::evict::{evict, let_go};
 use eden_model::{Id, Key, ObjKind};
@@ -13,9 +12,18 @@ use std::alloc::{AllocError, Allocator};
 use std::marker::Model;
 use std::num::NonZeroUsize;
 
+/// The greatest bound on the number of objects.
+pub const OBJECTS_LIMIT: usize = 65_536;
+
+/// The greatest bound on what the objects weigh together, in bytes.
+pub const BYTES_LIMIT: u64 = 1 << 40;
+
+/// The greatest bound on the number of sizes.
+pub const SIZES_LIMIT: usize = 65_536;
+
 /// How many objects a cache holds, what they weigh together in bytes, and how many sizes it holds.
 #[derive(Clone, Copy, Debug, PartialEq, Eq)]
-pub struct Held {
+pub struct Usage {
     pub objects: usize,
     pub bytes: u64,
     pub sizes: usize,
@@ -35,30 +43,28 @@ pub struct ObjectCache<A: Allocator> {
 
 impl<A: Allocator> Model for ObjectCache<A> {
     ghost use Rattle.eden_cache.specs.Cache.{Cache, IsTallied, IsWithin};
+    ghost use Rattle.eden_cache.specs.Seen.{cache_from};
 
     ghost Value = { Cache };
 
-    ghost view = { λ c. record { objects = c.objects.entries; sizes = c.sizes.entries; most_entries = c.objects.cap; most_bytes = c.bytes; most_sizes = c.sizes.cap } };
+    ghost view = { λ c. cache_from c.objects c.bytes c.sizes };
 
     ghost invariant = { λ c. IsTallied c.weight c.bytes c.objects × IsWithin c.sizes };
 }
 
 impl<A: Allocator + Clone> ObjectCache<A> {
     ghost use Rattle.eden_model.specs.Keys.{same_key, same_id};
-    ghost use Rattle.eden_cache.specs.Cache.{IsSound, KeepsSize};
+    ghost use Rattle.eden_cache.specs.Cache.{IsSound, KeepsObject, KeepsSize, empty, usage_of};
     ghost use Rattle.eden_cache.specs.Lends.{ends_used};
 
     /// A cache without objects and sizes, for at most so many objects of so many bytes together, and so many sizes.
     ///
     /// It takes the memory of an empty cache, whatever the bounds; the only error is want of it.
     pub fn new(alloc: A, entries: usize, bytes: u64, sizes: usize) -> Result<Self, AllocError>
-        requires some_entries { 1 ≤ entries }
-        requires entries { entries ≤ 65536 }
-        requires some_bytes { 1 ≤ bytes }
-        requires bytes { bytes ≤ 2 ^ 40 }
-        requires some_sizes { 1 ≤ sizes }
-        requires sizes { sizes ≤ 65536 }
-        ensures { IfOk result (λ c. c ≡ record { objects = []; sizes = []; most_entries = entries; most_bytes = bytes; most_sizes = sizes }) }
+        requires entries { (1 ≤ entries) × (entries ≤ OBJECTS_LIMIT) }
+        requires bytes { (1 ≤ bytes) × (bytes ≤ BYTES_LIMIT) }
+        requires sizes { (1 ≤ sizes) × (sizes ≤ SIZES_LIMIT) }
+        ensures { IfOk result (λ c. c ≡ empty entries bytes sizes) }
     {
         let Some(entries) = NonZeroUsize::new(entries) else {
             unreachable!();
@@ -77,11 +83,11 @@ impl<A: Allocator + Clone> ObjectCache<A> {
     }
 
     /// How much the cache holds.
-    pub fn held(&self) -> Held
-        ensures value { result ≡ record { objects = length self.now.objects; bytes = weight_of self.now.objects; sizes = length self.now.sizes } }
+    pub fn usage(&self) -> Usage
+        ensures value { result ≡ usage_of self.now }
         ensures sound { IsSound self.now }
     {
-        Held {
+        Usage {
             objects: self.objects.len(),
             bytes: self.weight,
             sizes: self.sizes.len(),
@@ -100,6 +106,7 @@ impl<A: Allocator + Clone> ObjectCache<A> {
     pub fn get(&mut self, key: Key) -> Option<&Object>
         ensures* used { sem 𝓛 (ends_used A.row A.Allocator self.entry key) }
         ensures value { option_copied result ≡ lookup (same_key key) self.old.objects }
+        ensures kind { IfSome (option_copied result) (λ object. object.kind ≡ key.kind) }
     {
         self.objects.get(&key)
     }
@@ -107,9 +114,12 @@ impl<A: Allocator + Clone> ObjectCache<A> {
     /// Keeps an object as the newest, in place of one under the same key; those used longest ago leave until both
     /// bounds hold or it is alone. A blob's length is kept as the newest size, where there is memory for it.
     ///
-    /// The only error is want of memory for the object: it comes back, and nothing has changed.
+    /// The only error is want of memory for the object: it comes back, and nothing has changed. An object whose key is
+    /// there is never refused.
     pub fn put(&mut self, key: Key, object: Object) -> Result<(), Object>
-        ensures objects { OnOk result (IsLongestFront self.old.most_entries self.old.most_bytes (newest same_key key object self.old.objects) self.new.objects) }
+        requires kind { object.kind ≡ key.kind }
+        ensures objects { OnOk result (KeepsObject self.old key object self.new.objects) }
+        ensures found { OnOk result (lookup (same_key key) self.new.objects ≡ Some object) }
         ensures size { OnOk result (KeepsSize key.kind self.old key.id (length object.bytes) self.new.sizes) }
         ensures bounds { self.new ≡ record self.old { objects = self.new.objects; sizes = self.new.sizes } }
         ensures err { OnErr result (self.new ≡ self.old) }

@@ -9,7 +9,7 @@ mod cache;
 mod evict;
 mod laws;
 
-pub use cache::{Held, ObjectCache};
+pub use cache::{BYTES_LIMIT, OBJECTS_LIMIT, ObjectCache, SIZES_LIMIT, Usage};
 pub use laws::cache_laws;
 
 #[cfg(test)]

@@ -1,5 +1,8 @@
-// What is kept after puts and uses, by objects of Git, and what a refused put leaves.
-use crate::ObjectCache;
+// What is kept after puts and uses, by objects of Git, what a refused put leaves, and a cache of the greatest size.
+ghost use Rattle.eden_model.specs.declared.id.ObjKind.TheVariants.{Blob};
+ghost use Rattle.eden_object.specs.Objects.{IsFramed};
+
+use crate::{BYTES_LIMIT, OBJECTS_LIMIT, ObjectCache, SIZES_LIMIT};
 use eden_model::{Id, Key, ObjKind};
 use eden_object::{Object, check};
 use linked_list_allocator::LocalHeap;
@@ -53,6 +56,7 @@ impl Sample {
         }
     }
 
+    /// The object, checked.
     fn object(self, rt: &impl Abort, alloc: Global) -> Result<Object, AllocError> {
         let key = self.key();
         let framed = Vec::from_slice(alloc, self.framed())?;
@@ -61,6 +65,21 @@ impl Sample {
             Err(cause) => panic!(rt; "{self:?} is refused: {cause:?}"),
         }
     }
+}
+
+/// Puts the sample into the cache. A refused one comes back.
+fn put<A: Allocator + Clone>(
+    rt: &impl Abort,
+    alloc: Global,
+    cache: &mut ObjectCache<A>,
+    sample: Sample,
+) -> Result<Result<(), Object>, AllocError> {
+    let object = sample.object(rt, alloc)?;
+    let key = Key {
+        kind: object.kind(),
+        id: sample.key().id,
+    };
+    Ok(cache.put(key, object))
 }
 
 #[derive(Clone, Copy)]
@@ -153,7 +172,7 @@ fn take_step<A: Allocator + Clone>(
 ) -> Result<(), AllocError> {
     match step {
         Put(sample) => {
-            let refused = cache.put(sample.key(), sample.object(rt, alloc)?).is_err();
+            let refused = put(rt, alloc, cache, sample)?.is_err();
             assert!(rt; !refused);
         }
         Get(sample) => assert!(rt; holds(rt, cache, sample)),
@@ -170,7 +189,6 @@ fn holds<A: Allocator + Clone>(
     match cache.get(sample.key()) {
         None => false,
         Some(object) => {
-            assert!(rt; object.kind() == sample.key().kind);
             assert!(rt; sample.framed().ends_with(object.body()));
             true
         }
@@ -186,7 +204,7 @@ fn run_row<A: Allocator + Clone>(
     for step in row.steps {
         take_step(rt, alloc, cache, *step)?;
     }
-    assert_eq!(rt; cache.held().bytes, row.weight);
+    assert_eq!(rt; cache.usage().bytes, row.weight);
     for (sample, there) in SAMPLES.iter().zip(row.objects.iter()) {
         assert_eq!(rt; holds(rt, cache, *sample), *there, "{sample:?}");
     }
@@ -201,9 +219,9 @@ fn what_was_used_last_stays(rt: HostRuntime) -> Result<(), Fail> {
     let alloc = rt.alloc();
     for row in &ROWS {
         let (entries, bytes, sizes) = (row.entries, row.bytes, row.sizes);
-        assert!(rt; 1 <= entries && entries <= 65_536);
-        assert!(rt; 1 <= bytes && bytes <= 1 << 40);
-        assert!(rt; 1 <= sizes && sizes <= 65_536);
+        assert!(rt; 1 <= entries && entries <= OBJECTS_LIMIT);
+        assert!(rt; 1 <= bytes && bytes <= BYTES_LIMIT);
+        assert!(rt; 1 <= sizes && sizes <= SIZES_LIMIT);
         let mut cache = ObjectCache::new(alloc, entries, bytes, sizes)?;
         run_row(&rt, alloc, &mut cache, row)?;
     }
@@ -225,13 +243,12 @@ fn finds_memory<A: Allocator + Clone>(
     cache: &mut ObjectCache<A>,
     sample: Sample,
 ) -> Result<bool, AllocError> {
-    let held = cache.held();
-    match cache.put(sample.key(), sample.object(rt, alloc)?) {
+    let usage = cache.usage();
+    match put(rt, alloc, cache, sample)? {
         Ok(()) => Ok(true),
         Err(object) => {
-            assert!(rt; object.kind() == sample.key().kind);
             assert!(rt; sample.framed().ends_with(object.body()));
-            assert!(rt; cache.held() == held);
+            assert!(rt; cache.usage() == usage);
             assert!(rt; !holds(rt, cache, sample));
             assert!(rt; cache.size_of(sample.key().id).is_none());
             Ok(false)
@@ -295,5 +312,61 @@ fn each_refused_put_hands_the_object_back(rt: HostRuntime) -> Result<(), Fail> {
     }
     assert_eq!(rt; refused, [true; 5]);
     assert!(rt; left_out && all);
+    Ok(())
+}
+
+/// The blob of these framed bytes.
+fn blob(alloc: Global, framed: &[u8]) -> Result<Object, AllocError>
+    requires { IsFramed Blob framed.now }
+{
+    Ok(Object::new(ObjKind::Blob, Vec::from_slice(alloc, framed)?))
+}
+
+/// The key of that number.
+fn numbered(kind: ObjKind, number: usize) -> Key {
+    let mut bytes = [0; 20];
+    for (byte, digit) in bytes.iter_mut().zip((number as u64).to_be_bytes()) {
+        *byte = digit;
+    }
+    Key {
+        kind,
+        id: Id { bytes },
+    }
+}
+
+/// Puts so many equal blobs under one key after another.
+fn put_many<A: Allocator + Clone>(
+    rt: &impl Abort,
+    alloc: Global,
+    cache: &mut ObjectCache<A>,
+    count: usize,
+    framed: &[u8],
+) -> Result<(), AllocError>
+    requires { IsFramed Blob framed.now }
+{
+    for number in 0..count {
+        let object = blob(alloc, framed)?;
+        let refused = cache.put(numbered(object.kind(), number), object).is_err();
+        assert!(rt; !refused);
+    }
+    Ok(())
+}
+
+#[test]
+fn a_full_cache_lets_the_oldest_go(rt: HostRuntime) -> Result<(), Fail> {
+    let alloc = rt.alloc();
+    let mut cache = ObjectCache::new(alloc, OBJECTS_LIMIT, BYTES_LIMIT, SIZES_LIMIT)?;
+    let framed = Version1.framed();
+    assert!(rt; check(Version1.key().id, ObjKind::Blob, framed).is_ok());
+    put_many(&rt, alloc, &mut cache, OBJECTS_LIMIT + 1, framed)?;
+    let usage = cache.usage();
+    assert_eq!(rt; usage.objects, OBJECTS_LIMIT);
+    assert_eq!(rt; usage.sizes, SIZES_LIMIT);
+    assert!(rt; cache.get(numbered(ObjKind::Blob, 0)).is_none());
+    for number in 1..OBJECTS_LIMIT + 1 {
+        let key = numbered(ObjKind::Blob, number);
+        assert!(rt; cache.get(key).is_some());
+        assert_eq!(rt; cache.size_of(key.id), Some(10));
+    }
     Ok(())
 }

@@ -7,9 +7,9 @@ use Rattle.std.proofs.lemmas.List.Folds.{list_any_at}
 use Rattle.std.proofs.lemmas.Map.Made.{AllPairs-from_IsDistinct, is_member-Decides}
 use Rattle.eden_model.specs.declared.id.Key.{Key}
 use Rattle.eden_model.specs.declared.fault.Cause.{Cause}
-use Rattle.eden_import.specs.Queue.{Mark, want_of, wants_key, is_wanted, unwanting, put_marks}
+use Rattle.eden_import.specs.Queue.{Mark, want_of, wants_key, is_wanted, unqueue_unwanted, put_marks}
 use Rattle.eden_import.specs.Laws.{HasIsContains, EachStandsOnce, QueuedAreWanted, WantedStand, OneWants, OneLeaves, AllAreMet, WantersAreMarked, OneForgets}
-use Rattle.eden_model.proofs.Keys.{same_key-Decides}
+use Rattle.eden_model.proofs.CallerLemmas.{same_key-Decides}
 use Rattle.eden_import.proofs.KeyLemmas.{same_key-refl}
 
 pub has_is_contains : HasIsContains
@@ -70,14 +70,14 @@ one_wants q k p r h s t = write_one q.wants q.passes p r (Some k) None h.each_pa
 pub one_leaves : OneLeaves
 one_leaves q k p r h s t = at (wants_key k (want_of p q)) (r == p) (write_one q.wants q.passes p r None None h.each_pass_wants s.0 s.1 t.0)
   where
-    at : (b e : Bool) → get_or (set q.wants (p - 1) None) (r - 1) None ≡ cond e None (want_of r q) → want_of r (cond b (unwanting k (set q.wants (p - 1) None) q) q) ≡ cond (e && b) None (want_of r q)
+    at : (b e : Bool) → get_or (set q.wants (p - 1) None) (r - 1) None ≡ cond e None (want_of r q) → want_of r (cond b (unqueue_unwanted k (set q.wants (p - 1) None) q) q) ≡ cond (e && b) None (want_of r q)
     at true true w = w
     at true false w = w
     at false true w = refl
     at false false w = refl
 
 pub all_are_met : AllAreMet
-all_are_met q k r = get_or-map (λ w. cond (wants_key k w) None w) q.wants (r - 1) None
+all_are_met q k c r = (get_or-map (λ w. cond (wants_key k w) None w) q.wants (r - 1) None, refl)
 
 marked_at : (k : Key) (c : Cause) (ws : List (Option Key)) (ms : List (Option Mark)) (i : ℕ) → length ms ≡ length ws → i < length ws → get_or (put_marks k c ws ms) i None ≡ cond (wants_key k (get_or ws i None)) (Some (k, c)) (get_or ms i None)
 marked_at k c [] ms i e h = absurd (omega arith)

@@ -2,3 +2,5 @@ mod KeyLemmas
 mod WantLemmas
 mod StepLemmas
 mod LawLemmas
+mod PassLemmas
+mod FlightLemmas

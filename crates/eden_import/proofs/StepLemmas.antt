@@ -8,8 +8,8 @@ use Rattle.std.proofs.lemmas.Map.Keys.{IsDistinct-push, IsDistinct-tail}
 use Rattle.eden_model.specs.declared.id.Key.{Key}
 use Rattle.eden_model.specs.Keys.{same_key}
 use Rattle.eden_import.specs.Keys.{has_key, without}
-use Rattle.eden_import.specs.Queue.{Queue, Mark, IsQueue, IsPass, WantsNoOther, want_of, stands, wants_key, is_wanted, empty, wanting, unwanting, taking, end_wants, landing}
-use Rattle.eden_model.proofs.Keys.{same_key-Decides}
+use Rattle.eden_import.specs.Queue.{Queue, Mark, IsQueue, IsPassCount, IsFlightCount, IsPass, WantsNoOther, want_of, stands, wants_key, is_wanted, empty, after_want, unqueue_unwanted, after_take, end_wants, after_done}
+use Rattle.eden_model.proofs.CallerLemmas.{same_key-Decides}
 use Rattle.eden_import.proofs.KeyLemmas.{same_key-equiv, has_key-append, has_key-without, without_absent, length-without-le, apart, distinct_without_left, distinct_without_right}
 use Rattle.eden_import.proofs.WantLemmas.{is_wanted-set_some, is_wanted-set_none, is_wanted-set_none_le, is_wanted-end_wants, length-end_wants, length-le_from_wanted}
 
@@ -36,9 +36,11 @@ not_wanted : (k : Key) (n : ℕ) → is_wanted k (replicate n None) ≡ false
 not_wanted k zero = refl
 not_wanted k (suc n) = not_wanted k n
 
-pub empty_keeps : (n m : ℕ) → IsQueue (empty n m)
+pub empty_keeps : (n m : ℕ) → IsPassCount n → IsFlightCount m → IsQueue (empty n m)
 unfolding IsDistinct
-empty_keeps n m = record {
+empty_keeps n m passes flights = record {
+  some_passes = passes;
+  some_flights = flights;
   once = tt;
   wanted = λ k h. cc;
   awaited = λ k h. absurd (both_ways (is_wanted k (replicate n None)) (not_wanted k n) h);
@@ -71,7 +73,7 @@ or_false : (a : Bool) → (a || false) ≡ true → a ≡ true
 or_false true h = refl
 or_false false h = h
 
-pub want_keeps : (k : Key) (p : ℕ) (q : Queue) → IsQueue q → IsPass p q → WantsNoOther k p q → IsQueue (wanting k p q)
+pub want_keeps : (k : Key) (p : ℕ) (q : Queue) → IsQueue q → IsPass p q → WantsNoOther k p q → IsQueue (after_want k p q)
 want_keeps k p q h s alone = at (stands k q) refl
   where
     now : (j : Key) → is_wanted j (set q.wants (p - 1) (Some k)) ≡ (is_wanted j q.wants || same_key j k)
@@ -82,6 +84,8 @@ want_keeps k p q h s alone = at (stands k q) refl
 
     at : (b : Bool) → stands k q ≡ b → IsQueue (record q { queue = cond b q.queue (q.queue ++ k ∷ []); wants = set q.wants (p - 1) (Some k) })
     at true e = record {
+      some_passes = h.some_passes;
+      some_flights = h.some_flights;
       once = h.once;
       wanted = λ j m. now j ∙ or_left (is_wanted j q.wants) (same_key j k) (h.wanted j m);
       awaited = λ j m. ⊎_elim (h.awaited j) (λ same. ap (λ x. stands x q) ((same_key-Decides j k).0 same) ∙ e) (or_cases (is_wanted j q.wants) (same_key j k) (sym (now j) ∙ m));
@@ -90,6 +94,8 @@ want_keeps k p q h s alone = at (stands k q) refl
       each_pass_has_mark = h.each_pass_has_mark;
     }
     at false e = record {
+      some_passes = h.some_passes;
+      some_flights = h.some_flights;
       once = subst (IsDistinct same_key) (append_assoc q.flight q.queue (k ∷ [])) (IsDistinct-push same_key-equiv (q.flight ++ q.queue) k h.once (has_key-append k q.flight q.queue ∙ e));
       wanted = λ j m.
           now j ∙ ⊎_elim
@@ -156,7 +162,7 @@ without_keeps_once k q h =
     (λ f. subst P (sym (without_absent k q.queue f)) h.once)
     (cases_Bool (has_key k q.queue))
 
-unwant_keeps : (k : Key) (p : ℕ) (q : Queue) → IsQueue q → wants_key k (want_of p q) ≡ true → IsQueue (unwanting k (set q.wants (p - 1) None) q)
+unwant_keeps : (k : Key) (p : ℕ) (q : Queue) → IsQueue q → wants_key k (want_of p q) ≡ true → IsQueue (unqueue_unwanted k (set q.wants (p - 1) None) q)
 unwant_keeps k p q h t = at (is_wanted k (set q.wants (p - 1) None)) refl
   where
     others : (j : Key) → same_key k j ≡ false → is_wanted j (set q.wants (p - 1) None) ≡ is_wanted j q.wants
@@ -167,6 +173,8 @@ unwant_keeps k p q h t = at (is_wanted k (set q.wants (p - 1) None)) refl
 
     at : (b : Bool) → is_wanted k (set q.wants (p - 1) None) ≡ b → IsQueue (record q { queue = cond b q.queue (without k q.queue); wants = set q.wants (p - 1) None })
     at true e = record {
+      some_passes = h.some_passes;
+      some_flights = h.some_flights;
       once = h.once;
       wanted = λ j m. ⊎_elim (λ same. ap (λ x. is_wanted x (set q.wants (p - 1) None)) (sym ((same_key-Decides k j).0 same)) ∙ e) (λ other. others j other ∙ h.wanted j m) (cases_Bool (same_key k j));
       awaited = λ j m. h.awaited j (is_wanted-set_none_le j q.wants (p - 1) m);
@@ -175,6 +183,8 @@ unwant_keeps k p q h t = at (is_wanted k (set q.wants (p - 1) None)) refl
       each_pass_has_mark = h.each_pass_has_mark;
     }
     at false e = record {
+      some_passes = h.some_passes;
+      some_flights = h.some_flights;
       once = without_keeps_once k q h;
       wanted = λ j m.
           let parts = and_parts (has_key j q.queue) (not (same_key k j)) (sym (has_key-without j k q.queue) ∙ m) in
@@ -207,10 +217,12 @@ moved true b c h = refl
 moved false true c h = refl
 moved false false c h = h
 
-take_fields : (ks fs : List Key) (ws : List (Option Key)) (ms : List (Option Mark)) (n m : ℕ) (b : Bool) → nat_lt (length fs) m ≡ b → IsQueue (record { queue = ks; flight = fs; wants = ws; marks = ms; passes = n; flights = m }) → IsQueue (taking (cond b (slice_get ks 0) None) (record { queue = ks; flight = fs; wants = ws; marks = ms; passes = n; flights = m }))
+take_fields : (ks fs : List Key) (ws : List (Option Key)) (ms : List (Option Mark)) (n m : ℕ) (b : Bool) → nat_lt (length fs) m ≡ b → IsQueue (record { queue = ks; flight = fs; wants = ws; marks = ms; passes = n; flights = m }) → IsQueue (after_take (cond b (slice_get ks 0) None) (record { queue = ks; flight = fs; wants = ws; marks = ms; passes = n; flights = m }))
 take_fields ks fs ws ms n m false e h = h
 take_fields [] fs ws ms n m true e h = h
 take_fields (k ∷ ks) fs ws ms n m true e h = record {
+  some_passes = h.some_passes;
+  some_flights = h.some_flights;
   once = subst (IsDistinct same_key) (sym (append_assoc fs (k ∷ []) ks)) h.once;
   wanted = λ j p. h.wanted j (or_right (same_key j k) (has_key j ks) p);
   awaited = λ j p. ap (λ b. b || has_key j ks) (has_key-append j fs (k ∷ [])) ∙ moved (has_key j fs) (same_key j k) (has_key j ks) (h.awaited j p);
@@ -229,8 +241,10 @@ take_moves k rest now q h few is moved =
 
 -- ---- `done`
 
-pub land_keeps : (k : Key) (q : Queue) → IsQueue q → has_key k q.flight ≡ true → IsQueue (landing k q)
+pub land_keeps : (k : Key) (q : Queue) → IsQueue q → has_key k q.flight ≡ true → IsQueue (after_done k q)
 land_keeps k q h t = record {
+  some_passes = h.some_passes;
+  some_flights = h.some_flights;
   once = distinct_without_left k q.flight q.queue h.once absent;
   wanted = λ j m.
       is_wanted-end_wants j k q.wants

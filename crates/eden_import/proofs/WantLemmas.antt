@@ -8,7 +8,7 @@ use Rattle.eden_model.specs.declared.fault.Cause.{Cause}
 use Rattle.eden_model.specs.Keys.{same_key}
 use Rattle.eden_import.specs.Keys.{has_key}
 use Rattle.eden_import.specs.Queue.{Mark, wants_key, is_wanted, end_wants, put_marks}
-use Rattle.eden_model.proofs.Keys.{same_key-Decides}
+use Rattle.eden_model.proofs.CallerLemmas.{same_key-Decides}
 use Rattle.eden_import.proofs.KeyLemmas.{same_key-equiv}
 
 -- a want for the key in the place of one that was for it or for none

@@ -1,9 +1,11 @@
 -- The joined queue: which keys are queued and in flight, and which pass wants which key.
 use Rattle.std.specs.Prelude.{◌≡◌, ◌≤◌, ◌-◌, ℕ, Bool, true, false, ◌||◌, if◌then◌else◌, nat_lt, List, [], ◌∷◌, ◌++◌, length, map, drop, slice_set, slice_index_or, slice_get, replicate, Option, Some, None, IfSome}
 use Rattle.std.specs.List.{IsDistinct, list_any}
+use Rattle.std.specs.Option.{option_map_or}
 use Rattle.eden_model.specs.declared.id.Key.{Key}
 use Rattle.eden_model.specs.declared.fault.Cause.{Cause}
 use Rattle.eden_model.specs.Keys.{same_key}
+use Rattle.eden_import.specs.declared.imports.TheConstants.{PASSES_LIMIT, FLIGHTS_LIMIT}
 use Rattle.eden_import.specs.Keys.{has_key, without}
 
 -- what is kept of a failed key for a pass that wanted it
@@ -29,11 +31,11 @@ pub record Queue : Type 0 where
 abbrev pub IsPass : ℕ → Queue → Type 0
 IsPass p q = (1 ≤ p) × (p ≤ q.passes)
 
--- the key that a pass wants
+-- the key that a pass wants; for a number that is no pass's it is None, which means nothing
 abbrev pub want_of : ℕ → Queue → Option Key
 want_of p q = slice_index_or q.wants (p - 1) None
 
--- the mark that a pass has
+-- the mark that a pass has; likewise
 abbrev pub mark_of : ℕ → Queue → Option Mark
 mark_of p q = slice_index_or q.marks (p - 1) None
 
@@ -56,7 +58,16 @@ is_wanted k ws = list_any (wants_key k) ws
 
 -- ---- what every queue keeps
 
+-- there may be so many passes, and so many keys in flight
+abbrev pub IsPassCount : ℕ → Type 0
+IsPassCount n = (1 ≤ n) × (n ≤ PASSES_LIMIT)
+
+abbrev pub IsFlightCount : ℕ → Type 0
+IsFlightCount n = (1 ≤ n) × (n ≤ FLIGHTS_LIMIT)
+
 pub record IsQueue (q : Queue) : Type 0 where
+  pub some_passes : IsPassCount q.passes
+  pub some_flights : IsFlightCount q.flights
   -- no key stands twice, in flight and queued together
   pub once : IsDistinct same_key (q.flight ++ q.queue)
   -- each queued key is wanted by a pass
@@ -74,33 +85,41 @@ abbrev pub empty : ℕ → ℕ → Queue
 empty passes flights = record { queue = []; flight = []; wants = replicate passes None; marks = replicate passes None; passes = passes; flights = flights }
 
 -- the pass wants the key, which goes to the queue's end where it stood nowhere
-abbrev pub wanting : Key → ℕ → Queue → Queue
-wanting k p q = record q { queue = (if stands k q then q.queue else q.queue ++ k ∷ []); wants = slice_set q.wants (p - 1) (Some k) }
+abbrev pub after_want : Key → ℕ → Queue → Queue
+after_want k p q = record q { queue = (if stands k q then q.queue else q.queue ++ k ∷ []); wants = slice_set q.wants (p - 1) (Some k) }
 
 -- with these wants, the key is no longer queued where none of them is for it
-abbrev pub unwanting : Key → List (Option Key) → Queue → Queue
-unwanting k ws q = record q { queue = (if is_wanted k ws then q.queue else without k q.queue); wants = ws }
+abbrev pub unqueue_unwanted : Key → List (Option Key) → Queue → Queue
+unqueue_unwanted k ws q = record q { queue = (if is_wanted k ws then q.queue else without k q.queue); wants = ws }
 
 -- the pass no longer wants the key, where it did
-abbrev pub leaving : Key → ℕ → Queue → Queue
-leaving k p q = if wants_key k (want_of p q) then unwanting k (slice_set q.wants (p - 1) None) q else q
+abbrev pub after_leave : Key → ℕ → Queue → Queue
+after_leave k p q = if wants_key k (want_of p q) then unqueue_unwanted k (slice_set q.wants (p - 1) None) q else q
+
+-- the pass no longer wants the key that it wanted, if it did want one
+abbrev pub after_leave_own : ℕ → Queue → Queue
+after_leave_own p q = option_map_or (λ k. after_leave k p q) (want_of p q) q
+
+-- the pass wants the key and no other: it leaves an old one, and a key that it wanted keeps its place
+abbrev pub after_await : Key → ℕ → Queue → Queue
+after_await k p q = after_want k p (if wants_key k (want_of p q) then q else after_leave_own p q)
 
 -- the oldest queued key, where another may go into flight
 abbrev pub next_key : Queue → Option Key
 next_key q = if nat_lt (length q.flight) q.flights then slice_get q.queue 0 else None
 
 -- the oldest key went into flight
-abbrev pub taking : Option Key → Queue → Queue
-taking None q = q
-taking (Some k) q = record q { queue = drop 1 q.queue; flight = q.flight ++ k ∷ [] }
+abbrev pub after_take : Option Key → Queue → Queue
+after_take None q = q
+after_take (Some k) q = record q { queue = drop 1 q.queue; flight = q.flight ++ k ∷ [] }
 
 -- these wants without those for the key
 abbrev pub end_wants : Key → List (Option Key) → List (Option Key)
 end_wants k ws = map (λ w. if wants_key k w then None else w) ws
 
 -- the key left the flight, and nobody wants it any more
-abbrev pub landing : Key → Queue → Queue
-landing k q = record q { flight = without k q.flight; wants = end_wants k q.wants }
+abbrev pub after_done : Key → Queue → Queue
+after_done k q = record q { flight = without k q.flight; wants = end_wants k q.wants }
 
 -- these marks, and a new one in the place of each whose pass wants the key
 abbrev pub put_marks : Key → Cause → List (Option Key) → List (Option Mark) → List (Option Mark)
@@ -109,9 +128,13 @@ put_marks k c (w ∷ ws) [] = []
 put_marks k c (w ∷ ws) (m ∷ ms) = (if wants_key k w then Some (k, c) else m) ∷ put_marks k c ws ms
 
 -- the key left the flight with a mark for each pass that wanted it
-abbrev pub failing : Key → Cause → Queue → Queue
-failing k c q = record (landing k q) { marks = put_marks k c q.wants q.marks }
+abbrev pub after_failed : Key → Cause → Queue → Queue
+after_failed k c q = record (after_done k q) { marks = put_marks k c q.wants q.marks }
 
 -- the pass's mark is handed out
-abbrev pub forgetting : ℕ → Queue → Queue
-forgetting p q = record q { marks = slice_set q.marks (p - 1) None }
+abbrev pub after_failure : ℕ → Queue → Queue
+after_failure p q = record q { marks = slice_set q.marks (p - 1) None }
+
+-- the pass wants nothing any more, and its mark is dropped
+abbrev pub after_quit : ℕ → Queue → Queue
+after_quit p q = after_failure p (after_leave_own p q)

@@ -1,6 +1,7 @@
-ghost use Rattle.std.specs.Prelude.{◌≡◌, ◌≤◌, IfOk, if◌then◌else◌, replicate, None};
+ghost use Rattle.std.specs.Prelude.{◌≡◌, IfOk, if◌then◌else◌, replicate, None};
 ghost use Rattle.eden_import.specs.Keys.{has_key};
-ghost use Rattle.eden_import.specs.Queue.{Queue, IsQueue, IsPass, WantsNoOther, want_of, mark_of, stands, empty, wanting, leaving, next_key, taking, landing, failing, forgetting};
+ghost use Rattle.eden_import.specs.Queue.{Queue, IsQueue, IsPassCount, IsFlightCount, IsPass, WantsNoOther, want_of, mark_of, stands, next_key};
+ghost use Rattle.eden_import.specs.Queue.{empty, after_want, after_leave, after_leave_own, after_await, after_quit, after_take, after_done, after_failed, after_failure};
 ghost use Rattle.eden_import.specs.declared.imports.Wanted.{Wanted};
 
 use crate::keys::{drop_key, end_wants, is_for, is_wanted, put_marks, unqueue};
@@ -8,6 +9,12 @@ use eden_model::{Cause, Key};
 use std::alloc::{AllocError, Allocator};
 use std::collections::VecDeque;
 use std::marker::Model;
+
+/// How many passes there may be.
+pub const PASSES_LIMIT: u32 = 64;
+
+/// How many keys may be in flight at most.
+pub const FLIGHTS_LIMIT: u32 = 64;
 
 /// How a want was met.
 #[derive(Clone, Copy, Debug, PartialEq, Eq)]
@@ -46,16 +53,14 @@ impl<A: Allocator> Model for Imports<A> {
 }
 
 impl<A: Allocator> Imports<A> {
-    /// Nothing queued, in flight, wanted or marked. Passes and flights are 1 to 64 each.
+    /// Nothing queued, in flight, wanted or marked.
     ///
     /// It makes all the room that the other calls need. The only error is want of memory.
     pub fn new(alloc: A, passes: u32, flights: u32) -> Result<Imports<A>, AllocError>
     where
         A: Clone,
-        requires some_pass { 1 ≤ passes }
-        requires few_passes { passes ≤ 64 }
-        requires some_flight { 1 ≤ flights }
-        requires few_flights { flights ≤ 64 }
+        requires passes { IsPassCount passes }
+        requires flights { IsFlightCount flights }
         ensures empty { IfOk result (λ i. i ≡ empty passes flights) }
         ensures kept { IfOk result IsQueue }
     {
@@ -119,7 +124,7 @@ impl<A: Allocator> Imports<A> {
         requires seat { IsPass pass self.old }
         requires alone { WantsNoOther key pass self.old }
         ensures answer { result ≡ (if stands key self.old then Wanted.Joined else Wanted.Queued) }
-        ensures step { self.new ≡ wanting key pass self.old }
+        ensures step { self.new ≡ after_want key pass self.old }
         ensures kept { IsQueue self.new }
     {
         let joined = self.stands(&key);
@@ -137,7 +142,7 @@ impl<A: Allocator> Imports<A> {
     /// A key that is still queued and that no other pass wants leaves the queue. A key in flight stays there.
     pub fn leave(&mut self, key: Key, pass: u32)
         requires { IsPass pass self.old }
-        ensures step { self.new ≡ leaving key pass self.old }
+        ensures step { self.new ≡ after_leave key pass self.old }
         ensures kept { IsQueue self.new }
     {
         if !is_for(&self.wanted(pass), &key) {
@@ -150,10 +155,47 @@ impl<A: Allocator> Imports<A> {
         }
     }
 
+    /// The pass wants the key, and no other: an old want of another key is left. A key that it wanted keeps its place.
+    pub fn await_key(&mut self, key: Key, pass: u32) -> Wanted
+        requires { IsPass pass self.old }
+        ensures answer { result ≡ (if stands key self.old then Wanted.Joined else Wanted.Queued) }
+        ensures step { self.new ≡ after_await key pass self.old }
+        ensures kept { IsQueue self.new }
+    {
+        let waits = is_for(&self.wanted(pass), &key);
+        if !waits {
+            self.leave_own(pass);
+        }
+        self.want(key, pass)
+    }
+
+    /// The pass gives up its want and its mark.
+    ///
+    /// A key that is still queued and that no other pass wants leaves the queue. A key in flight stays there.
+    pub fn quit(&mut self, pass: u32)
+        requires { IsPass pass self.old }
+        ensures step { self.new ≡ after_quit pass self.old }
+        ensures kept { IsQueue self.new }
+    {
+        self.leave_own(pass);
+        self.failure(pass);
+    }
+
+    /// The pass no longer wants the key that it wanted, if it did want one.
+    fn leave_own(&mut self, pass: u32)
+        requires { IsPass pass self.old }
+        ensures step { self.new ≡ after_leave_own pass self.old }
+        ensures kept { IsQueue self.new }
+    {
+        if let Some(key) = self.wanted(pass) {
+            self.leave(key, pass);
+        }
+    }
+
     /// The oldest queued key goes into flight. None, and nothing changed, where none is queued or the flights are full.
     pub fn take(&mut self) -> Option<Key>
         ensures answer { result ≡ next_key self.old }
-        ensures step { self.new ≡ taking (next_key self.old) self.old }
+        ensures step { self.new ≡ after_take (next_key self.old) self.old }
         ensures kept { IsQueue self.new }
     {
         if self.flight.len() >= self.flights as usize {
@@ -171,7 +213,7 @@ impl<A: Allocator> Imports<A> {
     /// The key leaves the flight, and all wants of it end. False, and nothing changed, where it isn't in flight.
     pub fn done(&mut self, key: Key) -> bool
         ensures answer { result ≡ has_key key self.old.flight }
-        ensures step { self.new ≡ (if has_key key self.old.flight then landing key self.old else self.old) }
+        ensures step { self.new ≡ (if has_key key self.old.flight then after_done key self.old else self.old) }
         ensures kept { IsQueue self.new }
     {
         if !self.is_in_flight(key) {
@@ -185,7 +227,7 @@ impl<A: Allocator> Imports<A> {
     /// As `done`, and each pass that wanted the key gets the mark, in the place of an older one.
     pub fn failed(&mut self, key: Key, cause: Cause) -> bool
         ensures answer { result ≡ has_key key self.old.flight }
-        ensures step { self.new ≡ (if has_key key self.old.flight then failing key cause self.old else self.old) }
+        ensures step { self.new ≡ (if has_key key self.old.flight then after_failed key cause self.old else self.old) }
         ensures kept { IsQueue self.new }
     {
         if self.is_in_flight(key) {
@@ -198,7 +240,7 @@ impl<A: Allocator> Imports<A> {
     pub fn failure(&mut self, pass: u32) -> Option<(Key, Cause)>
         requires { IsPass pass self.old }
         ensures answer { result ≡ mark_of pass self.old }
-        ensures step { self.new ≡ forgetting pass self.old }
+        ensures step { self.new ≡ after_failure pass self.old }
         ensures kept { IsQueue self.new }
     {
         self.marks[pass as usize - 1].take()

@@ -12,5 +12,5 @@ mod laws;
 #[cfg(test)]
 mod tests;
 
-pub use imports::{Imports, Wanted};
+pub use imports::{FLIGHTS_LIMIT, Imports, PASSES_LIMIT, Wanted};
 pub use laws::queue_laws;

@@ -1,4 +1,4 @@
-use crate::{Imports, Wanted};
+use crate::{FLIGHTS_LIMIT, Imports, PASSES_LIMIT, Wanted};
 use eden_model::{Cause, Id, Key, ObjKind};
 use std::alloc::Global;
 use std::process::Abort;
@@ -8,6 +8,8 @@ use std::test::Fail;
 enum Call {
     Want(u8, u32, Wanted),
     Leave(u8, u32),
+    Await(u8, u32, Wanted),
+    Quit(u32),
     Take(Option<u8>),
     Done(u8, bool),
     Failed(u8, Cause, bool),
@@ -51,6 +53,16 @@ fn make(rt: &impl Abort, imports: &mut Imports<Global>, call: &Call) {
             let pass = *pass;
             assert!(rt; pass >= 1 && pass <= imports.passes());
             imports.leave(key(*number), pass);
+        }
+        Call::Await(number, pass, answer) => {
+            let pass = *pass;
+            assert!(rt; pass >= 1 && pass <= imports.passes());
+            assert_eq!(rt; imports.await_key(key(*number), pass), *answer);
+        }
+        Call::Quit(pass) => {
+            let pass = *pass;
+            assert!(rt; pass >= 1 && pass <= imports.passes());
+            imports.quit(pass);
         }
         Call::Take(answer) => {
             assert_eq!(rt; imports.take(), answer.map(|number| key(number)));
@@ -109,74 +121,40 @@ fn joined_and_failed(rt: HostRuntime) -> Result<(), Fail> {
     Ok(())
 }
 
-const FIRST_IN_FIRST_OUT: [Call; 27] = [
-    Call::Want(7, 64, Wanted::Queued),
-    Call::Want(6, 1, Wanted::Queued),
-    Call::Want(9, 30, Wanted::Queued),
-    Call::Want(6, 2, Wanted::Joined),
-    Call::Want(6, 2, Wanted::Joined),
-    Call::Want(8, 3, Wanted::Queued),
-    // Another pass still wants the key, so it stays where it is.
-    Call::Leave(6, 1),
-    Call::Wants(1, None),
-    Call::Wants(2, Some(6)),
-    // The last pass leaves: the key goes.
-    Call::Leave(9, 30),
-    // Nothing changes where the pass wants another key.
-    Call::Leave(8, 2),
-    Call::Take(Some(7)),
-    Call::Take(Some(6)),
-    Call::Take(None),
-    // A key in flight is joined, and stays there when its last pass leaves.
-    Call::Want(7, 9, Wanted::Joined),
-    Call::Leave(7, 9),
-    Call::Leave(7, 64),
-    Call::InFlight(7, true),
-    Call::InFlight(8, false),
-    Call::Done(7, true),
-    Call::InFlight(7, false),
-    Call::Take(Some(8)),
-    Call::Take(None),
-    // A key that was done is queued afresh.
-    Call::Done(6, true),
-    Call::Wants(2, None),
-    Call::Want(6, 2, Wanted::Queued),
-    Call::Take(Some(6)),
-];
-
-#[test]
-fn first_in_first_out(rt: HostRuntime) -> Result<(), Fail> {
-    let mut imports = Imports::new(rt.alloc(), 64, 2)?;
-    for call in FIRST_IN_FIRST_OUT.iter() {
-        make(&rt, &mut imports, call);
-    }
-    Ok(())
-}
-
-const NEWEST_MARK: [Call; 16] = [
-    Call::Failed(1, Cause::Device, false),
-    Call::Want(1, 1, Wanted::Queued),
-    // A queued key isn't in flight.
-    Call::Failed(1, Cause::Device, false),
-    Call::Done(1, false),
+/// What the turns of passes do to the queue.
+const AWAITED: [Call; 22] = [
+    Call::Await(1, 1, Wanted::Queued),
+    Call::Await(2, 64, Wanted::Queued),
+    Call::Await(5, 3, Wanted::Queued),
+    // Awaited again, a key keeps its place.
+    Call::Await(1, 1, Wanted::Joined),
+    // An old want of another key is left, and the key leaves the queue.
+    Call::Await(3, 64, Wanted::Queued),
+    Call::Wants(64, Some(3)),
     Call::Take(Some(1)),
-    Call::Failed(1, Cause::Device, true),
-    Call::Want(2, 1, Wanted::Queued),
-    Call::Take(Some(2)),
-    Call::Want(2, 2, Wanted::Joined),
-    Call::Leave(2, 2),
-    Call::Failed(2, Cause::BadDigest, true),
-    Call::Failed(2, Cause::BadDigest, false),
-    Call::Failure(2, None),
+    Call::Take(Some(5)),
+    Call::Take(Some(3)),
+    Call::Take(None),
+    // A key in flight stays there when its last pass leaves it.
+    Call::Await(1, 64, Wanted::Joined),
+    Call::InFlight(3, true),
+    Call::Failed(1, Cause::Missing, true),
+    Call::Wants(64, None),
+    Call::Failure(1, Some((1, Cause::Missing))),
+    // Who quits has no mark any more, and wants nothing.
+    Call::Quit(64),
+    Call::Failure(64, None),
+    Call::Await(4, 1, Wanted::Queued),
+    Call::Quit(1),
     Call::Wants(1, None),
-    Call::Failure(1, Some((2, Cause::BadDigest))),
-    Call::Failure(1, None),
+    Call::Take(None),
+    Call::Done(5, true),
 ];
 
 #[test]
-fn newest_mark(rt: HostRuntime) -> Result<(), Fail> {
-    let mut imports = Imports::new(rt.alloc(), 2, 64)?;
-    for call in NEWEST_MARK.iter() {
+fn awaited(rt: HostRuntime) -> Result<(), Fail> {
+    let mut imports = Imports::new(rt.alloc(), PASSES_LIMIT, FLIGHTS_LIMIT)?;
+    for call in AWAITED.iter() {
         make(&rt, &mut imports, call);
     }
     Ok(())

@@ -1,10 +1,9 @@
-use Rattle.eden_cache.proofs.CacheLaws.{one_front, finds_what_was_put, finds_no_other, finds_no_other_size, use_finds_the_same, use_finds_the_same_size}
+use Rattle.eden_cache.proofs.CacheLaws.{one_front, finds_no_other, finds_no_other_size, use_finds_the_same, use_finds_the_same_size}
 use Rattle.eden_cache.proofs.laws.cache_laws.Goals as goal
 
 pub returns : goal.returns
 returns c = record {
   one_front = one_front;
-  put = finds_what_was_put;
   others = finds_no_other;
   other_sizes = finds_no_other_size;
   used = use_finds_the_same;

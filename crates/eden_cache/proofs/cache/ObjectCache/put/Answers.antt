@@ -1,6 +1,8 @@
-use Rattle.std.proofs.Common.{◌≤◌, ◌^◌, length, refl, arith}
+use Rattle.std.proofs.Common.{◌≤◌, length, refl, arith}
+use Rattle.eden_cache.specs.declared.cache.TheConstants.{BYTES_LIMIT}
 use Rattle.eden_cache.proofs.Sizes.{size_put}
 use Rattle.eden_cache.proofs.Tallies.{put_few, put_sum, put_front, put_tallied}
+use Rattle.eden_cache.proofs.CacheLaws.{finds_what_was_put}
 use Rattle.eden_cache.proofs.cache.ObjectCache.put.Goals as goal
 use Rattle.eden_cache.proofs.cache.ObjectCache.put.Goals.{in-Blob, in-Tree}
 
@@ -19,15 +21,29 @@ pub invariant_of-self-in-Blob : goal.invariant_of-self-in-Blob
 invariant_of-self-in-Blob g c =
     let front = rw c.in-Ok.ensures.entries at c.evict-self-inside.ensures.front in
     let cap = rw c.in-Ok.ensures.entries at c.evict-self-inside.ensures.cap in
-    let short : length c.args.object.bytes ≤ 2 ^ 40 = omega (arith, c.body.ensures.sound.short) in
+    let short : length c.args.object.bytes ≤ BYTES_LIMIT = omega (arith, c.body.ensures.sound.short) in
     let size = size_put c.self.inside.sizes c.put.new.self c.args.key.id (length c.body.result.now) c.put.result c.self.invariant.1 c.put.ensures.entries c.put.ensures.err c.put.ensures.succeeds in
-    (put_tallied _ _ c.self.inside.objects c.args.key c.args.object c.self.invariant.0 c.evict-self-inside.result c.evict-self-inside.new.objects front c.evict-self-inside.ensures.sum cap short, size.0)
+    (put_tallied _ _ c.self.inside.objects c.args.key c.args.object c.self.invariant.0 c.requires.kind c.evict-self-inside.result c.evict-self-inside.new.objects front c.evict-self-inside.ensures.sum cap short, size.0)
+
+pub invariant_of-self-in-Tree : goal.invariant_of-self-in-Tree
+invariant_of-self-in-Tree g c =
+    let front = rw c.in-Ok.ensures.entries at c.evict-self-inside.ensures.front in
+    let cap = rw c.in-Ok.ensures.entries at c.evict-self-inside.ensures.cap in
+    let short : length c.args.object.bytes ≤ BYTES_LIMIT = omega (arith, c.body.ensures.sound.short) in
+    (put_tallied _ _ c.self.inside.objects c.args.key c.args.object c.self.invariant.0 c.requires.kind c.evict-self-inside.result c.evict-self-inside.new.objects front c.evict-self-inside.ensures.sum cap short, c.self.invariant.1)
 
 pub returns-clause-objects : goal.returns-clause-objects
 returns-clause-objects g c =
     let front = rw c.in-Ok.ensures.entries at c.evict-self-inside.ensures.front in
     let kept = put_front _ _ c.self.inside.objects c.args.key c.args.object c.self.invariant.0 c.evict-self-inside.new.objects.entries front in
     rw (← c.self.view_is) (elim c.match-key.branch [ in-Blob w ↦ rw w.self-is kept | in-Tree w ↦ rw w.self-is kept ])
+
+pub returns-clause-found : goal.returns-clause-found
+returns-clause-found g c =
+    let front = rw c.in-Ok.ensures.entries at c.evict-self-inside.ensures.front in
+    let kept = put_front _ _ c.self.inside.objects c.args.key c.args.object c.self.invariant.0 c.evict-self-inside.new.objects.entries front in
+    let found = finds_what_was_put c.self.inside.objects.cap c.self.inside.bytes c.args.key c.args.object c.self.inside.objects.entries c.evict-self-inside.new.objects.entries kept in
+    elim c.match-key.branch [ in-Blob w ↦ rw w.self-is found | in-Tree w ↦ rw w.self-is found ]
 
 pub returns-clause-size : goal.returns-clause-size
 returns-clause-size g c = elim c.match-key.branch [
