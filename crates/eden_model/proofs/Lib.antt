@@ -1,8 +1,11 @@
+pub mod CallerLemmas
 pub mod Walks
+pub mod HistoryLemmas
 pub mod Listings
 pub mod Lookups
 pub mod OneReply
 pub mod Shapes
+pub mod ShownLemmas
 pub mod Sorted
 pub mod Wholes
 pub mod Keys
