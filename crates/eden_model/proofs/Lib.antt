@@ -1,3 +1,4 @@
+pub mod Counting
 pub mod Walks
 pub mod Listings
 pub mod Lookups
