@@ -1,4 +1,5 @@
-ghost use Rattle.std.specs.Prelude.{◌≡◌};
+ghost use Rattle.std.specs.Prelude.{◌≡◌, ◌≢◌, Err};
+ghost use Rattle.eden_model.specs.Failures.{one_more};
 ghost use Rattle.eden_overlay.specs.declared.files.FilesFault.TheVariants as fault;
 
 use eden_model::World;
@@ -75,4 +76,15 @@ pub trait Files<W: World>: Drop {
         ensures all { W.honest → IfOk result (λ v. Lists v.items (stored self.old)) }
         ensures unchanged { W.honest → stored self.new ≡ stored self.old }
         ensures counted { Counted (result ≡ Err Device) (failures self.old) (failures self.new) };
+}
+
+// The count of failures after that answer.
+pub(crate) fn count<T>(failures: u64, answer: &Result<T, FilesFault>) -> u64
+    ensures failed { answer.now ≡ Err fault.Device → result ≡ one_more failures }
+    ensures passed { answer.now ≢ Err fault.Device → result ≡ failures }
+{
+    match answer {
+        Err(FilesFault::Device) => failures.saturating_add(1),
+        _ => failures,
+    }
 }
