@@ -15,14 +15,14 @@ use Rattle.eden_overlay_format.specs.declared.state.State.{State}
 use Rattle.eden_overlay_format.specs.declared.stored_entry.StoredEntry.{StoredEntry}
 use Rattle.eden_overlay_format.specs.Stored.{header_refusal, body_in, first_refusal}
 use Rattle.eden_overlay_format.specs.Content.{content_most, IsFile}
-use Rattle.eden_overlay_format.specs.Directory.{number_least, number_end, directory_body, IsRising, AreStorable, IsDirectory}
+use Rattle.eden_overlay_format.specs.Directory.{number_least, number_end, directory_body, AreStorable, IsDirectory}
 use Rattle.eden_overlay_format.specs.State.{state_body, IsGoodState, IsState}
 use Rattle.eden_overlay_format.specs.Reading.{◌>>=◌, Reaches, Fails, bytes_at, number_at, state_of, rows_of}
 use Rattle.eden_overlay_format.specs.Values.{content_in, state_in, is_rising, entries_in}
 use Rattle.eden_overlay_format.specs.Laws.{ContentsFound, StatesFound, EntriesFound}
 use Rattle.eden_overlay_format.proofs.Agreement.{step, both, bytes_agree, numbers64}
 use Rattle.eden_overlay_format.proofs.Rows.{body_only, body_again}
-use Rattle.eden_overlay_format.proofs.Rising.{rises, told, told_not}
+use Rattle.eden_overlay_format.proofs.Rising.{IsRising, rises, told, told_not}
 
 -- ---- contents
 

@@ -1,5 +1,5 @@
 -- Each name before the next is each name before all that follow.
-use Rattle.std.proofs.Common.{◌≡◌, ℕ, zero, suc, ◌+◌, ◌<◌, Bool, true, false, List, [], ◌∷◌, length, get_or, refl, sym, arith}
+use Rattle.std.proofs.Common.{◌≡◌, ℕ, zero, suc, ◌+◌, ◌<◌, Bool, true, false, List, [], ◌∷◌, length, map, get_or, refl, sym, arith}
 use Rattle.std.specs.Bool.{IsTrue}
 use Rattle.std.specs.declared.cmp.Ordering.{Ordering}
 use Rattle.std.specs.declared.cmp.Ordering.TheVariants.{Less, Equal, Greater}
@@ -9,10 +9,14 @@ use Rattle.std.specs.List.{AllByRecursion, AllAdjacentBelow, IsAllAdjacentAnswer
 use Rattle.std.specs.List.Sorted.{IsStrictlySortedBy}
 use Rattle.std.proofs.lemmas.Bool.{and_from}
 use Rattle.std.proofs.lemmas.Cmp.{nat_list_cmp_total}
+use Rattle.eden_model.specs.Named.{AreRising}
 use Rattle.eden_overlay_format.specs.declared.stored_entry.StoredEntry.{StoredEntry}
-use Rattle.eden_overlay_format.specs.Directory.{names_of, IsRising}
 use Rattle.eden_overlay_format.specs.Values.{is_rising}
 use Rattle.eden_overlay_format.proofs.Agreement.{both}
+
+-- in strictly rising order of their names
+abbrev pub IsRising : List StoredEntry → Type 0
+IsRising es = AreRising (λ (e : StoredEntry). e.name) es
 
 abbrev pub comes_before : StoredEntry → StoredEntry → Bool
 comes_before x y = is_lt (slice_cmp nat_cmp x.name y.name)
@@ -36,7 +40,7 @@ rises (x ∷ y ∷ es) e =
     let found = both (comes_before x y) (is_rising (y ∷ es)) e in
     let first = less_is (slice_cmp nat_cmp x.name y.name) found.0 in
     let others = rises (y ∷ es) found.1 in
-    ((first, below_all x.name y.name (names_of es) first others.0), others)
+    ((first, below_all x.name y.name (map (λ (e : StoredEntry). e.name) es) first others.0), others)
 
 pub told : (es : List StoredEntry) → IsRising es → is_rising es ≡ true
 unfolding IsStrictlySortedBy

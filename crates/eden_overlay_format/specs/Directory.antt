@@ -1,15 +1,13 @@
 -- Which bytes store the entries of a directory.
-use Rattle.std.specs.Prelude.{◌≡◌, ◌≤◌, ◌<◌, ◌^◌, ◌++◌, ℕ, List, [], ◌∷◌, length, map, Some, None}
+use Rattle.std.specs.Prelude.{◌≡◌, ◌≤◌, ◌<◌, ◌^◌, ◌++◌, ℕ, List, [], ◌∷◌, length, Some, None}
 use Rattle.std.specs.List.{flat_map, AllByRecursion}
-use Rattle.std.specs.List.Sorted.{IsStrictlySortedBy}
-use Rattle.std.specs.Cmp.Lexicographic.{slice_cmp}
-use Rattle.std.specs.Ordering.{nat_cmp}
 use Rattle.std.specs.Int.{w32, w64, to_be_bytes}
 use Rattle.eden_model.specs.declared.kind.Kind.{Kind}
 use Rattle.eden_model.specs.declared.kind.Kind.TheVariants as kind
 use Rattle.eden_model.specs.declared.kind.Origin.{Origin}
 use Rattle.eden_model.specs.declared.kind.Origin.TheVariants as origin
 use Rattle.eden_model.specs.Names.{name_refusal}
+use Rattle.eden_model.specs.Named.{AreRising}
 use Rattle.eden_overlay_format.specs.declared.header.Identifier.TheVariants as identifier
 use Rattle.eden_overlay_format.specs.declared.stored_entry.StoredEntry.{StoredEntry}
 use Rattle.eden_overlay_format.specs.Stored.{body_in}
@@ -59,17 +57,10 @@ pub record IsStorable (e : StoredEntry) : Type 0 where
   pub least : number_least ≤ e.number
   pub most : e.number < number_end
 
-abbrev pub names_of : List StoredEntry → List (List ℕ)
-names_of es = map (λ e. e.name) es
-
--- each name comes before the next in byte order, so none comes twice
-abbrev pub IsRising : List StoredEntry → Type 0
-IsRising es = IsStrictlySortedBy (slice_cmp nat_cmp) (names_of es)
-
 -- what a directory can hold
 pub record AreStorable (es : List StoredEntry) : Type 0 where
   pub count : length es < 2 ^ 32
-  pub rising : IsRising es
+  pub rising : AreRising (λ (e : StoredEntry). e.name) es
   pub each : AllByRecursion IsStorable es
 
 pub record IsDirectory (bytes : List ℕ) (es : List StoredEntry) : Type 0 where

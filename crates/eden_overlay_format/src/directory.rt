@@ -1,8 +1,9 @@
 //! The entries of a directory.
 
 ghost use Rattle.std.specs.Prelude.{◌≡◌, ◌≢◌, ◌≤◌, ◌*◌, ◌↔◌, Some, None, length, IfOk, IfErr, IsOk, IsSomeAnd, IsTrue};
+ghost use Rattle.eden_model.specs.Named.{AreRising};
 ghost use Rattle.eden_overlay_format.specs.Stored.{first_refusal, written};
-ghost use Rattle.eden_overlay_format.specs.Directory.{IsDirectory, IsRising, AreStorable, directory_body};
+ghost use Rattle.eden_overlay_format.specs.Directory.{IsDirectory, AreStorable, directory_body};
 ghost use Rattle.eden_overlay_format.specs.Reading.{Gives, count_at, rows_at, rows_of};
 ghost use Rattle.eden_overlay_format.specs.Values.{entries_in, ClaimsRows};
 ghost use Rattle.eden_overlay_format.specs.declared.header.Identifier.TheVariants as identifier;
@@ -20,7 +21,7 @@ const ROW_LEAST: usize = 12;
 
 /// Whether each name comes before the next in byte order, as a stored directory needs it.
 pub fn is_rising(entries: &[StoredEntry]) -> bool
-    ensures { IsTrue result ↔ IsRising entries.now }
+    ensures { IsTrue result ↔ AreRising (λ e. e.name) entries.now }
 {
     entries.is_sorted_by(|a, b| a.name < b.name)
 }

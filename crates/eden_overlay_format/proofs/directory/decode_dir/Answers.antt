@@ -2,7 +2,7 @@ use Rattle.std.proofs.Common.{◌≡◌, ap, sym, subst, arith}
 use Rattle.std.proofs.lemmas.Result.{err_from_is_err_and}
 use Rattle.eden_overlay_format.specs.declared.refusal.Refusal.{Refusal}
 use Rattle.eden_overlay_format.specs.declared.refusal.DecodeFault.TheVariants as fault
-use Rattle.eden_overlay_format.specs.Directory.{IsRising}
+use Rattle.eden_overlay_format.proofs.Rising.{IsRising}
 use Rattle.eden_overlay_format.proofs.Found.{no_entries, refused_rows, unrisen, entries_read, storable}
 use Rattle.eden_overlay_format.proofs.directory.decode_dir.Goals as goal
 
