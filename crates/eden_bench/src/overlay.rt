@@ -1,7 +1,7 @@
 // The stored file of a directory: its encoding and its decoding.
 ghost use Rattle.std.specs.Prelude.{IfOk, IfSome};
 ghost use Rattle.std.specs.List.{AllByRecursion};
-ghost use Rattle.eden_overlay_format.specs.Directory.{IsEntry};
+ghost use Rattle.eden_overlay_format.specs.Directory.{IsStorable};
 
 use crate::name::name;
 use crate::timing::Timing;
@@ -17,7 +17,7 @@ const ENTRIES: u32 = 1_000_000;
 
 /// The plain file of that number and its name, or none where it has none.
 fn entry(alloc: Global, number: u32) -> Result<Option<StoredEntry>, AllocError>
-    ensures { IfOk result (λ e. IfSome e IsEntry) }
+    ensures { IfOk result (λ e. IfSome e IsStorable) }
 {
     match name(alloc, u64::from(number))? {
         None => Ok(None),
@@ -32,7 +32,7 @@ fn entry(alloc: Global, number: u32) -> Result<Option<StoredEntry>, AllocError>
 
 /// So many plain files, in byte order.
 fn entries(alloc: Global, count: u32) -> Result<Vec<StoredEntry>, AllocError>
-    ensures { IfOk result (λ v. AllByRecursion IsEntry v.items) }
+    ensures { IfOk result (λ v. AllByRecursion IsStorable v.items) }
 {
     let mut entries = Vec::new(alloc);
     for number in 0..count {
@@ -45,7 +45,7 @@ fn entries(alloc: Global, count: u32) -> Result<Vec<StoredEntry>, AllocError>
 
 /// The stored file, or none where the entries can't be stored.
 fn encoded(alloc: Global, entries: &[StoredEntry]) -> Result<Option<Vec<u8>>, AllocError>
-    requires { AllByRecursion IsEntry entries.now }
+    requires { AllByRecursion IsStorable entries.now }
 {
     if entries.len() > u32::MAX as usize || !is_rising(entries) {
         return Ok(None);
@@ -55,7 +55,7 @@ fn encoded(alloc: Global, entries: &[StoredEntry]) -> Result<Option<Vec<u8>>, Al
 
 /// How many bytes the encodings took.
 fn encode_again(alloc: Global, entries: &[StoredEntry], rounds: u32) -> Result<usize, AllocError>
-    requires { AllByRecursion IsEntry entries.now }
+    requires { AllByRecursion IsStorable entries.now }
 {
     let mut bytes = 0usize;
     for _ in 0..rounds {

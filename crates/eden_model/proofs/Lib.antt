@@ -1,4 +1,5 @@
 pub mod CallerLemmas
+pub mod Counting
 pub mod Walks
 pub mod HistoryLemmas
 pub mod Listings

@@ -1,5 +1,4 @@
 pub mod Held
-pub mod Reading
 pub mod Puts
 pub mod Strays
 pub mod Contents

@@ -1,9 +1,7 @@
 pub mod Files
 pub mod InMemory
 pub mod InFolder
-pub mod Counting
-pub mod Failing
-pub mod Stopping
+pub mod Gates
 pub mod Held
 pub mod Soundness
 pub mod Getting

@@ -1,4 +1,5 @@
-ghost use Rattle.std.specs.Prelude.{◌≡◌};
+ghost use Rattle.std.specs.Prelude.{◌≡◌, ◌≢◌, Err};
+ghost use Rattle.eden_model.specs.Failures.{one_more};
 ghost use Rattle.eden_overlay.specs.declared.files.FilesFault.TheVariants as fault;
 
 use eden_model::World;
@@ -31,15 +32,14 @@ impl<T: Drop> From<AllocFailed<T>> for FilesFault {
 
 /// Files by their numbers.
 ///
-/// What is stored is promised where the World is honest. After an error nothing has changed; `Device` comes only where
-/// the count of failures rose in that call.
+/// What is stored is promised where the World is honest. After an error nothing has changed. Each answer `Device` raises
+/// the count of failures, and no other answer touches it.
 pub trait Files<W: World>: Drop {
-    ghost use Rattle.std.specs.Prelude.{◌≡◌, ◌≤◌, ℕ, List, None, Some, Option, IfOk, OnOk, OnErr, IfErr, option_map};
+    ghost use Rattle.std.specs.Prelude.{◌≡◌, ℕ, None, Some, Err, IfOk, OnOk, OnErr, option_map};
     ghost use Rattle.std.specs.Ordering.{nat_cmp};
     ghost use Rattle.std.specs.List.Sorted.{IsStrictlySortedBy};
-    ghost use Rattle.eden_model.specs.Failures.{Rose};
+    ghost use Rattle.eden_model.specs.Failures.{Counted};
     ghost use Rattle.eden_overlay.specs.Files.{Stored, put, Lists};
-    ghost use Rattle.eden_overlay.specs.declared.files.FilesFault.{FilesFault};
     ghost use Rattle.eden_overlay.specs.declared.files.FilesFault.TheVariants.{Device};
 
     /// The files, by their numbers.
@@ -48,32 +48,43 @@ pub trait Files<W: World>: Drop {
     /// How often the device failed.
     ghost failures: { Self → ℕ };
 
+    /// How often the device failed, up to 2^64 - 1.
+    fn failures(&self) -> u64
+        ensures { result ≡ failures self.now };
+
     /// The bytes of the file with that number, or None where there is none.
     fn read(&mut self, alloc: Global, number: u64) -> Result<Option<Vec<u8>>, FilesFault>
         ensures found { W.honest → IfOk result (λ o. option_map (λ v. v.items) o ≡ stored self.old number) }
         ensures unchanged { W.honest → stored self.new ≡ stored self.old }
-        ensures device { IfErr result (λ e. e ≡ Device → Rose (failures self.old) (failures self.new)) }
-        ensures count { failures self.old ≤ failures self.new };
+        ensures counted { Counted (result ≡ Err Device) (failures self.old) (failures self.new) };
 
     /// Stores the bytes as the whole file of that number, in place of any that was there.
     fn replace(&mut self, alloc: Global, number: u64, bytes: &[u8]) -> Result<(), FilesFault>
         ensures ok { W.honest → OnOk result (stored self.new ≡ put (stored self.old) number (Some bytes.now)) }
         ensures err { W.honest → OnErr result (stored self.new ≡ stored self.old) }
-        ensures device { IfErr result (λ e. e ≡ Device → Rose (failures self.old) (failures self.new)) }
-        ensures count { failures self.old ≤ failures self.new };
+        ensures counted { Counted (result ≡ Err Device) (failures self.old) (failures self.new) };
 
     /// Removes the file of that number; Ok too where there is none.
     fn remove(&mut self, alloc: Global, number: u64) -> Result<(), FilesFault>
         ensures ok { W.honest → OnOk result (stored self.new ≡ put (stored self.old) number None) }
         ensures err { W.honest → OnErr result (stored self.new ≡ stored self.old) }
-        ensures device { IfErr result (λ e. e ≡ Device → Rose (failures self.old) (failures self.new)) }
-        ensures count { failures self.old ≤ failures self.new };
+        ensures counted { Counted (result ≡ Err Device) (failures self.old) (failures self.new) };
 
     /// The numbers of all files, rising.
     fn list(&mut self, alloc: Global) -> Result<Vec<u64>, FilesFault>
         ensures rising { IfOk result (λ v. IsStrictlySortedBy nat_cmp v.items) }
         ensures all { W.honest → IfOk result (λ v. Lists v.items (stored self.old)) }
         ensures unchanged { W.honest → stored self.new ≡ stored self.old }
-        ensures device { IfErr result (λ e. e ≡ Device → Rose (failures self.old) (failures self.new)) }
-        ensures count { failures self.old ≤ failures self.new };
+        ensures counted { Counted (result ≡ Err Device) (failures self.old) (failures self.new) };
+}
+
+// The count of failures after that answer.
+pub(crate) fn count<T>(failures: u64, answer: &Result<T, FilesFault>) -> u64
+    ensures failed { answer.now ≡ Err fault.Device → result ≡ one_more failures }
+    ensures passed { answer.now ≢ Err fault.Device → result ≡ failures }
+{
+    match answer {
+        Err(FilesFault::Device) => failures.saturating_add(1),
+        _ => failures,
+    }
 }

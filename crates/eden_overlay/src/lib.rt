@@ -3,7 +3,7 @@
 //! `Files` says what storing, reading, removing and listing files by their numbers promise: what is stored is known
 //! where the World is honest, and a failure of the device is told from want of memory by a count. `MemoryFiles` keeps
 //! the promises for every World; a folder is nobody's proof of honesty, so `FolderFiles` serves the World `Outside`
-//! alone. `FailingFiles` and `StopFiles` are for tests: they hold files and fail where they were told to.
+//! alone. `FailingFiles` and `StopFiles` are for tests: files behind a gate, which fail where they were told to.
 //!
 //! An `Overlay` stores contents, directories and the state in such files, and gets them again. Whoever stores or
 //! removes a file shows first that the overlay stays sound: each entry of a directory that counts whose contents are
@@ -14,25 +14,23 @@
 #![tactic(auto)]
 
 mod content;
-mod failing;
 mod fault;
 mod files;
 mod folder;
+mod gate;
 mod laws;
 mod memory;
 mod names;
 mod overlay;
-mod stopping;
 
 pub use content::Content;
-pub use failing::FailingFiles;
 pub use fault::GetFault;
 pub use files::{Files, FilesFault};
 pub use folder::{FolderFiles, LONGEST_FILE};
+pub use gate::{Allowance, FailingFiles, Gate, GatedFiles, OneCall, StopFiles};
 pub use laws::overlay_laws;
 pub use memory::MemoryFiles;
 pub use overlay::Overlay;
-pub use stopping::StopFiles;
 
 #[cfg(test)]
 mod overlay_tests;

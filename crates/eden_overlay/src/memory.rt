@@ -48,6 +48,10 @@ impl<W: World> Files<W> for MemoryFiles<W> {
 
     ghost failures = { λ _. 0 };
 
+    fn failures(&self) -> u64 {
+        0
+    }
+
     fn read(&mut self, alloc: Global, number: u64) -> Result<Option<Vec<u8>>, FilesFault> {
         Ok(copied(alloc, self.files.get(&number))?)
     }

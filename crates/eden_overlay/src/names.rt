@@ -14,19 +14,6 @@ pub(crate) fn file_path(alloc: Global, folder: &PathBuf, number: u64) -> Result<
     folder.join(alloc, Buffer::new().format(number))
 }
 
-// Where the file of that number is written before it takes its place.
-pub(crate) fn replacement_path(
-    alloc: Global,
-    folder: &PathBuf,
-    number: u64,
-) -> Result<PathBuf, AllocError>
-    ensures { IfOk result (λ p. path_buf_bytes p ≡ folder_spec.replacement_path (path_buf_bytes folder.now) number) }
-{
-    let mut name = String::from_str(alloc, Buffer::new().format(number))?;
-    name.push_str(".new")?;
-    folder.join(alloc, name.as_str())
-}
-
 // The number whose file has that name.
 pub(crate) fn number_named(name: &str) -> Option<u64>
     ensures named { IfSome result (λ n. name.now ≡ decimal n) }

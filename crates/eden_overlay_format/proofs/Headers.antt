@@ -1,24 +1,47 @@
--- What a header's tests say, and that a header that was written is one.
-use Rattle.std.proofs.Common.{◌≡◌, ℕ, Bool, true, false, not, List, ◌++◌, refl, ◌∙◌, arith}
+-- Headers: what was written is found, and one identifier alone.
+use Rattle.std.proofs.Common.{◌≡◌, ℕ, Bool, true, false, ltb, cond, List, ◌++◌, length, take, drop, get_or, Option, Some, None, refl, sym, ap, ◌∙◌, arith}
+use Rattle.std.specs.Option.{is_none}
 use Rattle.std.specs.Str.{bytes_eq}
+use Rattle.std.proofs.lemmas.Bool.{le-ltb}
 use Rattle.std.proofs.lemmas.Slice.Eq.{bytes_eq-Decides}
 use Rattle.std.proofs.lemmas.List.{length-append}
 use Rattle.eden_overlay_format.specs.declared.header.Identifier.{Identifier}
 use Rattle.eden_overlay_format.specs.declared.header.Identifier.TheVariants as identifier
-use Rattle.eden_overlay_format.specs.Stored.{IsStored, header}
+use Rattle.eden_overlay_format.specs.declared.refusal.Refusal.{Refusal}
+use Rattle.eden_overlay_format.specs.declared.refusal.Refusal.TheVariants.{Short, BadIdentifier, BadVersion}
+use Rattle.eden_overlay_format.specs.Stored.{identifier_bytes, version_bytes, header, written, header_refusal, body_in}
+use Rattle.eden_overlay_format.specs.Laws.{WrittenFound, OneIdentifier}
 
-of_false : (b : Bool) → false ≡ not b → b ≡ true
-of_false true e = refl
-of_false false e = absurd cc
+pub written_found : WrittenFound
+unfolding header body_in header_refusal
+written_found identifier.File body =
+    let long : ltb (length (header identifier.File ++ body)) 64 ≡ false = le-ltb _ _ (omega (arith, length-append (header identifier.File) body)) in
+    rw long refl
+written_found identifier.Directory body =
+    let long : ltb (length (header identifier.Directory ++ body)) 64 ≡ false = le-ltb _ _ (omega (arith, length-append (header identifier.Directory) body)) in
+    rw long refl
 
--- what a test for another text says, where it fails
-pub same_bytes : (xs ys zs : List ℕ) → false ≡ not (bytes_eq xs ys) → ys ≡ zs → xs ≡ zs
-same_bytes xs ys zs e f = (bytes_eq-Decides xs ys).0 (of_false (bytes_eq xs ys) e) ∙ f
+-- a file that has a body passed the test of its identifier
+passed : (short named known : Bool) (text body : List ℕ) → cond (is_none (cond short (Some Short) (cond named (cond known None (Some BadVersion)) (Some BadIdentifier)))) (Some text) None ≡ Some body → named ≡ true
+passed true named known text body e = absurd cc
+passed false true known text body e = refl
+passed false false known text body e = absurd cc
 
-pub stored_again : (i : Identifier) (body : List ℕ) → IsStored i (header i ++ body) body
-unfolding header
-stored_again identifier.File body = record { long = omega (arith, length-append (header identifier.File) body); identifier = refl; version = refl; behind = refl }
-stored_again identifier.Directory body = record { long = omega (arith, length-append (header identifier.Directory) body); identifier = refl; version = refl; behind = refl }
+identified : (i : Identifier) (bytes body : List ℕ) → body_in i bytes ≡ Some body → take 4 bytes ≡ identifier_bytes i
+unfolding body_in header_refusal
+identified i bytes body e =
+    let named = bytes_eq (take 4 bytes) (identifier_bytes i) in
+    let known = bytes_eq (take 4 (drop 4 bytes)) version_bytes in
+    (bytes_eq-Decides (take 4 bytes) (identifier_bytes i)).0 (passed (ltb (length bytes) 64) named known (drop 64 bytes) body e)
 
-pub stored_as : (i : Identifier) (bytes body : List ℕ) → bytes ≡ header i ++ body → IsStored i bytes body
-stored_as i bytes body e = rw e (stored_again i body)
+differ : identifier_bytes identifier.File ≡ identifier_bytes identifier.Directory → ⊥
+differ e = let third : get_or (identifier_bytes identifier.File) 2 0 ≡ get_or (identifier_bytes identifier.Directory) 2 0 = ap (λ (bytes : List ℕ). get_or bytes 2 0) e in omega (arith, third)
+
+same : (i j : Identifier) → identifier_bytes i ≡ identifier_bytes j → i ≡ j
+same identifier.File identifier.File e = refl
+same identifier.File identifier.Directory e = absurd (differ e)
+same identifier.Directory identifier.File e = absurd (differ (sym e))
+same identifier.Directory identifier.Directory e = refl
+
+pub one_identifier : OneIdentifier
+one_identifier bytes x y i j h k = same i j (sym (identified i bytes x h) ∙ identified j bytes y k)

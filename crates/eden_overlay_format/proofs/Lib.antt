@@ -1,7 +1,6 @@
 pub mod Headers
-pub mod FieldLaws
-pub mod States
+pub mod Agreement
 pub mod Rows
-pub mod Loop
 pub mod Rising
-pub mod Bodies
+pub mod Loop
+pub mod Found

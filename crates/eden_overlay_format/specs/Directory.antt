@@ -1,18 +1,23 @@
 -- Which bytes store the entries of a directory.
-use Rattle.std.specs.Prelude.{◌≡◌, ◌≤◌, ◌<◌, ◌^◌, ◌++◌, ℕ, List, [], ◌∷◌, length, map, None}
+use Rattle.std.specs.Prelude.{◌≡◌, ◌≤◌, ◌<◌, ◌^◌, ◌++◌, ℕ, List, [], ◌∷◌, length, Some, None}
 use Rattle.std.specs.List.{flat_map, AllByRecursion}
-use Rattle.std.specs.List.Sorted.{IsStrictlySortedBy}
-use Rattle.std.specs.Cmp.Lexicographic.{slice_cmp}
-use Rattle.std.specs.Ordering.{nat_cmp}
 use Rattle.std.specs.Int.{w32, w64, to_be_bytes}
 use Rattle.eden_model.specs.declared.kind.Kind.{Kind}
 use Rattle.eden_model.specs.declared.kind.Kind.TheVariants as kind
 use Rattle.eden_model.specs.declared.kind.Origin.{Origin}
 use Rattle.eden_model.specs.declared.kind.Origin.TheVariants as origin
 use Rattle.eden_model.specs.Names.{name_refusal}
+use Rattle.eden_model.specs.Named.{AreRising}
 use Rattle.eden_overlay_format.specs.declared.header.Identifier.TheVariants as identifier
 use Rattle.eden_overlay_format.specs.declared.stored_entry.StoredEntry.{StoredEntry}
-use Rattle.eden_overlay_format.specs.Stored.{IsStored}
+use Rattle.eden_overlay_format.specs.Stored.{body_in}
+
+-- the numbers of entries are at least this one, and below the next; the root's is 1
+abbrev pub number_least : ℕ
+number_least = 2
+
+abbrev pub number_end : ℕ
+number_end = 2 ^ 63
 
 abbrev pub kind_code : Kind → ℕ
 kind_code kind.File = 0
@@ -46,25 +51,18 @@ HasOrigin k origin.Own = Unit {0}
 HasOrigin k origin.Empty = k ≡ kind.Dir
 
 -- an entry that has a row
-pub record IsEntry (e : StoredEntry) : Type 0 where
+pub record IsStorable (e : StoredEntry) : Type 0 where
   pub name : name_refusal e.name ≡ None
   pub origin : HasOrigin e.kind e.origin
-  pub least : 2 ≤ e.number
-  pub most : e.number < 2 ^ 63
-
-abbrev pub names_of : List StoredEntry → List (List ℕ)
-names_of es = map (λ e. e.name) es
-
--- each name comes before the next in byte order, so none comes twice
-abbrev pub IsRising : List StoredEntry → Type 0
-IsRising es = IsStrictlySortedBy (slice_cmp nat_cmp) (names_of es)
+  pub least : number_least ≤ e.number
+  pub most : e.number < number_end
 
 -- what a directory can hold
-pub record AreEntries (es : List StoredEntry) : Type 0 where
+pub record AreStorable (es : List StoredEntry) : Type 0 where
   pub count : length es < 2 ^ 32
-  pub rising : IsRising es
-  pub each : AllByRecursion IsEntry es
+  pub rising : AreRising (λ (e : StoredEntry). e.name) es
+  pub each : AllByRecursion IsStorable es
 
 pub record IsDirectory (bytes : List ℕ) (es : List StoredEntry) : Type 0 where
-  pub stored : IsStored identifier.Directory bytes (directory_body es)
-  pub entries : AreEntries es
+  pub stored : body_in identifier.Directory bytes ≡ Some (directory_body es)
+  pub entries : AreStorable es

@@ -1,19 +1,28 @@
--- What the grammars promise: bytes store one value at most.
-use Rattle.std.specs.Prelude.{◌≡◌, ℕ, List}
+-- What the grammars promise.
+use Rattle.std.specs.Prelude.{◌≡◌, ◌↔◌, ℕ, List, Some}
+use Rattle.eden_overlay_format.specs.declared.header.Identifier.{Identifier}
 use Rattle.eden_overlay_format.specs.declared.state.State.{State}
 use Rattle.eden_overlay_format.specs.declared.stored_entry.StoredEntry.{StoredEntry}
+use Rattle.eden_overlay_format.specs.Stored.{written, body_in}
 use Rattle.eden_overlay_format.specs.Content.{IsFile}
 use Rattle.eden_overlay_format.specs.State.{IsState}
 use Rattle.eden_overlay_format.specs.Directory.{IsDirectory}
+use Rattle.eden_overlay_format.specs.Values.{content_in, state_in, entries_in}
 
--- a file has one content
-abbrev pub OneContent : Type 0
-OneContent = (bytes x y : List ℕ) → IsFile bytes x → IsFile bytes y → x ≡ y
+-- the functions find what the grammars say, and nothing else; so bytes store one value at most
+abbrev pub ContentsFound : Type 0
+ContentsFound = (bytes content : List ℕ) → (content_in bytes ≡ Some content) ↔ IsFile bytes content
 
--- a state is one
-abbrev pub OneState : Type 0
-OneState = (bytes : List ℕ) (s t : State) → IsState bytes s → IsState bytes t → s ≡ t
+abbrev pub StatesFound : Type 0
+StatesFound = (bytes : List ℕ) (s : State) → (state_in bytes ≡ Some s) ↔ IsState bytes s
 
--- a directory has one list of entries
-abbrev pub OneListing : Type 0
-OneListing = (bytes : List ℕ) (es fs : List StoredEntry) → IsDirectory bytes es → IsDirectory bytes fs → es ≡ fs
+abbrev pub EntriesFound : Type 0
+EntriesFound = (bytes : List ℕ) (es : List StoredEntry) → (entries_in bytes ≡ Some es) ↔ IsDirectory bytes es
+
+-- what is written is found
+abbrev pub WrittenFound : Type 0
+WrittenFound = (i : Identifier) (body : List ℕ) → body_in i (written i body) ≡ Some body
+
+-- no bytes are two kinds of files
+abbrev pub OneIdentifier : Type 0
+OneIdentifier = (bytes x y : List ℕ) (i j : Identifier) → body_in i bytes ≡ Some x → body_in j bytes ≡ Some y → i ≡ j

@@ -1,8 +1,8 @@
--- Reading a body from left to right, as the private readers say what they answer; no public clause names it.
--- A field is a value and the bytes behind it; what can't be read has none.
-use Rattle.std.specs.Prelude.{◌≡◌, ◌*◌, ◌^◌, ◌==◌, ℕ, zero, suc, List, [], ◌∷◌, length, take, drop, Option, Some, None, Result, Ok, Err, nat_lt, if◌then◌else◌}
-use Rattle.std.specs.Option.{is_none}
-use Rattle.std.specs.Int.{Width, w32, w64, byte_len, from_be_bytes}
+-- Reading a body from left to right. A field is a value and what stands behind it; what can't be read has none.
+use Rattle.std.specs.Prelude.{◌≡◌, ◌≤◌, ◌*◌, ◌==◌, ◌&&◌, ℕ, zero, suc, List, [], ◌∷◌, length, take, drop, Option, Some, None, Result, Ok, Err, nat_lt, nat_le, if◌then◌else◌, IsSomeAnd}
+use Rattle.std.specs.Option.{is_none, option_and_then}
+use Rattle.std.specs.Int.{Width, w32, w64, byte_len, from_be_bytes, to_be_bytes, is_in_range}
+use Rattle.std.specs.Str.{bytes_eq}
 use Rattle.eden_model.specs.declared.kind.Kind.{Kind}
 use Rattle.eden_model.specs.declared.kind.Kind.TheVariants as kind
 use Rattle.eden_model.specs.declared.kind.Origin.{Origin}
@@ -15,25 +15,11 @@ use Rattle.eden_overlay_format.specs.declared.refusal.DecodeFault.{DecodeFault}
 use Rattle.eden_overlay_format.specs.declared.refusal.DecodeFault.TheVariants as fault
 use Rattle.eden_overlay_format.specs.declared.state.State.{State}
 use Rattle.eden_overlay_format.specs.declared.stored_entry.StoredEntry.{StoredEntry}
+use Rattle.eden_overlay_format.specs.Directory.{number_least, number_end}
 
 infixl 10 ◌>>=◌
 abbrev pub ◌>>=◌ : {A B : Type 0} → Option A → (A → Option B) → Option B
-(Some x) >>= f = f x
-None >>= f = None
-
--- what a function returned, seen by view, is what reading gives
-abbrev pub Reads : {X Y : Type 0} → (X → Y) → Result X Refusal → Option Y → Type 0
-Reads view (Ok x) read = read ≡ Some (view x)
-Reads view (Err e) read = (e ≡ BadBody) × (read ≡ None)
-
--- the same, unless memory ran out
-abbrev pub Fails : {Y : Type 0} → DecodeFault → Option Y → Type 0
-Fails fault.Memory read = Unit {0}
-Fails (fault.Refused e) read = (e ≡ BadBody) × (read ≡ None)
-
-abbrev pub Gives : {X Y : Type 0} → (X → Y) → Result X DecodeFault → Option Y → Type 0
-Gives view (Ok x) read = read ≡ Some (view x)
-Gives view (Err e) read = Fails e read
+o >>= f = option_and_then f o
 
 abbrev pub Field : Type 0 → Type 0
 Field A = Option (A × List ℕ)
@@ -43,12 +29,23 @@ byte_at [] = None
 byte_at (b ∷ rest) = Some (b, rest)
 
 abbrev pub bytes_at : ℕ → List ℕ → Field (List ℕ)
-bytes_at n bytes = if nat_lt (length bytes) n then None else Some (take n bytes, drop n bytes)
+bytes_at n bytes = if nat_le n (length bytes) then Some (take n bytes, drop n bytes) else None
 
-abbrev pub number_at : Width → List ℕ → Field ℕ
+-- the number that is written so; what isn't made of bytes is no number
+unfoldable pub number_at : Width → List ℕ → Field ℕ
 number_at w bytes = do
   digits ← bytes_at (byte_len w) bytes
-  Some (from_be_bytes w digits.0, digits.1)
+  if bytes_eq (to_be_bytes w (from_be_bytes w digits.0)) digits.0 then Some (from_be_bytes w digits.0, digits.1) else None
+
+-- ---- the state
+
+unfoldable pub state_of : List ℕ → Option State
+state_of body = do
+  id ← bytes_at 20 body
+  next ← number_at w64 id.1
+  if length next.1 == 0 && is_in_range number_least number_end next.0 then Some (record { root = record { bytes = id.0 }; next = next.0 }) else None
+
+-- ---- a directory
 
 abbrev pub kind_of_code : ℕ → Option Kind
 kind_of_code zero = Some kind.File
@@ -66,7 +63,7 @@ kind_at bytes = do
 unfoldable pub entry_number_at : List ℕ → Field ℕ
 entry_number_at bytes = do
   n ← number_at w64 bytes
-  if nat_lt n.0 2 then None else (if nat_lt n.0 (2 ^ 63) then Some n else None)
+  if nat_le number_least n.0 && nat_lt n.0 number_end then Some n else None
 
 -- behind the code, the kind and the number
 unfoldable pub origin_at : ℕ → Kind → List ℕ → Field Origin
@@ -99,15 +96,31 @@ rows_at (suc n) bytes = do
   others ← rows_at n first.1
   Some (first.0 ∷ others.0, others.1)
 
--- the rows of a whole body, in any order; each takes 12 bytes at least
-unfoldable pub all_rows_of : List ℕ → Option (List StoredEntry)
-all_rows_of body = do
+-- how many rows follow, where the bytes behind have room for them: each takes 12 at least
+unfoldable pub count_at : List ℕ → Field ℕ
+count_at body = do
   count ← number_at w32 body
-  rows ← if nat_lt (length count.1) (12 * count.0) then None else rows_at count.0 count.1
+  if nat_le (12 * count.0) (length count.1) then Some count else None
+
+-- the rows of a whole body, in any order
+unfoldable pub rows_of : List ℕ → Option (List StoredEntry)
+rows_of body = do
+  count ← count_at body
+  rows ← rows_at count.0 count.1
   if length rows.1 == 0 then Some rows.0 else None
 
-unfoldable pub state_of : List ℕ → Option State
-state_of body = do
-  id ← bytes_at 20 body
-  n ← number_at w64 id.1
-  if length n.1 == 0 then (if nat_lt n.0 2 then None else (if nat_lt (2 ^ 63) n.0 then None else Some (record { root = record { bytes = id.0 }; next = n.0 }))) else None
+-- ---- what a private reader answers
+
+-- the field, seen by view; what can't be read is BadBody
+abbrev pub Reaches : {X Y : Type 0} → (X → Y) → Result X Refusal → Option Y → Type 0
+Reaches view (Ok x) field = field ≡ Some (view x)
+Reaches view (Err e) field = (e ≡ BadBody) × (field ≡ None)
+
+-- the same, unless memory ran out
+abbrev pub Fails : {Y : Type 0} → DecodeFault → Option Y → Type 0
+Fails fault.Memory field = Unit {0}
+Fails (fault.Refused e) field = (e ≡ BadBody) × (field ≡ None)
+
+abbrev pub Gives : {X Y : Type 0} → (X → Y) → Result X DecodeFault → Option Y → Type 0
+Gives view (Ok x) field = field ≡ Some (view x)
+Gives view (Err e) field = Fails e field

@@ -1,6 +1,7 @@
 -- What every stored file is: a header of 64 bytes, and a body behind it. This alone says what a header is.
 -- The two identifiers and the header's length are those of EdenFS's overlay files; the rest is this project's own.
-use Rattle.std.specs.Prelude.{◌≡◌, ◌≤◌, ℕ, List, ◌++◌, length, take, drop, replicate, codes, nat_lt, if◌then◌else◌}
+use Rattle.std.specs.Prelude.{ℕ, List, ◌++◌, length, take, drop, replicate, codes, nat_lt, if◌then◌else◌, Option, Some, None, unwrap_or}
+use Rattle.std.specs.Option.{is_none}
 use Rattle.std.specs.Int.{w32, to_be_bytes}
 use Rattle.std.specs.Str.{bytes_eq}
 use Rattle.eden_overlay_format.specs.declared.header.Identifier.{Identifier}
@@ -25,15 +26,16 @@ header i = identifier_bytes i ++ version_bytes ++ replicate 56 0
 abbrev pub written : Identifier → List ℕ → List ℕ
 written i body = header i ++ body
 
--- The bytes are a header with that identifier, and that body behind it. Bytes 8 to 63 are not looked at.
-pub record IsStored (i : Identifier) (bytes body : List ℕ) : Type 0 where
-  pub long : 64 ≤ length bytes
-  pub identifier : take 4 bytes ≡ identifier_bytes i
-  pub version : take 4 (drop 4 bytes) ≡ version_bytes
-  pub behind : drop 64 bytes ≡ body
+-- What is wrong with the header, where the file was asked for under that identifier. Bytes 8 to 63 are not looked at.
+unfoldable pub header_refusal : Identifier → List ℕ → Option Refusal
+header_refusal i bytes =
+    if nat_lt (length bytes) 64 then Some Short
+    else (if bytes_eq (take 4 bytes) (identifier_bytes i) then (if bytes_eq (take 4 (drop 4 bytes)) version_bytes then None else Some BadVersion) else Some BadIdentifier)
 
--- Why bytes that were asked for under that identifier are refused, where they are.
+-- the body behind a header with nothing wrong
+unfoldable pub body_in : Identifier → List ℕ → Option (List ℕ)
+body_in i bytes = if is_none (header_refusal i bytes) then Some (drop 64 bytes) else None
+
+-- Why bytes that hold no value are refused: for the header, or else for the body.
 abbrev pub first_refusal : Identifier → List ℕ → Refusal
-first_refusal i bytes =
-    if nat_lt (length bytes) 64 then Short
-    else (if bytes_eq (take 4 bytes) (identifier_bytes i) then (if bytes_eq (take 4 (drop 4 bytes)) version_bytes then BadBody else BadVersion) else BadIdentifier)
+first_refusal i bytes = unwrap_or (header_refusal i bytes) BadBody

@@ -1,8 +1,9 @@
 //! The content of a file or a link.
 
-ghost use Rattle.std.specs.Prelude.{◌≡◌, ◌≤◌, ◌^◌, List, ℕ, length, IfOk, IfErr, IsOkAnd};
+ghost use Rattle.std.specs.Prelude.{◌≡◌, ◌≤◌, Some, None, length, IfOk, IfErr};
 ghost use Rattle.eden_overlay_format.specs.Stored.{first_refusal, written};
-ghost use Rattle.eden_overlay_format.specs.Content.{IsFile};
+ghost use Rattle.eden_overlay_format.specs.Content.{content_most, IsFile};
+ghost use Rattle.eden_overlay_format.specs.Values.{content_in};
 ghost use Rattle.eden_overlay_format.specs.declared.header.Identifier.TheVariants as identifier;
 
 use crate::header::{Identifier, body_of, start};
@@ -12,9 +13,9 @@ use std::alloc::{AllocError, Global};
 /// The longest content of a file or a link, in bytes.
 pub const CONTENT_MOST: usize = 1 << 30;
 
-/// The stored file of a content of at most 2^30 bytes. The only error is want of memory.
+/// The stored file of a content of at most `CONTENT_MOST` bytes. The only error is want of memory.
 pub fn encode_file(alloc: Global, content: &[u8]) -> Result<Vec<u8>, AllocError>
-    requires { length content.now ≤ 2 ^ 30 }
+    requires { length content.now ≤ content_most }
     ensures bytes { IfOk result (λ v. v.items ≡ written identifier.File content.now) }
     ensures read_again { IfOk result (λ v. IsFile v.items content.now) }
 {
@@ -24,10 +25,10 @@ pub fn encode_file(alloc: Global, content: &[u8]) -> Result<Vec<u8>, AllocError>
 }
 
 /// The content that the bytes store, lent out of them, or the first refusal.
+#[tactic(auto, unfolding(crate::specs::Values::content_in))]
 pub fn decode_file(bytes: &[u8]) -> Result<&[u8], Refusal>
-    ensures found { IfOk result (λ content. IsFile bytes.now content.now) }
-    ensures only { (content : List ℕ) → IsFile bytes.now content → IsOkAnd result (λ found. found.now ≡ content) }
-    ensures refused { IfErr result (λ e. e ≡ first_refusal identifier.File bytes.now) }
+    ensures found { IfOk result (λ content. content_in bytes.now ≡ Some content.now) }
+    ensures refused { IfErr result (λ e. (content_in bytes.now ≡ None) × (e ≡ first_refusal identifier.File bytes.now)) }
 {
     let content = body_of(Identifier::File, bytes)?;
     if content.len() > CONTENT_MOST {

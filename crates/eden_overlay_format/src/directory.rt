@@ -1,13 +1,13 @@
 //! The entries of a directory.
 
-ghost use Rattle.std.specs.Prelude.{◌≡◌, ◌≢◌, ◌≤◌, ◌*◌, ◌↔◌, List, length, IfOk, IfErr, MatchResult, IsTrue};
+ghost use Rattle.std.specs.Prelude.{◌≡◌, ◌≢◌, ◌≤◌, ◌*◌, ◌↔◌, Some, None, length, IfOk, IfErr, IsOk, IsSomeAnd, IsTrue};
+ghost use Rattle.eden_model.specs.Named.{AreRising};
 ghost use Rattle.eden_overlay_format.specs.Stored.{first_refusal, written};
-ghost use Rattle.eden_overlay_format.specs.Directory.{IsDirectory, IsRising, AreEntries, directory_body};
-ghost use Rattle.eden_overlay_format.specs.Reading.{Gives, rows_at, all_rows_of};
+ghost use Rattle.eden_overlay_format.specs.Directory.{IsDirectory, AreStorable, directory_body};
+ghost use Rattle.eden_overlay_format.specs.Reading.{Gives, count_at, rows_at, rows_of};
+ghost use Rattle.eden_overlay_format.specs.Values.{entries_in, ClaimsRows};
 ghost use Rattle.eden_overlay_format.specs.declared.header.Identifier.TheVariants as identifier;
 ghost use Rattle.eden_overlay_format.specs.declared.refusal.DecodeFault.TheVariants as fault;
-ghost use Rattle.eden_overlay_format.specs.declared.refusal.Refusal.TheVariants as refusal;
-ghost use Rattle.eden_overlay_format.specs.declared.stored_entry.StoredEntry.{StoredEntry};
 
 use crate::fields::{row_of, u32_of};
 use crate::header::{Identifier, body_of, start};
@@ -21,7 +21,7 @@ const ROW_LEAST: usize = 12;
 
 /// Whether each name comes before the next in byte order, as a stored directory needs it.
 pub fn is_rising(entries: &[StoredEntry]) -> bool
-    ensures { IsTrue result ↔ IsRising entries.now }
+    ensures { IsTrue result ↔ AreRising (λ e. e.name) entries.now }
 {
     entries.is_sorted_by(|a, b| a.name < b.name)
 }
@@ -29,7 +29,7 @@ pub fn is_rising(entries: &[StoredEntry]) -> bool
 /// The stored file of a directory with those entries: fewer than 2^32, each name before the next in byte order
 /// (`is_rising`), each number from 2 to 2^63 - 1, and `Empty` with a directory alone. The only error is want of memory.
 pub fn encode_dir(alloc: Global, entries: &[StoredEntry]) -> Result<Vec<u8>, AllocError>
-    requires { AreEntries entries.now }
+    requires { AreStorable entries.now }
     ensures bytes { IfOk result (λ v. v.items ≡ written identifier.Directory (directory_body entries.now)) }
     ensures read_again { IfOk result (λ v. IsDirectory v.items entries.now) }
 {
@@ -41,13 +41,14 @@ pub fn encode_dir(alloc: Global, entries: &[StoredEntry]) -> Result<Vec<u8>, All
     Ok(out)
 }
 
-fn rows_of(
+fn read_rows(
     alloc: Global,
     count: u32,
     bytes: &[u8],
 ) -> Result<(Vec<StoredEntry>, &[u8]), DecodeFault>
     requires room { 12 * count ≤ length bytes.now }
-    ensures { Gives (λ x. (x.0.items, x.1.now)) result (rows_at count bytes.now) }
+    ensures rows { Gives (λ x. (x.0.items, x.1.now)) result (rows_at count bytes.now) }
+    ensures none { count ≡ 0 → IsOk result }
 {
     let mut rows = Vec::with_capacity(alloc, count as usize)?;
     let mut rest = bytes;
@@ -60,31 +61,33 @@ fn rows_of(
 }
 
 /// The rows of a whole body. A count that its bytes can't hold is refused before any room is made.
-#[tactic(auto, unfolding(crate::specs::Reading::all_rows_of))]
-fn all_rows(alloc: Global, body: &[u8]) -> Result<Vec<StoredEntry>, DecodeFault>
-    ensures { Gives (λ v. v.items) result (all_rows_of body.now) }
+#[tactic(auto, unfolding(crate::specs::Reading::rows_of, crate::specs::Reading::count_at))]
+fn read_body(alloc: Global, body: &[u8]) -> Result<Vec<StoredEntry>, DecodeFault>
+    ensures rows { Gives (λ v. v.items) result (rows_of body.now) }
+    ensures memory { IfErr result (λ f. f ≡ fault.Memory → IsSomeAnd (count_at body.now) (λ count. 1 ≤ count.0)) }
 {
     let (count, rest) = u32_of(body)?;
     if rest.len() < ROW_LEAST * count as usize {
         return Err(DecodeFault::Refused(Refusal::BadBody));
     }
-    let (rows, rest) = rows_of(alloc, count, rest)?;
+    let (rows, rest) = read_rows(alloc, count, rest)?;
     if !rest.is_empty() {
         return Err(DecodeFault::Refused(Refusal::BadBody));
     }
     Ok(rows)
 }
 
-/// The entries that the bytes store, or the first refusal.
+/// The entries that the bytes store, or the first refusal. Memory is asked for only where a good header stands before
+/// a count of rows that the bytes have room for.
+#[tactic(auto, unfolding(crate::specs::Values::entries_in))]
 pub fn decode_dir(alloc: Global, bytes: &[u8]) -> Result<Vec<StoredEntry>, DecodeFault>
-    ensures found { IfOk result (λ v. IsDirectory bytes.now v.items) }
-    ensures only { (es : List StoredEntry) → IsDirectory bytes.now es → MatchResult result (λ v. v.items ≡ es) (λ f. f ≡ fault.Memory) }
-    ensures refused { IfErr result (λ f. f ≢ fault.Memory → f ≡ fault.Refused (first_refusal identifier.Directory bytes.now)) }
-    // Memory is asked for only behind a good header.
-    ensures memory { IfErr result (λ f. f ≡ fault.Memory → first_refusal identifier.Directory bytes.now ≡ refusal.BadBody) }
+    ensures found { IfOk result (λ v. entries_in bytes.now ≡ Some v.items) }
+    ensures storable { IfOk result (λ v. AreStorable v.items) }
+    ensures refused { IfErr result (λ f. f ≢ fault.Memory → (entries_in bytes.now ≡ None) × (f ≡ fault.Refused (first_refusal identifier.Directory bytes.now))) }
+    ensures memory { IfErr result (λ f. f ≡ fault.Memory → ClaimsRows bytes.now) }
 {
     let body = body_of(Identifier::Directory, bytes)?;
-    let entries = all_rows(alloc, body)?;
+    let entries = read_body(alloc, body)?;
     if !is_rising(&entries) {
         return Err(DecodeFault::Refused(Refusal::BadBody));
     }

@@ -1,7 +1,7 @@
 //! The fields of a body, each with the bytes behind it. What can't be read is `BadBody`.
 
 ghost use Rattle.std.specs.Int.{w32, w64};
-ghost use Rattle.eden_overlay_format.specs.Reading.{Reads, Gives, byte_at, bytes_at, number_at, kind_at, entry_number_at, origin_at, name_at, row_at};
+ghost use Rattle.eden_overlay_format.specs.Reading.{Reaches, Gives, byte_at, bytes_at, number_at, kind_at, entry_number_at, origin_at, name_at, row_at};
 
 use crate::refusal::{DecodeFault, Refusal};
 use crate::stored_entry::StoredEntry;
@@ -16,7 +16,7 @@ const NUMBER_END: u64 = 1 << 63;
 
 /// The next byte.
 fn byte_of(bytes: &[u8]) -> Result<(u8, &[u8]), Refusal>
-    ensures { Reads (λ x. (x.0, x.1.now)) result (byte_at bytes.now) }
+    ensures { Reaches (λ x. (x.0, x.1.now)) result (byte_at bytes.now) }
 {
     match bytes {
         [] => Err(Refusal::BadBody),
@@ -26,7 +26,7 @@ fn byte_of(bytes: &[u8]) -> Result<(u8, &[u8]), Refusal>
 
 /// The next `N` bytes.
 pub(crate) fn array_of<const N: usize>(bytes: &[u8]) -> Result<([u8; N], &[u8]), Refusal>
-    ensures { Reads (λ x. (x.0, x.1.now)) result (bytes_at N bytes.now) }
+    ensures { Reaches (λ x. (x.0, x.1.now)) result (bytes_at N bytes.now) }
 {
     match bytes.split_first_chunk::<N>() {
         None => Err(Refusal::BadBody),
@@ -35,14 +35,14 @@ pub(crate) fn array_of<const N: usize>(bytes: &[u8]) -> Result<([u8; N], &[u8]),
 }
 
 pub(crate) fn u32_of(bytes: &[u8]) -> Result<(u32, &[u8]), Refusal>
-    ensures { Reads (λ x. (x.0, x.1.now)) result (number_at w32 bytes.now) }
+    ensures { Reaches (λ x. (x.0, x.1.now)) result (number_at w32 bytes.now) }
 {
     let (digits, rest) = array_of::<4>(bytes)?;
     Ok((u32::from_be_bytes(digits), rest))
 }
 
 pub(crate) fn u64_of(bytes: &[u8]) -> Result<(u64, &[u8]), Refusal>
-    ensures { Reads (λ x. (x.0, x.1.now)) result (number_at w64 bytes.now) }
+    ensures { Reaches (λ x. (x.0, x.1.now)) result (number_at w64 bytes.now) }
 {
     let (digits, rest) = array_of::<8>(bytes)?;
     Ok((u64::from_be_bytes(digits), rest))
@@ -51,7 +51,7 @@ pub(crate) fn u64_of(bytes: &[u8]) -> Result<(u64, &[u8]), Refusal>
 /// A kind, by its code.
 #[tactic(auto, unfolding(crate::specs::Reading::kind_at))]
 pub(crate) fn kind_of(bytes: &[u8]) -> Result<(Kind, &[u8]), Refusal>
-    ensures { Reads (λ x. (x.0, x.1.now)) result (kind_at bytes.now) }
+    ensures { Reaches (λ x. (x.0, x.1.now)) result (kind_at bytes.now) }
 {
     let (code, rest) = byte_of(bytes)?;
     match code {
@@ -66,7 +66,7 @@ pub(crate) fn kind_of(bytes: &[u8]) -> Result<(Kind, &[u8]), Refusal>
 /// An inode's number.
 #[tactic(auto, unfolding(crate::specs::Reading::entry_number_at))]
 pub(crate) fn entry_number_of(bytes: &[u8]) -> Result<(u64, &[u8]), Refusal>
-    ensures { Reads (λ x. (x.0, x.1.now)) result (entry_number_at bytes.now) }
+    ensures { Reaches (λ x. (x.0, x.1.now)) result (entry_number_at bytes.now) }
 {
     let (number, rest) = u64_of(bytes)?;
     if number < NUMBER_LEAST {
@@ -81,7 +81,7 @@ pub(crate) fn entry_number_of(bytes: &[u8]) -> Result<(u64, &[u8]), Refusal>
 /// The origin of that code, and an object's id.
 #[tactic(auto, unfolding(crate::specs::Reading::origin_at))]
 fn origin_of(code: u8, kind: Kind, bytes: &[u8]) -> Result<(Origin, &[u8]), Refusal>
-    ensures { Reads (λ x. (x.0, x.1.now)) result (origin_at code kind bytes.now) }
+    ensures { Reaches (λ x. (x.0, x.1.now)) result (origin_at code kind bytes.now) }
 {
     match (code, kind) {
         (0, _) => {

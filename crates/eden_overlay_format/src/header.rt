@@ -1,7 +1,7 @@
 //! The header of 64 bytes that each stored file begins with.
 
-ghost use Rattle.std.specs.Prelude.{◌≡◌, List, ℕ, IfOk, IfErr, IsOkAnd};
-ghost use Rattle.eden_overlay_format.specs.Stored.{IsStored, first_refusal, identifier_bytes, header};
+ghost use Rattle.std.specs.Prelude.{◌≡◌, Some, IfOk, MatchResult};
+ghost use Rattle.eden_overlay_format.specs.Stored.{body_in, header_refusal, identifier_bytes, header};
 
 use crate::refusal::Refusal;
 use std::alloc::{AllocError, Global};
@@ -34,10 +34,9 @@ impl Identifier {
 }
 
 /// The body of a stored file with that identifier, or what is wrong with its header.
+#[tactic(auto, unfolding(crate::specs::Stored::body_in, crate::specs::Stored::header_refusal))]
 pub(crate) fn body_of(identifier: Identifier, bytes: &[u8]) -> Result<&[u8], Refusal>
-    ensures found { IfOk result (λ body. IsStored identifier bytes.now body.now) }
-    ensures only { (body : List ℕ) → IsStored identifier bytes.now body → IsOkAnd result (λ b. b.now ≡ body) }
-    ensures refused { IfErr result (λ e. e ≡ first_refusal identifier bytes.now) }
+    ensures { MatchResult result (λ body. body_in identifier bytes.now ≡ Some body.now) (λ e. header_refusal identifier bytes.now ≡ Some e) }
 {
     if bytes.len() < HEADER_LEN {
         return Err(Refusal::Short);

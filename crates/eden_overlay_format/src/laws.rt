@@ -1,8 +1,11 @@
-ghost use Rattle.eden_overlay_format.specs.Laws.{OneContent, OneState, OneListing};
+ghost use Rattle.eden_overlay_format.specs.Laws.{ContentsFound, StatesFound, EntriesFound, WrittenFound, OneIdentifier};
 
-/// The laws of the grammars: bytes store one content, one state and one list of entries at most.
+/// The laws of the grammars: what is read is what the grammars say, what is written is read again, and no bytes are two
+/// kinds of files.
 pub fn format_laws()
-    ensures one_content { OneContent }
-    ensures one_state { OneState }
-    ensures one_listing { OneListing }
+    ensures contents { ContentsFound }
+    ensures states { StatesFound }
+    ensures entries { EntriesFound }
+    ensures written { WrittenFound }
+    ensures one_identifier { OneIdentifier }
 {}

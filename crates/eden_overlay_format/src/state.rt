@@ -1,10 +1,11 @@
 //! The state that a clean close leaves: file 0.
 
-ghost use Rattle.std.specs.Prelude.{◌≡◌, ◌≤◌, ◌^◌, IfOk, IfErr, Ok};
+ghost use Rattle.std.specs.Prelude.{◌≡◌, ◌≤◌, Some, None, IfOk, IfErr};
 ghost use Rattle.eden_overlay_format.specs.Stored.{first_refusal, written};
-ghost use Rattle.eden_overlay_format.specs.State.{IsState, state_body};
-ghost use Rattle.eden_overlay_format.specs.Reading.{Reads, state_of};
-ghost use Rattle.eden_overlay_format.specs.declared.state.State.{State};
+ghost use Rattle.eden_overlay_format.specs.Directory.{number_least, number_end};
+ghost use Rattle.eden_overlay_format.specs.State.{IsGoodState, IsState, state_body};
+ghost use Rattle.eden_overlay_format.specs.Reading.{Reaches, state_of};
+ghost use Rattle.eden_overlay_format.specs.Values.{state_in};
 ghost use Rattle.eden_overlay_format.specs.declared.header.Identifier.TheVariants as identifier;
 
 use crate::fields::{array_of, u64_of};
@@ -32,8 +33,8 @@ const NEXT_MOST: u64 = 1 << 63;
 
 /// The stored file of a state. The only error is want of memory.
 pub fn encode_state(alloc: Global, state: State) -> Result<Vec<u8>, AllocError>
-    requires least { 2 ≤ state.next }
-    requires most { state.next ≤ 2 ^ 63 }
+    requires least { number_least ≤ state.next }
+    requires most { state.next ≤ number_end }
     ensures bytes { IfOk result (λ v. v.items ≡ written identifier.File (state_body state)) }
     ensures read_again { IfOk result (λ v. IsState v.items state) }
 {
@@ -45,7 +46,7 @@ pub fn encode_state(alloc: Global, state: State) -> Result<Vec<u8>, AllocError>
 
 #[tactic(auto, unfolding(crate::specs::Reading::state_of))]
 fn state_of(body: &[u8]) -> Result<State, Refusal>
-    ensures { Reads (λ s. s) result (state_of body.now) }
+    ensures { Reaches (λ s. s) result (state_of body.now) }
 {
     let (id, rest) = array_of::<20>(body)?;
     let (next, rest) = u64_of(rest)?;
@@ -63,10 +64,11 @@ fn state_of(body: &[u8]) -> Result<State, Refusal>
 }
 
 /// The state that the bytes store, or the first refusal.
+#[tactic(auto, unfolding(crate::specs::Values::state_in))]
 pub fn decode_state(bytes: &[u8]) -> Result<State, Refusal>
-    ensures found { IfOk result (λ s. IsState bytes.now s) }
-    ensures only { (s : State) → IsState bytes.now s → result ≡ Ok s }
-    ensures refused { IfErr result (λ e. e ≡ first_refusal identifier.File bytes.now) }
+    ensures found { IfOk result (λ s. state_in bytes.now ≡ Some s) }
+    ensures good { IfOk result IsGoodState }
+    ensures refused { IfErr result (λ e. (state_in bytes.now ≡ None) × (e ≡ first_refusal identifier.File bytes.now)) }
 {
     let body = body_of(Identifier::File, bytes)?;
     state_of(body)

@@ -1,5 +1,5 @@
 ghost use Rattle.std.specs.Prelude.{IfOk};
-ghost use Rattle.eden_overlay_format.specs.Directory.{AreEntries, HasOrigin};
+ghost use Rattle.eden_overlay_format.specs.Directory.{AreStorable, HasOrigin};
 ghost use Rattle.eden_model.specs.declared.kind.Kind.TheVariants as kind;
 
 use super::*;
@@ -100,7 +100,7 @@ fn bad_directories(rt: HostRuntime) -> Result<(), Fail> {
 /// A directory with one file, number 2.
 fn one_file(alloc: Global, text: &[u8], origin: Origin) -> Result<Vec<StoredEntry>, Fail>
     requires { HasOrigin kind.File origin }
-    ensures { IfOk result (λ v. AreEntries v.items) }
+    ensures { IfOk result (λ v. AreStorable v.items) }
 {
     let kind = Kind::File;
     let number = 2;

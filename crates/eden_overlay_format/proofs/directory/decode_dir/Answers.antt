@@ -1,37 +1,32 @@
-use Rattle.std.proofs.Common.{sym, subst, ◌∙◌, arith}
+use Rattle.std.proofs.Common.{◌≡◌, ap, sym, subst, arith}
 use Rattle.std.proofs.lemmas.Result.{err_from_is_err_and}
-use Rattle.eden_overlay_format.specs.Directory.{directory_body, IsRising}
-use Rattle.eden_overlay_format.specs.Reading.{all_rows_of}
-use Rattle.eden_overlay_format.proofs.FieldLaws.{IsBytes-behind, some_is}
-use Rattle.eden_overlay_format.proofs.Bodies.{directory_found, directory_only, memory_only}
+use Rattle.eden_overlay_format.specs.declared.refusal.Refusal.{Refusal}
+use Rattle.eden_overlay_format.specs.declared.refusal.DecodeFault.TheVariants as fault
+use Rattle.eden_overlay_format.proofs.Rising.{IsRising}
+use Rattle.eden_overlay_format.proofs.Found.{no_entries, refused_rows, unrisen, entries_read, storable}
 use Rattle.eden_overlay_format.proofs.directory.decode_dir.Goals as goal
 
-pub returns-in_err-body-clause-only : goal.returns-in_err-body-clause-only
-returns-in_err-body-clause-only c = λ es h. absurd (c.in_err-body.ensures.only (directory_body es) h.stored)
+pub returns-in_err-body-clause-refused : goal.returns-in_err-body-clause-refused
+returns-in_err-body-clause-refused c =
+    let p = err_from_is_err_and c.from_residual.result c.from_residual.ensures.1 in
+    let none = no_entries c.args.bytes.now c.in_err-body.field-0.0 c.in_err-body.ensures in
+    rw (p.1, p.2) (λ other. (none.0, ap (λ (e : Refusal). fault.Refused e) none.1))
 
-pub returns-in_err-entries-clause-only : goal.returns-in_err-entries-clause-only
-returns-in_err-entries-clause-only c = λ es h.
-    let body = c.in_ok-body.body.now in
-    let read = directory_only c.args.bytes.now body c.in_ok-body.ensures.found es h in
+pub returns-in_err-entries-clause-refused : goal.returns-in_err-entries-clause-refused
+returns-in_err-entries-clause-refused c =
     let p = err_from_is_err_and c.from_residual-in_err-entries.result c.from_residual-in_err-entries.ensures.1 in
-    rw (p.1, p.2) (memory_only c.in_err-entries.field-0.0 (all_rows_of body) es c.in_err-entries.ensures read)
+    rw (p.1, p.2) (refused_rows c.args.bytes.now c.in_ok-body.body.now c.in_ok-body.ensures c.in_err-entries.field-0.0 c.in_err-entries.ensures.rows)
 
-pub returns-then-not-is_rising-clause-only : goal.returns-then-not-is_rising-clause-only
-returns-then-not-is_rising-clause-only c = λ es h.
-    let read = directory_only c.args.bytes.now c.in_ok-body.body.now c.in_ok-body.ensures.found es h in
-    let same = some_is c.in_ok-entries.entries.items es (sym c.in_ok-entries.ensures ∙ read) in
-    let rising = subst IsRising (sym same ∙ sym c.deref.ensures.value) h.entries.rising in
-    let found = c.is_rising.ensures.1 rising in
-    absurd cc
+pub returns-then-not-is_rising-clause-refused : goal.returns-then-not-is_rising-clause-refused
+returns-then-not-is_rising-clause-refused c = λ other.
+    unrisen c.args.bytes.now c.in_ok-body.body.now c.in_ok-body.ensures c.in_ok-entries.entries.items c.in_ok-entries.ensures.rows (λ rising. let found = c.is_rising.ensures.1 (subst IsRising (sym c.deref.ensures.value) rising) in absurd cc)
 
 pub returns-clause-found : goal.returns-clause-found
 returns-clause-found c =
-    let stored = c.in_ok-body.ensures.found in
-    let fits = IsBytes-behind 64 c.args.bytes.now c.in_ok-body.body.now (λ i. omega (arith, c.type_inv.bytes i)) stored.behind in
     let rising = subst IsRising c.deref.ensures.value (c.is_rising.ensures.0 c.if-not-is_rising.false) in
-    directory_found c.args.bytes.now c.in_ok-body.body.now stored c.in_ok-entries.entries.items fits c.in_ok-entries.ensures rising
+    entries_read c.args.bytes.now c.in_ok-body.body.now c.in_ok-body.ensures c.in_ok-entries.entries.items c.in_ok-entries.ensures.rows rising
 
-pub returns-clause-only : goal.returns-clause-only
-returns-clause-only c = λ es h.
-    let read = directory_only c.args.bytes.now c.in_ok-body.body.now c.in_ok-body.ensures.found es h in
-    some_is c.in_ok-entries.entries.items es (sym c.in_ok-entries.ensures ∙ read)
+pub returns-clause-storable : goal.returns-clause-storable
+returns-clause-storable c =
+    let rising = subst IsRising c.deref.ensures.value (c.is_rising.ensures.0 c.if-not-is_rising.false) in
+    storable c.args.bytes.now c.in_ok-body.body.now c.in_ok-body.ensures c.in_ok-entries.entries.items c.in_ok-entries.ensures.rows rising

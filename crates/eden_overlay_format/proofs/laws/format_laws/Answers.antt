@@ -1,9 +1,18 @@
-use Rattle.eden_overlay_format.proofs.States.{one_state}
-use Rattle.eden_overlay_format.proofs.Bodies.{one_listing}
+use Rattle.eden_overlay_format.proofs.Headers.{written_found, one_identifier}
+use Rattle.eden_overlay_format.proofs.Found.{contents_found, states_found, entries_found}
 use Rattle.eden_overlay_format.proofs.laws.format_laws.Goals as goal
 
-pub returns-clause-one_state : goal.returns-clause-one_state
-returns-clause-one_state c = one_state
+pub returns-clause-contents : goal.returns-clause-contents
+returns-clause-contents c = contents_found
 
-pub returns-clause-one_listing : goal.returns-clause-one_listing
-returns-clause-one_listing c = one_listing
+pub returns-clause-states : goal.returns-clause-states
+returns-clause-states c = states_found
+
+pub returns-clause-entries : goal.returns-clause-entries
+returns-clause-entries c = entries_found
+
+pub returns-clause-written : goal.returns-clause-written
+returns-clause-written c = written_found
+
+pub returns-clause-one_identifier : goal.returns-clause-one_identifier
+returns-clause-one_identifier c = one_identifier

@@ -1,0 +1,55 @@
+ghost use Rattle.std.specs.Prelude.{◌≡◌, ◌++◌, IfOk, codes, string_bytes};
+
+use crate::fault::FolderFault;
+use std::alloc::{AllocError, Global};
+use std::fs::{self, File};
+use std::io::{self, ErrorKind, Write};
+use std::rt;
+
+/// Makes the bytes the whole of the file at the path, in place of any that is there: they are written to `PATH.new`,
+/// which then takes the path's name. Nothing waits for the disk to have them.
+///
+/// `PATH.new` is always a new file: one that is there, as a failure left it, is removed first, or a link or a pipe,
+/// and nothing is written to what it was. `Device` too where a folder is in the way. After an error the file at the
+/// path is what it was.
+pub fn replace_file<R: rt::Files>(
+    files: &R,
+    alloc: Global,
+    path: &str,
+    bytes: &[u8],
+) -> Result<(), FolderFault> {
+    let beside = beside(alloc, path)?;
+    let mut file = create_new(files, beside.as_str())?;
+    file.write_all(bytes)?;
+    drop(file);
+    fs::rename(files, beside.as_str(), path)?;
+    Ok(())
+}
+
+/// Removes the file at the path; Ok too where there is none.
+pub fn remove_file<R: rt::Files>(files: &R, path: &str) -> Result<(), FolderFault> {
+    match fs::remove_file(files, path) {
+        Err(error) if error.kind() != ErrorKind::NotFound => Err(FolderFault::from(error)),
+        _ => Ok(()),
+    }
+}
+
+// Where a file is written before it takes its place.
+fn beside(alloc: Global, path: &str) -> Result<String, AllocError>
+    ensures { IfOk result (λ s. string_bytes s ≡ path.now ++ codes ".new") }
+{
+    let mut beside = String::from_str(alloc, path)?;
+    beside.push_str(".new")?;
+    Ok(beside)
+}
+
+// Opens a file that wasn't there. Whatever has the name is taken out of the way, and never opened.
+fn create_new<R: rt::Files>(files: &R, path: &str) -> io::Result<R::File> {
+    match File::create_new(files, path) {
+        Err(error) if error.kind() == ErrorKind::AlreadyExists => {
+            fs::remove_file(files, path)?;
+            File::create_new(files, path)
+        }
+        opened => opened,
+    }
+}
