@@ -30,6 +30,13 @@ pub record IsObject (id : Id) (k : ObjKind) (framed : List ℕ) : Type 0 where
   pub digest : sha1 framed ≡ id.bytes
   pub object : IsFramed k framed
 
+-- the bytes are the object of that id and kind, and this is its body
+pub record IsBodyOf (id : Id) (k : ObjKind) (framed body : List ℕ) : Type 0 where
+  pub digest : sha1 framed ≡ id.bytes
+  pub is : framed ≡ frame (word_of k) body
+  pub short : length body ≤ 2 ^ 30
+  pub grammar : IsBody k body
+
 -- the first test that the bytes fail; each rule says that they pass those before it
 pub data IsFirstCause (id : Id) (k : ObjKind) (framed : List ℕ) : Cause → Type 0 where
   too_many_bytes : 2 ^ 30 + 16 < length framed → IsFirstCause id k framed cause.TooLarge

@@ -19,7 +19,7 @@ mod word;
 
 pub use checks::check;
 pub use decode::decode_tree;
-pub use eden_model::{Cause, Id, Mode, Name, ObjKind, TreeEntry};
+pub use eden_model::{Cause, Id, Key, Mode, Name, ObjKind, TreeEntry};
 pub use frame::{decode_blob, id_of};
 pub use laws::{one_frame, one_list};
 pub use object::Object;
