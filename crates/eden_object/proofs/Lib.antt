@@ -5,3 +5,4 @@ pub mod NameLemmas
 pub mod CheckLemmas
 pub mod OrderLemmas
 pub mod SortLemmas
+pub mod IdLemmas

@@ -78,6 +78,13 @@ fn objects_of_git(rt: HostRuntime) {
 }
 
 #[test]
+fn ids_as_text(rt: HostRuntime) {
+    let text = "ce013625030ba8dba906f756967f9e9ca394464a";
+    assert_eq!(rt; parse_id(text), Some(Id { bytes: HELLO }));
+    assert_eq!(rt; parse_id("CE013625030ba8dba906f756967f9e9ca394464a"), None);
+}
+
+#[test]
 fn refusals(rt: HostRuntime) {
     let tree_a = b"tree 36\0100644 test.txt\0\x83\xba\xaea\x80Ne\xccs\xa7 \x1arRu\x0cv\x06j0";
     let id = Id { bytes: HELLO };
