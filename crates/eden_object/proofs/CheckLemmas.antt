@@ -1,8 +1,9 @@
 -- Lemmas on the tests of an object.
-use Rattle.std.proofs.Common.{◌≡◌, ◌≢◌, ℕ, ◌+◌, ◌^◌, ◌≤◌, Bool, true, false, not, List, length, drop, ◌-◌, sym, ap, ◌∙◌, subst, refl, arith, rules}
+use Rattle.std.proofs.Common.{◌≡◌, ◌≢◌, ◌↔◌, ℕ, ◌+◌, ◌^◌, ◌≤◌, Bool, true, false, not, List, length, drop, ◌-◌, Result, Ok, Err, sym, ap, ◌∙◌, subst, refl, arith, rules}
 use denote.Enum.Bare.{sameb, same_true}
 use Rattle.eden_object.specs.contracts.word.Word.{the_type}
 use Rattle.eden_object.specs.declared.word.Word.TheVariants as word
+use Rattle.std.specs.Result.{IsOk, IsErr}
 use Rattle.std.specs.Bool.{Decides}
 use Rattle.std.specs.Str.{bytes_eq}
 use Rattle.std.proofs.lemmas.Slice.Eq.{bytes_eq-Decides}
@@ -15,7 +16,7 @@ use Rattle.eden_model.specs.declared.tree_entry.TreeEntry.{TreeEntry}
 use Rattle.eden_object.specs.declared.word.Word.{Word}
 use Rattle.eden_object.specs.Frames.{frame, word_of}
 use Rattle.eden_object.specs.Trees.{IsTreeBody}
-use Rattle.eden_object.specs.Objects.{IsBody, IsFramed, IsObject, IsFirstCause, IsSound}
+use Rattle.eden_object.specs.Objects.{IsBody, IsBodyOf, IsFramed, IsObject, IsFirstCause, IsSound}
 use Rattle.eden_object.specs.Objects.IsFirstCause.{too_many_bytes, other_digest, no_frame, too_long_body, other_word, no_body}
 use Rattle.eden_object.proofs.FrameLemmas.{one_frame_law, frame_small, drop_frame}
 
@@ -38,6 +39,18 @@ no_cause id k framed _ (too_long_body h d w body e long) o =
 no_cause id k framed _ (other_word h d w body e short other) o = other (object_frame k framed o.object w body e).0
 no_cause id k framed _ (no_body h d body e short none) o = none (subst (IsBody k) (sym (object_frame k framed o.object (word_of k) body e).1) o.object.grammar)
 
+-- an answer that names a cause
+pub refused : {T : Type 0} (id : Id) (k : ObjKind) (framed : List ℕ) (c : Cause) (r : Result T Cause) → IsErr r → IsFirstCause id k framed c → IsOk r ↔ IsObject id k framed
+refused {T} id k framed c r err why = ((λ ok. absurd (neither r err ok)), (λ o. absurd (no_cause id k framed c why o)))
+  where
+    neither : (r : Result T Cause) → IsErr r → IsOk r → ⊥
+    neither (Ok v) err ok = cc
+    neither (Err e) err ok = cc
+
+-- the bytes of a body
+pub whole_frame : (id : Id) (k : ObjKind) (framed body : List ℕ) → IsBodyOf id k framed body → IsFramed k framed
+whole_frame id k framed body h = record { body = body; is = h.is; short = h.short; grammar = h.grammar }
+
 -- what is behind the header is the object's body
 pub behind_header : (k : ObjKind) (items framed : List ℕ) (o : IsFramed k items) (n : ℕ) (w : Word) (body : List ℕ) → framed ≡ items → n ≡ length framed → framed ≡ frame w body → drop (n - length body) items ≡ o.body
 behind_header k items framed o n w body same size e =
@@ -59,10 +72,6 @@ same_digest framed found id b e is = told (bytes_eq found id) (bytes_eq-Decides 
     told : (same : Bool) → Decides same (found ≡ id) → b ≡ not same → (b ≡ false → sha1 framed ≡ id) × (b ≡ true → sha1 framed ≢ id)
     told true d e = ((λ p. sym is ∙ d.0 refl), (λ p q. both b p e))
     told false d e = ((λ p. absurd (both b e p)), (λ p q. both true refl (sym (d.1 (is ∙ q)))))
-
--- a body that isn't a tree's
-pub no_tree : (k : ObjKind) (body : List ℕ) → k ≡ kind.Tree → ((es : List TreeEntry) × IsTreeBody es body → ⊥) → IsBody k body → ⊥
-no_tree k body is none b = none (subst (λ j. IsBody j body) is b)
 
 -- what the comparison of two words says
 pub same_word : (v w : Word) (b : Bool) → b ≡ not (sameb the_type v w) → (b ≡ false → v ≡ w) × (b ≡ true → v ≢ w)

@@ -4,3 +4,5 @@ pub mod RowLemmas
 pub mod NameLemmas
 pub mod CheckLemmas
 pub mod OrderLemmas
+pub mod SortLemmas
+pub mod IdLemmas

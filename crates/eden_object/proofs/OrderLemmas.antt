@@ -93,6 +93,14 @@ pub record StandsFor (fronts : List Bool) (last : TreeEntry) (es fs : List TreeE
 abbrev pub Stands : List Bool → TreeEntry → List ℕ → List ℕ → Type 0
 Stands fronts last body rest = (es : List TreeEntry) → AreEntries es body → (fs : List TreeEntry) × AreEntries fs rest × StandsFor fronts last es fs
 
+-- the same where the next entry is known
+pub stands_next : (fronts : List Bool) (last next : TreeEntry) (body rest more : List ℕ) → Stands fronts last body rest → BeginsWith next rest more
+    → (es : List TreeEntry) → AreEntries es body → (fs : List TreeEntry) × AreEntries fs more × StandsFor fronts last es (next ∷ fs)
+stands_next fronts last next body rest more stands b es h =
+    let at = stands es h in
+    let behind = behind_entry next at.0 rest more b at.1 in
+    (behind.0, behind.2, subst (λ fs. StandsFor fronts last es fs) behind.1 at.2)
+
 -- one mark alone
 only : (k n : ℕ) → slice_index_or (set (replicate 256 false) k true) n false ≡ true → n ≡ k
 only k n h = go (cases_order n k)

@@ -2,8 +2,9 @@
 use Rattle.std.specs.Prelude.{◌≡◌, ◌≢◌, ℕ, ◌+◌, ◌^◌, ◌<◌, ◌≤◌, List, length, Some}
 use Rattle.sha1.specs.Sha1.{sha1}
 use Rattle.eden_model.specs.declared.id.Id.{Id}
+use Rattle.eden_model.specs.declared.id.Key.{Key}
 use Rattle.eden_model.specs.declared.id.ObjKind.{ObjKind}
-use Rattle.eden_model.specs.declared.id.ObjKind.TheVariants as kind
+use Rattle.eden_model.specs.declared.id.ObjKind.TheVariants as objects
 use Rattle.eden_model.specs.declared.fault.Cause.{Cause}
 use Rattle.eden_model.specs.declared.fault.Cause.TheVariants as cause
 use Rattle.eden_model.specs.declared.tree_entry.TreeEntry.{TreeEntry}
@@ -15,8 +16,8 @@ use Rattle.eden_object.specs.Trees.{IsTreeBody}
 
 -- a blob's body is any bytes, a tree's is a row of entries
 abbrev pub IsBody : ObjKind → List ℕ → Type 0
-IsBody kind.Blob body = Unit {0}
-IsBody kind.Tree body = (es : List TreeEntry) × IsTreeBody es body
+IsBody objects.Blob body = Unit {0}
+IsBody objects.Tree body = (es : List TreeEntry) × IsTreeBody es body
 
 -- the bytes are an object of that kind, within the limit
 pub record IsFramed (k : ObjKind) (framed : List ℕ) : Type 0 where
@@ -29,6 +30,13 @@ pub record IsFramed (k : ObjKind) (framed : List ℕ) : Type 0 where
 pub record IsObject (id : Id) (k : ObjKind) (framed : List ℕ) : Type 0 where
   pub digest : sha1 framed ≡ id.bytes
   pub object : IsFramed k framed
+
+-- the bytes are the object of that id and kind, and this is its body
+pub record IsBodyOf (id : Id) (k : ObjKind) (framed body : List ℕ) : Type 0 where
+  pub digest : sha1 framed ≡ id.bytes
+  pub is : framed ≡ frame (word_of k) body
+  pub short : length body ≤ 2 ^ 30
+  pub grammar : IsBody k body
 
 -- the first test that the bytes fail; each rule says that they pass those before it
 pub data IsFirstCause (id : Id) (k : ObjKind) (framed : List ℕ) : Cause → Type 0 where
@@ -53,3 +61,9 @@ pub record Body : Type 0 where
 pub record IsSound (b : Body) : Type 0 where
   pub grammar : IsBody b.kind b.bytes
   pub short : length b.bytes ≤ 2 ^ 30
+
+-- what the object of a key is where it came: sound, of the key's kind, and where the outside is honest the repository's
+pub record IsFetched (R : Repository) (honest : Type 0) (k : Key) (o : Body) : Type 0 where
+  pub kind : o.kind ≡ k.kind
+  pub blob : honest → k.kind ≡ objects.Blob → R.blob k.id ≡ Some o.bytes
+  pub tree : honest → k.kind ≡ objects.Tree → (es : List TreeEntry) → IsTreeBody es o.bytes → R.tree k.id ≡ Some es

@@ -8,6 +8,7 @@
 mod checks;
 mod decode;
 mod frame;
+mod id_text;
 mod laws;
 mod names;
 mod object;
@@ -19,8 +20,9 @@ mod word;
 
 pub use checks::check;
 pub use decode::decode_tree;
-pub use eden_model::{Cause, Id, Mode, Name, ObjKind, TreeEntry};
+pub use eden_model::{Cause, Id, Key, Mode, Name, ObjKind, TreeEntry};
 pub use frame::{decode_blob, id_of};
+pub use id_text::parse_id;
 pub use laws::{one_frame, one_list};
 pub use object::Object;
 pub use word::Word;

@@ -3,7 +3,7 @@ ghost use Rattle.std.specs.Prelude.{◌≡◌, ◌≢◌, ◌↔◌, List, ℕ, 
 ghost use Rattle.eden_model.specs.declared.tree_entry.TreeEntry.{TreeEntry};
 ghost use Rattle.eden_object.specs.Order.{key_of, IsOrdered};
 ghost use Rattle.eden_object.specs.Rows.{entry_of};
-ghost use Rattle.eden_object.specs.Trees.{AreEntries, NamesDiffer};
+ghost use Rattle.eden_object.specs.Trees.{AreEntries, IsTreeBody};
 
 use crate::row::Row;
 use crate::rows::first_row;
@@ -53,16 +53,16 @@ fn mark_fronts(fronts: &mut [bool], shared: usize, last: usize, own: usize)
     fronts[own] = true;
 }
 
-/// Whether no name comes twice, where the entries stand in Git's order; `None` where they don't.
+/// Whether the body is a tree's, where its entries stand in Git's order; `None` where they don't.
 ///
 /// In that order a name comes again only behind names that begin with it. So it is enough to know of which earlier names
 /// the last one begins with, and their lengths tell them.
-pub(crate) fn differ_in_order(body: &[u8]) -> Option<bool>
-    ensures found { IfSome result (λ differ. (es : List TreeEntry) → AreEntries es body.now → IsTrue differ ↔ NamesDiffer es) }
+pub(crate) fn is_tree_in_order(body: &[u8]) -> Option<bool>
+    ensures found { IfSome result (λ is. IsTrue is ↔ ((es : List TreeEntry) × IsTreeBody es body.now)) }
     ensures none { IfNone result ((es : List TreeEntry) → AreEntries es body.now → IsOrdered es → ⊥) }
 {
     let Some((first, behind)) = first_row(body) else {
-        return Some(true);
+        return Some(body.is_empty());
     };
     let mut fronts = [false; 256];
     fronts[first.name.len()] = true;
@@ -80,5 +80,5 @@ pub(crate) fn differ_in_order(body: &[u8]) -> Option<bool>
         last = row;
         rest = more;
     }
-    Some(true)
+    Some(rest.is_empty())
 }

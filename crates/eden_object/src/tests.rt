@@ -1,6 +1,6 @@
 // The ids that Git gives, and what each test of `check` refuses.
 use super::*;
-use eden_model::Name;
+use std::alloc::{AllocError, Global};
 use std::process::Abort;
 use std::test::Fail;
 
@@ -78,6 +78,13 @@ fn objects_of_git(rt: HostRuntime) {
 }
 
 #[test]
+fn ids_as_text(rt: HostRuntime) {
+    let text = "ce013625030ba8dba906f756967f9e9ca394464a";
+    assert_eq!(rt; parse_id(text), Some(Id { bytes: HELLO }));
+    assert_eq!(rt; parse_id("CE013625030ba8dba906f756967f9e9ca394464a"), None);
+}
+
+#[test]
 fn refusals(rt: HostRuntime) {
     let tree_a = b"tree 36\0100644 test.txt\0\x83\xba\xaea\x80Ne\xccs\xa7 \x1arRu\x0cv\x06j0";
     let id = Id { bytes: HELLO };
@@ -148,10 +155,61 @@ fn contents(rt: HostRuntime) -> Result<(), Fail> {
     assert_eq!(rt; decode_blob(b"tree 0\0"), None);
     assert!(rt; decode_tree(rt.alloc(), b"100644 a")?.is_none());
     let framed = b"blob 6\0hello\n".to_vec(rt.alloc())?;
-    check(id_of(framed.as_slice()), ObjKind::Blob, framed.as_slice())?;
-    let object = Object::new(ObjKind::Blob, framed);
+    let key = Key {
+        kind: ObjKind::Blob,
+        id: Id { bytes: HELLO },
+    };
+    let object = Object::checked(rt.alloc(), key, framed)?;
     assert_eq!(rt; object.kind(), ObjKind::Blob);
     assert_eq!(rt; object.body(), b"hello\n".as_slice());
     assert_eq!(rt; object.len(), 6);
+    Ok(())
+}
+
+/// The tree of these names, files of one id, in the order in which they are given.
+fn tree_of(alloc: Global, names: &[&str]) -> Result<Vec<u8>, AllocError> {
+    let mut body = Vec::new(alloc);
+    for name in names {
+        body.extend_from_slice(b"100644 ")?;
+        body.extend_from_slice(name.as_bytes())?;
+        body.push(0)?;
+        body.extend_from_slice(&[0x2a; 20])?;
+    }
+    let header = format!(in alloc; "tree {}\0", body.len())?;
+    let mut framed = Vec::from_slice(alloc, header.as_bytes())?;
+    framed.extend_from_slice(body.as_slice())?;
+    Ok(framed)
+}
+
+/// How many entries the tree has, where it is one. What `Object::checked` answers is what `check` answers.
+fn entries_of(
+    rt: &(impl Abort + Alloc<A = Global>),
+    names: &[&str],
+) -> Result<Option<usize>, AllocError> {
+    let framed = tree_of(rt.alloc(), names)?;
+    let id = id_of(framed.as_slice());
+    let answer = check(id, ObjKind::Tree, framed.as_slice());
+    let key = Key {
+        kind: ObjKind::Tree,
+        id,
+    };
+    match Object::checked(rt.alloc(), key, framed) {
+        Ok(tree) => {
+            assert_eq!(rt; answer, Ok(()));
+            Ok(Some(tree.entries(rt.alloc())?.len()))
+        }
+        Err(cause) => {
+            assert_eq!(rt; answer, Err(cause));
+            Ok(None)
+        }
+    }
+}
+
+#[test]
+fn trees_in_each_order(rt: HostRuntime) -> Result<(), Fail> {
+    assert_eq!(rt; entries_of(&rt, &["a", "a.b", "b"])?, Some(3));
+    assert_eq!(rt; entries_of(&rt, &["b", "a.b", "a", "c"])?, Some(4));
+    assert_eq!(rt; entries_of(&rt, &["a", "b", "b"])?, None);
+    assert_eq!(rt; entries_of(&rt, &["b", "a", "c", "b"])?, None);
     Ok(())
 }
