@@ -1,5 +1,4 @@
 pub mod FilledRows
-pub mod IdLemmas
 pub mod LineLemmas
 pub mod Looking
 pub mod Meeting

@@ -16,7 +16,7 @@ use Rattle.clap.specs.Values.{kind_of}
 use Rattle.clap.specs.declared.error.Error.{Error}
 use Rattle.clap.specs.declared.error.kind.ErrorKind.TheVariants.{OutOfMemory}
 use Rattle.mountd.specs.CommandLine.{IsTaken, Refuses, both, mountd_line, stdio_in, stdio_values}
-use Rattle.mountd.specs.IdText.{IsIdText}
+use Rattle.eden_object.specs.IdText.{IsIdText}
 use Rattle.mountd.specs.declared.options.OptionsError.{OptionsError}
 use Rattle.mountd.specs.declared.options.OptionsError.TheVariants as error
 

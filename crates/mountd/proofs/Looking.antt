@@ -1,8 +1,9 @@
 -- What is looked at where a path leads.
-use Rattle.std.proofs.Common.{◌≡◌, ◌<◌, ◌+◌, ℕ, List, [], ◌∷◌, ◌++◌, length, get_or, take, drop, sym, refl, ◌∙◌, ap, subst, arith, inl, inr, Option, Some, None, Err, Bool, true, false, cond, nat_lt, eqb}
+use Rattle.std.proofs.Common.{◌≡◌, ◌<◌, ◌+◌, ℕ, List, [], ◌∷◌, ◌++◌, length, get_or, take, drop, sym, refl, ◌∙◌, ap, subst, arith, rules, inl, inr, Option, Some, None, Err, Bool, true, false, cond, nat_lt, eqb}
 use Rattle.std.specs.Prelude.{◌⊎◌, if◌then◌else◌, find}
 use Rattle.std.specs.Option.{option_map, option_and_then, option_or, is_some}
 use Rattle.std.specs.Str.{bytes_eq}
+use Rattle.std.specs.List.Sorted.{IsStrictlySortedBy}
 use Rattle.std.proofs.lemmas.Bool.{ne_eqb}
 use Rattle.std.proofs.lemmas.List.{take_more}
 use Rattle.std.proofs.lemmas.List.Folds.{find-append}
@@ -22,14 +23,14 @@ use Rattle.eden_model.specs.declared.tree_entry.TreeEntry.{TreeEntry}
 use Rattle.eden_model.specs.Trees.{Name, Path, Tree}
 use Rattle.eden_model.specs.Shown.{Item, Items, Ground, shown, node_of, node_from, if_dir}
 use Rattle.eden_model.specs.Repository.{Repository, Source, ground_of, item_by, items_of, entry_named, entries_from, content_from, root_of, Whole}
-use Rattle.eden_model.specs.Operations.{Whether, Says, Into, Reads, kind_of, Lists, IsRising, kind_at, beyond}
+use Rattle.eden_model.specs.Operations.{Whether, Says, Into, Reads, ReadsLink, kind_of, Lists, IsRising, kind_at, beyond}
 use Rattle.eden_source.specs.Fetching.{Ask, Answer}
-use Rattle.eden_source.proofs.Fetches.{Fetches-one}
+use Rattle.eden_source.proofs.Fetches.{Fetches-none, Fetches-one}
 use Rattle.mountd.specs.declared.place.Place.{Place}
-use Rattle.mountd.specs.Commit.{At, found, from_kind, from_entry, blob_of, tree_of}
-use Rattle.mountd.specs.Serving.{Asked, IsLawful}
-use Rattle.mountd.specs.Steps.{Gets, IsLook, Looks, ReadsAt, ListsEntries, ListsBy, ListsAt, IsPart, IsPage, item_of}
-use Rattle.mountd.proofs.Walking.{all_front, front_same}
+use Rattle.mountd.specs.Commit.{At, found, from_kind, from_entry, blob_of, target_of, content_of, tree_of}
+use Rattle.mountd.specs.Serving.{Asked, HasAsked, IsLawful}
+use Rattle.mountd.specs.Steps.{Gets, IsLook, Looks, ReadsAt, ListsEntries, ListsBy, ListsAt, StatsAt, ReadsLinkAt, IsCopy, IsPage, item_of}
+use Rattle.mountd.proofs.Walking.{all_front, no_front, front_same}
 use Rattle.mountd.proofs.Replying.{kind_node}
 
 -- ---- one object was asked for
@@ -45,10 +46,23 @@ module _ {S : Type 0} (fetched : S → Id → Answer → S → Type 0) (R : Repo
     said = said;
   }
 
+  -- nothing was asked for
+  pub looks_none : (K : Item Source → Reply → Type 0) (s : S) (place : Place) (needed : List Key) (reply : Reply) → IsLook honest place K [] reply → Looks fetched R honest s s place K needed reply
+  looks_none K s place needed reply said = record { asks = []; asked = Fetches-none fetched s; few = omega arith; only_needed = λ honesty. no_front needed; said = said }
+
   pub looks_fault : {V : Type 0} (Is : V → Type 0) (K : Item Source → Reply → Type 0) (s t : S) (place : Place) (k : Key) (needed : List Key) (f : Fault) → needed ≡ k ∷ [] → Gets fetched Is s t k (Err f) → Looks fetched R honest s t place K needed (say.Fault f)
   looks_fault Is K s t place k needed f e w = looks_one K s t place k needed w.answer (say.Fault f) e w.asked w.got
 
--- ---- reading
+-- ---- contents
+
+module _ (honest : Type 0) where
+  -- a copy of what the table answers, or no memory for it
+  pub copy_said : (K : Item Source → Reply → Type 0) (place : Place) (content : List ℕ) (asks : List Asked) (reply : Reply) → HasAsked asks → (honest → K (item_of place) (say.Data content)) → IsCopy content reply → IsLook honest place K asks reply
+  copy_said K place content asks (say.Data bytes) asked k h = λ honesty. subst (λ (l : List ℕ). K (item_of place) (say.Data l)) (sym h) (k honesty)
+  copy_said K place content asks (say.Fault f) asked k h = subst (λ (x : Fault). IsLawful asks x) (sym h) asked
+  copy_said K place content asks _ asked k h = absurd h
+
+-- ---- reading a file
 
 abbrev pub IsFile : Mode → Type 0
 IsFile m = (m ≡ mode.File) ⊎ (m ≡ mode.Exec)
@@ -58,26 +72,68 @@ blob_here place count is_file some =
     ap (λ (b : Bool). if b then [] else blob_of (item_of place)) (ne_eqb count 0 some)
     ∙ elim is_file [ inl e ↦ ap (λ (m : Mode). blob_of (item_by m place.id)) e | inr e ↦ ap (λ (m : Mode). blob_of (item_by m place.id)) e ]
 
-reads_file : (offset count : ℕ) (x : Bool) (c : Option (List ℕ)) (content bytes : List ℕ) → eqb count 0 ≡ false → c ≡ Some content → bytes ≡ take count (drop offset content) → Reads offset count (node.File x c) (say.Data bytes)
-reads_file offset count x c content bytes some e is =
-    subst (λ (o : Option (List ℕ)). Reads offset count (node.File x o) (say.Data bytes)) (sym e)
-    (subst (λ (b : Bool). Whether b (Says (say.Data [])) (Into (Some content) (λ l. say.Data (take count (drop offset l)))) (say.Data bytes)) (sym some) (ap say.Data is))
+reads_file : (offset count : ℕ) (x : Bool) (c : Option (List ℕ)) (content : List ℕ) → eqb count 0 ≡ false → c ≡ Some content → Reads offset count (node.File x c) (say.Data (take count (drop offset content)))
+reads_file offset count x c content some e =
+    subst (λ (o : Option (List ℕ)). Reads offset count (node.File x o) (say.Data (take count (drop offset content)))) (sym e)
+    (subst (λ (b : Bool). Whether b (Says (say.Data [])) (Into (Some content) (λ l. say.Data (take count (drop offset l)))) (say.Data (take count (drop offset content)))) (sym some) refl)
 
-module _ (R : Repository) (honest : Type 0) where
-  pub reads_part : (place : Place) (offset count : ℕ) (content held : List ℕ) (asks : List Asked) (reply : Reply) → IsFile place.mode → (count ≡ 0 → ⊥) → (honest → R.blob place.id ≡ Some held) → content ≡ held
-      → IsPart content offset count reply → IsLook honest place (ReadsAt R offset count) asks reply
-  reads_part place offset count content held asks (say.Kind k) is_file some had same h = absurd h
-  reads_part place offset count content held asks (say.Entries es more) is_file some had same h = absurd h
-  reads_part place offset count content held asks (say.Err e) is_file some had same h = absurd h
-  reads_part place offset count content held asks (say.Fault f) is_file some had same h = subst (λ (x : Fault). IsLawful asks x) (sym h) tt
-  reads_part place offset count content held asks (say.Data bytes) is_file some had same h = λ honesty.
-      let file : (x : Bool) → Reads offset count (node.File x (R.blob place.id)) (say.Data bytes) = λ x. reads_file offset count x (R.blob place.id) held bytes (ne_eqb count 0 some) (had honesty) (h ∙ ap (λ (l : List ℕ). take count (drop offset l)) same) in
-      elim is_file [
-        | inl e ↦ subst (λ (m : Mode). Reads offset count (node_of (ground_of R) (item_by m place.id)) (say.Data bytes)) (sym e) (file false)
-        | inr e ↦ subst (λ (m : Mode). Reads offset count (node_of (ground_of R) (item_by m place.id)) (say.Data bytes)) (sym e) (file true)
-      ]
+pub reads_part : (R : Repository) (place : Place) (offset count : ℕ) (content : List ℕ) → IsFile place.mode → (count ≡ 0 → ⊥) → R.blob place.id ≡ Some content → ReadsAt R offset count (item_of place) (say.Data (take count (drop offset content)))
+reads_part R place offset count content is_file some had =
+    let reply : Reply = say.Data (take count (drop offset content)) in
+    let file : (x : Bool) → Reads offset count (node.File x (R.blob place.id)) reply = λ x. reads_file offset count x (R.blob place.id) content (ne_eqb count 0 some) had in
+    elim is_file [
+      | inl e ↦ subst (λ (m : Mode). Reads offset count (node_of (ground_of R) (item_by m place.id)) reply) (sym e) (file false)
+      | inr e ↦ subst (λ (m : Mode). Reads offset count (node_of (ground_of R) (item_by m place.id)) reply) (sym e) (file true)
+    ]
+
+-- ---- the target of a link, the length of a file or a link
+
+pub target_here : (place : Place) → place.mode ≡ mode.Link → target_of (item_of place) ≡ record { kind = objects.Blob; id = place.id } ∷ []
+target_here place e = ap (λ (m : Mode). target_of (item_by m place.id)) e
+
+pub reads_target : (R : Repository) (place : Place) (content : List ℕ) → place.mode ≡ mode.Link → R.blob place.id ≡ Some content → ReadsLinkAt R (item_of place) (say.Data content)
+reads_target R place content e had =
+    subst (λ (m : Mode). ReadsLink (node_of (ground_of R) (item_by m place.id)) (say.Data content)) (sym e)
+    (subst (λ (o : Option (List ℕ)). Into o say.Data (say.Data content)) (sym had) refl)
+
+-- what has a content
+abbrev pub HasContent : Mode → Type 0
+HasContent m = (m ≡ mode.File) ⊎ ((m ≡ mode.Exec) ⊎ (m ≡ mode.Link))
+
+pub content_here : (place : Place) → HasContent place.mode → content_of (item_of place) ≡ record { kind = objects.Blob; id = place.id } ∷ []
+content_here place h = by place.mode h
+  where
+    by : (m : Mode) → HasContent m → content_of (item_by m place.id) ≡ record { kind = objects.Blob; id = place.id } ∷ []
+    by mode.File h = refl
+    by mode.Exec h = refl
+    by mode.Link h = refl
+    by mode.Dir h = elim h [ inl e ↦ cc | inr k ↦ elim k [ inl e ↦ cc | inr e ↦ cc ] ]
+    by mode.Gitlink h = elim h [ inl e ↦ cc | inr k ↦ elim k [ inl e ↦ cc | inr e ↦ cc ] ]
+
+pub stats_content : (R : Repository) (place : Place) (k : Kind) (content : List ℕ) → HasContent place.mode → k ≡ (item_of place).kind → R.blob place.id ≡ Some content → StatsAt R (item_of place) (say.Stat k (length content))
+stats_content R place k content h same had = subst (λ (x : Kind). StatsAt R (item_of place) (say.Stat x (length content))) (sym same) (by place.mode h)
+  where
+    into : (m : Kind) → (o : Option (List ℕ)) → o ≡ Some content → Into o (λ bytes. say.Stat m (length bytes)) (say.Stat m (length content))
+    into m o e = subst (λ (x : Option (List ℕ)). Into x (λ bytes. say.Stat m (length bytes)) (say.Stat m (length content))) (sym e) refl
+    by : (m : Mode) → HasContent m → StatsAt R (item_by m place.id) (say.Stat (item_by m place.id).kind (length content))
+    by mode.File h = into kind.File (R.blob place.id) had
+    by mode.Exec h = into kind.Exec (R.blob place.id) had
+    by mode.Link h = into kind.Link (R.blob place.id) had
+    by mode.Dir h = elim h [ inl e ↦ cc | inr k ↦ elim k [ inl e ↦ cc | inr e ↦ cc ] ]
+    by mode.Gitlink h = elim h [ inl e ↦ cc | inr k ↦ elim k [ inl e ↦ cc | inr e ↦ cc ] ]
 
 -- ---- listing
+
+-- what shows as an empty directory has an empty page
+pub lists_nothing : (R : Repository) (place : Place) (after : Option Name) (limit : ℕ) → place.mode ≡ mode.Gitlink → ListsAt R after limit (item_of place) (say.Entries [] false)
+unfolding IsStrictlySortedBy
+lists_nothing R place after limit e = subst (λ (m : Mode). ListsAt R after limit (item_by m place.id) (say.Entries [] false)) (sym e) ([], rising, (λ n. refl), same)
+  where
+    rising : IsRising []
+    rising = search rules
+    same : say.Entries [] false ≡ say.Entries (take limit (beyond after [])) (nat_lt limit (length (beyond after [])))
+    same = grind arith
+
 
 abbrev pub kind_in : List TreeEntry → Name → Option Kind
 kind_in es n = option_map (λ j. j.kind) (items_of es n)
@@ -110,12 +166,10 @@ module _ (R : Repository) (honest : Type 0) where
   listed k source es after limit r e had h =
       subst (λ (x : Kind). ListsBy x (entries_from R source) after limit r) (sym e) (subst (λ (o : Option (Items Source)). ListsEntries o after limit r) (sym had) h)
 
-  pub lists_page : (place : Place) (es : Items Source) (after : Option Name) (limit : ℕ) (asks : List Asked) (reply : Reply) → IsDirectory place es → IsPage es after limit reply → IsLook honest place (ListsAt R after limit) asks reply
-  lists_page place es after limit asks (say.Kind k) d h = absurd h
-  lists_page place es after limit asks (say.Data bytes) d h = absurd h
-  lists_page place es after limit asks (say.Err e) d h = absurd h
-  lists_page place es after limit asks (say.Fault f) d h = subst (λ (x : Fault). IsLawful asks x) (sym h) tt
-  lists_page place es after limit asks (say.Entries rows more) d h = λ honesty. listed (item_of place).kind (item_of place).source es after limit (say.Entries rows more) d.0 (d.1 honesty) h
+  pub lists_page : (place : Place) (es : Items Source) (after : Option Name) (limit : ℕ) (asks : List Asked) (reply : Reply) → HasAsked asks → IsDirectory place es → IsPage es after limit reply → IsLook honest place (ListsAt R after limit) asks reply
+  lists_page place es after limit asks (say.Fault f) asked d h = subst (λ (x : Fault). IsLawful asks x) (sym h) asked
+  lists_page place es after limit asks (say.Entries rows more) asked d h = λ honesty. listed (item_of place).kind (item_of place).source es after limit (say.Entries rows more) d.0 (d.1 honesty) h
+  lists_page place es after limit asks _ asked d h = absurd h
 
   -- the entries of a tree that was had
   pub in_tree : (place : Place) (es entries : List TreeEntry) → place.mode ≡ mode.Dir → entries ≡ es → (honest → R.tree place.id ≡ Some es) → IsDirectory place (items_of entries)

@@ -16,10 +16,10 @@ use Rattle.eden_model.specs.declared.reply.Reply.TheVariants as say
 use Rattle.eden_model.specs.Trees.{Name, Path, Reach, reach}
 use Rattle.eden_model.specs.Shown.{Item, Ground, node_of, node_from}
 use Rattle.eden_model.specs.Repository.{Repository, Source, Whole, ground_of, root_of}
-use Rattle.eden_model.specs.Operations.{Meets, Says, Refuses, Whether, Reads, Lists, Replies, kind_of}
+use Rattle.eden_model.specs.Operations.{Meets, Says, Refuses, Whether, Stats, Reads, ReadsLink, Lists, Replies, kind_of}
 use Rattle.eden_source.specs.Fetching.{Ask, Answer}
 use Rattle.mountd.specs.declared.place.Place.{Place}
-use Rattle.mountd.specs.Commit.{Found, Stopped, Lost, Nothing, At, found, reach_of, EndsWith, above, own, along, needed, blob_of, tree_of, IsFront}
+use Rattle.mountd.specs.Commit.{Found, Stopped, Lost, Nothing, At, found, reach_of, EndsWith, above, own, along, needed, blob_of, target_of, content_of, tree_of, IsFront}
 use Rattle.mountd.specs.Serving.{Asked, keys, IsServed, most_asks, Serves}
 use Rattle.mountd.specs.Steps.{item_of, IsStop, IsLook, Looks, Walks}
 use Rattle.mountd.proofs.Meeting.{reach_found}
@@ -44,6 +44,12 @@ module _ (R : Repository) (root : Id) where
 
   pub kind_looks : (p : Path) → Opens (ask.Kind p) p (λ i. []) (λ n. Says (say.Kind (kind_of n)))
   kind_looks p = record { needs = refl; few = omega arith; table = λ r h. h }
+
+  pub stat_looks : (p : Path) → Opens (ask.Stat p) p content_of Stats
+  stat_looks p = record { needs = refl; few = omega arith; table = λ r h. h }
+
+  pub readlink_looks : (p : Path) → Opens (ask.ReadLink p) p target_of ReadsLink
+  readlink_looks p = record { needs = refl; few = omega arith; table = λ r h. h }
 
   pub read_looks : (p : Path) (offset count : ℕ) → nat_lt 65536 count ≡ false → Opens (ask.Read p offset count) p (λ i. if eqb count 0 then [] else blob_of i) (Reads offset count)
   read_looks p offset count e = record {
@@ -70,11 +76,9 @@ module _ (R : Repository) (root : Id) where
 
   module _ {S : Type 0} (fetched : S → Id → Answer → S → Type 0) (honest : Type 0) (q : Request) (p : Path) (f : Item Source → List Key) (H : Node → Reply → Type 0) (looks : Opens q p f H) where
     stop_served : (asks : List Asked) (reply : Reply) → IsStop R honest (root_of root) p asks reply → IsServed R honest root q asks reply
-    stop_served asks (say.Kind k) h = absurd h
-    stop_served asks (say.Data bytes) h = absurd h
-    stop_served asks (say.Entries es more) h = absurd h
     stop_served asks (say.Err e) h = λ honesty. looks.table (say.Err e) (met p (found (ground_of R) (root_of root) p) (Refuses ENOENT) H (say.Err e) refl (met_end (found (ground_of R) (root_of root) p) H e (h honesty)))
     stop_served asks (say.Fault x) h = h
+    stop_served asks _ h = absurd h
 
     -- the walk stops
     pub serves_stop : (s t : S) (reply : Reply) → Walks fetched R honest s t (root_of root) p (Err reply) → Serves fetched R honest s t root q reply
@@ -94,11 +98,8 @@ module _ (R : Repository) (root : Id) where
     at_place place r e h = looks.table r (met p (At (item_of place)) (Refuses ENOENT) H r e h)
 
     said_served : (K : Item Source → Reply → Type 0) → Means K → (place : Place) (asks more : List Asked) (reply : Reply) → (honest → found (ground_of R) (root_of root) p ≡ At (item_of place)) → IsLook honest place K more reply → IsServed R honest root q (asks ++ more) reply
-    said_served K means place asks more (say.Kind k) e h = λ honesty. at_place place (say.Kind k) (e honesty) (means place (say.Kind k) (e honesty) (h honesty))
-    said_served K means place asks more (say.Data bytes) e h = λ honesty. at_place place (say.Data bytes) (e honesty) (means place (say.Data bytes) (e honesty) (h honesty))
-    said_served K means place asks more (say.Entries es others) e h = λ honesty. at_place place (say.Entries es others) (e honesty) (means place (say.Entries es others) (e honesty) (h honesty))
-    said_served K means place asks more (say.Err errno) e h = λ honesty. at_place place (say.Err errno) (e honesty) (means place (say.Err errno) (e honesty) (h honesty))
     said_served K means place asks more (say.Fault x) e h = lawful_behind asks more x h
+    said_served K means place asks more r e h = λ honesty. at_place place r (e honesty) (means place r (e honesty) (h honesty))
 
     needed_here : (place : Place) (asks more : List Asked) → found (ground_of R) (root_of root) p ≡ At (item_of place) → keys asks ≡ above R (root_of root) p → IsFront (keys more) (f (item_of place)) → IsFront (keys (asks ++ more)) (needed R root q)
     needed_here place asks more e same h =

@@ -23,7 +23,7 @@ use Rattle.eden_source.specs.Fetching.{Ask, Answer, Fetches}
 use Rattle.eden_source.proofs.Fetches.{Fetches-none, Fetches-one, Fetches-append}
 use Rattle.mountd.specs.declared.place.Place.{Place}
 use Rattle.mountd.specs.Commit.{Found, At, found, from_kind, from_entries, from_entry, EndsWith, tree_of, of_entry, above, IsFront}
-use Rattle.mountd.specs.Serving.{Asked, keys, heard, Failed, IsLawful}
+use Rattle.mountd.specs.Serving.{Asked, keys, heard, Failed, HasAsked, IsLawful}
 use Rattle.mountd.specs.Steps.{item_of, place_of, Gets, IsStop, Ends, Walks}
 use Rattle.mountd.proofs.Meeting.{found_on, ends_on}
 
@@ -66,9 +66,13 @@ pub failed_behind : (xs ys : List Asked) (id : Id) (cause : Cause) → Failed ys
 failed_behind [] ys id cause h = h
 failed_behind (x ∷ xs) ys id cause h = inr (failed_behind xs ys id cause h)
 
+asked_behind : (xs ys : List Asked) → HasAsked ys → HasAsked (xs ++ ys)
+asked_behind [] ys h = h
+asked_behind (x ∷ xs) ys h = tt
+
 pub lawful_behind : (xs ys : List Asked) (f : Fault) → IsLawful ys f → IsLawful (xs ++ ys) f
 lawful_behind xs ys (fault.Fetch id cause) h = failed_behind xs ys id cause h
-lawful_behind xs ys fault.Memory h = tt
+lawful_behind xs ys fault.Memory h = asked_behind xs ys h
 lawful_behind xs ys fault.Overlay h = absurd h
 lawful_behind xs ys fault.Numbers h = absurd h
 
@@ -116,11 +120,9 @@ module _ {S : Type 0} (fetched : S → Id → Answer → S → Type 0) (R : Repo
   walks_nowhere s place = record { asks = []; asked = Fetches-none fetched s; few = omega arith; only_needed = λ h. no_front []; ended = λ h. (refl, refl) }
 
   stops_on : (i : Item Source) (n : Name) (p : Path) (asks : List Asked) (reply : Reply) → IsStop R honest i (n ∷ []) asks reply → IsStop R honest i (n ∷ p) asks reply
-  stops_on i n p asks (say.Kind k) h = h
-  stops_on i n p asks (say.Data bytes) h = h
-  stops_on i n p asks (say.Entries es more) h = h
   stops_on i n p asks (say.Err e) h = λ honesty. ends_on (ground_of R) i n p e (h honesty)
   stops_on i n p asks (say.Fault f) h = h
+  stops_on i n p asks _ h = absurd h
 
   -- what is asked for one name comes before what is asked for the others
   front_more : (i : Item Source) (n : Name) (p : Path) (asks : List Asked) → IsFront (keys asks) (above R i (n ∷ [])) → IsFront (keys asks) (above R i (n ∷ p))
@@ -140,11 +142,9 @@ module _ {S : Type 0} (fetched : S → Id → Answer → S → Type 0) (R : Repo
   keys_on i j n p xs ys e same = ap (λ (l : List Key). l ++ keys ys) (sym same) ∙ sym (keys-append xs ys)
 
   stop_behind : (i : Item Source) (place : Place) (n : Name) (p : Path) (xs ys : List Asked) (reply : Reply) → (honest → found (ground_of R) i (n ∷ []) ≡ At (item_of place)) → IsStop R honest (item_of place) p ys reply → IsStop R honest i (n ∷ p) (xs ++ ys) reply
-  stop_behind i place n p xs ys (say.Kind k) e h = h
-  stop_behind i place n p xs ys (say.Data bytes) e h = h
-  stop_behind i place n p xs ys (say.Entries es more) e h = h
   stop_behind i place n p xs ys (say.Err errno) e h = λ honesty. subst (λ (x : Found Source). EndsWith x errno) (sym (found_on (ground_of R) i (item_of place) n p (e honesty))) (h honesty)
   stop_behind i place n p xs ys (say.Fault f) e h = lawful_behind xs ys f h
+  stop_behind i place n p xs ys _ e h = absurd h
 
   ended_behind : (i : Item Source) (place : Place) (n : Name) (p : Path) (xs ys : List Asked) (r : Result Place Reply) → (honest → (found (ground_of R) i (n ∷ []) ≡ At (item_of place)) × (keys xs ≡ above R i (n ∷ []))) → Ends R honest (item_of place) p ys r → Ends R honest i (n ∷ p) (xs ++ ys) r
   ended_behind i place n p xs ys (Ok q) e h = λ honesty. (

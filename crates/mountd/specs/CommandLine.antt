@@ -5,7 +5,7 @@ use Rattle.clap.specs.Kinds.{IsAmong}
 use Rattle.clap.specs.Words.{App, Row, Rule, Text, fault_of, first_of, kind_of, new_app, new_rule, subcommand_of, with_rule, with_subcommand}
 use Rattle.clap.specs.Simple.{on_top}
 use Rattle.hex.specs.Hex.{encode_lower}
-use Rattle.mountd.specs.IdText.{IsIdText}
+use Rattle.eden_object.specs.IdText.{IsIdText}
 use Rattle.mountd.specs.declared.options.Command.{Command}
 use Rattle.mountd.specs.declared.options.Command.TheVariants as command
 use Rattle.mountd.specs.declared.options.OptionsError.{OptionsError}

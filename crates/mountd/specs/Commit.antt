@@ -86,6 +86,22 @@ blob_by kind.Dir s = []
 abbrev pub blob_of : Item Source → List Key
 blob_of i = blob_by i.kind i.source
 
+abbrev pub target_by : Kind → Source → List Key
+target_by kind.Link s = key_of objects.Blob s
+target_by _ s = []
+
+-- the blob of a link
+abbrev pub target_of : Item Source → List Key
+target_of i = target_by i.kind i.source
+
+abbrev pub content_by : Kind → Source → List Key
+content_by kind.Dir s = []
+content_by _ s = key_of objects.Blob s
+
+-- the blob of a file or a link
+abbrev pub content_of : Item Source → List Key
+content_of i = content_by i.kind i.source
+
 abbrev pub of_entry : Option (Item Source) → (Item Source → List Key) → List Key
 of_entry None f = []
 of_entry (Some i) f = f i
@@ -108,8 +124,11 @@ along R t p f = above R (root_of t) p ++ own (found (ground_of R) (root_of t) p)
 -- the objects that a request needs, in the order in which it needs them
 abbrev pub needed : Repository → Id → Request → List Key
 needed R t (ask.Kind p) = along R t p (λ i. [])
+needed R t (ask.Stat p) = along R t p content_of
+needed R t (ask.ReadLink p) = along R t p target_of
 needed R t (ask.Read p offset count) = if nat_lt 65536 count then [] else along R t p (λ i. if count == 0 then [] else blob_of i)
 needed R t (ask.List p after limit) = if limit == 0 || nat_lt 1000 limit then [] else along R t p tree_of
+needed R t _ = []
 
 -- the first list is a beginning of the second
 abbrev pub IsFront : {X : Type 0} → List X → List X → Type 0

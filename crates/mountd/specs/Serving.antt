@@ -1,9 +1,10 @@
 -- What serving a commit promises: the table's reply on the commit's whole tree, or a fault that has its cause.
-use Rattle.std.specs.Prelude.{◌≡◌, ◌⊎◌, ◌+◌, ◌≤◌, ℕ, List, [], ◌∷◌, length, map, Result, Ok, Err, MatchResult}
+use Rattle.std.specs.Prelude.{◌≡◌, ◌⊎◌, ◌+◌, ◌≤◌, ℕ, Bool, true, false, List, [], ◌∷◌, length, map, Result, Ok, Err, MatchResult}
 use Rattle.eden_model.specs.declared.fault.Cause.{Cause}
 use Rattle.eden_model.specs.declared.fault.Fault.{Fault}
 use Rattle.eden_model.specs.declared.fault.Fault.TheVariants as fault
 use Rattle.eden_model.specs.declared.fault.CallFault.{CallFault}
+use Rattle.eden_model.specs.declared.fault.CallFault.TheVariants as call
 use Rattle.eden_model.specs.declared.id.Id.{Id}
 use Rattle.eden_model.specs.declared.id.Key.{Key}
 use Rattle.eden_model.specs.declared.request.Request.{Request}
@@ -37,26 +38,39 @@ abbrev pub Failed : List Asked → Id → Cause → Type 0
 Failed [] id cause = ⊥
 Failed (a ∷ asks) id cause = ((id ≡ a.key.id) × IsCauseOf a cause) ⊎ Failed asks id cause
 
--- the fault of a request that asked its source for these
+abbrev pub HasAsked : List Asked → Type 0
+HasAsked [] = ⊥
+HasAsked (a ∷ asks) = Unit {0}
+
+-- the fault of a request that asked its source for these: without an object nothing is decoded or copied
 abbrev pub IsLawful : List Asked → Fault → Type 0
 IsLawful asks (fault.Fetch id cause) = Failed asks id cause
-IsLawful asks fault.Memory = Unit {0}
+IsLawful asks fault.Memory = HasAsked asks
 IsLawful asks fault.Overlay = ⊥
 IsLawful asks fault.Numbers = ⊥
 
 -- where the outside is honest, each reply is the table's on the whole tree; a fault has its cause whatever the outside
 abbrev pub IsServed : Repository → Type 0 → Id → Request → List Asked → Reply → Type 0
-IsServed R honest t q asks (say.Kind k) = honest → Replies (Whole R t) q (say.Kind k)
-IsServed R honest t q asks (say.Data bytes) = honest → Replies (Whole R t) q (say.Data bytes)
-IsServed R honest t q asks (say.Entries es more) = honest → Replies (Whole R t) q (say.Entries es more)
-IsServed R honest t q asks (say.Err e) = honest → Replies (Whole R t) q (say.Err e)
 IsServed R honest t q asks (say.Fault f) = IsLawful asks f
+IsServed R honest t q asks r = honest → Replies (Whole R t) q r
+
+-- whether the request may change the tree; a commit alone can't be changed
+abbrev pub changes : Request → Bool
+changes (ask.Kind p) = false
+changes (ask.Stat p) = false
+changes (ask.Read p offset count) = false
+changes (ask.ReadLink p) = false
+changes (ask.List p after limit) = false
+changes _ = true
 
 -- at most so many objects: the path's names, and one where the request looks into what stands there
 abbrev pub most_asks : Request → ℕ
 most_asks (ask.Kind p) = length p
+most_asks (ask.Stat p) = length p + 1
 most_asks (ask.Read p offset count) = length p + 1
+most_asks (ask.ReadLink p) = length p + 1
 most_asks (ask.List p after limit) = length p + 1
+most_asks _ = 0
 
 module _ {S : Type 0} (fetched : S → Id → Answer → S → Type 0) (R : Repository) (honest : Type 0) where
   -- the source was asked, one request was served from what it gave
@@ -72,7 +86,7 @@ pub record Commit (S : Type 0) : Type 0 where
   pub root : Id
   pub source : S
 
--- the commit was served from the source, and is the same afterwards
+-- a look was served from the source, and the commit is the same afterwards; a change was not begun
 abbrev pub AnswersFor : {S : Type 0} → (S → Id → Answer → S → Type 0) → Repository → Type 0 → Commit S → Request → Result Reply CallFault → Commit S → Type 0
-AnswersFor fetched R honest old q (Ok reply) new = Serves fetched R honest old.source new.source old.root q reply × (new.root ≡ old.root)
-AnswersFor fetched R honest old q (Err e) new = ⊥
+AnswersFor fetched R honest old q (Ok reply) new = (changes q ≡ false) × Serves fetched R honest old.source new.source old.root q reply × (new.root ≡ old.root)
+AnswersFor fetched R honest old q (Err e) new = (changes q ≡ true) × (e ≡ call.Stopped) × (new ≡ old)

@@ -15,7 +15,7 @@ use Rattle.eden_model.specs.declared.tree_entry.TreeEntry.{TreeEntry}
 use Rattle.eden_model.specs.Trees.{Name, Path}
 use Rattle.eden_model.specs.Shown.{Item, Items, node_of}
 use Rattle.eden_model.specs.Repository.{Repository, Source, ground_of, item_by, entries_from}
-use Rattle.eden_model.specs.Operations.{Reads, Refuses, IsRising, kind_at, beyond}
+use Rattle.eden_model.specs.Operations.{Reads, Stats, ReadsLink, Refuses, IsRising, kind_at, beyond}
 use Rattle.eden_object.specs.Objects.{Body}
 use Rattle.eden_object.specs.Trees.{IsTreeBody}
 use Rattle.eden_source.specs.Fetching.{Answer, Fetches}
@@ -36,19 +36,11 @@ module _ {S : Type 0} (fetched : S → Id → Answer → S → Type 0) where
     pub asked : fetched s k.id answer t
     pub got : MatchResult r Is (IsLawful (record { key = k; answer = answer } ∷ []))
 
--- what the object of a key that came is: sound, of the key's kind, and where the outside is honest the repository's
-pub record IsFetched (R : Repository) (honest : Type 0) (k : Key) (o : Body) : Type 0 where
-  pub kind : o.kind ≡ k.kind
-  pub blob : honest → k.kind ≡ objects.Blob → R.blob k.id ≡ Some o.bytes
-  pub tree : honest → k.kind ≡ objects.Tree → (es : List TreeEntry) → IsTreeBody es o.bytes → R.tree k.id ≡ Some es
-
 -- a walk that stopped
 abbrev pub IsStop : Repository → Type 0 → Item Source → Path → List Asked → Reply → Type 0
-IsStop R honest i p asks (say.Kind k) = ⊥
-IsStop R honest i p asks (say.Data bytes) = ⊥
-IsStop R honest i p asks (say.Entries es more) = ⊥
 IsStop R honest i p asks (say.Err e) = honest → EndsWith (found (ground_of R) i p) e
 IsStop R honest i p asks (say.Fault f) = IsLawful asks f
+IsStop R honest i p asks _ = ⊥
 
 -- where the names lead from an entry, after these asks: to a place, or to the reply that stops the walk
 abbrev pub Ends : Repository → Type 0 → Item Source → Path → List Asked → Result Place Reply → Type 0
@@ -66,11 +58,8 @@ module _ {S : Type 0} (fetched : S → Id → Answer → S → Type 0) (R : Repo
 
 -- the reply of a request that looks at what stands at a place: as H says of the entry, or a fault
 abbrev pub IsLook : Type 0 → Place → (Item Source → Reply → Type 0) → List Asked → Reply → Type 0
-IsLook honest place H asks (say.Kind k) = honest → H (item_of place) (say.Kind k)
-IsLook honest place H asks (say.Data bytes) = honest → H (item_of place) (say.Data bytes)
-IsLook honest place H asks (say.Entries es more) = honest → H (item_of place) (say.Entries es more)
-IsLook honest place H asks (say.Err e) = honest → H (item_of place) (say.Err e)
 IsLook honest place H asks (say.Fault f) = IsLawful asks f
+IsLook honest place H asks r = honest → H (item_of place) r
 
 module _ {S : Type 0} (fetched : S → Id → Answer → S → Type 0) (R : Repository) (honest : Type 0) where
   -- what stands at a place was looked at, over these objects at most
@@ -83,6 +72,12 @@ module _ {S : Type 0} (fetched : S → Id → Answer → S → Type 0) (R : Repo
 
 abbrev pub ReadsAt : Repository → ℕ → ℕ → Item Source → Reply → Type 0
 ReadsAt R offset count i r = Reads offset count (node_of (ground_of R) i) r
+
+abbrev pub StatsAt : Repository → Item Source → Reply → Type 0
+StatsAt R i r = Stats (node_of (ground_of R) i) r
+
+abbrev pub ReadsLinkAt : Repository → Item Source → Reply → Type 0
+ReadsLinkAt R i r = ReadsLink (node_of (ground_of R) i) r
 
 -- the first entries behind a name, and whether others come after them
 abbrev pub ListsEntries : {S : Type 0} → Option (Items S) → Option Name → ℕ → Reply → Type 0
@@ -98,18 +93,14 @@ ListsBy kind.Dir es after limit r = ListsEntries es after limit r
 abbrev pub ListsAt : Repository → Option Name → ℕ → Item Source → Reply → Type 0
 ListsAt R after limit i r = ListsBy i.kind (entries_from R i.source) after limit r
 
--- the bytes from the offset on, at most so many, or no memory for them
-abbrev pub IsPart : List ℕ → ℕ → ℕ → Reply → Type 0
-IsPart content offset count (say.Kind k) = ⊥
-IsPart content offset count (say.Data bytes) = bytes ≡ take count (drop offset content)
-IsPart content offset count (say.Entries es more) = ⊥
-IsPart content offset count (say.Err e) = ⊥
-IsPart content offset count (say.Fault f) = f ≡ fault.Memory
+-- those bytes, or no memory for them
+abbrev pub IsCopy : List ℕ → Reply → Type 0
+IsCopy content (say.Data bytes) = bytes ≡ content
+IsCopy content (say.Fault f) = f ≡ fault.Memory
+IsCopy content _ = ⊥
 
 -- a page of the entries, or no memory for it
 abbrev pub IsPage : Items Source → Option Name → ℕ → Reply → Type 0
-IsPage es after limit (say.Kind k) = ⊥
-IsPage es after limit (say.Data bytes) = ⊥
 IsPage es after limit (say.Entries rows more) = ListsEntries (Some es) after limit (say.Entries rows more)
-IsPage es after limit (say.Err e) = ⊥
 IsPage es after limit (say.Fault f) = f ≡ fault.Memory
+IsPage es after limit _ = ⊥

@@ -1,20 +1,21 @@
 // One commit, served from its objects alone.
-ghost use Rattle.std.specs.Prelude.{◌≡◌, ◌==◌, ℕ, List, [], ◌∷◌, Some, IfOk, if◌then◌else◌};
+ghost use Rattle.std.specs.Prelude.{◌≡◌, ◌==◌, ℕ, List, [], ◌∷◌, Some, IfOk, IfSome, IfNone, true, false, take, drop, if◌then◌else◌};
 ghost use Rattle.std.specs.Option.{option_map};
 ghost use Rattle.eden_model.specs.Repository.{entry_named, items_of, root_of};
 ghost use Rattle.eden_model.specs.declared.request.Request.TheVariants as ask;
 ghost use Rattle.eden_model.specs.Operations.{kind_at};
-ghost use Rattle.mountd.specs.Commit.{blob_of, tree_of};
+ghost use Rattle.mountd.specs.Commit.{blob_of, target_of, content_of, tree_of};
 ghost use Rattle.eden_model.specs.declared.id.ObjKind.TheVariants as objects;
-ghost use Rattle.mountd.specs.Serving.{Serves};
-ghost use Rattle.mountd.specs.Steps.{Gets, IsFetched, Walks, Looks, IsPart, IsPage, ReadsAt, ListsAt, item_of, place_of};
+ghost use Rattle.mountd.specs.Serving.{Serves, changes};
+ghost use Rattle.eden_object.specs.Objects.{IsFetched};
+ghost use Rattle.mountd.specs.Steps.{Gets, Walks, Looks, IsCopy, IsPage, ReadsAt, ReadsLinkAt, StatsAt, ListsAt, item_of, place_of};
 
 use crate::place::Place;
 use eden_model::{
-    Bytes, CallFault, Errno, Fault, Id, Key, Listing, Mode, Name, ObjKind, Path, Reply, Request,
+    Bytes, CallFault, Entries, Errno, Fault, Id, Key, Kind, Listing, Mode, Name, ObjKind, Path, Reply, Request,
     TreeEntry, World,
 };
-use eden_object::{Object, check, decode_tree};
+use eden_object::Object;
 use eden_source::Source;
 use eden_wire::Service;
 use std::alloc::{AllocError, Global};
@@ -26,9 +27,9 @@ fn object<W: World, S: Source<W>>(alloc: Global, source: &mut S, key: Key) -> Re
 {
     match source.fetch(alloc, key.id) {
         Err(cause) => Err(Fault::Fetch(key.id, cause)),
-        Ok(framed) => match check(key.id, key.kind, framed.as_slice()) {
+        Ok(framed) => match Object::checked(alloc, key, framed) {
             Err(cause) => Err(Fault::Fetch(key.id, cause)),
-            Ok(()) => Ok(Object::new(key.kind, framed)),
+            Ok(object) => Ok(object),
         },
     }
 }
@@ -52,10 +53,9 @@ fn tree<W: World, S: Source<W>>(
     let kind = ObjKind::Tree;
     match object::<W, S>(alloc, source, Key { kind, id }) {
         Err(fault) => Err(fault),
-        Ok(object) => match decode_tree(alloc, object.body()) {
+        Ok(object) => match object.entries(alloc) {
             Err(_) => Err(Fault::Memory),
-            Ok(None) => unreachable!(),
-            Ok(Some(entries)) => Ok(entries),
+            Ok(entries) => Ok(entries),
         },
     }
 }
@@ -140,15 +140,73 @@ fn kind<W: World, S: Source<W>>(alloc: Global, source: &mut S, root: Id, path: &
 }
 
 // The bytes from an offset on, at most so many.
-fn part(alloc: Global, content: &[u8], offset: u64, count: u64) -> Reply
-    ensures { IsPart content.now offset count result }
+fn part(content: &[u8], offset: u64, count: u64) -> &[u8]
+    ensures { result.now ≡ take count (drop offset content.now) }
 {
     let from = (content.len() as u64).min(offset) as usize;
     let rest = &content[from..];
     let to = (rest.len() as u64).min(count) as usize;
-    match Vec::from_slice(alloc, &rest[..to]) {
+    &rest[..to]
+}
+
+// A copy of the bytes, or no memory for it.
+fn copied(alloc: Global, bytes: &[u8]) -> Reply
+    ensures { IsCopy bytes.now result }
+{
+    match Vec::from_slice(alloc, bytes) {
         Ok(bytes) => Reply::Data(Bytes::new(bytes)),
         Err(_) => Reply::Fault(Fault::Memory),
+    }
+}
+
+// What stands at a place, and the length of its content.
+fn stat_at<W: World, S: Source<W>>(alloc: Global, source: &mut S, place: Place) -> Reply
+    ensures { Looks S.fetched W.repository W.honest source.old source.new place (StatsAt W.repository) (content_of (item_of place)) result }
+{
+    match place.mode {
+        Mode::Dir | Mode::Gitlink => Reply::Stat(Kind::Dir, 0),
+        Mode::File | Mode::Exec | Mode::Link => match blob::<W, S>(alloc, source, place.id) {
+            Err(fault) => Reply::Fault(fault),
+            Ok(object) => Reply::Stat(place.mode.kind(), object.body().len() as u64),
+        },
+    }
+}
+
+// What stands at a path, and the length of its content.
+fn stat<W: World, S: Source<W>>(alloc: Global, source: &mut S, root: Id, path: &Path) -> Reply
+    ensures { Serves S.fetched W.repository W.honest source.old source.new root (ask.Stat path.now) result }
+{
+    match find::<W, S>(alloc, source, root, path) {
+        Err(reply) => reply,
+        Ok(place) => stat_at::<W, S>(alloc, source, place),
+    }
+}
+
+// The target of what stands at a place.
+fn read_link_at<W: World, S: Source<W>>(alloc: Global, source: &mut S, place: Place) -> Reply
+    ensures { Looks S.fetched W.repository W.honest source.old source.new place (ReadsLinkAt W.repository) (target_of (item_of place)) result }
+{
+    match place.mode {
+        Mode::File | Mode::Exec | Mode::Dir | Mode::Gitlink => Reply::Err(Errno::EINVAL),
+        Mode::Link => match blob::<W, S>(alloc, source, place.id) {
+            Err(fault) => Reply::Fault(fault),
+            Ok(object) => copied(alloc, object.body()),
+        },
+    }
+}
+
+// The target of a link.
+fn read_link<W: World, S: Source<W>>(
+    alloc: Global,
+    source: &mut S,
+    root: Id,
+    path: &Path,
+) -> Reply
+    ensures { Serves S.fetched W.repository W.honest source.old source.new root (ask.ReadLink path.now) result }
+{
+    match find::<W, S>(alloc, source, root, path) {
+        Err(reply) => reply,
+        Ok(place) => read_link_at::<W, S>(alloc, source, place),
     }
 }
 
@@ -171,7 +229,7 @@ fn read_at<W: World, S: Source<W>>(
             }
             match blob::<W, S>(alloc, source, place.id) {
                 Err(fault) => Reply::Fault(fault),
-                Ok(object) => part(alloc, object.body(), offset, count),
+                Ok(object) => copied(alloc, part(object.body(), offset, count)),
             }
         }
     }
@@ -233,7 +291,7 @@ fn list_at<W: World, S: Source<W>>(
 {
     match place.mode {
         Mode::File | Mode::Exec | Mode::Link => Reply::Err(Errno::ENOTDIR),
-        Mode::Gitlink => page(alloc, &[], after, limit),
+        Mode::Gitlink => Reply::Entries(Entries::new(Vec::new(alloc)), false),
         Mode::Dir => match tree::<W, S>(alloc, source, place.id) {
             Err(fault) => Reply::Fault(fault),
             Ok(entries) => page(alloc, entries.as_slice(), after, limit),
@@ -304,23 +362,27 @@ impl<W: World, S: Source<W> + Drop> Direct<W, S> {
     }
 }
 
-// What a request is answered.
+// What a request is answered. None for one that may change the tree.
 fn answer<W: World, S: Source<W>>(
     alloc: Global,
     source: &mut S,
     root: Id,
     request: &Request,
-) -> Reply
-    ensures { Serves S.fetched W.repository W.honest source.old source.new root request.now result }
+) -> Option<Reply>
+    ensures looks { IfSome result (λ reply. (changes request.now ≡ false) × Serves S.fetched W.repository W.honest source.old source.new root request.now reply) }
+    ensures changes { IfNone result ((changes request.now ≡ true) × (source.new ≡ source.old)) }
 {
     match request {
-        Request::Kind(path) => kind::<W, S>(alloc, source, root, path),
-        Request::Read(path, offset, count) => {
-            read::<W, S>(alloc, source, root, path, *offset, *count)
-        }
+        Request::Kind(path) => Some(kind::<W, S>(alloc, source, root, path)),
+        Request::Stat(path) => Some(stat::<W, S>(alloc, source, root, path)),
+        Request::Read(path, offset, count) => Some(read::<W, S>(
+            alloc, source, root, path, *offset, *count,
+        )),
+        Request::ReadLink(path) => Some(read_link::<W, S>(alloc, source, root, path)),
         Request::List(path, after, limit) => {
-            list::<W, S>(alloc, source, root, path, after, *limit)
+            Some(list::<W, S>(alloc, source, root, path, after, *limit))
         }
+        _ => None,
     }
 }
 
@@ -330,7 +392,12 @@ impl<W: World, S: Source<W> + Drop> Service for Direct<W, S> {
     ghost answers = { AnswersFor S.fetched W.repository W.honest };
 
     fn call(&mut self, request: Request) -> Result<&Reply, CallFault> {
-        self.reply = answer::<W, S>(self.alloc, &mut self.source, self.root, &request);
-        Ok(&self.reply)
+        match answer::<W, S>(self.alloc, &mut self.source, self.root, &request) {
+            None => Err(CallFault::Stopped),
+            Some(reply) => {
+                self.reply = reply;
+                Ok(&self.reply)
+            }
+        }
     }
 }

@@ -2,7 +2,6 @@
 #![tactic(auto)]
 
 mod direct;
-mod id_text;
 mod options;
 mod place;
 mod report;

@@ -5,10 +5,10 @@ ghost use Rattle.clap.specs.Words.{app_of, kind_of, rule_of, subcommand_of, subc
 ghost use Rattle.clap.specs.declared.error.kind.ErrorKind.TheVariants.{OutOfMemory};
 ghost use Rattle.hex.specs.Hex.{encode_lower};
 ghost use Rattle.mountd.specs.CommandLine.{AsksFor, IsTaken, Refuses, mountd_line, required_option, stdio_line, stdio_values};
-ghost use Rattle.mountd.specs.IdText.{IsIdText};
+ghost use Rattle.eden_object.specs.IdText.{IsIdText};
 ghost use Rattle.mountd.specs.declared.options.OptionsError.TheVariants as error;
 
-use crate::id_text::parse_id;
+use eden_object::parse_id;
 use clap::error::ErrorKind;
 use clap::{Arg, ArgMatches};
 use eden_model::Id;

@@ -1,6 +1,6 @@
 //! Whole sessions, from the lines in to the lines out, over objects in memory.
 use super::*;
-use crate::id_text::parse_id;
+use eden_object::parse_id;
 use eden_model::{Cause, Id, Outside};
 use eden_object::id_of;
 use eden_source::MemorySource;

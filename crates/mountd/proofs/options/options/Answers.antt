@@ -3,7 +3,7 @@ use Rattle.std.specs.Prelude.{is_some}
 use Rattle.clap.specs.Simple.{subcommand_of, subcommand_rows_of}
 use Rattle.clap.specs.Walk.{Text}
 use Rattle.mountd.specs.CommandLine.{IsTaken, Refuses, mountd_line, stdio_in, stdio_values}
-use Rattle.mountd.specs.IdText.{IsIdText}
+use Rattle.eden_object.specs.IdText.{IsIdText}
 use Rattle.mountd.specs.declared.options.OptionsError.TheVariants as error
 use Rattle.mountd.proofs.LineLemmas.{root_refuses}
 use Rattle.mountd.proofs.TakenLines.{is_some-map, stdio_in-taken}
