@@ -1,4 +1,7 @@
 use crate::bytes::Bytes;
+use crate::errno::Errno;
+use crate::fault::{CallFault, Cause, Fault, StartFault};
+use crate::id::Id;
 use crate::kind::Kind;
 use crate::name::Name;
 use crate::node::Node;
@@ -6,7 +9,7 @@ use crate::path::Path;
 use crate::reply::{Entries, Reply};
 use crate::request::Request;
 use crate::tree::WholeTree;
-use std::alloc::Global;
+use std::alloc::{AllocFailed, Global};
 use std::process::Abort;
 use std::test::*;
 
@@ -162,4 +165,46 @@ fn a_tree_with_holes_answers(rt: HostRuntime) -> Result<(), Fail> {
         ("list / - 1000", "Dir dir, Link link, Exec lost, end"),
     ];
     answers(&rt, rt.alloc(), &rows, &lines)
+}
+
+/// A vector of one byte, or what want of memory is to the caller.
+fn one_byte<E: From<AllocFailed<u8>>>(alloc: Global) -> Result<Vec<u8>, E> {
+    let mut bytes = Vec::new(alloc);
+    bytes.push(1)?;
+    Ok(bytes)
+}
+
+#[test]
+fn errors_are_told_in_words(rt: HostRuntime) -> Result<(), Fail> {
+    let alloc = rt.alloc();
+    let lost = Fault::Fetch(Id { bytes: [7; 20] }, Cause::Missing);
+    let full = CallFault::Start(StartFault::HistoryFull(3));
+    let foreign = CallFault::Foreign {
+        floor: 9,
+        length: 4,
+    };
+    let lines = [
+        (
+            format!(in alloc; "{}", Errno::ENOTEMPTY)?,
+            "directory not empty",
+        ),
+        (
+            format!(in alloc; "{lost}")?,
+            "an object could not be had: no such object",
+        ),
+        (
+            format!(in alloc; "{full}")?,
+            "the history is full at 3 entries",
+        ),
+        (
+            format!(in alloc; "{foreign}")?,
+            "entry 9 is awaited of a history of 4",
+        ),
+    ];
+    for (said, want) in &lines {
+        assert_eq!(rt; said.as_str(), *want);
+    }
+    assert_eq!(rt; one_byte::<Fault>(alloc)?.len(), 1);
+    assert_eq!(rt; one_byte::<Cause>(alloc)?.len(), 1);
+    Ok(())
 }
