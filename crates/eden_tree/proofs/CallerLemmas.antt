@@ -10,7 +10,7 @@ pub use Rattle.eden_tree.proofs.RowLemmas.{length-put_row, length-drop_row, keys
 pub use Rattle.eden_tree.proofs.Positions.{find_row-slice_get, slice_get-find_row, set_at-set_row, slice_get-set_at, slice_get-set_at-other}
 pub use Rattle.eden_tree.proofs.Positions.{length-slice_get, length-change_row, length-set_at, Contains-find_row, find_row-Contains, splits, puts_between}
 -- a path from an entry on
-pub use Rattle.eden_tree.proofs.Edits.{reads_on, edits_on, edits_there, edits_not_beside, edits_one, edits_nothing, edits_same, edits_twice, puts_at, drops_at}
+pub use Rattle.eden_tree.proofs.Edits.{reads_on, edits_on, edits_there, edits_not_beside, edits_one, edits_nothing, edits_same, edits_alike, edits_twice, puts_at, drops_at}
 -- one step of a recursion along a path, or over the entries of a directory
 pub use Rattle.eden_tree.proofs.Edits.{steps_down, steps_back, put_back, row_at-unloaded, row_at-absent, no_names}
 pub use Rattle.eden_tree.proofs.Positions.{row_size-slice_get, row_size-find_row, directory_size-child_of}

@@ -7,7 +7,7 @@ use Rattle.eden_model.specs.Paths.{behind_of}
 use Rattle.eden_tree.specs.Directory.{Row, Directory, child_of, with_child, change_child, change_rows}
 use Rattle.eden_tree.specs.Rows.{find_row, put_row, drop_row, change_row, set_row}
 use Rattle.eden_tree.specs.Paths.{row_at, edit_row, stamped_along, Standing, standing, standing_at, stamped}
-use Rattle.eden_tree.specs.Laws.{PutsOne, DropsOne, ChangesOne, ReadsOn, EditsOn, EditsThere, EditsNotBeside, EditsOne, EditsNothing, EditsSame, EditsTwice, PutsAt, DropsAt, StampsAlong, HoldsWhatWasPut, PutsBackChild, StepsDown, StepsBack}
+use Rattle.eden_tree.specs.Laws.{PutsOne, DropsOne, ChangesOne, ReadsOn, EditsOn, EditsThere, EditsNotBeside, EditsOne, EditsNothing, EditsSame, EditsAlike, EditsTwice, PutsAt, DropsAt, StampsAlong, HoldsWhatWasPut, PutsBackChild, StepsDown, StepsBack}
 use Rattle.eden_tree.proofs.NameOrder.{same-≡, same-refl, same-both}
 use Rattle.eden_tree.proofs.RowLemmas.{set_row-same, change_row-found, change_row-absent}
 use Rattle.eden_tree.proofs.Lookups.{find_row-put_row, find_row-drop_row, find_row-change_row, change_row-twice}
@@ -141,6 +141,18 @@ edits_same (n ∷ p) f x y h s = elim (child_of x) as (λ o. child_of x ≡ o �
   | Some d ↦ λ e k. change_rows-held (change_row n (edit_row p f)) x d e ∙ elim (find_row n d.rows) as (λ o. find_row n d.rows ≡ o → option_and_then (row_at p) o ≡ Some y → with_child (Some (record d { rows = change_row n (edit_row p f) d.rows })) x ≡ x) [
     | None ↦ λ a l. absurd (cc)
     | Some z ↦ λ a l. ap (λ rows. with_child (Some (record d { rows = rows })) x) (change_row-found n (edit_row p f) z d.rows a ∙ ap (λ w. set_row n w d.rows) (edits_same p f z y l s)) ∙ put_back n x z d e a
+  ] refl k
+] refl h
+
+pub edits_alike : EditsAlike
+edits_alike [] f g x y h s = let is : x ≡ y = cc in subst (λ (z : Row). f z ≡ g z) (sym is) s
+edits_alike (n ∷ p) f g x y h s = elim (child_of x) as (λ o. child_of x ≡ o → option_and_then (inside n p) o ≡ Some y → edit_row (n ∷ p) f x ≡ edit_row (n ∷ p) g x) [
+  | None ↦ λ e k. absurd (cc)
+  | Some d ↦ λ e k. elim (find_row n d.rows) as (λ o. find_row n d.rows ≡ o → option_and_then (row_at p) o ≡ Some y → edit_row (n ∷ p) f x ≡ edit_row (n ∷ p) g x) [
+    | None ↦ λ a l. absurd (cc)
+    | Some z ↦ λ a l. sym (steps_back n p f x z d e a)
+        ∙ ap (λ w. with_child (Some (record d { rows = set_row n w d.rows })) x) (edits_alike p f g z y l s)
+        ∙ steps_back n p g x z d e a
   ] refl k
 ] refl h
 

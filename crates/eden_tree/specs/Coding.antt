@@ -54,7 +54,9 @@ mutual
   reads-written : (r : Rows) (ts : List Token) (rs : List Rows) (cs : List Child) → reads (written r ++ ts) rs cs ≡ reads ts (r ∷ rs) cs
   reads-written end ts rs cs = refl
   reads-written (row n k d o c others) ts rs cs =
-      ap (λ (l : List Token). reads l rs cs) (append_assoc (written_child c) (written others ++ inr (inr (n, (k, (d, o)))) ∷ []) ts ∙ ap (λ (l : List Token). written_child c ++ l) (append_assoc (written others) (inr (inr (n, (k, (d, o)))) ∷ []) ts))
+      ap (λ (l : List Token). reads l rs cs)
+      (append_assoc (written_child c) (written others ++ inr (inr (n, (k, (d, o)))) ∷ []) ts
+      ∙ ap (λ (l : List Token). written_child c ++ l) (append_assoc (written others) (inr (inr (n, (k, (d, o)))) ∷ []) ts))
       ∙ reads-written_child c (written others ++ (inr (inr (n, (k, (d, o)))) ∷ ts)) rs cs
       ∙ reads-written others (inr (inr (n, (k, (d, o)))) ∷ ts) rs (c ∷ cs)
 
@@ -63,10 +65,15 @@ read_written_child c =
     ap (λ (l : List Token). first_child (reads l [] []).1) (sym (append-nil (written_child c)))
     ∙ ap (λ (p : List Rows × List Child). first_child p.1) (reads-written_child c [] [] [])
 
+abbrev held_code : Coded Held
+held_code = coded× (coded_list coded_ℕ) (coded× coded_ℕ (coded× (kind_type.the_row).coded (origin_type.the_row).coded))
+
+abbrev token_code : Coded Token
+token_code = coded⊎ (coded⊎ coded_unit coded_unit) (coded⊎ (coded× coded_ℕ coded_bool) held_code)
+
 abbrev pub child_code : Coded Child
 child_code =
-    code_by (List Token) (coded_list (coded⊎ (coded⊎ coded_unit coded_unit) (coded⊎ (coded× coded_ℕ coded_bool) (coded× (coded_list coded_ℕ) (coded× coded_ℕ (coded× (kind_type.the_row).coded (origin_type.the_row).coded))))))
-    written_child (λ ts. first_child (reads ts [] []).1) read_written_child
+    code_by (List Token) (coded_list token_code) written_child (λ ts. first_child (reads ts [] []).1) read_written_child
 
 abbrev pub row_code : Coded Row
 row_code =

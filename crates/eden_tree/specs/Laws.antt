@@ -85,7 +85,10 @@ EditsNothing = (p : Path) (f : Row → Row) (x : Row) → row_at p x ≡ None �
 abbrev pub EditsSame : Type 0
 EditsSame = (p : Path) (f : Row → Row) (x y : Row) → row_at p x ≡ Some y → f y ≡ y → edit_row p f x ≡ x
 
--- two edits at one path are one
+-- two edits that agree on the entry there are one, and so are two, one after the other
+abbrev pub EditsAlike : Type 0
+EditsAlike = (p : Path) (f g : Row → Row) (x y : Row) → row_at p x ≡ Some y → f y ≡ g y → edit_row p f x ≡ edit_row p g x
+
 abbrev pub EditsTwice : Type 0
 EditsTwice = (p : Path) (f g : Row → Row) (x : Row) → edit_row p f (edit_row p g x) ≡ edit_row p (λ y. f (g y)) x
 
@@ -100,7 +103,8 @@ DropsAt = (p : Path) (n : Name) (x y : Row) (d : Directory) (q : Path) → row_a
 
 -- the directories of the path are stamped, and every other path is as it was
 abbrev pub StampsAlong : Type 0
-StampsAlong = (p : Path) (s : ℕ) (x : Row) (q : Path) → standing_at q (stamped_along p s x) ≡ grafted (behind_of q p) (λ r. option_map (stamped s) (standing_at q x)) (standing_at q x)
+StampsAlong = (p : Path) (s : ℕ) (x : Row) (q : Path)
+    → standing_at q (stamped_along p s x) ≡ grafted (behind_of q p) (λ r. option_map (stamped s) (standing_at q x)) (standing_at q x)
 
 -- ---- one step of a caller that goes down
 

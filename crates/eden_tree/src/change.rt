@@ -36,7 +36,7 @@ impl<A: Allocator> Entry<A> {
         ensures none { IfNone result (row_at path.now self.old ≡ None) }
         ensures kept { IfNone result (self.new ≡ self.old) }
         ensures state { IfNone result (state.new ≡ state.old) }
-        ensures some { IfSome result (λ answer. IsChanged (C.does change state.old) path.now self.old self.new state.new answer) }
+        ensures some { IfSome result (IsChanged (C.does change state.old) path.now self.old self.new state.new) }
     {
         match path.split_first() {
             None => return Some(change.change(state, self)),

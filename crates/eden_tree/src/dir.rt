@@ -51,6 +51,28 @@ impl<A: Allocator> Model for Entry<A> {
 
 impl<A: Allocator> Entry<A> {
     ghost use Rattle.eden_tree.specs.Paths.{row_at, stamped_along};
+    ghost use Rattle.eden_tree.specs.Lends.{lends_directory};
+
+    /// The directory that is loaded in this entry.
+    pub fn directory(&self) -> Option<&Dir<A>>
+        ensures { option_copied result ≡ child_of self.now }
+    {
+        match &self.child {
+            None => None,
+            Some(child) => Some(child),
+        }
+    }
+
+    /// The directory that is loaded in this entry, for writing.
+    pub fn directory_mut(&mut self) -> Option<&mut Dir<A>>
+        ensures* writes_back { sem 𝓛 (lends_directory A.row A.Allocator self.entry result) }
+        ensures value { option_copied_mut result ≡ child_of self.old }
+    {
+        match &mut self.child {
+            None => None,
+            Some(child) => Some(child),
+        }
+    }
 
     /// The entry at a path from this one on, through loaded directories: one look-up for each name.
     pub fn walk(&self, path: &[Name]) -> Option<&Entry<A>>
@@ -308,10 +330,7 @@ impl<A: Allocator> Dir<A> {
                 None => None,
                 Some(entry) => match entry.walk(rest) {
                     None => None,
-                    Some(last) => match &last.child {
-                        None => None,
-                        Some(child) => Some(child),
-                    },
+                    Some(last) => last.directory(),
                 },
             },
         }

@@ -1,5 +1,5 @@
 ghost use Rattle.eden_tree.specs.Laws.{PutsOne, DropsOne, ChangesOne, ReadsOn, EditsOn, EditsThere, EditsNotBeside, EditsOne, EditsNothing, EditsSame, EditsTwice};
-ghost use Rattle.eden_tree.specs.Laws.{PutsUndone, DropsUndone, SetsUndone, Splits, PutsBetween};
+ghost use Rattle.eden_tree.specs.Laws.{PutsUndone, DropsUndone, SetsUndone, Splits, PutsBetween, EditsAlike};
 ghost use Rattle.eden_tree.specs.Laws.{PutsAt, DropsAt, StampsAlong, HoldsWhatWasPut, PutsBackChild, StepsDown, StepsBack};
 
 /// What the equations of a directory's calls say path by path: one entry changes, and every other path is as before.
@@ -22,6 +22,7 @@ pub fn directory_laws()
     ensures edits_one { EditsOne }
     ensures edits_nothing { EditsNothing }
     ensures edits_same { EditsSame }
+    ensures edits_alike { EditsAlike }
     ensures edits_twice { EditsTwice }
     ensures puts_at { PutsAt }
     ensures drops_at { DropsAt }

@@ -1,11 +1,10 @@
-use crate::{Dir, Entry};
+use crate::{Change, Dir, Entry};
 use eden_model::{Kind, Name, Origin};
 use linked_list_allocator::LocalHeap;
 use std::alloc::{AllocError, Allocator, Global};
 use std::collections::BTreeMap;
 use std::process::Abort;
 use std::test::Fail;
-use std::thread;
 
 /// Knuth's linear congruential generator, its upper half.
 fn random(state: &mut u64) -> u32 {
@@ -214,36 +213,6 @@ fn each_refused_growth_hands_name_and_entry_back(rt: HostRuntime) -> Result<(), 
     Ok(())
 }
 
-fn assert_few_compared<A: Allocator>(
-    rt: &impl Abort,
-    alloc: Global,
-    dir: &Dir<A>,
-    most: u32,
-) -> Result<(), AllocError> {
-    for number in 0..1100u32 {
-        let (position, compared) = dir.get_counted(&name(alloc, number)?);
-        assert!(rt; position.is_some() == (number < dir.count()));
-        assert!(rt; compared <= most);
-    }
-    Ok(())
-}
-
-fn count_compared<A: Allocator + Clone>(
-    rt: &impl Abort,
-    alloc: Global,
-    tree: &A,
-) -> Result<(), AllocError> {
-    assert_few_compared(rt, alloc, &wide(alloc, again(tree)?, 0)?, 0)?;
-    assert_few_compared(rt, alloc, &wide(alloc, again(tree)?, 1)?, 1)?;
-    assert_few_compared(rt, alloc, &wide(alloc, again(tree)?, 1000)?, 10)?;
-    assert_few_compared(rt, alloc, &wide(alloc, again(tree)?, 1024)?, 11)
-}
-
-#[test]
-fn few_names_are_compared(rt: HostRuntime) -> Result<(), Fail> {
-    Ok(count_compared(&rt, rt.alloc(), &rt.alloc())?)
-}
-
 /// Attaches where the entry is a directory's and holds none.
 fn attach_where_free<A: Allocator>(
     rt: &impl Abort,
@@ -314,10 +283,63 @@ fn deep_and_wide_directories_are_dropped(rt: HostRuntime) -> Result<(), Fail> {
     Ok(())
 }
 
-#[test]
-fn a_thread_drops_them_too(rt: HostRuntime) -> Result<(), Fail> {
-    let alloc = rt.alloc();
-    let done = thread::spawn(&rt, move || matches!(drops(alloc, &alloc), Ok(true)))?.join(&rt);
-    assert!(rt; done);
+/// Marks a loaded directory as unsaved, and counts it: whether one is loaded.
+#[derive(Drop)]
+struct Mark;
+
+impl<A: Allocator> Change<A, u64> for Mark {
+    type Output = bool;
+
+    ghost may = { λ mark count x. Unit {0} };
+
+    ghost does = { λ mark count x counted y marked. Unit {0} };
+
+    fn change(self, count: &mut u64, entry: &mut Entry<A>) -> bool {
+        match &mut entry.child {
+            None => return false,
+            Some(child) => {
+                child.set_unsaved(true);
+                *count = count.saturating_add(1);
+                return true;
+            }
+        }
+    }
+}
+
+/// Goes down the only entries, each under the name of 7: stamps two levels, and marks the one below them.
+fn change_below<A: Allocator>(
+    rt: &impl Abort,
+    alloc: Global,
+    root: &mut Entry<A>,
+) -> Result<(), AllocError> {
+    let path = [name(alloc, 7)?, name(alloc, 7)?, name(alloc, 7)?];
+    let mut count = 0;
+    root.stamp_along(&path[..1], 77);
+    assert!(rt; root.change_at(&path[..2], &mut count, Mark) == Some(true));
+    assert!(rt; root.change_at(&path, &mut count, Mark).is_none());
+    assert!(rt; count == 1 && root.walk(&path).is_none());
+    let stamps = [77, 77, 0];
+    for level in 0..3usize {
+        let entry = root.walk(&path[..level]).expect(rt, "an entry");
+        let Some(child) = &entry.child else {
+            assert!(rt; false);
+            return Ok(());
+        };
+        assert!(rt; child.stamp() == stamps[level] && child.unsaved() == (level == 2));
+    }
     Ok(())
+}
+
+fn change_in_nested<A: Allocator + Clone>(
+    rt: &impl Abort,
+    alloc: Global,
+    tree: &A,
+) -> Result<(), AllocError> {
+    let dir = Box::new(again(tree)?, nested(alloc, tree, 3)?).map_err(AllocError::from)?;
+    change_below(rt, alloc, &mut entry(1, Some(dir)))
+}
+
+#[test]
+fn a_path_is_stamped_and_its_end_changed(rt: HostRuntime) -> Result<(), Fail> {
+    Ok(change_in_nested(&rt, rt.alloc(), &rt.alloc())?)
 }

@@ -3,15 +3,13 @@ use Rattle.std.specs.Option.{option_and_then}
 use Rattle.eden_model.specs.Trees.{Path}
 use Rattle.eden_tree.specs.Directory.{child_of}
 use Rattle.eden_tree.specs.Paths.{row_at, row_in, directory_at}
-use Rattle.eden_tree.proofs.Children.{held_some}
 use Rattle.eden_tree.proofs.dir.Dir.walk.Goals as goal
 
-pub returns-in-Some-child : goal.returns-in-Some-child
-returns-in-Some-child g c =
+pub returns-in-Some-walk : goal.returns-in-Some-walk
+returns-in-Some-walk g c =
     let d = c.args.self.now in
     let n = c.in-Some.name.now in
     let p = c.in-Some.rest.now in
     let last = c.in-Some-walk.last.now in
     let at : row_in (n ∷ p) d ≡ Some last = ap (option_and_then (row_at p)) (sym c.in-Some-get.ensures) ∙ sym c.in-Some-walk.ensures in
-    let holds : child_of last ≡ Some c.in-Some-child.child.value = held_some _ _ _ _ _ c.last.view_is c.in-Some-child.child c.in-Some-child.is in
-    ap Some c.deref.ensures ∙ sym (ap (λ (q : Path). directory_at q d) c.in-Some.ensures.cases.0 ∙ ap (option_and_then child_of) at ∙ holds)
+    c.directory.ensures ∙ sym (ap (λ (q : Path). directory_at q d) c.in-Some.ensures.cases.0 ∙ ap (option_and_then child_of) at)
