@@ -102,7 +102,7 @@ struct Row {
     weight: u64,
 }
 
-const ROWS: [Row; 6] = [
+const ROWS: [Row; 3] = [
     // Too heavy for the bound, it is alone.
     Row {
         entries: 2,
@@ -132,35 +132,6 @@ const ROWS: [Row; 6] = [
         objects: [true, false, true, false, false],
         lengths: [Some(10), Some(10), Some(9), None, None],
         weight: 19,
-    },
-    // Put again, an object counts once, and is the newest.
-    Row {
-        entries: 2,
-        bytes: 20,
-        sizes: 5,
-        steps: &[Put(Version1), Put(Version2), Put(Version1)],
-        objects: [true, true, false, false, false],
-        lengths: [Some(10), Some(10), None, None, None],
-        weight: 20,
-    },
-    Row {
-        entries: 3,
-        bytes: 20,
-        sizes: 5,
-        steps: &[Put(Version1), Put(Version2), Put(Version1), Put(NewFile)],
-        objects: [true, false, true, false, false],
-        lengths: [Some(10), Some(10), Some(9), None, None],
-        weight: 19,
-    },
-    // One length is kept.
-    Row {
-        entries: 5,
-        bytes: 100,
-        sizes: 1,
-        steps: &[Put(Version1), Put(NewFile), Put(TreeA)],
-        objects: [true, false, true, true, false],
-        lengths: [None, None, Some(9), None, None],
-        weight: 55,
     },
 ];
 
