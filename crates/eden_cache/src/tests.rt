@@ -293,16 +293,13 @@ fn blob(alloc: Global, framed: &[u8]) -> Result<Object, AllocError>
     Ok(Object::new(ObjKind::Blob, Vec::from_slice(alloc, framed)?))
 }
 
-/// The key of that number.
-fn numbered(kind: ObjKind, number: usize) -> Key {
+/// The id of that number.
+fn numbered(number: usize) -> Id {
     let mut bytes = [0; 20];
     for (byte, digit) in bytes.iter_mut().zip((number as u64).to_be_bytes()) {
         *byte = digit;
     }
-    Key {
-        kind,
-        id: Id { bytes },
-    }
+    Id { bytes }
 }
 
 /// Puts so many equal blobs under one key after another.
@@ -317,7 +314,11 @@ fn put_many<A: Allocator + Clone>(
 {
     for number in 0..count {
         let object = blob(alloc, framed)?;
-        let refused = cache.put(numbered(object.kind(), number), object).is_err();
+        let key = Key {
+            kind: object.kind(),
+            id: numbered(number),
+        };
+        let refused = cache.put(key, object).is_err();
         assert!(rt; !refused);
     }
     Ok(())
@@ -333,11 +334,14 @@ fn a_full_cache_lets_the_oldest_go(rt: HostRuntime) -> Result<(), Fail> {
     let usage = cache.usage();
     assert_eq!(rt; usage.objects, OBJECTS_LIMIT);
     assert_eq!(rt; usage.sizes, SIZES_LIMIT);
-    assert!(rt; cache.get(numbered(ObjKind::Blob, 0)).is_none());
-    for number in 1..OBJECTS_LIMIT + 1 {
-        let key = numbered(ObjKind::Blob, number);
-        assert!(rt; cache.get(key).is_some());
-        assert_eq!(rt; cache.size_of(key.id), Some(10));
+    for number in 0..OBJECTS_LIMIT + 1 {
+        let id = numbered(number);
+        let key = Key {
+            kind: ObjKind::Blob,
+            id,
+        };
+        assert_eq!(rt; cache.get(key).is_some(), number > 0);
+        assert_eq!(rt; cache.size_of(id).is_some(), number > 0);
     }
     Ok(())
 }
