@@ -1,6 +1,6 @@
 -- The kinds of objects and of their keys, around the calls of the map behind the cache.
-use Rattle.std.proofs.Common.{◌≡◌, ℕ, Bool, List, length, take, Option, Some, None, IfSome, refl, sym, ap, ◌∙◌, subst}
-use Rattle.std.specs.List.{All, Contains}
+use Rattle.std.proofs.Common.{◌≡◌, ℕ, Bool, List, length, Option, Some, None, IfSome, refl, sym, ap, ◌∙◌, subst}
+use Rattle.std.specs.List.{Contains}
 use Rattle.std.specs.Map.{lookup, remove_entry}
 use Rattle.std.proofs.lemmas.List.Elements.{All-cons, All-take, All-contains, All-contains_itself}
 use Rattle.eden_model.specs.declared.id.Key.{Key}
