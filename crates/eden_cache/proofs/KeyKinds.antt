@@ -18,7 +18,8 @@ among es fs old kinds n d within = All-contains IsOfItsKind es _ kinds (old _ (A
 pub kinds_promoted : (test : Key → Bool) (es : List (Key × Body)) → AreOfTheirKinds es → AreOfTheirKinds (promoted test es)
 kinds_promoted test es = among es (promoted test es) (Contains-promoted test es)
 
-pub kinds_front : (entries bytes : ℕ) (k : Key) (b : Body) (es kept : List (Key × Body)) → b.kind ≡ k.kind → AreOfTheirKinds es → IsLongestFront entries bytes (newest same_key k b es) kept → AreOfTheirKinds kept
+pub kinds_front : (entries bytes : ℕ) (k : Key) (b : Body) (es kept : List (Key × Body)) → b.kind ≡ k.kind → AreOfTheirKinds es
+    → IsLongestFront entries bytes (newest same_key k b es) kept → AreOfTheirKinds kept
 kinds_front entries bytes k b es kept own kinds front =
     let others = among es (remove_entry (same_key k) es) (Contains-remove_entry (same_key k) es) kinds in
     let all = All-cons IsOfItsKind (k, b) (remove_entry (same_key k) es) own others in
