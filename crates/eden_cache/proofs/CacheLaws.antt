@@ -9,7 +9,7 @@ use Rattle.eden_object.specs.Objects.{Body}
 use Rattle.eden_cache.specs.Bounded.{newest, KeepsBounds, IsLongestFront}
 use Rattle.eden_model.specs.Keys.{same_key, same_id}
 use Rattle.eden_cache.specs.Laws.{OneFront, FindsNoOther, FindsNoOtherSize, UseFindsTheSame, UseFindsTheSameSize}
-use Rattle.eden_model.proofs.Keys.{same_key-Decides, same_id-Decides}
+use Rattle.eden_model.proofs.CallerLemmas.{same_key-Decides, same_id-Decides}
 use Rattle.eden_cache.proofs.Found.{lookup-take, lookup-newest, lookup-promoted}
 
 -- a front that keeps its bounds is no longer than the longest

@@ -1,11 +1,11 @@
 -- The kinds of objects and of their keys, around the calls of the map behind the cache.
-use Rattle.std.proofs.Common.{◌≡◌, ℕ, Bool, List, length, take, Option, Some, None, IfSome, refl, sym, ap, ◌∙◌, subst}
-use Rattle.std.specs.List.{All, Contains}
+use Rattle.std.proofs.Common.{◌≡◌, ℕ, Bool, List, length, Option, Some, None, IfSome, refl, sym, ap, ◌∙◌, subst}
+use Rattle.std.specs.List.{Contains}
 use Rattle.std.specs.Map.{lookup, remove_entry}
 use Rattle.std.proofs.lemmas.List.Elements.{All-cons, All-take, All-contains, All-contains_itself}
 use Rattle.eden_model.specs.declared.id.Key.{Key}
 use Rattle.eden_model.specs.Keys.{same_key}
-use Rattle.eden_model.proofs.Keys.{same_key-Decides}
+use Rattle.eden_model.proofs.CallerLemmas.{same_key-Decides}
 use Rattle.eden_object.specs.Objects.{Body}
 use Rattle.lru.specs.LruCache.{promoted}
 use Rattle.lru.proofs.CallerLemmas.{Contains-lookup, Contains-remove_entry, Contains-promoted}
@@ -18,7 +18,8 @@ among es fs old kinds n d within = All-contains IsOfItsKind es _ kinds (old _ (A
 pub kinds_promoted : (test : Key → Bool) (es : List (Key × Body)) → AreOfTheirKinds es → AreOfTheirKinds (promoted test es)
 kinds_promoted test es = among es (promoted test es) (Contains-promoted test es)
 
-pub kinds_front : (entries bytes : ℕ) (k : Key) (b : Body) (es kept : List (Key × Body)) → b.kind ≡ k.kind → AreOfTheirKinds es → IsLongestFront entries bytes (newest same_key k b es) kept → AreOfTheirKinds kept
+pub kinds_front : (entries bytes : ℕ) (k : Key) (b : Body) (es kept : List (Key × Body)) → b.kind ≡ k.kind → AreOfTheirKinds es
+    → IsLongestFront entries bytes (newest same_key k b es) kept → AreOfTheirKinds kept
 kinds_front entries bytes k b es kept own kinds front =
     let others = among es (remove_entry (same_key k) es) (Contains-remove_entry (same_key k) es) kinds in
     let all = All-cons IsOfItsKind (k, b) (remove_entry (same_key k) es) own others in

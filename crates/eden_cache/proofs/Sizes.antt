@@ -7,7 +7,7 @@ use Rattle.lru.specs.LruCache.{LruCache, lru_cache, put_entries, promoted}
 use Rattle.eden_cache.specs.Bounded.{newest}
 use Rattle.eden_model.specs.Keys.{same_id}
 use Rattle.eden_cache.specs.Cache.{IsWithin}
-use Rattle.eden_model.proofs.Keys.{same_id-Decides}
+use Rattle.eden_model.proofs.CallerLemmas.{same_id-Decides}
 use Rattle.eden_cache.proofs.Newest.{length-promoted, put_entries-newest}
 
 pub IsWithin-promoted : (test : Id → Bool) (c : LruCache Id ℕ) → IsWithin c → IsWithin (lru_cache (promoted test c.entries) c.cap)

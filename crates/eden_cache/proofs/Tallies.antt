@@ -7,7 +7,7 @@ use Rattle.lru.specs.LruCache.{LruCache, lru_cache, put_entries, displaced, prom
 use Rattle.eden_cache.specs.Bounded.{newest, weight_of, weight_gone, Fits, IsLongestFront}
 use Rattle.eden_model.specs.Keys.{same_key}
 use Rattle.eden_cache.specs.Cache.{IsTallied}
-use Rattle.eden_model.proofs.Keys.{same_key-Decides}
+use Rattle.eden_model.proofs.CallerLemmas.{same_key-Decides}
 use Rattle.eden_cache.specs.declared.cache.TheConstants.{BYTES_LIMIT}
 use Rattle.eden_cache.proofs.KeyKinds.{kinds_promoted, kinds_front}
 use Rattle.eden_cache.proofs.Newest.{length-promoted, put_entries-newest}

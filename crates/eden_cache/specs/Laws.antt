@@ -10,11 +10,13 @@ use Rattle.eden_model.specs.Keys.{same_key, same_id}
 
 -- there is one longest front
 abbrev pub OneFront : Type 0
-OneFront = (entries bytes : ℕ) (all kept others : List (Key × Body)) → IsLongestFront entries bytes all kept → IsLongestFront entries bytes all others → kept ≡ others
+OneFront = (entries bytes : ℕ) (all kept others : List (Key × Body))
+    → IsLongestFront entries bytes all kept → IsLongestFront entries bytes all others → kept ≡ others
 
 -- what is found after a put is its object under its key, or was there under that key
 abbrev pub FindsNoOther : Type 0
-FindsNoOther = (entries bytes : ℕ) (k : Key) (b : Body) (es kept : List (Key × Body)) → IsLongestFront entries bytes (newest same_key k b es) kept
+FindsNoOther = (entries bytes : ℕ) (k : Key) (b : Body) (es kept : List (Key × Body))
+    → IsLongestFront entries bytes (newest same_key k b es) kept
     → (j : Key) (a : Body) → lookup (same_key j) kept ≡ Some a → ((j ≡ k) × (a ≡ b)) ⊎ (lookup (same_key j) es ≡ Some a)
 
 -- likewise of sizes

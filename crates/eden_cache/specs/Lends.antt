@@ -11,4 +11,5 @@ use Rattle.eden_cache.specs.contracts.cache.ObjectCache.{the_row}
 
 -- the object of that key is its newest
 abbrev pub ends_used : (A : RattleType) → Ghosts A.Denot → MutBor Cache → Key → Fml
-ends_used A alloc c k = follows_so (the_row A alloc) (the_row A alloc) c.ghost_name none (λ _ _. ⊤) (λ n. n ≡ record c.now { objects = promoted (same_key k) c.now.objects })
+ends_used A alloc c k =
+    follows_so (the_row A alloc) (the_row A alloc) c.ghost_name none (λ _ _. ⊤) (λ n. n ≡ record c.now { objects = promoted (same_key k) c.now.objects })

@@ -7,4 +7,5 @@ use Rattle.lru.specs.LruCache.{LruCache}
 use Rattle.eden_cache.specs.Cache.{Cache}
 
 abbrev pub cache_from : LruCache Key Body → ℕ → LruCache Id ℕ → Cache
-cache_from objects bytes sizes = record { objects = objects.entries; sizes = sizes.entries; most_entries = objects.cap; most_bytes = bytes; most_sizes = sizes.cap }
+cache_from objects bytes sizes =
+    record { objects = objects.entries; sizes = sizes.entries; most_entries = objects.cap; most_bytes = bytes; most_sizes = sizes.cap }

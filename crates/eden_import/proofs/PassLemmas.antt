@@ -7,7 +7,7 @@ use Rattle.eden_model.specs.declared.id.Key.{Key}
 use Rattle.eden_model.specs.Keys.{same_key}
 use Rattle.eden_import.specs.Keys.{has_key, without}
 use Rattle.eden_import.specs.Queue.{Queue, Mark, IsQueue, IsPass, WantsNoOther, want_of, mark_of, stands, is_wanted, wants_key, unqueue_unwanted, after_want, after_leave, after_leave_own, after_await, after_quit}
-use Rattle.eden_import.specs.Laws.{OneAwaits, OneQuits, KeepFlight, ForgettingKeeps}
+use Rattle.eden_import.specs.Laws.{OneAwaits, OneQuits, KeepsFlight, ForgettingKeeps}
 use Rattle.eden_import.proofs.KeyLemmas.{same_key-equiv, same_key-refl, has_key-without}
 use Rattle.eden_import.proofs.StepLemmas.{leave_wanted, leave_dropped}
 use Rattle.eden_import.proofs.LawLemmas.{one_wants, one_leaves, one_forgets}
@@ -39,7 +39,7 @@ leave_keeps k p q h = at (wants_key k (want_of p q)) refl
 
 -- what a pass's own step leaves as it was
 abbrev pub Keeps : Queue → Queue → Type 0
-Keeps q q' = KeepFlight q q' × (q'.marks ≡ q.marks)
+Keeps q q' = KeepsFlight q q' × (q'.marks ≡ q.marks)
 
 pub leave_rest : (k : Key) (p : ℕ) (q : Queue) → Keeps q (after_leave k p q)
 leave_rest k p q = at (wants_key k (want_of p q))
@@ -145,7 +145,7 @@ await_rest k p q = at (wants_key k (want_of p q))
     at true = ((refl, refl, refl), refl)
     at false = own_rest p q
 
-pub quit_rest : (p : ℕ) (q : Queue) → KeepFlight q (after_quit p q)
+pub quit_rest : (p : ℕ) (q : Queue) → KeepsFlight q (after_quit p q)
 quit_rest p q = (own_rest p q).0
 
 pub one_awaits : OneAwaits

@@ -49,6 +49,21 @@ empty_keeps n m passes flights = record {
   each_pass_has_mark = length-replicate-none n None;
 }
 
+-- another queue and other wants, beside the same flight
+requeue : (q : Queue) (ks : List Key) (ws : List (Option Key)) → IsQueue q → length ws ≡ q.passes → IsDistinct same_key (q.flight ++ ks)
+    → ((j : Key) → has_key j ks ≡ true → is_wanted j ws ≡ true) → ((j : Key) → is_wanted j ws ≡ true → (has_key j q.flight || has_key j ks) ≡ true)
+    → IsQueue (record q { queue = ks; wants = ws })
+requeue q ks ws h seats once wanted awaited = record {
+  some_passes = h.some_passes;
+  some_flights = h.some_flights;
+  once = once;
+  wanted = wanted;
+  awaited = awaited;
+  within_flights = h.within_flights;
+  each_pass_wants = seats;
+  each_pass_has_mark = h.each_pass_has_mark;
+}
+
 -- ---- `want`
 
 -- a pass that wants no other key's old want
@@ -83,35 +98,23 @@ want_keeps k p q h s alone = at (stands k q) refl
     seats = length-set q.wants (p - 1) (Some k) ∙ h.each_pass_wants
 
     at : (b : Bool) → stands k q ≡ b → IsQueue (record q { queue = cond b q.queue (q.queue ++ k ∷ []); wants = set q.wants (p - 1) (Some k) })
-    at true e = record {
-      some_passes = h.some_passes;
-      some_flights = h.some_flights;
-      once = h.once;
-      wanted = λ j m. now j ∙ or_left (is_wanted j q.wants) (same_key j k) (h.wanted j m);
-      awaited = λ j m. ⊎_elim (h.awaited j) (λ same. ap (λ x. stands x q) ((same_key-Decides j k).0 same) ∙ e) (or_cases (is_wanted j q.wants) (same_key j k) (sym (now j) ∙ m));
-      within_flights = h.within_flights;
-      each_pass_wants = seats;
-      each_pass_has_mark = h.each_pass_has_mark;
-    }
-    at false e = record {
-      some_passes = h.some_passes;
-      some_flights = h.some_flights;
-      once = subst (IsDistinct same_key) (append_assoc q.flight q.queue (k ∷ [])) (IsDistinct-push same_key-equiv (q.flight ++ q.queue) k h.once (has_key-append k q.flight q.queue ∙ e));
-      wanted = λ j m.
-          now j ∙ ⊎_elim
-          (λ a. or_left (is_wanted j q.wants) (same_key j k) (h.wanted j a))
-          (λ b. or_right (is_wanted j q.wants) (same_key j k) (or_false (same_key j k) b))
-          (or_cases (has_key j q.queue) (same_key j k || false) (sym (has_key-append j q.queue (k ∷ [])) ∙ m));
-      awaited = λ j m.
-          ap (λ b. has_key j q.flight || b) (has_key-append j q.queue (k ∷ []))
-          ∙ ⊎_elim
-          (λ a. joins (has_key j q.flight) (has_key j q.queue) (same_key j k || false) (h.awaited j a))
-          (λ b. joins_last (has_key j q.flight) (has_key j q.queue) (same_key j k) b)
-          (or_cases (is_wanted j q.wants) (same_key j k) (sym (now j) ∙ m));
-      within_flights = h.within_flights;
-      each_pass_wants = seats;
-      each_pass_has_mark = h.each_pass_has_mark;
-    }
+    at true e =
+        requeue q q.queue (set q.wants (p - 1) (Some k)) h seats h.once
+        (λ j m. now j ∙ or_left (is_wanted j q.wants) (same_key j k) (h.wanted j m))
+        (λ j m. ⊎_elim (h.awaited j) (λ same. ap (λ x. stands x q) ((same_key-Decides j k).0 same) ∙ e) (or_cases (is_wanted j q.wants) (same_key j k) (sym (now j) ∙ m)))
+    at false e =
+        requeue q (q.queue ++ k ∷ []) (set q.wants (p - 1) (Some k)) h seats
+        (subst (IsDistinct same_key) (append_assoc q.flight q.queue (k ∷ [])) (IsDistinct-push same_key-equiv (q.flight ++ q.queue) k h.once (has_key-append k q.flight q.queue ∙ e)))
+        (λ j m. now j
+        ∙ ⊎_elim
+        (λ a. or_left (is_wanted j q.wants) (same_key j k) (h.wanted j a))
+        (λ b. or_right (is_wanted j q.wants) (same_key j k) (or_false (same_key j k) b))
+        (or_cases (has_key j q.queue) (same_key j k || false) (sym (has_key-append j q.queue (k ∷ [])) ∙ m)))
+        (λ j m. ap (λ b. has_key j q.flight || b) (has_key-append j q.queue (k ∷ []))
+        ∙ ⊎_elim
+        (λ a. joins (has_key j q.flight) (has_key j q.queue) (same_key j k || false) (h.awaited j a))
+        (λ b. joins_last (has_key j q.flight) (has_key j q.queue) (same_key j k) b)
+        (or_cases (is_wanted j q.wants) (same_key j k) (sym (now j) ∙ m)))
 
 -- the same, by what was found of the key
 pub want_joined : (k : Key) (p : ℕ) (q : Queue) → IsQueue q → IsPass p q → WantsNoOther k p q → stands k q ≡ true → IsQueue (record q { wants = set q.wants (p - 1) (Some k) })
@@ -172,31 +175,21 @@ unwant_keeps k p q h t = at (is_wanted k (set q.wants (p - 1) None)) refl
     seats = length-set q.wants (p - 1) None ∙ h.each_pass_wants
 
     at : (b : Bool) → is_wanted k (set q.wants (p - 1) None) ≡ b → IsQueue (record q { queue = cond b q.queue (without k q.queue); wants = set q.wants (p - 1) None })
-    at true e = record {
-      some_passes = h.some_passes;
-      some_flights = h.some_flights;
-      once = h.once;
-      wanted = λ j m. ⊎_elim (λ same. ap (λ x. is_wanted x (set q.wants (p - 1) None)) (sym ((same_key-Decides k j).0 same)) ∙ e) (λ other. others j other ∙ h.wanted j m) (cases_Bool (same_key k j));
-      awaited = λ j m. h.awaited j (is_wanted-set_none_le j q.wants (p - 1) m);
-      within_flights = h.within_flights;
-      each_pass_wants = seats;
-      each_pass_has_mark = h.each_pass_has_mark;
-    }
-    at false e = record {
-      some_passes = h.some_passes;
-      some_flights = h.some_flights;
-      once = without_keeps_once k q h;
-      wanted = λ j m.
-          let parts = and_parts (has_key j q.queue) (not (same_key k j)) (sym (has_key-without j k q.queue) ∙ m) in
-          others j (not-true (same_key k j) parts.1) ∙ h.wanted j parts.0;
-      awaited = λ j m.
-          ap (λ b. has_key j q.flight || b) (has_key-without j k q.queue)
-          ∙ kept_awaited (has_key j q.flight) (has_key j q.queue) (same_key k j) (h.awaited j (is_wanted-set_none_le j q.wants (p - 1) m))
-          (⊎_elim (λ same. absurd (both_ways (is_wanted k (set q.wants (p - 1) None)) e (ap (λ x. is_wanted x (set q.wants (p - 1) None)) ((same_key-Decides k j).0 same) ∙ m))) (λ other. other) (cases_Bool (same_key k j)));
-      within_flights = h.within_flights;
-      each_pass_wants = seats;
-      each_pass_has_mark = h.each_pass_has_mark;
-    }
+    at true e =
+        requeue q q.queue (set q.wants (p - 1) None) h seats h.once
+        (λ j m. ⊎_elim (λ same. ap (λ x. is_wanted x (set q.wants (p - 1) None)) (sym ((same_key-Decides k j).0 same)) ∙ e) (λ other. others j other ∙ h.wanted j m) (cases_Bool (same_key k j)))
+        (λ j m. h.awaited j (is_wanted-set_none_le j q.wants (p - 1) m))
+    at false e =
+        requeue q (without k q.queue) (set q.wants (p - 1) None) h seats (without_keeps_once k q h)
+        (λ j m.
+        let parts = and_parts (has_key j q.queue) (not (same_key k j)) (sym (has_key-without j k q.queue) ∙ m) in
+        others j (not-true (same_key k j) parts.1) ∙ h.wanted j parts.0)
+        (λ j m. ap (λ b. has_key j q.flight || b) (has_key-without j k q.queue)
+        ∙ kept_awaited (has_key j q.flight) (has_key j q.queue) (same_key k j) (h.awaited j (is_wanted-set_none_le j q.wants (p - 1) m))
+        (⊎_elim
+        (λ same. absurd (both_ways (is_wanted k (set q.wants (p - 1) None)) e (ap (λ x. is_wanted x (set q.wants (p - 1) None)) ((same_key-Decides k j).0 same) ∙ m)))
+        (λ other. other)
+        (cases_Bool (same_key k j))))
 
 -- the same, by whether another pass wants the key
 pub leave_wanted : (k : Key) (p : ℕ) (q : Queue) → IsQueue q → wants_key k (want_of p q) ≡ true → is_wanted k (set q.wants (p - 1) None) ≡ true → IsQueue (record q { wants = set q.wants (p - 1) None })

@@ -1,5 +1,6 @@
 -- The joined queue: which keys are queued and in flight, and which pass wants which key.
-use Rattle.std.specs.Prelude.{◌≡◌, ◌≤◌, ◌-◌, ℕ, Bool, true, false, ◌||◌, if◌then◌else◌, nat_lt, List, [], ◌∷◌, ◌++◌, length, map, drop, slice_set, slice_index_or, slice_get, replicate, Option, Some, None, IfSome}
+use Rattle.std.specs.Prelude.{◌≡◌, ◌≤◌, ◌-◌, ℕ, Bool, true, false, ◌||◌, if◌then◌else◌, nat_lt}
+use Rattle.std.specs.Prelude.{List, [], ◌∷◌, ◌++◌, length, map, drop, slice_set, slice_index_or, slice_get, replicate, Option, Some, None, IfSome}
 use Rattle.std.specs.List.{IsDistinct, list_any}
 use Rattle.std.specs.Option.{option_map_or}
 use Rattle.eden_model.specs.declared.id.Key.{Key}
@@ -31,7 +32,7 @@ pub record Queue : Type 0 where
 abbrev pub IsPass : ℕ → Queue → Type 0
 IsPass p q = (1 ≤ p) × (p ≤ q.passes)
 
--- the key that a pass wants; for a number that is no pass's it is None, which means nothing
+-- the key that a pass wants; of a number that is no pass's it says nothing
 abbrev pub want_of : ℕ → Queue → Option Key
 want_of p q = slice_index_or q.wants (p - 1) None
 

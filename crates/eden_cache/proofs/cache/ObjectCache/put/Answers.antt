@@ -22,15 +22,18 @@ invariant_of-self-in-Blob g c =
     let front = rw c.in-Ok.ensures.entries at c.evict-self-inside.ensures.front in
     let cap = rw c.in-Ok.ensures.entries at c.evict-self-inside.ensures.cap in
     let short : length c.args.object.bytes ≤ BYTES_LIMIT = omega (arith, c.body.ensures.sound.short) in
-    let size = size_put c.self.inside.sizes c.put.new.self c.args.key.id (length c.body.result.now) c.put.result c.self.invariant.1 c.put.ensures.entries c.put.ensures.err c.put.ensures.succeeds in
-    (put_tallied _ _ c.self.inside.objects c.args.key c.args.object c.self.invariant.0 c.requires.kind c.evict-self-inside.result c.evict-self-inside.new.objects front c.evict-self-inside.ensures.sum cap short, size.0)
+    let put = c.put in
+    let size = size_put c.self.inside.sizes put.new.self c.args.key.id (length c.body.result.now) put.result c.self.invariant.1 put.ensures.entries put.ensures.err put.ensures.succeeds in
+    let left = c.evict-self-inside in
+    (put_tallied _ _ c.self.inside.objects c.args.key c.args.object c.self.invariant.0 c.requires.kind left.result left.new.objects front left.ensures.sum cap short, size.0)
 
 pub invariant_of-self-in-Tree : goal.invariant_of-self-in-Tree
 invariant_of-self-in-Tree g c =
     let front = rw c.in-Ok.ensures.entries at c.evict-self-inside.ensures.front in
     let cap = rw c.in-Ok.ensures.entries at c.evict-self-inside.ensures.cap in
     let short : length c.args.object.bytes ≤ BYTES_LIMIT = omega (arith, c.body.ensures.sound.short) in
-    (put_tallied _ _ c.self.inside.objects c.args.key c.args.object c.self.invariant.0 c.requires.kind c.evict-self-inside.result c.evict-self-inside.new.objects front c.evict-self-inside.ensures.sum cap short, c.self.invariant.1)
+    let left = c.evict-self-inside in
+    (put_tallied _ _ c.self.inside.objects c.args.key c.args.object c.self.invariant.0 c.requires.kind left.result left.new.objects front left.ensures.sum cap short, c.self.invariant.1)
 
 pub returns-clause-objects : goal.returns-clause-objects
 returns-clause-objects g c =
@@ -42,13 +45,15 @@ pub returns-clause-found : goal.returns-clause-found
 returns-clause-found g c =
     let front = rw c.in-Ok.ensures.entries at c.evict-self-inside.ensures.front in
     let kept = put_front _ _ c.self.inside.objects c.args.key c.args.object c.self.invariant.0 c.evict-self-inside.new.objects.entries front in
-    let found = finds_what_was_put c.self.inside.objects.cap c.self.inside.bytes c.args.key c.args.object c.self.inside.objects.entries c.evict-self-inside.new.objects.entries kept in
+    let old = c.self.inside in
+    let found = finds_what_was_put old.objects.cap old.bytes c.args.key c.args.object old.objects.entries c.evict-self-inside.new.objects.entries kept in
     elim c.match-key.branch [ in-Blob w ↦ rw w.self-is found | in-Tree w ↦ rw w.self-is found ]
 
 pub returns-clause-size : goal.returns-clause-size
 returns-clause-size g c = elim c.match-key.branch [
   | in-Blob w ↦
-      let size = size_put c.self.inside.sizes w.put.new.self c.args.key.id (length c.body.result.now) w.put.result c.self.invariant.1 w.put.ensures.entries w.put.ensures.err w.put.ensures.succeeds in
+      let put = w.put in
+      let size = size_put c.self.inside.sizes put.new.self c.args.key.id (length c.body.result.now) put.result c.self.invariant.1 put.ensures.entries put.ensures.err put.ensures.succeeds in
       let kept = rw c.body.ensures.bytes at size.2 in
       rw (w.in-Blob.is, w.self-is, ← c.self.view_is) kept
   | in-Tree w ↦ rw (w.in-Tree.is, w.self-is, ← c.self.view_is) refl
