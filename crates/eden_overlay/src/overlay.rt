@@ -8,11 +8,11 @@ ghost use Rattle.eden_overlay_format.specs.declared.header.Identifier.TheVariant
 ghost use Rattle.eden_overlay_format.specs.declared.state.State.{State};
 ghost use Rattle.eden_overlay_format.specs.declared.stored_entry.StoredEntry.{StoredEntry};
 ghost use Rattle.eden_overlay_format.specs.Content.{IsFile};
-ghost use Rattle.eden_overlay_format.specs.Directory.{IsDirectory, AreEntries};
+ghost use Rattle.eden_overlay_format.specs.Directory.{IsDirectory, AreStorable};
 ghost use Rattle.eden_overlay_format.specs.State.{IsState};
 ghost use Rattle.eden_overlay.specs.Files.{Lists};
 ghost use Rattle.eden_overlay.specs.Held.{HoldsContent, HoldsEntries, HoldsState, with_content, with_entries, with_state, without};
-ghost use Rattle.eden_overlay.specs.Soundness.{IsSound};
+ghost use Rattle.eden_overlay.specs.Soundness.{AreSound};
 ghost use Rattle.eden_overlay.specs.Getting.{Fits, SaysNothing};
 ghost use Rattle.eden_overlay.specs.declared.files.FilesFault.TheVariants as files;
 ghost use Rattle.eden_overlay.specs.declared.fault.GetFault.TheVariants as get;
@@ -66,11 +66,11 @@ impl<W: World, F: Files<W>> Overlay<W, F> {
     /// nothing has changed.
     pub fn put_file(&mut self, alloc: Global, number: u64, content: &[u8]) -> Result<(), FilesFault>
         requires short { length content.now ≤ 2 ^ 30 }
-        requires sound { W.honest → IsSound (with_content (F.stored self.old) number content.now) }
+        requires sound { W.honest → AreSound (with_content (F.stored self.old) number content.now) }
         ensures ok { W.honest → OnOk result (F.stored self.new ≡ with_content (F.stored self.old) number content.now) }
         ensures err { W.honest → OnErr result (F.stored self.new ≡ F.stored self.old) }
         ensures holds { W.honest → OnOk result (HoldsContent (F.stored self.new) number content.now) }
-        ensures sound { W.honest → OnOk result (IsSound (F.stored self.new)) }
+        ensures sound { W.honest → OnOk result (AreSound (F.stored self.new)) }
         ensures device { IfErr result (λ e. e ≡ files.Device → Rose (F.failures self.old) (F.failures self.new)) }
         ensures count { F.failures self.old ≤ F.failures self.new }
     {
@@ -88,12 +88,12 @@ impl<W: World, F: Files<W>> Overlay<W, F> {
         number: u64,
         entries: &[StoredEntry],
     ) -> Result<(), FilesFault>
-        requires entries { AreEntries entries.now }
-        requires sound { W.honest → IsSound (with_entries (F.stored self.old) number entries.now) }
+        requires entries { AreStorable entries.now }
+        requires sound { W.honest → AreSound (with_entries (F.stored self.old) number entries.now) }
         ensures ok { W.honest → OnOk result (F.stored self.new ≡ with_entries (F.stored self.old) number entries.now) }
         ensures err { W.honest → OnErr result (F.stored self.new ≡ F.stored self.old) }
         ensures holds { W.honest → OnOk result (HoldsEntries (F.stored self.new) number entries.now) }
-        ensures sound { W.honest → OnOk result (IsSound (F.stored self.new)) }
+        ensures sound { W.honest → OnOk result (AreSound (F.stored self.new)) }
         ensures device { IfErr result (λ e. e ≡ files.Device → Rose (F.failures self.old) (F.failures self.new)) }
         ensures count { F.failures self.old ≤ F.failures self.new }
     {
@@ -114,13 +114,13 @@ impl<W: World, F: Files<W>> Overlay<W, F> {
         entries: &[StoredEntry],
     ) -> Result<(), FilesFault>
         requires short { length content.now ≤ 2 ^ 30 }
-        requires entries { AreEntries entries.now }
-        requires sound_first { W.honest → IsSound (with_content (F.stored self.old) number content.now) }
-        requires sound_both { W.honest → IsSound (with_entries (with_content (F.stored self.old) number content.now) directory entries.now) }
+        requires entries { AreStorable entries.now }
+        requires sound_first { W.honest → AreSound (with_content (F.stored self.old) number content.now) }
+        requires sound_both { W.honest → AreSound (with_entries (with_content (F.stored self.old) number content.now) directory entries.now) }
         ensures ok { W.honest → OnOk result (F.stored self.new ≡ with_entries (with_content (F.stored self.old) number content.now) directory entries.now) }
         ensures err { W.honest → OnErr result ((F.stored self.new ≡ F.stored self.old) ⊎ (F.stored self.new ≡ with_content (F.stored self.old) number content.now)) }
-        ensures sound { W.honest → OnOk result (IsSound (F.stored self.new)) }
-        ensures stays_sound { W.honest → IsSound (F.stored self.old) → IsSound (F.stored self.new) }
+        ensures sound { W.honest → OnOk result (AreSound (F.stored self.new)) }
+        ensures stays_sound { W.honest → AreSound (F.stored self.old) → AreSound (F.stored self.new) }
         ensures device { IfErr result (λ e. e ≡ files.Device → Rose (F.failures self.old) (F.failures self.new)) }
         ensures count { F.failures self.old ≤ F.failures self.new }
     {
@@ -163,7 +163,7 @@ impl<W: World, F: Files<W>> Overlay<W, F> {
         ensures only { W.honest → (entries : List StoredEntry) → HoldsEntries (F.stored self.old) number entries → MatchResult result (λ v. v.items ≡ entries) SaysNothing }
         ensures fits { W.honest → IfErr result (λ e. Fits identifier.Directory (λ bytes. (entries : List StoredEntry) × IsDirectory bytes entries) (F.stored self.old number) e) }
         ensures unchanged { W.honest → F.stored self.new ≡ F.stored self.old }
-        ensures entries { IfOk result (λ v. AreEntries v.items) }
+        ensures entries { IfOk result (λ v. AreStorable v.items) }
         ensures device { IfErr result (λ e. e ≡ get.Device → Rose (F.failures self.old) (F.failures self.new)) }
         ensures count { F.failures self.old ≤ F.failures self.new }
     {
@@ -173,10 +173,10 @@ impl<W: World, F: Files<W>> Overlay<W, F> {
 
     /// Removes the file of that number; Ok too where there is none. After an error nothing has changed.
     pub fn remove(&mut self, alloc: Global, number: u64) -> Result<(), FilesFault>
-        requires sound { W.honest → IsSound (without (F.stored self.old) number) }
+        requires sound { W.honest → AreSound (without (F.stored self.old) number) }
         ensures ok { W.honest → OnOk result (F.stored self.new ≡ without (F.stored self.old) number) }
         ensures err { W.honest → OnErr result (F.stored self.new ≡ F.stored self.old) }
-        ensures sound { W.honest → OnOk result (IsSound (F.stored self.new)) }
+        ensures sound { W.honest → OnOk result (AreSound (F.stored self.new)) }
         ensures device { IfErr result (λ e. e ≡ files.Device → Rose (F.failures self.old) (F.failures self.new)) }
         ensures count { F.failures self.old ≤ F.failures self.new }
     {
@@ -191,7 +191,7 @@ impl<W: World, F: Files<W>> Overlay<W, F> {
         ensures ok { W.honest → OnOk result (F.stored self.new ≡ with_state (F.stored self.old) state) }
         ensures err { W.honest → OnErr result (F.stored self.new ≡ F.stored self.old) }
         ensures holds { W.honest → OnOk result (HoldsState (F.stored self.new) state) }
-        ensures sound { W.honest → IsSound (F.stored self.old) → IsSound (F.stored self.new) }
+        ensures sound { W.honest → AreSound (F.stored self.old) → AreSound (F.stored self.new) }
         ensures device { IfErr result (λ e. e ≡ files.Device → Rose (F.failures self.old) (F.failures self.new)) }
         ensures count { F.failures self.old ≤ F.failures self.new }
     {
@@ -220,7 +220,7 @@ impl<W: World, F: Files<W>> Overlay<W, F> {
     pub fn remove_state(&mut self, alloc: Global) -> Result<(), FilesFault>
         ensures ok { W.honest → OnOk result (F.stored self.new ≡ without (F.stored self.old) 0) }
         ensures err { W.honest → OnErr result (F.stored self.new ≡ F.stored self.old) }
-        ensures sound { W.honest → IsSound (F.stored self.old) → IsSound (F.stored self.new) }
+        ensures sound { W.honest → AreSound (F.stored self.old) → AreSound (F.stored self.new) }
         ensures device { IfErr result (λ e. e ≡ files.Device → Rose (F.failures self.old) (F.failures self.new)) }
         ensures count { F.failures self.old ≤ F.failures self.new }
     {

@@ -1,5 +1,5 @@
 ghost use Rattle.std.specs.Prelude.{IfOk};
-ghost use Rattle.eden_overlay_format.specs.Directory.{AreEntries};
+ghost use Rattle.eden_overlay_format.specs.Directory.{AreStorable};
 
 use super::*;
 use eden_model::{Id, Kind, Name, Origin, Outside};
@@ -28,7 +28,7 @@ fn cut<'a>(rt: &impl Abort, bytes: &'a [u8], len: usize) -> &'a [u8] {
 
 // A directory with the file `test.txt`, number 2, whose content is its own.
 fn one_file(alloc: Global) -> Result<Vec<StoredEntry>, Fail>
-    ensures { IfOk result (λ v. AreEntries v.items) }
+    ensures { IfOk result (λ v. AreStorable v.items) }
 {
     match Name::new(b"test.txt".to_vec(alloc)?) {
         Ok(name) => {

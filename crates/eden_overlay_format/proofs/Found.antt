@@ -19,7 +19,8 @@ use Rattle.eden_overlay_format.specs.Directory.{number_least, number_end, direct
 use Rattle.eden_overlay_format.specs.State.{state_body, IsGoodState, IsState}
 use Rattle.eden_overlay_format.specs.Reading.{◌>>=◌, Reaches, Fails, bytes_at, number_at, state_of, rows_of}
 use Rattle.eden_overlay_format.specs.Values.{content_in, state_in, is_rising, entries_in}
-use Rattle.eden_overlay_format.specs.Laws.{ContentsFound, StatesFound, EntriesFound}
+use Rattle.eden_overlay_format.specs.Laws.{ContentsFound, StatesFound, EntriesFound, NeverBoth}
+use Rattle.eden_overlay_format.proofs.Headers.{not_both}
 use Rattle.eden_overlay_format.proofs.Agreement.{step, both, bytes_agree, numbers64}
 use Rattle.eden_overlay_format.proofs.Rows.{body_only, body_again}
 use Rattle.eden_overlay_format.proofs.Rising.{IsRising, rises, told, told_not}
@@ -46,16 +47,16 @@ unfolding state_of
 state_read body s e =
     option_and_then_some _ (bytes_at 20 body) s e (λ id there e1.
     option_and_then_some _ (number_at w64 id.1) s e1 (λ next more e2.
-        let made : State = record { root = record { bytes = id.0 }; next = next.0 } in
-        let kept = cond_some (length next.1 == 0 && is_in_range number_least number_end next.0) made s e2 in
-        let tests = both (length next.1 == 0) (is_in_range number_least number_end next.0) kept.0 in
-        let within = both (leb number_least next.0) (leb next.0 number_end) tests.1 in
-        let first = (bytes_agree 20).only body id there in
-        let second = (numbers64.only id.1 next more).front in
-        let nothing : next.1 ≡ [] = nil_from_length next.1 (eqb-true _ _ tests.0) in
-        let whole : body ≡ state_body made = first.front ∙ rw (second, nothing) refl in
-        let good : IsGoodState made = record { root = first.good; least = leb-true number_least next.0 within.0; most = leb-true next.0 number_end within.1 } in
-        subst (λ (t : State). (body ≡ state_body t) × IsGoodState t) kept.1 (whole, good)))
+    let made : State = record { root = record { bytes = id.0 }; next = next.0 } in
+    let kept = cond_some (length next.1 == 0 && is_in_range number_least number_end next.0) made s e2 in
+    let tests = both (length next.1 == 0) (is_in_range number_least number_end next.0) kept.0 in
+    let within = both (leb number_least next.0) (leb next.0 number_end) tests.1 in
+    let first = (bytes_agree 20).only body id there in
+    let second = (numbers64.only id.1 next more).front in
+    let nothing : next.1 ≡ [] = nil_from_length next.1 (eqb-true _ _ tests.0) in
+    let whole : body ≡ state_body made = first.front ∙ rw (second, nothing) refl in
+    let good : IsGoodState made = record { root = first.good; least = leb-true number_least next.0 within.0; most = leb-true next.0 number_end within.1 } in
+    subst (λ (t : State). (body ≡ state_body t) × IsGoodState t) kept.1 (whole, good)))
 
 state_written : (s : State) → IsGoodState s → state_of (state_body s) ≡ Some s
 unfolding state_of
@@ -85,10 +86,10 @@ unfolding entries_in
 entries_only bytes es e =
     option_and_then_some _ (body_in identifier.Directory bytes) es e (λ body there e1.
     option_and_then_some _ (rows_of body) es e1 (λ rows read e2.
-        let kept = cond_some (is_rising rows) rows es e2 in
-        let found = body_only body rows read in
-        let are : AreStorable rows = record { count = found.1; rising = rises rows kept.0; each = found.2 } in
-        subst (IsDirectory bytes) kept.1 (record { stored = there ∙ ap (λ (b : List ℕ). Some b) found.0; entries = are })))
+    let kept = cond_some (is_rising rows) rows es e2 in
+    let found = body_only body rows read in
+    let are : AreStorable rows = record { count = found.1; rising = rises rows kept.0; each = found.2 } in
+    subst (IsDirectory bytes) kept.1 (record { stored = there ∙ ap (λ (b : List ℕ). Some b) found.0; entries = are })))
 
 entries_again : (bytes : List ℕ) (es : List StoredEntry) → IsDirectory bytes es → entries_in bytes ≡ Some es
 unfolding entries_in
@@ -99,6 +100,9 @@ entries_again bytes es h =
 
 pub entries_found : EntriesFound
 entries_found bytes es = (entries_only bytes es, entries_again bytes es)
+
+pub never_both : NeverBoth
+never_both bytes content es h k = not_both bytes content (directory_body es) (content_only bytes content h).stored (entries_only bytes es k).stored
 
 -- ---- what a decoder answers
 

@@ -10,7 +10,7 @@ use Rattle.eden_overlay_format.specs.declared.header.Identifier.TheVariants as i
 use Rattle.eden_overlay_format.specs.declared.refusal.Refusal.{Refusal}
 use Rattle.eden_overlay_format.specs.declared.refusal.Refusal.TheVariants.{Short, BadIdentifier, BadVersion}
 use Rattle.eden_overlay_format.specs.Stored.{identifier_bytes, version_bytes, header, written, header_refusal, body_in}
-use Rattle.eden_overlay_format.specs.Laws.{WrittenFound, OneIdentifier}
+use Rattle.eden_overlay_format.specs.Laws.{WrittenFound}
 
 pub written_found : WrittenFound
 unfolding header body_in header_refusal
@@ -34,14 +34,8 @@ identified i bytes body e =
     let known = bytes_eq (take 4 (drop 4 bytes)) version_bytes in
     (bytes_eq-Decides (take 4 bytes) (identifier_bytes i)).0 (passed (ltb (length bytes) 64) named known (drop 64 bytes) body e)
 
-differ : identifier_bytes identifier.File ≡ identifier_bytes identifier.Directory → ⊥
-differ e = let third : get_or (identifier_bytes identifier.File) 2 0 ≡ get_or (identifier_bytes identifier.Directory) 2 0 = ap (λ (bytes : List ℕ). get_or bytes 2 0) e in omega (arith, third)
-
-same : (i j : Identifier) → identifier_bytes i ≡ identifier_bytes j → i ≡ j
-same identifier.File identifier.File e = refl
-same identifier.File identifier.Directory e = absurd (differ e)
-same identifier.Directory identifier.File e = absurd (differ (sym e))
-same identifier.Directory identifier.Directory e = refl
-
-pub one_identifier : OneIdentifier
-one_identifier bytes x y i j h k = same i j (sym (identified i bytes x h) ∙ identified j bytes y k)
+pub not_both : (bytes content entries : List ℕ) → body_in identifier.File bytes ≡ Some content → body_in identifier.Directory bytes ≡ Some entries → ⊥
+not_both bytes content entries h k =
+    let e = sym (identified identifier.File bytes content h) ∙ identified identifier.Directory bytes entries k in
+    let third : get_or (identifier_bytes identifier.File) 2 0 ≡ get_or (identifier_bytes identifier.Directory) 2 0 = ap (λ (bytes : List ℕ). get_or bytes 2 0) e in
+    omega (arith, third)
