@@ -40,9 +40,9 @@ module _ (F : Stored) (k : ℕ) (old new : List ℕ) (was : HoldsContent F k old
   named : (d : ℕ) (e : StoredEntry) → Names (with_content F k new) d e → Names F d e
   named d e n = names_moved (with_content F k new) F d e (apart d (no_directory d e n)) n
 
-  counted : (d : ℕ) → IsLive (with_content F k new) d → IsLive F d
-  counted d here = here
-  counted d (below c e r n leads) = below c e (counted c r) (named c e n) leads
+  was_live : (d : ℕ) → IsLive (with_content F k new) d → IsLive F d
+  was_live d here = here
+  was_live d (below c e r n leads) = below c e (was_live c r) (named c e n) leads
 
   kind_kept : (q : ℕ) (t : Kind) → (k ≡ q) ⊎ (k ≢ q) → HoldsKind F q t → HoldsKind (with_content F k new) q t
   kind_kept q t (inl is) h =
@@ -61,8 +61,8 @@ module _ (F : Stored) (k : ℕ) (old new : List ℕ) (was : HoldsContent F k old
   stays s =
       record {
         top = top_same F (with_content F k new) (sym (apart 1 (not_root s))) s.top;
-        owned = λ d e r n own. kind_kept e.number e.kind (same_or_apart k e.number) (s.owned d e (counted d r) (named d e n) own);
-        once = λ c d e f r t n m same. s.once c d e f (counted c r) (counted d t) (named c e n) (named d f m) same;
+        owned = λ d e r n own. kind_kept e.number e.kind (same_or_apart k e.number) (s.owned d e (was_live d r) (named d e n) own);
+        once = λ c d e f r t n m same. s.once c d e f (was_live c r) (was_live d t) (named c e n) (named d f m) same;
       }
 
 pub contents_stay : ContentsStay

@@ -29,7 +29,7 @@ not_to_root F k least r = elim (last F k 1 r) [
 pub record NamedBy (F : Stored) (d : ℕ) : Type 0 where
   pub parent : ℕ
   pub entry : StoredEntry
-  pub counts : IsLive F parent
+  pub live : IsLive F parent
   pub named : Names F parent entry
   pub leads : LeadsOn entry
   pub is : entry.number ≡ d
@@ -39,12 +39,12 @@ pub named_by : (F : Stored) (d : ℕ) → IsLive F d → (d ≡ 1) ⊎ NamedBy F
 named_by F d here = inl refl
 named_by F d (below p e r n leads) = elim (same_or_apart p e.number) [
   | inl is ↦ (let P : ℕ → Type 0 = λ q. (q ≡ 1) ⊎ NamedBy F q in subst P is (named_by F p r))
-  | inr ne ↦ inr (record { parent = p; entry = e; counts = r; named = n; leads = leads; is = refl; other = ne })
+  | inr ne ↦ inr (record { parent = p; entry = e; live = r; named = n; leads = leads; is = refl; other = ne })
 ]
 
 -- ---- no cycles
 
-module _ (F : Stored) (s : AreSound F) (d : ℕ) (g : StoredEntry) (counts : IsLive F d) (named : Names F d g) (leads : LeadsOn g) (back : Reached F g.number d) where
+module _ (F : Stored) (s : AreSound F) (d : ℕ) (g : StoredEntry) (live : IsLive F d) (named : Names F d g) (leads : LeadsOn g) (back : Reached F g.number d) where
   least : 2 ≤ g.number
   least = numbers_from_two F d g named
 
@@ -53,11 +53,11 @@ module _ (F : Stored) (s : AreSound F) (d : ℕ) (g : StoredEntry) (counts : IsL
   up p e r n reach = elim (last F g.number e.number reach) [
     | inl is ↦
         (let P : ℕ → Type 0 = λ q. Reached F g.number q in
-        subst P (sym (s.once p d e g r counts n named is).0) back)
+        subst P (sym (s.once p d e g r live n named is).0) back)
     | inr m ↦
         (let P : ℕ → Type 0 = λ q. Reached F g.number q in
-        let counted = joined F 1 g.number m.directory (below d g counts named leads) m.reached in
-        subst P (sym (s.once p m.directory e m.entry r counted n m.named (sym m.is)).0) m.reached)
+        let was_live = joined F 1 g.number m.directory (below d g live named leads) m.reached in
+        subst P (sym (s.once p m.directory e m.entry r was_live n m.named (sym m.is)).0) m.reached)
   ]
 
   endless : (c : ℕ) → IsLive F c → Reached F g.number c → ⊥
@@ -65,7 +65,7 @@ module _ (F : Stored) (s : AreSound F) (d : ℕ) (g : StoredEntry) (counts : IsL
   endless c (below p e r n goes) reach = endless p r (up p e r n reach)
 
   pub no_cycle : ⊥
-  no_cycle = endless d counts back
+  no_cycle = endless d live back
 
 -- ---- what a live directory holds
 

@@ -66,21 +66,21 @@ module _ (F : Stored) (d : ℕ) (old new : List StoredEntry) (was : HoldsEntries
     | inr h ↦ h.1
   ]
 
-  pub counted : (c : ℕ) → IsLive (with_entries F d new) c → IsLive F c
-  counted c here = here
-  counted c (below b e r n leads) = below b e (counted b r) (was_named b e n) leads
+  pub was_live : (c : ℕ) → IsLive (with_entries F d new) c → IsLive F c
+  was_live c here = here
+  was_live c (below b e r n leads) = below b e (was_live b r) (was_named b e n) leads
 
   fewer_stay : AreSound F → AreSound (with_entries F d new)
   fewer_stay s = record {
     top = top_kept F d new are s;
-    owned = λ c e r n own. kind_kept F d new are old was e.number e.kind (s.owned c e (counted c r) (was_named c e n) own);
-    once = λ b c e f r t n m same. s.once b c e f (counted b r) (counted c t) (was_named b e n) (was_named c f m) same;
+    owned = λ c e r n own. kind_kept F d new are old was e.number e.kind (s.owned c e (was_live c r) (was_named c e n) own);
+    once = λ b c e f r t n m same. s.once b c e f (was_live b r) (was_live c t) (was_named b e n) (was_named c f m) same;
   }
 
   -- whoever has the number of what was left out is that entry, in that directory
   unnamed : (e : StoredEntry) → AreSound F → IsLive F d → Contains old e → ¬ Contains new e → (c : ℕ) (f : StoredEntry) → IsLive (with_entries F d new) c → Names (with_entries F d new) c f → f.number ≢ e.number
-  unnamed e s counts there gone c f r n is =
-      let same = s.once c d f e (counted c r) counts (was_named c f n) (record { entries = old; held = was; there = there }) is in
+  unnamed e s live there gone c f r n is =
+      let same = s.once c d f e (was_live c r) live (was_named c f n) (record { entries = old; held = was; there = there }) is in
       let P : StoredEntry → Type 0 = λ x. Contains new x in
       elim (named F d new are c f n) [
         | inl h ↦ gone (subst P same.1 h.1)
@@ -91,4 +91,4 @@ pub dropped_stay : DroppedStay
 dropped_stay F d old new drops s = fewer_stay F d old new drops.held drops.are drops.fewer s
 
 pub dropped_unnamed : DroppedUnnamed
-dropped_unnamed F d old new e drops counts there gone s = unnamed F d old new drops.held drops.are drops.fewer e s counts there gone
+dropped_unnamed F d old new e drops live there gone s = unnamed F d old new drops.held drops.are drops.fewer e s live there gone

@@ -13,16 +13,16 @@ use Rattle.eden_overlay.proofs.Strays.{each_at}
 use Rattle.eden_overlay.proofs.Directories.{apart, named, kind_kept, top_kept}
 use Rattle.eden_overlay.proofs.Cycles.{joined, last, not_to_root, named_by, no_cycle, directory_there}
 
-module _ (F : Stored) (d : ℕ) (new : List StoredEntry) (counts : IsLive F d) (are : AreStorable new) (each : (e : StoredEntry) → Contains new e → Names F d e ⊎ MayEnter F d new e) (s : AreSound F) where
+module _ (F : Stored) (d : ℕ) (new : List StoredEntry) (live : IsLive F d) (are : AreStorable new) (each : (e : StoredEntry) → Contains new e → Names F d e ⊎ MayEnter F d new e) (s : AreSound F) where
   -- d is below no entry that may enter
   not_inside : (e : StoredEntry) → Contains new e → MayEnter F d new e → LeadsOn e → Reached F e.number d → ⊥
-  not_inside e there may leads r = elim (named_by F d counts) [
+  not_inside e there may leads r = elim (named_by F d live) [
     | inl root ↦
         (let P : ℕ → Type 0 = λ q. Reached F e.number q in
         not_to_root F e.number (each_at IsStorable new e there.0 there.1 there.2 are.each).least (subst P root r))
     | inr by ↦ (elim (last F e.number d r) [
-      | inl is ↦ by.other (may.free d by.parent by.entry (inl (sym is)) by.counts by.named by.is)
-      | inr n ↦ by.other (may.free d by.parent by.entry (inr (leads, n)) by.counts by.named by.is)
+      | inl is ↦ by.other (may.free d by.parent by.entry (inl (sym is)) by.live by.named by.is)
+      | inr n ↦ by.other (may.free d by.parent by.entry (inr (leads, n)) by.live by.named by.is)
     ])
   ]
 
@@ -70,7 +70,7 @@ module _ (F : Stored) (d : ℕ) (new : List StoredEntry) (counts : IsLive F d) (
   has_own c e (under i n) = i.may.owned i.leads c e i.reached n
 
   kind_after : (q : ℕ) (t : Kind) → HoldsKind F q t → HoldsKind (with_entries F d new) q t
-  kind_after q t h = elim (directory_there F s d counts) [
+  kind_after q t h = elim (directory_there F s d live) [
     | inl none ↦ (elim (same_or_apart d q) [
       | inl is ↦ (let P : ℕ → Type 0 = λ p. F p ≡ None in absurd (nothing_there F q t (subst P is none) h))
       | inr ne ↦ kind_moved F (with_entries F d new) q t (sym (apart F d new are q ne)) h
@@ -125,7 +125,7 @@ module _ (F : Stored) (d : ℕ) (new : List StoredEntry) (counts : IsLive F d) (
   }
 
 pub entered_stay : EnteredStay
-entered_stay F d new counts are each s = entered F d new counts are each s
+entered_stay F d new live are each s = entered F d new live are each s
 
 -- ---- fresh entries
 
@@ -137,7 +137,7 @@ nothing_below F k c f empty here n =
     absurd (omega (arith, within))
 nothing_below F k c f empty (below b e r m leads) n = nothing_below F k b e empty r m
 
-module _ (F : Stored) (d : ℕ) (new : List StoredEntry) (counts : IsLive F d) (distinct : (e f : StoredEntry) → Contains new e → Contains new f → e.number ≡ f.number → e ≡ f) (each : (e : StoredEntry) → Contains new e → Names F d e ⊎ IsFresh F d e) (s : AreSound F) where
+module _ (F : Stored) (d : ℕ) (new : List StoredEntry) (live : IsLive F d) (distinct : (e f : StoredEntry) → Contains new e → Contains new f → e.number ≡ f.number → e ≡ f) (each : (e : StoredEntry) → Contains new e → Names F d e ⊎ IsFresh F d e) (s : AreSound F) where
   only_itself : (e : StoredEntry) → IsFresh F d e → (number : ℕ) → Brings F e number → e.number ≡ number
   only_itself e fresh number brings = elim brings [
     | inl is ↦ is
@@ -149,10 +149,10 @@ module _ (F : Stored) (d : ℕ) (new : List StoredEntry) (counts : IsLive F d) (
     | inl same ↦ distinct e f there other (is ∙ sym same)
     | inr b ↦ (elim (each f other) [
       | inl old ↦
-          (let inside = joined F 1 f.number b.1.directory (below d f counts old b.0) b.1.reached in
+          (let inside = joined F 1 f.number b.1.directory (below d f live old b.0) b.1.reached in
           let place = fresh.free b.1.directory b.1.entry inside b.1.named (b.1.is ∙ sym is) in
           let P : ℕ → Type 0 = λ q. Reached F f.number q in
-          absurd (no_cycle F s d f counts old b.0 (subst P place b.1.reached)))
+          absurd (no_cycle F s d f live old b.0 (subst P place b.1.reached)))
       | inr empty ↦ absurd (nothing_below F f.number b.1.directory b.1.entry (empty.empty b.0) b.1.reached b.1.named)
     ])
   ]
@@ -171,4 +171,4 @@ module _ (F : Stored) (d : ℕ) (new : List StoredEntry) (counts : IsLive F d) (
   either e there = elim (each e there) [ inl old ↦ inl old | inr fresh ↦ inr (enters e there fresh) ]
 
 pub added_stay : AddedStay
-added_stay F d new counts are distinct each s = entered_stay F d new counts are (either F d new counts distinct each s) s
+added_stay F d new live are distinct each s = entered_stay F d new live are (either F d new live distinct each s) s

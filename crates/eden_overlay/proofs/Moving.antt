@@ -7,7 +7,7 @@ use Rattle.eden_overlay.specs.Files.{Stored}
 use Rattle.eden_overlay.specs.Held.{HoldsEntries, with_entries}
 use Rattle.eden_overlay.specs.Soundness.{Names, LeadsOn, Reached, here, below, IsLive, HasOwn, HoldsKind, AreSound}
 use Rattle.eden_overlay.specs.Laws.{NamedFrom, Brings, MayEnter, IsSameInode, RenamedStay, MovedStay}
-use Rattle.eden_overlay.proofs.Directories.{named, kind_kept, top_kept, was_named, counted, dropped_stay, dropped_unnamed}
+use Rattle.eden_overlay.proofs.Directories.{named, kind_kept, top_kept, was_named, was_live, dropped_stay, dropped_unnamed}
 use Rattle.eden_overlay.proofs.Strays.{numbers_from_two}
 use Rattle.eden_overlay.proofs.Cycles.{joined, last, not_to_root, no_cycle}
 use Rattle.eden_overlay.proofs.Entering.{entered_stay}
@@ -43,12 +43,12 @@ module _ (F : Stored) (d : ℕ) (old new : List StoredEntry) (was : HoldsEntries
     | inr h ↦ record { entry = e; names = h.1; same = itself e; place = inr (h.0, refl) }
   ]
 
-  counted_before : (c : ℕ) → IsLive (with_entries F d new) c → IsLive F c
-  counted_before c here = here
-  counted_before c (below b e r n leads) =
+  live_before : (c : ℕ) → IsLive (with_entries F d new) c → IsLive F c
+  live_before c here = here
+  live_before c (below b e r n leads) =
       let f = former b e n in
       let P : ℕ → Type 0 = λ q. IsLive F q in
-      subst P (sym f.same.number) (below b f.entry (counted_before b r) f.names (leads_too e f.entry f.same leads))
+      subst P (sym f.same.number) (below b f.entry (live_before b r) f.names (leads_too e f.entry f.same leads))
 
   one_entry : (c : ℕ) (e f : StoredEntry) (g : Former c e) (h : Former c f) → g.entry ≡ h.entry → e.number ≡ f.number → e ≡ f
   one_entry c e f g h same is = elim g.place [
@@ -66,11 +66,11 @@ module _ (F : Stored) (d : ℕ) (old new : List StoredEntry) (was : HoldsEntries
   once_more b c e f r t n m is =
       let g = former b e n in
       let h = former c f m in
-      let same = s.once b c g.entry h.entry (counted_before b r) (counted_before c t) g.names h.names (sym g.same.number ∙ is ∙ h.same.number) in
+      let same = s.once b c g.entry h.entry (live_before b r) (live_before c t) g.names h.names (sym g.same.number ∙ is ∙ h.same.number) in
       let P : ℕ → Type 0 = λ q. Names (with_entries F d new) q f in
       let m' = subst P (sym same.0) m in
       let h' = former b f m' in
-      let again = s.once b b g.entry h'.entry (counted_before b r) (counted_before b r) g.names h'.names (sym g.same.number ∙ is ∙ h'.same.number) in
+      let again = s.once b b g.entry h'.entry (live_before b r) (live_before b r) g.names h'.names (sym g.same.number ∙ is ∙ h'.same.number) in
       (same.0, one_entry b e f g h' again.1 is)
 
   renamed : AreSound (with_entries F d new)
@@ -78,7 +78,7 @@ module _ (F : Stored) (d : ℕ) (old new : List StoredEntry) (was : HoldsEntries
     top = top_kept F d new are s;
     owned = λ c e r n. (λ own.
         let f = former c e n in
-        kind_kept F d new are old was e.number e.kind (own_too F e f.entry f.same (s.owned c f.entry (counted_before c r) f.names) own));
+        kind_kept F d new are old was e.number e.kind (own_too F e f.entry f.same (s.owned c f.entry (live_before c r) f.names) own));
     once = once_more;
   }
 
@@ -87,15 +87,15 @@ renamed_stay F d old new m s = renamed F d old new m.held m.are m.distinct m.eac
 
 -- ---- another directory
 
-module _ (F : Stored) (a b : ℕ) (old kept new : List StoredEntry) (left moved : StoredEntry) (was : HoldsEntries F a old) (are : AreStorable kept) (fewer : (e : StoredEntry) → Contains kept e → Contains old e) (counts : IsLive F a) (there : Contains old left) (gone : ¬ Contains kept left) (same : IsSameInode moved left) (s : AreSound F) where
+module _ (F : Stored) (a b : ℕ) (old kept new : List StoredEntry) (left moved : StoredEntry) (was : HoldsEntries F a old) (are : AreStorable kept) (fewer : (e : StoredEntry) → Contains kept e → Contains old e) (live : IsLive F a) (there : Contains old left) (gone : ¬ Contains kept left) (same : IsSameInode moved left) (s : AreSound F) where
   names_left : Names F a left
   names_left = record { entries = old; held = was; there = there }
 
   named_then : (c : ℕ) (e : StoredEntry) → Names (with_entries F a kept) c e → Names F c e
   named_then c e n = was_named F a old kept was are fewer c e n
 
-  counted_then : (c : ℕ) → IsLive (with_entries F a kept) c → IsLive F c
-  counted_then c r = counted F a old kept was are fewer c r
+  live_then : (c : ℕ) → IsLive (with_entries F a kept) c → IsLive F c
+  live_then c r = was_live F a old kept was are fewer c r
 
   reached_then : (k c : ℕ) → Reached (with_entries F a kept) k c → Reached F k c
   reached_then k c here = here
@@ -105,11 +105,11 @@ module _ (F : Stored) (a b : ℕ) (old kept new : List StoredEntry) (left moved 
   below_left : (c : ℕ) → Reached (with_entries F a kept) moved.number c → Reached F left.number c
   below_left c r = let P : ℕ → Type 0 = λ k. Reached F k c in subst P same.number (reached_then moved.number c r)
 
-  counted_below : LeadsOn moved → (c : ℕ) → Reached (with_entries F a kept) moved.number c → IsLive F c
-  counted_below leads c r = joined F 1 left.number c (below a left counts names_left (leads_too moved left same leads)) (below_left c r)
+  live_below : LeadsOn moved → (c : ℕ) → Reached (with_entries F a kept) moved.number c → IsLive F c
+  live_below leads c r = joined F 1 left.number c (below a left live names_left (leads_too moved left same leads)) (below_left c r)
 
   unnamed_now : (c : ℕ) (f : StoredEntry) → IsLive (with_entries F a kept) c → Names (with_entries F a kept) c f → f.number ≢ left.number
-  unnamed_now c f r n = dropped_unnamed F a old kept left (record { held = was; are = are; fewer = fewer }) counts there gone s c f r n
+  unnamed_now c f r n = dropped_unnamed F a old kept left (record { held = was; are = are; fewer = fewer }) live there gone s c f r n
 
   -- it isn't live now
   detached : LeadsOn left → (c : ℕ) → IsLive (with_entries F a kept) c → Reached F left.number c → ⊥
@@ -118,7 +118,7 @@ module _ (F : Stored) (a b : ℕ) (old kept new : List StoredEntry) (left moved 
     | inl is ↦ unnamed_now p e r n is
     | inr m ↦
         (let P : ℕ → Type 0 = λ q. Reached F left.number q in
-        let one = s.once p m.directory e m.entry (counted_then p r) (joined F 1 left.number m.directory (below a left counts names_left leads) m.reached) (named_then p e n) m.named (sym m.is) in
+        let one = s.once p m.directory e m.entry (live_then p r) (joined F 1 left.number m.directory (below a left live names_left leads) m.reached) (named_then p e n) m.named (sym m.is) in
         detached leads p r (subst P (sym one.0) m.reached))
   ]
 
@@ -128,7 +128,7 @@ module _ (F : Stored) (a b : ℕ) (old kept new : List StoredEntry) (left moved 
     | inr under ↦
         (let q = under.1.directory in
         let P : ℕ → Type 0 = λ x. Reached F left.number x in
-        let one = s.once c q f under.1.entry (counted_then c r) (counted_below under.0 q under.1.reached) (named_then c f n) (named_then q under.1.entry under.1.named) (is ∙ sym under.1.is) in
+        let one = s.once c q f under.1.entry (live_then c r) (live_below under.0 q under.1.reached) (named_then c f n) (named_then q under.1.entry under.1.named) (is ∙ sym under.1.is) in
         detached (leads_too moved left same under.0) c r (subst P (sym one.0) (below_left q under.1.reached)))
   ]
 
@@ -136,8 +136,8 @@ module _ (F : Stored) (a b : ℕ) (old kept new : List StoredEntry) (left moved 
   not_itself leads n =
       let q = n.directory in
       let P : ℕ → Type 0 = λ x. Reached F left.number x in
-      let one = s.once q a n.entry left (counted_below leads q n.reached) counts (named_then q n.entry n.named) names_left (n.is ∙ same.number) in
-      no_cycle F s a left counts names_left (leads_too moved left same leads) (subst P one.0 (below_left q n.reached))
+      let one = s.once q a n.entry left (live_below leads q n.reached) live (named_then q n.entry n.named) names_left (n.is ∙ same.number) in
+      no_cycle F s a left live names_left (leads_too moved left same leads) (subst P one.0 (below_left q n.reached))
 
   owned_now : (e : StoredEntry) → HasOwn F e → HasOwn (with_entries F a kept) e
   owned_now e has own = kind_kept F a kept are old was e.number e.kind (has own)
@@ -154,9 +154,9 @@ module _ (F : Stored) (a b : ℕ) (old kept new : List StoredEntry) (left moved 
 
     enters : MayEnter (with_entries F a kept) b new moved
     enters = record {
-      own = owned_now moved (own_too F moved left same (s.owned a left counts names_left));
-      owned = λ leads c f r n. owned_now f (s.owned c f (counted_below leads c r) (named_then c f n));
-      once = λ leads c q f g r t n m is. s.once c q f g (counted_below leads c r) (counted_below leads q t) (named_then c f n) (named_then q g m) is;
+      own = owned_now moved (own_too F moved left same (s.owned a left live names_left));
+      owned = λ leads c f r n. owned_now f (s.owned c f (live_below leads c r) (named_then c f n));
+      once = λ leads c q f g r t n m is. s.once c q f g (live_below leads c r) (live_below leads q t) (named_then c f n) (named_then q g m) is;
       not_below = not_itself;
       free = λ number c f brings r n is. absurd (unbrought number c f brings r n is);
       apart = apart_now;

@@ -61,8 +61,8 @@ pub one_kind : (F : Stored) (k : ℕ) (content : List ℕ) (entries : List Store
 one_kind F k content entries h g =
     option_and_then_some content_in (F k) content h (λ bytes at found.
     option_and_then_some entries_in (F k) entries g (λ others there listed.
-        let P : List ℕ → Type 0 = λ b. entries_in b ≡ Some entries in
-        content_or_entries bytes content entries found (subst P (same_Some others bytes (sym there ∙ at)) listed)))
+    let P : List ℕ → Type 0 = λ b. entries_in b ≡ Some entries in
+    content_or_entries bytes content entries found (subst P (same_Some others bytes (sym there ∙ at)) listed)))
 
 pub held_storable : (F : Stored) (k : ℕ) (entries : List StoredEntry) → HoldsEntries F k entries → AreStorable entries
 held_storable F k entries h = option_and_then_some entries_in (F k) entries h (λ bytes at found. entries_storable bytes entries found)

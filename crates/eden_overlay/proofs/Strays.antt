@@ -6,17 +6,17 @@ use Rattle.eden_overlay_format.specs.declared.stored_entry.StoredEntry.{StoredEn
 use Rattle.eden_overlay_format.specs.Directory.{IsStorable}
 use Rattle.eden_overlay.specs.Files.{Stored, put}
 use Rattle.eden_overlay.specs.Soundness.{Names, here, below, IsLive, AreSound}
-use Rattle.eden_overlay.specs.Laws.{NumbersFromTwo, RootlessSound, IsStray, StraysStay, StraysStayApart}
+use Rattle.eden_overlay.specs.Laws.{NumbersFromTwo, RootlessSound, IsStray, StraysStay, StraysStayApart, StateStays}
 use Rattle.eden_overlay.proofs.Puts.{put_apart, names_moved, kind_moved, nothing_there, held_storable, top_same}
 
 module _ (F : Stored) (k : ℕ) (w : Option (List ℕ)) (stray : IsStray F k) where
   G : Stored
   G = put F k w
 
-  counted : (d : ℕ) → IsLive (put F k w) d → IsLive F d × (k ≢ d)
-  counted d here = (here, stray.not_root)
-  counted d (below c e r n leads) =
-      let was = counted c r in
+  was_live : (d : ℕ) → IsLive (put F k w) d → IsLive F d × (k ≢ d)
+  was_live d here = (here, stray.not_root)
+  was_live d (below c e r n leads) =
+      let was = was_live c r in
       let named = names_moved (put F k w) F c e (put_apart F k c w was.1) n in
       (below c e was.0 named leads, λ is. stray.not_own c e was.0 named leads.1 (sym is))
 
@@ -28,30 +28,24 @@ module _ (F : Stored) (k : ℕ) (w : Option (List ℕ)) (stray : IsStray F k) wh
       (below c e now.0 named leads, λ is. stray.not_own c e r n leads.1 (sym is))
 
   named_before : (d : ℕ) (e : StoredEntry) → IsLive (put F k w) d → Names (put F k w) d e → Names F d e
-  named_before d e r n = names_moved (put F k w) F d e (put_apart F k d w (counted d r).1) n
+  named_before d e r n = names_moved (put F k w) F d e (put_apart F k d w (was_live d r).1) n
 
   stays : AreSound F → AreSound (put F k w)
   stays s =
       record {
         top = top_same F (put F k w) (sym (put_apart F k 1 w stray.not_root)) s.top;
         owned = λ d e r n own.
-            let before = counted d r in
+            let before = was_live d r in
             let was = named_before d e r n in
             kind_moved F (put F k w) e.number e.kind (sym (put_apart F k e.number w (λ is. stray.not_own d e before.0 was own (sym is)))) (s.owned d e before.0 was own);
-        once = λ c d e f r t n m same. s.once c d e f (counted c r).0 (counted d t).0 (named_before c e r n) (named_before d f t m) same;
+        once = λ c d e f r t n m same. s.once c d e f (was_live c r).0 (was_live d t).0 (named_before c e r n) (named_before d f t m) same;
       }
 
 pub strays_stay : StraysStay
 strays_stay F k w stray s = stays F k w stray s
 
-pub strays_dont_count : StraysDontCount
-strays_dont_count F k w stray d = (λ r. (counted F k w stray d r).0, λ r. (still F k w stray d r).0)
-
-pub strays_stay_strays : StraysStayStrays
-strays_stay_strays F j k w stray other = record {
-  not_root = other.not_root;
-  not_own = λ d e r n own. other.not_own d e (counted F j w stray d r).0 (named_before F j w stray d e r n) own;
-}
+pub strays_apart : StraysStayApart
+strays_apart F k w stray d = (λ r. (was_live F k w stray d r).0, λ r. (still F k w stray d r).0)
 
 -- ---- numbers
 
@@ -82,3 +76,8 @@ rootless_sound F none =
       owned = λ d e r n own. absurd (nothing_named F none d e r n);
       once = λ c d e f r t n m same. absurd (nothing_named F none c e r n);
     }
+
+-- ---- the state's file
+
+pub state_stays : StateStays
+state_stays F w s = strays_stay F 0 w (no_file_zero F) s

@@ -36,6 +36,10 @@ StraysStay = (F : Stored) (k : ℕ) (w : Option (List ℕ)) → IsStray F k → 
 abbrev pub StraysStayApart : Type 0
 StraysStayApart = (F : Stored) (k : ℕ) (w : Option (List ℕ)) → IsStray F k → (d : ℕ) → IsLive (put F k w) d ↔ IsLive F d
 
+-- whatever becomes of file 0, the state's
+abbrev pub StateStays : Type 0
+StateStays = (F : Stored) (w : Option (List ℕ)) → AreSound F → AreSound (put F 0 w)
+
 -- a stored content may be replaced by another
 abbrev pub ContentsStay : Type 0
 ContentsStay = (F : Stored) (k : ℕ) (old new : List ℕ) → HoldsContent F k old → length new ≤ content_most → AreSound F → AreSound (with_content F k new)

@@ -1,4 +1,4 @@
-ghost use Rattle.eden_overlay.specs.Laws.{ContentsHeld, EntriesHeld, NumbersFromTwo, RootlessSound, StraysStay, StraysStayApart, ContentsStay, DroppedStay, DroppedUnnamed, AddedStay, EnteredStay, RenamedStay, MovedStay};
+ghost use Rattle.eden_overlay.specs.Laws.{ContentsHeld, EntriesHeld, NumbersFromTwo, RootlessSound, StraysStay, StraysStayApart, StateStays, ContentsStay, DroppedStay, DroppedUnnamed, AddedStay, EnteredStay, RenamedStay, MovedStay};
 
 /// What a caller of `Overlay` needs to show that an overlay stays sound.
 pub fn overlay_laws()
@@ -8,6 +8,7 @@ pub fn overlay_laws()
     ensures rootless { RootlessSound }
     ensures strays { StraysStay }
     ensures strays_apart { StraysStayApart }
+    ensures state { StateStays }
     ensures contents { ContentsStay }
     ensures dropped { DroppedStay }
     ensures dropped_unnamed { DroppedUnnamed }

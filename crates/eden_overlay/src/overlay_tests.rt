@@ -88,7 +88,8 @@ fn files_are_removed(rt: HostRuntime) -> Result<(), Fail> {
     let alloc = rt.alloc();
     let mut overlay = Overlay::<Outside, _>::new(MemoryFiles::<Outside>::new(alloc));
     let entries = one_file(alloc)?;
-    assert!(rt; overlay.put_new(alloc, 2, b"hi", 1, &entries).is_ok());
+    assert!(rt; overlay.put_file(alloc, 2, b"hi").is_ok());
+    assert!(rt; overlay.put_dir(alloc, 1, &entries).is_ok());
     let root = Id { bytes: [0x11; 20] };
     assert!(rt; overlay.put_state(alloc, State { root, next: 3 }).is_ok());
     assert!(rt; overlay.remove(alloc, 1).is_ok());

@@ -1,5 +1,5 @@
 -- What callers' proofs cite.
-use Rattle.std.proofs.Common.{◌≡◌, ◌≤◌, ℕ, List, Some, length}
+use Rattle.std.proofs.Common.{◌≡◌, ◌≤◌, ℕ, List, Some, length, drop}
 use Rattle.eden_overlay_format.specs.declared.header.Identifier.TheVariants as identifier
 use Rattle.eden_overlay_format.specs.declared.state.State.{State}
 use Rattle.eden_overlay_format.specs.declared.stored_entry.StoredEntry.{StoredEntry}
@@ -8,7 +8,7 @@ use Rattle.eden_overlay_format.specs.Content.{content_most}
 use Rattle.eden_overlay_format.specs.Directory.{AreStorable, directory_body}
 use Rattle.eden_overlay_format.specs.State.{IsGoodState, state_body}
 use Rattle.eden_overlay_format.specs.Values.{content_in, state_in, entries_in}
-use Rattle.eden_overlay_format.proofs.Headers.{written_found}
+use Rattle.eden_overlay_format.proofs.Headers.{written_found, behind}
 use Rattle.eden_overlay_format.proofs.Found.{contents_found, states_found, entries_found, never_both}
 
 -- what is written is found
@@ -26,6 +26,10 @@ entries_written es are = (entries_found (written identifier.Directory (directory
 
 pub content_short : (bytes content : List ℕ) → content_in bytes ≡ Some content → length content ≤ content_most
 content_short bytes content found = ((contents_found bytes content).0 found).most
+
+-- .. and stands behind the header
+pub content_behind : (bytes content : List ℕ) → content_in bytes ≡ Some content → (64 ≤ length bytes) × (drop 64 bytes ≡ content)
+content_behind bytes content found = behind identifier.File bytes content ((contents_found bytes content).0 found).stored
 
 pub entries_storable : (bytes : List ℕ) (es : List StoredEntry) → entries_in bytes ≡ Some es → AreStorable es
 entries_storable bytes es found = ((entries_found bytes es).0 found).entries

@@ -26,6 +26,13 @@ header i = identifier_bytes i ++ version_bytes ++ replicate 56 0
 abbrev pub written : Identifier → List ℕ → List ℕ
 written i body = header i ++ body
 
+-- the numbers that stand for refusals
+abbrev pub refusal_number : Refusal → ℕ
+refusal_number Short = 1
+refusal_number BadIdentifier = 2
+refusal_number BadVersion = 3
+refusal_number BadBody = 4
+
 -- What is wrong with the header, where the file was asked for under that identifier. Bytes 8 to 63 are not looked at.
 unfoldable pub header_refusal : Identifier → List ℕ → Option Refusal
 header_refusal i bytes =

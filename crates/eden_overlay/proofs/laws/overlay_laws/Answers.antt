@@ -1,4 +1,4 @@
-use Rattle.eden_overlay.proofs.Strays.{numbers_from_two, rootless_sound, strays_stay, strays_apart}
+use Rattle.eden_overlay.proofs.Strays.{numbers_from_two, rootless_sound, strays_stay, strays_apart, state_stays}
 use Rattle.eden_overlay.proofs.Puts.{contents_held, entries_held}
 use Rattle.eden_overlay.proofs.Contents.{contents_stay}
 use Rattle.eden_overlay.proofs.Directories.{dropped_stay, dropped_unnamed}
@@ -45,3 +45,5 @@ returns-clause-renamed c = renamed_stay
 pub returns-clause-moved : goal.returns-clause-moved
 returns-clause-moved c = moved_stay
 
+pub returns-clause-state : goal.returns-clause-state
+returns-clause-state c = state_stays
