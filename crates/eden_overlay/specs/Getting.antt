@@ -3,7 +3,7 @@ use Rattle.std.specs.Prelude.{◌≡◌, List, ℕ, Option, None, IsSomeAnd}
 use Rattle.eden_overlay_format.specs.declared.header.Identifier.{Identifier}
 use Rattle.eden_overlay_format.specs.declared.refusal.DecodeFault.{DecodeFault}
 use Rattle.eden_overlay_format.specs.declared.refusal.DecodeFault.TheVariants as decode
-use Rattle.eden_overlay_format.specs.Stored.{first_refusal}
+use Rattle.eden_overlay_format.specs.Stored.{Refuses}
 use Rattle.eden_overlay.specs.declared.files.FilesFault.{FilesFault}
 use Rattle.eden_overlay.specs.declared.files.FilesFault.TheVariants as files
 use Rattle.eden_overlay.specs.declared.fault.GetFault.{GetFault}
@@ -13,7 +13,7 @@ use Rattle.eden_overlay.specs.declared.fault.GetFault.TheVariants as get
 -- bytes hold none and have that first refusal. The device and memory may fail whatever is stored.
 abbrev pub Explains : {X : Type 0} → Identifier → (List ℕ → Option X) → Option (List ℕ) → GetFault → Type 0
 Explains i value file get.Absent = file ≡ None
-Explains i value file (get.Damaged refusal) = IsSomeAnd file (λ bytes. (value bytes ≡ None) × (refusal ≡ first_refusal i bytes))
+Explains i value file (get.Damaged refusal) = IsSomeAnd file (λ bytes. Refuses i value bytes refusal)
 Explains i value file get.Device = Unit {0}
 Explains i value file get.Memory = Unit {0}
 

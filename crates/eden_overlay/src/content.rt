@@ -1,5 +1,5 @@
-ghost use Rattle.std.specs.Prelude.{◌≡◌, ◌≤◌, Some, None, length, IfOk, IfErr};
-ghost use Rattle.eden_overlay_format.specs.Stored.{first_refusal};
+ghost use Rattle.std.specs.Prelude.{◌≡◌, ◌≤◌, Some, length, IfOk, IfErr};
+ghost use Rattle.eden_overlay_format.specs.Stored.{Refuses};
 ghost use Rattle.eden_overlay_format.specs.Content.{content_most};
 ghost use Rattle.eden_overlay_format.specs.Values.{content_in};
 ghost use Rattle.eden_overlay_format.specs.declared.header.Identifier.TheVariants as identifier;
@@ -29,7 +29,7 @@ impl Content {
     /// The content of a stored file, or the first refusal.
     pub(crate) fn of_file(file: Vec<u8>) -> Result<Content, Refusal>
         ensures found { IfOk result (λ content. content_in file.items ≡ Some content) }
-        ensures refused { IfErr result (λ e. (content_in file.items ≡ None) × (e ≡ first_refusal identifier.File file.items)) }
+        ensures refused { IfErr result (Refuses identifier.File content_in file.items) }
     {
         let _content = decode_file(&file)?;
         Ok(Content { file })

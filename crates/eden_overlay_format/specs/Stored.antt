@@ -1,6 +1,6 @@
 -- What every stored file is: a header of 64 bytes, and a body behind it. This alone says what a header is.
 -- The two identifiers and the header's length are those of EdenFS's overlay files; the rest is this project's own.
-use Rattle.std.specs.Prelude.{ℕ, List, ◌++◌, length, take, drop, replicate, codes, nat_lt, if◌then◌else◌, Option, Some, None, unwrap_or}
+use Rattle.std.specs.Prelude.{◌≡◌, ℕ, List, ◌++◌, length, take, drop, replicate, codes, nat_lt, if◌then◌else◌, Option, Some, None, unwrap_or}
 use Rattle.std.specs.Option.{is_none}
 use Rattle.std.specs.Int.{w32, to_be_bytes}
 use Rattle.std.specs.Str.{bytes_eq}
@@ -46,3 +46,7 @@ body_in i bytes = if is_none (header_refusal i bytes) then Some (drop 64 bytes) 
 -- Why bytes that hold no value are refused: for the header, or else for the body.
 abbrev pub first_refusal : Identifier → List ℕ → Refusal
 first_refusal i bytes = unwrap_or (header_refusal i bytes) BadBody
+
+-- the bytes hold no value, and that is why
+abbrev pub Refuses : {X : Type 0} → Identifier → (List ℕ → Option X) → List ℕ → Refusal → Type 0
+Refuses i value bytes e = (value bytes ≡ None) × (e ≡ first_refusal i bytes)
