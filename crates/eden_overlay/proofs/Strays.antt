@@ -6,7 +6,7 @@ use Rattle.eden_overlay_format.specs.declared.stored_entry.StoredEntry.{StoredEn
 use Rattle.eden_overlay_format.specs.Directory.{IsStorable}
 use Rattle.eden_overlay.specs.Files.{Stored, put}
 use Rattle.eden_overlay.specs.Soundness.{Names, here, below, IsLive, AreSound}
-use Rattle.eden_overlay.specs.Laws.{NumbersFromTwo, RootlessSound, IsStray, StraysStay, StraysStayApart, StateStays}
+use Rattle.eden_overlay.specs.Laws.{NumbersFromTwo, RootlessSound, IsStray, StraysStay, LiveStay, StateStays}
 use Rattle.eden_overlay.proofs.Puts.{put_apart, names_moved, kind_moved, nothing_there, held_storable, top_same}
 
 module _ (F : Stored) (k : ℕ) (w : Option (List ℕ)) (stray : IsStray F k) where
@@ -44,8 +44,8 @@ module _ (F : Stored) (k : ℕ) (w : Option (List ℕ)) (stray : IsStray F k) wh
 pub strays_stay : StraysStay
 strays_stay F k w stray s = stays F k w stray s
 
-pub strays_apart : StraysStayApart
-strays_apart F k w stray d = (λ r. (was_live F k w stray d r).0, λ r. (still F k w stray d r).0)
+pub live_stay : LiveStay
+live_stay F k w stray d = (λ r. (was_live F k w stray d r).0, λ r. (still F k w stray d r).0)
 
 -- ---- numbers
 

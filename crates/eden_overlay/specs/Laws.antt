@@ -19,7 +19,7 @@ EntriesHeld = (F : Stored) (k : ℕ) (entries : List StoredEntry) → AreStorabl
 abbrev pub NumbersFromTwo : Type 0
 NumbersFromTwo = (F : Stored) (d : ℕ) (e : StoredEntry) → Names F d e → number_least ≤ e.number
 
--- without file 1 nothing is live: so no files at all are sound
+-- without file 1 nothing is named: so no files at all are sound
 abbrev pub RootlessSound : Type 0
 RootlessSound = (F : Stored) → F 1 ≡ None → AreSound F
 
@@ -33,8 +33,8 @@ abbrev pub StraysStay : Type 0
 StraysStay = (F : Stored) (k : ℕ) (w : Option (List ℕ)) → IsStray F k → AreSound F → AreSound (put F k w)
 
 -- and the same directories are live then
-abbrev pub StraysStayApart : Type 0
-StraysStayApart = (F : Stored) (k : ℕ) (w : Option (List ℕ)) → IsStray F k → (d : ℕ) → IsLive (put F k w) d ↔ IsLive F d
+abbrev pub LiveStay : Type 0
+LiveStay = (F : Stored) (k : ℕ) (w : Option (List ℕ)) → IsStray F k → (d : ℕ) → IsLive (put F k w) d ↔ IsLive F d
 
 -- whatever becomes of file 0, the state's
 abbrev pub StateStays : Type 0
@@ -42,7 +42,8 @@ StateStays = (F : Stored) (w : Option (List ℕ)) → AreSound F → AreSound (p
 
 -- a stored content may be replaced by another
 abbrev pub ContentsStay : Type 0
-ContentsStay = (F : Stored) (k : ℕ) (old new : List ℕ) → HoldsContent F k old → length new ≤ content_most → AreSound F → AreSound (with_content F k new)
+ContentsStay = (F : Stored) (k : ℕ) (old new : List ℕ) → HoldsContent F k old → length new ≤ content_most
+    → AreSound F → AreSound (with_content F k new)
 
 -- ---- entries left out
 
@@ -100,7 +101,8 @@ pub record MayEnter (F : Stored) (d : ℕ) (new : List StoredEntry) (e : StoredE
   pub own : HasOwn F e
   pub owned : LeadsOn e → (c : ℕ) (f : StoredEntry) → Reached F e.number c → Names F c f → HasOwn F f
   -- below it no number is named twice, and its own isn't named
-  pub once : LeadsOn e → (b c : ℕ) (f g : StoredEntry) → Reached F e.number b → Reached F e.number c → Names F b f → Names F c g → f.number ≡ g.number → (b ≡ c) × (f ≡ g)
+  pub once : LeadsOn e → (b c : ℕ) (f g : StoredEntry) → Reached F e.number b → Reached F e.number c → Names F b f → Names F c g
+      → f.number ≡ g.number → (b ≡ c) × (f ≡ g)
   pub not_below : LeadsOn e → ¬ NamedFrom F e.number e.number
   -- no other live directory, and no other entry of the new ones, has a number that it brings
   pub free : (number c : ℕ) (f : StoredEntry) → Brings F e number → IsLive F c → Names F c f → f.number ≡ number → c ≡ d

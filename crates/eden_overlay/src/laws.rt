@@ -1,4 +1,4 @@
-ghost use Rattle.eden_overlay.specs.Laws.{ContentsHeld, EntriesHeld, NumbersFromTwo, RootlessSound, StraysStay, StraysStayApart, StateStays, ContentsStay, DroppedStay, DroppedUnnamed, AddedStay, EnteredStay, RenamedStay, MovedStay};
+ghost use Rattle.eden_overlay.specs.Laws.{ContentsHeld, EntriesHeld, NumbersFromTwo, RootlessSound, StraysStay, LiveStay, StateStays, ContentsStay, DroppedStay, DroppedUnnamed, AddedStay, EnteredStay, RenamedStay, MovedStay};
 
 /// What a caller of `Overlay` needs to show that an overlay stays sound.
 pub fn overlay_laws()
@@ -7,7 +7,7 @@ pub fn overlay_laws()
     ensures numbers { NumbersFromTwo }
     ensures rootless { RootlessSound }
     ensures strays { StraysStay }
-    ensures strays_apart { StraysStayApart }
+    ensures live { LiveStay }
     ensures state { StateStays }
     ensures contents { ContentsStay }
     ensures dropped { DroppedStay }

@@ -1,5 +1,5 @@
 -- The functions find what the grammars say.
-use Rattle.std.proofs.Common.{◌≡◌, ℕ, ◌≤◌, ◌==◌, ◌&&◌, true, false, leb, List, [], ◌++◌, length, ◌<◌, Option, Some, None, Result, Ok, Err, IfOk, IfErr, IsSomeAnd, refl, sym, ap, subst, ◌∙◌, arith}
+use Rattle.std.proofs.Common.{◌≡◌, ℕ, ◌≤◌, ◌==◌, ◌&&◌, true, leb, List, [], length, ◌<◌, Option, Some, None, Result, Ok, Err, IfOk, IfErr, IsSomeAnd, refl, sym, ap, subst, ◌∙◌, arith}
 use Rattle.std.specs.Option.{is_none, unwrap_or}
 use Rattle.std.specs.Int.{w64, to_be_bytes, is_in_range}
 use Rattle.std.proofs.lemmas.Bool.{leb-true, le-leb, lt-leb, and_from, eqb-true}
@@ -17,7 +17,7 @@ use Rattle.eden_overlay_format.specs.Stored.{header_refusal, body_in, first_refu
 use Rattle.eden_overlay_format.specs.Content.{content_most, IsFile}
 use Rattle.eden_overlay_format.specs.Directory.{number_least, number_end, directory_body, AreStorable, IsDirectory}
 use Rattle.eden_overlay_format.specs.State.{state_body, IsGoodState, IsState}
-use Rattle.eden_overlay_format.specs.Reading.{◌>>=◌, Reaches, Fails, bytes_at, number_at, state_of, count_at, rows_of}
+use Rattle.eden_overlay_format.specs.Reading.{Reaches, Fails, bytes_at, number_at, state_of, count_at, rows_of}
 use Rattle.eden_overlay_format.specs.Values.{content_in, state_in, is_rising, entries_in, FailsWith}
 use Rattle.eden_overlay_format.specs.Laws.{ContentsFound, StatesFound, EntriesFound, NeverBoth}
 use Rattle.eden_overlay_format.proofs.Headers.{not_both}

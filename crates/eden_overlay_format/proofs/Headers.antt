@@ -1,5 +1,5 @@
 -- Headers: what was written is found, and one identifier alone.
-use Rattle.std.proofs.Common.{◌≡◌, ◌≤◌, ℕ, Bool, true, false, ltb, cond, List, ◌++◌, length, take, drop, get_or, Option, Some, None, refl, sym, ap, ◌∙◌, arith}
+use Rattle.std.proofs.Common.{◌≡◌, ◌≤◌, ℕ, Bool, true, false, ltb, cond, List, ◌++◌, length, take, drop, get_or, Some, None, refl, sym, ap, ◌∙◌, arith}
 use Rattle.std.specs.Option.{is_none}
 use Rattle.std.specs.Str.{bytes_eq}
 use Rattle.std.proofs.lemmas.Bool.{le-ltb, ltb-false}
@@ -8,9 +8,8 @@ use Rattle.std.proofs.lemmas.Slice.Eq.{bytes_eq-Decides}
 use Rattle.std.proofs.lemmas.List.{length-append}
 use Rattle.eden_overlay_format.specs.declared.header.Identifier.{Identifier}
 use Rattle.eden_overlay_format.specs.declared.header.Identifier.TheVariants as identifier
-use Rattle.eden_overlay_format.specs.declared.refusal.Refusal.{Refusal}
 use Rattle.eden_overlay_format.specs.declared.refusal.Refusal.TheVariants.{Short, BadIdentifier, BadVersion}
-use Rattle.eden_overlay_format.specs.Stored.{identifier_bytes, version_bytes, header, written, header_refusal, body_in}
+use Rattle.eden_overlay_format.specs.Stored.{identifier_bytes, version_bytes, header, header_refusal, body_in}
 use Rattle.eden_overlay_format.specs.Laws.{WrittenFound}
 
 pub written_found : WrittenFound

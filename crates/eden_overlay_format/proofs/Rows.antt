@@ -16,7 +16,7 @@ use Rattle.eden_model.specs.Names.{name_refusal}
 use Rattle.eden_model.specs.Shown.{if_dir}
 use Rattle.eden_overlay_format.specs.declared.stored_entry.StoredEntry.{StoredEntry}
 use Rattle.eden_overlay_format.specs.Directory.{number_least, number_end, kind_code, origin_code, origin_bytes, row, directory_body, HasOrigin, IsStorable}
-use Rattle.eden_overlay_format.specs.Reading.{◌>>=◌, byte_at, bytes_at, number_at, kind_of_code, kind_at, entry_number_at, origin_at, name_at, row_at, rows_at, count_at, rows_of}
+use Rattle.eden_overlay_format.specs.Reading.{byte_at, bytes_at, number_at, kind_of_code, kind_at, entry_number_at, origin_at, name_at, row_at, rows_at, count_at, rows_of}
 use Rattle.eden_overlay_format.proofs.Agreement.{IsRead, Agrees, is_read, step, both, bytes_agree, numbers32, numbers64}
 
 -- ---- the kind

@@ -33,11 +33,14 @@ refusal_number BadIdentifier = 2
 refusal_number BadVersion = 3
 refusal_number BadBody = 4
 
+abbrev pub version_refusal : List ℕ → Option Refusal
+version_refusal bytes = if bytes_eq (take 4 (drop 4 bytes)) version_bytes then None else Some BadVersion
+
 -- What is wrong with the header, where the file was asked for under that identifier. Bytes 8 to 63 are not looked at.
 unfoldable pub header_refusal : Identifier → List ℕ → Option Refusal
 header_refusal i bytes =
     if nat_lt (length bytes) 64 then Some Short
-    else (if bytes_eq (take 4 bytes) (identifier_bytes i) then (if bytes_eq (take 4 (drop 4 bytes)) version_bytes then None else Some BadVersion) else Some BadIdentifier)
+    else (if bytes_eq (take 4 bytes) (identifier_bytes i) then version_refusal bytes else Some BadIdentifier)
 
 -- the body behind a header with nothing wrong
 unfoldable pub body_in : Identifier → List ℕ → Option (List ℕ)

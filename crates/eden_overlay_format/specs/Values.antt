@@ -1,5 +1,5 @@
 -- What stored bytes hold, as functions: the value, or none. `format_laws` says that they are the grammars.
-use Rattle.std.specs.Prelude.{◌≡◌, ◌≤◌, ◌&&◌, ℕ, Bool, true, List, [], ◌∷◌, length, Option, Some, None, nat_le, if◌then◌else◌, IsSomeAnd}
+use Rattle.std.specs.Prelude.{◌≤◌, ◌&&◌, ℕ, Bool, true, List, [], ◌∷◌, length, Option, Some, None, nat_le, if◌then◌else◌, IsSomeAnd}
 use Rattle.std.specs.Cmp.Lexicographic.{slice_cmp}
 use Rattle.std.specs.Ordering.{nat_cmp, is_lt}
 use Rattle.eden_overlay_format.specs.declared.header.Identifier.TheVariants as identifier

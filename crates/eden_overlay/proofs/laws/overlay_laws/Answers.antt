@@ -1,4 +1,4 @@
-use Rattle.eden_overlay.proofs.Strays.{numbers_from_two, rootless_sound, strays_stay, strays_apart, state_stays}
+use Rattle.eden_overlay.proofs.Strays.{numbers_from_two, rootless_sound, strays_stay, live_stay, state_stays}
 use Rattle.eden_overlay.proofs.Puts.{contents_held, entries_held}
 use Rattle.eden_overlay.proofs.Contents.{contents_stay}
 use Rattle.eden_overlay.proofs.Directories.{dropped_stay, dropped_unnamed}
@@ -21,8 +21,8 @@ returns-clause-rootless c = rootless_sound
 pub returns-clause-strays : goal.returns-clause-strays
 returns-clause-strays c = strays_stay
 
-pub returns-clause-strays_apart : goal.returns-clause-strays_apart
-returns-clause-strays_apart c = strays_apart
+pub returns-clause-live : goal.returns-clause-live
+returns-clause-live c = live_stay
 
 pub returns-clause-contents : goal.returns-clause-contents
 returns-clause-contents c = contents_stay
