@@ -1,7 +1,6 @@
 -- Directories stored with entries put in.
 use Rattle.std.proofs.Common.{◌≡◌, ◌≢◌, ◌⊎◌, ◌∙◌, ℕ, List, [], None, Contains, refl, sym, ap, subst, inl, inr, arith}
 use Rattle.eden_model.specs.declared.kind.Kind.{Kind}
-use Rattle.eden_model.specs.declared.kind.Kind.TheVariants as kind
 use Rattle.eden_overlay_format.specs.declared.stored_entry.StoredEntry.{StoredEntry}
 use Rattle.eden_overlay_format.specs.Directory.{IsStorable, AreStorable}
 use Rattle.eden_overlay.specs.Files.{Stored}
