@@ -8,7 +8,7 @@ use Rattle.eden_model.specs.Trees.{Name}
 use Rattle.eden_model.specs.Named.{named}
 pub use Rattle.eden_model.proofs.HistoryLemmas.{replay-append, Legal-append}
 pub use Rattle.eden_model.proofs.Keys.{same_id-Decides, same_key-Decides}
-pub use Rattle.eden_model.proofs.ShownLemmas.{follows_sources, sees_its_own, grafts_entry}
+pub use Rattle.eden_model.proofs.ShownLemmas.{shows_items, follows_sources, sees_its_own, grafts_entry}
 pub use Rattle.eden_model.proofs.Wholes.{shown_is_tree}
 
 -- the value that a look-up of a name gives is that of the row of the name

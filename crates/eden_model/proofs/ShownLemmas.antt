@@ -9,7 +9,18 @@ use Rattle.eden_model.specs.declared.kind.Kind.TheVariants as kind
 use Rattle.eden_model.specs.Paths.{behind_of}
 use Rattle.eden_model.specs.Trees.{Name, Path, Tree, grafted, graft}
 use Rattle.eden_model.specs.Shown.{Item, Items, Ground, node_from, node_of, if_dir, entry_in, shown, shown_at, item_at, map_item, map_items, Agree}
-use Rattle.eden_model.specs.ShownLaws.{FollowsSources, SeesItsOwn, GraftsEntry}
+use Rattle.eden_model.specs.ShownLaws.{ShowsItems, FollowsSources, SeesItsOwn, GraftsEntry}
+
+-- ---- entry by entry
+
+below_item : {S : Type 0} (G : Ground S) (p : Path) (o : Option (Item S)) → ((j : Item S) → shown G j p ≡ option_map (node_of G) (item_at G j p))
+    → shown_at G o p ≡ option_map (node_of G) (option_and_then (λ j. item_at G j p) o)
+below_item G p None below = refl
+below_item G p (Some j) below = below j
+
+pub shows_items : (S : Type 0) → ShowsItems S
+shows_items S G i [] = refl
+shows_items S G i (n ∷ p) = below_item G p (entry_in G i n) (λ j. shows_items S G j p)
 
 -- ---- along a map of sources
 

@@ -1,5 +1,5 @@
 -- Histories of requests and replies, changed by one caller at a time.
-use Rattle.std.specs.Prelude.{◌≡◌, ◌↔◌, List, [], ◌∷◌, ◌++◌, Option, Some, None}
+use Rattle.std.specs.Prelude.{◌≡◌, ◌↔◌, List, [], ◌∷◌, ◌++◌, Option, Some, None, MatchOption}
 use Rattle.eden_model.specs.declared.entry.Entry.{Entry}
 use Rattle.eden_model.specs.declared.fault.Fault.{Fault}
 use Rattle.eden_model.specs.declared.reply.Reply.{Reply}
@@ -19,6 +19,10 @@ fault_of (say.Kind k) = None
 fault_of (say.Data d) = None
 fault_of (say.Entries es more) = None
 fault_of (say.Err e) = None
+
+-- a reply of which the one fact holds, or a fault of which the other does
+abbrev pub OrFault : (Fault → Type 0) → (Reply → Type 0) → Reply → Type 0
+OrFault Lawful Says r = MatchOption (fault_of r) (Says r) Lawful
 
 -- every reply that is no fault is the table's, at the tree that the entries before it left
 abbrev pub Legal : Tree → List Entry → Type 0

@@ -1,5 +1,6 @@
 -- What is promised of whatever a ground shows.
 use Rattle.std.specs.Prelude.{◌≡◌, ◌≢◌, ◌∷◌, Some}
+use Rattle.std.specs.Option.{option_map}
 use Rattle.eden_model.specs.declared.kind.Kind.TheVariants as kind
 use Rattle.eden_model.specs.Trees.{Name, Path, Tree, IsTree, graft}
 use Rattle.eden_model.specs.Shown.{Item, Ground, node_of, entry_in, shown, shown_at, item_at, map_item, Agree}
@@ -7,6 +8,10 @@ use Rattle.eden_model.specs.Shown.{Item, Ground, node_of, entry_in, shown, shown
 -- a directory shows a tree
 abbrev pub ShownIsTree : (S : Type 0) → Type 0
 ShownIsTree S = (G : Ground S) (i : Item S) → i.kind ≡ kind.Dir → IsTree (shown G i)
+
+-- what stands at a path is the node of the entry there
+abbrev pub ShowsItems : (S : Type 0) → Type 0
+ShowsItems S = (G : Ground S) (i : Item S) (p : Path) → shown G i p ≡ option_map (node_of G) (item_at G i p)
 
 -- grounds that agree show the same
 abbrev pub FollowsSources : (S T : Type 0) → Type 0

@@ -1,6 +1,6 @@
 use crate::bytes::Bytes;
 use crate::errno::Errno;
-use crate::fault::{Cause, Fault};
+use crate::fault::{CallFault, Cause, Fault, StartFault};
 use crate::id::Id;
 use crate::kind::Kind;
 use crate::name::Name;
@@ -9,7 +9,7 @@ use crate::path::Path;
 use crate::reply::{Entries, Reply};
 use crate::request::Request;
 use crate::tree::WholeTree;
-use std::alloc::Global;
+use std::alloc::{AllocFailed, Global};
 use std::process::Abort;
 use std::test::*;
 
@@ -30,15 +30,6 @@ fn path(alloc: Global, text: &str) -> Result<Path, Fail> {
         }
     }
     Ok(Path::new(names)?)
-}
-
-/// So many names of `a`, each so long.
-fn names(alloc: Global, count: usize, len: usize) -> Result<Vec<Name>, Fail> {
-    let mut names = Vec::new(alloc);
-    for _ in 0..count {
-        names.push(Name::new(vec![in alloc; b'a'; len]?)?)?;
-    }
-    Ok(names)
 }
 
 /// A row as the tests write it: its path, its kind, and its content; none where that is lost or unlisted.
@@ -63,10 +54,6 @@ fn whole(alloc: Global, rows: &[Row]) -> Result<Option<WholeTree>, Fail> {
         all.push((path(alloc, at)?, node(alloc, *kind, *text)?))?;
     }
     Ok(WholeTree::new(alloc, all)?)
-}
-
-fn is_tree(alloc: Global, rows: &[Row]) -> Result<bool, Fail> {
-    Ok(whole(alloc, rows)?.is_some())
 }
 
 /// The request that a line spells, as `list / - 2`.
@@ -111,7 +98,7 @@ fn said(alloc: Global, reply: &Option<Reply>) -> Result<String, Fail> {
     })
 }
 
-/// Asks the tree each line, and compares what it says.
+/// Asks the tree a copy of each line's request, and compares what a copy of its reply says.
 fn answers(
     rt: &impl Abort,
     alloc: Global,
@@ -120,78 +107,13 @@ fn answers(
 ) -> Result<(), Fail> {
     let mut tree = whole(alloc, rows)?.ok_or("no tree")?;
     for (line, want) in lines {
-        let request = ask(alloc, line)?;
-        let reply = tree.step(alloc, &request)?;
+        let request = ask(alloc, line)?.copy(alloc)?;
+        let reply = match tree.step(alloc, &request)? {
+            None => None,
+            Some(reply) => Some(reply.copy(alloc)?),
+        };
         assert_eq!(rt; said(alloc, &reply)?.as_str(), *want, "{line}");
     }
-    Ok(())
-}
-
-#[test]
-fn names_have_limits(rt: HostRuntime) -> Result<(), Fail> {
-    let alloc = rt.alloc();
-    let cases = [
-        ("", Some(Errno::EINVAL)),
-        (".", Some(Errno::EINVAL)),
-        ("..", Some(Errno::EINVAL)),
-        ("a/b", Some(Errno::EINVAL)),
-        ("a\0", Some(Errno::EINVAL)),
-        ("...", None),
-    ];
-    for (text, want) in cases {
-        let made = Name::new(Vec::from_slice(alloc, text.as_bytes())?);
-        assert_eq!(rt; made.err(), want, "{text:?}");
-    }
-    let longest = vec![in alloc; b'a'; 255]?;
-    assert_eq!(rt; Name::new(longest)?.len(), 255);
-    let long = vec![in alloc; b'a'; 256]?;
-    assert_eq!(rt; Name::new(long).err(), Some(Errno::ENAMETOOLONG));
-    Ok(())
-}
-
-#[test]
-fn paths_have_limits(rt: HostRuntime) -> Result<(), Fail> {
-    let alloc = rt.alloc();
-    assert_eq!(rt; Path::new(names(alloc, 256, 1)?)?.as_slice().len(), 256);
-    let deep = Path::new(names(alloc, 257, 1)?);
-    assert_eq!(rt; deep.err(), Some(Errno::ENAMETOOLONG));
-    let long = Path::new(names(alloc, 16, 255)?);
-    assert_eq!(rt; long.err(), Some(Errno::ENAMETOOLONG), "4,096 bytes");
-    let mut longest = names(alloc, 15, 255)?;
-    longest.append(&mut names(alloc, 1, 254)?)?;
-    assert_eq!(rt; Path::new(longest)?.as_slice().len(), 16, "4,095 bytes");
-    Ok(())
-}
-
-#[test]
-fn rows_that_are_a_tree(rt: HostRuntime) -> Result<(), Fail> {
-    let alloc = rt.alloc();
-    let root = ("/", Kind::Dir, Some(""));
-    let dir = ("/a", Kind::Dir, Some(""));
-    let file = ("/a", Kind::File, Some(""));
-    let below = ("/a/b", Kind::Link, None);
-    assert!(rt; is_tree(alloc, &[root])?, "a root alone");
-    assert!(rt; is_tree(alloc, &[below, dir, root])?, "in any order");
-    assert!(rt; !is_tree(alloc, &[])?, "no rows");
-    assert!(rt; !is_tree(alloc, &[file])?, "no root");
-    assert!(rt;
-        !is_tree(alloc, &[("/", Kind::File, Some(""))])?,
-        "a root that is a file"
-    );
-    assert!(rt; !is_tree(alloc, &[root, below])?, "no parent");
-    assert!(rt;
-        !is_tree(alloc, &[root, file, below])?,
-        "a parent that is a file"
-    );
-    assert!(rt;
-        !is_tree(alloc, &[root, ("/a", Kind::Dir, None), below])?,
-        "an unlisted parent"
-    );
-    assert!(rt;
-        !is_tree(alloc, &[("/", Kind::Dir, None), file])?,
-        "an unlisted root"
-    );
-    assert!(rt; !is_tree(alloc, &[root, dir, file])?, "a path twice");
     Ok(())
 }
 
@@ -245,34 +167,44 @@ fn a_tree_with_holes_answers(rt: HostRuntime) -> Result<(), Fail> {
     answers(&rt, rt.alloc(), &rows, &lines)
 }
 
+/// A vector of one byte, or what want of memory is to the caller.
+fn one_byte<E: From<AllocFailed<u8>>>(alloc: Global) -> Result<Vec<u8>, E> {
+    let mut bytes = Vec::new(alloc);
+    bytes.push(1)?;
+    Ok(bytes)
+}
+
 #[test]
-fn copies_are_equal(rt: HostRuntime) -> Result<(), Fail> {
+fn errors_are_told_in_words(rt: HostRuntime) -> Result<(), Fail> {
     let alloc = rt.alloc();
-    for line in ["kind /a/b", "read /a 1 2", "list /a b 3", "list / - 4"] {
-        let request = ask(alloc, line)?;
-        let copy = request.copy(alloc)?;
-        assert_eq!(rt;
-            format!(in alloc; "{copy:?}")?,
-            format!(in alloc; "{request:?}")?
-        );
-    }
-    let rows = vec![in alloc;
-        (name(alloc, "a")?, Kind::Link),
-        (name(alloc, "b")?, Kind::Exec),
-    ]?;
-    let replies = [
-        Reply::Kind(Kind::Exec),
-        Reply::Data(bytes(alloc, "new")?),
-        Reply::Entries(Entries::new(rows), true),
-        Reply::Err(Errno::EISDIR),
-        Reply::Fault(Fault::Fetch(Id { bytes: [7; 20] }, Cause::Missing)),
+    let lost = Fault::Fetch(Id { bytes: [7; 20] }, Cause::Missing);
+    let full = CallFault::Start(StartFault::HistoryFull(3));
+    let foreign = CallFault::Foreign {
+        floor: 9,
+        length: 4,
+    };
+    let lines = [
+        (
+            format!(in alloc; "{}", Errno::ENOTEMPTY)?,
+            "directory not empty",
+        ),
+        (
+            format!(in alloc; "{lost}")?,
+            "an object could not be had: no such object",
+        ),
+        (
+            format!(in alloc; "{full}")?,
+            "the history is full at 3 entries",
+        ),
+        (
+            format!(in alloc; "{foreign}")?,
+            "entry 9 is awaited of a history of 4",
+        ),
     ];
-    for reply in &replies {
-        let copy = reply.copy(alloc)?;
-        assert_eq!(rt;
-            format!(in alloc; "{copy:?}")?,
-            format!(in alloc; "{reply:?}")?
-        );
+    for (said, want) in &lines {
+        assert_eq!(rt; said.as_str(), *want);
     }
+    assert_eq!(rt; one_byte::<Fault>(alloc)?.len(), 1);
+    assert_eq!(rt; one_byte::<Cause>(alloc)?.len(), 1);
     Ok(())
 }
