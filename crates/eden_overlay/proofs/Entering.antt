@@ -1,35 +1,27 @@
 -- Directories stored with entries put in.
-use Rattle.std.proofs.Common.{◌≡◌, ◌≢◌, ◌⊎◌, ◌∙◌, ℕ, List, [], Option, None, IsSomeAnd, Contains, refl, sym, ap, subst, inl, inr, arith}
+use Rattle.std.proofs.Common.{◌≡◌, ◌≢◌, ◌⊎◌, ◌∙◌, ℕ, List, [], None, Contains, refl, sym, ap, subst, inl, inr, arith}
 use Rattle.eden_model.specs.declared.kind.Kind.{Kind}
-use Rattle.eden_model.specs.declared.kind.Kind.TheVariants as kind
 use Rattle.eden_overlay_format.specs.declared.stored_entry.StoredEntry.{StoredEntry}
-use Rattle.eden_overlay_format.specs.Content.{IsFile}
-use Rattle.eden_overlay_format.specs.Directory.{IsEntry, AreEntries, IsDirectory}
+use Rattle.eden_overlay_format.specs.Directory.{IsStorable, AreStorable}
 use Rattle.eden_overlay.specs.Files.{Stored}
 use Rattle.eden_overlay.specs.Held.{HoldsEntries, with_entries}
-use Rattle.eden_overlay.specs.Soundness.{Names, LeadsOn, Reached, here, below, Counts, HasOwn, HoldsKind, IsSound}
-use Rattle.eden_overlay.specs.Laws.{NamedFrom, Brings, MayEnter, IsFresh, IsUnnamed, EnteredStay, AddedStay}
-use Rattle.eden_overlay.proofs.Puts.{same_or_apart, kind_moved}
+use Rattle.eden_overlay.specs.Soundness.{Names, LeadsOn, Reached, here, below, IsLive, HasOwn, HoldsKind, AreSound}
+use Rattle.eden_overlay.specs.Laws.{NamedFrom, Brings, MayEnter, IsFresh, EnteredStay, AddedStay}
+use Rattle.eden_overlay.proofs.Puts.{same_or_apart, kind_moved, one_held, nothing_there}
 use Rattle.eden_overlay.proofs.Strays.{each_at}
-use Rattle.eden_overlay.proofs.Directories.{apart, named, kind_kept, top_kept, one_held}
+use Rattle.eden_overlay.proofs.Directories.{apart, named, kind_kept, top_kept}
 use Rattle.eden_overlay.proofs.Cycles.{joined, last, not_to_root, named_by, no_cycle, directory_there}
 
-nothing_there : (F : Stored) (k : ℕ) (t : Kind) → F k ≡ None → HoldsKind F k t → ⊥
-nothing_there F k kind.Dir none h = let P : Option (List ℕ) → Type 0 = λ o. IsSomeAnd o (λ b. IsDirectory b h.0) in subst P none h.1
-nothing_there F k kind.File none h = let P : Option (List ℕ) → Type 0 = λ o. IsSomeAnd o (λ b. IsFile b h.0) in subst P none h.1
-nothing_there F k kind.Exec none h = let P : Option (List ℕ) → Type 0 = λ o. IsSomeAnd o (λ b. IsFile b h.0) in subst P none h.1
-nothing_there F k kind.Link none h = let P : Option (List ℕ) → Type 0 = λ o. IsSomeAnd o (λ b. IsFile b h.0) in subst P none h.1
-
-module _ (F : Stored) (d : ℕ) (new : List StoredEntry) (counts : Counts F d) (are : AreEntries new) (each : (e : StoredEntry) → Contains new e → Names F d e ⊎ MayEnter F d new e) (s : IsSound F) where
+module _ (F : Stored) (d : ℕ) (new : List StoredEntry) (live : IsLive F d) (are : AreStorable new) (each : (e : StoredEntry) → Contains new e → Names F d e ⊎ MayEnter F d new e) (s : AreSound F) where
   -- d is below no entry that may enter
   not_inside : (e : StoredEntry) → Contains new e → MayEnter F d new e → LeadsOn e → Reached F e.number d → ⊥
-  not_inside e there may leads r = elim (named_by F d counts) [
+  not_inside e there may leads r = elim (named_by F d live) [
     | inl root ↦
         (let P : ℕ → Type 0 = λ q. Reached F e.number q in
-        not_to_root F e.number (each_at IsEntry new e there.0 there.1 there.2 are.each).least (subst P root r))
+        not_to_root F e.number (each_at IsStorable new e there.0 there.1 there.2 are.each).least (subst P root r))
     | inr by ↦ (elim (last F e.number d r) [
-      | inl is ↦ by.other (may.free d by.parent by.entry (inl (sym is)) by.counts by.named by.is)
-      | inr n ↦ by.other (may.free d by.parent by.entry (inr (leads, n)) by.counts by.named by.is)
+      | inl is ↦ by.other (may.free d by.parent by.entry (inl (sym is)) by.live by.named by.is)
+      | inr n ↦ by.other (may.free d by.parent by.entry (inr (leads, n)) by.live by.named by.is)
     ])
   ]
 
@@ -44,13 +36,13 @@ module _ (F : Stored) (d : ℕ) (new : List StoredEntry) (counts : Counts F d) (
   inside_apart : (c : ℕ) → Inside c → d ≢ c
   inside_apart c i is = let P : ℕ → Type 0 = λ q. Reached F i.entry.number q in not_inside i.entry i.there i.may i.leads (subst P (sym is) i.reached)
 
-  -- how directory c, where it counts afterwards, names the entry: as before; anew, and it is d; or below what entered
+  -- how directory c, where it is live afterwards, names the entry: as before; anew, and it is d; or below what entered
   data Site (c : ℕ) (e : StoredEntry) : Type 0 where
-    as_before : Counts F c → Names F c e → (d ≡ c → Contains new e) → Site c e
+    as_before : IsLive F c → Names F c e → (d ≡ c → Contains new e) → Site c e
     anew : d ≡ c → Contains new e → MayEnter F d new e → Site c e
     under : Inside c → Names F c e → Site c e
 
-  site : (c : ℕ) (e : StoredEntry) → Counts F c ⊎ Inside c → Names (with_entries F d new) c e → Site c e
+  site : (c : ℕ) (e : StoredEntry) → IsLive F c ⊎ Inside c → Names (with_entries F d new) c e → Site c e
   site c e (inl r) n = elim (named F d new are c e n) [
     | inl h ↦ (elim (each e h.1) [
       | inl old ↦ (let P : ℕ → Type 0 = λ q. Names F q e in as_before r (subst P h.0 old) (λ _. h.1))
@@ -63,7 +55,7 @@ module _ (F : Stored) (d : ℕ) (new : List StoredEntry) (counts : Counts F d) (
     | inr h ↦ under i h.1
   ]
 
-  stood : (c : ℕ) → Counts (with_entries F d new) c → Counts F c ⊎ Inside c
+  stood : (c : ℕ) → IsLive (with_entries F d new) c → IsLive F c ⊎ Inside c
   stood c here = inl here
   stood c (below b e r n leads) = elim (site b e (stood b r) n) [
     | as_before t m k ↦ inl (below b e t m leads)
@@ -77,7 +69,7 @@ module _ (F : Stored) (d : ℕ) (new : List StoredEntry) (counts : Counts F d) (
   has_own c e (under i n) = i.may.owned i.leads c e i.reached n
 
   kind_after : (q : ℕ) (t : Kind) → HoldsKind F q t → HoldsKind (with_entries F d new) q t
-  kind_after q t h = elim (directory_there F s d counts) [
+  kind_after q t h = elim (directory_there F s d live) [
     | inl none ↦ (elim (same_or_apart d q) [
       | inl is ↦ (let P : ℕ → Type 0 = λ p. F p ≡ None in absurd (nothing_there F q t (subst P is none) h))
       | inr ne ↦ kind_moved F (with_entries F d new) q t (sym (apart F d new are q ne)) h
@@ -87,7 +79,7 @@ module _ (F : Stored) (d : ℕ) (new : List StoredEntry) (counts : Counts F d) (
 
   -- ---- one number, one entry
 
-  before_anew : (b c : ℕ) (e f : StoredEntry) → Counts F b → Names F b e → (d ≡ b → Contains new e) → d ≡ c → MayEnter F d new f → e.number ≡ f.number → (b ≡ c) × (e ≡ f)
+  before_anew : (b c : ℕ) (e f : StoredEntry) → IsLive F b → Names F b e → (d ≡ b → Contains new e) → d ≡ c → MayEnter F d new f → e.number ≡ f.number → (b ≡ c) × (e ≡ f)
   before_anew b c e f r n k at may is =
       let place = may.free f.number b e (inl refl) r n is in
       (place ∙ at, sym (may.apart f.number e (k (sym place)) (inl refl) (inl is)))
@@ -99,7 +91,7 @@ module _ (F : Stored) (d : ℕ) (new : List StoredEntry) (counts : Counts F d) (
       let same = i.may.apart f.number e there (inr (i.leads, below_it)) (inl is) in
       i.may.not_below i.leads (record { directory = c; entry = f; reached = i.reached; named = m; is = sym is ∙ sym (ap (λ (x : StoredEntry). x.number) same) })
 
-  before_under : (b c : ℕ) (e f : StoredEntry) → Counts F b → Names F b e → (d ≡ b → Contains new e) → (i : Inside c) → Names F c f → e.number ≡ f.number → ⊥
+  before_under : (b c : ℕ) (e f : StoredEntry) → IsLive F b → Names F b e → (d ≡ b → Contains new e) → (i : Inside c) → Names F c f → e.number ≡ f.number → ⊥
   before_under b c e f r n k i m is =
       let below_it : NamedFrom F i.entry.number f.number = record { directory = c; entry = f; reached = i.reached; named = m; is = refl } in
       let place = i.may.free f.number b e (inr (i.leads, below_it)) r n is in
@@ -124,57 +116,27 @@ module _ (F : Stored) (d : ℕ) (new : List StoredEntry) (counts : Counts F d) (
   one_site b c e f (under i n) (anew at there may) is = absurd (new_under b f e there i n (sym is))
   one_site b c e f (under i n) (under j m) is = under_under b c e f i j n m is
 
-  entered : IsSound (with_entries F d new)
+  entered : AreSound (with_entries F d new)
   entered = record {
     top = top_kept F d new are s;
     owned = λ c e r n own. kind_after e.number e.kind (has_own c e (site c e (stood c r) n) own);
     once = λ b c e f r t n m is. one_site b c e f (site b e (stood b r) n) (site c f (stood c t) m) is;
   }
 
-  -- what d named and names no more is named by nothing, where no entry that enters brings its number
-  module _ (gone : StoredEntry) (was : Names F d gone) (out : ¬ Contains new gone) (unbrought : (e : StoredEntry) → Contains new e → Names F d e ⊎ (¬ Brings F e gone.number)) where
-    another : (f : StoredEntry) → Contains new f → Names F d f → f.number ≢ gone.number
-    another f there n is =
-        let P : StoredEntry → Type 0 = λ x. Contains new x in
-        out (subst P (s.once d d f gone counts counts n was is).1 there)
-
-    not_now : (c : ℕ) (f : StoredEntry) → Site c f → f.number ≢ gone.number
-    not_now c f (as_before r n k) is =
-        let same = s.once c d f gone r counts n was is in
-        let P : StoredEntry → Type 0 = λ x. Contains new x in
-        out (subst P same.1 (k (sym same.0)))
-    not_now c f (anew at there may) is = elim (unbrought f there) [
-      | inl n ↦ another f there n is
-      | inr none ↦ none (inl is)
-    ]
-    not_now c f (under i m) is = elim (unbrought i.entry i.there) [
-      | inl n ↦
-          (let same = s.once c d f gone (joined F 1 i.entry.number c (below d i.entry counts n i.leads) i.reached) counts m was is in
-          let P : ℕ → Type 0 = λ q. Reached F i.entry.number q in
-          no_cycle F s d i.entry counts n i.leads (subst P same.0 i.reached))
-      | inr none ↦ none (inr (i.leads, record { directory = c; entry = f; reached = i.reached; named = m; is = is }))
-    ]
-
-    unnamed : IsUnnamed (with_entries F d new) gone.number
-    unnamed c f r n is = not_now c f (site c f (stood c r) n) is
-
-pub entered_unnamed : (F : Stored) (d : ℕ) (new : List StoredEntry) → Counts F d → AreEntries new → ((e : StoredEntry) → Contains new e → Names F d e ⊎ MayEnter F d new e) → IsSound F → (gone : StoredEntry) → Names F d gone → ¬ Contains new gone → ((e : StoredEntry) → Contains new e → Names F d e ⊎ (¬ Brings F e gone.number)) → IsUnnamed (with_entries F d new) gone.number
-entered_unnamed F d new counts are each s gone was out unbrought = unnamed F d new counts are each s gone was out unbrought
-
 pub entered_stay : EnteredStay
-entered_stay F d new counts are each s = entered F d new counts are each s
+entered_stay F d new live are each s = entered F d new live are each s
 
 -- ---- fresh entries
 
 nothing_below : (F : Stored) (k : ℕ) (c : ℕ) (f : StoredEntry) → HoldsEntries F k [] → Reached F k c → Names F c f → ⊥
 nothing_below F k c f empty here n =
     let P : List StoredEntry → Type 0 = λ es. Contains es f in
-    let none = subst P (one_held (F k) n.entries [] n.held empty) n.there in
+    let none = subst P (one_held F k n.entries [] n.held empty) n.there in
     let within = none.1 in
     absurd (omega (arith, within))
 nothing_below F k c f empty (below b e r m leads) n = nothing_below F k b e empty r m
 
-module _ (F : Stored) (d : ℕ) (new : List StoredEntry) (counts : Counts F d) (distinct : (e f : StoredEntry) → Contains new e → Contains new f → e.number ≡ f.number → e ≡ f) (each : (e : StoredEntry) → Contains new e → Names F d e ⊎ IsFresh F d e) (s : IsSound F) where
+module _ (F : Stored) (d : ℕ) (new : List StoredEntry) (live : IsLive F d) (distinct : (e f : StoredEntry) → Contains new e → Contains new f → e.number ≡ f.number → e ≡ f) (each : (e : StoredEntry) → Contains new e → Names F d e ⊎ IsFresh F d e) (s : AreSound F) where
   only_itself : (e : StoredEntry) → IsFresh F d e → (number : ℕ) → Brings F e number → e.number ≡ number
   only_itself e fresh number brings = elim brings [
     | inl is ↦ is
@@ -186,10 +148,10 @@ module _ (F : Stored) (d : ℕ) (new : List StoredEntry) (counts : Counts F d) (
     | inl same ↦ distinct e f there other (is ∙ sym same)
     | inr b ↦ (elim (each f other) [
       | inl old ↦
-          (let inside = joined F 1 f.number b.1.directory (below d f counts old b.0) b.1.reached in
+          (let inside = joined F 1 f.number b.1.directory (below d f live old b.0) b.1.reached in
           let place = fresh.free b.1.directory b.1.entry inside b.1.named (b.1.is ∙ sym is) in
           let P : ℕ → Type 0 = λ q. Reached F f.number q in
-          absurd (no_cycle F s d f counts old b.0 (subst P place b.1.reached)))
+          absurd (no_cycle F s d f live old b.0 (subst P place b.1.reached)))
       | inr empty ↦ absurd (nothing_below F f.number b.1.directory b.1.entry (empty.empty b.0) b.1.reached b.1.named)
     ])
   ]
@@ -208,4 +170,4 @@ module _ (F : Stored) (d : ℕ) (new : List StoredEntry) (counts : Counts F d) (
   either e there = elim (each e there) [ inl old ↦ inl old | inr fresh ↦ inr (enters e there fresh) ]
 
 pub added_stay : AddedStay
-added_stay F d new counts are distinct each s = entered_stay F d new counts are (either F d new counts distinct each s) s
+added_stay F d new live are distinct each s = entered_stay F d new live are (either F d new live distinct each s) s

@@ -2,15 +2,15 @@
 use Rattle.std.proofs.Common.{◌≡◌, ◌≢◌, ◌⊎◌, ◌∙◌, ℕ, List, Contains, refl, sym, subst, inl, inr}
 use Rattle.eden_model.specs.declared.kind.Kind.{Kind}
 use Rattle.eden_overlay_format.specs.declared.stored_entry.StoredEntry.{StoredEntry}
-use Rattle.eden_overlay_format.specs.Directory.{AreEntries}
+use Rattle.eden_overlay_format.specs.Directory.{AreStorable}
 use Rattle.eden_overlay.specs.Files.{Stored}
 use Rattle.eden_overlay.specs.Held.{HoldsEntries, with_entries}
-use Rattle.eden_overlay.specs.Soundness.{Names, LeadsOn, Reached, here, below, Counts, HasOwn, HoldsKind, IsSound}
-use Rattle.eden_overlay.specs.Laws.{NamedFrom, Brings, MayEnter, IsUnnamed, IsSameInode, RenamedStay, RenamedUnnamed, MovedStay, MovedUnnamed}
-use Rattle.eden_overlay.proofs.Directories.{named, kind_kept, top_kept, was_named, counted, dropped_stay, dropped_unnamed}
+use Rattle.eden_overlay.specs.Soundness.{Names, LeadsOn, Reached, here, below, IsLive, HasOwn, HoldsKind, AreSound}
+use Rattle.eden_overlay.specs.Laws.{NamedFrom, Brings, MayEnter, IsSameInode, RenamedStay, MovedStay}
+use Rattle.eden_overlay.proofs.Directories.{named, kind_kept, top_kept, was_named, was_live, dropped_stay, dropped_unnamed}
 use Rattle.eden_overlay.proofs.Strays.{numbers_from_two}
 use Rattle.eden_overlay.proofs.Cycles.{joined, last, not_to_root, no_cycle}
-use Rattle.eden_overlay.proofs.Entering.{entered_stay, entered_unnamed}
+use Rattle.eden_overlay.proofs.Entering.{entered_stay}
 
 leads_too : (e f : StoredEntry) → IsSameInode e f → LeadsOn e → LeadsOn f
 leads_too e f same leads = (sym same.kind ∙ leads.0, sym same.origin ∙ leads.1)
@@ -26,7 +26,7 @@ itself e = record { kind = refl; origin = refl; number = refl }
 
 -- ---- new names
 
-module _ (F : Stored) (d : ℕ) (old new : List StoredEntry) (was : HoldsEntries F d old) (are : AreEntries new) (distinct : (e f : StoredEntry) → Contains new e → Contains new f → e.number ≡ f.number → e ≡ f) (each : (e : StoredEntry) → Contains new e → (f : StoredEntry) × (Contains old f × IsSameInode e f)) (s : IsSound F) where
+module _ (F : Stored) (d : ℕ) (old new : List StoredEntry) (was : HoldsEntries F d old) (are : AreStorable new) (distinct : (e f : StoredEntry) → Contains new e → Contains new f → e.number ≡ f.number → e ≡ f) (each : (e : StoredEntry) → Contains new e → (f : StoredEntry) × (Contains old f × IsSameInode e f)) (s : AreSound F) where
   -- the inode that c names now was named there before: as itself, or under another name in d
   record Former (c : ℕ) (e : StoredEntry) : Type 0 where
     entry : StoredEntry
@@ -43,12 +43,12 @@ module _ (F : Stored) (d : ℕ) (old new : List StoredEntry) (was : HoldsEntries
     | inr h ↦ record { entry = e; names = h.1; same = itself e; place = inr (h.0, refl) }
   ]
 
-  counted_before : (c : ℕ) → Counts (with_entries F d new) c → Counts F c
-  counted_before c here = here
-  counted_before c (below b e r n leads) =
+  live_before : (c : ℕ) → IsLive (with_entries F d new) c → IsLive F c
+  live_before c here = here
+  live_before c (below b e r n leads) =
       let f = former b e n in
-      let P : ℕ → Type 0 = λ q. Counts F q in
-      subst P (sym f.same.number) (below b f.entry (counted_before b r) f.names (leads_too e f.entry f.same leads))
+      let P : ℕ → Type 0 = λ q. IsLive F q in
+      subst P (sym f.same.number) (below b f.entry (live_before b r) f.names (leads_too e f.entry f.same leads))
 
   one_entry : (c : ℕ) (e f : StoredEntry) (g : Former c e) (h : Former c f) → g.entry ≡ h.entry → e.number ≡ f.number → e ≡ f
   one_entry c e f g h same is = elim g.place [
@@ -62,82 +62,73 @@ module _ (F : Stored) (d : ℕ) (old new : List StoredEntry) (was : HoldsEntries
     ])
   ]
 
-  once_more : (b c : ℕ) (e f : StoredEntry) → Counts (with_entries F d new) b → Counts (with_entries F d new) c → Names (with_entries F d new) b e → Names (with_entries F d new) c f → e.number ≡ f.number → (b ≡ c) × (e ≡ f)
+  once_more : (b c : ℕ) (e f : StoredEntry) → IsLive (with_entries F d new) b → IsLive (with_entries F d new) c → Names (with_entries F d new) b e → Names (with_entries F d new) c f → e.number ≡ f.number → (b ≡ c) × (e ≡ f)
   once_more b c e f r t n m is =
       let g = former b e n in
       let h = former c f m in
-      let same = s.once b c g.entry h.entry (counted_before b r) (counted_before c t) g.names h.names (sym g.same.number ∙ is ∙ h.same.number) in
+      let same = s.once b c g.entry h.entry (live_before b r) (live_before c t) g.names h.names (sym g.same.number ∙ is ∙ h.same.number) in
       let P : ℕ → Type 0 = λ q. Names (with_entries F d new) q f in
       let m' = subst P (sym same.0) m in
       let h' = former b f m' in
-      let again = s.once b b g.entry h'.entry (counted_before b r) (counted_before b r) g.names h'.names (sym g.same.number ∙ is ∙ h'.same.number) in
+      let again = s.once b b g.entry h'.entry (live_before b r) (live_before b r) g.names h'.names (sym g.same.number ∙ is ∙ h'.same.number) in
       (same.0, one_entry b e f g h' again.1 is)
 
-  renamed : IsSound (with_entries F d new)
+  renamed : AreSound (with_entries F d new)
   renamed = record {
     top = top_kept F d new are s;
     owned = λ c e r n. (λ own.
         let f = former c e n in
-        kind_kept F d new are old was e.number e.kind (own_too F e f.entry f.same (s.owned c f.entry (counted_before c r) f.names) own));
+        kind_kept F d new are old was e.number e.kind (own_too F e f.entry f.same (s.owned c f.entry (live_before c r) f.names) own));
     once = once_more;
   }
-
-  unnamed : (left : StoredEntry) → Counts F d → Contains old left → ((e : StoredEntry) → Contains new e → e.number ≢ left.number) → IsUnnamed (with_entries F d new) left.number
-  unnamed left counts there gone c f r n is =
-      let g = former c f n in
-      let same = s.once c d g.entry left (counted_before c r) counts g.names (record { entries = old; held = was; there = there }) (sym g.same.number ∙ is) in
-      elim g.place [ inl h ↦ gone f h.1 is | inr h ↦ h.0 (sym same.0) ]
 
 pub renamed_stay : RenamedStay
 renamed_stay F d old new m s = renamed F d old new m.held m.are m.distinct m.each s
 
-pub renamed_unnamed : RenamedUnnamed
-renamed_unnamed F d old new left m counts there gone s = unnamed F d old new m.held m.are m.distinct m.each s left counts there gone
-
 -- ---- another directory
 
-module _ (F : Stored) (a b : ℕ) (old kept new : List StoredEntry) (left moved : StoredEntry) (was : HoldsEntries F a old) (are : AreEntries kept) (fewer : (e : StoredEntry) → Contains kept e → Contains old e) (counts : Counts F a) (there : Contains old left) (gone : ¬ Contains kept left) (same : IsSameInode moved left) (s : IsSound F) where
+module _ (F : Stored) (a b : ℕ) (old kept new : List StoredEntry) (left moved : StoredEntry) (was : HoldsEntries F a old) (are : AreStorable kept) (fewer : (e : StoredEntry) → Contains kept e → Contains old e) (live : IsLive F a) (there : Contains old left) (gone : ¬ Contains kept left) (same : IsSameInode moved left) (s : AreSound F) where
   names_left : Names F a left
   names_left = record { entries = old; held = was; there = there }
 
   named_then : (c : ℕ) (e : StoredEntry) → Names (with_entries F a kept) c e → Names F c e
   named_then c e n = was_named F a old kept was are fewer c e n
 
-  counted_then : (c : ℕ) → Counts (with_entries F a kept) c → Counts F c
-  counted_then c r = counted F a old kept was are fewer c r
+  live_then : (c : ℕ) → IsLive (with_entries F a kept) c → IsLive F c
+  live_then c r = was_live F a old kept was are fewer c r
 
   reached_then : (k c : ℕ) → Reached (with_entries F a kept) k c → Reached F k c
   reached_then k c here = here
   reached_then k c (below q e r n leads) = below q e (reached_then k q r) (named_then q e n) leads
 
-  -- what is below the moved entry was below the one that was left out, and so counted
+  -- what is below the moved entry was below the one that was left out, and so was live
   below_left : (c : ℕ) → Reached (with_entries F a kept) moved.number c → Reached F left.number c
   below_left c r = let P : ℕ → Type 0 = λ k. Reached F k c in subst P same.number (reached_then moved.number c r)
 
-  counted_below : LeadsOn moved → (c : ℕ) → Reached (with_entries F a kept) moved.number c → Counts F c
-  counted_below leads c r = joined F 1 left.number c (below a left counts names_left (leads_too moved left same leads)) (below_left c r)
+  live_below : LeadsOn moved → (c : ℕ) → Reached (with_entries F a kept) moved.number c → IsLive F c
+  live_below leads c r = joined F 1 left.number c (below a left live names_left (leads_too moved left same leads)) (below_left c r)
 
-  unnamed_now : (c : ℕ) (f : StoredEntry) → Counts (with_entries F a kept) c → Names (with_entries F a kept) c f → f.number ≢ left.number
-  unnamed_now c f r n = dropped_unnamed F a old kept left (record { held = was; are = are; fewer = fewer }) counts there gone s c f r n
+  unnamed_now : (c : ℕ) (f : StoredEntry) → IsLive (with_entries F a kept) c → Names (with_entries F a kept) c f → f.number ≢ left.number
+  unnamed_now c f r n = dropped_unnamed F a old kept left (record { held = was; are = are; fewer = fewer }) live there gone s c f r n
 
-  -- it doesn't count now
-  detached : LeadsOn left → (c : ℕ) → Counts (with_entries F a kept) c → Reached F left.number c → ⊥
+  -- it isn't live now
+  detached : LeadsOn left → (c : ℕ) → IsLive (with_entries F a kept) c → Reached F left.number c → ⊥
   detached leads c here reach = not_to_root F left.number (numbers_from_two F a left names_left) reach
   detached leads c (below p e r n goes) reach = elim (last F left.number e.number reach) [
     | inl is ↦ unnamed_now p e r n is
     | inr m ↦
         (let P : ℕ → Type 0 = λ q. Reached F left.number q in
-        let one = s.once p m.directory e m.entry (counted_then p r) (joined F 1 left.number m.directory (below a left counts names_left leads) m.reached) (named_then p e n) m.named (sym m.is) in
+        let one = s.once p m.directory e m.entry (live_then p r) (joined F 1 left.number m.directory (below a left live names_left leads) m.reached) (named_then p e n) m.named (sym m.is) in
         detached leads p r (subst P (sym one.0) m.reached))
   ]
 
-  unbrought : (number c : ℕ) (f : StoredEntry) → Brings (with_entries F a kept) moved number → Counts (with_entries F a kept) c → Names (with_entries F a kept) c f → f.number ≡ number → ⊥
+  unbrought : (number c : ℕ) (f : StoredEntry) → Brings (with_entries F a kept) moved number → IsLive (with_entries F a kept) c → Names (with_entries F a kept) c f → f.number ≡ number → ⊥
   unbrought number c f brings r n is = elim brings [
     | inl own ↦ unnamed_now c f r n (is ∙ sym own ∙ same.number)
     | inr under ↦
         (let q = under.1.directory in
         let P : ℕ → Type 0 = λ x. Reached F left.number x in
-        let one = s.once c q f under.1.entry (counted_then c r) (counted_below under.0 q under.1.reached) (named_then c f n) (named_then q under.1.entry under.1.named) (is ∙ sym under.1.is) in
+        let one = s.once c q f under.1.entry (live_then c r) (live_below under.0 q under.1.reached) (named_then c f n) (named_then q under.1.entry under.1.named) (is ∙ sym under.1.is) in
         detached (leads_too moved left same under.0) c r (subst P (sym one.0) (below_left q under.1.reached)))
   ]
 
@@ -145,13 +136,13 @@ module _ (F : Stored) (a b : ℕ) (old kept new : List StoredEntry) (left moved 
   not_itself leads n =
       let q = n.directory in
       let P : ℕ → Type 0 = λ x. Reached F left.number x in
-      let one = s.once q a n.entry left (counted_below leads q n.reached) counts (named_then q n.entry n.named) names_left (n.is ∙ same.number) in
-      no_cycle F s a left counts names_left (leads_too moved left same leads) (subst P one.0 (below_left q n.reached))
+      let one = s.once q a n.entry left (live_below leads q n.reached) live (named_then q n.entry n.named) names_left (n.is ∙ same.number) in
+      no_cycle F s a left live names_left (leads_too moved left same leads) (subst P one.0 (below_left q n.reached))
 
   owned_now : (e : StoredEntry) → HasOwn F e → HasOwn (with_entries F a kept) e
   owned_now e has own = kind_kept F a kept are old was e.number e.kind (has own)
 
-  module _ (to : Counts (with_entries F a kept) b) (each : (e : StoredEntry) → Contains new e → Names (with_entries F a kept) b e ⊎ (e ≡ moved)) where
+  module _ (to : IsLive (with_entries F a kept) b) (each : (e : StoredEntry) → Contains new e → Names (with_entries F a kept) b e ⊎ (e ≡ moved)) where
     apart_now : (number : ℕ) (f : StoredEntry) → Contains new f → Brings (with_entries F a kept) moved number → Brings (with_entries F a kept) f number → moved ≡ f
     apart_now number f other brings both = elim (each f other) [
       | inr is ↦ sym is
@@ -163,9 +154,9 @@ module _ (F : Stored) (a b : ℕ) (old kept new : List StoredEntry) (left moved 
 
     enters : MayEnter (with_entries F a kept) b new moved
     enters = record {
-      own = owned_now moved (own_too F moved left same (s.owned a left counts names_left));
-      owned = λ leads c f r n. owned_now f (s.owned c f (counted_below leads c r) (named_then c f n));
-      once = λ leads c q f g r t n m is. s.once c q f g (counted_below leads c r) (counted_below leads q t) (named_then c f n) (named_then q g m) is;
+      own = owned_now moved (own_too F moved left same (s.owned a left live names_left));
+      owned = λ leads c f r n. owned_now f (s.owned c f (live_below leads c r) (named_then c f n));
+      once = λ leads c q f g r t n m is. s.once c q f g (live_below leads c r) (live_below leads q t) (named_then c f n) (named_then q g m) is;
       not_below = not_itself;
       free = λ number c f brings r n is. absurd (unbrought number c f brings r n is);
       apart = apart_now;
@@ -179,18 +170,6 @@ module _ (F : Stored) (a b : ℕ) (old kept new : List StoredEntry) (left moved 
 
 pub moved_stay : MovedStay
 moved_stay F a b old kept new left moved m s =
-    entered_stay (with_entries F a kept) b new m.counts_still m.are
-    (either F a b old kept new left moved m.drops.held m.drops.are m.drops.fewer m.counts m.there m.gone m.same s m.counts_still m.each)
+    entered_stay (with_entries F a kept) b new m.live_still m.are
+    (either F a b old kept new left moved m.drops.held m.drops.are m.drops.fewer m.live m.there m.gone m.same s m.live_still m.each)
     (dropped_stay F a old kept m.drops s)
-
-pub moved_unnamed : MovedUnnamed
-moved_unnamed F a b old kept new left moved replaced m named gone s =
-    entered_unnamed (with_entries F a kept) b new m.counts_still m.are
-    (either F a b old kept new left moved m.drops.held m.drops.are m.drops.fewer m.counts m.there m.gone m.same s m.counts_still m.each)
-    (dropped_stay F a old kept m.drops s) replaced named gone
-    (λ e other. elim (m.each e other) [
-      | inl n ↦ inl n
-      | inr is ↦
-          (let P : StoredEntry → Type 0 = λ x. ¬ Brings (with_entries F a kept) x replaced.number in
-          inr (subst P (sym is) (λ brings. unbrought F a b old kept new left moved m.drops.held m.drops.are m.drops.fewer m.counts m.there m.gone m.same s replaced.number b replaced brings m.counts_still named refl)))
-    ])

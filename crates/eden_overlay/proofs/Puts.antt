@@ -1,16 +1,21 @@
 -- The files with one of them put in.
-use Rattle.std.proofs.Common.{◌≡◌, ◌≢◌, ℕ, List, Option, Some, None, IsSomeAnd, cond, eq-eqb, get_or, sym, ap, subst, inl, inr, ◌⊎◌, ◌∙◌, arith}
+use Rattle.std.proofs.Common.{◌≡◌, ◌≢◌, ℕ, List, Option, Some, None, cond, eq-eqb, refl, sym, ap, inl, inr, ◌⊎◌, ◌∙◌, subst}
+use Rattle.std.specs.Option.{option_and_then}
 use Rattle.std.proofs.lemmas.Bool.{ne_eqb}
 use Rattle.std.proofs.lemmas.Bool.Decides.{eqb_tells}
+use Rattle.std.proofs.lemmas.Option.{option_and_then_some, same_Some, none-some}
 use Rattle.eden_model.specs.declared.kind.Kind.{Kind}
 use Rattle.eden_model.specs.declared.kind.Kind.TheVariants as kind
 use Rattle.eden_overlay_format.specs.declared.header.Identifier.TheVariants as identifier
 use Rattle.eden_overlay_format.specs.declared.stored_entry.StoredEntry.{StoredEntry}
-use Rattle.eden_overlay_format.specs.Stored.{identifier_bytes}
-use Rattle.eden_overlay_format.specs.Content.{IsFile}
-use Rattle.eden_overlay_format.specs.Directory.{IsDirectory}
+use Rattle.eden_overlay_format.specs.Stored.{written}
+use Rattle.eden_overlay_format.specs.Directory.{AreStorable, directory_body}
+use Rattle.eden_overlay_format.specs.Values.{content_in, entries_in}
+use Rattle.eden_overlay_format.proofs.CallerLemmas.{content_written, entries_written, entries_storable, content_or_entries}
 use Rattle.eden_overlay.specs.Files.{Stored, put}
+use Rattle.eden_overlay.specs.Held.{HoldsContent, HoldsEntries}
 use Rattle.eden_overlay.specs.Soundness.{Names, HoldsKind}
+use Rattle.eden_overlay.specs.Laws.{ContentsHeld, EntriesHeld}
 
 pub put_here : (F : Stored) (k q : ℕ) (w : Option (List ℕ)) → k ≡ q → put F k w q ≡ w
 put_here F k q w e = ap (λ b. cond b w (F q)) (eq-eqb k q e)
@@ -23,26 +28,53 @@ same_or_apart k q = elim (eqb_tells k q) [ inl h ↦ inl h.1 | inr h ↦ inr h.1
 
 -- ---- files that are equal
 
-pub moved : (P : List ℕ → Type 0) (f g : Option (List ℕ)) → f ≡ g → IsSomeAnd f P → IsSomeAnd g P
-moved P f g e h = let Q : Option (List ℕ) → Type 0 = λ o. IsSomeAnd o P in subst Q e h
+pub moved : {X : Type 0} (value : List ℕ → Option X) (f g : Option (List ℕ)) (x : X) → f ≡ g → option_and_then value f ≡ Some x → option_and_then value g ≡ Some x
+moved value f g x same h = ap (option_and_then value) (sym same) ∙ h
 
 pub names_moved : (F G : Stored) (d : ℕ) (e : StoredEntry) → F d ≡ G d → Names F d e → Names G d e
-names_moved F G d e same n = record { entries = n.entries; held = moved (λ b. IsDirectory b n.entries) (F d) (G d) same n.held; there = n.there }
+names_moved F G d e same n = record { entries = n.entries; held = moved entries_in (F d) (G d) n.entries same n.held; there = n.there }
 
 pub kind_moved : (F G : Stored) (k : ℕ) (t : Kind) → F k ≡ G k → HoldsKind F k t → HoldsKind G k t
-kind_moved F G k kind.Dir same h = (h.0, moved (λ b. IsDirectory b h.0) (F k) (G k) same h.1)
-kind_moved F G k kind.File same h = (h.0, moved (λ b. IsFile b h.0) (F k) (G k) same h.1)
-kind_moved F G k kind.Exec same h = (h.0, moved (λ b. IsFile b h.0) (F k) (G k) same h.1)
-kind_moved F G k kind.Link same h = (h.0, moved (λ b. IsFile b h.0) (F k) (G k) same h.1)
+kind_moved F G k kind.Dir same h = (h.0, moved entries_in (F k) (G k) h.0 same h.1)
+kind_moved F G k kind.File same h = (h.0, moved content_in (F k) (G k) h.0 same h.1)
+kind_moved F G k kind.Exec same h = (h.0, moved content_in (F k) (G k) h.0 same h.1)
+kind_moved F G k kind.Link same h = (h.0, moved content_in (F k) (G k) h.0 same h.1)
 
--- ---- a content is no directory
+-- ---- what is put in is held
 
-two_identifiers : (bytes content : List ℕ) (entries : List StoredEntry) → IsFile bytes content → IsDirectory bytes entries → ⊥
-two_identifiers bytes content entries f d =
-    let e : identifier_bytes identifier.File ≡ identifier_bytes identifier.Directory = sym f.stored.identifier ∙ d.stored.identifier in
-    let third : get_or (identifier_bytes identifier.File) 2 0 ≡ get_or (identifier_bytes identifier.Directory) 2 0 = ap (λ bytes. get_or bytes 2 0) e in
-    omega (arith, third)
+pub contents_held : ContentsHeld
+contents_held F k content short =
+    let bytes = written identifier.File content in
+    moved content_in (Some bytes) (put F k (Some bytes) k) content (sym (put_here F k k (Some bytes) refl)) (content_written content short)
 
-pub one_kind : (f : Option (List ℕ)) (content : List ℕ) (entries : List StoredEntry) → IsSomeAnd f (λ b. IsFile b content) → IsSomeAnd f (λ b. IsDirectory b entries) → ⊥
-one_kind None content entries f d = f
-one_kind (Some bytes) content entries f d = two_identifiers bytes content entries f d
+pub entries_held : EntriesHeld
+entries_held F k entries are =
+    let bytes = written identifier.Directory (directory_body entries) in
+    moved entries_in (Some bytes) (put F k (Some bytes) k) entries (sym (put_here F k k (Some bytes) refl)) (entries_written entries are)
+
+-- ---- one value
+
+pub one_held : (F : Stored) (k : ℕ) (es fs : List StoredEntry) → HoldsEntries F k es → HoldsEntries F k fs → es ≡ fs
+one_held F k es fs h g = same_Some es fs (sym h ∙ g)
+
+pub one_kind : (F : Stored) (k : ℕ) (content : List ℕ) (entries : List StoredEntry) → HoldsContent F k content → HoldsEntries F k entries → ⊥
+one_kind F k content entries h g =
+    option_and_then_some content_in (F k) content h (λ bytes at found.
+    option_and_then_some entries_in (F k) entries g (λ others there listed.
+    let P : List ℕ → Type 0 = λ b. entries_in b ≡ Some entries in
+    content_or_entries bytes content entries found (subst P (same_Some others bytes (sym there ∙ at)) listed)))
+
+pub held_storable : (F : Stored) (k : ℕ) (entries : List StoredEntry) → HoldsEntries F k entries → AreStorable entries
+held_storable F k entries h = option_and_then_some entries_in (F k) entries h (λ bytes at found. entries_storable bytes entries found)
+
+-- nothing is held where nothing is stored
+pub nothing_there : (F : Stored) (k : ℕ) (t : Kind) → F k ≡ None → HoldsKind F k t → ⊥
+nothing_there F k kind.Dir none h = none-some h.0 (moved entries_in (F k) None h.0 none h.1)
+nothing_there F k kind.File none h = none-some h.0 (moved content_in (F k) None h.0 none h.1)
+nothing_there F k kind.Exec none h = none-some h.0 (moved content_in (F k) None h.0 none h.1)
+nothing_there F k kind.Link none h = none-some h.0 (moved content_in (F k) None h.0 none h.1)
+
+-- file 1 as it was
+pub top_same : (F G : Stored) → F 1 ≡ G 1 → ((F 1 ≡ None) ⊎ HoldsKind F 1 kind.Dir) → (G 1 ≡ None) ⊎ HoldsKind G 1 kind.Dir
+top_same F G same (inl none) = inl (sym same ∙ none)
+top_same F G same (inr there) = inr (kind_moved F G 1 kind.Dir same there)

@@ -1,28 +1,21 @@
 -- Why a stored file gave no value.
-use Rattle.std.specs.Prelude.{◌≡◌, ℕ, List, Option, None, IsSomeAnd}
+use Rattle.std.specs.Prelude.{◌≡◌, List, ℕ, Option, None, IsSomeAnd}
 use Rattle.eden_overlay_format.specs.declared.header.Identifier.{Identifier}
 use Rattle.eden_overlay_format.specs.declared.refusal.DecodeFault.{DecodeFault}
 use Rattle.eden_overlay_format.specs.declared.refusal.DecodeFault.TheVariants as decode
-use Rattle.eden_overlay_format.specs.Stored.{first_refusal}
+use Rattle.eden_overlay_format.specs.Stored.{Refuses}
 use Rattle.eden_overlay.specs.declared.files.FilesFault.{FilesFault}
 use Rattle.eden_overlay.specs.declared.files.FilesFault.TheVariants as files
 use Rattle.eden_overlay.specs.declared.fault.GetFault.{GetFault}
 use Rattle.eden_overlay.specs.declared.fault.GetFault.TheVariants as get
 
--- The fault fits a file that was asked for under that identifier: it isn't stored; or it is, and its bytes are no
--- value and have that first refusal. The device and memory may fail whatever is stored.
-abbrev pub Fits : Identifier → (List ℕ → Type 0) → Option (List ℕ) → GetFault → Type 0
-Fits i IsValue file get.Absent = file ≡ None
-Fits i IsValue file (get.Damaged refusal) = IsSomeAnd file (λ bytes. (¬ IsValue bytes) × (refusal ≡ first_refusal i bytes))
-Fits i IsValue file get.Device = Unit {0}
-Fits i IsValue file get.Memory = Unit {0}
-
--- the fault says nothing of the file
-abbrev pub SaysNothing : GetFault → Type 0
-SaysNothing get.Absent = ⊥
-SaysNothing (get.Damaged refusal) = ⊥
-SaysNothing get.Device = Unit {0}
-SaysNothing get.Memory = Unit {0}
+-- The fault says why a file that was asked for under that identifier gives no value: it isn't stored; or it is, and its
+-- bytes hold none and have that first refusal. The device and memory may fail whatever is stored.
+abbrev pub Explains : {X : Type 0} → Identifier → (List ℕ → Option X) → Option (List ℕ) → GetFault → Type 0
+Explains i value file get.Absent = file ≡ None
+Explains i value file (get.Damaged refusal) = IsSomeAnd file (λ bytes. Refuses i value bytes refusal)
+Explains i value file get.Device = Unit {0}
+Explains i value file get.Memory = Unit {0}
 
 -- a fault of the files, and one of a decoder, as a get tells it
 abbrev pub of_files : FilesFault → GetFault

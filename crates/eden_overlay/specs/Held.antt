@@ -1,38 +1,62 @@
 -- What a file holds, and the files with one of them put in or taken out.
-use Rattle.std.specs.Prelude.{ℕ, List, Some, None, IsSomeAnd}
+use Rattle.std.specs.Prelude.{◌≡◌, ℕ, List, Option, Some, None}
+use Rattle.std.specs.Option.{option_map, option_and_then}
+use Rattle.eden_model.specs.Named.{named}
+use Rattle.eden_model.specs.Shown.{Item, Items}
+use Rattle.eden_model.specs.Repository.{Source, source_of, OwnFiles}
 use Rattle.eden_overlay_format.specs.declared.header.Identifier.TheVariants as identifier
 use Rattle.eden_overlay_format.specs.declared.state.State.{State}
 use Rattle.eden_overlay_format.specs.declared.stored_entry.StoredEntry.{StoredEntry}
 use Rattle.eden_overlay_format.specs.Stored.{written}
-use Rattle.eden_overlay_format.specs.Content.{IsFile}
-use Rattle.eden_overlay_format.specs.Directory.{IsDirectory, directory_body}
-use Rattle.eden_overlay_format.specs.State.{IsState, state_body}
+use Rattle.eden_overlay_format.specs.Directory.{directory_body}
+use Rattle.eden_overlay_format.specs.State.{state_body}
+use Rattle.eden_overlay_format.specs.Values.{content_in, state_in, entries_in}
 use Rattle.eden_overlay.specs.Files.{Stored, put}
 
--- file k is stored, and is the file of that content
+-- the content of file k, or none where it isn't stored or is no content; likewise the entries; and the state of file 0
+abbrev pub content_at : Stored → ℕ → Option (List ℕ)
+content_at F k = option_and_then content_in (F k)
+
+abbrev pub entries_at : Stored → ℕ → Option (List StoredEntry)
+entries_at F k = option_and_then entries_in (F k)
+
+abbrev pub state_at : Stored → Option State
+state_at F = option_and_then state_in (F 0)
+
 abbrev pub HoldsContent : Stored → ℕ → List ℕ → Type 0
-HoldsContent F k content = IsSomeAnd (F k) (λ bytes. IsFile bytes content)
+HoldsContent F k content = content_at F k ≡ Some content
 
--- file k is stored, and is the directory of those entries
 abbrev pub HoldsEntries : Stored → ℕ → List StoredEntry → Type 0
-HoldsEntries F k entries = IsSomeAnd (F k) (λ bytes. IsDirectory bytes entries)
+HoldsEntries F k entries = entries_at F k ≡ Some entries
 
--- file 0 is stored, and is that state
 abbrev pub HoldsState : Stored → State → Type 0
-HoldsState F state = IsSomeAnd (F 0) (λ bytes. IsState bytes state)
+HoldsState F state = state_at F ≡ Some state
 
--- the files, with that content as file k
+-- ---- what own files show
+
+abbrev pub item_of : StoredEntry → Item Source
+item_of e = record { kind = e.kind; source = source_of e.number e.origin }
+
+abbrev pub items_of : List StoredEntry → Items Source
+items_of entries = λ n. option_map item_of (named (λ (e : StoredEntry). e.name) n entries)
+
+abbrev pub own_files : Stored → OwnFiles
+own_files F = record { entries = λ k. option_map items_of (entries_at F k); content = content_at F }
+
+-- ---- one file put in or taken out
+
+-- with that content as file k
 abbrev pub with_content : Stored → ℕ → List ℕ → Stored
 with_content F k content = put F k (Some (written identifier.File content))
 
--- the files, with the directory of those entries as file k
+-- with the directory of those entries as file k
 abbrev pub with_entries : Stored → ℕ → List StoredEntry → Stored
 with_entries F k entries = put F k (Some (written identifier.Directory (directory_body entries)))
 
--- the files, with that state as file 0
+-- with that state as file 0
 abbrev pub with_state : Stored → State → Stored
 with_state F state = put F 0 (Some (written identifier.File (state_body state)))
 
--- the files, without file k
+-- without file k
 abbrev pub without : Stored → ℕ → Stored
 without F k = put F k None

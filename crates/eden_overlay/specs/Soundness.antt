@@ -1,10 +1,9 @@
 -- Overlays in which no name dangles.
-use Rattle.std.specs.Prelude.{◌≡◌, ℕ, List, IfSome, Contains}
+use Rattle.std.specs.Prelude.{◌≡◌, ◌⊎◌, ℕ, List, None, Contains}
 use Rattle.eden_model.specs.declared.kind.Kind.{Kind}
 use Rattle.eden_model.specs.declared.kind.Kind.TheVariants as kind
 use Rattle.eden_model.specs.declared.kind.Origin.TheVariants as origin
 use Rattle.eden_overlay_format.specs.declared.stored_entry.StoredEntry.{StoredEntry}
-use Rattle.eden_overlay_format.specs.Directory.{IsDirectory}
 use Rattle.eden_overlay.specs.Files.{Stored}
 use Rattle.eden_overlay.specs.Held.{HoldsContent, HoldsEntries}
 
@@ -23,9 +22,9 @@ pub data Reached (F : Stored) (k : ℕ) : ℕ → Type 0 where
   here : Reached F k k
   below : (d : ℕ) (e : StoredEntry) → Reached F k d → Names F d e → LeadsOn e → Reached F k e.number
 
--- the directories that count are those reached from file 1, the root's
-abbrev pub Counts : Stored → ℕ → Type 0
-Counts F d = Reached F 1 d
+-- the live directories are those reached from file 1, the root's
+abbrev pub IsLive : Stored → ℕ → Type 0
+IsLive F d = Reached F 1 d
 
 -- file k is stored, as that kind of inode is
 abbrev pub HoldsKind : Stored → ℕ → Kind → Type 0
@@ -36,11 +35,11 @@ HoldsKind F k _ = (content : List ℕ) × HoldsContent F k content
 abbrev pub HasOwn : Stored → StoredEntry → Type 0
 HasOwn F e = e.origin ≡ origin.Own → HoldsKind F e.number e.kind
 
--- no name dangles; strays, files that no directory that counts names as its own, may hold anything
-pub record IsSound (F : Stored) : Type 0 where
+-- no name dangles; strays, files that no live directory names as its own, may hold anything
+pub record AreSound (F : Stored) : Type 0 where
   -- file 1, where it stands, is a directory
-  pub top : IfSome (F 1) (λ bytes. (entries : List StoredEntry) × IsDirectory bytes entries)
-  -- what a directory that counts names as its own is stored
-  pub owned : (d : ℕ) (e : StoredEntry) → Counts F d → Names F d e → HasOwn F e
+  pub top : (F 1 ≡ None) ⊎ HoldsKind F 1 kind.Dir
+  -- what a live directory names as its own is stored
+  pub owned : (d : ℕ) (e : StoredEntry) → IsLive F d → Names F d e → HasOwn F e
   -- no number is named twice
-  pub once : (c d : ℕ) (e f : StoredEntry) → Counts F c → Counts F d → Names F c e → Names F d f → e.number ≡ f.number → (c ≡ d) × (e ≡ f)
+  pub once : (c d : ℕ) (e f : StoredEntry) → IsLive F c → IsLive F d → Names F c e → Names F d f → e.number ≡ f.number → (c ≡ d) × (e ≡ f)

@@ -1,6 +1,7 @@
-ghost use Rattle.std.specs.Prelude.{◌≡◌, ◌≤◌, ◌^◌, List, ℕ, length, IfOk, IfErr, IsOkAnd};
-ghost use Rattle.eden_overlay_format.specs.Stored.{first_refusal};
-ghost use Rattle.eden_overlay_format.specs.Content.{IsFile};
+ghost use Rattle.std.specs.Prelude.{◌≡◌, ◌≤◌, Some, length, IfOk, IfErr};
+ghost use Rattle.eden_overlay_format.specs.Stored.{Refuses};
+ghost use Rattle.eden_overlay_format.specs.Content.{content_most};
+ghost use Rattle.eden_overlay_format.specs.Values.{content_in};
 ghost use Rattle.eden_overlay_format.specs.declared.header.Identifier.TheVariants as identifier;
 
 use eden_overlay_format::{HEADER_LEN, Refusal, decode_file};
@@ -15,20 +16,20 @@ pub struct Content {
 
 impl Model for Content {
     ghost use Rattle.std.specs.Prelude.{List, ℕ, drop, length, ◌≤◌};
+    ghost use Rattle.eden_overlay_format.specs.Content.{content_most};
 
     ghost Value = { List ℕ };
 
     ghost view = { λ c. drop 64 c.file.items };
 
-    ghost invariant = { λ c. 64 ≤ length c.file.items };
+    ghost invariant = { λ c. (64 ≤ length c.file.items) × (length (drop 64 c.file.items) ≤ content_most) };
 }
 
 impl Content {
     /// The content of a stored file, or the first refusal.
     pub(crate) fn of_file(file: Vec<u8>) -> Result<Content, Refusal>
-        ensures found { IfOk result (λ content. IsFile file.items content) }
-        ensures only { (content : List ℕ) → IsFile file.items content → IsOkAnd result (λ found. found ≡ content) }
-        ensures refused { IfErr result (λ e. e ≡ first_refusal identifier.File file.items) }
+        ensures found { IfOk result (λ content. content_in file.items ≡ Some content) }
+        ensures refused { IfErr result (Refuses identifier.File content_in file.items) }
     {
         let _content = decode_file(&file)?;
         Ok(Content { file })
@@ -36,7 +37,8 @@ impl Content {
 
     /// The bytes.
     pub fn as_slice(&self) -> &[u8]
-        ensures { result.now ≡ self.now }
+        ensures same { result.now ≡ self.now }
+        ensures short { length result.now ≤ content_most }
     {
         let (_, content) = self.file.split_at(HEADER_LEN);
         content

@@ -1,4 +1,4 @@
-ghost use Rattle.eden_overlay.specs.Laws.{ContentsHeld, EntriesHeld, NumbersFromTwo, RootlessSound, StraysStay, StraysDontCount, StraysStayStrays, ContentsStay, DroppedStay, DroppedUnnamed, AddedStay, EnteredStay, RenamedStay, RenamedUnnamed, MovedStay, MovedUnnamed};
+ghost use Rattle.eden_overlay.specs.Laws.{ContentsHeld, EntriesHeld, NumbersFromTwo, RootlessSound, StraysStay, LiveStay, StateStays, ContentsStay, DroppedStay, DroppedUnnamed, AddedStay, EnteredStay, RenamedStay, MovedStay};
 
 /// What a caller of `Overlay` needs to show that an overlay stays sound.
 pub fn overlay_laws()
@@ -7,15 +7,13 @@ pub fn overlay_laws()
     ensures numbers { NumbersFromTwo }
     ensures rootless { RootlessSound }
     ensures strays { StraysStay }
-    ensures strays_dont_count { StraysDontCount }
-    ensures strays_stay_strays { StraysStayStrays }
+    ensures live { LiveStay }
+    ensures state { StateStays }
     ensures contents { ContentsStay }
     ensures dropped { DroppedStay }
     ensures dropped_unnamed { DroppedUnnamed }
     ensures added { AddedStay }
     ensures entered { EnteredStay }
     ensures renamed { RenamedStay }
-    ensures renamed_unnamed { RenamedUnnamed }
     ensures moved { MovedStay }
-    ensures moved_unnamed { MovedUnnamed }
 {}

@@ -6,11 +6,11 @@
 //! alone. `FailingFiles` and `StopFiles` are for tests: files behind a gate, which fail where they were told to.
 //!
 //! An `Overlay` stores contents, directories and the state in such files, and gets them again. Whoever stores or
-//! removes a file shows first that the overlay stays sound: each entry of a directory that counts whose contents are
-//! its own has its file, and no number is named twice. `overlay_laws` has what such a caller needs. A value that is got
+//! removes a file shows first that the overlay stays sound: each entry of a live directory whose contents are its own
+//! has its file, and no number is named twice. `overlay_laws` has what such a caller needs. A value that is got
 //! is what the file as it stands holds, and otherwise the fault says why there is none.
 //!
-//! Strays, files that no directory that counts names as its own, may be left behind, and nothing removes them.
+//! Strays, files that no live directory names as its own, may be left behind, and nothing removes them.
 #![tactic(auto)]
 
 mod content;

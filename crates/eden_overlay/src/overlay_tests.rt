@@ -1,5 +1,5 @@
 ghost use Rattle.std.specs.Prelude.{IfOk};
-ghost use Rattle.eden_overlay_format.specs.Directory.{AreEntries};
+ghost use Rattle.eden_overlay_format.specs.Directory.{AreStorable};
 
 use super::*;
 use eden_model::{Id, Kind, Name, Origin, Outside};
@@ -28,7 +28,7 @@ fn cut<'a>(rt: &impl Abort, bytes: &'a [u8], len: usize) -> &'a [u8] {
 
 // A directory with the file `test.txt`, number 2, whose content is its own.
 fn one_file(alloc: Global) -> Result<Vec<StoredEntry>, Fail>
-    ensures { IfOk result (λ v. AreEntries v.items) }
+    ensures { IfOk result (λ v. AreStorable v.items) }
 {
     match Name::new(b"test.txt".to_vec(alloc)?) {
         Ok(name) => {
@@ -88,7 +88,8 @@ fn files_are_removed(rt: HostRuntime) -> Result<(), Fail> {
     let alloc = rt.alloc();
     let mut overlay = Overlay::<Outside, _>::new(MemoryFiles::<Outside>::new(alloc));
     let entries = one_file(alloc)?;
-    assert!(rt; overlay.put_new(alloc, 2, b"hi", 1, &entries).is_ok());
+    assert!(rt; overlay.put_file(alloc, 2, b"hi").is_ok());
+    assert!(rt; overlay.put_dir(alloc, 1, &entries).is_ok());
     let root = Id { bytes: [0x11; 20] };
     assert!(rt; overlay.put_state(alloc, State { root, next: 3 }).is_ok());
     assert!(rt; overlay.remove(alloc, 1).is_ok());

@@ -1,14 +1,14 @@
 use super::*;
-use crate::folder::read_whole;
 use eden_model::{Outside, World};
+use eden_samples::{Call as SystemCall, FaultySystem, empty_folder};
 use std::alloc::Global;
 use std::cell::Cell;
-use std::io::{self, ErrorKind, Read};
+use std::fs;
+use std::io::ErrorKind;
 use std::os::unix::fs::symlink;
 use std::path::PathBuf;
 use std::rc::Rc;
 use std::test::Fail;
-use std::{env, fs, process};
 
 #[derive(Clone, Copy)]
 enum Call {
@@ -88,6 +88,21 @@ const BEHAVIOUR: &[(Call, Answer)] = &[
     (Call::Read(0), Answer::Bytes(Some(b"zero"))),
 ];
 
+// Ten thousand files, one of them of 100,000 bytes.
+#[test]
+fn memory_keeps_many_files(rt: HostRuntime) -> Result<(), Fail> {
+    let alloc = rt.alloc();
+    let mut files = MemoryFiles::<Outside>::new(alloc);
+    for number in 0..10_000 {
+        files.replace(alloc, number, &number.to_be_bytes())?;
+    }
+    let long = [7; 1000].repeat(alloc, 100)?;
+    files.replace(alloc, 9_999, long.as_slice())?;
+    assert!(rt; files.read(alloc, 9_999)? == Some(long));
+    assert_eq!(rt; files.list(alloc)?.len(), 10_000);
+    Ok(())
+}
+
 #[test]
 fn memory_behaves(rt: HostRuntime) {
     let mut files = MemoryFiles::<Outside>::new(rt.alloc());
@@ -97,20 +112,17 @@ fn memory_behaves(rt: HostRuntime) {
     );
 }
 
-// Makes an empty folder of that name.
-fn empty_folder(rt: &HostRuntime, name: &str) -> Result<PathBuf, Fail> {
-    let alloc = rt.alloc();
-    let name = format!(in alloc; "eden-overlay-{name}-{}", process::id(rt.process()))?;
-    let folder = env::temp_dir(rt)?.join(alloc, name.as_str())?;
-    let _ = fs::remove_dir_all(rt, folder.as_path());
-    fs::create_dir(rt, folder.as_path())?;
-    Ok(folder)
-}
-
+// Beside a name that isn't UTF-8.
 #[test]
 fn folder_behaves(rt: HostRuntime) -> Result<(), Fail> {
-    let folder = empty_folder(&rt, "behaves")?;
-    let mut files = FolderFiles::new(&rt, folder.clone()?);
+    let folder = empty_folder(&rt, "overlay-behaves")?;
+    let system = FaultySystem {
+        files: &rt,
+        call: SystemCall::None,
+        kind: ErrorKind::Other,
+        instead: None,
+    };
+    let mut files = FolderFiles::new(system, folder.clone()?);
     assert_eq!(rt;
         first_wrong::<Outside, _>(&mut files, rt.alloc(), BEHAVIOUR),
         None
@@ -149,7 +161,7 @@ const ODD: &[(Call, Answer)] = &[
 
 #[test]
 fn folder_reads_plain_files_alone(rt: HostRuntime) -> Result<(), Fail> {
-    let folder = empty_folder(&rt, "odd")?;
+    let folder = empty_folder(&rt, "overlay-odd")?;
     make_odd(&rt, &folder)?;
     let mut files = FolderFiles::new(&rt, folder.clone()?);
     assert_eq!(rt;
@@ -157,48 +169,6 @@ fn folder_reads_plain_files_alone(rt: HostRuntime) -> Result<(), Fail> {
         None
     );
     assert_eq!(rt; files.failures(), 5);
-    fs::remove_dir_all(&rt, folder.as_path())?;
-    Ok(())
-}
-
-const REFUSED: &[(Call, Answer)] = &[
-    (Call::Replace(5, b"new"), Answer::Device),
-    (Call::Read(5), Answer::Bytes(Some(b"old"))),
-];
-
-// The first answer that is wrong where such a link stands in the way of file 5's replacement.
-fn refused_by(
-    rt: &HostRuntime,
-    files: &mut FolderFiles<&HostRuntime>,
-    folder: &PathBuf,
-    target: &str,
-) -> Result<Option<usize>, Fail> {
-    let new = folder.join(rt.alloc(), "5.new")?;
-    symlink(rt, target, new.as_path())?;
-    let wrong = first_wrong::<Outside, _>(files, rt.alloc(), REFUSED);
-    fs::remove_file(rt, new.as_path())?;
-    Ok(wrong)
-}
-
-// Whether the folder has a file `other` of five bytes.
-fn has_other(rt: &HostRuntime, folder: &PathBuf) -> Result<bool, Fail> {
-    let metadata = fs::metadata(rt, folder.join(rt.alloc(), "other")?)?;
-    Ok(metadata.is_file() && metadata.len() == 5)
-}
-
-#[test]
-fn a_failed_replacement_leaves_the_file(rt: HostRuntime) -> Result<(), Fail> {
-    let folder = empty_folder(&rt, "full")?;
-    fs::write(&rt, folder.join(rt.alloc(), "other")?, b"other")?;
-    let mut files = FolderFiles::new(&rt, folder.clone()?);
-    files.replace(rt.alloc(), 5, b"old")?;
-    // A disk that is full, a device that takes everything, another file, a folder, and nothing.
-    for target in ["/dev/full", "/dev/null", "other", ".", "nothing"] {
-        let wrong = refused_by(&rt, &mut files, &folder, target)?;
-        assert!(rt; wrong.is_none(), "{target}");
-    }
-    assert_eq!(rt; files.failures(), 5);
-    assert!(rt; has_other(&rt, &folder)?);
     fs::remove_dir_all(&rt, folder.as_path())?;
     Ok(())
 }
@@ -213,7 +183,7 @@ const LEFT_OVER: &[(Call, Answer)] = &[
 
 #[test]
 fn what_a_failure_left_is_no_file(rt: HostRuntime) -> Result<(), Fail> {
-    let folder = empty_folder(&rt, "left")?;
+    let folder = empty_folder(&rt, "overlay-left")?;
     let new = folder.join(rt.alloc(), "5.new")?;
     fs::write(&rt, new.as_path(), b"left over")?;
     let mut files = FolderFiles::new(&rt, folder.clone()?);
@@ -235,7 +205,7 @@ const GONE: &[(Call, Answer)] = &[
 
 #[test]
 fn a_missing_folder_fails(rt: HostRuntime) -> Result<(), Fail> {
-    let folder = empty_folder(&rt, "gone")?;
+    let folder = empty_folder(&rt, "overlay-gone")?;
     fs::remove_dir(&rt, folder.as_path())?;
     let mut files = FolderFiles::new(&rt, folder);
     assert_eq!(rt;
@@ -246,34 +216,38 @@ fn a_missing_folder_fails(rt: HostRuntime) -> Result<(), Fail> {
     Ok(())
 }
 
-// Gives some bytes, and then fails.
-#[derive(Drop)]
-struct Breaking {
-    left: usize,
-    kind: ErrorKind,
-}
-
-impl Read for Breaking {
-    fn read(&mut self, buf: &mut [u8]) -> io::Result<usize> {
-        if self.left == 0 {
-            return Err(io::Error::from(self.kind));
-        }
-        let count = self.left.min(buf.len());
-        self.left -= count;
-        Ok(count)
-    }
-}
+// What each call answers that the device fails: no removal, no replacement and no listing is told as done.
+const FAILED: &[(SystemCall, Call)] = &[
+    (SystemCall::Look, Call::Read(5)),
+    (SystemCall::Open, Call::Read(5)),
+    (SystemCall::Read, Call::Read(5)),
+    (SystemCall::Open, Call::Replace(5, b"new")),
+    (SystemCall::Write, Call::Replace(5, b"new")),
+    (SystemCall::Rename, Call::Replace(5, b"new")),
+    (SystemCall::Remove, Call::Remove(5)),
+    (SystemCall::List, Call::List),
+];
 
 #[test]
-fn a_cut_read_is_no_file(rt: HostRuntime) {
-    for (kind, want) in [
-        (ErrorKind::ConnectionReset, FilesFault::Device),
-        (ErrorKind::NotFound, FilesFault::Device),
-        (ErrorKind::OutOfMemory, FilesFault::Memory),
-    ] {
-        let answer = read_whole(rt.alloc(), Breaking { left: 3, kind }, 10);
-        assert!(rt; answer == Err(want), "{kind:?}");
+fn a_failing_device_is_told_and_counted(rt: HostRuntime) -> Result<(), Fail> {
+    let folder = empty_folder(&rt, "overlay-failing")?;
+    let mut sound = FolderFiles::new(&rt, folder.clone()?);
+    sound.replace(rt.alloc(), 5, b"old")?;
+    for (at, (fails, call)) in FAILED.iter().enumerate() {
+        let system = FaultySystem {
+            files: &rt,
+            call: *fails,
+            kind: ErrorKind::ConnectionReset,
+            instead: None,
+        };
+        let mut files = FolderFiles::new(system, folder.clone()?);
+        assert!(rt; gives::<Outside, _>(&mut files, rt.alloc(), *call, Answer::Device), "{at}");
+        assert_eq!(rt; files.failures(), 1, "{at}");
+        let kept = Answer::Bytes(Some(b"old"));
+        assert!(rt; gives::<Outside, _>(&mut sound, rt.alloc(), Call::Read(5), kept), "{at}");
     }
+    fs::remove_dir_all(&rt, folder.as_path())?;
+    Ok(())
 }
 
 // Stores a file, reads it, removes it, and lists what is left. Which of the four calls fail?

@@ -1,5 +1,5 @@
 -- The functions find what the grammars say.
-use Rattle.std.proofs.Common.{◌≡◌, ℕ, ◌≤◌, ◌==◌, ◌&&◌, true, false, leb, List, [], ◌++◌, length, ◌<◌, ◌≢◌, Option, Some, None, Result, Ok, Err, IfOk, IfErr, refl, sym, ap, subst, ◌∙◌, arith}
+use Rattle.std.proofs.Common.{◌≡◌, ℕ, ◌≤◌, ◌==◌, ◌&&◌, true, leb, List, [], length, ◌<◌, Option, Some, None, Result, Ok, Err, IfOk, IfErr, IsSomeAnd, refl, sym, ap, subst, ◌∙◌, arith}
 use Rattle.std.specs.Option.{is_none, unwrap_or}
 use Rattle.std.specs.Int.{w64, to_be_bytes, is_in_range}
 use Rattle.std.proofs.lemmas.Bool.{leb-true, le-leb, lt-leb, and_from, eqb-true}
@@ -13,13 +13,14 @@ use Rattle.eden_overlay_format.specs.declared.refusal.DecodeFault.{DecodeFault}
 use Rattle.eden_overlay_format.specs.declared.refusal.DecodeFault.TheVariants as fault
 use Rattle.eden_overlay_format.specs.declared.state.State.{State}
 use Rattle.eden_overlay_format.specs.declared.stored_entry.StoredEntry.{StoredEntry}
-use Rattle.eden_overlay_format.specs.Stored.{header_refusal, body_in, first_refusal}
+use Rattle.eden_overlay_format.specs.Stored.{header_refusal, body_in, first_refusal, Refuses}
 use Rattle.eden_overlay_format.specs.Content.{content_most, IsFile}
 use Rattle.eden_overlay_format.specs.Directory.{number_least, number_end, directory_body, AreStorable, IsDirectory}
 use Rattle.eden_overlay_format.specs.State.{state_body, IsGoodState, IsState}
-use Rattle.eden_overlay_format.specs.Reading.{◌>>=◌, Reaches, Fails, bytes_at, number_at, state_of, rows_of}
-use Rattle.eden_overlay_format.specs.Values.{content_in, state_in, is_rising, entries_in}
-use Rattle.eden_overlay_format.specs.Laws.{ContentsFound, StatesFound, EntriesFound}
+use Rattle.eden_overlay_format.specs.Reading.{Reaches, Fails, bytes_at, number_at, state_of, count_at, rows_of}
+use Rattle.eden_overlay_format.specs.Values.{content_in, state_in, is_rising, entries_in, FailsWith}
+use Rattle.eden_overlay_format.specs.Laws.{ContentsFound, StatesFound, EntriesFound, NeverBoth}
+use Rattle.eden_overlay_format.proofs.Headers.{not_both}
 use Rattle.eden_overlay_format.proofs.Agreement.{step, both, bytes_agree, numbers64}
 use Rattle.eden_overlay_format.proofs.Rows.{body_only, body_again}
 use Rattle.eden_overlay_format.proofs.Rising.{IsRising, rises, told, told_not}
@@ -46,16 +47,16 @@ unfolding state_of
 state_read body s e =
     option_and_then_some _ (bytes_at 20 body) s e (λ id there e1.
     option_and_then_some _ (number_at w64 id.1) s e1 (λ next more e2.
-        let made : State = record { root = record { bytes = id.0 }; next = next.0 } in
-        let kept = cond_some (length next.1 == 0 && is_in_range number_least number_end next.0) made s e2 in
-        let tests = both (length next.1 == 0) (is_in_range number_least number_end next.0) kept.0 in
-        let within = both (leb number_least next.0) (leb next.0 number_end) tests.1 in
-        let first = (bytes_agree 20).only body id there in
-        let second = (numbers64.only id.1 next more).front in
-        let nothing : next.1 ≡ [] = nil_from_length next.1 (eqb-true _ _ tests.0) in
-        let whole : body ≡ state_body made = first.front ∙ rw (second, nothing) refl in
-        let good : IsGoodState made = record { root = first.good; least = leb-true number_least next.0 within.0; most = leb-true next.0 number_end within.1 } in
-        subst (λ (t : State). (body ≡ state_body t) × IsGoodState t) kept.1 (whole, good)))
+    let made : State = record { root = record { bytes = id.0 }; next = next.0 } in
+    let kept = cond_some (length next.1 == 0 && is_in_range number_least number_end next.0) made s e2 in
+    let tests = both (length next.1 == 0) (is_in_range number_least number_end next.0) kept.0 in
+    let within = both (leb number_least next.0) (leb next.0 number_end) tests.1 in
+    let first = (bytes_agree 20).only body id there in
+    let second = (numbers64.only id.1 next more).front in
+    let nothing : next.1 ≡ [] = nil_from_length next.1 (eqb-true _ _ tests.0) in
+    let whole : body ≡ state_body made = first.front ∙ rw (second, nothing) refl in
+    let good : IsGoodState made = record { root = first.good; least = leb-true number_least next.0 within.0; most = leb-true next.0 number_end within.1 } in
+    subst (λ (t : State). (body ≡ state_body t) × IsGoodState t) kept.1 (whole, good)))
 
 state_written : (s : State) → IsGoodState s → state_of (state_body s) ≡ Some s
 unfolding state_of
@@ -85,10 +86,10 @@ unfolding entries_in
 entries_only bytes es e =
     option_and_then_some _ (body_in identifier.Directory bytes) es e (λ body there e1.
     option_and_then_some _ (rows_of body) es e1 (λ rows read e2.
-        let kept = cond_some (is_rising rows) rows es e2 in
-        let found = body_only body rows read in
-        let are : AreStorable rows = record { count = found.1; rising = rises rows kept.0; each = found.2 } in
-        subst (IsDirectory bytes) kept.1 (record { stored = there ∙ ap (λ (b : List ℕ). Some b) found.0; entries = are })))
+    let kept = cond_some (is_rising rows) rows es e2 in
+    let found = body_only body rows read in
+    let are : AreStorable rows = record { count = found.1; rising = rises rows kept.0; each = found.2 } in
+    subst (IsDirectory bytes) kept.1 (record { stored = there ∙ ap (λ (b : List ℕ). Some b) found.0; entries = are })))
 
 entries_again : (bytes : List ℕ) (es : List StoredEntry) → IsDirectory bytes es → entries_in bytes ≡ Some es
 unfolding entries_in
@@ -99,6 +100,9 @@ entries_again bytes es h =
 
 pub entries_found : EntriesFound
 entries_found bytes es = (entries_only bytes es, entries_again bytes es)
+
+pub never_both : NeverBoth
+never_both bytes content es h k = not_both bytes content (directory_body es) (content_only bytes content h).stored (entries_only bytes es k).stored
 
 -- ---- what a decoder answers
 
@@ -120,11 +124,11 @@ pub content_too_long : (bytes body : List ℕ) → body_in identifier.File bytes
 unfolding content_in
 content_too_long bytes body e long = rw (e, lt-leb (length body) content_most long) refl
 
-pub no_content : (bytes : List ℕ) (e : Refusal) → header_refusal identifier.File bytes ≡ Some e → (content_in bytes ≡ None) × (e ≡ first_refusal identifier.File bytes)
+pub no_content : (bytes : List ℕ) (e : Refusal) → header_refusal identifier.File bytes ≡ Some e → Refuses identifier.File content_in bytes e
 unfolding content_in
 no_content bytes e h = let none = no_body identifier.File bytes e h in (rw none.0 refl, none.1)
 
-pub no_state : (bytes : List ℕ) (e : Refusal) → header_refusal identifier.File bytes ≡ Some e → (state_in bytes ≡ None) × (e ≡ first_refusal identifier.File bytes)
+pub no_state : (bytes : List ℕ) (e : Refusal) → header_refusal identifier.File bytes ≡ Some e → Refuses identifier.File state_in bytes e
 unfolding state_in
 no_state bytes e h = let none = no_body identifier.File bytes e h in (rw none.0 refl, none.1)
 
@@ -133,32 +137,25 @@ module _ (bytes body : List ℕ) (stored : body_in identifier.File bytes ≡ Som
   good_state (Ok s) read = (state_read body s read).1
   good_state (Err e) read = tt
 
-  pub refused_state : (r : Result State Refusal) → Reaches (λ s. s) r (state_of body) → IfErr r (λ e. (state_in bytes ≡ None) × (e ≡ first_refusal identifier.File bytes))
+  pub refused_state : (r : Result State Refusal) → Reaches (λ s. s) r (state_of body) → IfErr r (Refuses identifier.File state_in bytes)
   unfolding state_in
   refused_state (Ok s) read = tt
   refused_state (Err e) read = let none : state_of body ≡ None = read.1 in (rw (stored, none) refl, read.0 ∙ sym (body_left identifier.File bytes body stored))
 
-pub no_entries : (bytes : List ℕ) (e : Refusal) → header_refusal identifier.Directory bytes ≡ Some e → (entries_in bytes ≡ None) × (e ≡ first_refusal identifier.Directory bytes)
+pub no_entries : (bytes : List ℕ) (e : Refusal) → header_refusal identifier.Directory bytes ≡ Some e → Refuses identifier.Directory entries_in bytes e
 unfolding entries_in
 no_entries bytes e h = let none = no_body identifier.Directory bytes e h in (rw none.0 refl, none.1)
 
--- a fault that isn't want of memory
-abbrev pub IsRefused : List ℕ → DecodeFault → Type 0
-IsRefused bytes f = (entries_in bytes ≡ None) × (f ≡ fault.Refused (first_refusal identifier.Directory bytes))
-
 module _ (bytes body : List ℕ) (stored : body_in identifier.Directory bytes ≡ Some body) where
-  bad_body : {e : Refusal} → e ≡ BadBody → fault.Refused e ≡ fault.Refused (first_refusal identifier.Directory bytes)
-  bad_body e = ap (λ (r : Refusal). fault.Refused r) (e ∙ sym (body_left identifier.Directory bytes body stored))
-
-  pub refused_rows : (f : DecodeFault) → Fails f (rows_of body) → f ≢ fault.Memory → IsRefused bytes f
+  pub fails_with : (f : DecodeFault) → Fails f (rows_of body) → (f ≡ fault.Memory → IsSomeAnd (count_at body) (λ count. 1 ≤ count.0)) → FailsWith bytes f
   unfolding entries_in
-  refused_rows fault.Memory h other = absurd (other refl)
-  refused_rows (fault.Refused e) h other = let none : rows_of body ≡ None = h.1 in (rw (stored, none) refl, bad_body h.0)
+  fails_with fault.Memory h claims = rw stored (claims refl)
+  fails_with (fault.Refused e) h claims = let none : rows_of body ≡ None = h.1 in (rw (stored, none) refl, h.0 ∙ sym (body_left identifier.Directory bytes body stored))
 
   module _ (rows : List StoredEntry) (read : rows_of body ≡ Some rows) where
-    pub unrisen : ¬ IsRising rows → IsRefused bytes (fault.Refused BadBody)
+    pub unrisen : ¬ IsRising rows → Refuses identifier.Directory entries_in bytes BadBody
     unfolding entries_in
-    unrisen none = (rw (stored, read, told_not rows none) refl, bad_body refl)
+    unrisen none = (rw (stored, read, told_not rows none) refl, sym (body_left identifier.Directory bytes body stored))
 
     pub entries_read : IsRising rows → entries_in bytes ≡ Some rows
     unfolding entries_in

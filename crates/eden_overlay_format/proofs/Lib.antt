@@ -1,3 +1,4 @@
+pub mod CallerLemmas
 pub mod Headers
 pub mod Agreement
 pub mod Rows

@@ -16,7 +16,7 @@ use Rattle.eden_model.specs.Names.{name_refusal}
 use Rattle.eden_model.specs.Shown.{if_dir}
 use Rattle.eden_overlay_format.specs.declared.stored_entry.StoredEntry.{StoredEntry}
 use Rattle.eden_overlay_format.specs.Directory.{number_least, number_end, kind_code, origin_code, origin_bytes, row, directory_body, HasOrigin, IsStorable}
-use Rattle.eden_overlay_format.specs.Reading.{◌>>=◌, byte_at, bytes_at, number_at, kind_of_code, kind_at, entry_number_at, origin_at, name_at, row_at, rows_at, count_at, rows_of}
+use Rattle.eden_overlay_format.specs.Reading.{byte_at, bytes_at, number_at, kind_of_code, kind_at, entry_number_at, origin_at, name_at, row_at, rows_at, count_at, rows_of}
 use Rattle.eden_overlay_format.proofs.Agreement.{IsRead, Agrees, is_read, step, both, bytes_agree, numbers32, numbers64}
 
 -- ---- the kind
@@ -128,15 +128,15 @@ row_only bytes x e =
     option_and_then_some _ (entry_number_at code.1) x e2 (λ n n_there e3.
     option_and_then_some _ (origin_at code.0 k.0 n.1) x e3 (λ o o_there e4.
     option_and_then_some _ (name_at o.1) x e4 (λ name name_there e5.
-        let first = (kind_only bytes k k_there).front in
-        let second = byte_only k.1 code code_there in
-        let third = entry_numbers.only code.1 n n_there in
-        let fourth = origin_only code.0 k.0 n.1 o o_there in
-        let fifth = name_only o.1 name name_there in
-        let entry : StoredEntry = record { name = name.0; kind = k.0; origin = o.0; number = n.0 } in
-        let front : bytes ≡ row entry ++ name.1 = first ∙ rw (second, third.front, fourth.front, fifth.front, fourth.good.0) (simp append_assoc) in
-        let good : IsStorable entry = record { name = fifth.good; origin = fourth.good.1; least = third.good.0; most = third.good.1 } in
-        is_read row IsStorable bytes (entry, name.1) x (record { front = front; good = good }) e5)))))
+    let first = (kind_only bytes k k_there).front in
+    let second = byte_only k.1 code code_there in
+    let third = entry_numbers.only code.1 n n_there in
+    let fourth = origin_only code.0 k.0 n.1 o o_there in
+    let fifth = name_only o.1 name name_there in
+    let entry : StoredEntry = record { name = name.0; kind = k.0; origin = o.0; number = n.0 } in
+    let front : bytes ≡ row entry ++ name.1 = first ∙ rw (second, third.front, fourth.front, fifth.front, fourth.good.0) (simp append_assoc) in
+    let good : IsStorable entry = record { name = fifth.good; origin = fourth.good.1; least = third.good.0; most = third.good.1 } in
+    is_read row IsStorable bytes (entry, name.1) x (record { front = front; good = good }) e5)))))
 
 row_again : (e : StoredEntry) (rest : List ℕ) → IsStorable e → row_at (row e ++ rest) ≡ Some (e, rest)
 unfolding row_at
@@ -161,13 +161,13 @@ rows_only zero bytes x e = is_read (flat_map row) (AreRows 0) bytes ([], bytes) 
 rows_only (suc n) bytes x e =
     option_and_then_some _ (row_at bytes) x e (λ first there e1.
     option_and_then_some _ (rows_at n first.1) x e1 (λ others more e2.
-        let a = row_only bytes first there in
-        let b = rows_only n first.1 others more in
-        let all : List StoredEntry = first.0 ∷ others.0 in
-        let joined : row first.0 ++ (flat_map row others.0 ++ others.1) ≡ flat_map row all ++ others.1 =
-        sym (append_assoc (row first.0) (flat_map row others.0) others.1) ∙ ap (λ (t : List ℕ). t ++ others.1) (sym (flat_map-cons row first.0 others.0)) in
-        let front : bytes ≡ flat_map row all ++ others.1 = a.front ∙ ap (λ (t : List ℕ). row first.0 ++ t) b.front ∙ joined in
-        is_read (flat_map row) (AreRows (suc n)) bytes (all, others.1) x (record { front = front; good = (ap suc b.good.0, (a.good, b.good.1)) }) e2))
+    let a = row_only bytes first there in
+    let b = rows_only n first.1 others more in
+    let all : List StoredEntry = first.0 ∷ others.0 in
+    let joined : row first.0 ++ (flat_map row others.0 ++ others.1) ≡ flat_map row all ++ others.1 =
+    sym (append_assoc (row first.0) (flat_map row others.0) others.1) ∙ ap (λ (t : List ℕ). t ++ others.1) (sym (flat_map-cons row first.0 others.0)) in
+    let front : bytes ≡ flat_map row all ++ others.1 = a.front ∙ ap (λ (t : List ℕ). row first.0 ++ t) b.front ∙ joined in
+    is_read (flat_map row) (AreRows (suc n)) bytes (all, others.1) x (record { front = front; good = (ap suc b.good.0, (a.good, b.good.1)) }) e2))
 
 rows_again : (es : List StoredEntry) (rest : List ℕ) → AllByRecursion IsStorable es → rows_at (length es) (flat_map row es ++ rest) ≡ Some (es, rest)
 unfolding rows_at
@@ -208,14 +208,14 @@ body_only body es e =
     option_and_then_some _ (count_at body) es e (λ count there e1.
     option_and_then_some _ (rows_at count.0 count.1) es e1 (λ rows more e2.
     option_and_then_some _ (number_at w32 body) count there (λ n first e3.
-        let room = cond_some (leb (12 * n.0) (length n.1)) n count e3 in
-        let counted : IsRead (to_be_bytes w32) (λ n. n < 2 ^ 32) body count = subst (IsRead (to_be_bytes w32) (λ n. n < 2 ^ 32) body) room.1 (numbers32.only body n first) in
-        let read = rows_only count.0 count.1 rows more in
-        let ended = cond_some (length rows.1 == 0) rows.0 es e2 in
-        let nothing : rows.1 ≡ [] = nil_from_length rows.1 (eqb-true _ _ ended.0) in
-        let all : body ≡ directory_body rows.0 = counted.front ∙ rw (read.good.0, read.front, nothing, append-nil) refl in
-        let few : length rows.0 < 2 ^ 32 = omega (arith, read.good.0, counted.good) in
-        subst (IsBody body) ended.1 (all, few, read.good.1))))
+    let room = cond_some (leb (12 * n.0) (length n.1)) n count e3 in
+    let counted : IsRead (to_be_bytes w32) (λ n. n < 2 ^ 32) body count = subst (IsRead (to_be_bytes w32) (λ n. n < 2 ^ 32) body) room.1 (numbers32.only body n first) in
+    let read = rows_only count.0 count.1 rows more in
+    let ended = cond_some (length rows.1 == 0) rows.0 es e2 in
+    let nothing : rows.1 ≡ [] = nil_from_length rows.1 (eqb-true _ _ ended.0) in
+    let all : body ≡ directory_body rows.0 = counted.front ∙ rw (read.good.0, read.front, nothing, append-nil) refl in
+    let few : length rows.0 < 2 ^ 32 = omega (arith, read.good.0, counted.good) in
+    subst (IsBody body) ended.1 (all, few, read.good.1))))
 
 pub body_again : (es : List StoredEntry) → length es < 2 ^ 32 → AllByRecursion IsStorable es → rows_of (directory_body es) ≡ Some es
 unfolding rows_of count_at

@@ -23,6 +23,6 @@ EntriesFound = (bytes : List ℕ) (es : List StoredEntry) → (entries_in bytes 
 abbrev pub WrittenFound : Type 0
 WrittenFound = (i : Identifier) (body : List ℕ) → body_in i (written i body) ≡ Some body
 
--- no bytes are two kinds of files
-abbrev pub OneIdentifier : Type 0
-OneIdentifier = (bytes x y : List ℕ) (i j : Identifier) → body_in i bytes ≡ Some x → body_in j bytes ≡ Some y → i ≡ j
+-- no bytes are a content and a directory
+abbrev pub NeverBoth : Type 0
+NeverBoth = (bytes content : List ℕ) (es : List StoredEntry) → content_in bytes ≡ Some content → ¬ (entries_in bytes ≡ Some es)

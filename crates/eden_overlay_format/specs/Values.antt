@@ -1,11 +1,13 @@
 -- What stored bytes hold, as functions: the value, or none. `format_laws` says that they are the grammars.
-use Rattle.std.specs.Prelude.{◌≡◌, ◌≤◌, ◌&&◌, ℕ, Bool, true, List, [], ◌∷◌, length, Option, Some, None, nat_le, if◌then◌else◌, IsSomeAnd}
+use Rattle.std.specs.Prelude.{◌≤◌, ◌&&◌, ℕ, Bool, true, List, [], ◌∷◌, length, Option, Some, None, nat_le, if◌then◌else◌, IsSomeAnd}
 use Rattle.std.specs.Cmp.Lexicographic.{slice_cmp}
 use Rattle.std.specs.Ordering.{nat_cmp, is_lt}
 use Rattle.eden_overlay_format.specs.declared.header.Identifier.TheVariants as identifier
+use Rattle.eden_overlay_format.specs.declared.refusal.DecodeFault.{DecodeFault}
+use Rattle.eden_overlay_format.specs.declared.refusal.DecodeFault.TheVariants as fault
 use Rattle.eden_overlay_format.specs.declared.state.State.{State}
 use Rattle.eden_overlay_format.specs.declared.stored_entry.StoredEntry.{StoredEntry}
-use Rattle.eden_overlay_format.specs.Stored.{body_in}
+use Rattle.eden_overlay_format.specs.Stored.{body_in, Refuses}
 use Rattle.eden_overlay_format.specs.Content.{content_most}
 use Rattle.eden_overlay_format.specs.Reading.{◌>>=◌, state_of, count_at, rows_of}
 
@@ -34,3 +36,8 @@ entries_in bytes = do
 -- the bytes of a directory claim a row or more, and are long enough for all that they claim
 abbrev pub ClaimsRows : List ℕ → Type 0
 ClaimsRows bytes = IsSomeAnd (body_in identifier.Directory bytes >>= count_at) (λ count. 1 ≤ count.0)
+
+-- why no entries were found: there are none, or memory was asked for
+abbrev pub FailsWith : List ℕ → DecodeFault → Type 0
+FailsWith bytes (fault.Refused e) = Refuses identifier.Directory entries_in bytes e
+FailsWith bytes fault.Memory = ClaimsRows bytes

@@ -1,7 +1,7 @@
 //! The content of a file or a link.
 
-ghost use Rattle.std.specs.Prelude.{◌≡◌, ◌≤◌, Some, None, length, IfOk, IfErr};
-ghost use Rattle.eden_overlay_format.specs.Stored.{first_refusal, written};
+ghost use Rattle.std.specs.Prelude.{◌≡◌, ◌≤◌, Some, length, IfOk, IfErr};
+ghost use Rattle.eden_overlay_format.specs.Stored.{Refuses, written};
 ghost use Rattle.eden_overlay_format.specs.Content.{content_most, IsFile};
 ghost use Rattle.eden_overlay_format.specs.Values.{content_in};
 ghost use Rattle.eden_overlay_format.specs.declared.header.Identifier.TheVariants as identifier;
@@ -28,7 +28,7 @@ pub fn encode_file(alloc: Global, content: &[u8]) -> Result<Vec<u8>, AllocError>
 #[tactic(auto, unfolding(crate::specs::Values::content_in))]
 pub fn decode_file(bytes: &[u8]) -> Result<&[u8], Refusal>
     ensures found { IfOk result (λ content. content_in bytes.now ≡ Some content.now) }
-    ensures refused { IfErr result (λ e. (content_in bytes.now ≡ None) × (e ≡ first_refusal identifier.File bytes.now)) }
+    ensures refused { IfErr result (Refuses identifier.File content_in bytes.now) }
 {
     let content = body_of(Identifier::File, bytes)?;
     if content.len() > CONTENT_MOST {

@@ -1,11 +1,11 @@
 //! The entries of a directory.
 
-ghost use Rattle.std.specs.Prelude.{◌≡◌, ◌≢◌, ◌≤◌, ◌*◌, ◌↔◌, Some, None, length, IfOk, IfErr, IsOk, IsSomeAnd, IsTrue};
+ghost use Rattle.std.specs.Prelude.{◌≡◌, ◌≤◌, ◌*◌, ◌↔◌, Some, length, IfOk, IfErr, IsOk, IsSomeAnd, IsTrue};
 ghost use Rattle.eden_model.specs.Named.{AreRising};
-ghost use Rattle.eden_overlay_format.specs.Stored.{first_refusal, written};
+ghost use Rattle.eden_overlay_format.specs.Stored.{written};
 ghost use Rattle.eden_overlay_format.specs.Directory.{IsDirectory, AreStorable, directory_body};
 ghost use Rattle.eden_overlay_format.specs.Reading.{Gives, count_at, rows_at, rows_of};
-ghost use Rattle.eden_overlay_format.specs.Values.{entries_in, ClaimsRows};
+ghost use Rattle.eden_overlay_format.specs.Values.{entries_in, FailsWith};
 ghost use Rattle.eden_overlay_format.specs.declared.header.Identifier.TheVariants as identifier;
 ghost use Rattle.eden_overlay_format.specs.declared.refusal.DecodeFault.TheVariants as fault;
 
@@ -83,8 +83,7 @@ fn read_body(alloc: Global, body: &[u8]) -> Result<Vec<StoredEntry>, DecodeFault
 pub fn decode_dir(alloc: Global, bytes: &[u8]) -> Result<Vec<StoredEntry>, DecodeFault>
     ensures found { IfOk result (λ v. entries_in bytes.now ≡ Some v.items) }
     ensures storable { IfOk result (λ v. AreStorable v.items) }
-    ensures refused { IfErr result (λ f. f ≢ fault.Memory → (entries_in bytes.now ≡ None) × (f ≡ fault.Refused (first_refusal identifier.Directory bytes.now))) }
-    ensures memory { IfErr result (λ f. f ≡ fault.Memory → ClaimsRows bytes.now) }
+    ensures refused { IfErr result (FailsWith bytes.now) }
 {
     let body = body_of(Identifier::Directory, bytes)?;
     let entries = read_body(alloc, body)?;

@@ -1,6 +1,7 @@
 //! Why a stored file could not be read.
 
 ghost use Rattle.std.specs.Prelude.{◌≡◌};
+ghost use Rattle.eden_overlay_format.specs.Stored.{refusal_number};
 ghost use Rattle.eden_overlay_format.specs.declared.refusal.DecodeFault.TheVariants as fault;
 
 use std::alloc::{AllocError, AllocFailed};
@@ -9,13 +10,27 @@ use std::alloc::{AllocError, AllocFailed};
 #[derive(Clone, Copy, Debug, PartialEq, Eq)]
 pub enum Refusal {
     /// Under 64 bytes: no header.
-    Short = 1,
+    Short,
     /// The first four bytes aren't those that were asked for.
-    BadIdentifier = 2,
+    BadIdentifier,
     /// The version isn't 1.
-    BadVersion = 3,
+    BadVersion,
     /// The body isn't in its grammar.
-    BadBody = 4,
+    BadBody,
+}
+
+impl Refusal {
+    /// The refusal's number: 1 `Short`, 2 `BadIdentifier`, 3 `BadVersion`, 4 `BadBody`.
+    pub fn number(self) -> u8
+        ensures { result ≡ refusal_number self }
+    {
+        match self {
+            Refusal::Short => 1,
+            Refusal::BadIdentifier => 2,
+            Refusal::BadVersion => 3,
+            Refusal::BadBody => 4,
+        }
+    }
 }
 
 /// Why a decoder that takes memory gave no value.

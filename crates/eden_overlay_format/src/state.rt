@@ -1,7 +1,7 @@
 //! The state that a clean close leaves: file 0.
 
-ghost use Rattle.std.specs.Prelude.{◌≡◌, ◌≤◌, Some, None, IfOk, IfErr};
-ghost use Rattle.eden_overlay_format.specs.Stored.{first_refusal, written};
+ghost use Rattle.std.specs.Prelude.{◌≡◌, ◌≤◌, Some, IfOk, IfErr};
+ghost use Rattle.eden_overlay_format.specs.Stored.{Refuses, written};
 ghost use Rattle.eden_overlay_format.specs.Directory.{number_least, number_end};
 ghost use Rattle.eden_overlay_format.specs.State.{IsGoodState, IsState, state_body};
 ghost use Rattle.eden_overlay_format.specs.Reading.{Reaches, state_of};
@@ -68,7 +68,7 @@ fn state_of(body: &[u8]) -> Result<State, Refusal>
 pub fn decode_state(bytes: &[u8]) -> Result<State, Refusal>
     ensures found { IfOk result (λ s. state_in bytes.now ≡ Some s) }
     ensures good { IfOk result IsGoodState }
-    ensures refused { IfErr result (λ e. (state_in bytes.now ≡ None) × (e ≡ first_refusal identifier.File bytes.now)) }
+    ensures refused { IfErr result (Refuses identifier.File state_in bytes.now) }
 {
     let body = body_of(Identifier::File, bytes)?;
     state_of(body)

@@ -62,6 +62,10 @@ impl<W: World> Source<W> for MemorySource<W> {
 
     ghost failures = { λ _. 0 };
 
+    fn failures(&self) -> u64 {
+        0
+    }
+
     fn fetch(&mut self, alloc: Global, id: Id) -> Result<Vec<u8>, Cause> {
         copied(alloc, self.objects.get(&id))
     }

@@ -1,8 +1,9 @@
-use Rattle.eden_overlay.proofs.Strays.{numbers_from_two, rootless_sound, strays_stay, strays_dont_count, strays_stay_strays}
-use Rattle.eden_overlay.proofs.Contents.{contents_held, entries_held, contents_stay}
+use Rattle.eden_overlay.proofs.Strays.{numbers_from_two, rootless_sound, strays_stay, live_stay, state_stays}
+use Rattle.eden_overlay.proofs.Puts.{contents_held, entries_held}
+use Rattle.eden_overlay.proofs.Contents.{contents_stay}
 use Rattle.eden_overlay.proofs.Directories.{dropped_stay, dropped_unnamed}
 use Rattle.eden_overlay.proofs.Entering.{added_stay, entered_stay}
-use Rattle.eden_overlay.proofs.Moving.{renamed_stay, renamed_unnamed, moved_stay, moved_unnamed}
+use Rattle.eden_overlay.proofs.Moving.{renamed_stay, moved_stay}
 use Rattle.eden_overlay.proofs.laws.overlay_laws.Goals as goal
 
 pub returns-clause-contents_held : goal.returns-clause-contents_held
@@ -20,8 +21,8 @@ returns-clause-rootless c = rootless_sound
 pub returns-clause-strays : goal.returns-clause-strays
 returns-clause-strays c = strays_stay
 
-pub returns-clause-strays_dont_count : goal.returns-clause-strays_dont_count
-returns-clause-strays_dont_count c = strays_dont_count
+pub returns-clause-live : goal.returns-clause-live
+returns-clause-live c = live_stay
 
 pub returns-clause-contents : goal.returns-clause-contents
 returns-clause-contents c = contents_stay
@@ -35,9 +36,6 @@ returns-clause-added c = added_stay
 pub returns-clause-entered : goal.returns-clause-entered
 returns-clause-entered c = entered_stay
 
-pub returns-clause-strays_stay_strays : goal.returns-clause-strays_stay_strays
-returns-clause-strays_stay_strays c = strays_stay_strays
-
 pub returns-clause-dropped_unnamed : goal.returns-clause-dropped_unnamed
 returns-clause-dropped_unnamed c = dropped_unnamed
 
@@ -47,8 +45,5 @@ returns-clause-renamed c = renamed_stay
 pub returns-clause-moved : goal.returns-clause-moved
 returns-clause-moved c = moved_stay
 
-pub returns-clause-renamed_unnamed : goal.returns-clause-renamed_unnamed
-returns-clause-renamed_unnamed c = renamed_unnamed
-
-pub returns-clause-moved_unnamed : goal.returns-clause-moved_unnamed
-returns-clause-moved_unnamed c = moved_unnamed
+pub returns-clause-state : goal.returns-clause-state
+returns-clause-state c = state_stays

@@ -4,11 +4,11 @@ use Rattle.eden_model.specs.declared.kind.Kind.TheVariants as kind
 use Rattle.eden_model.specs.declared.kind.Origin.TheVariants as origin
 use Rattle.eden_model.specs.Names.{name_refusal}
 use Rattle.eden_overlay_format.specs.declared.stored_entry.StoredEntry.{StoredEntry}
-use Rattle.eden_overlay_format.specs.Directory.{IsEntry, AreEntries}
+use Rattle.eden_overlay_format.specs.Directory.{IsStorable, AreStorable}
 use Rattle.eden_overlay.proofs.overlay_tests.one_file.Goals as goal
 
 -- one entry stands in order
-alone : (e : StoredEntry) → IsEntry e → AreEntries (e ∷ [])
+alone : (e : StoredEntry) → IsStorable e → AreStorable (e ∷ [])
 unfolding IsStrictlySortedBy
 alone e h = record { count = omega arith; rising = (tt, tt); each = (h, tt) }
 

@@ -1,5 +1,5 @@
-use Rattle.eden_overlay_format.proofs.Headers.{written_found, one_identifier}
-use Rattle.eden_overlay_format.proofs.Found.{contents_found, states_found, entries_found}
+use Rattle.eden_overlay_format.proofs.Headers.{written_found}
+use Rattle.eden_overlay_format.proofs.Found.{contents_found, states_found, entries_found, never_both}
 use Rattle.eden_overlay_format.proofs.laws.format_laws.Goals as goal
 
 pub returns-clause-contents : goal.returns-clause-contents
@@ -14,5 +14,5 @@ returns-clause-entries c = entries_found
 pub returns-clause-written : goal.returns-clause-written
 returns-clause-written c = written_found
 
-pub returns-clause-one_identifier : goal.returns-clause-one_identifier
-returns-clause-one_identifier c = one_identifier
+pub returns-clause-never_both : goal.returns-clause-never_both
+returns-clause-never_both c = never_both

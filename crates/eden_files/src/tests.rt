@@ -1,0 +1,257 @@
+// What the system does, which no clause can say: on real files, and on a file system that fails.
+use super::*;
+use eden_samples::{Call, FaultySystem, empty_folder};
+use std::fs;
+use std::io::{self, ErrorKind, Read, Write};
+use std::os::fd::AsRawFd;
+use std::os::unix::fs::symlink;
+use std::path::PathBuf;
+use std::test::Fail;
+
+fn system<'a>(
+    rt: &'a HostRuntime,
+    call: Call,
+    kind: ErrorKind,
+    instead: Option<&'a str>,
+) -> FaultySystem<'a, &'a HostRuntime> {
+    FaultySystem {
+        files: rt,
+        call,
+        kind,
+        instead,
+    }
+}
+
+#[test]
+fn plain_files_are_read_whole(rt: HostRuntime) -> Result<(), Fail> {
+    let alloc = rt.alloc();
+    let folder = empty_folder(&rt, "read")?;
+    let at = |name: &str| folder.join(alloc, name);
+    fs::write(&rt, at("file")?, b"hello")?;
+    fs::write(&rt, at("empty")?, b"")?;
+    fs::create_dir(&rt, at("folder")?)?;
+    symlink(&rt, "file", at("link")?)?;
+    symlink(&rt, "nothing", at("lost")?)?;
+    symlink(&rt, "folder", at("leads to folder")?)?;
+    let hello = Ok(b"hello".as_slice());
+    let not_plain = Err(FolderFault::NotPlain);
+    for (name, longest, refused, followed) in [
+        ("file", 5, hello, hello),
+        (
+            "file",
+            4,
+            Err(FolderFault::TooLong),
+            Err(FolderFault::TooLong),
+        ),
+        ("empty", 0, Ok(b"".as_slice()), Ok(b"".as_slice())),
+        ("folder", 5, not_plain, not_plain),
+        ("link", 5, not_plain, hello),
+        ("lost", 5, not_plain, not_plain),
+        ("leads to folder", 5, not_plain, not_plain),
+        (
+            "nothing",
+            5,
+            Err(FolderFault::Missing),
+            Err(FolderFault::Missing),
+        ),
+        (
+            "file/below",
+            5,
+            Err(FolderFault::Device),
+            Err(FolderFault::Device),
+        ),
+    ] {
+        for (links, want) in [(Links::Refused, refused), (Links::Followed, followed)] {
+            let answer = read_file(&rt, alloc, at(name)?.as_str(), links, longest);
+            let seen = answer
+                .as_ref()
+                .map(|bytes| bytes.as_slice())
+                .map_err(|fault| *fault);
+            assert!(rt; seen == want, "{name}, {links:?}");
+        }
+    }
+    fs::remove_dir_all(&rt, folder.as_path())?;
+    Ok(())
+}
+
+// A plain file is looked at, and by the time that it is opened a pipe stands there.
+#[test]
+fn a_pipe_is_no_file(rt: HostRuntime) -> Result<(), Fail> {
+    let alloc = rt.alloc();
+    let folder = empty_folder(&rt, "pipe")?;
+    let file = folder.join(alloc, "file")?;
+    fs::write(&rt, file.as_path(), b"hello")?;
+    let (reader, mut writer) = io::pipe(&rt)?;
+    writer.write_all(b"piped")?;
+    let pipe = format!(in alloc; "/proc/self/fd/{}", reader.as_raw_fd())?;
+    let answer = read_file(&rt, alloc, pipe.as_str(), Links::Followed, 5);
+    assert!(rt; answer == Err(FolderFault::NotPlain));
+    let swapped = system(&rt, Call::None, ErrorKind::Other, Some(pipe.as_str()));
+    for links in [Links::Refused, Links::Followed] {
+        let answer = read_file(&swapped, alloc, file.as_str(), links, 5);
+        assert!(rt; answer == Err(FolderFault::NotPlain), "{links:?}");
+    }
+    fs::remove_dir_all(&rt, folder.as_path())?;
+    Ok(())
+}
+
+// What a read answers where those calls fail.
+fn read_with(
+    rt: &HostRuntime,
+    path: &str,
+    call: Call,
+    kind: ErrorKind,
+) -> Result<Vec<u8>, FolderFault> {
+    read_file(
+        &system(rt, call, kind, None),
+        rt.alloc(),
+        path,
+        Links::Refused,
+        5,
+    )
+}
+
+#[test]
+fn failed_reads_are_told(rt: HostRuntime) -> Result<(), Fail> {
+    let folder = empty_folder(&rt, "failed-reads")?;
+    let file = folder.join(rt.alloc(), "file")?;
+    fs::write(&rt, file.as_path(), b"hello")?;
+    for call in [Call::Look, Call::Open, Call::LookAtOpen, Call::Read] {
+        let answer = read_with(&rt, file.as_str(), call, ErrorKind::ConnectionReset);
+        assert!(rt; answer == Err(FolderFault::Device));
+        let answer = read_with(&rt, file.as_str(), call, ErrorKind::OutOfMemory);
+        assert!(rt; answer == Err(FolderFault::Memory));
+    }
+    // A file that may not be written is read all the same.
+    let answer = read_with(
+        &rt,
+        file.as_str(),
+        Call::OpenToWrite,
+        ErrorKind::PermissionDenied,
+    );
+    assert!(rt; answer?.as_slice() == b"hello".as_slice());
+    fs::remove_dir_all(&rt, folder.as_path())?;
+    Ok(())
+}
+
+// Gives some bytes, and then fails.
+#[derive(Drop)]
+struct Breaking {
+    left: usize,
+    kind: ErrorKind,
+}
+
+impl Read for Breaking {
+    fn read(&mut self, buf: &mut [u8]) -> io::Result<usize> {
+        if self.left == 0 {
+            return Err(io::Error::from(self.kind));
+        }
+        let count = self.left.min(buf.len());
+        self.left -= count;
+        Ok(count)
+    }
+}
+
+#[test]
+fn a_cut_read_is_no_file(rt: HostRuntime) {
+    for (kind, want) in [
+        (ErrorKind::ConnectionReset, FolderFault::Device),
+        (ErrorKind::NotFound, FolderFault::Device),
+        (ErrorKind::OutOfMemory, FolderFault::Memory),
+    ] {
+        let answer = read_within(rt.alloc(), Breaking { left: 3, kind }, 10, 10);
+        assert!(rt; answer == Err(want), "{kind:?}");
+    }
+}
+
+// Whether those bytes are the whole file.
+fn holds(rt: &HostRuntime, path: &str, bytes: &[u8]) -> bool {
+    read_file(rt, rt.alloc(), path, Links::Refused, 1000).is_ok_and(|found| found.as_slice()
+        == bytes)
+}
+
+// What stands in the way of a replacement goes, and what it leads to stays.
+#[test]
+fn a_replacement_is_a_new_file(rt: HostRuntime) -> Result<(), Fail> {
+    let alloc = rt.alloc();
+    let folder = empty_folder(&rt, "replaced")?;
+    let at = |name: &str| folder.join(alloc, name);
+    fs::write(&rt, at("other")?, b"other")?;
+    let file = at("file")?;
+    for target in ["other", "nothing", "/dev/full", "/proc/self/fd/0"] {
+        symlink(&rt, target, at("file.new")?)?;
+        replace_file(&rt, alloc, file.as_str(), target.as_bytes())?;
+        assert!(rt; holds(&rt, file.as_str(), target.as_bytes()), "{target}");
+    }
+    assert!(rt; holds(&rt, at("other")?.as_str(), b"other"));
+    fs::create_dir(&rt, at("file.new")?)?;
+    let answer = replace_file(&rt, alloc, file.as_str(), b"new");
+    assert!(rt; answer == Err(FolderFault::Device));
+    assert!(rt; holds(&rt, file.as_str(), b"/proc/self/fd/0"));
+    fs::remove_dir_all(&rt, folder.as_path())?;
+    Ok(())
+}
+
+// A failed replacement leaves the file.
+#[test]
+fn failed_changes_are_told(rt: HostRuntime) -> Result<(), Fail> {
+    let alloc = rt.alloc();
+    let folder = empty_folder(&rt, "failed-changes")?;
+    let file = folder.join(alloc, "file")?;
+    replace_file(&rt, alloc, file.as_str(), b"old")?;
+    for (kind, fault) in [
+        (ErrorKind::StorageFull, FolderFault::Device),
+        (ErrorKind::OutOfMemory, FolderFault::Memory),
+    ] {
+        for call in [Call::Open, Call::Write, Call::Rename] {
+            let system = system(&rt, call, kind, None);
+            let answer = replace_file(&system, alloc, file.as_str(), b"new");
+            assert!(rt; answer == Err(fault), "{kind:?}");
+            assert!(rt; holds(&rt, file.as_str(), b"old"), "{kind:?}");
+        }
+        let system = system(&rt, Call::Remove, kind, None);
+        let answer = remove_file(&system, file.as_str());
+        assert!(rt; answer == Err(fault), "{kind:?}");
+    }
+    remove_file(&rt, file.as_str())?;
+    assert!(rt; !fs::exists(&rt, file.as_path())?);
+    remove_file(&rt, file.as_str())?;
+    fs::remove_dir_all(&rt, folder.as_path())?;
+    Ok(())
+}
+
+// The file `a` is found beside a name that isn't UTF-8, and the listing fails where the folder does.
+fn lists_one(rt: &HostRuntime, folder: &PathBuf, call: Call) -> Result<bool, FolderFault> {
+    let system = system(rt, call, ErrorKind::Other, None);
+    let mut entries = 0;
+    let mut odd = 0;
+    for item in fs::read_dir(&system, folder.as_path())?.take(10) {
+        match entry_in(item)? {
+            Some(entry) if entry.file_name() == "a" => entries = 1,
+            Some(_) => return Ok(false),
+            None => odd = 1,
+        }
+    }
+    Ok(entries == 1 && odd == 1)
+}
+
+#[test]
+fn names_are_listed(rt: HostRuntime) -> Result<(), Fail> {
+    let folder = empty_folder(&rt, "names")?;
+    fs::write(&rt, folder.join(rt.alloc(), "a")?, b"")?;
+    assert!(rt; lists_one(&rt, &folder, Call::None) == Ok(true));
+    assert!(rt; lists_one(&rt, &folder, Call::List) == Err(FolderFault::Device));
+    fs::remove_dir_all(&rt, folder.as_path())?;
+    Ok(())
+}
+
+// A file longer than the room that its length asked for, as one that grew: ten times 64 KiB.
+#[test]
+fn grown_files_are_read(rt: HostRuntime) -> Result<(), Fail> {
+    let long = [7; 65536].repeat(rt.alloc(), 10)?;
+    let answer = read_within(rt.alloc(), long.as_slice(), 100, 655_360)?;
+    assert!(rt; answer == long);
+    let answer = read_within(rt.alloc(), long.as_slice(), 100, 655_359);
+    assert!(rt; answer == Err(FolderFault::TooLong));
+    Ok(())
+}
