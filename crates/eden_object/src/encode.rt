@@ -1,5 +1,5 @@
 // Writing blobs and trees.
-ghost use Rattle.std.specs.Prelude.{◌≡◌, ◌^◌, ◌≤◌, ◌++◌, length, map, IfOk, OnOk};
+ghost use Rattle.std.specs.Prelude.{◌≡◌, ◌↔◌, ◌^◌, ◌≤◌, ◌++◌, length, map, IsTrue, IfOk, OnOk};
 ghost use Rattle.std.specs.List.Sorted.{IsPermutation, IsSortedBy};
 ghost use Rattle.std.specs.Cmp.Lexicographic.{slice_cmp};
 ghost use Rattle.std.specs.Ordering.{is_lt, nat_cmp};
@@ -10,6 +10,8 @@ ghost use Rattle.eden_object.specs.Frames.{frame, word_text};
 ghost use Rattle.eden_object.specs.Order.{key_of, IsOrdered};
 ghost use Rattle.eden_object.specs.Trees.{AreEntries, IsEntryText, NamesDiffer};
 
+use crate::frame::BODY_LIMIT;
+use crate::names::differ_sorted;
 use crate::order::compare;
 use crate::word::Word;
 use eden_model::{Mode, TreeEntry};
@@ -48,6 +50,12 @@ fn framed(alloc: Global, word: Word, body: &[u8]) -> Result<Vec<u8>, AllocError>
     framed.push(0)?;
     framed.extend_from_slice(body)?;
     Ok(framed)
+}
+
+fn entry_len(entry: &TreeEntry) -> usize
+    ensures { result ≡ length (entry_text entry.now) }
+{
+    mode_text(entry.mode).len() + 1 + entry.name.len() + 1 + entry.id.bytes.as_slice().len()
 }
 
 fn push_entry(body: &mut Vec<u8>, entry: &TreeEntry) -> Result<(), AllocError>
@@ -98,8 +106,26 @@ pub fn encode_blob(alloc: Global, content: &[u8]) -> Result<Vec<u8>, AllocError>
     framed(alloc, Word::Blob, content)
 }
 
+/// Whether the entries are a tree that can be written: their names differ, and its body has at most 2^30 bytes. The only
+/// error is want of memory.
+pub fn is_encodable(alloc: Global, entries: &[TreeEntry]) -> Result<bool, AllocError>
+    ensures { IfOk result (λ is. IsTrue is ↔ (NamesDiffer entries.now × (length (tree_text entries.now) ≤ 2 ^ 30))) }
+{
+    let mut names = Vec::new(alloc);
+    let mut room = BODY_LIMIT;
+    'entries: for entry in entries {
+        let size = entry_len(entry);
+        if size > room {
+            return Ok(false);
+        }
+        room -= size;
+        names.push(entry.name.as_slice())?;
+    }
+    Ok(differ_sorted(names))
+}
+
 /// The framed tree of the entries, whose id `id_of` tells. They are written in Git's order: by the bytes of their names,
-/// a directory's name as if it ended with `/`. The only error is want of memory.
+/// a directory's name as if it ended with `/`. `is_encodable` tells what it takes. The only error is want of memory.
 pub fn encode_tree(alloc: Global, entries: &[TreeEntry]) -> Result<Vec<u8>, AllocError>
     requires differ { NamesDiffer entries.now }
     requires short { length (tree_text entries.now) ≤ 2 ^ 30 }

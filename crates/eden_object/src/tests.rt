@@ -223,16 +223,35 @@ fn entry(alloc: Global, mode: Mode, name: &str, id: [u8; 20]) -> Result<TreeEntr
     })
 }
 
+fn written_tree(
+    rt: &(impl Abort + Alloc<A = Global>),
+    entries: &[TreeEntry],
+) -> Result<Vec<u8>, AllocError> {
+    assert!(rt; is_encodable(rt.alloc(), entries)?);
+    encode_tree(rt.alloc(), entries)
+}
+
+#[test]
+fn names_that_come_twice_are_not_written(rt: HostRuntime) -> Result<(), Fail> {
+    let alloc = rt.alloc();
+    let entries = [
+        entry(alloc, Mode::Dir, "a", TREE_A)?,
+        entry(alloc, Mode::File, "a", VERSION_1)?,
+    ];
+    assert!(rt; !is_encodable(alloc, &entries)?);
+    Ok(())
+}
+
 #[test]
 fn written_objects_of_git(rt: HostRuntime) -> Result<(), Fail> {
     let alloc = rt.alloc();
     let blob = encode_blob(alloc, b"version 1\n")?;
     assert_eq!(rt; blob.len(), 18);
     assert_eq!(rt; id_of(blob.as_slice()), Id { bytes: VERSION_1 });
-    let empty = encode_tree(alloc, &[])?;
+    let empty = written_tree(&rt, &[])?;
     assert_eq!(rt; empty.len(), 7);
     assert_eq!(rt; id_of(empty.as_slice()), Id { bytes: EMPTY_TREE });
-    let a = encode_tree(alloc, &[entry(alloc, Mode::File, "test.txt", VERSION_1)?])?;
+    let a = written_tree(&rt, &[entry(alloc, Mode::File, "test.txt", VERSION_1)?])?;
     assert_eq!(rt; a.len(), 44);
     assert_eq!(rt; id_of(a.as_slice()), Id { bytes: TREE_A });
     let b = [
@@ -240,7 +259,7 @@ fn written_objects_of_git(rt: HostRuntime) -> Result<(), Fail> {
         entry(alloc, Mode::File, "new.txt", NEW_FILE)?,
         entry(alloc, Mode::Dir, "bak", TREE_A)?,
     ];
-    let b = encode_tree(alloc, &b)?;
+    let b = written_tree(&rt, &b)?;
     assert_eq!(rt; id_of(b.as_slice()), Id { bytes: TREE_B });
     Ok(())
 }
@@ -255,7 +274,7 @@ fn written_trees_are_read(rt: HostRuntime) -> Result<(), Fail> {
         entry(alloc, Mode::Link, "c", HELLO)?,
         entry(alloc, Mode::Gitlink, "b", HELLO)?,
     ];
-    let framed = encode_tree(alloc, &entries)?;
+    let framed = written_tree(&rt, &entries)?;
     let key = Key {
         kind: ObjKind::Tree,
         id: id_of(framed.as_slice()),
