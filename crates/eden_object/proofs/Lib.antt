@@ -6,3 +6,4 @@ pub mod CheckLemmas
 pub mod OrderLemmas
 pub mod SortLemmas
 pub mod IdLemmas
+pub mod EncodeLemmas

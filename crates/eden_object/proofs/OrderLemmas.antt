@@ -38,35 +38,41 @@ past_other name e p same =
     let less = p.below.smaller in
     omega arith
 
+-- what is below something is below what that is below, and parts from it no later
+pub below_on : (a b c : List ℕ) (p : IsBelow a b) → IsBelow b c → (q : IsBelow a c) × (q.shared ≤ p.shared)
+below_on a b c p q = go (cases_order p.shared q.shared)
+  where
+    go : (p.shared ≡ q.shared) ⊎ ((p.shared < q.shared) ⊎ (q.shared < p.shared)) → (r : IsBelow a c) × (r.shared ≤ p.shared)
+    go (inl at) = (
+      record {
+        shared = p.shared;
+        same = λ i h. p.same i h ∙ q.same i (omega arith);
+        smaller = let less = p.smaller in let more = q.smaller in let here = ap (slice_index b) at in let there = ap (slice_index c) at in omega arith;
+      },
+      omega arith,
+    )
+    go (inr (inl before)) = (
+      record {
+        shared = p.shared;
+        same = λ i h. p.same i h ∙ q.same i (omega arith);
+        smaller = let less = p.smaller in let here = q.same p.shared before in omega arith;
+      },
+      omega arith,
+    )
+    go (inr (inr behind)) = (
+      record {
+        shared = q.shared;
+        same = λ i h. p.same i (omega arith) ∙ q.same i h;
+        smaller = let more = q.smaller in let here = p.same q.shared behind in omega arith;
+      },
+      omega arith,
+    )
+
 -- what comes behind is past it too
 pub past_on : (name key next : List ℕ) → IsPast name key → IsBelow key next → IsPast name next
-past_on name key next p b = go (cases_order p.below.shared b.shared)
-  where
-    go : (p.below.shared ≡ b.shared) ⊎ ((p.below.shared < b.shared) ⊎ (b.shared < p.below.shared)) → IsPast name next
-    go (inl at) = record {
-      below = record {
-        shared = p.below.shared;
-        same = λ i h. p.below.same i h ∙ b.same i (omega arith);
-        smaller = let less = p.below.smaller in let more = b.smaller in let here = ap (slice_index key) at in let there = ap (slice_index next) at in omega arith;
-      };
-      inside = p.inside;
-    }
-    go (inr (inl before)) = record {
-      below = record {
-        shared = p.below.shared;
-        same = λ i h. p.below.same i h ∙ b.same i (omega arith);
-        smaller = let less = p.below.smaller in let here = b.same p.below.shared before in omega arith;
-      };
-      inside = p.inside;
-    }
-    go (inr (inr behind)) = record {
-      below = record {
-        shared = b.shared;
-        same = λ i h. p.below.same i (omega arith) ∙ b.same i h;
-        smaller = let more = b.smaller in let here = p.below.same b.shared behind in omega arith;
-      };
-      inside = let inside = p.inside in omega arith;
-    }
+past_on name key next p b =
+    let far = below_on name key next p.below b in
+    record { below = far.0; inside = let inside = p.inside in let near = far.1 in omega arith }
 
 -- in order, no entry behind one that is past the name has it
 pub past_free : (name : List ℕ) (e : TreeEntry) (es : List TreeEntry) → IsOrdered (e ∷ es) → IsPast name (key_of e) → IsFree name (e ∷ es)
@@ -272,27 +278,82 @@ end_same d e n p q same at = ap (λ t. t ++ key_end d.mode) same ∙ ap (λ t. e
     alike x y (inr p) (inl q) e = let one = ap (λ t. slice_index t 0) p in let two = ap (λ t. slice_index t 0) q in absurd (omega arith)
     alike x y (inr p) (inr q) e = p ∙ sym q
 
--- an entry whose key isn't smaller where the names part isn't before the next
-pub not_below : (last next : TreeEntry) (shared : ℕ) → name_refusal last.name ≡ None → name_refusal next.name ≡ None → shared ≤ length last.name → shared ≤ length next.name → ((i : ℕ) → i < shared → slice_index last.name i ≡ slice_index next.name i) → (shared < length last.name → shared < length next.name → slice_index last.name shared ≢ slice_index next.name shared) → slice_index (key_of next) shared ≤ slice_index (key_of last) shared → IsBelow (key_of last) (key_of next) → ⊥
-not_below last next shared good fine first second same most less b = go (cases_order b.shared shared)
-  where
-    apart : slice_index (key_of last) shared ≡ slice_index (key_of next) shared → (shared < length last.name) ⊎ (length last.name ≤ shared) → (shared < length next.name) ⊎ (length next.name ≤ shared) → ⊥
-    apart e (inl p) (inl q) = most p q (sym (key_front last shared p) ∙ e ∙ key_front next shared q)
-    apart e (inl p) (inr q) = inside_end last.name (slice_index (key_of last) shared) shared good p (key_front last shared p) (end_byte next shared (omega arith)) e
-    apart e (inr p) (inl q) = inside_end next.name (slice_index (key_of next) shared) shared fine q (key_front next shared q) (end_byte last shared (omega arith)) (sym e)
-    apart e (inr p) (inr q) =
-        let names : last.name ≡ next.name = ext_get_or 0 last.name next.name (omega arith) (λ i h. same i (omega arith)) in
-        let keys = end_same last next shared (omega arith) (omega arith) names e in
-        let smaller = b.smaller in
-        let here = ap (λ k. slice_index k b.shared) keys in
-        omega arith
+-- the two begin alike for so many bytes, and no longer
+pub record Shares (xs ys : List ℕ) (n : ℕ) : Type 0 where
+  pub first : n ≤ length xs
+  pub second : n ≤ length ys
+  pub same : (i : ℕ) → i < n → slice_index xs i ≡ slice_index ys i
+  pub most : n < length xs → n < length ys → slice_index xs n ≢ slice_index ys n
 
-    go : (b.shared ≡ shared) ⊎ ((b.shared < shared) ⊎ (shared < b.shared)) → ⊥
+pub shared_of : (xs ys : List ℕ) → (n : ℕ) × Shares xs ys n
+shared_of [] ys = (0, record { first = omega arith; second = omega arith; same = λ i h. absurd (omega arith); most = λ h k. absurd (omega arith) })
+shared_of (x ∷ xs) [] = (0, record { first = omega arith; second = omega arith; same = λ i h. absurd (omega arith); most = λ h k. absurd (omega arith) })
+shared_of (x ∷ xs) (y ∷ ys) = go (cases_order x y) (shared_of xs ys)
+  where
+    apart : x ≢ y → (n : ℕ) × Shares (x ∷ xs) (y ∷ ys) n
+    apart other = (0, record { first = omega arith; second = omega arith; same = λ i h. absurd (omega arith); most = λ h k. other })
+
+    front : (n : ℕ) → x ≡ y → Shares xs ys n → (i : ℕ) → i < suc n → slice_index (x ∷ xs) i ≡ slice_index (y ∷ ys) i
+    front n e s zero h = e
+    front n e s (suc i) h = s.same i (omega arith)
+
+    go : (x ≡ y) ⊎ ((x < y) ⊎ (y < x)) → (n : ℕ) × Shares xs ys n → (n : ℕ) × Shares (x ∷ xs) (y ∷ ys) n
+    go (inl e) (n, s) = (suc n, record { first = let short = s.first in omega arith; second = let short = s.second in omega arith; same = front n e s; most = λ h k. s.most (omega arith) (omega arith) })
+    go (inr (inl less)) r = apart (λ e. omega arith)
+    go (inr (inr more)) r = apart (λ e. omega arith)
+
+-- where the names part the keys differ, or they are one
+pub keys_meet : (d e : TreeEntry) (n : ℕ) → name_refusal d.name ≡ None → name_refusal e.name ≡ None → Shares d.name e.name n → slice_index (key_of d) n ≡ slice_index (key_of e) n → (d.name ≡ e.name) × (key_of d ≡ key_of e)
+keys_meet d e n good fine s at = apart (cases_lt n (length d.name)) (cases_lt n (length e.name))
+  where
+    apart : (n < length d.name) ⊎ (length d.name ≤ n) → (n < length e.name) ⊎ (length e.name ≤ n) → (d.name ≡ e.name) × (key_of d ≡ key_of e)
+    apart (inl p) (inl q) = absurd (s.most p q (sym (key_front d n p) ∙ at ∙ key_front e n q))
+    apart (inl p) (inr q) = let short = s.second in absurd (inside_end d.name (slice_index (key_of d) n) n good p (key_front d n p) (end_byte e n (omega arith)) at)
+    apart (inr p) (inl q) = let short = s.first in absurd (inside_end e.name (slice_index (key_of e) n) n fine q (key_front e n q) (end_byte d n (omega arith)) (sym at))
+    apart (inr p) (inr q) =
+        let first = s.first in
+        let second = s.second in
+        let names : d.name ≡ e.name = ext_get_or 0 d.name e.name (omega arith) (λ i h. s.same i (omega arith)) in
+        (names, end_same d e n (omega arith) (omega arith) names at)
+
+shares_below : (d e : TreeEntry) (n : ℕ) → Shares d.name e.name n → slice_index (key_of d) n < slice_index (key_of e) n → IsBelow (key_of d) (key_of e)
+shares_below d e n s less = record {
+  shared = n;
+  same = λ i h. key_front d i (let first = s.first in omega arith) ∙ s.same i h ∙ sym (key_front e i (let second = s.second in omega arith));
+  smaller = less;
+}
+
+shares_back : (d e : TreeEntry) (n : ℕ) → Shares d.name e.name n → Shares e.name d.name n
+shares_back d e n s = record { first = s.second; second = s.first; same = λ i h. sym (s.same i h); most = λ h k same. s.most k h (sym same) }
+
+-- one is before the other, or they have one name and one key
+pub stand : (d e : TreeEntry) (n : ℕ) → name_refusal d.name ≡ None → name_refusal e.name ≡ None → Shares d.name e.name n
+    → (IsBelow (key_of d) (key_of e) × (slice_index (key_of d) n < slice_index (key_of e) n))
+    ⊎ ((IsBelow (key_of e) (key_of d) × (slice_index (key_of e) n < slice_index (key_of d) n)) ⊎ ((d.name ≡ e.name) × (key_of d ≡ key_of e)))
+stand d e n good fine s = go (cases_order (slice_index (key_of d) n) (slice_index (key_of e) n))
+  where
+    go : (slice_index (key_of d) n ≡ slice_index (key_of e) n) ⊎ ((slice_index (key_of d) n < slice_index (key_of e) n) ⊎ (slice_index (key_of e) n < slice_index (key_of d) n))
+        → (IsBelow (key_of d) (key_of e) × (slice_index (key_of d) n < slice_index (key_of e) n))
+        ⊎ ((IsBelow (key_of e) (key_of d) × (slice_index (key_of e) n < slice_index (key_of d) n)) ⊎ ((d.name ≡ e.name) × (key_of d ≡ key_of e)))
+    go (inl same) = inr (inr (keys_meet d e n good fine s same))
+    go (inr (inl less)) = inl (shares_below d e n s less, less)
+    go (inr (inr more)) = inr (inl (shares_below e d n (shares_back d e n s) more, more))
+
+-- an entry whose key isn't smaller where the names part isn't before the next
+pub not_below : (last next : TreeEntry) (n : ℕ) → name_refusal last.name ≡ None → name_refusal next.name ≡ None → Shares last.name next.name n
+    → slice_index (key_of next) n ≤ slice_index (key_of last) n → IsBelow (key_of last) (key_of next) → ⊥
+not_below last next n good fine s less b = go (cases_order b.shared n)
+  where
+    go : (b.shared ≡ n) ⊎ ((b.shared < n) ⊎ (n < b.shared)) → ⊥
     go (inl at) = let smaller = b.smaller in let one = ap (slice_index (key_of last)) at in let two = ap (slice_index (key_of next)) at in omega arith
     go (inr (inl before)) =
         let smaller = b.smaller in
-        let one = key_front last b.shared (omega arith) in
-        let two = key_front next b.shared (omega arith) in
-        let alike = same b.shared before in
+        let one = key_front last b.shared (let first = s.first in omega arith) in
+        let two = key_front next b.shared (let second = s.second in omega arith) in
+        let alike = s.same b.shared before in
         omega arith
-    go (inr (inr behind)) = apart (b.same shared behind) (cases_lt shared (length last.name)) (cases_lt shared (length next.name))
+    go (inr (inr behind)) =
+        let meet = keys_meet last next n good fine s (b.same n behind) in
+        let smaller = b.smaller in
+        let here = ap (λ k. slice_index k b.shared) meet.1 in
+        omega arith

@@ -5,3 +5,4 @@ pub mod Order
 pub mod Rows
 pub mod Laws
 pub mod IdText
+pub mod Encoding

@@ -7,6 +7,7 @@
 
 mod checks;
 mod decode;
+mod encode;
 mod frame;
 mod id_text;
 mod laws;
@@ -21,6 +22,7 @@ mod word;
 pub use checks::check;
 pub use decode::decode_tree;
 pub use eden_model::{Cause, Id, Key, Mode, Name, ObjKind, TreeEntry};
+pub use encode::{encode_blob, encode_tree, is_encodable};
 pub use frame::{decode_blob, id_of};
 pub use id_text::parse_id;
 pub use laws::{one_frame, one_list};

@@ -50,7 +50,7 @@ fn names_of(alloc: Global, body: &[u8]) -> Result<Vec<&[u8]>, AllocError>
 }
 
 /// Whether no two of the names are equal, by sorting them.
-fn differ_sorted(names: Vec<&[u8]>) -> bool
+pub(crate) fn differ_sorted(names: Vec<&[u8]>) -> bool
     ensures { IsTrue result ↔ IsDistinct (λ m n. bytes_eq m.now n.now) names.entry.items }
 {
     let mut sorted = names;

@@ -1,5 +1,7 @@
 // The order in which Git writes the entries of a tree.
 ghost use Rattle.std.specs.Prelude.{◌≡◌, ◌≢◌, ◌↔◌, List, ℕ, ◌<◌, ◌≤◌, false, true, length, slice_index, slice_index_or, IsTrue, IfSome, IfNone};
+ghost use Rattle.std.specs.Cmp.Lexicographic.{slice_cmp};
+ghost use Rattle.std.specs.Ordering.{nat_cmp};
 ghost use Rattle.eden_model.specs.declared.tree_entry.TreeEntry.{TreeEntry};
 ghost use Rattle.eden_object.specs.Order.{key_of, IsOrdered};
 ghost use Rattle.eden_object.specs.Rows.{entry_of};
@@ -7,7 +9,8 @@ ghost use Rattle.eden_object.specs.Trees.{AreEntries, IsTreeBody};
 
 use crate::row::Row;
 use crate::rows::first_row;
-use eden_model::Mode;
+use eden_model::{Mode, TreeEntry};
+use std::cmp::Ordering;
 
 /// How many bytes the two begin with alike.
 fn shared_len(a: &[u8], b: &[u8]) -> usize
@@ -34,6 +37,15 @@ fn key_byte(row: &Row, at: usize) -> u8
     } else {
         0
     }
+}
+
+/// How the two stand to each other in Git's order.
+pub(crate) fn compare(a: &TreeEntry, b: &TreeEntry) -> Ordering
+    ensures { result ≡ slice_cmp nat_cmp (key_of a.now) (key_of b.now) }
+{
+    let (a, b) = (Row::of(a), Row::of(b));
+    let shared = shared_len(a.name, b.name);
+    key_byte(&a, shared).cmp(&key_byte(&b, shared))
 }
 
 /// Marks the lengths of the names that the next name begins with: those marked up to what it shares with the last name,

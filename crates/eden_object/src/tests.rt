@@ -213,3 +213,79 @@ fn trees_in_each_order(rt: HostRuntime) -> Result<(), Fail> {
     assert_eq!(rt; entries_of(&rt, &["b", "a", "c", "b"])?, None);
     Ok(())
 }
+
+fn entry(alloc: Global, mode: Mode, name: &str, id: [u8; 20]) -> Result<TreeEntry, Fail> {
+    let name = Name::new(Vec::from_slice(alloc, name.as_bytes())?)?;
+    Ok(TreeEntry {
+        mode,
+        name,
+        id: Id { bytes: id },
+    })
+}
+
+fn written_tree(
+    rt: &(impl Abort + Alloc<A = Global>),
+    entries: &[TreeEntry],
+) -> Result<Vec<u8>, AllocError> {
+    assert!(rt; is_encodable(rt.alloc(), entries)?);
+    encode_tree(rt.alloc(), entries)
+}
+
+#[test]
+fn names_that_come_twice_are_not_written(rt: HostRuntime) -> Result<(), Fail> {
+    let alloc = rt.alloc();
+    let entries = [
+        entry(alloc, Mode::Dir, "a", TREE_A)?,
+        entry(alloc, Mode::File, "a", VERSION_1)?,
+    ];
+    assert!(rt; !is_encodable(alloc, &entries)?);
+    Ok(())
+}
+
+#[test]
+fn written_objects_of_git(rt: HostRuntime) -> Result<(), Fail> {
+    let alloc = rt.alloc();
+    let blob = encode_blob(alloc, b"version 1\n")?;
+    assert_eq!(rt; blob.len(), 18);
+    assert_eq!(rt; id_of(blob.as_slice()), Id { bytes: VERSION_1 });
+    let empty = written_tree(&rt, &[])?;
+    assert_eq!(rt; empty.len(), 7);
+    assert_eq!(rt; id_of(empty.as_slice()), Id { bytes: EMPTY_TREE });
+    let a = written_tree(&rt, &[entry(alloc, Mode::File, "test.txt", VERSION_1)?])?;
+    assert_eq!(rt; a.len(), 44);
+    assert_eq!(rt; id_of(a.as_slice()), Id { bytes: TREE_A });
+    let b = [
+        entry(alloc, Mode::File, "test.txt", VERSION_2)?,
+        entry(alloc, Mode::File, "new.txt", NEW_FILE)?,
+        entry(alloc, Mode::Dir, "bak", TREE_A)?,
+    ];
+    let b = written_tree(&rt, &b)?;
+    assert_eq!(rt; id_of(b.as_slice()), Id { bytes: TREE_B });
+    Ok(())
+}
+
+// `a` and `a.b` as Git orders them, where `a` is a directory. Each mode is written and read.
+#[test]
+fn written_trees_are_read(rt: HostRuntime) -> Result<(), Fail> {
+    let alloc = rt.alloc();
+    let entries = [
+        entry(alloc, Mode::Dir, "a", TREE_A)?,
+        entry(alloc, Mode::Exec, "a.b", VERSION_1)?,
+        entry(alloc, Mode::Link, "c", HELLO)?,
+        entry(alloc, Mode::Gitlink, "b", HELLO)?,
+    ];
+    let framed = written_tree(&rt, &entries)?;
+    let key = Key {
+        kind: ObjKind::Tree,
+        id: id_of(framed.as_slice()),
+    };
+    let read = Object::checked(alloc, key, framed)?.entries(alloc)?;
+    assert_eq!(rt; read.len(), 4);
+    assert_eq!(rt; read[0].name.as_slice(), b"a.b".as_slice());
+    assert_eq!(rt; read[0].mode, Mode::Exec);
+    assert_eq!(rt; read[1].name.as_slice(), b"a".as_slice());
+    assert_eq!(rt; read[1].id, Id { bytes: TREE_A });
+    assert_eq!(rt; read[2].mode, Mode::Gitlink);
+    assert_eq!(rt; read[3].mode, Mode::Link);
+    Ok(())
+}

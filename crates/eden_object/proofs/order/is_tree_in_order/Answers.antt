@@ -4,7 +4,7 @@ use Rattle.eden_object.specs.Order.{key_of}
 use Rattle.eden_object.specs.Rows.{entry_of}
 use Rattle.eden_object.specs.Trees.{AreEntries, NamesDiffer}
 use Rattle.eden_object.proofs.RowLemmas.{entries_behind, entries_end, no_entries, name_short}
-use Rattle.eden_object.proofs.OrderLemmas.{IsStep, StandsFor, marks_start, stands_start, stands_next, marks_on, step_on, comes_again, not_below}
+use Rattle.eden_object.proofs.OrderLemmas.{IsStep, Shares, StandsFor, marks_start, stands_start, stands_next, marks_on, step_on, comes_again, not_below}
 use Rattle.eden_object.proofs.order.is_tree_in_order.Goals as goal
 use Rattle.eden_object.proofs.order.is_tree_in_order.Goals.{else-shared-row-via-then-shared-row+else-fronts-shared, else-shared-row-via-else-shared-row}
 
@@ -87,4 +87,5 @@ returns-then-key_byte-clause-none c = λ es h o.
     let lens = c.shared_len-shared.ensures in
     let at = stands_next c.rows.fronts last next c.args.body.now c.rows.rest.now c.in-Some-first_row.more.now c.rows.invariant.stands c.in-Some-first_row.ensures es h in
     let above : slice_index (key_of next) c.shared_len-shared.result ≤ slice_index (key_of last) c.shared_len-shared.result = let before = c.key_byte.ensures in let after = c.key_byte-in-Some-first_row.ensures in let less = c.if-key_byte.true in omega arith in
-    not_below last next c.shared_len-shared.result c.rows.invariant.good c.in-Some-first_row.ensures.entry.name lens.first lens.second lens.same lens.most above (at.2.order o).0
+    let shares : Shares last.name next.name c.shared_len-shared.result = record { first = lens.first; second = lens.second; same = lens.same; most = lens.most } in
+    not_below last next c.shared_len-shared.result c.rows.invariant.good c.in-Some-first_row.ensures.entry.name shares above (at.2.order o).0
