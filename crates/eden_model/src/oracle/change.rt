@@ -1,7 +1,8 @@
-ghost use Rattle.std.specs.Prelude.{◌≡◌, ◌≤◌, IfOk, OnOk, OnErr, None, Some};
+ghost use Rattle.std.specs.Prelude.{◌≡◌, ◌≤◌, IfOk, OnOk, OnErr, None, Some, true, false, if◌then◌else◌};
 ghost use Rattle.std.specs.Vec.{vec_len, vec_capacity};
-ghost use Rattle.eden_model.specs.Changes.{changed};
+ghost use Rattle.eden_model.specs.Changes.{MovesRow, changed};
 ghost use Rattle.eden_model.specs.Operations.{move, put};
+ghost use Rattle.eden_model.specs.Paths.{path_eq};
 ghost use Rattle.eden_model.specs.Rows.{tree_of};
 
 use crate::errno::Errno;
@@ -33,13 +34,19 @@ pub(crate) fn refused<'a>(errno: Errno) -> Answer<'a>
     Some((Reply::Err(errno), Change::Keep))
 }
 
+fn differs(place: &Place, path: &[Name]) -> bool
+    ensures { result ≡ (if path_eq place.now path.now then false else true) }
+{
+    place.as_slice() != path
+}
+
 /// Takes the rows of a path away.
 fn remove(rows: &mut Vec<Row>, path: &[Name])
     ensures tree { tree_of rows.new.items ≡ put (tree_of rows.old.items) path.now None }
     ensures fewer { vec_len rows.new ≤ vec_len rows.old }
     ensures capacity { vec_capacity rows.new ≡ vec_capacity rows.old }
 {
-    rows.retain(|row| row.0.as_slice() != path);
+    rows.retain(|row| differs(&row.0, path));
 }
 
 /// Puts a row in the place of those of its path.
@@ -53,19 +60,36 @@ fn replace(rows: &mut Vec<Row>, path: Place, node: Node) -> Result<(), AllocErro
     Ok(())
 }
 
+/// Puts a copy of the row behind the others, as it stands once what begins with `from` begins with `to`; not where
+/// it begins with `to` before.
+fn move_row(
+    alloc: Global,
+    all: &mut Vec<Row>,
+    from: &[Name],
+    to: &[Name],
+    path: &[Name],
+    node: &Node,
+) -> Result<(), AllocError>
+    ensures { OnOk result (MovesRow all.old.items all.new.items from.now to.now path.now node.now) }
+{
+    let place = match behind(from, path) {
+        Some(rest) => joined(alloc, to, rest)?,
+        None => match behind(to, path) {
+            Some(_) => return Ok(()),
+            None => joined(alloc, path, &[])?,
+        },
+    };
+    all.push((place, copied_node(alloc, node)?))?;
+    Ok(())
+}
+
 /// The rows where what begins with `from` begins with `to`, and what began with `to` is gone.
 fn moved(alloc: Global, rows: &[Row], from: &[Name], to: &[Name]) -> Result<Vec<Row>, AllocError>
     ensures { IfOk result (λ all. tree_of all.items ≡ move (tree_of rows.now) from.now to.now) }
 {
     let mut all = Vec::new(alloc);
     for (path, node) in rows {
-        let path = path.as_slice();
-        match behind(from, path) {
-            Some(rest) => all.push((joined(alloc, to, rest)?, copied_node(alloc, node)?))?,
-            None => if behind(to, path).is_none() {
-                all.push((joined(alloc, path, &[])?, copied_node(alloc, node)?))?;
-            },
-        }
+        move_row(alloc, &mut all, from, to, path.as_slice(), node)?;
     }
     Ok(all)
 }

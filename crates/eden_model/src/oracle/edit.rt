@@ -1,7 +1,7 @@
 ghost use Rattle.std.specs.Prelude.{◌≡◌, ◌<◌, ◌≤◌, ◌+◌, length, IfOk};
-ghost use Rattle.eden_model.specs.Limits.{most_file};
-ghost use Rattle.eden_model.specs.Changes.{Answers};
-ghost use Rattle.eden_model.specs.Operations.{resized, written};
+ghost use Rattle.eden_model.specs.Limits.{most_data, most_file};
+ghost use Rattle.eden_model.specs.Changes.{Answers, AnswersHere};
+ghost use Rattle.eden_model.specs.Operations.{Writes, Truncates, SetsExec, resized, written};
 ghost use Rattle.eden_model.specs.Rows.{tree_of};
 ghost use Rattle.eden_model.specs.declared.request.Request.TheVariants as ask;
 
@@ -66,7 +66,10 @@ fn write_node<'a>(
     node: &Node,
     offset: u64,
     bytes: &[u8],
-) -> Result<Answer<'a>, AllocError> {
+) -> Result<Answer<'a>, AllocError>
+    requires { length bytes.now ≤ most_data }
+    ensures { IfOk result (AnswersHere path.now node.now (Writes offset bytes.now) (ask.Write path.now offset bytes.now)) }
+{
     match node {
         Node::File(exec, content) => {
             if bytes.is_empty() {
@@ -95,7 +98,9 @@ fn truncate_node<'a>(
     path: &'a Path,
     node: &Node,
     size: u64,
-) -> Result<Answer<'a>, AllocError> {
+) -> Result<Answer<'a>, AllocError>
+    ensures { IfOk result (AnswersHere path.now node.now (Truncates size) (ask.Truncate path.now size)) }
+{
     match node {
         Node::File(exec, content) => {
             if size > MAX_FILE {
@@ -138,7 +143,9 @@ fn set_exec_node<'a>(
     path: &'a Path,
     node: &Node,
     exec: bool,
-) -> Result<Answer<'a>, AllocError> {
+) -> Result<Answer<'a>, AllocError>
+    ensures { IfOk result (AnswersHere path.now node.now SetsExec (ask.SetExec path.now exec)) }
+{
     match node {
         Node::File(_, content) => {
             let file = Node::File(exec, copied(alloc, content)?);

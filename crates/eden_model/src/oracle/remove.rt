@@ -1,7 +1,10 @@
-ghost use Rattle.std.specs.Prelude.{◌≡◌, ◌↔◌, IsTrue, ℕ, List, [], ◌∷◌, ◌++◌, None};
-ghost use Rattle.eden_model.specs.Changes.{Answers, reply_of};
-ghost use Rattle.eden_model.specs.Operations.{Tells, Removes, Unlinks};
+ghost use Rattle.std.specs.Prelude.{◌≡◌, true, false, ℕ, List, [], ◌∷◌, ◌++◌, None, IfSome};
+ghost use Rattle.std.specs.Option.{IsSome, option_map};
+ghost use Rattle.eden_model.specs.Changes.{Answers, changed, reply_of};
+ghost use Rattle.eden_model.specs.Operations.{Tells, Removes, Unlinks, after, done, put};
 ghost use Rattle.eden_model.specs.Rows.{tree_of};
+ghost use Rattle.eden_model.specs.Trees.{Tree};
+ghost use Rattle.eden_model.specs.declared.request.Request.{Request};
 ghost use Rattle.eden_model.specs.declared.request.Request.TheVariants as ask;
 
 use crate::errno::Errno;
@@ -35,7 +38,8 @@ pub(crate) fn leaf_going(node: &Node) -> Going
 
 /// Whether no row is a child of that directory.
 fn is_empty(rows: &[Row], dir: &[Name]) -> bool
-    ensures { IsTrue result ↔ ((n : List ℕ) → tree_of rows.now (dir.now ++ n ∷ []) ≡ None) }
+    ensures empty { result ≡ true → (n : List ℕ) → tree_of rows.now (dir.now ++ n ∷ []) ≡ None }
+    ensures some { result ≡ false → (n : List ℕ) × IsSome (tree_of rows.now (dir.now ++ n ∷ [])) }
 {
     for (row, _) in rows {
         if child(dir, row.as_slice()).is_some() {
@@ -52,17 +56,24 @@ pub(crate) fn dir_going(rows: &[Row], path: &[Name], node: &Node) -> Going
     match node {
         Node::File(_, _) => Going::Stays(Errno::ENOTDIR),
         Node::Link(_) => Going::Stays(Errno::ENOTDIR),
-        Node::Dir(false) => Going::Silent,
-        Node::Dir(true) => if is_empty(rows, path) {
-            Going::Goes
-        } else {
-            Going::Stays(Errno::ENOTEMPTY)
-        },
+        Node::Dir(listed) => {
+            if !*listed {
+                return Going::Silent;
+            }
+            if is_empty(rows, path) {
+                Going::Goes
+            } else {
+                Going::Stays(Errno::ENOTEMPTY)
+            }
+        }
     }
 }
 
 /// Takes the path away, where that may be.
-fn take_away<'a>(path: &'a Path, going: Going) -> Answer<'a> {
+fn take_away<'a>(path: &'a Path, going: Going) -> Answer<'a>
+    ensures reply { option_map (λ a. a.0) result ≡ reply_of going }
+    ensures change { (F : Tree) (q : Request) → done F q ≡ put F path.now None → IfSome result (λ a. changed F a.1 ≡ after F q a.0) }
+{
     match going {
         Going::Goes => Some((Reply::Ok, Change::Put(path.as_slice(), None))),
         Going::Stays(e) => refused(e),
