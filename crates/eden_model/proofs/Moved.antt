@@ -6,9 +6,10 @@ use Rattle.std.specs.Cmp.Lexicographic.{nat_list_eq_equiv}
 use Rattle.eden_model.specs.declared.node.Node.{Node}
 use Rattle.eden_model.specs.Paths.{path_eq, behind_of}
 use Rattle.eden_model.specs.Trees.{Path, Tree}
-use Rattle.eden_model.specs.Operations.{is_front, landed, move}
+use Rattle.eden_model.specs.Operations.{is_front, move}
 use Rattle.eden_model.specs.Rows.{tree_of}
 use Rattle.eden_model.specs.Changes.{ShowMoved}
+use Rattle.eden_model.proofs.AfterTrees.{landed, gone}
 use Rattle.eden_model.proofs.Behinds.{path_eq-Decides, behind_sound, behind_back}
 use Rattle.eden_model.proofs.Lookups.{lookup-push}
 
@@ -47,23 +48,23 @@ behind_itself front rest = ap is_some (behind_back front rest)
 
 -- one row more, by what it shows at each path
 module _ (F G : Tree) (from to p : Path) (v : Node) (more : (q : Path) → G q ≡ option_or (F q) (one p v q)) where
-  by_parts : (q : Path) (x : Option Node) (a : Option Path) (b : Bool) → ((s : Path) → a ≡ Some s → one p v (from ++ s) ≡ x)
-      → (a ≡ None → b ≡ true → None ≡ x) → (a ≡ None → b ≡ false → one p v q ≡ x)
-      → landed G from a (cond b None (G q)) ≡ option_or (landed F from a (cond b None (F q))) x
+  by_parts : (q : Path) (x : Option Node) (a b : Option Path) → ((s : Path) → a ≡ Some s → one p v (from ++ s) ≡ x)
+      → (a ≡ None → is_some b ≡ true → None ≡ x) → (a ≡ None → is_some b ≡ false → one p v q ≡ x)
+      → landed G from a (gone b (G q)) ≡ option_or (landed F from a (gone b (F q))) x
   by_parts q x (Some s) b h1 h2 h3 = more (from ++ s) ∙ ap (option_or (F (from ++ s))) (h1 s refl)
-  by_parts q x None true h1 h2 h3 = h2 refl refl
-  by_parts q x None false h1 h2 h3 = more q ∙ ap (option_or (F q)) (h3 refl refl)
+  by_parts q x None (Some r) h1 h2 h3 = h2 refl refl
+  by_parts q x None None h1 h2 h3 = more q ∙ ap (option_or (F q)) (h3 refl refl)
 
   -- a row that begins with neither
   more_kept : is_front from p ≡ false → is_front to p ≡ false → (q : Path) → move G from to q ≡ option_or (move F from to q) (one p v q)
-  more_kept no_from no_to q = by_parts q (one p v q) (behind_of to q) (is_front from q)
+  more_kept no_from no_to q = by_parts q (one p v q) (behind_of to q) (behind_of from q)
       (λ s e. unseen p v (from ++ s) (apart from (from ++ s) p (behind_itself from s) no_from) ∙ sym (unseen p v q (apart to q p (ap is_some e) no_to)))
       (λ a e. sym (unseen p v q (apart from q p e no_from)))
       (λ a e. refl)
 
   -- a row that begins with the second
   more_gone : is_front from p ≡ false → is_front to p ≡ true → (q : Path) → move G from to q ≡ move F from to q
-  more_gone no_from to_p q = by_parts q None (behind_of to q) (is_front from q)
+  more_gone no_from to_p q = by_parts q None (behind_of to q) (behind_of from q)
       (λ s e. unseen p v (from ++ s) (apart from (from ++ s) p (behind_itself from s) no_from))
       (λ a e. refl)
       (λ a e. unseen p v q (away to q p (ap is_some a) to_p))
@@ -71,7 +72,7 @@ module _ (F G : Tree) (from to p : Path) (v : Node) (more : (q : Path) → G q �
 
   -- a row that begins with the first
   more_moved : (rest : Path) → p ≡ from ++ rest → (q : Path) → move G from to q ≡ option_or (move F from to q) (one (to ++ rest) v q)
-  more_moved rest is q = by_parts q (one (to ++ rest) v q) (behind_of to q) (is_front from q)
+  more_moved rest is q = by_parts q (one (to ++ rest) v q) (behind_of to q) (behind_of from q)
       (λ s e. ap (λ (x : Path). one x v (from ++ s)) is
       ∙ ap (λ (b : Bool). cond b (Some v) None) (same_front from s rest ∙ sym (same_front to s rest))
       ∙ ap (one (to ++ rest) v) (sym (behind_sound to q s e)))
@@ -108,12 +109,12 @@ moved_row all rows from to p rest v there h q =
     ∙ sym (more_moved (tree_of rows) (tree_of (rows ++ (p, v) ∷ [])) from to p v (pushed rows p v) rest (behind_sound from p rest there) q)
 
 pub none_moved : (from to : Path) → ShowMoved [] [] from to
-none_moved from to q = by (behind_of to q) (is_front from q)
+none_moved from to q = by (behind_of to q) (behind_of from q)
   where
-    by : (a : Option Path) (b : Bool) → None ≡ landed (tree_of []) from a (cond b None None)
+    by : (a b : Option Path) → None ≡ landed (tree_of []) from a (gone b None)
     by (Some s) b = refl
-    by None true = refl
-    by None false = refl
+    by None (Some r) = refl
+    by None None = refl
 
 pub one_more : (rows : Rows) (k : ℕ) (row : Path × Node) (p : Path) → k < length rows → row ≡ get_or rows k row → p ≡ row.0 → take k rows ++ (p, row.1) ∷ [] ≡ take (k + 1) rows
 one_more rows k row p lt is at =
