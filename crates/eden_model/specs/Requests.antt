@@ -7,8 +7,19 @@ use Rattle.eden_model.specs.Trees.{Path}
 
 abbrev pub paths_of : Request → List Path
 paths_of (ask.Kind p) = p ∷ []
+paths_of (ask.Stat p) = p ∷ []
 paths_of (ask.Read p offset count) = p ∷ []
+paths_of (ask.ReadLink p) = p ∷ []
 paths_of (ask.List p after limit) = p ∷ []
+paths_of (ask.Write p offset bytes) = p ∷ []
+paths_of (ask.Truncate p size) = p ∷ []
+paths_of (ask.Create p) = p ∷ []
+paths_of (ask.SetExec p exec) = p ∷ []
+paths_of (ask.Mkdir p) = p ∷ []
+paths_of (ask.Symlink p target) = p ∷ []
+paths_of (ask.Unlink p) = p ∷ []
+paths_of (ask.Rmdir p) = p ∷ []
+paths_of (ask.Rename from to) = from ∷ to ∷ []
 
 -- the most objects that a request needs: for each of its paths one a directory above, and one that stands there
 abbrev pub most_objects : Request → ℕ
