@@ -1,13 +1,11 @@
 -- A name's text decodes to the name.
-use Rattle.std.proofs.Common.{◌≡◌, ℕ, List, [], ◌++◌, true, sym, ap, ◌∙◌, subst, refl, Option, Some, None}
+use Rattle.std.proofs.Common.{◌≡◌, ℕ, List, sym, ap, ◌∙◌, refl, Option, Some, None}
 use Rattle.std.specs.Prelude.{Result, Ok, Err, IfErr, IsOk}
 use Rattle.std.proofs.lemmas.List.Elements.{All-from_recursion}
-use Rattle.percent_encoding.specs.AsciiSet.{contains}
-use Rattle.percent_encoding.specs.Percent.{percent_encode, percent_decode}
+use Rattle.percent_encoding.specs.Percent.{percent_decode}
 use Rattle.percent_encoding.proofs.PercentLemmas.{round_trip, IsByte}
 use Rattle.eden_wire.specs.declared.reply.TheConstants.{ESCAPED}
-use Rattle.eden_wire.specs.Names.{name_text}
-use Rattle.eden_wire.proofs.NameLemmas.{AreBytes}
+use Rattle.eden_wire.specs.Names.{name_text, AreBytes}
 use Rattle.eden_wire.proofs.Escapes.{escape_is}
 
 pub decoded : (text name : List ℕ) → AreBytes name → text ≡ name_text name → percent_decode text ≡ name

@@ -1,7 +1,6 @@
 -- Lemmas on what was handed to an output.
-use Rattle.std.proofs.Common.{◌≡◌, ℕ, List, [], ◌∷◌, ◌++◌, take, drop, length, Bool, true, false, Option, None, Some, Result, Ok, Err, sym, ap, ◌∙◌, subst, refl, append_assoc, append-nil, take-append-drop, OnOk, is_err, arith}
+use Rattle.std.proofs.Common.{◌≡◌, ℕ, List, [], ◌++◌, take, drop, Bool, true, false, Option, Result, Ok, Err, sym, ap, ◌∙◌, subst, refl, append_assoc, append-nil, take-append-drop, is_err}
 use Rattle.std.proofs.lemmas.Bool.{false≢true}
-use Rattle.std.proofs.lemmas.List.{drop_all}
 use Rattle.std.proofs.KnownBytes.{Appends-kept, Appends-nil, Appends-trans}
 use Rattle.std.specs.Io.KnownBytes.{Appends, Keeps}
 use Rattle.eden_wire.specs.Writing.{WritesFront, Writes, Holds, Grows, Flushed, IsIdle}
@@ -39,32 +38,67 @@ grows_held w o p text failed pending = record {
   };
 }
 
-rest_taken : (bytes : List ℕ) (n : ℕ) (pending : List ℕ) → n ≡ length bytes → pending ≡ [] → drop n bytes ≡ pending
-rest_taken bytes n pending all empty = drop_all n bytes (omega arith) ∙ sym empty
+-- a beginning of the text was sent, and this rest is left
+pub record Sent (old now : Option (List ℕ)) (text rest : List ℕ) : Type 0 where
+  pub front : List ℕ
+  pub whole : text ≡ front ++ rest
+  pub appends : Appends old now front
+
+pub sent_none : (w : Option (List ℕ)) (text : List ℕ) → Sent w w text text
+sent_none w text = record { front = []; whole = refl; appends = Appends-nil w }
+
+pub sent_more : (w v u : Option (List ℕ)) (text rest left : List ℕ) (n : ℕ) → Sent w v text rest → Appends v u (take n rest) → left ≡ drop n rest → Sent w u text left
+sent_more w v u text rest left n so taken e = record {
+  front = so.front ++ take n rest;
+  whole = so.whole ∙ ap (λ l. so.front ++ l) (sym (take-append-drop n rest) ∙ ap (λ l. take n rest ++ l) (sym e)) ∙ sym (append_assoc so.front (take n rest) left);
+  appends = Appends-trans w v u so.front (take n rest) so.appends taken;
+}
+
+pub sent_whole : (w v : Option (List ℕ)) (text rest : List ℕ) → Sent w v text rest → rest ≡ [] → Appends w v text
+sent_whole w v text rest so none = subst (Appends w v) (sym (so.whole ∙ ap (λ l. so.front ++ l) none ∙ append-nil so.front)) so.appends
+
+pub sent_part : (w v u : Option (List ℕ)) (text rest : List ℕ) → Sent w v text rest → Appends v u [] → WritesFront w u text
+sent_part w v u text rest so none = record { front = so.front; rest = rest; whole = so.whole; appends = subst (Appends w u) (append-nil so.front) (Appends-trans w v u so.front [] so.appends none) }
+
+-- what a call that sends leaves unsent: nothing, unless it failed
+record Passed (w v : Option (List ℕ)) (text : List ℕ) (failed : Bool) : Type 0 where
+  sent : List ℕ
+  rest : List ℕ
+  whole : text ≡ sent ++ rest
+  appends : Appends w v sent
+  all : failed ≡ false → rest ≡ []
+
+passed : (w v : Option (List ℕ)) (text : List ℕ) (failed : Bool) (r : Result (Unit {0}) WriteFailed) → Writes w v r text → failed ≡ is_err r → Passed w v text failed
+passed w v text failed (Ok d) wrote e = record { sent = text; rest = []; whole = sym (append-nil text); appends = wrote; all = λ works. refl }
+passed w v text failed (Err d) wrote e = record { sent = wrote.front; rest = wrote.rest; whole = wrote.whole; appends = wrote.appends; all = λ works. absurd (false≢true (sym works ∙ e)) }
 
 -- what was held was sent
-pub grows_sent : (w v : Option (List ℕ)) (o p : Output) (n : ℕ) → o.failed ≡ false → Appends w v (take n o.pending.items) → (p.failed ≡ false → n ≡ length o.pending.items) → p.pending.items ≡ [] → Grows w v o p []
-grows_sent w v o p n works taken all empty = record {
-  after = λ start before held. record {
-    sent = held.sent ++ take n o.pending.items;
-    rest = drop n o.pending.items;
-    whole = append-nil before ∙ held.whole ∙ ap (λ l. held.sent ++ l) (held.waits works ∙ sym (take-append-drop n o.pending.items)) ∙ sym (append_assoc held.sent (take n o.pending.items) (drop n o.pending.items));
-    appends = Appends-trans start w v held.sent (take n o.pending.items) held.appends taken;
-    waits = λ still. rest_taken o.pending.items n p.pending.items (all still) empty;
-  };
-}
+pub grows_sent : (w v : Option (List ℕ)) (o p : Output) (r : Result (Unit {0}) WriteFailed) → o.failed ≡ false → Writes w v r o.pending.items → p.failed ≡ is_err r → p.pending.items ≡ [] → Grows w v o p []
+grows_sent w v o p r works wrote failed empty =
+    let part = passed w v o.pending.items p.failed r wrote failed in
+    record {
+      after = λ start before held. record {
+        sent = held.sent ++ part.sent;
+        rest = part.rest;
+        whole = append-nil before ∙ held.whole ∙ ap (λ l. held.sent ++ l) (held.waits works ∙ part.whole) ∙ sym (append_assoc held.sent part.sent part.rest);
+        appends = Appends-trans start w v held.sent part.sent held.appends part.appends;
+        waits = λ still. part.all still ∙ sym empty;
+      };
+    }
 
 -- bytes were sent where none were held
-pub grows_passed : (w v : Option (List ℕ)) (o p : Output) (text : List ℕ) (n : ℕ) → o.failed ≡ false → o.pending.items ≡ [] → Appends w v (take n text) → (p.failed ≡ false → n ≡ length text) → p.pending.items ≡ [] → Grows w v o p text
-grows_passed w v o p text n works none taken all empty = record {
-  after = λ start before held. record {
-    sent = held.sent ++ take n text;
-    rest = drop n text;
-    whole = ap (λ l. l ++ text) (held.whole ∙ ap (λ l. held.sent ++ l) (held.waits works ∙ none) ∙ append-nil held.sent) ∙ ap (λ l. held.sent ++ l) (sym (take-append-drop n text)) ∙ sym (append_assoc held.sent (take n text) (drop n text));
-    appends = Appends-trans start w v held.sent (take n text) held.appends taken;
-    waits = λ still. rest_taken text n p.pending.items (all still) empty;
-  };
-}
+pub grows_passed : (w v : Option (List ℕ)) (o p : Output) (text : List ℕ) (r : Result (Unit {0}) WriteFailed) → o.failed ≡ false → o.pending.items ≡ [] → Writes w v r text → p.failed ≡ is_err r → p.pending.items ≡ [] → Grows w v o p text
+grows_passed w v o p text r works none wrote failed empty =
+    let part = passed w v text p.failed r wrote failed in
+    record {
+      after = λ start before held. record {
+        sent = held.sent ++ part.sent;
+        rest = part.rest;
+        whole = ap (λ l. l ++ text) (held.whole ∙ ap (λ l. held.sent ++ l) (held.waits works ∙ none) ∙ append-nil held.sent) ∙ ap (λ l. held.sent ++ l) part.whole ∙ sym (append_assoc held.sent part.sent part.rest);
+        appends = Appends-trans start w v held.sent part.sent held.appends part.appends;
+        waits = λ still. part.all still ∙ sym empty;
+      };
+    }
 
 -- at the start
 pub holds_none : (w : Option (List ℕ)) (o : Output) → IsIdle o → Holds w w o []
@@ -83,11 +117,6 @@ holds_on start w v o p text held g = subst (Holds start v p) (append-nil text) (
 
 pub front_kept : (start now end : Option (List ℕ)) (text : List ℕ) → WritesFront start now text → Keeps now end → WritesFront start end text
 front_kept start now end text w kept = record { front = w.front; rest = w.rest; whole = w.whole; appends = Appends-kept start now end w.front w.appends kept }
-
--- all was sent, or the failure is remembered
-pub sent_all : {E : Type 0} (r : Result (Unit {0}) E) (failed : Bool) (n k : ℕ) → failed ≡ is_err r → OnOk r (n ≡ k) → failed ≡ false → n ≡ k
-sent_all (Ok v) failed n k e all works = all
-sent_all (Err d) failed n k e all works = absurd (false≢true (sym works ∙ e))
 
 -- nothing was held, so that nothing is to be written
 pub flushed_idle : (w : Option (List ℕ)) (o : Output) → IsIdle o → Flushed w w o o (Ok tt)

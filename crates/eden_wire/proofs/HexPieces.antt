@@ -1,5 +1,5 @@
 -- Lemmas on hexadecimal text that is written in pieces.
-use Rattle.std.proofs.Common.{◌≡◌, ℕ, ◌/◌, ◌%◌, ◌∷◌, List, [], ◌++◌, length, take, drop, ◌==◌, Bool, true, false, refl, sym, ap, ◌∙◌, take-append-drop, append_assoc, append-nil, codes, eqb-true, arith}
+use Rattle.std.proofs.Common.{◌≡◌, ℕ, ◌/◌, ◌%◌, ◌∷◌, List, [], ◌++◌, length, take, drop, ◌==◌, true, false, refl, sym, ap, ◌∙◌, take-append-drop, append_assoc, append-nil, codes, eqb-true, arith}
 use Rattle.std.proofs.lemmas.Bool.{false≢true}
 use Rattle.std.specs.Prelude.{slice_index}
 use Rattle.hex.specs.Hex.{encode_lower, encode_with, lower_digits}

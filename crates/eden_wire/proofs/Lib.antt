@@ -8,6 +8,8 @@ pub mod PathLemmas
 pub mod Scanning
 pub mod Splitting
 pub mod Decoding
-pub mod Fields
+pub mod DataLemmas
+pub mod FieldLemmas
+pub mod RequestLemmas
 pub mod SessionLemmas
 pub mod RunLemmas

@@ -4,12 +4,8 @@ use Rattle.std.proofs.lemmas.Bool.{false≢true}
 use Rattle.std.proofs.lemmas.Bool.Decides.{nat_tests, same_from_decides}
 use Rattle.std.proofs.lemmas.Slice.Eq.{bytes_eq-Decides}
 use Rattle.std.specs.Prelude.{nat_lt}
-use Rattle.std.specs.List.{AllByRecursion}
 use Rattle.std.specs.Str.{bytes_eq}
-use Rattle.eden_wire.specs.Names.{is_plain, byte_text, name_text, upper_digit}
-
-abbrev pub AreBytes : List ℕ → Type 0
-AreBytes bytes = AllByRecursion (λ b. b < 256) bytes
+use Rattle.eden_wire.specs.Names.{is_plain, byte_text, name_text, upper_digit, AreBytes}
 
 plain_not_percent : (b : ℕ) → is_plain b ≡ true → b ≢ 37
 plain_not_percent b plain e = false≢true (subst (λ v. is_plain v ≡ true) e plain)

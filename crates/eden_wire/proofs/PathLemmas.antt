@@ -1,11 +1,11 @@
 -- Lemmas on the text of a path: it spells one path.
-use Rattle.std.proofs.Common.{eqb-true, ◌==◌, ◌≡◌, ◌≢◌, ℕ, ◌+◌, ◌<◌, ◌≤◌, List, [], ◌∷◌, ◌++◌, take, drop, length, Bool, true, false, cond, sym, ap, ◌∙◌, subst, refl, append_assoc, append-nil, take-append-drop, get_or, arith}
+use Rattle.std.proofs.Common.{eqb-true, ◌==◌, ◌≡◌, ◌≢◌, ℕ, ◌+◌, ◌<◌, List, [], ◌∷◌, ◌++◌, length, Bool, true, false, cond, sym, ap, ◌∙◌, subst, refl, append_assoc, append-nil, get_or, arith}
 use Rattle.std.proofs.lemmas.Bool.{false≢true}
 use Rattle.std.specs.List.{AllByRecursion, flat_map}
 use Rattle.std.specs.Str.{bytes_eq}
-use Rattle.eden_wire.specs.Names.{is_plain, byte_text, name_text, component_text, path_text, upper_digit, IsComponent}
-use Rattle.eden_wire.specs.Splits.{Lacks, IsCutAt, IsPart}
-use Rattle.eden_wire.specs.Scans.{SpellsNoName, BeginsWith}
+use Rattle.eden_wire.specs.Names.{is_plain, byte_text, name_text, component_text, path_text, IsComponent}
+use Rattle.eden_wire.specs.Splits.{Lacks, IsCutAt, IsPart, BeginsWith}
+use Rattle.eden_wire.specs.Scans.{SpellsNoName}
 use Rattle.eden_wire.proofs.NameLemmas.{name_same}
 
 pub lacks-append : (mark : ℕ) (xs ys : List ℕ) → Lacks mark xs → Lacks mark ys → Lacks mark (xs ++ ys)
@@ -67,7 +67,7 @@ spelled_parts (n ∷ done) (c ∷ path) rest cut good all h =
     (on.0, on.1, on.2, ap (λ v. v ∷ path) (sym (name_same n c good.0.1 all.0.1 both.0)) ∙ ap (λ l. n ∷ l) on.3)
 
 -- the next part of a text of parts is the text of the next name
-pub next_at : (more : List (List ℕ)) (rest part tail : List ℕ) → IsPart rest part tail → AreComponents more → rest ≡ parts_text more → (name : List ℕ) × (later : List (List ℕ)) × (more ≡ name ∷ later) × (part ≡ name_text name) × (tail ≡ parts_text later)
+pub next_at : (more : List (List ℕ)) (rest part tail : List ℕ) → IsPart 47 rest part tail → AreComponents more → rest ≡ parts_text more → (name : List ℕ) × (later : List (List ℕ)) × (more ≡ name ∷ later) × (part ≡ name_text name) × (tail ≡ parts_text later)
 next_at [] rest part tail cut all e = absurd (let f = cut.whole in cc)
 next_at (c ∷ more) rest part tail cut all e =
     let whole = cut.whole in
@@ -80,7 +80,7 @@ parts-append [] ys h k = k
 parts-append (x ∷ xs) ys h k = (h.0, parts-append xs ys h.1 k)
 
 -- a part that spells no name, behind parts that do: the text spells no path
-pub no_part : (text rest part tail : List ℕ) (done path : List (List ℕ)) → (text ≡ 47 ∷ [] → ⊥) → AreComponents done → text ≡ parts_text done ++ rest → IsPart rest part tail → AreComponents path → text ≡ path_text path → SpellsNoName part → ⊥
+pub no_part : (text rest part tail : List ℕ) (done path : List (List ℕ)) → (text ≡ 47 ∷ [] → ⊥) → AreComponents done → text ≡ parts_text done ++ rest → IsPart 47 rest part tail → AreComponents path → text ≡ path_text path → SpellsNoName part → ⊥
 no_part text rest part tail done [] not_root good so_far cut all spelled none = not_root spelled
 no_part text rest part tail done (c ∷ path) not_root good so_far cut all spelled none =
     let begins : IsCutAt 47 rest = subst (IsCutAt 47) (sym cut.whole) refl in

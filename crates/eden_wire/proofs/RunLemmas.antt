@@ -1,5 +1,5 @@
 -- Lemmas on a session that reads in pieces.
-use Rattle.std.proofs.Common.{◌≡◌, ◌≢◌, ℕ, ◌+◌, ◌-◌, ◌<◌, ◌≤◌, List, [], ◌∷◌, ◌++◌, take, drop, length, Bool, true, false, Option, None, Some, Result, Ok, Err, sym, ap, ◌∙◌, subst, refl, inl, inr, ◌⊎◌, append_assoc, append-nil, ◌==◌, arith}
+use Rattle.std.proofs.Common.{◌≡◌, ℕ, ◌≤◌, List, [], ◌∷◌, ◌++◌, drop, length, Bool, true, false, Option, None, Some, Result, Ok, Err, sym, ap, ◌∙◌, subst, refl, inl, inr, ◌⊎◌, append_assoc, append-nil, ◌==◌, arith}
 use Rattle.std.proofs.lemmas.Bool.{false≢true}
 use Rattle.std.proofs.KnownBytes.{Appends-nil, Appends-kept, Appends-trans, Consumes-nil, Consumes-kept, Consumes-trans, Keeps-refl}
 use Rattle.std.specs.Prelude.{⊤}
@@ -9,11 +9,10 @@ use Rattle.eden_model.specs.declared.request.Request.{Request}
 use Rattle.eden_model.specs.declared.reply.Reply.{Reply}
 use Rattle.eden_model.specs.declared.fault.CallFault.{CallFault}
 use Rattle.eden_wire.specs.Replies.{error_text}
-use Rattle.eden_wire.specs.Lines.{Lines, IsOneLine, IsBadEnd, IsCut, Ends}
-use Rattle.eden_wire.specs.Writing.{WritesFront, Writes}
-use Rattle.eden_wire.specs.Reading.{ReadSome}
-use Rattle.eden_wire.specs.Serving.{texts, Serves, Said, Session}
-use Rattle.eden_wire.specs.Turns.{Answered, Left, Ended}
+use Rattle.eden_wire.specs.Lines.{longest_line, Lines, IsOneLine, IsBadEnd, Ends}
+use Rattle.eden_wire.specs.Writing.{WritesFront}
+use Rattle.eden_wire.specs.Serving.{texts, Serves, Session}
+use Rattle.eden_wire.specs.Turns.{Answered, Ended}
 use Rattle.eden_wire.specs.declared.request.Item.{Item}
 use Rattle.eden_wire.specs.declared.request.Item.TheVariants.{Bad}
 use Rattle.eden_wire.specs.declared.output.Output.{Output}
@@ -62,7 +61,7 @@ module _ {S : Type 0} (answers : S → Request → Result Reply CallFault → S 
         one = subst IsOneLine a.left.1 a.left.2;
       }
 
-  pub session_bad : (s t u : S) (i j k o p q : Option (List ℕ)) (rest piece after : List ℕ) (out : Output) → SoFar s t i j o p rest → Consumes j k piece → Answered answers t u p q out (rest ++ piece) after (Ok false) → Session answers s u i k o q (Ok tt)
+  pub session_bad : (s t u : S) (i j k o p q : Option (List ℕ)) (rest piece after : List ℕ) (out : Output) → SoFar s t i j o p rest → Consumes j k piece → Answered answers t u p q out (rest ++ piece) after (Ok false) → Session answers (s, u) (i, k) (o, q) (Ok tt)
   session_bad s t u i j k o p q rest piece after out so more a =
       let all = sym (append_assoc so.items a.items a.last) in
       record {
@@ -81,7 +80,7 @@ module _ {S : Type 0} (answers : S → Request → Result Reply CallFault → S 
   ended rest k last (inl e) = inl e
   ended rest k last (inr e) = inr (subst (Ends rest k) (sym e.0) (inl e.1))
 
-  pub session_unwritten : (s t u : S) (i j k o p q : Option (List ℕ)) (rest piece after : List ℕ) (out : Output) (d : WriteFailed) → SoFar s t i j o p rest → Consumes j k piece → Answered answers t u p q out (rest ++ piece) after (Err d) → Session answers s u i k o q (Err fault.Write)
+  pub session_unwritten : (s t u : S) (i j k o p q : Option (List ℕ)) (rest piece after : List ℕ) (out : Output) (d : WriteFailed) → SoFar s t i j o p rest → Consumes j k piece → Answered answers t u p q out (rest ++ piece) after (Err d) → Session answers (s, u) (i, k) (o, q) (Err fault.Write)
   session_unwritten s t u i j k o p q rest piece after out d so more a =
       let all = sym (append_assoc so.items a.items a.last) in
       record {
@@ -96,7 +95,7 @@ module _ {S : Type 0} (answers : S → Request → Result Reply CallFault → S 
         said = (ended a.rest k a.last a.left, subst (λ l. WritesFront o q (texts l (so.given ++ a.given))) all (subst (WritesFront o q) (sym (texts-append answers s so.items so.given t (a.items ++ a.last) a.given so.served)) (front_then o p q _ _ so.wrote a.wrote)));
       }
 
-  pub session_unread : (s t : S) (i j k o p : Option (List ℕ)) (rest : List ℕ) → SoFar s t i j o p rest → Keeps j k → Session answers s t i k o p (Err fault.Read)
+  pub session_unread : (s t : S) (i j k o p : Option (List ℕ)) (rest : List ℕ) → SoFar s t i j o p rest → Keeps j k → Session answers (s, t) (i, k) (o, p) (Err fault.Read)
   session_unread s t i j k o p rest so kept = record {
     read = so.read;
     items = so.items;
@@ -109,11 +108,11 @@ module _ {S : Type 0} (answers : S → Request → Result Reply CallFault → S 
     said = (refl, so.one, subst (λ l. Appends o p (texts l so.given)) (sym (append-nil so.items)) so.wrote);
   }
 
-  pub session_none : (s : S) (i o : Option (List ℕ)) → Session answers s s i i o o (Err fault.Memory)
+  pub session_none : (s : S) (i o : Option (List ℕ)) → Session answers (s, s) (i, i) (o, o) (Err fault.Memory)
   session_none s i o = record { read = []; items = []; last = []; given = []; rest = []; consumed = Consumes-nil i; lines = refl; served = refl; said = (refl, refl, Keeps-refl o) }
 
-  session_closed : (r : Result ⊤ SessionFault) (s t : S) (i j o p q : Option (List ℕ)) (rest : List ℕ) (last : List Item) → SoFar s t i j o p rest → Serves answers t last [] t → Ends rest j last → r ≡ Ok tt → Appends p q (texts last []) → Session answers s t i j o q r
-  session_closed r s t i j o p q rest last so served ends e wrote = subst (Session answers s t i j o q) (sym e) record {
+  session_closed : (r : Result ⊤ SessionFault) (s t : S) (i j o p q : Option (List ℕ)) (rest : List ℕ) (last : List Item) → SoFar s t i j o p rest → Serves answers t last [] t → Ends rest j last → r ≡ Ok tt → Appends p q (texts last []) → Session answers (s, t) (i, j) (o, q) r
+  session_closed r s t i j o p q rest last so served ends e wrote = subst (Session answers (s, t) (i, j) (o, q)) (sym e) record {
     read = so.read;
     items = so.items;
     last = last;
@@ -126,10 +125,10 @@ module _ {S : Type 0} (answers : S → Request → Result Reply CallFault → S 
   }
 
   -- the input has ended
-  pub session_end : (r : Result ⊤ SessionFault) (rest : List ℕ) (s t : S) (i j o p q : Option (List ℕ)) → SoFar s t i j o p rest → IsAtEnd j → Ended rest p q r → Session answers s t i j o q r
+  pub session_end : (r : Result ⊤ SessionFault) (rest : List ℕ) (s t : S) (i j o p q : Option (List ℕ)) → SoFar s t i j o p rest → IsAtEnd j → Ended rest p q r → Session answers (s, t) (i, j) (o, q) r
   session_end r [] s t i j o p q so end h = session_closed r s t i j o p q [] [] so refl (refl, end) h.0 (Appends-kept p p q [] (Appends-nil p) h.1)
   session_end (Ok v) (b ∷ rest) s t i j o p q so end h = session_closed (Ok v) s t i j o p q (b ∷ rest) (Bad ∷ []) so refl (inr record { one = so.one; some = omega arith; at_end = end }) refl (subst (Appends p q) (sym (append-nil (error_text EPROTO))) h)
-  session_end (Err e) (b ∷ rest) s t i j o p q so end h = subst (λ f. Session answers s t i j o q (Err f)) (sym h.0) record {
+  session_end (Err e) (b ∷ rest) s t i j o p q so end h = subst (λ f. Session answers (s, t) (i, j) (o, q) (Err f)) (sym h.0) record {
     read = so.read;
     items = so.items;
     last = Bad ∷ [];
@@ -152,8 +151,8 @@ module _ {S : Type 0} (answers : S → Request → Result Reply CallFault → S 
   pub answered_as : (s t : S) (o p : Option (List ℕ)) (out : Output) (bytes joined : List ℕ) (used : ℕ) (r q : Result Bool WriteFailed) → bytes ≡ joined → r ≡ q → Answered answers s t o p out bytes (drop used bytes) r → Answered answers s t o p out joined (drop used joined) q
   answered_as s t o p out bytes joined used r q e f a = subst (λ b. Answered answers s t o p out b (drop used b) q) e (subst (Answered answers s t o p out bytes (drop used bytes)) f a)
 
-  pub answered_short : (s t : S) (o p : Option (List ℕ)) (out : Output) (bytes after : List ℕ) → Answered answers s t o p out bytes after (Ok true) → length after ≤ 150000
-  answered_short s t o p out bytes after a = subst (λ l. length l ≤ 150000) a.left.1 a.left.3
+  pub answered_short : (s t : S) (o p : Option (List ℕ)) (out : Output) (bytes after : List ℕ) → Answered answers s t o p out bytes after (Ok true) → length after ≤ longest_line
+  answered_short s t o p out bytes after a = subst (λ l. length l ≤ longest_line) a.left.1 a.left.3
 
 -- what is said to a last line that isn't ended
 pub ended_ok : (rest : List ℕ) (old new : Option (List ℕ)) → false ≡ (length rest == 0) → Appends old new (error_text EPROTO) → Ended rest old new (Ok tt)

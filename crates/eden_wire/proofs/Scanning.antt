@@ -1,7 +1,6 @@
 -- Lemmas on texts that are looked through.
-use Rattle.std.proofs.Common.{◌≡◌, ◌≢◌, ℕ, ◌+◌, ◌<◌, ◌≤◌, ◌||◌, ◌==◌, List, [], ◌∷◌, ◌++◌, length, Bool, true, false, cond, Option, Some, None, sym, ap, ◌∙◌, subst, refl, append_assoc, append-nil, length-append, eqb-true, arith}
-use Rattle.std.specs.Prelude.{nat_lt, if◌then◌else◌}
-use Rattle.std.specs.List.{AllByRecursion, list_any, sum_by, flat_map}
+use Rattle.std.proofs.Common.{◌≡◌, ℕ, ◌+◌, ◌<◌, ◌≤◌, ◌||◌, ◌==◌, List, [], ◌∷◌, ◌++◌, length, Bool, true, false, cond, Option, Some, None, sym, ap, ◌∙◌, subst, refl, append_assoc, append-nil, length-append, eqb-true, arith}
+use Rattle.std.specs.List.{list_any}
 use Rattle.std.specs.Str.{bytes_eq}
 use Rattle.std.proofs.lemmas.List.Concat.{flat_map-append}
 use Rattle.std.proofs.lemmas.List.Sums.{sum_by-append}
@@ -9,13 +8,12 @@ use Rattle.eden_model.specs.Names.{is_no_name, name_refusal}
 use Rattle.eden_model.specs.Paths.{path_len, path_refusal}
 use Rattle.std.specs.Option.{option_or}
 use Rattle.eden_model.specs.declared.errno.Errno.{Errno}
-use Rattle.eden_model.specs.declared.errno.Errno.TheVariants.{EINVAL, ENAMETOOLONG}
-use Rattle.eden_wire.specs.Names.{is_plain, byte_text, name_text, path_text, component_text, upper_digit, IsComponent}
-use Rattle.eden_wire.specs.Requests.{names_refusal, spelled_refusal, SpellsPath}
+use Rattle.eden_wire.specs.Names.{is_plain, byte_text, name_text, path_text, component_text, IsComponent, AreBytes}
+use Rattle.eden_wire.specs.Fields.{names_refusal, spelled_refusal}
 use Rattle.eden_wire.specs.Splits.{IsCutAt, IsPart}
-use Rattle.eden_wire.specs.Scans.{is_dots, refusal_by, too_long_by, ScansName, ScansPath, BeginsWith, SpellsNoName}
+use Rattle.eden_wire.specs.Scans.{is_dots, refusal_by, too_long_by, ScansName, ScansPath, SpellsPath, SpellsNoName}
 use Rattle.eden_wire.specs.Names.{SpellsName}
-use Rattle.eden_wire.proofs.NameLemmas.{AreBytes, are_bytes-append, text_test, spells_nothing, name_same}
+use Rattle.eden_wire.proofs.NameLemmas.{are_bytes-append, text_test, spells_nothing, name_same}
 use Rattle.eden_wire.proofs.PathLemmas.{AreComponents, parts_text, parts-append, next_at, cut_parts, path_is, no_part}
 
 -- a name's text up to here
@@ -160,11 +158,11 @@ names-append : (xs ys : List (List ℕ)) → names_refusal (xs ++ ys) ≡ option
 names-append [] ys = refl
 names-append (x ∷ xs) ys = ap (option_or (name_refusal x)) (names-append xs ys) ∙ sym (first-assoc (name_refusal x) (names_refusal xs) (names_refusal ys))
 
-part_size : (rest part more : List ℕ) → IsPart rest part more → length rest ≡ 1 + (length part + length more)
+part_size : (rest part more : List ℕ) → IsPart 47 rest part more → length rest ≡ 1 + (length part + length more)
 part_size rest part more cut = let long = ap length cut.whole in let both = length-append part more in omega arith
 
 -- one part more
-pub path_more : (text rest part more : List ℕ) (first found both : Option Errno) (names bytes len count size : ℕ) → PathSoFar text rest first names bytes → IsPart rest part more → ScansName part len found → both ≡ option_or first found → count ≡ names + 1 → size ≡ bytes + (len + 1) → PathSoFar text more both count size
+pub path_more : (text rest part more : List ℕ) (first found both : Option Errno) (names bytes len count size : ℕ) → PathSoFar text rest first names bytes → IsPart 47 rest part more → ScansName part len found → both ≡ option_or first found → count ≡ names + 1 → size ≡ bytes + (len + 1) → PathSoFar text more both count size
 path_more text rest part more first found both names bytes len count size so cut scan joined counted sized =
     let done = so.done ++ scan.name ∷ [] in
     let spelled : parts_text done ≡ parts_text so.done ++ (47 ∷ part) = flat_map-append component_text so.done (scan.name ∷ []) ∙ ap (λ l. parts_text so.done ++ l) (append-nil (component_text scan.name) ∙ ap (λ l. 47 ∷ l) (sym scan.spelled)) in
@@ -191,7 +189,7 @@ path_more text rest part more first found both names bytes len count size so cut
     }
 
 -- a part that spells no name
-pub path_bad : (text rest part more : List ℕ) (first : Option Errno) (names bytes : ℕ) → PathSoFar text rest first names bytes → IsPart rest part more → SpellsNoName part → (path : List (List ℕ)) → AreComponents path → text ≡ path_text path → ⊥
+pub path_bad : (text rest part more : List ℕ) (first : Option Errno) (names bytes : ℕ) → PathSoFar text rest first names bytes → IsPart 47 rest part more → SpellsNoName part → (path : List (List ℕ)) → AreComponents path → text ≡ path_text path → ⊥
 path_bad text rest part more first names bytes so cut none path all spelled = no_part text rest part more so.done path so.not_root so.good so.so_far cut all spelled none
 
 -- the whole text was looked through
@@ -236,14 +234,14 @@ to_go_all text names not_root h none = subst (PathToGo text text) (sym none) (al
 pub to_go_begins : (text rest : List ℕ) (names : List (List ℕ)) → PathToGo text rest names → IsCutAt 47 rest
 to_go_begins text rest names so = subst (IsCutAt 47) (sym so.rest_is) (cut_parts so.later)
 
-pub to_go_next : (text rest part more : List ℕ) (names : List (List ℕ)) → PathToGo text rest names → IsPart rest part more → SpellsName part
+pub to_go_next : (text rest part more : List ℕ) (names : List (List ℕ)) → PathToGo text rest names → IsPart 47 rest part more → SpellsName part
 to_go_next text rest part more names so cut =
     let next = next_at so.later rest part more cut so.fine so.rest_is in
     let fine : AreComponents (next.0 ∷ next.1) = subst AreComponents next.2 so.fine in
     let named : names_refusal (next.0 ∷ next.1) ≡ None = subst (λ l. names_refusal l ≡ None) next.2 so.named in
     (next.0, fine.0, next.3, (first_none (name_refusal next.0) (names_refusal next.1) named).0)
 
-pub to_go_more : (text rest part more name : List ℕ) (names grown : List (List ℕ)) → PathToGo text rest names → IsPart rest part more → IsComponent name → part ≡ name_text name → grown ≡ names ++ name ∷ [] → PathToGo text more grown
+pub to_go_more : (text rest part more name : List ℕ) (names grown : List (List ℕ)) → PathToGo text rest names → IsPart 47 rest part more → IsComponent name → part ≡ name_text name → grown ≡ names ++ name ∷ [] → PathToGo text more grown
 to_go_more text rest part more name names grown so cut good spelled push =
     let next = next_at so.later rest part more cut so.fine so.rest_is in
     let fine : AreComponents (next.0 ∷ next.1) = subst AreComponents next.2 so.fine in

@@ -1,5 +1,5 @@
 -- Lemmas on lines that are answered one after another.
-use Rattle.std.proofs.Common.{◌≡◌, ◌≢◌, ℕ, ◌+◌, ◌-◌, ◌<◌, ◌≤◌, List, [], ◌∷◌, ◌++◌, take, drop, length, Bool, true, false, Option, None, Some, Result, Ok, Err, sym, ap, ◌∙◌, subst, refl, inl, inr, append_assoc, append-nil, arith}
+use Rattle.std.proofs.Common.{◌≡◌, ℕ, ◌+◌, ◌-◌, ◌<◌, ◌≤◌, List, [], ◌∷◌, ◌++◌, take, drop, length, Bool, true, false, Option, None, Some, Result, Ok, Err, sym, ap, ◌∙◌, subst, refl, inl, inr, append_assoc, append-nil, arith}
 use Rattle.std.proofs.lemmas.Bool.{false≢true}
 use Rattle.std.proofs.lemmas.List.{drop-drop, length-take-le, length-drop, drop_all}
 use Rattle.eden_model.specs.declared.errno.Errno.TheVariants.{EPROTO}
@@ -7,9 +7,9 @@ use Rattle.eden_model.specs.declared.request.Request.{Request}
 use Rattle.eden_model.specs.declared.reply.Reply.{Reply}
 use Rattle.eden_model.specs.declared.fault.CallFault.{CallFault}
 use Rattle.eden_wire.specs.Replies.{error_text, answer_text}
-use Rattle.eden_wire.specs.Lines.{Lines, IsLine, IsOneLine, IsBadEnd, GoesOn, IsLineOf}
+use Rattle.eden_wire.specs.Lines.{Lines, IsLine, IsOneLine, IsBadEnd, IsLineOf}
 use Rattle.eden_wire.specs.Lines.IsBadEnd.{unreadable, too_long}
-use Rattle.eden_wire.specs.Writing.{Writes, Grows, Flushed, IsIdle}
+use Rattle.eden_wire.specs.Writing.{Grows, Flushed, IsIdle}
 use Rattle.eden_wire.specs.Serving.{texts, Serves}
 use Rattle.eden_wire.specs.Turns.{Turn, Goes, Run, RunLeft, Answered, Left}
 use Rattle.eden_wire.specs.declared.request.Item.{Item}

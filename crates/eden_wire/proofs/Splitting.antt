@@ -1,14 +1,13 @@
 -- Lemmas on bytes that are cut at a mark.
-use Rattle.std.proofs.Common.{◌==◌, ◌≡◌, ◌≢◌, ℕ, ◌+◌, ◌-◌, ◌<◌, ◌≤◌, List, [], ◌∷◌, ◌++◌, take, drop, length, suc, Bool, true, false, sym, ap, ◌∙◌, subst, refl, append_assoc, take-append-drop, get_or, get_or-take, length-take-le, length-drop, drop-cons, arith}
+use Rattle.std.proofs.Common.{◌≡◌, ◌≢◌, ℕ, ◌+◌, ◌<◌, ◌≤◌, List, ◌∷◌, ◌++◌, take, drop, length, suc, sym, ap, ◌∙◌, subst, append_assoc, take-append-drop, get_or, get_or-take, length-take-le, length-drop, drop-cons, arith}
 use Rattle.std.proofs.Math.Seq.{drop-length, take-add}
 use Rattle.std.proofs.lemmas.Bool.{eq-eqb, eqb-true}
 use Rattle.std.proofs.lemmas.List.{drop-drop}
 use Rattle.std.proofs.lemmas.List.Elements.{All-from_get_or, recursion_from_All}
-use Rattle.std.specs.Prelude.{slice_index}
 use Rattle.memchr.specs.Find.{Nowhere, NoneBefore, Passes, is_byte}
 use Rattle.eden_wire.specs.Lines.{IsLineOf, IsOneLine}
-use Rattle.eden_wire.specs.Splits.{Lacks, IsSplit, IsCutAt, IsFirstPart}
-use Rattle.eden_wire.proofs.PathLemmas.{first_part, lacks-append}
+use Rattle.eden_wire.specs.Splits.{Lacks, IsCutAt, IsFirstPart}
+use Rattle.eden_wire.proofs.PathLemmas.{lacks-append}
 
 pub lacks_from : (mark : ℕ) (bytes : List ℕ) → ((k : ℕ) → k < length bytes → get_or bytes k 0 ≢ mark) → Lacks mark bytes
 lacks_from mark bytes h = recursion_from_All (λ b. b ≢ mark) bytes (All-from_get_or (λ b. b ≢ mark) bytes 0 h)
@@ -38,20 +37,6 @@ whole_part mark bytes none = record {
   plain = front_lacks mark bytes (length bytes) (omega arith) (λ k low e. none k (omega arith) low (eq-eqb (get_or bytes k 0) mark e));
   cut = subst (IsCutAt mark) (sym (drop-length bytes)) tt;
 }
-
-pub lacks_not : (mark : ℕ) (front rest : List ℕ) → Lacks mark (front ++ mark ∷ rest) → ⊥
-lacks_not mark [] rest h = h.0 refl
-lacks_not mark (b ∷ front) rest h = lacks_not mark front rest h.1
-
--- a list is cut at its first mark in one way
-pub split_same : (mark : ℕ) (bytes a x b y : List ℕ) → IsSplit bytes mark a x → Lacks mark b → bytes ≡ b ++ mark ∷ y → (a ≡ b) × (x ≡ y)
-split_same mark bytes a x b y cut lacks e =
-    let both = first_part mark a b (mark ∷ x) (mark ∷ y) cut.first lacks refl refl (sym cut.whole ∙ e) in
-    let behind = both.1 in
-    (both.0, cc)
-
-pub none_split : (mark : ℕ) (bytes b y : List ℕ) → Lacks mark bytes → bytes ≡ b ++ mark ∷ y → ⊥
-none_split mark bytes b y lacks e = lacks_not mark b y (subst (Lacks mark) e lacks)
 
 -- the first line feed, of which the first bytes were searched before
 pub line_none : (bytes slice : List ℕ) (s : ℕ) → slice ≡ drop s bytes → IsOneLine (take s bytes) → Nowhere (Passes (is_byte 10) slice) 0 (length slice) → IsOneLine bytes

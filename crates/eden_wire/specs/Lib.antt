@@ -1,4 +1,6 @@
 pub mod Names
+pub mod Words
+pub mod Fields
 pub mod Requests
 pub mod Replies
 pub mod Lines

@@ -7,6 +7,10 @@ use Rattle.eden_wire.specs.Requests.{request_line, IsSpelled, request_refusal}
 use Rattle.eden_wire.specs.declared.request.Item.{Item}
 use Rattle.eden_wire.specs.declared.request.Item.TheVariants.{Asks, Refuses, Bad}
 
+-- in bytes, without the line feed
+abbrev pub longest_line : ℕ
+longest_line = 150000
+
 -- what a line is: a request, a request whose names aren't names, or neither
 unfoldable pub Reads : List ℕ → Item → Type 0
 Reads line (Asks q) = (line ≡ request_line q) × IsSpelled q × (request_refusal q ≡ None)
@@ -40,7 +44,7 @@ GoesOn Bad = ⊥
 -- a line that is such an item
 pub record IsLine (line : List ℕ) (item : Item) : Type 0 where
   pub one : IsOneLine line
-  pub short : length line ≤ 150000
+  pub short : length line ≤ longest_line
   pub reads : Reads line item
 
 -- the bytes are lines that are these items, and then the rest
@@ -51,7 +55,7 @@ Lines bytes (item ∷ items) rest = (line : List ℕ) × (more : List ℕ) × (b
 -- a line that is no request, or one that is too long
 pub data IsBadEnd : List ℕ → Type 0 where
   unreadable : (line more : List ℕ) → IsLine line Bad → IsBadEnd (line ++ 10 ∷ more)
-  too_long : (line more : List ℕ) → IsOneLine line → 150000 < length line → IsBadEnd (line ++ more)
+  too_long : (line more : List ℕ) → IsOneLine line → longest_line < length line → IsBadEnd (line ++ more)
 
 -- a last line that isn't ended
 pub record IsCut (rest : List ℕ) (known : Option (List ℕ)) : Type 0 where

@@ -26,9 +26,12 @@ abbrev pub path_text : List (List ℕ) → List ℕ
 path_text [] = 47 ∷ []
 path_text (name ∷ names) = flat_map component_text (name ∷ names)
 
+abbrev pub AreBytes : List ℕ → Type 0
+AreBytes bytes = AllByRecursion (λ b. b < 256) bytes
+
 -- bytes, one at least
 abbrev pub IsComponent : List ℕ → Type 0
-IsComponent name = (0 < length name) × AllByRecursion (λ b. b < 256) name
+IsComponent name = (0 < length name) × AreBytes name
 
 -- the text of a name
 abbrev pub SpellsName : List ℕ → Type 0

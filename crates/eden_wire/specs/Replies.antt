@@ -1,5 +1,5 @@
 -- How replies and faults are spelled. Data and ids are in lower-case hexadecimal (RFC 4648, section 8).
-use Rattle.std.specs.Prelude.{ℕ, ◌≡◌, Bool, List, [], ◌∷◌, ◌++◌, length, if◌then◌else◌, Option, Some, None, Result, Ok, Err, codes}
+use Rattle.std.specs.Prelude.{ℕ, Bool, List, [], ◌∷◌, ◌++◌, length, if◌then◌else◌, Option, Some, None, Result, Ok, Err, codes}
 use Rattle.std.specs.List.{flat_map}
 use Rattle.std.specs.Fmt.{decimal}
 use Rattle.hex.specs.Hex.{encode_lower}
@@ -30,6 +30,12 @@ kind_word kind.Dir = codes "dir"
 
 abbrev pub kind_text : Kind → List ℕ
 kind_text k = codes "kind " ++ kind_word k ++ line_feed
+
+abbrev pub stat_text : Kind → ℕ → List ℕ
+stat_text k size = codes "stat " ++ kind_word k ++ codes " " ++ decimal size ++ line_feed
+
+abbrev pub count_text : ℕ → List ℕ
+count_text count = codes "count " ++ decimal count ++ line_feed
 
 -- nothing, or a space and two digits a byte
 abbrev pub data_field : List ℕ → List ℕ
@@ -101,8 +107,11 @@ call_fault_text (call.Foreign floor len) = foreign_text floor len
 call_fault_text call.Stopped = codes "fault stopped\n"
 
 abbrev pub reply_text : Reply → List ℕ
+reply_text reply.Ok = codes "ok\n"
 reply_text (reply.Kind k) = kind_text k
+reply_text (reply.Stat k size) = stat_text k size
 reply_text (reply.Data bytes) = data_text bytes
+reply_text (reply.Count count) = count_text count
 reply_text (reply.Entries entries more) = entries_text entries more
 reply_text (reply.Err e) = error_text e
 reply_text (reply.Fault f) = fault_text f

@@ -1,64 +1,54 @@
--- How requests are spelled, and which are refused for their names: fields from the left, in a path the components from
--- the left, then the path itself.
-use Rattle.std.specs.Prelude.{ℕ, ◌^◌, ◌<◌, ◌≡◌, List, [], ◌∷◌, ◌++◌, Option, Some, None, codes, ⊤}
-use Rattle.std.specs.List.{AllByRecursion}
-use Rattle.std.specs.Fmt.{decimal}
-use Rattle.eden_model.specs.Names.{name_refusal}
-use Rattle.eden_model.specs.Paths.{path_refusal}
-use Rattle.std.specs.Option.{option_or}
+-- How requests are spelled, and which are refused for their names: the first reason from the left.
+use Rattle.std.specs.Prelude.{ℕ, List, [], ◌∷◌, ◌++◌, Option}
 use Rattle.eden_model.specs.declared.errno.Errno.{Errno}
 use Rattle.eden_model.specs.declared.request.Request.{Request}
 use Rattle.eden_model.specs.declared.request.Request.TheVariants as request
-use Rattle.eden_wire.specs.Names.{name_text, path_text, IsComponent}
+use Rattle.eden_wire.specs.Words.{word_text, shape_of}
+use Rattle.eden_wire.specs.Fields.{Field, fields_text, first_refusal, AreFields}
+use Rattle.eden_wire.specs.Fields.Field.{of_path, of_number, of_bit, of_data, of_after}
+use Rattle.eden_wire.specs.declared.word.Word.{Word}
+use Rattle.eden_wire.specs.declared.word.Word.TheVariants as word
 
--- a space before a field
-abbrev pub field : List ℕ → List ℕ
-field text = 32 ∷ text
+abbrev pub word_of : Request → Word
+word_of (request.Kind path) = word.Kind
+word_of (request.Stat path) = word.Stat
+word_of (request.Read path offset len) = word.Read
+word_of (request.ReadLink path) = word.ReadLink
+word_of (request.List path after limit) = word.List
+word_of (request.Write path offset bytes) = word.Write
+word_of (request.Truncate path size) = word.Truncate
+word_of (request.Create path) = word.Create
+word_of (request.SetExec path exec) = word.SetExec
+word_of (request.Mkdir path) = word.Mkdir
+word_of (request.Symlink path target) = word.Symlink
+word_of (request.Unlink path) = word.Unlink
+word_of (request.Rmdir path) = word.Rmdir
+word_of (request.Rename from to) = word.Rename
 
--- `-` for none
-abbrev pub after_text : Option (List ℕ) → List ℕ
-after_text None = 45 ∷ []
-after_text (Some name) = name_text name
+abbrev pub fields_of : Request → List Field
+fields_of (request.Kind path) = of_path path ∷ []
+fields_of (request.Stat path) = of_path path ∷ []
+fields_of (request.Read path offset len) = of_path path ∷ of_number offset ∷ of_number len ∷ []
+fields_of (request.ReadLink path) = of_path path ∷ []
+fields_of (request.List path after limit) = of_path path ∷ of_after after ∷ of_number limit ∷ []
+fields_of (request.Write path offset bytes) = of_path path ∷ of_number offset ∷ of_data bytes ∷ []
+fields_of (request.Truncate path size) = of_path path ∷ of_number size ∷ []
+fields_of (request.Create path) = of_path path ∷ []
+fields_of (request.SetExec path exec) = of_path path ∷ of_bit exec ∷ []
+fields_of (request.Mkdir path) = of_path path ∷ []
+fields_of (request.Symlink path target) = of_path path ∷ of_data target ∷ []
+fields_of (request.Unlink path) = of_path path ∷ []
+fields_of (request.Rmdir path) = of_path path ∷ []
+fields_of (request.Rename from to) = of_path from ∷ of_path to ∷ []
 
 -- the one spelling of a request
 abbrev pub request_line : Request → List ℕ
-request_line (request.Kind path) = codes "kind" ++ field (path_text path)
-request_line (request.Read path offset len) = codes "read" ++ field (path_text path) ++ field (decimal offset) ++ field (decimal len)
-request_line (request.List path after limit) = codes "list" ++ field (path_text path) ++ field (after_text after) ++ field (decimal limit)
-
-abbrev pub IsAfter : Option (List ℕ) → Type 0
-IsAfter None = ⊤
-IsAfter (Some name) = IsComponent name
+request_line q = word_text (word_of q) ++ fields_text (fields_of q)
 
 -- a request as it may be spelled, whether or not its names are names
 abbrev pub IsSpelled : Request → Type 0
-IsSpelled (request.Kind path) = AllByRecursion IsComponent path
-IsSpelled (request.Read path offset len) = AllByRecursion IsComponent path × (offset < 2 ^ 64) × (len < 2 ^ 64)
-IsSpelled (request.List path after limit) = AllByRecursion IsComponent path × IsAfter after × (limit < 2 ^ 64)
+IsSpelled q = AreFields (shape_of (word_of q)) (fields_of q)
 
--- the first refusal of the components
-abbrev pub names_refusal : List (List ℕ) → Option Errno
-names_refusal [] = None
-names_refusal (name ∷ names) = option_or (name_refusal name) (names_refusal names)
-
--- the components' refusals come before the path's own
-abbrev pub spelled_refusal : List (List ℕ) → Option Errno
-spelled_refusal path = option_or (names_refusal path) (path_refusal path)
-
-abbrev pub after_refusal : Option (List ℕ) → Option Errno
-after_refusal None = None
-after_refusal (Some name) = name_refusal name
-
--- why a request is refused: the first reason from the left
+-- why a request is refused
 abbrev pub request_refusal : Request → Option Errno
-request_refusal (request.Kind path) = spelled_refusal path
-request_refusal (request.Read path offset len) = spelled_refusal path
-request_refusal (request.List path after limit) = option_or (spelled_refusal path) (after_refusal after)
-
--- the text of a path
-abbrev pub SpellsPath : List ℕ → Type 0
-SpellsPath text = (path : List (List ℕ)) × AllByRecursion IsComponent path × (text ≡ path_text path) × (spelled_refusal path ≡ None)
-
--- the text of a name that may be left out
-abbrev pub SpellsAfter : List ℕ → Type 0
-SpellsAfter text = (after : Option (List ℕ)) × IsAfter after × (text ≡ after_text after) × (after_refusal after ≡ None)
+request_refusal q = first_refusal (fields_of q)

@@ -1,13 +1,14 @@
 -- What is known of a text before anything is read into memory.
-use Rattle.std.specs.Prelude.{ℕ, ◌≡◌, ◌<◌, ◌≤◌, ◌^◌, Bool, ◌||◌, List, [], ◌∷◌, ◌++◌, length, Option, Some, None, nat_lt, if◌then◌else◌, decimal}
+use Rattle.std.specs.Prelude.{ℕ, ◌≡◌, ◌≤◌, Bool, ◌||◌, ◌&&◌, List, [], ◌∷◌, ◌++◌, length, Option, Some, None, nat_lt, nat_le, if◌then◌else◌}
 use Rattle.std.specs.List.{AllByRecursion}
 use Rattle.std.specs.Str.{bytes_eq}
-use Rattle.eden_model.specs.Names.{name_refusal}
 use Rattle.std.specs.Option.{option_or}
+use Rattle.eden_model.specs.Names.{name_refusal}
 use Rattle.eden_model.specs.declared.errno.Errno.{Errno}
 use Rattle.eden_model.specs.declared.errno.Errno.TheVariants.{EINVAL, ENAMETOOLONG}
-use Rattle.eden_wire.specs.Names.{name_text, path_text, IsComponent}
-use Rattle.eden_wire.specs.Requests.{field, after_text, IsAfter, spelled_refusal, after_refusal}
+use Rattle.eden_wire.specs.Names.{name_text, path_text, IsComponent, AreBytes}
+use Rattle.eden_wire.specs.Fields.{Field, sort_of, hex_text, after_text, field_text, fields_text, IsAfter, IsField, AreFields, spelled_refusal, after_refusal, field_refusal, first_refusal}
+use Rattle.eden_wire.specs.declared.word.Sort.{Sort}
 
 abbrev pub is_dots : List ℕ → Bool
 is_dots text = bytes_eq text (46 ∷ []) || bytes_eq text (46 ∷ 46 ∷ [])
@@ -19,11 +20,6 @@ refusal_by no_name len = if no_name then Some EINVAL else (if nat_lt 255 len the
 -- why a path is refused: the first refusal of its components, or too many names or bytes
 abbrev pub too_long_by : Option Errno → ℕ → ℕ → Option Errno
 too_long_by first names bytes = option_or first (if nat_lt 256 names || nat_lt 4095 bytes then Some ENAMETOOLONG else None)
-
--- begins with this byte
-abbrev pub BeginsWith : ℕ → List ℕ → Type 0
-BeginsWith mark [] = ⊥
-BeginsWith mark (b ∷ bytes) = b ≡ mark
 
 abbrev pub SpellsNoName : List ℕ → Type 0
 SpellsNoName text = (name : List ℕ) → IsComponent name → text ≡ name_text name → ⊥
@@ -49,6 +45,14 @@ pub record ScansAfter (text : List ℕ) (refusal : Option Errno) : Type 0 where
 abbrev pub SpellsNoPath : List ℕ → Type 0
 SpellsNoPath text = (path : List (List ℕ)) → AllByRecursion IsComponent path → text ≡ path_text path → ⊥
 
+-- the text of a path
+abbrev pub SpellsPath : List ℕ → Type 0
+SpellsPath text = (path : List (List ℕ)) × AllByRecursion IsComponent path × (text ≡ path_text path) × (spelled_refusal path ≡ None)
+
+-- the text of a name that may be left out
+abbrev pub SpellsAfter : List ℕ → Type 0
+SpellsAfter text = (after : Option (List ℕ)) × IsAfter after × (text ≡ after_text after) × (after_refusal after ≡ None)
+
 -- the text spells a path, which is refused so
 pub record ScansPath (text : List ℕ) (refusal : Option Errno) : Type 0 where
   pub path : List (List ℕ)
@@ -56,28 +60,46 @@ pub record ScansPath (text : List ℕ) (refusal : Option Errno) : Type 0 where
   pub spelled : text ≡ path_text path
   pub refused : refusal ≡ spelled_refusal path
 
-abbrev pub SpellsNoNumbers : List ℕ → Type 0
-SpellsNoNumbers text = (m n : ℕ) → m < 2 ^ 64 → n < 2 ^ 64 → text ≡ decimal m ++ field (decimal n) → ⊥
+-- a lower-case hexadecimal digit
+abbrev pub is_lower_digit : ℕ → Bool
+is_lower_digit b = (nat_le 48 b && nat_le b 57) || (nat_le 97 b && nat_le b 102)
 
-abbrev pub ScansNumbers : List ℕ → ℕ → ℕ → Type 0
-ScansNumbers text m n = (text ≡ decimal m ++ field (decimal n)) × (m < 2 ^ 64) × (n < 2 ^ 64)
+-- the text of some bytes
+abbrev pub SpellsData : List ℕ → Type 0
+SpellsData text = (bytes : List ℕ) × AreBytes bytes × (text ≡ hex_text bytes)
 
-abbrev pub SpellsNoRead : List ℕ → Type 0
-SpellsNoRead fields = (path : List (List ℕ)) (m n : ℕ) → AllByRecursion IsComponent path → m < 2 ^ 64 → n < 2 ^ 64 → fields ≡ path_text path ++ field (decimal m) ++ field (decimal n) → ⊥
+abbrev pub SpellsNo : Sort → List ℕ → Type 0
+SpellsNo sort text = (f : Field) → sort_of f ≡ sort → IsField f → text ≡ field_text f → ⊥
 
-pub record ScansRead (fields path : List ℕ) (refusal : Option Errno) (offset len : ℕ) : Type 0 where
-  pub whole : fields ≡ path ++ field (decimal offset) ++ field (decimal len)
-  pub scans : ScansPath path refusal
-  pub small : (offset < 2 ^ 64) × (len < 2 ^ 64)
+-- the text spells a field of this sort, which is refused so
+pub record Scans (sort : Sort) (text : List ℕ) (refusal : Option Errno) : Type 0 where
+  pub spelt : Field
+  pub is_sort : sort_of spelt ≡ sort
+  pub good : IsField spelt
+  pub spelled : text ≡ field_text spelt
+  pub refused : refusal ≡ field_refusal spelt
 
-abbrev pub SpellsNoList : List ℕ → Type 0
-SpellsNoList fields = (path : List (List ℕ)) (after : Option (List ℕ)) (limit : ℕ) → AllByRecursion IsComponent path → IsAfter after → limit < 2 ^ 64 → fields ≡ path_text path ++ field (after_text after) ++ field (decimal limit) → ⊥
+abbrev pub SpellNoFields : List Sort → List ℕ → Type 0
+SpellNoFields sorts text = (fields : List Field) → AreFields sorts fields → text ≡ fields_text fields → ⊥
 
-pub record ScansList (fields path after : List ℕ) (refusal : Option Errno) (limit : ℕ) : Type 0 where
-  pub whole : fields ≡ path ++ field after ++ field (decimal limit)
-  pub path_refusal : Option Errno
-  pub after_refusal : Option Errno
-  pub scans_path : ScansPath path path_refusal
-  pub scans_after : ScansAfter after after_refusal
-  pub refused : refusal ≡ option_or path_refusal after_refusal
-  pub small : limit < 2 ^ 64
+-- the text spells fields of these sorts, which are refused so
+pub record ScansFields (sorts : List Sort) (text : List ℕ) (refusal : Option Errno) : Type 0 where
+  pub fields : List Field
+  pub good : AreFields sorts fields
+  pub spelled : text ≡ fields_text fields
+  pub refused : refusal ≡ first_refusal fields
+
+-- the text is that of these fields
+pub record SpellsFields (sorts : List Sort) (text : List ℕ) (fields : List Field) : Type 0 where
+  pub good : AreFields sorts fields
+  pub whole : text ≡ fields_text fields
+
+-- a field of this sort comes next, and nothing is refused
+abbrev pub NextIs : Sort → List ℕ → Type 0
+NextIs sort text = (sorts : List Sort) × ScansFields (sort ∷ sorts) text None
+
+-- this field was read
+pub record Takes (taken : Field) (old new : List ℕ) : Type 0 where
+  pub good : IsField taken
+  pub whole : old ≡ 32 ∷ (field_text taken ++ new)
+  pub on : (sorts : List Sort) → ScansFields (sort_of taken ∷ sorts) old None → ScansFields sorts new None

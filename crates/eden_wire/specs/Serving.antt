@@ -40,20 +40,20 @@ module _ {S : Type 0} (answers : S → Request → Result Reply CallFault → S 
 
 -- how a session ended: with the input's end, or with a bad line; at a failed read after the whole lines that were
 -- read; at a failed write with a beginning of the texts; for want of memory before the first read
-abbrev pub Said : Result ⊤ SessionFault → List ℕ → List Item → List ℕ → Option (List ℕ) → Option (List ℕ) → Option (List ℕ) → List ℕ → Type 0
-Said (Ok _) read last rest unread old new text = Ends rest unread last × Appends old new text
-Said (Err fault.Read) read last rest unread old new text = (last ≡ []) × IsOneLine rest × Appends old new text
-Said (Err fault.Write) read last rest unread old new text = ((last ≡ []) ⊎ Ends rest unread last) × WritesFront old new text
-Said (Err fault.Memory) read last rest unread old new text = (read ≡ []) × (last ≡ []) × Keeps old new
+abbrev pub Said : Result ⊤ SessionFault → List ℕ → List Item → List ℕ → Option (List ℕ) → Option (List ℕ) × Option (List ℕ) → List ℕ → Type 0
+Said (Ok _) read last rest unread output text = Ends rest unread last × Appends output.0 output.1 text
+Said (Err fault.Read) read last rest unread output text = (last ≡ []) × IsOneLine rest × Appends output.0 output.1 text
+Said (Err fault.Write) read last rest unread output text = ((last ≡ []) ⊎ Ends rest unread last) × WritesFront output.0 output.1 text
+Said (Err fault.Memory) read last rest unread output text = (read ≡ []) × (last ≡ []) × Keeps output.0 output.1
 
--- a session: the bytes that it read are lines, which the service answered, and the texts of the answers were written
-pub record Session {S : Type 0} (answers : S → Request → Result Reply CallFault → S → Type 0) (s t : S) (in_old in_new out_old out_new : Option (List ℕ)) (r : Result ⊤ SessionFault) : Type 0 where
+-- a session, with the service, the input and the output before and after it: the bytes that it read are lines, which the service answered, and the texts of the answers were written
+pub record Session {S : Type 0} (answers : S → Request → Result Reply CallFault → S → Type 0) (service : S × S) (input output : Option (List ℕ) × Option (List ℕ)) (r : Result ⊤ SessionFault) : Type 0 where
   pub read : List ℕ
   pub items : List Item
   pub last : List Item
   pub given : List (Option (Result Reply CallFault))
   pub rest : List ℕ
-  pub consumed : Consumes in_old in_new read
+  pub consumed : Consumes input.0 input.1 read
   pub lines : Lines read items rest
-  pub served : Serves answers s (items ++ last) given t
-  pub said : Said r read last rest in_new out_old out_new (texts (items ++ last) given)
+  pub served : Serves answers service.0 (items ++ last) given service.1
+  pub said : Said r read last rest input.1 output (texts (items ++ last) given)

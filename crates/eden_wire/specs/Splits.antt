@@ -6,10 +6,10 @@ use Rattle.std.specs.List.{AllByRecursion}
 abbrev pub Lacks : ℕ → List ℕ → Type 0
 Lacks mark bytes = AllByRecursion (λ b. b ≢ mark) bytes
 
--- the bytes are a front, the first such byte, and a rest
-pub record IsSplit (bytes : List ℕ) (mark : ℕ) (front rest : List ℕ) : Type 0 where
-  pub whole : bytes ≡ front ++ mark ∷ rest
-  pub first : Lacks mark front
+-- begins with this byte
+abbrev pub BeginsWith : ℕ → List ℕ → Type 0
+BeginsWith mark [] = ⊥
+BeginsWith mark (b ∷ bytes) = b ≡ mark
 
 -- nothing, or what begins with the mark
 abbrev pub IsCutAt : ℕ → List ℕ → Type 0
@@ -22,8 +22,8 @@ pub record IsFirstPart (bytes : List ℕ) (mark n : ℕ) : Type 0 where
   pub plain : Lacks mark (take n bytes)
   pub cut : IsCutAt mark (drop n bytes)
 
--- a slash, a part without slashes, and nothing or what begins with a slash
-pub record IsPart (text part more : List ℕ) : Type 0 where
-  pub whole : text ≡ 47 ∷ (part ++ more)
-  pub plain : Lacks 47 part
-  pub cut : IsCutAt 47 more
+-- the mark, a part without it, and nothing or what begins with the mark
+pub record IsPart (mark : ℕ) (text part more : List ℕ) : Type 0 where
+  pub whole : text ≡ mark ∷ (part ++ more)
+  pub plain : Lacks mark part
+  pub cut : IsCutAt mark more

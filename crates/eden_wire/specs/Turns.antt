@@ -6,7 +6,7 @@ use Rattle.eden_model.specs.declared.request.Request.{Request}
 use Rattle.eden_model.specs.declared.reply.Reply.{Reply}
 use Rattle.eden_model.specs.declared.fault.CallFault.{CallFault}
 use Rattle.eden_wire.specs.Replies.{error_text}
-use Rattle.eden_wire.specs.Lines.{Lines, IsOneLine, IsLine, IsBadEnd, GoesOn}
+use Rattle.eden_wire.specs.Lines.{longest_line, Lines, IsOneLine, IsLine, IsBadEnd, GoesOn}
 use Rattle.eden_wire.specs.Writing.{WritesFront, Writes, Grows, IsIdle}
 use Rattle.eden_wire.specs.Serving.{texts, Serves}
 use Rattle.eden_wire.specs.declared.request.Item.{Item}
@@ -32,7 +32,7 @@ pub record Turn {S : Type 0} (answers : S → Request → Result Reply CallFault
 
 -- what is left of the bytes after the lines that were answered: all whole lines were, if no write has failed
 abbrev pub RunLeft : Bool → Output → List Item → List ℕ → List ℕ → Type 0
-RunLeft true output last rest after = (last ≡ []) × (rest ≡ after) × (output.failed ≡ false → IsOneLine rest × (length rest ≤ 150000))
+RunLeft true output last rest after = (last ≡ []) × (rest ≡ after) × (output.failed ≡ false → IsOneLine rest × (length rest ≤ longest_line))
 RunLeft false output last rest after = (last ≡ Bad ∷ []) × IsBadEnd rest
 
 -- lines among the bytes were answered, up to one that is bad or a failed write
@@ -48,7 +48,7 @@ pub record Run {S : Type 0} (answers : S → Request → Result Reply CallFault 
 
 -- what is left after their answers were written out
 abbrev pub Left : Result Bool WriteFailed → List Item → List ℕ → List ℕ → Type 0
-Left (Ok true) last rest after = (last ≡ []) × (rest ≡ after) × IsOneLine rest × (length rest ≤ 150000)
+Left (Ok true) last rest after = (last ≡ []) × (rest ≡ after) × IsOneLine rest × (length rest ≤ longest_line)
 Left (Ok false) last rest after = (last ≡ Bad ∷ []) × IsBadEnd rest
 Left (Err e) last rest after = (last ≡ []) ⊎ ((last ≡ Bad ∷ []) × IsBadEnd rest)
 

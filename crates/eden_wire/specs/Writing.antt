@@ -1,5 +1,5 @@
 -- What a writer that may fail holds.
-use Rattle.std.specs.Prelude.{ℕ, ◌≡◌, Bool, false, List, [], ◌++◌, ⊤, Option, Result, MatchResult, OnOk}
+use Rattle.std.specs.Prelude.{ℕ, ◌≡◌, ◌≤◌, false, List, [], ◌++◌, length, take, ⊤, Option, Result, MatchResult, OnOk}
 use Rattle.std.specs.Io.KnownBytes.{Appends}
 use Rattle.eden_wire.specs.declared.output.Output.{Output}
 use Rattle.eden_wire.specs.declared.output.WriteFailed.{WriteFailed}
@@ -14,6 +14,10 @@ pub record WritesFront (old new : Option (List ℕ)) (text : List ℕ) : Type 0 
 -- the text was written, or at an error a beginning of it
 abbrev pub Writes : {T E : Type 0} → Option (List ℕ) → Option (List ℕ) → Result T E → List ℕ → Type 0
 Writes old new r text = MatchResult r (λ _. Appends old new text) (λ _. WritesFront old new text)
+
+-- one call of the writer: a beginning of the bytes was taken, or none at an error
+abbrev pub SendsSome : Option (List ℕ) → Option (List ℕ) → List ℕ → Result ℕ WriteFailed → Type 0
+SendsSome old new bytes r = MatchResult r (λ n. (n ≤ length bytes) × Appends old new (take n bytes)) (λ _. Appends old new [])
 
 -- since the start this text was handed over: the writer got some, and the rest waits, or is lost after a failed write
 pub record Holds (start now : Option (List ℕ)) (output : Output) (text : List ℕ) : Type 0 where

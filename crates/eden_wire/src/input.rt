@@ -1,7 +1,9 @@
 ghost use Rattle.std.specs.Prelude.{◌≡◌, ◌≤◌, [], drop, length, IfOk, vec_len, vec_capacity};
 ghost use Rattle.eden_wire.specs.declared.input.TheConstants.{PIECE, ROOM};
+ghost use Rattle.eden_wire.specs.Lines.{longest_line};
 ghost use Rattle.eden_wire.specs.Reading.{ReadsPiece};
 
+use crate::serving::LONGEST_LINE;
 use std::alloc::{AllocError, Global};
 use std::io::{self, Read};
 
@@ -9,7 +11,7 @@ use std::io::{self, Read};
 pub(crate) const PIECE: usize = 65536;
 
 // The longest line and one piece behind it.
-const ROOM: usize = 215536;
+const ROOM: usize = LONGEST_LINE + PIECE;
 
 /// The bytes that were read and not yet answered, in room that is made once.
 #[derive(Drop)]
@@ -38,7 +40,7 @@ impl Input {
 
     /// Reads a piece behind the bytes, and returns how long it is: 0 at the input's end.
     pub(crate) fn read<R: Read>(&mut self, reader: &mut R) -> io::Result<usize>
-        requires { length self.old.pending.items ≤ 150000 }
+        requires { length self.old.pending.items ≤ longest_line }
         ensures { ReadsPiece (R.remaining reader.old) (R.remaining reader.new) self.old.pending.items self.new.pending.items result }
     {
         let n = reader.read(self.piece.as_mut_slice())?;

@@ -6,6 +6,7 @@
 #![tactic(auto)]
 
 mod escape;
+mod field;
 mod input;
 mod laws;
 mod name_text;
@@ -20,6 +21,7 @@ mod session_fault;
 mod split;
 #[cfg(test)]
 mod tests;
+mod word;
 
 pub use laws::line_laws;
 pub use output::WriteFailed;

@@ -1,7 +1,7 @@
 ghost use Rattle.std.specs.Prelude.{◌≡◌, ◌||◌, ◌==◌, MatchOption, IfOk};
 ghost use Rattle.eden_wire.specs.Names.{name_text, IsComponent, SpellsName};
-ghost use Rattle.eden_wire.specs.Scans.{is_dots, refusal_by, ScansName, SpellsNoName, ScansAfter, SpellsNoAfter};
-ghost use Rattle.eden_wire.specs.Requests.{SpellsAfter, IsAfter, after_text};
+ghost use Rattle.eden_wire.specs.Scans.{is_dots, refusal_by, ScansName, SpellsNoName, ScansAfter, SpellsAfter, SpellsNoAfter};
+ghost use Rattle.eden_wire.specs.Fields.{IsAfter, after_text};
 
 use crate::escape::first_byte;
 use eden_model::{Errno, Name};

@@ -1,6 +1,5 @@
-ghost use Rattle.std.specs.Prelude.{◌≡◌, ◌≤◌, ◌+◌, ◌++◌, [], length, take, vec_capacity, IfOk, OnOk, IsTrue, false};
-ghost use Rattle.std.specs.Io.KnownBytes.{Appends};
-ghost use Rattle.eden_wire.specs.Writing.{Grows, Flushed, IsIdle};
+ghost use Rattle.std.specs.Prelude.{◌≡◌, ◌≤◌, ◌+◌, ◌++◌, [], length, vec_capacity, IfOk, IsTrue, false};
+ghost use Rattle.eden_wire.specs.Writing.{SendsSome, Writes, Grows, Flushed, IsIdle};
 
 use std::alloc::{AllocError, Global};
 use std::io::{ErrorKind, Write};
@@ -9,28 +8,31 @@ use std::io::{ErrorKind, Write};
 #[derive(Clone, Copy, Debug, PartialEq, Eq)]
 pub struct WriteFailed;
 
-// Writes the bytes, and returns how many were taken.
-fn send<W: Write>(writer: &mut W, bytes: &[u8]) -> (usize, Result<(), WriteFailed>)
-    ensures bound { result.0 ≤ length bytes.now }
-    ensures taken { Appends (W.contents writer.old) (W.contents writer.new) (take result.0 bytes.now) }
-    ensures all { OnOk result.1 (result.0 ≡ length bytes.now) }
+// One call of the writer: how many of the bytes it took. An interrupted call took none.
+fn send_some<W: Write>(writer: &mut W, bytes: &[u8]) -> Result<usize, WriteFailed>
+    ensures { SendsSome (W.contents writer.old) (W.contents writer.new) bytes.now result }
 {
-    let mut sent = 0;
-    'writes: for _ in 0..u64::MAX {
-        if sent >= bytes.len() {
-            return (sent, Ok(()));
-        }
-        match writer.write(&bytes[sent..]) {
-            Ok(0) => return (sent, Err(WriteFailed)),
-            Ok(n) => sent += n,
-            Err(e) => {
-                if e.kind() != ErrorKind::Interrupted {
-                    return (sent, Err(WriteFailed));
-                }
-            }
-        }
+    match writer.write(bytes) {
+        Ok(0) => Err(WriteFailed),
+        Ok(n) => Ok(n),
+        Err(e) if e.kind() == ErrorKind::Interrupted => Ok(0),
+        Err(_) => Err(WriteFailed),
     }
-    (sent, Err(WriteFailed))
+}
+
+// Writes the bytes.
+fn send<W: Write>(writer: &mut W, bytes: &[u8]) -> Result<(), WriteFailed>
+    ensures { Writes (W.contents writer.old) (W.contents writer.new) result bytes.now }
+{
+    let mut rest = bytes;
+    'turns: for _ in 0..u64::MAX {
+        if rest.is_empty() {
+            return Ok(());
+        }
+        let taken = send_some(writer, rest)?;
+        rest = &rest[taken..];
+    }
+    Err(WriteFailed)
 }
 
 /// Bytes on their way to a writer. They are held until they are many or are flushed, in room that is made once.
@@ -94,7 +96,7 @@ impl Output {
             self.pending.clear();
             return;
         }
-        let (_, sent) = send(writer, self.pending.as_slice());
+        let sent = send(writer, self.pending.as_slice());
         self.failed = sent.is_err();
         self.pending.clear();
     }
@@ -111,7 +113,7 @@ impl Output {
             self.hold(bytes);
             return;
         }
-        let (_, sent) = send(writer, bytes);
+        let sent = send(writer, bytes);
         self.failed = sent.is_err();
     }
 

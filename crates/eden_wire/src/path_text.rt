@@ -1,23 +1,12 @@
-ghost use Rattle.std.specs.Prelude.{◌≡◌, ◌≤◌, ◌<◌, ◌++◌, ◌∷◌, length, MatchOption, IfOk};
+ghost use Rattle.std.specs.Prelude.{◌≡◌, MatchOption, IfOk};
 ghost use Rattle.std.specs.List.{AllByRecursion};
 ghost use Rattle.eden_wire.specs.Names.{path_text, IsComponent};
-ghost use Rattle.eden_wire.specs.Requests.{SpellsPath};
-ghost use Rattle.eden_wire.specs.Splits.{IsPart};
-ghost use Rattle.eden_wire.specs.Scans.{too_long_by, ScansPath, SpellsNoPath, BeginsWith};
+ghost use Rattle.eden_wire.specs.Scans.{too_long_by, ScansPath, SpellsPath, SpellsNoPath};
 
 use crate::name_text::{read_name, scan_name};
-use crate::split::part_len;
+use crate::split::next_part;
 use eden_model::{Errno, Path};
 use std::alloc::{AllocError, Global};
-
-/// The text of the first component, and the text after it.
-fn next_part(text: &[u8]) -> (&[u8], &[u8])
-    requires { BeginsWith 47 text.now }
-    ensures { IsPart text.now result.0.now result.1.now }
-{
-    let inside = &text[1..];
-    inside.split_at(part_len(inside, b'/'))
-}
 
 fn too_long_by(first: Option<Errno>, names: usize, bytes: usize) -> Option<Errno>
     ensures { result ≡ too_long_by first names bytes }
@@ -46,7 +35,7 @@ pub(crate) fn scan_path(text: &[u8]) -> Option<Option<Errno>>
     let mut bytes = 0;
     let mut rest = text;
     'parts: while !rest.is_empty() {
-        let (part, more) = next_part(rest);
+        let (part, more) = next_part(rest, b'/');
         let name = scan_name(part)?;
         refusal = refusal.or(name.refusal);
         names += 1;
@@ -67,7 +56,7 @@ pub(crate) fn read_path(alloc: Global, text: &[u8]) -> Result<Path, AllocError>
     }
     let mut rest = text;
     'parts: while !rest.is_empty() {
-        let (part, more) = next_part(rest);
+        let (part, more) = next_part(rest, b'/');
         names.push(read_name(alloc, part)?)?;
         rest = more;
     }

@@ -3,7 +3,7 @@ ghost use Rattle.std.specs.List.{flat_map};
 ghost use Rattle.hex.specs.Hex.{encode_lower};
 ghost use Rattle.eden_wire.specs.Writing.{Writes, Grows};
 ghost use Rattle.eden_wire.specs.Names.{name_text};
-ghost use Rattle.eden_wire.specs.Replies.{kind_word, data_field, entry_text, more_word, line_feed, kind_text, data_text, entries_text, error_text, cause_word, fetch_text, fault_text, call_fault_text, history_text, foreign_text, start_fault_text, reply_text};
+ghost use Rattle.eden_wire.specs.Replies.{kind_word, data_field, entry_text, more_word, line_feed, kind_text, stat_text, count_text, data_text, entries_text, error_text, cause_word, fetch_text, fault_text, call_fault_text, history_text, foreign_text, start_fault_text, reply_text};
 
 use crate::output::{Output, WriteFailed};
 use eden_model::{CallFault, Cause, Entries, Errno, Fault, Id, Kind, Name, Reply, StartFault};
@@ -85,6 +85,24 @@ fn put_kind<W: Write>(output: &mut Output, writer: &mut W, kind: Kind)
 {
     output.put(writer, b"kind ");
     put_kind_word(output, writer, kind);
+    output.put(writer, b"\n");
+}
+
+fn put_stat<W: Write>(output: &mut Output, writer: &mut W, kind: Kind, size: u64)
+    ensures { Grows (W.contents writer.old) (W.contents writer.new) output.old output.new (stat_text kind size) }
+{
+    output.put(writer, b"stat ");
+    put_kind_word(output, writer, kind);
+    output.put(writer, b" ");
+    put_number(output, writer, size);
+    output.put(writer, b"\n");
+}
+
+fn put_count<W: Write>(output: &mut Output, writer: &mut W, count: u64)
+    ensures { Grows (W.contents writer.old) (W.contents writer.new) output.old output.new (count_text count) }
+{
+    output.put(writer, b"count ");
+    put_number(output, writer, count);
     output.put(writer, b"\n");
 }
 
@@ -249,8 +267,11 @@ pub(crate) fn put_reply<W: Write>(output: &mut Output, writer: &mut W, reply: &R
     ensures { Grows (W.contents writer.old) (W.contents writer.new) output.old output.new (reply_text reply.now) }
 {
     match reply {
+        Reply::Ok => output.put(writer, b"ok\n"),
         Reply::Kind(kind) => put_kind(output, writer, *kind),
+        Reply::Stat(kind, size) => put_stat(output, writer, *kind, *size),
         Reply::Data(bytes) => put_data(output, writer, bytes.as_slice()),
+        Reply::Count(count) => put_count(output, writer, *count),
         Reply::Entries(entries, more) => put_entries(output, writer, entries, *more),
         Reply::Err(errno) => put_error(output, writer, *errno),
         Reply::Fault(fault) => put_fault(output, writer, *fault),

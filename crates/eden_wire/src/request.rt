@@ -1,12 +1,12 @@
-ghost use Rattle.std.specs.Prelude.{◌≡◌, ◌++◌, ◌<◌, ◌^◌, ℕ, IfOk, OnErr, MatchOption, codes};
-ghost use Rattle.eden_model.specs.declared.request.Request.{Request};
+ghost use Rattle.std.specs.Prelude.{◌≡◌, IfOk, OnErr, None};
 ghost use Rattle.eden_wire.specs.Lines.{Reads, AsksSome};
-ghost use Rattle.eden_wire.specs.Scans.{SpellsNoNumbers, ScansNumbers, SpellsNoRead, ScansRead, SpellsNoList, ScansList};
+ghost use Rattle.eden_wire.specs.Requests.{word_of, fields_of};
+ghost use Rattle.eden_wire.specs.Words.{shape_of};
+ghost use Rattle.eden_wire.specs.Scans.{ScansFields, SpellsFields};
 
-use crate::name_text::{read_after, scan_after};
-use crate::number::read_number;
-use crate::path_text::{read_path, scan_path};
-use crate::split::split_once;
+use crate::field::{Fields, scan_fields};
+use crate::split::part_len;
+use crate::word::{Word, read_word};
 use eden_model::{Errno, Request};
 use std::alloc::{AllocError, Global};
 
@@ -26,112 +26,39 @@ pub fn read_request(alloc: Global, line: &[u8]) -> Result<Item, AllocError>
     ensures item { IfOk result (Reads line.now) }
     ensures memory { OnErr result (AsksSome line.now) }
 {
-    if let Some(fields) = line.strip_prefix(b"kind ") {
-        return read_kind(alloc, fields);
-    }
-    if let Some(fields) = line.strip_prefix(b"read ") {
-        return read_read(alloc, fields);
-    }
-    if let Some(fields) = line.strip_prefix(b"list ") {
-        return read_list(alloc, fields);
-    }
-    Ok(Item::Bad)
-}
-
-// `PATH`
-fn read_kind(alloc: Global, fields: &[u8]) -> Result<Item, AllocError>
-    ensures item { IfOk result (Reads (codes "kind " ++ fields.now)) }
-    ensures memory { OnErr result (AsksSome (codes "kind " ++ fields.now)) }
-{
-    match scan_path(fields) {
+    let (first, fields) = line.split_at(part_len(line, b' '));
+    let Some(word) = read_word(first) else {
+        return Ok(Item::Bad);
+    };
+    match scan_fields(word.shape(), fields) {
         None => Ok(Item::Bad),
         Some(Some(errno)) => Ok(Item::Refuses(errno)),
-        Some(None) => Ok(Item::Asks(Request::Kind(read_path(alloc, fields)?))),
+        Some(None) => Ok(Item::Asks(build(alloc, word, fields)?)),
     }
 }
 
-// `NUMBER NUMBER`
-fn read_numbers(text: &[u8]) -> Option<(u64, u64)>
-    ensures { MatchOption result (SpellsNoNumbers text.now) (λ x. ScansNumbers text.now x.0 x.1) }
+// The request of the word and the fields behind it. The only error is want of memory.
+fn build(alloc: Global, word: Word, text: &[u8]) -> Result<Request, AllocError>
+    requires { ScansFields (shape_of word) text.now None }
+    ensures word { IfOk result (λ q. word_of q ≡ word) }
+    ensures fields { IfOk result (λ q. SpellsFields (shape_of word) text.now (fields_of q)) }
 {
-    let (first, second) = split_once(text, b' ')?;
-    Some((read_number(first)?, read_number(second)?))
-}
-
-/// The fields of a line `read`, of which the path is not yet read into memory.
-#[derive(Clone, Copy)]
-struct ReadFields<'a> {
-    path: &'a [u8],
-    refusal: Option<Errno>,
-    offset: u64,
-    length: u64,
-}
-
-fn scan_read(fields: &[u8]) -> Option<ReadFields<'_>>
-    ensures { MatchOption result (SpellsNoRead fields.now) (λ f. ScansRead fields.now f.path.now f.refusal f.offset f.length) }
-{
-    let (path, numbers) = split_once(fields, b' ')?;
-    let refusal = scan_path(path)?;
-    let (offset, length) = read_numbers(numbers)?;
-    Some(ReadFields {
-        path,
-        refusal,
-        offset,
-        length,
+    let mut fields = Fields::new(text);
+    let path = fields.path(alloc)?;
+    Ok(match word {
+        Word::Kind => Request::Kind(path),
+        Word::Stat => Request::Stat(path),
+        Word::Read => Request::Read(path, fields.number(), fields.number()),
+        Word::ReadLink => Request::ReadLink(path),
+        Word::List => Request::List(path, fields.after(alloc)?, fields.number()),
+        Word::Write => Request::Write(path, fields.number(), fields.data(alloc)?),
+        Word::Truncate => Request::Truncate(path, fields.number()),
+        Word::Create => Request::Create(path),
+        Word::SetExec => Request::SetExec(path, fields.bit()),
+        Word::Mkdir => Request::Mkdir(path),
+        Word::Symlink => Request::Symlink(path, fields.data(alloc)?),
+        Word::Unlink => Request::Unlink(path),
+        Word::Rmdir => Request::Rmdir(path),
+        Word::Rename => Request::Rename(path, fields.path(alloc)?),
     })
-}
-
-// `PATH OFFSET LENGTH`
-fn read_read(alloc: Global, fields: &[u8]) -> Result<Item, AllocError>
-    ensures item { IfOk result (Reads (codes "read " ++ fields.now)) }
-    ensures memory { OnErr result (AsksSome (codes "read " ++ fields.now)) }
-{
-    let Some(found) = scan_read(fields) else {
-        return Ok(Item::Bad);
-    };
-    if let Some(errno) = found.refusal {
-        return Ok(Item::Refuses(errno));
-    }
-    let path = read_path(alloc, found.path)?;
-    Ok(Item::Asks(Request::Read(path, found.offset, found.length)))
-}
-
-/// The fields of a line `list`, of which path and name are not yet read into memory.
-#[derive(Clone, Copy)]
-struct ListFields<'a> {
-    path: &'a [u8],
-    after: &'a [u8],
-    refusal: Option<Errno>,
-    limit: u64,
-}
-
-fn scan_list(fields: &[u8]) -> Option<ListFields<'_>>
-    ensures { MatchOption result (SpellsNoList fields.now) (λ f. ScansList fields.now f.path.now f.after.now f.refusal f.limit) }
-{
-    let (path, rest) = split_once(fields, b' ')?;
-    let (after, limit) = split_once(rest, b' ')?;
-    let refusal = scan_path(path)?.or(scan_after(after)?);
-    let limit = read_number(limit)?;
-    Some(ListFields {
-        path,
-        after,
-        refusal,
-        limit,
-    })
-}
-
-// `PATH AFTER LIMIT`
-fn read_list(alloc: Global, fields: &[u8]) -> Result<Item, AllocError>
-    ensures item { IfOk result (Reads (codes "list " ++ fields.now)) }
-    ensures memory { OnErr result (AsksSome (codes "list " ++ fields.now)) }
-{
-    let Some(found) = scan_list(fields) else {
-        return Ok(Item::Bad);
-    };
-    if let Some(errno) = found.refusal {
-        return Ok(Item::Refuses(errno));
-    }
-    let path = read_path(alloc, found.path)?;
-    let after = read_after(alloc, found.after)?;
-    Ok(Item::Asks(Request::List(path, after, found.limit)))
 }

@@ -1,5 +1,5 @@
 ghost use Rattle.std.specs.Prelude.{◌≡◌, ◌≤◌, length, take, drop, MatchOption};
-ghost use Rattle.eden_wire.specs.Lines.{IsOneLine, IsLineOf};
+ghost use Rattle.eden_wire.specs.Lines.{longest_line, IsOneLine, IsLineOf};
 ghost use Rattle.eden_wire.specs.Writing.{IsIdle};
 ghost use Rattle.eden_wire.specs.Serving.{Session};
 ghost use Rattle.eden_wire.specs.Turns.{Turn, Run, Answered, Ended};
@@ -27,7 +27,7 @@ fn answer<W: Write, S: Service>(
     service: &mut S,
 ) -> bool
     requires one { IsOneLine line.now }
-    requires short { length line.now ≤ 150000 }
+    requires short { length line.now ≤ longest_line }
     ensures { Turn S.answers service.old service.new (W.contents writer.old) (W.contents writer.new) output.old output.new line.now result }
 {
     match read_request(alloc, line) {
@@ -141,7 +141,7 @@ pub fn session<R: Read, W: Write, S: Service>(
     writer: &mut W,
     service: &mut S,
 ) -> Result<(), SessionFault>
-    ensures { Session S.answers service.old service.new (R.remaining reader.old) (R.remaining reader.new) (W.contents writer.old) (W.contents writer.new) result }
+    ensures { Session S.answers (service.old, service.new) (R.remaining reader.old, R.remaining reader.new) (W.contents writer.old, W.contents writer.new) result }
 {
     let Ok(mut input) = Input::new(alloc) else {
         return Err(SessionFault::Memory);

@@ -1,5 +1,5 @@
 ghost use Rattle.std.specs.Prelude.{◌≡◌};
-ghost use Rattle.eden_wire.specs.Faults.{session_fault_name};
+ghost use Rattle.eden_wire.specs.Faults.{session_fault_name, session_fault_number};
 
 /// Why a session ended early.
 #[derive(Clone, Copy, Debug, PartialEq, Eq)]
@@ -13,6 +13,13 @@ pub enum SessionFault {
 }
 
 impl SessionFault {
+    /// The fault's number.
+    pub fn number(self) -> u8
+        ensures { result ≡ session_fault_number self }
+    {
+        self as u8
+    }
+
     /// The fault's name.
     pub fn name(self) -> &'static str
         ensures { result.now ≡ session_fault_name self }

@@ -1,15 +1,7 @@
-ghost use Rattle.std.specs.Prelude.{◌≡◌, ◌≤◌, length, take, MatchOption};
-ghost use Rattle.eden_wire.specs.Splits.{Lacks, IsSplit, IsFirstPart};
+ghost use Rattle.std.specs.Prelude.{length};
+ghost use Rattle.eden_wire.specs.Splits.{BeginsWith, IsFirstPart, IsPart};
 
 use memchr::memchr;
-
-/// What stands before the first such byte and what stands after it, where there is one.
-pub(crate) fn split_once(bytes: &[u8], mark: u8) -> Option<(&[u8], &[u8])>
-    ensures { MatchOption result (Lacks mark bytes.now) (λ x. IsSplit bytes.now mark x.0.now x.1.now) }
-{
-    let at = memchr(mark, bytes)?;
-    Some((&bytes[..at], &bytes[at + 1..]))
-}
 
 /// How many bytes stand before the first such byte, or in all.
 pub(crate) fn part_len(bytes: &[u8], mark: u8) -> usize
@@ -19,4 +11,13 @@ pub(crate) fn part_len(bytes: &[u8], mark: u8) -> usize
         Some(at) => at,
         None => bytes.len(),
     }
+}
+
+/// The text between the mark at its beginning and the next such mark, and the text from there.
+pub(crate) fn next_part(text: &[u8], mark: u8) -> (&[u8], &[u8])
+    requires { BeginsWith mark text.now }
+    ensures { IsPart mark text.now result.0.now result.1.now }
+{
+    let inside = &text[1..];
+    inside.split_at(part_len(inside, mark))
 }

@@ -10,12 +10,13 @@ use std::io;
 use std::io::{Read, Write};
 use std::test::Fail;
 
-// A mount in which everything is a directory with one entry and a file of ten bytes.
+// A mount in which everything is a directory with one entry, and a file of ten bytes that each change is made to.
 #[derive(Drop)]
 struct Small {
     kind: Reply,
     content: Reply,
     listing: Reply,
+    done: Reply,
     refused: Option<CallFault>,
 }
 
@@ -27,9 +28,10 @@ impl Service for Small {
             return Err(fault);
         }
         match request {
-            Request::Kind(_) => Ok(&self.kind),
-            Request::Read(_, _, _) => Ok(&self.content),
+            Request::Kind(_) | Request::Stat(_) => Ok(&self.kind),
+            Request::Read(_, _, _) | Request::ReadLink(_) => Ok(&self.content),
             Request::List(_, _, _) => Ok(&self.listing),
+            _ => Ok(&self.done),
         }
     }
 }
@@ -53,6 +55,7 @@ fn make_small(alloc: Global) -> Result<Small, Fail> {
         kind: Reply::Kind(Kind::Dir),
         content: data(alloc, b"version 1\n")?,
         listing: entry(alloc, b"test.txt", Kind::File, false)?,
+        done: Reply::Ok,
         refused: None,
     })
 }
@@ -131,10 +134,11 @@ fn make_sink(alloc: Global, size: usize) -> Sink {
 
 const MOST: usize = 1 << 20;
 
-const LINES: &[u8] = b"kind /\nread /test.txt 0 20\nlist / - 1\nkind /%2F\nkind /..\n";
+const LINES: &[u8] =
+    b"kind /\nread /test.txt 0 20\nlist / - 1\nwrite /a 0 78\nrename /a /%2F\nkind /..\n";
 
 const TEXTS: &[u8] =
-    b"kind dir\ndata 10 76657273696f6e20310a\nentries 1 file test.txt end\nerr 22 EINVAL\nerr 22 EINVAL\n";
+    b"kind dir\ndata 10 76657273696f6e20310a\nentries 1 file test.txt end\nok\nerr 22 EINVAL\nerr 22 EINVAL\n";
 
 // What a session says to this input.
 fn said(alloc: Global, input: &[u8], size: usize) -> Result<Vec<u8>, Fail> {
@@ -176,7 +180,7 @@ fn each_failed_read_or_write(rt: HostRuntime) -> Result<(), Fail> {
         assert!(rt; TEXTS.starts_with(writer.got.as_slice()), "read {bad}");
         assert_eq!(rt; writer.got.ends_with(b"\n"), bad > 7, "read {bad}");
     }
-    for bad in 1..=TEXTS.len() as u32 + 5 {
+    for bad in 1..=TEXTS.len() as u32 + 6 {
         let mut writer = Sink {
             got: Vec::new(alloc),
             size: 1,
@@ -193,6 +197,60 @@ fn each_failed_read_or_write(rt: HostRuntime) -> Result<(), Fail> {
         assert!(rt; TEXTS.starts_with(writer.got.as_slice()), "write {bad}");
         assert_eq!(rt; writer.calls, bad, "write {bad}");
     }
+    Ok(())
+}
+
+// Fails as interrupted at each other call.
+#[derive(Drop)]
+struct Interrupted<'a> {
+    reader: Pieces<'a>,
+    writer: Sink,
+    odd: bool,
+}
+
+impl<'a> Interrupted<'a> {
+    fn turn(&mut self) -> io::Result<()> {
+        self.odd = !self.odd;
+        if self.odd {
+            return Err(io::Error::from(io::ErrorKind::Interrupted));
+        }
+        Ok(())
+    }
+}
+
+impl<'a> Read for Interrupted<'a> {
+    fn read(&mut self, buf: &mut [u8]) -> io::Result<usize> {
+        self.turn()?;
+        self.reader.read(buf)
+    }
+}
+
+impl<'a> Write for Interrupted<'a> {
+    fn write(&mut self, buf: &[u8]) -> io::Result<usize> {
+        self.turn()?;
+        self.writer.write(buf)
+    }
+
+    fn flush(&mut self) -> io::Result<()> {
+        Ok(())
+    }
+}
+
+#[test]
+fn interrupted_reads_and_writes_are_made_again(rt: HostRuntime) -> Result<(), Fail> {
+    let alloc = rt.alloc();
+    let mut reader = Interrupted {
+        reader: make_pieces(LINES, 5),
+        writer: make_sink(alloc, MOST),
+        odd: false,
+    };
+    let mut writer = Interrupted {
+        reader: make_pieces(b"", 1),
+        writer: make_sink(alloc, 5),
+        odd: false,
+    };
+    session(alloc, &mut reader, &mut writer, &mut make_small(alloc)?)?;
+    assert_eq!(rt; writer.writer.got.as_slice(), TEXTS);
     Ok(())
 }
 
@@ -230,12 +288,18 @@ fn lines_that_are_no_requests(rt: HostRuntime) -> Result<(), Fail> {
         b"read /a 18446744073709551616 1",
         b"read /.. x 1",
         b"read /a 0",
+        b"readlin /a",
+        b"readlink /a 0",
+        b"readlink",
         b"kind //",
         b"kind /a/",
         b"kind a",
         b"kind ",
         b"kind",
+        b"kind  /",
         b"kind / ",
+        b" kind /",
+        b"Kind /",
         b"kind /%61",
         b"kind /%2f",
         b"kind /%2",
@@ -243,7 +307,17 @@ fn lines_that_are_no_requests(rt: HostRuntime) -> Result<(), Fail> {
         b"list / a- 1",
         b"list /  1",
         b"look /",
+        b"write /a 0 0",
         b"write /a 0 AB",
+        b"write /a 0 ab-",
+        b"write /a 0 ",
+        b"write /a 0 --",
+        b"symlink /a",
+        b"truncate /a -1",
+        b"setexec /a 2",
+        b"setexec /a 01",
+        b"rename /a",
+        b"rename /a -",
     ] {
         assert_eq!(rt;
             reply_to(rt.alloc(), line)?.as_slice(),
@@ -261,9 +335,11 @@ fn lines_that_are_refused(rt: HostRuntime) -> Result<(), Fail> {
         b"kind /.",
         b"kind /..",
         b"kind /%00",
-        b"kind /a/../b",
+        b"stat /a/../b",
         b"list / .. 1",
         b"list / %2F 1",
+        b"write /. 0 -",
+        b"rename /a /..",
     ] {
         assert_eq!(rt;
             reply_to(rt.alloc(), line)?.as_slice(),
@@ -271,18 +347,14 @@ fn lines_that_are_refused(rt: HostRuntime) -> Result<(), Fail> {
             "line {line:?}"
         );
     }
-    for line in [b"kind /...".as_slice(), b"kind /a%20%FFz", b"kind /.a/b_"] {
+    for (names, len) in [(1, 256), (257, 1), (16, 255)] {
+        let line = deep(rt.alloc(), names, len)?;
         assert_eq!(rt;
-            reply_to(rt.alloc(), line)?.as_slice(),
-            b"kind dir\n".as_slice(),
-            "line {line:?}"
+            reply_to(rt.alloc(), line.as_slice())?.as_slice(),
+            b"err 36 ENAMETOOLONG\n".as_slice(),
+            "{names} names of {len}"
         );
     }
-    let last = reply_to(rt.alloc(), b"read /a 18446744073709551615 0")?;
-    assert_eq!(rt;
-        last.as_slice(),
-        b"data 10 76657273696f6e20310a\n".as_slice()
-    );
     Ok(())
 }
 
@@ -299,27 +371,57 @@ fn deep(alloc: Global, names: usize, len: usize) -> Result<Vec<u8>, Fail> {
 }
 
 #[test]
-fn long_names_and_paths(rt: HostRuntime) -> Result<(), Fail> {
-    for (names, len, want) in [
-        (1, 255, b"kind dir\n".as_slice()),
-        (1, 256, b"err 36 ENAMETOOLONG\n"),
-        (256, 1, b"kind dir\n"),
-        (257, 1, b"err 36 ENAMETOOLONG\n"),
-        (15, 255, b"kind dir\n"),
-        (16, 255, b"err 36 ENAMETOOLONG\n"),
+fn spellings_of_requests(rt: HostRuntime) -> Result<(), Fail> {
+    let alloc = rt.alloc();
+    let a = "Path { names: [Name { bytes: [97] }] }";
+    for (line, name, rest) in [
+        (b"kind /a".as_slice(), "Kind", ""),
+        (b"stat /a", "Stat", ""),
+        (
+            b"read /a 18446744073709551615 0",
+            "Read",
+            ", 18446744073709551615, 0",
+        ),
+        (b"readlink /a", "ReadLink", ""),
+        (b"list /a - 1", "List", ", None, 1"),
+        (
+            b"list /a .%FF 1000",
+            "List",
+            ", Some(Name { bytes: [46, 255] }), 1000",
+        ),
+        (
+            b"write /a 7 00ff1a",
+            "Write",
+            ", 7, Bytes { items: [0, 255, 26] }",
+        ),
+        (b"write /a 7 -", "Write", ", 7, Bytes { items: [] }"),
+        (b"truncate /a 3", "Truncate", ", 3"),
+        (b"create /a", "Create", ""),
+        (b"setexec /a 0", "SetExec", ", false"),
+        (b"setexec /a 1", "SetExec", ", true"),
+        (b"mkdir /a", "Mkdir", ""),
+        (b"symlink /a 2e", "Symlink", ", Bytes { items: [46] }"),
+        (b"unlink /a", "Unlink", ""),
+        (b"rmdir /a", "Rmdir", ""),
+        (b"rename /a /", "Rename", ", Path { names: [] }"),
     ] {
-        let line = deep(rt.alloc(), names, len)?;
-        assert_eq!(rt;
-            reply_to(rt.alloc(), line.as_slice())?.as_slice(),
-            want,
-            "{names} names of {len}"
-        );
+        let item = read_request(alloc, line)?;
+        let found = format!(in alloc; "{item:?}")?;
+        let want = format!(in alloc; "Asks({name}({a}{rest}))")?;
+        assert_eq!(rt; found.as_str(), want.as_str());
     }
-    let mut line = deep(rt.alloc(), 1, 256)?;
-    line.extend_from_slice(b"/..")?;
+    Ok(())
+}
+
+#[test]
+fn long_data_is_a_request(rt: HostRuntime) -> Result<(), Fail> {
+    let mut line = Vec::from_slice(rt.alloc(), b"write /a 0 ")?;
+    for _ in 0..65_537 {
+        line.extend_from_slice(b"a5")?;
+    }
     assert_eq!(rt;
         reply_to(rt.alloc(), line.as_slice())?.as_slice(),
-        b"err 36 ENAMETOOLONG\n".as_slice()
+        b"ok\n".as_slice()
     );
     Ok(())
 }
@@ -484,7 +586,17 @@ fn texts_of_replies(rt: HostRuntime) -> Result<(), Fail> {
     let alloc = rt.alloc();
     let mut scratch = Scratch::new(alloc)?;
     for (reply, want) in [
-        (Reply::Kind(Kind::Exec), b"kind exec\n".as_slice()),
+        (Reply::Ok, b"ok\n".as_slice()),
+        (Reply::Kind(Kind::File), b"kind file\n"),
+        (Reply::Kind(Kind::Exec), b"kind exec\n"),
+        (Reply::Kind(Kind::Link), b"kind link\n"),
+        (Reply::Kind(Kind::Dir), b"kind dir\n"),
+        (Reply::Stat(Kind::Dir, 0), b"stat dir 0\n"),
+        (
+            Reply::Stat(Kind::Exec, u64::MAX),
+            b"stat exec 18446744073709551615\n",
+        ),
+        (Reply::Count(65_536), b"count 65536\n"),
         (data(alloc, b"")?, b"data 0\n"),
         (
             data(alloc, b"version 1\n")?,

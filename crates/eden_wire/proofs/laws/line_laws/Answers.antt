@@ -1,4 +1,4 @@
-use Rattle.eden_wire.proofs.Fields.{one_item}
+use Rattle.eden_wire.proofs.RequestLemmas.{one_item}
 use Rattle.eden_wire.proofs.laws.line_laws.Goals as goal
 
 pub returns : goal.returns

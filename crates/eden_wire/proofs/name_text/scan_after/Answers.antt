@@ -1,4 +1,4 @@
-use Rattle.eden_wire.proofs.Fields.{scans_after}
+use Rattle.eden_wire.proofs.FieldLemmas.{scans_after}
 use Rattle.eden_wire.proofs.name_text.scan_after.Goals as goal
 
 pub returns : goal.returns

@@ -1,4 +1,4 @@
-use Rattle.std.proofs.Common.{◌<◌, length, sym, ◌∙◌, refl, arith, rules}
+use Rattle.std.proofs.Common.{◌<◌, length, sym, ◌∙◌, refl, rules}
 use Rattle.eden_wire.proofs.PathLemmas.{text_some, empty_is}
 use Rattle.eden_wire.proofs.Scanning.{name_more, name_bad, scans_name}
 use Rattle.eden_wire.proofs.name_text.scan_name.Goals as goal

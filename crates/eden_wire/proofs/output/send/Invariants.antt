@@ -1,6 +1,5 @@
-use Rattle.std.proofs.Common.{◌≤◌, length, take}
-use Rattle.std.specs.Io.KnownBytes.{Appends}
+use Rattle.eden_wire.proofs.Growing.{Sent}
 use Rattle.eden_wire.proofs.output.send.Given as goal
 
-abbrev pub invariant-writes : goal.invariant-writes
-invariant-writes g l = (l.sent ≤ length l.bytes) × Appends (g.W.Write.contents l.fn.writer) (g.W.Write.contents l.writer) (take l.sent l.bytes)
+abbrev pub invariant-turns : goal.invariant-turns
+invariant-turns g l = Sent (g.W.Write.contents l.fn.writer) (g.W.Write.contents l.writer) l.fn.bytes l.rest

@@ -1,4 +1,4 @@
-use Rattle.std.proofs.Common.{◌≡◌, List, [], ◌∷◌, Some, None, Ok, Err, subst, refl, true}
+use Rattle.std.proofs.Common.{[], ◌∷◌, Some, None, Ok, Err, subst, refl, true}
 use Rattle.eden_wire.specs.Serving.{answered}
 use Rattle.eden_wire.specs.declared.request.Item.TheVariants.{Asks}
 use Rattle.eden_wire.proofs.SessionLemmas.{turn_of}

@@ -1,4 +1,4 @@
-use Rattle.std.proofs.Common.{◌≡◌, ℕ, ◌+◌, ◌-◌, ◌<◌, ◌≤◌, length, take, drop, ◌∷◌, ◌++◌, arith, sym, subst, length-drop}
+use Rattle.std.proofs.Common.{◌≡◌, ◌-◌, length, drop, arith, sym, subst, length-drop}
 use Rattle.eden_wire.specs.Lines.{IsOneLine}
 use Rattle.eden_wire.proofs.Slices.{slice-end}
 use Rattle.eden_wire.proofs.SessionLemmas.{Lined, lined_none, lined_more, run_badly, run_false, run_failed, run_on, after_line, line_fits, long_line, long_rest, nothing_left}

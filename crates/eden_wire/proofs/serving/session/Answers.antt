@@ -1,4 +1,5 @@
-use Rattle.std.proofs.Common.{◌≡◌, ℕ, ◌≤◌, List, [], length, ◌++◌, arith, sym, ap, ◌∙◌, subst, drop, Ok}
+use Rattle.std.proofs.Common.{◌≡◌, ◌≤◌, length, arith, sym, ap, ◌∙◌, subst, drop, Ok}
+use Rattle.eden_wire.specs.Lines.{longest_line}
 use Rattle.eden_wire.specs.Turns.{Ended}
 use Rattle.eden_wire.proofs.RunLemmas.{SoFar, so_far_none, so_far_kept, so_far_more, session_none, session_end, session_bad, session_unwritten, keeps_from_none, nothing_read, answered_as, answered_short}
 use Rattle.eden_wire.proofs.serving.session.Goals as goal
@@ -44,14 +45,14 @@ reads-preserved g c =
           let answered = answered_as g.S.Service.answers _ _ _ _ _ _ _ used _ _ (w.as_slice-bytes.ensures ∙ found.joined) (w.in-Ok-true.is ∙ ap Ok w.in-Ok-true.field-0-test) w.answer_piece-used.ensures.answered in
           let after = w.drop_front.ensures ∙ ap (drop used) found.joined in
           rw (w.writer-is, w.service-is, w.input-is, w.output-is) record {
-            short = subst (λ l. length l ≤ 150000) (sym after) (answered_short g.S.Service.answers _ _ _ _ _ _ _ answered);
+            short = subst (λ l. length l ≤ longest_line) (sym after) (answered_short g.S.Service.answers _ _ _ _ _ _ _ answered);
             idle = answered.idle;
             so_far = subst (SoFar g.S.Service.answers _ _ _ _ _ _) (sym after) (so_far_more g.S.Service.answers _ _ _ _ _ _ _ _ _ c.reads.input.pending.items found.piece _ _ so.so_far found.consumed answered);
           }
       | in-Err+else-ne w ↦
           let same = w.in-Err.ensures.1 in
           rw (w.writer-is, w.service-is, w.input-is, w.output-is) record {
-            short = subst (λ l. length l ≤ 150000) (sym same) so.short;
+            short = subst (λ l. length l ≤ longest_line) (sym same) so.short;
             idle = so.idle;
             so_far = subst (SoFar g.S.Service.answers _ _ _ _ _ _) (sym same) (so_far_kept g.S.Service.answers _ _ _ _ _ _ _ _ so.so_far w.in-Err.ensures.0);
           }

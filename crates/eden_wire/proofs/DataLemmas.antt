@@ -1,0 +1,142 @@
+-- Lemmas on bytes in lower-case hexadecimal: a text spells one list of bytes.
+use Rattle.std.proofs.Common.{◌==◌, ◌≡◌, ◌≢◌, ℕ, ◌+◌, ◌-◌, ◌*◌, ◌/◌, ◌%◌, ◌<◌, ◌≤◌, ◌&&◌, List, [], ◌∷◌, length, Bool, true, false, cond, zero, suc, codes, sym, ap, ◌∙◌, subst, refl, get_or, take, Ok, arith}
+use Rattle.std.specs.Prelude.{nat_lt, slice_index}
+use Rattle.std.specs.List.{All, AllByRecursion}
+use Rattle.std.specs.Str.{bytes_eq}
+use Rattle.std.proofs.lemmas.Bool.{false≢true}
+use Rattle.std.proofs.lemmas.Bool.Decides.{Decides-below_and, Decides-eqb, nat_tests}
+use Rattle.std.proofs.lemmas.List.Elements.{All-get_or, All-from_recursion, recursion_from_All}
+use Rattle.std.proofs.lemmas.List.{take_all}
+use Rattle.hex.specs.Hex.{encode_lower, encode_with, lower_digits, decode_of, IsBytes}
+use Rattle.hex.proofs.HexLemmas.{length-encode_with, decode_of-encode_lower}
+use Rattle.eden_wire.specs.Names.{AreBytes}
+use Rattle.eden_wire.specs.Fields.{hex_text}
+use Rattle.eden_wire.specs.Splits.{Lacks}
+use Rattle.eden_wire.specs.Scans.{is_lower_digit, SpellsData}
+
+abbrev pub IsDigit : ℕ → Type 0
+IsDigit c = is_lower_digit c ≡ true
+
+abbrev digits_agree : ℕ → Bool
+digits_agree zero = true
+digits_agree (suc d) = (slice_index lower_digits d == cond (nat_lt d 10) (48 + d) (87 + d)) && digits_agree d
+
+digit_is : (d : ℕ) → d < 16 → slice_index lower_digits d ≡ cond (nat_lt d 10) (48 + d) (87 + d)
+digit_is = (Decides-below_and (λ d. slice_index lower_digits d == cond (nat_lt d 10) (48 + d) (87 + d)) (λ d. slice_index lower_digits d ≡ cond (nat_lt d 10) (48 + d) (87 + d)) digits_agree (λ d. Decides-eqb _ _) refl (λ _. refl) 16).0 refl
+
+abbrev all_digits : ℕ → Bool
+all_digits zero = true
+all_digits (suc d) = is_lower_digit (slice_index lower_digits d) && all_digits d
+
+digit_passes : (d : ℕ) → d < 16 → IsDigit (slice_index lower_digits d)
+digit_passes = (Decides-below_and (λ d. is_lower_digit (slice_index lower_digits d)) (λ d. IsDigit (slice_index lower_digits d)) all_digits (λ d. (λ e. e, λ e. e)) refl (λ _. refl) 16).0 refl
+
+-- a digit has a value
+digit_value : (c : ℕ) → IsDigit c → (d : ℕ) × (d < 16) × (slice_index lower_digits d ≡ c)
+digit_value c h = at (nat_lt c 58) refl
+  where
+    at : (low : Bool) → low ≡ nat_lt c 58 → (d : ℕ) × (d < 16) × (slice_index lower_digits d ≡ c)
+    at true e =
+        let range : (48 ≤ c) × (c < 58) = grind (arith, nat_tests) in
+        let small : nat_lt (c - 48) 10 ≡ true = grind (arith, nat_tests) in
+        let value = digit_is (c - 48) (omega arith) in
+        let here = rw small at value in
+        (c - 48, omega arith, here ∙ omega arith)
+    at false e =
+        let range : (97 ≤ c) × (c < 103) = grind (arith, nat_tests) in
+        let large : nat_lt (c - 87) 10 ≡ false = grind (arith, nat_tests) in
+        let value = digit_is (c - 87) (omega arith) in
+        let here = rw large at value in
+        (c - 87, omega arith, here ∙ omega arith)
+
+-- digits in pairs are the text of bytes
+paired : (n : ℕ) (text : List ℕ) → length text ≡ 2 * n → AllByRecursion IsDigit text → (bytes : List ℕ) × AreBytes bytes × (text ≡ encode_lower bytes)
+unfolding encode_with
+paired zero [] size h = ([], tt, refl)
+paired zero (c ∷ text) size h = absurd (omega arith)
+paired (suc n) [] size h = absurd (omega arith)
+paired (suc n) (c ∷ []) size h = absurd (omega arith)
+paired (suc n) (c ∷ d ∷ text) size h =
+    let high = digit_value c h.0 in
+    let low = digit_value d h.1.0 in
+    let high_small = high.1 in
+    let low_small = low.1 in
+    let on = paired n text (omega arith) h.1.1 in
+    let b = 16 * high.0 + low.0 in
+    let first : b / 16 ≡ high.0 = omega arith in
+    let second : b % 16 ≡ low.0 = omega arith in
+    (b ∷ on.0, (omega arith, on.1), rw (first, second, high.2, low.2) (ap (λ l. c ∷ d ∷ l) on.2))
+
+text_digits : (bytes : List ℕ) → AreBytes bytes → AllByRecursion IsDigit (encode_lower bytes)
+unfolding encode_with
+text_digits [] small = tt
+text_digits (b ∷ bytes) small = let low = small.0 in (digit_passes (b / 16) (omega arith), (digit_passes (b % 16) (omega arith), text_digits bytes small.1))
+
+-- digits, two a byte and some
+pub spells_data : (text : List ℕ) (i : ℕ) → length text ≤ i → 0 < length text → length text % 2 ≡ 0 → All IsDigit (take i text) → SpellsData text
+spells_data text i all some even digits =
+    let found = paired (length text / 2) text (omega arith) (recursion_from_All IsDigit text (subst (All IsDigit) (take_all i text all) digits)) in
+    at found.0 found.1 found.2
+  where
+    at : (bytes : List ℕ) → AreBytes bytes → text ≡ encode_lower bytes → SpellsData text
+    at [] small e = let size = ap length e ∙ length-encode_with lower_digits [] in absurd (omega arith)
+    at (b ∷ bytes) small e = (b ∷ bytes, small, e)
+
+abbrev pub SpellsNoData : List ℕ → Type 0
+SpellsNoData text = (bytes : List ℕ) → AreBytes bytes → text ≢ hex_text bytes
+
+-- no dash, and what is none of the texts of bytes
+no_data : (text : List ℕ) → (text ≡ codes "-" → ⊥) → ((bytes : List ℕ) → AreBytes bytes → 0 < length bytes → text ≡ encode_lower bytes → ⊥) → SpellsNoData text
+no_data text not none [] small e = not e
+no_data text not none (b ∷ bytes) small e = none (b ∷ bytes) small (omega arith) e
+
+pub no_dash : (text : List ℕ) → false ≡ bytes_eq text (codes "-") → text ≡ codes "-" → ⊥
+no_dash text e h = false≢true (e ∙ ap (λ t. bytes_eq t (codes "-")) h)
+
+pub odd_data : (text : List ℕ) → (text ≡ codes "-" → ⊥) → (length text % 2 ≡ 0 → ⊥) → SpellsNoData text
+odd_data text not odd = no_data text not (λ bytes small some e. let size = ap length e ∙ length-encode_with lower_digits bytes in odd (omega arith))
+
+pub empty_data : (text : List ℕ) → (text ≡ codes "-" → ⊥) → length text ≡ 0 → SpellsNoData text
+empty_data text not empty = no_data text not (λ bytes small some e. let size = ap length e ∙ length-encode_with lower_digits bytes in omega arith)
+
+pub other_data : (text : List ℕ) (i : ℕ) → (text ≡ codes "-" → ⊥) → i < length text → is_lower_digit (get_or text i 0) ≡ false → SpellsNoData text
+other_data text i not inside other =
+    no_data text not (λ bytes small some e.
+    let all = All-from_recursion IsDigit text (subst (AllByRecursion IsDigit) (sym e) (text_digits bytes small)) in
+    false≢true (sym other ∙ All-get_or IsDigit text i 0 inside all))
+
+are_bytes : (xs : List ℕ) → AreBytes xs → IsBytes xs
+are_bytes [] h i = omega arith
+are_bytes (x ∷ xs) h zero = h.0
+are_bytes (x ∷ xs) h (suc i) = are_bytes xs h.1 i
+
+pub decoded : (text bytes : List ℕ) → AreBytes bytes → text ≡ encode_lower bytes → decode_of text ≡ Ok bytes
+decoded text bytes small e = ap decode_of e ∙ decode_of-encode_lower bytes (are_bytes bytes small)
+
+-- what a text that spells data decodes to
+pub read_is : (text found : List ℕ) → (text ≡ codes "-" → ⊥) → SpellsData text → decode_of text ≡ Ok found → AreBytes found × (text ≡ hex_text found)
+read_is text found not spells e = at spells.0 spells.1 spells.2
+  where
+    at : (bytes : List ℕ) → AreBytes bytes → text ≡ hex_text bytes → AreBytes found × (text ≡ hex_text found)
+    at [] small h = absurd (not h)
+    at (b ∷ bytes) small h =
+        let both : Ok (b ∷ bytes) ≡ Ok found = sym (decoded text (b ∷ bytes) small h) ∙ e in
+        let same : b ∷ bytes ≡ found = cc in
+        subst (λ l. AreBytes l × (text ≡ hex_text l)) same (small, h)
+
+-- a text spells one list of bytes
+pub hex_same : (a b : List ℕ) → AreBytes a → AreBytes b → hex_text a ≡ hex_text b → a ≡ b
+hex_same [] [] h k e = refl
+hex_same [] (y ∷ b) h k e = let size = ap length e ∙ length-encode_with lower_digits (y ∷ b) in absurd (omega arith)
+hex_same (x ∷ a) [] h k e = let size = ap length (sym e) ∙ length-encode_with lower_digits (x ∷ a) in absurd (omega arith)
+hex_same (x ∷ a) (y ∷ b) h k e =
+    let both : Ok (x ∷ a) ≡ Ok (y ∷ b) = sym (decoded _ (x ∷ a) h refl) ∙ decoded _ (y ∷ b) k e in
+    cc
+
+pub hex_lacks : (bytes : List ℕ) → AreBytes bytes → Lacks 32 (hex_text bytes)
+hex_lacks [] small = (λ e. omega arith, tt)
+hex_lacks (b ∷ bytes) small = plain (encode_lower (b ∷ bytes)) (text_digits (b ∷ bytes) small)
+  where
+    plain : (text : List ℕ) → AllByRecursion IsDigit text → Lacks 32 text
+    plain [] h = tt
+    plain (c ∷ text) h = (λ e. false≢true (ap is_lower_digit (sym e) ∙ h.0), plain text h.1)

@@ -1,0 +1,345 @@
+-- Lemmas on lines: a line is one item.
+use Rattle.std.proofs.Common.{◌==◌, ◌||◌, ◌≡◌, ◌≢◌, ℕ, ◌≤◌, arith, List, [], ◌∷◌, ◌++◌, length, Bool, true, false, Option, Some, None, sym, ap, ◌∙◌, subst, refl, take, drop, take-append-drop, Result, Ok, Err, OnErr}
+use Rattle.std.proofs.lemmas.Bool.{false≢true}
+use Rattle.std.specs.List.{find, list_any}
+use Rattle.std.specs.Str.{bytes_eq}
+use Rattle.eden_model.specs.declared.errno.Errno.{Errno}
+use Rattle.eden_model.specs.declared.request.Request.{Request}
+use Rattle.eden_model.specs.declared.request.Request.TheVariants as request
+use Rattle.eden_wire.specs.Words.{word_text, shape_of}
+use Rattle.eden_wire.specs.Fields.{Field, sort_of, field_text, fields_text, AreFields, first_refusal}
+use Rattle.eden_wire.specs.Fields.Field.{of_path, of_number, of_bit, of_data, of_after}
+use Rattle.eden_wire.specs.Requests.{word_of, fields_of, request_line, IsSpelled, request_refusal}
+use Rattle.eden_wire.specs.Splits.{Lacks, IsCutAt, IsFirstPart}
+use Rattle.eden_wire.specs.Scans.{SpellNoFields, ScansFields, SpellsFields, NextIs, Takes}
+use Rattle.eden_wire.specs.Lines.{Reads, AsksSome, OneItem}
+use Rattle.eden_wire.specs.declared.request.Item.TheVariants.{Asks, Refuses, Bad}
+use Rattle.eden_wire.specs.declared.word.Sort.{Sort}
+use Rattle.eden_wire.specs.declared.word.Sort.TheVariants as sort
+use Rattle.eden_wire.specs.declared.word.Word.{Word}
+use Rattle.eden_wire.specs.declared.word.Word.TheVariants as word
+use Rattle.eden_wire.proofs.PathLemmas.{first_part}
+use Rattle.eden_wire.proofs.FieldLemmas.{fields_same}
+
+-- ---- words
+
+abbrev words : List Word
+words =
+    word.Kind ∷ word.Stat ∷ word.Read ∷ word.ReadLink ∷ word.List ∷ word.Write ∷ word.Truncate ∷ word.Create ∷ word.SetExec
+    ∷ word.Mkdir ∷ word.Symlink ∷ word.Unlink ∷ word.Rmdir ∷ word.Rename ∷ []
+
+-- the word of that text
+abbrev read_word : List ℕ → Option Word
+read_word text = find (λ w. bytes_eq text (word_text w)) words
+
+-- each word is read as itself
+word_read : (w : Word) → read_word (word_text w) ≡ Some w
+word_read word.Kind = refl
+word_read word.Stat = refl
+word_read word.Read = refl
+word_read word.ReadLink = refl
+word_read word.List = refl
+word_read word.Write = refl
+word_read word.Truncate = refl
+word_read word.Create = refl
+word_read word.SetExec = refl
+word_read word.Mkdir = refl
+word_read word.Symlink = refl
+word_read word.Unlink = refl
+word_read word.Rmdir = refl
+word_read word.Rename = refl
+
+-- no byte is a space
+lacks_by_test : (text : List ℕ) → list_any (λ b. b == 32) text ≡ false → Lacks 32 text
+lacks_by_test [] h = tt
+lacks_by_test (b ∷ text) h = let both = neither (b == 32) (list_any (λ c. c == 32) text) h in (λ e. false≢true (sym both.0 ∙ ap (λ c. c == 32) e), lacks_by_test text both.1)
+  where
+    neither : (p q : Bool) → (p || q) ≡ false → (p ≡ false) × (q ≡ false)
+    neither true q g = absurd (false≢true (sym g))
+    neither false q g = (refl, g)
+
+word_lacks : (w : Word) → Lacks 32 (word_text w)
+word_lacks word.Kind = lacks_by_test (word_text word.Kind) refl
+word_lacks word.Stat = lacks_by_test (word_text word.Stat) refl
+word_lacks word.Read = lacks_by_test (word_text word.Read) refl
+word_lacks word.ReadLink = lacks_by_test (word_text word.ReadLink) refl
+word_lacks word.List = lacks_by_test (word_text word.List) refl
+word_lacks word.Write = lacks_by_test (word_text word.Write) refl
+word_lacks word.Truncate = lacks_by_test (word_text word.Truncate) refl
+word_lacks word.Create = lacks_by_test (word_text word.Create) refl
+word_lacks word.SetExec = lacks_by_test (word_text word.SetExec) refl
+word_lacks word.Mkdir = lacks_by_test (word_text word.Mkdir) refl
+word_lacks word.Symlink = lacks_by_test (word_text word.Symlink) refl
+word_lacks word.Unlink = lacks_by_test (word_text word.Unlink) refl
+word_lacks word.Rmdir = lacks_by_test (word_text word.Rmdir) refl
+word_lacks word.Rename = lacks_by_test (word_text word.Rename) refl
+
+word_same : (v w : Word) → word_text v ≡ word_text w → v ≡ w
+word_same v w e = let both : Some v ≡ Some w = sym (word_read v) ∙ ap read_word e ∙ word_read w in cc
+
+-- ---- requests by word and fields
+
+-- a request of this word with these fields
+record Made (w : Word) (fields : List Field) : Type 0 where
+  value : Request
+  its_word : word_of value ≡ w
+  its_fields : fields_of value ≡ fields
+
+path_of : (f : Field) → sort_of f ≡ sort.Path → (path : List (List ℕ)) × (of_path path ≡ f)
+path_of (of_path path) s = (path, refl)
+path_of f s = absurd cc
+
+number_of : (f : Field) → sort_of f ≡ sort.Number → (n : ℕ) × (of_number n ≡ f)
+number_of (of_number n) s = (n, refl)
+number_of f s = absurd cc
+
+bit_of : (f : Field) → sort_of f ≡ sort.Bit → (bit : Bool) × (of_bit bit ≡ f)
+bit_of (of_bit bit) s = (bit, refl)
+bit_of f s = absurd cc
+
+data_of : (f : Field) → sort_of f ≡ sort.Data → (bytes : List ℕ) × (of_data bytes ≡ f)
+data_of (of_data bytes) s = (bytes, refl)
+data_of f s = absurd cc
+
+after_of : (f : Field) → sort_of f ≡ sort.After → (after : Option (List ℕ)) × (of_after after ≡ f)
+after_of (of_after after) s = (after, refl)
+after_of f s = absurd cc
+
+one : (fields : List Field) → AreFields (sort.Path ∷ []) fields → (path : List (List ℕ)) × (of_path path ∷ [] ≡ fields)
+one [] h = absurd h
+one (f ∷ []) h = let x = path_of f h.0 in (x.0, ap (λ v. v ∷ []) x.1)
+one (f ∷ g ∷ fields) h = absurd h.2
+
+two : (s : Sort) (fields : List Field) → AreFields (sort.Path ∷ s ∷ []) fields → (path : List (List ℕ)) × (g : Field) × (sort_of g ≡ s) × (of_path path ∷ g ∷ [] ≡ fields)
+two s [] h = absurd h
+two s (f ∷ []) h = absurd h.2
+two s (f ∷ g ∷ []) h = let x = path_of f h.0 in (x.0, g, h.2.0, ap (λ v. v ∷ g ∷ []) x.1)
+two s (f ∷ g ∷ k ∷ fields) h = absurd h.2.2
+
+three : (s t : Sort) (fields : List Field) → AreFields (sort.Path ∷ s ∷ t ∷ []) fields → (path : List (List ℕ)) × (g : Field) × (k : Field) × (sort_of g ≡ s) × (sort_of k ≡ t) × (of_path path ∷ g ∷ k ∷ [] ≡ fields)
+three s t [] h = absurd h
+three s t (f ∷ []) h = absurd h.2
+three s t (f ∷ g ∷ []) h = absurd h.2.2
+three s t (f ∷ g ∷ k ∷ []) h = let x = path_of f h.0 in (x.0, g, k, h.2.0, h.2.2.0, ap (λ v. v ∷ g ∷ k ∷ []) x.1)
+three s t (f ∷ g ∷ k ∷ l ∷ fields) h = absurd h.2.2.2
+
+by_path : (w : Word) (make : List (List ℕ) → Request) → ((path : List (List ℕ)) → word_of (make path) ≡ w) → ((path : List (List ℕ)) → fields_of (make path) ≡ of_path path ∷ []) → (fields : List Field) → AreFields (sort.Path ∷ []) fields → Made w fields
+by_path w make its_word its_fields fields h = let x = one fields h in record { value = make x.0; its_word = its_word x.0; its_fields = its_fields x.0 ∙ x.1 }
+
+-- each word has a request for fields of its sorts
+made : (w : Word) (fields : List Field) → AreFields (shape_of w) fields → Made w fields
+made word.Kind = by_path word.Kind (λ p. request.Kind p) (λ p. refl) (λ p. refl)
+made word.Stat = by_path word.Stat (λ p. request.Stat p) (λ p. refl) (λ p. refl)
+made word.ReadLink = by_path word.ReadLink (λ p. request.ReadLink p) (λ p. refl) (λ p. refl)
+made word.Create = by_path word.Create (λ p. request.Create p) (λ p. refl) (λ p. refl)
+made word.Mkdir = by_path word.Mkdir (λ p. request.Mkdir p) (λ p. refl) (λ p. refl)
+made word.Unlink = by_path word.Unlink (λ p. request.Unlink p) (λ p. refl) (λ p. refl)
+made word.Rmdir = by_path word.Rmdir (λ p. request.Rmdir p) (λ p. refl) (λ p. refl)
+made word.Read = λ fields h.
+    let x = three sort.Number sort.Number fields h in
+    let m = number_of x.1 x.3 in
+    let n = number_of x.2 x.4 in
+    record { value = request.Read x.0 m.0 n.0; its_word = refl; its_fields = ap (λ g. of_path x.0 ∷ g ∷ of_number n.0 ∷ []) m.1 ∙ ap (λ k. of_path x.0 ∷ x.1 ∷ k ∷ []) n.1 ∙ x.5 }
+made word.List = λ fields h.
+    let x = three sort.After sort.Number fields h in
+    let a = after_of x.1 x.3 in
+    let n = number_of x.2 x.4 in
+    record { value = request.List x.0 a.0 n.0; its_word = refl; its_fields = ap (λ g. of_path x.0 ∷ g ∷ of_number n.0 ∷ []) a.1 ∙ ap (λ k. of_path x.0 ∷ x.1 ∷ k ∷ []) n.1 ∙ x.5 }
+made word.Write = λ fields h.
+    let x = three sort.Number sort.Data fields h in
+    let m = number_of x.1 x.3 in
+    let d = data_of x.2 x.4 in
+    record { value = request.Write x.0 m.0 d.0; its_word = refl; its_fields = ap (λ g. of_path x.0 ∷ g ∷ of_data d.0 ∷ []) m.1 ∙ ap (λ k. of_path x.0 ∷ x.1 ∷ k ∷ []) d.1 ∙ x.5 }
+made word.Truncate = λ fields h.
+    let x = two sort.Number fields h in
+    let n = number_of x.1 x.2 in
+    record { value = request.Truncate x.0 n.0; its_word = refl; its_fields = ap (λ g. of_path x.0 ∷ g ∷ []) n.1 ∙ x.3 }
+made word.SetExec = λ fields h.
+    let x = two sort.Bit fields h in
+    let b = bit_of x.1 x.2 in
+    record { value = request.SetExec x.0 b.0; its_word = refl; its_fields = ap (λ g. of_path x.0 ∷ g ∷ []) b.1 ∙ x.3 }
+made word.Symlink = λ fields h.
+    let x = two sort.Data fields h in
+    let d = data_of x.1 x.2 in
+    record { value = request.Symlink x.0 d.0; its_word = refl; its_fields = ap (λ g. of_path x.0 ∷ g ∷ []) d.1 ∙ x.3 }
+made word.Rename = λ fields h.
+    let x = two sort.Path fields h in
+    let to = path_of x.1 x.2 in
+    record { value = request.Rename x.0 to.0; its_word = refl; its_fields = ap (λ g. of_path x.0 ∷ g ∷ []) to.1 ∙ x.3 }
+
+-- the request of a word and fields
+abbrev request_of : Word → List Field → Option Request
+request_of word.Kind (of_path p ∷ []) = Some (request.Kind p)
+request_of word.Stat (of_path p ∷ []) = Some (request.Stat p)
+request_of word.Read (of_path p ∷ of_number m ∷ of_number n ∷ []) = Some (request.Read p m n)
+request_of word.ReadLink (of_path p ∷ []) = Some (request.ReadLink p)
+request_of word.List (of_path p ∷ of_after a ∷ of_number n ∷ []) = Some (request.List p a n)
+request_of word.Write (of_path p ∷ of_number m ∷ of_data d ∷ []) = Some (request.Write p m d)
+request_of word.Truncate (of_path p ∷ of_number n ∷ []) = Some (request.Truncate p n)
+request_of word.Create (of_path p ∷ []) = Some (request.Create p)
+request_of word.SetExec (of_path p ∷ of_bit b ∷ []) = Some (request.SetExec p b)
+request_of word.Mkdir (of_path p ∷ []) = Some (request.Mkdir p)
+request_of word.Symlink (of_path p ∷ of_data d ∷ []) = Some (request.Symlink p d)
+request_of word.Unlink (of_path p ∷ []) = Some (request.Unlink p)
+request_of word.Rmdir (of_path p ∷ []) = Some (request.Rmdir p)
+request_of word.Rename (of_path p ∷ of_path q ∷ []) = Some (request.Rename p q)
+request_of w fields = None
+
+its_request : (q : Request) → request_of (word_of q) (fields_of q) ≡ Some q
+its_request (request.Kind p) = refl
+its_request (request.Stat p) = refl
+its_request (request.Read p m n) = refl
+its_request (request.ReadLink p) = refl
+its_request (request.List p a n) = refl
+its_request (request.Write p m d) = refl
+its_request (request.Truncate p n) = refl
+its_request (request.Create p) = refl
+its_request (request.SetExec p b) = refl
+its_request (request.Mkdir p) = refl
+its_request (request.Symlink p d) = refl
+its_request (request.Unlink p) = refl
+its_request (request.Rmdir p) = refl
+its_request (request.Rename p q) = refl
+
+-- ---- a request is read from a text that was looked through
+
+pub starts : (w : Word) (text : List ℕ) → ScansFields (shape_of w) text None → NextIs sort.Path text
+starts word.Kind text scan = (_, scan)
+starts word.Stat text scan = (_, scan)
+starts word.Read text scan = (_, scan)
+starts word.ReadLink text scan = (_, scan)
+starts word.List text scan = (_, scan)
+starts word.Write text scan = (_, scan)
+starts word.Truncate text scan = (_, scan)
+starts word.Create text scan = (_, scan)
+starts word.SetExec text scan = (_, scan)
+starts word.Mkdir text scan = (_, scan)
+starts word.Symlink text scan = (_, scan)
+starts word.Unlink text scan = (_, scan)
+starts word.Rmdir text scan = (_, scan)
+starts word.Rename text scan = (_, scan)
+
+pub next : (f : Field) (s : Sort) (sorts : List Sort) (text more : List ℕ) → ScansFields (sort_of f ∷ s ∷ sorts) text None → Takes f text more → NextIs s more
+next f s sorts text more scan took = (sorts, took.on (s ∷ sorts) scan)
+
+pub whole_none : (text : List ℕ) → ScansFields [] text None → SpellsFields [] text []
+whole_none text scan = record { good = tt; whole = at scan.fields scan.good scan.spelled }
+  where
+    at : (fields : List Field) → AreFields [] fields → text ≡ fields_text fields → text ≡ []
+    at [] h e = e
+    at (f ∷ fields) h e = absurd h
+
+pub whole_more : (f : Field) (sorts : List Sort) (fields : List Field) (text more : List ℕ) → Takes f text more → SpellsFields sorts more fields → SpellsFields (sort_of f ∷ sorts) text (f ∷ fields)
+whole_more f sorts fields text more took left = record { good = (refl, took.good, left.good); whole = took.whole ∙ ap (λ l. 32 ∷ (field_text f ++ l)) left.whole }
+
+pub one_field : (f : Field) (text a : List ℕ) → ScansFields (sort_of f ∷ []) text None → Takes f text a → SpellsFields (sort_of f ∷ []) text (f ∷ [])
+one_field f text a scan took = whole_more f [] [] text a took (whole_none a (took.on [] scan))
+
+pub two_fields : (f g : Field) (text a b : List ℕ) → ScansFields (sort_of f ∷ sort_of g ∷ []) text None → Takes f text a → Takes g a b → SpellsFields (sort_of f ∷ sort_of g ∷ []) text (f ∷ g ∷ [])
+two_fields f g text a b scan first second = whole_more f (sort_of g ∷ []) (g ∷ []) text a first (one_field g a b (first.on (sort_of g ∷ []) scan) second)
+
+pub three_fields : (f g k : Field) (text a b d : List ℕ) → ScansFields (sort_of f ∷ sort_of g ∷ sort_of k ∷ []) text None → Takes f text a → Takes g a b → Takes k b d → SpellsFields (sort_of f ∷ sort_of g ∷ sort_of k ∷ []) text (f ∷ g ∷ k ∷ [])
+three_fields f g k text a b d scan first second third = whole_more f (sort_of g ∷ sort_of k ∷ []) (g ∷ k ∷ []) text a first (two_fields g k a b d (first.on (sort_of g ∷ sort_of k ∷ []) scan) second third)
+
+-- ---- what a line is
+
+-- a line cut at its first space
+pub record Cut (line first rest : List ℕ) : Type 0 where
+  pub whole : line ≡ first ++ rest
+  pub plain : Lacks 32 first
+  pub cut : IsCutAt 32 rest
+
+pub cut_at : (line first rest : List ℕ) (n : ℕ) → first ≡ take n line → rest ≡ drop n line → IsFirstPart line 32 n → Cut line first rest
+cut_at line first rest n front back part = record {
+  whole = sym (take-append-drop n line) ∙ ap (λ l. l ++ drop n line) (sym front) ∙ ap (λ l. first ++ l) (sym back);
+  plain = subst (Lacks 32) (sym front) part.plain;
+  cut = subst (IsCutAt 32) (sym back) part.cut;
+}
+
+fields_cut : (fields : List Field) → IsCutAt 32 (fields_text fields)
+fields_cut [] = tt
+fields_cut (f ∷ fields) = refl
+
+line_parts : (line first rest : List ℕ) (w : Word) (fields : List Field) → Cut line first rest → line ≡ word_text w ++ fields_text fields → (first ≡ word_text w) × (rest ≡ fields_text fields)
+line_parts line first rest w fields cut e = first_part 32 first (word_text w) rest (fields_text fields) cut.plain (word_lacks w) cut.cut (fields_cut fields) (sym cut.whole ∙ e)
+
+pub no_word : (line first rest : List ℕ) → Cut line first rest → ((w : Word) → first ≢ word_text w) → Reads line Bad
+unfolding Reads
+no_word line first rest cut none q e spelled = none (word_of q) (line_parts line first rest (word_of q) (fields_of q) cut e).0
+
+pub no_fields : (line first rest : List ℕ) (w : Word) → Cut line first rest → first ≡ word_text w → SpellNoFields (shape_of w) rest → Reads line Bad
+unfolding Reads
+no_fields line first rest w cut is none q e spelled =
+    let parts = line_parts line first rest (word_of q) (fields_of q) cut e in
+    let same : word_of q ≡ w = word_same (word_of q) w (sym parts.0 ∙ is) in
+    none (fields_of q) (subst (λ v. AreFields (shape_of v) (fields_of q)) same spelled) parts.1
+
+-- a request of a line's word and fields
+asks : (line first rest : List ℕ) (w : Word) (refusal : Option Errno) (q : Request) → Cut line first rest → first ≡ word_text w → ScansFields (shape_of w) rest refusal → word_of q ≡ w → AreFields (shape_of w) (fields_of q) → rest ≡ fields_text (fields_of q) → (line ≡ request_line q) × IsSpelled q × (request_refusal q ≡ refusal)
+asks line first rest w refusal q cut is scan same good spelled = (
+  cut.whole ∙ ap (λ l. l ++ rest) (is ∙ ap word_text (sym same)) ∙ ap (λ l. word_text (word_of q) ++ l) spelled,
+  subst (λ v. AreFields (shape_of v) (fields_of q)) (sym same) good,
+  ap first_refusal (fields_same (shape_of w) (fields_of q) scan.fields good scan.good (sym spelled ∙ scan.spelled)) ∙ sym scan.refused,
+)
+
+scanned : (line first rest : List ℕ) (w : Word) (refusal : Option Errno) → Cut line first rest → first ≡ word_text w → ScansFields (shape_of w) rest refusal → (q : Request) × (line ≡ request_line q) × IsSpelled q × (request_refusal q ≡ refusal)
+scanned line first rest w refusal cut is scan =
+    let m = made w scan.fields scan.good in
+    let all = asks line first rest w refusal m.value cut is scan m.its_word (subst (AreFields (shape_of w)) (sym m.its_fields) scan.good) (scan.spelled ∙ ap fields_text (sym m.its_fields)) in
+    (m.value, all.0, all.1, all.2)
+
+pub refused : (line first rest : List ℕ) (w : Word) (e : Errno) → Cut line first rest → first ≡ word_text w → ScansFields (shape_of w) rest (Some e) → Reads line (Refuses e)
+unfolding Reads
+refused line first rest w e cut is scan = scanned line first rest w (Some e) cut is scan
+
+pub asked : (line first rest : List ℕ) (w : Word) (q : Request) → Cut line first rest → first ≡ word_text w → ScansFields (shape_of w) rest None → word_of q ≡ w → SpellsFields (shape_of w) rest (fields_of q) → Reads line (Asks q)
+unfolding Reads
+asked line first rest w q cut is scan same whole = asks line first rest w None q cut is scan same whole.good whole.whole
+
+pub asks_some : (line first rest : List ℕ) (w : Word) → Cut line first rest → first ≡ word_text w → ScansFields (shape_of w) rest None → AsksSome line
+unfolding Reads
+asks_some line first rest w cut is scan = let x = scanned line first rest w None cut is scan in (x.0, (x.1, x.2, x.3))
+
+-- ---- a line has one item
+
+request_same : (q r : Request) → IsSpelled q → IsSpelled r → request_line q ≡ request_line r → q ≡ r
+request_same q r h k e =
+    let parts = first_part 32 (word_text (word_of q)) (word_text (word_of r)) (fields_text (fields_of q)) (fields_text (fields_of r)) (word_lacks (word_of q)) (word_lacks (word_of r)) (fields_cut (fields_of q)) (fields_cut (fields_of r)) e in
+    let words_same : word_of q ≡ word_of r = word_same (word_of q) (word_of r) parts.0 in
+    let all : fields_of q ≡ fields_of r = fields_same (shape_of (word_of r)) (fields_of q) (fields_of r) (subst (λ v. AreFields (shape_of v) (fields_of q)) words_same h) k parts.1 in
+    let both : Some q ≡ Some r = sym (its_request q) ∙ ap (λ v. request_of v (fields_of q)) words_same ∙ ap (request_of (word_of r)) all ∙ its_request r in
+    cc
+
+pub one_item : OneItem
+unfolding Reads
+one_item line (Asks q) (Asks r) h k = ap Asks (request_same q r h.1 k.1 (sym h.0 ∙ k.0))
+one_item line (Asks q) (Refuses e) h k = absurd (let f : None ≡ Some e = sym h.2 ∙ ap request_refusal (request_same q k.0 h.1 k.2 (sym h.0 ∙ k.1)) ∙ k.3 in cc)
+one_item line (Asks q) Bad h k = absurd (k q h.0 h.1)
+one_item line (Refuses e) (Asks r) h k = absurd (let f : None ≡ Some e = sym k.2 ∙ ap request_refusal (request_same r h.0 k.1 h.2 (sym k.0 ∙ h.1)) ∙ h.3 in cc)
+one_item line (Refuses e) (Refuses d) h k = let f : Some e ≡ Some d = sym h.3 ∙ ap request_refusal (request_same h.0 k.0 h.2 k.2 (sym h.1 ∙ k.1)) ∙ k.3 in ap Refuses cc
+one_item line (Refuses e) Bad h k = absurd (k h.0 h.1 h.2)
+one_item line Bad (Asks r) h k = absurd (h r k.0 k.1)
+one_item line Bad (Refuses d) h k = absurd (h k.0 k.1 k.2)
+one_item line Bad Bad h k = refl
+
+-- what holds at any answer
+pub on_err : {T E : Type 0} {P : Type 0} (r : Result T E) → P → OnErr r P
+on_err (Ok v) h = tt
+on_err (Err e) h = h
+
+-- no word is so short
+pub word_long : (w : Word) → 4 ≤ length (word_text w)
+word_long word.Kind = omega arith
+word_long word.Stat = omega arith
+word_long word.Read = omega arith
+word_long word.ReadLink = omega arith
+word_long word.List = omega arith
+word_long word.Write = omega arith
+word_long word.Truncate = omega arith
+word_long word.Create = omega arith
+word_long word.SetExec = omega arith
+word_long word.Mkdir = omega arith
+word_long word.Symlink = omega arith
+word_long word.Unlink = omega arith
+word_long word.Rmdir = omega arith
+word_long word.Rename = omega arith

@@ -1,0 +1,12 @@
+use Rattle.eden_wire.specs.Fields.Field.{of_path}
+use Rattle.eden_wire.proofs.FieldLemmas.{next_begins, next_field, path_there, takes, if_ok}
+use Rattle.eden_wire.proofs.field.Fields.path.Goals as goal
+
+pub next_part-requires : goal.next_part-requires
+next_part-requires c = next_begins _ _ c.requires
+
+pub read_path-requires : goal.read_path-requires
+read_path-requires c = path_there _ (next_field _ _ _ _ c.requires c.next_part.ensures)
+
+pub returns : goal.returns
+returns c = if_ok c.read_path.result c.read_path.ensures (λ v h. takes (of_path v) _ _ _ c.next_part.ensures h.0 h.1)
