@@ -19,7 +19,7 @@ pub fn stdio<W: World, S: Source<W> + Drop, R: Read, O: Write>(
     writer: &mut O,
     commit: &mut Direct<W, S>,
 ) -> Result<(), SessionFault>
-    ensures { Session (AnswersFor S.fetched W.repository W.honest) commit.old commit.new (R.remaining reader.old) (R.remaining reader.new) (O.contents writer.old) (O.contents writer.new) result }
+    ensures { Session (AnswersFor S.fetched W.repository W.honest) (commit.old, commit.new) (R.remaining reader.old, R.remaining reader.new) (O.contents writer.old, O.contents writer.new) result }
 {
     session(alloc, reader, writer, commit)
 }
