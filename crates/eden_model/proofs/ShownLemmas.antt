@@ -13,7 +13,8 @@ use Rattle.eden_model.specs.ShownLaws.{ShowsItems, FollowsSources, SeesItsOwn, G
 
 -- ---- entry by entry
 
-below_item : {S : Type 0} (G : Ground S) (p : Path) (o : Option (Item S)) → ((j : Item S) → shown G j p ≡ option_map (node_of G) (item_at G j p)) → shown_at G o p ≡ option_map (node_of G) (option_and_then (λ j. item_at G j p) o)
+below_item : {S : Type 0} (G : Ground S) (p : Path) (o : Option (Item S)) → ((j : Item S) → shown G j p ≡ option_map (node_of G) (item_at G j p))
+    → shown_at G o p ≡ option_map (node_of G) (option_and_then (λ j. item_at G j p) o)
 below_item G p None below = refl
 below_item G p (Some j) below = below j
 
