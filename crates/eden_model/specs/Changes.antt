@@ -1,5 +1,5 @@
 -- What the oracle answers a request: its reply, and the change that it makes.
-use Rattle.std.specs.Prelude.{◌≡◌, List, [], ◌∷◌, ◌++◌, Option, Some, None}
+use Rattle.std.specs.Prelude.{◌≡◌, Bool, List, [], ◌∷◌, ◌++◌, Option, Some, None, IfSome}
 use Rattle.eden_model.specs.declared.oracle.change.Change.{Change}
 use Rattle.eden_model.specs.declared.oracle.change.Change.TheVariants as change
 use Rattle.eden_model.specs.declared.oracle.remove.Going.{Going}
@@ -8,9 +8,10 @@ use Rattle.eden_model.specs.declared.request.Request.{Request}
 use Rattle.eden_model.specs.declared.reply.Reply.{Reply}
 use Rattle.eden_model.specs.declared.reply.Reply.TheVariants as say
 use Rattle.eden_model.specs.declared.node.Node.{Node}
-use Rattle.eden_model.specs.Trees.{Path, Tree, node_at}
+use Rattle.eden_model.specs.declared.request.Request.TheVariants as ask
+use Rattle.eden_model.specs.Trees.{Path, Tree, reach, node_at}
 use Rattle.eden_model.specs.Rows.{tree_of}
-use Rattle.eden_model.specs.Operations.{Replies, after, put, move}
+use Rattle.eden_model.specs.Operations.{Replies, Meets, Says, Adds, Moves, Replaces, Tells, after, done, put, move}
 
 abbrev pub changed : Tree → Change → Tree
 changed F change.Keep = F
@@ -28,6 +29,22 @@ Answers F q = Gives (Replies F q) F (after F q)
 -- what the request for a node that stands at a path is answered, in each tree
 abbrev pub AnswersHere : Path → Node → (Node → Reply → Type 0) → Request → Option (Reply × Change) → Type 0
 AnswersHere p n here q o = (F : Tree) → node_at F p ≡ Some n → Gives (here n) F (after F q) o
+
+-- that node added, as each request answers it whose tree has it there
+abbrev pub AddsNode : Tree → Path → Node → Option (Reply × Change) → Type 0
+AddsNode F p n o = (q : Request) → done F q ≡ put F p (Some n) → Gives (Adds F p) F (after F q) o
+
+-- the path taken away, in each tree and by each request whose tree has nothing there
+abbrev pub TakesAway : Path → Option (Reply × Change) → Type 0
+TakesAway p o = (F : Tree) (q : Request) → done F q ≡ put F p None → IfSome o (λ a. changed F a.1 ≡ after F q a.0)
+
+-- a rename of `n`, which stands at `from`
+abbrev pub Renames : Tree → Path → Path → Node → Option (Reply × Change) → Type 0
+Renames F from to n = Gives (Moves F from to n) F (after F (ask.Rename from to))
+
+-- whether `to` may be taken, by a directory or not
+abbrev pub MayLand : Tree → Path → Bool → Option Reply → Type 0
+MayLand F to dir = Tells (Meets (reach F to) (Says say.Ok) (Replaces F to dir))
 
 abbrev pub reply_of : Going → Option Reply
 reply_of going.Goes = Some say.Ok

@@ -1,8 +1,10 @@
--- What requests carry.
-use Rattle.std.specs.Prelude.{ℕ, ◌+◌, List, [], ◌∷◌, length}
+-- What requests and replies carry.
+use Rattle.std.specs.Prelude.{ℕ, ◌+◌, Bool, true, false, List, [], ◌∷◌, length}
 use Rattle.std.specs.List.{sum_by}
 use Rattle.eden_model.specs.declared.request.Request.{Request}
 use Rattle.eden_model.specs.declared.request.Request.TheVariants as ask
+use Rattle.eden_model.specs.declared.reply.Reply.{Reply}
+use Rattle.eden_model.specs.declared.reply.Reply.TheVariants as say
 use Rattle.eden_model.specs.Trees.{Path}
 
 abbrev pub paths_of : Request → List Path
@@ -24,3 +26,14 @@ paths_of (ask.Rename from to) = from ∷ to ∷ []
 -- the most objects that a request needs: for each of its paths one a directory above, and one that stands there
 abbrev pub most_objects : Request → ℕ
 most_objects q = sum_by (λ p. length p + 1) (paths_of q)
+
+-- a reply that holds bytes or entries, so that a copy wants memory
+abbrev pub has_payload : Reply → Bool
+has_payload (say.Data d) = true
+has_payload (say.Entries es more) = true
+has_payload say.Ok = false
+has_payload (say.Kind k) = false
+has_payload (say.Stat k n) = false
+has_payload (say.Count n) = false
+has_payload (say.Err e) = false
+has_payload (say.Fault f) = false

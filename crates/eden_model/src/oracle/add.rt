@@ -1,8 +1,6 @@
-ghost use Rattle.std.specs.Prelude.{◌≡◌, IfOk, Some};
-ghost use Rattle.eden_model.specs.Changes.{Answers, Gives};
-ghost use Rattle.eden_model.specs.Operations.{Adds, after, done, put};
+ghost use Rattle.std.specs.Prelude.{IfOk};
+ghost use Rattle.eden_model.specs.Changes.{AddsNode, Answers};
 ghost use Rattle.eden_model.specs.Rows.{tree_of};
-ghost use Rattle.eden_model.specs.declared.request.Request.{Request};
 ghost use Rattle.eden_model.specs.declared.request.Request.TheVariants as ask;
 
 use crate::bytes::Bytes;
@@ -18,7 +16,7 @@ use std::alloc::{AllocError, Global};
 
 /// That node at the path, where nothing stands there yet.
 fn add<'a>(rows: &[Row], path: &'a Path, node: Node) -> Answer<'a>
-    ensures { (q : Request) → done (tree_of rows.now) q ≡ put (tree_of rows.now) path.now (Some node) → Gives (Adds (tree_of rows.now) path.now) (tree_of rows.now) (after (tree_of rows.now) q) result }
+    ensures { AddsNode (tree_of rows.now) path.now node result }
 {
     if path.is_root() {
         return refused(Errno::EEXIST);

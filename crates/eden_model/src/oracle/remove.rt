@@ -1,10 +1,8 @@
-ghost use Rattle.std.specs.Prelude.{◌≡◌, true, false, ℕ, List, [], ◌∷◌, ◌++◌, None, IfSome};
+ghost use Rattle.std.specs.Prelude.{◌≡◌, true, false, ℕ, List, [], ◌∷◌, ◌++◌, None};
 ghost use Rattle.std.specs.Option.{IsSome, option_map};
-ghost use Rattle.eden_model.specs.Changes.{Answers, changed, reply_of};
-ghost use Rattle.eden_model.specs.Operations.{Tells, Removes, Unlinks, after, done, put};
+ghost use Rattle.eden_model.specs.Changes.{Answers, TakesAway, reply_of};
+ghost use Rattle.eden_model.specs.Operations.{Tells, Removes, Unlinks};
 ghost use Rattle.eden_model.specs.Rows.{tree_of};
-ghost use Rattle.eden_model.specs.Trees.{Tree};
-ghost use Rattle.eden_model.specs.declared.request.Request.{Request};
 ghost use Rattle.eden_model.specs.declared.request.Request.TheVariants as ask;
 
 use crate::errno::Errno;
@@ -72,7 +70,7 @@ pub(crate) fn dir_going(rows: &[Row], path: &[Name], node: &Node) -> Going
 /// Takes the path away, where that may be.
 fn take_away<'a>(path: &'a Path, going: Going) -> Answer<'a>
     ensures reply { option_map (λ a. a.0) result ≡ reply_of going }
-    ensures change { (F : Tree) (q : Request) → done F q ≡ put F path.now None → IfSome result (λ a. changed F a.1 ≡ after F q a.0) }
+    ensures change { TakesAway path.now result }
 {
     match going {
         Going::Goes => Some((Reply::Ok, Change::Put(path.as_slice(), None))),

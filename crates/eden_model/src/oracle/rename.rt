@@ -1,8 +1,7 @@
 ghost use Rattle.std.specs.Prelude.{◌≡◌, ◌&&◌};
-ghost use Rattle.eden_model.specs.Changes.{Answers, Gives, reply_of};
-ghost use Rattle.eden_model.specs.Operations.{Tells, Meets, Says, Replaces, Moves, is_dir, is_front, after};
+ghost use Rattle.eden_model.specs.Changes.{Answers, MayLand, Renames, reply_of};
+ghost use Rattle.eden_model.specs.Operations.{is_dir, is_front};
 ghost use Rattle.eden_model.specs.Rows.{tree_of};
-ghost use Rattle.eden_model.specs.Trees.{reach};
 ghost use Rattle.eden_model.specs.declared.request.Request.TheVariants as ask;
 
 use crate::errno::Errno;
@@ -17,7 +16,7 @@ use crate::reply::Reply;
 
 /// Whether `to` may be taken by a directory, or by a file or a link.
 fn target_going(rows: &[Row], to: &[Name], is_dir: bool) -> Going
-    ensures { Tells (Meets (reach (tree_of rows.now) to.now) (Says Reply.Ok) (Replaces (tree_of rows.now) to.now is_dir)) (reply_of result) }
+    ensures { MayLand (tree_of rows.now) to.now is_dir (reply_of result) }
 {
     match meet(rows, to) {
         Met::Fails(e) => Going::Stays(e),
@@ -57,7 +56,7 @@ fn goes_inside(from: &[Name], to: &[Name], node: &Node) -> bool
 
 /// The checks after the one whether anything stands at `from`.
 fn rename_node<'a>(rows: &[Row], from: &'a [Name], to: &'a [Name], node: &Node) -> Answer<'a>
-    ensures { Gives (Moves (tree_of rows.now) from.now to.now node.now) (tree_of rows.now) (after (tree_of rows.now) (ask.Rename from.now to.now)) result }
+    ensures { Renames (tree_of rows.now) from.now to.now node.now result }
 {
     if from == to {
         return Some((Reply::Ok, Change::Keep));
