@@ -10,12 +10,9 @@ use Rattle.std.proofs.lemmas.Slice.Eq.{bytes_eq-Decides}
 use Rattle.sha1.specs.Sha1.{sha1}
 use Rattle.eden_model.specs.declared.id.Id.{Id}
 use Rattle.eden_model.specs.declared.id.ObjKind.{ObjKind}
-use Rattle.eden_model.specs.declared.id.ObjKind.TheVariants as kind
 use Rattle.eden_model.specs.declared.fault.Cause.{Cause}
-use Rattle.eden_model.specs.declared.tree_entry.TreeEntry.{TreeEntry}
 use Rattle.eden_object.specs.declared.word.Word.{Word}
 use Rattle.eden_object.specs.Frames.{frame, word_of}
-use Rattle.eden_object.specs.Trees.{IsTreeBody}
 use Rattle.eden_object.specs.Objects.{IsBody, IsBodyOf, IsFramed, IsObject, IsFirstCause, IsSound}
 use Rattle.eden_object.specs.Objects.IsFirstCause.{too_many_bytes, other_digest, no_frame, too_long_body, other_word, no_body}
 use Rattle.eden_object.proofs.FrameLemmas.{one_frame_law, frame_small, drop_frame}

@@ -1,13 +1,11 @@
 -- Lemmas on how trees are written.
-use Rattle.std.proofs.Common.{◌≡◌, ◌≢◌, ◌↔◌, ◌⊎◌, inl, inr, ℕ, zero, suc, ◌<◌, ◌≤◌, ◌+◌, ◌^◌, Bool, true, false, None, List, [], ◌∷◌, ◌++◌, length, map, get_or, slice_index, sym, ap, ◌∙◌, subst, refl, arith, append_assoc, append-nil}
-use Rattle.std.specs.List.{AllByRecursion, flat_map, sum_by}
+use Rattle.std.proofs.Common.{◌≡◌, ◌≢◌, ◌⊎◌, inl, inr, ℕ, zero, suc, ◌<◌, ◌≤◌, ◌+◌, ◌^◌, true, false, None, List, [], ◌∷◌, ◌++◌, length, map, get_or, slice_index, sym, ap, ◌∙◌, subst, refl, arith, append_assoc, append-nil}
+use Rattle.std.specs.List.{AllByRecursion}
 use Rattle.std.specs.List.Sorted.{IsPermutation, IsSortedBy}
 use Rattle.std.specs.Cmp.Lexicographic.{slice_cmp}
-use Rattle.std.specs.declared.cmp.Ordering.{Ordering}
 use Rattle.std.specs.declared.cmp.Ordering.TheVariants.{Less, Equal, Greater}
 use Rattle.std.specs.Cmp.{nat_cmp_is}
 use Rattle.std.specs.Ordering.{nat_cmp, is_lt, ordering_reverse}
-use Rattle.std.proofs.lemmas.Bool.{cases_order, cases_lt}
 use Rattle.std.proofs.lemmas.Cmp.{nat_cmp_total, nat_list_cmp_total, tied_itself}
 use Rattle.std.proofs.lemmas.List.Concat.{length-flat_map}
 use Rattle.std.proofs.lemmas.Grind.{flat_map-append}
@@ -19,8 +17,8 @@ use Rattle.eden_model.specs.Names.{name_refusal}
 use Rattle.eden_object.specs.Encoding.{entry_text, tree_text, IsEncoded}
 use Rattle.eden_object.specs.declared.word.Word.TheVariants as word
 use Rattle.eden_object.specs.Frames.{frame}
-use Rattle.eden_object.specs.Order.{key_of, key_end, IsBelow, IsOrdered}
-use Rattle.eden_object.specs.Trees.{IsEntryText, AreEntries, IsFree, NamesDiffer}
+use Rattle.eden_object.specs.Order.{key_of, IsBelow, IsOrdered}
+use Rattle.eden_object.specs.Trees.{IsEntryText, AreEntries, NamesDiffer}
 use Rattle.eden_object.proofs.CheckLemmas.{both}
 use Rattle.eden_object.proofs.OrderLemmas.{Shares, shared_of, stand, below_on}
 use Rattle.eden_object.proofs.SortLemmas.{bytes_eq-flips, names_distinct}

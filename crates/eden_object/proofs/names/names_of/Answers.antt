@@ -1,4 +1,4 @@
-use Rattle.std.proofs.Common.{◌≡◌, ◌++◌, ◌∷◌, [], map, sym, ap, ◌∙◌, subst}
+use Rattle.std.proofs.Common.{map, sym, ap, ◌∙◌, subst}
 use Rattle.std.proofs.lemmas.List.{map_push}
 use Rattle.eden_object.proofs.SortLemmas.{GathersNames, names_on, names_all}
 use Rattle.eden_object.proofs.names.names_of.Goals as goal
