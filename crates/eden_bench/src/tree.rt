@@ -1,17 +1,49 @@
-// A tree object of many entries in Git's order: its digest, its check and its decoding.
+// A tree object of many entries, in Git's order and in a random one: its checking and its entries, beside its digest.
 use crate::timing::Timing;
-use eden_model::ObjKind;
-use eden_object::{Object, check, decode_tree, id_of};
+use eden_model::{Key, ObjKind};
+use eden_object::{Object, id_of};
 use std::alloc::{AllocError, Global};
 use std::io;
 use std::rt::Clock;
 use std::time::Instant;
 
+/// The order in which the entries of a tree stand.
+#[derive(Clone, Copy)]
+enum Order {
+    Git,
+    Random,
+}
+
+impl Order {
+    fn text(self) -> &'static str {
+        match self {
+            Order::Git => "Git's order",
+            Order::Random => "a random order",
+        }
+    }
+
+    /// The number in the name of an entry at a place: each number once.
+    fn number(self, place: u32) -> u32 {
+        match self {
+            Order::Git => place,
+            Order::Random => mixed(place),
+        }
+    }
+}
+
+/// Each number to another, without a pattern: shifts and odd factors can be undone.
+fn mixed(number: u32) -> u32 {
+    let number = (number ^ (number >> 16)).wrapping_mul(0x7feb_352d);
+    let number = (number ^ (number >> 15)).wrapping_mul(0x846c_a68b);
+    number ^ (number >> 16)
+}
+
 /// The framed tree of so many files, all of one id.
-fn framed_tree(alloc: Global, count: u32) -> Result<Vec<u8>, AllocError> {
+fn framed_tree(alloc: Global, order: Order, count: u32) -> Result<Vec<u8>, AllocError> {
     let mut body = Vec::new(alloc);
-    for k in 0..count {
-        let entry = format!(in alloc; "100644 file{k:010}\0")?;
+    for place in 0..count {
+        let number = order.number(place);
+        let entry = format!(in alloc; "100644 file{number:010}\0")?;
         body.extend_from_slice(entry.as_bytes())?;
         body.extend_from_slice(&[0x2a; 20])?;
     }
@@ -21,30 +53,38 @@ fn framed_tree(alloc: Global, count: u32) -> Result<Vec<u8>, AllocError> {
     Ok(framed)
 }
 
-/// How many entries the tree has, decoded.
-fn decoded(alloc: Global, object: &Object) -> Result<usize, AllocError> {
-    let entries = decode_tree(alloc, object.body())?;
-    Ok(entries.map_or(0, |entries| entries.len()))
-}
-
-/// Digests, checks and decodes a tree of so many entries.
-pub fn run<R: Print + Clock + AllocGlobal>(rt: &R, count: u32, timing: Timing) -> io::Result<()> {
-    let framed = framed_tree(rt.alloc(), count)?;
-    let bytes = framed.len();
-    println!(rt; "tree of {count} entries, {bytes} bytes")?;
+/// Digests a tree of so many entries, checks it and reads its entries.
+fn run_in<R: Print + Clock + AllocGlobal>(
+    rt: &R,
+    order: Order,
+    count: u32,
+    timing: Timing,
+) -> io::Result<()> {
+    let framed = framed_tree(rt.alloc(), order, count)?;
+    println!(rt;
+        "tree of {count} entries in {}, {} bytes",
+        order.text(),
+        framed.len()
+    )?;
     let start = Instant::now(rt)?;
     let id = id_of(framed.as_slice());
+    let kind = ObjKind::Tree;
     timing.tell(rt, "SHA-1", &start)?;
     let start = Instant::now(rt)?;
-    match check(id, ObjKind::Tree, framed.as_slice()) {
+    match Object::checked(rt.alloc(), Key { kind, id }, framed) {
         Err(cause) => println!(rt; "refused: {cause:?}"),
-        Ok(()) => {
-            timing.tell(rt, "check", &start)?;
-            let object = Object::new(ObjKind::Tree, framed);
+        Ok(tree) => {
+            timing.tell(rt, "checked, the SHA-1 included", &start)?;
             let start = Instant::now(rt)?;
-            let count = decoded(rt.alloc(), &object)?;
-            timing.tell(rt, "decode_tree", &start)?;
-            println!(rt; "checked, and decoded to {count} entries")
+            let entries = tree.entries(rt.alloc())?;
+            timing.tell(rt, "entries", &start)?;
+            println!(rt; "checked, {} entries", entries.len())
         }
     }
+}
+
+/// Both orders, one after the other.
+pub fn run<R: Print + Clock + AllocGlobal>(rt: &R, count: u32, timing: Timing) -> io::Result<()> {
+    run_in(rt, Order::Git, count, timing)?;
+    run_in(rt, Order::Random, count, timing)
 }

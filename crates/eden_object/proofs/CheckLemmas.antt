@@ -10,12 +10,9 @@ use Rattle.std.proofs.lemmas.Slice.Eq.{bytes_eq-Decides}
 use Rattle.sha1.specs.Sha1.{sha1}
 use Rattle.eden_model.specs.declared.id.Id.{Id}
 use Rattle.eden_model.specs.declared.id.ObjKind.{ObjKind}
-use Rattle.eden_model.specs.declared.id.ObjKind.TheVariants as kind
 use Rattle.eden_model.specs.declared.fault.Cause.{Cause}
-use Rattle.eden_model.specs.declared.tree_entry.TreeEntry.{TreeEntry}
 use Rattle.eden_object.specs.declared.word.Word.{Word}
 use Rattle.eden_object.specs.Frames.{frame, word_of}
-use Rattle.eden_object.specs.Trees.{IsTreeBody}
 use Rattle.eden_object.specs.Objects.{IsBody, IsBodyOf, IsFramed, IsObject, IsFirstCause, IsSound}
 use Rattle.eden_object.specs.Objects.IsFirstCause.{too_many_bytes, other_digest, no_frame, too_long_body, other_word, no_body}
 use Rattle.eden_object.proofs.FrameLemmas.{one_frame_law, frame_small, drop_frame}
@@ -24,7 +21,8 @@ pub object_small : (k : ObjKind) (framed : List ℕ) (o : IsFramed k framed) →
 object_small k framed o = let small = frame_small k o.body o.short in let size = ap length o.is in omega arith
 
 -- the frame of an object
-pub object_frame : (k : ObjKind) (framed : List ℕ) (o : IsFramed k framed) (w : Word) (body : List ℕ) → framed ≡ frame w body → (w ≡ word_of k) × (body ≡ o.body)
+pub object_frame : (k : ObjKind) (framed : List ℕ) (o : IsFramed k framed) (w : Word) (body : List ℕ) → framed ≡ frame w body
+    → (w ≡ word_of k) × (body ≡ o.body)
 object_frame k framed o w body e = one_frame_law w (word_of k) body o.body (sym e ∙ o.is)
 
 -- no object fails a test
@@ -40,7 +38,8 @@ no_cause id k framed _ (other_word h d w body e short other) o = other (object_f
 no_cause id k framed _ (no_body h d body e short none) o = none (subst (IsBody k) (sym (object_frame k framed o.object (word_of k) body e).1) o.object.grammar)
 
 -- an answer that names a cause
-pub refused : {T : Type 0} (id : Id) (k : ObjKind) (framed : List ℕ) (c : Cause) (r : Result T Cause) → IsErr r → IsFirstCause id k framed c → IsOk r ↔ IsObject id k framed
+pub refused : {T : Type 0} (id : Id) (k : ObjKind) (framed : List ℕ) (c : Cause) (r : Result T Cause) → IsErr r → IsFirstCause id k framed c
+    → IsOk r ↔ IsObject id k framed
 refused {T} id k framed c r err why = ((λ ok. absurd (neither r err ok)), (λ o. absurd (no_cause id k framed c why o)))
   where
     neither : (r : Result T Cause) → IsErr r → IsOk r → ⊥
@@ -52,7 +51,8 @@ pub whole_frame : (id : Id) (k : ObjKind) (framed body : List ℕ) → IsBodyOf 
 whole_frame id k framed body h = record { body = body; is = h.is; short = h.short; grammar = h.grammar }
 
 -- what is behind the header is the object's body
-pub behind_header : (k : ObjKind) (items framed : List ℕ) (o : IsFramed k items) (n : ℕ) (w : Word) (body : List ℕ) → framed ≡ items → n ≡ length framed → framed ≡ frame w body → drop (n - length body) items ≡ o.body
+pub behind_header : (k : ObjKind) (items framed : List ℕ) (o : IsFramed k items) (n : ℕ) (w : Word) (body : List ℕ) → framed ≡ items
+    → n ≡ length framed → framed ≡ frame w body → drop (n - length body) items ≡ o.body
 behind_header k items framed o n w body same size e =
     let here = drop_frame items w body (sym same ∙ e) in
     let count : n ≡ length items = size ∙ ap length same in
@@ -66,7 +66,8 @@ pub both : (b : Bool) → b ≡ true → b ≡ false → ⊥
 both b p q = cc
 
 -- what the comparison of the digest with the id says
-pub same_digest : (framed found id : List ℕ) (b : Bool) → b ≡ not (bytes_eq found id) → found ≡ sha1 framed → (b ≡ false → sha1 framed ≡ id) × (b ≡ true → sha1 framed ≢ id)
+pub same_digest : (framed found id : List ℕ) (b : Bool) → b ≡ not (bytes_eq found id) → found ≡ sha1 framed
+    → (b ≡ false → sha1 framed ≡ id) × (b ≡ true → sha1 framed ≢ id)
 same_digest framed found id b e is = told (bytes_eq found id) (bytes_eq-Decides found id) e
   where
     told : (same : Bool) → Decides same (found ≡ id) → b ≡ not same → (b ≡ false → sha1 framed ≡ id) × (b ≡ true → sha1 framed ≢ id)
@@ -90,3 +91,11 @@ same_word v w b e = ((λ p. same_true the_type (search rules) v w (positive (sam
     negative : (a : Bool) → not a ≡ true → a ≡ false
     negative true h = cc
     negative false h = refl
+
+-- what is held of the bytes: the body, behind the header
+pub held : (id : Id) (k : ObjKind) (framed items body : List ℕ) (n : ℕ) → IsBodyOf id k framed body → framed ≡ items → n ≡ length framed
+    → IsSound (record { kind = k; bytes = drop (n - length body) items }) × (items ≡ frame (word_of k) (drop (n - length body) items))
+held id k framed items body n h same size =
+    let whole = whole_frame id k items body (subst (λ t. IsBodyOf id k t body) same h) in
+    let behind = behind_header k items framed whole n (word_of k) body same size h.is in
+    (sound_behind k items _ whole behind, whole.is ∙ ap (frame (word_of k)) (sym behind))

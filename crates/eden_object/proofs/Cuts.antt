@@ -50,5 +50,6 @@ cut_here c xs i h e =
     let tail : drop i xs ≡ c ∷ take (length xs - (i + 1)) (drop (i + 1) xs) = cc in
     sym (take-append-drop i xs) ∙ ap (λ r. take i xs ++ r) tail
 
-pub cut_after : (n : ℕ) (xs front rest : List ℕ) → front ≡ take n xs → rest ≡ drop n xs → length rest + n ≡ length xs → (length front ≡ n) × (xs ≡ front ++ rest)
+pub cut_after : (n : ℕ) (xs front rest : List ℕ) → front ≡ take n xs → rest ≡ drop n xs → length rest + n ≡ length xs
+    → (length front ≡ n) × (xs ≡ front ++ rest)
 cut_after n xs front rest p q h = (ap length p ∙ length-take-le n xs (omega arith), sym (take-append-drop n xs) ∙ ap (λ t. t ++ drop n xs) (sym p) ∙ ap (λ t. front ++ t) (sym q))

@@ -1,13 +1,11 @@
 -- Lemmas on how trees are written.
-use Rattle.std.proofs.Common.{◌≡◌, ◌≢◌, ◌↔◌, ◌⊎◌, inl, inr, ℕ, zero, suc, ◌<◌, ◌≤◌, ◌+◌, ◌^◌, Bool, true, false, None, List, [], ◌∷◌, ◌++◌, length, map, get_or, slice_index, sym, ap, ◌∙◌, subst, refl, arith, append_assoc, append-nil}
-use Rattle.std.specs.List.{AllByRecursion, flat_map, sum_by}
+use Rattle.std.proofs.Common.{◌≡◌, ◌≢◌, ◌⊎◌, inl, inr, ℕ, zero, suc, ◌<◌, ◌≤◌, ◌+◌, ◌^◌, true, false, None, List, [], ◌∷◌, ◌++◌, length, map, get_or, slice_index, sym, ap, ◌∙◌, subst, refl, arith, append_assoc, append-nil}
+use Rattle.std.specs.List.{AllByRecursion}
 use Rattle.std.specs.List.Sorted.{IsPermutation, IsSortedBy}
 use Rattle.std.specs.Cmp.Lexicographic.{slice_cmp}
-use Rattle.std.specs.declared.cmp.Ordering.{Ordering}
 use Rattle.std.specs.declared.cmp.Ordering.TheVariants.{Less, Equal, Greater}
 use Rattle.std.specs.Cmp.{nat_cmp_is}
 use Rattle.std.specs.Ordering.{nat_cmp, is_lt, ordering_reverse}
-use Rattle.std.proofs.lemmas.Bool.{cases_order, cases_lt}
 use Rattle.std.proofs.lemmas.Cmp.{nat_cmp_total, nat_list_cmp_total, tied_itself}
 use Rattle.std.proofs.lemmas.List.Concat.{length-flat_map}
 use Rattle.std.proofs.lemmas.Grind.{flat_map-append}
@@ -19,14 +17,15 @@ use Rattle.eden_model.specs.Names.{name_refusal}
 use Rattle.eden_object.specs.Encoding.{entry_text, tree_text, IsEncoded}
 use Rattle.eden_object.specs.declared.word.Word.TheVariants as word
 use Rattle.eden_object.specs.Frames.{frame}
-use Rattle.eden_object.specs.Order.{key_of, key_end, IsBelow, IsOrdered}
-use Rattle.eden_object.specs.Trees.{IsEntryText, AreEntries, IsFree, NamesDiffer}
+use Rattle.eden_object.specs.Order.{key_of, IsBelow, IsOrdered}
+use Rattle.eden_object.specs.Trees.{IsEntryText, AreEntries, NamesDiffer}
 use Rattle.eden_object.proofs.CheckLemmas.{both}
 use Rattle.eden_object.proofs.OrderLemmas.{Shares, shared_of, stand, below_on}
 use Rattle.eden_object.proofs.SortLemmas.{bytes_eq-flips, names_distinct}
 
 -- one entry more
-pub entries_push : (es : List TreeEntry) (body : List ℕ) (e : TreeEntry) (text : List ℕ) → AreEntries es body → IsEntryText e text → AreEntries (es ++ e ∷ []) (body ++ text)
+pub entries_push : (es : List TreeEntry) (body : List ℕ) (e : TreeEntry) (text : List ℕ) → AreEntries es body → IsEntryText e text
+    → AreEntries (es ++ e ∷ []) (body ++ text)
 entries_push [] body e text h t = (text, [], t, refl, rw h (sym (append-nil text)))
 entries_push (d ∷ es) body e text h t = (h.0, h.1 ++ text, h.2, entries_push es h.1 e text h.3 t, ap (λ b. b ++ text) h.4 ∙ append_assoc h.0 h.1 text)
 
@@ -45,7 +44,8 @@ same_differ es fs p h =
 
 -- ---- the order of keys
 
-less_from : (n : ℕ) (xs ys : List ℕ) → ((i : ℕ) → i < n → slice_index xs i ≡ slice_index ys i) → slice_index xs n < slice_index ys n → slice_cmp nat_cmp xs ys ≡ Less
+less_from : (n : ℕ) (xs ys : List ℕ) → ((i : ℕ) → i < n → slice_index xs i ≡ slice_index ys i) → slice_index xs n < slice_index ys n
+    → slice_cmp nat_cmp xs ys ≡ Less
 less_from n xs [] same less = absurd (omega arith)
 less_from n [] (y ∷ ys) same less = refl
 less_from zero (x ∷ xs) (y ∷ ys) same less = let first = nat_cmp_is x y Less less in cc
@@ -71,7 +71,8 @@ compare_keys d e n good fine s = elim (stand d e n good fine s) [
 ]
 
 -- of two names that differ the first is before the second, where the second isn't before the first
-pub next_below : (d e : TreeEntry) → name_refusal d.name ≡ None → name_refusal e.name ≡ None → d.name ≢ e.name → is_lt (slice_cmp nat_cmp (key_of e) (key_of d)) ≡ false → IsBelow (key_of d) (key_of e)
+pub next_below : (d e : TreeEntry) → name_refusal d.name ≡ None → name_refusal e.name ≡ None → d.name ≢ e.name
+    → is_lt (slice_cmp nat_cmp (key_of e) (key_of d)) ≡ false → IsBelow (key_of d) (key_of e)
 next_below d e good fine other up =
     let shared = shared_of d.name e.name in
     elim (stand d e shared.0 good fine shared.1) [
@@ -81,7 +82,8 @@ next_below d e good fine other up =
     ]
 
 -- what is sorted by its keys, without equal names, is in Git's order
-pub ordered : {X : Type 0} (entry : X → TreeEntry) (xs : List X) (body : List ℕ) → IsSortedBy (λ a b. is_lt (slice_cmp nat_cmp (key_of (entry a)) (key_of (entry b)))) xs
+pub ordered : {X : Type 0} (entry : X → TreeEntry) (xs : List X) (body : List ℕ)
+    → IsSortedBy (λ a b. is_lt (slice_cmp nat_cmp (key_of (entry a)) (key_of (entry b)))) xs
     → AreEntries (map entry xs) body → NamesDiffer (map entry xs) → IsOrdered (map entry xs)
 ordered entry [] body up h p = tt
 ordered entry (x ∷ []) body up h p = (tt, tt)
@@ -118,7 +120,8 @@ all_from e [] h = tt
 all_from e (f ∷ fs) h = (inr h.0, all_from e fs h.1)
 
 -- the others, where the first is the same
-others : (P : TreeEntry → Type 0) (e : TreeEntry) (es : List TreeEntry) → AllByRecursion (λ f. IsBelow (key_of e) (key_of f)) es → AllByRecursion (λ f. (f ≡ e) ⊎ P f) es → AllByRecursion P es
+others : (P : TreeEntry → Type 0) (e : TreeEntry) (es : List TreeEntry) → AllByRecursion (λ f. IsBelow (key_of e) (key_of f)) es
+    → AllByRecursion (λ f. (f ≡ e) ⊎ P f) es → AllByRecursion P es
 others P e [] up h = tt
 others P e (f ∷ fs) up h = (elim h.0 [ inl same ↦ absurd (never_below (key_of e) (subst (λ g. IsBelow (key_of e) (key_of g)) same up.0)) | inr p ↦ p ], others P e fs up.1 h.1)
 

@@ -64,7 +64,8 @@ one_frame_law v w a b h =
     (one_word v w words.0, (one_cut 0 (decimal (length a)) a (decimal (length b)) b (decimal_lacks (length a)) (decimal_lacks (length b)) words.1).1)
 
 -- the word and the length of a frame, where its bytes are cut at the space
-pub frame_cut : (framed text rest : List ℕ) (w : Word) (body : List ℕ) → Lacks 32 text → framed ≡ text ++ 32 ∷ rest → framed ≡ frame w body → (text ≡ word_text w) × (rest ≡ decimal (length body) ++ 0 ∷ body)
+pub frame_cut : (framed text rest : List ℕ) (w : Word) (body : List ℕ) → Lacks 32 text → framed ≡ text ++ 32 ∷ rest → framed ≡ frame w body
+    → (text ≡ word_text w) × (rest ≡ decimal (length body) ++ 0 ∷ body)
 frame_cut framed text rest w body lacks cut e = one_cut 32 text rest (word_text w) (decimal (length body) ++ 0 ∷ body) lacks (word_lacks w) (sym cut ∙ e ∙ frame_is w body)
 
 -- the body stands at the end of its frame

@@ -10,7 +10,8 @@ abbrev pub Carries : (List TreeEntry → Type 0) → List ℕ → List ℕ → T
 Carries P body rest = (es : List TreeEntry) → AreEntries es body → (fs : List TreeEntry) × AreEntries fs rest × (P es ↔ P fs)
 
 -- one entry further
-pub carries_on : (P : List TreeEntry → Type 0) (e : TreeEntry) (body rest more : List ℕ) → Carries P body rest → BeginsWith e rest more → ((fs : List TreeEntry) → AreEntries fs more → P (e ∷ fs) ↔ P fs) → Carries P body more
+pub carries_on : (P : List TreeEntry → Type 0) (e : TreeEntry) (body rest more : List ℕ) → Carries P body rest → BeginsWith e rest more
+    → ((fs : List TreeEntry) → AreEntries fs more → P (e ∷ fs) ↔ P fs) → Carries P body more
 carries_on P e body rest more inv b step = λ es h.
     let at = inv es h in
     let behind = behind_entry e at.0 rest more b at.1 in
@@ -24,14 +25,16 @@ carries_on P e body rest more inv b step = λ es h.
     )
 
 -- an entry that the property excludes
-pub carries_no : (P : List TreeEntry → Type 0) (e : TreeEntry) (body rest more : List ℕ) → Carries P body rest → BeginsWith e rest more → ((fs : List TreeEntry) → AreEntries fs more → P (e ∷ fs) → ⊥) → (es : List TreeEntry) → AreEntries es body → P es → ⊥
+pub carries_no : (P : List TreeEntry → Type 0) (e : TreeEntry) (body rest more : List ℕ) → Carries P body rest → BeginsWith e rest more
+    → ((fs : List TreeEntry) → AreEntries fs more → P (e ∷ fs) → ⊥) → (es : List TreeEntry) → AreEntries es body → P es → ⊥
 carries_no P e body rest more inv b none es h p =
     let at = inv es h in
     let behind = behind_entry e at.0 rest more b at.1 in
     none behind.0 behind.2 (subst P behind.1 (at.2.0 p))
 
 -- at the end
-pub carries_all : (P : List TreeEntry → Type 0) (body rest : List ℕ) → Carries P body rest → ((e : TreeEntry) (more : List ℕ) → BeginsWith e rest more → ⊥) → P [] → (es : List TreeEntry) → AreEntries es body → P es
+pub carries_all : (P : List TreeEntry → Type 0) (body rest : List ℕ) → Carries P body rest
+    → ((e : TreeEntry) (more : List ℕ) → BeginsWith e rest more → ⊥) → P [] → (es : List TreeEntry) → AreEntries es body → P es
 carries_all P body rest inv none p es h =
     let at = inv es h in
     at.2.1 (subst P (sym (no_entries at.0 rest none at.1)) p)
@@ -40,13 +43,15 @@ carries_all P body rest inv none p es h =
 abbrev pub Gathers : List TreeEntry → List ℕ → List ℕ → Type 0
 Gathers read body rest = (es : List TreeEntry) → AreEntries es body → (fs : List TreeEntry) × AreEntries fs rest × (read ++ fs ≡ es)
 
-pub gathers_on : (read : List TreeEntry) (e : TreeEntry) (body rest more : List ℕ) → Gathers read body rest → BeginsWith e rest more → Gathers (read ++ e ∷ []) body more
+pub gathers_on : (read : List TreeEntry) (e : TreeEntry) (body rest more : List ℕ) → Gathers read body rest → BeginsWith e rest more
+    → Gathers (read ++ e ∷ []) body more
 gathers_on read e body rest more inv b = λ es h.
     let at = inv es h in
     let behind = behind_entry e at.0 rest more b at.1 in
     (behind.0, behind.2, append_assoc read (e ∷ []) behind.0 ∙ ap (λ fs. read ++ fs) (sym behind.1) ∙ at.2)
 
-pub gathers_all : (read : List TreeEntry) (body rest : List ℕ) → Gathers read body rest → ((e : TreeEntry) (more : List ℕ) → BeginsWith e rest more → ⊥) → (es : List TreeEntry) → AreEntries es body → read ≡ es
+pub gathers_all : (read : List TreeEntry) (body rest : List ℕ) → Gathers read body rest
+    → ((e : TreeEntry) (more : List ℕ) → BeginsWith e rest more → ⊥) → (es : List TreeEntry) → AreEntries es body → read ≡ es
 gathers_all read body rest inv none es h =
     let at = inv es h in
     sym (append-nil read) ∙ ap (λ fs. read ++ fs) (sym (no_entries at.0 rest none at.1)) ∙ at.2

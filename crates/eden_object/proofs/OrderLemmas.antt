@@ -22,7 +22,8 @@ pub record IsPast (name key : List ℕ) : Type 0 where
 pub key_front : (e : TreeEntry) (i : ℕ) → i < length e.name → slice_index (key_of e) i ≡ slice_index e.name i
 key_front e i h = get_or_append_left e.name (key_end e.mode) 0 i h
 
-pub is_past : (name : List ℕ) (e : TreeEntry) (n : ℕ) → n < length name → n ≤ length e.name → ((i : ℕ) → i < n → slice_index name i ≡ slice_index e.name i) → slice_index name n < slice_index (key_of e) n → IsPast name (key_of e)
+pub is_past : (name : List ℕ) (e : TreeEntry) (n : ℕ) → n < length name → n ≤ length e.name
+    → ((i : ℕ) → i < n → slice_index name i ≡ slice_index e.name i) → slice_index name n < slice_index (key_of e) n → IsPast name (key_of e)
 is_past name e n inside short same less =
     record {
       below = record { shared = n; same = λ i h. same i h ∙ sym (key_front e i (omega arith)); smaller = less };
@@ -130,7 +131,8 @@ marks_start k h = record {
   within = λ n m. let same = only k n m in omega arith;
 }
 
-pub stands_start : (first : TreeEntry) (body rest : List ℕ) → length first.name ≤ 255 → BeginsWith first body rest → Stands (set (replicate 256 false) (length first.name) true) first body rest
+pub stands_start : (first : TreeEntry) (body rest : List ℕ) → length first.name ≤ 255 → BeginsWith first body rest
+    → Stands (set (replicate 256 false) (length first.name) true) first body rest
 stands_start first body rest short b = λ es h.
     let behind = behind_entry first es body rest b h in
     let own : slice_index_or (set (replicate 256 false) (length first.name) true) (length first.name) false ≡ true = get_or-set_same (replicate 256 false) (length first.name) true false (let size = length-replicate 256 false in omega arith) in (
@@ -168,7 +170,8 @@ pub record IsStep (old new : List Bool) (last next : TreeEntry) (shared : ℕ) :
   pub above : (n : ℕ) → length last.name < n → n ≢ length next.name → slice_index_or new n false ≡ slice_index_or old n false
 
 -- a new mark is the next name's or an old one
-pub marked : (old new : List Bool) (last next : TreeEntry) (shared : ℕ) → IsStep old new last next shared → (n : ℕ) → n ≢ length next.name → slice_index_or new n false ≡ true → (n ≤ shared) × (slice_index_or old n false ≡ true)
+pub marked : (old new : List Bool) (last next : TreeEntry) (shared : ℕ) → IsStep old new last next shared → (n : ℕ) → n ≢ length next.name
+    → slice_index_or new n false ≡ true → (n ≤ shared) × (slice_index_or old n false ≡ true)
 marked old new last next shared s n other m = go (cases_lt (length last.name) n)
   where
     go : (length last.name < n) ⊎ (n ≤ length last.name) → (n ≤ shared) × (slice_index_or old n false ≡ true)
@@ -195,21 +198,26 @@ below old new last next shared s = record {
 }
 
 -- a front that is longer than what they share is past
-front_past : (old new : List Bool) (last next : TreeEntry) (shared : ℕ) → IsStep old new last next shared → (n : ℕ) → shared < n → n ≤ length last.name → IsPast (take n last.name) (key_of next)
+front_past : (old new : List Bool) (last next : TreeEntry) (shared : ℕ) → IsStep old new last next shared → (n : ℕ) → shared < n
+    → n ≤ length last.name → IsPast (take n last.name) (key_of next)
 front_past old new last next shared s n far within =
     is_past (take n last.name) next shared (let long = length-take-le n last.name within in omega arith) s.second
     (λ i h. get_or-take n last.name i 0 (omega arith) ∙ s.same i h)
     (let here = get_or-take n last.name shared 0 far in let key = key_front last shared (omega arith) in let less = s.smaller in omega arith)
 
 -- the next entry's name isn't marked, so no marked name is it
-front_other : (old new : List Bool) (last next : TreeEntry) (shared : ℕ) → IsStep old new last next shared → (shared ≡ length next.name → slice_index_or old shared false ≡ false) → (n : ℕ) → n ≤ shared → slice_index_or old n false ≡ true → next.name ≢ take n last.name
+front_other : (old new : List Bool) (last next : TreeEntry) (shared : ℕ) → IsStep old new last next shared
+    → (shared ≡ length next.name → slice_index_or old shared false ≡ false) → (n : ℕ) → n ≤ shared → slice_index_or old n false ≡ true
+    → next.name ≢ take n last.name
 front_other old new last next shared s not n near m e =
     let long = ap length e ∙ length-take-le n last.name (let first = s.first in omega arith) in
     let second = s.second in
     let end : n ≡ shared = omega arith in
     both true refl (sym m ∙ ap (λ i. slice_index_or old i false) end ∙ not (omega arith))
 
-pub step_on : (old new : List Bool) (last next : TreeEntry) (shared : ℕ) → IsStep old new last next shared → (shared ≡ length next.name → slice_index_or old shared false ≡ false) → (es gs : List TreeEntry) → StandsFor old last es (next ∷ gs) → StandsFor new next es gs
+pub step_on : (old new : List Bool) (last next : TreeEntry) (shared : ℕ) → IsStep old new last next shared
+    → (shared ≡ length next.name → slice_index_or old shared false ≡ false) → (es gs : List TreeEntry) → StandsFor old last es (next ∷ gs)
+    → StandsFor new next es gs
 step_on old new last next shared s not es gs st = record {
   order = λ o. (st.order o).1;
   needed = λ p. let g = st.needed p in record { free = λ n m. free g n m (cases_order n (length next.name)); differ = g.differ.1 };
@@ -222,17 +230,21 @@ step_on old new last next shared s not es gs st = record {
     old_free : GoesOn old last (next ∷ gs) → (n : ℕ) → (n ≤ shared) × (slice_index_or old n false ≡ true) → IsFree (take n next.name) gs
     old_free g n m = subst (λ t. IsFree t gs) (take_same n last.name next.name (let first = s.first in let near = m.0 in omega arith) (let second = s.second in let near = m.0 in omega arith) (λ i h. s.same i (let near = m.0 in omega arith))) (g.free n m.1).1
 
-    free : GoesOn old last (next ∷ gs) → (n : ℕ) → slice_index_or new n false ≡ true → (n ≡ length next.name) ⊎ ((n < length next.name) ⊎ (length next.name < n)) → IsFree (take n next.name) gs
+    free : GoesOn old last (next ∷ gs) → (n : ℕ) → slice_index_or new n false ≡ true
+        → (n ≡ length next.name) ⊎ ((n < length next.name) ⊎ (length next.name < n)) → IsFree (take n next.name) gs
     free g n m (inl same) = subst (λ t. IsFree t gs) (sym (take_all n next.name (omega arith))) g.differ.0
     free g n m (inr (inl less)) = old_free g n (marked old new last next shared s n (omega arith) m)
     free g n m (inr (inr more)) = old_free g n (marked old new last next shared s n (omega arith) m)
 
-    all : IsOrdered (next ∷ gs) → GoesOn new next gs → (n : ℕ) → slice_index_or old n false ≡ true → (shared < n) ⊎ (n ≤ shared) → IsFree (take n last.name) (next ∷ gs)
+    all : IsOrdered (next ∷ gs) → GoesOn new next gs → (n : ℕ) → slice_index_or old n false ≡ true → (shared < n) ⊎ (n ≤ shared)
+        → IsFree (take n last.name) (next ∷ gs)
     all o g n m (inl far) = past_free (take n last.name) next gs o (front_past old new last next shared s n far (s.marks.within n m))
     all o g n m (inr near) = (front_other old new last next shared s not n near m, subst (λ t. IsFree t gs) (sym (take_same n last.name next.name (let first = s.first in omega arith) (let second = s.second in omega arith) (λ i h. s.same i (omega arith)))) (g.free n (s.kept n near m)))
 
 -- a name that is marked and comes again
-pub comes_again : (fronts : List Bool) (last next : TreeEntry) (shared : ℕ) (es gs : List TreeEntry) → StandsFor fronts last es (next ∷ gs) → shared ≤ length last.name → shared ≡ length next.name → ((i : ℕ) → i < shared → slice_index last.name i ≡ slice_index next.name i) → slice_index_or fronts shared false ≡ true → NamesDiffer es → ⊥
+pub comes_again : (fronts : List Bool) (last next : TreeEntry) (shared : ℕ) (es gs : List TreeEntry) → StandsFor fronts last es (next ∷ gs)
+    → shared ≤ length last.name → shared ≡ length next.name → ((i : ℕ) → i < shared → slice_index last.name i ≡ slice_index next.name i)
+    → slice_index_or fronts shared false ≡ true → NamesDiffer es → ⊥
 comes_again fronts last next shared es gs st first whole same m p =
     ((st.needed p).free shared m).0 (sym (take_all shared next.name (omega arith)) ∙ sym (take_same shared last.name next.name first (omega arith) same))
 
@@ -246,7 +258,8 @@ lacks_at c (x ∷ xs) zero p h e = p.0 e
 lacks_at c (x ∷ xs) (suc i) p h e = lacks_at c xs i p.1 (omega arith) e
 
 -- a byte of a name is none that stands behind one
-inside_end : (name : List ℕ) (byte n : ℕ) → name_refusal name ≡ None → n < length name → byte ≡ slice_index name n → {other : ℕ} → (other ≡ 0) ⊎ (other ≡ 47) → byte ≡ other → ⊥
+inside_end : (name : List ℕ) (byte n : ℕ) → name_refusal name ≡ None → n < length name → byte ≡ slice_index name n → {other : ℕ}
+    → (other ≡ 0) ⊎ (other ≡ 47) → byte ≡ other → ⊥
 inside_end name byte n good h is (inl zero_byte) e = lacks_at 0 name n (name_lacks name good).1 h (sym is ∙ e ∙ zero_byte)
 inside_end name byte n good h is (inr slash) e = lacks_at 47 name n (name_lacks name good).0 h (sym is ∙ e ∙ slash)
 
@@ -262,7 +275,8 @@ end_byte e n at = by_mode e.mode
     by_mode Gitlink = inl (behind_name e.name [] n at)
 
 -- equal names before equal ends are equal keys
-end_same : (d e : TreeEntry) (n : ℕ) → n ≡ length d.name → n ≡ length e.name → d.name ≡ e.name → slice_index (key_of d) n ≡ slice_index (key_of e) n → key_of d ≡ key_of e
+end_same : (d e : TreeEntry) (n : ℕ) → n ≡ length d.name → n ≡ length e.name → d.name ≡ e.name → slice_index (key_of d) n ≡ slice_index (key_of e) n
+    → key_of d ≡ key_of e
 end_same d e n p q same at = ap (λ t. t ++ key_end d.mode) same ∙ ap (λ t. e.name ++ t) (alike (key_end d.mode) (key_end e.mode) (ends d.mode) (ends e.mode) (sym (behind_name d.name (key_end d.mode) n p) ∙ at ∙ behind_name e.name (key_end e.mode) n q))
   where
     ends : (m : Mode) → (key_end m ≡ []) ⊎ (key_end m ≡ 47 ∷ [])
@@ -303,7 +317,8 @@ shared_of (x ∷ xs) (y ∷ ys) = go (cases_order x y) (shared_of xs ys)
     go (inr (inr more)) r = apart (λ e. omega arith)
 
 -- where the names part the keys differ, or they are one
-pub keys_meet : (d e : TreeEntry) (n : ℕ) → name_refusal d.name ≡ None → name_refusal e.name ≡ None → Shares d.name e.name n → slice_index (key_of d) n ≡ slice_index (key_of e) n → (d.name ≡ e.name) × (key_of d ≡ key_of e)
+pub keys_meet : (d e : TreeEntry) (n : ℕ) → name_refusal d.name ≡ None → name_refusal e.name ≡ None → Shares d.name e.name n
+    → slice_index (key_of d) n ≡ slice_index (key_of e) n → (d.name ≡ e.name) × (key_of d ≡ key_of e)
 keys_meet d e n good fine s at = apart (cases_lt n (length d.name)) (cases_lt n (length e.name))
   where
     apart : (n < length d.name) ⊎ (length d.name ≤ n) → (n < length e.name) ⊎ (length e.name ≤ n) → (d.name ≡ e.name) × (key_of d ≡ key_of e)

@@ -15,7 +15,8 @@ use Rattle.eden_object.specs.Rows.{BeginsWith, HasEntries}
 use Rattle.eden_object.proofs.Cuts.{Lacks, one_cut, one_front}
 
 -- a chosen mode
-chosen_lacks : (b : Bool) (t : List ℕ) (m n : Mode) (rest : Option Mode) → (b ≡ true → Lacks 32 t) → (rest ≡ Some n → Lacks 32 t) → cond b (Some m) rest ≡ Some n → Lacks 32 t
+chosen_lacks : (b : Bool) (t : List ℕ) (m n : Mode) (rest : Option Mode) → (b ≡ true → Lacks 32 t) → (rest ≡ Some n → Lacks 32 t)
+    → cond b (Some m) rest ≡ Some n → Lacks 32 t
 chosen_lacks true t m n rest p q h = p refl
 chosen_lacks false t m n rest p q h = q h
 
@@ -65,16 +66,19 @@ begin_is e body rest b =
     ∙ append_assoc b.entry.mode (32 ∷ e.name) (0 ∷ (e.id.bytes ++ rest))
 
 -- the mode and what is behind it, where the body is cut at the space
-pub cut_mode : (e : TreeEntry) (body rest text more : List ℕ) (b : BeginsWith e body rest) → Lacks 32 text → body ≡ text ++ 32 ∷ more → (text ≡ b.entry.mode) × (more ≡ e.name ++ 0 ∷ (e.id.bytes ++ rest))
+pub cut_mode : (e : TreeEntry) (body rest text more : List ℕ) (b : BeginsWith e body rest) → Lacks 32 text → body ≡ text ++ 32 ∷ more
+    → (text ≡ b.entry.mode) × (more ≡ e.name ++ 0 ∷ (e.id.bytes ++ rest))
 cut_mode e body rest text more b lacks cut =
     one_cut 32 text more b.entry.mode (e.name ++ 0 ∷ (e.id.bytes ++ rest)) lacks (spelled_lacks b.entry.mode e.mode b.entry.spelled) (sym cut ∙ begin_is e body rest b)
 
 -- the name and what is behind it, where that is cut at the NUL
-pub cut_name : (e : TreeEntry) (body rest : List ℕ) (b : BeginsWith e body rest) (name more : List ℕ) → Lacks 0 name → e.name ++ 0 ∷ (e.id.bytes ++ rest) ≡ name ++ 0 ∷ more → (name ≡ e.name) × (more ≡ e.id.bytes ++ rest)
+pub cut_name : (e : TreeEntry) (body rest : List ℕ) (b : BeginsWith e body rest) (name more : List ℕ) → Lacks 0 name
+    → e.name ++ 0 ∷ (e.id.bytes ++ rest) ≡ name ++ 0 ∷ more → (name ≡ e.name) × (more ≡ e.id.bytes ++ rest)
 cut_name e body rest b name more lacks cut =
     one_cut 0 name more e.name (e.id.bytes ++ rest) lacks (name_lacks e.name b.entry.name).1 (sym cut)
 
-same_entry : (m n : Mode) (x y : List ℕ) (a b : List ℕ) → m ≡ n → x ≡ y → a ≡ b → (let e : TreeEntry = record { mode = m; name = x; id = record { bytes = a } } in e) ≡ (record { mode = n; name = y; id = record { bytes = b } })
+same_entry : (m n : Mode) (x y : List ℕ) (a b : List ℕ) → m ≡ n → x ≡ y → a ≡ b
+    → (let e : TreeEntry = record { mode = m; name = x; id = record { bytes = a } } in e) ≡ (record { mode = n; name = y; id = record { bytes = b } })
 same_entry m n x y a b p q r = cc
 
 -- a body begins with one entry
@@ -97,7 +101,8 @@ pub with_entry : (e : TreeEntry) (es : List TreeEntry) (body rest : List ℕ) �
 with_entry e es body rest b h = (b.text, rest, b.entry, h, b.is)
 
 -- the entries of the rest are those behind the first
-pub behind_entry : (e : TreeEntry) (es : List TreeEntry) (body rest : List ℕ) → BeginsWith e body rest → AreEntries es body → (fs : List TreeEntry) × (es ≡ e ∷ fs) × AreEntries fs rest
+pub behind_entry : (e : TreeEntry) (es : List TreeEntry) (body rest : List ℕ) → BeginsWith e body rest → AreEntries es body
+    → (fs : List TreeEntry) × (es ≡ e ∷ fs) × AreEntries fs rest
 behind_entry e [] body rest b h = let some = begin_longer e body rest b in let none = ap length h in absurd (omega arith)
 behind_entry e (f ∷ fs) body rest b h =
     let other : BeginsWith f body h.1 = record { text = h.0; entry = h.2; is = h.4 } in
@@ -117,7 +122,8 @@ one_list_law (e ∷ es) fs body h k =
     ap (λ x. e ∷ x) (one_list_law es rest.0 h.1 h.3 rest.2) ∙ sym rest.1
 
 -- an entry from its parts
-pub begin_from : (m : Mode) (t name id body r s rest : List ℕ) → spelled_mode t ≡ Some m → name_refusal name ≡ None → length id ≡ 20 → body ≡ t ++ 32 ∷ r → r ≡ name ++ 0 ∷ s → s ≡ id ++ rest → BeginsWith (record { mode = m; name = name; id = record { bytes = id } }) body rest
+pub begin_from : (m : Mode) (t name id body r s rest : List ℕ) → spelled_mode t ≡ Some m → name_refusal name ≡ None → length id ≡ 20
+    → body ≡ t ++ 32 ∷ r → r ≡ name ++ 0 ∷ s → s ≡ id ++ rest → BeginsWith (record { mode = m; name = name; id = record { bytes = id } }) body rest
 begin_from m t name id body r s rest spelled good size p q h =
     record {
       text = t ++ 32 ∷ name ++ 0 ∷ id;
@@ -147,7 +153,8 @@ no_entries [] body none h = refl
 no_entries (e ∷ es) body none h = absurd (none e h.1 (record { text = h.0; entry = h.2; is = h.4 }))
 
 -- where no entry begins, the bytes are entries exactly if there are none
-pub entries_end : (rest : List ℕ) (b : Bool) → b ≡ (length rest == 0) → ((e : TreeEntry) (more : List ℕ) → BeginsWith e rest more → ⊥) → (b ≡ true) ↔ HasEntries rest
+pub entries_end : (rest : List ℕ) (b : Bool) → b ≡ (length rest == 0) → ((e : TreeEntry) (more : List ℕ) → BeginsWith e rest more → ⊥)
+    → (b ≡ true) ↔ HasEntries rest
 entries_end [] b e none = ((λ t. ([], refl)), (λ h. e))
 entries_end (x ∷ xs) b e none = ((λ t. let short = (Decides-eqb (length (x ∷ xs)) 0).0 (sym e ∙ t) in absurd (omega arith)), (λ h. absurd (entries_nowhere (x ∷ xs) (omega arith) none h)))
 

@@ -69,7 +69,8 @@ module _ {X : Type 0} (key : X → List ℕ) where
       far i j d less within = told i j d less within (alike (get_or xs i d) (get_or xs j d)) refl
 
   -- no element is alike the one before it
-  pub alike_apart : (xs : List X) (i : ℕ) (x y : X) → 0 < i → i < length xs → x ≡ get_or xs (i - 1) x → y ≡ get_or xs i y → alike x y ≡ true → IsDistinct alike xs → ⊥
+  pub alike_apart : (xs : List X) (i : ℕ) (x y : X) → 0 < i → i < length xs → x ≡ get_or xs (i - 1) x → y ≡ get_or xs i y → alike x y ≡ true
+      → IsDistinct alike xs → ⊥
   alike_apart xs i x y some within here next e h =
       let apart = apart_from_distinct alike xs (i - 1) i x h (omega arith) within in
       let same : get_or xs i y ≡ get_or xs i x = get_or_default xs i y x within in
@@ -89,7 +90,8 @@ module _ {X : Type 0} (key : X → List ℕ) where
       let first = free es xs e.name x head tail in
       ((λ p. (first.0 p.0, rest.0 p.1)), (λ p. (first.1 p.0, rest.1 p.1)))
     where
-      free : (es : List TreeEntry) (xs : List X) (n : List ℕ) (y : X) → key y ≡ n → map key xs ≡ map (λ e. e.name) es → IsFree n es ↔ AllByRecursion (λ x. alike y x ≡ false) xs
+      free : (es : List TreeEntry) (xs : List X) (n : List ℕ) (y : X) → key y ≡ n → map key xs ≡ map (λ e. e.name) es
+          → IsFree n es ↔ AllByRecursion (λ x. alike y x ≡ false) xs
       free [] [] n y is h = ((λ p. tt), (λ p. tt))
       free [] (x ∷ xs) n y is h = cc
       free (e ∷ es) [] n y is h = cc
@@ -104,13 +106,15 @@ module _ {X : Type 0} (key : X → List ℕ) where
 abbrev pub GathersNames : List (List ℕ) → List ℕ → List ℕ → Type 0
 GathersNames read body rest = (es : List TreeEntry) → AreEntries es body → (fs : List TreeEntry) × AreEntries fs rest × (read ++ map (λ e. e.name) fs ≡ map (λ e. e.name) es)
 
-pub names_on : (read : List (List ℕ)) (e : TreeEntry) (body rest more : List ℕ) → GathersNames read body rest → BeginsWith e rest more → GathersNames (read ++ e.name ∷ []) body more
+pub names_on : (read : List (List ℕ)) (e : TreeEntry) (body rest more : List ℕ) → GathersNames read body rest → BeginsWith e rest more
+    → GathersNames (read ++ e.name ∷ []) body more
 names_on read e body rest more inv b = λ es h.
     let at = inv es h in
     let behind = behind_entry e at.0 rest more b at.1 in
     (behind.0, behind.2, append_assoc read (e.name ∷ []) (map (λ e. e.name) behind.0) ∙ ap (λ fs. read ++ map (λ e. e.name) fs) (sym behind.1) ∙ at.2)
 
-pub names_all : (read : List (List ℕ)) (body rest : List ℕ) → GathersNames read body rest → ((e : TreeEntry) (more : List ℕ) → BeginsWith e rest more → ⊥) → (es : List TreeEntry) → AreEntries es body → read ≡ map (λ e. e.name) es
+pub names_all : (read : List (List ℕ)) (body rest : List ℕ) → GathersNames read body rest
+    → ((e : TreeEntry) (more : List ℕ) → BeginsWith e rest more → ⊥) → (es : List TreeEntry) → AreEntries es body → read ≡ map (λ e. e.name) es
 names_all read body rest inv none es h =
     let at = inv es h in
     sym (append-nil read) ∙ ap (λ fs. read ++ map (λ e. e.name) fs) (sym (no_entries at.0 rest none at.1)) ∙ at.2

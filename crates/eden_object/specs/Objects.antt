@@ -42,10 +42,14 @@ pub record IsBodyOf (id : Id) (k : ObjKind) (framed body : List ℕ) : Type 0 wh
 pub data IsFirstCause (id : Id) (k : ObjKind) (framed : List ℕ) : Cause → Type 0 where
   too_many_bytes : 2 ^ 30 + 16 < length framed → IsFirstCause id k framed cause.TooLarge
   other_digest : length framed ≤ 2 ^ 30 + 16 → sha1 framed ≢ id.bytes → IsFirstCause id k framed cause.BadDigest
-  no_frame : length framed ≤ 2 ^ 30 + 16 → sha1 framed ≡ id.bytes → ((w : Word) (body : List ℕ) → framed ≢ frame w body) → IsFirstCause id k framed cause.Malformed
-  too_long_body : length framed ≤ 2 ^ 30 + 16 → sha1 framed ≡ id.bytes → (w : Word) (body : List ℕ) → framed ≡ frame w body → 2 ^ 30 < length body → IsFirstCause id k framed cause.TooLarge
-  other_word : length framed ≤ 2 ^ 30 + 16 → sha1 framed ≡ id.bytes → (w : Word) (body : List ℕ) → framed ≡ frame w body → length body ≤ 2 ^ 30 → w ≢ word_of k → IsFirstCause id k framed cause.WrongKind
-  no_body : length framed ≤ 2 ^ 30 + 16 → sha1 framed ≡ id.bytes → (body : List ℕ) → framed ≡ frame (word_of k) body → length body ≤ 2 ^ 30 → (IsBody k body → ⊥) → IsFirstCause id k framed cause.Malformed
+  no_frame : length framed ≤ 2 ^ 30 + 16 → sha1 framed ≡ id.bytes → ((w : Word) (body : List ℕ) → framed ≢ frame w body)
+      → IsFirstCause id k framed cause.Malformed
+  too_long_body : length framed ≤ 2 ^ 30 + 16 → sha1 framed ≡ id.bytes → (w : Word) (body : List ℕ) → framed ≡ frame w body → 2 ^ 30 < length body
+      → IsFirstCause id k framed cause.TooLarge
+  other_word : length framed ≤ 2 ^ 30 + 16 → sha1 framed ≡ id.bytes → (w : Word) (body : List ℕ) → framed ≡ frame w body → length body ≤ 2 ^ 30
+      → w ≢ word_of k → IsFirstCause id k framed cause.WrongKind
+  no_body : length framed ≤ 2 ^ 30 + 16 → sha1 framed ≡ id.bytes → (body : List ℕ) → framed ≡ frame (word_of k) body → length body ≤ 2 ^ 30
+      → (IsBody k body → ⊥) → IsFirstCause id k framed cause.Malformed
 
 -- Bytes that came for an id agree with the repository: where their SHA-1 is the id, they are what it has under the id.
 pub record IsHonest (R : Repository) (id : Id) (framed : List ℕ) : Type 0 where

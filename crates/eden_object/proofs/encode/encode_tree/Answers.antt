@@ -1,4 +1,4 @@
-use Rattle.std.proofs.Common.{List, map, sym, ap, ◌∙◌, subst}
+use Rattle.std.proofs.Common.{map, sym, ap, ◌∙◌, subst}
 use Rattle.std.specs.List.Sorted.{IsPermutation, IsSortedBy}
 use Rattle.std.specs.Cmp.Lexicographic.{slice_cmp}
 use Rattle.std.specs.Ordering.{is_lt, nat_cmp}

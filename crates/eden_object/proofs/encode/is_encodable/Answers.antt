@@ -1,5 +1,5 @@
-use Rattle.std.proofs.Common.{◌≡◌, ◌++◌, ◌∷◌, [], length, map, take, length-append, sym, ap, ◌∙◌, subst, arith}
-use Rattle.std.proofs.lemmas.List.{map_push, map_more, take_more, take_all}
+use Rattle.std.proofs.Common.{◌++◌, ◌∷◌, [], length, map, take, length-append, sym, ap, ◌∙◌, arith}
+use Rattle.std.proofs.lemmas.List.{map_push, take_more, take_all}
 use Rattle.std.proofs.lemmas.List.Folds.{length-flat_map-take}
 use Rattle.eden_object.specs.Encoding.{entry_text, tree_text}
 use Rattle.eden_object.proofs.EncodeLemmas.{text_push}

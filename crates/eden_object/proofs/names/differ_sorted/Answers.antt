@@ -1,5 +1,4 @@
-use Rattle.std.proofs.Common.{◌≡◌, ◌-◌, ◌+◌, ◌<◌, List, length, false, sym, ap, ◌∙◌, subst, refl, arith}
-use Rattle.std.specs.Str.{bytes_eq}
+use Rattle.std.proofs.Common.{sym, ◌∙◌, refl, arith}
 use Rattle.std.proofs.lemmas.List.Sorted.{IsPermutation-sym}
 use Rattle.std.proofs.lemmas.Map.Keys.{IsDistinct-IsPermutation}
 use Rattle.eden_object.proofs.SortLemmas.{sorted_distinct, bytes_eq-flips, alike_apart}
@@ -8,7 +7,9 @@ use Rattle.eden_object.proofs.names.differ_sorted.Goals as goal
 pub returns-then-eq : goal.returns-then-eq
 returns-then-eq c = (
   (λ e. cc),
-  (λ h. absurd (alike_apart (λ n. n.now) c.sort_unstable.new.self.items c.pairs.i c.index.result.now c.index-in-pairs.result.now (omega arith) (omega arith) c.index.ensures c.index-in-pairs.ensures (sym c.eq.ensures ∙ c.if-eq.true)
+  (λ h.
+      let apart = alike_apart (λ n. n.now) c.sort_unstable.new.self.items c.pairs.i c.index.result.now c.index-in-pairs.result.now in
+      absurd (apart (omega arith) (omega arith) c.index.ensures c.index-in-pairs.ensures (sym c.eq.ensures ∙ c.if-eq.true)
       (IsDistinct-IsPermutation _ (λ m n. bytes_eq-flips m.now n.now) _ _ c.sort_unstable.ensures.permutation h))),
 )
 

@@ -18,4 +18,6 @@ returns c =
     let good = ap (λ e. name_refusal e.name) c.of-a.ensures.entry ∙ c.of-a.ensures.named in
     let fine = ap (λ e. name_refusal e.name) c.of-b.ensures.entry ∙ c.of-b.ensures.named in
     let bytes : c.cmp.result ≡ nat_cmp (slice_index (key_of a) n) (slice_index (key_of b) n) = cc (c.cmp.ensures, c.key_byte.ensures, c.key_byte-2.ensures) in
-    bytes ∙ compare_keys a b n good fine shares ∙ ap (λ e. slice_cmp nat_cmp (key_of e) (key_of b)) c.of-a.ensures.entry ∙ ap (λ e. slice_cmp nat_cmp (key_of c.args.a.now) (key_of e)) c.of-b.ensures.entry
+    let keys = compare_keys a b n good fine shares in
+    let first = ap (λ e. slice_cmp nat_cmp (key_of e) (key_of b)) c.of-a.ensures.entry in
+    bytes ∙ keys ∙ first ∙ ap (λ e. slice_cmp nat_cmp (key_of c.args.a.now) (key_of e)) c.of-b.ensures.entry

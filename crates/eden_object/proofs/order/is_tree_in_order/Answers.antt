@@ -32,7 +32,7 @@ returns-then-fronts-shared-clause-found c =
     let first = c.if-shared-row.true in (
       (λ e. cc),
       (λ t.
-          let at = stands_next c.rows.fronts last next c.args.body.now c.rows.rest.now c.in-Some-first_row.more.now c.rows.invariant.stands c.in-Some-first_row.ensures t.0 t.1.entries in
+          let at = stands_next c.rows.fronts last next c.args.body.now _ _ c.rows.invariant.stands c.in-Some-first_row.ensures t.0 t.1.entries in
           absurd (comes_again c.rows.fronts last next c.shared_len-shared.result t.0 at.0 at.2 lens.first first lens.same c.if-fronts-shared.true t.1.differ)),
     )
 
@@ -60,7 +60,7 @@ rows-preserved c =
       good = c.in-Some-first_row.ensures.entry.name;
       marks = marks_on c.rows.fronts c.mark_fronts.new.fronts last next shared step;
       stands = λ es h.
-          let at = stands_next c.rows.fronts last next c.args.body.now c.rows.rest.now c.in-Some-first_row.more.now c.rows.invariant.stands c.in-Some-first_row.ensures es h in
+          let at = stands_next c.rows.fronts last next c.args.body.now _ _ c.rows.invariant.stands c.in-Some-first_row.ensures es h in
           let unmarked : shared ≡ length next.name → slice_index_or c.rows.fronts shared false ≡ false = λ whole. elim c.else-shared-row.branch [
             | else-shared-row-via-then-shared-row+else-fronts-shared w ↦ w.if-fronts-shared.false
             | else-shared-row-via-else-shared-row w ↦ absurd (w.if-shared-row.false whole)
@@ -85,7 +85,8 @@ returns-then-key_byte-clause-none c = λ es h o.
     let last = entry_of c.rows.last in
     let next = entry_of c.in-Some-first_row.row in
     let lens = c.shared_len-shared.ensures in
-    let at = stands_next c.rows.fronts last next c.args.body.now c.rows.rest.now c.in-Some-first_row.more.now c.rows.invariant.stands c.in-Some-first_row.ensures es h in
-    let above : slice_index (key_of next) c.shared_len-shared.result ≤ slice_index (key_of last) c.shared_len-shared.result = let before = c.key_byte.ensures in let after = c.key_byte-in-Some-first_row.ensures in let less = c.if-key_byte.true in omega arith in
+    let at = stands_next c.rows.fronts last next c.args.body.now _ _ c.rows.invariant.stands c.in-Some-first_row.ensures es h in
+    let n = c.shared_len-shared.result in
+    let above : slice_index (key_of next) n ≤ slice_index (key_of last) n = let before = c.key_byte.ensures in let after = c.key_byte-in-Some-first_row.ensures in let less = c.if-key_byte.true in omega arith in
     let shares : Shares last.name next.name c.shared_len-shared.result = record { first = lens.first; second = lens.second; same = lens.same; most = lens.most } in
     not_below last next c.shared_len-shared.result c.rows.invariant.good c.in-Some-first_row.ensures.entry.name shares above (at.2.order o).0
