@@ -1,4 +1,4 @@
-ghost use Rattle.std.specs.Prelude.{◌≡◌, ◌≢◌, Ok, Some, None, IfErr, MatchResult, IsErrAnd};
+ghost use Rattle.std.specs.Prelude.{◌≡◌, ◌≢◌, Ok, Some, None, IfErr, IsErrAnd};
 ghost use Rattle.std.specs.IoError.{error_kind};
 ghost use Rattle.eden_files.specs.Faults.{IsFailure};
 

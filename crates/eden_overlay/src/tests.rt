@@ -112,17 +112,10 @@ fn memory_behaves(rt: HostRuntime) {
     );
 }
 
-// Beside a name that isn't UTF-8.
 #[test]
 fn folder_behaves(rt: HostRuntime) -> Result<(), Fail> {
     let folder = empty_folder(&rt, "overlay-behaves")?;
-    let system = FaultySystem {
-        files: &rt,
-        call: SystemCall::None,
-        kind: ErrorKind::Other,
-        instead: None,
-    };
-    let mut files = FolderFiles::new(system, folder.clone()?);
+    let mut files = FolderFiles::new(&rt, folder.clone()?);
     assert_eq!(rt;
         first_wrong::<Outside, _>(&mut files, rt.alloc(), BEHAVIOUR),
         None
@@ -216,35 +209,54 @@ fn a_missing_folder_fails(rt: HostRuntime) -> Result<(), Fail> {
     Ok(())
 }
 
-// What each call answers that the device fails: no removal, no replacement and no listing is told as done.
-const FAILED: &[(SystemCall, Call)] = &[
-    (SystemCall::Look, Call::Read(5)),
-    (SystemCall::Open, Call::Read(5)),
-    (SystemCall::Read, Call::Read(5)),
-    (SystemCall::Open, Call::Replace(5, b"new")),
-    (SystemCall::Write, Call::Replace(5, b"new")),
-    (SystemCall::Rename, Call::Replace(5, b"new")),
-    (SystemCall::Remove, Call::Remove(5)),
-    (SystemCall::List, Call::List),
+#[derive(Clone, Copy)]
+enum Ask {
+    Read,
+    Replace,
+    Remove,
+    List,
+}
+
+// The fault of that call on file 5.
+fn fault_of<W: World, F: Files<W>>(files: &mut F, alloc: Global, ask: Ask) -> Option<FilesFault> {
+    match ask {
+        Ask::Read => files.read(alloc, 5).err(),
+        Ask::Replace => files.replace(alloc, 5, b"new").err(),
+        Ask::Remove => files.remove(alloc, 5).err(),
+        Ask::List => files.list(alloc).err(),
+    }
+}
+
+// No removal, no replacement and no listing that the device refused is told as done.
+const FAILED: [(SystemCall, Ask); 8] = [
+    (SystemCall::Look, Ask::Read),
+    (SystemCall::Open, Ask::Read),
+    (SystemCall::Read, Ask::Read),
+    (SystemCall::Open, Ask::Replace),
+    (SystemCall::Write, Ask::Replace),
+    (SystemCall::Rename, Ask::Replace),
+    (SystemCall::Remove, Ask::Remove),
+    (SystemCall::List, Ask::List),
 ];
 
 #[test]
 fn a_failing_device_is_told_and_counted(rt: HostRuntime) -> Result<(), Fail> {
+    let alloc = rt.alloc();
     let folder = empty_folder(&rt, "overlay-failing")?;
     let mut sound = FolderFiles::new(&rt, folder.clone()?);
-    sound.replace(rt.alloc(), 5, b"old")?;
-    for (at, (fails, call)) in FAILED.iter().enumerate() {
+    sound.replace(alloc, 5, b"old")?;
+    for (call, ask) in FAILED {
         let system = FaultySystem {
             files: &rt,
-            call: *fails,
+            call,
             kind: ErrorKind::ConnectionReset,
             instead: None,
         };
         let mut files = FolderFiles::new(system, folder.clone()?);
-        assert!(rt; gives::<Outside, _>(&mut files, rt.alloc(), *call, Answer::Device), "{at}");
-        assert_eq!(rt; files.failures(), 1, "{at}");
-        let kept = Answer::Bytes(Some(b"old"));
-        assert!(rt; gives::<Outside, _>(&mut sound, rt.alloc(), Call::Read(5), kept), "{at}");
+        assert!(rt; fault_of(&mut files, alloc, ask) == Some(FilesFault::Device));
+        assert_eq!(rt; files.failures(), 1);
+        let kept = sound.read(alloc, 5)?.ok_or("the file")?;
+        assert!(rt; kept.as_slice() == b"old".as_slice());
     }
     fs::remove_dir_all(&rt, folder.as_path())?;
     Ok(())
