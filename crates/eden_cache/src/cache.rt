@@ -114,8 +114,8 @@ impl<A: Allocator + Clone> ObjectCache<A> {
     /// Keeps an object as the newest, in place of one under the same key; those used longest ago leave until both
     /// bounds hold or it is alone. A blob's length is kept as the newest size, where there is memory for it.
     ///
-    /// The only error is want of memory for the object: it comes back, and nothing has changed. An object whose key is
-    /// there is never refused.
+    /// The only error is want of memory for the object: it comes back, and nothing has changed. Where the key is there,
+    /// there is no error.
     pub fn put(&mut self, key: Key, object: Object) -> Result<(), Object>
         requires kind { object.kind ≡ key.kind }
         ensures objects { OnOk result (KeepsObject self.old key object self.new.objects) }

@@ -1,8 +1,8 @@
 //! Objects that were fetched, and blobs' lengths, kept within bounds: what was used last stays.
 //!
 //! `ObjectCache` holds objects by their keys, at most so many and of at most so many bytes, and lengths of blobs by
-//! their ids, at most so many. Looking up takes no memory, and an object is lent without a copy. Whether an object is
-//! the one that its key names isn't known here: who puts it in has checked it.
+//! their ids, at most so many. Looking up takes no memory, and an object is lent without a copy. Each object is of its
+//! key's kind; whether it is the one that the key names isn't known here: who puts it in has checked it.
 #![tactic(auto)]
 
 mod cache;
