@@ -12,10 +12,9 @@ use eden_files::{FolderFault, Links, entry_in, read_file, remove_file, replace_f
 use eden_model::Outside;
 use std::alloc::{Alloc, AllocError, Global};
 use std::collections::BTreeSet;
-use std::fs;
 use std::marker::Model;
 use std::path::PathBuf;
-use std::rt;
+use std::{fs, rt};
 
 /// The longest file that is read, in bytes: a body of 2^30 bytes and its header.
 pub const LONGEST_FILE: u64 = (1 << 30) + 64;

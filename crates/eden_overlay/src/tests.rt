@@ -241,10 +241,16 @@ fn a_failing_device_is_told_and_counted(rt: HostRuntime) -> Result<(), Fail> {
             instead: None,
         };
         let mut files = FolderFiles::new(system, folder.clone()?);
-        assert!(rt; gives::<Outside, _>(&mut files, rt.alloc(), *call, Answer::Device), "{at}");
+        assert!(rt;
+            gives::<Outside, _>(&mut files, rt.alloc(), *call, Answer::Device),
+            "{at}"
+        );
         assert_eq!(rt; files.failures(), 1, "{at}");
         let kept = Answer::Bytes(Some(b"old"));
-        assert!(rt; gives::<Outside, _>(&mut sound, rt.alloc(), Call::Read(5), kept), "{at}");
+        assert!(rt;
+            gives::<Outside, _>(&mut sound, rt.alloc(), Call::Read(5), kept),
+            "{at}"
+        );
     }
     fs::remove_dir_all(&rt, folder.as_path())?;
     Ok(())

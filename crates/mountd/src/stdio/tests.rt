@@ -33,6 +33,10 @@ impl Source<Outside> for Asked {
 
     ghost failures = { λ _. 0 };
 
+    fn failures(&self) -> u64 {
+        0
+    }
+
     fn fetch(&mut self, alloc: Global, id: Id) -> Result<Vec<u8>, Cause> {
         match self.ids.push(id) {
             Ok(()) => self.objects.fetch(alloc, id),
