@@ -1,3 +1,4 @@
+pub mod CallerLemmas
 pub mod Held
 pub mod Puts
 pub mod Strays

@@ -17,6 +17,11 @@ Explains i value file (get.Damaged refusal) = IsSomeAnd file (λ bytes. Refuses 
 Explains i value file get.Device = Unit {0}
 Explains i value file get.Memory = Unit {0}
 
+-- the numbers that stand for faults of the files
+abbrev pub files_fault_number : FilesFault → ℕ
+files_fault_number files.Device = 1
+files_fault_number files.Memory = 2
+
 -- a fault of the files, and one of a decoder, as a get tells it
 abbrev pub of_files : FilesFault → GetFault
 of_files files.Device = get.Device

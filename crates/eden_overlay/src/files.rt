@@ -1,5 +1,6 @@
 ghost use Rattle.std.specs.Prelude.{◌≡◌, ◌≢◌, Err};
 ghost use Rattle.eden_model.specs.Failures.{one_more};
+ghost use Rattle.eden_overlay.specs.Getting.{files_fault_number};
 ghost use Rattle.eden_overlay.specs.declared.files.FilesFault.TheVariants as fault;
 
 use eden_model::World;
@@ -9,9 +10,21 @@ use std::alloc::{AllocError, AllocFailed, Global};
 #[derive(Clone, Copy, Debug, PartialEq, Eq)]
 pub enum FilesFault {
     /// The device failed.
-    Device = 1,
+    Device,
     /// No memory.
-    Memory = 2,
+    Memory,
+}
+
+impl FilesFault {
+    /// The fault's number: 1 `Device`, 2 `Memory`.
+    pub fn number(self) -> u8
+        ensures { result ≡ files_fault_number self }
+    {
+        match self {
+            FilesFault::Device => 1,
+            FilesFault::Memory => 2,
+        }
+    }
 }
 
 impl From<AllocError> for FilesFault {
