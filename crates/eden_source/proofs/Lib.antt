@@ -1,2 +1,2 @@
-pub mod Fetches
+pub mod CallerLemmas
 pub mod Held

@@ -25,7 +25,7 @@ use Rattle.eden_model.specs.Shown.{Item, Items, Ground, shown, node_of, node_fro
 use Rattle.eden_model.specs.Repository.{Repository, Source, ground_of, item_by, items_of, entry_named, entries_from, content_from, root_of, Whole}
 use Rattle.eden_model.specs.Operations.{Whether, Says, Into, Reads, ReadsLink, kind_of, Lists, IsRising, kind_at, beyond}
 use Rattle.eden_source.specs.Fetching.{Ask, Answer}
-use Rattle.eden_source.proofs.Fetches.{Fetches-none, Fetches-one}
+use Rattle.eden_source.proofs.CallerLemmas.{Fetches-none, Fetches-one}
 use Rattle.mountd.specs.declared.place.Place.{Place}
 use Rattle.mountd.specs.Commit.{At, found, from_kind, from_entry, blob_of, target_of, content_of, tree_of}
 use Rattle.mountd.specs.Serving.{Asked, HasAsked, IsLawful}

@@ -20,7 +20,7 @@ use Rattle.eden_model.specs.Trees.{Name, Path}
 use Rattle.eden_model.specs.Shown.{Item, Items, entry_in, if_dir}
 use Rattle.eden_model.specs.Repository.{Repository, Source, ground_of, item_by, items_of, entry_named, entries_from}
 use Rattle.eden_source.specs.Fetching.{Ask, Answer, Fetches}
-use Rattle.eden_source.proofs.Fetches.{Fetches-none, Fetches-one, Fetches-append}
+use Rattle.eden_source.proofs.CallerLemmas.{Fetches-none, Fetches-one, Fetches-append}
 use Rattle.mountd.specs.declared.place.Place.{Place}
 use Rattle.mountd.specs.Commit.{Found, At, found, from_kind, from_entries, from_entry, EndsWith, tree_of, of_entry, above, IsFront}
 use Rattle.mountd.specs.Serving.{Asked, keys, heard, Failed, HasAsked, IsLawful}

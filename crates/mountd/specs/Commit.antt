@@ -12,7 +12,7 @@ use Rattle.eden_model.specs.declared.request.Request.{Request}
 use Rattle.eden_model.specs.declared.request.Request.TheVariants as ask
 use Rattle.eden_model.specs.Trees.{Name, Path, Reach, Fails, Silent, Absent, Here}
 use Rattle.eden_model.specs.Shown.{Item, Items, Ground, node_of, entry_in}
-use Rattle.eden_model.specs.Repository.{Repository, Source, Object, Empty, ground_of, root_of}
+use Rattle.eden_model.specs.Repository.{Repository, Source, Object, Own, Empty, ground_of, root_of}
 
 -- where a path leads: an error on the way, a directory whose entries are lost, nothing, or an entry
 pub data Found (S : Type 0) : Type 0 where
@@ -64,6 +64,7 @@ EndsWith (At i) e = ⊥
 
 abbrev pub key_of : ObjKind → Source → List Key
 key_of k (Object id) = record { kind = k; id = id } ∷ []
+key_of k (Own number) = []
 key_of k Empty = []
 
 abbrev pub tree_by : Kind → Source → List Key

@@ -1,7 +1,7 @@
 use Rattle.std.proofs.Common.{◌≡◌, [], sym, ap, ◌∙◌, arith}
 use Rattle.eden_model.specs.declared.reply.Reply.TheVariants as say
 use Rattle.eden_model.specs.Repository.{ground_of}
-use Rattle.eden_source.proofs.Fetches.{Fetches-none}
+use Rattle.eden_source.proofs.CallerLemmas.{Fetches-none}
 use Rattle.mountd.specs.Steps.{item_of}
 use Rattle.mountd.proofs.Walking.{no_front}
 use Rattle.mountd.proofs.Replying.{kind_node, kind_looks, serves_stop, serves_at}
