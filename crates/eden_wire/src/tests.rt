@@ -392,15 +392,15 @@ fn spellings_of_requests(rt: HostRuntime) -> Result<(), Fail> {
         (
             b"write /a 7 00ff1a",
             "Write",
-            ", 7, Bytes { items: [0, 255, 26] }",
+            ", 7, Bytes { content: [0, 255, 26] }",
         ),
-        (b"write /a 7 -", "Write", ", 7, Bytes { items: [] }"),
+        (b"write /a 7 -", "Write", ", 7, Bytes { content: [] }"),
         (b"truncate /a 3", "Truncate", ", 3"),
         (b"create /a", "Create", ""),
         (b"setexec /a 0", "SetExec", ", false"),
         (b"setexec /a 1", "SetExec", ", true"),
         (b"mkdir /a", "Mkdir", ""),
-        (b"symlink /a 2e", "Symlink", ", Bytes { items: [46] }"),
+        (b"symlink /a 2e", "Symlink", ", Bytes { content: [46] }"),
         (b"unlink /a", "Unlink", ""),
         (b"rmdir /a", "Rmdir", ""),
         (b"rename /a /", "Rename", ", Path { names: [] }"),
@@ -634,5 +634,48 @@ fn much_data_in_few_writes(rt: HostRuntime) -> Result<(), Fail> {
     assert!(rt; writer.got.ends_with(b"a5a5\n"));
     assert_eq!(rt; writer.got.len(), 131_084);
     assert!(rt; writer.calls < 300);
+    Ok(())
+}
+
+// Counts the requests that reach it, and answers each with the same bytes.
+#[derive(Drop)]
+struct Asked<'a> {
+    count: &'a Cell<u32>,
+    reply: Reply,
+}
+
+impl<'a> Service for Asked<'a> {
+    ghost answers = { λ s q r t. Unit {0} };
+
+    fn call(&mut self, _request: Request) -> Result<&Reply, CallFault> {
+        self.count.set(self.count.get().saturating_add(1));
+        Ok(&self.reply)
+    }
+}
+
+// Every request reaches the service, but none does after a write that failed: each reply here is longer than what a
+// session keeps back.
+#[test]
+fn requests_are_asked_until_a_write_fails(rt: HostRuntime) -> Result<(), Fail> {
+    let alloc = rt.alloc();
+    let mut input = Vec::new(alloc);
+    for _ in 0..50 {
+        input.extend_from_slice(b"read /a 0 65536\n")?;
+    }
+    let long = Vec::from_elem(alloc, 7, 65_536)?;
+    for (bad, asked, ends_well) in [(0, 50, true), (1, 1, false)] {
+        let count = Cell::new(0);
+        let reply = data(alloc, long.as_slice())?;
+        let mut service = Asked {
+            count: &count,
+            reply,
+        };
+        let mut reader = input.as_slice();
+        let mut writer = make_sink(alloc, usize::MAX);
+        writer.bad = bad;
+        let ended = session(alloc, &mut reader, &mut writer, &mut service);
+        assert_eq!(rt; ended.is_ok(), ends_well);
+        assert_eq!(rt; count.get(), asked);
+    }
     Ok(())
 }

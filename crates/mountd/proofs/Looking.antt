@@ -115,6 +115,7 @@ stats_content R place k content h same had = subst (λ (x : Kind). StatsAt R (it
   where
     into : (m : Kind) → (o : Option (List ℕ)) → o ≡ Some content → Into o (λ bytes. say.Stat m (length bytes)) (say.Stat m (length content))
     into m o e = subst (λ (x : Option (List ℕ)). Into x (λ bytes. say.Stat m (length bytes)) (say.Stat m (length content))) (sym e) refl
+
     by : (m : Mode) → HasContent m → StatsAt R (item_by m place.id) (say.Stat (item_by m place.id).kind (length content))
     by mode.File h = into kind.File (R.blob place.id) had
     by mode.Exec h = into kind.Exec (R.blob place.id) had
@@ -131,9 +132,9 @@ lists_nothing R place after limit e = subst (λ (m : Mode). ListsAt R after limi
   where
     rising : IsRising []
     rising = search rules
+
     same : say.Entries [] false ≡ say.Entries (take limit (beyond after [])) (nat_lt limit (length (beyond after [])))
     same = grind arith
-
 
 abbrev pub kind_in : List TreeEntry → Name → Option Kind
 kind_in es n = option_map (λ j. j.kind) (items_of es n)

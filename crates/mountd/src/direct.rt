@@ -12,8 +12,8 @@ ghost use Rattle.mountd.specs.Steps.{Gets, Walks, Looks, IsCopy, IsPage, ReadsAt
 
 use crate::place::Place;
 use eden_model::{
-    Bytes, CallFault, Entries, Errno, Fault, Id, Key, Kind, Listing, Mode, Name, ObjKind, Path, Reply, Request,
-    TreeEntry, World,
+    Bytes, CallFault, Entries, Errno, Fault, Id, Key, Kind, Listing, Mode, Name, ObjKind, Path,
+    Reply, Request, TreeEntry, World,
 };
 use eden_object::Object;
 use eden_source::Source;
@@ -196,12 +196,7 @@ fn read_link_at<W: World, S: Source<W>>(alloc: Global, source: &mut S, place: Pl
 }
 
 // The target of a link.
-fn read_link<W: World, S: Source<W>>(
-    alloc: Global,
-    source: &mut S,
-    root: Id,
-    path: &Path,
-) -> Reply
+fn read_link<W: World, S: Source<W>>(alloc: Global, source: &mut S, root: Id, path: &Path) -> Reply
     ensures { Serves S.fetched W.repository W.honest source.old source.new root (ask.ReadLink path.now) result }
 {
     match find::<W, S>(alloc, source, root, path) {

@@ -8,10 +8,10 @@ ghost use Rattle.mountd.specs.CommandLine.{AsksFor, IsTaken, Refuses, mountd_lin
 ghost use Rattle.eden_object.specs.IdText.{IsIdText};
 ghost use Rattle.mountd.specs.declared.options.OptionsError.TheVariants as error;
 
-use eden_object::parse_id;
 use clap::error::ErrorKind;
 use clap::{Arg, ArgMatches};
 use eden_model::Id;
+use eden_object::parse_id;
 use std::alloc::{AllocError, Global};
 use std::convert::AsStr;
 use thiserror::Error;

@@ -1,8 +1,7 @@
 //! Whole sessions, from the lines in to the lines out, over objects in memory.
 use super::*;
-use eden_object::parse_id;
 use eden_model::{Cause, Id, Outside};
-use eden_object::id_of;
+use eden_object::{id_of, parse_id};
 use eden_source::MemorySource;
 use std::process::Abort;
 use std::test::Fail;
