@@ -4,6 +4,7 @@
 
 mod cache;
 mod directory;
+mod lines;
 mod name;
 mod oracle;
 mod overlay;
@@ -17,7 +18,7 @@ use std::{env, io};
 use timing::Timing;
 
 const USAGE: &str =
-    "usage: eden_bench cache|directory|overlay|tree COUNT [timed], or eden_bench oracle";
+    "usage: eden_bench cache|directory|lines|overlay|tree COUNT [timed], or eden_bench oracle";
 
 /// Runs the workload that the words name. False where they name none.
 fn run<R: Print + Clock + AllocGlobal>(rt: &R, words: &[String]) -> io::Result<bool> {
@@ -32,6 +33,7 @@ fn run<R: Print + Clock + AllocGlobal>(rt: &R, words: &[String]) -> io::Result<b
     match name.as_str() {
         "cache" => cache::run(rt, count, timing)?,
         "directory" => directory::run(rt, count, timing)?,
+        "lines" => lines::run(rt, count, timing)?,
         "overlay" => overlay::run(rt, count, timing)?,
         "tree" => tree::run(rt, count, timing)?,
         _ => return Ok(false),

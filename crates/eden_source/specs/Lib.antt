@@ -1,3 +1,4 @@
 pub mod Fetching
 pub mod InMemory
 pub mod InFolder
+pub mod Asking

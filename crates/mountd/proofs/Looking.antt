@@ -28,7 +28,7 @@ use Rattle.eden_source.specs.Fetching.{Ask, Answer}
 use Rattle.eden_source.proofs.CallerLemmas.{Fetches-none, Fetches-one}
 use Rattle.mountd.specs.declared.place.Place.{Place}
 use Rattle.mountd.specs.Commit.{At, found, from_kind, from_entry, blob_of, target_of, content_of, tree_of}
-use Rattle.mountd.specs.Serving.{Asked, HasAsked, IsLawful}
+use Rattle.eden_source.specs.Asking.{Asked, HasAsked, IsLawful}
 use Rattle.mountd.specs.Steps.{Gets, IsLook, Looks, ReadsAt, ListsEntries, ListsBy, ListsAt, StatsAt, ReadsLinkAt, IsCopy, IsPage, item_of}
 use Rattle.mountd.proofs.Walking.{all_front, no_front, front_same}
 use Rattle.mountd.proofs.Replying.{kind_node}

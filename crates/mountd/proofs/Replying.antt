@@ -20,7 +20,8 @@ use Rattle.eden_model.specs.Operations.{Meets, Says, Refuses, Whether, Stats, Re
 use Rattle.eden_source.specs.Fetching.{Ask, Answer}
 use Rattle.mountd.specs.declared.place.Place.{Place}
 use Rattle.mountd.specs.Commit.{Found, Stopped, Lost, Nothing, At, found, reach_of, EndsWith, above, own, along, needed, blob_of, target_of, content_of, tree_of, IsFront}
-use Rattle.mountd.specs.Serving.{Asked, keys, IsServed, most_asks, Serves}
+use Rattle.eden_source.specs.Asking.{Asked, keys}
+use Rattle.mountd.specs.Serving.{IsServed, most_asks, Serves}
 use Rattle.mountd.specs.Steps.{item_of, IsStop, IsLook, Looks, Walks}
 use Rattle.mountd.proofs.Meeting.{reach_found}
 use Rattle.mountd.proofs.Walking.{heard_on, front_append, front_behind, front_same, keys-append, lawful_behind}

@@ -23,7 +23,7 @@ use Rattle.eden_source.specs.Fetching.{Ask, Answer, Fetches}
 use Rattle.eden_source.proofs.CallerLemmas.{Fetches-none, Fetches-one, Fetches-append}
 use Rattle.mountd.specs.declared.place.Place.{Place}
 use Rattle.mountd.specs.Commit.{Found, At, found, from_kind, from_entries, from_entry, EndsWith, tree_of, of_entry, above, IsFront}
-use Rattle.mountd.specs.Serving.{Asked, keys, heard, Failed, HasAsked, IsLawful}
+use Rattle.eden_source.specs.Asking.{Asked, keys, heard, Failed, HasAsked, IsLawful}
 use Rattle.mountd.specs.Steps.{item_of, place_of, Gets, IsStop, Ends, Walks}
 use Rattle.mountd.proofs.Meeting.{found_on, ends_on}
 

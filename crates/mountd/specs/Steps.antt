@@ -21,7 +21,8 @@ use Rattle.eden_object.specs.Trees.{IsTreeBody}
 use Rattle.eden_source.specs.Fetching.{Answer, Fetches}
 use Rattle.mountd.specs.declared.place.Place.{Place}
 use Rattle.mountd.specs.Commit.{found, At, EndsWith, above, IsFront}
-use Rattle.mountd.specs.Serving.{Asked, keys, heard, IsLawful}
+use Rattle.eden_model.specs.Histories.{OrFault}
+use Rattle.eden_source.specs.Asking.{Asked, keys, heard, IsLawful}
 
 abbrev pub item_of : Place → Item Source
 item_of p = item_by p.mode p.id
@@ -58,8 +59,7 @@ module _ {S : Type 0} (fetched : S → Id → Answer → S → Type 0) (R : Repo
 
 -- the reply of a request that looks at what stands at a place: as H says of the entry, or a fault
 abbrev pub IsLook : Type 0 → Place → (Item Source → Reply → Type 0) → List Asked → Reply → Type 0
-IsLook honest place H asks (say.Fault f) = IsLawful asks f
-IsLook honest place H asks r = honest → H (item_of place) r
+IsLook honest place H asks = OrFault (IsLawful asks) (λ r. honest → H (item_of place) r)
 
 module _ {S : Type 0} (fetched : S → Id → Answer → S → Type 0) (R : Repository) (honest : Type 0) where
   -- what stands at a place was looked at, over these objects at most
