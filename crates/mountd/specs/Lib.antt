@@ -1,4 +1,5 @@
 pub mod CommandLine
 pub mod Commit
+pub mod Samples
 pub mod Serving
 pub mod Steps

@@ -25,4 +25,6 @@ pub fn stdio<W: World, S: Source<W> + Drop, R: Read, O: Write>(
 }
 
 #[cfg(test)]
+mod honest;
+#[cfg(test)]
 mod tests;
