@@ -1,6 +1,6 @@
 -- What is looked at where a path leads.
-use Rattle.std.proofs.Common.{◌≡◌, ◌<◌, ◌+◌, ℕ, List, [], ◌∷◌, ◌++◌, length, get_or, take, drop, sym, refl, ◌∙◌, ap, subst, arith, rules, inl, inr, Option, Some, None, Err, Bool, true, false, cond, nat_lt, eqb}
-use Rattle.std.specs.Prelude.{◌⊎◌, if◌then◌else◌, find}
+use Rattle.std.proofs.Common.{◌≡◌, ◌<◌, ◌+◌, ℕ, List, [], ◌∷◌, ◌++◌, length, get_or, take, drop, sym, refl, ◌∙◌, ap, subst, arith, rules, inl, inr, Option, Some, None, Err, Bool, true, false, nat_lt, eqb}
+use Rattle.std.specs.Prelude.{◌⊎◌, if◌then◌else◌}
 use Rattle.std.specs.Option.{option_map, option_and_then, option_or, is_some}
 use Rattle.std.specs.Str.{bytes_eq}
 use Rattle.std.specs.List.Sorted.{IsStrictlySortedBy}
@@ -10,7 +10,6 @@ use Rattle.std.proofs.lemmas.List.Folds.{find-append}
 use Rattle.eden_model.specs.declared.fault.Fault.{Fault}
 use Rattle.eden_model.specs.declared.id.Id.{Id}
 use Rattle.eden_model.specs.declared.id.Key.{Key}
-use Rattle.eden_model.specs.declared.id.ObjKind.{ObjKind}
 use Rattle.eden_model.specs.declared.id.ObjKind.TheVariants as objects
 use Rattle.eden_model.specs.declared.kind.Kind.{Kind}
 use Rattle.eden_model.specs.declared.kind.Kind.TheVariants as kind
@@ -24,7 +23,7 @@ use Rattle.eden_model.specs.Trees.{Name, Path, Tree}
 use Rattle.eden_model.specs.Shown.{Item, Items, Ground, shown, node_of, node_from, if_dir}
 use Rattle.eden_model.specs.Repository.{Repository, Source, ground_of, item_by, items_of, entry_named, entries_from, content_from, root_of, Whole}
 use Rattle.eden_model.specs.Operations.{Whether, Says, Into, Reads, ReadsLink, kind_of, Lists, IsRising, kind_at, beyond}
-use Rattle.eden_source.specs.Fetching.{Ask, Answer}
+use Rattle.eden_source.specs.Fetching.{Answer}
 use Rattle.eden_source.proofs.CallerLemmas.{Fetches-none, Fetches-one}
 use Rattle.mountd.specs.declared.place.Place.{Place}
 use Rattle.mountd.specs.Commit.{At, found, from_kind, from_entry, blob_of, target_of, content_of, tree_of}

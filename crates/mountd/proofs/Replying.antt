@@ -17,7 +17,7 @@ use Rattle.eden_model.specs.Trees.{Name, Path, Reach, reach}
 use Rattle.eden_model.specs.Shown.{Item, Ground, node_of, node_from}
 use Rattle.eden_model.specs.Repository.{Repository, Source, Whole, ground_of, root_of}
 use Rattle.eden_model.specs.Operations.{Meets, Says, Refuses, Whether, Stats, Reads, ReadsLink, Lists, Replies, kind_of}
-use Rattle.eden_source.specs.Fetching.{Ask, Answer}
+use Rattle.eden_source.specs.Fetching.{Answer}
 use Rattle.mountd.specs.declared.place.Place.{Place}
 use Rattle.mountd.specs.Commit.{Found, Stopped, Lost, Nothing, At, found, reach_of, EndsWith, above, own, along, needed, blob_of, target_of, content_of, tree_of, IsFront}
 use Rattle.eden_source.specs.Asking.{Asked, keys}

@@ -1,12 +1,11 @@
 -- What each function behind a request promises of the steps that it takes.
-use Rattle.std.specs.Prelude.{◌≡◌, ◌≤◌, ℕ, List, [], ◌∷◌, length, take, drop, nat_lt, Option, Some, None, Result, Ok, Err, MatchResult}
+use Rattle.std.specs.Prelude.{◌≡◌, ◌≤◌, ℕ, List, [], ◌∷◌, length, take, nat_lt, Option, Some, None, Result, Ok, Err, MatchResult}
 use Rattle.std.specs.Option.{option_map}
 use Rattle.eden_model.specs.declared.errno.Errno.TheVariants.{ENOTDIR}
 use Rattle.eden_model.specs.declared.fault.Fault.{Fault}
 use Rattle.eden_model.specs.declared.fault.Fault.TheVariants as fault
 use Rattle.eden_model.specs.declared.id.Id.{Id}
 use Rattle.eden_model.specs.declared.id.Key.{Key}
-use Rattle.eden_model.specs.declared.id.ObjKind.TheVariants as objects
 use Rattle.eden_model.specs.declared.kind.Kind.{Kind}
 use Rattle.eden_model.specs.declared.kind.Kind.TheVariants as kind
 use Rattle.eden_model.specs.declared.reply.Reply.{Reply}
@@ -16,8 +15,6 @@ use Rattle.eden_model.specs.Trees.{Name, Path}
 use Rattle.eden_model.specs.Shown.{Item, Items, node_of}
 use Rattle.eden_model.specs.Repository.{Repository, Source, ground_of, item_by, entries_from}
 use Rattle.eden_model.specs.Operations.{Reads, Stats, ReadsLink, Refuses, IsRising, kind_at, beyond}
-use Rattle.eden_object.specs.Objects.{Body}
-use Rattle.eden_object.specs.Trees.{IsTreeBody}
 use Rattle.eden_source.specs.Fetching.{Answer, Fetches}
 use Rattle.mountd.specs.declared.place.Place.{Place}
 use Rattle.mountd.specs.Commit.{found, At, EndsWith, above, IsFront}

@@ -1,4 +1,4 @@
-use Rattle.std.proofs.Common.{ℕ, List, [], ◌∷◌, ◌≡◌, ◌∙◌, ap, subst, take, drop}
+use Rattle.std.proofs.Common.{ℕ, List, [], ◌∷◌, ◌∙◌, ap, subst, take, drop}
 use Rattle.eden_model.specs.declared.id.ObjKind.TheVariants as objects
 use Rattle.mountd.specs.Steps.{ReadsAt, IsCopy}
 use Rattle.mountd.proofs.Looking.{blob_here, looks_fault, looks_one, copy_said, reads_part}

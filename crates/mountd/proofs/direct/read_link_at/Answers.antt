@@ -1,4 +1,4 @@
-use Rattle.std.proofs.Common.{ℕ, List, [], ◌∷◌, ◌≡◌, ap, subst}
+use Rattle.std.proofs.Common.{ℕ, List, [], ◌∷◌, subst}
 use Rattle.eden_model.specs.declared.id.ObjKind.TheVariants as objects
 use Rattle.mountd.specs.Steps.{ReadsLinkAt, IsCopy}
 use Rattle.mountd.proofs.Looking.{target_here, looks_fault, looks_one, copy_said, reads_target}

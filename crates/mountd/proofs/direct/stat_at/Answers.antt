@@ -1,4 +1,4 @@
-use Rattle.std.proofs.Common.{ℕ, List, [], ◌∷◌, ap, ◌∙◌, sym, length, Some}
+use Rattle.std.proofs.Common.{ap, ◌∙◌, sym, length, Some}
 use Rattle.eden_model.specs.declared.id.ObjKind.TheVariants as objects
 use Rattle.eden_model.specs.declared.reply.Reply.TheVariants as say
 use Rattle.mountd.specs.Steps.{StatsAt}
