@@ -1,7 +1,4 @@
 use crate::bytes::Bytes;
-use crate::errno::Errno;
-use crate::fault::{Cause, Fault};
-use crate::id::Id;
 use crate::kind::Kind;
 use crate::name::Name;
 use crate::node::Node;
@@ -119,7 +116,29 @@ fn said(alloc: Global, reply: &Option<Reply>) -> Result<String, Fail> {
     })
 }
 
+/// What the tree answers a line, in words. Copies of the request and of the reply do for themselves.
+fn asked(alloc: Global, tree: &mut WholeTree, line: &str) -> Result<String, Fail> {
+    let request = ask(alloc, line)?.copy(alloc)?;
+    let reply = match tree.step(alloc, &request)? {
+        None => None,
+        Some(reply) => Some(reply.copy(alloc)?),
+    };
+    said(alloc, &reply)
+}
+
 /// Asks the tree each line, and compares what it says.
+fn compare(
+    rt: &impl Abort,
+    alloc: Global,
+    tree: &mut WholeTree,
+    lines: &[(&str, &str)],
+) -> Result<(), Fail> {
+    for (line, want) in lines {
+        assert_eq!(rt; asked(alloc, tree, line)?.as_str(), *want, "{line}");
+    }
+    Ok(())
+}
+
 fn answers(
     rt: &impl Abort,
     alloc: Global,
@@ -127,12 +146,7 @@ fn answers(
     lines: &[(&str, &str)],
 ) -> Result<(), Fail> {
     let mut tree = whole(alloc, rows)?.ok_or("no tree")?;
-    for (line, want) in lines {
-        let request = ask(alloc, line)?;
-        let reply = tree.step(alloc, &request)?;
-        assert_eq!(rt; said(alloc, &reply)?.as_str(), *want, "{line}");
-    }
-    Ok(())
+    compare(rt, alloc, &mut tree, lines)
 }
 
 /// The root, and `test.txt` in it.
@@ -330,67 +344,35 @@ fn deep(alloc: Global, count: usize) -> Result<Path, Fail> {
     Ok(Path::new(names)?)
 }
 
+/// Makes directories of so many levels, each in the one before.
+fn deepen(alloc: Global, tree: &mut WholeTree, levels: usize) -> Result<(), Fail> {
+    for count in 1..=levels {
+        match tree.step(alloc, &Request::Mkdir(deep(alloc, count)?))? {
+            Some(Reply::Ok) => {}
+            _ => return Err("no directory was made".into()),
+        }
+    }
+    Ok(())
+}
+
+/// What stands so many levels deep, in words.
+fn standing(alloc: Global, tree: &mut WholeTree, levels: usize) -> Result<String, Fail> {
+    let reply = tree.step(alloc, &Request::Kind(deep(alloc, levels)?))?;
+    said(alloc, &reply)
+}
+
 #[test]
 fn a_rename_makes_paths_longer_than_a_request_names(rt: HostRuntime) -> Result<(), Fail> {
     let alloc = rt.alloc();
     let mut tree = whole(alloc, &ONE_FILE)?.ok_or("no tree")?;
-    for count in 1..257 {
-        let reply = tree.step(alloc, &Request::Mkdir(deep(alloc, count)?))?;
-        assert_eq!(rt; said(alloc, &reply)?.as_str(), "ok", "{count}");
-    }
+    deepen(alloc, &mut tree, 256)?;
     let lines = [
         ("mkdir /d", "ok"),
         ("rename /a /d/b", "ok"),
         ("rename /d /e", "ok"),
         ("rename /e/b /a", "ok"),
     ];
-    for (line, want) in lines {
-        let reply = tree.step(alloc, &ask(alloc, line)?)?;
-        assert_eq!(rt; said(alloc, &reply)?.as_str(), want, "{line}");
-    }
-    let deepest = tree.step(alloc, &Request::Kind(deep(alloc, 256)?))?;
-    assert_eq!(rt; said(alloc, &deepest)?.as_str(), "Dir");
-    Ok(())
-}
-
-#[test]
-fn copies_are_equal(rt: HostRuntime) -> Result<(), Fail> {
-    let alloc = rt.alloc();
-    let lines = [
-        "kind /a/b",
-        "read /a 1 2",
-        "list /a b 3",
-        "list / - 4",
-        "write /a 1 new",
-        "setexec /a 1",
-        "symlink /a b",
-        "rename /a/b /c",
-    ];
-    for line in lines {
-        let request = ask(alloc, line)?;
-        let copy = request.copy(alloc)?;
-        assert_eq!(rt;
-            format!(in alloc; "{copy:?}")?,
-            format!(in alloc; "{request:?}")?
-        );
-    }
-    let rows = vec![in alloc;
-        (name(alloc, "a")?, Kind::Link),
-        (name(alloc, "b")?, Kind::Exec),
-    ]?;
-    let replies = [
-        Reply::Kind(Kind::Exec),
-        Reply::Data(bytes(alloc, "new")?),
-        Reply::Entries(Entries::new(rows), true),
-        Reply::Err(Errno::EISDIR),
-        Reply::Fault(Fault::Fetch(Id { bytes: [7; 20] }, Cause::Missing)),
-    ];
-    for reply in &replies {
-        let copy = reply.copy(alloc)?;
-        assert_eq!(rt;
-            format!(in alloc; "{copy:?}")?,
-            format!(in alloc; "{reply:?}")?
-        );
-    }
+    compare(&rt, alloc, &mut tree, &lines)?;
+    assert_eq!(rt; standing(alloc, &mut tree, 256)?.as_str(), "Dir");
     Ok(())
 }
