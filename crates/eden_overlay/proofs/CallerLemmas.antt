@@ -2,3 +2,10 @@
 pub use Rattle.eden_overlay.proofs.Puts.{put_here, put_apart, same_or_apart, moved, names_moved, kind_moved, one_held, one_kind, held_storable, nothing_there}
 pub use Rattle.eden_overlay.proofs.Directories.{apart, named, kind_kept, was_named}
 pub use Rattle.eden_overlay.proofs.Cycles.{joined, no_cycle}
+-- the clauses of `overlay_laws`, for lemmas
+pub use Rattle.eden_overlay.proofs.Puts.{contents_held, entries_held}
+pub use Rattle.eden_overlay.proofs.Strays.{numbers_from_two, rootless_sound, strays_stay, live_stay, state_stays}
+pub use Rattle.eden_overlay.proofs.Contents.{contents_stay}
+pub use Rattle.eden_overlay.proofs.Directories.{dropped_stay, dropped_unnamed}
+pub use Rattle.eden_overlay.proofs.Entering.{added_stay, entered_stay}
+pub use Rattle.eden_overlay.proofs.Moving.{renamed_stay, moved_stay}

@@ -1,0 +1,28 @@
+-- What callers' proofs cite beside `tie_laws`, `kept_laws` and `shown_laws`.
+pub use Rattle.eden_tie.proofs.Rows.{contains_mapped, mapped_from, full_rising, stored_rising, gone_after, own_loaded, as_is, entry_as_is, own_full, by_child, by_origin, map_some, and_then_some}
+pub use Rattle.eden_tie.proofs.Edits.{find_set, find_other, map_set}
+-- places in loaded directories
+pub use Rattle.eden_tie.proofs.Places.{rising_of, one_loaded, one_row}
+pub use Rattle.eden_tie.proofs.Follows.{below_top, place_cases}
+pub use Rattle.eden_tie.proofs.Chain.{place_at, at_changed, origin_kept, root_loaded}
+pub use Rattle.eden_tie.proofs.Loops.{loaded_above, place_on}
+pub use Rattle.eden_tie.proofs.Forward.{number_kept, kind_stays}
+pub use Rattle.eden_tie.proofs.Going.{bare_listing}
+-- a chain of directories, one step of it
+pub use Rattle.eden_tie.proofs.Chains.{chain_loaded, chain_last, chain_marked, chain_absent, chain_rest, marked_is}
+-- a listing without one entry, and an entry that is taken back
+pub use Rattle.eden_tie.proofs.Leaving.{rows_without, without_drops, stored_without, take_other, take_same, back_there, back_to}
+pub use Rattle.eden_tie.proofs.Changing.{full_are}
+pub use Rattle.eden_tie.proofs.Moved.{changes_kept}
+-- what loads, and directories that go, keep of a table's invariant, beside `kept_laws`
+pub use Rattle.eden_tie.proofs.Tables.{own_loads_table, unloads_table}
+pub use Rattle.eden_tie.proofs.KeptLemmas.{own_loads_kept, unloads_kept, tables_unload}
+pub use Rattle.eden_tie.proofs.Gone.{goes_kept}
+-- what a directory would be loaded from, and what is shown once it is, or goes
+pub use Rattle.eden_tie.proofs.Objects.{none_inside, object_from, empty_from}
+pub use Rattle.eden_tie.proofs.Listed.{own_from, other_from}
+pub use Rattle.eden_tie.proofs.LoadsShown.{own_loads_alike}
+pub use Rattle.eden_tie.proofs.UnloadsShown.{unloads_alike}
+-- files that are stored, and not seen
+pub use Rattle.eden_tie.proofs.ShownFull.{Backs, backs_tied}
+pub use Rattle.eden_tie.proofs.Backed.{backs_loaded, backs_stray, backed_alike}

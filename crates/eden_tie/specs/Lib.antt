@@ -1,0 +1,11 @@
+pub mod Listings
+pub mod Ties
+pub mod Shown
+pub mod Kept
+pub mod Unloading
+pub mod Loading
+pub mod Laws
+pub mod KeptLaws
+pub mod ShownLaws
+pub mod Materialising
+pub mod Changing

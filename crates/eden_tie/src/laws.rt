@@ -1,0 +1,21 @@
+ghost use Rattle.eden_tie.specs.Laws.{TiesSound, GoesTied, StraysTied, ChildrenTied, RootTied};
+ghost use Rattle.eden_tie.specs.Materialising.{MarkedIs};
+ghost use Rattle.eden_tie.specs.Changing.{ChangesTied, LeftOutTied, EntryTied, DropTied, MoveTied, NewFileTied, MovesKept, NewEntryTied};
+
+/// What ties a table to its files, and what keeps it tied.
+pub fn tie_laws()
+    ensures sound { TiesSound }
+    ensures goes { GoesTied }
+    ensures strays { StraysTied }
+    ensures children { ChildrenTied }
+    ensures root { RootTied }
+    ensures marked { MarkedIs }
+    ensures changes { ChangesTied }
+    ensures left_out { LeftOutTied }
+    ensures entry { EntryTied }
+    ensures drops { DropTied }
+    ensures moves { MoveTied }
+    ensures new_file { NewFileTied }
+    ensures moves_kept { MovesKept }
+    ensures new_entry { NewEntryTied }
+{}
