@@ -1,0 +1,6 @@
+pub mod Rows
+pub mod Unloads
+pub mod Sorting
+pub mod Filled
+pub mod Loads
+pub mod Starts

@@ -1,0 +1,10 @@
+use Rattle.std.proofs.Common.{sym, subst}
+use Rattle.eden_overlay.specs.Files.{Stored}
+use Rattle.eden_tie.specs.Kept.{IsKept}
+use Rattle.eden_inode.proofs.inodes.Inodes.content.Goals as goal
+
+pub invariant_of-self : goal.invariant_of-self
+invariant_of-self g c = (
+  c.self.invariant.0,
+  λ h. subst (λ (G : Stored). IsKept g.W.World.repository G c.self.inside.root c.self.inside.next) (sym (c.own_content.ensures.files h)) (c.self.invariant.1 h),
+)

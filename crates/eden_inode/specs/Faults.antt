@@ -1,0 +1,21 @@
+-- Why what is stored isn't had, as a mount tells it.
+use Rattle.std.specs.Prelude.{◌≡◌, ◌⊎◌, ℕ, Option, None}
+use Rattle.eden_model.specs.declared.fault.Fault.{Fault}
+use Rattle.eden_model.specs.declared.fault.Fault.TheVariants as fault
+use Rattle.eden_model.specs.Failures.{Rose}
+use Rattle.eden_overlay.specs.declared.fault.GetFault.{GetFault}
+use Rattle.eden_overlay.specs.declared.fault.GetFault.TheVariants as get
+
+-- all but want of memory is a fault of the overlay
+abbrev pub told : GetFault → Fault
+told get.Absent = fault.Overlay
+told (get.Damaged refusal) = fault.Overlay
+told get.Device = fault.Overlay
+told get.Memory = fault.Memory
+
+-- no memory; or the device failed, or what was asked for isn't stored
+abbrev pub IsGetFault : {X : Type 0} → Type 0 → ℕ → ℕ → Option X → Fault → Type 0
+IsGetFault honest old new o (fault.Fetch id cause) = ⊥
+IsGetFault honest old new o fault.Memory = Unit {0}
+IsGetFault honest old new o fault.Overlay = Rose old new ⊎ (honest → o ≡ None)
+IsGetFault honest old new o fault.Numbers = ⊥

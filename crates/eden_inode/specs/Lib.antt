@@ -1,0 +1,4 @@
+pub mod Tables
+pub mod Filling
+pub mod Faults
+pub mod Going

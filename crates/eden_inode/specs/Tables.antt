@@ -1,0 +1,91 @@
+-- What contracts see of an inode table.
+use Rattle.std.specs.Prelude.{◌≡◌, ◌≢◌, ◌<◌, ◌≤◌, ◌+◌, ◌⊎◌, ℕ, List, length, take, suc, Option, Some, None}
+use Rattle.std.specs.Option.{is_some}
+use Rattle.eden_model.specs.declared.fault.Fault.{Fault}
+use Rattle.eden_model.specs.declared.fault.Fault.TheVariants as fault
+use Rattle.eden_model.specs.declared.kind.Kind.TheVariants as kind
+use Rattle.eden_model.specs.declared.kind.Origin.{Origin}
+use Rattle.eden_model.specs.declared.kind.Origin.TheVariants as origin
+use Rattle.eden_model.specs.declared.id.Id.{Id}
+use Rattle.eden_model.specs.declared.tree_entry.TreeEntry.{TreeEntry}
+use Rattle.eden_model.specs.Failures.{Rose}
+use Rattle.eden_model.specs.Repository.{Repository}
+use Rattle.eden_model.specs.Trees.{Path}
+use Rattle.eden_object.specs.Trees.{NamesDiffer}
+use Rattle.eden_overlay_format.specs.declared.stored_entry.StoredEntry.{StoredEntry}
+use Rattle.eden_overlay_format.specs.Directory.{number_end}
+use Rattle.eden_overlay.specs.Files.{Stored}
+use Rattle.eden_overlay.specs.Held.{entries_at, content_at}
+use Rattle.eden_overlay.specs.Soundness.{IsLive, Names, HoldsKind, AreSound}
+use Rattle.eden_tree.specs.Directory.{Row, child_of, unloaded}
+use Rattle.eden_tree.specs.Paths.{row_at}
+use Rattle.eden_tie.specs.Loading.{IsAt}
+use Rattle.eden_inode.specs.declared.seen.Seen.{Seen}
+
+pub record Table (F : Type 0) : Type 0 where
+  -- the root's entry, with all that is loaded
+  pub root : Row
+  -- the stored files
+  pub files : F
+  -- the number that is given next
+  pub next : ℕ
+  -- the turns so far
+  pub clock : ℕ
+  -- how often a name came, went or was unloaded
+  pub changes : ℕ
+
+-- the root's entry before anything is loaded
+abbrev pub fresh_root : Origin → Row
+fresh_root o = record { number = 1; kind = kind.Dir; origin = o; child = unloaded }
+
+-- a table may start over these files: its root is file 1 exactly where that is stored, no name dangles, and every number
+-- that is named is below the next
+pub record CanStart (F : Stored) (root : Origin) (next : ℕ) : Type 0 where
+  pub rootless : root ≢ origin.Own → F 1 ≡ None
+  pub rooted : root ≡ origin.Own → HoldsKind F 1 kind.Dir
+  pub sound : AreSound F
+  pub below : (c : ℕ) (e : StoredEntry) → IsLive F c → Names F c e → e.number < next
+
+-- the last entry in memory on a path stands behind so many of its names
+pub record IsLast (p : Path) (x : Row) (seen : Seen) : Type 0 where
+  pub row : Row
+  pub names : seen.names ≤ length p
+  pub there : row_at (take seen.names p) x ≡ Some row
+  pub number : seen.number ≡ row.number
+  pub kind : seen.kind ≡ row.kind
+  pub origin : seen.origin ≡ row.origin
+  pub loaded : seen.loaded ≡ is_some (child_of row)
+  pub last : seen.names < length p → row_at (take (suc seen.names) p) x ≡ None
+
+-- a directory that isn't loaded, of the tree object of that id
+pub record IsMissing (x : Row) (i : Id) : Type 0 where
+  pub kind : x.kind ≡ kind.Dir
+  pub unloaded : child_of x ≡ None
+  pub origin : x.origin ≡ origin.Object i
+
+-- a directory may be loaded: from the entries of its tree object, or where it has none, without
+pub record HasTree (R : Repository) (honest : Type 0) (p : Path) (x : Row) (es : List TreeEntry) : Type 0 where
+  pub id : Id
+  pub at : IsAt p x (origin.Object id)
+  pub differ : NamesDiffer es
+  pub tree : honest → R.tree id ≡ Some es
+
+abbrev pub HasNoTree : Path → Row → Type 0
+HasNoTree p x = IsAt p x origin.Own ⊎ IsAt p x origin.Empty
+
+-- why a directory isn't loaded: no memory; too few numbers are left for the entries of a tree object; the device failed, or
+-- the own file is no directory
+abbrev pub IsLoadFault : Type 0 → ℕ → ℕ → ℕ → Stored → Path → Row → Option (List TreeEntry) → Fault → Type 0
+IsLoadFault honest next old new F p x es (fault.Fetch id cause) = ⊥
+IsLoadFault honest next old new F p x es fault.Memory = Unit {0}
+IsLoadFault honest next old new F p x None fault.Numbers = ⊥
+IsLoadFault honest next old new F p x (Some es) fault.Numbers = number_end < next + length es
+IsLoadFault honest next old new F p x (Some es) fault.Overlay = ⊥
+IsLoadFault honest next old new F p x None fault.Overlay = Rose old new ⊎ ((y : Row) → row_at p x ≡ Some y → honest → entries_at F y.number ≡ None)
+
+-- .. and why a content isn't had
+abbrev pub IsContentFault : Type 0 → ℕ → ℕ → Stored → Path → Row → Fault → Type 0
+IsContentFault honest old new F p x (fault.Fetch id cause) = ⊥
+IsContentFault honest old new F p x fault.Memory = Unit {0}
+IsContentFault honest old new F p x fault.Numbers = ⊥
+IsContentFault honest old new F p x fault.Overlay = Rose old new ⊎ ((y : Row) → row_at p x ≡ Some y → honest → content_at F y.number ≡ None)

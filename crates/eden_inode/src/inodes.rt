@@ -1,0 +1,286 @@
+ghost use Rattle.std.specs.Prelude.{◌≡◌, ◌≢◌, ◌≤◌, ◌+◌, ℕ, min, OnOk, OnErr, IfOk, IfErr, IfSome, IfNone, Option, Some, None, option_map};
+ghost use Rattle.eden_model.specs.declared.kind.Kind.TheVariants as kind;
+ghost use Rattle.eden_model.specs.declared.kind.Origin.TheVariants as origin;
+ghost use Rattle.eden_model.specs.declared.id.Id as id;
+ghost use Rattle.eden_model.specs.declared.id.ObjKind.TheVariants as object;
+ghost use Rattle.eden_overlay_format.specs.Directory.{number_least, number_end};
+ghost use Rattle.eden_overlay.specs.Held.{HoldsContent};
+ghost use Rattle.std.specs.Coded.{codes};
+ghost use Rattle.eden_tree.specs.Coding.{child_code};
+ghost use Rattle.eden_tree.specs.Directory.{Row};
+ghost use Rattle.eden_tree.specs.Paths.{row_at, edit_row, stamped_along};
+ghost use Rattle.eden_tie.specs.Kept.{IsTable, IsKept};
+ghost use Rattle.eden_tie.specs.Loading.{IsAt, LoadsObject, LoadsOwn};
+ghost use Rattle.eden_tie.specs.Shown.{shown_in};
+ghost use Rattle.eden_tie.specs.Unloading.{Unloads, IsSettled};
+ghost use Rattle.eden_inode.specs.Tables.{Table, fresh_root, CanStart, IsLast, HasTree, HasNoTree, IsLoadFault, IsContentFault};
+
+use crate::fill::from_object;
+use crate::load::{own_content, put_loaded, unlisted};
+use crate::look::{key_of, look};
+use crate::seen::Seen;
+use crate::unload::Unloading;
+use eden_model::{Fault, Key, Kind, Name, Origin, TreeEntry, World};
+use eden_overlay::{Content, Files, Overlay};
+use eden_tie::{kept_laws, shown_laws};
+use eden_tree::{Change, Entry};
+use std::alloc::{Allocator, Global};
+use std::marker::Model;
+
+/// The numbers of inodes are below this one.
+const NUMBER_END: u64 = 1 << 63;
+
+/// The number of the root.
+const ROOT: u64 = 1;
+
+/// The loaded part of a mount's tree over its stored files.
+///
+/// Under an honest outside, memory and files stay tied through every call: no name dangles, no number stands twice, and
+/// every number that is named is below the next one. Whatever the outside, every loaded directory can be stored.
+#[derive(Drop)]
+pub struct Inodes<A: Allocator, W: World, F: Files<W>> {
+    alloc: A,
+    root: Entry<A>,
+    overlay: Overlay<W, F>,
+    next: u64,
+    clock: u64,
+    changes: u64,
+}
+
+impl<A: Allocator, W: World, F: Files<W>> Model for Inodes<A, W, F> {
+    ghost Value = { Table F };
+
+    ghost coded = { Prim.hlevel (codes, child_code) };
+
+    ghost view = { λ t. record { root = t.root; files = t.overlay; next = t.next; clock = t.clock; changes = t.changes } };
+
+    ghost invariant = { λ t. IsTable t.root t.next × (W.honest → IsKept W.repository (F.stored t.overlay) t.root t.next) };
+}
+
+impl<A: Allocator + Clone, W: World, F: Files<W>> Inodes<A, W, F> {
+    /// A table over an overlay, with nothing loaded: the root is an object, or where file 1 is stored the mount's own.
+    pub fn new(alloc: A, overlay: Overlay<W, F>, root: Origin, next: u64) -> Self
+        requires least { number_least ≤ next }
+        requires most { next ≤ number_end }
+        requires starts { W.honest → CanStart (F.stored overlay) root next }
+        ensures { result ≡ record { root = fresh_root root; files = overlay; next = next; clock = 0; changes = 0 } }
+    {
+        Inodes {
+            alloc,
+            root: Entry {
+                number: ROOT,
+                kind: Kind::Dir,
+                origin: root,
+                child: None,
+            },
+            overlay,
+            next,
+            clock: 0,
+            changes: 0,
+        }
+    }
+
+    /// The overlay, with its files as they stand.
+    pub fn into_overlay(self) -> Overlay<W, F>
+        ensures { result ≡ self.files }
+    {
+        let Inodes { overlay, .. } = self;
+        overlay
+    }
+
+    /// What holds of every table.
+    pub fn holds(&self)
+        ensures table { IsTable self.now.root self.now.next }
+        ensures kept { W.honest → IsKept W.repository (F.stored self.now.files) self.now.root self.now.next }
+    {
+        let _ = &self.root;
+    }
+
+    /// The key of the tree object of a directory that isn't loaded: None for every other path.
+    pub fn missing(&self, path: &[Name]) -> Option<Key>
+        ensures some { IfSome result (λ k. (k.kind ≡ object.Tree) × IsAt path.now self.now.root (origin.Object k.id)) }
+        ensures none { IfNone result ((i : id.Id) → ¬ IsAt path.now self.now.root (origin.Object i)) }
+    {
+        match self.root.walk(path) {
+            None => None,
+            Some(entry) => key_of(entry),
+        }
+    }
+
+    /// The last entry in memory on a path: one look-up for each name. The loaded directories on the way are stamped.
+    pub fn look(&mut self, path: &[Name]) -> Seen
+        ensures last { IsLast path.now self.old.root result }
+        ensures stamped { self.new ≡ record self.old { root = stamped_along path.now self.old.clock self.old.root } }
+        ensures shown { W.honest → shown_in W.repository (F.stored self.new.files) self.new.root ≡ shown_in W.repository (F.stored self.old.files) self.old.root }
+    {
+        kept_laws();
+        shown_laws();
+        look(&mut self.root, path, self.clock)
+    }
+
+    /// The number that is given next.
+    pub fn next_number(&self) -> u64
+        ensures { result ≡ self.now.next }
+    {
+        self.next
+    }
+
+    /// Gives a number, or none where none is left.
+    pub fn give_number(&mut self) -> Option<u64>
+        ensures some { IfSome result (λ n. (n ≡ self.old.next) × (self.new ≡ record self.old { next = self.old.next + 1 })) }
+        ensures none { IfNone result ((self.old.next ≡ number_end) × (self.new ≡ self.old)) }
+    {
+        if self.next >= NUMBER_END {
+            return None;
+        }
+        kept_laws();
+        let number = self.next;
+        self.next = number + 1;
+        Some(number)
+    }
+
+    /// One more turn; the clock stays at 2^64 - 1.
+    pub fn tick(&mut self)
+        ensures { self.new ≡ record self.old { clock = min (self.old.clock + 1) u64.MAX } }
+    {
+        self.clock = self.clock.saturating_add(1);
+    }
+
+    /// Loads a directory: from the entries of its tree object, or where it has none, from its stored file or as an empty one.
+    ///
+    /// The entries of a tree object are given the numbers from the next one on, in byte order of their names; those of an
+    /// own file have theirs. The directories of the path are stamped. Errors: `Numbers` where too few are left, `Memory`,
+    /// and `Overlay` where the device failed or the own file is no directory. Nothing has changed then.
+    pub fn load(
+        &mut self,
+        alloc: Global,
+        path: &[Name],
+        entries: Option<&[TreeEntry]>,
+    ) -> Result<(), Fault>
+        requires object { IfSome entries (λ es. HasTree W.repository W.honest path.now self.old.root es.now) }
+        requires own { IfNone entries (HasNoTree path.now self.old.root) }
+        ensures object { IfSome entries.entry (λ es. OnOk result (LoadsObject self.old.clock self.old.next self.old.root path.now es.now self.new.root self.new.next)) }
+        ensures own { IfNone entries.entry (OnOk result (LoadsOwn W.honest self.old.clock (F.stored self.old.files) self.old.root path.now self.new.root × (self.new.next ≡ self.old.next))) }
+        ensures err { OnErr result ((self.new.root ≡ self.old.root) × (self.new.next ≡ self.old.next)) }
+        ensures fault { IfErr result (IsLoadFault W.honest self.old.next (F.failures self.old.files) (F.failures self.new.files) (F.stored self.old.files) path.now self.old.root (option_map (λ es. es.now) entries.entry)) }
+        ensures files { W.honest → F.stored self.new.files ≡ F.stored self.old.files }
+        ensures shown { W.honest → shown_in W.repository (F.stored self.new.files) self.new.root ≡ shown_in W.repository (F.stored self.old.files) self.old.root }
+        ensures rest { (self.new.clock ≡ self.old.clock) × (self.new.changes ≡ self.old.changes) }
+    {
+        match entries {
+            Some(entries) => self.load_object(alloc, path, entries),
+            None => self.load_own(alloc, path),
+        }
+    }
+
+    /// Loads a directory from the entries of its tree object.
+    fn load_object(
+        &mut self,
+        alloc: Global,
+        path: &[Name],
+        entries: &[TreeEntry],
+    ) -> Result<(), Fault>
+        requires { HasTree W.repository W.honest path.now self.old.root entries.now }
+        ensures ok { OnOk result (LoadsObject self.old.clock self.old.next self.old.root path.now entries.now self.new.root self.new.next) }
+        ensures err { OnErr result ((self.new.root ≡ self.old.root) × (self.new.next ≡ self.old.next)) }
+        ensures fault { IfErr result (IsLoadFault W.honest self.old.next (F.failures self.old.files) (F.failures self.new.files) (F.stored self.old.files) path.now self.old.root (Some entries.now)) }
+        ensures shown { W.honest → shown_in W.repository (F.stored self.new.files) self.new.root ≡ shown_in W.repository (F.stored self.old.files) self.old.root }
+        ensures rest { (self.new.files ≡ self.old.files) × ((self.new.clock ≡ self.old.clock) × (self.new.changes ≡ self.old.changes)) }
+    {
+        let count = entries.len() as u64;
+        if count > NUMBER_END - self.next {
+            return Err(Fault::Numbers);
+        }
+        kept_laws();
+        shown_laws();
+        let dirs = self.alloc.clone()?;
+        let dir = from_object(alloc, dirs, entries, self.next, self.clock)?;
+        let boxes = self.alloc.clone()?;
+        put_loaded(boxes, &mut self.root, path, dir, self.clock)?;
+        self.next += count;
+        Ok(())
+    }
+
+    /// Loads a directory that has no tree object.
+    fn load_own(&mut self, alloc: Global, path: &[Name]) -> Result<(), Fault>
+        requires { HasNoTree path.now self.old.root }
+        ensures ok { OnOk result (LoadsOwn W.honest self.old.clock (F.stored self.old.files) self.old.root path.now self.new.root) }
+        ensures err { OnErr result (self.new.root ≡ self.old.root) }
+        ensures fault { IfErr result (IsLoadFault W.honest self.old.next (F.failures self.old.files) (F.failures self.new.files) (F.stored self.old.files) path.now self.old.root None) }
+        ensures files { W.honest → F.stored self.new.files ≡ F.stored self.old.files }
+        ensures shown { W.honest → shown_in W.repository (F.stored self.new.files) self.new.root ≡ shown_in W.repository (F.stored self.old.files) self.old.root }
+        ensures rest { (self.new.next ≡ self.old.next) × ((self.new.clock ≡ self.old.clock) × (self.new.changes ≡ self.old.changes)) }
+    {
+        let Some(entry) = self.root.walk(path) else {
+            unreachable!()
+        };
+        let number = entry.number;
+        let origin = entry.origin;
+        let dirs = self.alloc.clone()?;
+        let dir = unlisted(alloc, dirs, &mut self.overlay, number, origin, self.clock)?;
+        let boxes = self.alloc.clone()?;
+        put_loaded(boxes, &mut self.root, path, dir, self.clock)?;
+        Ok(())
+    }
+
+    /// The content of an own file or link, as it is stored. Errors: `Memory`, and `Overlay` where the device failed or the
+    /// stored file is none.
+    pub fn content(&mut self, alloc: Global, path: &[Name]) -> Result<Content, Fault>
+        requires { (y : Row) × ((row_at path.now self.old.root ≡ Some y) × ((y.origin ≡ origin.Own) × (y.kind ≢ kind.Dir))) }
+        ensures ok { W.honest → IfOk result (λ content. (y : Row) → row_at path.now self.old.root ≡ Some y → HoldsContent (F.stored self.old.files) y.number content) }
+        ensures fault { IfErr result (IsContentFault W.honest (F.failures self.old.files) (F.failures self.new.files) (F.stored self.old.files) path.now self.old.root) }
+        ensures files { W.honest → F.stored self.new.files ≡ F.stored self.old.files }
+        ensures rest { self.new ≡ record self.old { files = self.new.files } }
+    {
+        let Some(entry) = self.root.walk(path) else {
+            unreachable!()
+        };
+        let number = entry.number;
+        own_content(alloc, &mut self.overlay, number)
+    }
+
+    /// Lets go of the loaded directories at and below a path that have not been used for so many turns, the leaves first; an
+    /// unsaved one is stored first. How many went, up to 2^64 - 1.
+    ///
+    /// A directory with a loaded one left inside stays, and so does an unsaved one that can't be stored.
+    pub fn unload(&mut self, alloc: Global, path: &[Name], older_than: u64) -> u64
+        ensures unloads { (c : ℕ) × ((result ≡ min c u64.MAX) × Unloads W.honest self.old.clock older_than (F.stored self.old.files) self.old.root (F.stored self.new.files) self.new.root c) }
+        ensures settled { (y : Row) → row_at path.now self.new.root ≡ Some y → IsSettled self.old.clock older_than y }
+        ensures elsewhere { (f : Row) × (self.new.root ≡ edit_row path.now (λ _. f) self.old.root) }
+        ensures shown { W.honest → shown_in W.repository (F.stored self.new.files) self.new.root ≡ shown_in W.repository (F.stored self.old.files) self.old.root }
+        ensures counted { (F.failures self.old.files) ≤ (F.failures self.new.files) }
+        ensures changes { self.new.changes ≡ min (self.old.changes + result) u64.MAX }
+        ensures rest { (self.new.next ≡ self.old.next) × (self.new.clock ≡ self.old.clock) }
+    {
+        let unloading = Unloading {
+            alloc,
+            clock: self.clock,
+            older_than,
+        };
+        match self.root.change_at(path, &mut self.overlay, unloading) {
+            None => 0,
+            Some(gone) => {
+                self.changes = self.changes.saturating_add(gone);
+                gone
+            }
+        }
+    }
+
+    /// Does a change to the root's entry and to the overlay at once: a directory that is stored and then is so in memory, an
+    /// entry that moves, a chain that becomes the mount's own. Each is a type of its own, in the crates above.
+    ///
+    /// Within it memory and files may differ; whoever asks for it shows that they are tied once it is done. It counts as
+    /// one change of names, whatever it does.
+    pub fn change<C: Change<A, Overlay<W, F>> + Drop>(&mut self, change: C) -> C::Output
+        requires may { C.may change self.old.files self.old.root }
+        requires table { (files : F) → (root : Row) → (answer : C.Output) → C.does change self.old.files self.old.root files root answer → IsTable root self.old.next }
+        requires kept { W.honest → (files : F) → (root : Row) → (answer : C.Output) → C.does change self.old.files self.old.root files root answer → IsKept W.repository (F.stored files) root self.old.next }
+        ensures does { C.does change self.old.files self.old.root self.new.files self.new.root result }
+        ensures changes { self.new.changes ≡ min (self.old.changes + 1) u64.MAX }
+        ensures rest { (self.new.next ≡ self.old.next) × (self.new.clock ≡ self.old.clock) }
+    {
+        let answer = change.change(&mut self.overlay, &mut self.root);
+        self.changes = self.changes.saturating_add(1);
+        answer
+    }
+}

@@ -1,0 +1,19 @@
+//! Inodes: the loaded part of a mount's tree over its stored files, with numbers.
+//!
+//! A table has the root's entry with all that is loaded below it, and the overlay. Directories are loaded where they are
+//! needed, and unloaded where they are old; what both show together stays the same. `eden_tie` has the words.
+#![tactic(auto)]
+
+mod fill;
+mod inodes;
+mod listing;
+mod load;
+mod look;
+mod seen;
+mod unload;
+
+pub use inodes::Inodes;
+pub use seen::Seen;
+
+#[cfg(test)]
+mod tests;

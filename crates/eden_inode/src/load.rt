@@ -1,0 +1,126 @@
+//! What is loaded at a path, and from where.
+ghost use Rattle.std.specs.Prelude.{◌≡◌, ◌≢◌, [], Some, IfOk, IfErr, OnOk, OnErr};
+ghost use Rattle.eden_model.specs.declared.id.Id as id;
+ghost use Rattle.eden_model.specs.declared.kind.Kind.TheVariants as kind;
+ghost use Rattle.eden_model.specs.declared.kind.Origin as declared;
+ghost use Rattle.eden_model.specs.declared.kind.Origin.TheVariants as origins;
+ghost use Rattle.eden_overlay_format.specs.Directory.{AreStorable};
+ghost use Rattle.eden_overlay.specs.Held.{HoldsEntries, HoldsContent, entries_at, content_at};
+ghost use Rattle.eden_tree.specs.Directory.{with_child};
+ghost use Rattle.eden_tie.specs.Listings.{listing_of};
+ghost use Rattle.eden_tie.specs.Loading.{IsAt, IsNew, with_loaded};
+ghost use Rattle.eden_inode.specs.Faults.{told, IsGetFault};
+
+use crate::fill::from_stored;
+use eden_model::{Fault, Name, Origin, World};
+use eden_overlay::{Content, Files, GetFault, Overlay};
+use eden_tree::{Change, Dir, Entry};
+use std::alloc::{AllocError, Allocator, Global};
+
+/// A directory that an entry holds from then on.
+#[derive(Drop)]
+struct Holding<A: Allocator> {
+    child: Box<Dir<A>, A>,
+}
+
+impl<A: Allocator> Change<A, ()> for Holding<A> {
+    type Output = ();
+
+    ghost may = { λ h s x. x.kind ≡ kind.Dir };
+
+    ghost does = { λ h s x t z o. z ≡ with_child (Some h.child.value) x };
+
+    fn change(self, _: &mut (), entry: &mut Entry<A>) {
+        let Holding { child } = self;
+        entry.child = Some(child);
+    }
+}
+
+/// Puts a loaded directory at a path, where one that isn't loaded is, and stamps the directories of the path. The only
+/// error is want of memory.
+pub(crate) fn put_loaded<A: Allocator>(
+    dirs: A,
+    root: &mut Entry<A>,
+    path: &[Name],
+    dir: Dir<A>,
+    clock: u64,
+) -> Result<(), AllocError>
+    requires { (o : declared.Origin) × IsAt path.now root.old o }
+    ensures ok { OnOk result (root.new ≡ with_loaded path.now clock dir root.old) }
+    ensures err { OnErr result (root.new ≡ root.old) }
+{
+    let child = Box::new(dirs, dir)?;
+    let _ = root.change_at(path, &mut (), Holding { child });
+    root.stamp_along(path, clock);
+    Ok(())
+}
+
+/// What a mount tells of a fault of its overlay.
+fn told(fault: GetFault) -> Fault
+    ensures { result ≡ told fault }
+{
+    match fault {
+        GetFault::Absent | GetFault::Damaged(_) | GetFault::Device => Fault::Overlay,
+        GetFault::Memory => Fault::Memory,
+    }
+}
+
+/// The directory that the file of that number stores.
+pub(crate) fn own_directory<A: Allocator, W: World, F: Files<W>>(
+    alloc: Global,
+    dirs: A,
+    overlay: &mut Overlay<W, F>,
+    number: u64,
+    clock: u64,
+) -> Result<Dir<A>, Fault>
+    ensures new { IfOk result (IsNew clock) }
+    ensures held { W.honest → IfOk result (λ d. HoldsEntries (F.stored overlay.old) number (listing_of d)) }
+    ensures storable { IfOk result (λ d. AreStorable (listing_of d)) }
+    ensures fault { IfErr result (IsGetFault W.honest (F.failures overlay.old) (F.failures overlay.new) (entries_at (F.stored overlay.old) number)) }
+    ensures files { W.honest → F.stored overlay.new ≡ F.stored overlay.old }
+{
+    match overlay.get_dir(alloc, number) {
+        Ok(entries) => Ok(from_stored(dirs, entries, clock)?),
+        Err(fault) => Err(told(fault)),
+    }
+}
+
+/// The directory that an entry without a tree object is loaded as: what its file stores, or nothing.
+pub(crate) fn unlisted<A: Allocator, W: World, F: Files<W>>(
+    alloc: Global,
+    dirs: A,
+    overlay: &mut Overlay<W, F>,
+    number: u64,
+    origin: Origin,
+    clock: u64,
+) -> Result<Dir<A>, Fault>
+    requires { (i : id.Id) → origin ≢ origins.Object i }
+    ensures new { IfOk result (IsNew clock) }
+    ensures own { W.honest → origin ≡ origins.Own → IfOk result (λ d. HoldsEntries (F.stored overlay.old) number (listing_of d)) }
+    ensures empty { origin ≡ origins.Empty → IfOk result (λ d. d.rows ≡ []) }
+    ensures storable { IfOk result (λ d. AreStorable (listing_of d)) }
+    ensures fault { IfErr result (IsGetFault W.honest (F.failures overlay.old) (F.failures overlay.new) (entries_at (F.stored overlay.old) number)) }
+    ensures files { W.honest → F.stored overlay.new ≡ F.stored overlay.old }
+{
+    match origin {
+        Origin::Object(_) => unreachable!(),
+        Origin::Empty => Ok(Dir::new(dirs, clock)),
+        Origin::Own => own_directory(alloc, dirs, overlay, number, clock),
+    }
+}
+
+/// The content that the file of that number stores.
+pub(crate) fn own_content<W: World, F: Files<W>>(
+    alloc: Global,
+    overlay: &mut Overlay<W, F>,
+    number: u64,
+) -> Result<Content, Fault>
+    ensures held { W.honest → IfOk result (λ content. HoldsContent (F.stored overlay.old) number content) }
+    ensures fault { IfErr result (IsGetFault W.honest (F.failures overlay.old) (F.failures overlay.new) (content_at (F.stored overlay.old) number)) }
+    ensures files { W.honest → F.stored overlay.new ≡ F.stored overlay.old }
+{
+    match overlay.get_file(alloc, number) {
+        Ok(content) => Ok(content),
+        Err(fault) => Err(told(fault)),
+    }
+}

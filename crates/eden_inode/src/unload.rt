@@ -1,0 +1,139 @@
+//! Loaded directories that go.
+ghost use Rattle.std.specs.Prelude.{◌≡◌, ◌≤◌, ◌-◌, ◌+◌, ◌↔◌, ℕ, Some, None, min, IsTrue, IsFalse, true, false};
+ghost use Rattle.eden_overlay_format.specs.Directory.{AreStorable};
+ghost use Rattle.eden_overlay.specs.Held.{with_entries};
+ghost use Rattle.eden_overlay.specs.Soundness.{AreSound};
+ghost use Rattle.eden_tree.specs.Directory.{Row, child_of, with_child};
+ghost use Rattle.eden_tie.specs.Listings.{listing_of};
+ghost use Rattle.eden_tie.specs.Unloading.{Unloads, IsSettled, MayUnload, HasNoneInside};
+ghost use Rattle.eden_inode.specs.Going.{IsUnloaded};
+
+use crate::listing::save;
+use eden_model::World;
+use eden_overlay::{Files, Overlay};
+use eden_tree::{Change, Dir, Entry};
+use std::alloc::{Allocator, Global};
+
+/// Whether no entry holds a loaded directory.
+fn has_none_inside<A: Allocator>(dir: &Dir<A>) -> bool
+    ensures { IsTrue result ↔ HasNoneInside dir.now }
+{
+    for i in 0..dir.count() {
+        match dir.at(i) {
+            None => unreachable!(),
+            Some((_, entry)) => {
+                if entry.child.is_some() {
+                    return false;
+                }
+            }
+        }
+    }
+    true
+}
+
+/// Whether a directory of that number goes: it is old enough, none is left inside, and it is saved or could be.
+fn may_go<A: Allocator, W: World, F: Files<W>>(
+    dir: &Dir<A>,
+    number: u64,
+    overlay: &mut Overlay<W, F>,
+    alloc: Global,
+    clock: u64,
+    age: u64,
+) -> bool
+    requires entries { AreStorable (listing_of dir.now) }
+    requires sound { W.honest → age ≤ clock - dir.now.stamp → HasNoneInside dir.now → dir.now.unsaved ≡ true → AreSound (with_entries (F.stored overlay.old) number (listing_of dir.now)) }
+    ensures old { IsTrue result → age ≤ clock - dir.now.stamp }
+    ensures inside { IsTrue result → HasNoneInside dir.now }
+    ensures saved { W.honest → IsTrue result → dir.now.unsaved ≡ false → F.stored overlay.new ≡ F.stored overlay.old }
+    ensures stored { W.honest → IsTrue result → dir.now.unsaved ≡ true → F.stored overlay.new ≡ with_entries (F.stored overlay.old) number (listing_of dir.now) }
+    ensures stays { IsFalse result → age ≤ clock - dir.now.stamp → HasNoneInside dir.now → dir.now.unsaved ≡ true }
+    ensures unchanged { W.honest → IsFalse result → F.stored overlay.new ≡ F.stored overlay.old }
+    ensures counted { F.failures overlay.old ≤ F.failures overlay.new }
+{
+    if clock.saturating_sub(dir.stamp()) < age {
+        return false;
+    }
+    if !has_none_inside(dir) {
+        return false;
+    }
+    if !dir.unsaved() {
+        return true;
+    }
+    save(alloc, overlay, number, dir).is_ok()
+}
+
+/// Unloads what is old enough inside a directory of that number, the leaves first: how many went, and whether it goes too.
+#[cycle(unload)]
+fn unload_inside<A: Allocator, W: World, F: Files<W>>(
+    dir: &mut Dir<A>,
+    number: u64,
+    overlay: &mut Overlay<W, F>,
+    alloc: Global,
+    clock: u64,
+    age: u64,
+) -> (u64, bool)
+    requires may { (x : Row) × ((x.number ≡ number) × ((child_of x ≡ Some dir.old) × MayUnload W.honest clock age (F.stored overlay.old) x)) }
+    ensures goes { IsTrue result.1 → (x : Row) → x.number ≡ number → child_of x ≡ Some dir.old → (c : ℕ) × ((result.0 ≡ min c u64.MAX) × Unloads W.honest clock age (F.stored overlay.old) x (F.stored overlay.new) (with_child None x) (c + 1)) }
+    ensures stays { IsFalse result.1 → (x : Row) → x.number ≡ number → child_of x ≡ Some dir.old → (c : ℕ) × ((result.0 ≡ min c u64.MAX) × Unloads W.honest clock age (F.stored overlay.old) x (F.stored overlay.new) (with_child (Some dir.new) x) c) }
+    ensures settled { IsFalse result.1 → (x : Row) → IsSettled clock age (with_child (Some dir.new) x) }
+    ensures counted { F.failures overlay.old ≤ F.failures overlay.new }
+{
+    let mut gone = 0u64;
+    for i in 0..dir.count() {
+        match dir.at_mut(i) {
+            None => unreachable!(),
+            Some(entry) => {
+                let more = unload_entry(entry, overlay, alloc, clock, age);
+                gone = gone.saturating_add(more);
+            }
+        }
+    }
+    let goes = may_go(dir, number, overlay, alloc, clock, age);
+    (gone, goes)
+}
+
+/// Unloads what is old enough at and below an entry, the leaves first: how many went.
+#[cycle(unload)]
+fn unload_entry<A: Allocator, W: World, F: Files<W>>(
+    entry: &mut Entry<A>,
+    overlay: &mut Overlay<W, F>,
+    alloc: Global,
+    clock: u64,
+    age: u64,
+) -> u64
+    requires may { MayUnload W.honest clock age (F.stored overlay.old) entry.old }
+    ensures unloaded { IsUnloaded W.honest clock age (F.stored overlay.old) entry.old (F.stored overlay.new) entry.new result }
+    ensures counted { F.failures overlay.old ≤ F.failures overlay.new }
+{
+    let number = entry.number;
+    let (gone, goes) = match entry.directory_mut() {
+        None => return 0,
+        Some(dir) => unload_inside(dir, number, overlay, alloc, clock, age),
+    };
+    if goes {
+        entry.child = None;
+        gone.saturating_add(1)
+    } else {
+        gone
+    }
+}
+
+/// What is old enough at and below an entry goes, at a turn of the clock.
+#[derive(Drop)]
+pub(crate) struct Unloading {
+    pub(crate) alloc: Global,
+    pub(crate) clock: u64,
+    pub(crate) older_than: u64,
+}
+
+impl<A: Allocator, W: World, F: Files<W>> Change<A, Overlay<W, F>> for Unloading {
+    type Output = u64;
+
+    ghost may = { λ u o x. MayUnload W.honest u.clock u.older_than (F.stored o) x };
+
+    ghost does = { λ u o x p z gone. IsUnloaded W.honest u.clock u.older_than (F.stored o) x (F.stored p) z gone × (F.failures o ≤ F.failures p) };
+
+    fn change(self, overlay: &mut Overlay<W, F>, entry: &mut Entry<A>) -> u64 {
+        unload_entry(entry, overlay, self.alloc, self.clock, self.older_than)
+    }
+}
