@@ -7,20 +7,13 @@ use Rattle.eden_model.specs.Trees.{Name, Path}
 use Rattle.eden_tree.specs.Directory.{Row, Directory, child_of}
 use Rattle.eden_tree.specs.Rows.{find_row, set_at}
 use Rattle.eden_tree.specs.Paths.{row_at}
+use Rattle.eden_tie.proofs.CallerLemmas.{and_then_some}
 
 pub same_some : {X : Type 0} (x y : X) → Some x ≡ Some y → x ≡ y
 same_some x y e = cc
 
 pub none_some : {X : Type 0} (x : X) (P : Type 0) → None ≡ Some x → P
 none_some x P e = absurd (cc)
-
-pub map_some : {X Y : Type 0} (f : X → Y) (o : Option X) (y : Y) → Some y ≡ option_map f o → (x : X) × ((o ≡ Some x) × (f x ≡ y))
-map_some f None y h = absurd (cc)
-map_some f (Some x) y h = (x, (refl, sym (same_some y (f x) h)))
-
-pub and_then_some : {X Y : Type 0} (f : X → Option Y) (o : Option X) (y : Y) → option_and_then f o ≡ Some y → (x : X) × ((o ≡ Some x) × (f x ≡ Some y))
-and_then_some f None y h = absurd (cc)
-and_then_some f (Some x) y h = (x, (refl, h))
 
 -- ---- positions
 
@@ -46,10 +39,6 @@ none_held (Some b) h k = absurd (cc)
 pub not_held : {A : Type 0} (o : Option (Box Directory A)) → is_some o ≡ false → option_map (λ b. b.value) o ≡ None
 not_held None k = refl
 not_held (Some b) k = absurd (cc)
-
-pub some_held : {A : Type 0} (o : Option (Box Directory A)) → is_some o ≡ is_some (option_map (λ b. b.value) o)
-some_held None = refl
-some_held (Some b) = refl
 
 -- ---- lists made one by one
 

@@ -14,6 +14,3 @@ mod unload;
 
 pub use inodes::Inodes;
 pub use seen::Seen;
-
-#[cfg(test)]
-mod tests;

@@ -9,7 +9,7 @@ use Rattle.eden_inode.proofs.fill.entry_by.Goals as goal
 pub invariant_of-result : goal.invariant_of-result
 invariant_of-result g c =
     let e = c.args.entry.now in record {
-      loaded = λ h. absurd (cc);
+      loaded = λ h. cc;
       empty = λ h. c.kind.ensures e.id ∙ empty_is_dir e.mode e.id (sym (origin_is e.mode e.id c.origin.result c.origin.ensures) ∙ h);
     }
 

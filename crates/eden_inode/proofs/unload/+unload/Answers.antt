@@ -10,7 +10,8 @@ use Rattle.eden_tree.specs.Rows.{find_row, set_at}
 use Rattle.eden_tree.proofs.CallerLemmas.{order, child_of-with_child, with_child-same, length-keys, keys_of-set_at, find_row-slice_get, slice_get-find_row, set_at-set_row, slice_get-set_at-other, row_size-slice_get, directory_size-child_of}
 use Rattle.eden_tie.specs.Listings.{listing_of}
 use Rattle.eden_tie.specs.Unloading.{Unloads, none, same_files, IsSettled}
-use Rattle.eden_inode.proofs.Rows.{map_some, none_there, get_set_here, by_order}
+use Rattle.eden_tie.proofs.CallerLemmas.{map_some}
+use Rattle.eden_inode.proofs.Rows.{none_there, get_set_here, by_order}
 use Rattle.eden_inode.proofs.Unloads.{joined, lifted, may_below, may_still, goes_too, may_store, may_list, settled_none, settled_over}
 use Rattle.eden_inode.proofs.unload.+unload.Goals as goal
 
