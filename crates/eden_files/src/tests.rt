@@ -22,53 +22,65 @@ fn system<'a>(
     }
 }
 
+type Outcome<'a> = Result<&'a [u8], FolderFault>;
+
+const HELLO: Outcome = Ok(b"hello");
+
+const EMPTY: Outcome = Ok(b"");
+
+const MISSING: Outcome = Err(FolderFault::Missing);
+
+const NOT_PLAIN: Outcome = Err(FolderFault::NotPlain);
+
+const TOO_LONG: Outcome = Err(FolderFault::TooLong);
+
+const DEVICE: Outcome = Err(FolderFault::Device);
+
+// The most bytes that are wanted of a file, and what a read gives where links are refused and where they are followed.
+const READS: &[(&str, u32, Outcome, Outcome)] = &[
+    ("file", 5, HELLO, HELLO),
+    ("file", 4, TOO_LONG, TOO_LONG),
+    ("empty", 0, EMPTY, EMPTY),
+    ("folder", 5, NOT_PLAIN, NOT_PLAIN),
+    ("link", 5, NOT_PLAIN, HELLO),
+    ("lost", 5, NOT_PLAIN, NOT_PLAIN),
+    ("leads to folder", 5, NOT_PLAIN, NOT_PLAIN),
+    ("nothing", 5, MISSING, MISSING),
+    ("file/below", 5, DEVICE, DEVICE),
+];
+
+fn make_files(rt: &HostRuntime, folder: &PathBuf) -> Result<(), Fail> {
+    fs::write(rt, folder.join(rt.alloc(), "file")?, b"hello")?;
+    fs::write(rt, folder.join(rt.alloc(), "empty")?, b"")?;
+    fs::create_dir(rt, folder.join(rt.alloc(), "folder")?)?;
+    symlink(rt, "file", folder.join(rt.alloc(), "link")?)?;
+    symlink(rt, "nothing", folder.join(rt.alloc(), "lost")?)?;
+    symlink(rt, "folder", folder.join(rt.alloc(), "leads to folder")?)?;
+    Ok(())
+}
+
+// Whether a read gives that.
+fn gives(rt: &HostRuntime, path: &str, links: Links, longest: u32, want: Outcome) -> bool {
+    match read_file(rt, rt.alloc(), path, links, u64::from(longest)) {
+        Ok(bytes) => want == Ok(bytes.as_slice()),
+        Err(fault) => want == Err(fault),
+    }
+}
+
 #[test]
 fn plain_files_are_read_whole(rt: HostRuntime) -> Result<(), Fail> {
-    let alloc = rt.alloc();
     let folder = empty_folder(&rt, "read")?;
-    let at = |name: &str| folder.join(alloc, name);
-    fs::write(&rt, at("file")?, b"hello")?;
-    fs::write(&rt, at("empty")?, b"")?;
-    fs::create_dir(&rt, at("folder")?)?;
-    symlink(&rt, "file", at("link")?)?;
-    symlink(&rt, "nothing", at("lost")?)?;
-    symlink(&rt, "folder", at("leads to folder")?)?;
-    let hello = Ok(b"hello".as_slice());
-    let not_plain = Err(FolderFault::NotPlain);
-    for (name, longest, refused, followed) in [
-        ("file", 5, hello, hello),
-        (
-            "file",
-            4,
-            Err(FolderFault::TooLong),
-            Err(FolderFault::TooLong),
-        ),
-        ("empty", 0, Ok(b"".as_slice()), Ok(b"".as_slice())),
-        ("folder", 5, not_plain, not_plain),
-        ("link", 5, not_plain, hello),
-        ("lost", 5, not_plain, not_plain),
-        ("leads to folder", 5, not_plain, not_plain),
-        (
-            "nothing",
-            5,
-            Err(FolderFault::Missing),
-            Err(FolderFault::Missing),
-        ),
-        (
-            "file/below",
-            5,
-            Err(FolderFault::Device),
-            Err(FolderFault::Device),
-        ),
-    ] {
-        for (links, want) in [(Links::Refused, refused), (Links::Followed, followed)] {
-            let answer = read_file(&rt, alloc, at(name)?.as_str(), links, longest);
-            let seen = answer
-                .as_ref()
-                .map(|bytes| bytes.as_slice())
-                .map_err(|fault| *fault);
-            assert!(rt; seen == want, "{name}, {links:?}");
-        }
+    make_files(&rt, &folder)?;
+    for (name, longest, refused, followed) in READS {
+        let path = folder.join(rt.alloc(), name)?;
+        assert!(rt;
+            gives(&rt, path.as_str(), Links::Refused, *longest, *refused),
+            "{name}"
+        );
+        assert!(rt;
+            gives(&rt, path.as_str(), Links::Followed, *longest, *followed),
+            "{name}"
+        );
     }
     fs::remove_dir_all(&rt, folder.as_path())?;
     Ok(())
@@ -166,8 +178,7 @@ fn a_cut_read_is_no_file(rt: HostRuntime) {
 
 // Whether those bytes are the whole file.
 fn holds(rt: &HostRuntime, path: &str, bytes: &[u8]) -> bool {
-    read_file(rt, rt.alloc(), path, Links::Refused, 1000).is_ok_and(|found| found.as_slice()
-        == bytes)
+    gives(rt, path, Links::Refused, 1000, Ok(bytes))
 }
 
 // What stands in the way of a replacement goes, and what it leads to stays.
@@ -175,16 +186,17 @@ fn holds(rt: &HostRuntime, path: &str, bytes: &[u8]) -> bool {
 fn a_replacement_is_a_new_file(rt: HostRuntime) -> Result<(), Fail> {
     let alloc = rt.alloc();
     let folder = empty_folder(&rt, "replaced")?;
-    let at = |name: &str| folder.join(alloc, name);
-    fs::write(&rt, at("other")?, b"other")?;
-    let file = at("file")?;
+    let other = folder.join(alloc, "other")?;
+    fs::write(&rt, other.as_path(), b"other")?;
+    let file = folder.join(alloc, "file")?;
+    let new = folder.join(alloc, "file.new")?;
     for target in ["other", "nothing", "/dev/full", "/proc/self/fd/0"] {
-        symlink(&rt, target, at("file.new")?)?;
+        symlink(&rt, target, new.as_path())?;
         replace_file(&rt, alloc, file.as_str(), target.as_bytes())?;
         assert!(rt; holds(&rt, file.as_str(), target.as_bytes()), "{target}");
     }
-    assert!(rt; holds(&rt, at("other")?.as_str(), b"other"));
-    fs::create_dir(&rt, at("file.new")?)?;
+    assert!(rt; holds(&rt, other.as_str(), b"other"));
+    fs::create_dir(&rt, new.as_path())?;
     let answer = replace_file(&rt, alloc, file.as_str(), b"new");
     assert!(rt; answer == Err(FolderFault::Device));
     assert!(rt; holds(&rt, file.as_str(), b"/proc/self/fd/0"));
@@ -192,26 +204,37 @@ fn a_replacement_is_a_new_file(rt: HostRuntime) -> Result<(), Fail> {
     Ok(())
 }
 
-// A failed replacement leaves the file.
+const KINDS: &[(ErrorKind, FolderFault)] = &[
+    (ErrorKind::StorageFull, FolderFault::Device),
+    (ErrorKind::OutOfMemory, FolderFault::Memory),
+];
+
+// Whether a replacement answers that fault, and leaves the file, where one of its calls fails with that kind of error.
+fn keeps_old(
+    rt: &HostRuntime,
+    path: &str,
+    call: Call,
+    kind: ErrorKind,
+    fault: FolderFault,
+) -> bool {
+    let answer = replace_file(&system(rt, call, kind, None), rt.alloc(), path, b"new");
+    answer == Err(fault) && holds(rt, path, b"old")
+}
+
 #[test]
 fn failed_changes_are_told(rt: HostRuntime) -> Result<(), Fail> {
-    let alloc = rt.alloc();
     let folder = empty_folder(&rt, "failed-changes")?;
-    let file = folder.join(alloc, "file")?;
-    replace_file(&rt, alloc, file.as_str(), b"old")?;
-    for (kind, fault) in [
-        (ErrorKind::StorageFull, FolderFault::Device),
-        (ErrorKind::OutOfMemory, FolderFault::Memory),
-    ] {
+    let file = folder.join(rt.alloc(), "file")?;
+    replace_file(&rt, rt.alloc(), file.as_str(), b"old")?;
+    for (kind, fault) in KINDS {
         for call in [Call::Open, Call::Write, Call::Rename] {
-            let system = system(&rt, call, kind, None);
-            let answer = replace_file(&system, alloc, file.as_str(), b"new");
-            assert!(rt; answer == Err(fault), "{kind:?}");
-            assert!(rt; holds(&rt, file.as_str(), b"old"), "{kind:?}");
+            assert!(rt;
+                keeps_old(&rt, file.as_str(), call, *kind, *fault),
+                "{kind:?}"
+            );
         }
-        let system = system(&rt, Call::Remove, kind, None);
-        let answer = remove_file(&system, file.as_str());
-        assert!(rt; answer == Err(fault), "{kind:?}");
+        let answer = remove_file(&system(&rt, Call::Remove, *kind, None), file.as_str());
+        assert!(rt; answer == Err(*fault), "{kind:?}");
     }
     remove_file(&rt, file.as_str())?;
     assert!(rt; !fs::exists(&rt, file.as_path())?);

@@ -1,4 +1,6 @@
 // The ids that Git gives, and what each test of `check` refuses.
+ghost use Rattle.std.specs.Prelude.{◌≡◌, IfOk};
+
 use super::*;
 use std::alloc::{AllocError, Global};
 use std::process::Abort;
@@ -140,43 +142,61 @@ fn every_mode(rt: HostRuntime) -> Result<(), Fail> {
     Ok(())
 }
 
+// Whether the entry has that mode, that name and that id.
+fn has(entry: &TreeEntry, mode: Mode, name: &[u8], id: [u8; 20]) -> bool {
+    entry.mode == mode && entry.name.as_slice() == name && entry.id.bytes == id
+}
+
 fn is_entry(rt: &impl Abort, entry: &TreeEntry, mode: Mode, name: u8, id: u8) {
-    assert_eq!(rt; entry.mode, mode);
-    assert_eq!(rt; entry.name.as_slice(), [name].as_slice());
-    assert_eq!(rt; entry.id, Id { bytes: [id; 20] });
+    assert!(rt; has(entry, mode, &[name], [id; 20]));
+}
+
+#[test]
+fn bodies(rt: HostRuntime) -> Result<(), Fail> {
+    assert!(rt; decode_blob(b"blob 6\0hello\n") == Some(b"hello\n".as_slice()));
+    assert!(rt; decode_blob(b"tree 0\0") == None);
+    assert!(rt; decode_tree(rt.alloc(), b"100644 a")?.is_none());
+    Ok(())
+}
+
+// The object in bytes that are asked for under their own id.
+fn object(alloc: Global, kind: ObjKind, framed: Vec<u8>) -> Result<Object, Cause>
+    ensures { IfOk result (λ object. object.kind ≡ kind) }
+{
+    let id = id_of(framed.as_slice());
+    Object::checked(alloc, Key { kind, id }, framed)
 }
 
 #[test]
 fn contents(rt: HostRuntime) -> Result<(), Fail> {
-    assert_eq!(rt;
-        decode_blob(b"blob 6\0hello\n"),
-        Some(b"hello\n".as_slice())
-    );
-    assert_eq!(rt; decode_blob(b"tree 0\0"), None);
-    assert!(rt; decode_tree(rt.alloc(), b"100644 a")?.is_none());
     let framed = b"blob 6\0hello\n".to_vec(rt.alloc())?;
-    let key = Key {
-        kind: ObjKind::Blob,
-        id: Id { bytes: HELLO },
-    };
-    let object = Object::checked(rt.alloc(), key, framed)?;
-    assert_eq!(rt; object.kind(), ObjKind::Blob);
-    assert_eq!(rt; object.body(), b"hello\n".as_slice());
-    assert_eq!(rt; object.len(), 6);
+    assert!(rt; id_of(framed.as_slice()).bytes == HELLO);
+    let hello = object(rt.alloc(), ObjKind::Blob, framed)?;
+    assert!(rt; hello.kind() == ObjKind::Blob);
+    assert!(rt; hello.body() == b"hello\n".as_slice());
+    assert!(rt; hello.len() == 6);
     Ok(())
+}
+
+fn push_file(body: &mut Vec<u8>, name: &str) -> Result<(), AllocError> {
+    body.extend_from_slice(b"100644 ")?;
+    body.extend_from_slice(name.as_bytes())?;
+    body.extend_from_slice(&[0])?;
+    body.extend_from_slice(&[0x2a; 20])
+}
+
+fn header(alloc: Global, len: usize) -> Result<Vec<u8>, AllocError> {
+    let header = format!(in alloc; "tree {len}\0")?;
+    Ok(header.into_bytes())
 }
 
 /// The tree of these names, files of one id, in the order in which they are given.
 fn tree_of(alloc: Global, names: &[&str]) -> Result<Vec<u8>, AllocError> {
     let mut body = Vec::new(alloc);
     for name in names {
-        body.extend_from_slice(b"100644 ")?;
-        body.extend_from_slice(name.as_bytes())?;
-        body.push(0)?;
-        body.extend_from_slice(&[0x2a; 20])?;
+        push_file(&mut body, name)?;
     }
-    let header = format!(in alloc; "tree {}\0", body.len())?;
-    let mut framed = Vec::from_slice(alloc, header.as_bytes())?;
+    let mut framed = header(alloc, body.len())?;
     framed.extend_from_slice(body.as_slice())?;
     Ok(framed)
 }
@@ -223,12 +243,13 @@ fn entry(alloc: Global, mode: Mode, name: &str, id: [u8; 20]) -> Result<TreeEntr
     })
 }
 
-fn written_tree(
-    rt: &(impl Abort + Alloc<A = Global>),
-    entries: &[TreeEntry],
-) -> Result<Vec<u8>, AllocError> {
-    assert!(rt; is_encodable(rt.alloc(), entries)?);
-    encode_tree(rt.alloc(), entries)
+// The framed tree, where it can be written.
+fn written(alloc: Global, entries: &[TreeEntry]) -> Result<Vec<u8>, Fail> {
+    if is_encodable(alloc, entries)? {
+        Ok(encode_tree(alloc, entries)?)
+    } else {
+        Err(Fail::from("no tree"))
+    }
 }
 
 #[test]
@@ -243,49 +264,72 @@ fn names_that_come_twice_are_not_written(rt: HostRuntime) -> Result<(), Fail> {
 }
 
 #[test]
-fn written_objects_of_git(rt: HostRuntime) -> Result<(), Fail> {
-    let alloc = rt.alloc();
-    let blob = encode_blob(alloc, b"version 1\n")?;
-    assert_eq!(rt; blob.len(), 18);
-    assert_eq!(rt; id_of(blob.as_slice()), Id { bytes: VERSION_1 });
-    let empty = written_tree(&rt, &[])?;
-    assert_eq!(rt; empty.len(), 7);
-    assert_eq!(rt; id_of(empty.as_slice()), Id { bytes: EMPTY_TREE });
-    let a = written_tree(&rt, &[entry(alloc, Mode::File, "test.txt", VERSION_1)?])?;
-    assert_eq!(rt; a.len(), 44);
-    assert_eq!(rt; id_of(a.as_slice()), Id { bytes: TREE_A });
-    let b = [
-        entry(alloc, Mode::File, "test.txt", VERSION_2)?,
-        entry(alloc, Mode::File, "new.txt", NEW_FILE)?,
-        entry(alloc, Mode::Dir, "bak", TREE_A)?,
-    ];
-    let b = written_tree(&rt, &b)?;
-    assert_eq!(rt; id_of(b.as_slice()), Id { bytes: TREE_B });
+fn written_blobs_of_git(rt: HostRuntime) -> Result<(), Fail> {
+    let blob = encode_blob(rt.alloc(), b"version 1\n")?;
+    assert!(rt; blob.len() == 18);
+    assert!(rt; id_of(blob.as_slice()).bytes == VERSION_1);
     Ok(())
 }
+
+// The entries of a table.
+fn entries(alloc: Global, table: &[(Mode, &str, [u8; 20])]) -> Result<Vec<TreeEntry>, Fail> {
+    let mut entries = Vec::new(alloc);
+    for (mode, name, id) in table {
+        entries.push(entry(alloc, *mode, name, *id)?)?;
+    }
+    Ok(entries)
+}
+
+const ENTRIES_A: &[(Mode, &str, [u8; 20])] = &[(Mode::File, "test.txt", VERSION_1)];
+
+const ENTRIES_B: &[(Mode, &str, [u8; 20])] = &[
+    (Mode::File, "test.txt", VERSION_2),
+    (Mode::File, "new.txt", NEW_FILE),
+    (Mode::Dir, "bak", TREE_A),
+];
+
+// Whether that is the length of the tree of these entries, and that its id.
+fn is_written(
+    alloc: Global,
+    table: &[(Mode, &str, [u8; 20])],
+    len: usize,
+    id: [u8; 20],
+) -> Result<bool, Fail> {
+    let framed = written(alloc, entries(alloc, table)?.as_slice())?;
+    Ok(framed.len() == len && id_of(framed.as_slice()).bytes == id)
+}
+
+#[test]
+fn written_trees_of_git(rt: HostRuntime) -> Result<(), Fail> {
+    let alloc = rt.alloc();
+    assert!(rt; is_written(alloc, &[], 7, EMPTY_TREE)?);
+    assert!(rt; is_written(alloc, ENTRIES_A, 44, TREE_A)?);
+    assert!(rt; is_written(alloc, ENTRIES_B, 110, TREE_B)?);
+    Ok(())
+}
+
+// What is written and read again.
+fn read_again(alloc: Global, entries: &[TreeEntry]) -> Result<Vec<TreeEntry>, Fail> {
+    let framed = written(alloc, entries)?;
+    let tree = object(alloc, ObjKind::Tree, framed)?;
+    Ok(tree.entries(alloc)?)
+}
+
+const EACH_MODE: &[(Mode, &str, [u8; 20])] = &[
+    (Mode::Dir, "a", TREE_A),
+    (Mode::Exec, "a.b", VERSION_1),
+    (Mode::Link, "c", HELLO),
+    (Mode::Gitlink, "b", HELLO),
+];
 
 // `a` and `a.b` as Git orders them, where `a` is a directory. Each mode is written and read.
 #[test]
 fn written_trees_are_read(rt: HostRuntime) -> Result<(), Fail> {
-    let alloc = rt.alloc();
-    let entries = [
-        entry(alloc, Mode::Dir, "a", TREE_A)?,
-        entry(alloc, Mode::Exec, "a.b", VERSION_1)?,
-        entry(alloc, Mode::Link, "c", HELLO)?,
-        entry(alloc, Mode::Gitlink, "b", HELLO)?,
-    ];
-    let framed = written_tree(&rt, &entries)?;
-    let key = Key {
-        kind: ObjKind::Tree,
-        id: id_of(framed.as_slice()),
-    };
-    let read = Object::checked(alloc, key, framed)?.entries(alloc)?;
-    assert_eq!(rt; read.len(), 4);
-    assert_eq!(rt; read[0].name.as_slice(), b"a.b".as_slice());
-    assert_eq!(rt; read[0].mode, Mode::Exec);
-    assert_eq!(rt; read[1].name.as_slice(), b"a".as_slice());
-    assert_eq!(rt; read[1].id, Id { bytes: TREE_A });
-    assert_eq!(rt; read[2].mode, Mode::Gitlink);
-    assert_eq!(rt; read[3].mode, Mode::Link);
+    let read = read_again(rt.alloc(), entries(rt.alloc(), EACH_MODE)?.as_slice())?;
+    assert!(rt; read.len() == 4);
+    assert!(rt; has(&read[0], Mode::Exec, b"a.b", VERSION_1));
+    assert!(rt; has(&read[1], Mode::Dir, b"a", TREE_A));
+    assert!(rt; has(&read[2], Mode::Gitlink, b"b", HELLO));
+    assert!(rt; has(&read[3], Mode::Link, b"c", HELLO));
     Ok(())
 }

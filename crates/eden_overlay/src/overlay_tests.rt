@@ -46,60 +46,81 @@ fn one_file(alloc: Global) -> Result<Vec<StoredEntry>, Fail>
 
 const ONE_FILE: &[u8] = b"\0\0\0\x01\0\x01\0\0\0\0\0\0\0\x02\x08test.txt";
 
-#[test]
-fn files_are_stored_and_got(rt: HostRuntime) -> Result<(), Fail> {
-    let alloc = rt.alloc();
+type InMemory = Overlay<Outside, MemoryFiles<Outside>>;
+
+const STATE: State = State {
+    root: Id { bytes: [0x11; 20] },
+    next: 3,
+};
+
+const STATE_BODY: &[u8] =
+    b"\x11\x11\x11\x11\x11\x11\x11\x11\x11\x11\x11\x11\x11\x11\x11\x11\x11\x11\x11\x11\0\0\0\0\0\0\0\x03";
+
+// An overlay that holds a file, which was stored twice, the root's directory and the state.
+fn filled(alloc: Global) -> Result<InMemory, Fail> {
     let mut overlay = Overlay::<Outside, _>::new(MemoryFiles::<Outside>::new(alloc));
-    assert!(rt; overlay.put_file(alloc, 2, b"hello").is_ok());
-    assert!(rt; overlay.put_file(alloc, 2, b"hi").is_ok());
-    let entries = one_file(alloc)?;
-    assert!(rt; overlay.put_dir(alloc, 1, &entries).is_ok());
-    let root = Id { bytes: [0x11; 20] };
-    let state = State { root, next: 3 };
-    assert!(rt; overlay.put_state(alloc, state).is_ok());
-    let content = overlay.get_file(alloc, 2).ok().ok_or("a content")?;
-    assert!(rt; content.as_slice() == b"hi".as_slice());
-    let got = overlay.get_dir(alloc, 1).ok().ok_or("a directory")?;
-    assert!(rt;
-        got.iter()
-            .all(|entry| entry.name.as_slice() == b"test.txt".as_slice())
-    );
-    assert_eq!(rt; got.len(), 1);
-    assert_eq!(rt; overlay.get_state(alloc), Ok(state));
-    let numbers = overlay.list(alloc).ok().ok_or("numbers")?;
+    overlay.put_file(alloc, 2, b"hello")?;
+    overlay.put_file(alloc, 2, b"hi")?;
+    overlay.put_dir(alloc, 1, &one_file(alloc)?)?;
+    overlay.put_state(alloc, STATE)?;
+    Ok(overlay)
+}
+
+// Whether file 2 has that content.
+fn has_content(overlay: &mut InMemory, alloc: Global, want: &[u8]) -> bool {
+    match overlay.get_file(alloc, 2) {
+        Ok(content) => content.as_slice() == want,
+        Err(_) => false,
+    }
+}
+
+// Whether the root's directory has the file `test.txt` alone.
+fn has_one_file(overlay: &mut InMemory, alloc: Global) -> bool {
+    match overlay.get_dir(alloc, 1) {
+        Ok(entries) => entries.len() == 1 && entries[0].name.as_slice() == b"test.txt".as_slice(),
+        Err(_) => false,
+    }
+}
+
+#[test]
+fn files_are_got(rt: HostRuntime) -> Result<(), Fail> {
+    let mut overlay = filled(rt.alloc())?;
+    assert!(rt; has_content(&mut overlay, rt.alloc(), b"hi"));
+    assert!(rt; has_one_file(&mut overlay, rt.alloc()));
+    assert!(rt; overlay.get_state(rt.alloc()) == Ok(STATE));
+    let numbers = overlay.list(rt.alloc())?;
     assert!(rt; numbers.as_slice() == [0, 1, 2].as_slice());
-    let mut files = overlay.into_files();
-    let mut state_body = [0x11; 20].to_vec(alloc)?;
-    state_body.extend_from_slice(&[0, 0, 0, 0, 0, 0, 0, 3])?;
-    for (number, bytes, len) in [
-        (0, stored(alloc, &FILE, &state_body)?, 92),
-        (1, stored(alloc, &DIRECTORY, ONE_FILE)?, 87),
-        (2, stored(alloc, &FILE, b"hi")?, 66),
-    ] {
-        assert_eq!(rt; bytes.len(), len, "at {number}");
-        let got = files.read(alloc, number).ok().ok_or("bytes")?;
-        assert!(rt; got == Some(bytes), "at {number}");
+    Ok(())
+}
+
+// The files of that overlay: their numbers, the first bytes of their headers, their bodies and their lengths.
+const STORED: &[(u64, [u8; 8], &[u8], usize)] = &[
+    (0, FILE, STATE_BODY, 92),
+    (1, DIRECTORY, ONE_FILE, 87),
+    (2, FILE, b"hi", 66),
+];
+
+#[test]
+fn files_are_stored(rt: HostRuntime) -> Result<(), Fail> {
+    let mut files = filled(rt.alloc())?.into_files();
+    for (number, front, body, len) in STORED {
+        let bytes = stored(rt.alloc(), front, body)?;
+        assert!(rt; bytes.len() == *len);
+        assert!(rt; files.read(rt.alloc(), *number)? == Some(bytes));
     }
     Ok(())
 }
 
 #[test]
 fn files_are_removed(rt: HostRuntime) -> Result<(), Fail> {
-    let alloc = rt.alloc();
-    let mut overlay = Overlay::<Outside, _>::new(MemoryFiles::<Outside>::new(alloc));
-    let entries = one_file(alloc)?;
-    assert!(rt; overlay.put_file(alloc, 2, b"hi").is_ok());
-    assert!(rt; overlay.put_dir(alloc, 1, &entries).is_ok());
-    let root = Id { bytes: [0x11; 20] };
-    assert!(rt; overlay.put_state(alloc, State { root, next: 3 }).is_ok());
-    assert!(rt; overlay.remove(alloc, 1).is_ok());
-    assert!(rt; overlay.remove_state(alloc).is_ok());
-    assert_eq!(rt; overlay.get_state(alloc), Err(GetFault::Absent));
-    assert_eq!(rt; overlay.get_dir(alloc, 1).err(), Some(GetFault::Absent));
-    assert_eq!(rt; overlay.get_file(alloc, 1).err(), Some(GetFault::Absent));
-    let content = overlay.get_file(alloc, 2).ok().ok_or("a content")?;
-    assert!(rt; content.as_slice() == b"hi".as_slice());
-    assert!(rt; overlay.remove(alloc, 7).is_ok());
+    let mut overlay = filled(rt.alloc())?;
+    overlay.remove(rt.alloc(), 1)?;
+    overlay.remove_state(rt.alloc())?;
+    overlay.remove(rt.alloc(), 7)?;
+    assert!(rt; overlay.get_state(rt.alloc()) == Err(GetFault::Absent));
+    assert!(rt; overlay.get_dir(rt.alloc(), 1).err() == Some(GetFault::Absent));
+    assert!(rt; overlay.get_file(rt.alloc(), 1).err() == Some(GetFault::Absent));
+    assert!(rt; has_content(&mut overlay, rt.alloc(), b"hi"));
     Ok(())
 }
 

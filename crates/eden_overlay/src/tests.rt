@@ -47,10 +47,10 @@ fn gives<W: World, F: Files<W>>(files: &mut F, alloc: Global, call: Call, want: 
 }
 
 fn is_done(answer: Result<(), FilesFault>, want: Answer) -> bool {
-    match (answer, want) {
-        (Ok(()), Answer::Done) => true,
-        (Err(FilesFault::Device), Answer::Device) => true,
-        _ => false,
+    match answer {
+        Ok(()) => matches!(want, Answer::Done),
+        Err(FilesFault::Device) => matches!(want, Answer::Device),
+        Err(FilesFault::Memory) => false,
     }
 }
 
@@ -239,6 +239,18 @@ const FAILED: [(SystemCall, Ask); 8] = [
     (SystemCall::List, Ask::List),
 ];
 
+// Whether the call answers `Device`, once and counted, where those of the system fail.
+fn is_told(rt: &HostRuntime, folder: PathBuf, call: SystemCall, ask: Ask) -> bool {
+    let system = FaultySystem {
+        files: rt,
+        call,
+        kind: ErrorKind::ConnectionReset,
+        instead: None,
+    };
+    let mut files = FolderFiles::new(system, folder);
+    fault_of(&mut files, rt.alloc(), ask) == Some(FilesFault::Device) && files.failures() == 1
+}
+
 #[test]
 fn a_failing_device_is_told_and_counted(rt: HostRuntime) -> Result<(), Fail> {
     let alloc = rt.alloc();
@@ -246,15 +258,7 @@ fn a_failing_device_is_told_and_counted(rt: HostRuntime) -> Result<(), Fail> {
     let mut sound = FolderFiles::new(&rt, folder.clone()?);
     sound.replace(alloc, 5, b"old")?;
     for (call, ask) in FAILED {
-        let system = FaultySystem {
-            files: &rt,
-            call,
-            kind: ErrorKind::ConnectionReset,
-            instead: None,
-        };
-        let mut files = FolderFiles::new(system, folder.clone()?);
-        assert!(rt; fault_of(&mut files, alloc, ask) == Some(FilesFault::Device));
-        assert_eq!(rt; files.failures(), 1);
+        assert!(rt; is_told(&rt, folder.clone()?, call, ask));
         let kept = sound.read(alloc, 5)?.ok_or("the file")?;
         assert!(rt; kept.as_slice() == b"old".as_slice());
     }
@@ -273,46 +277,54 @@ fn failing<W: World, F: Files<W>>(files: &mut F, alloc: Global) -> [bool; 4] {
     .map(|call| gives::<W, F>(files, alloc, call, Answer::Device))
 }
 
+// The call that fails, which calls fail then, and what is left.
+const ONE_FAILS: &[(u64, [bool; 4], &[u64])] = &[
+    (0, [false, false, false, false], &[]),
+    (1, [true, false, false, false], &[]),
+    (2, [false, true, false, false], &[]),
+    (3, [false, false, true, false], &[7]),
+    (4, [false, false, false, true], &[]),
+    (5, [false, false, false, false], &[]),
+];
+
+// Whether those calls fail where that one does, and are counted.
+fn one_fails(
+    files: &mut FailingFiles<MemoryFiles<Outside>>,
+    alloc: Global,
+    want: [bool; 4],
+) -> bool {
+    failing::<Outside, _>(files, alloc) == want && (files.failures() == 1) == want.contains(&true)
+}
+
 #[test]
 fn one_call_fails(rt: HostRuntime) {
-    for (call, want, left) in [
-        (0, [false, false, false, false], [].as_slice()),
-        (1, [true, false, false, false], [].as_slice()),
-        (2, [false, true, false, false], [].as_slice()),
-        (3, [false, false, true, false], [7].as_slice()),
-        (4, [false, false, false, true], [].as_slice()),
-        (5, [false, false, false, false], [].as_slice()),
-    ] {
-        let mut files = FailingFiles::new(MemoryFiles::<Outside>::new(rt.alloc()), call);
-        let failed = failing::<Outside, _>(&mut files, rt.alloc());
-        assert!(rt; failed == want, "at call {call}");
-        assert_eq!(rt;
-            files.failures() == 1,
-            want.contains(&true),
-            "at call {call}"
-        );
+    for (call, want, left) in ONE_FAILS {
+        let mut files = FailingFiles::new(MemoryFiles::<Outside>::new(rt.alloc()), *call);
+        assert!(rt; one_fails(&mut files, rt.alloc(), *want), "at call {call}");
         let mut files = files.into_files();
         let listed = gives::<Outside, _>(&mut files, rt.alloc(), Call::List, Answer::Numbers(left));
         assert!(rt; listed, "at call {call}");
     }
 }
 
+// The calls that are allowed, which fail, and the failures so far.
+const STOPS: &[(u64, [bool; 4], u64)] = &[
+    (1, [false, true, true, true], 3),
+    (3, [false, false, false, true], 4),
+    (0, [true, true, true, true], 8),
+    (4, [false, false, false, false], 8),
+];
+
 #[test]
 fn files_stop_and_are_mended(rt: HostRuntime) -> Result<(), Fail> {
     let allowed = Rc::new(rt.alloc(), Cell::new(0))?;
     let files = MemoryFiles::<Outside>::new(rt.alloc());
     let mut files = StopFiles::new(files, allowed.clone()?);
-    for (calls, want, failures) in [
-        (1, [false, true, true, true], 3),
-        (3, [false, false, false, true], 4),
-        (0, [true, true, true, true], 8),
-        (4, [false, false, false, false], 8),
-    ] {
-        allowed.set(calls);
-        let failed = failing::<Outside, _>(&mut files, rt.alloc());
-        assert!(rt; failed == want, "with {calls} calls");
-        assert_eq!(rt; allowed.get(), 0, "with {calls} calls");
-        assert_eq!(rt; files.failures(), failures, "with {calls} calls");
+    for (calls, want, failures) in STOPS {
+        allowed.set(*calls);
+        assert!(rt; failing::<Outside, _>(&mut files, rt.alloc()) == *want);
+        assert!(rt; allowed.get() == 0);
+        assert!(rt; files.failures() == *failures);
     }
     let mut files = files.into_files();
     assert!(rt; gives::<Outside, _>(&mut files, rt.alloc(), Call::List, Answer::Numbers(&[])));

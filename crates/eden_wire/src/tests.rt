@@ -164,38 +164,38 @@ fn pieces_of_any_size(rt: HostRuntime) -> Result<(), Fail> {
     Ok(())
 }
 
+// How a session ends whose reader fails at that call, or at none.
+fn ended(
+    alloc: Global,
+    bad_read: u32,
+    writer: &mut Sink,
+) -> Result<Result<(), SessionFault>, Fail> {
+    let mut reader = make_pieces(LINES, 1);
+    reader.bad = bad_read;
+    Ok(session(alloc, &mut reader, writer, &mut make_small(alloc)?))
+}
+
 #[test]
-fn each_failed_read_or_write(rt: HostRuntime) -> Result<(), Fail> {
-    let alloc = rt.alloc();
+fn each_failed_read(rt: HostRuntime) -> Result<(), Fail> {
     for bad in 1..=LINES.len() as u32 {
-        let mut reader = Pieces {
-            bytes: LINES,
-            size: 1,
-            calls: 0,
-            bad,
-        };
-        let mut writer = make_sink(alloc, 1);
-        let outcome = session(alloc, &mut reader, &mut writer, &mut make_small(alloc)?);
-        assert_eq!(rt; outcome, Err(SessionFault::Read), "read {bad}");
-        assert!(rt; TEXTS.starts_with(writer.got.as_slice()), "read {bad}");
-        assert_eq!(rt; writer.got.ends_with(b"\n"), bad > 7, "read {bad}");
+        let mut writer = make_sink(rt.alloc(), 1);
+        let outcome = ended(rt.alloc(), bad, &mut writer)?;
+        assert!(rt; outcome == Err(SessionFault::Read));
+        assert!(rt; TEXTS.starts_with(writer.got.as_slice()));
+        assert!(rt; writer.got.ends_with(b"\n") == (bad > 7));
     }
+    Ok(())
+}
+
+#[test]
+fn each_failed_write(rt: HostRuntime) -> Result<(), Fail> {
     for bad in 1..=TEXTS.len() as u32 + 6 {
-        let mut writer = Sink {
-            got: Vec::new(alloc),
-            size: 1,
-            calls: 0,
-            bad,
-        };
-        let outcome = session(
-            alloc,
-            &mut make_pieces(LINES, 1),
-            &mut writer,
-            &mut make_small(alloc)?,
-        );
-        assert_eq!(rt; outcome, Err(SessionFault::Write), "write {bad}");
-        assert!(rt; TEXTS.starts_with(writer.got.as_slice()), "write {bad}");
-        assert_eq!(rt; writer.calls, bad, "write {bad}");
+        let mut writer = make_sink(rt.alloc(), 1);
+        writer.bad = bad;
+        let outcome = ended(rt.alloc(), 0, &mut writer)?;
+        assert!(rt; outcome == Err(SessionFault::Write));
+        assert!(rt; TEXTS.starts_with(writer.got.as_slice()));
+        assert!(rt; writer.calls == bad);
     }
     Ok(())
 }
@@ -370,45 +370,54 @@ fn deep(alloc: Global, names: usize, len: usize) -> Result<Vec<u8>, Fail> {
     Ok(line)
 }
 
+// Lines, and the requests that they are, with what stands behind the path `/a`.
+const SPELLINGS: &[(&[u8], &str, &str)] = &[
+    (b"kind /a", "Kind", ""),
+    (b"stat /a", "Stat", ""),
+    (
+        b"read /a 18446744073709551615 0",
+        "Read",
+        ", 18446744073709551615, 0",
+    ),
+    (b"readlink /a", "ReadLink", ""),
+    (b"list /a - 1", "List", ", None, 1"),
+    (
+        b"list /a .%FF 1000",
+        "List",
+        ", Some(Name { bytes: [46, 255] }), 1000",
+    ),
+    (
+        b"write /a 7 00ff1a",
+        "Write",
+        ", 7, Bytes { content: [0, 255, 26] }",
+    ),
+    (b"write /a 7 -", "Write", ", 7, Bytes { content: [] }"),
+    (b"truncate /a 3", "Truncate", ", 3"),
+    (b"create /a", "Create", ""),
+    (b"setexec /a 0", "SetExec", ", false"),
+    (b"setexec /a 1", "SetExec", ", true"),
+    (b"mkdir /a", "Mkdir", ""),
+    (b"symlink /a 2e", "Symlink", ", Bytes { content: [46] }"),
+    (b"unlink /a", "Unlink", ""),
+    (b"rmdir /a", "Rmdir", ""),
+    (b"rename /a /", "Rename", ", Path { names: [] }"),
+];
+
+// What a line is read as.
+fn item(alloc: Global, line: &[u8]) -> Result<String, Fail> {
+    let item = read_request(alloc, line)?;
+    Ok(format!(in alloc; "{item:?}")?)
+}
+
+fn request(alloc: Global, name: &str, rest: &str) -> Result<String, Fail> {
+    let path = "Path { names: [Name { bytes: [97] }] }";
+    Ok(format!(in alloc; "Asks({name}({path}{rest}))")?)
+}
+
 #[test]
 fn spellings_of_requests(rt: HostRuntime) -> Result<(), Fail> {
-    let alloc = rt.alloc();
-    let a = "Path { names: [Name { bytes: [97] }] }";
-    for (line, name, rest) in [
-        (b"kind /a".as_slice(), "Kind", ""),
-        (b"stat /a", "Stat", ""),
-        (
-            b"read /a 18446744073709551615 0",
-            "Read",
-            ", 18446744073709551615, 0",
-        ),
-        (b"readlink /a", "ReadLink", ""),
-        (b"list /a - 1", "List", ", None, 1"),
-        (
-            b"list /a .%FF 1000",
-            "List",
-            ", Some(Name { bytes: [46, 255] }), 1000",
-        ),
-        (
-            b"write /a 7 00ff1a",
-            "Write",
-            ", 7, Bytes { content: [0, 255, 26] }",
-        ),
-        (b"write /a 7 -", "Write", ", 7, Bytes { content: [] }"),
-        (b"truncate /a 3", "Truncate", ", 3"),
-        (b"create /a", "Create", ""),
-        (b"setexec /a 0", "SetExec", ", false"),
-        (b"setexec /a 1", "SetExec", ", true"),
-        (b"mkdir /a", "Mkdir", ""),
-        (b"symlink /a 2e", "Symlink", ", Bytes { content: [46] }"),
-        (b"unlink /a", "Unlink", ""),
-        (b"rmdir /a", "Rmdir", ""),
-        (b"rename /a /", "Rename", ", Path { names: [] }"),
-    ] {
-        let item = read_request(alloc, line)?;
-        let found = format!(in alloc; "{item:?}")?;
-        let want = format!(in alloc; "Asks({name}({a}{rest}))")?;
-        assert_eq!(rt; found.as_str(), want.as_str());
+    for (line, name, rest) in SPELLINGS {
+        assert!(rt; item(rt.alloc(), line)? == request(rt.alloc(), name, rest)?);
     }
     Ok(())
 }
@@ -428,25 +437,28 @@ fn long_data_is_a_request(rt: HostRuntime) -> Result<(), Fail> {
 
 #[test]
 fn the_longest_line(rt: HostRuntime) -> Result<(), Fail> {
-    let alloc = rt.alloc();
-    let mut line = deep(alloc, 1, 149_994)?;
-    assert_eq!(rt; line.len(), LONGEST_LINE);
+    let mut line = deep(rt.alloc(), 1, 149_994)?;
+    assert!(rt; line.len() == LONGEST_LINE);
     line.push(b'\n')?;
-    assert_eq!(rt;
-        said(alloc, line.as_slice(), 1)?.as_slice(),
-        b"err 36 ENAMETOOLONG\n".as_slice()
-    );
-    let line = deep(alloc, 1, 149_995)?;
-    let mut reader = Pieces {
-        bytes: line.as_slice(),
-        size: 1,
-        calls: 0,
-        bad: 150_002,
-    };
-    let mut writer = make_sink(alloc, MOST);
-    session(alloc, &mut reader, &mut writer, &mut make_small(alloc)?)?;
-    assert_eq!(rt; writer.got.as_slice(), b"err 71 EPROTO\n".as_slice());
-    assert_eq!(rt; reader.calls, 150_001);
+    let found = said(rt.alloc(), line.as_slice(), 1)?;
+    assert!(rt; found.as_slice() == b"err 36 ENAMETOOLONG\n".as_slice());
+    Ok(())
+}
+
+#[test]
+fn a_longer_line_is_answered_at_once(rt: HostRuntime) -> Result<(), Fail> {
+    let line = deep(rt.alloc(), 1, 149_995)?;
+    let mut reader = make_pieces(line.as_slice(), 1);
+    reader.bad = 150_002;
+    let mut writer = make_sink(rt.alloc(), MOST);
+    session(
+        rt.alloc(),
+        &mut reader,
+        &mut writer,
+        &mut make_small(rt.alloc())?,
+    )?;
+    assert!(rt; writer.got.as_slice() == b"err 71 EPROTO\n".as_slice());
+    assert!(rt; reader.calls == 150_001);
     Ok(())
 }
 
@@ -581,45 +593,73 @@ const TREE: Id = Id {
     ],
 };
 
+// The text of a reply, written three bytes at a time.
+fn text(alloc: Global, reply: &Reply) -> Result<Vec<u8>, Fail> {
+    let mut writer = make_sink(alloc, 3);
+    write_reply(&mut writer, &mut Scratch::new(alloc)?, reply)?;
+    Ok(writer.got)
+}
+
+const SIZES: &[(Kind, u64, &[u8])] = &[
+    (Kind::File, 7, b"stat file 7\n"),
+    (Kind::Exec, u64::MAX, b"stat exec 18446744073709551615\n"),
+    (Kind::Link, 1, b"stat link 1\n"),
+    (Kind::Dir, 0, b"stat dir 0\n"),
+];
+
 #[test]
-fn texts_of_replies(rt: HostRuntime) -> Result<(), Fail> {
-    let alloc = rt.alloc();
-    let mut scratch = Scratch::new(alloc)?;
-    for (reply, want) in [
-        (Reply::Ok, b"ok\n".as_slice()),
-        (Reply::Kind(Kind::File), b"kind file\n"),
-        (Reply::Kind(Kind::Exec), b"kind exec\n"),
-        (Reply::Kind(Kind::Link), b"kind link\n"),
-        (Reply::Kind(Kind::Dir), b"kind dir\n"),
-        (Reply::Stat(Kind::Dir, 0), b"stat dir 0\n"),
-        (
-            Reply::Stat(Kind::Exec, u64::MAX),
-            b"stat exec 18446744073709551615\n",
-        ),
-        (Reply::Count(65_536), b"count 65536\n"),
-        (data(alloc, b"")?, b"data 0\n"),
-        (
-            data(alloc, b"version 1\n")?,
-            b"data 10 76657273696f6e20310a\n",
-        ),
-        (
-            entry(alloc, b"-a %\n\xff", Kind::Link, true)?,
-            b"entries 1 link %2Da%20%25%0A%FF more\n",
-        ),
-        (Reply::Err(Errno::ENOENT), b"err 2 ENOENT\n"),
-        (Reply::Err(Errno::ENOTEMPTY), b"err 39 ENOTEMPTY\n"),
-        (
-            Reply::Fault(Fault::Fetch(TREE, Cause::Missing)),
-            b"fault fetch d8329fc1cc938780ffdd9f94e0d364e0ea74f579 Missing\n",
-        ),
-        (Reply::Fault(Fault::Memory), b"fault memory\n"),
-        (Reply::Fault(Fault::Overlay), b"fault overlay\n"),
-        (Reply::Fault(Fault::Numbers), b"fault numbers\n"),
-    ] {
-        let mut writer = make_sink(alloc, 3);
-        write_reply(&mut writer, &mut scratch, &reply)?;
-        assert_eq!(rt; writer.got.as_slice(), want);
+fn texts_of_kinds_and_sizes(rt: HostRuntime) -> Result<(), Fail> {
+    for (kind, size, want) in SIZES {
+        let found = text(rt.alloc(), &Reply::Stat(*kind, *size))?;
+        assert!(rt; found.as_slice() == *want);
     }
+    let kind = text(rt.alloc(), &Reply::Kind(Kind::Exec))?;
+    assert!(rt; kind.as_slice() == b"kind exec\n".as_slice());
+    Ok(())
+}
+
+const FAULTS: &[(Fault, &[u8])] = &[
+    (
+        Fault::Fetch(TREE, Cause::Missing),
+        b"fault fetch d8329fc1cc938780ffdd9f94e0d364e0ea74f579 Missing\n",
+    ),
+    (Fault::Memory, b"fault memory\n"),
+    (Fault::Overlay, b"fault overlay\n"),
+    (Fault::Numbers, b"fault numbers\n"),
+];
+
+#[test]
+fn texts_of_faults(rt: HostRuntime) -> Result<(), Fail> {
+    for (fault, want) in FAULTS {
+        let found = text(rt.alloc(), &Reply::Fault(*fault))?;
+        assert!(rt; found.as_slice() == *want);
+    }
+    Ok(())
+}
+
+// Whether the reply has that text.
+fn reads(alloc: Global, reply: Reply, want: &[u8]) -> Result<bool, Fail> {
+    Ok(text(alloc, &reply)?.as_slice() == want)
+}
+
+#[test]
+fn texts_of_other_replies(rt: HostRuntime) -> Result<(), Fail> {
+    let alloc = rt.alloc();
+    assert!(rt; reads(alloc, Reply::Ok, b"ok\n")?);
+    assert!(rt; reads(alloc, Reply::Count(65_536), b"count 65536\n")?);
+    assert!(rt; reads(alloc, Reply::Err(Errno::ENOENT), b"err 2 ENOENT\n")?);
+    assert!(rt; reads(alloc, Reply::Err(Errno::ENOTEMPTY), b"err 39 ENOTEMPTY\n")?);
+    Ok(())
+}
+
+#[test]
+fn texts_of_payloads(rt: HostRuntime) -> Result<(), Fail> {
+    let alloc = rt.alloc();
+    assert!(rt; reads(alloc, data(alloc, b"")?, b"data 0\n")?);
+    let version = data(alloc, b"version 1\n")?;
+    assert!(rt; reads(alloc, version, b"data 10 76657273696f6e20310a\n")?);
+    let odd = entry(alloc, b"-a %\n\xff", Kind::Link, true)?;
+    assert!(rt; reads(alloc, odd, b"entries 1 link %2Da%20%25%0A%FF more\n")?);
     Ok(())
 }
 
