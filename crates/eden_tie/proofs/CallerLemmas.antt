@@ -10,10 +10,11 @@ pub use Rattle.eden_tie.proofs.Forward.{number_kept, kind_stays}
 pub use Rattle.eden_tie.proofs.Going.{bare_listing}
 -- a chain of directories, one step of it
 pub use Rattle.eden_tie.proofs.Chains.{chain_loaded, chain_last, chain_marked, chain_absent, chain_rest, marked_is}
+pub use Rattle.eden_tie.proofs.Materialised.{along_found, chain_sound, chain_tied}
 -- a listing without one entry, and an entry that is taken back
 pub use Rattle.eden_tie.proofs.Leaving.{rows_without, without_drops, stored_without, take_other, take_same, back_there, back_to}
 pub use Rattle.eden_tie.proofs.Changing.{full_are}
-pub use Rattle.eden_tie.proofs.Moved.{changes_kept}
+pub use Rattle.eden_tie.proofs.Moved.{changes_kept, moves_kept}
 -- what loads, and directories that go, keep of a table's invariant, beside `kept_laws`
 pub use Rattle.eden_tie.proofs.Tables.{own_loads_table, unloads_table}
 pub use Rattle.eden_tie.proofs.KeptLemmas.{own_loads_kept, unloads_kept, tables_unload}

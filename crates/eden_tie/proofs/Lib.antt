@@ -7,6 +7,7 @@ pub mod Follows
 pub mod Chain
 pub mod Going
 pub mod Chains
+pub mod Materialised
 pub mod Loops
 pub mod Forward
 pub mod Changing

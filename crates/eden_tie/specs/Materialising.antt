@@ -1,5 +1,5 @@
 -- Which files materialising a directory stores.
-use Rattle.std.specs.Prelude.{◌≡◌, ◌⊎◌, Bool, true, false, if◌then◌else◌, List, [], ◌∷◌, map, Option, Some, None}
+use Rattle.std.specs.Prelude.{◌≡◌, ◌⊎◌, ℕ, Bool, true, false, if◌then◌else◌, List, [], ◌∷◌, map, Option, Some, None}
 use Rattle.std.specs.Str.{bytes_eq}
 use Rattle.eden_model.specs.declared.kind.Origin.{Origin}
 use Rattle.eden_model.specs.declared.kind.Origin.TheVariants as origin
@@ -9,10 +9,12 @@ use Rattle.eden_overlay_format.specs.Directory.{AreStorable}
 use Rattle.eden_overlay_format.specs.declared.stored_entry.StoredEntry.{StoredEntry}
 use Rattle.eden_overlay.specs.Files.{Stored}
 use Rattle.eden_overlay.specs.Held.{with_entries}
+use Rattle.eden_overlay.specs.Soundness.{AreSound}
 use Rattle.eden_tree.specs.Directory.{Row, Directory, child_of, change_child}
 use Rattle.eden_tree.specs.Rows.{find_row, change_row}
 use Rattle.eden_tie.specs.Listings.{listing_of}
 use Rattle.eden_tie.specs.Laws.{owned, with_owned}
+use Rattle.eden_tie.specs.Ties.{Ties}
 
 -- whether the origin is its own
 abbrev pub is_own : Origin → Bool
@@ -66,3 +68,11 @@ owned_along (n ∷ p) x = change_child (λ d. record d {
 -- what is stored of a directory with an entry marked is the listing of the directory with that entry its own
 abbrev pub MarkedIs : Type 0
 MarkedIs = (d : Directory) (n : Name) (z : Row) → AreRising (λ r. r.0) d.rows → find_row n d.rows ≡ Some z → marked_listing d n ≡ listing_of (with_owned d n z)
+
+-- while a chain from the root on is stored, the files stay sound
+abbrev pub ChainSound : Type 0
+ChainSound = (F full : Stored) (x : Row) (next : ℕ) → Ties F full x next → (p : Path) (G : Stored) → IsChain x p → OnTheWay F x p G → AreSound G
+
+-- once it is stored, its directories may become their own, the root among them
+abbrev pub ChainTied : Type 0
+ChainTied = (F full : Stored) (x : Row) (next : ℕ) → Ties F full x next → (p : Path) (G : Stored) → IsChain x p → Chain F x p G → Ties G full (owned (owned_along p x)) next

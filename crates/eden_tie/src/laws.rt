@@ -1,5 +1,5 @@
 ghost use Rattle.eden_tie.specs.Laws.{TiesSound, GoesTied, StraysTied, ChildrenTied, RootTied};
-ghost use Rattle.eden_tie.specs.Materialising.{MarkedIs};
+ghost use Rattle.eden_tie.specs.Materialising.{MarkedIs, ChainSound, ChainTied};
 ghost use Rattle.eden_tie.specs.Changing.{ChangesTied, LeftOutTied, EntryTied, DropTied, MoveTied, NewFileTied, MovesKept, NewEntryTied};
 
 /// What ties a table to its files, and what keeps it tied.
@@ -10,6 +10,8 @@ pub fn tie_laws()
     ensures children { ChildrenTied }
     ensures root { RootTied }
     ensures marked { MarkedIs }
+    ensures chain_sound { ChainSound }
+    ensures chain { ChainTied }
     ensures changes { ChangesTied }
     ensures left_out { LeftOutTied }
     ensures entry { EntryTied }

@@ -2,6 +2,7 @@ use Rattle.eden_tie.proofs.Sound.{ties_sound}
 use Rattle.eden_tie.proofs.Chain.{children_tied, strays_tied, root_tied}
 use Rattle.eden_tie.proofs.Going.{goes_tied}
 use Rattle.eden_tie.proofs.Chains.{marked_is}
+use Rattle.eden_tie.proofs.Materialised.{chain_sound, chain_tied}
 use Rattle.eden_tie.proofs.Changing.{changes_tied, left_out_tied}
 use Rattle.eden_tie.proofs.Moved.{entry_tied, drop_tied, move_tied, new_file_tied, moves_kept, new_entry_tied}
 use Rattle.eden_tie.proofs.laws.tie_laws.Goals as goal
@@ -23,6 +24,12 @@ returns-clause-root c = root_tied
 
 pub returns-clause-marked : goal.returns-clause-marked
 returns-clause-marked c = marked_is
+
+pub returns-clause-chain_sound : goal.returns-clause-chain_sound
+returns-clause-chain_sound c = chain_sound
+
+pub returns-clause-chain : goal.returns-clause-chain
+returns-clause-chain c = chain_tied
 
 pub returns-clause-changes : goal.returns-clause-changes
 returns-clause-changes c = changes_tied

@@ -1,0 +1,6 @@
+mod Entries
+mod Steps
+mod Putting
+mod Swapped
+mod Order
+mod Moves

@@ -1,0 +1,6 @@
+use Rattle.eden_materialise.specs.Moves.{marked}
+use Rattle.eden_materialise.proofs.Putting.{edited}
+use Rattle.eden_materialise.proofs.memory.mark_at.Goals as goal
+
+pub returns : goal.returns
+returns g c = edited marked c.args.path.now c.args.root.now c.change_at.new.self tt c.change_at.result c.change_at.ensures.none c.change_at.ensures.kept c.change_at.ensures.some

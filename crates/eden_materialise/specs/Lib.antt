@@ -1,0 +1,4 @@
+pub mod Listed
+pub mod Puts
+pub mod Chains
+pub mod Moves

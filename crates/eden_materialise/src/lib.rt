@@ -1,0 +1,16 @@
+//! The steps that make a mount's directories its own and change their listings: stored first, and then so in memory.
+//!
+//! They work on an entry in memory with what is loaded below it (`eden_tree`) and on the stored files of the mount
+//! (`eden_overlay`). Each owns its stores and its change in memory, so that a contract compares before and after alone;
+//! `eden_tie` has the laws by which files and memory stay tied.
+#![tactic(auto)]
+
+mod chain;
+mod change;
+mod listing;
+mod memory;
+mod moving;
+
+pub use chain::materialise;
+pub use change::change_at;
+pub use moving::move_entry;
