@@ -111,7 +111,7 @@ fn measure_reads<R: Print + Clock + AllocGlobal>(
 ) -> io::Result<()> {
     let start = Instant::now(rt)?;
     let found = read_again(rt.alloc(), body, rounds)?;
-    println!(rt; "  {found} entries read")?;
+    println!(rt; "  entries read: {found}")?;
     timing.tell_each(rt, "decode_tree, an entry", &start, all)
 }
 
@@ -127,11 +127,11 @@ fn measure_loads<R: Print + Clock + AllocGlobal>(
 {
     let start = Instant::now(rt)?;
     let given = load_all(rt.alloc(), tables, entries);
-    println!(rt; "  {given} entries loaded")?;
+    println!(rt; "  entries loaded: {given}")?;
     timing.tell_each(rt, "load, an entry", &start, all)?;
     let start = Instant::now(rt)?;
     let gone = unload_all(rt.alloc(), tables);
-    println!(rt; "  {gone} directories unloaded")?;
+    println!(rt; "  directories unloaded: {gone}")?;
     timing.tell_each(rt, "unload, an entry", &start, all)
 }
 
@@ -202,15 +202,15 @@ fn look_again(table: &mut Table, path: &[Name]) -> u32 {
     found
 }
 
-/// Looks along the first so many of the names.
+/// Looks along the first so many of the names, all of them where they are fewer.
 fn measure_looks<R: Print + Clock>(
     rt: &R,
     table: &mut Table,
     names: &[Name],
-    length: usize,
+    depth: usize,
     timing: Timing,
 ) -> io::Result<()> {
-    let path = &names[..length.min(names.len())];
+    let path = &names[..depth.min(names.len())];
     let start = Instant::now(rt)?;
     let found = look_again(table, path);
     println!(rt;
@@ -226,8 +226,8 @@ fn measure_paths<R: Print + Clock + AllocGlobal>(rt: &R, timing: Timing) -> io::
     let mut table = table(rt.alloc());
     let loaded = nest(rt.alloc(), &mut table, names.as_slice())?;
     println!(rt; "{loaded} directories nested")?;
-    for length in [1, 8, 64] {
-        measure_looks(rt, &mut table, names.as_slice(), length, timing)?;
+    for depth in [1, 8, 64] {
+        measure_looks(rt, &mut table, names.as_slice(), depth, timing)?;
     }
     Ok(())
 }
