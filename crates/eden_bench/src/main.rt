@@ -4,6 +4,7 @@
 
 mod cache;
 mod directory;
+mod inodes;
 mod lines;
 mod name;
 mod oracle;
@@ -18,7 +19,7 @@ use std::{env, io};
 use timing::Timing;
 
 const USAGE: &str =
-    "usage: eden_bench cache|directory|lines|overlay|tree COUNT [timed], or eden_bench oracle";
+    "usage: eden_bench cache|directory|inodes|lines|overlay|tree COUNT [timed], or eden_bench oracle";
 
 /// Runs the workload that the words name. False where they name none.
 fn run<R: Print + Clock + AllocGlobal>(rt: &R, words: &[String]) -> io::Result<bool> {
@@ -33,6 +34,7 @@ fn run<R: Print + Clock + AllocGlobal>(rt: &R, words: &[String]) -> io::Result<b
     match name.as_str() {
         "cache" => cache::run(rt, count, timing)?,
         "directory" => directory::run(rt, count, timing)?,
+        "inodes" => inodes::run(rt, count, timing)?,
         "lines" => lines::run(rt, count, timing)?,
         "overlay" => overlay::run(rt, count, timing)?,
         "tree" => tree::run(rt, count, timing)?,

@@ -9,13 +9,13 @@ use std::time::Instant;
 
 /// The order in which the entries of a tree stand.
 #[derive(Clone, Copy)]
-enum Order {
+pub enum Order {
     Git,
     Random,
 }
 
 impl Order {
-    fn text(self) -> &'static str {
+    pub fn text(self) -> &'static str {
         match self {
             Order::Git => "Git's order",
             Order::Random => "a random order",
@@ -38,8 +38,8 @@ fn mixed(number: u32) -> u32 {
     number ^ (number >> 16)
 }
 
-/// The framed tree of so many files, all of one id.
-fn framed_tree(alloc: Global, order: Order, count: u32) -> Result<Vec<u8>, AllocError> {
+/// The body of a tree of so many files, all of one id.
+pub fn tree_body(alloc: Global, order: Order, count: u32) -> Result<Vec<u8>, AllocError> {
     let mut body = Vec::new(alloc);
     for place in 0..count {
         let number = order.number(place);
@@ -47,6 +47,12 @@ fn framed_tree(alloc: Global, order: Order, count: u32) -> Result<Vec<u8>, Alloc
         body.extend_from_slice(entry.as_bytes())?;
         body.extend_from_slice(&[0x2a; 20])?;
     }
+    Ok(body)
+}
+
+/// The framed tree of so many files.
+fn framed_tree(alloc: Global, order: Order, count: u32) -> Result<Vec<u8>, AllocError> {
+    let body = tree_body(alloc, order, count)?;
     let header = format!(in alloc; "tree {}\0", body.len())?;
     let mut framed = Vec::from_slice(alloc, header.as_bytes())?;
     framed.extend_from_slice(body.as_slice())?;
