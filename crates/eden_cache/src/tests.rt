@@ -166,42 +166,68 @@ fn holds<A: Allocator + Clone>(
     }
 }
 
-fn run_row<A: Allocator + Clone>(
+fn take_steps<A: Allocator + Clone>(
     rt: &impl Abort,
     alloc: Global,
     cache: &mut ObjectCache<A>,
-    row: &Row,
+    steps: &[Step],
 ) -> Result<(), AllocError> {
-    for step in row.steps {
+    for step in steps {
         take_step(rt, alloc, cache, *step)?;
-    }
-    assert_eq!(rt; cache.usage().bytes, row.weight);
-    for (sample, there) in SAMPLES.iter().zip(row.objects.iter()) {
-        assert_eq!(rt; holds(rt, cache, *sample), *there, "{sample:?}");
-    }
-    for (sample, length) in SAMPLES.iter().zip(row.lengths.iter()) {
-        assert_eq!(rt; cache.size_of(sample.key().id), *length, "{sample:?}");
     }
     Ok(())
 }
 
+/// Whether each sample is there that has to be, and no other.
+fn holds_these<A: Allocator + Clone>(
+    rt: &impl Abort,
+    cache: &mut ObjectCache<A>,
+    objects: &[bool; 5],
+) -> bool {
+    for (sample, there) in SAMPLES.iter().zip(objects.iter()) {
+        if holds(rt, cache, *sample) != *there {
+            return false;
+        }
+    }
+    true
+}
+
+/// Whether each length is kept that has to be, and no other.
+fn keeps_these<A: Allocator + Clone>(
+    cache: &mut ObjectCache<A>,
+    lengths: &[Option<u64>; 5],
+) -> bool {
+    for (sample, length) in SAMPLES.iter().zip(lengths.iter()) {
+        if cache.size_of(sample.key().id) != *length {
+            return false;
+        }
+    }
+    true
+}
+
+/// An empty cache of the row's bounds.
+fn cache_of(rt: &impl Abort, alloc: Global, row: &Row) -> Result<ObjectCache<Global>, AllocError> {
+    assert!(rt; 1 <= row.entries && row.entries <= OBJECTS_LIMIT);
+    assert!(rt; 1 <= row.bytes && row.bytes <= BYTES_LIMIT);
+    assert!(rt; 1 <= row.sizes && row.sizes <= SIZES_LIMIT);
+    ObjectCache::new(alloc, row.entries, row.bytes, row.sizes)
+}
+
 #[test]
 fn what_was_used_last_stays(rt: HostRuntime) -> Result<(), Fail> {
-    let alloc = rt.alloc();
     for row in &ROWS {
-        let (entries, bytes, sizes) = (row.entries, row.bytes, row.sizes);
-        assert!(rt; 1 <= entries && entries <= OBJECTS_LIMIT);
-        assert!(rt; 1 <= bytes && bytes <= BYTES_LIMIT);
-        assert!(rt; 1 <= sizes && sizes <= SIZES_LIMIT);
-        let mut cache = ObjectCache::new(alloc, entries, bytes, sizes)?;
-        run_row(&rt, alloc, &mut cache, row)?;
+        let mut cache = cache_of(&rt, rt.alloc(), row)?;
+        take_steps(&rt, rt.alloc(), &mut cache, row.steps)?;
+        assert!(rt; cache.usage().bytes == row.weight);
+        assert!(rt; holds_these(&rt, &mut cache, &row.objects));
+        assert!(rt; keeps_these(&mut cache, &row.lengths));
     }
     Ok(())
 }
 
 /// How far the samples went into a cache over a small heap: how many until one was refused, and how many lengths found
 /// no memory.
-#[derive(Clone, Copy, Debug, PartialEq, Eq)]
+#[derive(Clone, Copy)]
 struct Reached {
     stored: usize,
     lengths_left_out: usize,
@@ -227,6 +253,12 @@ fn finds_memory<A: Allocator + Clone>(
     }
 }
 
+/// Whether the sample's length is to be kept, and isn't.
+fn lacks_length<A: Allocator + Clone>(cache: &mut ObjectCache<A>, sample: Sample) -> bool {
+    sample.key().kind == ObjKind::Blob && cache.size_of(sample.key().id).is_none()
+}
+
+/// Puts the samples until one is refused.
 fn fill<A: Allocator + Clone>(
     rt: &impl Abort,
     alloc: Global,
@@ -238,14 +270,23 @@ fn fill<A: Allocator + Clone>(
     };
     for sample in SAMPLES {
         if !finds_memory(rt, alloc, cache, sample)? {
-            break;
+            return Ok(reached);
         }
         reached.stored = reached.stored.saturating_add(1);
-        let length = cache.size_of(sample.key().id);
-        if sample.key().kind == ObjKind::Blob && length.is_none() {
+        if lacks_length(cache, sample) {
             reached.lengths_left_out = reached.lengths_left_out.saturating_add(1);
         }
     }
+    Ok(reached)
+}
+
+/// Puts the samples until one is refused. Those before it are there.
+fn fill_and_look<A: Allocator + Clone>(
+    rt: &impl Abort,
+    alloc: Global,
+    cache: &mut ObjectCache<A>,
+) -> Result<Reached, AllocError> {
+    let reached = fill(rt, alloc, cache)?;
     for sample in SAMPLES.iter().take(reached.stored) {
         assert!(rt; holds(rt, cache, *sample));
     }
@@ -260,29 +301,50 @@ fn fill_heap(
 ) -> Result<Option<Reached>, AllocError> {
     match ObjectCache::new(heap, 5, 100, 5) {
         Err(AllocError) => Ok(None),
-        Ok(mut cache) => Ok(Some(fill(rt, alloc, &mut cache)?)),
+        Ok(mut cache) => Ok(Some(fill_and_look(rt, alloc, &mut cache)?)),
     }
+}
+
+/// What was met over heaps of each size: a refusal at each sample, a length left out, and room for all.
+#[derive(Clone, Copy)]
+struct Met {
+    refused: [bool; 5],
+    left_out: bool,
+    all: bool,
+}
+
+impl Met {
+    fn note(&mut self, reached: Reached) {
+        if let Some(place) = self.refused.get_mut(reached.stored) {
+            *place = true;
+        }
+        self.left_out = self.left_out || reached.lengths_left_out > 0;
+        self.all = self.all || (reached.stored == 5 && reached.lengths_left_out == 0);
+    }
+}
+
+/// What a heap of so many bytes has room for. It is given back whole.
+fn reached_in(rt: &impl Abort, alloc: Global, bytes: usize) -> Result<Option<Reached>, AllocError> {
+    let heap = LocalHeap::new(alloc, bytes)?;
+    let reached = fill_heap(rt, alloc, &heap)?;
+    assert!(rt; heap.used() == 0);
+    Ok(reached)
 }
 
 #[test]
 fn each_refused_put_hands_the_object_back(rt: HostRuntime) -> Result<(), Fail> {
-    let alloc = rt.alloc();
-    let mut refused = [false; 5];
-    let mut left_out = false;
-    let mut all = false;
+    let mut met = Met {
+        refused: [false; 5],
+        left_out: false,
+        all: false,
+    };
     for blocks in 0..256usize {
-        let heap = LocalHeap::new(alloc, blocks * 16)?;
-        if let Some(reached) = fill_heap(&rt, alloc, &heap)? {
-            if let Some(place) = refused.get_mut(reached.stored) {
-                *place = true;
-            }
-            left_out = left_out || reached.lengths_left_out > 0;
-            all = all || (reached.stored == 5 && reached.lengths_left_out == 0);
+        if let Some(reached) = reached_in(&rt, rt.alloc(), blocks * 16)? {
+            met.note(reached);
         }
-        assert_eq!(rt; heap.used(), 0);
     }
-    assert_eq!(rt; refused, [true; 5]);
-    assert!(rt; left_out && all);
+    assert!(rt; met.refused == [true; 5]);
+    assert!(rt; met.left_out && met.all);
     Ok(())
 }
 
@@ -324,24 +386,26 @@ fn put_many<A: Allocator + Clone>(
     Ok(())
 }
 
+/// Whether the blob and the length of that number are there, or neither is.
+fn keeps<A: Allocator + Clone>(cache: &mut ObjectCache<A>, number: usize, there: bool) -> bool {
+    let id = numbered(number);
+    let key = Key {
+        kind: ObjKind::Blob,
+        id,
+    };
+    cache.get(key).is_some() == there && cache.size_of(id).is_some() == there
+}
+
 #[test]
 fn a_full_cache_lets_the_oldest_go(rt: HostRuntime) -> Result<(), Fail> {
-    let alloc = rt.alloc();
-    let mut cache = ObjectCache::new(alloc, OBJECTS_LIMIT, BYTES_LIMIT, SIZES_LIMIT)?;
+    let mut cache = ObjectCache::new(rt.alloc(), OBJECTS_LIMIT, BYTES_LIMIT, SIZES_LIMIT)?;
     let framed = Version1.framed();
     assert!(rt; check(Version1.key().id, ObjKind::Blob, framed).is_ok());
-    put_many(&rt, alloc, &mut cache, OBJECTS_LIMIT + 1, framed)?;
-    let usage = cache.usage();
-    assert_eq!(rt; usage.objects, OBJECTS_LIMIT);
-    assert_eq!(rt; usage.sizes, SIZES_LIMIT);
+    put_many(&rt, rt.alloc(), &mut cache, OBJECTS_LIMIT + 1, framed)?;
+    assert!(rt; cache.usage().objects == OBJECTS_LIMIT);
+    assert!(rt; cache.usage().sizes == SIZES_LIMIT);
     for number in 0..OBJECTS_LIMIT + 1 {
-        let id = numbered(number);
-        let key = Key {
-            kind: ObjKind::Blob,
-            id,
-        };
-        assert_eq!(rt; cache.get(key).is_some(), number > 0);
-        assert_eq!(rt; cache.size_of(id).is_some(), number > 0);
+        assert!(rt; keeps(&mut cache, number, number > 0));
     }
     Ok(())
 }

@@ -10,6 +10,8 @@ use std::test::Fail;
 
 const FILE: [u8; 8] = [0x4f, 0x56, 0x46, 0x4c, 0, 0, 0, 1];
 
+const LATER_FILE: [u8; 8] = [0x4f, 0x56, 0x46, 0x4c, 0, 0, 0, 2];
+
 const DIRECTORY: [u8; 8] = [0x4f, 0x56, 0x44, 0x52, 0, 0, 0, 1];
 
 /// A stored file: the first 8 bytes of its header, the 56 that say nothing, and its body.
@@ -29,70 +31,114 @@ fn cut<'a>(rt: &impl Abort, bytes: &'a [u8], len: usize) -> &'a [u8] {
 #[test]
 fn contents(rt: HostRuntime) -> Result<(), Fail> {
     let hi = stored(rt.alloc(), &FILE, 0, b"hi")?;
-    assert_eq!(rt; encode_file(rt.alloc(), b"hi")?, hi);
-    assert_eq!(rt; hi.len(), 66);
-    assert_eq!(rt; decode_file(&hi), Ok(b"hi".as_slice()));
-    assert_eq!(rt;
-        decode_file(&stored(rt.alloc(), &FILE, 7, b"hi")?),
-        Ok(b"hi".as_slice())
-    );
-    assert_eq!(rt; decode_file(cut(&rt, &hi, 63)), Err(Refusal::Short));
-    let other = stored(rt.alloc(), &DIRECTORY, 0, b"hi")?;
-    assert_eq!(rt; decode_file(&other), Err(Refusal::BadIdentifier));
-    let later = stored(rt.alloc(), &[0x4f, 0x56, 0x46, 0x4c, 0, 0, 0, 2], 0, b"hi")?;
-    assert_eq!(rt; decode_file(&later), Err(Refusal::BadVersion));
+    let written = encode_file(rt.alloc(), b"hi")?;
+    assert!(rt; written == hi);
+    assert!(rt; hi.len() == 66);
+    assert!(rt; decode_file(cut(&rt, &hi, 63)) == Err(Refusal::Short));
     Ok(())
 }
 
+/// The fronts of a file, the byte that says nothing, and why the file is refused, if it is.
+const FRONTS: &[(&[u8], u8, Option<Refusal>)] = &[
+    (&FILE, 0, None),
+    (&FILE, 7, None),
+    (&DIRECTORY, 0, Some(Refusal::BadIdentifier)),
+    (&LATER_FILE, 0, Some(Refusal::BadVersion)),
+];
+
+/// Why the file is refused; none where it is read as `hi`.
+fn refusal(rt: &impl Abort, file: &[u8]) -> Option<Refusal> {
+    match decode_file(file) {
+        Err(refusal) => Some(refusal),
+        Ok(content) => {
+            assert!(rt; content == b"hi".as_slice());
+            None
+        }
+    }
+}
+
+#[test]
+fn fronts(rt: HostRuntime) -> Result<(), Fail> {
+    for (front, unread, why) in FRONTS {
+        let file = stored(rt.alloc(), front, *unread, b"hi")?;
+        assert!(rt; refusal(&rt, &file) == *why);
+    }
+    Ok(())
+}
+
+const STATE: State = State {
+    root: Id { bytes: [0x11; 20] },
+    next: 258,
+};
+
+const STATE_BODY: [u8; 28] = [
+    0x11, 0x11, 0x11, 0x11, 0x11, 0x11, 0x11, 0x11, 0x11, 0x11, 0x11, 0x11, 0x11, 0x11, 0x11, 0x11,
+    0x11, 0x11, 0x11, 0x11, 0, 0, 0, 0, 0, 0, 1, 2,
+];
+
 #[test]
 fn states(rt: HostRuntime) -> Result<(), Fail> {
-    let root = Id { bytes: [0x11; 20] };
-    let mut body = [0x11; 20].to_vec(rt.alloc())?;
-    body.extend_from_slice(&[0, 0, 0, 0, 0, 0, 1, 2])?;
-    let bytes = stored(rt.alloc(), &FILE, 0, &body)?;
-    let state = State { root, next: 258 };
-    assert_eq!(rt; encode_state(rt.alloc(), state)?, bytes);
-    assert_eq!(rt; bytes.len(), 92);
-    assert_eq!(rt; decode_state(&bytes), Ok(state));
-    assert_eq!(rt; decode_state(cut(&rt, &bytes, 91)), Err(Refusal::BadBody));
-    assert_eq!(rt; decode_state(cut(&rt, &bytes, 63)), Err(Refusal::Short));
-    body.truncate(20);
-    body.extend_from_slice(&[0, 0, 0, 0, 0, 0, 0, 1])?;
-    let used_up = stored(rt.alloc(), &FILE, 0, &body)?;
-    assert_eq!(rt; decode_state(&used_up), Err(Refusal::BadBody));
+    let bytes = stored(rt.alloc(), &FILE, 0, &STATE_BODY)?;
+    let written = encode_state(rt.alloc(), STATE)?;
+    assert!(rt; written == bytes);
+    assert!(rt; bytes.len() == 92);
+    assert!(rt; decode_state(&bytes) == Ok(STATE));
+    Ok(())
+}
+
+/// The body of a state whose next number is the root's.
+const USED_UP: [u8; 28] = [
+    0x11, 0x11, 0x11, 0x11, 0x11, 0x11, 0x11, 0x11, 0x11, 0x11, 0x11, 0x11, 0x11, 0x11, 0x11, 0x11,
+    0x11, 0x11, 0x11, 0x11, 0, 0, 0, 0, 0, 0, 0, 1,
+];
+
+#[test]
+fn bad_states(rt: HostRuntime) -> Result<(), Fail> {
+    let bytes = stored(rt.alloc(), &FILE, 0, &STATE_BODY)?;
+    assert!(rt; decode_state(cut(&rt, &bytes, 91)) == Err(Refusal::BadBody));
+    assert!(rt; decode_state(cut(&rt, &bytes, 63)) == Err(Refusal::Short));
+    let used_up = stored(rt.alloc(), &FILE, 0, &USED_UP)?;
+    assert!(rt; decode_state(&used_up) == Err(Refusal::BadBody));
     Ok(())
 }
 
 /// The body of a directory with one file `a`, number 5, whose content is its own.
 const ONE_FILE: [u8; 16] = [0, 0, 0, 1, 0, 1, 0, 0, 0, 0, 0, 0, 0, 5, 1, 0x61];
 
+fn is_one_file(entry: &StoredEntry) -> bool {
+    entry.name.as_slice() == b"a".as_slice()
+        && entry.kind == Kind::File
+        && entry.origin == Origin::Own
+        && entry.number == 5
+}
+
 #[test]
 fn directories(rt: HostRuntime) -> Result<(), Fail> {
     let bytes = stored(rt.alloc(), &DIRECTORY, 0, &ONE_FILE)?;
-    let entries = decode_dir(rt.alloc(), &bytes).ok().ok_or("a directory")?;
-    assert_eq!(rt; entries.len(), 1);
+    let entries = decode_dir(rt.alloc(), &bytes)?;
+    assert!(rt; entries.len() == 1);
     for entry in &entries {
-        assert_eq!(rt; entry.name.as_slice(), b"a".as_slice());
-        assert_eq!(rt; entry.kind, Kind::File);
-        assert_eq!(rt; entry.origin, Origin::Own);
-        assert_eq!(rt; entry.number, 5);
+        assert!(rt; is_one_file(entry));
     }
     Ok(())
 }
 
+/// The bodies: with a byte too many, with a name twice, with one entry of two, and with one of the most.
+const BAD_BODIES: &[&[u8]] = &[
+    &[0, 0, 0, 1, 0, 1, 0, 0, 0, 0, 0, 0, 0, 5, 1, 0x61, 0],
+    &[
+        0, 0, 0, 2, 0, 1, 0, 0, 0, 0, 0, 0, 0, 5, 1, 0x61, 0, 1, 0, 0, 0, 0, 0, 0, 0, 5, 1, 0x61,
+    ],
+    &[0, 0, 0, 2, 0, 1, 0, 0, 0, 0, 0, 0, 0, 5, 1, 0x61],
+    &[255, 255, 255, 255, 0, 1, 0, 0, 0, 0, 0, 0, 0, 5, 1, 0x61],
+];
+
 #[test]
 fn bad_directories(rt: HostRuntime) -> Result<(), Fail> {
-    let mut longer = ONE_FILE.to_vec(rt.alloc())?;
-    longer.push(0)?;
-    let mut twice = [0, 0, 0, 2].to_vec(rt.alloc())?;
-    twice.extend_from_slice(&ONE_FILE[4..])?;
-    twice.extend_from_slice(&ONE_FILE[4..])?;
-    let two = [0, 0, 0, 2, 0, 1, 0, 0, 0, 0, 0, 0, 0, 5, 1, 0x61];
-    let most = [255, 255, 255, 255, 0, 1, 0, 0, 0, 0, 0, 0, 0, 5, 1, 0x61];
-    for body in [longer.as_slice(), twice.as_slice(), &two, &most] {
+    for body in BAD_BODIES {
         let bytes = stored(rt.alloc(), &DIRECTORY, 0, body)?;
         let fault = decode_dir(rt.alloc(), &bytes).err();
-        assert_eq!(rt; fault, Some(DecodeFault::Refused(Refusal::BadBody)));
+        assert!(rt; fault == Some(DecodeFault::Refused(Refusal::BadBody)));
     }
     Ok(())
 }
@@ -118,26 +164,28 @@ fn one_file(alloc: Global, text: &[u8], origin: Origin) -> Result<Vec<StoredEntr
     }
 }
 
+const OWN_BODY: &[u8] = b"\x00\x00\x00\x01\x00\x01\x00\x00\x00\x00\x00\x00\x00\x02\x08test.txt";
+
 #[test]
 fn own_file_is_written(rt: HostRuntime) -> Result<(), Fail> {
     let entries = one_file(rt.alloc(), b"test.txt", Origin::Own)?;
     let written = encode_dir(rt.alloc(), &entries)?;
-    let mut body = [0, 0, 0, 1, 0, 1, 0, 0, 0, 0, 0, 0, 0, 2, 8].to_vec(rt.alloc())?;
-    body.extend_from_slice(b"test.txt")?;
-    assert_eq!(rt; written, stored(rt.alloc(), &DIRECTORY, 0, &body)?);
-    assert_eq!(rt; written.len(), 87);
+    let file = stored(rt.alloc(), &DIRECTORY, 0, OWN_BODY)?;
+    assert!(rt; written == file);
+    assert!(rt; written.len() == 87);
     Ok(())
 }
+
+const OBJECT_BODY: &[u8] =
+    b"\x00\x00\x00\x01\x00\x00\x00\x00\x00\x00\x00\x00\x00\x02\x22\x22\x22\x22\x22\x22\x22\x22\x22\x22\x22\x22\x22\x22\x22\x22\x22\x22\x22\x22\x08test.txt";
 
 #[test]
 fn object_file_is_written(rt: HostRuntime) -> Result<(), Fail> {
     let id = Id { bytes: [0x22; 20] };
     let entries = one_file(rt.alloc(), b"test.txt", Origin::Object(id))?;
     let written = encode_dir(rt.alloc(), &entries)?;
-    let mut body = [0, 0, 0, 1, 0, 0, 0, 0, 0, 0, 0, 0, 0, 2].to_vec(rt.alloc())?;
-    body.extend_from_slice(&[0x22; 20])?;
-    body.extend_from_slice(b"\x08test.txt")?;
-    assert_eq!(rt; written, stored(rt.alloc(), &DIRECTORY, 0, &body)?);
-    assert_eq!(rt; written.len(), 107);
+    let file = stored(rt.alloc(), &DIRECTORY, 0, OBJECT_BODY)?;
+    assert!(rt; written == file);
+    assert!(rt; written.len() == 107);
     Ok(())
 }

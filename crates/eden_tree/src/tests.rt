@@ -87,6 +87,19 @@ fn nested<A: Allocator + Clone>(
     Ok(dir)
 }
 
+/// The number of what was taken out.
+fn take_number<A: Allocator>(dir: &mut Dir<A>, key: &Name) -> Option<u64> {
+    match dir.remove(key) {
+        None => None,
+        Some(entry) => Some(entry.number),
+    }
+}
+
+/// Whether a name and an entry that came back are those that were given.
+fn are_those<A: Allocator>(back: &Name, handed: &Entry<A>, key: &Name, number: u64) -> bool {
+    *back == *key && handed.number == number
+}
+
 /// Puts into both, or takes out of both, and compares what they answer.
 fn change_both<A: Allocator>(
     rt: &impl Abort,
@@ -98,8 +111,7 @@ fn change_both<A: Allocator>(
     let key = name(alloc, word % 3000)?;
     let number = u64::from(word);
     if word / 3000 % 2 == 0 {
-        let taken = dir.remove(&key).map(|e| e.number);
-        assert!(rt; taken == map.remove(&key));
+        assert!(rt; take_number(dir, &key) == map.remove(&key));
         return Ok(());
     }
     match dir.insert(key.copy(alloc)?, entry(number, None)) {
@@ -109,7 +121,7 @@ fn change_both<A: Allocator>(
         }
         Err((back, handed)) => {
             assert!(rt; map.get(&key).is_some());
-            assert!(rt; back == key && handed.number == number);
+            assert!(rt; are_those(&back, &handed, &key, number));
         }
     }
     Ok(())
@@ -159,6 +171,10 @@ fn random_changes_agree_with_an_ordered_map(rt: HostRuntime) -> Result<(), Fail>
     Ok(change_at_random(&rt, rt.alloc(), rt.alloc())?)
 }
 
+fn lacks<A: Allocator>(dir: &Dir<A>, key: &Name) -> bool {
+    dir.get(key).is_none()
+}
+
 /// Whether an insert found room. A refused one hands name and entry back, and changes nothing.
 fn finds_room<A: Allocator>(
     rt: &impl Abort,
@@ -171,8 +187,8 @@ fn finds_room<A: Allocator>(
     match dir.insert(key.copy(alloc)?, entry(u64::from(number), None)) {
         Ok(()) => Ok(true),
         Err((back, handed)) => {
-            assert!(rt; back == key && handed.number == u64::from(number));
-            assert!(rt; dir.count() == before && dir.get(&key).is_none());
+            assert!(rt; are_those(&back, &handed, &key, u64::from(number)));
+            assert!(rt; dir.count() == before && lacks(dir, &key));
             Ok(false)
         }
     }
@@ -306,27 +322,38 @@ impl<A: Allocator> Change<A, u64> for Mark {
     }
 }
 
+/// Stamps two levels, and marks the directory below them. Nothing stands at the path's end.
+fn stamp_and_mark<A: Allocator>(rt: &impl Abort, root: &mut Entry<A>, path: &[Name; 3]) {
+    let mut count = 0;
+    root.stamp_along(&path[..1], 77);
+    assert!(rt; root.change_at(&path[..2], &mut count, Mark) == Some(true));
+    assert!(rt; root.change_at(path, &mut count, Mark).is_none());
+    assert!(rt; count == 1 && root.walk(path).is_none());
+}
+
+/// The stamp of the loaded directory at the end of the path, and whether it is unsaved.
+fn state_at<A: Allocator>(root: &Entry<A>, path: &[Name]) -> Option<(u64, bool)> {
+    match &root.walk(path)?.child {
+        None => None,
+        Some(child) => Some((child.stamp(), child.unsaved())),
+    }
+}
+
+fn sevens(alloc: Global) -> Result<[Name; 3], AllocError> {
+    Ok([name(alloc, 7)?, name(alloc, 7)?, name(alloc, 7)?])
+}
+
 /// Goes down the only entries, each under the name of 7: stamps two levels, and marks the one below them.
 fn change_below<A: Allocator>(
     rt: &impl Abort,
     alloc: Global,
     root: &mut Entry<A>,
 ) -> Result<(), AllocError> {
-    let path = [name(alloc, 7)?, name(alloc, 7)?, name(alloc, 7)?];
-    let mut count = 0;
-    root.stamp_along(&path[..1], 77);
-    assert!(rt; root.change_at(&path[..2], &mut count, Mark) == Some(true));
-    assert!(rt; root.change_at(&path, &mut count, Mark).is_none());
-    assert!(rt; count == 1 && root.walk(&path).is_none());
-    let stamps = [77, 77, 0];
-    for level in 0..3usize {
-        let entry = root.walk(&path[..level]).expect(rt, "an entry");
-        let Some(child) = &entry.child else {
-            assert!(rt; false);
-            return Ok(());
-        };
-        assert!(rt; child.stamp() == stamps[level] && child.unsaved() == (level == 2));
-    }
+    let path = sevens(alloc)?;
+    stamp_and_mark(rt, root, &path);
+    assert!(rt; state_at(root, &path[..0]) == Some((77, false)));
+    assert!(rt; state_at(root, &path[..1]) == Some((77, false)));
+    assert!(rt; state_at(root, &path[..2]) == Some((0, true)));
     Ok(())
 }
 
