@@ -213,10 +213,7 @@ fn measure_looks<R: Print + Clock>(
     let path = &names[..depth.min(names.len())];
     let start = Instant::now(rt)?;
     let found = look_again(table, path);
-    println!(rt;
-        "{found} looks along {} names found their entry",
-        path.len()
-    )?;
+    println!(rt; "{found} looks at depth {} found their entry", path.len())?;
     timing.tell_each(rt, "a look", &start, LOOKS)
 }
 
