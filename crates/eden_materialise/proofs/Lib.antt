@@ -4,3 +4,4 @@ mod Putting
 mod Swapped
 mod Order
 mod Moves
+mod Listings

@@ -2,3 +2,5 @@ pub mod Listed
 pub mod Puts
 pub mod Chains
 pub mod Moves
+pub mod Faults
+pub mod Listings

@@ -7,10 +7,13 @@
 
 mod chain;
 mod change;
+mod fault;
 mod listing;
+mod listing_change;
 mod memory;
 mod moving;
 
 pub use chain::materialise;
 pub use change::change_at;
+pub use listing_change::change_listing;
 pub use moving::move_entry;

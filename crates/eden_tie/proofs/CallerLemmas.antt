@@ -27,3 +27,5 @@ pub use Rattle.eden_tie.proofs.UnloadsShown.{unloads_alike}
 -- files that are stored, and not seen
 pub use Rattle.eden_tie.proofs.ShownFull.{Backs, backs_tied}
 pub use Rattle.eden_tie.proofs.Backed.{backs_loaded, backs_stray, backed_alike}
+-- .. and what a listing that changes keeps of a table's invariant, and what is shown then
+pub use Rattle.eden_tie.proofs.Changed.{listing_table, listing_kept, listing_grafts}

@@ -30,3 +30,4 @@ pub mod Tables
 pub mod Loaded
 pub mod Gone
 pub mod KeptLemmas
+pub mod Changed

@@ -38,12 +38,12 @@ find_placed m n x rows = elim (find_row n rows) as (λ o. find_row n rows ≡ o 
   | Some was ↦ λ some. find_row-set_row m n x was rows some
 ] refl
 
-find_with : (m n : Name) (o : Option Row) (rows : List (Name × Row)) → AreRising (λ r. r.0) rows → find_row m (rows_with n o rows) ≡ cond (bytes_eq m n) o (find_row m rows)
+pub find_with : (m n : Name) (o : Option Row) (rows : List (Name × Row)) → AreRising (λ r. r.0) rows → find_row m (rows_with n o rows) ≡ cond (bytes_eq m n) o (find_row m rows)
 find_with m n None rows rising = find_row-drop_row m n rows rising
 find_with m n (Some x) rows rising = find_placed m n x rows
 
 -- what is there now was there, or is what was put in
-from_with : (m n : Name) (o : Option Row) (rows : List (Name × Row)) (w : Row) → AreRising (λ r. r.0) rows → find_row m (rows_with n o rows) ≡ Some w
+pub from_with : (m n : Name) (o : Option Row) (rows : List (Name × Row)) (w : Row) → AreRising (λ r. r.0) rows → find_row m (rows_with n o rows) ≡ Some w
     → (find_row m rows ≡ Some w) ⊎ ((m ≡ n) × (o ≡ Some w))
 from_with m n o rows w rising f = elim (bytes_eq m n) as (λ b. bytes_eq m n ≡ b → (find_row m rows ≡ Some w) ⊎ ((m ≡ n) × (o ≡ Some w))) [
   | true ↦ λ s. inr (same-≡ m n s, ap (λ b. cond b o (find_row m rows)) (sym s) ∙ sym (find_with m n o rows rising) ∙ f)
@@ -51,7 +51,7 @@ from_with m n o rows w rising f = elim (bytes_eq m n) as (λ b. bytes_eq m n ≡
 ] refl
 
 -- what is said of an entry that may be there, where it is
-if_some : (o : Option Row) (P : Row → Type 0) (z : Row) → IfSome o P → o ≡ Some z → P z
+pub if_some : (o : Option Row) (P : Row → Type 0) (z : Row) → IfSome o P → o ≡ Some z → P z
 if_some None P z h is = absurd (cc)
 if_some (Some w) P z h is = subst P (same_Some w z is) h
 

@@ -155,6 +155,7 @@ pub record MayChange (Honest : Type 0) (F : Stored) (x : Row) (next : ℕ) (p : 
   pub own : row.origin ≡ origin.Own
   pub may_go : MayGo directory n
   pub entries : AreStorable (listing_of (changed directory n o))
+  pub unloaded : IfSome o (λ z. child_of z ≡ None)
   pub full : Honest → Stored
   pub ties : (h : Honest) → Ties F (full h) x next
   pub may_come : (h : Honest) → MayCome F (full h) x next n o

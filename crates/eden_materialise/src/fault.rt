@@ -1,0 +1,15 @@
+ghost use Rattle.std.specs.Prelude.{◌≡◌};
+ghost use Rattle.eden_materialise.specs.Faults.{told};
+
+use eden_model::Fault;
+use eden_overlay::FilesFault;
+
+/// A fault of the stored files, as a mount tells it.
+pub(crate) fn told(fault: FilesFault) -> Fault
+    ensures { result ≡ told fault }
+{
+    match fault {
+        FilesFault::Device => Fault::Overlay,
+        FilesFault::Memory => Fault::Memory,
+    }
+}
