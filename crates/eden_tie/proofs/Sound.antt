@@ -1,5 +1,5 @@
 -- The files that a table is tied to are sound.
-use Rattle.std.proofs.Common.{◌≡◌, ◌≢◌, ◌⊎◌, ℕ, List, Some, None, Contains, sym, ap, ◌∙◌, subst, inl, inr}
+use Rattle.std.proofs.Common.{◌≡◌, ◌≢◌, ◌⊎◌, ◌<◌, ℕ, List, Some, None, Contains, sym, ap, ◌∙◌, subst, inl, inr}
 use Rattle.std.proofs.lemmas.Option.{none-some}
 use Rattle.eden_model.specs.declared.kind.Kind.{Kind}
 use Rattle.eden_model.specs.declared.kind.Kind.TheVariants as kind
@@ -9,13 +9,13 @@ use Rattle.eden_overlay_format.specs.declared.stored_entry.StoredEntry.{StoredEn
 use Rattle.eden_overlay.specs.Files.{Stored}
 use Rattle.eden_overlay.specs.Held.{HoldsEntries}
 use Rattle.eden_overlay.specs.Soundness.{Names, LeadsOn, here, below, IsLive, HoldsKind, AreSound}
-use Rattle.eden_overlay.proofs.CallerLemmas.{names_moved, kind_moved, one_kind, one_held, nothing_there}
+use Rattle.eden_overlay.proofs.CallerLemmas.{names_moved, kind_moved, one_kind, one_held, nothing_there, numbers_from_two}
 use Rattle.eden_tree.specs.Directory.{Row, Directory, child_of}
 use Rattle.eden_tree.specs.Rows.{find_row}
 use Rattle.eden_tree.proofs.CallerLemmas.{find_row-Contains}
 use Rattle.eden_tie.specs.Listings.{stored_entry, full_entry, Place, top, inside}
 use Rattle.eden_tie.specs.Ties.{IsAway, SameFile, Ties}
-use Rattle.eden_tie.specs.Laws.{TiesSound}
+use Rattle.eden_tie.specs.Laws.{TiesSound, NumbersBelow, RowsNumbered, RowsOnce}
 use Rattle.eden_tie.proofs.Rows.{mapped_from, by_child, by_origin, own_full}
 use Rattle.eden_tie.proofs.Places.{rising_of, named_full, place_counts, one_row, away_row, away_below}
 
@@ -130,6 +130,12 @@ module _ (F full : Stored) (x : Row) (next : ℕ) (t : Ties F full x next) where
       absurd (away y d p h (t.fits.sound.once y.number b (full_entry (n, z)) e (place_counts full x next t.fits y d p h) r (named_full full x next t.fits y d n z p h g) m number).0)
   one_site b c e f (filed_row away r m) (filed_row away2 r2 m2) same = t.fits.sound.once b c e f r r2 m m2 same
 
+  number_below : (c : ℕ) (e : StoredEntry) → Site c e → e.number < next
+  number_below c e (loaded_row y d n z p h f is entry) =
+      subst (λ k. k < next) (ap (λ (s : StoredEntry). s.number) entry)
+      (t.fits.below y.number (full_entry (n, z)) (place_counts full x next t.fits y d p h) (named_full full x next t.fits y d n z p h f))
+  number_below c e (filed_row away r n) = t.fits.below c e r n
+
   top_is : (F 1 ≡ None) ⊎ HoldsKind F 1 kind.Dir
   top_is = by_origin x.origin ((F 1 ≡ None) ⊎ HoldsKind F 1 kind.Dir) (λ other. inl (t.rootless other)) (λ own. inr (t.rooted own))
 
@@ -142,3 +148,17 @@ module _ (F full : Stored) (x : Row) (next : ℕ) (t : Ties F full x next) where
 
 pub ties_sound : TiesSound
 ties_sound F full x next t = tied_sound F full x next t
+
+-- ---- numbers
+
+pub numbers_below : NumbersBelow
+numbers_below F full x next t c e r n = number_below F full x next t c e (site_of F full x next t c e r n)
+
+pub rows_numbered : RowsNumbered
+rows_numbered F full x next t y d n z p h f =
+    let counts = place_counts full x next t.fits y d p h in
+    let named = named_full full x next t.fits y d n z p h f in
+    (numbers_from_two full y.number (full_entry (n, z)) named, t.fits.below y.number (full_entry (n, z)) counts named)
+
+pub rows_once : RowsOnce
+rows_once F full x next t y z d e n m v w p h f q k g same = one_row full x next t.fits y z d e n m v w p h f q k g same

@@ -1,12 +1,12 @@
 -- What follows of a table that is tied to its files, and what keeps it tied.
-use Rattle.std.specs.Prelude.{◌≡◌, ◌≢◌, ℕ, false, List, Some, None}
+use Rattle.std.specs.Prelude.{◌≡◌, ◌≢◌, ◌<◌, ◌≤◌, ℕ, false, List, Some, None}
 use Rattle.eden_model.specs.declared.kind.Origin.TheVariants as origin
 use Rattle.eden_model.specs.Trees.{Name, Path}
 use Rattle.eden_overlay_format.specs.declared.stored_entry.StoredEntry.{StoredEntry}
-use Rattle.eden_overlay_format.specs.Directory.{AreStorable}
+use Rattle.eden_overlay_format.specs.Directory.{number_least, AreStorable}
 use Rattle.eden_overlay.specs.Files.{Stored}
 use Rattle.eden_overlay.specs.Held.{HoldsEntries, with_entries}
-use Rattle.eden_overlay.specs.Soundness.{AreSound}
+use Rattle.eden_overlay.specs.Soundness.{Names, IsLive, AreSound}
 use Rattle.eden_tree.specs.Directory.{Row, Directory, child_of, with_child}
 use Rattle.eden_tree.specs.Rows.{find_row, set_row}
 use Rattle.eden_tree.specs.Paths.{row_at, edit_row}
@@ -17,6 +17,23 @@ use Rattle.eden_tie.specs.Unloading.{Goes}
 -- the files that a table is tied to are sound
 abbrev pub TiesSound : Type 0
 TiesSound = (F full : Stored) (x : Row) (next : ℕ) → Ties F full x next → AreSound F
+
+-- every number that the files name is below the next
+abbrev pub NumbersBelow : Type 0
+NumbersBelow = (F full : Stored) (x : Row) (next : ℕ) → Ties F full x next
+    → (c : ℕ) (e : StoredEntry) → IsLive F c → Names F c e → e.number < next
+
+-- so is every number that a loaded directory names, and none of them is the root's
+abbrev pub RowsNumbered : Type 0
+RowsNumbered = (F full : Stored) (x : Row) (next : ℕ) → Ties F full x next
+    → (y : Row) (d : Directory) (n : Name) (z : Row) → Place x y → child_of y ≡ Some d → find_row n d.rows ≡ Some z
+    → (number_least ≤ z.number) × (z.number < next)
+
+-- .. and no other entry in memory has it
+abbrev pub RowsOnce : Type 0
+RowsOnce = (F full : Stored) (x : Row) (next : ℕ) → Ties F full x next
+    → (y z : Row) (d e : Directory) (n m : Name) (v w : Row) → Place x y → child_of y ≡ Some d → find_row n d.rows ≡ Some v
+    → Place x z → child_of z ≡ Some e → find_row m e.rows ≡ Some w → v.number ≡ w.number → (y ≡ z) × ((n ≡ m) × (v ≡ w))
 
 -- a directory of its own that goes leaves the table tied
 abbrev pub GoesTied : Type 0

@@ -1,10 +1,13 @@
-ghost use Rattle.eden_tie.specs.Laws.{TiesSound, GoesTied, StraysTied, ChildrenTied, RootTied};
+ghost use Rattle.eden_tie.specs.Laws.{TiesSound, NumbersBelow, RowsNumbered, RowsOnce, GoesTied, StraysTied, ChildrenTied, RootTied};
 ghost use Rattle.eden_tie.specs.Materialising.{MarkedIs, ChainSound, ChainTied};
 ghost use Rattle.eden_tie.specs.Changing.{ChangesTied, LeftOutTied, EntryTied, DropTied, MoveTied, NewFileTied, MovesKept, NewEntryTied};
 
 /// What ties a table to its files, and what keeps it tied.
 pub fn tie_laws()
     ensures sound { TiesSound }
+    ensures numbers_below { NumbersBelow }
+    ensures rows_numbered { RowsNumbered }
+    ensures rows_once { RowsOnce }
     ensures goes { GoesTied }
     ensures strays { StraysTied }
     ensures children { ChildrenTied }

@@ -1,4 +1,4 @@
-use Rattle.eden_tie.proofs.Sound.{ties_sound}
+use Rattle.eden_tie.proofs.Sound.{ties_sound, numbers_below, rows_numbered, rows_once}
 use Rattle.eden_tie.proofs.Chain.{children_tied, strays_tied, root_tied}
 use Rattle.eden_tie.proofs.Going.{goes_tied}
 use Rattle.eden_tie.proofs.Chains.{marked_is}
@@ -54,3 +54,12 @@ returns-clause-moves_kept c = moves_kept
 
 pub returns-clause-new_entry : goal.returns-clause-new_entry
 returns-clause-new_entry c = new_entry_tied
+
+pub returns-clause-numbers_below : goal.returns-clause-numbers_below
+returns-clause-numbers_below c = numbers_below
+
+pub returns-clause-rows_numbered : goal.returns-clause-rows_numbered
+returns-clause-rows_numbered c = rows_numbered
+
+pub returns-clause-rows_once : goal.returns-clause-rows_once
+returns-clause-rows_once c F full x next t y z d e n m v w p h f q k g same = rows_once F full x next t y z d e n m v w p h f q k g same
