@@ -57,11 +57,11 @@ pub record IsLast (p : Path) (x : Row) (seen : Seen) : Type 0 where
   pub loaded : seen.loaded ≡ is_some (child_of row)
   pub last : seen.names < length p → row_at (take (suc seen.names) p) x ≡ None
 
--- a directory that isn't loaded, of the tree object of that id
-pub record IsMissing (x : Row) (i : Id) : Type 0 where
+-- the entry is a directory that isn't loaded, of that origin
+pub record IsUnlisted (x : Row) (o : Origin) : Type 0 where
   pub kind : x.kind ≡ kind.Dir
   pub unloaded : child_of x ≡ None
-  pub origin : x.origin ≡ origin.Object i
+  pub origin : x.origin ≡ o
 
 -- a directory may be loaded: from the entries of its tree object, or where it has none, without
 pub record HasTree (R : Repository) (honest : Type 0) (p : Path) (x : Row) (es : List TreeEntry) : Type 0 where

@@ -1,5 +1,6 @@
 ghost use Rattle.std.specs.Prelude.{◌≡◌, ◌≢◌, ◌≤◌, ◌+◌, ℕ, min, OnOk, OnErr, IfOk, IfErr, IfSome, IfNone, Option, Some, None, option_map};
 ghost use Rattle.eden_model.specs.declared.kind.Kind.TheVariants as kind;
+ghost use Rattle.eden_model.specs.declared.kind.Origin as declared;
 ghost use Rattle.eden_model.specs.declared.kind.Origin.TheVariants as origin;
 ghost use Rattle.eden_model.specs.declared.id.Id as id;
 ghost use Rattle.eden_model.specs.declared.id.ObjKind.TheVariants as object;
@@ -17,10 +18,10 @@ ghost use Rattle.eden_inode.specs.Tables.{Table, fresh_root, CanStart, IsLast, H
 
 use crate::fill::from_object;
 use crate::load::{own_content, put_loaded, unlisted};
-use crate::look::{key_of, look};
+use crate::look::{look, unloaded};
 use crate::seen::Seen;
 use crate::unload::Unloading;
-use eden_model::{Fault, Key, Kind, Name, Origin, TreeEntry, World};
+use eden_model::{Fault, Key, Kind, Name, ObjKind, Origin, TreeEntry, World};
 use eden_overlay::{Content, Files, Overlay};
 use eden_tie::{kept_laws, shown_laws};
 use eden_tree::{Change, Entry};
@@ -96,14 +97,31 @@ impl<A: Allocator + Clone, W: World, F: Files<W>> Inodes<A, W, F> {
         let _ = &self.root;
     }
 
+    /// Where a directory that isn't loaded comes from: None for every other path.
+    pub fn unloaded(&self, path: &[Name]) -> Option<Origin>
+        ensures some { IfSome result (λ o. IsAt path.now self.now.root o) }
+        ensures none { IfNone result ((o : declared.Origin) → ¬ IsAt path.now self.now.root o) }
+    {
+        match self.root.walk(path) {
+            None => None,
+            Some(entry) => unloaded(entry),
+        }
+    }
+
     /// The key of the tree object of a directory that isn't loaded: None for every other path.
     pub fn missing(&self, path: &[Name]) -> Option<Key>
         ensures some { IfSome result (λ k. (k.kind ≡ object.Tree) × IsAt path.now self.now.root (origin.Object k.id)) }
         ensures none { IfNone result ((i : id.Id) → ¬ IsAt path.now self.now.root (origin.Object i)) }
     {
-        match self.root.walk(path) {
+        match self.unloaded(path) {
             None => None,
-            Some(entry) => key_of(entry),
+            Some(origin) => match origin {
+                Origin::Object(id) => Some(Key {
+                    kind: ObjKind::Tree,
+                    id,
+                }),
+                Origin::Own | Origin::Empty => None,
+            },
         }
     }
 

@@ -1,11 +1,11 @@
 //! Entries on a path.
 ghost use Rattle.std.specs.Prelude.{◌≡◌, IfSome, IfNone};
-ghost use Rattle.eden_model.specs.declared.id.Id as id;
+ghost use Rattle.eden_model.specs.declared.kind.Origin as declared;
 ghost use Rattle.eden_tree.specs.Paths.{stamped_along};
-ghost use Rattle.eden_inode.specs.Tables.{IsLast, IsMissing};
+ghost use Rattle.eden_inode.specs.Tables.{IsLast, IsUnlisted};
 
 use crate::seen::Seen;
-use eden_model::{Key, Kind, Name, ObjKind, Origin};
+use eden_model::{Kind, Name, Origin};
 use eden_tree::Entry;
 use std::alloc::Allocator;
 
@@ -42,22 +42,16 @@ pub(crate) fn look<A: Allocator>(entry: &mut Entry<A>, path: &[Name], clock: u64
     }
 }
 
-/// The key of the tree object of a directory's entry that isn't loaded.
-pub(crate) fn key_of<A: Allocator>(entry: &Entry<A>) -> Option<Key>
-    ensures some { IfSome result (λ k. (k.kind ≡ ObjKind.Tree) × IsMissing entry.now k.id) }
-    ensures none { IfNone result ((i : id.Id) → ¬ IsMissing entry.now i) }
+/// Where the directory of an entry comes from that isn't loaded.
+pub(crate) fn unloaded<A: Allocator>(entry: &Entry<A>) -> Option<Origin>
+    ensures some { IfSome result (λ o. IsUnlisted entry.now o) }
+    ensures none { IfNone result ((o : declared.Origin) → ¬ IsUnlisted entry.now o) }
 {
     match entry.kind {
         Kind::File | Kind::Exec | Kind::Link => None,
         Kind::Dir => match &entry.child {
             Some(_) => None,
-            None => match entry.origin {
-                Origin::Object(id) => Some(Key {
-                    kind: ObjKind::Tree,
-                    id,
-                }),
-                Origin::Own | Origin::Empty => None,
-            },
+            None => Some(entry.origin),
         },
     }
 }
