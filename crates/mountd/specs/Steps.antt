@@ -76,10 +76,18 @@ StatsAt R i r = Stats (node_of (ground_of R) i) r
 abbrev pub ReadsLinkAt : Repository → Item Source → Reply → Type 0
 ReadsLinkAt R i r = ReadsLink (node_of (ground_of R) i) r
 
--- the first entries behind a name, and whether others come after them
+-- the names of the entries, each with its kind
+abbrev pub AreKindsOf : {S : Type 0} → List (Name × Kind) → Items S → Type 0
+AreKindsOf all es = (n : Name) → kind_at all n ≡ option_map (λ j. j.kind) (es n)
+
+-- the first of them behind a name, and whether others come after these
+abbrev pub page_of : Option Name → ℕ → List (Name × Kind) → Reply
+page_of after limit all = say.Entries (take limit (beyond after all)) (nat_lt limit (length (beyond after all)))
+
+-- a page of a directory's entries, in byte order
 abbrev pub ListsEntries : {S : Type 0} → Option (Items S) → Option Name → ℕ → Reply → Type 0
 ListsEntries None after limit r = ⊥
-ListsEntries (Some es) after limit r = (all : List (Name × Kind)) × IsRising all × ((n : Name) → kind_at all n ≡ option_map (λ j. j.kind) (es n)) × (r ≡ say.Entries (take limit (beyond after all)) (nat_lt limit (length (beyond after all))))
+ListsEntries (Some es) after limit r = (all : List (Name × Kind)) × IsRising all × AreKindsOf all es × (r ≡ page_of after limit all)
 
 abbrev pub ListsBy : {S : Type 0} → Kind → Option (Items S) → Option Name → ℕ → Reply → Type 0
 ListsBy kind.File es after limit r = Refuses ENOTDIR r
