@@ -5,3 +5,6 @@ mod Swapped
 mod Order
 mod Moves
 mod Listings
+mod Within
+mod Counts
+mod EntryMoves

@@ -1,5 +1,5 @@
 -- What a move leaves, as it is made: put into the other directory first, and taken out last.
-use Rattle.std.proofs.Common.{◌≡◌, Bool, true, Option, Some, None, sym, ap, ◌∙◌}
+use Rattle.std.proofs.Common.{◌≡◌, ◌≢◌, Bool, true, Option, Some, None, sym, ap, ◌∙◌}
 use Rattle.std.specs.Option.{option_map}
 use Rattle.std.proofs.lemmas.Option.{same_Some}
 use Rattle.eden_model.specs.Trees.{Name, Path}
@@ -21,10 +21,10 @@ module _ (x : Row) (p : Path) (n : Name) (q : Path) (m : Name) (may : MayMove x 
   left_is : with_listing p (changed may.source n None) x ≡ edit_row p (changed_in n None) x
   left_is = edits_alike p (with_child (Some (changed may.source n None))) (changed_in n None) x may.from may.at_from (sym (changed_held n None may.from may.source may.holds_source))
 
-  module _ (rising : AreRising (λ r. r.0) may.source.rows) where
+  module _ (rising : AreRising (λ r. r.0) may.source.rows) (apart : p ≢ q) where
     pub ordered : IsOrdered n m may.entry p q x may.to may.target
     ordered = order n m may.entry p q x may.from may.to may.source may.target may.at_from may.holds_source rising
-        (ap (row_at q) (sym left_is) ∙ may.at_to) may.holds_target may.may_go may.other
+        (ap (row_at q) (sym left_is) ∙ may.at_to) may.holds_target may.may_go apart
 
     -- once the copy w of the entry is put into the other directory
     module _ (w : Row) (same : w ≡ may.entry) (entry : Option Row) (mark : Bool) (z : Row) (put : IsPutAt q m w entry mark x z) where

@@ -161,9 +161,9 @@ module _ (n m : Name) (z : Row) where
     }
 
   pub order : (p q : Path) (x from to : Row) (source target : Directory) → row_at p x ≡ Some from → child_of from ≡ Some source → AreRising (λ r. r.0) source.rows
-      → row_at q (edit_row p leaves x) ≡ Some to → child_of to ≡ Some target → MayGo target m → to.number ≢ from.number → IsOrdered p q x to target
+      → row_at q (edit_row p leaves x) ≡ Some to → child_of to ≡ Some target → MayGo target m → p ≢ q → IsOrdered p q x to target
   order [] [] x from to source target at h rising at_to h_to go other =
-      absurd (other (ap (λ (a : Row). a.number) (sym (same_Some (leaves x) to at_to)) ∙ ap (λ (a : Row). a.number) (same_Some x from at)))
+      absurd (other refl)
   order [] (a ∷ s) x from to source target at h rising at_to h_to go other = below_it a s x to source target (ap child_of (same_Some x from at) ∙ h) rising at_to h_to
   order (b ∷ r) [] x from to source target at h rising at_to h_to go other = above_it b r x from to source target at h (same_Some (edit_row (b ∷ r) leaves x) to at_to) h_to go
   order (b ∷ r) (a ∷ s) x from to source target at h rising at_to h_to go other =
@@ -177,6 +177,7 @@ module _ (n m : Name) (z : Row) where
       let looked = sym (find_row-change_row a b k d.rows) ∙ e.1.0 in
       elim (bytes_eq a b) as (λ t. bytes_eq a b ≡ t → cond t (option_map k (find_row b d.rows)) (find_row a d.rows) ≡ Some e.0 → IsOrdered (b ∷ r) (a ∷ s) x to target) [
         | true ↦ λ t l. (let same : k v ≡ e.0 = same_Some (k v) e.0 (sym (ap (option_map k) u.1.1.1.0) ∙ l) in
-            within_one b a r s x to target d v u.1.0 u.1.1.1.0 h_to (same-≡ a b t) (order r s v from to source target u.1.1.1.1 h rising (ap (row_at s) same ∙ e.1.1) h_to go other))
+            within_one b a r s x to target d v u.1.0 u.1.1.1.0 h_to (same-≡ a b t) (order r s v from to source target u.1.1.1.1 h rising (ap (row_at s) same ∙ e.1.1) h_to go
+            (λ is. other (ap (λ (l : Path). b ∷ l) is ∙ ap (λ (c : Name). c ∷ s) (sym (same-≡ a b t))))))
         | false ↦ λ t l. within_two b a r s x to target d v u.1.0 u.1.1.1.0 h_to t e.0 l e.1.1
       ] refl looked

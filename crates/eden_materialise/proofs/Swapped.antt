@@ -1,14 +1,20 @@
 -- Two changes of a directory's rows, in either order.
 use Rattle.std.proofs.Common.{◌≡◌, true, false, cond, List, [], ◌∷◌, map, Option, Some, None, refl, sym, ap, ◌∙◌}
+use Rattle.std.specs.declared.cmp.Ordering.{Ordering}
+use Rattle.std.specs.declared.cmp.Ordering.TheVariants.{Less, Equal, Greater}
+use Rattle.std.specs.Cmp.Lexicographic.{nat_list_cmp_total}
+use Rattle.std.specs.Map.{keys_of}
+use Rattle.std.specs.Ordering.{is_lt}
 use Rattle.std.specs.Str.{bytes_eq}
 use Rattle.std.specs.Option.{option_map}
 use Rattle.std.proofs.lemmas.Bool.{false≢true}
+use Rattle.std.proofs.lemmas.Map.Keys.{sorted_head, sorted_tail}
 use Rattle.eden_model.specs.Trees.{Name}
 use Rattle.eden_model.specs.Named.{AreRising}
 use Rattle.eden_model.specs.Operations.{name_lt}
 use Rattle.eden_tree.specs.Directory.{Row}
 use Rattle.eden_tree.specs.Rows.{find_row, put_row, drop_row, change_row}
-use Rattle.eden_tree.proofs.CallerLemmas.{same-≡, same-refl, same-sym, find_row-change_row, change_row-absent}
+use Rattle.eden_tree.proofs.CallerLemmas.{order, same-≡, same-refl, same-sym, find_row-change_row, find_row-drop_row, change_row-absent}
 use Rattle.eden_tie.specs.Listings.{stored_entry}
 use Rattle.eden_tie.specs.Changing.{rows_with, placed}
 use Rattle.eden_tie.proofs.CallerLemmas.{gone_after}
@@ -67,6 +73,45 @@ module _ (a n : Name) (k : Row → Row) where
         ∙ sym (ap (λ c. change_row c k (drop_row n es)) one ∙ change_row-absent n k (drop_row n es) (gone_after n es rising)))
     | false ↦ λ s. drop_apart s es
   ] refl
+
+-- a row that goes, and one that comes in
+module _ (n m : Name) (z : Row) (off : bytes_eq n m ≡ false) where
+  is_less : (r : Ordering) → is_lt r ≡ true → r ≡ Less
+  is_less Less h = cc
+  is_less Equal h = cc
+  is_less Greater h = cc
+
+  -- before rows of greater names
+  put_first : (e : Name × Row) (es : List (Name × Row)) → AreRising (λ r. r.0) (e ∷ es) → name_lt m e.0 ≡ true → put_row m z es ≡ (m, z) ∷ es
+  put_first e [] rising less = refl
+  put_first e (f ∷ es) rising less =
+      let above = sorted_head order e.0 (keys_of (f ∷ es)) rising in
+      ap (λ l. cond l ((m, z) ∷ (f ∷ es)) (f ∷ put_row m z es)) (ap is_lt (nat_list_cmp_total.trans m e.0 f.0 (is_less (order m e.0) less) above.0))
+
+  drop_put : (es : List (Name × Row)) → AreRising (λ r. r.0) es → drop_row n (put_row m z es) ≡ put_row m z (drop_row n es)
+  drop_put [] rising = ap (λ t. cond t [] ((m, z) ∷ [])) off
+  drop_put (e ∷ es) rising =
+      elim (name_lt m e.0) as (λ l. name_lt m e.0 ≡ l → drop_row n (cond l ((m, z) ∷ (e ∷ es)) (e ∷ put_row m z es)) ≡ put_row m z (cond (bytes_eq n e.0) es (e ∷ drop_row n es))) [
+        | true ↦ λ l. ap (λ t. cond t (e ∷ es) ((m, z) ∷ drop_row n (e ∷ es))) off
+            ∙ elim (bytes_eq n e.0) as (λ t. (m, z) ∷ cond t es (e ∷ drop_row n es) ≡ put_row m z (cond t es (e ∷ drop_row n es))) [
+              | true ↦ sym (put_first e es rising l)
+              | false ↦ sym (ap (λ t. cond t ((m, z) ∷ (e ∷ drop_row n es)) (e ∷ put_row m z (drop_row n es))) l)
+            ]
+        | false ↦ λ l. elim (bytes_eq n e.0) as (λ t. cond t (put_row m z es) (e ∷ drop_row n (put_row m z es)) ≡ put_row m z (cond t es (e ∷ drop_row n es))) [
+          | true ↦ refl
+          | false ↦ ap (λ r. e ∷ r) (drop_put es (sorted_tail order e.0 (keys_of es) rising))
+              ∙ sym (ap (λ t. cond t ((m, z) ∷ (e ∷ drop_row n es)) (e ∷ put_row m z (drop_row n es))) l)
+        ]
+      ] refl
+
+  pub drop_placed : (es : List (Name × Row)) → AreRising (λ r. r.0) es → drop_row n (rows_with m (Some z) es) ≡ rows_with m (Some z) (drop_row n es)
+  drop_placed es rising =
+      by_found (find_row m es)
+      ∙ sym (ap (λ o. placed o m z (drop_row n es)) (find_row-drop_row m n es rising ∙ ap (λ t. cond t None (find_row m es)) (same-sym n m off)))
+    where
+      by_found : (o : Option Row) → drop_row n (placed o m z es) ≡ placed o m z (drop_row n es)
+      by_found None = drop_put es rising
+      by_found (Some was) = drop_swapped m n (λ _. z) es rising
 
 module _ (b m : Name) (k : Row → Row) (z : Row) (off : bytes_eq b m ≡ false) where
   put_swapped : (es : List (Name × Row)) → put_row m z (change_row b k es) ≡ change_row b k (put_row m z es)

@@ -1,6 +1,6 @@
 //! An entry moved from one directory to another: both are stored, and then memory is so.
 
-ghost use Rattle.std.specs.Prelude.{◌≡◌, ◌⊎◌, Err, Some, None, if◌then◌else◌, IsSome, IsSomeAnd, IfOk, OnOk, OnErr};
+ghost use Rattle.std.specs.Prelude.{◌≡◌, ◌≢◌, ◌⊎◌, Err, Some, None, if◌then◌else◌, IsSome, IsSomeAnd, IfOk, OnOk, OnErr};
 ghost use Rattle.eden_model.specs.Failures.{Counted};
 ghost use Rattle.eden_model.specs.Named.{AreRising};
 ghost use Rattle.eden_overlay_format.specs.Directory.{AreStorable};
@@ -60,7 +60,7 @@ fn ready_at<A: Allocator>(
 }
 
 /// A copy of an entry that isn't loaded, of a name in the directory at a path.
-fn copy_at<A: Allocator>(root: &Entry<A>, path: &[Name], name: &Name) -> Entry<A>
+pub(crate) fn copy_at<A: Allocator>(root: &Entry<A>, path: &[Name], name: &Name) -> Entry<A>
     requires { (y : Row) × ((d : Directory) × ((row_at path.now root.now ≡ Some y) × ((child_of y ≡ Some d) × IsSome (find_row name.now d.rows)))) }
     ensures { AtDirectory path.now root.now (λ y d. (z : Row) → find_row name.now d.rows ≡ Some z → child_of z ≡ None → result ≡ z) }
 {
@@ -116,7 +116,7 @@ fn store_both<A: Allocator, W: World, F: Files<W>>(
 ///
 /// Where the device fails or there is no memory, memory is as it was, and the files are; or the first directory is
 /// stored without the entry, and marked unsaved.
-pub fn move_entry<A: Allocator, W: World, F: Files<W>>(
+pub(crate) fn move_between<A: Allocator, W: World, F: Files<W>>(
     alloc: Global,
     root: &mut Entry<A>,
     overlay: &mut Overlay<W, F>,
@@ -126,6 +126,7 @@ pub fn move_entry<A: Allocator, W: World, F: Files<W>>(
     new_name: &Name,
 ) -> Result<(), FilesFault>
     requires may { MayMove root.old from.now name.now to.now new_name.now }
+    requires apart { from.now ≢ to.now }
     requires left_sound { W.honest → (m : MayMove root.old from.now name.now to.now new_name.now) → AreSound (files_left root.old from.now name.now to.now new_name.now m (F.stored overlay.old)) }
     requires moved_sound { W.honest → (m : MayMove root.old from.now name.now to.now new_name.now) → AreSound (files_moved root.old from.now name.now to.now new_name.now m (F.stored overlay.old)) }
     ensures ok { (m : MayMove root.old from.now name.now to.now new_name.now) → OnOk result (root.new ≡ moved_in root.old from.now name.now to.now new_name.now m) }

@@ -64,7 +64,7 @@ module _ (R : Repository) (F : Stored) where
         ∙ if_dir_alike table x.kind (option_map item_in (find_row n d.rows)) (option_map item_in (find_row n e.rows)) same
         ∙ ap (shown_at table) (sym (loaded_entry R (own_files F) x d holds n))
 
-    directories_alike : ((n : Name) → shown_from R F (find_row n e.rows) ≡ shown_from R F (find_row n d.rows)) → shown_in R F (with_child (Some e) x) ≡ shown_in R F x
+    pub directories_alike : ((n : Name) → shown_from R F (find_row n e.rows) ≡ shown_from R F (find_row n d.rows)) → shown_in R F (with_child (Some e) x) ≡ shown_in R F x
     directories_alike same = same_below table (item_in x) (item_in (with_child (Some e) x)) new_node (λ n. new_shown n (same n))
 
   -- a row set to what shows the same
@@ -79,7 +79,7 @@ module _ (R : Repository) (F : Stored) where
 
   -- ---- along a path
 
-  edited_alike : (p : Path) (f : Row → Row) (x y : Row) → row_at p x ≡ Some y → shown_in R F (f y) ≡ shown_in R F y
+  pub edited_alike : (p : Path) (f : Row → Row) (x y : Row) → row_at p x ≡ Some y → shown_in R F (f y) ≡ shown_in R F y
       → shown_in R F (edit_row p f x) ≡ shown_in R F x
   edited_alike [] f x y at same = subst (λ (v : Row). shown_in R F (f v) ≡ shown_in R F v) (sym (same_Some x y at)) same
   edited_alike (n ∷ p) f x y at same =

@@ -15,6 +15,11 @@ pub use Rattle.eden_tie.proofs.Materialised.{along_found, chain_sound, chain_tie
 pub use Rattle.eden_tie.proofs.Leaving.{rows_without, without_drops, stored_without, take_other, take_same, back_there, back_to}
 pub use Rattle.eden_tie.proofs.Changing.{full_are}
 pub use Rattle.eden_tie.proofs.Moved.{changes_kept, moves_kept}
+-- an entry that moves, and soundness of what it leaves
+pub use Rattle.eden_tie.proofs.Sound.{ties_sound}
+pub use Rattle.eden_tie.proofs.Between.{moves_there, replaces_there}
+pub use Rattle.eden_tie.proofs.Moving.{moved_table, moved_kept, moved_shown, replaced_tied, replaced_kept, replaced_shown}
+pub use Rattle.eden_tie.proofs.Marked.{marked_table, marked_kept, marked_shown}
 -- what loads, and directories that go, keep of a table's invariant, beside `kept_laws`
 pub use Rattle.eden_tie.proofs.Tables.{own_loads_table, unloads_table}
 pub use Rattle.eden_tie.proofs.KeptLemmas.{own_loads_kept, unloads_kept, tables_unload}

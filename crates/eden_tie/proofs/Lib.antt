@@ -12,6 +12,7 @@ pub mod Loops
 pub mod Forward
 pub mod Changing
 pub mod Moved
+pub mod Room
 pub mod Leaving
 pub mod Items
 pub mod Alike
@@ -31,3 +32,6 @@ pub mod Loaded
 pub mod Gone
 pub mod KeptLemmas
 pub mod Changed
+pub mod Between
+pub mod Moving
+pub mod Marked

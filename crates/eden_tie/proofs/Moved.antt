@@ -12,19 +12,19 @@ use Rattle.eden_overlay.specs.Files.{Stored, put}
 use Rattle.eden_overlay.specs.Held.{HoldsEntries, with_entries}
 use Rattle.eden_overlay.specs.Soundness.{Names, LeadsOn, Reached, here, below, IsLive, HoldsKind, AreSound}
 use Rattle.eden_overlay.specs.Laws.{Brings, IsStray, IsUnnamed, IsFresh, Drops, Moves}
-use Rattle.eden_overlay.proofs.CallerLemmas.{put_here, put_apart, names_moved, kind_moved, one_held, apart, was_named, joined}
+use Rattle.eden_overlay.proofs.CallerLemmas.{put_here, put_apart, names_moved, kind_moved, one_held, apart, was_named, named, joined}
 use Rattle.eden_overlay.proofs.CallerLemmas.{dropped_stay, moved_stay, strays_stay, live_stay, added_stay}
 use Rattle.eden_tree.specs.Directory.{Row, Directory, child_of}
 use Rattle.eden_tree.specs.Rows.{find_row, drop_row}
 use Rattle.eden_tree.specs.Paths.{row_at}
-use Rattle.eden_tree.proofs.CallerLemmas.{same-≡, find_row-put_row, find_row-drop_row, find_row-set_row, Contains-find_row, find_row-Contains}
+use Rattle.eden_tree.proofs.CallerLemmas.{same-≡, same-refl, find_row-put_row, find_row-drop_row, find_row-set_row, Contains-find_row, find_row-Contains}
 use Rattle.eden_tie.specs.Listings.{stored_entry, full_entry, listing_of, full_listing, Place, top, inside}
 use Rattle.eden_tie.specs.Ties.{IsAway, SameFile, Ties, Tied}
 use Rattle.eden_tie.specs.Changing.{IsCarried, MayBecome, with_listing, placed, rows_with, changed, MayGo, MayCome, EntryTied, DropTied, MoveTied, NewFileTied}
 use Rattle.eden_tie.specs.Changing.{MayMove, files_left, files_moved, moved_in, IsMoveKept, MovesKept, ChangesKept, NewEntryTied}
 use Rattle.eden_tie.proofs.Rows.{mapped_from, contains_mapped, full_rising, entry_as_is, gone_after}
 use Rattle.eden_tie.proofs.Places.{rising_of, named_full, place_counts, away_row, away_below}
-use Rattle.eden_tie.proofs.Follows.{held_moved}
+use Rattle.eden_tie.proofs.Follows.{held_moved, Back}
 use Rattle.eden_tie.proofs.Chain.{place_at, stored_moved}
 use Rattle.eden_tie.proofs.Forward.{forward}
 use Rattle.eden_tie.proofs.Changing.{full_are, same_moved, changes_tied, left_out_tied}
@@ -186,11 +186,15 @@ module _ (F full : Stored) (x : Row) (next : ℕ) (t : Ties F full x next) (p : 
   was_there : (m : Name) (w : Row) → find_row m kept.rows ≡ Some w → (find_row m d.rows ≡ Some w) ⊎ (child_of w ≡ None)
   was_there m w f = elim (from_with m n None d.rows w rising f) [ inl was ↦ inl was | inr new ↦ absurd (none-some w new.1) ]
 
-  away_then : (k : ℕ) → IsAway x k → IsAway x1 k
-  away_then k away a b q h is = elim (forward full x next t.fits y d kept held was_there (loaded_with d n None rising go) p x at top a b q h) [
-    | inl top_is ↦ away y d on_y held (sym (ap (λ (r : Row). r.number) top_is.0) ∙ is)
-    | inr s ↦ away s.row s.directory s.place s.holds (sym s.number ∙ is)
+  -- what is loaded then was loaded
+  pub loaded_before : (a : Row) (b : Directory) → Place x1 a → child_of a ≡ Some b → Back x a.number
+  loaded_before a b q h = elim (forward full x next t.fits y d kept held was_there (loaded_with d n None rising go) p x at top a b q h) [
+    | inl top_is ↦ record { row = y; directory = d; place = on_y; holds = held; number = sym (ap (λ (r : Row). r.number) top_is.0) }
+    | inr s ↦ record { row = s.row; directory = s.directory; place = s.place; holds = s.holds; number = sym s.number }
   ]
+
+  away_then : (k : ℕ) → IsAway x k → IsAway x1 k
+  away_then k away a b q h is = let l = loaded_before a b q h in away l.row l.directory l.place l.holds (l.number ∙ is)
 
   off_y : (k : ℕ) → IsAway x k → y.number ≢ k
   off_y k away = away y d on_y held
@@ -223,7 +227,7 @@ module _ (F full : Stored) (x : Row) (next : ℕ) (t : Ties F full x next) (p : 
     brought_away k (inl is) = subst (λ j. IsAway x1 j) is (away_then z.number away_z)
     brought_away k (inr (leads, b)) = subst (λ j. IsAway x1 j) b.is (away_then b.entry.number (away_named leads b.directory b.entry b.reached b.named))
 
-    carried_full : IsCarried F1 full1 x1 next moved
+    pub carried_full : IsCarried F1 full1 x1 next moved
     carried_full = record {
       below = brought_below;
       away = brought_away;
@@ -240,6 +244,9 @@ module _ (F full : Stored) (x : Row) (next : ℕ) (t : Ties F full x next) (p : 
         (go_u : MayGo e m) (are_u : AreStorable (listing_of (changed e m (Some z)))) where
       abbrev new : Directory
       new = changed e m (Some z)
+
+      abbrev full2 : Stored
+      full2 = with_entries full1 u.number (full_listing new)
 
       on_u : Place x1 u
       on_u = place_at q x1 u at_u
@@ -278,10 +285,66 @@ module _ (F full : Stored) (x : Row) (next : ℕ) (t : Ties F full x next) (p : 
         each = each_new;
       }
 
-      move : Ties (with_entries F1 u.number (listing_of new)) (with_entries full1 u.number (full_listing new)) (with_listing q new x1) next
+      move : Ties (with_entries F1 u.number (listing_of new)) full2 (with_listing q new x1) next
       move = entry_tied F1 full1 x1 next t1 q u e m (Some z) at_u held_u own_u go_u
           (shut, subst (λ s. IsCarried F1 full1 x1 next s) full_is carried_full) are_u
           (moved_stay full y.number u.number (full_listing d) (full_listing kept) (full_listing new) left moved moves t.fits.sound)
+
+      -- what is named then was named before, or is the entry, and what is live then was so
+      named_now : (c : ℕ) (f : StoredEntry) → Names full2 c f → Names full1 c f ⊎ (f ≡ moved)
+      named_now c f k = elim (named full1 u.number (full_listing new) (full_are new are_u) c f k) [
+        | inl h ↦ elim (each_new f h.1) [ inl was ↦ inl (subst (λ j. Names full1 j f) h.0 was) | inr is ↦ inr is ]
+        | inr h ↦ inl h.1
+      ]
+
+      live_before : (c : ℕ) → IsLive full2 c → IsLive full c
+      live_before c here = here
+      live_before c (below b f r k leads) = elim (named_now b f k) [
+        | inl was ↦ below b f (live_before b r) (named_then b f was) leads
+        | inr is ↦
+            (let P : StoredEntry → Type 0 = λ s. LeadsOn s → IsLive full s.number in
+            subst P (sym is) (λ l. below y.number left counts_y names_left (leads_left l)) leads)
+      ]
+
+      -- the entry w that is replaced
+      module _ (w : Row) (stood : find_row m e.rows ≡ Some w) where
+        abbrev replaced : StoredEntry
+        replaced = full_entry (m, w)
+
+        names_replaced : Names full1 u.number replaced
+        names_replaced = named_full full1 x1 next t1.fits u e m w on_u held_u stood
+
+        live_u : IsLive full u.number
+        live_u = reached_then 1 u.number counts_u
+
+        -- it isn't the one that moves
+        is_another : z.number ≢ w.number
+        is_another is =
+            let once = t.fits.sound.once y.number u.number left replaced counts_y live_u names_left (named_then u.number replaced names_replaced) is in
+            elim (named full y.number (full_listing kept) kept_are u.number replaced names_replaced) [
+              | inl h ↦ not_left (subst (λ s. Contains (full_listing kept) s) (sym once.1) h.1)
+              | inr h ↦ h.0 once.0
+            ]
+
+        -- under its name stands the other
+        not_listed : (f : StoredEntry) → Contains (full_listing new) f → f ≡ replaced → ⊥
+        not_listed f c is =
+            let from = mapped_from full_entry new.rows f c in
+            let found : find_row from.0.0 new.rows ≡ Some from.0.1 = find_row-Contains from.0.0 new.rows from.0.1 (full_rising new (full_are new are_u)) from.1.0 in
+            let name : from.0.0 ≡ m = ap (λ (s : StoredEntry). s.name) (from.1.1 ∙ is) in
+            let now : find_row m new.rows ≡ Some z = find_with m m (Some z) e.rows rising_e ∙ ap (λ b. cond b (Some z) (find_row m e.rows)) (same-refl m) in
+            let row : from.0.1 ≡ z = same_Some from.0.1 z (sym found ∙ ap (λ j. find_row j new.rows) name ∙ now) in
+            is_another (ap (λ (r : Row). r.number) (sym row) ∙ ap (λ (s : StoredEntry). s.number) (from.1.1 ∙ is))
+
+        -- so nothing names it then
+        pub unnamed : IsUnnamed full2 w.number
+        unnamed c f r k is = elim (named full1 u.number (full_listing new) (full_are new are_u) c f k) [
+          | inl h ↦ elim (each_new f h.1) [
+            | inl was ↦ not_listed f h.1 (t1.fits.sound.once u.number u.number f replaced counts_u counts_u was names_replaced is).1
+            | inr other ↦ is_another (ap (λ (s : StoredEntry). s.number) (sym other) ∙ is)
+          ]
+          | inr h ↦ h.0 (sym (t.fits.sound.once c u.number f replaced (live_before c r) live_u (named_then c f h.1) (named_then u.number replaced names_replaced) is).0)
+        ]
 
 pub move_tied : MoveTied
 move_tied F full x next t p y d n z at held own there shut are q u e m at_u held_u own_u go_u are_u =

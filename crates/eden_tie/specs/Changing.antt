@@ -1,5 +1,5 @@
 -- A listing that changes: stored first, and then changed in memory.
-use Rattle.std.specs.Prelude.{◌≡◌, ◌≢◌, ◌<◌, ◌≤◌, ◌⊎◌, ℕ, true, false, List, [], Option, Some, None, IfSome, Contains}
+use Rattle.std.specs.Prelude.{◌≡◌, ◌<◌, ◌≤◌, ◌⊎◌, ℕ, true, false, List, [], Option, Some, None, IfSome, Contains}
 use Rattle.eden_model.specs.declared.kind.Kind.TheVariants as kind
 use Rattle.eden_model.specs.declared.kind.Origin.TheVariants as origin
 use Rattle.eden_model.specs.Trees.{Name, Path}
@@ -108,8 +108,8 @@ NewFileTied = (F full : Stored) (x : Row) (next : ℕ) → Ties F full x next
 
 -- ---- from one directory to another
 
--- an entry that isn't loaded may move from the directory at the one path to that at the other: both are their own, and can be
--- stored without it and with it, in place of one that isn't loaded
+-- an entry that isn't loaded may move from the directory at the one path to that at the other, or within one: both are their
+-- own, and can be stored without it and with it, in place of one that isn't loaded
 pub record MayMove (x : Row) (p : Path) (n : Name) (q : Path) (m : Name) : Type 0 where
   pub from : Row
   pub source : Directory
@@ -126,7 +126,6 @@ pub record MayMove (x : Row) (p : Path) (n : Name) (q : Path) (m : Name) : Type 
   pub at_to : row_at q (with_listing p (changed source n None) x) ≡ Some to
   pub holds_target : child_of to ≡ Some target
   pub own_to : to.origin ≡ origin.Own
-  pub other : to.number ≢ from.number
   pub may_go : MayGo target m
   pub entries_put : AreStorable (listing_of (changed target m (Some entry)))
 

@@ -9,3 +9,4 @@ pub mod KeptLaws
 pub mod ShownLaws
 pub mod Materialising
 pub mod Changing
+pub mod Moving

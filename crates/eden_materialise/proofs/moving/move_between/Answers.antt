@@ -13,8 +13,8 @@ use Rattle.eden_tie.specs.Changing.{MayMove, changed, files_left, files_moved}
 use Rattle.eden_materialise.specs.Moves.{marked}
 use Rattle.eden_materialise.proofs.Putting.{put_there, loaded_there}
 use Rattle.eden_materialise.proofs.Moves.{marked_is, ordered, number_at, listing_at, moved_is}
-use Rattle.eden_materialise.proofs.moving.move_entry.Goals as goal
-use Rattle.eden_materialise.proofs.moving.move_entry.Goals.{then-stored, else-stored}
+use Rattle.eden_materialise.proofs.moving.move_between.Goals as goal
+use Rattle.eden_materialise.proofs.moving.move_between.Goals.{then-stored, else-stored}
 
 pub same-copy : goal.same-copy
 same-copy g c = refl
@@ -23,7 +23,7 @@ pub put_at-requires : goal.put_at-requires
 put_at-requires g c =
     let m = c.requires.may in
     let rising = c.in-Ok.ensures.rising m.from m.source m.at_from m.holds_source in
-    let o = ordered c.args.root.now c.args.from.now c.args.name.now c.args.to.now c.args.new_name.now m rising in
+    let o = ordered c.args.root.now c.args.from.now c.args.name.now c.args.to.now c.args.new_name.now m rising c.requires.apart in
     loaded_there c.args.to.now c.args.root.now o.before o.directory o.at o.holds
 
 pub store_both-requires-clause-loaded : goal.store_both-requires-clause-loaded
@@ -44,7 +44,7 @@ store_both-requires-clause-second g c y d at h =
     let m = c.requires.may in
     let rising = c.in-Ok.ensures.rising m.from m.source m.at_from m.holds_source in
     let same = c.copy_at-copy.ensures m.from m.source m.at_from m.holds_source m.entry m.there m.unloaded in
-    let is = listing_at c.args.root.now c.args.from.now c.args.name.now c.args.to.now c.args.new_name.now m rising c.copy_at-copy.result same
+    let is = listing_at c.args.root.now c.args.from.now c.args.name.now c.args.to.now c.args.new_name.now m rising c.requires.apart c.copy_at-copy.result same
     c.in-Ok-put_at.was.entry c.in-Ok-put_at.was.unsaved c.put_at.new.root c.in-Ok-put_at.ensures.ok y d at h in
     subst AreStorable (sym is) m.entries_put
 
@@ -73,9 +73,9 @@ store_both-requires-clause-both_sound g c honest y d at h =
     let m = c.requires.may in
     let rising = c.in-Ok.ensures.rising m.from m.source m.at_from m.holds_source in
     let same = c.copy_at-copy.ensures m.from m.source m.at_from m.holds_source m.entry m.there m.unloaded in
-    let number = number_at c.args.root.now c.args.from.now c.args.name.now c.args.to.now c.args.new_name.now m rising c.copy_at-copy.result same
+    let number = number_at c.args.root.now c.args.from.now c.args.name.now c.args.to.now c.args.new_name.now m rising c.requires.apart c.copy_at-copy.result same
     c.in-Ok-put_at.was.entry c.in-Ok-put_at.was.unsaved c.put_at.new.root c.in-Ok-put_at.ensures.ok y at in
-    let listing = listing_at c.args.root.now c.args.from.now c.args.name.now c.args.to.now c.args.new_name.now m rising c.copy_at-copy.result same
+    let listing = listing_at c.args.root.now c.args.from.now c.args.name.now c.args.to.now c.args.new_name.now m rising c.requires.apart c.copy_at-copy.result same
     c.in-Ok-put_at.was.entry c.in-Ok-put_at.was.unsaved c.put_at.new.root c.in-Ok-put_at.ensures.ok y d at h in
     let is = moved_files c.args.root.now c.args.from.now c.args.name.now c.args.to.now c.args.new_name.now m (g.F.Files.stored c.args.overlay.now) c.in-Ok.ready.number y.number
     c.in-Ok.ready.entries.items (listing_of d) (c.in-Ok.ensures.number m.from m.source m.at_from m.holds_source) (c.in-Ok.ensures.entries m.from m.source m.at_from m.holds_source) number listing in
@@ -86,7 +86,7 @@ returns-in_default-Ok-clause-ok g c m =
     let rising = c.in-Ok.ensures.rising m.from m.source m.at_from m.holds_source in
     let same = c.copy_at-copy.ensures m.from m.source m.at_from m.holds_source m.entry m.there m.unloaded in
     c.remove_at.ensures
-    ∙ moved_is c.args.root.now c.args.from.now c.args.name.now c.args.to.now c.args.new_name.now m rising c.copy_at-copy.result same
+    ∙ moved_is c.args.root.now c.args.from.now c.args.name.now c.args.to.now c.args.new_name.now m rising c.requires.apart c.copy_at-copy.result same
     c.in-Ok-put_at.was.entry c.in-Ok-put_at.was.unsaved c.put_at.new.root c.in-Ok-put_at.ensures.ok
 
 pub returns-in_default-Ok-clause-stored : goal.returns-in_default-Ok-clause-stored
@@ -97,9 +97,9 @@ returns-in_default-Ok-clause-stored g c honest m =
     let d = changed put.put.directory c.args.new_name.now (Some c.copy_at-copy.result) in
     let at = put_there c.args.to.now c.args.new_name.now c.copy_at-copy.result c.in-Ok-put_at.was.entry c.in-Ok-put_at.was.unsaved c.args.root.now c.put_at.new.root put in
     let h : child_of put.after ≡ Some d = ap child_of put.put.is ∙ child_of-with_child (Some d) put.before in
-    let number = number_at c.args.root.now c.args.from.now c.args.name.now c.args.to.now c.args.new_name.now m rising c.copy_at-copy.result same
+    let number = number_at c.args.root.now c.args.from.now c.args.name.now c.args.to.now c.args.new_name.now m rising c.requires.apart c.copy_at-copy.result same
     c.in-Ok-put_at.was.entry c.in-Ok-put_at.was.unsaved c.put_at.new.root put put.after at in
-    let listing = listing_at c.args.root.now c.args.from.now c.args.name.now c.args.to.now c.args.new_name.now m rising c.copy_at-copy.result same
+    let listing = listing_at c.args.root.now c.args.from.now c.args.name.now c.args.to.now c.args.new_name.now m rising c.requires.apart c.copy_at-copy.result same
     c.in-Ok-put_at.was.entry c.in-Ok-put_at.was.unsaved c.put_at.new.root put put.after d at h in
     let is = moved_files c.args.root.now c.args.from.now c.args.name.now c.args.to.now c.args.new_name.now m (g.F.Files.stored c.args.overlay.now) c.in-Ok.ready.number put.after.number
     c.in-Ok.ready.entries.items (listing_of d) (c.in-Ok.ensures.number m.from m.source m.at_from m.holds_source) (c.in-Ok.ensures.entries m.from m.source m.at_from m.holds_source) number listing in

@@ -1,0 +1,15 @@
+use Rattle.std.proofs.Common.{ℕ, None, sym, ap, subst}
+use Rattle.eden_overlay.specs.Held.{with_entries}
+use Rattle.eden_overlay.specs.Soundness.{AreSound}
+use Rattle.eden_tree.specs.Directory.{Row}
+use Rattle.eden_tie.specs.Listings.{listing_of}
+use Rattle.eden_tie.specs.Changing.{changed}
+use Rattle.eden_materialise.proofs.renaming.store_without.Goals as goal
+
+pub save-requires-clause-entries : goal.save-requires-clause-entries
+save-requires-clause-entries g c = c.requires.entries c.in-Some.entry.now c.in-Some-directory.dir.now (sym c.in-Some.ensures) (sym c.in-Some-directory.ensures)
+
+pub save-requires-clause-sound : goal.save-requires-clause-sound
+save-requires-clause-sound g c h =
+    let P : ℕ → Type 0 = λ k. AreSound (with_entries (g.F.Files.stored c.args.overlay.now) k (listing_of (changed c.in-Some-directory.dir.now c.args.name.now None))) in
+    subst P (ap (λ (r : Row). r.number) (sym c.entry.view_is)) (c.requires.sound h c.in-Some.entry.now c.in-Some-directory.dir.now (sym c.in-Some.ensures) (sym c.in-Some-directory.ensures))
