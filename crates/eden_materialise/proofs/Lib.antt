@@ -5,3 +5,4 @@ mod Swapped
 mod Order
 mod Moves
 mod Listings
+mod Chains

@@ -12,8 +12,9 @@ mod listing;
 mod listing_change;
 mod memory;
 mod moving;
+mod owning;
 
-pub use chain::materialise;
 pub use change::change_at;
 pub use listing_change::change_listing;
 pub use moving::move_entry;
+pub use owning::materialise;

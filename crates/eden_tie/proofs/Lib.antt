@@ -31,3 +31,8 @@ pub mod Loaded
 pub mod Gone
 pub mod KeptLemmas
 pub mod Changed
+pub mod Chained
+pub mod ChainKept
+pub mod Strays
+pub mod StaysLoaded
+pub mod ChainLaws

@@ -9,3 +9,5 @@ pub mod KeptLaws
 pub mod ShownLaws
 pub mod Materialising
 pub mod Changing
+pub mod Chains
+pub mod ChainLaws
