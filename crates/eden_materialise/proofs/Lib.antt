@@ -8,3 +8,4 @@ mod Listings
 mod Within
 mod Counts
 mod EntryMoves
+mod Chains

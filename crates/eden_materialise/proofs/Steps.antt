@@ -1,5 +1,5 @@
 -- One step of a chain that is stored.
-use Rattle.std.proofs.Common.{◌≡◌, [], ◌∷◌, Some, None, sym, ap, ◌∙◌, subst}
+use Rattle.std.proofs.Common.{◌≡◌, ◌∷◌, Some, None, sym, ap, ◌∙◌, subst}
 use Rattle.std.specs.Option.{option_map}
 use Rattle.eden_model.specs.Trees.{Name, Path}
 use Rattle.eden_overlay.specs.Files.{Stored}
@@ -7,17 +7,14 @@ use Rattle.eden_tree.specs.Directory.{Row, Directory, child_of, with_child}
 use Rattle.eden_tree.specs.Rows.{find_row, change_row}
 use Rattle.eden_tree.proofs.CallerLemmas.{change_row-absent}
 use Rattle.eden_tie.specs.Laws.{owned}
-use Rattle.eden_tie.specs.Materialising.{Chain, lowest_own, lowest, both_own, above, kept_mark, owned_along}
-use Rattle.eden_materialise.specs.Chains.{StoresLowest, was_own, stored, StoresAbove, were_own, stored_above}
+use Rattle.eden_tie.specs.Chains.{Above, as_is, again}
+use Rattle.eden_tie.specs.Materialising.{kept_mark, owned_along}
+use Rattle.eden_materialise.specs.Chains.{StoresAgain, were_own, stored_again}
 
-pub chain_lowest : (F : Stored) (x : Row) (d : Directory) (G : Stored) → child_of x ≡ Some d → StoresLowest F x d G → Chain F x [] G
-chain_lowest F x d G h (was_own own is) = subst (Chain F x []) (sym is) (lowest_own x own)
-chain_lowest F x d G h (stored other is) = subst (Chain F x []) (sym is) (lowest x d h other)
-
-pub chain_above : (F : Stored) (x : Row) (d : Directory) (n : Name) (z : Row) (p : Path) (G H : Stored) → child_of x ≡ Some d → find_row n d.rows ≡ Some z → Chain F z p G
-    → StoresAbove G x d n z H → Chain F x (n ∷ p) H
-chain_above F x d n z p G H h there c (were_own own below is) = subst (Chain F x (n ∷ p)) (sym is) (both_own x d n z p G h there c own below)
-chain_above F x d n z p G H h there c (stored_above other is) = subst (Chain F x (n ∷ p)) (sym is) (above x d n z p G h there c other)
+pub above_again : (F : Stored) (x : Row) (d : Directory) (n : Name) (z : Row) (p : Path) (G H : Stored) → child_of x ≡ Some d → find_row n d.rows ≡ Some z → Above F z p G
+    → StoresAgain G x d n z H → Above F x (n ∷ p) H
+above_again F x d n z p G H h there c (were_own own below is) = subst (Above F x (n ∷ p)) (sym is) (as_is x d n z p G h there c own below)
+above_again F x d n z p G H h there c (stored_again other is) = subst (Above F x (n ∷ p)) (sym is) (again x d n z p G h there c other)
 
 -- ---- in memory
 

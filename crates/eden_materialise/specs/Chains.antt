@@ -1,18 +1,51 @@
--- One directory of a chain that is stored.
-use Rattle.std.specs.Prelude.{◌≡◌, ◌⊎◌, true, false}
-use Rattle.eden_model.specs.Trees.{Name}
+-- A chain of directories that is stored, its lowest one first.
+use Rattle.std.specs.Prelude.{◌≡◌, ◌⊎◌, ℕ, true, if◌then◌else◌, List, Option, Some, None, Result, OnOk, OnErr, IfErr}
+use Rattle.eden_model.specs.declared.fault.Fault.{Fault}
+use Rattle.eden_model.specs.Repository.{Repository}
+use Rattle.eden_model.specs.Trees.{Name, Path}
+use Rattle.eden_overlay_format.specs.declared.stored_entry.StoredEntry.{StoredEntry}
 use Rattle.eden_overlay.specs.Files.{Stored}
 use Rattle.eden_overlay.specs.Held.{with_entries}
+use Rattle.eden_overlay.specs.Soundness.{AreSound}
 use Rattle.eden_tree.specs.Directory.{Row, Directory}
+use Rattle.eden_tie.specs.Chains.{IsAboveOther, Above, Unfinished, Refused}
+use Rattle.eden_tie.specs.Kept.{IsTable, IsKept}
+use Rattle.eden_tie.specs.Laws.{owned}
 use Rattle.eden_tie.specs.Listings.{listing_of}
-use Rattle.eden_tie.specs.Materialising.{is_own, marked_listing}
+use Rattle.eden_tie.specs.Materialising.{is_own, marked_listing, Chain, owned_along}
+use Rattle.eden_materialise.specs.declared.listing.Listed.{Listed}
+use Rattle.eden_materialise.specs.Faults.{IsStoreFault}
+use Rattle.eden_materialise.specs.Listed.{listed_as}
 
--- F became G: the chain's lowest directory was stored, unless it was its own already
-pub data StoresLowest (F : Stored) (x : Row) (d : Directory) (G : Stored) : Type 0 where
-  was_own : is_own x.origin ≡ true → G ≡ F → StoresLowest F x d G
-  stored : is_own x.origin ≡ false → G ≡ with_entries F x.number (listing_of d) → StoresLowest F x d G
+-- what is stored of the lowest directory: those entries, or where none are told, all of a directory that isn't its own
+abbrev pub lowest_of : Option Listed → Row → Directory → Option (List StoredEntry)
+lowest_of None y d = if is_own y.origin then None else Some (listing_of d)
+lowest_of (Some l) y d = Some (listed_as l d)
+
+-- file k with those entries, where there are any
+abbrev pub with_lowest : Stored → ℕ → Option (List StoredEntry) → Stored
+with_lowest F k None = F
+with_lowest F k (Some entries) = with_entries F k entries
 
 -- F became G: the directory x was stored with its entry n, the directory z, its own, unless both were their own already
-pub data StoresAbove (F : Stored) (x : Row) (d : Directory) (n : Name) (z : Row) (G : Stored) : Type 0 where
-  were_own : is_own x.origin ≡ true → is_own z.origin ≡ true → G ≡ F → StoresAbove F x d n z G
-  stored_above : (is_own x.origin ≡ false) ⊎ (is_own z.origin ≡ false) → G ≡ with_entries F x.number (marked_listing d n) → StoresAbove F x d n z G
+pub data StoresAgain (F : Stored) (x : Row) (d : Directory) (n : Name) (z : Row) (G : Stored) : Type 0 where
+  were_own : is_own x.origin ≡ true → is_own z.origin ≡ true → G ≡ F → StoresAgain F x d n z G
+  stored_again : IsAboveOther x z → G ≡ with_entries F x.number (marked_listing d n) → StoresAgain F x d n z G
+
+-- while the directories above the one at a path are stored, the files are sound
+abbrev pub StaySound : Stored → Row → Path → Type 0
+StaySound F x p = (G : Stored) → Above F x p G ⊎ Unfinished F x p G → AreSound G
+
+-- the entry is the root of a table, which is kept where the outside is honest
+abbrev pub IsHeld : Type 0 → Repository → Stored → Row → Type 0
+IsHeld honest R F x = (next : ℕ) × (IsTable x next × (honest → IsKept R F x next))
+
+-- the chain along a path is stored, and then its own in memory; after an error memory is as it was, and what was stored is strays
+pub record Owns (honest : Type 0) (p : Path) (F : Stored) (x : Row) (old : ℕ) (G : Stored) (z : Row) (new : ℕ) (answer : Result (Unit {0}) Fault) : Type 0 where
+  pub ok : OnOk answer (z ≡ owned (owned_along p x))
+  pub stored : honest → OnOk answer (Chain F x p G)
+  pub err : OnErr answer (z ≡ x)
+  pub strays : honest → OnErr answer (Refused F x p G)
+  -- the counts of failures of the device, before and then
+  pub fault : IfErr answer (IsStoreFault old new)
+  pub counted : OnOk answer (new ≡ old)

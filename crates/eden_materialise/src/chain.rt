@@ -1,6 +1,6 @@
 //! A chain of directories made the mount's own: stored from the lowest up, and then marked in memory.
 
-ghost use Rattle.std.specs.Prelude.{◌≡◌, ◌⊎◌, Bool, Err, Some, false, true, if◌then◌else◌, MatchBool, OnOk, OnErr};
+ghost use Rattle.std.specs.Prelude.{◌≡◌, ◌⊎◌, Bool, Err, Some, false, true, if◌then◌else◌, MatchBool, IfSome, OnOk, OnErr};
 ghost use Rattle.eden_model.specs.Failures.{Counted};
 ghost use Rattle.eden_overlay_format.specs.Directory.{AreStorable};
 ghost use Rattle.eden_overlay.specs.Files.{Stored};
@@ -8,10 +8,11 @@ ghost use Rattle.eden_overlay.specs.Held.{with_entries};
 ghost use Rattle.eden_overlay.specs.Soundness.{AreSound};
 ghost use Rattle.eden_overlay.specs.declared.files.FilesFault.TheVariants as files;
 ghost use Rattle.eden_tree.specs.Rows.{find_row};
+ghost use Rattle.eden_tie.specs.Chains.{IsLoadedAt, IsAboveOther, Above, Unfinished, Refused};
 ghost use Rattle.eden_tie.specs.Laws.{owned};
-ghost use Rattle.eden_tie.specs.Listings.{listing_of};
-ghost use Rattle.eden_tie.specs.Materialising.{is_own, marked_listing, Chain, OnTheWay, IsChain, kept_mark, owned_along};
-ghost use Rattle.eden_materialise.specs.Chains.{StoresLowest, StoresAbove};
+ghost use Rattle.eden_tie.specs.Materialising.{is_own, marked_listing, Chain, IsChain, kept_mark, owned_along};
+ghost use Rattle.eden_materialise.specs.Chains.{lowest_of, with_lowest, StoresAgain, StaySound, IsHeld};
+ghost use Rattle.eden_materialise.specs.Puts.{AtDirectory};
 
 use crate::listing::{Listed, save};
 use eden_model::{Name, Origin, World};
@@ -38,27 +39,40 @@ fn are_own(one: Origin, other: Origin) -> bool
     false
 }
 
-/// Stores the chain's lowest directory, unless it is its own already.
+/// Stores the directory at a path so, or where it isn't told how, whole, unless it is its own already.
 fn store_lowest<A: Allocator, W: World, F: Files<W>>(
     alloc: Global,
+    root: &Entry<A>,
     overlay: &mut Overlay<W, F>,
-    entry: &Entry<A>,
-    dir: &Dir<A>,
+    path: &[Name],
+    lowest: Option<Listed<'_>>,
 ) -> Result<(), FilesFault>
-    requires entries { AreStorable (listing_of dir.now) }
-    requires sound { W.honest → is_own entry.now.origin ≡ false → AreSound (with_entries (F.stored overlay.old) entry.now.number (listing_of dir.now)) }
-    ensures ok { W.honest → OnOk result (StoresLowest (F.stored overlay.old) entry.now dir.now (F.stored overlay.new)) }
+    requires loaded { IsLoadedAt path.now root.now }
+    requires entries { AtDirectory path.now root.now (λ y d. IfSome (lowest_of lowest y d) AreStorable) }
+    requires sound { W.honest → AtDirectory path.now root.now (λ y d. AreSound (with_lowest (F.stored overlay.old) y.number (lowest_of lowest y d))) }
+    ensures ok { W.honest → AtDirectory path.now root.now (λ y d. OnOk result (F.stored overlay.new ≡ with_lowest (F.stored overlay.old) y.number (lowest_of lowest.entry y d))) }
     ensures err { W.honest → OnErr result (F.stored overlay.new ≡ F.stored overlay.old) }
     ensures counted { Counted (result ≡ Err files.Device) (F.failures overlay.old) (F.failures overlay.new) }
 {
-    if is_own(entry.origin) {
-        return Ok(());
+    match root.walk(path) {
+        None => unreachable!(),
+        Some(entry) => match entry.directory() {
+            None => unreachable!(),
+            Some(dir) => match lowest {
+                Some(listed) => return save(alloc, overlay, entry.number, dir, listed),
+                None => {
+                    if is_own(entry.origin) {
+                        return Ok(());
+                    }
+                    return save(alloc, overlay, entry.number, dir, Listed::Whole);
+                }
+            },
+        },
     }
-    save(alloc, overlay, entry.number, dir, Listed::Whole)
 }
 
 /// Stores a directory with its entry of that name, which is below, as its own, unless both are their own already.
-fn store_above<A: Allocator, W: World, F: Files<W>>(
+fn store_again<A: Allocator, W: World, F: Files<W>>(
     alloc: Global,
     overlay: &mut Overlay<W, F>,
     entry: &Entry<A>,
@@ -67,9 +81,9 @@ fn store_above<A: Allocator, W: World, F: Files<W>>(
     below: &Entry<A>,
 ) -> Result<(), FilesFault>
     requires entries { AreStorable (marked_listing dir.now name.now) }
-    requires sound { W.honest → (is_own entry.now.origin ≡ false) ⊎ (is_own below.now.origin ≡ false) → AreSound (with_entries (F.stored overlay.old) entry.now.number (marked_listing dir.now name.now)) }
-    ensures ok { W.honest → OnOk result (StoresAbove (F.stored overlay.old) entry.now dir.now name.now below.now (F.stored overlay.new)) }
-    ensures err { W.honest → OnErr result (F.stored overlay.new ≡ F.stored overlay.old) }
+    requires sound { W.honest → IsAboveOther entry.now below.now → AreSound (with_entries (F.stored overlay.old) entry.now.number (marked_listing dir.now name.now)) }
+    ensures ok { W.honest → OnOk result (StoresAgain (F.stored overlay.old) entry.now dir.now name.now below.now (F.stored overlay.new)) }
+    ensures err { W.honest → OnErr result ((F.stored overlay.new ≡ F.stored overlay.old) × IsAboveOther entry.now below.now) }
     ensures counted { Counted (result ≡ Err files.Device) (F.failures overlay.old) (F.failures overlay.new) }
 {
     if are_own(entry.origin, below.origin) {
@@ -78,35 +92,58 @@ fn store_above<A: Allocator, W: World, F: Files<W>>(
     save(alloc, overlay, entry.number, dir, Listed::Owned(name))
 }
 
-/// Stores the chain of loaded directories along a path, from the lowest up: each that isn't the mount's own, and each
+/// Stores the loaded directories above the one at a path, from the lowest up: each that isn't the mount's own, and each
 /// above one that isn't.
 ///
 /// Where the device fails or there is no memory, some of them may have been stored, the lowest first.
-fn store_chain<A: Allocator, W: World, F: Files<W>>(
+fn store_above<A: Allocator, W: World, F: Files<W>>(
     alloc: Global,
     root: &Entry<A>,
     overlay: &mut Overlay<W, F>,
     path: &[Name],
 ) -> Result<(), FilesFault>
     requires chain { IsChain root.now path.now }
-    requires sound { W.honest → (G : Stored) → OnTheWay (F.stored overlay.old) root.now path.now G → AreSound G }
-    ensures ok { W.honest → OnOk result (Chain (F.stored overlay.old) root.now path.now (F.stored overlay.new)) }
-    ensures err { W.honest → OnErr result ((F.stored overlay.new ≡ F.stored overlay.old) ⊎ OnTheWay (F.stored overlay.old) root.now path.now (F.stored overlay.new)) }
+    requires sound { W.honest → StaySound (F.stored overlay.old) root.now path.now }
+    ensures ok { W.honest → OnOk result (Above (F.stored overlay.old) root.now path.now (F.stored overlay.new)) }
+    ensures err { W.honest → OnErr result (Unfinished (F.stored overlay.old) root.now path.now (F.stored overlay.new)) }
     ensures counted { Counted (result ≡ Err files.Device) (F.failures overlay.old) (F.failures overlay.new) }
 {
-    match root.directory() {
-        None => unreachable!(),
-        Some(dir) => match path.split_first() {
-            None => return store_lowest(alloc, overlay, root, dir),
-            Some((name, rest)) => match dir.get(name) {
+    match path.split_first() {
+        None => return Ok(()),
+        Some((name, rest)) => match root.directory() {
+            None => unreachable!(),
+            Some(dir) => match dir.get(name) {
                 None => unreachable!(),
                 Some(below) => {
-                    store_chain(alloc, below, overlay, rest)?;
-                    return store_above(alloc, overlay, root, dir, name, below);
+                    store_above(alloc, below, overlay, rest)?;
+                    return store_again(alloc, overlay, root, dir, name, below);
                 }
             },
         },
     }
+}
+
+/// Stores the chain of loaded directories along a path, from the lowest up: that one so, and each above it that isn't the
+/// mount's own or stands above one that isn't.
+///
+/// Where the device fails or there is no memory, some of them may have been stored, the lowest first.
+pub(crate) fn store_chain<A: Allocator, W: World, F: Files<W>>(
+    alloc: Global,
+    root: &Entry<A>,
+    overlay: &mut Overlay<W, F>,
+    path: &[Name],
+    lowest: Option<Listed<'_>>,
+) -> Result<(), FilesFault>
+    requires chain { IsChain root.now path.now }
+    requires loaded { IsLoadedAt path.now root.now }
+    requires entries { AtDirectory path.now root.now (λ y d. IfSome (lowest_of lowest y d) AreStorable) }
+    requires sound { W.honest → AtDirectory path.now root.now (λ y d. StaySound (with_lowest (F.stored overlay.old) y.number (lowest_of lowest y d)) root.now path.now) }
+    ensures ok { W.honest → AtDirectory path.now root.now (λ y d. OnOk result (Above (with_lowest (F.stored overlay.old) y.number (lowest_of lowest.entry y d)) root.now path.now (F.stored overlay.new))) }
+    ensures err { W.honest → AtDirectory path.now root.now (λ y d. OnErr result ((F.stored overlay.new ≡ F.stored overlay.old) ⊎ Unfinished (with_lowest (F.stored overlay.old) y.number (lowest_of lowest.entry y d)) root.now path.now (F.stored overlay.new))) }
+    ensures counted { Counted (result ≡ Err files.Device) (F.failures overlay.old) (F.failures overlay.new) }
+{
+    store_lowest(alloc, root, overlay, path, lowest)?;
+    store_above(alloc, root, overlay, path)
 }
 
 /// Whether the entry of that name is there and not its own.
@@ -143,27 +180,34 @@ fn mark_chain<A: Allocator>(root: &mut Entry<A>, path: &[Name])
     }
 }
 
+/// Marks the directories of the chain, the root's entry among them, as the mount's own.
+pub(crate) fn mark_own<A: Allocator>(root: &mut Entry<A>, path: &[Name])
+    ensures { root.new ≡ owned (owned_along path.now root.old) }
+{
+    mark_chain(root, path);
+    root.origin = Origin::Own;
+}
+
 /// Makes the loaded directories along a path the mount's own, that of the root's entry among them: each that isn't its
 /// own, and each above one that isn't, is stored, the lowest first, and then memory is so.
 ///
 /// Where the device fails or there is no memory, memory is as it was; some of the directories may have been stored, the
 /// lowest first.
-pub fn materialise<A: Allocator, W: World, F: Files<W>>(
+pub(crate) fn own_chain<A: Allocator, W: World, F: Files<W>>(
     alloc: Global,
     root: &mut Entry<A>,
     overlay: &mut Overlay<W, F>,
     path: &[Name],
 ) -> Result<(), FilesFault>
-    requires chain { IsChain root.old path.now }
-    requires sound { W.honest → (G : Stored) → OnTheWay (F.stored overlay.old) root.old path.now G → AreSound G }
+    requires loaded { IsLoadedAt path.now root.old }
+    requires held { IsHeld W.honest W.repository (F.stored overlay.old) root.old }
     ensures ok { OnOk result (root.new ≡ owned (owned_along path.now root.old)) }
     ensures stored { W.honest → OnOk result (Chain (F.stored overlay.old) root.old path.now (F.stored overlay.new)) }
     ensures err { OnErr result (root.new ≡ root.old) }
-    ensures strays { W.honest → OnErr result ((F.stored overlay.new ≡ F.stored overlay.old) ⊎ OnTheWay (F.stored overlay.old) root.old path.now (F.stored overlay.new)) }
+    ensures strays { W.honest → OnErr result (Refused (F.stored overlay.old) root.old path.now (F.stored overlay.new)) }
     ensures counted { Counted (result ≡ Err files.Device) (F.failures overlay.old) (F.failures overlay.new) }
 {
-    store_chain(alloc, root, overlay, path)?;
-    mark_chain(root, path);
-    root.origin = Origin::Own;
+    store_chain(alloc, root, overlay, path, None)?;
+    mark_own(root, path);
     Ok(())
 }

@@ -13,9 +13,10 @@ mod listing;
 mod listing_change;
 mod memory;
 mod moving;
+mod owning;
 mod renaming;
 
-pub use chain::materialise;
 pub use change::change_at;
 pub use entry_move::move_entry;
 pub use listing_change::change_listing;
+pub use owning::materialise;

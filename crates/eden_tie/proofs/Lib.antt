@@ -35,3 +35,8 @@ pub mod Changed
 pub mod Between
 pub mod Moving
 pub mod Marked
+pub mod Chained
+pub mod ChainKept
+pub mod Strays
+pub mod StaysLoaded
+pub mod ChainLaws

@@ -27,12 +27,12 @@ use Rattle.eden_tie.proofs.Sound.{ties_sound}
 
 -- ---- what a chain leaves of an entry
 
-own_is : (o : Origin) → is_own o ≡ true → o ≡ origin.Own
+pub own_is : (o : Origin) → is_own o ≡ true → o ≡ origin.Own
 own_is (origin.Object i) h = absurd (false≢true h)
 own_is origin.Own h = refl
 own_is origin.Empty h = absurd (false≢true h)
 
-not_own : (o : Origin) → is_own o ≡ false → o ≢ origin.Own
+pub not_own : (o : Origin) → is_own o ≡ false → o ≢ origin.Own
 not_own o h is = false≢true (sym h ∙ ap is_own is)
 
 number_along : (p : Path) (x : Row) → (owned_along p x).number ≡ x.number

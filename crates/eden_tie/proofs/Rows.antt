@@ -37,7 +37,7 @@ mapped_from f (x ∷ xs) y (suc k, w, is) =
 -- ---- names
 
 -- entries under the names of their rows have those names
-names_mapped : (f : Name × Row → StoredEntry) → ((e : Name × Row) → (f e).name ≡ e.0) → (es : List (Name × Row)) → map (λ (s : StoredEntry). s.name) (map f es) ≡ map (λ (e : Name × Row). e.0) es
+pub names_mapped : (f : Name × Row → StoredEntry) → ((e : Name × Row) → (f e).name ≡ e.0) → (es : List (Name × Row)) → map (λ (s : StoredEntry). s.name) (map f es) ≡ map (λ (e : Name × Row). e.0) es
 names_mapped f same [] = refl
 names_mapped f same (e ∷ es) = ap (λ n. n ∷ map (λ (s : StoredEntry). s.name) (map f es)) (same e) ∙ ap (λ l. e.0 ∷ l) (names_mapped f same es)
 

@@ -61,7 +61,7 @@ own_source k q origin.Own is = (refl, cc)
 own_source k q origin.Empty is = absurd (cc)
 
 -- no object's entry has an own file
-objects_own : (m : Mode) (id : Id) (q : ℕ) → (item_by m id).source ≡ Own q → ⊥
+pub objects_own : (m : Mode) (id : Id) (q : ℕ) → (item_by m id).source ≡ Own q → ⊥
 objects_own mode.File id q is = absurd (cc)
 objects_own mode.Exec id q is = absurd (cc)
 objects_own mode.Link id q is = absurd (cc)

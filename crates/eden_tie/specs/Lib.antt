@@ -10,3 +10,5 @@ pub mod ShownLaws
 pub mod Materialising
 pub mod Changing
 pub mod Moving
+pub mod Chains
+pub mod ChainLaws

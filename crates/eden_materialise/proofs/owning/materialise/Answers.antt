@@ -1,0 +1,35 @@
+use Rattle.eden_materialise.proofs.Chains.{owns_table, owns_saved, owns_stays, owns_kept, owns_alike}
+use Rattle.eden_materialise.proofs.owning.materialise.Goals as goal
+
+pub change-requires-clause-table : goal.change-requires-clause-table
+change-requires-clause-table g c files root answer does =
+    let t = c.args.inodes.now in
+    owns_table g.W.World.honest c.args.path.now (g.F.Files.stored t.files) t.root (g.F.Files.failures t.files) (g.F.Files.stored files) root (g.F.Files.failures files)
+    answer t.next c.holds.ensures.table c.requires.loaded does
+
+pub change-requires-clause-kept : goal.change-requires-clause-kept
+change-requires-clause-kept g c h files root answer does =
+    let t = c.args.inodes.now in
+    owns_kept g.W.World.honest c.args.path.now (g.F.Files.stored t.files) t.root (g.F.Files.failures t.files) (g.F.Files.stored files) root (g.F.Files.failures files)
+    h g.W.World.repository t.next c.holds.ensures.table (c.holds.ensures.kept h) c.requires.loaded answer does
+
+pub returns-clause-shown : goal.returns-clause-shown
+returns-clause-shown g c h =
+    let t = c.args.inodes.now in
+    let then = c.change.new.self in
+    owns_alike g.W.World.honest c.args.path.now (g.F.Files.stored t.files) t.root (g.F.Files.failures t.files) (g.F.Files.stored then.files) then.root (g.F.Files.failures then.files)
+    h g.W.World.repository t.next c.holds.ensures.table (c.holds.ensures.kept h) c.requires.loaded c.change.result c.change.ensures.does
+
+pub returns-clause-saved : goal.returns-clause-saved
+returns-clause-saved g c all =
+    let t = c.args.inodes.now in
+    let then = c.change.new.self in
+    owns_saved g.W.World.honest c.args.path.now (g.F.Files.stored t.files) t.root (g.F.Files.failures t.files) (g.F.Files.stored then.files) then.root (g.F.Files.failures then.files)
+    c.change.result t.next c.holds.ensures.table c.requires.loaded c.change.ensures.does all
+
+pub returns-clause-stays : goal.returns-clause-stays
+returns-clause-stays g c =
+    let t = c.args.inodes.now in
+    let then = c.change.new.self in
+    owns_stays g.W.World.honest c.args.path.now (g.F.Files.stored t.files) t.root (g.F.Files.failures t.files) (g.F.Files.stored then.files) then.root (g.F.Files.failures then.files)
+    c.change.result c.requires.loaded c.change.ensures.does

@@ -1,0 +1,23 @@
+use Rattle.eden_tie.proofs.ChainLaws.{owned_table, owned_stays, owned_saved, owned_kept, owned_alike, refused_kept, refused_alike}
+use Rattle.eden_tie.proofs.owning.chain_laws.Goals as goal
+
+pub returns-clause-table : goal.returns-clause-table
+returns-clause-table c = owned_table
+
+pub returns-clause-stays : goal.returns-clause-stays
+returns-clause-stays c = owned_stays
+
+pub returns-clause-saved : goal.returns-clause-saved
+returns-clause-saved c = owned_saved
+
+pub returns-clause-kept : goal.returns-clause-kept
+returns-clause-kept c = owned_kept
+
+pub returns-clause-alike : goal.returns-clause-alike
+returns-clause-alike c = owned_alike
+
+pub returns-clause-refused_kept : goal.returns-clause-refused_kept
+returns-clause-refused_kept c = refused_kept
+
+pub returns-clause-refused_alike : goal.returns-clause-refused_alike
+returns-clause-refused_alike c = refused_alike
