@@ -8,7 +8,8 @@ ghost use Rattle.eden_overlay_format.specs.Directory.{number_least, number_end};
 ghost use Rattle.eden_overlay.specs.Held.{HoldsContent};
 ghost use Rattle.std.specs.Coded.{codes};
 ghost use Rattle.eden_tree.specs.Coding.{child_code};
-ghost use Rattle.eden_tree.specs.Directory.{Row};
+ghost use Rattle.std.specs.Option.{option_copied, option_and_then};
+ghost use Rattle.eden_tree.specs.Directory.{Row, child_of};
 ghost use Rattle.eden_tree.specs.Paths.{row_at, edit_row, stamped_along};
 ghost use Rattle.eden_tie.specs.Kept.{IsTable, IsKept};
 ghost use Rattle.eden_tie.specs.Loading.{IsAt, LoadsObject, LoadsOwn};
@@ -24,7 +25,7 @@ use crate::unload::Unloading;
 use eden_model::{Fault, Key, Kind, Name, ObjKind, Origin, TreeEntry, World};
 use eden_overlay::{Content, Files, Overlay};
 use eden_tie::{kept_laws, shown_laws};
-use eden_tree::{Change, Entry};
+use eden_tree::{Change, Dir, Entry};
 use std::alloc::{Allocator, Global};
 use std::marker::Model;
 
@@ -125,6 +126,16 @@ impl<A: Allocator + Clone, W: World, F: Files<W>> Inodes<A, W, F> {
         }
     }
 
+    /// The directory that is loaded at a path.
+    pub fn directory(&self, path: &[Name]) -> Option<&Dir<A>>
+        ensures { option_copied result ≡ option_and_then child_of (row_at path.now self.now.root) }
+    {
+        match self.root.walk(path) {
+            None => None,
+            Some(entry) => entry.directory(),
+        }
+    }
+
     /// The last entry in memory on a path: one look-up for each name. The loaded directories on the way are stamped.
     pub fn look(&mut self, path: &[Name]) -> Seen
         ensures last { IsLast path.now self.old.root result }
@@ -182,6 +193,7 @@ impl<A: Allocator + Clone, W: World, F: Files<W>> Inodes<A, W, F> {
         ensures err { OnErr result ((self.new.root ≡ self.old.root) × (self.new.next ≡ self.old.next)) }
         ensures fault { IfErr result (IsLoadFault W.honest self.old.next (F.failures self.old.files) (F.failures self.new.files) (F.stored self.old.files) path.now self.old.root (option_map (λ es. es.now) entries.entry)) }
         ensures files { W.honest → F.stored self.new.files ≡ F.stored self.old.files }
+        ensures counted { (F.failures self.old.files) ≤ (F.failures self.new.files) }
         ensures shown { W.honest → shown_in W.repository (F.stored self.new.files) self.new.root ≡ shown_in W.repository (F.stored self.old.files) self.old.root }
         ensures rest { (self.new.clock ≡ self.old.clock) × (self.new.changes ≡ self.old.changes) }
     {
@@ -226,6 +238,7 @@ impl<A: Allocator + Clone, W: World, F: Files<W>> Inodes<A, W, F> {
         ensures err { OnErr result (self.new.root ≡ self.old.root) }
         ensures fault { IfErr result (IsLoadFault W.honest self.old.next (F.failures self.old.files) (F.failures self.new.files) (F.stored self.old.files) path.now self.old.root None) }
         ensures files { W.honest → F.stored self.new.files ≡ F.stored self.old.files }
+        ensures counted { (F.failures self.old.files) ≤ (F.failures self.new.files) }
         ensures shown { W.honest → shown_in W.repository (F.stored self.new.files) self.new.root ≡ shown_in W.repository (F.stored self.old.files) self.old.root }
         ensures rest { (self.new.next ≡ self.old.next) × ((self.new.clock ≡ self.old.clock) × (self.new.changes ≡ self.old.changes)) }
     {
@@ -248,6 +261,7 @@ impl<A: Allocator + Clone, W: World, F: Files<W>> Inodes<A, W, F> {
         ensures ok { W.honest → IfOk result (λ content. (y : Row) → row_at path.now self.old.root ≡ Some y → HoldsContent (F.stored self.old.files) y.number content) }
         ensures fault { IfErr result (IsContentFault W.honest (F.failures self.old.files) (F.failures self.new.files) (F.stored self.old.files) path.now self.old.root) }
         ensures files { W.honest → F.stored self.new.files ≡ F.stored self.old.files }
+        ensures counted { (F.failures self.old.files) ≤ (F.failures self.new.files) }
         ensures rest { self.new ≡ record self.old { files = self.new.files } }
     {
         let Some(entry) = self.root.walk(path) else {

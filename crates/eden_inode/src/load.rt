@@ -1,5 +1,5 @@
 //! What is loaded at a path, and from where.
-ghost use Rattle.std.specs.Prelude.{◌≡◌, ◌≢◌, [], Some, IfOk, IfErr, OnOk, OnErr};
+ghost use Rattle.std.specs.Prelude.{◌≡◌, ◌≢◌, ◌≤◌, [], Some, IfOk, IfErr, OnOk, OnErr};
 ghost use Rattle.eden_model.specs.declared.id.Id as id;
 ghost use Rattle.eden_model.specs.declared.kind.Kind.TheVariants as kind;
 ghost use Rattle.eden_model.specs.declared.kind.Origin as declared;
@@ -78,6 +78,7 @@ pub(crate) fn own_directory<A: Allocator, W: World, F: Files<W>>(
     ensures storable { IfOk result (λ d. AreStorable (listing_of d)) }
     ensures fault { IfErr result (IsGetFault W.honest (F.failures overlay.old) (F.failures overlay.new) (entries_at (F.stored overlay.old) number)) }
     ensures files { W.honest → F.stored overlay.new ≡ F.stored overlay.old }
+    ensures counted { F.failures overlay.old ≤ F.failures overlay.new }
 {
     match overlay.get_dir(alloc, number) {
         Ok(entries) => Ok(from_stored(dirs, entries, clock)?),
@@ -101,6 +102,7 @@ pub(crate) fn unlisted<A: Allocator, W: World, F: Files<W>>(
     ensures storable { IfOk result (λ d. AreStorable (listing_of d)) }
     ensures fault { IfErr result (IsGetFault W.honest (F.failures overlay.old) (F.failures overlay.new) (entries_at (F.stored overlay.old) number)) }
     ensures files { W.honest → F.stored overlay.new ≡ F.stored overlay.old }
+    ensures counted { F.failures overlay.old ≤ F.failures overlay.new }
 {
     match origin {
         Origin::Object(_) => unreachable!(),
@@ -118,6 +120,7 @@ pub(crate) fn own_content<W: World, F: Files<W>>(
     ensures held { W.honest → IfOk result (λ content. HoldsContent (F.stored overlay.old) number content) }
     ensures fault { IfErr result (IsGetFault W.honest (F.failures overlay.old) (F.failures overlay.new) (content_at (F.stored overlay.old) number)) }
     ensures files { W.honest → F.stored overlay.new ≡ F.stored overlay.old }
+    ensures counted { F.failures overlay.old ≤ F.failures overlay.new }
 {
     match overlay.get_file(alloc, number) {
         Ok(content) => Ok(content),

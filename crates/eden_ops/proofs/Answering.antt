@@ -1,0 +1,186 @@
+-- What a look answers of what it meets.
+use Rattle.std.proofs.Common.{◌≡◌, ◌⊎◌, Bool, true, false, List, [], ◌∷◌, ◌++◌, ℕ, if◌then◌else◌, Option, Some, None, Result, Ok, Err, sym, refl, ◌∙◌, ap, subst, inl, inr}
+use Rattle.std.proofs.lemmas.Bool.{false≢true}
+use Rattle.std.specs.Option.{option_map}
+use Rattle.eden_model.specs.declared.errno.Errno.TheVariants.{ENOENT}
+use Rattle.eden_model.specs.declared.fault.Fault.{Fault}
+use Rattle.eden_model.specs.declared.fault.Fault.TheVariants as fault
+use Rattle.eden_model.specs.declared.id.Key.{Key}
+use Rattle.eden_model.specs.declared.id.ObjKind.TheVariants as objects
+use Rattle.eden_model.specs.declared.kind.Kind.{Kind}
+use Rattle.eden_model.specs.declared.kind.Kind.TheVariants as kind
+use Rattle.eden_model.specs.declared.node.Node.{Node}
+use Rattle.eden_model.specs.declared.node.Node.TheVariants.{File, Link, Dir}
+use Rattle.eden_model.specs.declared.request.Request.{Request}
+use Rattle.eden_model.specs.declared.request.Request.TheVariants as ask
+use Rattle.eden_model.specs.declared.reply.Reply.{Reply}
+use Rattle.eden_model.specs.declared.reply.Reply.TheVariants as say
+use Rattle.eden_model.specs.declared.world.World.{Ghosts}
+use Rattle.eden_model.specs.Histories.{fault_of}
+use Rattle.eden_model.specs.Operations.{At, Meets as Table_Meets, Refuses, Replies, after, done}
+use Rattle.eden_model.specs.Shown.{node_from}
+use Rattle.eden_model.specs.Trees.{Path, Tree, Walk, Passes, Stops, Unlisted, through, walk_from, walk, Reach, Fails, Absent, Here, ends, reach}
+use Rattle.eden_overlay.specs.declared.files.Files.{Ghosts as Files}
+use Rattle.eden_cache.specs.Cache.{Cache}
+use Rattle.eden_tree.specs.Directory.{Child, unloaded, loaded, Row}
+use Rattle.eden_tree.specs.Paths.{row_at}
+use Rattle.eden_inode.specs.Tables.{Table}
+use Rattle.eden_ops.specs.declared.answer.Attempt.TheVariants.{Finished, Need}
+use Rattle.eden_ops.specs.declared.answer.Stop.{Stop}
+use Rattle.eden_ops.specs.declared.answer.Stop.TheVariants as stop
+use Rattle.eden_ops.specs.Attempts.{Attempts, Wants, IsRealNeed, Meets, MeetsShown, Lacks, IsShown, shown_node, object_kind, stopped}
+use Rattle.eden_ops.specs.Caches.{FindsTheSame}
+use Rattle.eden_ops.specs.Faults.{IsDamaged, WantsNumbers, IsCaused, IsLawful, Makes, creates, makes_dir, links}
+use Rattle.eden_ops.specs.Keeping.{shows, Keeps}
+use Rattle.eden_ops.specs.Known.{content_known, known_by, known_node, known, is_unlisted, place_from, place_on, place}
+use Rattle.eden_ops.proofs.Walking.{walk_here, place_passes}
+
+-- a request that changes nothing, and whose reply is by what stands at its path
+pub record Asks (q : Request) (p : Path) (here : Tree → Node → Reply → Type 0) : Type 0 where
+  pub says : (G : Tree) (r : Reply) → At G p (here G) r → Replies G q r
+  pub only : (G : Tree) (r : Reply) → Replies G q r → At G p (here G) r
+  pub at : (G : Tree) → place G q ≡ place_on G p
+  pub plain : (x : Path) → q ≡ ask.Kind x → x ≡ p
+  pub quiet : (G : Tree) → done G q ≡ G
+
+unchanged : (G : Tree) (q : Request) (r : Reply) → done G q ≡ G → after G q r ≡ G
+unchanged G q say.Ok e = e
+unchanged G q (say.Kind k) e = e
+unchanged G q (say.Stat k n) e = e
+unchanged G q (say.Data d) e = e
+unchanged G q (say.Count n) e = e
+unchanged G q (say.Entries es more) e = e
+unchanged G q (say.Err x) e = refl
+unchanged G q (say.Fault x) e = refl
+
+-- ---- where the walk is unlisted, the place is an unlisted directory
+
+place_dir_by : (front : Path) (G : Tree) (o : Option Node) (beyond : Walk) (far : Path) → G front ≡ o → through o beyond ≡ Unlisted → (beyond ≡ Unlisted → G far ≡ Some (Dir false)) → G (if is_unlisted o then front else far) ≡ Some (Dir false)
+place_dir_by front G None beyond far at is on = cc
+place_dir_by front G (Some (File x c)) beyond far at is on = cc
+place_dir_by front G (Some (Link c)) beyond far at is on = cc
+place_dir_by front G (Some (Dir true)) beyond far at is on = on is
+place_dir_by front G (Some (Dir false)) beyond far at is on = at
+
+place_dir : (G : Tree) (front rest : Path) → walk_from G front rest ≡ Unlisted → G (place_from G front rest) ≡ Some (Dir false)
+place_dir G front [] is = cc
+place_dir G front (n ∷ rest) is = place_dir_by front G (G front) (walk_from G (front ++ n ∷ []) rest) (place_from G (front ++ n ∷ []) rest) refl is (λ on. place_dir G (front ++ n ∷ []) rest on)
+
+dir_kind : (k : Kind) (c : Option (List ℕ)) → node_from k c false ≡ Dir false → k ≡ kind.Dir
+dir_kind kind.File c is = cc
+dir_kind kind.Exec c is = cc
+dir_kind kind.Link c is = cc
+dir_kind kind.Dir c is = refl
+
+dir_child : (k : Kind) (n : Option (List ℕ)) (c : Child) → known_by c (node_from k n false) ≡ Dir false → k ≡ kind.Dir
+dir_child k n unloaded is = dir_kind k n is
+dir_child k n (loaded s u r) is = let same : true ≡ false = cc in absurd (false≢true (sym same))
+
+some_inj : {X : Type 0} (a b : X) → Some a ≡ Some b → a ≡ b
+some_inj a b is = cc
+
+-- the object of a directory is a tree
+tree_wanted : (x : Row) (q : Path) (d : Cache) (k : Key) → known x q ≡ Some (Dir false) → Wants (row_at q x) d k → k.kind ≡ objects.Tree
+tree_wanted x q d k dir h =
+    let is = some_inj (known_node h.row) (Dir false) (sym (ap (option_map known_node) h.there) ∙ dir) in
+    h.kind ∙ ap object_kind (dir_child h.row.kind (content_known h.row.origin) h.row.child is)
+
+-- a look makes no entry
+no_entry : (r : Request) (x : Path) → Makes r → r ≡ ask.Kind x → ⊥
+no_entry _ x (creates p) is = cc
+no_entry _ x (makes_dir p) is = cc
+no_entry _ x (links p target) is = cc
+
+module _ {W F : Type 0} (w : Ghosts W) (f : Files F W) (q : Request) (p : Path) (here : Tree → Node → Reply → Type 0) (asks : Asks q p here) (s t : Table F) (c d : Cache)
+    (same : w.honest → shows w f t ≡ shows w f s) (keeps : Keeps w f s t) (cache : FindsTheSame c d) where
+  -- the reply of a request that changes nothing
+  pub replied : (r : Reply) → fault_of r ≡ None → (w.honest → At (shows w f s) p (here (shows w f s)) r) → Attempts w f q s t c d (Finished r)
+  replied r fine says = record {
+    answer = record {
+      reply = λ h x. asks.says (shows w f s) r (says h);
+      fault = λ e is. let x : Some e ≡ None = ap fault_of (sym is) ∙ fine in cc;
+      shown = λ h. same h ∙ sym (unchanged (shows w f s) q r (asks.quiet (shows w f s)));
+    };
+    cache = cache;
+  }
+
+  -- a fault
+  pub faulted : (e : Fault) → IsLawful w f q s t e → Attempts w f q s t c d (Finished (say.Fault e))
+  faulted e lawful = record {
+    answer = record { reply = λ h x. cc; fault = λ a is. let one : e ≡ a = cc in subst (λ (b : Fault). IsLawful w f q s t b) one lawful; shown = same };
+    cache = cache;
+  }
+
+  -- ---- the walk ends before the path does
+
+  silent : (G : Tree) (r : Reply) → walk G p ≡ Unlisted → ¬ Replies G q r
+  silent G r un h = subst (λ (x : Reach). Table_Meets x (Refuses ENOENT) (here G) r) (ap (λ (v : Walk). ends v (G p)) un) (asks.only G r h)
+
+  lawful : (e : Fault) → IsLawful w f (ask.Kind p) s t e → IsLawful w f q s t e
+  lawful (fault.Fetch id cause) h = h
+  lawful fault.Memory h = λ x is. subst (λ (y : Path). walk (known s.root) y ≡ Unlisted) (sym (asks.plain x is)) (h p refl)
+  lawful fault.Overlay (inl rose) = inl rose
+  lawful fault.Overlay (inr damaged) = inr (subst (λ (x : Path). IsDamaged w f x t) (sym (asks.at (known t.root))) damaged)
+  lawful fault.Numbers (inl m) = absurd (no_entry (ask.Kind p) p m.0 refl)
+  lawful fault.Numbers (inr h) = inr (subst (λ (x : Path). WantsNumbers w f x t) (sym (asks.at (known t.root))) h)
+
+  pub walk_ended : (z : Stop) → Meets w f p s t d (Err z) → (w.honest → MeetsShown w f p s t (Err z)) → Attempts w f q s t c d (stopped z)
+  walk_ended (stop.Errs e) h shown =
+      replied (say.Err e) refl (λ honest. subst (λ (x : Reach). Table_Meets x (Refuses ENOENT) (here (shows w f s)) (say.Err e)) (sym (shown honest)) refl)
+  walk_ended (stop.Needs k) h shown = record {
+    answer = record {
+      need = record {
+        silent = λ r. silent (known t.root) r h.0;
+        wanted = subst (λ (x : Path). Wants (row_at x t.root) d k) (sym (asks.at (known t.root))) h.1;
+        unsized = λ x is blob. let tree = tree_wanted t.root (place_on (known t.root) p) d k (place_dir (known t.root) [] p h.0) h.1 in let no : objects.Blob ≡ objects.Tree = sym blob ∙ tree in cc;
+      };
+      keeps = keeps;
+    };
+    cache = cache;
+  }
+  walk_ended (stop.Faults e) h shown = faulted e (lawful e h)
+
+  -- ---- at the path
+
+  pub says_absent : (w.honest → MeetsShown w f p s t (Ok None)) → Attempts w f q s t c d (Finished (say.Err ENOENT))
+  says_absent shown = replied (say.Err ENOENT) refl (λ honest. subst (λ (x : Reach). Table_Meets x (Refuses ENOENT) (here (shows w f s)) (say.Err ENOENT)) (sym (shown honest)) refl)
+
+  -- by the entry there
+  pub says_here : (y : Row) → row_at p t.root ≡ Some y → (w.honest → IsShown w.repository (f.stored t.files) (row_at p t.root) (reach (shows w f s) p)) → (r : Reply) → fault_of r ≡ None
+      → (w.honest → (listed : Bool) → here (shows w f s) (shown_node w.repository (f.stored t.files) y listed) r) → Attempts w f q s t c d (Finished r)
+  says_here y at shown r fine says =
+      replied r fine (λ honest.
+      let h = shown honest in
+      let row = some_inj h.row y (sym h.there ∙ at) in
+      subst (λ (x : Reach). Table_Meets x (Refuses ENOENT) (here (shows w f s)) r) (sym (h.is ∙ ap (λ (z : Row). Here (shown_node w.repository (f.stored t.files) z h.listed)) row)) (says honest h.listed))
+
+  -- what the entry there wants: its object, or what its stored file lacks
+  module _ (y : Row) (at : row_at p t.root ≡ Some y) where
+    known_here : reach (known t.root) p ≡ Here (known_node y)
+    known_here = ap (λ (v : Walk). ends v (known t.root p)) (walk_here t.root p y at) ∙ ap (λ (o : Option Row). ends Passes (option_map known_node o)) at
+
+    place_is : place (known t.root) q ≡ p
+    place_is = asks.at (known t.root) ∙ place_passes (known t.root) p (walk_here t.root p y at)
+
+    lawful_here : (e : Fault) → ((x : Path) → q ≡ ask.Kind x → ⊥) → IsCaused w f p s t e → IsLawful w f q s t e
+    lawful_here (fault.Fetch id cause) other h = h
+    lawful_here fault.Memory other h = λ x is. absurd (other x is)
+    lawful_here fault.Overlay other (inl rose) = inl rose
+    lawful_here fault.Overlay other (inr damaged) = inr (subst (λ (x : Path). IsDamaged w f x t) (sym place_is) damaged)
+    lawful_here fault.Numbers other h = inr (subst (λ (x : Path). WantsNumbers w f x t) (sym place_is) h)
+
+    pub lacked : (z : Stop) → ((x : Path) → q ≡ ask.Kind x → ⊥) → ((k : Key) → z ≡ stop.Needs k → ((r : Reply) → ¬ here (known t.root) (known_node y) r) × ((x : Path) → q ≡ ask.Stat x → ⊥)) → Lacks w f p s t d z
+        → Attempts w f q s t c d (stopped z)
+    lacked (stop.Errs e) other need h = absurd h
+    lacked (stop.Needs k) other need h = record {
+      answer = record {
+        need = record {
+          silent = λ r x. (need k refl).0 r (subst (λ (v : Reach). Table_Meets v (Refuses ENOENT) (here (known t.root)) r) known_here (asks.only (known t.root) r x));
+          wanted = subst (λ (x : Path). Wants (row_at x t.root) d k) (sym place_is) h;
+          unsized = λ x is. absurd ((need k refl).1 x is);
+        };
+        keeps = keeps;
+      };
+      cache = cache;
+    }
+    lacked (stop.Faults e) other need h = faulted e (lawful_here e other h)

@@ -1,0 +1,13 @@
+pub mod Walking
+pub mod Deeper
+pub mod Growing
+pub mod Steps
+pub mod Bringing
+pub mod Bare
+pub mod Meeting
+pub mod Rounds
+pub mod Finding
+pub mod Seeing
+pub mod Reached
+pub mod Answering
+pub mod Looking

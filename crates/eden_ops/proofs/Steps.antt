@@ -1,0 +1,102 @@
+-- Steps that change nothing, one after the other.
+use Rattle.std.proofs.Common.{◌≡◌, ◌≤◌, ◌+◌, ℕ, List, length, Option, Some, None, Result, sym, refl, ◌∙◌, ap, subst, inl, inr, arith}
+use Rattle.eden_model.specs.declared.tree_entry.TreeEntry.{TreeEntry}
+use Rattle.eden_model.specs.declared.world.World.{Ghosts}
+use Rattle.eden_model.specs.Trees.{Path}
+use Rattle.eden_overlay.specs.declared.files.Files.{Ghosts as Files}
+use Rattle.eden_tree.specs.Directory.{Row, with_child}
+use Rattle.eden_tree.specs.Paths.{edit_row, stamped_along}
+use Rattle.eden_tie.specs.Loading.{LoadsObject, LoadsOwn}
+use Rattle.eden_tie.specs.ShownLaws.{StampsAlike, ObjectLoadsAlike}
+use Rattle.eden_tie.proofs.CallerLemmas.{own_loads_alike}
+use Rattle.eden_inode.specs.Tables.{Table, HasTree, HasNoTree}
+use Rattle.eden_ops.specs.Keeping.{shows, Loads, from_object, without, Beside, Step, stamps, loads, rests, Keeps, same, on}
+use Rattle.eden_ops.specs.Laws.{Grows, KeepsShown, KeepsFiles, KeepsEntries, KeepsCounts}
+use Rattle.eden_tie.specs.Shown.{shown_in}
+use Rattle.eden_overlay.specs.Files.{Stored}
+use Rattle.eden_ops.proofs.Growing.{grows_same, grows_on, grows_stamped, grows_loaded}
+
+module _ {W F : Type 0} (w : Ghosts W) (f : Files F W) where
+  pub keeps_on : (s t u : Table F) → Keeps w f s t → Keeps w f t u → Keeps w f s u
+  keeps_on s t _ a same = a
+  keeps_on s t _ a (on v u b step) = on v u (keeps_on s t v a b) step
+
+  pub keeps_step : (s t : Table F) → Step w f s t → Keeps w f s t
+  keeps_step s t step = on s t same step
+
+  -- ---- what a step leaves
+
+  own_grows : (s : Table F) (p : Path) (z : Row) → HasNoTree p s.root → (l : LoadsOwn w.honest s.clock (f.stored s.files) s.root p z) → Grows s.root (stamped_along p s.clock (edit_row p (with_child (Some l.directory)) s.root))
+  own_grows s p z (inl at) l = grows_loaded p s.root at.row l.directory at.there at.unloaded s.clock
+  own_grows s p z (inr at) l = grows_loaded p s.root at.row l.directory at.there at.unloaded s.clock
+
+  load_grows : (s t : Table F) (p : Path) → Loads w f p s t → Grows s.root t.root
+  load_grows s t p (from_object id es at tree l) = subst (λ (z : Row). Grows s.root z) (sym l.is) (grows_loaded p s.root at.row l.directory at.there at.unloaded s.clock)
+  load_grows s t p (without none l next) = subst (λ (z : Row). Grows s.root z) (sym l.is) (own_grows s p t.root none l)
+
+  step_grows : (s t : Table F) → Step w f s t → Grows s.root t.root
+  step_grows s _ (stamps p) = grows_stamped p s.clock s.root
+  step_grows s _ (loads t p l b) = load_grows s t p l
+  step_grows s _ (rests t root next b) = subst (λ (z : Row). Grows s.root z) (sym root) (grows_same s.root)
+
+  pub keeps_entries : KeepsEntries w f
+  keeps_entries s _ same = grows_same s.root
+  keeps_entries s _ (on t u k step) = grows_on s.root t.root u.root (keeps_entries s t k) (step_grows t u step)
+
+  step_files : (s t : Table F) → Step w f s t → w.honest → f.stored t.files ≡ f.stored s.files
+  step_files s _ (stamps p) h = refl
+  step_files s _ (loads t p l b) h = b.stored h
+  step_files s _ (rests t root next b) h = b.stored h
+
+  pub keeps_files : KeepsFiles w f
+  keeps_files s _ same h = refl
+  keeps_files s _ (on t u k step) h = step_files t u step h ∙ keeps_files s t k h
+
+  abbrev Counts : Table F → Table F → Type 0
+  Counts s t = (t.clock ≡ s.clock) × ((t.changes ≡ s.changes) × ((s.next ≤ t.next) × (f.failures s.files ≤ f.failures t.files)))
+
+  load_next : (s t : Table F) (p : Path) → Loads w f p s t → s.next ≤ t.next
+  load_next s t p (from_object id es at tree l) = let is = l.gives in omega (arith, is)
+  load_next s t p (without none l next) = omega (arith, next)
+
+  step_counts : (s t : Table F) → Step w f s t → Counts s t
+  step_counts s _ (stamps p) = (refl, (refl, (omega arith, omega arith)))
+  step_counts s _ (loads t p l b) = (b.clock, (b.changes, (load_next s t p l, b.failures)))
+  step_counts s _ (rests t root next b) = (b.clock, (b.changes, (omega (arith, next), b.failures)))
+
+  pub keeps_counts : KeepsCounts w f
+  keeps_counts s _ same = (refl, (refl, (omega arith, omega arith)))
+  keeps_counts s _ (on t u k step) =
+      let a = keeps_counts s t k in
+      let b = step_counts t u step in
+      let n = a.1.1.0 in let m = b.1.1.0 in let i = a.1.1.1 in let j = b.1.1.1 in
+      (b.0 ∙ a.0, (b.1.0 ∙ a.1.0, (omega (arith, n, m), omega (arith, i, j))))
+
+  module _ (stamped : StampsAlike) (object : ObjectLoadsAlike) where
+    load_shown : (s t : Table F) (p : Path) → Loads w f p s t → w.honest → shown_in w.repository (f.stored s.files) t.root ≡ shows w f s
+    load_shown s t p (from_object id es at tree l) h = object w.repository (f.stored s.files) s.clock s.next s.root p id es t.root t.next at (tree h) l
+    load_shown s t p (without none l next) h = own_loads_alike w.honest w.repository (f.stored s.files) s.clock s.root p t.root h none l
+
+    step_shown : (s t : Table F) → Step w f s t → w.honest → shows w f t ≡ shows w f s
+    step_shown s _ (stamps p) h = stamped w.repository (f.stored s.files) p s.clock s.root
+    step_shown s _ (loads t p l b) h = ap (λ (G : Stored). shown_in w.repository G t.root) (b.stored h) ∙ load_shown s t p l h
+    step_shown s _ (rests t root next b) h =
+        ap (λ (G : Stored). shown_in w.repository G t.root) (b.stored h) ∙ ap (λ (z : Row). shown_in w.repository (f.stored s.files) z) root
+
+    pub keeps_shown : KeepsShown w f
+    keeps_shown s _ same h = refl
+    keeps_shown s _ (on t u k step) h = step_shown t u step h ∙ keeps_shown s t k h
+
+  -- ---- what `Inodes::load` and `Inodes::look` leave
+
+  pub looks : (s t : Table F) (p : Path) → t ≡ record s { root = stamped_along p s.clock s.root } → Keeps w f s t
+  looks s t p is = subst (λ (u : Table F). Keeps w f s u) (sym is) (keeps_step s (record s { root = stamped_along p s.clock s.root }) (stamps p))
+
+  pub loads_object : (s t : Table F) (p : Path) (es : List TreeEntry) → HasTree w.repository w.honest p s.root es → LoadsObject s.clock s.next s.root p es t.root t.next → Beside w f s t → Keeps w f s t
+  loads_object s t p es has l b = keeps_step s t (loads t p (from_object has.id es has.at has.tree l) b)
+
+  pub loads_own : (s t : Table F) (p : Path) → HasNoTree p s.root → LoadsOwn w.honest s.clock (f.stored s.files) s.root p t.root → t.next ≡ s.next → Beside w f s t → Keeps w f s t
+  loads_own s t p none l next b = keeps_step s t (loads t p (without none l next) b)
+
+  pub loads_none : (s t : Table F) → t.root ≡ s.root → t.next ≡ s.next → Beside w f s t → Keeps w f s t
+  loads_none s t root next b = keeps_step s t (rests t root next b)

@@ -1,0 +1,121 @@
+use Rattle.std.proofs.Common.{◌≡◌, ◌⊎◌, ◌<◌, ◌+◌, length, take, refl, sym, ap, ◌∙◌, subst, inl, inr, arith}
+use Rattle.eden_model.specs.declared.kind.Kind.{Kind}
+use Rattle.eden_model.specs.declared.kind.Kind.TheVariants as kind
+use Rattle.eden_inode.specs.Tables.{IsLast}
+use Rattle.eden_ops.specs.Keeping.{Keeps, same}
+use Rattle.eden_ops.specs.Known.{IsLoadedAt}
+use Rattle.eden_ops.proofs.Finding.{finds_on}
+use Rattle.eden_ops.proofs.Meeting.{seen_here, absent_here, ends_absent, ends_file, is_at, ends_unlisted}
+use Rattle.eden_ops.proofs.Rounds.{last_after, walk_after, meets_err, counted_above}
+use Rattle.eden_ops.proofs.Steps.{keeps_on, looks}
+use Rattle.eden_ops.proofs.meet.pass.Goals as goal
+
+pub fronts-init : goal.fronts-init
+fronts-init g c = record { keeps = same; cache = record { objects = λ k. refl; sizes = λ id. refl }; cause = λ is. is; few = omega arith; last = λ k is. absurd (omega (arith, is)) }
+
+pub returns-then-seen-path-clause-meets : goal.returns-then-seen-path-clause-meets
+returns-then-seen-path-clause-meets g c =
+    seen_here c.args.path.now c.look-seen.new.self.root c.look-seen.result
+    (last_after g.W.World g.F.Files c.args.path.now c.fronts.inodes c.look-seen.new.self c.look-seen.result c.look-seen.ensures.stamped c.look-seen.ensures.last) c.if-seen-path.true
+
+pub returns-then-seen-path-clause-keeps : goal.returns-then-seen-path-clause-keeps
+returns-then-seen-path-clause-keeps g c =
+    keeps_on g.W.World g.F.Files c.args.inodes.now c.fronts.inodes c.look-seen.new.self c.fronts.invariant.keeps (looks g.W.World g.F.Files c.fronts.inodes c.look-seen.new.self c.args.path.now c.look-seen.ensures.stamped)
+
+pub returns-then-seen-path-2-clause-meets : goal.returns-then-seen-path-2-clause-meets
+returns-then-seen-path-2-clause-meets g c =
+    absent_here c.args.path.now c.look-seen.new.self.root c.look-seen.result
+    (last_after g.W.World g.F.Files c.args.path.now c.fronts.inodes c.look-seen.new.self c.look-seen.result c.look-seen.ensures.stamped c.look-seen.ensures.last) c.if-seen.true c.if-seen-path-2.true
+
+pub returns-then-seen-path-2-clause-keeps : goal.returns-then-seen-path-2-clause-keeps
+returns-then-seen-path-2-clause-keeps g c =
+    keeps_on g.W.World g.F.Files c.args.inodes.now c.fronts.inodes c.look-seen.new.self c.fronts.invariant.keeps (looks g.W.World g.F.Files c.fronts.inodes c.look-seen.new.self c.args.path.now c.look-seen.ensures.stamped)
+
+pub returns-then-seen-clause-meets : goal.returns-then-seen-clause-meets
+returns-then-seen-clause-meets g c =
+    let last = last_after g.W.World g.F.Files c.args.path.now c.fronts.inodes c.look-seen.new.self c.look-seen.result c.look-seen.ensures.stamped c.look-seen.ensures.last in
+    let le = last.names in
+    let a = c.if-seen-path.false in
+    let b = c.if-seen-path-2.false in
+    ends_absent c.args.path.now c.look-seen.new.self.root c.look-seen.result last c.if-seen.true (omega (arith, le, a, b))
+
+pub returns-then-seen-clause-keeps : goal.returns-then-seen-clause-keeps
+returns-then-seen-clause-keeps g c =
+    keeps_on g.W.World g.F.Files c.args.inodes.now c.fronts.inodes c.look-seen.new.self c.fronts.invariant.keeps (looks g.W.World g.F.Files c.fronts.inodes c.look-seen.new.self c.args.path.now c.look-seen.ensures.stamped)
+
+other_kind : (k : Kind) → (k ≡ kind.File) ⊎ ((k ≡ kind.Exec) ⊎ (k ≡ kind.Link)) → k ≡ kind.Dir → ⊥
+other_kind k (inl a) is = cc
+other_kind k (inr (inl a)) is = cc
+other_kind k (inr (inr a)) is = cc
+
+pub returns-in-File : goal.returns-in-File
+returns-in-File g c =
+    let last = last_after g.W.World g.F.Files c.args.path.now c.fronts.inodes c.look-seen.new.self c.look-seen.result c.look-seen.ensures.stamped c.look-seen.ensures.last in
+    let le = last.names in
+    let a = c.if-seen-path.false in
+    record {
+      meets = ends_file c.args.path.now c.look-seen.new.self.root c.look-seen.result last c.if-seen.false (omega (arith, le, a)) (other_kind c.look-seen.result.kind c.in-File.is);
+      keeps = keeps_on g.W.World g.F.Files c.args.inodes.now c.fronts.inodes c.look-seen.new.self c.fronts.invariant.keeps (looks g.W.World g.F.Files c.fronts.inodes c.look-seen.new.self c.args.path.now c.look-seen.ensures.stamped);
+      cache = c.fronts.invariant.cache;
+    }
+
+pub bring-requires-clause-at : goal.bring-requires-clause-at
+bring-requires-clause-at g c =
+    let last = last_after g.W.World g.F.Files c.args.path.now c.fronts.inodes c.look-seen.new.self c.look-seen.result c.look-seen.ensures.stamped c.look-seen.ensures.last in
+    let le = last.names in
+    let a = c.if-seen-path.false in
+    is_at c.args.path.now c.look-seen.new.self.root c.look-seen.result last c.if-seen.false (omega (arith, le, a)) c.in-Dir.is
+
+pub returns-in_err-bring-in-Dir-clause-meets : goal.returns-in_err-bring-in-Dir-clause-meets
+returns-in_err-bring-in-Dir-clause-meets g c =
+    let p = c.args.path.now in
+    let s = c.args.inodes.now in
+    let t = c.fronts.inodes in
+    let u = c.look-seen.new.self in
+    let seen = c.look-seen.result in
+    let last = last_after g.W.World g.F.Files p t u seen c.look-seen.ensures.stamped c.look-seen.ensures.last in
+    let le = last.names in
+    let a = c.if-seen-path.false in
+    let lt : seen.names < length p = omega (arith, le, a) in
+    let before = keeps_on g.W.World g.F.Files s t u c.fronts.invariant.keeps (looks g.W.World g.F.Files t u p c.look-seen.ensures.stamped) in
+    let cause = c.fronts.invariant.cause (sym (walk_after g.W.World g.F.Files p t u c.look-seen.ensures.stamped) ∙ ends_unlisted p u.root seen last c.if-seen.false lt c.in-Dir.is) in
+    meets_err g.W.World g.F.Files p s u c.bring.new.inodes c.bring.new.cache seen last c.if-seen.false lt c.in-Dir.is before cause c.in_err-bring-in-Dir.ensures.err
+    c.from_residual.result c.in_err-bring-in-Dir.field-0.0 c.from_residual.ensures.0 c.from_residual.ensures.1 c.in_err-bring-in-Dir.ensures.lacks
+
+pub returns-in_err-bring-in-Dir-clause-keeps : goal.returns-in_err-bring-in-Dir-clause-keeps
+returns-in_err-bring-in-Dir-clause-keeps g c =
+    let s = c.args.inodes.now in
+    let t = c.fronts.inodes in
+    let u = c.look-seen.new.self in
+    keeps_on g.W.World g.F.Files s u c.bring.new.inodes
+    (keeps_on g.W.World g.F.Files s t u c.fronts.invariant.keeps (looks g.W.World g.F.Files t u c.args.path.now c.look-seen.ensures.stamped)) c.bring.ensures.keeps
+
+pub fronts-smaller : goal.fronts-smaller
+fronts-smaller g c =
+    let p = c.args.path.now in
+    let seen = c.look-seen.result in
+    let le = c.look-seen.ensures.last.names in
+    let a = c.if-seen-path.false in
+    let lt : seen.names < length p = omega (arith, le, a) in
+    let above = counted_above g.W.World g.F.Files p c.fronts.inodes c.look-seen.new.self seen c.look-seen.ensures.stamped c.look-seen.ensures.last c.if-seen.false lt c.fronts.loaded c.fronts.invariant.last in
+    omega (arith, above, lt)
+
+pub fronts-preserved : goal.fronts-preserved
+fronts-preserved g c =
+    let p = c.args.path.now in
+    let s = c.args.inodes.now in
+    let t = c.fronts.inodes in
+    let u = c.look-seen.new.self in
+    let seen = c.look-seen.result in
+    let last = last_after g.W.World g.F.Files p t u seen c.look-seen.ensures.stamped c.look-seen.ensures.last in
+    let le = last.names in
+    let a = c.if-seen-path.false in
+    let lt : seen.names < length p = omega (arith, le, a) in
+    record {
+      keeps = keeps_on g.W.World g.F.Files s u c.bring.new.inodes
+          (keeps_on g.W.World g.F.Files s t u c.fronts.invariant.keeps (looks g.W.World g.F.Files t u p c.look-seen.ensures.stamped)) c.bring.ensures.keeps;
+      cache = finds_on c.args.cache.now c.fronts.cache c.bring.new.cache c.fronts.invariant.cache c.bring.ensures.cache;
+      cause = λ _. c.fronts.invariant.cause (sym (walk_after g.W.World g.F.Files p t u c.look-seen.ensures.stamped) ∙ ends_unlisted p u.root seen last c.if-seen.false lt c.in-Dir.is);
+      few = omega (arith, lt);
+      last = λ k is. let same : seen.names ≡ k = omega (arith, is) in subst (λ n. IsLoadedAt (take n p) c.bring.new.inodes.root) same c.in_ok-bring-in-Dir.ensures.ok;
+    }

@@ -1,0 +1,40 @@
+-- What an attempt leaves of a table that changes nothing: directories on the way are stamped and loaded.
+use Rattle.std.specs.Prelude.{◌≡◌, ◌≤◌, ℕ, List, Some}
+use Rattle.eden_model.specs.declared.id.Id.{Id}
+use Rattle.eden_model.specs.declared.kind.Origin.TheVariants as origin
+use Rattle.eden_model.specs.declared.tree_entry.TreeEntry.{TreeEntry}
+use Rattle.eden_model.specs.declared.world.World.{Ghosts}
+use Rattle.eden_model.specs.Trees.{Path, Tree}
+use Rattle.eden_overlay.specs.declared.files.Files.{Ghosts as Files}
+use Rattle.eden_tree.specs.Paths.{stamped_along}
+use Rattle.eden_tie.specs.Loading.{IsAt, LoadsObject, LoadsOwn}
+use Rattle.eden_tie.specs.Shown.{shown_in}
+use Rattle.eden_inode.specs.Tables.{Table, HasNoTree}
+
+module _ {W F : Type 0} (w : Ghosts W) (f : Files F W) where
+  -- the tree that a table shows
+  abbrev pub shows : Table F → Tree
+  shows t = shown_in w.repository (f.stored t.files) t.root
+
+  -- the directory at a path is loaded, and the entries of a tree object have the next numbers
+  pub data Loads (p : Path) (t u : Table F) : Type 0 where
+    from_object : (id : Id) (es : List TreeEntry) → IsAt p t.root (origin.Object id) → (w.honest → w.repository.tree id ≡ Some es)
+        → LoadsObject t.clock t.next t.root p es u.root u.next → Loads p t u
+    without : HasNoTree p t.root → LoadsOwn w.honest t.clock (f.stored t.files) t.root p u.root → u.next ≡ t.next → Loads p t u
+
+  -- beside the entries and the next number: the device may have failed
+  pub record Beside (t u : Table F) : Type 0 where
+    pub stored : w.honest → f.stored u.files ≡ f.stored t.files
+    pub failures : f.failures t.files ≤ f.failures u.files
+    pub clock : u.clock ≡ t.clock
+    pub changes : u.changes ≡ t.changes
+
+  pub data Step (t : Table F) : Table F → Type 0 where
+    stamps : (p : Path) → Step t (record t { root = stamped_along p t.clock t.root })
+    loads : (u : Table F) (p : Path) → Loads p t u → Beside t u → Step t u
+    rests : (u : Table F) → u.root ≡ t.root → u.next ≡ t.next → Beside t u → Step t u
+
+  -- any number of such steps
+  pub data Keeps (s : Table F) : Table F → Type 0 where
+    same : Keeps s s
+    on : (t u : Table F) → Keeps s t → Step t u → Keeps s u

@@ -1,0 +1,46 @@
+-- What follows of what an attempt leaves, and of waits that follow each other.
+use Rattle.std.specs.Prelude.{◌≡◌, ◌≤◌, ◌<◌, ◌++◌, ◌∷◌, ℕ, Bool, [], length, Some, None}
+use Rattle.eden_model.specs.declared.world.World.{Ghosts}
+use Rattle.eden_model.specs.Trees.{Name, Path, Tree, Unlisted, walk}
+use Rattle.eden_overlay.specs.declared.files.Files.{Ghosts as Files}
+use Rattle.eden_tree.specs.Directory.{Row}
+use Rattle.eden_tree.specs.Paths.{Standing, standing_at}
+use Rattle.eden_inode.specs.Tables.{Table}
+use Rattle.eden_ops.specs.Known.{known, IsLoadedAt, place_on}
+use Rattle.eden_ops.specs.Keeping.{shows, Keeps}
+
+-- an entry as it was, but that it may be loaded now: what was loaded is, with its mark
+pub record Stays (y v : Standing) : Type 0 where
+  pub number : v.number ≡ y.number
+  pub kind : v.kind ≡ y.kind
+  pub origin : v.origin ≡ y.origin
+  pub loaded : (stamp : ℕ) (unsaved : Bool) → y.loaded ≡ Some (stamp, unsaved) → (at : ℕ) × (v.loaded ≡ Some (at, unsaved))
+
+-- each entry is as it was, and a loaded directory has no other names
+pub record Grows (x z : Row) : Type 0 where
+  pub there : (p : Path) (y : Standing) → standing_at p x ≡ Some y → (v : Standing) × ((standing_at p z ≡ Some v) × Stays y v)
+  pub absent : (p : Path) (n : Name) → IsLoadedAt p x → standing_at (p ++ n ∷ []) x ≡ None → standing_at (p ++ n ∷ []) z ≡ None
+
+module _ {W F : Type 0} (w : Ghosts W) (f : Files F W) where
+  abbrev pub KeepsShown : Type 0
+  KeepsShown = (s t : Table F) → Keeps w f s t → w.honest → shows w f t ≡ shows w f s
+
+  abbrev pub KeepsFiles : Type 0
+  KeepsFiles = (s t : Table F) → Keeps w f s t → w.honest → f.stored t.files ≡ f.stored s.files
+
+  abbrev pub KeepsEntries : Type 0
+  KeepsEntries = (s t : Table F) → Keeps w f s t → Grows s.root t.root
+
+  abbrev pub KeepsCounts : Type 0
+  KeepsCounts = (s t : Table F) → Keeps w f s t → (t.clock ≡ s.clock) × ((t.changes ≡ s.changes) × ((s.next ≤ t.next) × (f.failures s.files ≤ f.failures t.files)))
+
+-- ---- waits that follow each other
+
+-- the place where the checks end is the path or stands above it
+abbrev pub PlaceIsFront : Type 0
+PlaceIsFront = (G : Tree) (p : Path) → (rest : Path) × (p ≡ place_on G p ++ rest)
+
+-- once the directory that was wanted is loaded, what is wanted next stands deeper: so a path of n names wants n + 1 objects at most
+abbrev pub NextIsDeeper : Type 0
+NextIsDeeper = (x z : Row) (p : Path) → Grows x z → walk (known x) p ≡ Unlisted → IsLoadedAt (place_on (known x) p) z
+    → length (place_on (known x) p) < length (place_on (known z) p)

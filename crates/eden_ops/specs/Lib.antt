@@ -1,0 +1,6 @@
+pub mod Known
+pub mod Caches
+pub mod Keeping
+pub mod Faults
+pub mod Attempts
+pub mod Laws

@@ -1,0 +1,52 @@
+ghost use Rattle.std.specs.Prelude.{◌≡◌};
+ghost use Rattle.eden_model.specs.declared.fault.Fault.TheVariants as fault;
+ghost use Rattle.eden_ops.specs.declared.answer.Stop.TheVariants as stop;
+
+use eden_model::{Errno, Fault, Key, Reply};
+use std::alloc::AllocError;
+
+/// What came of one attempt of a request.
+#[derive(Debug, Drop)]
+pub enum Attempt {
+    /// The reply: the table's, or a fault.
+    Finished(Reply),
+    /// The table gives no reply without the object of this key, which isn't cached.
+    Need(Key),
+}
+
+/// How the walk over the directories above a path ends.
+#[derive(Clone, Copy, Debug, PartialEq, Eq)]
+pub enum Walked {
+    /// Each of them is a loaded directory.
+    Through,
+    /// The first that isn't there, or is no directory.
+    Errs(Errno),
+    /// The first that isn't loaded wants this object.
+    Needs(Key),
+    /// The first that isn't loaded can't be.
+    Faults(Fault),
+}
+
+/// Why a walk ends before its path does.
+#[derive(Clone, Copy, Debug)]
+pub(crate) enum Stop {
+    Errs(Errno),
+    Needs(Key),
+    Faults(Fault),
+}
+
+impl From<Fault> for Stop {
+    ghost from_gives = { λ f s. s ≡ stop.Faults f };
+
+    fn from(fault: Fault) -> Stop {
+        Stop::Faults(fault)
+    }
+}
+
+impl From<AllocError> for Stop {
+    ghost from_gives = { λ _ s. s ≡ stop.Faults fault.Memory };
+
+    fn from(_error: AllocError) -> Stop {
+        Stop::Faults(Fault::Memory)
+    }
+}

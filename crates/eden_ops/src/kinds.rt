@@ -1,0 +1,32 @@
+//! What stands at a path.
+ghost use Rattle.eden_model.specs.declared.request.Request.TheVariants as ask;
+ghost use Rattle.eden_ops.specs.Attempts.{Attempts};
+ghost use Rattle.eden_ops.specs.Caches.{IsStocked};
+ghost use Rattle.eden_ops.specs.Keeping.{Keeps};
+
+use crate::answer::Attempt;
+use crate::end::ended;
+use crate::meet::meet;
+use eden_cache::ObjectCache;
+use eden_inode::Inodes;
+use eden_model::{Errno, Path, Reply, World};
+use eden_overlay::Files;
+use std::alloc::{Allocator, Global};
+
+/// What stands at the path.
+pub fn kind<A: Allocator + Clone, W: World, F: Files<W>, C: Allocator + Clone>(
+    inodes: &mut Inodes<A, W, F>,
+    cache: &mut ObjectCache<C>,
+    alloc: Global,
+    path: &Path,
+) -> Attempt
+    requires { IsStocked W.repository W.honest cache.old }
+    ensures attempts { Attempts W.World F.Files (ask.Kind path.now) inodes.old inodes.new cache.old cache.new result }
+    ensures keeps { Keeps W.World F.Files inodes.old inodes.new }
+{
+    match meet(inodes, cache, alloc, path) {
+        Err(stop) => ended(stop),
+        Ok(None) => Attempt::Finished(Reply::Err(Errno::ENOENT)),
+        Ok(Some(seen)) => Attempt::Finished(Reply::Kind(seen.kind)),
+    }
+}

@@ -1,0 +1,72 @@
+//! What a request meets at a path.
+ghost use Rattle.std.specs.Prelude.{◌≡◌};
+ghost use Rattle.eden_ops.specs.Attempts.{Meets, MeetsShown};
+ghost use Rattle.eden_ops.specs.Caches.{IsStocked, FindsTheSame};
+ghost use Rattle.eden_ops.specs.Keeping.{shows, Keeps};
+
+use crate::answer::Stop;
+use crate::bring::bring;
+use crate::laws::keeps_laws;
+use eden_cache::ObjectCache;
+use eden_inode::{Inodes, Seen};
+use eden_model::{Errno, Kind, Name, Path, World};
+use eden_overlay::Files;
+use eden_tie::shown_laws;
+use std::alloc::{Allocator, Global};
+
+/// The entry at a path, or None where the directory above it has none of that name; else why the walk over the directories
+/// above it ends before. Those that aren't loaded are loaded, where that can be.
+///
+/// One look over the whole path, and one more for each directory that is loaded.
+fn pass<A: Allocator + Clone, W: World, F: Files<W>, C: Allocator + Clone>(
+    inodes: &mut Inodes<A, W, F>,
+    cache: &mut ObjectCache<C>,
+    alloc: Global,
+    path: &[Name],
+) -> Result<Option<Seen>, Stop>
+    requires { IsStocked W.repository W.honest cache.old }
+    ensures meets { Meets W.World F.Files path.now inodes.old inodes.new cache.new result }
+    ensures keeps { Keeps W.World F.Files inodes.old inodes.new }
+    ensures cache { FindsTheSame cache.old cache.new }
+{
+    // So many directories from the root on are loaded.
+    let mut loaded = 0;
+    'fronts: loop {
+        let seen = inodes.look(path);
+        if seen.names == path.len() {
+            return Ok(Some(seen));
+        }
+        if seen.loaded {
+            if seen.names + 1 == path.len() {
+                return Ok(None);
+            }
+            return Err(Stop::Errs(Errno::ENOENT));
+        }
+        match seen.kind {
+            Kind::File | Kind::Exec | Kind::Link => return Err(Stop::Errs(Errno::ENOTDIR)),
+            Kind::Dir => bring(inodes, cache, alloc, &path[..seen.names], seen.origin)?,
+        }
+        loaded = seen.names + 1;
+    }
+}
+
+/// What `pass` answers, and what that says of the tree that is shown.
+pub(crate) fn meet<A: Allocator + Clone, W: World, F: Files<W>, C: Allocator + Clone>(
+    inodes: &mut Inodes<A, W, F>,
+    cache: &mut ObjectCache<C>,
+    alloc: Global,
+    path: &Path,
+) -> Result<Option<Seen>, Stop>
+    requires { IsStocked W.repository W.honest cache.old }
+    ensures meets { Meets W.World F.Files path.now inodes.old inodes.new cache.new result }
+    ensures shown { W.honest → MeetsShown W.World F.Files path.now inodes.old inodes.new result }
+    ensures same { W.honest → shows W.World F.Files inodes.new ≡ shows W.World F.Files inodes.old }
+    ensures keeps { Keeps W.World F.Files inodes.old inodes.new }
+    ensures cache { FindsTheSame cache.old cache.new }
+{
+    keeps_laws::<W, F>();
+    shown_laws();
+    let met = pass(inodes, cache, alloc, path.as_slice());
+    inodes.holds();
+    met
+}
