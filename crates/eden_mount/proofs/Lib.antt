@@ -1,0 +1,6 @@
+mod SeatLemmas
+mod TurnLemmas
+mod Payloads
+mod Keeping
+mod Running
+mod Blaming
