@@ -4,3 +4,4 @@ mod Payloads
 mod Keeping
 mod Running
 mod Blaming
+mod Driving

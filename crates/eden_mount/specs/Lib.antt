@@ -7,3 +7,4 @@ pub mod Runs
 pub mod Spans
 pub mod Laws
 pub mod Settings
+pub mod Serving

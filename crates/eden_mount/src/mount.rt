@@ -5,6 +5,7 @@ ghost use Rattle.eden_mount.specs.Core.{Pends, IsLeastBusy};
 ghost use Rattle.eden_mount.specs.Steps.{Starts, Turns, Takes, Arrives, Fails, LetsGo};
 ghost use Rattle.eden_mount.specs.Runs.{IsHonestEvent, AreHonest, Steps, Runs};
 ghost use Rattle.eden_mount.specs.Kept.{IsMount, core_from};
+ghost use Rattle.eden_mount.specs.Serving.{IsAtRest};
 ghost use Rattle.eden_mount.specs.declared.seats.Pending as declared;
 
 use crate::arrival::keep;
@@ -51,7 +52,8 @@ impl<W: World, T: Attempts<W> + Drop, A: Allocator> Mount<W, T, A> {
     /// A mount over a table that shows the opening tree. Nothing is pending, and the history is empty.
     pub fn new(room: Room<A>, table: T) -> Self
         requires { W.honest → T.table.shown table ≡ W.opening }
-        ensures { result ≡ core_from table room.queue room.seats [] room.limit }
+        ensures value { result ≡ core_from table room.queue room.seats [] room.limit }
+        ensures rest { IsAtRest result }
     {
         let Room {
             alloc,

@@ -1,4 +1,4 @@
-use Rattle.std.proofs.Common.{◌≡◌, ◌++◌, [], ◌∷◌, List, cond, length, append_assoc, append-nil, length-append, refl, sym, ap, ◌∙◌, subst, arith}
+use Rattle.std.proofs.Common.{◌≡◌, ◌++◌, Bool, [], ◌∷◌, List, cond, length, append_assoc, append-nil, length-append, refl, sym, ap, ◌∙◌, subst, arith}
 use Rattle.std.specs.Vec.Iter.{into_iter_items}
 use Rattle.std.specs.Result.{is_ok}
 use Rattle.eden_mount.specs.declared.events.Event.{Event}
@@ -20,7 +20,8 @@ loop-event-preserved g c =
     let rest = into_iter_items c.next.new.self in
     let steps : into_iter_items at.event-iterator ≡ e ∷ rest = c.in-Some.ensures.steps.0 in
     let short = ap length steps in
-    let pushed : c.push.new.self.items ≡ at.outcomes.items ++ c.apply.result ∷ [] = c.push.ensures.items ∙ ap (λ o. cond (is_ok o) (at.outcomes.items ++ c.apply.result ∷ []) at.outcomes.items) c.unwrap.ensures in
+    let Pushes : Bool → Type 0 = λ b. c.push.new.self.items ≡ cond b (at.outcomes.items ++ c.apply.result ∷ []) at.outcomes.items in
+    let pushed : c.push.new.self.items ≡ at.outcomes.items ++ c.apply.result ∷ [] = subst Pushes (ap is_ok c.unwrap.ensures) c.push.ensures.items in
     record {
       honest = λ honestly. (let P : List Event → Type 0 = λ es. AreHonest g.W.World.repository es in subst P steps (at.invariant.honest honestly)).1;
       rest = let was = at.invariant.rest in

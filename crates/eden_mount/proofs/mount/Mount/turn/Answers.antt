@@ -1,4 +1,5 @@
-use Rattle.std.proofs.Common.{◌≡◌, ◌-◌, ◌<◌, ◌++◌, [], ◌∷◌, length, cond, get_or, Option, Some, None, length-append, sym, ap, ◌∙◌, subst, arith}
+use Rattle.std.proofs.Common.{◌≡◌, ◌-◌, ◌<◌, ◌++◌, Bool, List, [], ◌∷◌, length, cond, get_or, Option, Some, None, length-append, sym, ap, ◌∙◌, subst, arith}
+use Rattle.eden_model.specs.declared.entry.Entry.{Entry}
 use Rattle.eden_model.specs.declared.reply.Reply.{Reply}
 use Rattle.eden_mount.specs.declared.seats.Pending.{Pending}
 use Rattle.std.proofs.Math.ListN.{set}
@@ -52,8 +53,10 @@ invariant_of-self-in-Told g c =
     let taken : c.take.result ≡ c.index_mut.result.now = c.take.ensures.value in
     let found : Some c.in-Some-take.pending ≡ Some s = sym c.in-Some-take.is ∙ taken ∙ sym (seat_read a.seats.items (pass - 1) c.index_mut.result.now within seat) ∙ pends.1 in
     let same : c.in-Some-take.pending ≡ s = cc found in
-    let pushed : c.push.new.self.items ≡ a.history.items ++ entry pass c.in-Some-take.pending.request r ∷ [] = c.push.ensures.items ∙ ap (λ o. cond (is_ok o) (a.history.items ++ entry pass c.in-Some-take.pending.request r ∷ []) a.history.items) c.unwrap.ensures in
-    let grown : c.push.new.self.items ≡ a.history.items ++ entry pass s.request r ∷ [] = pushed ∙ ap (λ (x : Pending). a.history.items ++ entry pass x.request r ∷ []) same in
+    let longer : Pending → List Entry = λ x. a.history.items ++ entry pass x.request r ∷ [] in
+    let Pushes : Bool → Type 0 = λ b. c.push.new.self.items ≡ cond b (longer c.in-Some-take.pending) a.history.items in
+    let pushed : c.push.new.self.items ≡ longer c.in-Some-take.pending = subst Pushes (ap is_ok c.unwrap.ensures) c.push.ensures.items in
+    let grown : c.push.new.self.items ≡ longer s = pushed ∙ ap longer same in
     let none : c.take.new.self ≡ None = c.take.ensures.after in
     let freed = count_freed a.seats.items (pass - 1) s pends.1 in
     let emptied : pending_count (set a.seats.items (pass - 1) c.take.new.self) ≡ pending_count (set a.seats.items (pass - 1) None) = ap (λ o. pending_count (set a.seats.items (pass - 1) o)) none in
