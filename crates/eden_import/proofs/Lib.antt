@@ -4,3 +4,4 @@ mod StepLemmas
 mod LawLemmas
 mod PassLemmas
 mod FlightLemmas
+pub mod CallerLemmas

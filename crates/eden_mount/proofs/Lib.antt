@@ -1,0 +1,7 @@
+mod SeatLemmas
+mod TurnLemmas
+mod Payloads
+mod Keeping
+mod Running
+mod Blaming
+mod Driving

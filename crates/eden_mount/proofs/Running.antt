@@ -1,0 +1,156 @@
+-- What holds of every run, by one step after another.
+use Rattle.std.proofs.Common.{◌≡◌, ◌≤◌, ◌<◌, ◌-◌, ◌==◌, ℕ, Bool, true, false, cond, List, [], ◌∷◌, ◌++◌, length, Option, Some, None, slice_index_or, IfSome, Ok, Err, length-append, append_assoc, append-nil, refl, sym, ap, ◌∙◌, subst, arith}
+use Rattle.std.proofs.Math.ListN.{set}
+use Rattle.std.specs.Option.{option_map}
+use Rattle.eden_model.specs.declared.request.Request.{Request}
+use Rattle.eden_model.specs.Trees.{Tree}
+use Rattle.eden_mount.specs.declared.seats.Pending.{Pending}
+use Rattle.eden_mount.specs.declared.events.Turned.TheVariants.{Done, Wait, Idle}
+use Rattle.eden_mount.specs.declared.events.Arrived.TheVariants.{Stored, Refused, Stray}
+use Rattle.eden_mount.specs.declared.events.Event.{Event}
+use Rattle.eden_mount.specs.declared.events.Outcome.{Outcome}
+use Rattle.eden_mount.specs.Tables.{Table}
+use Rattle.eden_mount.specs.Core.{Core, seat_of, entry}
+use Rattle.eden_mount.specs.Kept.{IsMount}
+use Rattle.eden_mount.specs.Runs.{Steps, starts, turns, takes, arrives, fails, unloads, Runs}
+use Rattle.eden_mount.specs.Spans.{with_pass, then_asked, asked_after, entry_of, then_told, told, then_length, then_begun, IsNumbered, AreNumbered}
+use Rattle.eden_mount.specs.Laws.{request_of, since_of, RunsKeep, HistoryGrows, NumbersAreInSpans, PendingIsAsked}
+use Rattle.eden_mount.proofs.SeatLemmas.{write_one, within_if_some}
+
+module _ {T : Type 0} (A : Table T) (honest : Type 0) (opening : Tree) where
+  pub runs_keep : RunsKeep A honest opening
+  runs_keep m m' [] [] h r = subst (IsMount A honest opening) (sym r) h
+  runs_keep m m' [] (o ∷ os) h r = absurd r
+  runs_keep m m' (e ∷ es) [] h r = absurd r
+  runs_keep m m' (e ∷ es) (o ∷ os) h (k, step, kept, more) = runs_keep k m' es os kept more
+
+  -- ---- spans
+
+  -- what was read off the events is what the seats say
+  record Links (f : ℕ → Option Request) (b : ℕ → Option ℕ) (m : Core T) : Type 0 where
+    asked : (c : ℕ) → 1 ≤ c → f c ≡ request_of m c
+    begun : (c : ℕ) → 1 ≤ c → b c ≡ since_of m c
+
+  -- one step, as the seats and the history go through it
+  record Follows (f : ℕ → Option Request) (b : ℕ → Option ℕ) (m k : Core T) (e : Event) (o : Outcome) : Type 0 where
+    links : Links (then_asked f e o) (then_begun b (length m.history) e o) k
+    history : k.history ≡ m.history ++ then_told f e o
+    grown : length k.history ≡ then_length (length m.history) o
+    numbered : IsNumbered b (length m.history) e o
+
+  same_seats : (f : ℕ → Option Request) (b : ℕ → Option ℕ) (m k : Core T) → k.seats ≡ m.seats → Links f b m → Links f b k
+  same_seats f b m k s l = record {
+    asked = λ c low. l.asked c low ∙ ap (λ (x : List (Option Pending)). option_map (λ (s : Pending). s.request) (slice_index_or x (c - 1) None)) (sym s);
+    begun = λ c low. l.begun c low ∙ ap (λ (x : List (Option Pending)). option_map (λ (s : Pending). s.since) (slice_index_or x (c - 1) None)) (sym s);
+  }
+
+  -- one seat was written
+  one_link : {X : Type 0} (f : ℕ → Option X) (look : Pending → X) (m k : Core T) (c : ℕ) (o : Option Pending) → IsMount A honest opening m → 1 ≤ c → c ≤ length m.seats → k.seats ≡ set m.seats (c - 1) o → ((i : ℕ) → 1 ≤ i → f i ≡ option_map look (seat_of i m)) → (i : ℕ) → 1 ≤ i → with_pass f c (option_map look o) i ≡ option_map look (seat_of i k)
+  one_link f look m k c o h low high is l i positive = at (i == c) (ap (λ (x : List (Option Pending)). slice_index_or x (i - 1) None) is ∙ write_one m.seats (length m.seats) c i o None refl low high positive)
+    where
+      at : (b : Bool) → seat_of i k ≡ cond b o (seat_of i m) → cond b (option_map look o) (f i) ≡ option_map look (seat_of i k)
+      at true e = ap (option_map look) (sym e)
+      at false e = l i positive ∙ ap (option_map look) (sym e)
+
+  quiet : (f : ℕ → Option Request) (b : ℕ → Option ℕ) (m k : Core T) → Links f b m → k.seats ≡ m.seats → k.history ≡ m.history → Links f b k × (k.history ≡ m.history ++ []) × (length k.history ≡ length m.history)
+  quiet f b m k l s h = (same_seats f b m k s l, h ∙ sym (append-nil m.history), ap length h)
+
+  follows : (f : ℕ → Option Request) (b : ℕ → Option ℕ) (m k : Core T) (e : Event) (o : Outcome) → IsMount A honest opening m → Links f b m → Steps A honest m k e o → Follows f b m k e o
+  follows f b m k _ _ h l (starts c q (Ok u) p) =
+      let is = p.2 in
+      let seats = h.seats in
+      let high : c ≤ length m.seats = omega (arith, p.0.0.1, seats) in
+      let s : Pending = record { request = q; since = length m.history } in
+      let written : k.seats ≡ set m.seats (c - 1) (Some s) = ap (λ (x : Core T). x.seats) is in
+      record {
+        links = record {
+          asked = one_link f (λ (x : Pending). x.request) m k c (Some s) h p.0.0.0 high written l.asked;
+          begun = one_link b (λ (x : Pending). x.since) m k c (Some s) h p.0.0.0 high written l.begun;
+        };
+        history = ap (λ (x : Core T). x.history) is ∙ sym (append-nil m.history);
+        grown = ap (λ (x : Core T). length x.history) is;
+        numbered = tt;
+      }
+  follows f b m k _ _ h l (starts c q (Err x) p) =
+      let w = quiet f b m k l (ap (λ (x : Core T). x.seats) p.1) (ap (λ (x : Core T). x.history) p.1) in
+      record { links = w.0; history = w.1; grown = w.2; numbered = tt }
+  follows f b m k _ _ h l (turns c (Done n r) p) =
+      let s = p.0 in
+      let low : 1 ≤ c = p.1.0 in
+      let inside = within_if_some m.seats (c - 1) s p.1.1 in
+      let is = p.3 in
+      let written : k.seats ≡ set m.seats (c - 1) None = ap (λ (x : Core T). x.seats) is in
+      let mine : f c ≡ Some s.request = l.asked c low ∙ ap (option_map (λ (x : Pending). x.request)) p.1.1 in
+      let own : b c ≡ Some s.since = l.begun c low ∙ ap (option_map (λ (x : Pending). x.since)) p.1.1 in
+      let long : k.history ≡ m.history ++ entry c s.request r ∷ [] = ap (λ (x : Core T). x.history) is in
+      record {
+        links = record {
+          asked = one_link f (λ (x : Pending). x.request) m k c None h low (omega (arith, inside, low)) written l.asked;
+          begun = one_link b (λ (x : Pending). x.since) m k c None h low (omega (arith, inside, low)) written l.begun;
+        };
+        history = long ∙ ap (λ o. m.history ++ entry_of c o r) (sym mine);
+        grown = ap length long ∙ length-append m.history (entry c s.request r ∷ []);
+        numbered = (p.2, subst (λ o. IfSome o (λ i. i < n)) (sym own) (let early = h.since c s p.1 in omega (arith, early, p.2)));
+      }
+  follows f b m k _ _ h l (turns c (Wait j) p) =
+      let w = quiet f b m k l (ap (λ (x : Core T). x.seats) p.2) (ap (λ (x : Core T). x.history) p.2) in
+      record { links = w.0; history = w.1; grown = w.2; numbered = tt }
+  follows f b m k _ _ h l (turns c Idle p) =
+      let w = quiet f b m k l (ap (λ (x : Core T). x.seats) p.2) (ap (λ (x : Core T). x.history) p.2) in
+      record { links = w.0; history = w.1; grown = w.2; numbered = tt }
+  follows f b m k _ _ h l (takes o p) =
+      let w = quiet f b m k l (ap (λ (x : Core T). x.seats) p.1) (ap (λ (x : Core T). x.history) p.1) in
+      record { links = w.0; history = w.1; grown = w.2; numbered = tt }
+  follows f b m k _ _ h l (arrives j bytes Stored p) =
+      let w = quiet f b m k l (ap (λ (x : Core T). x.seats) p.2) (ap (λ (x : Core T). x.history) p.2) in
+      record { links = w.0; history = w.1; grown = w.2; numbered = tt }
+  follows f b m k _ _ h l (arrives j bytes (Refused x) p) =
+      let w = quiet f b m k l (ap (λ (x : Core T). x.seats) p.2) (ap (λ (x : Core T). x.history) p.2) in
+      record { links = w.0; history = w.1; grown = w.2; numbered = tt }
+  follows f b m k _ _ h l (arrives j bytes Stray p) =
+      let w = quiet f b m k l (ap (λ (x : Core T). x.seats) p.1) (ap (λ (x : Core T). x.history) p.1) in
+      record { links = w.0; history = w.1; grown = w.2; numbered = tt }
+  follows f b m k _ _ h l (fails j x y p) =
+      let w = quiet f b m k l (ap (λ (x : Core T). x.seats) p.1) (ap (λ (x : Core T). x.history) p.1) in
+      record { links = w.0; history = w.1; grown = w.2; numbered = tt }
+  follows f b m k _ _ h l (unloads q age gone p) =
+      let w = quiet f b m k l (ap (λ (x : Core T). x.seats) p.1) (ap (λ (x : Core T). x.history) p.1) in
+      record { links = w.0; history = w.1; grown = w.2; numbered = tt }
+
+  grows : (f : ℕ → Option Request) (b : ℕ → Option ℕ) (m m' : Core T) (es : List Event) (os : List Outcome) → Links f b m → IsMount A honest opening m → Runs A honest opening m es os m' → m'.history ≡ m.history ++ told f es os
+  grows f b m m' [] [] l h r = ap (λ (x : Core T). x.history) r ∙ sym (append-nil m.history)
+  grows f b m m' [] (o ∷ os) l h r = absurd r
+  grows f b m m' (e ∷ es) [] l h r = absurd r
+  grows f b m m' (e ∷ es) (o ∷ os) l h (k, step, kept, more) =
+      let one = follows f b m k e o h l step in
+      grows (then_asked f e o) (then_begun b (length m.history) e o) k m' es os one.links kept more
+      ∙ ap (λ es'. es' ++ told (then_asked f e o) es os) one.history
+      ∙ append_assoc m.history (then_told f e o) (told (then_asked f e o) es os)
+
+  numbers : (f : ℕ → Option Request) (b : ℕ → Option ℕ) (n : ℕ) (m m' : Core T) (es : List Event) (os : List Outcome) → Links f b m → length m.history ≡ n → IsMount A honest opening m → Runs A honest opening m es os m' → AreNumbered b n es os
+  numbers f b n m m' [] os l z h r = tt
+  numbers f b n m m' (e ∷ es) [] l z h r = tt
+  numbers f b n m m' (e ∷ es) (o ∷ os) l z h (k, step, kept, more) =
+      let one = follows f b m k e o h l step in
+      let P : ℕ → Type 0 = λ i. AreNumbered b i (e ∷ es) (o ∷ os) in
+      subst P z (one.numbered, numbers (then_asked f e o) (then_begun b (length m.history) e o) (then_length (length m.history) o) k m' es os one.links one.grown kept more)
+
+  pendings : (f : ℕ → Option Request) (b : ℕ → Option ℕ) (m m' : Core T) (es : List Event) (os : List Outcome) → Links f b m → IsMount A honest opening m → Runs A honest opening m es os m' → (c : ℕ) → 1 ≤ c → request_of m' c ≡ asked_after f es os c
+  pendings f b m m' [] [] l h r c low = ap (λ (x : Core T). request_of x c) r ∙ sym (l.asked c low)
+  pendings f b m m' [] (o ∷ os) l h r c low = absurd r
+  pendings f b m m' (e ∷ es) [] l h r c low = absurd r
+  pendings f b m m' (e ∷ es) (o ∷ os) l h (k, step, kept, more) c low =
+      let one = follows f b m k e o h l step in
+      pendings (then_asked f e o) (then_begun b (length m.history) e o) k m' es os one.links kept more c low
+
+  from_start : (m : Core T) → Links (request_of m) (since_of m) m
+  from_start m = record { asked = λ c low. refl; begun = λ c low. refl }
+
+  pub history_grows : HistoryGrows A honest opening
+  history_grows m m' es os h r = grows (request_of m) (since_of m) m m' es os (from_start m) h r
+
+  pub numbers_are_in_spans : NumbersAreInSpans A honest opening
+  numbers_are_in_spans m m' es os h r = numbers (request_of m) (since_of m) (length m.history) m m' es os (from_start m) refl h r
+
+  pub pending_is_asked : PendingIsAsked A honest opening
+  pending_is_asked m m' es os h r = pendings (request_of m) (since_of m) m m' es os (from_start m) h r

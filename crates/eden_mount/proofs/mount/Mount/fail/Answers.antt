@@ -1,0 +1,9 @@
+use Rattle.eden_mount.specs.Kept.{core_from}
+use Rattle.eden_mount.proofs.Keeping.{fail_keeps}
+use Rattle.eden_mount.proofs.mount.Mount.fail.Goals as goal
+
+pub invariant_of-self : goal.invariant_of-self
+invariant_of-self g c =
+    let a = c.self.inside in
+    let m = core_from a.table a.imports a.seats.items a.history.items a.limit in
+    (fail_keeps g.T.Attempts.table g.W.World.honest g.W.World.opening m c.args.key c.args.cause c.failed.new.self c.self.invariant.0 c.failed.ensures.kept c.failed.ensures.step, c.self.invariant.1)

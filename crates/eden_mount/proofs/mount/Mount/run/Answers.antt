@@ -1,0 +1,49 @@
+use Rattle.std.proofs.Common.{◌≡◌, ◌++◌, Bool, [], ◌∷◌, List, cond, length, append_assoc, append-nil, length-append, refl, sym, ap, ◌∙◌, subst, arith}
+use Rattle.std.specs.Vec.Iter.{into_iter_items}
+use Rattle.std.specs.Result.{is_ok}
+use Rattle.eden_mount.specs.declared.events.Event.{Event}
+use Rattle.eden_mount.specs.declared.events.Outcome.{Outcome}
+use Rattle.eden_mount.specs.Runs.{AreHonest, Runs}
+use Rattle.eden_mount.proofs.mount.Mount.run.Goals as goal
+
+nothing_left : {X : Type 0} (l : List X) → length l ≡ 0 → l ≡ []
+nothing_left [] h = refl
+nothing_left (x ∷ xs) h = absurd (omega arith)
+
+pub loop-event-preserved : goal.loop-event-preserved
+loop-event-preserved g c =
+    let at = c.loop-event in
+    let A = g.T.Attempts.table in
+    let honest = g.W.World.honest in
+    let opening = g.W.World.opening in
+    let e = c.in-Some.event in
+    let rest = into_iter_items c.next.new.self in
+    let steps : into_iter_items at.event-iterator ≡ e ∷ rest = c.in-Some.ensures.steps.0 in
+    let short = ap length steps in
+    let Pushes : Bool → Type 0 = λ b. c.push.new.self.items ≡ cond b (at.outcomes.items ++ c.apply.result ∷ []) at.outcomes.items in
+    let pushed : c.push.new.self.items ≡ at.outcomes.items ++ c.apply.result ∷ [] = subst Pushes (ap is_ok c.unwrap.ensures) c.push.ensures.items in
+    record {
+      honest = λ honestly. (let P : List Event → Type 0 = λ es. AreHonest g.W.World.repository es in subst P steps (at.invariant.honest honestly)).1;
+      rest = let was = at.invariant.rest in
+          let gone = c.in-Some.ensures.steps.1 in
+          omega (arith, was, gone, short);
+      room = omega (arith, at.invariant.room, short, ap length pushed, length-append at.outcomes.items (c.apply.result ∷ []), c.push.ensures.capacity);
+      run = λ os m more.
+          let P : List Event → Type 0 = λ es. Runs A honest opening at.self es (c.apply.result ∷ os) m in
+          let all = at.invariant.run (c.apply.result ∷ os) m (subst P (sym steps) (c.apply.new.self, c.apply.ensures, c.holds.ensures, more)) in
+          let Q : List Outcome → Type 0 = λ o. Runs A honest opening c.args.self.now c.args.events.items o m in
+          subst Q (sym (append_assoc at.outcomes.items (c.apply.result ∷ []) os) ∙ ap (λ o. o ++ os) (sym pushed)) all;
+    }
+
+pub returns-clause-ok : goal.returns-clause-ok
+returns-clause-ok g c =
+    let at = c.loop-event in
+    let A = g.T.Attempts.table in
+    let honest = g.W.World.honest in
+    let opening = g.W.World.opening in
+    let none = c.in-None.ensures.steps in
+    let empty : into_iter_items at.event-iterator ≡ [] = nothing_left _ (sym at.invariant.rest ∙ none.0) in
+    let P : List Event → Type 0 = λ es. Runs A honest opening at.self es [] at.self in
+    let all = at.invariant.run [] at.self (subst P (sym empty) refl) in
+    let Q : List Outcome → Type 0 = λ o. Runs A honest opening c.args.self.now c.args.events.items o at.self in
+    subst Q (append-nil at.outcomes.items) all

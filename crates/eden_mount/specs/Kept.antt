@@ -1,0 +1,29 @@
+-- What every mount keeps.
+use Rattle.std.specs.Prelude.{◌≡◌, ◌<◌, ◌≤◌, ◌^◌, ℕ, List, length, Option, None}
+use Rattle.eden_model.specs.declared.entry.Entry.{Entry}
+use Rattle.eden_model.specs.Trees.{Tree}
+use Rattle.eden_model.specs.Histories.{Legal, replay}
+use Rattle.eden_import.specs.Queue.{Queue, IsQueue, want_of, mark_of}
+use Rattle.eden_mount.specs.declared.seats.Pending.{Pending}
+use Rattle.eden_mount.specs.Tables.{Table}
+use Rattle.eden_mount.specs.Core.{Core, Pends, IsFree, taken_room}
+
+-- how the fields of a mount are seen
+abbrev pub core_from : {T : Type 0} → T → Queue → List (Option Pending) → List Entry → ℕ → Core T
+core_from t q seats history limit = record { table = t; queue = q; seats = seats; history = history; limit = limit }
+
+module _ {T : Type 0} (A : Table T) (honest : Type 0) (opening : Tree) where
+  pub record IsMount (m : Core T) : Type 0 where
+    pub queue : IsQueue m.queue
+    -- one seat for each pass
+    pub seats : length m.seats ≡ m.queue.passes
+    -- a pass with nothing pending wants nothing and has no mark
+    pub rests : (c : ℕ) → IsFree c m → (want_of c m.queue ≡ None) × (mark_of c m.queue ≡ None)
+    -- each pending request has its place in the history
+    pub room : taken_room m ≤ m.limit
+    pub limit : m.limit < 2 ^ 32
+    -- each began within the history
+    pub since : (c : ℕ) (s : Pending) → Pends c s m → s.since ≤ length m.history
+    -- the history is one that the opening tree has, and the mount shows the tree after it
+    pub legal : honest → Legal opening m.history
+    pub shown : honest → A.shown m.table ≡ replay opening m.history

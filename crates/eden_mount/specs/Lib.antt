@@ -1,0 +1,10 @@
+pub mod Tables
+pub mod Core
+pub mod Replying
+pub mod Steps
+pub mod Kept
+pub mod Runs
+pub mod Spans
+pub mod Laws
+pub mod Settings
+pub mod Serving

@@ -1,0 +1,123 @@
+-- What one caller's call promises, and what its source was asked for.
+use Rattle.std.specs.Prelude.{◌≡◌, ◌≤◌, ◌⊎◌, ◌+◌, ◌*◌, ◌-◌, ◌++◌, ℕ, List, [], ◌∷◌, length, slice_set, Option, Some, None, Result, Ok, Err, MatchResult}
+use Rattle.eden_model.specs.declared.fault.Cause.{Cause}
+use Rattle.eden_model.specs.declared.fault.Fault.TheVariants as fault
+use Rattle.eden_model.specs.declared.fault.StartFault.{StartFault}
+use Rattle.eden_model.specs.declared.id.Id.{Id}
+use Rattle.eden_model.specs.declared.id.Key.{Key}
+use Rattle.eden_model.specs.declared.request.Request.{Request}
+use Rattle.eden_model.specs.declared.reply.Reply.{Reply}
+use Rattle.eden_model.specs.declared.reply.Reply.TheVariants as say
+use Rattle.eden_model.specs.Requests.{most_objects}
+use Rattle.eden_source.specs.Fetching.{Answer, Fetches}
+use Rattle.eden_source.specs.Asking.{Asked, heard}
+use Rattle.eden_import.specs.Queue.{Mark, IsQueue, want_of, mark_of, after_done, after_failed}
+use Rattle.eden_mount.specs.declared.seats.Pending.{Pending}
+use Rattle.eden_mount.specs.Tables.{Table, KeepsBytes}
+use Rattle.eden_mount.specs.Core.{Core, seat_of, Pends, entry}
+use Rattle.eden_mount.specs.Replying.{ToldBy}
+use Rattle.eden_mount.specs.Steps.{IsUseless, IsRefused}
+
+-- ---- what the source was asked for
+
+-- why a key failed: its source's own cause, or why the bytes are no use
+abbrev pub FailsBy : Asked → Cause → Type 0
+FailsBy a x = MatchResult a.answer (λ framed. IsUseless a.key framed x) (λ e. x ≡ e)
+
+-- one of the keys that were asked for has that id, and failed with that cause
+abbrev pub HasFailed : List Asked → Id → Cause → Type 0
+HasFailed [] id x = ⊥
+HasFailed (a ∷ asks) id x = ((a.key.id ≡ id) × FailsBy a x) ⊎ HasFailed asks id x
+
+-- what came of the answer for a key in flight: it is stored, or it has failed
+abbrev pub Comes : {T : Type 0} → Table T → Core T → Asked → Core T → Type 0
+Comes A m a m' =
+    MatchResult a.answer (λ framed. KeepsBytes A m.table a.key framed m'.table × (m' ≡ record m { table = m'.table; queue = after_done a.key m.queue })) (λ e. ⊥)
+    ⊎ ((x : Cause) × FailsBy a x × (m' ≡ record m { queue = after_failed a.key x m.queue }))
+
+-- ---- one caller, who is the first pass
+
+-- nothing is queued or in flight
+pub record IsQuiet {T : Type 0} (m : Core T) : Type 0 where
+  pub queue : m.queue.queue ≡ []
+  pub flight : m.queue.flight ≡ []
+
+-- .. and the caller has nothing pending
+pub record IsAtRest {T : Type 0} (m : Core T) : Type 0 where
+  pub quiet : IsQuiet m
+  pub free : seat_of 1 m ≡ None
+
+-- the caller has its request pending, and goes on with it by itself
+pub record IsDriven {T : Type 0} (A : Table T) (q : Request) (m : Core T) : Type 0 where
+  pub kept : IsQueue m.queue
+  pub quiet : IsQuiet m
+  pub seat : Pending
+  pub pends : Pends 1 seat m
+  pub request : seat.request ≡ q
+  pub unwanting : want_of 1 m.queue ≡ None
+  -- what failed for it, it still needs
+  pub marked : (k : Key) (x : Cause) → mark_of 1 m.queue ≡ Some (k, x) → A.needs m.table q k
+
+-- how many more objects may be asked for: once one has failed, it is told so, or has come further
+abbrev pub budget : Option Mark → ℕ → ℕ
+budget None n = n
+budget (Some mark) n = n - 1
+
+-- an upper bound for the turns to come
+abbrev pub turns_left : Option Mark → ℕ → ℕ
+turns_left None n = 2 * n + 1
+turns_left (Some mark) n = 2 * n
+
+abbrev pub left_at : {T : Type 0} → Table T → T → Option Pending → ℕ
+left_at A t None = 0
+left_at A t (Some s) = A.left t s.request
+
+abbrev pub drive_size : {T : Type 0} → Table T → Core T → ℕ
+drive_size A m = turns_left (mark_of 1 m.queue) (left_at A m.table (seat_of 1 m))
+
+-- the last turn told the reply
+pub record IsTold {T : Type 0} (A : Table T) (honest : Type 0) (q : Request) (r : Reply) (u : T) : Type 0 where
+  pub before : T
+  pub mark : Option Mark
+  pub told : ToldBy A honest before q mark r u
+
+module _ {S : Type 0} (fetched : S → Id → Answer → S → Type 0) {T : Type 0} (A : Table T) where
+  -- the source was asked for the key, and its answer was handed in
+  pub record Hands (m : Core T) (s : S) (k : Key) (m' : Core T) (t : S) : Type 0 where
+    pub answer : Answer
+    pub asked : fetched s k.id answer t
+    pub came : Comes A m (record { key = k; answer = answer }) m'
+
+  -- the caller's request was driven to its reply
+  pub record Drives (honest : Type 0) (q : Request) (m : Core T) (s : S) (r : Reply) (m' : Core T) (t : S) : Type 0 where
+    pub asks : List Asked
+    pub asked : Fetches fetched s (heard asks) t
+    pub few : length asks ≤ budget (mark_of 1 m.queue) (A.left m.table q)
+    pub told : IsTold A honest q r m'.table
+    pub history : m'.history ≡ m.history ++ entry 1 q r ∷ []
+    pub seats : m'.seats ≡ slice_set m.seats 0 None
+    pub quiet : IsQuiet m'
+    pub failed : (id : Id) (x : Cause) → r ≡ say.Fault (fault.Fetch id x)
+        → HasFailed asks id x ⊎ ((k : Key) × (k.id ≡ id) × (mark_of 1 m.queue ≡ Some (k, x)))
+
+  -- A request was served: the source was asked for at most one object for each place on its paths, the history has its
+  -- entry, and a fetch fault is of an object that was asked for and failed.
+  pub record Serves (honest : Type 0) (q : Request) (m : Core T) (s : S) (r : Reply) (m' : Core T) (t : S) : Type 0 where
+    pub asks : List Asked
+    pub asked : Fetches fetched s (heard asks) t
+    pub few : length asks ≤ most_objects q
+    pub told : IsTold A honest q r m'.table
+    pub history : m'.history ≡ m.history ++ entry 1 q r ∷ []
+    pub rest : IsAtRest m'
+    pub failed : (id : Id) (x : Cause) → r ≡ say.Fault (fault.Fetch id x) → HasFailed asks id x
+
+  -- .. or refused, and nothing changed
+  abbrev pub Answers : Type 0 → Request → Core T → S → Result Reply StartFault → Core T → S → Type 0
+  Answers honest q m s (Ok r) m' t = Serves honest q m s r m' t
+  Answers honest q m s (Err f) m' t = IsRefused m 1 f × (m' ≡ m) × (t ≡ s)
+
+-- a mount, the source that its caller asks, and the last reply
+pub record Desk (T S : Type 0) : Type 0 where
+  pub core : Core T
+  pub source : S
+  pub reply : Reply

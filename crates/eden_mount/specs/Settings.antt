@@ -1,0 +1,47 @@
+-- What a mount is opened with.
+use Rattle.std.specs.Prelude.{◌≡◌, ◌≤◌, ◌<◌, ◌^◌, ℕ, List, replicate, Option, None}
+use Rattle.eden_cache.specs.declared.cache.TheConstants.{OBJECTS_LIMIT, BYTES_LIMIT, SIZES_LIMIT}
+use Rattle.eden_import.specs.Queue.{Queue, IsPassCount, IsFlightCount, empty}
+use Rattle.eden_mount.specs.declared.seats.Pending.{Pending}
+
+pub record Settings : Type 0 where
+  pub passes : ℕ
+  pub flights : ℕ
+  -- how long the history may become
+  pub history : ℕ
+  -- how many objects are cached, of how many bytes together, and how many sizes
+  pub entries : ℕ
+  pub bytes : ℕ
+  pub sizes : ℕ
+
+abbrev pub settings_from : ℕ → ℕ → ℕ → ℕ → ℕ → ℕ → Settings
+settings_from passes flights history entries bytes sizes =
+    record { passes = passes; flights = flights; history = history; entries = entries; bytes = bytes; sizes = sizes }
+
+-- the limits of each
+pub record InLimits (s : Settings) : Type 0 where
+  pub passes : IsPassCount s.passes
+  pub flights : IsFlightCount s.flights
+  pub some_history : 1 ≤ s.history
+  pub short_history : s.history < 2 ^ 32
+  pub entries : (1 ≤ s.entries) × (s.entries ≤ OBJECTS_LIMIT)
+  pub bytes : (1 ≤ s.bytes) × (s.bytes ≤ BYTES_LIMIT)
+  pub sizes : (1 ≤ s.sizes) × (s.sizes ≤ SIZES_LIMIT)
+
+-- the room of a mount in which nothing has happened
+pub record Room : Type 0 where
+  pub queue : Queue
+  pub seats : List (Option Pending)
+  pub limit : ℕ
+
+abbrev pub room_from : Queue → List (Option Pending) → ℕ → Room
+room_from q seats limit = record { queue = q; seats = seats; limit = limit }
+
+abbrev pub room_for : Settings → Room
+room_for s = room_from (empty s.passes s.flights) (replicate s.passes None) s.history
+
+-- .. is that of some settings
+pub record IsRoom (r : Room) : Type 0 where
+  pub settings : Settings
+  pub limits : InLimits settings
+  pub is : r ≡ room_for settings

@@ -1,0 +1,84 @@
+-- What is known of a table of inodes with its cache: what it shows, what a request needs there, and what each call does.
+use Rattle.std.specs.Prelude.{◌≡◌, ◌≢◌, ◌<◌, ◌≤◌, ◌⊎◌, ℕ, Bool, true, false, List, None}
+use Rattle.eden_model.specs.declared.fault.Cause.{Cause}
+use Rattle.eden_model.specs.declared.fault.Fault.TheVariants as fault
+use Rattle.eden_model.specs.declared.id.Id.{Id}
+use Rattle.eden_model.specs.declared.id.Key.{Key}
+use Rattle.eden_model.specs.declared.reply.Reply.{Reply}
+use Rattle.eden_model.specs.declared.reply.Reply.TheVariants as say
+use Rattle.eden_model.specs.declared.request.Request.{Request}
+use Rattle.eden_model.specs.Trees.{Path, Tree}
+use Rattle.eden_model.specs.Operations.{Replies, after}
+use Rattle.eden_model.specs.Histories.{fault_of}
+use Rattle.eden_object.specs.Objects.{Body, IsBodyOf}
+use Rattle.eden_mount.specs.declared.attempts.Attempt.{Attempt}
+use Rattle.eden_mount.specs.declared.attempts.Attempt.TheVariants as ended
+
+pub record Table (T : Type 0) : Type 1 where
+  -- the tree that it shows
+  pub shown : T → Tree
+  -- whether its cache has the object
+  pub caches : T → Key → Bool
+  -- the request's checks, in their order, end at what that object alone gives, and the cache lacks it
+  pub needs : T → Request → Key → Type 0
+  -- how many objects the request may still need, where none leaves the cache
+  pub left : T → Request → ℕ
+  -- what the table itself says of a tick
+  pub ticked : T → T → Type 0
+  -- .. of an attempt: which faults are lawful, which needs are real, what stays loaded
+  pub tried : T → Request → Attempt → T → Type 0
+  -- .. of an object that it keeps
+  pub kept : T → Key → Body → T → Type 0
+  -- .. of an unload of a path, by age, in which so many directories went
+  pub unloaded : T → Path → ℕ → ℕ → T → Type 0
+
+module _ {T : Type 0} (A : Table T) where
+  -- one more turn: nothing else changed
+  pub record Ticks (t u : T) : Type 0 where
+    pub ticked : A.ticked t u
+    pub tree : A.shown u ≡ A.shown t
+    pub cache : (k : Key) → A.caches u k ≡ A.caches t k
+    pub needs : (q : Request) (k : Key) → A.needs t q k → A.needs u q k
+    pub left : (q : Request) → A.left u q ≡ A.left t q
+
+  -- the cache has the object, and whoever needed it needs fewer
+  pub record Stores (t : T) (k : Key) (o : Body) (u : T) : Type 0 where
+    pub kept : A.kept t k o u
+    pub tree : A.shown u ≡ A.shown t
+    pub cached : A.caches u k ≡ true
+    pub left : (q : Request) → A.needs t q k → A.left u q < A.left t q
+
+  -- .. and the object is that of these framed bytes
+  abbrev pub KeepsBytes : T → Key → List ℕ → T → Type 0
+  KeepsBytes t k bytes u = (body : List ℕ) × IsBodyOf k.id k.kind bytes body × Stores t k (record { kind = k.kind; bytes = body }) u
+
+module _ {T : Type 0} (A : Table T) (honest : Type 0) where
+  -- an attempt ended with the reply: the table of operations gives it, or it is a fault, and the tree is the one after it
+  pub record Finishes (t : T) (q : Request) (r : Reply) (u : T) : Type 0 where
+    pub tried : A.tried t q (ended.Finished r) u
+    pub reply : honest → fault_of r ≡ None → Replies (A.shown t) q r
+    pub tree : honest → A.shown u ≡ after (A.shown t) q r
+    -- nothing is fetched in an attempt
+    pub unfetched : (id : Id) (x : Cause) → r ≢ say.Fault (fault.Fetch id x)
+    pub cache : (k : Key) → A.caches t k ≡ true → A.caches u k ≡ true
+
+  -- an attempt ended with a need: what the request needed before, it needs still, or it has come further
+  pub record Needs (t : T) (q : Request) (k : Key) (u : T) : Type 0 where
+    pub tried : A.tried t q (ended.Need k) u
+    pub needed : A.needs u q k
+    pub lacks : A.caches u k ≡ false
+    pub still : (j : Key) → A.needs t q j → (j ≡ k) ⊎ (A.left u q < A.left t q)
+    pub tree : honest → A.shown u ≡ A.shown t
+    pub cache : (j : Key) → A.caches t j ≡ true → A.caches u j ≡ true
+    pub some : 1 ≤ A.left u q
+    pub left : A.left u q ≤ A.left t q
+
+  abbrev pub Tries : T → Request → Attempt → T → Type 0
+  Tries t q (ended.Finished r) u = Finishes t q r u
+  Tries t q (ended.Need k) u = Needs t q k u
+
+  -- so many directories went, and no object left the cache
+  pub record Unloads (t : T) (p : Path) (age gone : ℕ) (u : T) : Type 0 where
+    pub unloaded : A.unloaded t p age gone u
+    pub tree : honest → A.shown u ≡ A.shown t
+    pub cache : (k : Key) → A.caches u k ≡ A.caches t k

@@ -1,0 +1,119 @@
+ghost use Rattle.std.specs.Prelude.{◌≡◌, ◌↔◌, IsSome, IfSome};
+ghost use Rattle.eden_mount.specs.Settings.{InLimits};
+
+use eden_cache::{BYTES_LIMIT, OBJECTS_LIMIT, SIZES_LIMIT};
+use eden_import::{FLIGHTS_LIMIT, PASSES_LIMIT};
+use std::marker::Model;
+
+/// What a mount is opened with, each within its limits. Contracts see the six numbers.
+#[derive(Debug, Drop)]
+pub struct Config {
+    passes: u32,
+    flights: u32,
+    history: u32,
+    entries: usize,
+    bytes: u64,
+    sizes: usize,
+}
+
+impl Model for Config {
+    ghost use Rattle.eden_mount.specs.Settings.{Settings, InLimits, settings_from};
+
+    ghost Value = { Settings };
+
+    ghost view = { λ c. settings_from c.passes c.flights c.history c.entries c.bytes c.sizes };
+
+    ghost invariant = { λ c. InLimits (settings_from c.passes c.flights c.history c.entries c.bytes c.sizes) };
+}
+
+impl Config {
+    ghost use Rattle.eden_mount.specs.Settings.{settings_from};
+
+    /// How many passes and objects in flight there may be, 1 to 64 each; how long the history may become, at least 1; how
+    /// many objects are cached, 1 to 65,536, of how many bytes together, 1 to 2^40; and how many sizes, 1 to 65,536.
+    ///
+    /// None exactly where one of them is outside its limits.
+    pub fn new(
+        passes: u32,
+        flights: u32,
+        history: u32,
+        entries: usize,
+        bytes: u64,
+        sizes: usize,
+    ) -> Option<Config>
+        ensures limits { IsSome result ↔ InLimits (settings_from passes flights history entries bytes sizes) }
+        ensures value { IfSome result (λ c. c ≡ settings_from passes flights history entries bytes sizes) }
+    {
+        let within = 1 <= passes
+            && passes <= PASSES_LIMIT
+            && 1 <= flights
+            && flights <= FLIGHTS_LIMIT
+            && 1 <= history
+            && 1 <= entries
+            && entries <= OBJECTS_LIMIT
+            && 1 <= bytes
+            && bytes <= BYTES_LIMIT
+            && 1 <= sizes
+            && sizes <= SIZES_LIMIT;
+        if !within {
+            return None;
+        }
+        Some(Config {
+            passes,
+            flights,
+            history,
+            entries,
+            bytes,
+            sizes,
+        })
+    }
+
+    /// What holds of every one.
+    pub fn holds(&self)
+        ensures { InLimits self.now }
+    {
+        let _ = &self.passes;
+    }
+
+    /// How many passes.
+    pub fn passes(&self) -> u32
+        ensures { result ≡ self.now.passes }
+    {
+        self.passes
+    }
+
+    /// How many objects in flight.
+    pub fn flights(&self) -> u32
+        ensures { result ≡ self.now.flights }
+    {
+        self.flights
+    }
+
+    /// How long a history.
+    pub fn history(&self) -> u32
+        ensures { result ≡ self.now.history }
+    {
+        self.history
+    }
+
+    /// How many cached objects.
+    pub fn entries(&self) -> usize
+        ensures { result ≡ self.now.entries }
+    {
+        self.entries
+    }
+
+    /// How many bytes of cached objects together.
+    pub fn bytes(&self) -> u64
+        ensures { result ≡ self.now.bytes }
+    {
+        self.bytes
+    }
+
+    /// How many cached sizes.
+    pub fn sizes(&self) -> usize
+        ensures { result ≡ self.now.sizes }
+    {
+        self.sizes
+    }
+}

@@ -1,0 +1,51 @@
+use eden_model::{Bytes, Cause, Key, Path, Reply, Request, StartFault};
+
+/// What a turn answers.
+#[derive(Debug, Drop)]
+pub enum Turned {
+    /// The request is finished: its entry's number in the history, from 1 on, and the reply.
+    Done(u32, Reply),
+    /// The request waits for this object.
+    Wait(Key),
+    /// Nothing is pending, or there is no such pass.
+    Idle,
+}
+
+/// What an arrival answers.
+#[derive(Clone, Copy, Debug, PartialEq, Eq)]
+pub enum Arrived {
+    /// The cache has the object.
+    Stored,
+    /// The bytes are no use, and the key has failed.
+    Refused(Cause),
+    /// The key isn't in flight, and nothing has changed.
+    Stray,
+}
+
+/// One atomic step of a mount.
+#[derive(Debug, Drop)]
+pub enum Event {
+    /// A pass asks a request.
+    Start(u32, Request),
+    /// A pass goes on with its request.
+    Turn(u32),
+    /// Somebody takes a key to fetch.
+    Take,
+    /// Framed bytes come for a key.
+    Arrive(Key, Bytes),
+    /// A key can't be had.
+    Fail(Key, Cause),
+    /// Loaded directories go: at and below the path, not used for so many turns.
+    Unload(Path, u64),
+}
+
+/// What an event answers.
+#[derive(Debug, Drop)]
+pub enum Outcome {
+    Start(Result<(), StartFault>),
+    Turn(Turned),
+    Take(Option<Key>),
+    Arrive(Arrived),
+    Fail(bool),
+    Unload(u64),
+}

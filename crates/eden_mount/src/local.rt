@@ -1,0 +1,165 @@
+ghost use Rattle.std.specs.Prelude.{◌≡◌, true, OnOk, IfErr, MatchResult};
+ghost use Rattle.std.specs.Borrow.{sem};
+ghost use Rattle.std.specs.Io.BufRead.{Rests};
+ghost use Rattle.eden_model.specs.declared.request.Request.{Request};
+ghost use Rattle.eden_model.specs.Histories.{Legal};
+ghost use Rattle.eden_import.specs.Keys.{has_key};
+ghost use Rattle.eden_mount.specs.Steps.{IsRefused};
+ghost use Rattle.eden_mount.specs.Serving.{IsDriven, IsAtRest, Hands, Drives, Answers, Serves};
+ghost use Rattle.eden_mount.specs.contracts.local.Local.{the_row};
+
+use crate::attempts::Attempts;
+use crate::events::Turned;
+use crate::mount::Mount;
+use eden_model::{Entry, Fault, Key, Reply, Request, StartFault, World};
+use eden_source::Source;
+use std::alloc::{Allocator, Global};
+use std::marker::Model;
+
+/// Asks the source for a key in flight, and hands in what came.
+fn fetch_one<W: World, S: Source<W>, T: Attempts<W> + Drop, A: Allocator>(
+    alloc: Global,
+    mount: &mut Mount<W, T, A>,
+    source: &mut S,
+    key: Key,
+)
+    requires { has_key key mount.old.queue.flight ≡ true }
+    ensures { Hands S.fetched T.table mount.old source.old key mount.new source.new }
+{
+    match source.fetch(alloc, key.id) {
+        Ok(framed) => {
+            mount.arrive(key, framed);
+        }
+        Err(cause) => {
+            mount.fail(key, cause);
+        }
+    }
+}
+
+/// Goes on with the caller's request until it is finished.
+fn drive<W: World, S: Source<W>, T: Attempts<W> + Drop, A: Allocator>(
+    alloc: Global,
+    mount: &mut Mount<W, T, A>,
+    source: &mut S,
+) -> Reply
+    requires { (q : Request) × IsDriven T.table q mount.old }
+    ensures { (q : Request) → IsDriven T.table q mount.old → Drives S.fetched T.table W.honest q mount.old source.old result mount.new source.new }
+{
+    match mount.turn(1) {
+        Turned::Done(_, reply) => reply,
+        Turned::Idle => unreachable!(),
+        Turned::Wait(_) => {
+            let Some(key) = mount.take_want() else {
+                unreachable!();
+            };
+            mount.holds();
+            fetch_one::<W, S, T, A>(alloc, mount, source, key);
+            mount.holds();
+            drive::<W, S, T, A>(alloc, mount, source)
+        }
+    }
+}
+
+/// Serves one request over the source.
+fn answer<W: World, S: Source<W>, T: Attempts<W> + Drop, A: Allocator>(
+    alloc: Global,
+    mount: &mut Mount<W, T, A>,
+    source: &mut S,
+    request: Request,
+) -> Result<Reply, StartFault>
+    requires { IsAtRest mount.old }
+    ensures { Answers S.fetched T.table W.honest request mount.old source.old result mount.new source.new }
+{
+    mount.holds();
+    match mount.start(1, request) {
+        Err(fault) => Err(fault),
+        Ok(()) => Ok(drive::<W, S, T, A>(alloc, mount, source)),
+    }
+}
+
+/// A mount with one caller, who is its first pass, and a source that it asks itself. It waits for nobody.
+///
+/// Contracts see the mount, the source and the last reply.
+#[derive(Drop)]
+pub struct Local<W: World, S: Source<W> + Drop, T: Attempts<W> + Drop, A: Allocator> {
+    alloc: Global,
+    mount: Mount<W, T, A>,
+    source: S,
+    reply: Reply,
+}
+
+impl<W: World, S: Source<W> + Drop, T: Attempts<W> + Drop, A: Allocator> Model
+    for Local<W, S, T, A> {
+    ghost use Rattle.eden_mount.specs.Serving.{Desk, IsAtRest};
+
+    ghost Value = { Desk T S };
+
+    ghost view = { λ l. record { core = l.mount; source = l.source; reply = l.reply } };
+
+    ghost invariant = { λ l. IsAtRest l.mount };
+}
+
+impl<W: World, S: Source<W> + Drop, T: Attempts<W> + Drop, A: Allocator> Local<W, S, T, A> {
+    /// Over a mount in which the first pass has nothing pending, and nothing is queued or in flight.
+    pub fn new(alloc: Global, mount: Mount<W, T, A>, source: S) -> Self
+        requires { IsAtRest mount }
+        ensures mount { result.core ≡ mount }
+        ensures source { result.source ≡ source }
+    {
+        Local {
+            alloc,
+            mount,
+            source,
+            reply: Reply::Fault(Fault::Memory),
+        }
+    }
+
+    /// Gives mount and source back.
+    pub fn into_parts(self) -> (Mount<W, T, A>, S)
+        ensures mount { result.0 ≡ self.core }
+        ensures source { result.1 ≡ self.source }
+        ensures rest { IsAtRest self.core }
+    {
+        let Local { mount, source, .. } = self;
+        (mount, source)
+    }
+
+    /// The entries so far.
+    pub fn history(&self) -> &[Entry]
+        ensures entries { result.now ≡ self.now.core.history }
+        ensures legal { W.honest → Legal W.opening self.now.core.history }
+    {
+        self.mount.history()
+    }
+
+    /// The last reply.
+    pub fn reply(&self) -> &Reply
+        ensures { result.now ≡ self.now.reply }
+    {
+        &self.reply
+    }
+
+    /// Serves a request; `reply` has its reply. It asks the source for at most one object for each place on its paths.
+    pub fn serve(&mut self, request: Request) -> Result<(), StartFault>
+        ensures ok { OnOk result (Serves S.fetched T.table W.honest request self.old.core self.old.source self.new.reply self.new.core self.new.source) }
+        ensures err { IfErr result (λ fault. IsRefused self.old.core 1 fault × (self.new ≡ self.old)) }
+    {
+        match answer::<W, S, T, A>(self.alloc, &mut self.mount, &mut self.source, request) {
+            Err(fault) => Err(fault),
+            Ok(reply) => {
+                self.reply = reply;
+                Ok(())
+            }
+        }
+    }
+
+    /// As `serve`, and lends the reply, which lies here until the next call.
+    pub fn call(&mut self, request: Request) -> Result<&Reply, StartFault>
+        ensures* after { sem 𝓛 (Rests (the_row W.row S.row T.row A.row W.World S.Source T.Attempts A.Allocator) self.entry (λ new. MatchResult result (λ r. Serves S.fetched T.table W.honest request self.old.core self.old.source r.now new.core new.source) (λ fault. IsRefused self.old.core 1 fault × (new ≡ self.old)))) }
+    {
+        match self.serve(request) {
+            Err(fault) => Err(fault),
+            Ok(()) => Ok(self.reply()),
+        }
+    }
+}

@@ -1,0 +1,247 @@
+ghost use Rattle.std.specs.Prelude.{◌≡◌, ℕ, [], IfOk, OnErr, IfSome, IfNone};
+ghost use Rattle.eden_model.specs.Histories.{Legal};
+ghost use Rattle.eden_object.specs.Objects.{IsHonest};
+ghost use Rattle.eden_mount.specs.Core.{Pends, IsLeastBusy};
+ghost use Rattle.eden_mount.specs.Steps.{Starts, Turns, Takes, Arrives, Fails, LetsGo};
+ghost use Rattle.eden_mount.specs.Runs.{IsHonestEvent, AreHonest, Steps, Runs};
+ghost use Rattle.eden_mount.specs.Kept.{IsMount, core_from};
+ghost use Rattle.eden_mount.specs.Serving.{IsAtRest};
+ghost use Rattle.eden_mount.specs.declared.seats.Pending as declared;
+
+use crate::arrival::keep;
+use crate::attempts::Attempts;
+use crate::events::{Arrived, Event, Outcome, Turned};
+use crate::room::Room;
+use crate::seats::{Pending, count};
+use crate::settling::{Settled, settle};
+use eden_import::Imports;
+use eden_model::{Cause, Entry, Key, Path, Request, StartFault, World};
+use std::alloc::{AllocError, Allocator, Global};
+use std::marker::{Model, PhantomData};
+
+/// Requests of many passes over one table, and the history of what they were told.
+///
+/// A pass is a caller's seat, numbered from 1, with at most one pending request. Each call that may change the mount is
+/// one atomic step. Where the outside is honest, the history is at every moment one that the whole tree has, changed by
+/// one caller at a time, and the table shows the tree after it.
+#[derive(Drop)]
+pub struct Mount<W: World, T: Attempts<W> + Drop, A: Allocator> {
+    alloc: Global,
+    table: T,
+    imports: Imports<A>,
+    seats: Vec<Option<Pending>>,
+    history: Vec<Entry>,
+    limit: u32,
+    world: PhantomData<W>,
+}
+
+impl<W: World, T: Attempts<W> + Drop, A: Allocator> Model for Mount<W, T, A> {
+    ghost use Rattle.std.specs.Prelude.{◌≤◌, vec_capacity};
+    ghost use Rattle.eden_mount.specs.Core.{Core, taken_room};
+    ghost use Rattle.eden_mount.specs.Kept.{IsMount, core_from};
+
+    ghost Value = { Core T };
+
+    ghost view = { λ m. core_from m.table m.imports m.seats.items m.history.items m.limit };
+
+    ghost invariant = { λ m. IsMount T.table W.honest W.opening (core_from m.table m.imports m.seats.items m.history.items m.limit)
+        × (taken_room (core_from m.table m.imports m.seats.items m.history.items m.limit) ≤ vec_capacity m.history) };
+}
+
+impl<W: World, T: Attempts<W> + Drop, A: Allocator> Mount<W, T, A> {
+    /// A mount over a table that shows the opening tree. Nothing is pending, and the history is empty.
+    pub fn new(room: Room<A>, table: T) -> Self
+        requires { W.honest → T.table.shown table ≡ W.opening }
+        ensures value { result ≡ core_from table room.queue room.seats [] room.limit }
+        ensures rest { IsAtRest result }
+    {
+        let Room {
+            alloc,
+            imports,
+            seats,
+            limit,
+        } = room;
+        Mount {
+            alloc,
+            table,
+            imports,
+            seats,
+            history: Vec::new(alloc),
+            limit,
+            world: PhantomData,
+        }
+    }
+
+    /// Gives the table back as it stands, whatever is pending.
+    pub fn into_table(self) -> T
+        ensures { result ≡ self.table }
+    {
+        let Mount { table, .. } = self;
+        table
+    }
+
+    /// What holds of every mount.
+    pub fn holds(&self)
+        ensures { IsMount T.table W.honest W.opening self.now }
+    {
+        let _ = &self.table;
+    }
+
+    /// The entries so far.
+    pub fn history(&self) -> &[Entry]
+        ensures entries { result.now ≡ self.now.history }
+        ensures legal { W.honest → Legal W.opening self.now.history }
+    {
+        self.history.as_slice()
+    }
+
+    /// The least pass with a pending request.
+    pub fn busy(&self) -> Option<u32>
+        ensures some { IfSome result (IsLeastBusy self.now) }
+        ensures none { IfNone result ((c : ℕ) (s : declared.Pending) → ¬ Pends c s self.now) }
+    {
+        let passes = self.imports.passes();
+        for seat in 0..passes {
+            if self.seats[seat as usize].is_some() {
+                return Some(seat + 1);
+            }
+        }
+        None
+    }
+
+    /// Takes a request. The faults are tested in the order `NoPass`, `Busy`, `HistoryFull`, `Memory`, and leave the mount
+    /// as it was. Room for the entry is made here, so that no later call needs memory for it.
+    pub fn start(&mut self, pass: u32, request: Request) -> Result<(), StartFault>
+        ensures { Starts self.old pass request result self.new }
+    {
+        if pass == 0 || pass > self.imports.passes() {
+            return Err(StartFault::NoPass);
+        }
+        let seat = pass as usize - 1;
+        if self.seats[seat].is_some() {
+            return Err(StartFault::Busy);
+        }
+        let pending = count(self.seats.as_slice());
+        if self.history.len() + pending >= self.limit as usize {
+            return Err(StartFault::HistoryFull(self.limit));
+        }
+        let Ok(()) = self.history.reserve(pending + 1) else {
+            return Err(StartFault::Memory);
+        };
+        let since = self.history.len() as u32;
+        self.seats[seat] = Some(Pending { request, since });
+        Ok(())
+    }
+
+    /// Goes on with the pass's request, from the root: it finishes, and its entry is written, or it waits for a key and for
+    /// no other.
+    ///
+    /// The clock goes on first. A mark of a failed key is used now or dropped: where the request still needs that key, it
+    /// is told `Fetch`. A reply that finds no memory for its copy is `Memory`, which a change's never is.
+    pub fn turn(&mut self, pass: u32) -> Turned
+        ensures { Turns T.table W.honest self.old pass result self.new }
+    {
+        self.table.tick();
+        if pass == 0 || pass > self.imports.passes() {
+            return Turned::Idle;
+        }
+        let seat = pass as usize - 1;
+        let Some(pending) = &self.seats[seat] else {
+            return Turned::Idle;
+        };
+        let mark = self.imports.failure(pass);
+        match settle::<W, T>(self.alloc, &mut self.table, &pending.request, mark) {
+            Settled::Waits(key) => {
+                self.imports.await_key(key, pass);
+                Turned::Wait(key)
+            }
+            Settled::Told(told, reply) => {
+                self.imports.quit(pass);
+                let Some(pending) = self.seats[seat].take() else {
+                    unreachable!();
+                };
+                let request = pending.request;
+                self.history
+                    .push(Entry {
+                        pass,
+                        request,
+                        reply,
+                    })
+                    .unwrap();
+                Turned::Done(self.history.len() as u32, told)
+            }
+        }
+    }
+
+    /// The oldest queued key, which somebody is to fetch now. None where none is queued, or the flights are full.
+    pub fn take_want(&mut self) -> Option<Key>
+        ensures { Takes self.old result self.new }
+    {
+        self.imports.take()
+    }
+
+    /// Takes the framed bytes that came for a key in flight. Those that are no use, and those that find no memory, fail it.
+    pub fn arrive(&mut self, key: Key, framed: Vec<u8>) -> Arrived
+        requires { W.honest → IsHonest W.repository key.id framed.items }
+        ensures { Arrives T.table self.old key framed.items result self.new }
+    {
+        if !self.imports.is_in_flight(key) {
+            return Arrived::Stray;
+        }
+        match keep::<W, T>(self.alloc, &mut self.table, key, framed) {
+            Ok(()) => {
+                self.imports.done(key);
+                Arrived::Stored
+            }
+            Err(cause) => {
+                self.imports.failed(key, cause);
+                Arrived::Refused(cause)
+            }
+        }
+    }
+
+    /// The key can't be had: each request that waits for it now is marked. False, and nothing changed, where it isn't in
+    /// flight.
+    pub fn fail(&mut self, key: Key, cause: Cause) -> bool
+        ensures { Fails self.old key cause result self.new }
+    {
+        self.imports.failed(key, cause)
+    }
+
+    /// Lets go of the loaded directories at and below the path that have not been used for so many turns. How many went.
+    pub fn unload(&mut self, path: &Path, older_than: u64) -> u64
+        ensures { LetsGo T.table W.honest self.old path.now older_than result self.new }
+    {
+        self.table.unload(self.alloc, path, older_than)
+    }
+
+    /// Makes one event happen.
+    fn apply(&mut self, event: Event) -> Outcome
+        requires { W.honest → IsHonestEvent W.repository event }
+        ensures { Steps T.table W.honest self.old self.new event result }
+    {
+        match event {
+            Event::Start(pass, request) => Outcome::Start(self.start(pass, request)),
+            Event::Turn(pass) => Outcome::Turn(self.turn(pass)),
+            Event::Take => Outcome::Take(self.take_want()),
+            Event::Arrive(key, framed) => Outcome::Arrive(self.arrive(key, framed.into_vec())),
+            Event::Fail(key, cause) => Outcome::Fail(self.fail(key, cause)),
+            Event::Unload(path, older_than) => Outcome::Unload(self.unload(&path, older_than)),
+        }
+    }
+
+    /// Makes these events happen, one after another; the outcomes are the answers of the calls. The only error is want of
+    /// memory for the outcomes, before any event.
+    pub fn run(&mut self, events: Vec<Event>) -> Result<Vec<Outcome>, AllocError>
+        requires { W.honest → AreHonest W.repository events.items }
+        ensures ok { IfOk result (λ outcomes. Runs T.table W.honest W.opening self.old events.items outcomes.items self.new) }
+        ensures err { OnErr result (self.new ≡ self.old) }
+    {
+        let mut outcomes = Vec::with_capacity(self.alloc, events.len())?;
+        for event in events {
+            outcomes.push(self.apply(event)).unwrap();
+            self.holds();
+        }
+        Ok(outcomes)
+    }
+}
