@@ -1,19 +1,74 @@
-//! The calls of a table over files in memory, and over files that fail.
-ghost use Rattle.std.specs.Prelude.{◌≡◌, IfOk};
+//! The calls of a table over files in memory, and over files that fail: rows of the sample commit's trees.
+ghost use Rattle.std.specs.Prelude.{◌≡◌, ◌≤◌, IfOk};
 ghost use Rattle.eden_object.specs.Trees.{NamesDiffer};
-ghost use Rattle.eden_overlay_format.specs.Directory.{AreStorable};
+ghost use Rattle.eden_overlay_format.specs.Directory.{number_least, number_end, AreStorable};
 
 use eden_inode::Inodes;
-use eden_model::{Fault, Id, Kind, Mode, Name, Origin, Outside, TreeEntry};
+use eden_model::{Fault, Key, Kind, Name, ObjKind, Origin, Outside, TreeEntry};
+use eden_object::Object;
 use eden_overlay::{FailingFiles, Files, MemoryFiles, Overlay};
 use eden_overlay_format::StoredEntry;
+use eden_samples::{NEW_FILE, ONE_FILE, Sample, TWO_FILES, VERSION_1, VERSION_2};
 use std::alloc::Global;
 use std::process::Abort;
 use std::test::Fail;
 
-const ID: Id = Id { bytes: [0x11; 20] };
+/// A table whose root is an object.
+type Table = Inodes<Global, Outside, MemoryFiles<Outside>>;
+
+/// A path, name by name.
+type Names = &'static [&'static [u8]];
+
+const ROOT: Names = &[];
+
+const BAK: Names = &[b"bak"];
+
+const BAK_TEST: Names = &[b"bak", b"test.txt"];
+
+const NEW: Names = &[b"new.txt"];
+
+const TEST: Names = &[b"test.txt"];
 
 const END: u64 = 1 << 63;
+
+/// A call, and what it answers.
+#[derive(Clone, Copy)]
+enum Step {
+    /// A directory is loaded from a tree object: then this number is the next one.
+    Load(Names, Sample, u64),
+    /// At the path stands this kind of entry, with this number and that object.
+    Look(Names, u64, Kind, Sample),
+    Tick,
+    /// So many of the directories go that are that old.
+    Unload(Names, u64, u64),
+}
+
+const NUMBERED: &[Step] = &[
+    Step::Load(ROOT, TWO_FILES, 5),
+    Step::Look(BAK, 2, Kind::Dir, ONE_FILE),
+    Step::Look(NEW, 3, Kind::File, NEW_FILE),
+    Step::Look(TEST, 4, Kind::File, VERSION_2),
+    Step::Load(BAK, ONE_FILE, 6),
+    Step::Look(BAK_TEST, 5, Kind::File, VERSION_1),
+    Step::Unload(ROOT, 0, 2),
+    Step::Load(ROOT, TWO_FILES, 9),
+    Step::Look(BAK, 6, Kind::Dir, ONE_FILE),
+    Step::Look(NEW, 7, Kind::File, NEW_FILE),
+    Step::Look(TEST, 8, Kind::File, VERSION_2),
+];
+
+const AGED: &[Step] = &[
+    Step::Load(ROOT, TWO_FILES, 5),
+    Step::Tick,
+    Step::Tick,
+    Step::Tick,
+    Step::Load(BAK, ONE_FILE, 6),
+    Step::Tick,
+    Step::Tick,
+    Step::Unload(ROOT, 3, 0),
+    Step::Unload(BAK, 2, 1),
+    Step::Unload(ROOT, 2, 1),
+];
 
 fn name(alloc: Global, bytes: &[u8]) -> Result<Name, Fail>
     ensures { IfOk result (λ n. n ≡ bytes.now) }
@@ -24,21 +79,115 @@ fn name(alloc: Global, bytes: &[u8]) -> Result<Name, Fail>
     }
 }
 
-fn entry(alloc: Global, mode: Mode, bytes: &[u8]) -> Result<TreeEntry, Fail>
-    ensures { IfOk result (λ e. e.name ≡ bytes.now) }
-{
-    let name = name(alloc, bytes)?;
-    Ok(TreeEntry { mode, name, id: ID })
+fn names(alloc: Global, path: Names) -> Result<Vec<Name>, Fail> {
+    let mut names = Vec::new(alloc);
+    for bytes in path {
+        names.push(name(alloc, bytes)?)?;
+    }
+    Ok(names)
 }
 
-// The entries of a tree object, not in the order of their names.
-fn three(alloc: Global) -> Result<Vec<TreeEntry>, Fail>
+/// The entries of a tree among the samples.
+fn entries(alloc: Global, tree: Sample) -> Result<Vec<TreeEntry>, Fail>
     ensures { IfOk result (λ v. NamesDiffer v.items) }
 {
-    let c = entry(alloc, Mode::Gitlink, b"c")?;
-    let a = entry(alloc, Mode::Exec, b"a")?;
-    let b = entry(alloc, Mode::Dir, b"b")?;
-    Ok(Vec::from_array(alloc, [c, a, b])?)
+    let key = Key {
+        kind: ObjKind::Tree,
+        id: tree.id,
+    };
+    match Object::checked(alloc, key, tree.framed.to_vec(alloc)?) {
+        Ok(object) => Ok(object.entries(alloc)?),
+        Err(_) => Err(Fail::from("no tree")),
+    }
+}
+
+/// A table of that tree, with nothing loaded.
+fn table(alloc: Global, tree: Sample, next: u64) -> Table
+    requires least { number_least ≤ next }
+    requires most { next ≤ number_end }
+{
+    let overlay = Overlay::new(MemoryFiles::<Outside>::new(alloc));
+    Inodes::new(alloc, overlay, Origin::Object(tree.id), next)
+}
+
+/// Loads the directory at a path from the entries of that tree, which is its own.
+fn load(
+    rt: &impl Abort,
+    alloc: Global,
+    table: &mut Table,
+    path: &[Name],
+    tree: Sample,
+) -> Result<Result<(), Fault>, Fail> {
+    let entries = entries(alloc, tree)?;
+    let key = table
+        .missing(path)
+        .expect(rt, "a directory that isn't loaded");
+    assert!(rt; key.id == tree.id);
+    Ok(table.load(alloc, path, Some(&entries)))
+}
+
+/// What stands at a path.
+fn seen<F: Files<Outside>>(
+    rt: &impl Abort,
+    table: &mut Inodes<Global, Outside, F>,
+    path: &[Name],
+) -> (u64, Kind, Origin) {
+    let seen = table.look(path);
+    assert_eq!(rt; seen.names, path.len());
+    (seen.number, seen.kind, seen.origin)
+}
+
+fn take(rt: &impl Abort, alloc: Global, table: &mut Table, step: Step) -> Result<(), Fail> {
+    match step {
+        Step::Load(path, tree, next) => {
+            let path = names(alloc, path)?;
+            assert_eq!(rt; load(rt, alloc, table, &path, tree)?, Ok(()));
+            assert_eq!(rt; table.next_number(), next);
+        }
+        Step::Look(path, number, kind, object) => {
+            let path = names(alloc, path)?;
+            let origin = Origin::Object(object.id);
+            assert_eq!(rt; seen(rt, table, &path), (number, kind, origin));
+        }
+        Step::Tick => table.tick(),
+        Step::Unload(path, age, went) => {
+            let path = names(alloc, path)?;
+            assert_eq!(rt; table.unload(alloc, &path, age), went);
+        }
+    }
+    Ok(())
+}
+
+/// Takes the steps on a table of the commit's tree, with nothing loaded.
+fn take_all(rt: &impl Abort, alloc: Global, steps: &[Step]) -> Result<(), Fail> {
+    let mut table = table(alloc, TWO_FILES, 2);
+    for step in steps {
+        take(rt, alloc, &mut table, *step)?;
+    }
+    Ok(())
+}
+
+#[test]
+fn rows_of_the_sample_commit(rt: HostRuntime) -> Result<(), Fail> {
+    take_all(&rt, rt.alloc(), NUMBERED)?;
+    take_all(&rt, rt.alloc(), AGED)
+}
+
+#[test]
+fn numbers_run_out(rt: HostRuntime) -> Result<(), Fail> {
+    let alloc = rt.alloc();
+    let mut three = table(alloc, TWO_FILES, END - 2);
+    assert_eq!(rt;
+        load(&rt, alloc, &mut three, &[], TWO_FILES)?,
+        Err(Fault::Numbers)
+    );
+    assert_eq!(rt; three.next_number(), END - 2);
+    let mut one = table(alloc, ONE_FILE, END - 2);
+    take(&rt, alloc, &mut one, Step::Load(ROOT, ONE_FILE, END - 1))?;
+    for number in [Some(END - 1), None] {
+        assert_eq!(rt; one.give_number(), number);
+    }
+    Ok(())
 }
 
 // A stored directory's one entry: the file `a`, number 2, whose content is its own.
@@ -59,85 +208,6 @@ fn one(alloc: Global) -> Result<Vec<StoredEntry>, Fail>
     }
 }
 
-// Loads the root from the entries of its tree object.
-fn load<F: Files<Outside>>(
-    inodes: &mut Inodes<Global, Outside, F>,
-    alloc: Global,
-    entries: &[TreeEntry],
-) -> Result<Result<(), Fault>, Fail>
-    requires { NamesDiffer entries.now }
-{
-    match inodes.missing(&[]) {
-        None => Err(Fail::from("the root is loaded")),
-        Some(_) => Ok(inodes.load(alloc, &[], Some(entries))),
-    }
-}
-
-// What is under a name in the root.
-fn under<F: Files<Outside>>(
-    rt: &impl Abort,
-    inodes: &mut Inodes<Global, Outside, F>,
-    alloc: Global,
-    bytes: &[u8],
-) -> Result<(u64, Kind, Origin), Fail> {
-    let path = [name(alloc, bytes)?];
-    let seen = inodes.look(&path);
-    assert_eq!(rt; seen.names, 1);
-    assert!(rt; !seen.loaded);
-    Ok((seen.number, seen.kind, seen.origin))
-}
-
-#[test]
-fn a_tree_object_is_loaded(rt: HostRuntime) -> Result<(), Fail> {
-    let alloc = rt.alloc();
-    let entries = three(alloc)?;
-    let overlay = Overlay::new(MemoryFiles::<Outside>::new(alloc));
-    let mut inodes = Inodes::new(alloc, overlay, Origin::Object(ID), 2);
-    for next in [5, 8] {
-        assert!(rt; load(&mut inodes, alloc, &entries)?.is_ok());
-        assert_eq!(rt; inodes.next_number(), next);
-        for (bytes, back, kind, origin) in [
-            (b"a", 3, Kind::Exec, Origin::Object(ID)),
-            (b"b", 2, Kind::Dir, Origin::Object(ID)),
-            (b"c", 1, Kind::Dir, Origin::Empty),
-        ] {
-            let seen = under(&rt, &mut inodes, alloc, bytes)?;
-            assert_eq!(rt; seen, (next - back, kind, origin));
-        }
-        assert_eq!(rt; inodes.unload(alloc, &[], 0), 1);
-    }
-    Ok(())
-}
-
-#[test]
-fn what_is_young_stays(rt: HostRuntime) -> Result<(), Fail> {
-    let alloc = rt.alloc();
-    let entries = three(alloc)?;
-    let overlay = Overlay::new(MemoryFiles::<Outside>::new(alloc));
-    let mut inodes = Inodes::new(alloc, overlay, Origin::Object(ID), 2);
-    assert!(rt; load(&mut inodes, alloc, &entries)?.is_ok());
-    for (age, went) in [(2, 0), (2, 0), (2, 1), (2, 0)] {
-        assert_eq!(rt; inodes.unload(alloc, &[], age), went);
-        inodes.tick();
-    }
-    assert!(rt; !inodes.look(&[]).loaded);
-    Ok(())
-}
-
-#[test]
-fn numbers_run_out(rt: HostRuntime) -> Result<(), Fail> {
-    let alloc = rt.alloc();
-    let entries = three(alloc)?;
-    let overlay = Overlay::new(MemoryFiles::<Outside>::new(alloc));
-    let mut inodes = Inodes::new(alloc, overlay, Origin::Object(ID), END - 2);
-    assert_eq!(rt; load(&mut inodes, alloc, &entries)?, Err(Fault::Numbers));
-    assert!(rt; !inodes.look(&[]).loaded);
-    for number in [Some(END - 2), Some(END - 1), None] {
-        assert_eq!(rt; inodes.give_number(), number);
-    }
-    Ok(())
-}
-
 // Loads the mount's own root from its file, the call of that number on the files failing.
 fn load_own(rt: &impl Abort, alloc: Global, call: u64) -> Result<Result<(), Fault>, Fail> {
     let files = FailingFiles::new(MemoryFiles::<Outside>::new(alloc), call);
@@ -148,8 +218,8 @@ fn load_own(rt: &impl Abort, alloc: Global, call: u64) -> Result<Result<(), Faul
     let answer = inodes.load(alloc, &[], None);
     assert_eq!(rt; inodes.look(&[]).loaded, answer.is_ok());
     if answer.is_ok() {
-        let seen = under(rt, &mut inodes, alloc, b"a")?;
-        assert_eq!(rt; seen, (2, Kind::File, Origin::Own));
+        let path = [name(alloc, b"a")?];
+        assert_eq!(rt; seen(rt, &mut inodes, &path), (2, Kind::File, Origin::Own));
     }
     Ok(answer)
 }
