@@ -7,7 +7,7 @@ use Rattle.eden_model.specs.declared.node.Node.{Node}
 use Rattle.eden_model.specs.declared.reply.Reply.{Reply}
 use Rattle.eden_model.specs.declared.request.Request.{Request}
 use Rattle.eden_model.specs.Trees.{Path}
-use Rattle.eden_model.specs.Rows.{Steps}
+use Rattle.eden_oracle.specs.Rows.{Steps}
 
 -- the table's reply and the tree after it; `stopped` where the table has none; for want of memory nothing happens
 abbrev pub Answers : List (Path × Node) → Request → Result Reply CallFault → List (Path × Node) → Type 0

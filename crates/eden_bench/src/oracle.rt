@@ -1,7 +1,8 @@
 // The slow oracle as a service of lines: `eden_bench oracle` answers the requests of standard input on one whole tree.
 //
 // tests/oracle compares its replies with those of a second table of operations, which is written apart from this one.
-use eden_model::{CallFault, Kind, Name, Node, Path, Reply, Request, StartFault, WholeTree};
+use eden_model::{CallFault, Kind, Name, Node, Path, Reply, Request, StartFault};
+use eden_oracle::WholeTree;
 use eden_wire::{Service, SessionFault, session};
 use std::alloc::{AllocError, Global};
 use std::io::{Read, Write};

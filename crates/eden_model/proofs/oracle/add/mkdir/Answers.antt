@@ -1,6 +1,0 @@
-use Rattle.std.proofs.Common.{refl}
-use Rattle.eden_model.specs.declared.request.Request.TheVariants as ask
-use Rattle.eden_model.proofs.oracle.add.mkdir.Goals as goal
-
-pub returns : goal.returns
-returns c = c.add.ensures (ask.Mkdir c.args.path.now) refl

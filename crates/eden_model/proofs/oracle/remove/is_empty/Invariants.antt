@@ -1,8 +1,0 @@
-use Rattle.std.proofs.Common.{take}
-use Rattle.eden_model.specs.Trees.{Name}
-use Rattle.eden_model.proofs.Listings.{NoChildren}
-use Rattle.eden_model.proofs.oracle.remove.is_empty.Given as goal
-
--- no row so far is a child
-abbrev pub invariant-loop-row : goal.invariant-loop-row
-invariant-loop-row l = NoChildren (take l.row-index l.rows) l.dir

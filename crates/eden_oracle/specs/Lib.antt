@@ -1,0 +1,4 @@
+pub mod Fronts
+pub mod Rows
+pub mod Walks
+pub mod Changes

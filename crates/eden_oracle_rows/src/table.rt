@@ -1,0 +1,495 @@
+//! The table of operations in worked rows, as the oracle answers them.
+use eden_model::{Bytes, Errno, Kind, Name, Node, Path, Reply, Request};
+use eden_oracle::WholeTree;
+use std::alloc::Global;
+use std::process::Abort;
+use std::test::*;
+
+fn bytes(rt: &impl Abort, alloc: Global, text: &str) -> Bytes {
+    Bytes::new(Vec::from_slice(alloc, text.as_bytes()).expect(rt, "memory"))
+}
+
+fn name(rt: &impl Abort, alloc: Global, text: &str) -> Name {
+    let bytes = Vec::from_slice(alloc, text.as_bytes()).expect(rt, "memory");
+    Name::new(bytes).expect(rt, "a name")
+}
+
+/// The path of that text, as `/bak/test.txt`.
+fn path(rt: &impl Abort, alloc: Global, text: &str) -> Path {
+    let mut names = Vec::new(alloc);
+    for part in text.split('/') {
+        if !part.is_empty() {
+            names.push(name(rt, alloc, part)).expect(rt, "memory");
+        }
+    }
+    Path::new(names).expect(rt, "a path")
+}
+
+/// A row as the tests write it: its path, its kind, and its content; none where that is lost or unlisted.
+type Row = (&'static str, Kind, Option<&'static str>);
+
+fn node(rt: &impl Abort, alloc: Global, kind: Kind, text: Option<&str>) -> Node {
+    let content = match text {
+        None => None,
+        Some(text) => Some(bytes(rt, alloc, text)),
+    };
+    match kind {
+        Kind::File => Node::File(false, content),
+        Kind::Exec => Node::File(true, content),
+        Kind::Link => Node::Link(content),
+        Kind::Dir => Node::Dir(text.is_some()),
+    }
+}
+
+fn whole(rt: &impl Abort, alloc: Global, rows: &[Row]) -> WholeTree {
+    let mut all = Vec::new(alloc);
+    for (at, kind, text) in rows {
+        let row = (path(rt, alloc, at), node(rt, alloc, *kind, *text));
+        all.push(row).expect(rt, "memory");
+    }
+    let tree = WholeTree::new(alloc, all).expect(rt, "memory");
+    tree.expect(rt, "a whole tree")
+}
+
+/// What is asked of a path.
+#[derive(Clone, Copy, Debug)]
+enum Ask {
+    Kind,
+    Stat,
+    Read(u64, u64),
+    ReadLink,
+    List(Option<&'static str>, u64),
+    Write(u64, &'static str),
+    Truncate(u64),
+    Create,
+    SetExec(bool),
+    Mkdir,
+    Symlink(&'static str),
+    Unlink,
+    Rmdir,
+    Rename(&'static str),
+}
+
+fn after(rt: &impl Abort, alloc: Global, text: Option<&str>) -> Option<Name> {
+    match text {
+        None => None,
+        Some(text) => Some(name(rt, alloc, text)),
+    }
+}
+
+fn request(rt: &impl Abort, alloc: Global, at: Path, ask: Ask) -> Request {
+    match ask {
+        Ask::Kind => Request::Kind(at),
+        Ask::Stat => Request::Stat(at),
+        Ask::Read(offset, count) => Request::Read(at, offset, count),
+        Ask::ReadLink => Request::ReadLink(at),
+        Ask::List(text, limit) => Request::List(at, after(rt, alloc, text), limit),
+        Ask::Write(offset, new) => Request::Write(at, offset, bytes(rt, alloc, new)),
+        Ask::Truncate(size) => Request::Truncate(at, size),
+        Ask::Create => Request::Create(at),
+        Ask::SetExec(exec) => Request::SetExec(at, exec),
+        Ask::Mkdir => Request::Mkdir(at),
+        Ask::Symlink(target) => Request::Symlink(at, bytes(rt, alloc, target)),
+        Ask::Unlink => Request::Unlink(at),
+        Ask::Rmdir => Request::Rmdir(at),
+        Ask::Rename(to) => Request::Rename(at, path(rt, alloc, to)),
+    }
+}
+
+/// An entry of a listing.
+type Item = (Kind, &'static str);
+
+/// What must be answered.
+#[derive(Clone, Copy)]
+enum Say {
+    /// No reply: the request looks into what is lost or unlisted.
+    Nothing,
+    Ok,
+    Kind(Kind),
+    Stat(Kind, u64),
+    Data(&'static str),
+    Count(u64),
+    /// All the entries behind the name.
+    All(&'static [Item]),
+    /// The first of them, and others come after these.
+    First(&'static [Item]),
+    Err(Errno),
+}
+
+fn is_item(row: &(Name, Kind), want: &Item) -> bool {
+    row.0.as_slice() == want.1.as_bytes() && row.1 == want.0
+}
+
+fn are_items(rows: &[(Name, Kind)], want: &[Item]) -> bool {
+    for k in 0..rows.len() {
+        if k >= want.len() || !is_item(&rows[k], &want[k]) {
+            return false;
+        }
+    }
+    rows.len() == want.len()
+}
+
+fn is_listing(reply: &Reply, want: &[Item], has_more: bool) -> bool {
+    match reply {
+        Reply::Entries(entries, more) => {
+            *more == has_more && are_items(entries.as_slice(), want)
+        }
+        _ => false,
+    }
+}
+
+fn is_data(reply: &Reply, want: &str) -> bool {
+    match reply {
+        Reply::Data(bytes) => bytes.as_slice() == want.as_bytes(),
+        _ => false,
+    }
+}
+
+/// Whether the reply is one without bytes or entries, and that one.
+fn is_plain(reply: &Reply, want: Say) -> bool {
+    match (reply, want) {
+        (Reply::Ok, Say::Ok) => true,
+        (Reply::Kind(kind), Say::Kind(other)) => *kind == other,
+        (Reply::Stat(kind, size), Say::Stat(other, length)) => *kind == other && *size == length,
+        (Reply::Count(count), Say::Count(other)) => *count == other,
+        (Reply::Err(errno), Say::Err(other)) => *errno == other,
+        _ => false,
+    }
+}
+
+fn is_reply(reply: &Reply, want: Say) -> bool {
+    match want {
+        Say::Data(text) => is_data(reply, text),
+        Say::All(items) => is_listing(reply, items, false),
+        Say::First(items) => is_listing(reply, items, true),
+        _ => is_plain(reply, want),
+    }
+}
+
+fn is_said(reply: &Option<Reply>, want: Say) -> bool {
+    match reply {
+        None => matches!(want, Say::Nothing),
+        Some(reply) => is_reply(reply, want),
+    }
+}
+
+/// A copy of the reply, which does for itself.
+fn copied(rt: &impl Abort, alloc: Global, reply: Option<Reply>) -> Option<Reply> {
+    match reply {
+        None => None,
+        Some(reply) => Some(reply.copy(alloc).expect(rt, "memory")),
+    }
+}
+
+/// What the tree answers a request. Copies of the request and of the reply do for themselves.
+fn answer(
+    rt: &impl Abort,
+    alloc: Global,
+    tree: &mut WholeTree,
+    request: &Request,
+) -> Option<Reply> {
+    let request = request.copy(alloc).expect(rt, "memory");
+    let reply = tree.step(alloc, &request).expect(rt, "memory");
+    copied(rt, alloc, reply)
+}
+
+/// A path, what is asked of it, and what the tree must answer.
+type Line = (&'static str, Ask, Say);
+
+/// Whether the tree answers as the line says.
+fn answers_so(rt: &impl Abort, alloc: Global, tree: &mut WholeTree, line: &Line) -> bool {
+    let request = request(rt, alloc, path(rt, alloc, line.0), line.1);
+    is_said(&answer(rt, alloc, tree, &request), line.2)
+}
+
+/// Asks the tree each line, and compares what it answers.
+fn compare(rt: &impl Abort, alloc: Global, tree: &mut WholeTree, lines: &[Line]) {
+    for line in lines {
+        assert!(rt;
+            answers_so(rt, alloc, tree, line),
+            "{:?} {}",
+            line.1,
+            line.0
+        );
+    }
+}
+
+fn answers(rt: &impl Abort, alloc: Global, rows: &[Row], lines: &[Line]) {
+    let mut tree = whole(rt, alloc, rows);
+    compare(rt, alloc, &mut tree, lines);
+}
+
+/// The root, and `test.txt` in it.
+const ONE_FILE: [Row; 2] = [
+    ("/", Kind::Dir, Some("")),
+    ("/test.txt", Kind::File, Some("version 1\n")),
+];
+
+const READ_AND_WRITTEN: &[Line] = &[
+    ("/", Ask::Kind, Say::Kind(Kind::Dir)),
+    ("/test.txt", Ask::Read(0, 100), Say::Data("version 1\n")),
+    ("/test.txt", Ask::Read(10, 5), Say::Data("")),
+    ("/test.txt", Ask::Read(1_073_741_824, 5), Say::Data("")),
+    ("/test.txt", Ask::Read(0, 65537), Say::Err(Errno::EINVAL)),
+    ("/test.txt/x", Ask::Kind, Say::Err(Errno::ENOTDIR)),
+    ("/no/x", Ask::Kind, Say::Err(Errno::ENOENT)),
+    ("/test.txt", Ask::Write(12, "!"), Say::Count(1)),
+    (
+        "/test.txt",
+        Ask::Read(0, 100),
+        Say::Data("version 1\n\0\0!"),
+    ),
+    ("/test.txt", Ask::Write(0, "V"), Say::Count(1)),
+    ("/test.txt", Ask::Truncate(9), Say::Ok),
+    ("/test.txt", Ask::Read(0, 100), Say::Data("Version 1")),
+    ("/test.txt", Ask::Truncate(10), Say::Ok),
+    ("/test.txt", Ask::Read(7, 9), Say::Data(" 1\0")),
+    ("/test.txt", Ask::SetExec(true), Say::Ok),
+    ("/test.txt", Ask::Stat, Say::Stat(Kind::Exec, 10)),
+    ("/test.txt", Ask::Write(5, ""), Say::Count(0)),
+    ("/test.txt", Ask::Write(1_073_741_824, ""), Say::Count(0)),
+    (
+        "/test.txt",
+        Ask::Write(1_073_741_824, "x"),
+        Say::Err(Errno::EFBIG),
+    ),
+    ("/", Ask::Write(0, "x"), Say::Err(Errno::EISDIR)),
+    (
+        "/test.txt",
+        Ask::Truncate(1_073_741_825),
+        Say::Err(Errno::EFBIG),
+    ),
+    ("/test.txt", Ask::Truncate(0), Say::Ok),
+    ("/test.txt", Ask::Read(0, 9), Say::Data("")),
+];
+
+#[test]
+fn a_file_is_read_and_written(rt: HostRuntime) {
+    answers(&rt, rt.alloc(), &ONE_FILE, READ_AND_WRITTEN);
+}
+
+const MOVED: &[Line] = &[
+    ("/d", Ask::Mkdir, Say::Ok),
+    ("/test.txt", Ask::Rename("/d/t"), Say::Ok),
+    ("/test.txt", Ask::Kind, Say::Err(Errno::ENOENT)),
+    ("/d/t", Ask::Read(0, 7), Say::Data("version")),
+    ("/d", Ask::Rename("/d/e"), Say::Err(Errno::EINVAL)),
+    ("/d", Ask::Rename("/"), Say::Err(Errno::EBUSY)),
+    ("/d/t", Ask::Rename("/d"), Say::Err(Errno::ENOTEMPTY)),
+    ("/d", Ask::Rmdir, Say::Err(Errno::ENOTEMPTY)),
+    ("/d", Ask::Rename("/d"), Say::Ok),
+    ("/d", Ask::Unlink, Say::Err(Errno::EISDIR)),
+    ("/d", Ask::Rename("/e"), Say::Ok),
+    ("/", Ask::List(None, 9), Say::All(&[(Kind::Dir, "e")])),
+    ("/e", Ask::List(None, 9), Say::All(&[(Kind::File, "t")])),
+    ("/e/t", Ask::Unlink, Say::Ok),
+    ("/e", Ask::Rmdir, Say::Ok),
+    ("/", Ask::List(None, 9), Say::All(&[])),
+];
+
+#[test]
+fn a_file_is_moved_into_a_directory(rt: HostRuntime) {
+    answers(&rt, rt.alloc(), &ONE_FILE, MOVED);
+}
+
+const REPLACED: &[Line] = &[
+    ("/d", Ask::Mkdir, Say::Ok),
+    ("/e", Ask::Mkdir, Say::Ok),
+    ("/d/a", Ask::Create, Say::Ok),
+    ("/d", Ask::Rename("/test.txt"), Say::Err(Errno::ENOTDIR)),
+    ("/test.txt", Ask::Rename("/d"), Say::Err(Errno::EISDIR)),
+    ("/e", Ask::Rename("/d"), Say::Err(Errno::ENOTEMPTY)),
+    ("/e", Ask::Rename("/test.txt/x"), Say::Err(Errno::ENOTDIR)),
+    ("/no", Ask::Rename("/no"), Say::Err(Errno::ENOENT)),
+    ("/test.txt", Ask::Rename("/test.txt"), Say::Ok),
+    ("/test.txt", Ask::Rename("/d/a"), Say::Ok),
+    ("/d", Ask::Rename("/e"), Say::Ok),
+    ("/", Ask::List(None, 9), Say::All(&[(Kind::Dir, "e")])),
+    ("/e/a", Ask::Read(0, 7), Say::Data("version")),
+];
+
+#[test]
+fn what_stands_at_the_target_is_replaced(rt: HostRuntime) {
+    answers(&rt, rt.alloc(), &ONE_FILE, REPLACED);
+}
+
+const ADDED: &[Line] = &[
+    ("/a-b", Ask::Create, Say::Ok),
+    (
+        "/",
+        Ask::List(None, 9),
+        Say::All(&[(Kind::File, "a-b"), (Kind::File, "test.txt")]),
+    ),
+    ("/a-b", Ask::Create, Say::Err(Errno::EEXIST)),
+    ("/test.txt/d", Ask::Mkdir, Say::Err(Errno::ENOTDIR)),
+    ("/l", Ask::Symlink("test.txt"), Say::Ok),
+    ("/l", Ask::ReadLink, Say::Data("test.txt")),
+    ("/l", Ask::Stat, Say::Stat(Kind::Link, 8)),
+    ("/test.txt", Ask::ReadLink, Say::Err(Errno::EINVAL)),
+    ("/l", Ask::Write(0, "x"), Say::Err(Errno::EINVAL)),
+    ("/m", Ask::Symlink(""), Say::Err(Errno::ENOENT)),
+    ("/sub", Ask::Mkdir, Say::Ok),
+    ("/sub", Ask::List(None, 10), Say::All(&[])),
+    ("/sub/a", Ask::Create, Say::Ok),
+    ("/sub", Ask::List(None, 10), Say::All(&[(Kind::File, "a")])),
+    ("/l", Ask::Rmdir, Say::Err(Errno::ENOTDIR)),
+    ("/l", Ask::Unlink, Say::Ok),
+    ("/l", Ask::Unlink, Say::Err(Errno::ENOENT)),
+];
+
+#[test]
+fn names_are_added(rt: HostRuntime) {
+    answers(&rt, rt.alloc(), &ONE_FILE, ADDED);
+}
+
+const ROOT_STAYS: &[Line] = &[
+    ("/", Ask::Create, Say::Err(Errno::EEXIST)),
+    ("/", Ask::Mkdir, Say::Err(Errno::EEXIST)),
+    ("/", Ask::Symlink("x"), Say::Err(Errno::EEXIST)),
+    ("/", Ask::Symlink(""), Say::Err(Errno::ENOENT)),
+    ("/", Ask::Unlink, Say::Err(Errno::EISDIR)),
+    ("/", Ask::Rmdir, Say::Err(Errno::EBUSY)),
+    ("/", Ask::Rename("/"), Say::Err(Errno::EBUSY)),
+    ("/", Ask::Rename("/x"), Say::Err(Errno::EBUSY)),
+    ("/no", Ask::Rename("/"), Say::Err(Errno::EBUSY)),
+];
+
+#[test]
+fn the_root_stays(rt: HostRuntime) {
+    answers(&rt, rt.alloc(), &ONE_FILE, ROOT_STAYS);
+}
+
+const LISTED_ROWS: &[Row] = &[
+    ("/test.txt", Kind::File, Some("version 2\n")),
+    ("/bak/test.txt", Kind::File, Some("version 1\n")),
+    ("/new.txt", Kind::File, Some("new file\n")),
+    ("/bak", Kind::Dir, Some("")),
+    ("/", Kind::Dir, Some("")),
+];
+
+const LISTED: &[Line] = &[
+    ("/bak/test.txt", Ask::Kind, Say::Kind(Kind::File)),
+    (
+        "/",
+        Ask::List(None, 2),
+        Say::First(&[(Kind::Dir, "bak"), (Kind::File, "new.txt")]),
+    ),
+    (
+        "/",
+        Ask::List(None, 3),
+        Say::All(&[
+            (Kind::Dir, "bak"),
+            (Kind::File, "new.txt"),
+            (Kind::File, "test.txt"),
+        ]),
+    ),
+    (
+        "/",
+        Ask::List(Some("new.txt"), 10),
+        Say::All(&[(Kind::File, "test.txt")]),
+    ),
+    ("/", Ask::List(None, 0), Say::Err(Errno::EINVAL)),
+    ("/", Ask::List(None, 1001), Say::Err(Errno::EINVAL)),
+    ("/new.txt", Ask::List(None, 1), Say::Err(Errno::ENOTDIR)),
+    ("/bak", Ask::Stat, Say::Stat(Kind::Dir, 0)),
+    ("/new.txt", Ask::Stat, Say::Stat(Kind::File, 9)),
+    ("/bak", Ask::Rename("/old"), Say::Ok),
+    ("/bak/test.txt", Ask::Read(0, 9), Say::Err(Errno::ENOENT)),
+    ("/old/test.txt", Ask::Read(0, 9), Say::Data("version 1")),
+];
+
+#[test]
+fn directories_are_listed(rt: HostRuntime) {
+    answers(&rt, rt.alloc(), LISTED_ROWS, LISTED);
+}
+
+const LOST_ROWS: &[Row] = &[
+    ("/", Kind::Dir, Some("")),
+    ("/lost", Kind::Exec, None),
+    ("/link", Kind::Link, None),
+    ("/dir", Kind::Dir, None),
+    ("/new", Kind::Dir, Some("")),
+];
+
+const LOST: &[Line] = &[
+    ("/lost", Ask::Kind, Say::Kind(Kind::Exec)),
+    ("/lost", Ask::Stat, Say::Nothing),
+    ("/lost", Ask::Read(0, 1), Say::Nothing),
+    ("/lost", Ask::Read(0, 0), Say::Data("")),
+    ("/lost", Ask::Write(0, ""), Say::Count(0)),
+    (
+        "/lost",
+        Ask::Write(1_073_741_824, "x"),
+        Say::Err(Errno::EFBIG),
+    ),
+    ("/lost", Ask::Write(0, "x"), Say::Nothing),
+    ("/lost", Ask::Truncate(1), Say::Nothing),
+    ("/link", Ask::ReadLink, Say::Nothing),
+    ("/link", Ask::Read(0, 1), Say::Err(Errno::EINVAL)),
+    ("/dir", Ask::Kind, Say::Kind(Kind::Dir)),
+    ("/dir/x", Ask::Kind, Say::Nothing),
+    ("/dir/x", Ask::Create, Say::Nothing),
+    ("/dir", Ask::List(None, 1), Say::Nothing),
+    ("/dir", Ask::Rmdir, Say::Nothing),
+    ("/new", Ask::Rename("/dir"), Say::Nothing),
+    (
+        "/",
+        Ask::List(None, 1000),
+        Say::All(&[
+            (Kind::Dir, "dir"),
+            (Kind::Link, "link"),
+            (Kind::Exec, "lost"),
+            (Kind::Dir, "new"),
+        ]),
+    ),
+    ("/lost", Ask::SetExec(false), Say::Ok),
+    ("/lost", Ask::Rename("/new/l"), Say::Ok),
+    ("/new/l", Ask::Stat, Say::Nothing),
+    ("/new/l", Ask::Truncate(0), Say::Ok),
+    ("/new/l", Ask::Stat, Say::Stat(Kind::File, 0)),
+    ("/dir", Ask::Rename("/new/d"), Say::Ok),
+    ("/new/d/x", Ask::Kind, Say::Nothing),
+];
+
+#[test]
+fn what_is_lost_has_no_reply(rt: HostRuntime) {
+    answers(&rt, rt.alloc(), LOST_ROWS, LOST);
+}
+
+/// The path of so many names `a`.
+fn deep(rt: &impl Abort, alloc: Global, count: usize) -> Path {
+    let mut names = Vec::new(alloc);
+    for _ in 0..count {
+        names.push(name(rt, alloc, "a")).expect(rt, "memory");
+    }
+    Path::new(names).expect(rt, "a path")
+}
+
+/// Makes directories of so many levels, each in the one before.
+fn deepen(rt: &impl Abort, alloc: Global, tree: &mut WholeTree, levels: usize) {
+    for count in 1..=levels {
+        let request = Request::Mkdir(deep(rt, alloc, count));
+        assert!(rt; is_said(&answer(rt, alloc, tree, &request), Say::Ok));
+    }
+}
+
+/// Whether a directory stands so many levels deep.
+fn is_deep(rt: &impl Abort, alloc: Global, tree: &mut WholeTree, levels: usize) -> bool {
+    let request = Request::Kind(deep(rt, alloc, levels));
+    is_said(&answer(rt, alloc, tree, &request), Say::Kind(Kind::Dir))
+}
+
+const LONGER: &[Line] = &[
+    ("/d", Ask::Mkdir, Say::Ok),
+    ("/a", Ask::Rename("/d/b"), Say::Ok),
+    ("/d", Ask::Rename("/e"), Say::Ok),
+    ("/e/b", Ask::Rename("/a"), Say::Ok),
+];
+
+#[test]
+fn a_rename_makes_paths_longer_than_a_request_names(rt: HostRuntime) {
+    let mut tree = whole(&rt, rt.alloc(), &ONE_FILE);
+    deepen(&rt, rt.alloc(), &mut tree, 256);
+    compare(&rt, rt.alloc(), &mut tree, LONGER);
+    assert!(rt; is_deep(&rt, rt.alloc(), &mut tree, 256));
+}
