@@ -1,8 +1,9 @@
 //! The calls of a table over files in memory, and over files that fail: rows of the sample commit's trees.
-ghost use Rattle.std.specs.Prelude.{◌≡◌, ◌≤◌, IfOk};
+ghost use Rattle.std.specs.Prelude.{◌≤◌, IfOk};
 ghost use Rattle.eden_object.specs.Trees.{NamesDiffer};
 ghost use Rattle.eden_overlay_format.specs.Directory.{number_least, number_end, AreStorable};
 
+use crate::names::name;
 use eden_inode::Inodes;
 use eden_model::{Fault, Key, Kind, Name, ObjKind, Origin, Outside, TreeEntry};
 use eden_object::Object;
@@ -69,15 +70,6 @@ const AGED: &[Step] = &[
     Step::Unload(BAK, 2, 1),
     Step::Unload(ROOT, 2, 1),
 ];
-
-fn name(alloc: Global, bytes: &[u8]) -> Result<Name, Fail>
-    ensures { IfOk result (λ n. n ≡ bytes.now) }
-{
-    match Name::new(bytes.to_vec(alloc)?) {
-        Ok(name) => Ok(name),
-        Err(_) => Err(Fail::from("no name")),
-    }
-}
 
 fn names(alloc: Global, path: Names) -> Result<Vec<Name>, Fail> {
     let mut names = Vec::new(alloc);

@@ -2,4 +2,16 @@
 #![tactic(auto)]
 
 #[cfg(test)]
+mod changes;
+#[cfg(test)]
 mod inodes;
+#[cfg(test)]
+mod listing;
+#[cfg(test)]
+mod names;
+#[cfg(test)]
+mod own;
+#[cfg(test)]
+mod random;
+#[cfg(test)]
+mod tree;
