@@ -7,16 +7,15 @@
 
 mod chain;
 mod change;
+mod entry_change;
 mod entry_move;
 mod fault;
 mod listing;
-mod listing_change;
 mod memory;
 mod moving;
 mod owning;
 mod renaming;
 
-pub use change::change_at;
+pub use entry_change::change_entry;
 pub use entry_move::move_entry;
-pub use listing_change::change_listing;
 pub use owning::materialise;

@@ -12,3 +12,4 @@ pub mod Changing
 pub mod Moving
 pub mod Chains
 pub mod ChainLaws
+pub mod Standing
