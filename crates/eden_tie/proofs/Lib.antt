@@ -35,3 +35,4 @@ pub mod Changed
 pub mod Between
 pub mod Moving
 pub mod Marked
+pub mod Staying

@@ -56,7 +56,7 @@ if_some None P z h is = absurd (cc)
 if_some (Some w) P z h is = subst P (same_Some w z is) h
 
 -- what is loaded stays
-loaded_with : (d : Directory) (n : Name) (o : Option Row) → AreRising (λ r. r.0) d.rows → MayGo d n
+pub loaded_with : (d : Directory) (n : Name) (o : Option Row) → AreRising (λ r. r.0) d.rows → MayGo d n
     → (m : Name) (w : Row) (c : Directory) → find_row m d.rows ≡ Some w → child_of w ≡ Some c → find_row m (changed d n o).rows ≡ Some w
 loaded_with d n o rising go m w c f k = elim (bytes_eq m n) as (λ b. bytes_eq m n ≡ b → find_row m (rows_with n o d.rows) ≡ Some w) [
   | true ↦ λ s.
