@@ -1,5 +1,5 @@
 -- An entry that moves in the table of a mount: what it keeps, and what is shown then.
-use Rattle.std.proofs.Common.{◌≡◌, ◌≤◌, ℕ, true, false, cond, [], ◌∷◌, ◌++◌, Option, Some, None, IfSome, Result, Ok, Err, OnOk, OnErr, inl, inr, refl, sym, ap, ◌∙◌, subst}
+use Rattle.std.proofs.Common.{arith, ◌≢◌, ◌≡◌, ◌≤◌, ℕ, true, false, cond, [], ◌∷◌, ◌++◌, Option, Some, None, IfSome, Result, Ok, Err, OnOk, OnErr, inl, inr, refl, sym, ap, ◌∙◌, subst}
 use Rattle.std.proofs.lemmas.Option.{same_Some, none-some}
 use Rattle.eden_model.specs.declared.fault.Fault.{Fault}
 use Rattle.eden_model.specs.Operations.{move}
@@ -8,16 +8,18 @@ use Rattle.eden_model.specs.Trees.{Name, Path}
 use Rattle.eden_overlay.specs.Files.{Stored}
 use Rattle.eden_overlay.specs.Held.{without}
 use Rattle.eden_overlay.specs.Soundness.{AreSound}
-use Rattle.eden_tree.specs.Directory.{Row}
+use Rattle.eden_overlay.proofs.CallerLemmas.{put_apart}
+use Rattle.eden_tree.specs.Directory.{Row, Directory, child_of}
 use Rattle.eden_tree.specs.Rows.{find_row}
 use Rattle.eden_tie.specs.Changing.{MayMove, moved_in, marked_source, files_left, files_moved}
 use Rattle.eden_tie.specs.Kept.{IsTable, IsKept}
 use Rattle.eden_tie.specs.Materialising.{is_own}
-use Rattle.eden_tie.specs.Moving.{CanMove}
+use Rattle.eden_tie.specs.Moving.{CanMove, StaysLoaded, AreSaved}
 use Rattle.eden_tie.specs.Shown.{shown_in}
-use Rattle.eden_tie.specs.Ties.{Tied}
-use Rattle.eden_tie.proofs.CallerLemmas.{ties_sound, replaces_there, moved_table, moved_kept, moved_shown, marked_table, marked_kept, marked_shown, replaced_tied, replaced_kept, replaced_shown}
+use Rattle.eden_tie.specs.Ties.{IsAway, Tied}
+use Rattle.eden_tie.proofs.CallerLemmas.{ties_sound, replaces_there, moved_table, moved_kept, moved_shown, marked_table, marked_kept, marked_shown, replaced_tied, replaced_kept, replaced_shown, moved_stays, marked_stays, moved_saved, left_elsewhere, moved_elsewhere}
 use Rattle.eden_materialise.specs.EntryMoves.{own_number, Clears, nothing, removed, failed, MovesIn, IsMoved, MovesEntry}
+use Rattle.eden_materialise.specs.Puts.{AtDirectory}
 
 -- ---- the file of what was replaced
 
@@ -41,6 +43,11 @@ cleared : (honest : Type 0) (F : Stored) (old : ℕ) (G : Stored) (new : ℕ) (o
 cleared honest F old G new None P (nothing is same) h whole gone = subst P (sym (is h)) whole
 cleared honest F old G new (Some j) P (removed k is same) h whole gone = subst P (sym (is h)) (gone k refl)
 cleared honest F old G new (Some j) P (failed k is rises) h whole gone = subst P (sym (is h)) whole
+
+never_less : (honest : Type 0) (F : Stored) (old : ℕ) (G : Stored) (new : ℕ) (o : Option ℕ) → Clears honest F old G new o → old ≤ new
+never_less honest F old G new None (nothing is same) = omega (arith, same)
+never_less honest F old G new (Some j) (removed k is same) = omega (arith, same)
+never_less honest F old G new (Some j) (failed k is rises) = rises
 
 module _ (honest : Type 0) (F : Stored) (x : Row) (p : Path) (n : Name) (q : Path) (m : Name) (can : MovesIn honest F x p n q m) (may : MayMove x p n q m)
     (own : Option ℕ) (is : own ≡ own_number (find_row m can.can.target.rows)) where
@@ -84,6 +91,38 @@ module _ (honest : Type 0) (F : Stored) (x : Row) (next : ℕ) (p : Path) (n : N
   move_table (Err e) c = elim c.err [
     | inl as_before ↦ subst (λ (r : Row). IsTable r next) (sym as_before.0) table
     | inr left ↦ subst (λ (r : Row). IsTable r next) (sym left.1.1.0) (marked_table x next p n q m table left.1.0)
+  ]
+
+  -- .. what is loaded stays so, nothing is marked by a move that is done, and the count of failures doesn't fall
+  pub move_stays : (answer : Result (Unit {0}) Fault) → MovesEntry honest p n q m F x old G z new answer → StaysLoaded x z
+  move_stays (Ok u) c = subst (StaysLoaded x) (sym c.ok.root) (moved_stays x next p n q m table c.ok.may)
+  move_stays (Err e) c = elim c.err [
+    | inl as_before ↦ subst (StaysLoaded x) (sym as_before.0) (λ r loaded. loaded)
+    | inr left ↦ subst (StaysLoaded x) (sym left.1.1.0) (marked_stays x p n q m left.1.0)
+  ]
+
+  pub move_saved : (answer : Result (Unit {0}) Fault) → MovesEntry honest p n q m F x old G z new answer → OnOk answer (AreSaved x → AreSaved z)
+  move_saved (Ok u) c = λ saved. subst AreSaved (sym c.ok.root) (moved_saved x next p n q m table c.ok.may saved)
+  move_saved (Err e) c = tt
+
+  pub move_counted : (answer : Result (Unit {0}) Fault) → MovesEntry honest p n q m F x old G z new answer → OnOk answer (old ≤ new)
+  move_counted (Ok u) c = never_less honest (files_moved x p n q m c.ok.may F) old G new (own_number (find_row m c.ok.may.target.rows)) c.ok.files
+  move_counted (Err e) c = tt
+
+  -- the files of what isn't loaded stay, but for that of what was replaced
+  pub move_elsewhere : honest → Tied F x next → CanMove x p n q m → (answer : Result (Unit {0}) Fault) → MovesEntry honest p n q m F x old G z new answer
+      → AtDirectory q x (λ u d. (k : ℕ) → IsAway x k → own_number (find_row m d.rows) ≢ Some k → G k ≡ F k)
+  move_elsewhere h t can (Ok u) c y d at holds k away other =
+      let may = c.ok.may in
+      let to : can.to ≡ y = same_Some can.to y (sym can.at_to ∙ at) in
+      let target : can.target ≡ d = same_Some can.target d (sym can.holds_target ∙ ap child_of to ∙ holds) in
+      let found : find_row m may.target.rows ≡ find_row m d.rows = replaces_there x next p n q m table can may ∙ ap (λ (a : Directory). find_row m a.rows) target in
+      let same = moved_elsewhere F x next p n q m t may k away in
+      cleared honest (files_moved x p n q m may F) old G new (own_number (find_row m may.target.rows)) (λ H. H k ≡ F k) c.ok.files h same
+      (λ j is. put_apart (files_moved x p n q m may F) j k None (λ one. other (sym (ap own_number found) ∙ is ∙ ap Some one)) ∙ same)
+  move_elsewhere h t can (Err e) c y d at holds k away other = elim c.err [
+    | inl as_before ↦ ap (λ (H : Stored). H k) (as_before.1 h)
+    | inr left ↦ ap (λ (H : Stored). H k) (left.1.1.1 h) ∙ left_elsewhere F x p n q m left.1.0 k away
   ]
 
   module _ (h : honest) (R : Repository) where

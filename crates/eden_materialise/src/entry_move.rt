@@ -1,6 +1,6 @@
 //! An entry moved in the table of a mount.
 
-ghost use Rattle.std.specs.Prelude.{◌≡◌, ◌≢◌, ◌∷◌, [], ◌++◌, ◌+◌, min, true, Err, Some, None, MatchBool, IsSome, IsSomeAnd, IfSome, IfErr, OnOk, OnErr};
+ghost use Rattle.std.specs.Prelude.{◌≡◌, ◌≢◌, ◌≤◌, ◌∷◌, [], ◌++◌, ◌+◌, ℕ, min, true, Err, Some, None, MatchBool, IsSome, IsSomeAnd, IfSome, IfErr, OnOk, OnErr};
 ghost use Rattle.eden_model.specs.Failures.{Counted};
 ghost use Rattle.eden_model.specs.Names.{name_refusal};
 ghost use Rattle.eden_model.specs.Operations.{move};
@@ -11,8 +11,9 @@ ghost use Rattle.eden_tree.specs.Directory.{child_of};
 ghost use Rattle.eden_tree.specs.Rows.{find_row};
 ghost use Rattle.eden_tree.specs.Paths.{row_at};
 ghost use Rattle.eden_tie.specs.Changing.{MayMove, moved_in, files_moved};
-ghost use Rattle.eden_tie.specs.Moving.{CanMove, HasRoom};
+ghost use Rattle.eden_tie.specs.Moving.{CanMove, HasRoom, StaysLoaded, AreSaved};
 ghost use Rattle.eden_tie.specs.Shown.{shown_in};
+ghost use Rattle.eden_tie.specs.Ties.{IsAway};
 ghost use Rattle.eden_materialise.specs.EntryMoves.{own_number, Clears, MovesIn, IsMoved, IsUnmoved, MovesEntry};
 ghost use Rattle.eden_materialise.specs.Faults.{IsStoreFault};
 ghost use Rattle.eden_materialise.specs.Puts.{AtDirectory};
@@ -194,6 +195,10 @@ pub fn move_entry<A: Allocator + Clone, W: World, F: Files<W>>(
     ensures ok { OnOk result (IsMoved W.honest from.now name.now to.now new_name.now (F.stored inodes.old.files) inodes.old.root (F.failures inodes.old.files) (F.stored inodes.new.files) inodes.new.root (F.failures inodes.new.files)) }
     ensures err { OnErr result (IsUnmoved W.honest from.now name.now to.now new_name.now (F.stored inodes.old.files) inodes.old.root (F.stored inodes.new.files) inodes.new.root) }
     ensures fault { IfErr result (IsStoreFault (F.failures inodes.old.files) (F.failures inodes.new.files)) }
+    ensures counted { OnOk result (F.failures inodes.old.files ≤ F.failures inodes.new.files) }
+    ensures loaded { StaysLoaded inodes.old.root inodes.new.root }
+    ensures saved { OnOk result (AreSaved inodes.old.root → AreSaved inodes.new.root) }
+    ensures elsewhere { W.honest → AtDirectory to.now inodes.old.root (λ y d. (k : ℕ) → IsAway inodes.old.root k → own_number (find_row new_name.now d.rows) ≢ Some k → F.stored inodes.new.files k ≡ F.stored inodes.old.files k) }
     ensures shown { W.honest → OnOk result (shown_in W.repository (F.stored inodes.new.files) inodes.new.root ≡ move (shown_in W.repository (F.stored inodes.old.files) inodes.old.root) (from.now ++ name.now ∷ []) (to.now ++ new_name.now ∷ [])) }
     ensures unseen { W.honest → OnErr result (shown_in W.repository (F.stored inodes.new.files) inodes.new.root ≡ shown_in W.repository (F.stored inodes.old.files) inodes.old.root) }
     ensures changes { inodes.new.changes ≡ min (inodes.old.changes + 1) u64.MAX }

@@ -24,14 +24,14 @@ use Rattle.eden_tie.proofs.Room.{never_more, stored_found, without_storable, wit
 -- ---- both are there
 
 -- a path of one step more, taken apart
-record OneStep (b : Name) (r : Path) (x y : Row) : Type 0 where
-  directory : Directory
-  row : Row
-  holds : child_of x ≡ Some directory
-  there : find_row b directory.rows ≡ Some row
-  rest : row_at r row ≡ Some y
+pub record OneStep (b : Name) (r : Path) (x y : Row) : Type 0 where
+  pub directory : Directory
+  pub row : Row
+  pub holds : child_of x ≡ Some directory
+  pub there : find_row b directory.rows ≡ Some row
+  pub rest : row_at r row ≡ Some y
 
-one_step : (b : Name) (r : Path) (x y : Row) → row_at (b ∷ r) x ≡ Some y → OneStep b r x y
+pub one_step : (b : Name) (r : Path) (x y : Row) → row_at (b ∷ r) x ≡ Some y → OneStep b r x y
 one_step b r x y at =
     let one = and_then_some (λ (d : Directory). option_and_then (row_at r) (find_row b d.rows)) (child_of x) y at in
     let two = and_then_some (row_at r) (find_row b one.0.rows) y one.1.1 in

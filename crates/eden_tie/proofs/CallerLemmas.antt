@@ -20,6 +20,7 @@ pub use Rattle.eden_tie.proofs.Sound.{ties_sound}
 pub use Rattle.eden_tie.proofs.Between.{moves_there, replaces_there}
 pub use Rattle.eden_tie.proofs.Moving.{moved_table, moved_kept, moved_shown, replaced_tied, replaced_kept, replaced_shown}
 pub use Rattle.eden_tie.proofs.Marked.{marked_table, marked_kept, marked_shown}
+pub use Rattle.eden_tie.proofs.Staying.{moved_stays, marked_stays, moved_saved, left_elsewhere, moved_elsewhere}
 -- what loads, and directories that go, keep of a table's invariant, beside `kept_laws`
 pub use Rattle.eden_tie.proofs.Tables.{own_loads_table, unloads_table}
 pub use Rattle.eden_tie.proofs.KeptLemmas.{own_loads_kept, unloads_kept, tables_unload}

@@ -54,7 +54,7 @@ module _ (honest : Type 0) (F : Stored) (x : Row) (next : ℕ) (p : Path) (n : N
   rising = stored_rising a.directory (table.listed a.row a.directory on_row a.holds)
 
   -- what is loaded in the new entry is its directory, or was there
-  inside_new : (w : Row) (e : Directory) → Place new_row w → child_of w ≡ Some e → ((w ≡ new_row) × (e ≡ new)) ⊎ Place x w
+  pub inside_new : (w : Row) (e : Directory) → Place new_row w → child_of w ≡ Some e → ((w ≡ new_row) × (e ≡ new)) ⊎ Place x w
   inside_new w e q h = elim (place_cases new_row w q) [
     | inl is ↦ inl (is, same_Some e new (sym h ∙ ap child_of is ∙ new_holds))
     | inr b ↦

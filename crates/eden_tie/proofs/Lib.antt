@@ -43,3 +43,4 @@ pub mod ChainLaws
 pub mod Numbers
 pub mod Stands
 pub mod Storable
+pub mod Staying

@@ -40,24 +40,24 @@ module _ (honest : Type 0) (F : Stored) (x : Row) (next : ℕ) (p : Path) (n : N
   abbrev full_between : honest → Stored
   full_between h = with_entries (t h).0 a.from.number (full_listing kept)
 
-  may_leave : MayGo a.source n
+  pub may_leave : MayGo a.source n
   may_leave = let P : Option Row → Type 0 = λ o. IfSome o (λ w. child_of w ≡ None) in subst P (sym a.there) a.unloaded
 
-  tied_between : (h : honest) → Ties (files_left x p n q m a F) (full_between h) between next
+  pub tied_between : (h : honest) → Ties (files_left x p n q m a F) (full_between h) between next
   tied_between h = drop_tied F (t h).0 x next (t h).1 p a.from a.source n a.at_from a.holds_source a.own_from may_leave a.entries_left
 
   abbrev full_then : honest → Stored
   full_then h = with_entries (full_between h) a.to.number (full_listing (changed a.target m (Some a.entry)))
 
-  tied_then : (h : honest) → Ties (files_moved x p n q m a F) (full_then h) (moved_in x p n q m a) next
+  pub tied_then : (h : honest) → Ties (files_moved x p n q m a F) (full_then h) (moved_in x p n q m a) next
   tied_then h = move_tied F (t h).0 x next (t h).1 p a.from a.source n a.entry a.at_from a.holds_source a.own_from a.there a.unloaded a.entries_left
       q a.to a.target m a.at_to a.holds_target a.own_to a.may_go a.entries_put
 
-  carried : (h : honest) → IsCarried (files_left x p n q m a F) (full_between h) between next (stored_entry (m, a.entry))
+  pub carried : (h : honest) → IsCarried (files_left x p n q m a F) (full_between h) between next (stored_entry (m, a.entry))
   carried h = subst (λ s. IsCarried (files_left x p n q m a F) (full_between h) between next s) (entry_as_is m a.entry a.unloaded)
       (carried_full F (t h).0 x next (t h).1 p a.from a.source n a.entry a.at_from a.holds_source a.own_from a.there a.unloaded a.entries_left m)
 
-  abbrev leaving : MayChange honest F x next p n None
+  abbrev pub leaving : MayChange honest F x next p n None
   leaving = record {
     row = a.from;
     directory = a.source;
@@ -73,7 +73,7 @@ module _ (honest : Type 0) (F : Stored) (x : Row) (next : ℕ) (p : Path) (n : N
     sound = λ h. (tied_between h).fits.sound;
   }
 
-  abbrev coming : MayChange honest (files_left x p n q m a F) between next q m (Some a.entry)
+  abbrev pub coming : MayChange honest (files_left x p n q m a F) between next q m (Some a.entry)
   coming = record {
     row = a.to;
     directory = a.target;
@@ -90,7 +90,7 @@ module _ (honest : Type 0) (F : Stored) (x : Row) (next : ℕ) (p : Path) (n : N
   }
 
   module _ (table : IsTable x next) where
-    table_between : IsTable between next
+    pub table_between : IsTable between next
     table_between = listing_table honest F x next p n None table leaving
 
     pub table_then : IsTable (moved_in x p n q m a) next

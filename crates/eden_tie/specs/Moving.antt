@@ -1,5 +1,5 @@
 -- An entry that moves: when it can, in words of memory alone, and what that keeps.
-use Rattle.std.specs.Prelude.{◌≡◌, ◌≢◌, ◌<◌, ◌+◌, ◌^◌, ◌⊎◌, ℕ, [], ◌∷◌, ◌++◌, length, IsSome, Some, None}
+use Rattle.std.specs.Prelude.{◌≡◌, ◌≢◌, ◌<◌, ◌+◌, ◌^◌, ◌⊎◌, ℕ, false, [], ◌∷◌, ◌++◌, length, IsSome, IsSomeAnd, Some, None}
 use Rattle.eden_model.specs.declared.kind.Origin.TheVariants as origin
 use Rattle.eden_model.specs.Names.{name_refusal}
 use Rattle.eden_model.specs.Operations.{move}
@@ -13,7 +13,8 @@ use Rattle.eden_tree.specs.Paths.{row_at}
 use Rattle.eden_tie.specs.Changing.{MayGo, MayMove, moved_in, marked_source, files_left, files_moved}
 use Rattle.eden_tie.specs.Kept.{IsTable, IsKept}
 use Rattle.eden_tie.specs.Shown.{shown_in}
-use Rattle.eden_tie.specs.Ties.{Tied}
+use Rattle.eden_tie.specs.Listings.{Place}
+use Rattle.eden_tie.specs.Ties.{IsAway, Tied}
 
 -- an entry that isn't loaded can move from the directory at the one path to that at the other, or to another name of the same
 -- one: both are loaded and their own, and what stands there isn't loaded
@@ -91,3 +92,32 @@ abbrev pub ReplacedShown : Type 0
 ReplacedShown = (R : Repository) (F : Stored) (x : Row) (next : ℕ) (p : Path) (n : Name) (q : Path) (m : Name) → Tied F x next
     → (may : MayMove x p n q m) → (w : Row) → find_row m may.target.rows ≡ Some w
     → shown_in R (without (files_moved x p n q m may F) w.number) (moved_in x p n q m may) ≡ shown_in R (files_moved x p n q m may F) (moved_in x p n q m may)
+
+-- ---- what is loaded, what is saved, and the other files
+
+-- what is loaded in x is so in z
+abbrev pub StaysLoaded : Row → Row → Type 0
+StaysLoaded x z = (p : Path) → IsSomeAnd (row_at p x) (λ y. IsSome (child_of y)) → IsSomeAnd (row_at p z) (λ y. IsSome (child_of y))
+
+-- no loaded directory is unsaved
+abbrev pub AreSaved : Row → Type 0
+AreSaved x = (y : Row) (d : Directory) → Place x y → child_of y ≡ Some d → d.unsaved ≡ false
+
+abbrev pub MovedStays : Type 0
+MovedStays = (x : Row) (next : ℕ) (p : Path) (n : Name) (q : Path) (m : Name) → IsTable x next → (may : MayMove x p n q m) → StaysLoaded x (moved_in x p n q m may)
+
+abbrev pub MarkedStays : Type 0
+MarkedStays = (x : Row) (p : Path) (n : Name) (q : Path) (m : Name) → (may : MayMove x p n q m) → StaysLoaded x (marked_source x p n q m may)
+
+-- a move that is done marks nothing
+abbrev pub MovedSaved : Type 0
+MovedSaved = (x : Row) (next : ℕ) (p : Path) (n : Name) (q : Path) (m : Name) → IsTable x next → (may : MayMove x p n q m) → AreSaved x → AreSaved (moved_in x p n q m may)
+
+-- it stores files of loaded directories alone
+abbrev pub LeftElsewhere : Type 0
+LeftElsewhere = (F : Stored) (x : Row) (p : Path) (n : Name) (q : Path) (m : Name) → (may : MayMove x p n q m) → (k : ℕ) → IsAway x k
+    → files_left x p n q m may F k ≡ F k
+
+abbrev pub MovedElsewhere : Type 0
+MovedElsewhere = (F : Stored) (x : Row) (next : ℕ) (p : Path) (n : Name) (q : Path) (m : Name) → Tied F x next → (may : MayMove x p n q m)
+    → (k : ℕ) → IsAway x k → files_moved x p n q m may F k ≡ F k

@@ -1,4 +1,4 @@
-use Rattle.eden_materialise.proofs.EntryMoves.{moves_in, move_table, move_kept, move_shown, move_unseen}
+use Rattle.eden_materialise.proofs.EntryMoves.{moves_in, move_table, move_stays, move_saved, move_counted, move_elsewhere, move_kept, move_shown, move_unseen}
 use Rattle.eden_materialise.proofs.entry_move.move_entry.Goals as goal
 
 pub change-requires-clause-may : goal.change-requires-clause-may
@@ -18,6 +18,35 @@ change-requires-clause-kept g c h files root answer does =
     let t = c.args.inodes.now in
     move_kept g.W.World.honest (g.F.Files.stored t.files) t.root t.next c.args.from.now c.args.name.now c.args.to.now c.args.new_name.now (g.F.Files.failures t.files)
     (g.F.Files.stored files) root (g.F.Files.failures files) c.holds.ensures.table h g.W.World.repository answer (c.holds.ensures.kept h) does
+
+pub returns-clause-counted : goal.returns-clause-counted
+returns-clause-counted g c =
+    let t = c.args.inodes.now in
+    let then = c.change.new.self in
+    move_counted g.W.World.honest (g.F.Files.stored t.files) t.root t.next c.args.from.now c.args.name.now c.args.to.now c.args.new_name.now (g.F.Files.failures t.files)
+    (g.F.Files.stored then.files) then.root (g.F.Files.failures then.files) c.holds.ensures.table c.change.result c.change.ensures.does
+
+pub returns-clause-loaded : goal.returns-clause-loaded
+returns-clause-loaded g c =
+    let t = c.args.inodes.now in
+    let then = c.change.new.self in
+    move_stays g.W.World.honest (g.F.Files.stored t.files) t.root t.next c.args.from.now c.args.name.now c.args.to.now c.args.new_name.now (g.F.Files.failures t.files)
+    (g.F.Files.stored then.files) then.root (g.F.Files.failures then.files) c.holds.ensures.table c.change.result c.change.ensures.does
+
+pub returns-clause-saved : goal.returns-clause-saved
+returns-clause-saved g c =
+    let t = c.args.inodes.now in
+    let then = c.change.new.self in
+    move_saved g.W.World.honest (g.F.Files.stored t.files) t.root t.next c.args.from.now c.args.name.now c.args.to.now c.args.new_name.now (g.F.Files.failures t.files)
+    (g.F.Files.stored then.files) then.root (g.F.Files.failures then.files) c.holds.ensures.table c.change.result c.change.ensures.does
+
+pub returns-clause-elsewhere : goal.returns-clause-elsewhere
+returns-clause-elsewhere g c h =
+    let t = c.args.inodes.now in
+    let then = c.change.new.self in
+    let k = c.holds.ensures.kept h in
+    move_elsewhere g.W.World.honest (g.F.Files.stored t.files) t.root t.next c.args.from.now c.args.name.now c.args.to.now c.args.new_name.now (g.F.Files.failures t.files)
+    (g.F.Files.stored then.files) then.root (g.F.Files.failures then.files) c.holds.ensures.table h (k.full, k.ties) c.requires.may c.change.result c.change.ensures.does
 
 pub returns-clause-shown : goal.returns-clause-shown
 returns-clause-shown g c h =

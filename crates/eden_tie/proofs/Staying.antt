@@ -1,0 +1,164 @@
+-- What is loaded, what is saved and the other files, once an entry moved.
+use Rattle.std.proofs.Common.{◌≡◌, ℕ, true, false, cond, [], ◌∷◌, Option, IsSome, IsSomeAnd, Some, None, inl, inr, refl, sym, ap, ◌∙◌, subst}
+use Rattle.std.specs.Str.{bytes_eq}
+use Rattle.std.specs.Option.{option_map}
+use Rattle.std.proofs.lemmas.Option.{same_Some}
+use Rattle.eden_model.specs.Trees.{Name, Path}
+use Rattle.eden_overlay.specs.Files.{Stored}
+use Rattle.eden_overlay.proofs.CallerLemmas.{apart}
+use Rattle.eden_tree.specs.Directory.{Row, Directory, child_of, with_child}
+use Rattle.eden_tree.specs.Rows.{find_row, change_row}
+use Rattle.eden_tree.specs.Paths.{row_at, edit_row}
+use Rattle.eden_tree.proofs.CallerLemmas.{same-≡, child_of-with_child, change_rows-held, find_row-change_row, steps_down}
+use Rattle.eden_tie.specs.Listings.{listing_of}
+use Rattle.eden_tie.specs.Changing.{MayChange, MayMove, changed, with_listing, moved_in, files_left}
+use Rattle.eden_tie.specs.Kept.{IsTable}
+use Rattle.eden_tie.specs.Moving.{AreSaved, MovedStays, MarkedStays, MovedSaved, LeftElsewhere, MovedElsewhere}
+use Rattle.eden_tie.proofs.Rows.{stored_rising}
+use Rattle.eden_tie.proofs.Chain.{place_at}
+use Rattle.eden_tie.proofs.Loops.{loaded_above}
+use Rattle.eden_tie.proofs.Steps.{edited_forth}
+use Rattle.eden_tie.proofs.Moved.{loaded_with, loaded_before}
+use Rattle.eden_tie.proofs.Changed.{inside_new}
+use Rattle.eden_tie.proofs.Between.{one_step}
+use Rattle.eden_tie.proofs.Moving.{leaving, coming, table_between}
+
+-- ---- what is loaded
+
+-- a loaded directory stands at the path
+record Loaded (r : Path) (x : Row) : Type 0 where
+  row : Row
+  directory : Directory
+  at : row_at r x ≡ Some row
+  holds : child_of row ≡ Some directory
+
+loaded_found : (r : Path) (x : Row) → IsSomeAnd (row_at r x) (λ y. IsSome (child_of y)) → Loaded r x
+loaded_found r x loaded = by_row (row_at r x) refl loaded
+  where
+    by_row : (o : Option Row) → row_at r x ≡ o → IsSomeAnd o (λ y. IsSome (child_of y)) → Loaded r x
+    by_row None none h = absurd h
+    by_row (Some y) at h = elim (child_of y) as (λ c. child_of y ≡ c → IsSome c → Loaded r x) [
+      | None ↦ λ none k. absurd (cc)
+      | Some d ↦ λ holds k. record { row = y; directory = d; at = at; holds = holds }
+    ] refl h
+
+loaded_told : (r : Path) (x : Row) → Loaded r x → IsSomeAnd (row_at r x) (λ y. IsSome (child_of y))
+loaded_told r x l =
+    let P : Option Directory → Type 0 = λ o. IsSome o in
+    subst (λ (o : Option Row). IsSomeAnd o (λ y. IsSome (child_of y))) (sym l.at) (subst P (sym l.holds) refl)
+
+-- with another directory at a path that has all that is loaded in the old one
+module _ (y : Row) (d e : Directory) (held : child_of y ≡ Some d)
+    (each : (m : Name) (w : Row) (c : Directory) → find_row m d.rows ≡ Some w → child_of w ≡ Some c → find_row m e.rows ≡ Some w) where
+  abbrev new : Row → Row
+  new x = with_child (Some e) x
+
+  still_loaded : (p r : Path) (x : Row) → row_at p x ≡ Some y → Loaded r x → Loaded r (edit_row p new x)
+  still_loaded [] [] x at l = record { row = new x; directory = e; at = refl; holds = child_of-with_child (Some e) x }
+  still_loaded [] (m ∷ s) x at l =
+      let w = one_step m s x l.row l.at in
+      let same : w.directory ≡ d = same_Some w.directory d (sym w.holds ∙ ap child_of (same_Some x y at) ∙ held) in
+      let up = loaded_above w.row l.row l.directory (place_at s w.row l.row w.rest) l.holds in
+      let there : find_row m e.rows ≡ Some w.row = each m w.row up.0 (ap (λ (a : Directory). find_row m a.rows) (sym same) ∙ w.there) up.1 in
+      record { row = l.row; directory = l.directory; at = steps_down m s (new x) w.row e (child_of-with_child (Some e) x) there ∙ w.rest; holds = l.holds }
+  still_loaded (b ∷ p) [] x at l =
+      let v = one_step b p x y at in
+      let now : Directory = record v.directory { rows = change_row b (edit_row p new) v.directory.rows } in
+      record {
+        row = edit_row (b ∷ p) new x;
+        directory = now;
+        at = refl;
+        holds = ap child_of (change_rows-held (change_row b (edit_row p new)) x v.directory v.holds) ∙ child_of-with_child (Some now) x;
+      }
+  still_loaded (b ∷ p) (m ∷ s) x at l =
+      let v = one_step b p x y at in
+      let w = one_step m s x l.row l.at in
+      let k = edit_row p new in
+      let rows = v.directory.rows in
+      let now : Directory = record v.directory { rows = change_row b k rows } in
+      let now_holds : child_of (edit_row (b ∷ p) new x) ≡ Some now = ap child_of (change_rows-held (change_row b k) x v.directory v.holds) ∙ child_of-with_child (Some now) x in
+      let one : w.directory ≡ v.directory = same_Some w.directory v.directory (sym w.holds ∙ v.holds) in
+      let found : find_row m rows ≡ Some w.row = ap (λ (a : Directory). find_row m a.rows) (sym one) ∙ w.there in
+      elim (bytes_eq m b) as (λ t. bytes_eq m b ≡ t → Loaded (m ∷ s) (edit_row (b ∷ p) new x)) [
+        | true ↦ λ t.
+            (let row : w.row ≡ v.row = same_Some w.row v.row (sym found ∙ ap (λ (j : Name). find_row j rows) (same-≡ m b t) ∙ v.there) in
+            let P : Row → Type 0 = λ a. row_at s a ≡ Some l.row in
+            let i = still_loaded p s v.row v.rest (record { row = l.row; directory = l.directory; at = subst P row w.rest; holds = l.holds }) in
+            record {
+              row = i.row;
+              directory = i.directory;
+              at = steps_down m s (edit_row (b ∷ p) new x) (k v.row) now now_holds
+                  (find_row-change_row m b k rows ∙ ap (λ c. cond c (option_map k (find_row b rows)) (find_row m rows)) t ∙ ap (option_map k) v.there) ∙ i.at;
+              holds = i.holds;
+            })
+        | false ↦ λ t. record {
+          row = l.row;
+          directory = l.directory;
+          at = steps_down m s (edit_row (b ∷ p) new x) w.row now now_holds
+              (find_row-change_row m b k rows ∙ ap (λ c. cond c (option_map k (find_row b rows)) (find_row m rows)) t ∙ found) ∙ w.rest;
+          holds = l.holds;
+        }
+      ] refl
+
+pub marked_stays : MarkedStays
+marked_stays x p n q m a r loaded =
+    loaded_told r _ (still_loaded a.from a.source (record a.source { unsaved = true }) a.holds_source (λ j w c f k. f) p r x a.at_from (loaded_found r x loaded))
+
+-- ---- a listing that changes
+
+module _ (x : Row) (next : ℕ) (p : Path) (n : Name) (o : Option Row) (table : IsTable x next) (F : Stored) (a : MayChange ⊥ F x next p n o) where
+  abbrev then : Row
+  then = with_listing p (changed a.directory n o) x
+
+  listing_stays : (r : Path) → Loaded r x → Loaded r then
+  listing_stays r l = still_loaded a.row a.directory (changed a.directory n o) a.holds
+      (loaded_with a.directory n o (stored_rising a.directory (table.listed a.row a.directory (place_at p x a.row a.at) a.holds)) a.may_go) p r x a.at l
+
+  listing_saved : AreSaved x → AreSaved then
+  listing_saved saved w e q h = elim (edited_forth p (Some (changed a.directory n o)) x a.row a.at w e q h) [
+    | inl r ↦ elim (inside_new ⊥ F x next p n o table a w e r h) [
+      | inl is ↦ ap (λ (c : Directory). c.unsaved) is.1
+      | inr was ↦ saved w e was h
+    ]
+    | inr b ↦ b.mark ∙ saved b.row b.directory b.place b.holds
+  ]
+
+module _ (x : Row) (next : ℕ) (p : Path) (n : Name) (q : Path) (m : Name) (table : IsTable x next) (a : MayMove x p n q m) where
+  abbrev nothing : Stored
+  nothing = λ k. None
+
+  abbrev between : Row
+  between = with_listing p (changed a.source n None) x
+
+  abbrev left : MayChange ⊥ nothing x next p n None
+  left = leaving ⊥ nothing x next p n q m a (λ h. absurd h)
+
+  abbrev put_in : MayChange ⊥ (files_left x p n q m a nothing) between next q m (Some a.entry)
+  put_in = coming ⊥ nothing x next p n q m a (λ h. absurd h)
+
+  table_left : IsTable between next
+  table_left = table_between ⊥ nothing x next p n q m a (λ h. absurd h) table
+
+  both_stay : (r : Path) → Loaded r x → Loaded r (moved_in x p n q m a)
+  both_stay r l = listing_stays between next q m (Some a.entry) table_left (files_left x p n q m a nothing) put_in r (listing_stays x next p n None table nothing left r l)
+
+  both_saved : AreSaved x → AreSaved (moved_in x p n q m a)
+  both_saved saved = listing_saved between next q m (Some a.entry) table_left (files_left x p n q m a nothing) put_in (listing_saved x next p n None table nothing left saved)
+
+pub moved_stays : MovedStays
+moved_stays x next p n q m table a r loaded = loaded_told r (moved_in x p n q m a) (both_stay x next p n q m table a r (loaded_found r x loaded))
+
+pub moved_saved : MovedSaved
+moved_saved x next p n q m table a saved = both_saved x next p n q m table a saved
+
+-- ---- the other files
+
+pub left_elsewhere : LeftElsewhere
+left_elsewhere F x p n q m a k away = apart F a.from.number (listing_of (changed a.source n None)) a.entries_left k (away a.from a.source (place_at p x a.from a.at_from) a.holds_source)
+
+pub moved_elsewhere : MovedElsewhere
+moved_elsewhere F x next p n q m t a k away =
+    let b = loaded_before F t.0 x next t.1 p a.from a.source n a.entry a.at_from a.holds_source a.own_from a.there a.unloaded a.entries_left a.to a.target
+    (place_at q (with_listing p (changed a.source n None) x) a.to a.at_to) a.holds_target in
+    apart (files_left x p n q m a F) a.to.number (listing_of (changed a.target m (Some a.entry))) a.entries_put k (λ is. away b.row b.directory b.place b.holds (b.number ∙ is))
+    ∙ left_elsewhere F x p n q m a k away
