@@ -18,9 +18,11 @@ use Rattle.eden_model.specs.declared.reply.Reply.TheVariants as say
 use Rattle.eden_model.specs.declared.world.World.{Ghosts}
 use Rattle.eden_model.specs.Histories.{fault_of}
 use Rattle.eden_model.specs.Operations.{At, Meets as Table_Meets, Refuses, Replies, after, done}
+use Rattle.eden_model.specs.Repository.{Repository}
 use Rattle.eden_model.specs.Shown.{node_from}
 use Rattle.eden_model.specs.Trees.{Path, Tree, Walk, Passes, Stops, Unlisted, through, walk_from, walk, Reach, Fails, Absent, Here, ends, reach}
 use Rattle.eden_overlay.specs.declared.files.Files.{Ghosts as Files}
+use Rattle.eden_overlay.specs.Files.{Stored}
 use Rattle.eden_cache.specs.Cache.{Cache}
 use Rattle.eden_tree.specs.Directory.{Child, unloaded, loaded, Row}
 use Rattle.eden_tree.specs.Paths.{row_at}
@@ -28,7 +30,7 @@ use Rattle.eden_inode.specs.Tables.{Table}
 use Rattle.eden_ops.specs.declared.answer.Attempt.TheVariants.{Finished, Need}
 use Rattle.eden_ops.specs.declared.answer.Stop.{Stop}
 use Rattle.eden_ops.specs.declared.answer.Stop.TheVariants as stop
-use Rattle.eden_ops.specs.Attempts.{Attempts, Wants, IsRealNeed, Meets, MeetsShown, Lacks, IsShown, shown_node, object_kind, stopped}
+use Rattle.eden_ops.specs.Attempts.{Attempts, Wants, IsUnsized, IsRealNeed, Meets, MeetsShown, Lacks, IsShown, shown_node, object_kind, stopped}
 use Rattle.eden_ops.specs.Caches.{FindsTheSame}
 use Rattle.eden_ops.specs.Faults.{IsDamaged, WantsNumbers, IsCaused, IsLawful, Makes, creates, makes_dir, links}
 use Rattle.eden_ops.specs.Keeping.{shows, Keeps}
@@ -91,6 +93,13 @@ no_entry _ x (creates p) is = cc
 no_entry _ x (makes_dir p) is = cc
 no_entry _ x (links p target) is = cc
 
+-- the reply by the entry that is met on what is shown
+pub says_at : (R : Repository) (G : Stored) (p : Path) (here : Tree → Node → Reply → Type 0) (T : Tree) (o : Option Row) (y : Row) → o ≡ Some y → IsShown R G o (reach T p) → (r : Reply)
+    → ((listed : Bool) → here T (shown_node R G y listed) r) → At T p (here T) r
+says_at R G p here T o y at h r says =
+    let row = some_inj h.row y (sym h.there ∙ at) in
+    subst (λ (x : Reach). Table_Meets x (Refuses ENOENT) (here T) r) (sym (h.is ∙ ap (λ (z : Row). Here (shown_node R G z h.listed)) row)) (says h.listed)
+
 module _ {W F : Type 0} (w : Ghosts W) (f : Files F W) (q : Request) (p : Path) (here : Tree → Node → Reply → Type 0) (asks : Asks q p here) (s t : Table F) (c d : Cache)
     (same : w.honest → shows w f t ≡ shows w f s) (keeps : Keeps w f s t) (cache : FindsTheSame c d) where
   -- the reply of a request that changes nothing
@@ -148,11 +157,7 @@ module _ {W F : Type 0} (w : Ghosts W) (f : Files F W) (q : Request) (p : Path) 
   -- by the entry there
   pub says_here : (y : Row) → row_at p t.root ≡ Some y → (w.honest → IsShown w.repository (f.stored t.files) (row_at p t.root) (reach (shows w f s) p)) → (r : Reply) → fault_of r ≡ None
       → (w.honest → (listed : Bool) → here (shows w f s) (shown_node w.repository (f.stored t.files) y listed) r) → Attempts w f q s t c d (Finished r)
-  says_here y at shown r fine says =
-      replied r fine (λ honest.
-      let h = shown honest in
-      let row = some_inj h.row y (sym h.there ∙ at) in
-      subst (λ (x : Reach). Table_Meets x (Refuses ENOENT) (here (shows w f s)) r) (sym (h.is ∙ ap (λ (z : Row). Here (shown_node w.repository (f.stored t.files) z h.listed)) row)) (says honest h.listed))
+  says_here y at shown r fine says = replied r fine (λ honest. says_at w.repository (f.stored t.files) p here (shows w f s) (row_at p t.root) y at (shown honest) r (says honest))
 
   -- what the entry there wants: its object, or what its stored file lacks
   module _ (y : Row) (at : row_at p t.root ≡ Some y) where
@@ -169,7 +174,7 @@ module _ {W F : Type 0} (w : Ghosts W) (f : Files F W) (q : Request) (p : Path) 
     lawful_here fault.Overlay other (inr damaged) = inr (subst (λ (x : Path). IsDamaged w f x t) (sym place_is) damaged)
     lawful_here fault.Numbers other h = inr (subst (λ (x : Path). WantsNumbers w f x t) (sym place_is) h)
 
-    pub lacked : (z : Stop) → ((x : Path) → q ≡ ask.Kind x → ⊥) → ((k : Key) → z ≡ stop.Needs k → ((r : Reply) → ¬ here (known t.root) (known_node y) r) × ((x : Path) → q ≡ ask.Stat x → ⊥)) → Lacks w f p s t d z
+    pub lacked : (z : Stop) → ((x : Path) → q ≡ ask.Kind x → ⊥) → ((k : Key) → z ≡ stop.Needs k → ((r : Reply) → ¬ here (known t.root) (known_node y) r) × IsUnsized q d k) → Lacks w f p s t d z
         → Attempts w f q s t c d (stopped z)
     lacked (stop.Errs e) other need h = absurd h
     lacked (stop.Needs k) other need h = record {
@@ -177,7 +182,7 @@ module _ {W F : Type 0} (w : Ghosts W) (f : Files F W) (q : Request) (p : Path) 
         need = record {
           silent = λ r x. (need k refl).0 r (subst (λ (v : Reach). Table_Meets v (Refuses ENOENT) (here (known t.root)) r) known_here (asks.only (known t.root) r x));
           wanted = subst (λ (x : Path). Wants (row_at x t.root) d k) (sym place_is) h;
-          unsized = λ x is. absurd ((need k refl).1 x is);
+          unsized = (need k refl).1;
         };
         keeps = keeps;
       };

@@ -11,3 +11,5 @@ pub mod Seeing
 pub mod Reached
 pub mod Answering
 pub mod Looking
+pub mod Origins
+pub mod Fetching

@@ -1,14 +1,19 @@
 -- The looks, one by one.
-use Rattle.std.proofs.Common.{◌≡◌, ◌⊎◌, ℕ, Bool, true, false, List, Option, Some, None, sym, refl, ap, subst}
+use Rattle.std.proofs.Common.{◌≡◌, ◌≢◌, ◌⊎◌, ◌==◌, ℕ, Bool, true, false, nat_lt, List, [], take, drop, Option, Some, None, sym, refl, ap, subst, inl, inr}
+use Rattle.eden_model.specs.declared.errno.Errno.TheVariants.{EINVAL, EISDIR}
+use Rattle.eden_model.specs.declared.id.ObjKind.TheVariants as objects
 use Rattle.eden_model.specs.declared.kind.Kind.{Kind}
 use Rattle.eden_model.specs.declared.kind.Kind.TheVariants as kind
 use Rattle.eden_model.specs.declared.node.Node.{Node}
+use Rattle.eden_model.specs.declared.node.Node.TheVariants.{File}
 use Rattle.eden_model.specs.declared.request.Request.TheVariants as ask
 use Rattle.eden_model.specs.declared.reply.Reply.{Reply}
 use Rattle.eden_model.specs.declared.reply.Reply.TheVariants as say
-use Rattle.eden_model.specs.Operations.{Says, kind_of}
+use Rattle.eden_model.specs.Operations.{Says, Whether, Unless, Into, At, Reads, ReadsLink, Replies, kind_of}
+use Rattle.eden_model.specs.Limits.{most_data}
 use Rattle.eden_model.specs.Shown.{node_from}
 use Rattle.eden_model.specs.Trees.{Path, Tree}
+use Rattle.eden_ops.specs.Attempts.{object_kind}
 use Rattle.eden_ops.proofs.Answering.{Asks}
 
 -- ---- kind
@@ -24,3 +29,105 @@ tells_kind G n = Says (say.Kind (kind_of n))
 
 pub asks_kind : (p : Path) → Asks (ask.Kind p) p tells_kind
 asks_kind p = record { says = λ G r h. h; only = λ G r h. h; at = λ G. refl; plain = λ x is. cc; quiet = λ G. refl }
+
+-- ---- an entry that isn't a directory: what is known of it, and where its object is lacking
+
+pub blob_of : (k : Kind) → k ≢ kind.Dir → objects.Blob ≡ object_kind k
+blob_of kind.File other = refl
+blob_of kind.Exec other = refl
+blob_of kind.Link other = refl
+blob_of kind.Dir other = absurd (other refl)
+
+-- ---- read
+
+abbrev pub reads : ℕ → ℕ → Tree → Node → Reply → Type 0
+reads offset count G n = Reads offset count n
+
+pub asks_read : (p : Path) (offset count : ℕ) → nat_lt most_data count ≡ false → Asks (ask.Read p offset count) p (reads offset count)
+asks_read p offset count few = record {
+  says = λ G r h. subst (λ (b : Bool). Unless b EINVAL (At G p (Reads offset count)) r) (sym few) h;
+  only = λ G r h. subst (λ (b : Bool). Unless b EINVAL (At G p (Reads offset count)) r) few h;
+  at = λ G. refl;
+  plain = λ x is. cc;
+  quiet = λ G. refl;
+}
+
+-- .. of more than is allowed
+pub refuses_read : (G : Tree) (p : Path) (offset count : ℕ) → nat_lt most_data count ≡ true → Replies G (ask.Read p offset count) (say.Err EINVAL)
+refuses_read G p offset count many = subst (λ (b : Bool). Unless b EINVAL (At G p (Reads offset count)) (say.Err EINVAL)) (sym many) refl
+
+abbrev pub IsPlain : Kind → Type 0
+IsPlain k = (k ≡ kind.File) ⊎ (k ≡ kind.Exec)
+
+pub plain_other : (k : Kind) → IsPlain k → k ≢ kind.Dir
+plain_other k (inl a) is = cc
+plain_other k (inr a) is = cc
+
+file_node : (k : Kind) (c : Option (List ℕ)) (l : Bool) → IsPlain k → (x : Bool) × (node_from k c l ≡ File x c)
+file_node kind.File c l h = (false, refl)
+file_node kind.Exec c l h = (true, refl)
+file_node kind.Link c l (inl a) = cc
+file_node kind.Link c l (inr a) = cc
+file_node kind.Dir c l (inl a) = cc
+file_node kind.Dir c l (inr a) = cc
+
+pub reads_link : (offset count : ℕ) (k : Kind) (c : Option (List ℕ)) (l : Bool) → k ≡ kind.Link → Reads offset count (node_from k c l) (say.Err EINVAL)
+reads_link offset count kind.File c l h = cc
+reads_link offset count kind.Exec c l h = cc
+reads_link offset count kind.Link c l h = refl
+reads_link offset count kind.Dir c l h = cc
+
+pub reads_dir : (offset count : ℕ) (k : Kind) (c : Option (List ℕ)) (l : Bool) → k ≡ kind.Dir → Reads offset count (node_from k c l) (say.Err EISDIR)
+reads_dir offset count kind.File c l h = cc
+reads_dir offset count kind.Exec c l h = cc
+reads_dir offset count kind.Link c l h = cc
+reads_dir offset count kind.Dir c l h = refl
+
+reads_as : (offset count : ℕ) (x : Bool) (c : Option (List ℕ)) (r : Reply) (b : Bool) → (count == 0) ≡ b → Whether b (Says (say.Data [])) (Into c (λ bytes. say.Data (take count (drop offset bytes)))) r → Reads offset count (File x c) r
+reads_as offset count x c r b is h = subst (λ (a : Bool). Whether a (Says (say.Data [])) (Into c (λ bytes. say.Data (take count (drop offset bytes)))) r) (sym is) h
+
+reads_of : (offset count : ℕ) (x : Bool) (c : Option (List ℕ)) (r : Reply) (b : Bool) → (count == 0) ≡ b → Reads offset count (File x c) r → Whether b (Says (say.Data [])) (Into c (λ bytes. say.Data (take count (drop offset bytes)))) r
+reads_of offset count x c r b is h = subst (λ (a : Bool). Whether a (Says (say.Data [])) (Into c (λ bytes. say.Data (take count (drop offset bytes)))) r) is h
+
+pub reads_none : (offset count : ℕ) (k : Kind) (c : Option (List ℕ)) (l : Bool) → IsPlain k → (count == 0) ≡ true → Reads offset count (node_from k c l) (say.Data [])
+reads_none offset count k c l plain none =
+    let n = file_node k c l plain in
+    subst (λ (a : Node). Reads offset count a (say.Data [])) (sym n.1) (reads_as offset count n.0 c (say.Data []) true none refl)
+
+pub reads_some : (offset count : ℕ) (k : Kind) (c : Option (List ℕ)) (l : Bool) (b : List ℕ) → IsPlain k → (count == 0) ≡ false → c ≡ Some b → Reads offset count (node_from k c l) (say.Data (take count (drop offset b)))
+reads_some offset count k c l b plain some is =
+    let n = file_node k c l plain in
+    let r : Reply = say.Data (take count (drop offset b)) in
+    subst (λ (a : Node). Reads offset count a r) (sym n.1) (reads_as offset count n.0 c r false some (subst (λ (o : Option (List ℕ)). Into o (λ bytes. say.Data (take count (drop offset bytes))) r) (sym is) refl))
+
+pub reads_lost : (offset count : ℕ) (k : Kind) (c : Option (List ℕ)) (l : Bool) (r : Reply) → IsPlain k → (count == 0) ≡ false → c ≡ None → ¬ Reads offset count (node_from k c l) r
+reads_lost offset count k c l r plain some is h =
+    let n = file_node k c l plain in
+    subst (λ (o : Option (List ℕ)). Into o (λ bytes. say.Data (take count (drop offset bytes))) r) is
+    (reads_of offset count n.0 c r false some (subst (λ (a : Node). Reads offset count a r) n.1 h))
+
+-- ---- readlink
+
+abbrev pub reads_target : Tree → Node → Reply → Type 0
+reads_target G n = ReadsLink n
+
+pub asks_target : (p : Path) → Asks (ask.ReadLink p) p reads_target
+asks_target p = record { says = λ G r h. h; only = λ G r h. h; at = λ G. refl; plain = λ x is. cc; quiet = λ G. refl }
+
+pub target_other : (k : Kind) (c : Option (List ℕ)) (l : Bool) → k ≢ kind.Link → ReadsLink (node_from k c l) (say.Err EINVAL)
+target_other kind.File c l other = refl
+target_other kind.Exec c l other = refl
+target_other kind.Link c l other = absurd (other refl)
+target_other kind.Dir c l other = refl
+
+pub target_some : (k : Kind) (c : Option (List ℕ)) (l : Bool) (b : List ℕ) → k ≡ kind.Link → c ≡ Some b → ReadsLink (node_from k c l) (say.Data b)
+target_some kind.File c l b is has = cc
+target_some kind.Exec c l b is has = cc
+target_some kind.Link c l b is has = subst (λ (o : Option (List ℕ)). Into o say.Data (say.Data b)) (sym has) refl
+target_some kind.Dir c l b is has = cc
+
+pub target_lost : (k : Kind) (c : Option (List ℕ)) (l : Bool) (r : Reply) → k ≡ kind.Link → c ≡ None → ¬ ReadsLink (node_from k c l) r
+target_lost kind.File c l r is lost h = cc
+target_lost kind.Exec c l r is lost h = cc
+target_lost kind.Link c l r is lost h = subst (λ (o : Option (List ℕ)). Into o say.Data r) lost h
+target_lost kind.Dir c l r is lost h = cc

@@ -75,3 +75,16 @@ module _ {W F : Type 0} (w : Ghosts W) (f : Files F W) (p : Path) where
       let loaded : IsLoadedAt (take k p) t.root = each k (omega arith) in
       let there = behind p t.root seen last away lt k loaded in
       omega (arith, there)
+
+  -- what is lacking since a later table is lacking since one before it
+  caused_since : (s t u : Table F) → Keeps w f s t → (a : Fault) → IsCaused w f p t u a → IsCaused w f p s u a
+  caused_since s t u before (fault.Fetch id why) h = h
+  caused_since s t u before fault.Memory h = tt
+  caused_since s t u before fault.Overlay (inl rose) = inl (rose_on (f.failures s.files) (f.failures t.files) (f.failures u.files) (keeps_counts w f s t before).1.1.1 rose)
+  caused_since s t u before fault.Overlay (inr damaged) = inr damaged
+  caused_since s t u before fault.Numbers h = h
+
+  pub lacks_since : (s t u : Table F) (d : Cache) → Keeps w f s t → (z : Stop) → Lacks w f p t u d z → Lacks w f p s u d z
+  lacks_since s t u d before (stop.Errs e) h = h
+  lacks_since s t u d before (stop.Needs k) h = h
+  lacks_since s t u d before (stop.Faults a) h = caused_since s t u before a h

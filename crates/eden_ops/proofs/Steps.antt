@@ -100,3 +100,9 @@ module _ {W F : Type 0} (w : Ghosts W) (f : Files F W) where
 
   pub loads_none : (s t : Table F) → t.root ≡ s.root → t.next ≡ s.next → Beside w f s t → Keeps w f s t
   loads_none s t root next b = keeps_step s t (rests t root next b)
+
+  -- .. and `Inodes::content`
+  pub reads : (s t : Table F) → t ≡ record s { files = t.files } → (w.honest → f.stored t.files ≡ f.stored s.files) → f.failures s.files ≤ f.failures t.files → Keeps w f s t
+  reads s t is stored counted =
+      loads_none s t (ap (λ (u : Table F). u.root) is) (ap (λ (u : Table F). u.next) is)
+      (record { stored = stored; failures = counted; clock = ap (λ (u : Table F). u.clock) is; changes = ap (λ (u : Table F). u.changes) is })

@@ -6,13 +6,19 @@
 
 mod answer;
 mod bring;
+mod contents;
 mod end;
 mod kinds;
 mod laws;
+mod links;
 mod meet;
+mod reading;
 mod walk;
+mod what;
 
 pub use answer::{Attempt, Walked};
 pub use kinds::kind;
 pub use laws::{keeps_laws, wait_laws};
+pub use links::readlink;
+pub use reading::read;
 pub use walk::reach;

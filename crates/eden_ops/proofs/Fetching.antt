@@ -1,0 +1,51 @@
+-- An entry that was met, and the part of its content.
+use Rattle.std.proofs.Common.{◌≡◌, ◌≢◌, ◌⊎◌, ℕ, Bool, true, false, List, Option, Some, None, sym, refl, ◌∙◌, ap, subst, inl, inr}
+use Rattle.std.proofs.lemmas.Bool.{false≢true}
+use Rattle.std.specs.Option.{is_some, IsSome}
+use Rattle.eden_model.specs.declared.id.Key.{Key}
+use Rattle.eden_model.specs.declared.kind.Kind.TheVariants as kind
+use Rattle.eden_model.specs.declared.kind.Origin.{Origin}
+use Rattle.eden_model.specs.declared.kind.Origin.TheVariants as origin
+use Rattle.eden_model.specs.Repository.{Repository}
+use Rattle.eden_model.specs.Shown.{node_from}
+use Rattle.eden_model.specs.Trees.{Path, Reach}
+use Rattle.eden_overlay.specs.Files.{Stored}
+use Rattle.eden_cache.specs.Cache.{Cache}
+use Rattle.eden_tree.specs.Directory.{Row, Directory, child_of}
+use Rattle.eden_tree.specs.Paths.{row_at}
+use Rattle.eden_inode.specs.declared.seen.Seen.{Seen}
+use Rattle.eden_ops.specs.Attempts.{IsSeen, IsShown, Wants}
+use Rattle.eden_ops.specs.Contents.{HasContent}
+use Rattle.eden_ops.specs.Known.{content_known, known_node}
+use Rattle.eden_ops.proofs.Walking.{known_unloaded}
+
+none_if : {X : Type 0} (o : Option X) (b : Bool) → b ≡ is_some o → b ≡ false → o ≡ None
+none_if None b is off = refl
+none_if (Some x) b is off = absurd (false≢true (sym off ∙ is))
+
+module _ (p : Path) (x : Row) (seen : Seen) (s : IsSeen p x seen) where
+  -- it isn't loaded
+  pub away : seen.loaded ≡ false → child_of s.row ≡ None
+  away off = none_if (child_of s.row) seen.loaded s.loaded off
+
+  pub has_content : (y : Row) → x ≡ y → seen.kind ≢ kind.Dir → HasContent p x seen.origin
+  has_content y is other = record { row = s.row; there = s.there; kind = λ dir. other (s.kind ∙ dir); origin = sym s.origin }
+
+  -- as a directory it is shown so
+  pub shown_kind : (R : Repository) (F : Stored) (met : Reach) → IsShown R F (row_at p x) met → (seen.loaded ≡ true) ⊎ (seen.kind ≡ kind.Dir) → s.row.kind ≡ kind.Dir
+  shown_kind R F met h (inl on) =
+      let same : h.row ≡ s.row = some_eq h.row s.row (sym h.there ∙ s.there) in
+      subst (λ (z : Row). z.kind ≡ kind.Dir) same (h.loaded (subst (λ (z : Row). IsSome (child_of z)) (sym same) (sym s.loaded ∙ on))).0
+    where
+      some_eq : (a b : Row) → Some a ≡ Some b → a ≡ b
+      some_eq a b is = cc
+  shown_kind R F met h (inr dir) = sym s.kind ∙ dir
+
+  -- what is known of it, where its object is wanted
+  pub known_lost : (d : Cache) (k : Key) → seen.loaded ≡ false → Wants (row_at p x) d k → (known_node s.row ≡ node_from s.row.kind (content_known s.row.origin) false) × (content_known s.row.origin ≡ None)
+  known_lost d k off h = (
+    known_unloaded s.row (away off),
+    ap content_known (ap (λ (z : Row). z.origin) (some_eq s.row h.row (sym s.there ∙ h.there)) ∙ h.from),
+  ) where
+    some_eq : (a b : Row) → Some a ≡ Some b → a ≡ b
+    some_eq a b is = cc

@@ -1,0 +1,32 @@
+-- The content of a file or a link, and its parts.
+use Rattle.std.specs.Prelude.{◌≡◌, ◌≢◌, ◌≤◌, ℕ, List, length, take, drop, Some}
+use Rattle.eden_model.specs.declared.kind.Kind.TheVariants as kind
+use Rattle.eden_model.specs.declared.kind.Origin.{Origin}
+use Rattle.eden_model.specs.declared.world.World.{Ghosts}
+use Rattle.eden_model.specs.Limits.{most_file}
+use Rattle.eden_model.specs.Repository.{source_of, content_with}
+use Rattle.eden_model.specs.Trees.{Path}
+use Rattle.eden_overlay.specs.declared.files.Files.{Ghosts as Files}
+use Rattle.eden_overlay.specs.Held.{own_files}
+use Rattle.eden_tree.specs.Directory.{Row}
+use Rattle.eden_tree.specs.Paths.{row_at}
+use Rattle.eden_inode.specs.Tables.{Table}
+
+-- the entry at the path is a file or a link of that origin
+pub record HasContent (p : Path) (x : Row) (o : Origin) : Type 0 where
+  pub row : Row
+  pub there : row_at p x ≡ Some row
+  pub kind : row.kind ≢ kind.Dir
+  pub origin : row.origin ≡ o
+
+module _ {W F : Type 0} (w : Ghosts W) (f : Files F W) where
+  -- the content that the entry at the path shows, where the outside is honest
+  pub record IsContent (p : Path) (t : Table F) (content : List ℕ) : Type 0 where
+    pub shown : w.honest → (y : Row) → row_at p t.root ≡ Some y → content_with w.repository (own_files (f.stored t.files)) (source_of y.number y.origin) ≡ Some content
+    pub short : length content ≤ most_file
+
+  -- its bytes from an offset on, at most so many
+  pub record IsPart (p : Path) (t : Table F) (offset count : ℕ) (bytes : List ℕ) : Type 0 where
+    pub content : List ℕ
+    pub is : IsContent p t content
+    pub part : bytes ≡ take count (drop offset content)

@@ -1,0 +1,83 @@
+//! Contents of files and links.
+ghost use Rattle.std.specs.Prelude.{◌≡◌, ◌≤◌, ◌^◌, ℕ, List, length, take, drop, Some, None, IfOk, IfErr, MatchOption};
+ghost use Rattle.eden_model.specs.declared.id.ObjKind.TheVariants as objects;
+ghost use Rattle.eden_model.specs.Limits.{most_file};
+ghost use Rattle.eden_ops.specs.Attempts.{Lacks};
+ghost use Rattle.eden_ops.specs.Caches.{IsStocked, FindsTheSame, object_at};
+ghost use Rattle.eden_ops.specs.Contents.{HasContent, IsPart};
+ghost use Rattle.eden_ops.specs.Keeping.{shows, Keeps};
+
+use crate::answer::Stop;
+use crate::laws::keeps_laws;
+use eden_cache::{ObjectCache, cache_laws};
+use eden_inode::Inodes;
+use eden_model::{Bytes, Id, Key, ObjKind, Origin, Path, World};
+use eden_overlay::Files;
+use std::alloc::{AllocError, Allocator, Global};
+
+/// The bytes from an offset on, at most so many.
+fn copied(alloc: Global, content: &[u8], offset: u64, count: u64) -> Result<Bytes, AllocError>
+    ensures { IfOk result (λ b. b ≡ take count (drop offset content.now)) }
+{
+    let from = (content.len() as u64).min(offset) as usize;
+    let rest = &content[from..];
+    let to = (rest.len() as u64).min(count) as usize;
+    Ok(Bytes::new(Vec::from_slice(alloc, &rest[..to])?))
+}
+
+/// The bytes of a blob from an offset on, at most so many, where it is cached.
+fn cached_part<W: World, C: Allocator + Clone>(
+    cache: &mut ObjectCache<C>,
+    alloc: Global,
+    id: Id,
+    offset: u64,
+    count: u64,
+) -> Result<Option<Bytes>, AllocError>
+    requires { IsStocked W.repository W.honest cache.old }
+    ensures finds { FindsTheSame cache.old cache.new }
+    ensures part { IfOk result (λ o. MatchOption o (object_at cache.old (record { kind = objects.Blob; id = id }) ≡ None) (λ b. (content : List ℕ) × ((W.honest → W.repository.blob id ≡ Some content) × ((length content ≤ most_file) × (b ≡ take count (drop offset content)))))) }
+{
+    cache_laws();
+    let kind = ObjKind::Blob;
+    match cache.get(Key { kind, id }) {
+        None => Ok(None),
+        Some(object) => Ok(Some(copied(alloc, object.body(), offset, count)?)),
+    }
+}
+
+/// The bytes of the file or link at a path, which comes from that origin, from an offset on, at most so many.
+pub(crate) fn part<A: Allocator + Clone, W: World, F: Files<W>, C: Allocator + Clone>(
+    inodes: &mut Inodes<A, W, F>,
+    cache: &mut ObjectCache<C>,
+    alloc: Global,
+    path: &Path,
+    origin: Origin,
+    offset: u64,
+    count: u64,
+) -> Result<Bytes, Stop>
+    requires content { HasContent path.now inodes.old.root origin }
+    requires stocked { IsStocked W.repository W.honest cache.old }
+    ensures ok { IfOk result (IsPart W.World F.Files path.now inodes.old offset count) }
+    ensures lacks { IfErr result (Lacks W.World F.Files path.now inodes.old inodes.new cache.new) }
+    ensures still { inodes.new.root ≡ inodes.old.root }
+    ensures same { W.honest → shows W.World F.Files inodes.new ≡ shows W.World F.Files inodes.old }
+    ensures keeps { Keeps W.World F.Files inodes.old inodes.new }
+    ensures cache { FindsTheSame cache.old cache.new }
+{
+    keeps_laws::<W, F>();
+    inodes.holds();
+    match origin {
+        Origin::Empty => unreachable!(),
+        Origin::Own => {
+            let content = inodes.content(alloc, path.as_slice())?;
+            Ok(copied(alloc, content.as_slice(), offset, count)?)
+        }
+        Origin::Object(id) => match cached_part::<W, C>(cache, alloc, id, offset, count)? {
+            None => {
+                let kind = ObjKind::Blob;
+                Err(Stop::Needs(Key { kind, id }))
+            }
+            Some(bytes) => Ok(bytes),
+        },
+    }
+}

@@ -1,0 +1,43 @@
+//! Targets of links.
+ghost use Rattle.eden_model.specs.declared.request.Request.TheVariants as ask;
+ghost use Rattle.eden_ops.specs.Attempts.{Attempts};
+ghost use Rattle.eden_ops.specs.Caches.{IsStocked};
+ghost use Rattle.eden_ops.specs.Keeping.{Keeps};
+
+use crate::answer::Attempt;
+use crate::contents::part;
+use crate::end::ended;
+use crate::meet::meet;
+use crate::what::what;
+use eden_cache::ObjectCache;
+use eden_inode::Inodes;
+use eden_model::{Errno, Kind, MAX_FILE, Path, Reply, World};
+use eden_overlay::Files;
+use std::alloc::{Allocator, Global};
+
+/// The target of a link.
+pub fn readlink<A: Allocator + Clone, W: World, F: Files<W>, C: Allocator + Clone>(
+    inodes: &mut Inodes<A, W, F>,
+    cache: &mut ObjectCache<C>,
+    alloc: Global,
+    path: &Path,
+) -> Attempt
+    requires { IsStocked W.repository W.honest cache.old }
+    ensures attempts { Attempts W.World F.Files (ask.ReadLink path.now) inodes.old inodes.new cache.old cache.new result }
+    ensures keeps { Keeps W.World F.Files inodes.old inodes.new }
+{
+    let seen = match meet(inodes, cache, alloc, path) {
+        Err(stop) => return ended(stop),
+        Ok(None) => return Attempt::Finished(Reply::Err(Errno::ENOENT)),
+        Ok(Some(seen)) => seen,
+    };
+    match what(seen) {
+        Kind::File | Kind::Exec => return Attempt::Finished(Reply::Err(Errno::EINVAL)),
+        Kind::Dir => return Attempt::Finished(Reply::Err(Errno::EINVAL)),
+        Kind::Link => {}
+    }
+    match part(inodes, cache, alloc, path, seen.origin, 0, MAX_FILE) {
+        Err(stop) => ended(stop),
+        Ok(bytes) => Attempt::Finished(Reply::Data(bytes)),
+    }
+}

@@ -1,0 +1,51 @@
+//! Bytes of a file.
+ghost use Rattle.eden_model.specs.declared.request.Request.TheVariants as ask;
+ghost use Rattle.eden_ops.specs.Attempts.{Attempts};
+ghost use Rattle.eden_ops.specs.Caches.{IsStocked};
+ghost use Rattle.eden_ops.specs.Keeping.{Keeps};
+
+use crate::answer::Attempt;
+use crate::contents::part;
+use crate::end::ended;
+use crate::meet::meet;
+use crate::what::what;
+use eden_cache::ObjectCache;
+use eden_inode::Inodes;
+use eden_model::{Bytes, Errno, Kind, MAX_DATA, Path, Reply, World};
+use eden_overlay::Files;
+use std::alloc::{Allocator, Global};
+
+/// The bytes of a file from the offset on, at most so many; over 65,536 is refused.
+pub fn read<A: Allocator + Clone, W: World, F: Files<W>, C: Allocator + Clone>(
+    inodes: &mut Inodes<A, W, F>,
+    cache: &mut ObjectCache<C>,
+    alloc: Global,
+    path: &Path,
+    offset: u64,
+    count: u64,
+) -> Attempt
+    requires { IsStocked W.repository W.honest cache.old }
+    ensures attempts { Attempts W.World F.Files (ask.Read path.now offset count) inodes.old inodes.new cache.old cache.new result }
+    ensures keeps { Keeps W.World F.Files inodes.old inodes.new }
+{
+    if count > MAX_DATA {
+        return Attempt::Finished(Reply::Err(Errno::EINVAL));
+    }
+    let seen = match meet(inodes, cache, alloc, path) {
+        Err(stop) => return ended(stop),
+        Ok(None) => return Attempt::Finished(Reply::Err(Errno::ENOENT)),
+        Ok(Some(seen)) => seen,
+    };
+    match what(seen) {
+        Kind::Link => return Attempt::Finished(Reply::Err(Errno::EINVAL)),
+        Kind::Dir => return Attempt::Finished(Reply::Err(Errno::EISDIR)),
+        Kind::File | Kind::Exec => {}
+    }
+    if count == 0 {
+        return Attempt::Finished(Reply::Data(Bytes::new(Vec::new(alloc))));
+    }
+    match part(inodes, cache, alloc, path, seen.origin, offset, count) {
+        Err(stop) => ended(stop),
+        Ok(bytes) => Attempt::Finished(Reply::Data(bytes)),
+    }
+}
