@@ -25,3 +25,6 @@ pub use local::Local;
 pub use mount::Mount;
 pub use room::Room;
 pub use seats::Pending;
+
+#[cfg(test)]
+mod tests;
