@@ -371,24 +371,33 @@ fn open_again<A: Allocator + Clone>(
     Ok((mount, failures))
 }
 
-/// All steps, and then the files alone show what they must: how many entries came or went, and how often the device failed.
-fn run<A: Allocator + Clone>(rt: &impl Abort, alloc: Global, dirs: A) -> Result<(u32, u64), Fail> {
+/// A tree of the root alone.
+fn first_tree(alloc: Global) -> Result<Tree, Fail> {
     let mut tree = Tree::new(alloc);
     tree.put(alloc, &[], ROOT)?;
-    let mut mount = Mount::open(alloc, dirs.clone()?, first_files(alloc)?, 2)?;
-    let changed = steps(rt, &mut mount, &mut tree)?;
+    Ok(tree)
+}
+
+/// A table of a root without entries.
+fn first_mount<A: Allocator + Clone>(alloc: Global, dirs: &A) -> Result<Mount<A>, Fail> {
+    Mount::open(alloc, dirs.clone()?, first_files(alloc)?, 2)
+}
+
+/// All steps, and then the files alone show what they must. Entries came and went, and the device failed often.
+fn run<A: Allocator + Clone>(rt: &impl Abort, alloc: Global, dirs: A) -> Result<(), Fail> {
+    let mut tree = first_tree(alloc)?;
+    let mut mount = first_mount(alloc, &dirs)?;
+    assert!(rt; steps(rt, &mut mount, &mut tree)? > STEPS / 4);
     unload_all(rt, &mut mount);
     let (mut again, failures) = open_again(rt, mount, dirs)?;
-    assert!(rt; again.shows_all(&tree)?);
-    Ok((changed, failures))
+    assert!(rt; failures > u64::from(STEPS / 20) && again.shows_all(&tree)?);
+    Ok(())
 }
 
 #[test]
 fn random_changes_show_as_in_a_map(rt: HostRuntime) -> Result<(), Fail> {
     let heap = LocalHeap::new(rt.alloc(), 1 << 20)?;
-    let (changed, failures) = run(&rt, rt.alloc(), &heap)?;
-    assert!(rt; changed > STEPS / 4, "{changed} changes");
-    assert!(rt; failures > u64::from(STEPS / 20), "{failures} failures");
-    assert_eq!(rt; heap.used(), 0);
+    run(&rt, rt.alloc(), &heap)?;
+    assert!(rt; heap.used() == 0);
     Ok(())
 }
