@@ -14,7 +14,8 @@ use Rattle.eden_tree.specs.Rows.{find_row}
 use Rattle.eden_tie.specs.Changing.{MayMove, moved_in, marked_source, files_left, files_moved}
 use Rattle.eden_tie.specs.Kept.{IsTable, IsKept}
 use Rattle.eden_tie.specs.Materialising.{is_own}
-use Rattle.eden_tie.specs.Moving.{CanMove, StaysLoaded, AreSaved}
+use Rattle.eden_tie.specs.Chains.{StaysLoaded, AreSaved}
+use Rattle.eden_tie.specs.Moving.{CanMove}
 use Rattle.eden_tie.specs.Shown.{shown_in}
 use Rattle.eden_tie.specs.Ties.{IsAway, Tied}
 use Rattle.eden_tie.proofs.CallerLemmas.{ties_sound, replaces_there, moved_table, moved_kept, moved_shown, marked_table, marked_kept, marked_shown, replaced_tied, replaced_kept, replaced_shown, moved_stays, marked_stays, moved_saved, left_elsewhere, moved_elsewhere}

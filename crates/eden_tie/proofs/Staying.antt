@@ -13,7 +13,8 @@ use Rattle.eden_tree.proofs.CallerLemmas.{same-≡, child_of-with_child, change_
 use Rattle.eden_tie.specs.Listings.{listing_of}
 use Rattle.eden_tie.specs.Changing.{MayChange, MayMove, changed, with_listing, moved_in, files_left}
 use Rattle.eden_tie.specs.Kept.{IsTable}
-use Rattle.eden_tie.specs.Moving.{AreSaved, MovedStays, MarkedStays, MovedSaved, LeftElsewhere, MovedElsewhere}
+use Rattle.eden_tie.specs.Chains.{AreSaved}
+use Rattle.eden_tie.specs.Moving.{MovedStays, MarkedStays, MovedSaved, LeftElsewhere, MovedElsewhere}
 use Rattle.eden_tie.proofs.Rows.{stored_rising}
 use Rattle.eden_tie.proofs.Chain.{place_at}
 use Rattle.eden_tie.proofs.Loops.{loaded_above}

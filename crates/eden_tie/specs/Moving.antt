@@ -1,5 +1,5 @@
 -- An entry that moves: when it can, in words of memory alone, and what that keeps.
-use Rattle.std.specs.Prelude.{◌≡◌, ◌≢◌, ◌<◌, ◌+◌, ◌^◌, ◌⊎◌, ℕ, false, [], ◌∷◌, ◌++◌, length, IsSome, IsSomeAnd, Some, None}
+use Rattle.std.specs.Prelude.{◌≡◌, ◌≢◌, ◌<◌, ◌+◌, ◌^◌, ◌⊎◌, ℕ, [], ◌∷◌, ◌++◌, length, IsSome, Some, None}
 use Rattle.eden_model.specs.declared.kind.Origin.TheVariants as origin
 use Rattle.eden_model.specs.Names.{name_refusal}
 use Rattle.eden_model.specs.Operations.{move}
@@ -11,9 +11,9 @@ use Rattle.eden_tree.specs.Directory.{Row, Directory, child_of}
 use Rattle.eden_tree.specs.Rows.{find_row}
 use Rattle.eden_tree.specs.Paths.{row_at}
 use Rattle.eden_tie.specs.Changing.{MayGo, MayMove, moved_in, marked_source, files_left, files_moved}
+use Rattle.eden_tie.specs.Chains.{StaysLoaded, AreSaved}
 use Rattle.eden_tie.specs.Kept.{IsTable, IsKept}
 use Rattle.eden_tie.specs.Shown.{shown_in}
-use Rattle.eden_tie.specs.Listings.{Place}
 use Rattle.eden_tie.specs.Ties.{IsAway, Tied}
 
 -- an entry that isn't loaded can move from the directory at the one path to that at the other, or to another name of the same
@@ -94,14 +94,6 @@ ReplacedShown = (R : Repository) (F : Stored) (x : Row) (next : ℕ) (p : Path) 
     → shown_in R (without (files_moved x p n q m may F) w.number) (moved_in x p n q m may) ≡ shown_in R (files_moved x p n q m may F) (moved_in x p n q m may)
 
 -- ---- what is loaded, what is saved, and the other files
-
--- what is loaded in x is so in z
-abbrev pub StaysLoaded : Row → Row → Type 0
-StaysLoaded x z = (p : Path) → IsSomeAnd (row_at p x) (λ y. IsSome (child_of y)) → IsSomeAnd (row_at p z) (λ y. IsSome (child_of y))
-
--- no loaded directory is unsaved
-abbrev pub AreSaved : Row → Type 0
-AreSaved x = (y : Row) (d : Directory) → Place x y → child_of y ≡ Some d → d.unsaved ≡ false
 
 abbrev pub MovedStays : Type 0
 MovedStays = (x : Row) (next : ℕ) (p : Path) (n : Name) (q : Path) (m : Name) → IsTable x next → (may : MayMove x p n q m) → StaysLoaded x (moved_in x p n q m may)

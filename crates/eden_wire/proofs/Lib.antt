@@ -13,3 +13,5 @@ pub mod FieldLemmas
 pub mod RequestLemmas
 pub mod SessionLemmas
 pub mod RunLemmas
+pub mod Words
+pub mod Texts

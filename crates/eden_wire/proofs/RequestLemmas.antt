@@ -1,5 +1,5 @@
 -- Lemmas on lines: a line is one item.
-use Rattle.std.proofs.Common.{◌==◌, ◌||◌, ◌≡◌, ◌≢◌, ℕ, ◌≤◌, arith, List, [], ◌∷◌, ◌++◌, length, Bool, true, false, Option, Some, None, sym, ap, ◌∙◌, subst, refl, take, drop, take-append-drop, Result, Ok, Err, OnErr}
+use Rattle.std.proofs.Common.{◌==◌, ◌||◌, ◌≡◌, ◌≢◌, ℕ, List, [], ◌∷◌, ◌++◌, Bool, true, false, Option, Some, None, sym, ap, ◌∙◌, subst, refl, take, drop, take-append-drop, Result, Ok, Err, OnErr}
 use Rattle.std.proofs.lemmas.Bool.{false≢true}
 use Rattle.std.specs.List.{find, list_any}
 use Rattle.std.specs.Str.{bytes_eq}
@@ -326,20 +326,3 @@ one_item line Bad Bad h k = refl
 pub on_err : {T E : Type 0} {P : Type 0} (r : Result T E) → P → OnErr r P
 on_err (Ok v) h = tt
 on_err (Err e) h = h
-
--- no word is so short
-pub word_long : (w : Word) → 4 ≤ length (word_text w)
-word_long word.Kind = omega arith
-word_long word.Stat = omega arith
-word_long word.Read = omega arith
-word_long word.ReadLink = omega arith
-word_long word.List = omega arith
-word_long word.Write = omega arith
-word_long word.Truncate = omega arith
-word_long word.Create = omega arith
-word_long word.SetExec = omega arith
-word_long word.Mkdir = omega arith
-word_long word.Symlink = omega arith
-word_long word.Unlink = omega arith
-word_long word.Rmdir = omega arith
-word_long word.Rename = omega arith

@@ -19,8 +19,6 @@ mod service;
 mod serving;
 mod session_fault;
 mod split;
-#[cfg(test)]
-mod tests;
 mod word;
 
 pub use laws::line_laws;

@@ -50,30 +50,59 @@ pub(crate) enum Word {
     Rename,
 }
 
+/// All words.
+const WORDS: &[Word] = &[
+    Word::Kind,
+    Word::Stat,
+    Word::Read,
+    Word::ReadLink,
+    Word::List,
+    Word::Write,
+    Word::Truncate,
+    Word::Create,
+    Word::SetExec,
+    Word::Mkdir,
+    Word::Symlink,
+    Word::Unlink,
+    Word::Rmdir,
+    Word::Rename,
+];
+
 /// The word that is spelled so.
 pub(crate) fn read_word(text: &[u8]) -> Option<Word>
     ensures { MatchOption result ((w : Word) → text.now ≢ word_text w) (λ w. text.now ≡ word_text w) }
 {
-    match text {
-        b"kind" => Some(Word::Kind),
-        b"stat" => Some(Word::Stat),
-        b"read" => Some(Word::Read),
-        b"readlink" => Some(Word::ReadLink),
-        b"list" => Some(Word::List),
-        b"write" => Some(Word::Write),
-        b"truncate" => Some(Word::Truncate),
-        b"create" => Some(Word::Create),
-        b"setexec" => Some(Word::SetExec),
-        b"mkdir" => Some(Word::Mkdir),
-        b"symlink" => Some(Word::Symlink),
-        b"unlink" => Some(Word::Unlink),
-        b"rmdir" => Some(Word::Rmdir),
-        b"rename" => Some(Word::Rename),
-        _ => None,
+    'words: for word in WORDS {
+        if text == word.text() {
+            return Some(*word);
+        }
     }
+    None
 }
 
 impl Word {
+    /// How it is spelled.
+    fn text(self) -> &'static [u8]
+        ensures { result.now ≡ word_text self }
+    {
+        match self {
+            Word::Kind => b"kind",
+            Word::Stat => b"stat",
+            Word::Read => b"read",
+            Word::ReadLink => b"readlink",
+            Word::List => b"list",
+            Word::Write => b"write",
+            Word::Truncate => b"truncate",
+            Word::Create => b"create",
+            Word::SetExec => b"setexec",
+            Word::Mkdir => b"mkdir",
+            Word::Symlink => b"symlink",
+            Word::Unlink => b"unlink",
+            Word::Rmdir => b"rmdir",
+            Word::Rename => b"rename",
+        }
+    }
+
     /// The sorts of the fields behind it.
     pub(crate) fn shape(self) -> &'static [Sort]
         ensures { result.now ≡ shape_of self }

@@ -1,9 +1,10 @@
+//! What sessions say, and the texts of replies.
 ghost use Rattle.std.specs.Prelude.{◌≡◌};
 
-use super::*;
 use eden_model::{
     Bytes, CallFault, Cause, Entries, Errno, Fault, Id, Kind, Name, Reply, Request, StartFault,
 };
+use eden_wire::{LONGEST_LINE, Scratch, Service, SessionFault, read_request, session, write_reply};
 use std::alloc::Global;
 use std::cell::Cell;
 use std::io;
@@ -140,15 +141,17 @@ const LINES: &[u8] =
 const TEXTS: &[u8] =
     b"kind dir\ndata 10 76657273696f6e20310a\nentries 1 file test.txt end\nok\nerr 22 EINVAL\nerr 22 EINVAL\n";
 
+// A session over this input, in pieces of that size.
+fn answer(alloc: Global, input: &[u8], size: usize, writer: &mut Sink) -> Result<(), Fail> {
+    let mut service = make_small(alloc)?;
+    session(alloc, &mut make_pieces(input, size), writer, &mut service)?;
+    Ok(())
+}
+
 // What a session says to this input.
 fn said(alloc: Global, input: &[u8], size: usize) -> Result<Vec<u8>, Fail> {
     let mut writer = make_sink(alloc, size);
-    session(
-        alloc,
-        &mut make_pieces(input, size),
-        &mut writer,
-        &mut make_small(alloc)?,
-    )?;
+    answer(alloc, input, size, &mut writer)?;
     Ok(writer.got)
 }
 
@@ -236,38 +239,38 @@ impl<'a> Write for Interrupted<'a> {
     }
 }
 
-#[test]
-fn interrupted_reads_and_writes_are_made_again(rt: HostRuntime) -> Result<(), Fail> {
-    let alloc = rt.alloc();
-    let mut reader = Interrupted {
-        reader: make_pieces(LINES, 5),
-        writer: make_sink(alloc, MOST),
-        odd: false,
-    };
-    let mut writer = Interrupted {
-        reader: make_pieces(b"", 1),
+fn make_interrupted(alloc: Global, bytes: &[u8]) -> Interrupted<'_> {
+    Interrupted {
+        reader: make_pieces(bytes, 5),
         writer: make_sink(alloc, 5),
         odd: false,
-    };
-    session(alloc, &mut reader, &mut writer, &mut make_small(alloc)?)?;
-    assert_eq!(rt; writer.writer.got.as_slice(), TEXTS);
-    Ok(())
+    }
 }
 
 #[test]
+fn interrupted_reads_and_writes_are_made_again(rt: HostRuntime) -> Result<(), Fail> {
+    let mut service = make_small(rt.alloc())?;
+    let mut reader = make_interrupted(rt.alloc(), LINES);
+    let mut writer = make_interrupted(rt.alloc(), b"");
+    session(rt.alloc(), &mut reader, &mut writer, &mut service)?;
+    assert!(rt; writer.writer.got.as_slice() == TEXTS);
+    Ok(())
+}
+
+// Inputs, and what a session says to them.
+const ENDS: &[(&[u8], &[u8])] = &[
+    (b"", b""),
+    (b"kind /", b"err 71 EPROTO\n"),
+    (b"\n", b"err 71 EPROTO\n"),
+    (b"kind /\n\nkind /\n", b"kind dir\nerr 71 EPROTO\n"),
+    (b"kind /\nx\nkind /\n", b"kind dir\nerr 71 EPROTO\n"),
+];
+
+#[test]
 fn ends_of_input(rt: HostRuntime) -> Result<(), Fail> {
-    for (input, want) in [
-        (b"".as_slice(), b"".as_slice()),
-        (b"kind /", b"err 71 EPROTO\n"),
-        (b"\n", b"err 71 EPROTO\n"),
-        (b"kind /\n\nkind /\n", b"kind dir\nerr 71 EPROTO\n"),
-        (b"kind /\nx\nkind /\n", b"kind dir\nerr 71 EPROTO\n"),
-    ] {
-        assert_eq!(rt;
-            said(rt.alloc(), input, MOST)?.as_slice(),
-            want,
-            "after {input:?}"
-        );
+    for (input, want) in ENDS {
+        let found = said(rt.alloc(), input, MOST)?;
+        assert!(rt; found.as_slice() == *want, "after {input:?}");
     }
     Ok(())
 }
@@ -279,81 +282,90 @@ fn reply_to(alloc: Global, line: &[u8]) -> Result<Vec<u8>, Fail> {
     said(alloc, input.as_slice(), MOST)
 }
 
+const NO_REQUESTS: &[&[u8]] = &[
+    b"read /a 00 1",
+    b"read /a 0  1",
+    b"read /a 0 1 ",
+    b"read /a 18446744073709551616 1",
+    b"read /.. x 1",
+    b"read /a 0",
+    b"readlin /a",
+    b"readlink /a 0",
+    b"readlink",
+    b"kind //",
+    b"kind /a/",
+    b"kind a",
+    b"kind ",
+    b"kind",
+    b"kind  /",
+    b"kind / ",
+    b" kind /",
+    b"Kind /",
+    b"kind /%61",
+    b"kind /%2f",
+    b"kind /%2",
+    b"kind /a-b",
+    b"list / a- 1",
+    b"list /  1",
+    b"look /",
+    b"write /a 0 0",
+    b"write /a 0 AB",
+    b"write /a 0 ab-",
+    b"write /a 0 ",
+    b"write /a 0 --",
+    b"symlink /a",
+    b"truncate /a -1",
+    b"setexec /a 2",
+    b"setexec /a 01",
+    b"rename /a",
+    b"rename /a -",
+];
+
 #[test]
 fn lines_that_are_no_requests(rt: HostRuntime) -> Result<(), Fail> {
-    for line in [
-        b"read /a 00 1".as_slice(),
-        b"read /a 0  1",
-        b"read /a 0 1 ",
-        b"read /a 18446744073709551616 1",
-        b"read /.. x 1",
-        b"read /a 0",
-        b"readlin /a",
-        b"readlink /a 0",
-        b"readlink",
-        b"kind //",
-        b"kind /a/",
-        b"kind a",
-        b"kind ",
-        b"kind",
-        b"kind  /",
-        b"kind / ",
-        b" kind /",
-        b"Kind /",
-        b"kind /%61",
-        b"kind /%2f",
-        b"kind /%2",
-        b"kind /a-b",
-        b"list / a- 1",
-        b"list /  1",
-        b"look /",
-        b"write /a 0 0",
-        b"write /a 0 AB",
-        b"write /a 0 ab-",
-        b"write /a 0 ",
-        b"write /a 0 --",
-        b"symlink /a",
-        b"truncate /a -1",
-        b"setexec /a 2",
-        b"setexec /a 01",
-        b"rename /a",
-        b"rename /a -",
-    ] {
-        assert_eq!(rt;
-            reply_to(rt.alloc(), line)?.as_slice(),
-            b"err 71 EPROTO\n".as_slice(),
+    for line in NO_REQUESTS {
+        let found = reply_to(rt.alloc(), line)?;
+        assert!(rt;
+            found.as_slice() == b"err 71 EPROTO\n".as_slice(),
             "line {line:?}"
         );
     }
     Ok(())
 }
 
+const REFUSED: &[&[u8]] = &[
+    b"kind /%2F",
+    b"kind /.",
+    b"kind /..",
+    b"kind /%00",
+    b"stat /a/../b",
+    b"list / .. 1",
+    b"list / %2F 1",
+    b"write /. 0 -",
+    b"rename /a /..",
+];
+
 #[test]
 fn lines_that_are_refused(rt: HostRuntime) -> Result<(), Fail> {
-    for line in [
-        b"kind /%2F".as_slice(),
-        b"kind /.",
-        b"kind /..",
-        b"kind /%00",
-        b"stat /a/../b",
-        b"list / .. 1",
-        b"list / %2F 1",
-        b"write /. 0 -",
-        b"rename /a /..",
-    ] {
-        assert_eq!(rt;
-            reply_to(rt.alloc(), line)?.as_slice(),
-            b"err 22 EINVAL\n".as_slice(),
+    for line in REFUSED {
+        let found = reply_to(rt.alloc(), line)?;
+        assert!(rt;
+            found.as_slice() == b"err 22 EINVAL\n".as_slice(),
             "line {line:?}"
         );
     }
-    for (names, len) in [(1, 256), (257, 1), (16, 255)] {
-        let line = deep(rt.alloc(), names, len)?;
-        assert_eq!(rt;
-            reply_to(rt.alloc(), line.as_slice())?.as_slice(),
-            b"err 36 ENAMETOOLONG\n".as_slice(),
-            "{names} names of {len}"
-        );
+    Ok(())
+}
+
+// So many names of so many bytes, which are too many.
+const TOO_LONG: &[(usize, usize)] = &[(1, 256), (257, 1), (16, 255)];
+
+#[test]
+fn lines_that_are_too_long(rt: HostRuntime) -> Result<(), Fail> {
+    for (names, len) in TOO_LONG {
+        let line = deep(rt.alloc(), *names, *len)?;
+        let found = reply_to(rt.alloc(), line.as_slice())?;
+        assert!(rt; found.as_slice() == b"err 36 ENAMETOOLONG\n".as_slice());
     }
     Ok(())
 }
@@ -464,19 +476,10 @@ fn a_longer_line_is_answered_at_once(rt: HostRuntime) -> Result<(), Fail> {
 
 #[test]
 fn many_replies_in_few_writes(rt: HostRuntime) -> Result<(), Fail> {
-    let alloc = rt.alloc();
-    let mut input = Vec::new(alloc);
-    for _ in 0..100_000 {
-        input.extend_from_slice(b"kind /\n")?;
-    }
-    let mut writer = make_sink(alloc, MOST);
-    session(
-        alloc,
-        &mut make_pieces(input.as_slice(), 65_536),
-        &mut writer,
-        &mut make_small(alloc)?,
-    )?;
-    assert_eq!(rt; writer.got.len(), 900_000);
+    let input = b"kind /\n".repeat(rt.alloc(), 100_000)?;
+    let mut writer = make_sink(rt.alloc(), MOST);
+    answer(rt.alloc(), input.as_slice(), 65_536, &mut writer)?;
+    assert!(rt; writer.got.len() == 900_000);
     assert!(rt; writer.calls < 1_000);
     Ok(())
 }
@@ -548,39 +551,43 @@ fn a_client_that_waits_gets_its_reply(rt: HostRuntime) -> Result<(), Fail> {
     Ok(())
 }
 
+const CALL_FAULTS: &[(CallFault, &[u8])] = &[
+    (CallFault::Start(StartFault::Busy), b"fault busy\n"),
+    (
+        CallFault::Start(StartFault::HistoryFull(3)),
+        b"fault history 3\n",
+    ),
+    (CallFault::Start(StartFault::Memory), b"fault memory\n"),
+    (CallFault::Start(StartFault::NoPass), b"fault nopass\n"),
+    (
+        CallFault::Foreign {
+            floor: 7,
+            length: 2,
+        },
+        b"fault foreign 7 2\n",
+    ),
+    (CallFault::Stopped, b"fault stopped\n"),
+];
+
+// What a session says to a request that ends in that fault.
+fn said_of(alloc: Global, fault: CallFault) -> Result<Vec<u8>, Fail> {
+    let mut service = make_small(alloc)?;
+    service.refused = Some(fault);
+    let mut writer = make_sink(alloc, MOST);
+    session(
+        alloc,
+        &mut make_pieces(b"kind /\n", MOST),
+        &mut writer,
+        &mut service,
+    )?;
+    Ok(writer.got)
+}
+
 #[test]
 fn texts_of_call_faults(rt: HostRuntime) -> Result<(), Fail> {
-    let alloc = rt.alloc();
-    for (fault, want) in [
-        (
-            CallFault::Start(StartFault::Busy),
-            b"fault busy\n".as_slice(),
-        ),
-        (
-            CallFault::Start(StartFault::HistoryFull(3)),
-            b"fault history 3\n",
-        ),
-        (CallFault::Start(StartFault::Memory), b"fault memory\n"),
-        (CallFault::Start(StartFault::NoPass), b"fault nopass\n"),
-        (
-            CallFault::Foreign {
-                floor: 7,
-                length: 2,
-            },
-            b"fault foreign 7 2\n",
-        ),
-        (CallFault::Stopped, b"fault stopped\n"),
-    ] {
-        let mut service = make_small(alloc)?;
-        service.refused = Some(fault);
-        let mut writer = make_sink(alloc, MOST);
-        session(
-            alloc,
-            &mut make_pieces(b"kind /\n", MOST),
-            &mut writer,
-            &mut service,
-        )?;
-        assert_eq!(rt; writer.got.as_slice(), want);
+    for (fault, want) in CALL_FAULTS {
+        let found = said_of(rt.alloc(), *fault)?;
+        assert!(rt; found.as_slice() == *want);
     }
     Ok(())
 }
@@ -693,29 +700,25 @@ impl<'a> Service for Asked<'a> {
     }
 }
 
-// Every request reaches the service, but none does after a write that failed: each reply here is longer than what a
-// session keeps back.
+// How many of fifty requests reach the service where that write fails, and whether the session ends well. Each reply is
+// longer than what a session keeps back.
+fn count_asked(alloc: Global, bad: u32) -> Result<(u32, bool), Fail> {
+    let input = b"read /a 0 65536\n".repeat(alloc, 50)?;
+    let count = Cell::new(0);
+    let reply = Reply::Data(Bytes::new(Vec::from_elem(alloc, 7, 65_536)?));
+    let mut service = Asked {
+        count: &count,
+        reply,
+    };
+    let mut writer = make_sink(alloc, usize::MAX);
+    writer.bad = bad;
+    let ended = session(alloc, &mut input.as_slice(), &mut writer, &mut service);
+    Ok((count.get(), ended.is_ok()))
+}
+
 #[test]
 fn requests_are_asked_until_a_write_fails(rt: HostRuntime) -> Result<(), Fail> {
-    let alloc = rt.alloc();
-    let mut input = Vec::new(alloc);
-    for _ in 0..50 {
-        input.extend_from_slice(b"read /a 0 65536\n")?;
-    }
-    let long = Vec::from_elem(alloc, 7, 65_536)?;
-    for (bad, asked, ends_well) in [(0, 50, true), (1, 1, false)] {
-        let count = Cell::new(0);
-        let reply = data(alloc, long.as_slice())?;
-        let mut service = Asked {
-            count: &count,
-            reply,
-        };
-        let mut reader = input.as_slice();
-        let mut writer = make_sink(alloc, usize::MAX);
-        writer.bad = bad;
-        let ended = session(alloc, &mut reader, &mut writer, &mut service);
-        assert_eq!(rt; ended.is_ok(), ends_well);
-        assert_eq!(rt; count.get(), asked);
-    }
+    assert!(rt; count_asked(rt.alloc(), 0)? == (50, true));
+    assert!(rt; count_asked(rt.alloc(), 1)? == (1, false));
     Ok(())
 }

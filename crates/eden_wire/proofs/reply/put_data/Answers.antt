@@ -1,0 +1,5 @@
+use Rattle.eden_wire.proofs.Growing.{grows_then}
+use Rattle.eden_wire.proofs.reply.put_data.Goals as goal
+
+pub returns : goal.returns
+returns g c = grows_then (grows_then (grows_then c.put.ensures c.put_number.ensures) c.put_data_field.ensures) c.put-2.ensures
