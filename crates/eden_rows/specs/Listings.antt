@@ -1,10 +1,10 @@
 -- What tests ask of a table before they change it or read from it.
-use Rattle.std.specs.Prelude.{◌≡◌, ◌≢◌, ◌<◌, ◌≤◌, ◌^◌, ◌-◌, Some, None, length}
+use Rattle.std.specs.Prelude.{◌≡◌, ◌≢◌, ◌<◌, ◌≤◌, ◌^◌, ◌-◌, ℕ, Some, None, length}
 use Rattle.eden_model.specs.declared.kind.Kind.TheVariants as kind
 use Rattle.eden_model.specs.declared.kind.Origin.TheVariants as origin
 use Rattle.eden_model.specs.Names.{name_refusal}
 use Rattle.eden_model.specs.Trees.{Name, Path}
-use Rattle.eden_overlay_format.specs.Directory.{number_least, number_end}
+use Rattle.eden_overlay_format.specs.Directory.{number_least}
 use Rattle.eden_tree.specs.Directory.{Row, Directory, child_of}
 use Rattle.eden_tree.specs.Paths.{row_at}
 use Rattle.eden_tie.specs.Changing.{MayGo}
@@ -15,20 +15,19 @@ pub record IsOpen (n : Name) (d : Directory) : Type 0 where
   pub room : length d.rows < 2 ^ 32 - 1
   pub may_go : MayGo d n
 
--- the directory at the path is loaded, the mount's own, and open under the name
+-- the directory at the path is loaded, and open under the name
 pub record IsOpenAt (p : Path) (n : Name) (x : Row) : Type 0 where
   pub row : Row
   pub directory : Directory
   pub at : row_at p x ≡ Some row
   pub holds : child_of row ≡ Some directory
-  pub own : row.origin ≡ origin.Own
   pub opens : IsOpen n directory
 
--- an entry of the mount's own, with a number that may be one's, and not loaded
-pub record IsNewOwn (z : Row) : Type 0 where
+-- an entry of the mount's own, with a number that was given, and not loaded
+pub record IsNewOwn (next : ℕ) (z : Row) : Type 0 where
   pub own : z.origin ≡ origin.Own
   pub least : number_least ≤ z.number
-  pub most : z.number < number_end
+  pub given : z.number < next
   pub unloaded : child_of z ≡ None
 
 -- a file or a link of the mount's own stands at the path

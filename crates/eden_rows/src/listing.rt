@@ -4,21 +4,19 @@ ghost use Rattle.std.specs.Prelude.{◌≡◌, ◌≢◌, ◌≤◌, ◌<◌, Is
 ghost use Rattle.eden_model.specs.declared.kind.Kind.TheVariants as kind;
 ghost use Rattle.eden_model.specs.declared.kind.Origin.TheVariants as origins;
 ghost use Rattle.eden_overlay_format.specs.Content.{content_most};
-ghost use Rattle.eden_overlay_format.specs.Directory.{number_least, number_end};
+ghost use Rattle.eden_overlay_format.specs.Directory.{number_least};
 ghost use Rattle.eden_tree.specs.Directory.{Row};
 ghost use Rattle.eden_rows.specs.Listings.{IsOpen, IsOpenAt, IsNewOwn, IsOwnFile};
 
 use eden_inode::Inodes;
-use eden_materialise::change_listing;
+use eden_materialise::change_entry;
 use eden_model::{Fault, Kind, Name, Origin, Outside};
 use eden_overlay::{Content, Files, FilesFault, MemoryFiles, Overlay};
 use eden_tree::{Change, Dir, Entry};
 use std::alloc::{Allocator, Global};
 
-/// The numbers of entries are at least this one, and below the end.
+/// The numbers of entries are at least this one.
 const NUMBER_LEAST: u64 = 2;
-
-const NUMBER_END: u64 = 1 << 63;
 
 /// An entry whose contents are the mount's own.
 #[derive(Clone, Copy)]
@@ -62,7 +60,8 @@ pub fn ask<A: Allocator + Clone, F: Files<Outside>, Q: Question<A>>(
     table: &mut Inodes<A, Outside, F>,
     question: &Q,
 ) -> bool
-    ensures { IsTrue result → Q.is_so question.now table.new.root }
+    ensures so { IsTrue result → Q.is_so question.now table.new.root }
+    ensures next { table.new.next ≡ table.old.next }
 {
     table.holds();
     table.change(Asked { question })
@@ -91,7 +90,7 @@ fn is_open<A: Allocator>(dir: &Dir<A>, name: &Name) -> bool
     }
 }
 
-/// Whether the directory at a path is loaded, the mount's own, and open to a change under that name.
+/// Whether the directory at a path is loaded, and open to a change under that name.
 #[derive(Drop)]
 struct Opens<'a> {
     path: &'a [Name],
@@ -106,17 +105,17 @@ impl<A: Allocator> Question<A> for Opens<'_> {
             None => false,
             Some(entry) => match entry.directory() {
                 None => false,
-                Some(dir) => is_own(entry.origin) && is_open(dir, self.name),
+                Some(dir) => is_open(dir, self.name),
             },
         }
     }
 }
 
-/// An entry that isn't loaded, where its number may be an entry's.
-fn entry_of<A: Allocator>(own: Own) -> Option<Entry<A>>
-    ensures { IfSome result IsNewOwn }
+/// An entry that isn't loaded, where its number is one that was given: at least the least, and below the next.
+fn entry_of<A: Allocator>(own: Own, next: u64) -> Option<Entry<A>>
+    ensures { IfSome result (IsNewOwn next) }
 {
-    if own.number < NUMBER_LEAST || own.number >= NUMBER_END {
+    if own.number < NUMBER_LEAST || own.number >= next {
         return None;
     }
     Some(Entry {
@@ -136,17 +135,17 @@ fn change_open<A: Allocator + Clone, F: Files<Outside>>(
     name: &Name,
     entry: Option<Entry<A>>,
 ) -> Option<Result<(), Fault>>
-    requires { IfSome entry IsNewOwn }
+    requires { IfSome entry (IsNewOwn table.old.next) }
 {
     if !ask(table, &Opens { path, name }) {
         return None;
     }
     table.holds();
-    Some(change_listing(table, alloc, path, name, entry))
+    Some(change_entry(table, alloc, path, name, entry))
 }
 
 /// Puts an own entry under a name of the directory at a path, in place of one that is there. None where the table isn't
-/// open to that, or the number isn't an entry's.
+/// open to that, or the number was never given.
 pub fn put<A: Allocator + Clone, F: Files<Outside>>(
     alloc: Global,
     table: &mut Inodes<A, Outside, F>,
@@ -154,7 +153,7 @@ pub fn put<A: Allocator + Clone, F: Files<Outside>>(
     name: &Name,
     own: Own,
 ) -> Option<Result<(), Fault>> {
-    match entry_of(own) {
+    match entry_of(own, table.next_number()) {
         None => None,
         Some(entry) => change_open(alloc, table, path, name, Some(entry)),
     }

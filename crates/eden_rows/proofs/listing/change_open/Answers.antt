@@ -1,7 +1,10 @@
-use Rattle.eden_rows.proofs.Storable.{may_change}
+use Rattle.std.proofs.Common.{IfSome, subst, sym}
+use Rattle.eden_rows.specs.Listings.{IsNewOwn}
+use Rattle.eden_rows.proofs.Storable.{may_stand}
 use Rattle.eden_rows.proofs.listing.change_open.Goals as goal
 
-pub change_listing-requires : goal.change_listing-requires
-change_listing-requires g c =
+pub change_entry-requires : goal.change_entry-requires
+change_entry-requires g c =
     let t = c.ask.new.table in
-    record { may = may_change (g.F.Files.stored t.files) t.root t.next c.args.path.now c.args.name.now c.args.entry c.holds.ensures.table (c.ask.ensures cc) c.requires }
+    record { may = may_stand (g.W.repository) (g.F.Files.stored t.files) t.root t.next c.args.path.now c.args.name.now c.args.entry c.holds.ensures.table (c.ask.ensures.so cc)
+        (subst (λ next. IfSome c.args.entry (IsNewOwn next)) (sym c.ask.ensures.next) c.requires) }
