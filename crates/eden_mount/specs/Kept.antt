@@ -27,3 +27,7 @@ module _ {T : Type 0} (A : Table T) (honest : Type 0) (opening : Tree) where
     -- the history is one that the opening tree has, and the mount shows the tree after it
     pub legal : honest → Legal opening m.history
     pub shown : honest → A.shown m.table ≡ replay opening m.history
+
+  -- .. and its entry finds room in the history's capacity
+  abbrev pub IsHeld : ℕ → Core T → Type 0
+  IsHeld capacity m = IsMount m × (taken_room m ≤ capacity)

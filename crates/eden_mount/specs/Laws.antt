@@ -39,7 +39,8 @@ flies_in m k = has_key k m.queue.flight
 module _ {T : Type 0} (A : Table T) (honest : Type 0) (opening : Tree) where
   -- of every run, from any mount
   abbrev pub OfRuns : (Core T → List Event → List Outcome → Core T → Type 0) → Type 0
-  OfRuns P = (m m' : Core T) (es : List Event) (os : List Outcome) → IsMount A honest opening m → Runs A honest opening m es os m' → P m es os m'
+  OfRuns P = (m m' : Core T) (es : List Event) (os : List Outcome) → IsMount A honest opening m
+      → Runs A honest opening m es os m' → P m es os m'
 
   -- every mount that comes of a run is one: its history is legal, and it shows the tree after it
   abbrev pub RunsKeep : Type 0

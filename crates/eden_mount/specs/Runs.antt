@@ -34,12 +34,15 @@ AreHonest R (e ∷ es) = IsHonestEvent R e × AreHonest R es
 module _ {T : Type 0} (A : Table T) (honest : Type 0) where
   -- the event was answered so, which left the mount as the second says
   pub data Steps (m m' : Core T) : Event → Outcome → Type 0 where
-    starts : (c : ℕ) (q : Request) (r : Result Unit StartFault) → Starts m c q r m' → Steps m m' (event.Start c q) (outcome.Start r)
+    starts : (c : ℕ) (q : Request) (r : Result Unit StartFault) → Starts m c q r m'
+        → Steps m m' (event.Start c q) (outcome.Start r)
     turns : (c : ℕ) (t : Turned) → Turns A honest m c t m' → Steps m m' (event.Turn c) (outcome.Turn t)
     takes : (o : Option Key) → Takes m o m' → Steps m m' event.Take (outcome.Take o)
-    arrives : (k : Key) (bytes : List ℕ) (a : Arrived) → Arrives A m k bytes a m' → Steps m m' (event.Arrive k bytes) (outcome.Arrive a)
+    arrives : (k : Key) (bytes : List ℕ) (a : Arrived) → Arrives A m k bytes a m'
+        → Steps m m' (event.Arrive k bytes) (outcome.Arrive a)
     fails : (k : Key) (x : Cause) (b : Bool) → Fails m k x b m' → Steps m m' (event.Fail k x) (outcome.Fail b)
-    unloads : (p : Path) (age gone : ℕ) → LetsGo A honest m p age gone m' → Steps m m' (event.Unload p age) (outcome.Unload gone)
+    unloads : (p : Path) (age gone : ℕ) → LetsGo A honest m p age gone m'
+        → Steps m m' (event.Unload p age) (outcome.Unload gone)
 
 module _ {T : Type 0} (A : Table T) (honest : Type 0) (opening : Tree) where
   -- the events were answered so, one after another, and after each there was a mount

@@ -32,7 +32,9 @@ HasFailed (a ∷ asks) id x = ((a.key.id ≡ id) × FailsBy a x) ⊎ HasFailed a
 -- what came of the answer for a key in flight: it is stored, or it has failed
 abbrev pub Comes : {T : Type 0} → Table T → Core T → Asked → Core T → Type 0
 Comes A m a m' =
-    MatchResult a.answer (λ framed. KeepsBytes A m.table a.key framed m'.table × (m' ≡ record m { table = m'.table; queue = after_done a.key m.queue })) (λ e. ⊥)
+    MatchResult a.answer
+    (λ framed. KeepsBytes A m.table a.key framed m'.table × (m' ≡ record m { table = m'.table; queue = after_done a.key m.queue }))
+    (λ e. ⊥)
     ⊎ ((x : Cause) × FailsBy a x × (m' ≡ record m { queue = after_failed a.key x m.queue }))
 
 -- ---- one caller, who is the first pass
@@ -100,6 +102,9 @@ module _ {S : Type 0} (fetched : S → Id → Answer → S → Type 0) {T : Type
     pub failed : (id : Id) (x : Cause) → r ≡ say.Fault (fault.Fetch id x)
         → HasFailed asks id x ⊎ ((k : Key) × (k.id ≡ id) × (mark_of 1 m.queue ≡ Some (k, x)))
 
+  abbrev pub DrivesOn : Type 0 → Core T → S → Reply → Core T → S → Type 0
+  DrivesOn honest m s r m' t = (q : Request) → IsDriven A q m → Drives honest q m s r m' t
+
   -- A request was served: the source was asked for at most one object for each place on its paths, the history has its
   -- entry, and a fetch fault is of an object that was asked for and failed.
   pub record Serves (honest : Type 0) (q : Request) (m : Core T) (s : S) (r : Reply) (m' : Core T) (t : S) : Type 0 where
@@ -116,8 +121,22 @@ module _ {S : Type 0} (fetched : S → Id → Answer → S → Type 0) {T : Type
   Answers honest q m s (Ok r) m' t = Serves honest q m s r m' t
   Answers honest q m s (Err f) m' t = IsRefused m 1 f × (m' ≡ m) × (t ≡ s)
 
--- a mount, the source that its caller asks, and the last reply
+-- ---- a mount, the source that its caller asks, and the last reply
+
 pub record Desk (T S : Type 0) : Type 0 where
   pub core : Core T
   pub source : S
   pub reply : Reply
+
+-- a request wasn't taken, and nothing changed
+abbrev pub Declines : {T S : Type 0} → Desk T S → StartFault → Desk T S → Type 0
+Declines d f d' = IsRefused d.core 1 f × (d' ≡ d)
+
+module _ {S : Type 0} (fetched : S → Id → Answer → S → Type 0) {T : Type 0} (A : Table T) (honest : Type 0) (q : Request) where
+  -- a request was served, and its reply lies there
+  abbrev pub IsServed : Desk T S → Desk T S → Type 0
+  IsServed d d' = Serves fetched A honest q d.core d.source d'.reply d'.core d'.source
+
+  -- .. and is lent
+  abbrev pub Lends : Desk T S → Reply → Desk T S → Type 0
+  Lends d r d' = (r ≡ d'.reply) × IsServed d d'

@@ -43,8 +43,8 @@ module _ {T : Type 0} (A : Table T) (honest : Type 0) where
 
   -- the pass's request is finished, and its entry has the number
   abbrev pub IsDone : Core T → ℕ → ℕ → Reply → Core T → Type 0
-  IsDone m c n r m' = (s : Pending) × Pends c s m × (n ≡ length m.history + 1) × (m' ≡ after_done c s.request r m'.table m)
-      × ToldBy A honest m.table s.request (mark_of c m.queue) r m'.table
+  IsDone m c n r m' = (s : Pending) × Pends c s m × (n ≡ length m.history + 1)
+      × (m' ≡ after_done c s.request r m'.table m) × ToldBy A honest m.table s.request (mark_of c m.queue) r m'.table
 
   -- the pass's request waits for the key
   abbrev pub IsWaiting : Core T → ℕ → Key → Core T → Type 0
@@ -63,7 +63,7 @@ Takes m o m' = (o ≡ next_key m.queue) × (m' ≡ record m { queue = after_take
 
 -- ---- arrive, fail
 
--- why bytes that came for a key are no use: the first cause that they have; or they are the object, and there is no memory
+-- why bytes that came for a key are no use: the first cause that they have; or they are the object, without memory
 abbrev pub IsUseless : Key → List ℕ → Cause → Type 0
 IsUseless k bytes x = IsFirstCause k.id k.kind bytes x ⊎ (IsObject k.id k.kind bytes × (x ≡ cause.Memory))
 

@@ -1,4 +1,4 @@
--- What is known of a table of inodes with its cache: what it shows, what a request needs there, and what each call does.
+-- What is known of a table of inodes with its cache: what it shows, what a request needs, and what each call does.
 use Rattle.std.specs.Prelude.{◌≡◌, ◌≢◌, ◌<◌, ◌≤◌, ◌⊎◌, ℕ, Bool, true, false, List, None}
 use Rattle.eden_model.specs.declared.fault.Cause.{Cause}
 use Rattle.eden_model.specs.declared.fault.Fault.TheVariants as fault
@@ -50,10 +50,11 @@ module _ {T : Type 0} (A : Table T) where
 
   -- .. and the object is that of these framed bytes
   abbrev pub KeepsBytes : T → Key → List ℕ → T → Type 0
-  KeepsBytes t k bytes u = (body : List ℕ) × IsBodyOf k.id k.kind bytes body × Stores t k (record { kind = k.kind; bytes = body }) u
+  KeepsBytes t k bytes u = (body : List ℕ) × IsBodyOf k.id k.kind bytes body
+      × Stores t k (record { kind = k.kind; bytes = body }) u
 
 module _ {T : Type 0} (A : Table T) (honest : Type 0) where
-  -- an attempt ended with the reply: the table of operations gives it, or it is a fault, and the tree is the one after it
+  -- an attempt ended with the reply: the table of operations' one, or a fault, and the tree is the one after it
   pub record Finishes (t : T) (q : Request) (r : Reply) (u : T) : Type 0 where
     pub tried : A.tried t q (ended.Finished r) u
     pub reply : honest → fault_of r ≡ None → Replies (A.shown t) q r

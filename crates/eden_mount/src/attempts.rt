@@ -39,7 +39,7 @@ pub trait Attempts<W: World> {
         ensures ok { OnOk result (Stores table self.old key object self.new) }
         ensures err { OnErr result (self.new ≡ self.old) };
 
-    /// Lets go of the loaded directories at and below the path that have not been used for so many turns. How many went.
+    /// Lets go of the loaded directories at and below the path that weren't used for so many turns. How many went.
     fn unload(&mut self, alloc: Global, path: &Path, older_than: u64) -> u64
         ensures { Unloads table W.honest self.old path.now older_than result self.new };
 }

@@ -4,8 +4,7 @@ ghost use Rattle.std.specs.Io.BufRead.{Rests};
 ghost use Rattle.eden_model.specs.declared.request.Request.{Request};
 ghost use Rattle.eden_model.specs.Histories.{Legal};
 ghost use Rattle.eden_import.specs.Keys.{has_key};
-ghost use Rattle.eden_mount.specs.Steps.{IsRefused};
-ghost use Rattle.eden_mount.specs.Serving.{IsDriven, IsAtRest, Hands, Drives, Answers, Serves};
+ghost use Rattle.eden_mount.specs.Serving.{IsDriven, IsAtRest, Hands, DrivesOn, Answers, IsServed, Lends, Declines};
 ghost use Rattle.eden_mount.specs.contracts.local.Local.{the_row};
 
 use crate::attempts::Attempts;
@@ -43,7 +42,7 @@ fn drive<W: World, S: Source<W>, T: Attempts<W> + Drop, A: Allocator>(
     source: &mut S,
 ) -> Reply
     requires { (q : Request) × IsDriven T.table q mount.old }
-    ensures { (q : Request) → IsDriven T.table q mount.old → Drives S.fetched T.table W.honest q mount.old source.old result mount.new source.new }
+    ensures { DrivesOn S.fetched T.table W.honest mount.old source.old result mount.new source.new }
 {
     match mount.turn(1) {
         Turned::Done(_, reply) => reply,
@@ -141,8 +140,8 @@ impl<W: World, S: Source<W> + Drop, T: Attempts<W> + Drop, A: Allocator> Local<W
 
     /// Serves a request; `reply` has its reply. It asks the source for at most one object for each place on its paths.
     pub fn serve(&mut self, request: Request) -> Result<(), StartFault>
-        ensures ok { OnOk result (Serves S.fetched T.table W.honest request self.old.core self.old.source self.new.reply self.new.core self.new.source) }
-        ensures err { IfErr result (λ fault. IsRefused self.old.core 1 fault × (self.new ≡ self.old)) }
+        ensures ok { OnOk result (IsServed S.fetched T.table W.honest request self.old self.new) }
+        ensures err { IfErr result (λ fault. Declines self.old fault self.new) }
     {
         match answer::<W, S, T, A>(self.alloc, &mut self.mount, &mut self.source, request) {
             Err(fault) => Err(fault),
@@ -155,7 +154,8 @@ impl<W: World, S: Source<W> + Drop, T: Attempts<W> + Drop, A: Allocator> Local<W
 
     /// As `serve`, and lends the reply, which lies here until the next call.
     pub fn call(&mut self, request: Request) -> Result<&Reply, StartFault>
-        ensures* after { sem 𝓛 (Rests (the_row W.row S.row T.row A.row W.World S.Source T.Attempts A.Allocator) self.entry (λ new. MatchResult result (λ r. Serves S.fetched T.table W.honest request self.old.core self.old.source r.now new.core new.source) (λ fault. IsRefused self.old.core 1 fault × (new ≡ self.old)))) }
+        ensures* after { sem 𝓛 (Rests (the_row W.row S.row T.row A.row W.World S.Source T.Attempts A.Allocator) self.entry
+            (λ new. MatchResult result (λ r. Lends S.fetched T.table W.honest request self.old r.now new) (λ fault. Declines self.old fault new))) }
     {
         match self.serve(request) {
             Err(fault) => Err(fault),

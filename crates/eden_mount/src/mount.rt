@@ -36,16 +36,16 @@ pub struct Mount<W: World, T: Attempts<W> + Drop, A: Allocator> {
 }
 
 impl<W: World, T: Attempts<W> + Drop, A: Allocator> Model for Mount<W, T, A> {
-    ghost use Rattle.std.specs.Prelude.{◌≤◌, vec_capacity};
-    ghost use Rattle.eden_mount.specs.Core.{Core, taken_room};
-    ghost use Rattle.eden_mount.specs.Kept.{IsMount, core_from};
+    ghost use Rattle.std.specs.Prelude.{vec_capacity};
+    ghost use Rattle.eden_mount.specs.Core.{Core};
+    ghost use Rattle.eden_mount.specs.Kept.{IsHeld, core_from};
 
     ghost Value = { Core T };
 
     ghost view = { λ m. core_from m.table m.imports m.seats.items m.history.items m.limit };
 
-    ghost invariant = { λ m. IsMount T.table W.honest W.opening (core_from m.table m.imports m.seats.items m.history.items m.limit)
-        × (taken_room (core_from m.table m.imports m.seats.items m.history.items m.limit) ≤ vec_capacity m.history) };
+    ghost invariant = { λ m. IsHeld T.table W.honest W.opening (vec_capacity m.history)
+        (core_from m.table m.imports m.seats.items m.history.items m.limit) };
 }
 
 impl<W: World, T: Attempts<W> + Drop, A: Allocator> Mount<W, T, A> {
@@ -109,8 +109,8 @@ impl<W: World, T: Attempts<W> + Drop, A: Allocator> Mount<W, T, A> {
         None
     }
 
-    /// Takes a request. The faults are tested in the order `NoPass`, `Busy`, `HistoryFull`, `Memory`, and leave the mount
-    /// as it was. Room for the entry is made here, so that no later call needs memory for it.
+    /// Takes a request. The faults are tested in the order `NoPass`, `Busy`, `HistoryFull`, `Memory`, and leave the
+    /// mount as it was. Room for the entry is made here, so that no later call needs memory for it.
     pub fn start(&mut self, pass: u32, request: Request) -> Result<(), StartFault>
         ensures { Starts self.old pass request result self.new }
     {
@@ -133,11 +133,11 @@ impl<W: World, T: Attempts<W> + Drop, A: Allocator> Mount<W, T, A> {
         Ok(())
     }
 
-    /// Goes on with the pass's request, from the root: it finishes, and its entry is written, or it waits for a key and for
-    /// no other.
+    /// Goes on with the pass's request, from the root: it finishes, and its entry is written, or it waits for a key and
+    /// for no other.
     ///
-    /// The clock goes on first. A mark of a failed key is used now or dropped: where the request still needs that key, it
-    /// is told `Fetch`. A reply that finds no memory for its copy is `Memory`, which a change's never is.
+    /// The clock goes on first. A mark of a failed key is used now or dropped: where the request still needs that key,
+    /// it is told `Fetch`. A reply that finds no memory for its copy is `Memory`, which a change's never is.
     pub fn turn(&mut self, pass: u32) -> Turned
         ensures { Turns T.table W.honest self.old pass result self.new }
     {
@@ -180,7 +180,8 @@ impl<W: World, T: Attempts<W> + Drop, A: Allocator> Mount<W, T, A> {
         self.imports.take()
     }
 
-    /// Takes the framed bytes that came for a key in flight. Those that are no use, and those that find no memory, fail it.
+    /// Takes the framed bytes that came for a key in flight. Those that are no use, and those that find no memory, fail
+    /// it.
     pub fn arrive(&mut self, key: Key, framed: Vec<u8>) -> Arrived
         requires { W.honest → IsHonest W.repository key.id framed.items }
         ensures { Arrives T.table self.old key framed.items result self.new }
@@ -200,15 +201,15 @@ impl<W: World, T: Attempts<W> + Drop, A: Allocator> Mount<W, T, A> {
         }
     }
 
-    /// The key can't be had: each request that waits for it now is marked. False, and nothing changed, where it isn't in
-    /// flight.
+    /// The key can't be had: each request that waits for it now is marked. False, and nothing changed, where it isn't
+    /// in flight.
     pub fn fail(&mut self, key: Key, cause: Cause) -> bool
         ensures { Fails self.old key cause result self.new }
     {
         self.imports.failed(key, cause)
     }
 
-    /// Lets go of the loaded directories at and below the path that have not been used for so many turns. How many went.
+    /// Lets go of the loaded directories at and below the path that weren't used for so many turns. How many went.
     pub fn unload(&mut self, path: &Path, older_than: u64) -> u64
         ensures { LetsGo T.table W.honest self.old path.now older_than result self.new }
     {
@@ -230,11 +231,11 @@ impl<W: World, T: Attempts<W> + Drop, A: Allocator> Mount<W, T, A> {
         }
     }
 
-    /// Makes these events happen, one after another; the outcomes are the answers of the calls. The only error is want of
-    /// memory for the outcomes, before any event.
+    /// Makes these events happen, one after another; the outcomes are the answers of the calls. The only error is want
+    /// of memory for the outcomes, before any event.
     pub fn run(&mut self, events: Vec<Event>) -> Result<Vec<Outcome>, AllocError>
         requires { W.honest → AreHonest W.repository events.items }
-        ensures ok { IfOk result (λ outcomes. Runs T.table W.honest W.opening self.old events.items outcomes.items self.new) }
+        ensures ok { IfOk result (λ os. Runs T.table W.honest W.opening self.old events.items os.items self.new) }
         ensures err { OnErr result (self.new ≡ self.old) }
     {
         let mut outcomes = Vec::with_capacity(self.alloc, events.len())?;
