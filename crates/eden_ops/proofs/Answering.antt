@@ -1,5 +1,5 @@
 -- What a look answers of what it meets.
-use Rattle.std.proofs.Common.{◌≡◌, ◌⊎◌, Bool, true, false, List, [], ◌∷◌, ◌++◌, ℕ, if◌then◌else◌, Option, Some, None, Result, Ok, Err, sym, refl, ◌∙◌, ap, subst, inl, inr}
+use Rattle.std.proofs.Common.{◌≡◌, Bool, true, false, List, [], ◌∷◌, ◌++◌, ℕ, if◌then◌else◌, Option, Some, None, Ok, Err, sym, refl, ◌∙◌, ap, subst, inl, inr}
 use Rattle.std.proofs.lemmas.Bool.{false≢true}
 use Rattle.std.specs.Option.{option_map}
 use Rattle.eden_model.specs.declared.errno.Errno.TheVariants.{ENOENT}
@@ -20,17 +20,17 @@ use Rattle.eden_model.specs.Histories.{fault_of}
 use Rattle.eden_model.specs.Operations.{At, Meets as Table_Meets, Refuses, Replies, after, done}
 use Rattle.eden_model.specs.Repository.{Repository}
 use Rattle.eden_model.specs.Shown.{node_from}
-use Rattle.eden_model.specs.Trees.{Path, Tree, Walk, Passes, Stops, Unlisted, through, walk_from, walk, Reach, Fails, Absent, Here, ends, reach}
+use Rattle.eden_model.specs.Trees.{Path, Tree, Walk, Passes, Unlisted, through, walk_from, walk, Reach, Here, ends, reach}
 use Rattle.eden_overlay.specs.declared.files.Files.{Ghosts as Files}
 use Rattle.eden_overlay.specs.Files.{Stored}
 use Rattle.eden_cache.specs.Cache.{Cache}
 use Rattle.eden_tree.specs.Directory.{Child, unloaded, loaded, Row}
 use Rattle.eden_tree.specs.Paths.{row_at}
 use Rattle.eden_inode.specs.Tables.{Table}
-use Rattle.eden_ops.specs.declared.answer.Attempt.TheVariants.{Finished, Need}
+use Rattle.eden_ops.specs.declared.answer.Attempt.TheVariants.{Finished}
 use Rattle.eden_ops.specs.declared.answer.Stop.{Stop}
 use Rattle.eden_ops.specs.declared.answer.Stop.TheVariants as stop
-use Rattle.eden_ops.specs.Attempts.{Attempts, Wants, IsUnsized, IsRealNeed, Meets, MeetsShown, Lacks, IsShown, shown_node, object_kind, stopped}
+use Rattle.eden_ops.specs.Attempts.{Attempts, Wants, IsUnsized, Meets, MeetsShown, Lacks, IsShown, shown_node, object_kind, stopped}
 use Rattle.eden_ops.specs.Caches.{FindsTheSame}
 use Rattle.eden_ops.specs.Faults.{IsDamaged, WantsNumbers, IsCaused, IsLawful, Makes, creates, makes_dir, links}
 use Rattle.eden_ops.specs.Keeping.{shows, Keeps}

@@ -1,5 +1,5 @@
 -- What a load leaves, and why it is refused.
-use Rattle.std.proofs.Common.{◌≡◌, ◌≢◌, ◌≤◌, ◌<◌, ◌+◌, ◌⊎◌, ℕ, List, length, Option, Some, None, Result, Ok, Err, OnOk, OnErr, IfErr, IsErr, sym, refl, ◌∙◌, ap, subst, inl, inr, arith}
+use Rattle.std.proofs.Common.{◌≡◌, ◌≢◌, ◌≤◌, ◌<◌, ◌+◌, ℕ, List, length, Some, None, Result, Ok, Err, OnOk, OnErr, IfErr, IsErr, sym, ◌∙◌, ap, subst, inl, inr}
 use Rattle.std.specs.Result.{IsErrAnd}
 use Rattle.eden_model.specs.declared.fault.Fault.{Fault}
 use Rattle.eden_model.specs.declared.fault.Fault.TheVariants as fault

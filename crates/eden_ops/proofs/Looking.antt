@@ -1,5 +1,5 @@
 -- The looks, one by one.
-use Rattle.std.proofs.Common.{◌≡◌, ◌≢◌, ◌⊎◌, ◌==◌, ℕ, Bool, true, false, nat_lt, List, [], take, drop, Option, Some, None, sym, refl, ap, subst, inl, inr}
+use Rattle.std.proofs.Common.{◌≡◌, ◌≢◌, ◌⊎◌, ◌==◌, ℕ, Bool, true, false, nat_lt, List, [], length, take, drop, Option, Some, None, sym, refl, subst, inl, inr}
 use Rattle.eden_model.specs.declared.errno.Errno.TheVariants.{EINVAL, EISDIR}
 use Rattle.eden_model.specs.declared.id.ObjKind.TheVariants as objects
 use Rattle.eden_model.specs.declared.kind.Kind.{Kind}
@@ -9,7 +9,7 @@ use Rattle.eden_model.specs.declared.node.Node.TheVariants.{File}
 use Rattle.eden_model.specs.declared.request.Request.TheVariants as ask
 use Rattle.eden_model.specs.declared.reply.Reply.{Reply}
 use Rattle.eden_model.specs.declared.reply.Reply.TheVariants as say
-use Rattle.eden_model.specs.Operations.{Says, Whether, Unless, Into, At, Reads, ReadsLink, Replies, kind_of}
+use Rattle.eden_model.specs.Operations.{Says, Whether, Unless, Into, At, Reads, ReadsLink, Stats, Replies, kind_of}
 use Rattle.eden_model.specs.Limits.{most_data}
 use Rattle.eden_model.specs.Shown.{node_from}
 use Rattle.eden_model.specs.Trees.{Path, Tree}
@@ -131,3 +131,29 @@ target_lost kind.File c l r is lost h = cc
 target_lost kind.Exec c l r is lost h = cc
 target_lost kind.Link c l r is lost h = subst (λ (o : Option (List ℕ)). Into o say.Data r) lost h
 target_lost kind.Dir c l r is lost h = cc
+
+-- ---- stat
+
+abbrev pub stats : Tree → Node → Reply → Type 0
+stats G n = Stats n
+
+pub asks_stat : (p : Path) → Asks (ask.Stat p) p stats
+asks_stat p = record { says = λ G r h. h; only = λ G r h. h; at = λ G. refl; plain = λ x is. cc; quiet = λ G. refl }
+
+pub stats_dir : (k : Kind) (c : Option (List ℕ)) (l : Bool) → k ≡ kind.Dir → Stats (node_from k c l) (say.Stat kind.Dir 0)
+stats_dir kind.File c l is = cc
+stats_dir kind.Exec c l is = cc
+stats_dir kind.Link c l is = cc
+stats_dir kind.Dir c l is = refl
+
+pub stats_some : (k : Kind) (c : Option (List ℕ)) (l : Bool) (b : List ℕ) → k ≢ kind.Dir → c ≡ Some b → Stats (node_from k c l) (say.Stat k (length b))
+stats_some kind.File c l b other has = subst (λ (o : Option (List ℕ)). Into o (λ bytes. say.Stat kind.File (length bytes)) (say.Stat kind.File (length b))) (sym has) refl
+stats_some kind.Exec c l b other has = subst (λ (o : Option (List ℕ)). Into o (λ bytes. say.Stat kind.Exec (length bytes)) (say.Stat kind.Exec (length b))) (sym has) refl
+stats_some kind.Link c l b other has = subst (λ (o : Option (List ℕ)). Into o (λ bytes. say.Stat kind.Link (length bytes)) (say.Stat kind.Link (length b))) (sym has) refl
+stats_some kind.Dir c l b other has = absurd (other refl)
+
+pub stats_lost : (k : Kind) (c : Option (List ℕ)) (l : Bool) (r : Reply) → k ≢ kind.Dir → c ≡ None → ¬ Stats (node_from k c l) r
+stats_lost kind.File c l r other lost h = subst (λ (o : Option (List ℕ)). Into o (λ bytes. say.Stat kind.File (length bytes)) r) lost h
+stats_lost kind.Exec c l r other lost h = subst (λ (o : Option (List ℕ)). Into o (λ bytes. say.Stat kind.Exec (length bytes)) r) lost h
+stats_lost kind.Link c l r other lost h = subst (λ (o : Option (List ℕ)). Into o (λ bytes. say.Stat kind.Link (length bytes)) r) lost h
+stats_lost kind.Dir c l r other lost h = absurd (other refl)

@@ -1,5 +1,5 @@
 -- Where a look over a path ends.
-use Rattle.std.proofs.Common.{◌≡◌, ◌<◌, ◌≤◌, ◌+◌, ◌⊎◌, ℕ, zero, suc, Bool, true, false, List, [], ◌∷◌, ◌++◌, length, take, Option, Some, None, sym, refl, ◌∙◌, ap, subst, arith, inl, inr}
+use Rattle.std.proofs.Common.{◌≡◌, ◌<◌, ◌≤◌, ◌+◌, ◌⊎◌, ℕ, zero, suc, Bool, true, false, [], ◌∷◌, ◌++◌, length, take, Option, Some, None, sym, refl, ◌∙◌, ap, arith, inl, inr}
 use Rattle.std.proofs.lemmas.Bool.{cases_lt}
 use Rattle.std.proofs.lemmas.List.{take_all}
 use Rattle.std.proofs.lemmas.Option.{same_Some, none-some}
@@ -16,7 +16,7 @@ use Rattle.eden_inode.specs.declared.seen.Seen.{Seen}
 use Rattle.eden_inode.specs.Tables.{IsLast}
 use Rattle.eden_ops.specs.Attempts.{IsSeen}
 use Rattle.eden_ops.specs.Known.{known, place_on, IsLoadedAt}
-use Rattle.eden_ops.proofs.Bare.{Bare, bare, still_there, still_none}
+use Rattle.eden_ops.proofs.Bare.{Bare, still_there, still_none}
 use Rattle.eden_ops.proofs.Walking.{known_dir, walk_unlisted, place_unlisted, walk_file, walk_loaded, walk_absent}
 
 -- a look over stamped directories ends as over those before

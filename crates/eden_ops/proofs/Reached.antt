@@ -1,5 +1,5 @@
 -- What is met on the tree that is shown.
-use Rattle.std.proofs.Common.{◌≡◌, ◌⊎◌, Option, Some, None, Result, Ok, Err, sym, refl, ◌∙◌, ap, subst, inl, inr}
+use Rattle.std.proofs.Common.{◌≡◌, ◌⊎◌, Option, Some, None, Result, Ok, Err, sym, refl, ◌∙◌, ap, inl, inr}
 use Rattle.eden_model.specs.declared.errno.Errno.{Errno}
 use Rattle.eden_model.specs.declared.node.Node.{Node}
 use Rattle.eden_model.specs.declared.world.World.{Ghosts}
@@ -12,10 +12,10 @@ use Rattle.eden_inode.specs.Tables.{Table}
 use Rattle.eden_ops.specs.declared.answer.Stop.{Stop}
 use Rattle.eden_ops.specs.declared.answer.Stop.TheVariants as stop
 use Rattle.eden_ops.specs.declared.answer.Walked.TheVariants as walked
-use Rattle.eden_ops.specs.Attempts.{Meets, MeetsShown, Ends, EndsShown, IsShown, walked_by}
+use Rattle.eden_ops.specs.Attempts.{Meets, MeetsShown, EndsShown}
 use Rattle.eden_ops.specs.Keeping.{shows}
 use Rattle.eden_ops.specs.Known.{known}
-use Rattle.eden_ops.proofs.Seeing.{shown_there, meets_error, meets_absent, meets_here, known_passes, known_stops}
+use Rattle.eden_ops.proofs.Seeing.{shown_there, meets_error, meets_absent, meets_here}
 use Rattle.eden_ops.proofs.Walking.{walk_here}
 
 module _ {W F : Type 0} (w : Ghosts W) (f : Files F W) (p : Path) (s t : Table F) (d : Cache) where

@@ -2,17 +2,16 @@
 use Rattle.std.proofs.Common.{◌≡◌, ℕ, Bool, true, false, List, [], ◌∷◌, ◌++◌, Option, Some, None, sym, refl, ◌∙◌, ap, subst}
 use Rattle.std.proofs.lemmas.Bool.{false≢true}
 use Rattle.std.proofs.lemmas.List.{append-nil, append_assoc}
-use Rattle.std.proofs.lemmas.Option.{same_Some, none-some}
 use Rattle.std.specs.Option.{option_map, option_and_then, is_some, IsSome}
 use Rattle.eden_model.specs.declared.errno.Errno.{Errno}
 use Rattle.eden_model.specs.declared.kind.Kind.{Kind}
 use Rattle.eden_model.specs.declared.kind.Kind.TheVariants as kind
 use Rattle.eden_model.specs.declared.kind.Origin.{Origin}
 use Rattle.eden_model.specs.declared.node.Node.{Node}
-use Rattle.eden_model.specs.declared.node.Node.TheVariants.{File, Link, Dir}
+use Rattle.eden_model.specs.declared.node.Node.TheVariants.{Dir}
 use Rattle.eden_model.specs.Repository.{Repository, source_of, content_with, entries_with}
 use Rattle.eden_model.specs.Shown.{node_from, node_of, map_items}
-use Rattle.eden_model.specs.Trees.{Name, Path, Tree, Walk, Passes, Stops, Unlisted, through, walk_from, walk, Reach, Fails, Absent, Here, ends, reach}
+use Rattle.eden_model.specs.Trees.{Name, Path, Tree, Walk, Passes, Stops, Unlisted, through, walk_from, walk, Fails, Absent, Here, ends, reach}
 use Rattle.eden_overlay.specs.Files.{Stored}
 use Rattle.eden_overlay.specs.Held.{own_files}
 use Rattle.eden_tree.specs.Directory.{Child, unloaded, loaded, Row, Directory, child_of, directory_in}
@@ -24,9 +23,9 @@ use Rattle.eden_tie.specs.Listings.{Place}
 use Rattle.eden_tie.specs.Shown.{Away, item_in, table_ground, shown_in}
 use Rattle.eden_tie.specs.ShownLaws.{AreDirectories, ShowsBelow, ShowsAbsent}
 use Rattle.eden_tie.proofs.CallerLemmas.{place_at}
-use Rattle.eden_ops.specs.Known.{content_known, known_node, known, IsLoadedAt}
+use Rattle.eden_ops.specs.Known.{content_known, known_node, known}
 use Rattle.eden_ops.specs.Attempts.{shown_node}
-use Rattle.eden_ops.proofs.Walking.{known_loaded, known_unloaded, known_at}
+use Rattle.eden_ops.proofs.Walking.{known_loaded, known_unloaded}
 
 pub kept_dirs : (R : Repository) (F : Stored) (x : Row) (next : ℕ) → IsKept R F x next → AreDirectories x
 kept_dirs R F x next k = k.ties.fits.is_dir

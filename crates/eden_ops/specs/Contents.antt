@@ -30,3 +30,8 @@ module _ {W F : Type 0} (w : Ghosts W) (f : Files F W) where
     pub content : List ℕ
     pub is : IsContent p t content
     pub part : bytes ≡ take count (drop offset content)
+
+  -- the length of the content that the entry at the path shows, where the outside is honest
+  abbrev pub HasLength : Path → Table F → ℕ → Type 0
+  HasLength p t n = w.honest → (y : Row) → row_at p t.root ≡ Some y
+      → (content : List ℕ) × ((content_with w.repository (own_files (f.stored t.files)) (source_of y.number y.origin) ≡ Some content) × (n ≡ length content))

@@ -13,6 +13,7 @@ mod laws;
 mod links;
 mod meet;
 mod reading;
+mod sizes;
 mod walk;
 mod what;
 
@@ -21,4 +22,5 @@ pub use kinds::kind;
 pub use laws::{keeps_laws, wait_laws};
 pub use links::readlink;
 pub use reading::read;
+pub use sizes::stat;
 pub use walk::reach;

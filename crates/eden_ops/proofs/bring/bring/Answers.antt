@@ -1,4 +1,4 @@
-use Rattle.std.proofs.Common.{◌≡◌, ◌⊎◌, List, Option, Some, MatchOption, sym, refl, ap, subst, inl, inr}
+use Rattle.std.proofs.Common.{◌≡◌, ◌⊎◌, List, Option, Some, MatchOption, refl, subst, inl, inr}
 use Rattle.eden_model.specs.declared.id.Id.{Id}
 use Rattle.eden_model.specs.declared.kind.Origin.{Origin}
 use Rattle.eden_model.specs.declared.kind.Origin.TheVariants as origin

@@ -1,4 +1,4 @@
-use Rattle.std.proofs.Common.{sym, ◌∙◌}
+use Rattle.std.proofs.Common.{◌∙◌}
 use Rattle.eden_ops.specs.Keeping.{same}
 use Rattle.eden_ops.proofs.Origins.{not_empty}
 use Rattle.eden_ops.proofs.Steps.{reads}

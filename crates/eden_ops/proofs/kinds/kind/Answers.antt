@@ -1,5 +1,4 @@
-use Rattle.std.proofs.Common.{Option, Some, None, Ok, sym, refl, subst, ap, ◌∙◌}
-use Rattle.eden_model.specs.declared.kind.Kind.{Kind}
+use Rattle.std.proofs.Common.{Option, Ok, sym, refl, subst, ap, ◌∙◌}
 use Rattle.eden_model.specs.declared.reply.Reply.TheVariants as say
 use Rattle.eden_model.specs.declared.request.Request.TheVariants as ask
 use Rattle.eden_model.specs.Repository.{source_of, content_with}

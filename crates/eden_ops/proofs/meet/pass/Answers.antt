@@ -1,8 +1,7 @@
-use Rattle.std.proofs.Common.{◌≡◌, ◌⊎◌, ◌<◌, ◌+◌, length, take, refl, sym, ap, ◌∙◌, subst, inl, inr, arith}
+use Rattle.std.proofs.Common.{◌≡◌, ◌⊎◌, ◌<◌, length, take, refl, sym, ◌∙◌, subst, inl, inr, arith}
 use Rattle.eden_model.specs.declared.kind.Kind.{Kind}
 use Rattle.eden_model.specs.declared.kind.Kind.TheVariants as kind
-use Rattle.eden_inode.specs.Tables.{IsLast}
-use Rattle.eden_ops.specs.Keeping.{Keeps, same}
+use Rattle.eden_ops.specs.Keeping.{same}
 use Rattle.eden_ops.specs.Known.{IsLoadedAt}
 use Rattle.eden_ops.proofs.Finding.{finds_on}
 use Rattle.eden_ops.proofs.Meeting.{seen_here, absent_here, ends_absent, ends_file, is_at, ends_unlisted}

@@ -1,31 +1,25 @@
-use Rattle.std.proofs.Common.{◌≡◌, ◌≢◌, ◌⊎◌, ◌==◌, ℕ, Bool, true, false, Option, Some, None, Ok, Err, sym, refl, subst, ap, ◌∙◌, take, drop, List, [], length, arith, inl, inr}
+use Rattle.std.proofs.Common.{◌≡◌, ◌==◌, ℕ, false, Option, Some, Ok, sym, refl, subst, ap, ◌∙◌, [], inl, inr}
 use Rattle.std.proofs.lemmas.Bool.{le-ltb, ne_eqb}
 use Rattle.eden_ops.specs.Known.{content_known}
-use Rattle.std.proofs.lemmas.List.{take_all}
-use Rattle.eden_model.specs.declared.errno.Errno.TheVariants.{ENOENT, EINVAL, EISDIR}
-use Rattle.eden_model.specs.declared.id.Key.{Key}
+use Rattle.eden_model.specs.declared.errno.Errno.TheVariants.{EINVAL, EISDIR}
 use Rattle.eden_model.specs.declared.kind.Kind.{Kind}
-use Rattle.eden_model.specs.declared.kind.Kind.TheVariants as kind
 use Rattle.eden_model.specs.declared.node.Node.{Node}
-use Rattle.eden_model.specs.declared.reply.Reply.{Reply}
 use Rattle.eden_model.specs.declared.reply.Reply.TheVariants as say
 use Rattle.eden_model.specs.declared.request.Request.TheVariants as ask
-use Rattle.eden_model.specs.Operations.{Reads, ReadsLink}
+use Rattle.eden_model.specs.Operations.{Reads}
 use Rattle.eden_model.specs.Repository.{source_of, content_with}
 use Rattle.eden_overlay.specs.Held.{own_files}
-use Rattle.eden_tree.specs.Directory.{Row}
 use Rattle.eden_tree.specs.Paths.{row_at}
 use Rattle.eden_inode.specs.declared.seen.Seen.{Seen}
 use Rattle.eden_ops.specs.declared.answer.Attempt.{Attempt}
 use Rattle.eden_ops.specs.declared.answer.Stop.{Stop}
-use Rattle.eden_ops.specs.declared.answer.Stop.TheVariants as stop
 use Rattle.eden_ops.specs.Attempts.{Attempts, Meets, MeetsShown, IsShown, Lacks, shown_node}
 use Rattle.eden_model.specs.Trees.{reach}
 use Rattle.eden_ops.specs.Keeping.{shows, same}
 use Rattle.eden_ops.proofs.Answering.{walk_ended, says_absent, says_here, says_at, replied, lacked}
 use Rattle.eden_ops.proofs.Fetching.{has_content, shown_kind, known_lost}
 use Rattle.eden_ops.proofs.Finding.{finds_on, still_stocked}
-use Rattle.eden_ops.proofs.Looking.{reads, asks_read, refuses_read, IsPlain, plain_other, reads_link, reads_dir, reads_none, reads_some, reads_lost}
+use Rattle.eden_ops.proofs.Looking.{reads, asks_read, IsPlain, plain_other, reads_link, reads_dir, reads_none, reads_some, reads_lost}
 use Rattle.eden_ops.proofs.Rounds.{lacks_since}
 use Rattle.eden_ops.proofs.Steps.{keeps_on}
 use Rattle.eden_ops.proofs.reading.read.Goals as goal

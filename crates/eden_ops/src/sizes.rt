@@ -1,0 +1,126 @@
+//! What stands at a path, and how long it is.
+ghost use Rattle.std.specs.Prelude.{◌≡◌, ℕ, List, length, Some, None, Err, IfOk, IfErr, OnErr, MatchOption};
+ghost use Rattle.eden_model.specs.declared.id.Key as key;
+ghost use Rattle.eden_model.specs.declared.id.ObjKind.TheVariants as objects;
+ghost use Rattle.eden_model.specs.declared.request.Request.TheVariants as ask;
+ghost use Rattle.eden_ops.specs.declared.answer.Stop.TheVariants as stops;
+ghost use Rattle.eden_ops.specs.Attempts.{Attempts, Lacks};
+ghost use Rattle.eden_ops.specs.Caches.{IsStocked, FindsTheSame, IsSize, object_at, size_at};
+ghost use Rattle.eden_ops.specs.Contents.{HasContent, HasLength};
+ghost use Rattle.eden_ops.specs.Keeping.{shows, Keeps};
+
+use crate::answer::{Attempt, Stop};
+use crate::end::ended;
+use crate::laws::keeps_laws;
+use crate::meet::meet;
+use crate::what::what;
+use eden_cache::{ObjectCache, cache_laws};
+use eden_inode::Inodes;
+use eden_model::{Errno, Id, Key, Kind, ObjKind, Origin, Path, Reply, World};
+use eden_overlay::Files;
+use std::alloc::{Allocator, Global};
+
+/// The length of a cached blob.
+fn blob_size<W: World, C: Allocator + Clone>(cache: &mut ObjectCache<C>, id: Id) -> Option<u64>
+    requires { IsStocked W.repository W.honest cache.old }
+    ensures finds { FindsTheSame cache.old cache.new }
+    ensures size { MatchOption result (object_at cache.old (record { kind = objects.Blob; id = id }) ≡ None) (λ n. W.honest → IsSize W.repository id n) }
+{
+    cache_laws();
+    let kind = ObjKind::Blob;
+    match cache.get(Key { kind, id }) {
+        None => None,
+        Some(object) => Some(object.len() as u64),
+    }
+}
+
+/// The length of a blob that is kept.
+fn kept_size<W: World, C: Allocator + Clone>(cache: &mut ObjectCache<C>, id: Id) -> Option<u64>
+    requires { IsStocked W.repository W.honest cache.old }
+    ensures finds { FindsTheSame cache.old cache.new }
+    ensures size { MatchOption result (size_at cache.old id ≡ None) (λ n. W.honest → IsSize W.repository id n) }
+{
+    cache_laws();
+    cache.size_of(id)
+}
+
+/// The length of a blob, kept or cached. The only stop is the want of it.
+fn object_size<W: World, C: Allocator + Clone>(
+    cache: &mut ObjectCache<C>,
+    id: Id,
+) -> Result<u64, Stop>
+    requires { IsStocked W.repository W.honest cache.old }
+    ensures finds { FindsTheSame cache.old cache.new }
+    ensures ok { W.honest → IfOk result (IsSize W.repository id) }
+    ensures err { IfErr result (λ z. z ≡ stops.Needs (record { kind = objects.Blob; id = id })) }
+    ensures lacks { OnErr result (object_at cache.new (record { kind = objects.Blob; id = id }) ≡ None) }
+    ensures unkept { OnErr result (size_at cache.new id ≡ None) }
+{
+    if let Some(size) = kept_size::<W, C>(cache, id) {
+        return Ok(size);
+    }
+    match blob_size::<W, C>(cache, id) {
+        Some(size) => Ok(size),
+        None => {
+            let kind = ObjKind::Blob;
+            Err(Stop::Needs(Key { kind, id }))
+        }
+    }
+}
+
+/// The length of the content of the file or link at a path, which comes from that origin.
+fn size<A: Allocator + Clone, W: World, F: Files<W>, C: Allocator + Clone>(
+    inodes: &mut Inodes<A, W, F>,
+    cache: &mut ObjectCache<C>,
+    alloc: Global,
+    path: &Path,
+    origin: Origin,
+) -> Result<u64, Stop>
+    requires content { HasContent path.now inodes.old.root origin }
+    requires stocked { IsStocked W.repository W.honest cache.old }
+    ensures ok { IfOk result (HasLength W.World F.Files path.now inodes.old) }
+    ensures lacks { IfErr result (Lacks W.World F.Files path.now inodes.old inodes.new cache.new) }
+    ensures unkept { (k : key.Key) → result ≡ Err (stops.Needs k) → size_at cache.new k.id ≡ None }
+    ensures still { inodes.new.root ≡ inodes.old.root }
+    ensures same { W.honest → shows W.World F.Files inodes.new ≡ shows W.World F.Files inodes.old }
+    ensures keeps { Keeps W.World F.Files inodes.old inodes.new }
+    ensures cache { FindsTheSame cache.old cache.new }
+{
+    keeps_laws::<W, F>();
+    inodes.holds();
+    match origin {
+        Origin::Empty => unreachable!(),
+        Origin::Own => {
+            let content = inodes.content(alloc, path.as_slice())?;
+            Ok(content.as_slice().len() as u64)
+        }
+        Origin::Object(id) => object_size::<W, C>(cache, id),
+    }
+}
+
+/// What stands at the path, and the length of its content; 0 for a directory.
+pub fn stat<A: Allocator + Clone, W: World, F: Files<W>, C: Allocator + Clone>(
+    inodes: &mut Inodes<A, W, F>,
+    cache: &mut ObjectCache<C>,
+    alloc: Global,
+    path: &Path,
+) -> Attempt
+    requires { IsStocked W.repository W.honest cache.old }
+    ensures attempts { Attempts W.World F.Files (ask.Stat path.now) inodes.old inodes.new cache.old cache.new result }
+    ensures keeps { Keeps W.World F.Files inodes.old inodes.new }
+{
+    let seen = match meet(inodes, cache, alloc, path) {
+        Err(stop) => return ended(stop),
+        Ok(None) => return Attempt::Finished(Reply::Err(Errno::ENOENT)),
+        Ok(Some(seen)) => seen,
+    };
+    let kind = what(seen);
+    match kind {
+        Kind::Dir => return Attempt::Finished(Reply::Stat(Kind::Dir, 0)),
+        Kind::File | Kind::Exec | Kind::Link => {}
+    }
+    match size(inodes, cache, alloc, path, seen.origin) {
+        Err(stop) => ended(stop),
+        Ok(length) => Attempt::Finished(Reply::Stat(kind, length)),
+    }
+}
