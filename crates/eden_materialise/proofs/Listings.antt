@@ -1,62 +1,134 @@
--- One entry of a listing changed: what it keeps, and what is shown then.
-use Rattle.std.proofs.Common.{◌≡◌, ℕ, [], ◌∷◌, ◌++◌, Option, IsSomeAnd, Result, Ok, Err, OnOk, OnErr, sym, ap, ◌∙◌, subst}
+-- One entry of a listing changed: what its stores need, what it keeps, and what is shown then.
+use Rattle.std.proofs.Common.{◌≡◌, ◌⊎◌, ℕ, [], ◌∷◌, ◌++◌, Option, Some, None, IfSome, Result, Ok, Err, OnOk, OnErr, inl, inr, refl, sym, ap, ◌∙◌, subst}
+use Rattle.std.proofs.lemmas.Option.{same_Some}
 use Rattle.eden_model.specs.declared.fault.Fault.{Fault}
 use Rattle.eden_model.specs.Repository.{Repository}
 use Rattle.eden_model.specs.Trees.{Name, Path, graft}
+use Rattle.eden_overlay_format.specs.Directory.{AreStorable}
 use Rattle.eden_overlay.specs.Files.{Stored}
 use Rattle.eden_overlay.specs.Held.{with_entries}
-use Rattle.eden_tree.specs.Directory.{Row}
-use Rattle.eden_tree.specs.Paths.{row_at}
-use Rattle.eden_tie.specs.Changing.{MayChange, changed}
+use Rattle.eden_tree.specs.Directory.{Row, Directory, child_of, with_child}
+use Rattle.eden_tree.specs.Paths.{row_at, edit_row}
+use Rattle.eden_tree.proofs.CallerLemmas.{child_of-with_child, edits_alike}
+use Rattle.eden_tie.specs.Chains.{IsLoadedAt, AreSaved, StaysLoaded, chained, Above, Unfinished, listed, Refused, at_first, later}
+use Rattle.eden_tie.specs.Changing.{changed, with_listing}
 use Rattle.eden_tie.specs.Kept.{IsTable, IsKept}
 use Rattle.eden_tie.specs.Listings.{listing_of}
 use Rattle.eden_tie.specs.Shown.{shown_in}
 use Rattle.eden_tie.specs.ShownLaws.{shown_from}
-use Rattle.eden_tie.proofs.CallerLemmas.{changes_kept, listing_table, listing_kept, listing_grafts}
-use Rattle.eden_materialise.specs.Listings.{ChangesListing}
-use Rattle.eden_materialise.specs.Puts.{MayPut}
+use Rattle.eden_tie.specs.Standing.{MayStand}
+use Rattle.eden_tie.proofs.CallerLemmas.{at_changed, loaded_there, above_back, unfinished_back, refused_kept, refused_alike, stands_sound, put_sound, stands_table, stands_saved, stands_stays, stands_kept, stands_grafts}
+use Rattle.eden_materialise.specs.Chains.{StaySound}
+use Rattle.eden_materialise.specs.Listings.{IsHeldFor, ChangesEntry}
+use Rattle.eden_materialise.specs.Moves.{changed_in, IsPutAt}
+use Rattle.eden_materialise.specs.Puts.{AtDirectory}
+use Rattle.eden_materialise.proofs.Order.{changed_held}
 
--- what may change may be stored
-pub may_be_put : (honest : Type 0) (F : Stored) (x : Row) (next : ℕ) (p : Path) (n : Name) (o : Option Row) → MayChange honest F x next p n o → IsSomeAnd (row_at p x) (MayPut honest F n o)
-may_be_put honest F x next p n o may =
-    let put : MayPut honest F n o may.row = record {
-      directory = may.directory;
-      holds = may.holds;
-      entries = may.entries;
-      sound = λ h. (changes_kept honest F x next p n o h may).sound;
-    } in
-    subst (λ (r : Option Row). IsSomeAnd r (MayPut honest F n o)) (sym may.at) put
+-- what holds of the directory at a path
+pub at_directory : (p : Path) (x y : Row) (d : Directory) (P : Row → Directory → Type 0) → row_at p x ≡ Some y → child_of y ≡ Some d → P y d → AtDirectory p x P
+at_directory p x y d P at h holds v e at_v h_v =
+    let row : y ≡ v = same_Some y v (sym at ∙ at_v) in
+    let dir : d ≡ e = same_Some d e (sym h ∙ ap child_of row ∙ h_v) in
+    subst (λ (c : Directory). P v c) dir (subst (λ (r : Row). P r d) row holds)
 
--- whatever came of it, a table stays one
-pub changed_table : (honest : Type 0) (F : Stored) (x : Row) (next : ℕ) (p : Path) (n : Name) (o : Option Row) (old : ℕ) (G : Stored) (z : Row) (new : ℕ) (answer : Result (Unit {0}) Fault)
-    → IsTable x next → MayChange honest F x next p n o → ChangesListing honest p n o F x old G z new answer → IsTable z next
-changed_table honest F x next p n o old G z new (Ok u) table may c =
-    subst (λ (r : Row). IsTable r next) (sym (c.ok may.row may.directory may.at may.holds)) (listing_table honest F x next p n o table may)
-changed_table honest F x next p n o old G z new (Err e) table may c = subst (λ (r : Row). IsTable r next) (sym c.err) table
+module _ (honest : Type 0) (R : Repository) (F : Stored) (x : Row) (p : Path) (n : Name) (o : Option Row) (held : IsHeldFor honest R F x p n o) where
+  abbrev may : MayStand honest R F x held.next p n o
+  may = held.may
 
--- .. and a kept one is kept
-pub changed_kept : (honest : Type 0) (R : Repository) (F : Stored) (x : Row) (next : ℕ) (p : Path) (n : Name) (o : Option Row) (old : ℕ)
-    (G : Stored) (z : Row) (new : ℕ) (answer : Result (Unit {0}) Fault)
-    → honest → IsTable x next → IsKept R F x next → MayChange honest F x next p n o → ChangesListing honest p n o F x old G z new answer → IsKept R G z next
-changed_kept honest R F x next p n o old G z new (Ok u) h table k may c =
-    let files = with_entries F may.row.number (listing_of (changed may.directory n o)) in
-    subst (λ (H : Stored). IsKept R H z next) (sym (c.stored h may.row may.directory may.at may.holds))
-    (subst (λ (r : Row). IsKept R files r next) (sym (c.ok may.row may.directory may.at may.holds)) (listing_kept honest R F x next p n o h table k may))
-changed_kept honest R F x next p n o old G z new (Err e) h table k may c =
-    subst (λ (H : Stored). IsKept R H z next) (sym (c.kept h)) (subst (λ (r : Row). IsKept R F r next) (sym c.err) k)
+  abbrev pub new : Directory
+  new = changed held.may.directory n o
 
--- ---- what is shown then
+  pub held_loaded : IsLoadedAt p x
+  held_loaded = loaded_there p x may.row may.directory may.at may.holds
 
-pub changed_shown : (honest : Type 0) (R : Repository) (F : Stored) (x : Row) (next : ℕ) (p : Path) (n : Name) (o : Option Row) (old : ℕ)
-    (G : Stored) (z : Row) (new : ℕ) (answer : Result (Unit {0}) Fault)
-    → honest → IsTable x next → MayChange honest F x next p n o → ChangesListing honest p n o F x old G z new answer
-    → OnOk answer (shown_in R G z ≡ graft (p ++ n ∷ []) (shown_from R G o) (shown_in R F x))
-changed_shown honest R F x next p n o old G z new (Ok u) h table may c =
-    ap (λ (r : Row). shown_in R G r) (c.ok may.row may.directory may.at may.holds)
-    ∙ listing_grafts honest R F x next p n o h table may G (c.stored h may.row may.directory may.at may.holds)
-changed_shown honest R F x next p n o old G z new (Err e) h table may c = tt
+  -- ---- stored without the entry, before memory is
 
-pub unchanged_shown : (honest : Type 0) (R : Repository) (F : Stored) (x : Row) (p : Path) (n : Name) (o : Option Row) (old : ℕ) (G : Stored) (z : Row) (new : ℕ) (answer : Result (Unit {0}) Fault)
-    → honest → ChangesListing honest p n o F x old G z new answer → OnErr answer (shown_in R G z ≡ shown_in R F x)
-unchanged_shown honest R F x p n o old G z new (Ok u) h c = tt
-unchanged_shown honest R F x p n o old G z new (Err e) h c = ap (λ (r : Row). shown_in R G r) c.err ∙ ap (λ (H : Stored). shown_in R H x) (c.kept h)
+  pub drop_can : AtDirectory p x (λ y d. AreStorable (listing_of (changed d n o)))
+  drop_can = at_directory p x may.row may.directory (λ y d. AreStorable (listing_of (changed d n o))) may.at may.holds may.storable
+
+  pub drop_sound : honest → AtDirectory p x (λ y d. StaySound (with_entries F y.number (listing_of (changed d n o))) x p)
+  drop_sound h = at_directory p x may.row may.directory (λ y d. StaySound (with_entries F y.number (listing_of (changed d n o))) x p) may.at may.holds
+      (stands_sound honest R F x held.next p n o held.table may h (held.kept h))
+
+  pub drop_refused : (G : Stored) → (G ≡ F) ⊎ Unfinished (with_entries F may.row.number (listing_of new)) x p G → Refused F x p G
+  drop_refused G (inl same) = at_first same
+  drop_refused G (inr u) = later may.row may.directory (with_entries F may.row.number (listing_of new)) may.at may.holds (listed (listing_of new) may.storable refl) u
+
+  -- the table with it there, or without it
+  pub changed_is : (d : Directory) (y : Row) → row_at p x ≡ Some y → child_of y ≡ Some d → edit_row p (changed_in n o) x ≡ with_listing p (changed d n o) x
+  changed_is d y at h = sym (edits_alike p (with_child (Some (changed d n o))) (changed_in n o) x y at (sym (changed_held n o y d h)))
+
+  -- ---- stored with it, once memory has it
+
+  abbrev then : Row
+  then = with_listing p new x
+
+  then_at : row_at p then ≡ Some (with_child (Some new) may.row)
+  then_at = at_changed p (with_child (Some new)) x may.row may.at
+
+  then_holds : child_of (with_child (Some new) may.row) ≡ Some new
+  then_holds = child_of-with_child (Some new) may.row
+
+  pub then_loaded : IsLoadedAt p then
+  then_loaded = loaded_there p then (with_child (Some new) may.row) new then_at then_holds
+
+  pub put_can_be : AtDirectory p then (λ y d. AreStorable (listing_of d))
+  put_can_be = at_directory p then (with_child (Some new) may.row) new (λ y d. AreStorable (listing_of d)) then_at then_holds may.storable
+
+  pub put_stays_sound : honest → AtDirectory p then (λ y d. StaySound (with_entries F y.number (listing_of d)) then p)
+  put_stays_sound h = at_directory p then (with_child (Some new) may.row) new (λ y d. StaySound (with_entries F y.number (listing_of d)) then p) then_at then_holds
+      (put_sound honest R F x held.next p n o held.table may h (held.kept h))
+
+  pub put_above : (G : Stored) → AtDirectory p then (λ y d. Above (with_entries F y.number (listing_of d)) then p G)
+      → AtDirectory p x (λ y d. Above (with_entries F y.number (listing_of (changed d n o))) x p G)
+  put_above G told = at_directory p x may.row may.directory (λ y d. Above (with_entries F y.number (listing_of (changed d n o))) x p G) may.at may.holds
+      (above_back p x may.row may.directory new may.at may.holds (with_entries F may.row.number (listing_of new)) G (told (with_child (Some new) may.row) new then_at then_holds))
+
+  pub put_refused : (G : Stored) → AtDirectory p then (λ y d. (G ≡ F) ⊎ Unfinished (with_entries F y.number (listing_of d)) then p G) → Refused F x p G
+  put_refused G told = elim (told (with_child (Some new) may.row) new then_at then_holds) [
+    | inl same ↦ at_first same
+    | inr u ↦ drop_refused G (inr (unfinished_back p x may.row may.directory new may.at may.holds (with_entries F may.row.number (listing_of new)) G u))
+  ]
+
+-- memory, once an entry is put there
+pub put_is : (p : Path) (n : Name) (w : Row) (entry : Option Row) (mark : _) (x z : Row) (y : Row) (d : Directory) → row_at p x ≡ Some y → child_of y ≡ Some d
+    → IsPutAt p n w entry mark x z → z ≡ with_listing p (changed d n (Some w)) x
+put_is p n w entry mark x z y d at h put =
+    let row : put.before ≡ y = same_Some put.before y (sym put.at ∙ at) in
+    let dir : put.put.directory ≡ d = same_Some put.put.directory d (sym put.put.holds ∙ ap child_of row ∙ h) in
+    put.is ∙ edits_alike p (λ _. put.after) (with_child (Some (changed d n (Some w)))) x put.before put.at
+    (put.put.is ∙ ap (λ (a : Directory). with_child (Some (changed a n (Some w))) put.before) dir)
+
+-- ---- the table then
+
+module _ (honest : Type 0) (R : Repository) (p : Path) (n : Name) (o : Option Row) (F : Stored) (x : Row) (old : ℕ) (G : Stored) (z : Row) (new : ℕ) (next : ℕ) (table : IsTable x next)
+    (may : MayStand honest R F x next p n o) where
+  pub changes_table : (answer : Result (Unit {0}) Fault) → ChangesEntry honest p n o F x old G z new answer → IsTable z next
+  changes_table (Ok u) c = subst (λ (r : Row). IsTable r next) (sym (c.ok may.row may.directory may.at may.holds)) (stands_table honest R F x next p n o table may)
+  changes_table (Err e) c = subst (λ (r : Row). IsTable r next) (sym c.err) table
+
+  pub changes_saved : (answer : Result (Unit {0}) Fault) → ChangesEntry honest p n o F x old G z new answer → AreSaved x → AreSaved z
+  changes_saved (Ok u) c all = subst AreSaved (sym (c.ok may.row may.directory may.at may.holds)) (stands_saved honest R F x next p n o table may all)
+  changes_saved (Err e) c all = subst AreSaved (sym c.err) all
+
+  pub changes_stay : (answer : Result (Unit {0}) Fault) → ChangesEntry honest p n o F x old G z new answer → StaysLoaded x z
+  changes_stay (Ok u) c = subst (StaysLoaded x) (sym (c.ok may.row may.directory may.at may.holds)) (stands_stays honest R F x next p n o table may)
+  changes_stay (Err e) c = subst (StaysLoaded x) (sym c.err) (λ q there. there)
+
+  module _ (h : honest) (k : IsKept R F x next) where
+    pub changes_kept_then : (answer : Result (Unit {0}) Fault) → ChangesEntry honest p n o F x old G z new answer → IsKept R G z next
+    changes_kept_then (Ok u) c =
+        subst (λ (r : Row). IsKept R G r next) (sym (c.ok may.row may.directory may.at may.holds))
+        (stands_kept honest R F x next p n o h table k may G (c.stored h may.row may.directory may.at may.holds))
+    changes_kept_then (Err e) c = subst (λ (r : Row). IsKept R G r next) (sym c.err) (refused_kept R F x next p G table k (c.strays h))
+
+    pub changes_shown : (answer : Result (Unit {0}) Fault) → ChangesEntry honest p n o F x old G z new answer
+        → OnOk answer (shown_in R G z ≡ graft (p ++ n ∷ []) (shown_from R G o) (shown_in R F x))
+    changes_shown (Ok u) c =
+        ap (λ (r : Row). shown_in R G r) (c.ok may.row may.directory may.at may.holds)
+        ∙ stands_grafts honest R F x next p n o h table k may G (c.stored h may.row may.directory may.at may.holds)
+    changes_shown (Err e) c = tt
+
+    pub changes_unseen : (answer : Result (Unit {0}) Fault) → ChangesEntry honest p n o F x old G z new answer → OnErr answer (shown_in R G z ≡ shown_in R F x)
+    changes_unseen (Ok u) c = tt
+    changes_unseen (Err e) c = ap (λ (r : Row). shown_in R G r) c.err ∙ refused_alike R F x next p G table k (c.strays h)

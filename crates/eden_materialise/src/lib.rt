@@ -7,14 +7,13 @@
 
 mod chain;
 mod change;
+mod entry_change;
 mod fault;
 mod listing;
-mod listing_change;
 mod memory;
 mod moving;
 mod owning;
 
-pub use change::change_at;
-pub use listing_change::change_listing;
+pub use entry_change::change_entry;
 pub use moving::move_entry;
 pub use owning::materialise;

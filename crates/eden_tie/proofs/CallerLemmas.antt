@@ -31,6 +31,9 @@ pub use Rattle.eden_tie.proofs.Backed.{backs_loaded, backs_stray, backed_alike}
 pub use Rattle.eden_tie.proofs.Changed.{listing_table, listing_kept, listing_grafts}
 pub use Rattle.eden_tie.proofs.Sound.{ties_sound}
 -- a chain that becomes its own: its steps, what it keeps, and what is shown then
-pub use Rattle.eden_tie.proofs.Chained.{marked_are, Step, step, at_step, chain_from, chain_can, so_far, none_yet}
+pub use Rattle.eden_tie.proofs.Chained.{marked_are, Step, step, at_step, chain_from, chain_can, so_far, none_yet, above_back, unfinished_back}
 pub use Rattle.eden_tie.proofs.StaysLoaded.{loaded_there, Loaded, loaded_found}
 pub use Rattle.eden_tie.proofs.ChainLaws.{same_listing, owned_table, owned_stays, owned_saved, owned_kept, owned_alike, refused_kept, refused_alike, owned_chain, chain_joined}
+-- what may stand under a name of a loaded directory: its chain's stores, what it keeps, and what is shown then
+pub use Rattle.eden_tie.proofs.Storable.{drop_storable, entry_storable}
+pub use Rattle.eden_tie.proofs.Stands.{stands_sound, put_sound, put_can, stands_table, stands_saved, stands_stays, stands_kept, stands_grafts}

@@ -16,13 +16,13 @@ use Rattle.eden_overlay.specs.Held.{with_entries}
 use Rattle.eden_tree.specs.Directory.{Row, Directory, child_of, with_child}
 use Rattle.eden_tree.specs.Rows.{find_row, set_row}
 use Rattle.eden_tree.specs.Paths.{row_at}
-use Rattle.eden_tree.proofs.CallerLemmas.{order, child_of-with_child, change_row-twice, steps_down, steps_back}
+use Rattle.eden_tree.proofs.CallerLemmas.{order, child_of-with_child, change_row-twice, steps_down, steps_back, with_child-same, edits_same, edits_twice}
 use Rattle.eden_tie.specs.Chains.{AreSaved, chained, Above, at_end, as_is, again, Unfinished, here, below}
 use Rattle.eden_tie.specs.Changing.{with_listing}
 use Rattle.eden_tie.specs.Laws.{owned}
 use Rattle.eden_tie.specs.Listings.{stored_entry, listing_of, Place, top}
 use Rattle.eden_tie.specs.Materialising.{is_own, marked_entry, marked_listing, Chain, both_own, above, IsChain, kept_mark, owned_along}
-use Rattle.eden_tie.proofs.Chain.{root_loaded}
+use Rattle.eden_tie.proofs.Chain.{at_changed, root_loaded}
 use Rattle.eden_tie.proofs.Chains.{marked_is}
 use Rattle.eden_tie.proofs.Edits.{find_set, find_other, map_set}
 use Rattle.eden_tie.proofs.Follows.{below_top, place_cases}
@@ -252,3 +252,42 @@ so_far M x d n z p G h there (inl a) =
 pub none_yet : (M : Stored) (p : Path) (x y : Row) → row_at p x ≡ Some y → Above M x p M ⊎ Unfinished M x p M
 none_yet M [] x y at = inl (at_end x)
 none_yet M (n ∷ p) x y at = let s = step n p x y at in so_far M x s.directory n s.row p M s.holds s.there (none_yet M p s.row y s.at)
+
+-- ---- the stores above a directory are the same, whatever that holds
+
+module _ (e : Directory) (M : Stored) where
+  pub above_edited : (p : Path) (x y : Row) (G : Stored) → row_at p x ≡ Some y → Above M x p G → Above M (with_listing p e x) p G
+  above_edited [] x y G at (at_end v) = at_end (with_listing [] e x)
+  above_edited (n ∷ p) x y G at (as_is v d m z q H h there k own own_z) =
+      subst (λ (a : Row). Above M a (n ∷ p) G) (sym (listing_found e n p x d z h there))
+      (as_is (with_child (Some (changed_below e p n z d)) x) (changed_below e p n z d) n (with_listing p e z) p G (child_of-with_child (Some (changed_below e p n z d)) x)
+      (find_set n z (with_listing p e z) d.rows there) (above_edited p z y G (at_step n p x y d z h there at) k) own (own_still e true p z own_z))
+  above_edited (n ∷ p) x y G at (again v d m z q H h there k other) =
+      subst (λ (a : Row). Above M a (n ∷ p) (with_entries H x.number (marked_listing d n))) (sym (listing_found e n p x d z h there))
+      (subst (λ (l : List StoredEntry). Above M (with_child (Some (changed_below e p n z d)) x) (n ∷ p) (with_entries H x.number l)) (marked_alike e n p d z there)
+      (again (with_child (Some (changed_below e p n z d)) x) (changed_below e p n z d) n (with_listing p e z) p H (child_of-with_child (Some (changed_below e p n z d)) x)
+      (find_set n z (with_listing p e z) d.rows there) (above_edited p z y H (at_step n p x y d z h there at) k)
+      (other_still e n p x z (with_child (Some (changed_below e p n z d)) x) refl other)))
+
+  pub unfinished_edited : (p : Path) (x y : Row) (G : Stored) → row_at p x ≡ Some y → Unfinished M x p G → Unfinished M (with_listing p e x) p G
+  unfinished_edited [] x y G at u = elim u [ ]
+  unfinished_edited (n ∷ p) x y G at (here v d m z q H h there k other) =
+      subst (λ (a : Row). Unfinished M a (n ∷ p) G) (sym (listing_found e n p x d z h there))
+      (here (with_child (Some (changed_below e p n z d)) x) (changed_below e p n z d) n (with_listing p e z) p G (child_of-with_child (Some (changed_below e p n z d)) x)
+      (find_set n z (with_listing p e z) d.rows there) (above_edited p z y G (at_step n p x y d z h there at) k)
+      (other_still e n p x z (with_child (Some (changed_below e p n z d)) x) refl other))
+  unfinished_edited (n ∷ p) x y G at (below v d m z q H h there u) =
+      subst (λ (a : Row). Unfinished M a (n ∷ p) G) (sym (listing_found e n p x d z h there))
+      (below (with_child (Some (changed_below e p n z d)) x) (changed_below e p n z d) n (with_listing p e z) p G (child_of-with_child (Some (changed_below e p n z d)) x)
+      (find_set n z (with_listing p e z) d.rows there) (unfinished_edited p z y G (at_step n p x y d z h there at) u))
+
+-- .. so it may be changed back
+module _ (p : Path) (x y : Row) (d e : Directory) (at : row_at p x ≡ Some y) (holds : child_of y ≡ Some d) (M G : Stored) where
+  back_is : with_listing p d (with_listing p e x) ≡ x
+  back_is = edits_twice p (with_child (Some d)) (with_child (Some e)) x ∙ edits_same p (λ a. with_child (Some d) (with_child (Some e) a)) x y at (with_child-same y d holds)
+
+  pub above_back : Above M (with_listing p e x) p G → Above M x p G
+  above_back up = subst (λ (a : Row). Above M a p G) back_is (above_edited d M p (with_listing p e x) (with_child (Some e) y) G (at_changed p (with_child (Some e)) x y at) up)
+
+  pub unfinished_back : Unfinished M (with_listing p e x) p G → Unfinished M x p G
+  unfinished_back u = subst (λ (a : Row). Unfinished M a p G) back_is (unfinished_edited d M p (with_listing p e x) (with_child (Some e) y) G (at_changed p (with_child (Some e)) x y at) u)

@@ -19,7 +19,7 @@ use Rattle.eden_tree.specs.Paths.{row_at}
 use Rattle.eden_tree.proofs.CallerLemmas.{order, child_of-with_child, find_row-Contains}
 use Rattle.eden_tie.specs.Listings.{stored_entry, full_entry, own_if_loaded, listing_of, full_listing, Place, top}
 use Rattle.eden_tie.specs.Ties.{IsAway, SameFile, IsStoredAs, Ties}
-use Rattle.eden_tie.specs.Changing.{IsCarried, MayBecome, with_listing, ChangesTied, LeftOutTied}
+use Rattle.eden_tie.specs.Changing.{IsCarried, MayBecome, with_listing, ChangesTied, UnstoredTied, LeftOutTied}
 use Rattle.eden_tie.proofs.Rows.{mapped_from, full_rising, names_full, names_stored, entry_as_is}
 use Rattle.eden_tie.proofs.Places.{named_full, place_counts}
 use Rattle.eden_tie.proofs.Follows.{held_moved}
@@ -36,12 +36,16 @@ abbrev Becomes : Row → Directory → Row → Row → Directory → Type 0
 Becomes y e x a b = ((a ≡ with_child (Some e) y) × (b ≡ e)) ⊎ Same x y.number a b
 
 module _ (F full : Stored) (x : Row) (next : ℕ) (t : Ties F full x next) (p : Path) (y : Row) (d : Directory)
-    (at : row_at p x ≡ Some y) (held : child_of y ≡ Some d) (own : y.origin ≡ origin.Own) where
+    (at : row_at p x ≡ Some y) (held : child_of y ≡ Some d) where
   place_y : Place x y
   place_y = place_at p x y at
 
-  -- of the files and the full ones, that of y alone changes; the root is as it was
-  module _ (e : Directory) (G : Stored) (entries : List StoredEntry) (mine : HoldsEntries G y.number entries) (elsewhere : (k : ℕ) → y.number ≢ k → G k ≡ F k) where
+  -- of the files and the full ones, that of y alone changes, where y is its own; the root is as it was
+  module _ (e : Directory) (G : Stored) (entries : List StoredEntry) (mine : y.origin ≡ origin.Own → HoldsEntries G y.number entries)
+      (unrooted : y.origin ≢ origin.Own → y.number ≡ 1 → G 1 ≡ None) (elsewhere : (k : ℕ) → y.number ≢ k → G k ≡ F k) where
+    is_top : y.number ≡ 1 → x ≡ y
+    is_top is = is_root F full x next t y d place_y held is
+
     now_at : row_at p (with_listing p e x) ≡ Some (with_child (Some e) y)
     now_at = at_changed p (with_child (Some e)) x y at
 
@@ -62,13 +66,13 @@ module _ (F full : Stored) (x : Row) (next : ℕ) (t : Ties F full x next) (p : 
 
     rootless_now : (with_listing p e x).origin ≢ origin.Own → G 1 ≡ None
     rootless_now other = elim (same_or_apart y.number 1) [
-      | inl is ↦ absurd (other (same_origin ∙ ap (λ (a : Row). a.origin) (is_root F full x next t y d place_y held is) ∙ own))
+      | inl is ↦ unrooted (λ own. other (same_origin ∙ ap (λ (a : Row). a.origin) (is_top is) ∙ own)) is
       | inr ne ↦ elsewhere 1 ne ∙ t.rootless (λ o. other (same_origin ∙ o))
     ]
 
     rooted_now : (with_listing p e x).origin ≡ origin.Own → HoldsKind G 1 kind.Dir
     rooted_now o = elim (same_or_apart y.number 1) [
-      | inl is ↦ (let P : ℕ → Type 0 = λ k. HoldsEntries G k entries in (entries, subst P is mine))
+      | inl is ↦ (let P : ℕ → Type 0 = λ k. HoldsEntries G k entries in (entries, subst P is (mine (ap (λ (a : Row). a.origin) (sym (is_top is)) ∙ sym same_origin ∙ o))))
       | inr ne ↦ kind_moved F G 1 kind.Dir (sym (elsewhere 1 ne)) (t.rooted (sym same_origin ∙ o))
     ]
 
@@ -76,30 +80,33 @@ module _ (F full : Stored) (x : Row) (next : ℕ) (t : Ties F full x next) (p : 
     dir_now a b (inl is) = ap (λ (q : Row). q.kind) is.0 ∙ t.fits.is_dir y d place_y held
     dir_now a b (inr s) = s.kind ∙ t.fits.is_dir s.row s.directory s.place s.holds
 
-    stored_now : IsStoredAs G y.number e → (a : Row) (b : Directory) → a.origin ≡ origin.Own → Becomes y e x a b → IsStoredAs G a.number b
+    stored_now : (y.origin ≡ origin.Own → IsStoredAs G y.number e) → (a : Row) (b : Directory) → a.origin ≡ origin.Own → Becomes y e x a b → IsStoredAs G a.number b
     stored_now filed a b o (inl is) =
         let P : ℕ → Type 0 = λ j. IsStoredAs G j b in
         let Q : Directory → Type 0 = λ q. IsStoredAs G y.number q in
-        subst P (sym (ap (λ (q : Row). q.number) is.0)) (subst Q (sym is.1) filed)
+        subst P (sym (ap (λ (q : Row). q.number) is.0)) (subst Q (sym is.1) (filed (ap (λ (q : Row). q.origin) (sym is.0) ∙ o)))
     stored_now filed a b o (inr s) =
         stored_moved F G a.number s.row.number b s.directory (sym (elsewhere s.row.number (λ is. s.off (sym is)))) s.number s.mark s.listing
         (t.stored s.row s.directory s.place s.holds (sym s.origin ∙ o))
 
-    marked_now : (a : Row) (b : Directory) → b.unsaved ≡ true → Becomes y e x a b → a.origin ≡ origin.Own
-    marked_now a b unsaved (inl is) = ap (λ (q : Row). q.origin) is.0 ∙ own
-    marked_now a b unsaved (inr s) = s.origin ∙ t.marked s.row s.directory s.place s.holds (sym s.mark ∙ unsaved)
+    marked_now : (e.unsaved ≡ true → y.origin ≡ origin.Own) → (a : Row) (b : Directory) → b.unsaved ≡ true → Becomes y e x a b → a.origin ≡ origin.Own
+    marked_now marks a b unsaved (inl is) = ap (λ (q : Row). q.origin) is.0 ∙ marks (ap (λ (q : Directory). q.unsaved) (sym is.1) ∙ unsaved)
+    marked_now marks a b unsaved (inr s) = s.origin ∙ t.marked s.row s.directory s.place s.holds (sym s.mark ∙ unsaved)
 
   -- ---- entries left out, and the mark
 
-  module _ (entries : List StoredEntry) (are : AreStorable entries) (some : (f : StoredEntry) → Contains entries f → Contains (listing_of d) f) where
+  module _ (own : y.origin ≡ origin.Own) (entries : List StoredEntry) (are : AreStorable entries) (some : (f : StoredEntry) → Contains entries f → Contains (listing_of d) f) where
     abbrev G : Stored
     G = with_entries F y.number entries
 
     abbrev e : Directory
     e = record d { unsaved = true }
 
-    mine : HoldsEntries G y.number entries
-    mine = entries_held F y.number entries are
+    mine : y.origin ≡ origin.Own → HoldsEntries G y.number entries
+    mine o = entries_held F y.number entries are
+
+    unrooted : y.origin ≢ origin.Own → y.number ≡ 1 → G 1 ≡ None
+    unrooted other is = absurd (other own)
 
     elsewhere : (k : ℕ) → y.number ≢ k → G k ≡ F k
     elsewhere k ne = apart F y.number entries are k ne
@@ -108,7 +115,7 @@ module _ (F full : Stored) (x : Row) (next : ℕ) (t : Ties F full x next) (p : 
     which a b q h = forward full x next t.fits y d e held (λ n w f. inl f) (λ n w c f k. f) p x at top a b q h
 
     filed : IsStoredAs G y.number e
-    filed = record { entries = entries; held = mine; some = some; all = λ saved. (let both : true ≡ false = saved in absurd (cc)) }
+    filed = record { entries = entries; held = mine own; some = some; all = λ saved. (let both : true ≡ false = saved in absurd (cc)) }
 
     held_now : (a : Row) (b : Directory) → Becomes y e x a b → HoldsEntries full a.number (full_listing b)
     held_now a b (inl is) =
@@ -123,43 +130,35 @@ module _ (F full : Stored) (x : Row) (next : ℕ) (t : Ties F full x next) (p : 
     left_out : Ties G full (with_listing p e x) next
     left_out = record {
       fits = record {
-        root = root_now e G entries mine elsewhere;
+        root = root_now e G entries mine unrooted elsewhere;
         sound = t.fits.sound;
         below = t.fits.below;
-        is_dir = λ a b q h. dir_now e G entries mine elsewhere a b (which a b q h);
+        is_dir = λ a b q h. dir_now e G entries mine unrooted elsewhere a b (which a b q h);
         held = λ a b q h. held_now a b (which a b q h);
       };
-      stored = λ a b q h o. stored_now e G entries mine elsewhere filed a b o (which a b q h);
-      marked = λ a b q h u. marked_now e G entries mine elsewhere a b u (which a b q h);
+      stored = λ a b q h o. stored_now e G entries mine unrooted elsewhere (λ o. filed) a b o (which a b q h);
+      marked = λ a b q h u. marked_now e G entries mine unrooted elsewhere (λ u. own) a b u (which a b q h);
       same = λ c f r n o away.
-          (let off : y.number ≢ f.number = away (with_child (Some e) y) e (place_now e G entries mine elsewhere) (holds_now e G entries mine elsewhere) in
+          (let off : y.number ≢ f.number = away (with_child (Some e) y) e (place_now e G entries mine unrooted elsewhere) (holds_now e G entries mine unrooted elsewhere) in
           same_moved F G full full f.number (elsewhere f.number off) refl
           (t.same c f r n o (λ a b q h is.
           (let k = back full x next t.fits y d e held (λ n w f. inl f) (λ n w c f k. f) p x at top a b q h in
           away k.row k.directory k.place k.holds (k.number ∙ is)))));
-      same_root = λ none. absurd (stays_loaded e G entries mine elsewhere none);
-      rootless = rootless_now e G entries mine elsewhere;
-      rooted = rooted_now e G entries mine elsewhere;
+      same_root = λ none. absurd (stays_loaded e G entries mine unrooted elsewhere none);
+      rootless = rootless_now e G entries mine unrooted elsewhere;
+      rooted = rooted_now e G entries mine unrooted elsewhere;
     }
 
   -- ---- another listing
 
   module _ (e : Directory) (may : MayBecome F full x next d e) (are : AreStorable (listing_of e)) (full_are : AreStorable (full_listing e))
-      (sound : AreSound (with_entries full y.number (full_listing e))) where
-    abbrev H : Stored
-    H = with_entries F y.number (listing_of e)
-
+      (sound : AreSound (with_entries full y.number (full_listing e))) (H : Stored) (mine_e : y.origin ≡ origin.Own → HoldsEntries H y.number (listing_of e))
+      (unrooted_e : y.origin ≢ origin.Own → y.number ≡ 1 → H 1 ≡ None) (apart_e : (k : ℕ) → y.number ≢ k → H k ≡ F k) where
     abbrev full2 : Stored
     full2 = with_entries full y.number (full_listing e)
 
     abbrev table_e : Row
     table_e = with_listing p e x
-
-    mine_e : HoldsEntries H y.number (listing_of e)
-    mine_e = entries_held F y.number (listing_of e) are
-
-    apart_e : (k : ℕ) → y.number ≢ k → H k ≡ F k
-    apart_e k ne = apart F y.number (listing_of e) are k ne
 
     each : (n : Name) (w : Row) → find_row n e.rows ≡ Some w → (find_row n d.rows ≡ Some w) ⊎ (child_of w ≡ None)
     each n w f = elim (may.each n w f) [ inl was ↦ inl was | inr new ↦ inr new.0 ]
@@ -239,21 +238,21 @@ module _ (F full : Stored) (x : Row) (next : ℕ) (t : Ties F full x next) (p : 
     pub changed : Ties H full2 table_e next
     changed = record {
       fits = record {
-        root = root_now e H (listing_of e) mine_e apart_e;
+        root = root_now e H (listing_of e) mine_e unrooted_e apart_e;
         sound = sound;
         below = λ c f r n. below_e c f (named_e c f (stands c r) n);
-        is_dir = λ a b q h. dir_now e H (listing_of e) mine_e apart_e a b (which_e a b q h);
+        is_dir = λ a b q h. dir_now e H (listing_of e) mine_e unrooted_e apart_e a b (which_e a b q h);
         held = λ a b q h. held_e a b (which_e a b q h);
       };
-      stored = λ a b q h o. stored_now e H (listing_of e) mine_e apart_e (stored_new H y.number e mine_e) a b o (which_e a b q h);
-      marked = λ a b q h u. marked_now e H (listing_of e) mine_e apart_e a b u (which_e a b q h);
+      stored = λ a b q h o. stored_now e H (listing_of e) mine_e unrooted_e apart_e (λ own. stored_new H y.number e (mine_e own)) a b o (which_e a b q h);
+      marked = λ a b q h u. marked_now e H (listing_of e) mine_e unrooted_e apart_e (λ marked. (let both : false ≡ true = sym may.saved ∙ marked in absurd (cc))) a b u (which_e a b q h);
       same = λ c f r n o away.
-          (let off : y.number ≢ f.number = away (with_child (Some e) y) e (place_now e H (listing_of e) mine_e apart_e) (holds_now e H (listing_of e) mine_e apart_e) in
+          (let off : y.number ≢ f.number = away (with_child (Some e) y) e (place_now e H (listing_of e) mine_e unrooted_e apart_e) (holds_now e H (listing_of e) mine_e unrooted_e apart_e) in
           same_moved F H full full2 f.number (apart_e f.number off) (apart full y.number (full_listing e) full_are f.number off)
           (same_e c f (named_e c f (stands c r) n) o (away_before f.number away)));
-      same_root = λ none. absurd (stays_loaded e H (listing_of e) mine_e apart_e none);
-      rootless = rootless_now e H (listing_of e) mine_e apart_e;
-      rooted = rooted_now e H (listing_of e) mine_e apart_e;
+      same_root = λ none. absurd (stays_loaded e H (listing_of e) mine_e unrooted_e apart_e none);
+      rootless = rootless_now e H (listing_of e) mine_e unrooted_e apart_e;
+      rooted = rooted_now e H (listing_of e) mine_e unrooted_e apart_e;
     }
 
 -- what can be stored can be so in full
@@ -277,7 +276,14 @@ full_are d are = record {
 }
 
 pub changes_tied : ChangesTied
-changes_tied F full x next t p y d e at held own may are sound = changed F full x next t p y d at held own e may are (full_are e are) sound
+changes_tied F full x next t p y d e at held own may are sound =
+    changed F full x next t p y d at held e may are (full_are e are) sound (with_entries F y.number (listing_of e)) (λ o. entries_held F y.number (listing_of e) are)
+    (λ other is. absurd (other own)) (λ k ne. apart F y.number (listing_of e) are k ne)
+
+pub unstored_tied : UnstoredTied
+unstored_tied F full x next t p y d e at held other may are sound =
+    changed F full x next t p y d at held e may are (full_are e are) sound F (λ own. absurd (other own))
+    (λ off is. t.rootless (λ own. off (ap (λ (a : Row). a.origin) (sym (is_root F full x next t y d (place_at p x y at) held is)) ∙ own))) (λ k ne. refl)
 
 pub left_out_tied : LeftOutTied
 left_out_tied F full x next t p y d entries at held own are some = left_out F full x next t p y d at held own entries are some

@@ -1,11 +1,12 @@
 -- What keeps the invariant of a table: loads, and directories that go.
-use Rattle.std.proofs.Common.{◌≡◌, ◌≢◌, ◌+◌, ℕ, length, Some, inl, inr, sym, ◌∙◌, subst, arith}
+use Rattle.std.proofs.Common.{◌≡◌, ◌≢◌, ◌≤◌, ◌+◌, ℕ, length, Some, inl, inr, sym, ◌∙◌, subst, arith}
 use Rattle.eden_model.specs.declared.kind.Origin.TheVariants as origin
 use Rattle.eden_overlay.specs.Files.{Stored}
 use Rattle.eden_tree.specs.Directory.{Row, with_child}
 use Rattle.eden_tree.specs.Paths.{edit_row}
 use Rattle.eden_tie.specs.Kept.{IsKept}
 use Rattle.eden_tie.specs.KeptLaws.{NextRises, StampsKept, ObjectLoadsKept, OwnLoadsKept, UnloadsKept, TablesUnload}
+use Rattle.eden_tie.specs.Ties.{Ties}
 use Rattle.eden_tie.specs.Unloading.{none, one_more, same_files}
 use Rattle.eden_tie.proofs.Chain.{place_at}
 use Rattle.eden_tie.proofs.Fine.{stamped_kept}
@@ -15,22 +16,19 @@ use Rattle.eden_tie.proofs.Objects.{none_inside, object_fresh, object_from, empt
 use Rattle.eden_tie.proofs.Sound.{ties_sound}
 use Rattle.eden_tie.proofs.Tables.{unloads_table}
 
+pub ties_rise : (F full : Stored) (x : Row) (next after : ℕ) → Ties F full x next → next ≤ after → Ties F full x after
+ties_rise F full x next after t rises = record {
+  fits = record { root = t.fits.root; sound = t.fits.sound; below = λ c e r n. (let less = t.fits.below c e r n in omega (arith, less, rises)); is_dir = t.fits.is_dir; held = t.fits.held };
+  stored = t.stored;
+  marked = t.marked;
+  same = t.same;
+  same_root = t.same_root;
+  rootless = t.rootless;
+  rooted = t.rooted;
+}
+
 pub next_rises : NextRises
-next_rises R F x next after k rises =
-    let t = k.ties in
-    record {
-      full = k.full;
-      ties = record {
-        fits = record { root = t.fits.root; sound = t.fits.sound; below = λ c e r n. (let less = t.fits.below c e r n in omega (arith, less, rises)); is_dir = t.fits.is_dir; held = t.fits.held };
-        stored = t.stored;
-        marked = t.marked;
-        same = t.same;
-        same_root = t.same_root;
-        rootless = t.rootless;
-        rooted = t.rooted;
-      };
-      agrees = k.agrees;
-    }
+next_rises R F x next after k rises = record { full = k.full; ties = ties_rise F k.full x next after k.ties rises; agrees = k.agrees }
 
 pub stamps_kept : StampsKept
 stamps_kept R F next clock x p k = stamped_kept R F x next k p clock

@@ -36,3 +36,6 @@ pub mod ChainKept
 pub mod Strays
 pub mod StaysLoaded
 pub mod ChainLaws
+pub mod Numbers
+pub mod Stands
+pub mod Storable

@@ -56,7 +56,7 @@ if_some None P z h is = absurd (cc)
 if_some (Some w) P z h is = subst P (same_Some w z is) h
 
 -- what is loaded stays
-loaded_with : (d : Directory) (n : Name) (o : Option Row) → AreRising (λ r. r.0) d.rows → MayGo d n
+pub loaded_with : (d : Directory) (n : Name) (o : Option Row) → AreRising (λ r. r.0) d.rows → MayGo d n
     → (m : Name) (w : Row) (c : Directory) → find_row m d.rows ≡ Some w → child_of w ≡ Some c → find_row m (changed d n o).rows ≡ Some w
 loaded_with d n o rising go m w c f k = elim (bytes_eq m n) as (λ b. bytes_eq m n ≡ b → find_row m (rows_with n o d.rows) ≡ Some w) [
   | true ↦ λ s.
@@ -83,7 +83,7 @@ left_there n (a ∷ es) e h = elim (bytes_eq n a.0) as (λ b. Contains (cond b e
 -- ---- one entry of a directory
 
 module _ (F full : Stored) (x : Row) (next : ℕ) (t : Ties F full x next) (p : Path) (y : Row) (d : Directory)
-    (at : row_at p x ≡ Some y) (held : child_of y ≡ Some d) (own : y.origin ≡ origin.Own) where
+    (at : row_at p x ≡ Some y) (held : child_of y ≡ Some d) where
   place_y : Place x y
   place_y = place_at p x y at
 
@@ -91,8 +91,8 @@ module _ (F full : Stored) (x : Row) (next : ℕ) (t : Ties F full x next) (p : 
   rising_d = rising_of full x next t.fits y d place_y held
 
   module _ (n : Name) (o : Option Row) (go : MayGo d n) (come : MayCome F full x next n o) where
-    may : MayBecome F full x next d (changed d n o)
-    may = record {
+    pub may_become : MayBecome F full x next d (changed d n o)
+    may_become = record {
       saved = refl;
       each = λ m w f. elim (from_with m n o d.rows w rising_d f) [
         | inl was ↦ inl was
@@ -107,7 +107,7 @@ module _ (F full : Stored) (x : Row) (next : ℕ) (t : Ties F full x next) (p : 
     abbrev rest : Directory
     rest = changed d n None
 
-    drops : Drops full y.number (full_listing d) (full_listing rest)
+    pub drops : Drops full y.number (full_listing d) (full_listing rest)
     drops = record {
       held = t.fits.held y d place_y held;
       are = full_are rest are;
@@ -116,17 +116,18 @@ module _ (F full : Stored) (x : Row) (next : ℕ) (t : Ties F full x next) (p : 
           subst (λ s. Contains (full_listing d) s) from.1.1 (contains_mapped full_entry d.rows from.0 (left_there n d.rows from.0 from.1.0)));
     }
 
-    dropped : Ties (with_entries F y.number (listing_of rest)) (with_entries full y.number (full_listing rest)) (with_listing p rest x) next
-    dropped =
-        changes_tied F full x next t p y d rest at held own (may n None go tt) are
-        (dropped_stay full y.number (full_listing d) (full_listing rest) drops t.fits.sound)
+    pub dropped_sound : AreSound (with_entries full y.number (full_listing rest))
+    dropped_sound = dropped_stay full y.number (full_listing d) (full_listing rest) drops t.fits.sound
+
+    dropped : y.origin ≡ origin.Own → Ties (with_entries F y.number (listing_of rest)) (with_entries full y.number (full_listing rest)) (with_listing p rest x) next
+    dropped own = changes_tied F full x next t p y d rest at held own (may_become n None go tt) are dropped_sound
 
 pub entry_tied : EntryTied
 entry_tied F full x next t p y d n o at held own go come are sound =
-    changes_tied F full x next t p y d (changed d n o) at held own (may F full x next t p y d at held own n o go come) are sound
+    changes_tied F full x next t p y d (changed d n o) at held own (may_become F full x next t p y d at held n o go come) are sound
 
 pub drop_tied : DropTied
-drop_tied F full x next t p y d n at held own go are = dropped F full x next t p y d at held own n go are
+drop_tied F full x next t p y d n at held own go are = dropped F full x next t p y d at held n go are own
 
 -- ---- from one directory to another
 
@@ -155,13 +156,13 @@ module _ (F full : Stored) (x : Row) (next : ℕ) (t : Ties F full x next) (p : 
   go = let P : Option Row → Type 0 = λ o. IfSome o (λ w. child_of w ≡ None) in subst P (sym there) shut
 
   t1 : Ties F1 full1 x1 next
-  t1 = dropped F full x next t p y d at held own n go are
+  t1 = dropped F full x next t p y d at held n go are own
 
   kept_are : AreStorable (full_listing kept)
   kept_are = full_are kept are
 
   fewer : Drops full y.number (full_listing d) (full_listing kept)
-  fewer = drops F full x next t p y d at held own n go are
+  fewer = drops F full x next t p y d at held n go are
 
   counts_y : IsLive full y.number
   counts_y = place_counts full x next t.fits y d on_y held
@@ -180,7 +181,7 @@ module _ (F full : Stored) (x : Row) (next : ℕ) (t : Ties F full x next) (p : 
   reached_then k c (below b e r m leads) = below b e (reached_then k b r) (named_then b e m) leads
 
   rising : AreRising (λ r. r.0) d.rows
-  rising = rising_d F full x next t p y d at held own
+  rising = rising_d F full x next t p y d at held
 
   -- what is left was there
   was_there : (m : Name) (w : Row) → find_row m kept.rows ≡ Some w → (find_row m d.rows ≡ Some w) ⊎ (child_of w ≡ None)
@@ -382,7 +383,7 @@ none_in F k es e h g there =
     omega (arith, within)
 
 module _ (F full : Stored) (x : Row) (next : ℕ) (t : Ties F full x next) (p : Path) (y : Row) (d : Directory) (n : Name) (z : Row) (w : Option (List ℕ))
-    (at : row_at p x ≡ Some y) (held : child_of y ≡ Some d) (own : y.origin ≡ origin.Own)
+    (at : row_at p x ≡ Some y) (held : child_of y ≡ Some d)
     (free_name : MayGo d n) (shut : child_of z ≡ None) (least : 2 ≤ z.number) (given : z.number < next) (unnamed : IsUnnamed full z.number)
     (filed : HoldsKind (put full z.number w) z.number z.kind) (empty : z.kind ≡ kind.Dir → HoldsEntries (put full z.number w) z.number [])
     (are : AreStorable (listing_of (changed d n (Some z)))) where
@@ -395,14 +396,14 @@ module _ (F full : Stored) (x : Row) (next : ℕ) (t : Ties F full x next) (p : 
   abbrev entry_new : StoredEntry
   entry_new = full_entry (n, z)
 
-  away_new : IsAway x z.number
+  pub away_new : IsAway x z.number
   away_new v e top k is = let root = t.fits.root in omega (arith, least, root, is)
   away_new v e (inside u c m q r k f) h is = unnamed u.number (full_entry (m, q)) (place_counts full x next t.fits u c r k) (named_full full x next t.fits u c m q r k f) is
 
   stray_new : IsStray full z.number
   stray_new = record { not_root = λ is. omega (arith, least, is); not_own = λ c e r k o. unnamed c e r k }
 
-  tied_file : Ties (put F z.number w) full_file x next
+  pub tied_file : Ties (put F z.number w) full_file x next
   tied_file = new_file F full x next t z.number w stray_new away_new
 
   unnamed_now : IsUnnamed full_file z.number
@@ -417,7 +418,7 @@ module _ (F full : Stored) (x : Row) (next : ℕ) (t : Ties F full x next) (p : 
   only_its : (k : ℕ) → Brings full_file entry_new k → z.number ≡ k
   only_its k brings = elim brings [ inl is ↦ is | inr under ↦ absurd (none_below under.0 under.1.directory under.1.entry under.1.reached under.1.named) ]
 
-  carried_new : IsCarried (put F z.number w) full_file x next entry_new
+  pub carried_new : IsCarried (put F z.number w) full_file x next entry_new
   carried_new = record {
     below = λ k brings. subst (λ j. j < next) (only_its k brings) given;
     away = λ k brings. subst (λ j. IsAway x j) (only_its k brings) away_new;
@@ -447,7 +448,7 @@ module _ (F full : Stored) (x : Row) (next : ℕ) (t : Ties F full x next) (p : 
     empty = λ leads. empty leads.0;
   }
 
-  sound_new : AreSound (with_entries full_file y.number (full_listing new_dir))
+  pub sound_new : AreSound (with_entries full_file y.number (full_listing new_dir))
   sound_new = added_stay full_file y.number (full_listing new_dir) counts_dir (full_are new_dir are)
       (λ e f c g is. elim (which_new e c) [
         | inl k ↦ elim (which_new f g) [
@@ -465,10 +466,10 @@ module _ (F full : Stored) (x : Row) (next : ℕ) (t : Ties F full x next) (p : 
       ])
       tied_file.fits.sound
 
-  new_tied : Ties (with_entries (put F z.number w) y.number (listing_of new_dir)) (with_entries full_file y.number (full_listing new_dir)) (with_listing p new_dir x) next
-  new_tied = entry_tied (put F z.number w) full_file x next tied_file p y d n (Some z) at held own free_name
+  new_tied : y.origin ≡ origin.Own → Ties (with_entries (put F z.number w) y.number (listing_of new_dir)) (with_entries full_file y.number (full_listing new_dir)) (with_listing p new_dir x) next
+  new_tied own = entry_tied (put F z.number w) full_file x next tied_file p y d n (Some z) at held own free_name
       (shut, (let P : StoredEntry → Type 0 = λ s. IsCarried (put F z.number w) full_file x next s in subst P (entry_as_is n z shut) carried_new)) are sound_new
 
 pub new_entry_tied : NewEntryTied
 new_entry_tied F full x next t p y d n z w at held own free_name shut least given unnamed filed empty are =
-    new_tied F full x next t p y d n z w at held own free_name shut least given unnamed filed empty are
+    new_tied F full x next t p y d n z w at held free_name shut least given unnamed filed empty are own

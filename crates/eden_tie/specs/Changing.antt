@@ -41,6 +41,14 @@ ChangesTied = (F full : Stored) (x : Row) (next : ℕ) → Ties F full x next
     → AreSound (with_entries full y.number (full_listing e))
     → Ties (with_entries F y.number (listing_of e)) (with_entries full y.number (full_listing e)) (with_listing p e x) next
 
+-- one that isn't its own may become another in memory alone: nothing tells what is stored of it
+abbrev pub UnstoredTied : Type 0
+UnstoredTied = (F full : Stored) (x : Row) (next : ℕ) → Ties F full x next
+    → (p : Path) (y : Row) (d e : Directory) → row_at p x ≡ Some y → child_of y ≡ Some d → y.origin ≢ origin.Own
+    → MayBecome F full x next d e → AreStorable (listing_of e)
+    → AreSound (with_entries full y.number (full_listing e))
+    → Ties F (with_entries full y.number (full_listing e)) (with_listing p e x) next
+
 -- a directory of its own may be stored with entries left out, once it is marked unsaved
 abbrev pub LeftOutTied : Type 0
 LeftOutTied = (F full : Stored) (x : Row) (next : ℕ) → Ties F full x next

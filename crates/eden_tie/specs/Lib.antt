@@ -11,3 +11,4 @@ pub mod Materialising
 pub mod Changing
 pub mod Chains
 pub mod ChainLaws
+pub mod Standing

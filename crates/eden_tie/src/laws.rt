@@ -1,6 +1,6 @@
 ghost use Rattle.eden_tie.specs.Laws.{TiesSound, NumbersBelow, RowsNumbered, RowsOnce, GoesTied, StraysTied, ChildrenTied, RootTied};
 ghost use Rattle.eden_tie.specs.Materialising.{MarkedIs, ChainSound, ChainTied};
-ghost use Rattle.eden_tie.specs.Changing.{ChangesTied, LeftOutTied, EntryTied, DropTied, MoveTied, NewFileTied, MovesKept, NewEntryTied};
+ghost use Rattle.eden_tie.specs.Changing.{ChangesTied, UnstoredTied, LeftOutTied, EntryTied, DropTied, MoveTied, NewFileTied, MovesKept, NewEntryTied};
 
 /// What ties a table to its files, and what keeps it tied.
 pub fn tie_laws()
@@ -16,6 +16,7 @@ pub fn tie_laws()
     ensures chain_sound { ChainSound }
     ensures chain { ChainTied }
     ensures changes { ChangesTied }
+    ensures unstored { UnstoredTied }
     ensures left_out { LeftOutTied }
     ensures entry { EntryTied }
     ensures drops { DropTied }

@@ -1,6 +1,11 @@
 ghost use Rattle.eden_tie.specs.ChainLaws.{OwnedTable, OwnedStays, OwnedSaved, OwnedKept, OwnedAlike, RefusedKept, RefusedAlike};
+ghost use Rattle.eden_tie.specs.Standing.{DropStorable, EntryStorable};
 
-/// What a chain of directories that becomes the mount's own keeps of a table, and what is shown then.
+/// What a chain of directories that becomes the mount's own keeps of a table, and what is shown then; and which listings
+/// can be stored.
+///
+/// What may stand under a name of a loaded directory is said over an outside that may be honest: so what that keeps and
+/// shows are lemmas, `stands_table`, `stands_kept`, `stands_grafts` and two more (`proofs/CallerLemmas`).
 pub fn chain_laws()
     ensures table { OwnedTable }
     ensures stays { OwnedStays }
@@ -9,4 +14,6 @@ pub fn chain_laws()
     ensures alike { OwnedAlike }
     ensures refused_kept { RefusedKept }
     ensures refused_alike { RefusedAlike }
+    ensures drop_storable { DropStorable }
+    ensures entry_storable { EntryStorable }
 {}

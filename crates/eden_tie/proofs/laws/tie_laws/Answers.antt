@@ -3,7 +3,7 @@ use Rattle.eden_tie.proofs.Chain.{children_tied, strays_tied, root_tied}
 use Rattle.eden_tie.proofs.Going.{goes_tied}
 use Rattle.eden_tie.proofs.Chains.{marked_is}
 use Rattle.eden_tie.proofs.Materialised.{chain_sound, chain_tied}
-use Rattle.eden_tie.proofs.Changing.{changes_tied, left_out_tied}
+use Rattle.eden_tie.proofs.Changing.{changes_tied, unstored_tied, left_out_tied}
 use Rattle.eden_tie.proofs.Moved.{entry_tied, drop_tied, move_tied, new_file_tied, moves_kept, new_entry_tied}
 use Rattle.eden_tie.proofs.laws.tie_laws.Goals as goal
 
@@ -33,6 +33,9 @@ returns-clause-chain c = chain_tied
 
 pub returns-clause-changes : goal.returns-clause-changes
 returns-clause-changes c = changes_tied
+
+pub returns-clause-unstored : goal.returns-clause-unstored
+returns-clause-unstored c = unstored_tied
 
 pub returns-clause-left_out : goal.returns-clause-left_out
 returns-clause-left_out c = left_out_tied

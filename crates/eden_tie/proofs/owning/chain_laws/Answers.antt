@@ -1,4 +1,5 @@
 use Rattle.eden_tie.proofs.ChainLaws.{owned_table, owned_stays, owned_saved, owned_kept, owned_alike, refused_kept, refused_alike}
+use Rattle.eden_tie.proofs.Storable.{drop_storable, entry_storable}
 use Rattle.eden_tie.proofs.owning.chain_laws.Goals as goal
 
 pub returns-clause-table : goal.returns-clause-table
@@ -21,3 +22,9 @@ returns-clause-refused_kept c = refused_kept
 
 pub returns-clause-refused_alike : goal.returns-clause-refused_alike
 returns-clause-refused_alike c = refused_alike
+
+pub returns-clause-drop_storable : goal.returns-clause-drop_storable
+returns-clause-drop_storable c = drop_storable
+
+pub returns-clause-entry_storable : goal.returns-clause-entry_storable
+returns-clause-entry_storable c = entry_storable

@@ -1,0 +1,42 @@
+use Rattle.eden_materialise.proofs.Listings.{changes_table, changes_saved, changes_stay, changes_kept_then, changes_shown, changes_unseen}
+use Rattle.eden_materialise.proofs.entry_change.change_entry.Goals as goal
+
+pub change-requires-clause-table : goal.change-requires-clause-table
+change-requires-clause-table g c files root answer does =
+    let t = c.args.inodes.now in
+    changes_table g.W.World.honest g.W.World.repository c.args.path.now c.args.name.now c.args.entry (g.F.Files.stored t.files) t.root (g.F.Files.failures t.files)
+    (g.F.Files.stored files) root (g.F.Files.failures files) t.next c.holds.ensures.table c.requires.may answer does
+
+pub change-requires-clause-kept : goal.change-requires-clause-kept
+change-requires-clause-kept g c h files root answer does =
+    let t = c.args.inodes.now in
+    changes_kept_then g.W.World.honest g.W.World.repository c.args.path.now c.args.name.now c.args.entry (g.F.Files.stored t.files) t.root (g.F.Files.failures t.files)
+    (g.F.Files.stored files) root (g.F.Files.failures files) t.next c.holds.ensures.table c.requires.may h (c.holds.ensures.kept h) answer does
+
+pub returns-clause-shown : goal.returns-clause-shown
+returns-clause-shown g c h =
+    let t = c.args.inodes.now in
+    let then = c.change.new.self in
+    changes_shown g.W.World.honest g.W.World.repository c.args.path.now c.args.name.now c.args.entry (g.F.Files.stored t.files) t.root (g.F.Files.failures t.files)
+    (g.F.Files.stored then.files) then.root (g.F.Files.failures then.files) t.next c.holds.ensures.table c.requires.may h (c.holds.ensures.kept h) c.change.result c.change.ensures.does
+
+pub returns-clause-unseen : goal.returns-clause-unseen
+returns-clause-unseen g c h =
+    let t = c.args.inodes.now in
+    let then = c.change.new.self in
+    changes_unseen g.W.World.honest g.W.World.repository c.args.path.now c.args.name.now c.args.entry (g.F.Files.stored t.files) t.root (g.F.Files.failures t.files)
+    (g.F.Files.stored then.files) then.root (g.F.Files.failures then.files) t.next c.holds.ensures.table c.requires.may h (c.holds.ensures.kept h) c.change.result c.change.ensures.does
+
+pub returns-clause-saved : goal.returns-clause-saved
+returns-clause-saved g c all =
+    let t = c.args.inodes.now in
+    let then = c.change.new.self in
+    changes_saved g.W.World.honest g.W.World.repository c.args.path.now c.args.name.now c.args.entry (g.F.Files.stored t.files) t.root (g.F.Files.failures t.files)
+    (g.F.Files.stored then.files) then.root (g.F.Files.failures then.files) t.next c.holds.ensures.table c.requires.may c.change.result c.change.ensures.does all
+
+pub returns-clause-stays : goal.returns-clause-stays
+returns-clause-stays g c =
+    let t = c.args.inodes.now in
+    let then = c.change.new.self in
+    changes_stay g.W.World.honest g.W.World.repository c.args.path.now c.args.name.now c.args.entry (g.F.Files.stored t.files) t.root (g.F.Files.failures t.files)
+    (g.F.Files.stored then.files) then.root (g.F.Files.failures then.files) t.next c.holds.ensures.table c.requires.may c.change.result c.change.ensures.does
