@@ -6,3 +6,4 @@ mod Order
 mod Moves
 mod Listings
 mod Chains
+mod Reforms

@@ -4,3 +4,4 @@ pub mod Chains
 pub mod Moves
 pub mod Faults
 pub mod Listings
+pub mod Reforms

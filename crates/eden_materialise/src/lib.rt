@@ -13,7 +13,9 @@ mod listing;
 mod memory;
 mod moving;
 mod owning;
+mod reform;
 
 pub use entry_change::change_entry;
 pub use moving::move_entry;
 pub use owning::materialise;
+pub use reform::set_kind;
