@@ -9,3 +9,4 @@ mod Within
 mod Counts
 mod EntryMoves
 mod Chains
+mod Reforms

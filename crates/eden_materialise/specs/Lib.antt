@@ -5,3 +5,4 @@ pub mod Moves
 pub mod Faults
 pub mod Listings
 pub mod EntryMoves
+pub mod Reforms

@@ -48,7 +48,7 @@ fn take_out<A: Allocator, W: World, F: Files<W>>(
 
 /// Puts an entry under a name of the directory at a path, in place of one that is there: into memory first, and then the
 /// chain is stored so. It is taken back where a store is refused.
-fn put_in<A: Allocator, W: World, F: Files<W>>(
+pub(crate) fn put_in<A: Allocator, W: World, F: Files<W>>(
     alloc: Global,
     root: &mut Entry<A>,
     overlay: &mut Overlay<W, F>,
@@ -96,12 +96,18 @@ impl<A: Allocator, W: World, F: Files<W>> Change<A, Overlay<W, F>> for EntryChan
     ghost does = { λ change old x new z answer. ChangesEntry W.honest change.path.now change.name.now change.entry (F.stored old) x (F.failures old) (F.stored new) z (F.failures new) answer };
 
     fn change(self, overlay: &mut Overlay<W, F>, entry: &mut Entry<A>) -> Result<(), Fault> {
-        match self.entry {
-            None => match take_out(self.alloc, entry, overlay, self.path, self.name) {
+        let EntryChange {
+            alloc,
+            path,
+            name,
+            entry: change,
+        } = self;
+        match change {
+            None => match take_out(alloc, entry, overlay, path, name) {
                 Ok(()) => return Ok(()),
                 Err(fault) => return Err(told(fault)),
             },
-            Some(new) => match put_in(self.alloc, entry, overlay, self.path, self.name, new) {
+            Some(new) => match put_in(alloc, entry, overlay, path, name, new) {
                 Ok(()) => return Ok(()),
                 Err(fault) => return Err(told(fault)),
             },

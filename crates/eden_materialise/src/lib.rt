@@ -14,8 +14,10 @@ mod listing;
 mod memory;
 mod moving;
 mod owning;
+mod reform;
 mod renaming;
 
 pub use entry_change::change_entry;
 pub use entry_move::move_entry;
 pub use owning::materialise;
+pub use reform::set_kind;

@@ -1,0 +1,22 @@
+use Rattle.eden_materialise.proofs.Chains.{told_fault}
+use Rattle.eden_materialise.proofs.entry_change.EntryChangeChangeOverlay.change.Goals as goal
+
+pub returns-in-Err : goal.returns-in-Err
+returns-in-Err g c = record {
+  ok = λ y d at h. tt;
+  stored = λ honest y d at h. tt;
+  err = c.in-Err.ensures.err;
+  strays = c.in-Err.ensures.strays;
+  fault = told_fault (g.F.Files.failures c.args.overlay.now) (g.F.Files.failures c.take_out.new.overlay) c.in-Err.fault c.told.result c.told.ensures c.in-Err.ensures.counted;
+  counted = tt;
+}
+
+pub returns-in-Err-put_in : goal.returns-in-Err-put_in
+returns-in-Err-put_in g c = record {
+  ok = λ y d at h. tt;
+  stored = λ honest y d at h. tt;
+  err = c.in-Err-put_in.ensures.err;
+  strays = c.in-Err-put_in.ensures.strays;
+  fault = told_fault (g.F.Files.failures c.args.overlay.now) (g.F.Files.failures c.put_in.new.overlay) c.in-Err-put_in.fault c.told-in-Err-put_in.result c.told-in-Err-put_in.ensures c.in-Err-put_in.ensures.counted;
+  counted = tt;
+}

@@ -1,0 +1,91 @@
+use Rattle.std.proofs.Common.{Some}
+use Rattle.eden_tree.specs.Directory.{Row}
+use Rattle.eden_materialise.specs.Reforms.{of_kind}
+use Rattle.eden_materialise.proofs.Listings.{changes_table, changes_saved, changes_stay, changes_kept_then, changes_shown, changes_unseen}
+use Rattle.eden_materialise.proofs.Reforms.{may_reform}
+use Rattle.eden_materialise.proofs.reform.set_kind.Goals as goal
+
+pub change-requires-clause-may : goal.change-requires-clause-may
+change-requires-clause-may g c =
+    let t = c.args.inodes.now in
+    let w = c.requires.there.0 in
+    record {
+      entry = w;
+      has = c.requires.there.1;
+      other = c.requires.file;
+      held = record {
+        next = t.next;
+        table = c.holds.ensures.table;
+        kept = c.holds.ensures.kept;
+        may = may_reform g.W.World.honest g.W.World.repository (g.F.Files.stored t.files) t.root t.next c.args.path.now c.args.name.now c.args.kind w c.holds.ensures.table c.requires.there.1 c.requires.file;
+      };
+    }
+
+pub change-requires-clause-table : goal.change-requires-clause-table
+change-requires-clause-table g c files root answer does =
+    let t = c.args.inodes.now in
+    let w = c.requires.there.0 in
+    let F = g.F.Files.stored t.files in
+    let may = may_reform g.W.World.honest g.W.World.repository F t.root t.next c.args.path.now c.args.name.now c.args.kind w c.holds.ensures.table c.requires.there.1 c.requires.file in
+    changes_table g.W.World.honest g.W.World.repository c.args.path.now c.args.name.now (Some (of_kind c.args.kind w)) F t.root (g.F.Files.failures t.files)
+    (g.F.Files.stored files) root (g.F.Files.failures files) t.next c.holds.ensures.table may answer (does w c.requires.there.1)
+
+pub change-requires-clause-kept : goal.change-requires-clause-kept
+change-requires-clause-kept g c h files root answer does =
+    let t = c.args.inodes.now in
+    let w = c.requires.there.0 in
+    let F = g.F.Files.stored t.files in
+    let may = may_reform g.W.World.honest g.W.World.repository F t.root t.next c.args.path.now c.args.name.now c.args.kind w c.holds.ensures.table c.requires.there.1 c.requires.file in
+    changes_kept_then g.W.World.honest g.W.World.repository c.args.path.now c.args.name.now (Some (of_kind c.args.kind w)) F t.root (g.F.Files.failures t.files)
+    (g.F.Files.stored files) root (g.F.Files.failures files) t.next c.holds.ensures.table may h (c.holds.ensures.kept h) answer (does w c.requires.there.1)
+
+pub returns-clause-shown : goal.returns-clause-shown
+returns-clause-shown g c h w has =
+    let t = c.args.inodes.now in
+    let then = c.change.new.self in
+    let F = g.F.Files.stored t.files in
+    let may = may_reform g.W.World.honest g.W.World.repository F t.root t.next c.args.path.now c.args.name.now c.args.kind w c.holds.ensures.table has c.requires.file in
+    changes_shown g.W.World.honest g.W.World.repository c.args.path.now c.args.name.now (Some (of_kind c.args.kind w)) F t.root (g.F.Files.failures t.files)
+    (g.F.Files.stored then.files) then.root (g.F.Files.failures then.files) t.next c.holds.ensures.table may h (c.holds.ensures.kept h) c.change.result (c.change.ensures.does w has)
+
+pub returns-clause-unseen : goal.returns-clause-unseen
+returns-clause-unseen g c h =
+    let t = c.args.inodes.now in
+    let then = c.change.new.self in
+    let w = c.requires.there.0 in
+    let F = g.F.Files.stored t.files in
+    let may = may_reform g.W.World.honest g.W.World.repository F t.root t.next c.args.path.now c.args.name.now c.args.kind w c.holds.ensures.table c.requires.there.1 c.requires.file in
+    changes_unseen g.W.World.honest g.W.World.repository c.args.path.now c.args.name.now (Some (of_kind c.args.kind w)) F t.root (g.F.Files.failures t.files)
+    (g.F.Files.stored then.files) then.root (g.F.Files.failures then.files) t.next c.holds.ensures.table may h (c.holds.ensures.kept h) c.change.result (c.change.ensures.does w c.requires.there.1)
+
+pub returns-clause-saved : goal.returns-clause-saved
+returns-clause-saved g c all =
+    let t = c.args.inodes.now in
+    let then = c.change.new.self in
+    let w = c.requires.there.0 in
+    let F = g.F.Files.stored t.files in
+    let may = may_reform g.W.World.honest g.W.World.repository F t.root t.next c.args.path.now c.args.name.now c.args.kind w c.holds.ensures.table c.requires.there.1 c.requires.file in
+    changes_saved g.W.World.honest g.W.World.repository c.args.path.now c.args.name.now (Some (of_kind c.args.kind w)) F t.root (g.F.Files.failures t.files)
+    (g.F.Files.stored then.files) then.root (g.F.Files.failures then.files) t.next c.holds.ensures.table may c.change.result (c.change.ensures.does w c.requires.there.1) all
+
+pub returns-clause-stays : goal.returns-clause-stays
+returns-clause-stays g c =
+    let t = c.args.inodes.now in
+    let then = c.change.new.self in
+    let w = c.requires.there.0 in
+    let F = g.F.Files.stored t.files in
+    let may = may_reform g.W.World.honest g.W.World.repository F t.root t.next c.args.path.now c.args.name.now c.args.kind w c.holds.ensures.table c.requires.there.1 c.requires.file in
+    changes_stay g.W.World.honest g.W.World.repository c.args.path.now c.args.name.now (Some (of_kind c.args.kind w)) F t.root (g.F.Files.failures t.files)
+    (g.F.Files.stored then.files) then.root (g.F.Files.failures then.files) t.next c.holds.ensures.table may c.change.result (c.change.ensures.does w c.requires.there.1)
+
+pub returns-clause-ok : goal.returns-clause-ok
+returns-clause-ok g c w has = (c.change.ensures.does w has).ok
+
+pub returns-clause-err : goal.returns-clause-err
+returns-clause-err g c = (c.change.ensures.does c.requires.there.0 c.requires.there.1).err
+
+pub returns-clause-fault : goal.returns-clause-fault
+returns-clause-fault g c = (c.change.ensures.does c.requires.there.0 c.requires.there.1).fault
+
+pub returns-clause-counted : goal.returns-clause-counted
+returns-clause-counted g c = (c.change.ensures.does c.requires.there.0 c.requires.there.1).counted

@@ -1,0 +1,105 @@
+//! A file of another kind in the table of a mount.
+
+ghost use Rattle.std.specs.Prelude.{◌≡◌, ◌≢◌, ◌∷◌, [], ◌++◌, ◌+◌, min, Some, None, IfErr, OnOk, OnErr};
+ghost use Rattle.eden_model.specs.declared.kind.Kind.TheVariants as kinds;
+ghost use Rattle.eden_model.specs.Trees.{graft};
+ghost use Rattle.eden_tree.specs.Directory.{Row};
+ghost use Rattle.eden_tie.specs.Chains.{AreSaved, StaysLoaded, chained};
+ghost use Rattle.eden_tie.specs.Changing.{changed};
+ghost use Rattle.eden_tie.specs.Shown.{shown_in};
+ghost use Rattle.eden_tie.specs.ShownLaws.{shown_from};
+ghost use Rattle.eden_materialise.specs.Faults.{IsStoreFault};
+ghost use Rattle.eden_materialise.specs.Listings.{ChangesEntry};
+ghost use Rattle.eden_materialise.specs.Puts.{AtDirectory};
+ghost use Rattle.eden_materialise.specs.Reforms.{HasFile, of_kind, IsHeldFile};
+
+use crate::entry_change::put_in;
+use crate::fault::told;
+use eden_inode::Inodes;
+use eden_model::{Fault, Kind, Name, World};
+use eden_overlay::{Files, Overlay};
+use eden_tree::{Change, Entry};
+use std::alloc::{Allocator, Global};
+
+/// A copy of a file's entry, of another kind.
+fn with_kind<A: Allocator>(root: &Entry<A>, path: &[Name], name: &Name, kind: Kind) -> Entry<A>
+    requires { (w : Row) × HasFile root.now path.now name.now w }
+    ensures { (w : Row) → HasFile root.now path.now name.now w → result ≡ of_kind kind w }
+{
+    match root.walk(path) {
+        None => unreachable!(),
+        Some(above) => match above.directory() {
+            None => unreachable!(),
+            Some(dir) => match dir.get(name) {
+                None => unreachable!(),
+                Some(entry) => {
+                    return Entry {
+                        number: entry.number,
+                        kind,
+                        origin: entry.origin,
+                        child: None,
+                    };
+                }
+            },
+        },
+    }
+}
+
+/// The kind that a file is to have.
+#[derive(Drop)]
+struct KindChange<'a> {
+    alloc: Global,
+    path: &'a [Name],
+    name: &'a Name,
+    kind: Kind,
+}
+
+impl<A: Allocator, W: World, F: Files<W>> Change<A, Overlay<W, F>> for KindChange<'_> {
+    type Output = Result<(), Fault>;
+
+    ghost may = { λ change overlay x. IsHeldFile W.honest W.repository (F.stored overlay) x change.path.now change.name.now change.kind };
+
+    ghost does = { λ change old x new z answer. (w : Row) → HasFile x change.path.now change.name.now w → ChangesEntry W.honest change.path.now change.name.now (Some (of_kind change.kind w)) (F.stored old) x (F.failures old) (F.stored new) z (F.failures new) answer };
+
+    fn change(self, overlay: &mut Overlay<W, F>, entry: &mut Entry<A>) -> Result<(), Fault> {
+        let new = with_kind(entry, self.path, self.name, self.kind);
+        match put_in(self.alloc, entry, overlay, self.path, self.name, new) {
+            Ok(()) => return Ok(()),
+            Err(fault) => return Err(told(fault)),
+        }
+    }
+}
+
+/// Gives a file of the loaded directory at a path another kind, in place: its number, its origin and its content stay. The
+/// directory is stored so, and the chain above it as far as it isn't the mount's own; then memory is so.
+///
+/// The tree that is shown has the file so, and is as before elsewhere. Errors: `Overlay` where the device failed, and
+/// `Memory`. Memory is as it was then, and so is what is shown.
+pub fn set_kind<A: Allocator + Clone, W: World, F: Files<W>>(
+    inodes: &mut Inodes<A, W, F>,
+    alloc: Global,
+    path: &[Name],
+    name: &Name,
+    kind: Kind,
+) -> Result<(), Fault>
+    requires there { (w : Row) × HasFile inodes.old.root path.now name.now w }
+    requires file { kind ≢ kinds.Dir }
+    ensures ok { (w : Row) → HasFile inodes.old.root path.now name.now w → AtDirectory path.now inodes.old.root (λ y d. OnOk result (inodes.new.root ≡ chained path.now (changed d name.now (Some (of_kind kind w))) inodes.old.root)) }
+    ensures err { OnErr result (inodes.new.root ≡ inodes.old.root) }
+    ensures fault { IfErr result (IsStoreFault (F.failures inodes.old.files) (F.failures inodes.new.files)) }
+    ensures counted { OnOk result (F.failures inodes.new.files ≡ F.failures inodes.old.files) }
+    ensures shown { W.honest → (w : Row) → HasFile inodes.old.root path.now name.now w → OnOk result (shown_in W.repository (F.stored inodes.new.files) inodes.new.root ≡ graft (path.now ++ name.now ∷ []) (shown_from W.repository (F.stored inodes.new.files) (Some (of_kind kind w))) (shown_in W.repository (F.stored inodes.old.files) inodes.old.root)) }
+    ensures unseen { W.honest → OnErr result (shown_in W.repository (F.stored inodes.new.files) inodes.new.root ≡ shown_in W.repository (F.stored inodes.old.files) inodes.old.root) }
+    ensures saved { AreSaved inodes.old.root → AreSaved inodes.new.root }
+    ensures stays { StaysLoaded inodes.old.root inodes.new.root }
+    ensures changes { inodes.new.changes ≡ min (inodes.old.changes + 1) u64.MAX }
+    ensures rest { (inodes.new.next ≡ inodes.old.next) × (inodes.new.clock ≡ inodes.old.clock) }
+{
+    inodes.holds();
+    inodes.change(KindChange {
+        alloc,
+        path,
+        name,
+        kind,
+    })
+}
