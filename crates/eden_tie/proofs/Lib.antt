@@ -39,3 +39,4 @@ pub mod ChainLaws
 pub mod Numbers
 pub mod Stands
 pub mod Storable
+pub mod LooseFiles

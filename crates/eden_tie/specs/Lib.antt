@@ -12,3 +12,4 @@ pub mod Changing
 pub mod Chains
 pub mod ChainLaws
 pub mod Standing
+pub mod Loose
