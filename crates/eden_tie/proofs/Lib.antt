@@ -44,3 +44,4 @@ pub mod Numbers
 pub mod Stands
 pub mod Storable
 pub mod Staying
+pub mod LooseFiles

@@ -1,8 +1,7 @@
 -- A directory that can be stored, with one entry changed.
-use Rattle.std.proofs.Common.{◌≡◌, ◌<◌, ◌≤◌, ◌^◌, ◌⊎◌, ℕ, suc, true, false, cond, List, [], ◌∷◌, length, map, Option, Some, None, IsSome, inl, inr, refl, sym, ap, ◌∙◌, subst, arith}
+use Rattle.std.proofs.Common.{◌≡◌, ◌<◌, ◌≤◌, ◌^◌, ◌⊎◌, ℕ, suc, true, false, cond, List, [], ◌∷◌, length, map, Option, Some, None, IsSome, inl, inr, refl, sym, ap, subst, arith}
 use Rattle.std.specs.List.{AllByRecursion}
 use Rattle.std.specs.List.Sorted.{IsStrictlySortedBy}
-use Rattle.std.specs.Map.{keys_of}
 use Rattle.std.specs.Str.{bytes_eq}
 use Rattle.eden_model.specs.Named.{AreRising}
 use Rattle.eden_model.specs.Operations.{name_lt}
@@ -11,7 +10,7 @@ use Rattle.eden_overlay_format.specs.Directory.{AreStorable, IsStorable}
 use Rattle.eden_tree.specs.Directory.{Row, Directory}
 use Rattle.eden_tree.specs.Rows.{find_row, put_row, drop_row, set_row}
 use Rattle.eden_tree.proofs.CallerLemmas.{order, same-≡, AreRising-put_row, AreRising-drop_row, length-put_row, length-change_row}
-use Rattle.eden_tie.specs.Changing.{changed, rows_with, placed}
+use Rattle.eden_tie.specs.Changing.{placed}
 use Rattle.eden_tie.specs.Listings.{stored_entry, listing_of}
 use Rattle.eden_tie.specs.Standing.{DropStorable, EntryStorable}
 use Rattle.eden_tie.proofs.Rows.{names_stored, stored_rising}

@@ -13,3 +13,4 @@ pub mod Moving
 pub mod Chains
 pub mod ChainLaws
 pub mod Standing
+pub mod Loose

@@ -1,8 +1,9 @@
 ghost use Rattle.eden_tie.specs.ChainLaws.{OwnedTable, OwnedStays, OwnedSaved, OwnedKept, OwnedAlike, RefusedKept, RefusedAlike};
+ghost use Rattle.eden_tie.specs.Loose.{LooseSound, LooseKept, LooseAlike};
 ghost use Rattle.eden_tie.specs.Standing.{DropStorable, EntryStorable};
 
-/// What a chain of directories that becomes the mount's own keeps of a table, and what is shown then; and which listings
-/// can be stored.
+/// What a chain of directories that becomes the mount's own keeps of a table, and what is shown then; which listings can
+/// be stored, and which files nothing has as its own.
 ///
 /// What may stand under a name of a loaded directory is said over an outside that may be honest: so what that keeps and
 /// shows are lemmas, `stands_table`, `stands_kept`, `stands_grafts` and two more (`proofs/CallerLemmas`).
@@ -16,4 +17,7 @@ pub fn chain_laws()
     ensures refused_alike { RefusedAlike }
     ensures drop_storable { DropStorable }
     ensures entry_storable { EntryStorable }
+    ensures loose_sound { LooseSound }
+    ensures loose_kept { LooseKept }
+    ensures loose_alike { LooseAlike }
 {}

@@ -1,4 +1,5 @@
 use Rattle.eden_tie.proofs.ChainLaws.{owned_table, owned_stays, owned_saved, owned_kept, owned_alike, refused_kept, refused_alike}
+use Rattle.eden_tie.proofs.LooseFiles.{loose_sound, loose_kept, loose_alike}
 use Rattle.eden_tie.proofs.Storable.{drop_storable, entry_storable}
 use Rattle.eden_tie.proofs.owning.chain_laws.Goals as goal
 
@@ -28,3 +29,12 @@ returns-clause-drop_storable c = drop_storable
 
 pub returns-clause-entry_storable : goal.returns-clause-entry_storable
 returns-clause-entry_storable c = entry_storable
+
+pub returns-clause-loose_sound : goal.returns-clause-loose_sound
+returns-clause-loose_sound c = loose_sound
+
+pub returns-clause-loose_kept : goal.returns-clause-loose_kept
+returns-clause-loose_kept c = loose_kept
+
+pub returns-clause-loose_alike : goal.returns-clause-loose_alike
+returns-clause-loose_alike c = loose_alike
