@@ -23,7 +23,7 @@ use Rattle.eden_mount.specs.Replying.{ToldBy, WaitsBy}
 
 -- ---- start
 
--- why a request isn't taken: each fault has its own case, and no two but the last two hold together
+-- why a request isn't taken: each fault has its own case, and no two hold together
 abbrev pub IsRefused : {T : Type 0} → Core T → ℕ → StartFault → Type 0
 IsRefused m c NoPass = ¬ IsPass c m.queue
 IsRefused m c Busy = IsPass c m.queue × (s : Pending) × Pends c s m

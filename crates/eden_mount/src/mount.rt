@@ -87,6 +87,13 @@ impl<W: World, T: Attempts<W> + Drop, A: Allocator> Mount<W, T, A> {
         let _ = &self.table;
     }
 
+    /// How many passes there are.
+    pub fn passes(&self) -> u32
+        ensures { result ≡ self.now.queue.passes }
+    {
+        self.imports.passes()
+    }
+
     /// The entries so far.
     pub fn history(&self) -> &[Entry]
         ensures entries { result.now ≡ self.now.history }
