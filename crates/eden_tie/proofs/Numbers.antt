@@ -1,5 +1,5 @@
 -- What comes to stand in a directory, by its number: it is carried, and the files `full` stay sound with it.
-use Rattle.std.proofs.Common.{◌≡◌, ◌≢◌, ◌≤◌, ◌<◌, ◌⊎◌, ℕ, true, false, cond, if◌then◌else◌, ◌==◌, [], Option, Some, None, IfSome, Contains, inl, inr, refl, sym, ap, ◌∙◌, subst, arith}
+use Rattle.std.proofs.Common.{◌≡◌, ◌≢◌, ◌≤◌, ◌<◌, ◌⊎◌, ℕ, [], Some, None, Contains, inl, inr, refl, sym, ap, ◌∙◌, subst, arith}
 use Rattle.std.proofs.Math.Path.{fun_ext}
 use Rattle.std.proofs.lemmas.Option.{same_Some}
 use Rattle.eden_model.specs.declared.kind.Kind.{Kind}
@@ -10,8 +10,8 @@ use Rattle.eden_overlay_format.specs.Directory.{AreStorable, number_least}
 use Rattle.eden_overlay_format.specs.declared.stored_entry.StoredEntry.{StoredEntry}
 use Rattle.eden_overlay.specs.Files.{Stored, put}
 use Rattle.eden_overlay.specs.Held.{HoldsEntries, with_entries}
-use Rattle.eden_overlay.specs.Soundness.{Names, LeadsOn, IsLive, HoldsKind, AreSound}
-use Rattle.eden_overlay.specs.Laws.{Brings, IsStray, IsFresh}
+use Rattle.eden_overlay.specs.Soundness.{Names, IsLive, HoldsKind, AreSound}
+use Rattle.eden_overlay.specs.Laws.{IsStray, IsFresh}
 use Rattle.eden_overlay.proofs.CallerLemmas.{same_or_apart, put_here, put_apart, kind_moved, added_stay, numbers_from_two}
 use Rattle.eden_tree.specs.Directory.{Row, Directory, child_of}
 use Rattle.eden_tree.specs.Rows.{find_row}
