@@ -1,5 +1,5 @@
 -- An entry put into a directory, and taken back.
-use Rattle.std.proofs.Common.{◌≡◌, Bool, false, Option, IsSome, IsSomeAnd, IfSome, IfNone, Some, None, refl, sym, ap, ◌∙◌, subst}
+use Rattle.std.proofs.Common.{◌≡◌, Bool, false, Option, IfSome, IfNone, Some, None, refl, sym, ap, ◌∙◌, subst}
 use Rattle.std.proofs.lemmas.Option.{same_Some, none-some}
 use Rattle.std.specs.Option.{option_map}
 use Rattle.eden_model.specs.Trees.{Name, Path}
@@ -61,21 +61,3 @@ taken_back q n w entry mark x z t s None p none c = absurd (none-some p.after (s
 taken_back q n w entry mark x z t s (Some a) p none c =
     let here : p.after ≡ c.before = same_Some p.after c.before (sym (put_there q n w entry mark x z p) ∙ c.was) in
     put_back_at q n w entry mark x z t p c.after (c.done p.before w (subst (IsPut n w entry mark p.before) here p.put)) c.is
-
--- ---- a loaded directory at a path, told and found
-
-pub loaded_there : (p : Path) (x y : Row) (d : Directory) → row_at p x ≡ Some y → child_of y ≡ Some d → IsSomeAnd (row_at p x) (λ r. IsSome (child_of r))
-loaded_there p x y d at h =
-    let P : Option Directory → Type 0 = λ o. IsSome o in
-    subst (λ (o : Option Row). IsSomeAnd o (λ r. IsSome (child_of r))) (sym at) (subst P (sym h) refl)
-
-pub loaded_found : (p : Path) (x : Row) → IsSomeAnd (row_at p x) (λ r. IsSome (child_of r)) → (y : Row) × ((d : Directory) × ((row_at p x ≡ Some y) × (child_of y ≡ Some d)))
-loaded_found p x loaded = by_row (row_at p x) loaded
-  where
-    by_child : (y : Row) (o : Option Directory) → IsSome o → (d : Directory) × (o ≡ Some d)
-    by_child y None h = absurd (cc)
-    by_child y (Some d) h = (d, refl)
-
-    by_row : (o : Option Row) → IsSomeAnd o (λ r. IsSome (child_of r)) → (y : Row) × ((d : Directory) × ((o ≡ Some y) × (child_of y ≡ Some d)))
-    by_row None h = absurd h
-    by_row (Some y) h = let c = by_child y (child_of y) h in (y, (c.0, (refl, c.1)))

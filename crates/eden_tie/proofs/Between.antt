@@ -1,5 +1,5 @@
 -- The other directory of a move, once the entry is left out of the first.
-use Rattle.std.proofs.Common.{◌≡◌, ◌≢◌, ◌≤◌, ◌+◌, ℕ, true, false, cond, [], ◌∷◌, ◌++◌, length, Option, IsSome, IfSome, Some, None, refl, sym, ap, ◌∙◌, subst, inl, inr, arith}
+use Rattle.std.proofs.Common.{◌≡◌, ◌≢◌, ◌≤◌, ℕ, true, false, cond, [], ◌∷◌, ◌++◌, length, Option, IsSome, IfSome, Some, None, refl, sym, ap, ◌∙◌, subst, inl, inr, arith}
 use Rattle.std.specs.Str.{bytes_eq}
 use Rattle.std.specs.Option.{option_map, option_and_then}
 use Rattle.std.proofs.lemmas.Option.{same_Some}
@@ -12,14 +12,14 @@ use Rattle.eden_tree.specs.Rows.{find_row, change_row}
 use Rattle.eden_tree.specs.Paths.{row_at, edit_row}
 use Rattle.eden_tree.proofs.CallerLemmas.{same-≡, same-≢, child_of-with_child, change_rows-held, find_row-drop_row, find_row-change_row, length-change_row, steps_down}
 use Rattle.eden_tie.specs.Listings.{listing_of}
-use Rattle.eden_tie.specs.Changing.{MayGo, MayMove, MayChange, changed, with_listing}
+use Rattle.eden_tie.specs.Changing.{HasRoom, MayGo, MayMove, MayChange, changed, with_listing}
 use Rattle.eden_tie.specs.Kept.{IsTable}
-use Rattle.eden_tie.specs.Moving.{CanMove, HasRoom, MovesThere, ReplacesThere}
+use Rattle.eden_tie.specs.Moving.{CanMove, MovesThere, ReplacesThere}
 use Rattle.eden_tie.proofs.Rows.{and_then_some, stored_rising}
 use Rattle.eden_tie.proofs.Chain.{place_at, root_loaded}
 use Rattle.eden_tie.proofs.Changed.{listing_table}
 use Rattle.eden_tie.proofs.Moved.{if_some}
-use Rattle.eden_tie.proofs.Room.{never_more, stored_found, without_storable, with_storable}
+use Rattle.eden_tie.proofs.Storable.{length_dropped, stored_found, drop_storable, entry_storable}
 
 -- ---- both are there
 
@@ -75,7 +75,7 @@ module _ (n m : Name) (z : Row) (shut : child_of z ≡ None) (source target : Di
         origin = ap (λ (a : Row). a.origin) (same_Some x to at_q);
         found = same_row m (same-≢ m n (λ is. other (ap (λ (k : Name). k ∷ []) (sym is)))) ∙ ap (λ (d : Directory). find_row m d.rows) one;
         fewer =
-            let less = never_more n source.rows (length source.rows + 1) (omega arith) in
+            let less = length_dropped n source.rows in
             let P : Directory → Type 0 = λ d. length kept.rows ≤ length d.rows in
             subst P one (omega (arith, less));
       }
@@ -84,9 +84,9 @@ module _ (n m : Name) (z : Row) (shut : child_of z ≡ None) (source target : Di
       let one : u.directory ≡ source = same_Some u.directory source (sym u.holds ∙ ap child_of (same_Some x from at_p) ∙ held) in
       let found : find_row a source.rows ≡ Some u.row = ap (λ (d : Directory). find_row a d.rows) (sym one) ∙ u.there in
       let off : bytes_eq a n ≡ false = same-≢ a n (λ is.
-          (let same : z ≡ u.row = same_Some z u.row (sym there ∙ ap (λ (k : Name). find_row k source.rows) (sym is) ∙ found) in
-          let P : Row → Type 0 = λ w. row_at s w ≡ Some to in
-          not_through s (subst P (sym same) u.rest))) in
+      (let same : z ≡ u.row = same_Some z u.row (sym there ∙ ap (λ (k : Name). find_row k source.rows) (sym is) ∙ found) in
+      let P : Row → Type 0 = λ w. row_at s w ≡ Some to in
+      not_through s (subst P (sym same) u.rest))) in
       record {
         row = to;
         directory = target;
@@ -102,8 +102,8 @@ module _ (n m : Name) (z : Row) (shut : child_of z ≡ None) (source target : Di
       let now : Directory = record u.directory { rows = change_row b k u.directory.rows } in
       let one : u.directory ≡ target = same_Some u.directory target (sym u.holds ∙ ap child_of (same_Some x to at_q) ∙ holds) in
       let off : bytes_eq m b ≡ false = same-≢ m b (λ is.
-          (let found : find_row m target.rows ≡ Some u.row = ap (λ (d : Directory). find_row m d.rows) (sym one) ∙ ap (λ (j : Name). find_row j u.directory.rows) is ∙ u.there in
-          root_loaded u.row from source (place_at r u.row from u.rest) held (if_some (find_row m target.rows) (λ w. child_of w ≡ None) u.row go found))) in
+      (let found : find_row m target.rows ≡ Some u.row = ap (λ (d : Directory). find_row m d.rows) (sym one) ∙ ap (λ (j : Name). find_row j u.directory.rows) is ∙ u.there in
+      root_loaded u.row from source (place_at r u.row from u.rest) held (if_some (find_row m target.rows) (λ w. child_of w ≡ None) u.row go found))) in
       record {
         row = edit_row (b ∷ r) leaves x;
         directory = now;
@@ -160,7 +160,7 @@ module _ (x : Row) (next : ℕ) (p : Path) (n : Name) (q : Path) (m : Name) (tab
   listed_source = table.listed c.from c.source (place_at p x c.from c.at_from) c.holds_source
 
   entries_left : AreStorable (listing_of (changed c.source n None))
-  entries_left = without_storable c.source n listed_source
+  entries_left = drop_storable c.source n listed_source
 
   is_still : IsStill m q (with_listing p (changed c.source n None) x) c.to c.target
   is_still = still n m c.entry c.unloaded c.source c.target c.from c.to c.holds_source c.holds_target c.there
@@ -212,7 +212,7 @@ module _ (x : Row) (next : ℕ) (p : Path) (n : Name) (q : Path) (m : Name) (tab
     holds_target = is_still.holds;
     own_to = is_still.origin ∙ c.own_to;
     may_go = let P : Option Row → Type 0 = λ o. IfSome o (λ w. child_of w ≡ None) in subst P (sym is_still.found) c.may_go;
-    entries_put = with_storable m c.entry (stored_found n m c.entry c.source.rows listed_source.each c.there good) is_still.directory listed_target (still_room room);
+    entries_put = entry_storable is_still.directory m c.entry listed_target (stored_found n m c.entry c.source.rows listed_source.each c.there good) (still_room room);
   }
 
 pub moves_there : MovesThere

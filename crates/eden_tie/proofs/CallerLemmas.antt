@@ -35,7 +35,6 @@ pub use Rattle.eden_tie.proofs.ShownFull.{Backs, backs_tied}
 pub use Rattle.eden_tie.proofs.Backed.{backs_loaded, backs_stray, backed_alike}
 -- .. and what a listing that changes keeps of a table's invariant, and what is shown then
 pub use Rattle.eden_tie.proofs.Changed.{listing_table, listing_kept, listing_grafts}
-pub use Rattle.eden_tie.proofs.Sound.{ties_sound}
 -- a chain that becomes its own: its steps, what it keeps, and what is shown then
 pub use Rattle.eden_tie.proofs.Chained.{marked_are, Step, step, at_step, chain_from, chain_can, so_far, none_yet, above_back, unfinished_back}
 pub use Rattle.eden_tie.proofs.StaysLoaded.{loaded_there, Loaded, loaded_found}

@@ -12,7 +12,6 @@ pub mod Loops
 pub mod Forward
 pub mod Changing
 pub mod Moved
-pub mod Room
 pub mod Leaving
 pub mod Items
 pub mod Alike

@@ -1,5 +1,5 @@
 -- What is loaded, what is saved and the other files, once an entry moved.
-use Rattle.std.proofs.Common.{◌≡◌, ℕ, true, false, cond, [], ◌∷◌, Option, IsSome, IsSomeAnd, Some, None, inl, inr, refl, sym, ap, ◌∙◌, subst}
+use Rattle.std.proofs.Common.{◌≡◌, ℕ, true, false, cond, [], ◌∷◌, Option, Some, None, inl, inr, refl, sym, ap, ◌∙◌, subst}
 use Rattle.std.specs.Str.{bytes_eq}
 use Rattle.std.specs.Option.{option_map}
 use Rattle.std.proofs.lemmas.Option.{same_Some}
@@ -11,7 +11,7 @@ use Rattle.eden_tree.specs.Rows.{find_row, change_row}
 use Rattle.eden_tree.specs.Paths.{row_at, edit_row}
 use Rattle.eden_tree.proofs.CallerLemmas.{same-≡, child_of-with_child, change_rows-held, find_row-change_row, steps_down}
 use Rattle.eden_tie.specs.Listings.{listing_of}
-use Rattle.eden_tie.specs.Changing.{MayChange, MayMove, changed, with_listing, moved_in, files_left}
+use Rattle.eden_tie.specs.Changing.{MayChange, MayMove, changed, with_listing, moved_in, marked_source, files_left}
 use Rattle.eden_tie.specs.Kept.{IsTable}
 use Rattle.eden_tie.specs.Chains.{AreSaved}
 use Rattle.eden_tie.specs.Moving.{MovedStays, MarkedStays, MovedSaved, LeftElsewhere, MovedElsewhere}
@@ -23,30 +23,9 @@ use Rattle.eden_tie.proofs.Moved.{loaded_with, loaded_before}
 use Rattle.eden_tie.proofs.Changed.{inside_new}
 use Rattle.eden_tie.proofs.Between.{one_step}
 use Rattle.eden_tie.proofs.Moving.{leaving, coming, table_between}
+use Rattle.eden_tie.proofs.StaysLoaded.{Loaded, loaded_found, loaded_there}
 
 -- ---- what is loaded
-
--- a loaded directory stands at the path
-record Loaded (r : Path) (x : Row) : Type 0 where
-  row : Row
-  directory : Directory
-  at : row_at r x ≡ Some row
-  holds : child_of row ≡ Some directory
-
-loaded_found : (r : Path) (x : Row) → IsSomeAnd (row_at r x) (λ y. IsSome (child_of y)) → Loaded r x
-loaded_found r x loaded = by_row (row_at r x) refl loaded
-  where
-    by_row : (o : Option Row) → row_at r x ≡ o → IsSomeAnd o (λ y. IsSome (child_of y)) → Loaded r x
-    by_row None none h = absurd h
-    by_row (Some y) at h = elim (child_of y) as (λ c. child_of y ≡ c → IsSome c → Loaded r x) [
-      | None ↦ λ none k. absurd (cc)
-      | Some d ↦ λ holds k. record { row = y; directory = d; at = at; holds = holds }
-    ] refl h
-
-loaded_told : (r : Path) (x : Row) → Loaded r x → IsSomeAnd (row_at r x) (λ y. IsSome (child_of y))
-loaded_told r x l =
-    let P : Option Directory → Type 0 = λ o. IsSome o in
-    subst (λ (o : Option Row). IsSomeAnd o (λ y. IsSome (child_of y))) (sym l.at) (subst P (sym l.holds) refl)
 
 -- with another directory at a path that has all that is loaded in the old one
 module _ (y : Row) (d e : Directory) (held : child_of y ≡ Some d)
@@ -103,7 +82,8 @@ module _ (y : Row) (d e : Directory) (held : child_of y ≡ Some d)
 
 pub marked_stays : MarkedStays
 marked_stays x p n q m a r loaded =
-    loaded_told r _ (still_loaded a.from a.source (record a.source { unsaved = true }) a.holds_source (λ j w c f k. f) p r x a.at_from (loaded_found r x loaded))
+    let l = still_loaded a.from a.source (record a.source { unsaved = true }) a.holds_source (λ j w c f k. f) p r x a.at_from (loaded_found r x loaded) in
+    loaded_there r (marked_source x p n q m a) l.row l.directory l.at l.holds
 
 -- ---- a listing that changes
 
@@ -147,7 +127,9 @@ module _ (x : Row) (next : ℕ) (p : Path) (n : Name) (q : Path) (m : Name) (tab
   both_saved saved = listing_saved between next q m (Some a.entry) table_left (files_left x p n q m a nothing) put_in (listing_saved x next p n None table nothing left saved)
 
 pub moved_stays : MovedStays
-moved_stays x next p n q m table a r loaded = loaded_told r (moved_in x p n q m a) (both_stay x next p n q m table a r (loaded_found r x loaded))
+moved_stays x next p n q m table a r loaded =
+    let l = both_stay x next p n q m table a r (loaded_found r x loaded) in
+    loaded_there r (moved_in x p n q m a) l.row l.directory l.at l.holds
 
 pub moved_saved : MovedSaved
 moved_saved x next p n q m table a saved = both_saved x next p n q m table a saved

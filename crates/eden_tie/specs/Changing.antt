@@ -1,5 +1,5 @@
 -- A listing that changes: stored first, and then changed in memory.
-use Rattle.std.specs.Prelude.{◌≡◌, ◌≢◌, ◌<◌, ◌≤◌, ◌⊎◌, ℕ, true, false, List, [], Option, Some, None, IfSome, Contains}
+use Rattle.std.specs.Prelude.{◌≡◌, ◌≢◌, ◌<◌, ◌≤◌, ◌+◌, ◌^◌, ◌⊎◌, ℕ, true, false, List, [], length, Option, Some, None, IsSome, IfSome, Contains}
 use Rattle.eden_model.specs.declared.kind.Kind.TheVariants as kind
 use Rattle.eden_model.specs.declared.kind.Origin.TheVariants as origin
 use Rattle.eden_model.specs.Trees.{Name, Path}
@@ -71,6 +71,10 @@ rows_with n (Some x) rows = placed (find_row n rows) n x rows
 -- the directory with this under that name, and saved
 abbrev pub changed : Directory → Name → Option Row → Directory
 changed d n o = record d { rows = rows_with n o d.rows; unsaved = false }
+
+-- the directory has that name, or room for it
+abbrev pub HasRoom : Directory → Name → Type 0
+HasRoom d n = IsSome (find_row n d.rows) ⊎ (length d.rows + 1 < 2 ^ 32)
 
 -- what goes isn't loaded
 abbrev pub MayGo : Directory → Name → Type 0

@@ -1,5 +1,5 @@
 -- An entry that moves: when it can, in words of memory alone, and what that keeps.
-use Rattle.std.specs.Prelude.{◌≡◌, ◌≢◌, ◌<◌, ◌+◌, ◌^◌, ◌⊎◌, ℕ, [], ◌∷◌, ◌++◌, length, IsSome, Some, None}
+use Rattle.std.specs.Prelude.{◌≡◌, ◌≢◌, ℕ, [], ◌∷◌, ◌++◌, Some, None}
 use Rattle.eden_model.specs.declared.kind.Origin.TheVariants as origin
 use Rattle.eden_model.specs.Names.{name_refusal}
 use Rattle.eden_model.specs.Operations.{move}
@@ -10,7 +10,7 @@ use Rattle.eden_overlay.specs.Held.{without}
 use Rattle.eden_tree.specs.Directory.{Row, Directory, child_of}
 use Rattle.eden_tree.specs.Rows.{find_row}
 use Rattle.eden_tree.specs.Paths.{row_at}
-use Rattle.eden_tie.specs.Changing.{MayGo, MayMove, moved_in, marked_source, files_left, files_moved}
+use Rattle.eden_tie.specs.Changing.{HasRoom, MayGo, MayMove, moved_in, marked_source, files_left, files_moved}
 use Rattle.eden_tie.specs.Chains.{StaysLoaded, AreSaved}
 use Rattle.eden_tie.specs.Kept.{IsTable, IsKept}
 use Rattle.eden_tie.specs.Shown.{shown_in}
@@ -34,10 +34,6 @@ pub record CanMove (x : Row) (p : Path) (n : Name) (q : Path) (m : Name) : Type 
   pub own_to : to.origin ≡ origin.Own
   pub may_go : MayGo target m
   pub other : p ++ n ∷ [] ≢ q ++ m ∷ []
-
--- the directory has that name, or room for it
-abbrev pub HasRoom : Directory → Name → Type 0
-HasRoom d n = IsSome (find_row n d.rows) ⊎ (length d.rows + 1 < 2 ^ 32)
 
 -- what can move may move in a table, where there is room
 abbrev pub MovesThere : Type 0

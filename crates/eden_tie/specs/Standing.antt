@@ -1,5 +1,5 @@
 -- What may come to stand under a name of a loaded directory, told by the table alone.
-use Rattle.std.specs.Prelude.{◌≡◌, ◌≢◌, ◌≤◌, ◌<◌, ◌⊎◌, ℕ, suc, ◌^◌, length, [], ◌∷◌, ◌++◌, Option, Some, None, IsSome, IfSome}
+use Rattle.std.specs.Prelude.{◌≡◌, ◌≢◌, ◌≤◌, ◌<◌, ◌⊎◌, ℕ, [], ◌∷◌, ◌++◌, Option, Some, None, IfSome}
 use Rattle.eden_model.specs.declared.kind.Kind.TheVariants as kind
 use Rattle.eden_model.specs.declared.kind.Origin.TheVariants as origin
 use Rattle.eden_model.specs.Repository.{Repository}
@@ -12,7 +12,7 @@ use Rattle.eden_tree.specs.Directory.{Row, Directory, child_of}
 use Rattle.eden_tree.specs.Rows.{find_row}
 use Rattle.eden_tree.specs.Paths.{row_at}
 use Rattle.eden_tie.specs.Chains.{AreSaved, StaysLoaded, chained, Above}
-use Rattle.eden_tie.specs.Changing.{changed, MayGo}
+use Rattle.eden_tie.specs.Changing.{HasRoom, MayGo, changed}
 use Rattle.eden_tie.specs.Kept.{IsTable, IsKept}
 use Rattle.eden_tie.specs.Listings.{stored_entry, listing_of}
 use Rattle.eden_tie.specs.Shown.{shown_in}
@@ -38,13 +38,13 @@ pub record MayStand (honest : Type 0) (R : Repository) (F : Stored) (x : Row) (n
   pub unloaded : IfSome o (λ z. child_of z ≡ None)
   pub numbered : IfSome o (IsNumbered honest R F x next directory n)
 
--- a directory that can be stored can be so without an entry, and with one in the place of another, or beside fewer than the most
+-- a directory that can be stored can be so without an entry, and with one in the place of another, or where there is room
 abbrev pub DropStorable : Type 0
 DropStorable = (d : Directory) (n : Name) → AreStorable (listing_of d) → AreStorable (listing_of (changed d n None))
 
 abbrev pub EntryStorable : Type 0
 EntryStorable = (d : Directory) (n : Name) (z : Row) → AreStorable (listing_of d) → IsStorable (stored_entry (n, z))
-    → IsSome (find_row n d.rows) ⊎ (suc (length d.rows) < 2 ^ 32) → AreStorable (listing_of (changed d n (Some z)))
+    → HasRoom d n → AreStorable (listing_of (changed d n (Some z)))
 
 -- ---- what may stand may be stored, with the chain above it, and then stand there in memory
 
