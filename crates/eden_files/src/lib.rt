@@ -21,6 +21,3 @@ pub use fault::FolderFault;
 pub use names::entry_in;
 pub use read::{Links, read_file, read_within};
 pub use write::{remove_file, replace_file};
-
-#[cfg(test)]
-mod tests;

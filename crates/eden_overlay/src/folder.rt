@@ -10,11 +10,12 @@ use crate::files::{Files, FilesFault, count};
 use crate::names::{file_path, number_named};
 use eden_files::{FolderFault, Links, entry_in, read_file, remove_file, replace_file};
 use eden_model::Outside;
-use std::alloc::{Alloc, AllocError, Global};
+use std::alloc::{Alloc, AllocError, Allocator, Global};
 use std::collections::BTreeSet;
+use std::fs::{self, DirEntry};
 use std::marker::Model;
 use std::path::PathBuf;
-use std::{fs, rt};
+use std::{io, rt};
 
 /// The longest file that is read, in bytes: a body of 2^30 bytes and its header.
 pub const LONGEST_FILE: u64 = (1 << 30) + 64;
@@ -154,7 +155,16 @@ fn remove_number<R: rt::Files>(
     Ok(())
 }
 
-// A name that isn't UTF-8 is no number's.
+// The number that names the entry, if one does. A name that isn't UTF-8 is no number's.
+fn number_in<R: rt::Files + Drop, A: Allocator>(
+    item: io::Result<DirEntry<R, A>>,
+) -> Result<Option<u64>, FilesFault> {
+    match entry_in(item)? {
+        Some(entry) => Ok(number_named(entry.file_name())),
+        None => Ok(None),
+    }
+}
+
 fn list_folder<R: rt::Files + Alloc + Clone + Drop>(
     files: &R,
     alloc: Global,
@@ -164,9 +174,7 @@ fn list_folder<R: rt::Files + Alloc + Clone + Drop>(
 {
     let mut numbers = BTreeSet::new(alloc);
     for item in fs::read_dir(files, folder.as_path()).map_err(FolderFault::from)? {
-        if let Some(entry) = entry_in(item)?
-            && let Some(number) = number_named(entry.file_name())
-        {
+        if let Some(number) = number_in(item)? {
             numbers.insert(number)?;
         }
     }

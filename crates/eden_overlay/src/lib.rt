@@ -31,8 +31,3 @@ pub use gate::{Allowance, FailingFiles, Gate, GatedFiles, OneCall, StopFiles};
 pub use laws::overlay_laws;
 pub use memory::MemoryFiles;
 pub use overlay::Overlay;
-
-#[cfg(test)]
-mod overlay_tests;
-#[cfg(test)]
-mod tests;

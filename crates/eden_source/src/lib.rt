@@ -12,6 +12,3 @@ mod source;
 pub use folder::{FolderSource, LONGEST_FRAMED};
 pub use memory::MemorySource;
 pub use source::Source;
-
-#[cfg(test)]
-mod tests;

@@ -1,8 +1,9 @@
+//! What an overlay over files in memory stores, gets, removes and refuses.
 ghost use Rattle.std.specs.Prelude.{IfOk};
 ghost use Rattle.eden_overlay_format.specs.Directory.{AreStorable};
 
-use super::*;
 use eden_model::{Id, Kind, Name, Origin, Outside};
+use eden_overlay::{Files, GetFault, MemoryFiles, Overlay};
 use eden_overlay_format::{Refusal, State, StoredEntry};
 use std::alloc::{AllocError, Global};
 use std::process::Abort;

@@ -1,5 +1,6 @@
-use super::*;
+//! The kinds of files that an overlay stands on: in memory, in a folder, and failing ones.
 use eden_model::{Outside, World};
+use eden_overlay::{FailingFiles, Files, FilesFault, FolderFiles, MemoryFiles, StopFiles};
 use eden_samples::{Call as SystemCall, FaultySystem, empty_folder};
 use std::alloc::Global;
 use std::cell::Cell;

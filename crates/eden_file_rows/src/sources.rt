@@ -1,6 +1,7 @@
-use super::*;
+//! The answers of sources in memory and in folders.
 use eden_model::{Cause, Id, Outside, World};
 use eden_samples::{Call, FaultySystem, VERSION_1, VERSION_2, empty_folder};
+use eden_source::{FolderSource, MemorySource, Source};
 use std::alloc::{AllocError, Global};
 use std::fs;
 use std::io::ErrorKind;

@@ -5,7 +5,7 @@ use Rattle.eden_model.specs.declared.kind.Origin.TheVariants as origin
 use Rattle.eden_model.specs.Names.{name_refusal}
 use Rattle.eden_overlay_format.specs.declared.stored_entry.StoredEntry.{StoredEntry}
 use Rattle.eden_overlay_format.specs.Directory.{IsStorable, AreStorable}
-use Rattle.eden_overlay.proofs.overlay_tests.one_file.Goals as goal
+use Rattle.eden_file_rows.proofs.overlays.one_file.Goals as goal
 
 -- one entry stands in order
 alone : (e : StoredEntry) → IsStorable e → AreStorable (e ∷ [])

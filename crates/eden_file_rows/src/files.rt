@@ -1,5 +1,5 @@
-// What the system does, which no clause can say: on real files, and on a file system that fails.
-use super::*;
+//! What the system does, which no clause can say: on real files, and on a file system that fails.
+use eden_files::{FolderFault, Links, entry_in, read_file, read_within, remove_file, replace_file};
 use eden_samples::{Call, FaultySystem, empty_folder};
 use std::fs;
 use std::io::{self, ErrorKind, Read, Write};
