@@ -1,5 +1,5 @@
 -- What may come to stand in a table that is open to it.
-use Rattle.std.proofs.Common.{◌≡◌, ◌≢◌, ◌<◌, ◌≤◌, ◌-◌, ◌^◌, ◌⊎◌, inl, inr, ℕ, IfSome, suc, List, [], ◌∷◌, length, Option, Some, None, IsSome, sym, subst, arith}
+use Rattle.std.proofs.Common.{◌≡◌, ◌<◌, ◌≤◌, ◌-◌, ◌^◌, ℕ, [], length, Option, IfSome, Some, None, inr, sym, subst, arith}
 use Rattle.std.specs.List.Sorted.{IsStrictlySortedBy}
 use Rattle.eden_model.specs.Trees.{Name, Path}
 use Rattle.eden_model.specs.Repository.{Repository}
@@ -10,7 +10,6 @@ use Rattle.eden_model.specs.Names.{name_refusal}
 use Rattle.eden_overlay_format.specs.Directory.{HasOrigin, IsStorable, AreStorable, number_end}
 use Rattle.eden_overlay.specs.Files.{Stored}
 use Rattle.eden_tree.specs.Directory.{Row, Directory, child_of}
-use Rattle.eden_tree.specs.Rows.{find_row}
 use Rattle.eden_tie.specs.Listings.{stored_entry, listing_of}
 use Rattle.eden_tie.specs.Kept.{IsTable}
 use Rattle.eden_tie.specs.Changing.{changed}

@@ -1,11 +1,8 @@
 //! Entries of the mount's own put into a table's listings and taken out, where the table as it stands allows it.
 
-ghost use Rattle.std.specs.Prelude.{◌≡◌, ◌≢◌, ◌≤◌, ◌<◌, IsTrue, IfSome, length};
-ghost use Rattle.eden_model.specs.declared.kind.Kind.TheVariants as kind;
+ghost use Rattle.std.specs.Prelude.{◌≡◌, ◌≤◌, IsTrue, IfSome, length};
 ghost use Rattle.eden_model.specs.declared.kind.Origin.TheVariants as origins;
 ghost use Rattle.eden_overlay_format.specs.Content.{content_most};
-ghost use Rattle.eden_overlay_format.specs.Directory.{number_least};
-ghost use Rattle.eden_tree.specs.Directory.{Row};
 ghost use Rattle.eden_rows.specs.Listings.{IsOpen, IsOpenAt, IsNewOwn, IsOwnFile};
 
 use eden_inode::Inodes;

@@ -6,5 +6,7 @@ use Rattle.eden_rows.proofs.listing.change_open.Goals as goal
 pub change_entry-requires : goal.change_entry-requires
 change_entry-requires g c =
     let t = c.ask.new.table in
-    record { may = may_stand _ (g.F.Files.stored t.files) t.root t.next c.args.path.now c.args.name.now c.args.entry c.holds.ensures.table (c.ask.ensures.so cc)
-        (subst (λ next. IfSome c.args.entry (IsNewOwn next)) (sym c.ask.ensures.next) c.requires) }
+    record {
+      may = may_stand _ (g.F.Files.stored t.files) t.root t.next c.args.path.now c.args.name.now c.args.entry c.holds.ensures.table (c.ask.ensures.so cc)
+          (subst (λ next. IfSome c.args.entry (IsNewOwn next)) (sym c.ask.ensures.next) c.requires);
+    }
