@@ -24,7 +24,7 @@ use Rattle.eden_materialise.specs.Puts.{AtDirectory}
 
 -- ---- the file of what was replaced
 
-own_is : (o : Option Row) (k : ℕ) → own_number o ≡ Some k → (w : Row) × ((o ≡ Some w) × (w.number ≡ k))
+pub own_is : (o : Option Row) (k : ℕ) → own_number o ≡ Some k → (w : Row) × ((o ≡ Some w) × (w.number ≡ k))
 own_is None k is = absurd (none-some k is)
 own_is (Some w) k is = elim (is_own w.origin) as (λ b. cond b (Some w.number) None ≡ Some k → (v : Row) × ((Some w ≡ Some v) × (v.number ≡ k))) [
   | true ↦ λ h. (w, (refl, same_Some w.number k h))
@@ -32,20 +32,20 @@ own_is (Some w) k is = elim (is_own w.origin) as (λ b. cond b (Some w.number) N
 ] is
 
 -- from other files, which are these where the outside is honest
-clears_from : (honest : Type 0) (F H : Stored) (old between : ℕ) (G : Stored) (new : ℕ) (o : Option ℕ) → (honest → H ≡ F) → between ≡ old
+pub clears_from : (honest : Type 0) (F H : Stored) (old between : ℕ) (G : Stored) (new : ℕ) (o : Option ℕ) → (honest → H ≡ F) → between ≡ old
     → Clears honest H between G new o → Clears honest F old G new o
 clears_from honest F H old between G new None files count (nothing is same) = nothing (λ h. is h ∙ files h) (same ∙ count)
 clears_from honest F H old between G new (Some j) files count (removed k is same) = removed k (λ h. is h ∙ ap (λ (I : Stored). without I k) (files h)) (same ∙ count)
 clears_from honest F H old between G new (Some j) files count (failed k is rises) = failed k (λ h. is h ∙ files h) (subst (λ j. j ≤ new) count rises)
 
 -- what holds of the files with it and without it holds then
-cleared : (honest : Type 0) (F : Stored) (old : ℕ) (G : Stored) (new : ℕ) (o : Option ℕ) (P : Stored → Type 0) → Clears honest F old G new o → honest
+pub cleared : (honest : Type 0) (F : Stored) (old : ℕ) (G : Stored) (new : ℕ) (o : Option ℕ) (P : Stored → Type 0) → Clears honest F old G new o → honest
     → P F → ((k : ℕ) → o ≡ Some k → P (without F k)) → P G
 cleared honest F old G new None P (nothing is same) h whole gone = subst P (sym (is h)) whole
 cleared honest F old G new (Some j) P (removed k is same) h whole gone = subst P (sym (is h)) (gone k refl)
 cleared honest F old G new (Some j) P (failed k is rises) h whole gone = subst P (sym (is h)) whole
 
-never_less : (honest : Type 0) (F : Stored) (old : ℕ) (G : Stored) (new : ℕ) (o : Option ℕ) → Clears honest F old G new o → old ≤ new
+pub never_less : (honest : Type 0) (F : Stored) (old : ℕ) (G : Stored) (new : ℕ) (o : Option ℕ) → Clears honest F old G new o → old ≤ new
 never_less honest F old G new None (nothing is same) = omega (arith, same)
 never_less honest F old G new (Some j) (removed k is same) = omega (arith, same)
 never_less honest F old G new (Some j) (failed k is rises) = rises

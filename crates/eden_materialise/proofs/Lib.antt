@@ -10,3 +10,4 @@ mod Counts
 mod EntryMoves
 mod Chains
 mod Reforms
+mod Removals

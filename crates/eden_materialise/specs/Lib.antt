@@ -6,3 +6,4 @@ pub mod Faults
 pub mod Listings
 pub mod EntryMoves
 pub mod Reforms
+pub mod Removals

@@ -26,7 +26,7 @@ use eden_tree::{Change, Entry};
 use std::alloc::{Allocator, Global};
 
 /// Takes the entry of a name out of the directory at a path: the chain is stored without it, and then memory is so.
-fn take_out<A: Allocator, W: World, F: Files<W>>(
+pub(crate) fn take_out<A: Allocator, W: World, F: Files<W>>(
     alloc: Global,
     root: &mut Entry<A>,
     overlay: &mut Overlay<W, F>,

@@ -28,17 +28,17 @@ use eden_overlay::{Files, FilesFault, Overlay};
 use eden_tree::{Change, Entry};
 use std::alloc::{Allocator, Global};
 
-/// What a move meets under a name of a directory.
+/// What a change meets under a name of a directory.
 #[derive(Drop)]
-struct Spot {
+pub(crate) struct Spot {
     /// Whether the name is there, or one entry more can be.
-    has_room: bool,
+    pub(crate) has_room: bool,
     /// The number of an entry that is there and has its own file.
-    own: Option<u64>,
+    pub(crate) own: Option<u64>,
 }
 
-/// What a move meets under a name of the loaded directory at a path.
-fn spot_at<A: Allocator>(root: &Entry<A>, path: &[Name], name: &Name) -> Spot
+/// What a change meets under a name of the loaded directory at a path.
+pub(crate) fn spot_at<A: Allocator>(root: &Entry<A>, path: &[Name], name: &Name) -> Spot
     requires { IsSomeAnd (row_at path.now root.now) (λ y. IsSome (child_of y)) }
     ensures room { result.has_room ≡ true → AtDirectory path.now root.now (λ y d. HasRoom d name.now) }
     ensures own { AtDirectory path.now root.now (λ y d. result.own ≡ own_number (find_row name.now d.rows)) }
@@ -116,8 +116,8 @@ fn store_move<A: Allocator, W: World, F: Files<W>>(
     return move_between(alloc, root, overlay, from, name, to, new_name);
 }
 
-/// Removes the file of an entry that was replaced. One that can't be removed is left, and nothing names it.
-fn remove_replaced<W: World, F: Files<W>>(
+/// Removes the file of an entry that was replaced or left out. One that can't be removed is left, and nothing names it.
+pub(crate) fn remove_replaced<W: World, F: Files<W>>(
     alloc: Global,
     overlay: &mut Overlay<W, F>,
     own: Option<u64>,

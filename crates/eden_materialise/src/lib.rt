@@ -15,9 +15,11 @@ mod memory;
 mod moving;
 mod owning;
 mod reform;
+mod removal;
 mod renaming;
 
 pub use entry_change::change_entry;
 pub use entry_move::move_entry;
 pub use owning::materialise;
 pub use reform::set_kind;
+pub use removal::remove_entry;

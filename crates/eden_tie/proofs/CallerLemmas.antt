@@ -41,6 +41,6 @@ pub use Rattle.eden_tie.proofs.StaysLoaded.{loaded_there, Loaded, loaded_found}
 pub use Rattle.eden_tie.proofs.ChainLaws.{same_listing, owned_table, owned_stays, owned_saved, owned_kept, owned_alike, refused_kept, refused_alike, owned_chain, chain_joined}
 -- what may stand under a name of a loaded directory: its chain's stores, what it keeps, and what is shown then
 pub use Rattle.eden_tie.proofs.Storable.{drop_storable, entry_storable}
-pub use Rattle.eden_tie.proofs.Stands.{stands_sound, put_sound, put_can, stands_table, stands_saved, stands_stays, stands_kept, stands_grafts}
+pub use Rattle.eden_tie.proofs.Stands.{stands_sound, put_sound, put_can, stands_table, stands_saved, stands_stays, stands_kept, stands_grafts, removed_sound, removed_kept, removed_alike}
 -- files that nothing has as its own
 pub use Rattle.eden_tie.proofs.LooseFiles.{loose_sound, loose_kept, loose_alike}

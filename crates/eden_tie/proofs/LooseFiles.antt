@@ -1,14 +1,16 @@
 -- Files that nothing loaded or live has as its own.
-use Rattle.std.proofs.Common.{ℕ, sym, ◌∙◌, subst, arith}
+use Rattle.std.proofs.Common.{◌≡◌, ◌≤◌, ℕ, None, sym, ◌∙◌, subst, arith}
 use Rattle.eden_model.specs.Repository.{Repository}
 use Rattle.eden_overlay.specs.Files.{Stored, put}
-use Rattle.eden_overlay.specs.Laws.{IsStray}
+use Rattle.eden_overlay.specs.Held.{without}
+use Rattle.eden_overlay.specs.Laws.{IsStray, IsUnnamed}
 use Rattle.eden_overlay.proofs.CallerLemmas.{put_apart}
 use Rattle.eden_tree.specs.Directory.{Row}
 use Rattle.eden_tie.specs.Kept.{IsTable, IsKept}
 use Rattle.eden_tie.specs.Listings.{full_entry, top, inside}
 use Rattle.eden_tie.specs.Loose.{IsLoose, never_given, other_entry, LooseSound, LooseKept, LooseAlike}
-use Rattle.eden_tie.specs.Ties.{IsAway}
+use Rattle.eden_tie.specs.Shown.{shown_in}
+use Rattle.eden_tie.specs.Ties.{IsAway, Ties}
 use Rattle.eden_tie.proofs.Backed.{backs_stray, backed_alike}
 use Rattle.eden_tie.proofs.Chain.{place_at}
 use Rattle.eden_tie.proofs.Moved.{new_file_tied}
@@ -48,3 +50,22 @@ pub loose_alike : LooseAlike
 loose_alike R F x next j w table k loose =
     let before : Backs F k.full x next = backs_tied F k.full x next k.ties in
     backed_alike R F (put F j w) k.full x next before (backs_stray F (put F j w) k.full x next before j (stray R F x next table k j loose) (λ i ne. put_apart F j i w ne)) x top
+
+-- ---- the file of a number that nothing names may be taken out
+
+module _ (F full : Stored) (x : Row) (next : ℕ) (t : Ties F full x next) (j : ℕ) (least : 2 ≤ j) (unnamed : IsUnnamed full j) where
+  unnamed_stray : IsStray full j
+  unnamed_stray = record { not_root = λ is. omega (arith, least, is); not_own = λ c e r m o. unnamed c e r m }
+
+  unnamed_away : IsAway x j
+  unnamed_away v e top h is = let root = t.fits.root in omega (arith, least, root, is)
+  unnamed_away v e (inside u c m q r i f) h is =
+      unnamed u.number (full_entry (m, q)) (place_counts full x next t.fits u c r i) (named_full full x next t.fits u c m q r i f) is
+
+  pub taken_tied : Ties (without F j) (put full j None) x next
+  taken_tied = new_file_tied F full x next t j None unnamed_stray unnamed_away
+
+  pub taken_alike : (R : Repository) → shown_in R (without F j) x ≡ shown_in R F x
+  taken_alike R =
+      let before : Backs F full x next = backs_tied F full x next t in
+      backed_alike R F (without F j) full x next before (backs_stray F (without F j) full x next before j unnamed_stray (λ i ne. put_apart F j i None ne)) x top

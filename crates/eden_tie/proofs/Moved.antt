@@ -13,7 +13,7 @@ use Rattle.eden_overlay.specs.Held.{HoldsEntries, with_entries}
 use Rattle.eden_overlay.specs.Soundness.{Names, LeadsOn, Reached, here, below, IsLive, HoldsKind, AreSound}
 use Rattle.eden_overlay.specs.Laws.{Brings, IsStray, IsUnnamed, IsFresh, Drops, Moves}
 use Rattle.eden_overlay.proofs.CallerLemmas.{put_here, put_apart, names_moved, kind_moved, one_held, apart, was_named, named, joined}
-use Rattle.eden_overlay.proofs.CallerLemmas.{dropped_stay, moved_stay, strays_stay, live_stay, added_stay}
+use Rattle.eden_overlay.proofs.CallerLemmas.{dropped_stay, dropped_unnamed, moved_stay, strays_stay, live_stay, added_stay}
 use Rattle.eden_tree.specs.Directory.{Row, Directory, child_of}
 use Rattle.eden_tree.specs.Rows.{find_row, drop_row}
 use Rattle.eden_tree.specs.Paths.{row_at}
@@ -80,6 +80,15 @@ left_there n (a ∷ es) e h = elim (bytes_eq n a.0) as (λ b. Contains (cond b e
   | false ↦ λ k. first_or a e (drop_row n es) es (left_there n es e) k
 ] h
 
+-- what is left out isn't one of them
+left_gone : (d : Directory) (n : Name) (z : Row) → AreRising (λ r. r.0) d.rows → AreStorable (full_listing (changed d n None)) → ¬ Contains (full_listing (changed d n None)) (full_entry (n, z))
+left_gone d n z rising are c =
+    let rest = changed d n None in
+    let from = mapped_from full_entry rest.rows (full_entry (n, z)) c in
+    let found : find_row from.0.0 rest.rows ≡ Some from.0.1 = find_row-Contains from.0.0 rest.rows from.0.1 (full_rising rest are) from.1.0 in
+    let name : from.0.0 ≡ n = ap (λ (s : StoredEntry). s.name) from.1.1 in
+    none-some from.0.1 (sym (gone_after n d.rows rising) ∙ ap (λ j. find_row j rest.rows) (sym name) ∙ found)
+
 -- ---- one entry of a directory
 
 module _ (F full : Stored) (x : Row) (next : ℕ) (t : Ties F full x next) (p : Path) (y : Row) (d : Directory)
@@ -118,6 +127,12 @@ module _ (F full : Stored) (x : Row) (next : ℕ) (t : Ties F full x next) (p : 
 
     pub dropped_sound : AreSound (with_entries full y.number (full_listing rest))
     dropped_sound = dropped_stay full y.number (full_listing d) (full_listing rest) drops t.fits.sound
+
+    -- nothing names it then
+    pub gone_unnamed : (z : Row) → find_row n d.rows ≡ Some z → IsUnnamed (with_entries full y.number (full_listing rest)) z.number
+    gone_unnamed z there =
+        dropped_unnamed full y.number (full_listing d) (full_listing rest) (full_entry (n, z)) drops (place_counts full x next t.fits y d place_y held)
+        (contains_mapped full_entry d.rows (n, z) (Contains-find_row n d.rows z there)) (left_gone d n z rising_d (full_are rest are)) t.fits.sound
 
     dropped : y.origin ≡ origin.Own → Ties (with_entries F y.number (listing_of rest)) (with_entries full y.number (full_listing rest)) (with_listing p rest x) next
     dropped own = changes_tied F full x next t p y d rest at held own (may_become n None go tt) are dropped_sound
@@ -259,11 +274,7 @@ module _ (F full : Stored) (x : Row) (next : ℕ) (t : Ties F full x next) (p : 
       rising_e = rising_of full1 x1 next t1.fits u e on_u held_u
 
       not_left : ¬ Contains (full_listing kept) left
-      not_left c =
-          let from = mapped_from full_entry kept.rows left c in
-          let found : find_row from.0.0 kept.rows ≡ Some from.0.1 = find_row-Contains from.0.0 kept.rows from.0.1 (full_rising kept kept_are) from.1.0 in
-          let name : from.0.0 ≡ n = ap (λ (s : StoredEntry). s.name) from.1.1 in
-          none-some from.0.1 (sym (gone_after n d.rows rising) ∙ ap (λ j. find_row j kept.rows) (sym name) ∙ found)
+      not_left = left_gone d n z rising kept_are
 
       each_new : (f : StoredEntry) → Contains (full_listing new) f → Names full1 u.number f ⊎ (f ≡ moved)
       each_new f c =

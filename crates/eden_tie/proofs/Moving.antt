@@ -1,5 +1,5 @@
 -- An entry that moves: what it keeps of a table's invariant, and what is shown then.
-use Rattle.std.proofs.Common.{◌≡◌, ◌≤◌, ℕ, [], ◌∷◌, ◌++◌, Option, Some, None, IfSome, refl, sym, ap, ◌∙◌, subst, arith}
+use Rattle.std.proofs.Common.{◌≡◌, ◌≤◌, ℕ, [], ◌∷◌, ◌++◌, Option, Some, None, IfSome, refl, sym, ap, ◌∙◌, subst}
 use Rattle.std.proofs.Math.Path.{fun_ext}
 use Rattle.std.specs.Option.{option_and_then}
 use Rattle.eden_model.specs.Operations.{move}
@@ -7,26 +7,27 @@ use Rattle.eden_model.specs.Repository.{Repository}
 use Rattle.eden_model.specs.Trees.{Name, Path, Tree, graft}
 use Rattle.eden_overlay.specs.Files.{Stored, put}
 use Rattle.eden_overlay.specs.Held.{with_entries, without}
-use Rattle.eden_overlay.specs.Laws.{IsStray, IsUnnamed}
-use Rattle.eden_overlay.proofs.CallerLemmas.{apart, put_apart, numbers_from_two}
+use Rattle.eden_overlay.specs.Laws.{IsUnnamed}
+use Rattle.eden_overlay.proofs.CallerLemmas.{apart, numbers_from_two}
 use Rattle.eden_tree.specs.Directory.{Row, Directory, child_of}
 use Rattle.eden_tree.specs.Rows.{find_row}
 use Rattle.eden_tree.specs.Paths.{row_at}
 use Rattle.eden_tree.proofs.CallerLemmas.{reads_on}
-use Rattle.eden_tie.specs.Listings.{stored_entry, full_entry, listing_of, full_listing, Place, top, inside}
+use Rattle.eden_tie.specs.Listings.{stored_entry, full_entry, listing_of, full_listing, Place, inside}
 use Rattle.eden_tie.specs.Changing.{MayGo, MayChange, MayMove, changed, with_listing, moved_in, files_left, files_moved, IsCarried}
 use Rattle.eden_tie.specs.Kept.{IsTable, IsKept}
 use Rattle.eden_tie.specs.Moving.{MovedTable, MovedKept, MovedShown, ReplacedTied, ReplacedKept, ReplacedShown}
 use Rattle.eden_tie.specs.Shown.{shown_in}
-use Rattle.eden_tie.specs.Ties.{IsAway, Ties, Tied}
+use Rattle.eden_tie.specs.Ties.{Ties, Tied}
 use Rattle.eden_tie.proofs.Rows.{entry_as_is}
-use Rattle.eden_tie.proofs.Places.{named_full, place_counts}
+use Rattle.eden_tie.proofs.Places.{named_full}
 use Rattle.eden_tie.proofs.Chain.{place_at}
 use Rattle.eden_tie.proofs.Follows.{Back}
 use Rattle.eden_tie.proofs.Below.{shows_below}
 use Rattle.eden_tie.proofs.ShownFull.{Backs, backs_tied}
-use Rattle.eden_tie.proofs.Backed.{backs_loaded, backs_stray, backed_alike}
-use Rattle.eden_tie.proofs.Moved.{drop_tied, move_tied, carried_full, unnamed, loaded_before, new_file_tied}
+use Rattle.eden_tie.proofs.Backed.{backs_loaded, backed_alike}
+use Rattle.eden_tie.proofs.LooseFiles.{taken_tied, taken_alike}
+use Rattle.eden_tie.proofs.Moved.{drop_tied, move_tied, carried_full, unnamed, loaded_before}
 use Rattle.eden_tie.proofs.Changed.{listing_table, listing_kept, listing_grafts}
 
 -- a move is an entry left out, and then one put in
@@ -146,25 +147,11 @@ module _ (honest : Type 0) (F : Stored) (x : Row) (next : ℕ) (p : Path) (n : N
     least = numbers_from_two (full_between h) a.to.number (full_entry (m, w))
         (named_full (full_between h) between next (tied_between h).fits a.to a.target m w (place_at q between a.to a.at_to) a.holds_target stood)
 
-    stray : IsStray (full_then h) w.number
-    stray = record { not_root = λ is. (let from_two = least in omega (arith, from_two, is)); not_own = λ c e r k o. unnamed_then c e r k }
-
-    away : IsAway (moved_in x p n q m a) w.number
-    away v e top k is = let root = (tied_then h).fits.root in let from_two = least in omega (arith, from_two, root, is)
-    away v e (inside c d j u r k f) g is =
-        unnamed_then c.number (full_entry (j, u)) (place_counts (full_then h) (moved_in x p n q m a) next (tied_then h).fits c d r k)
-        (named_full (full_then h) (moved_in x p n q m a) next (tied_then h).fits c d j u r k f) is
-
     removed : Ties (without (files_moved x p n q m a F) w.number) (put (full_then h) w.number None) (moved_in x p n q m a) next
-    removed = new_file_tied (files_moved x p n q m a F) (full_then h) (moved_in x p n q m a) next (tied_then h) w.number None stray away
+    removed = taken_tied (files_moved x p n q m a F) (full_then h) (moved_in x p n q m a) next (tied_then h) w.number least unnamed_then
 
     removed_shown : (R : Repository) → shown_in R (without (files_moved x p n q m a F) w.number) (moved_in x p n q m a) ≡ shown_in R (files_moved x p n q m a F) (moved_in x p n q m a)
-    removed_shown R =
-        let b = backs_tied (files_moved x p n q m a F) (full_then h) (moved_in x p n q m a) next (tied_then h) in
-        backed_alike R (files_moved x p n q m a F) (without (files_moved x p n q m a F) w.number) (full_then h) (moved_in x p n q m a) next b
-        (backs_stray (files_moved x p n q m a F) (without (files_moved x p n q m a F) w.number) (full_then h) (moved_in x p n q m a) next b w.number stray
-        (λ j off. put_apart (files_moved x p n q m a F) w.number j None off))
-        (moved_in x p n q m a) top
+    removed_shown R = taken_alike (files_moved x p n q m a F) (full_then h) (moved_in x p n q m a) next (tied_then h) w.number least unnamed_then R
 
 pub moved_table : MovedTable
 moved_table x next p n q m table a = table_then ⊥ (λ k. None) x next p n q m a (λ h. absurd h) table

@@ -1,5 +1,5 @@
 -- What may stand under a name of a loaded directory: stored with the chain above it, it does.
-use Rattle.std.proofs.Common.{◌≡◌, ◌≢◌, ◌⊎◌, ℕ, true, false, cond, [], Option, Some, None, IfSome, inl, inr, refl, sym, ap, ◌∙◌, subst, arith}
+use Rattle.std.proofs.Common.{◌≡◌, ◌≢◌, ◌≤◌, ◌⊎◌, ℕ, true, false, cond, [], Option, Some, None, IfSome, inl, inr, refl, sym, ap, ◌∙◌, subst, arith}
 use Rattle.std.specs.Str.{bytes_eq}
 use Rattle.eden_model.specs.declared.kind.Kind.TheVariants as kind
 use Rattle.eden_model.specs.declared.kind.Origin.{Origin}
@@ -9,19 +9,20 @@ use Rattle.eden_model.specs.Repository.{Repository}
 use Rattle.eden_model.specs.Trees.{Name, Path}
 use Rattle.eden_overlay_format.specs.Directory.{AreStorable}
 use Rattle.eden_overlay.specs.Files.{Stored, put}
-use Rattle.eden_overlay.specs.Held.{with_entries}
+use Rattle.eden_overlay.specs.Held.{with_entries, without}
+use Rattle.eden_overlay.specs.Laws.{IsUnnamed}
 use Rattle.eden_overlay.specs.Soundness.{HoldsKind, AreSound}
-use Rattle.eden_overlay.proofs.CallerLemmas.{put_here, kind_moved, apart}
+use Rattle.eden_overlay.proofs.CallerLemmas.{put_here, kind_moved, apart, numbers_from_two}
 use Rattle.eden_tree.specs.Directory.{Row, Directory, child_of, with_child}
 use Rattle.eden_tree.specs.Rows.{find_row}
 use Rattle.eden_tree.specs.Paths.{row_at}
 use Rattle.eden_tree.proofs.CallerLemmas.{same-≡, same-refl, child_of-with_child}
-use Rattle.eden_tie.specs.Chains.{AreSaved, Above, Unfinished, listed, Refused, later}
+use Rattle.eden_tie.specs.Chains.{AreSaved, chained, Above, Unfinished, listed, Refused, later}
 use Rattle.eden_tie.specs.Changing.{changed, with_listing, MayGo, MayCome}
 use Rattle.eden_tie.specs.Kept.{IsTable, IsKept}
-use Rattle.eden_tie.specs.Listings.{listing_of, full_listing, Place}
+use Rattle.eden_tie.specs.Listings.{full_entry, listing_of, full_listing, Place}
 use Rattle.eden_tie.specs.Materialising.{is_own, IsChain, Chain, lowest_own, lowest}
-use Rattle.eden_tie.specs.Standing.{IsNumbered, kept_number, new_number, MayStand, StandsTable, StandsSaved, StandsStays, StandsKept, StandsGrafts}
+use Rattle.eden_tie.specs.Standing.{IsNumbered, kept_number, new_number, MayStand, StandsTable, StandsSaved, StandsStays, StandsKept, StandsGrafts, RemovedSound, RemovedKept, RemovedAlike}
 use Rattle.eden_tie.specs.Ties.{SameFile, Ties}
 use Rattle.eden_tie.proofs.Chain.{place_at}
 use Rattle.eden_tie.proofs.Chained.{chain_from, above_back, unfinished_back}
@@ -29,7 +30,9 @@ use Rattle.eden_tie.proofs.ChainKept.{table_now, saved_now, can_chain, kept_now,
 use Rattle.eden_tie.proofs.ChainLaws.{refused_kept}
 use Rattle.eden_tie.proofs.Changing.{unstored_tied}
 use Rattle.eden_tie.proofs.KeptLemmas.{ties_rise}
-use Rattle.eden_tie.proofs.Moved.{find_with, from_with, if_some, loaded_with, may_become, dropped_sound, entry_tied}
+use Rattle.eden_tie.proofs.LooseFiles.{taken_tied, taken_alike}
+use Rattle.eden_tie.proofs.Materialised.{chain_tied}
+use Rattle.eden_tie.proofs.Moved.{find_with, from_with, if_some, loaded_with, may_become, dropped_sound, gone_unnamed, entry_tied}
 use Rattle.eden_tie.proofs.Numbers.{content_kind, same_come, same_sound, agreed, full_then, new_ties, new_come, new_sound}
 use Rattle.eden_tie.proofs.Places.{named_full, place_counts, away_row}
 use Rattle.eden_tie.proofs.Rows.{stored_rising, as_is, by_origin}
@@ -53,7 +56,7 @@ module _ (honest : Type 0) (R : Repository) (F : Stored) (x : Row) (next : ℕ) 
   place : Place x y
   place = place_at p x y at
 
-  dropped : AreStorable (listing_of (changed d n None)) → Stands F x next y d n None
+  abbrev dropped : AreStorable (listing_of (changed d n None)) → Stands F x next y d n None
   dropped are = record { full = k.full; ties = k.ties; come = tt; sound = dropped_sound F k.full x next k.ties p y d at holds n go are }
 
   module _ (z : Row) (shut : child_of z ≡ None) (are : AreStorable (listing_of (changed d n (Some z)))) where
@@ -112,28 +115,25 @@ module _ (honest : Type 0) (R : Repository) (F : Stored) (x : Row) (next : ℕ) 
 
 -- ---- the files below the chain, to which the table with it is tied
 
-record Lower (F : Stored) (x : Row) (next : ℕ) (p : Path) (y : Row) (e : Directory) : Type 0 where
+record Lower (F full : Stored) (x : Row) (next : ℕ) (p : Path) (y : Row) (e : Directory) : Type 0 where
   files : Stored
-  full : Stored
-  ties : Ties files full (with_listing p e x) next
+  ties : Ties files (with_entries full y.number (full_listing e)) (with_listing p e x) next
   low : Chain files (with_child (Some e) y) [] (with_entries F y.number (listing_of e))
   beside : (j : ℕ) → y.number ≢ j → files j ≡ F j
 
 lower : (F : Stored) (x : Row) (next : ℕ) (p : Path) (y : Row) (d : Directory) (n : Name) (o : Option Row) → row_at p x ≡ Some y → child_of y ≡ Some d → MayGo d n
-    → AreStorable (listing_of (changed d n o)) → Stands F x next y d n o → Lower F x next p y (changed d n o)
+    → AreStorable (listing_of (changed d n o)) → (s : Stands F x next y d n o) → Lower F s.full x next p y (changed d n o)
 lower F x next p y d n o at holds go are s =
     let e = changed d n o in
-    by_origin y.origin (Lower F x next p y e)
+    by_origin y.origin (Lower F s.full x next p y e)
     (λ other. record {
       files = F;
-      full = with_entries s.full y.number (full_listing e);
       ties = unstored_tied F s.full x next s.ties p y d e at holds other (may_become F s.full x next s.ties p y d at holds n o go s.come) are s.sound;
       low = lowest (with_child (Some e) y) e (child_of-with_child (Some e) y) (not_own_is y.origin other);
       beside = λ j ne. refl;
     })
     (λ own. record {
       files = with_entries F y.number (listing_of e);
-      full = with_entries s.full y.number (full_listing e);
       ties = entry_tied F s.full x next s.ties p y d n o at holds own go s.come are s.sound;
       low = lowest_own (with_child (Some e) y) (ap is_own own);
       beside = λ j ne. apart F y.number (listing_of e) are j ne;
@@ -170,8 +170,14 @@ module _ (honest : Type 0) (R : Repository) (F : Stored) (x : Row) (next : ℕ) 
   saved all = refl
 
   module _ (h : honest) (k : IsKept R F x next) where
-    below : Lower F x next p a.row new
-    below = lower F x next p a.row a.directory n o a.at a.holds a.may_go a.storable (stands_any honest R F x next h k p a.row a.directory n a.at a.holds a.may_go o a.storable a.unloaded a.numbered)
+    stood : Stands F x next a.row a.directory n o
+    stood = stands_any honest R F x next h k p a.row a.directory n a.at a.holds a.may_go o a.storable a.unloaded a.numbered
+
+    abbrev full_below : Stored
+    full_below = with_entries stood.full a.row.number (full_listing new)
+
+    below : Lower F stood.full x next p a.row new
+    below = lower F x next p a.row a.directory n o a.at a.holds a.may_go a.storable stood
 
     abbrev first : Stored
     first = with_entries F a.row.number (listing_of new)
@@ -184,7 +190,7 @@ module _ (honest : Type 0) (R : Repository) (F : Stored) (x : Row) (next : ℕ) 
 
     pub stands_sound : (G : Stored) → Above first x p G ⊎ Unfinished first x p G → AreSound G
     stands_sound G (inl up) =
-        let now = kept_now x next table p a.row a.directory new a.at a.holds a.storable each saved R F k below.files below.full below.ties G (chain G up) in
+        let now = kept_now x next table p a.row a.directory new a.at a.holds a.storable each saved R F k below.files full_below below.ties G (chain G up) in
         ties_sound G now.full _ next now.ties
     stands_sound G (inr u) = let was = refused_kept R F x next p G table k (refused_later G u) in ties_sound G was.full x next was.ties
 
@@ -212,11 +218,58 @@ pub stands_kept : StandsKept
 stands_kept honest R F x next p n o h table k a G up =
     let b = below honest R F x next p n o table a h k in
     kept_now x next table p a.row a.directory (changed a.directory n o) a.at a.holds a.storable (each honest R F x next p n o table a) (saved honest R F x next p n o table a)
-    R F k b.files b.full b.ties G (chain honest R F x next p n o table a h k G up)
+    R F k b.files (full_below honest R F x next p n o table a h k) b.ties G (chain honest R F x next p n o table a h k G up)
 
 pub stands_grafts : StandsGrafts
 stands_grafts honest R F x next p n o h table k a G up =
     let b = below honest R F x next p n o table a h k in
     grafted_now x next table p a.row a.directory (changed a.directory n o) a.at a.holds a.storable (each honest R F x next p n o table a) (saved honest R F x next p n o table a)
-    R F k b.files b.full b.ties G (chain honest R F x next p n o table a h k G up) n o (others honest R F x next p n o table a) (here_new honest R F x next p n o table a)
+    R F k b.files (full_below honest R F x next p n o table a h k) b.ties G (chain honest R F x next p n o table a h k G up) n o (others honest R F x next p n o table a) (here_new honest R F x next p n o table a)
     (stays honest R F x next p n o table a) b.beside (with_entries F a.row.number (listing_of (changed a.directory n o))) b.low up
+
+-- ---- the file of what went
+
+module _ (honest : Type 0) (R : Repository) (F : Stored) (x : Row) (next : ℕ) (p : Path) (n : Name) (h : honest) (table : IsTable x next) (k : IsKept R F x next)
+    (a : MayStand honest R F x next p n None) (w : Row) (there : find_row n a.directory.rows ≡ Some w) (G : Stored)
+    (up : Above (with_entries F a.row.number (listing_of (changed a.directory n None))) x p G) where
+  abbrev left : Directory
+  left = changed a.directory n None
+
+  abbrev full_left : Stored
+  full_left = with_entries k.full a.row.number (full_listing left)
+
+  without_it : Lower F k.full x next p a.row left
+  without_it = lower F x next p a.row a.directory n None a.at a.holds a.may_go a.storable (dropped honest R F x next h k p a.row a.directory n a.at a.holds a.may_go a.storable)
+
+  ties_left : Ties G full_left (chained p left x) next
+  ties_left =
+      let e = with_entries F a.row.number (listing_of left) in
+      chain_tied without_it.files full_left (with_listing p left x) next without_it.ties p G (put_can honest R F x next p n None table a)
+      (chain_from left without_it.files e p x a.row G a.at without_it.low up)
+
+  gone_least : 2 ≤ w.number
+  gone_least = numbers_from_two k.full a.row.number (full_entry (n, w)) (named_full k.full x next k.ties.fits a.row a.directory n w (place_at p x a.row a.at) a.holds there)
+
+  nothing_names : IsUnnamed full_left w.number
+  nothing_names = gone_unnamed F k.full x next k.ties p a.row a.directory a.at a.holds n a.may_go a.storable w there
+
+  removed_ties : Ties (without G w.number) (put full_left w.number None) (chained p left x) next
+  removed_ties = taken_tied G full_left (chained p left x) next ties_left w.number gone_least nothing_names
+
+pub removed_sound : RemovedSound
+removed_sound honest R F x next p n h table k a w there G up =
+    ties_sound (without G w.number) (put (full_left honest R F x next p n h table k a w there G up) w.number None) (chained p (changed a.directory n None) x) next
+    (removed_ties honest R F x next p n h table k a w there G up)
+
+pub removed_kept : RemovedKept
+removed_kept honest R F x next p n h table k a w there G up = record {
+  full = put (full_left honest R F x next p n h table k a w there G up) w.number None;
+  ties = removed_ties honest R F x next p n h table k a w there G up;
+  agrees = (stands_kept honest R F x next p n None h table k a G up).agrees;
+}
+
+pub removed_alike : RemovedAlike
+removed_alike honest R F x next p n h table k a w there G up =
+    taken_alike G (full_left honest R F x next p n h table k a w there G up) (chained p (changed a.directory n None) x) next
+    (ties_left honest R F x next p n h table k a w there G up) w.number (gone_least honest R F x next p n h table k a w there G up)
+    (nothing_names honest R F x next p n h table k a w there G up) R

@@ -6,8 +6,8 @@ use Rattle.eden_model.specs.Repository.{Repository}
 use Rattle.eden_model.specs.Trees.{Name, Path, graft}
 use Rattle.eden_overlay_format.specs.Directory.{IsStorable, AreStorable, number_least}
 use Rattle.eden_overlay.specs.Files.{Stored}
-use Rattle.eden_overlay.specs.Held.{HoldsEntries, with_entries}
-use Rattle.eden_overlay.specs.Soundness.{HoldsKind}
+use Rattle.eden_overlay.specs.Held.{HoldsEntries, with_entries, without}
+use Rattle.eden_overlay.specs.Soundness.{HoldsKind, AreSound}
 use Rattle.eden_tree.specs.Directory.{Row, Directory, child_of}
 use Rattle.eden_tree.specs.Rows.{find_row}
 use Rattle.eden_tree.specs.Paths.{row_at}
@@ -70,3 +70,23 @@ abbrev pub StandsGrafts : Type 1
 StandsGrafts = (honest : Type 0) (R : Repository) (F : Stored) (x : Row) (next : ℕ) (p : Path) (n : Name) (o : Option Row) → honest → IsTable x next → IsKept R F x next
     → (may : MayStand honest R F x next p n o) → (G : Stored) → Above (with_entries F may.row.number (listing_of (changed may.directory n o))) x p G
     → shown_in R G (chained p (changed may.directory n o) x) ≡ graft (p ++ n ∷ []) (shown_from R G o) (shown_in R F x)
+
+-- ---- once an entry is left out its file may be taken out: nothing names it
+
+abbrev pub RemovedSound : Type 1
+RemovedSound = (honest : Type 0) (R : Repository) (F : Stored) (x : Row) (next : ℕ) (p : Path) (n : Name) → honest → IsTable x next → IsKept R F x next
+    → (may : MayStand honest R F x next p n None) → (w : Row) → find_row n may.directory.rows ≡ Some w
+    → (G : Stored) → Above (with_entries F may.row.number (listing_of (changed may.directory n None))) x p G
+    → AreSound (without G w.number)
+
+abbrev pub RemovedKept : Type 1
+RemovedKept = (honest : Type 0) (R : Repository) (F : Stored) (x : Row) (next : ℕ) (p : Path) (n : Name) → honest → IsTable x next → IsKept R F x next
+    → (may : MayStand honest R F x next p n None) → (w : Row) → find_row n may.directory.rows ≡ Some w
+    → (G : Stored) → Above (with_entries F may.row.number (listing_of (changed may.directory n None))) x p G
+    → IsKept R (without G w.number) (chained p (changed may.directory n None) x) next
+
+abbrev pub RemovedAlike : Type 1
+RemovedAlike = (honest : Type 0) (R : Repository) (F : Stored) (x : Row) (next : ℕ) (p : Path) (n : Name) → honest → IsTable x next → IsKept R F x next
+    → (may : MayStand honest R F x next p n None) → (w : Row) → find_row n may.directory.rows ≡ Some w
+    → (G : Stored) → Above (with_entries F may.row.number (listing_of (changed may.directory n None))) x p G
+    → shown_in R (without G w.number) (chained p (changed may.directory n None) x) ≡ shown_in R G (chained p (changed may.directory n None) x)

@@ -6,7 +6,8 @@ ghost use Rattle.eden_tie.specs.Standing.{DropStorable, EntryStorable};
 /// be stored, and which files nothing has as its own.
 ///
 /// What may stand under a name of a loaded directory is said over an outside that may be honest: so what that keeps and
-/// shows are lemmas, `stands_table`, `stands_kept`, `stands_grafts` and two more (`proofs/CallerLemmas`).
+/// shows are lemmas, `stands_table`, `stands_kept`, `stands_grafts` and two more, and so is that the file of what was left
+/// out may be taken out, `removed_sound` and two more (`proofs/CallerLemmas`).
 pub fn chain_laws()
     ensures table { OwnedTable }
     ensures stays { OwnedStays }

@@ -1,0 +1,77 @@
+//! An entry removed from the table of a mount.
+
+ghost use Rattle.std.specs.Prelude.{◌≡◌, ◌≤◌, ◌∷◌, [], ◌++◌, ◌+◌, min, None, IfErr, OnOk, OnErr};
+ghost use Rattle.eden_model.specs.Trees.{graft};
+ghost use Rattle.eden_tie.specs.Chains.{AreSaved, StaysLoaded, chained, Refused};
+ghost use Rattle.eden_tie.specs.Changing.{changed};
+ghost use Rattle.eden_tie.specs.Shown.{shown_in};
+ghost use Rattle.eden_materialise.specs.Faults.{IsStoreFault};
+ghost use Rattle.eden_materialise.specs.Listings.{IsHeldFor};
+ghost use Rattle.eden_materialise.specs.Puts.{AtDirectory};
+ghost use Rattle.eden_materialise.specs.Removals.{HasEntry, Removes, RemovesEntry};
+
+use crate::entry_change::take_out;
+use crate::entry_move::{remove_replaced, spot_at};
+use crate::fault::told;
+use eden_inode::Inodes;
+use eden_model::{Fault, Name, World};
+use eden_overlay::{Files, Overlay};
+use eden_tree::{Change, Entry};
+use std::alloc::{Allocator, Global};
+
+/// An entry that is to go.
+#[derive(Drop)]
+struct Removal<'a> {
+    alloc: Global,
+    path: &'a [Name],
+    name: &'a Name,
+}
+
+impl<A: Allocator, W: World, F: Files<W>> Change<A, Overlay<W, F>> for Removal<'_> {
+    type Output = Result<(), Fault>;
+
+    ghost may = { λ removal overlay x. IsHeldFor W.honest W.repository (F.stored overlay) x removal.path.now removal.name.now None };
+
+    ghost does = { λ removal old x new z answer. RemovesEntry W.honest removal.path.now removal.name.now (F.stored old) x (F.failures old) (F.stored new) z (F.failures new) answer };
+
+    fn change(self, overlay: &mut Overlay<W, F>, entry: &mut Entry<A>) -> Result<(), Fault> {
+        let spot = spot_at(entry, self.path, self.name);
+        match take_out(self.alloc, entry, overlay, self.path, self.name) {
+            Ok(()) => {
+                remove_replaced(self.alloc, overlay, spot.own);
+                return Ok(());
+            }
+            Err(fault) => return Err(told(fault)),
+        }
+    }
+}
+
+/// Removes an entry that isn't loaded from the loaded directory at a path. The directory is stored without it, and the
+/// chain above it as far as it isn't the mount's own; then memory is so. The entry's own file, where it has one, is removed
+/// last; where that fails it is left, which nothing shows, and the answer is Ok all the same.
+///
+/// The tree that is shown has nothing at and below the name, and is as before elsewhere. Errors: `Overlay` where the device
+/// failed, and `Memory`. Memory is as it was then, and so is what is shown.
+pub fn remove_entry<A: Allocator + Clone, W: World, F: Files<W>>(
+    inodes: &mut Inodes<A, W, F>,
+    alloc: Global,
+    path: &[Name],
+    name: &Name,
+) -> Result<(), Fault>
+    requires there { HasEntry inodes.old.root path.now name.now }
+    ensures ok { AtDirectory path.now inodes.old.root (λ y d. OnOk result (inodes.new.root ≡ chained path.now (changed d name.now None) inodes.old.root)) }
+    ensures removed { AtDirectory path.now inodes.old.root (λ y d. OnOk result (Removes W.honest path.now name.now (F.stored inodes.old.files) inodes.old.root y d (F.failures inodes.old.files) (F.stored inodes.new.files) (F.failures inodes.new.files))) }
+    ensures err { OnErr result (inodes.new.root ≡ inodes.old.root) }
+    ensures strays { W.honest → OnErr result (Refused (F.stored inodes.old.files) inodes.old.root path.now (F.stored inodes.new.files)) }
+    ensures fault { IfErr result (IsStoreFault (F.failures inodes.old.files) (F.failures inodes.new.files)) }
+    ensures counted { OnOk result (F.failures inodes.old.files ≤ F.failures inodes.new.files) }
+    ensures shown { W.honest → OnOk result (shown_in W.repository (F.stored inodes.new.files) inodes.new.root ≡ graft (path.now ++ name.now ∷ []) (λ below. None) (shown_in W.repository (F.stored inodes.old.files) inodes.old.root)) }
+    ensures unseen { W.honest → OnErr result (shown_in W.repository (F.stored inodes.new.files) inodes.new.root ≡ shown_in W.repository (F.stored inodes.old.files) inodes.old.root) }
+    ensures saved { AreSaved inodes.old.root → AreSaved inodes.new.root }
+    ensures stays { StaysLoaded inodes.old.root inodes.new.root }
+    ensures changes { inodes.new.changes ≡ min (inodes.old.changes + 1) u64.MAX }
+    ensures rest { (inodes.new.next ≡ inodes.old.next) × (inodes.new.clock ≡ inodes.old.clock) }
+{
+    inodes.holds();
+    inodes.change(Removal { alloc, path, name })
+}
