@@ -5,13 +5,12 @@ use Rattle.std.proofs.KnownBytes.{Appends-nil, Appends-kept, Appends-trans, Cons
 use Rattle.std.specs.Prelude.{⊤}
 use Rattle.std.specs.Io.KnownBytes.{Appends, Consumes, IsAtEnd, Keeps}
 use Rattle.eden_model.specs.declared.errno.Errno.TheVariants.{EPROTO}
-use Rattle.eden_model.specs.declared.request.Request.{Request}
 use Rattle.eden_model.specs.declared.reply.Reply.{Reply}
 use Rattle.eden_model.specs.declared.fault.CallFault.{CallFault}
 use Rattle.eden_wire.specs.Replies.{error_text}
 use Rattle.eden_wire.specs.Lines.{longest_line, Lines, IsOneLine, IsBadEnd, Ends}
 use Rattle.eden_wire.specs.Writing.{WritesFront}
-use Rattle.eden_wire.specs.Serving.{texts, Serves, Session}
+use Rattle.eden_wire.specs.Serving.{Answering, texts, Serves, Session}
 use Rattle.eden_wire.specs.Turns.{Answered, Ended}
 use Rattle.eden_wire.specs.declared.request.Item.{Item}
 use Rattle.eden_wire.specs.declared.request.Item.TheVariants.{Bad}
@@ -25,7 +24,7 @@ use Rattle.eden_wire.proofs.SessionLemmas.{Lines-append, Lines-more, Serves-appe
 front_then : (a b c : Option (List ℕ)) (x y : List ℕ) → Appends a b x → WritesFront b c y → WritesFront a c (x ++ y)
 front_then a b c x y done w = record { front = x ++ w.front; rest = w.rest; whole = ap (λ l. x ++ l) w.whole ∙ sym (append_assoc x w.front w.rest); appends = Appends-trans a b c x w.front done w.appends }
 
-module _ {S : Type 0} (answers : S → Request → Result Reply CallFault → S → Type 0) where
+module _ {S : Type 0} (answers : Answering S) where
   -- the lines that were read so far were answered, and the rest is the beginning of one more
   pub record SoFar (s t : S) (in_old in_new out_old out_new : Option (List ℕ)) (rest : List ℕ) : Type 0 where
     pub read : List ℕ
@@ -147,7 +146,7 @@ keeps_from_none (Some x) None piece e h = absurd h
 keeps_from_none (Some x) (Some y) [] e h = sym h
 keeps_from_none (Some x) (Some y) (b ∷ piece) e h = absurd (omega arith)
 
-module _ {S : Type 0} (answers : S → Request → Result Reply CallFault → S → Type 0) where
+module _ {S : Type 0} (answers : Answering S) where
   pub answered_as : (s t : S) (o p : Option (List ℕ)) (out : Output) (bytes joined : List ℕ) (used : ℕ) (r q : Result Bool WriteFailed) → bytes ≡ joined → r ≡ q → Answered answers s t o p out bytes (drop used bytes) r → Answered answers s t o p out joined (drop used joined) q
   answered_as s t o p out bytes joined used r q e f a = subst (λ b. Answered answers s t o p out b (drop used b) q) e (subst (Answered answers s t o p out bytes (drop used bytes)) f a)
 

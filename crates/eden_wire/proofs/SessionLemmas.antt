@@ -3,14 +3,13 @@ use Rattle.std.proofs.Common.{◌≡◌, ℕ, ◌+◌, ◌-◌, ◌<◌, ◌≤�
 use Rattle.std.proofs.lemmas.Bool.{false≢true}
 use Rattle.std.proofs.lemmas.List.{drop-drop, length-take-le, length-drop, drop_all}
 use Rattle.eden_model.specs.declared.errno.Errno.TheVariants.{EPROTO}
-use Rattle.eden_model.specs.declared.request.Request.{Request}
 use Rattle.eden_model.specs.declared.reply.Reply.{Reply}
 use Rattle.eden_model.specs.declared.fault.CallFault.{CallFault}
 use Rattle.eden_wire.specs.Replies.{error_text, answer_text}
 use Rattle.eden_wire.specs.Lines.{Lines, IsLine, IsOneLine, IsBadEnd, IsLineOf}
 use Rattle.eden_wire.specs.Lines.IsBadEnd.{unreadable, too_long}
 use Rattle.eden_wire.specs.Writing.{Grows, Flushed, IsIdle}
-use Rattle.eden_wire.specs.Serving.{texts, Serves}
+use Rattle.eden_wire.specs.Serving.{Answering, texts, Serves}
 use Rattle.eden_wire.specs.Turns.{Turn, Goes, Run, RunLeft, Answered, Left}
 use Rattle.eden_wire.specs.declared.request.Item.{Item}
 use Rattle.eden_wire.specs.declared.request.Item.TheVariants.{Asks, Refuses, Bad}
@@ -31,7 +30,7 @@ pub Lines-more : (bytes : List ℕ) (items : List Item) (rest more : List ℕ) �
 Lines-more bytes [] rest more h = ap (λ b. b ++ more) h
 Lines-more bytes (item ∷ items) rest more h = (h.0, h.1 ++ more, ap (λ b. b ++ more) h.2 ∙ append_assoc h.0 (10 ∷ h.1) more, h.3, h.4, Lines-more h.1 items rest more h.5)
 
-module _ {S : Type 0} (answers : S → Request → Result Reply CallFault → S → Type 0) where
+module _ {S : Type 0} (answers : Answering S) where
   pub Serves-append : (s : S) (items : List Item) (given : Given) (u : S) (others : List Item) (later : Given) (t : S) → Serves answers s items given u → Serves answers u others later t → Serves answers s (items ++ others) (given ++ later) t
   Serves-append s [] [] u others later t h k = subst (λ v. Serves answers v others later t) (sym h) k
   Serves-append s [] (a ∷ given) u others later t h k = absurd h

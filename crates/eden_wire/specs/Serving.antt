@@ -27,7 +27,15 @@ texts (Asks q ∷ items) (a ∷ given) = answer_text a ++ texts items given
 texts (Refuses e ∷ items) given = error_text e ++ texts items given
 texts (Bad ∷ items) given = error_text EPROTO ++ texts items given
 
-module _ {S : Type 0} (answers : S → Request → Result Reply CallFault → S → Type 0) where
+-- what a service may answer: its state before, the request, the answer, its state after
+abbrev pub Answering : Type 0 → Type 1
+Answering S = S → Request → Result Reply CallFault → S → Type 0
+
+-- the bytes that a reader still has to give, or that a writer has taken, where they are known
+abbrev pub Known : Type 0
+Known = Option (List ℕ)
+
+module _ {S : Type 0} (answers : Answering S) where
   -- each request in order was answered by the service, or for want of memory not asked
   abbrev pub Serves : S → List Item → List (Option (Result Reply CallFault)) → S → Type 0
   Serves s [] [] t = s ≡ t
@@ -40,14 +48,15 @@ module _ {S : Type 0} (answers : S → Request → Result Reply CallFault → S 
 
 -- how a session ended: with the input's end, or with a bad line; at a failed read after the whole lines that were
 -- read; at a failed write with a beginning of the texts; for want of memory before the first read
-abbrev pub Said : Result ⊤ SessionFault → List ℕ → List Item → List ℕ → Option (List ℕ) → Option (List ℕ) × Option (List ℕ) → List ℕ → Type 0
+abbrev pub Said : Result ⊤ SessionFault → List ℕ → List Item → List ℕ → Known → Known × Known → List ℕ → Type 0
 Said (Ok _) read last rest unread output text = Ends rest unread last × Appends output.0 output.1 text
 Said (Err fault.Read) read last rest unread output text = (last ≡ []) × IsOneLine rest × Appends output.0 output.1 text
 Said (Err fault.Write) read last rest unread output text = ((last ≡ []) ⊎ Ends rest unread last) × WritesFront output.0 output.1 text
 Said (Err fault.Memory) read last rest unread output text = (read ≡ []) × (last ≡ []) × Keeps output.0 output.1
 
--- a session, with the service, the input and the output before and after it: the bytes that it read are lines, which the service answered, and the texts of the answers were written
-pub record Session {S : Type 0} (answers : S → Request → Result Reply CallFault → S → Type 0) (service : S × S) (input output : Option (List ℕ) × Option (List ℕ)) (r : Result ⊤ SessionFault) : Type 0 where
+-- a session, with the service, the input and the output before and after it: the bytes that it read are lines, which the
+-- service answered, and the texts of the answers were written
+pub record Session {S : Type 0} (answers : Answering S) (service : S × S) (input output : Known × Known) (r : Result ⊤ SessionFault) : Type 0 where
   pub read : List ℕ
   pub items : List Item
   pub last : List Item

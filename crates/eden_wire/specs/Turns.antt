@@ -2,13 +2,12 @@
 use Rattle.std.specs.Prelude.{ℕ, ◌≡◌, List, [], ◌∷◌, ◌++◌, length, ◌≤◌, Bool, true, false, Option, Result, Ok, Err, MatchResult, OnOk, ⊤, ◌⊎◌}
 use Rattle.std.specs.Io.KnownBytes.{Appends, Keeps}
 use Rattle.eden_model.specs.declared.errno.Errno.TheVariants.{EPROTO}
-use Rattle.eden_model.specs.declared.request.Request.{Request}
 use Rattle.eden_model.specs.declared.reply.Reply.{Reply}
 use Rattle.eden_model.specs.declared.fault.CallFault.{CallFault}
 use Rattle.eden_wire.specs.Replies.{error_text}
 use Rattle.eden_wire.specs.Lines.{longest_line, Lines, IsOneLine, IsLine, IsBadEnd, GoesOn}
 use Rattle.eden_wire.specs.Writing.{WritesFront, Writes, Grows, IsIdle}
-use Rattle.eden_wire.specs.Serving.{texts, Serves}
+use Rattle.eden_wire.specs.Serving.{Answering, Known, texts, Serves}
 use Rattle.eden_wire.specs.declared.request.Item.{Item}
 use Rattle.eden_wire.specs.declared.request.Item.TheVariants.{Bad}
 use Rattle.eden_wire.specs.declared.output.Output.{Output}
@@ -22,7 +21,7 @@ Goes true item = GoesOn item
 Goes false item = item ≡ Bad
 
 -- one line was answered
-pub record Turn {S : Type 0} (answers : S → Request → Result Reply CallFault → S → Type 0) (s t : S) (w v : Option (List ℕ)) (o p : Output) (line : List ℕ) (on : Bool) : Type 0 where
+pub record Turn {S : Type 0} (answers : Answering S) (s t : S) (w v : Known) (o p : Output) (line : List ℕ) (on : Bool) : Type 0 where
   pub item : Item
   pub given : List (Option (Result Reply CallFault))
   pub is_line : IsLine line item
@@ -36,7 +35,7 @@ RunLeft true output last rest after = (last ≡ []) × (rest ≡ after) × (outp
 RunLeft false output last rest after = (last ≡ Bad ∷ []) × IsBadEnd rest
 
 -- lines among the bytes were answered, up to one that is bad or a failed write
-pub record Run {S : Type 0} (answers : S → Request → Result Reply CallFault → S → Type 0) (s t : S) (w v : Option (List ℕ)) (o p : Output) (bytes after : List ℕ) (on : Bool) : Type 0 where
+pub record Run {S : Type 0} (answers : Answering S) (s t : S) (w v : Known) (o p : Output) (bytes after : List ℕ) (on : Bool) : Type 0 where
   pub items : List Item
   pub last : List Item
   pub given : List (Option (Result Reply CallFault))
@@ -53,7 +52,8 @@ Left (Ok false) last rest after = (last ≡ Bad ∷ []) × IsBadEnd rest
 Left (Err e) last rest after = (last ≡ []) ⊎ ((last ≡ Bad ∷ []) × IsBadEnd rest)
 
 -- the whole lines among the bytes were answered, up to one that is bad, and the answers written out
-pub record Answered {S : Type 0} (answers : S → Request → Result Reply CallFault → S → Type 0) (s t : S) (old new : Option (List ℕ)) (output : Output) (bytes after : List ℕ) (r : Result Bool WriteFailed) : Type 0 where
+pub record Answered {S : Type 0} (answers : Answering S) (s t : S) (old new : Known) (output : Output) (bytes after : List ℕ)
+    (r : Result Bool WriteFailed) : Type 0 where
   pub items : List Item
   pub last : List Item
   pub given : List (Option (Result Reply CallFault))
@@ -65,6 +65,6 @@ pub record Answered {S : Type 0} (answers : S → Request → Result Reply CallF
   pub idle : OnOk r (IsIdle output)
 
 -- what is said at the end of the input
-abbrev pub Ended : List ℕ → Option (List ℕ) → Option (List ℕ) → Result ⊤ SessionFault → Type 0
+abbrev pub Ended : List ℕ → Known → Known → Result ⊤ SessionFault → Type 0
 Ended [] old new r = (r ≡ Ok tt) × Keeps old new
 Ended (b ∷ rest) old new r = MatchResult r (λ _. Appends old new (error_text EPROTO)) (λ e. (e ≡ fault.Write) × WritesFront old new (error_text EPROTO))
