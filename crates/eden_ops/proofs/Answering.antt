@@ -17,7 +17,7 @@ use Rattle.eden_model.specs.declared.reply.Reply.{Reply}
 use Rattle.eden_model.specs.declared.reply.Reply.TheVariants as say
 use Rattle.eden_model.specs.declared.world.World.{Ghosts}
 use Rattle.eden_model.specs.Histories.{fault_of}
-use Rattle.eden_model.specs.Operations.{At, Meets as Table_Meets, Refuses, Replies, after, done}
+use Rattle.eden_model.specs.Operations.{At, Meets as Table_Meets, Refuses, Replies, after}
 use Rattle.eden_model.specs.Repository.{Repository}
 use Rattle.eden_model.specs.Shown.{node_from}
 use Rattle.eden_model.specs.Trees.{Path, Tree, Walk, Passes, Unlisted, through, walk_from, walk, Reach, Here, ends, reach}
@@ -37,23 +37,12 @@ use Rattle.eden_ops.specs.Keeping.{shows, Keeps}
 use Rattle.eden_ops.specs.Known.{content_known, known_by, known_node, known, is_unlisted, place_from, place_on, place}
 use Rattle.eden_ops.proofs.Walking.{walk_here, place_passes}
 
--- a request that changes nothing, and whose reply is by what stands at its path
+-- a request whose reply is by what stands at its path
 pub record Asks (q : Request) (p : Path) (here : Tree → Node → Reply → Type 0) : Type 0 where
   pub says : (G : Tree) (r : Reply) → At G p (here G) r → Replies G q r
   pub only : (G : Tree) (r : Reply) → Replies G q r → At G p (here G) r
   pub at : (G : Tree) → place G q ≡ place_on G p
   pub plain : (x : Path) → q ≡ ask.Kind x → x ≡ p
-  pub quiet : (G : Tree) → done G q ≡ G
-
-unchanged : (G : Tree) (q : Request) (r : Reply) → done G q ≡ G → after G q r ≡ G
-unchanged G q say.Ok e = e
-unchanged G q (say.Kind k) e = e
-unchanged G q (say.Stat k n) e = e
-unchanged G q (say.Data d) e = e
-unchanged G q (say.Count n) e = e
-unchanged G q (say.Entries es more) e = e
-unchanged G q (say.Err x) e = refl
-unchanged G q (say.Fault x) e = refl
 
 -- ---- where the walk is unlisted, the place is an unlisted directory
 
@@ -102,13 +91,13 @@ says_at R G p here T o y at h r says =
 
 module _ {W F : Type 0} (w : Ghosts W) (f : Files F W) (q : Request) (p : Path) (here : Tree → Node → Reply → Type 0) (asks : Asks q p here) (s t : Table F) (c d : Cache)
     (same : w.honest → shows w f t ≡ shows w f s) (keeps : Keeps w f s t) (cache : FindsTheSame c d) where
-  -- the reply of a request that changes nothing
-  pub replied : (r : Reply) → fault_of r ≡ None → (w.honest → At (shows w f s) p (here (shows w f s)) r) → Attempts w f q s t c d (Finished r)
-  replied r fine says = record {
+  -- a reply that leaves the tree
+  pub replied : (r : Reply) → fault_of r ≡ None → ((G : Tree) → after G q r ≡ G) → (w.honest → At (shows w f s) p (here (shows w f s)) r) → Attempts w f q s t c d (Finished r)
+  replied r fine still says = record {
     answer = record {
       reply = λ h x. asks.says (shows w f s) r (says h);
       fault = λ e is. let x : Some e ≡ None = ap fault_of (sym is) ∙ fine in cc;
-      shown = λ h. same h ∙ sym (unchanged (shows w f s) q r (asks.quiet (shows w f s)));
+      shown = λ h. same h ∙ sym (still (shows w f s));
     };
     cache = cache;
   }
@@ -135,7 +124,7 @@ module _ {W F : Type 0} (w : Ghosts W) (f : Files F W) (q : Request) (p : Path) 
 
   pub walk_ended : (z : Stop) → Meets w f p s t d (Err z) → (w.honest → MeetsShown w f p s t (Err z)) → Attempts w f q s t c d (stopped z)
   walk_ended (stop.Errs e) h shown =
-      replied (say.Err e) refl (λ honest. subst (λ (x : Reach). Table_Meets x (Refuses ENOENT) (here (shows w f s)) (say.Err e)) (sym (shown honest)) refl)
+      replied (say.Err e) refl (λ G. refl) (λ honest. subst (λ (x : Reach). Table_Meets x (Refuses ENOENT) (here (shows w f s)) (say.Err e)) (sym (shown honest)) refl)
   walk_ended (stop.Needs k) h shown = record {
     answer = record {
       need = record {
@@ -152,12 +141,12 @@ module _ {W F : Type 0} (w : Ghosts W) (f : Files F W) (q : Request) (p : Path) 
   -- ---- at the path
 
   pub says_absent : (w.honest → MeetsShown w f p s t (Ok None)) → Attempts w f q s t c d (Finished (say.Err ENOENT))
-  says_absent shown = replied (say.Err ENOENT) refl (λ honest. subst (λ (x : Reach). Table_Meets x (Refuses ENOENT) (here (shows w f s)) (say.Err ENOENT)) (sym (shown honest)) refl)
+  says_absent shown = replied (say.Err ENOENT) refl (λ G. refl) (λ honest. subst (λ (x : Reach). Table_Meets x (Refuses ENOENT) (here (shows w f s)) (say.Err ENOENT)) (sym (shown honest)) refl)
 
   -- by the entry there
   pub says_here : (y : Row) → row_at p t.root ≡ Some y → (w.honest → IsShown w.repository (f.stored t.files) (row_at p t.root) (reach (shows w f s) p)) → (r : Reply) → fault_of r ≡ None
-      → (w.honest → (listed : Bool) → here (shows w f s) (shown_node w.repository (f.stored t.files) y listed) r) → Attempts w f q s t c d (Finished r)
-  says_here y at shown r fine says = replied r fine (λ honest. says_at w.repository (f.stored t.files) p here (shows w f s) (row_at p t.root) y at (shown honest) r (says honest))
+      → ((G : Tree) → after G q r ≡ G) → (w.honest → (listed : Bool) → here (shows w f s) (shown_node w.repository (f.stored t.files) y listed) r) → Attempts w f q s t c d (Finished r)
+  says_here y at shown r fine still says = replied r fine still (λ honest. says_at w.repository (f.stored t.files) p here (shows w f s) (row_at p t.root) y at (shown honest) r (says honest))
 
   -- what the entry there wants: its object, or what its stored file lacks
   module _ (y : Row) (at : row_at p t.root ≡ Some y) where

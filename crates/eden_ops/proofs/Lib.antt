@@ -13,3 +13,4 @@ pub mod Answering
 pub mod Looking
 pub mod Origins
 pub mod Fetching
+pub mod Changing

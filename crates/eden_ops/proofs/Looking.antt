@@ -28,7 +28,7 @@ abbrev pub tells_kind : Tree → Node → Reply → Type 0
 tells_kind G n = Says (say.Kind (kind_of n))
 
 pub asks_kind : (p : Path) → Asks (ask.Kind p) p tells_kind
-asks_kind p = record { says = λ G r h. h; only = λ G r h. h; at = λ G. refl; plain = λ x is. cc; quiet = λ G. refl }
+asks_kind p = record { says = λ G r h. h; only = λ G r h. h; at = λ G. refl; plain = λ x is. cc }
 
 -- ---- an entry that isn't a directory: what is known of it, and where its object is lacking
 
@@ -49,7 +49,6 @@ asks_read p offset count few = record {
   only = λ G r h. subst (λ (b : Bool). Unless b EINVAL (At G p (Reads offset count)) r) few h;
   at = λ G. refl;
   plain = λ x is. cc;
-  quiet = λ G. refl;
 }
 
 -- .. of more than is allowed
@@ -112,7 +111,7 @@ abbrev pub reads_target : Tree → Node → Reply → Type 0
 reads_target G n = ReadsLink n
 
 pub asks_target : (p : Path) → Asks (ask.ReadLink p) p reads_target
-asks_target p = record { says = λ G r h. h; only = λ G r h. h; at = λ G. refl; plain = λ x is. cc; quiet = λ G. refl }
+asks_target p = record { says = λ G r h. h; only = λ G r h. h; at = λ G. refl; plain = λ x is. cc }
 
 pub target_other : (k : Kind) (c : Option (List ℕ)) (l : Bool) → k ≢ kind.Link → ReadsLink (node_from k c l) (say.Err EINVAL)
 target_other kind.File c l other = refl
@@ -138,7 +137,7 @@ abbrev pub stats : Tree → Node → Reply → Type 0
 stats G n = Stats n
 
 pub asks_stat : (p : Path) → Asks (ask.Stat p) p stats
-asks_stat p = record { says = λ G r h. h; only = λ G r h. h; at = λ G. refl; plain = λ x is. cc; quiet = λ G. refl }
+asks_stat p = record { says = λ G r h. h; only = λ G r h. h; at = λ G. refl; plain = λ x is. cc }
 
 pub stats_dir : (k : Kind) (c : Option (List ℕ)) (l : Bool) → k ≡ kind.Dir → Stats (node_from k c l) (say.Stat kind.Dir 0)
 stats_dir kind.File c l is = cc

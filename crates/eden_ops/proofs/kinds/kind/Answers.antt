@@ -36,5 +36,5 @@ returns-in-Ok-Some-clause-attempts g c =
     let e = c.in-Ok-Some.ensures in
     let seen = subst (λ (o : Option Seen). Meets g.W.World g.F.Files p s t c.meet.new.cache (Ok o)) c.in-Ok-Some.field-0-is e.meets in
     says_here g.W.World g.F.Files (ask.Kind p) p tells_kind (asks_kind p) s t c.args.cache.now c.meet.new.cache e.same e.keeps e.cache seen.row seen.there
-    (λ h. subst (λ (o : Option Seen). MeetsShown g.W.World g.F.Files p s t (Ok o)) c.in-Ok-Some.field-0-is (e.shown h)) (say.Kind c.in-Ok-Some.seen.kind) refl
+    (λ h. subst (λ (o : Option Seen). MeetsShown g.W.World g.F.Files p s t (Ok o)) c.in-Ok-Some.field-0-is (e.shown h)) (say.Kind c.in-Ok-Some.seen.kind) refl (λ G. refl)
     (λ h listed. ap say.Kind (seen.kind ∙ sym (kind_node seen.row.kind (content_with g.W.World.repository (own_files (g.F.Files.stored t.files)) (source_of seen.row.number seen.row.origin)) listed)))

@@ -67,7 +67,7 @@ returns-in-File-clause-attempts g c =
     let F = g.F.Files.stored t.files in
     let seen = subst (λ (o : Option Seen). Meets g.W.World g.F.Files p s t c.meet.new.cache (Ok o)) c.in-Ok-Some.field-0-is e.meets in
     let shown : g.W.World.honest → IsShown R F (row_at p t.root) (reach (shows g.W.World g.F.Files s) p) = λ h. subst (λ (o : Option Seen). MeetsShown g.W.World g.F.Files p s t (Ok o)) c.in-Ok-Some.field-0-is (e.shown h) in
-    says_here g.W.World g.F.Files (ask.ReadLink c.args.path.now) p reads_target (asks_target c.args.path.now) s t c.args.cache.now c.meet.new.cache e.same e.keeps e.cache seen.row seen.there shown (say.Err EINVAL) refl
+    says_here g.W.World g.F.Files (ask.ReadLink c.args.path.now) p reads_target (asks_target c.args.path.now) s t c.args.cache.now c.meet.new.cache e.same e.keeps e.cache seen.row seen.there shown (say.Err EINVAL) refl (λ G. refl)
     (λ h listed. target_other seen.row.kind (content_with R (own_files F) (source_of seen.row.number seen.row.origin)) listed (not_link seen.row.kind c.what.result (sym seen.kind ∙ (c.what.ensures.other (not_dir c.what.result c.in-File.is)).1) c.in-File.is))
 
 pub returns-in-Dir-clause-attempts : goal.returns-in-Dir-clause-attempts
@@ -80,7 +80,7 @@ returns-in-Dir-clause-attempts g c =
     let F = g.F.Files.stored t.files in
     let seen = subst (λ (o : Option Seen). Meets g.W.World g.F.Files p s t c.meet.new.cache (Ok o)) c.in-Ok-Some.field-0-is e.meets in
     let shown : g.W.World.honest → IsShown R F (row_at p t.root) (reach (shows g.W.World g.F.Files s) p) = λ h. subst (λ (o : Option Seen). MeetsShown g.W.World g.F.Files p s t (Ok o)) c.in-Ok-Some.field-0-is (e.shown h) in
-    says_here g.W.World g.F.Files (ask.ReadLink c.args.path.now) p reads_target (asks_target c.args.path.now) s t c.args.cache.now c.meet.new.cache e.same e.keeps e.cache seen.row seen.there shown (say.Err EINVAL) refl
+    says_here g.W.World g.F.Files (ask.ReadLink c.args.path.now) p reads_target (asks_target c.args.path.now) s t c.args.cache.now c.meet.new.cache e.same e.keeps e.cache seen.row seen.there shown (say.Err EINVAL) refl (λ G. refl)
     (λ h listed. target_other seen.row.kind (content_with R (own_files F) (source_of seen.row.number seen.row.origin)) listed (dir_not_link seen.row.kind (shown_kind p t.root c.in-Ok-Some.seen seen R F _ (shown h) (c.what.ensures.dir c.in-Dir.is))))
 
 pub returns-in-Err-part-clause-attempts : goal.returns-in-Err-part-clause-attempts
@@ -126,7 +126,7 @@ returns-in-Ok-clause-attempts g c =
     let other = c.what.ensures.other (link_not_dir c.what.result c.in-Link.is) in
     let had = c.in-Ok.ensures.ok in
     replied g.W.World g.F.Files (ask.ReadLink c.args.path.now) p reads_target (asks_target c.args.path.now) s u c.args.cache.now c.part.new.cache (λ h. b.same h ∙ e.same h) (keeps_on g.W.World g.F.Files s t u e.keeps b.keeps)
-    (finds_on c.args.cache.now c.meet.new.cache c.part.new.cache e.cache b.cache) (say.Data c.in-Ok.bytes) refl
+    (finds_on c.args.cache.now c.meet.new.cache c.part.new.cache e.cache b.cache) (say.Data c.in-Ok.bytes) refl (λ G. refl)
     (λ h. says_at R F p reads_target (shows g.W.World g.F.Files s) (row_at p t.root) seen.row seen.there (shown h) (say.Data c.in-Ok.bytes) (λ listed. subst (λ d. reads_target (shows g.W.World g.F.Files s) (shown_node R F seen.row listed) (say.Data d)) (sym (had.part ∙ take_all 1073741824 had.content had.is.short)) (target_some seen.row.kind (content_with R (own_files F) (source_of seen.row.number seen.row.origin)) listed had.content (sym seen.kind ∙ other.1 ∙ c.in-Link.is) (had.is.shown h seen.row seen.there))))
 
 pub part-requires-clause-content : goal.part-requires-clause-content

@@ -60,7 +60,7 @@ returns-in-Link-clause-attempts g c =
     let F = g.F.Files.stored t.files in
     let seen = subst (λ (o : Option Seen). Meets g.W.World g.F.Files p s t c.meet.new.cache (Ok o)) c.in-Ok-Some.field-0-is e.meets in
     let shown : g.W.World.honest → IsShown R F (row_at p t.root) (reach (shows g.W.World g.F.Files s) p) = λ h. subst (λ (o : Option Seen). MeetsShown g.W.World g.F.Files p s t (Ok o)) c.in-Ok-Some.field-0-is (e.shown h) in
-    says_here g.W.World g.F.Files (ask.Read c.args.path.now c.args.offset c.args.count) p (reads c.args.offset c.args.count) (asks_read c.args.path.now c.args.offset c.args.count (le-ltb 65536 c.args.count c.if-count-gt-MAX_DATA.false)) s t c.args.cache.now c.meet.new.cache e.same e.keeps e.cache seen.row seen.there shown (say.Err EINVAL) refl
+    says_here g.W.World g.F.Files (ask.Read c.args.path.now c.args.offset c.args.count) p (reads c.args.offset c.args.count) (asks_read c.args.path.now c.args.offset c.args.count (le-ltb 65536 c.args.count c.if-count-gt-MAX_DATA.false)) s t c.args.cache.now c.meet.new.cache e.same e.keeps e.cache seen.row seen.there shown (say.Err EINVAL) refl (λ G. refl)
     (λ h listed. reads_link c.args.offset c.args.count seen.row.kind (content_with R (own_files F) (source_of seen.row.number seen.row.origin)) listed (sym seen.kind ∙ (c.what.ensures.other (λ dir. cc)).1 ∙ c.in-Link.is))
 
 pub returns-in-Dir-clause-attempts : goal.returns-in-Dir-clause-attempts
@@ -73,7 +73,7 @@ returns-in-Dir-clause-attempts g c =
     let F = g.F.Files.stored t.files in
     let seen = subst (λ (o : Option Seen). Meets g.W.World g.F.Files p s t c.meet.new.cache (Ok o)) c.in-Ok-Some.field-0-is e.meets in
     let shown : g.W.World.honest → IsShown R F (row_at p t.root) (reach (shows g.W.World g.F.Files s) p) = λ h. subst (λ (o : Option Seen). MeetsShown g.W.World g.F.Files p s t (Ok o)) c.in-Ok-Some.field-0-is (e.shown h) in
-    says_here g.W.World g.F.Files (ask.Read c.args.path.now c.args.offset c.args.count) p (reads c.args.offset c.args.count) (asks_read c.args.path.now c.args.offset c.args.count (le-ltb 65536 c.args.count c.if-count-gt-MAX_DATA.false)) s t c.args.cache.now c.meet.new.cache e.same e.keeps e.cache seen.row seen.there shown (say.Err EISDIR) refl
+    says_here g.W.World g.F.Files (ask.Read c.args.path.now c.args.offset c.args.count) p (reads c.args.offset c.args.count) (asks_read c.args.path.now c.args.offset c.args.count (le-ltb 65536 c.args.count c.if-count-gt-MAX_DATA.false)) s t c.args.cache.now c.meet.new.cache e.same e.keeps e.cache seen.row seen.there shown (say.Err EISDIR) refl (λ G. refl)
     (λ h listed. reads_dir c.args.offset c.args.count seen.row.kind (content_with R (own_files F) (source_of seen.row.number seen.row.origin)) listed (shown_kind p t.root c.in-Ok-Some.seen seen R F _ (shown h) (c.what.ensures.dir c.in-Dir.is)))
 
 pub returns-then-count-eq0-clause-attempts : goal.returns-then-count-eq0-clause-attempts
@@ -88,7 +88,7 @@ returns-then-count-eq0-clause-attempts g c =
     let shown : g.W.World.honest → IsShown R F (row_at p t.root) (reach (shows g.W.World g.F.Files s) p) = λ h. subst (λ (o : Option Seen). MeetsShown g.W.World g.F.Files p s t (Ok o)) c.in-Ok-Some.field-0-is (e.shown h) in
     let other = c.what.ensures.other (plain_other c.what.result c.in-File.is) in
     let none : c.new-then-count-eq0.result ≡ [] = c.new-then-count-eq0.ensures ∙ c.new.ensures.items in
-    says_here g.W.World g.F.Files (ask.Read c.args.path.now c.args.offset c.args.count) p (reads c.args.offset c.args.count) (asks_read c.args.path.now c.args.offset c.args.count (le-ltb 65536 c.args.count c.if-count-gt-MAX_DATA.false)) s t c.args.cache.now c.meet.new.cache e.same e.keeps e.cache seen.row seen.there shown (say.Data c.new-then-count-eq0.result) refl
+    says_here g.W.World g.F.Files (ask.Read c.args.path.now c.args.offset c.args.count) p (reads c.args.offset c.args.count) (asks_read c.args.path.now c.args.offset c.args.count (le-ltb 65536 c.args.count c.if-count-gt-MAX_DATA.false)) s t c.args.cache.now c.meet.new.cache e.same e.keeps e.cache seen.row seen.there shown (say.Data c.new-then-count-eq0.result) refl (λ G. refl)
     (λ h listed. subst (λ b. reads c.args.offset c.args.count (shows g.W.World g.F.Files s) (shown_node R F seen.row listed) (say.Data b)) (sym none) (reads_none c.args.offset c.args.count seen.row.kind (content_with R (own_files F) (source_of seen.row.number seen.row.origin)) listed (as_told seen.row.kind c.what.result (sym seen.kind ∙ other.1) c.in-File.is) (ap (λ (n : ℕ). n == 0) c.if-count-eq0.true)))
 
 pub returns-in-Err-part-clause-attempts : goal.returns-in-Err-part-clause-attempts
@@ -134,7 +134,7 @@ returns-in-Ok-clause-attempts g c =
     let other = c.what.ensures.other (plain_other c.what.result c.in-File.is) in
     let had = c.in-Ok.ensures.ok in
     replied g.W.World g.F.Files (ask.Read c.args.path.now c.args.offset c.args.count) p (reads c.args.offset c.args.count) (asks_read c.args.path.now c.args.offset c.args.count (le-ltb 65536 c.args.count c.if-count-gt-MAX_DATA.false)) s u c.args.cache.now c.part.new.cache (λ h. b.same h ∙ e.same h) (keeps_on g.W.World g.F.Files s t u e.keeps b.keeps)
-    (finds_on c.args.cache.now c.meet.new.cache c.part.new.cache e.cache b.cache) (say.Data c.in-Ok.bytes) refl
+    (finds_on c.args.cache.now c.meet.new.cache c.part.new.cache e.cache b.cache) (say.Data c.in-Ok.bytes) refl (λ G. refl)
     (λ h. says_at R F p (reads c.args.offset c.args.count) (shows g.W.World g.F.Files s) (row_at p t.root) seen.row seen.there (shown h) (say.Data c.in-Ok.bytes) (λ listed. subst (λ d. reads c.args.offset c.args.count (shows g.W.World g.F.Files s) (shown_node R F seen.row listed) (say.Data d)) (sym had.part) (reads_some c.args.offset c.args.count seen.row.kind (content_with R (own_files F) (source_of seen.row.number seen.row.origin)) listed had.content (as_told seen.row.kind c.what.result (sym seen.kind ∙ other.1) c.in-File.is) (ne_eqb c.args.count 0 c.if-count-eq0.false) (had.is.shown h seen.row seen.there))))
 
 pub part-requires-clause-content : goal.part-requires-clause-content

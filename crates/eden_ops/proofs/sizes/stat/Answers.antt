@@ -57,7 +57,7 @@ returns-in-Dir-clause-attempts g c =
     let F = g.F.Files.stored t.files in
     let seen = subst (λ (o : Option Seen). Meets g.W.World g.F.Files p s t c.meet.new.cache (Ok o)) c.in-Ok-Some.field-0-is e.meets in
     let shown : g.W.World.honest → IsShown R F (row_at p t.root) (reach (shows g.W.World g.F.Files s) p) = λ h. subst (λ (o : Option Seen). MeetsShown g.W.World g.F.Files p s t (Ok o)) c.in-Ok-Some.field-0-is (e.shown h) in
-    says_here g.W.World g.F.Files (ask.Stat c.args.path.now) p stats (asks_stat c.args.path.now) s t c.args.cache.now c.meet.new.cache e.same e.keeps e.cache seen.row seen.there shown (say.Stat kind.Dir 0) refl
+    says_here g.W.World g.F.Files (ask.Stat c.args.path.now) p stats (asks_stat c.args.path.now) s t c.args.cache.now c.meet.new.cache e.same e.keeps e.cache seen.row seen.there shown (say.Stat kind.Dir 0) refl (λ G. refl)
     (λ h listed. stats_dir seen.row.kind (content_with R (own_files F) (source_of seen.row.number seen.row.origin)) listed (shown_kind p t.root c.in-Ok-Some.seen seen R F _ (shown h) (c.what-kind.ensures.dir c.in-Dir.is)))
 
 pub returns-in-Err-size-clause-attempts : goal.returns-in-Err-size-clause-attempts
@@ -106,7 +106,7 @@ returns-in-Ok-clause-attempts g c =
     let had = c.in-Ok.ensures.ok in
     let told : c.what-kind.result ≡ seen.row.kind = sym other.1 ∙ seen.kind in
     replied g.W.World g.F.Files (ask.Stat c.args.path.now) p stats (asks_stat c.args.path.now) s u c.args.cache.now c.size.new.cache (λ h. b.same h ∙ e.same h) (keeps_on g.W.World g.F.Files s t u e.keeps b.keeps)
-    (finds_on c.args.cache.now c.meet.new.cache c.size.new.cache e.cache b.cache) (say.Stat c.what-kind.result c.in-Ok.length) refl
+    (finds_on c.args.cache.now c.meet.new.cache c.size.new.cache e.cache b.cache) (say.Stat c.what-kind.result c.in-Ok.length) refl (λ G. refl)
     (λ h. says_at R F p stats (shows g.W.World g.F.Files s) (row_at p t.root) seen.row seen.there (shown h) (say.Stat c.what-kind.result c.in-Ok.length)
     (λ listed.
     let has = had h seen.row seen.there in

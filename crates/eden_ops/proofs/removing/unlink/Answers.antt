@@ -1,0 +1,111 @@
+use Rattle.std.proofs.Common.{◌≡◌, ◌≢◌, ◌⊎◌, ◌++◌, ◌∷◌, [], false, Bool, Option, Some, None, Ok, sym, refl, subst, ap, ◌∙◌, inl, inr}
+use Rattle.std.proofs.lemmas.Bool.{false≢true}
+use Rattle.std.specs.Option.{is_some}
+use Rattle.eden_model.specs.declared.errno.Errno.TheVariants.{EISDIR}
+use Rattle.eden_model.specs.declared.kind.Kind.{Kind}
+use Rattle.eden_model.specs.declared.kind.Kind.TheVariants as kind
+use Rattle.eden_model.specs.declared.reply.Reply.TheVariants as say
+use Rattle.eden_model.specs.declared.request.Request.TheVariants as ask
+use Rattle.eden_model.specs.Operations.{put}
+use Rattle.eden_model.specs.Repository.{source_of, content_with}
+use Rattle.eden_model.specs.Trees.{Tree, Path, reach, graft}
+use Rattle.eden_overlay.specs.Held.{own_files}
+use Rattle.eden_tree.specs.Directory.{Directory, child_of}
+use Rattle.eden_tree.specs.Paths.{row_at}
+use Rattle.eden_inode.specs.declared.seen.Seen.{Seen}
+use Rattle.eden_ops.specs.declared.answer.Attempt.{Attempt}
+use Rattle.eden_ops.specs.Attempts.{Attempts, Meets, MeetsShown, IsShown}
+use Rattle.eden_ops.specs.Keeping.{shows}
+use Rattle.eden_ops.proofs.Answering.{walk_ended, says_absent, says_here, says_at}
+use Rattle.eden_ops.proofs.Changing.{not_root, has_entry, gone_alone, file_alone, changed, refused, unlinks, asks_unlink, unlinks_file, unlinks_dir}
+use Rattle.eden_ops.proofs.Fetching.{shown_kind}
+use Rattle.eden_ops.proofs.Seeing.{kept_dirs}
+use Rattle.eden_ops.proofs.removing.unlink.Goals as goal
+
+file_not_dir : (told : Kind) → (told ≡ kind.File) ⊎ ((told ≡ kind.Exec) ⊎ (told ≡ kind.Link)) → told ≢ kind.Dir
+file_not_dir told (inl a) dir = cc
+file_not_dir told (inr (inl a)) dir = cc
+file_not_dir told (inr (inr a)) dir = cc
+
+none_held : (o : Option Directory) → is_some o ≡ false → o ≡ None
+none_held None is = refl
+none_held (Some d) is = absurd (false≢true (sym is))
+
+pub returns-in-Err : goal.returns-in-Err
+returns-in-Err g c =
+    let p = c.args.path.now in
+    let s = c.args.inodes.now in
+    let t = c.meet.new.inodes in
+    let e = c.in-Err.ensures in
+    let split = sym c.as_slice.ensures ∙ c.in-Some.ensures.cases.0 in
+    subst (λ (a : Attempt). Attempts g.W.World g.F.Files (ask.Unlink p) s t c.args.cache.now c.meet.new.cache a) (sym c.ended.ensures)
+    (walk_ended g.W.World g.F.Files (ask.Unlink p) p unlinks (asks_unlink p (not_root p c.in-Some.above.now c.in-Some.name.now split)) s t c.args.cache.now c.meet.new.cache e.same e.keeps e.cache c.in-Err.stop e.meets e.shown)
+
+pub returns-in-Ok-None : goal.returns-in-Ok-None
+returns-in-Ok-None g c =
+    let p = c.args.path.now in
+    let s = c.args.inodes.now in
+    let t = c.meet.new.inodes in
+    let e = c.in-Ok-None.ensures in
+    let split = sym c.as_slice.ensures ∙ c.in-Some.ensures.cases.0 in
+    says_absent g.W.World g.F.Files (ask.Unlink p) p unlinks (asks_unlink p (not_root p c.in-Some.above.now c.in-Some.name.now split)) s t c.args.cache.now c.meet.new.cache e.same e.keeps e.cache
+    (λ h. subst (λ (o : Option Seen). MeetsShown g.W.World g.F.Files p s t (Ok o)) c.in-Ok-None.field-0-is (e.shown h))
+
+pub returns-in-Dir : goal.returns-in-Dir
+returns-in-Dir g c =
+    let p = c.args.path.now in
+    let s = c.args.inodes.now in
+    let t = c.meet.new.inodes in
+    let e = c.in-Ok-Some.ensures in
+    let R = g.W.World.repository in
+    let F = g.F.Files.stored t.files in
+    let split = sym c.as_slice.ensures ∙ c.in-Some.ensures.cases.0 in
+    let seen = subst (λ (o : Option Seen). Meets g.W.World g.F.Files p s t c.meet.new.cache (Ok o)) c.in-Ok-Some.field-0-is e.meets in
+    let shown : g.W.World.honest → IsShown R F (row_at p t.root) (reach (shows g.W.World g.F.Files s) p) = λ h. subst (λ (o : Option Seen). MeetsShown g.W.World g.F.Files p s t (Ok o)) c.in-Ok-Some.field-0-is (e.shown h) in
+    says_here g.W.World g.F.Files (ask.Unlink p) p unlinks (asks_unlink p (not_root p c.in-Some.above.now c.in-Some.name.now split)) s t c.args.cache.now c.meet.new.cache e.same e.keeps e.cache seen.row seen.there shown (say.Err EISDIR) refl (λ G. refl)
+    (λ h listed. unlinks_dir seen.row.kind (content_with R (own_files F) (source_of seen.row.number seen.row.origin)) listed (shown_kind p t.root c.in-Ok-Some.seen seen R F _ (shown h) (c.what.ensures.dir c.in-Dir.is)))
+
+pub remove_entry-requires : goal.remove_entry-requires
+remove_entry-requires g c =
+    let p = c.args.path.now in
+    let s = c.args.inodes.now in
+    let t = c.meet.new.inodes in
+    let e = c.in-Ok-Some.ensures in
+    let split = sym c.as_slice.ensures ∙ c.in-Some.ensures.cases.0 in
+    let seen = subst (λ (o : Option Seen). Meets g.W.World g.F.Files p s t c.meet.new.cache (Ok o)) c.in-Ok-Some.field-0-is e.meets in
+    let other = c.what.ensures.other (file_not_dir c.what.result c.in-File.is) in
+    record { there = has_entry p c.in-Some.above.now c.in-Some.name.now t.root seen.row split seen.there (none_held (child_of seen.row) (sym seen.loaded ∙ other.0)) }
+
+pub returns-in-Ok : goal.returns-in-Ok
+returns-in-Ok g c =
+    let p = c.args.path.now in
+    let s = c.args.inodes.now in
+    let t = c.meet.new.inodes in
+    let u = c.remove_entry.new.inodes in
+    let e = c.in-Ok-Some.ensures in
+    let R = g.W.World.repository in
+    let F = g.F.Files.stored t.files in
+    let G = shows g.W.World g.F.Files s in
+    let split = sym c.as_slice.ensures ∙ c.in-Some.ensures.cases.0 in
+    let seen = subst (λ (o : Option Seen). Meets g.W.World g.F.Files p s t c.meet.new.cache (Ok o)) c.in-Ok-Some.field-0-is e.meets in
+    let shown : g.W.World.honest → IsShown R F (row_at p t.root) (reach G p) = λ h. subst (λ (o : Option Seen). MeetsShown g.W.World g.F.Files p s t (Ok o)) c.in-Ok-Some.field-0-is (e.shown h) in
+    let other = c.what.ensures.other (file_not_dir c.what.result c.in-File.is) in
+    let file : seen.row.kind ≢ kind.Dir = λ dir. file_not_dir c.what.result c.in-File.is (sym other.1 ∙ seen.kind ∙ dir) in
+    changed g.W.World g.F.Files (ask.Unlink p) s t u c.args.cache.now c.meet.new.cache e.same ((c.keeps_laws.ensures.counts s t e.keeps).1.1.1) e.cache
+    (λ h. (asks_unlink p (not_root p c.in-Some.above.now c.in-Some.name.now split)).says G say.Ok
+    (says_at R F p unlinks G (row_at p t.root) seen.row seen.there (shown h) say.Ok (λ listed. unlinks_file seen.row.kind (content_with R (own_files F) (source_of seen.row.number seen.row.origin)) listed file)))
+    (λ h.
+    c.in-Ok.ensures.shown h
+    ∙ ap (λ (q : Path). graft q (λ below. None) (shows g.W.World g.F.Files t)) (sym split)
+    ∙ ap (graft p (λ below. None)) (e.same h)
+    ∙ gone_alone G p (λ n r. sym (ap (λ (T : Tree). T (p ++ n ∷ r)) (e.same h)) ∙ file_alone c.shown_laws.ensures.below R F p t.root seen.row (kept_dirs R F t.root t.next (c.holds.ensures.kept h)) seen.there file n r))
+
+pub returns-in-Err-remove_entry : goal.returns-in-Err-remove_entry
+returns-in-Err-remove_entry g c =
+    let p = c.args.path.now in
+    let s = c.args.inodes.now in
+    let t = c.meet.new.inodes in
+    let u = c.remove_entry.new.inodes in
+    let e = c.in-Ok-Some.ensures in
+    let x = c.in-Err-remove_entry.ensures in
+    refused g.W.World g.F.Files (ask.Unlink p) s t u c.args.cache.now c.meet.new.cache e.same ((c.keeps_laws.ensures.counts s t e.keeps).1.1.1) e.cache c.in-Err-remove_entry.fault x.fault (λ y is. cc) x.unseen

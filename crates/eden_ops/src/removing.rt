@@ -1,0 +1,48 @@
+//! Entries that are removed.
+ghost use Rattle.eden_model.specs.declared.request.Request.TheVariants as ask;
+ghost use Rattle.eden_ops.specs.Attempts.{Attempts};
+ghost use Rattle.eden_ops.specs.Caches.{IsStocked};
+
+use crate::answer::Attempt;
+use crate::end::ended;
+use crate::laws::keeps_laws;
+use crate::meet::meet;
+use crate::what::what;
+use eden_cache::ObjectCache;
+use eden_inode::Inodes;
+use eden_materialise::remove_entry;
+use eden_model::{Errno, Kind, Path, Reply, World};
+use eden_overlay::Files;
+use eden_tie::shown_laws;
+use std::alloc::{Allocator, Global};
+
+/// Removes a file or a link.
+pub fn unlink<A: Allocator + Clone, W: World, F: Files<W>, C: Allocator + Clone>(
+    inodes: &mut Inodes<A, W, F>,
+    cache: &mut ObjectCache<C>,
+    alloc: Global,
+    path: &Path,
+) -> Attempt
+    requires { IsStocked W.repository W.honest cache.old }
+    ensures { Attempts W.World F.Files (ask.Unlink path.now) inodes.old inodes.new cache.old cache.new result }
+{
+    let Some((name, above)) = path.as_slice().split_last() else {
+        return Attempt::Finished(Reply::Err(Errno::EISDIR));
+    };
+    let seen = match meet(inodes, cache, alloc, path) {
+        Err(stop) => return ended(stop),
+        Ok(None) => return Attempt::Finished(Reply::Err(Errno::ENOENT)),
+        Ok(Some(seen)) => seen,
+    };
+    match what(seen) {
+        Kind::Dir => return Attempt::Finished(Reply::Err(Errno::EISDIR)),
+        Kind::File | Kind::Exec | Kind::Link => {}
+    }
+    keeps_laws::<W, F>();
+    shown_laws();
+    inodes.holds();
+    match remove_entry(inodes, alloc, above, name) {
+        Ok(()) => Attempt::Finished(Reply::Ok),
+        Err(fault) => Attempt::Finished(Reply::Fault(fault)),
+    }
+}
