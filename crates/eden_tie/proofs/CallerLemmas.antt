@@ -44,3 +44,6 @@ pub use Rattle.eden_tie.proofs.Storable.{drop_storable, entry_storable}
 pub use Rattle.eden_tie.proofs.Stands.{stands_sound, put_sound, put_can, stands_table, stands_saved, stands_stays, stands_kept, stands_grafts, removed_sound, removed_kept, removed_alike}
 -- files that nothing has as its own
 pub use Rattle.eden_tie.proofs.LooseFiles.{loose_sound, loose_kept, loose_alike}
+-- the own file of an entry
+pub use Rattle.eden_tie.proofs.Filing.{file_shows, empty_shows, loose_elsewhere}
+pub use Rattle.eden_tie.proofs.Contents.{content_sound, content_kept, content_grafts}

@@ -44,3 +44,5 @@ pub mod Stands
 pub mod Storable
 pub mod Staying
 pub mod LooseFiles
+pub mod Filing
+pub mod Contents

@@ -28,7 +28,7 @@ module _ (R : Repository) (F : Stored) (x : Row) (next : ℕ) (table : IsTable x
   stray j (other_entry p y d n w at h there shut other is) =
       subst (IsStray k.full) is (is_stray F k.full x next k.ties y d (place_at p x y at) h n w there shut other)
 
-  away : (j : ℕ) → IsLoose x next j → IsAway x j
+  pub away : (j : ℕ) → IsLoose x next j → IsAway x j
   away j (never_given after) v e top h is = let least = table.least in let root = table.root in omega (arith, least, after, root, is)
   away j (never_given after) v e (inside u c m q r i f) h is =
       let less = k.ties.fits.below u.number (full_entry (m, q)) (place_counts k.full x next k.ties.fits u c r i) (named_full k.full x next k.ties.fits u c m q r i f) in

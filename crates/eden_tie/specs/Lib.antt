@@ -14,3 +14,4 @@ pub mod Chains
 pub mod ChainLaws
 pub mod Standing
 pub mod Loose
+pub mod Filing

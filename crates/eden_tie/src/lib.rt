@@ -10,8 +10,10 @@ mod kept;
 mod laws;
 mod owning;
 mod shown;
+mod storing;
 
 pub use kept::kept_laws;
 pub use laws::tie_laws;
 pub use owning::chain_laws;
 pub use shown::shown_laws;
+pub use storing::file_laws;
