@@ -1,25 +1,34 @@
 -- A file of another kind may stand in its own place.
-use Rattle.std.proofs.Common.{◌≡◌, ◌≢◌, ℕ, true, false, cond, List, [], ◌∷◌, map, Option, Some, None, IsSome, IfSome, inl, refl, sym, ap, ◌∙◌, subst}
+use Rattle.std.proofs.Common.{◌≡◌, ◌≢◌, ℕ, true, false, cond, List, [], ◌∷◌, ◌++◌, map, Result, Ok, Err, OnOk, Option, Some, None, IsSome, IfSome, inl, refl, sym, ap, ◌∙◌, subst}
 use Rattle.std.specs.List.{AllByRecursion}
+use Rattle.std.specs.Option.{option_and_then}
 use Rattle.std.specs.Str.{bytes_eq}
 use Rattle.std.proofs.lemmas.Option.{same_Some, none-some}
+use Rattle.eden_model.specs.declared.fault.Fault.{Fault}
 use Rattle.eden_model.specs.declared.kind.Kind.{Kind}
 use Rattle.eden_model.specs.declared.kind.Kind.TheVariants as kind
 use Rattle.eden_model.specs.declared.kind.Origin.{Origin}
 use Rattle.eden_model.specs.declared.kind.Origin.TheVariants as origin
-use Rattle.eden_model.specs.Repository.{Repository}
-use Rattle.eden_model.specs.Trees.{Name, Path}
+use Rattle.eden_model.specs.Repository.{Repository, source_of, content_with}
+use Rattle.eden_model.specs.Shown.{node_from}
+use Rattle.eden_model.specs.Trees.{Name, Path, Tree, graft}
 use Rattle.eden_overlay_format.specs.Directory.{AreStorable, IsStorable, HasOrigin}
+use Rattle.eden_overlay_format.specs.Values.{content_in}
 use Rattle.eden_overlay.specs.Files.{Stored}
+use Rattle.eden_overlay.specs.Held.{own_files}
 use Rattle.eden_tree.specs.Directory.{Row, Directory, child_of}
 use Rattle.eden_tree.specs.Rows.{find_row}
 use Rattle.eden_tree.proofs.CallerLemmas.{same-≡}
 use Rattle.eden_tie.specs.Changing.{changed, MayGo}
-use Rattle.eden_tie.specs.Kept.{IsTable}
+use Rattle.eden_tie.specs.Filing.{leaf, content_shown}
+use Rattle.eden_tie.specs.Kept.{IsTable, IsKept}
 use Rattle.eden_tie.specs.Listings.{stored_entry, listing_of}
+use Rattle.eden_tie.specs.Shown.{shown_in}
 use Rattle.eden_tie.specs.Standing.{MayStand, kept_number}
-use Rattle.eden_tie.proofs.CallerLemmas.{place_at, entry_storable}
+use Rattle.eden_tie.proofs.CallerLemmas.{place_at, entry_storable, content_shows, entry_elsewhere}
+use Rattle.eden_materialise.specs.Listings.{ChangesEntry}
 use Rattle.eden_materialise.specs.Reforms.{HasFile, of_kind}
+use Rattle.eden_materialise.proofs.Listings.{changes_shown}
 
 -- an entry of a listing that can be stored can be
 each_can : (n : Name) (es : List (Name × Row)) (w : Row) → AllByRecursion IsStorable (map stored_entry es) → find_row n es ≡ Some w → IsStorable (stored_entry (n, w))
@@ -62,3 +71,20 @@ may_reform honest R F x next p n k w table a other =
       unloaded = a.unloaded;
       numbered = kept_number w a.there refl a.file other (inl refl);
     }
+
+-- ---- what is shown then
+
+same_content : (R : Repository) (F G : Stored) (k : ℕ) (o : Origin) → G k ≡ F k → content_with R (own_files G) (source_of k o) ≡ content_with R (own_files F) (source_of k o)
+same_content R F G k (origin.Object id) same = refl
+same_content R F G k origin.Own same = ap (option_and_then content_in) same
+same_content R F G k origin.Empty same = refl
+
+pub reform_shown : (honest : Type 0) (R : Repository) (p : Path) (n : Name) (k : Kind) (w : Row) (F : Stored) (x : Row) (old : ℕ) (G : Stored) (z : Row) (new next : ℕ) → IsTable x next → honest → IsKept R F x next
+    → HasFile x p n w → k ≢ kind.Dir → (answer : Result (Unit {0}) Fault) → ChangesEntry honest p n (Some (of_kind k w)) F x old G z new answer
+    → OnOk answer (shown_in R G z ≡ graft (p ++ n ∷ []) (leaf (node_from k (content_shown R F w) false)) (shown_in R F x))
+reform_shown honest R p n k w F x old G z new next table h kept a other (Ok u) c =
+    let may = may_reform honest R F x next p n k w table a other in
+    let same : G w.number ≡ F w.number = entry_elsewhere R F x next table kept p a.row a.directory n w a.at a.holds a.there a.unloaded F p a.row a.directory _ G a.at a.holds (c.stored h a.row a.directory a.at a.holds) in
+    changes_shown honest R p n (Some (of_kind k w)) F x old G z new next table may h kept (Ok u) c
+    ∙ ap (λ (T : Tree). graft (p ++ n ∷ []) T (shown_in R F x)) (content_shows R G (of_kind k w) other a.unloaded ∙ ap (λ (o : Option (List ℕ)). leaf (node_from k o false)) (same_content R F G w.number w.origin same))
+reform_shown honest R p n k w F x old G z new next table h kept a other (Err e) c = tt

@@ -1,13 +1,14 @@
 //! A file of another kind in the table of a mount.
 
-ghost use Rattle.std.specs.Prelude.{◌≡◌, ◌≢◌, ◌∷◌, [], ◌++◌, ◌+◌, min, Some, None, IfErr, OnOk, OnErr};
+ghost use Rattle.std.specs.Prelude.{◌≡◌, ◌≢◌, ◌∷◌, [], ◌++◌, ◌+◌, min, false, Some, None, IfErr, OnOk, OnErr};
 ghost use Rattle.eden_model.specs.declared.kind.Kind.TheVariants as kinds;
+ghost use Rattle.eden_model.specs.Shown.{node_from};
 ghost use Rattle.eden_model.specs.Trees.{graft};
 ghost use Rattle.eden_tree.specs.Directory.{Row};
 ghost use Rattle.eden_tie.specs.Chains.{AreSaved, StaysLoaded, chained};
 ghost use Rattle.eden_tie.specs.Changing.{changed};
+ghost use Rattle.eden_tie.specs.Filing.{leaf, content_shown};
 ghost use Rattle.eden_tie.specs.Shown.{shown_in};
-ghost use Rattle.eden_tie.specs.ShownLaws.{shown_from};
 ghost use Rattle.eden_materialise.specs.Faults.{IsStoreFault};
 ghost use Rattle.eden_materialise.specs.Listings.{ChangesEntry};
 ghost use Rattle.eden_materialise.specs.Puts.{AtDirectory};
@@ -73,7 +74,7 @@ impl<A: Allocator, W: World, F: Files<W>> Change<A, Overlay<W, F>> for KindChang
 /// Gives a file of the loaded directory at a path another kind, in place: its number, its origin and its content stay. The
 /// directory is stored so, and the chain above it as far as it isn't the mount's own; then memory is so.
 ///
-/// The tree that is shown has the file so, and is as before elsewhere. Errors: `Overlay` where the device failed, and
+/// The tree that is shown has the file so, with the content that it had, and is as before elsewhere. Errors: `Overlay` where the device failed, and
 /// `Memory`. Memory is as it was then, and so is what is shown.
 pub fn set_kind<A: Allocator + Clone, W: World, F: Files<W>>(
     inodes: &mut Inodes<A, W, F>,
@@ -88,7 +89,7 @@ pub fn set_kind<A: Allocator + Clone, W: World, F: Files<W>>(
     ensures err { OnErr result (inodes.new.root ≡ inodes.old.root) }
     ensures fault { IfErr result (IsStoreFault (F.failures inodes.old.files) (F.failures inodes.new.files)) }
     ensures counted { OnOk result (F.failures inodes.new.files ≡ F.failures inodes.old.files) }
-    ensures shown { W.honest → (w : Row) → HasFile inodes.old.root path.now name.now w → OnOk result (shown_in W.repository (F.stored inodes.new.files) inodes.new.root ≡ graft (path.now ++ name.now ∷ []) (shown_from W.repository (F.stored inodes.new.files) (Some (of_kind kind w))) (shown_in W.repository (F.stored inodes.old.files) inodes.old.root)) }
+    ensures shown { W.honest → (w : Row) → HasFile inodes.old.root path.now name.now w → OnOk result (shown_in W.repository (F.stored inodes.new.files) inodes.new.root ≡ graft (path.now ++ name.now ∷ []) (leaf (node_from kind (content_shown W.repository (F.stored inodes.old.files) w) false)) (shown_in W.repository (F.stored inodes.old.files) inodes.old.root)) }
     ensures unseen { W.honest → OnErr result (shown_in W.repository (F.stored inodes.new.files) inodes.new.root ≡ shown_in W.repository (F.stored inodes.old.files) inodes.old.root) }
     ensures saved { AreSaved inodes.old.root → AreSaved inodes.new.root }
     ensures stays { StaysLoaded inodes.old.root inodes.new.root }

@@ -4,8 +4,8 @@ use Rattle.std.proofs.Math.Dec.{eqb-suc-zero}
 use Rattle.std.proofs.Math.Path.{fun_ext}
 use Rattle.std.proofs.lemmas.Bool.{false≢true}
 use Rattle.std.proofs.lemmas.List.{append-nil, length-append}
-use Rattle.std.specs.Option.{option_map, option_and_then}
-use Rattle.eden_model.specs.declared.errno.Errno.TheVariants.{EISDIR}
+use Rattle.std.specs.Option.{option_map, option_and_then, is_some}
+use Rattle.eden_model.specs.declared.errno.Errno.TheVariants.{EINVAL, EISDIR}
 use Rattle.eden_model.specs.declared.fault.Fault.{Fault}
 use Rattle.eden_model.specs.declared.fault.Fault.TheVariants as fault
 use Rattle.eden_model.specs.declared.kind.Kind.{Kind}
@@ -16,7 +16,7 @@ use Rattle.eden_model.specs.declared.request.Request.TheVariants as ask
 use Rattle.eden_model.specs.declared.reply.Reply.{Reply}
 use Rattle.eden_model.specs.declared.reply.Reply.TheVariants as say
 use Rattle.eden_model.specs.declared.world.World.{Ghosts}
-use Rattle.eden_model.specs.Operations.{At, Unless, Unlinks, Replies, put, done}
+use Rattle.eden_model.specs.Operations.{At, Unless, Unlinks, SetsExec, Replies, with_exec, put, done}
 use Rattle.eden_model.specs.Paths.{path_eq, behind_of, is_root}
 use Rattle.eden_model.specs.Repository.{Repository}
 use Rattle.eden_model.specs.Shown.{Ground, Item, Items, if_dir, node_from, shown}
@@ -30,46 +30,50 @@ use Rattle.eden_tree.specs.Directory.{Row, Directory, child_of}
 use Rattle.eden_tree.specs.Rows.{find_row}
 use Rattle.eden_tree.specs.Paths.{row_at}
 use Rattle.eden_tree.proofs.CallerLemmas.{reads_on}
+use Rattle.eden_tie.specs.Filing.{leaf}
 use Rattle.eden_tie.specs.Shown.{item_in, table_ground, shown_in}
 use Rattle.eden_tie.specs.ShownLaws.{AreDirectories, ShowsBelow}
 use Rattle.eden_inode.specs.Tables.{Table}
 use Rattle.eden_materialise.specs.Faults.{IsStoreFault}
+use Rattle.eden_materialise.specs.Reforms.{HasFile}
 use Rattle.eden_materialise.specs.Removals.{HasEntry}
 use Rattle.eden_ops.specs.declared.answer.Attempt.TheVariants.{Finished}
 use Rattle.eden_ops.specs.Attempts.{Attempts}
 use Rattle.eden_ops.specs.Caches.{FindsTheSame}
+use Rattle.eden_ops.specs.Changes.{exec_kind}
 use Rattle.eden_ops.specs.Faults.{IsLawful}
 use Rattle.eden_ops.specs.Keeping.{shows}
 use Rattle.eden_ops.proofs.Answering.{Asks}
+use Rattle.eden_ops.proofs.Looking.{IsPlain}
 use Rattle.eden_ops.proofs.Rounds.{rose_on}
 
--- ---- the tree without an entry below which nothing stands
+-- ---- a tree of one node at most, in the place of an entry below which nothing stands
 
-module _ (G : Tree) (p : Path) (bare : (n : Name) (r : Path) → G (p ++ n ∷ r) ≡ None) where
-  elsewhere : (q : Path) (b : Bool) → path_eq p q ≡ b → behind_of p q ≡ None → G q ≡ (if b then None else G q)
-  elsewhere q true same none =
-      let one = (path_eq-Decides p q).0 same in
-      let found : behind_of p q ≡ Some [] = ap (behind_of p) (sym one ∙ sym (append-nil p)) ∙ behind_back p [] in
-      cc
+module _ (G : Tree) (p : Path) (T : Tree) (bare : (n : Name) (r : Path) → G (p ++ n ∷ r) ≡ None) (single : (n : Name) (r : Path) → T (n ∷ r) ≡ None) where
+  front_of_itself : (q : Path) → path_eq p q ≡ true → behind_of p q ≡ Some []
+  front_of_itself q same = ap (behind_of p) (sym ((path_eq-Decides p q).0 same) ∙ sym (append-nil p)) ∙ behind_back p []
+
+  elsewhere : (q : Path) (b : Bool) → path_eq p q ≡ b → behind_of p q ≡ None → G q ≡ (if b then T [] else G q)
+  elsewhere q true same none = let found = front_of_itself q same in cc
   elsewhere q false same none = refl
 
-  there : (q : Path) (b : Bool) → path_eq p q ≡ b → behind_of p q ≡ Some [] → None ≡ (if b then None else G q)
+  there : (q : Path) (b : Bool) → path_eq p q ≡ b → behind_of p q ≡ Some [] → T [] ≡ (if b then T [] else G q)
   there q true same is = refl
   there q false same is =
       let one : path_eq p q ≡ true = (path_eq-Decides p q).1 (sym (append-nil p) ∙ sym (behind_sound p q [] is)) in
       absurd (false≢true (sym same ∙ one))
 
-  below : (q : Path) (b : Bool) (n : Name) (r : Path) → behind_of p q ≡ Some (n ∷ r) → None ≡ (if b then None else G q)
-  below q true n r is = refl
-  below q false n r is = sym (ap G (behind_sound p q (n ∷ r) is) ∙ bare n r)
+  below : (q : Path) (b : Bool) (n : Name) (r : Path) → path_eq p q ≡ b → behind_of p q ≡ Some (n ∷ r) → T (n ∷ r) ≡ (if b then T [] else G q)
+  below q true n r same is = let found = front_of_itself q same in cc
+  below q false n r same is = single n r ∙ sym (ap G (behind_sound p q (n ∷ r) is) ∙ bare n r)
 
-  at_path : (q : Path) (o : Option Path) → behind_of p q ≡ o → grafted o (λ rest. None) (G q) ≡ put G p None q
+  at_path : (q : Path) (o : Option Path) → behind_of p q ≡ o → grafted o T (G q) ≡ put G p (T []) q
   at_path q None is = elsewhere q (path_eq p q) refl is
   at_path q (Some []) is = there q (path_eq p q) refl is
-  at_path q (Some (n ∷ r)) is = below q (path_eq p q) n r is
+  at_path q (Some (n ∷ r)) is = below q (path_eq p q) n r refl is
 
-  pub gone_alone : graft p (λ rest. None) G ≡ put G p None
-  gone_alone = fun_ext (λ q. at_path q (behind_of p q) refl)
+  pub put_alone : graft p T G ≡ put G p (T [])
+  put_alone = fun_ext (λ q. at_path q (behind_of p q) refl)
 
 -- nothing stands below a file or a link
 no_entry : {S : Type 0} (G : Ground S) (i : Item S) (n : Name) (r : Path) → i.kind ≢ kind.Dir → shown G i (n ∷ r) ≡ None
@@ -99,11 +103,33 @@ above_of : (q : Path) (o : Option Row) (w : Row) → option_and_then (row_at q) 
 above_of q None w at = cc
 above_of q (Some y) w at = (y, (refl, at))
 
-pub has_entry : (p above : Path) (n : Name) (x w : Row) → p ≡ above ++ n ∷ [] → row_at p x ≡ Some w → child_of w ≡ None → HasEntry x above n
-has_entry p above n x w split at unloaded =
+-- w is the entry of that name in the loaded directory at a path
+record IsIn (x : Row) (above : Path) (n : Name) (w : Row) : Type 0 where
+  pub row : Row
+  pub directory : Directory
+  pub at : row_at above x ≡ Some row
+  pub holds : child_of row ≡ Some directory
+  pub there : find_row n directory.rows ≡ Some w
+
+is_in : (p above : Path) (n : Name) (x w : Row) → p ≡ above ++ n ∷ [] → row_at p x ≡ Some w → IsIn x above n w
+is_in p above n x w split at =
     let y = above_of (n ∷ []) (row_at above x) w (sym (reads_on above (n ∷ []) x) ∙ sym (ap (λ (q : Path). row_at q x) split) ∙ at) in
     let d = entry_of n y.0 w y.1.1 in
-    record { row = y.0; directory = d.0; entry = w; at = y.1.0; holds = d.1.0; there = d.1.1; unloaded = unloaded }
+    record { row = y.0; directory = d.0; at = y.1.0; holds = d.1.0; there = d.1.1 }
+
+pub has_entry : (p above : Path) (n : Name) (x w : Row) → p ≡ above ++ n ∷ [] → row_at p x ≡ Some w → child_of w ≡ None → HasEntry x above n
+has_entry p above n x w split at unloaded =
+    let h = is_in p above n x w split at in
+    record { row = h.row; directory = h.directory; entry = w; at = h.at; holds = h.holds; there = h.there; unloaded = unloaded }
+
+pub has_file : (p above : Path) (n : Name) (x w : Row) → p ≡ above ++ n ∷ [] → row_at p x ≡ Some w → child_of w ≡ None → w.kind ≢ kind.Dir → HasFile x above n w
+has_file p above n x w split at unloaded file =
+    let h = is_in p above n x w split at in
+    record { row = h.row; directory = h.directory; at = h.at; holds = h.holds; there = h.there; unloaded = unloaded; file = file }
+
+pub none_held : (o : Option Directory) → is_some o ≡ false → o ≡ None
+none_held None is = refl
+none_held (Some d) is = absurd (false≢true (sym is))
 
 pub not_root : (p above : Path) (n : Name) → p ≡ above ++ n ∷ [] → is_root p ≡ false
 not_root [] above n split = let l : 0 ≡ length (above ++ n ∷ []) = ap length split in absurd (omega (arith, l, length-append above (n ∷ [])))
@@ -164,3 +190,49 @@ unlinks_dir kind.File c l is = cc
 unlinks_dir kind.Exec c l is = cc
 unlinks_dir kind.Link c l is = cc
 unlinks_dir kind.Dir c l is = refl
+
+-- ---- setexec
+
+abbrev pub sets_exec : Tree → Node → Reply → Type 0
+sets_exec G n = SetsExec n
+
+pub asks_exec : (p : Path) (exec : Bool) → Asks (ask.SetExec p exec) p sets_exec
+asks_exec p exec = record { says = λ G r h. h; only = λ G r h. h; at = λ G. refl; plain = λ x is. cc }
+
+pub sets_link : (k : Kind) (c : Option (List ℕ)) (l : Bool) → k ≡ kind.Link → SetsExec (node_from k c l) (say.Err EINVAL)
+sets_link kind.File c l is = cc
+sets_link kind.Exec c l is = cc
+sets_link kind.Link c l is = refl
+sets_link kind.Dir c l is = cc
+
+pub sets_dir : (k : Kind) (c : Option (List ℕ)) (l : Bool) → k ≡ kind.Dir → SetsExec (node_from k c l) (say.Err EISDIR)
+sets_dir kind.File c l is = cc
+sets_dir kind.Exec c l is = cc
+sets_dir kind.Link c l is = cc
+sets_dir kind.Dir c l is = refl
+
+pub sets_file : (k : Kind) (c : Option (List ℕ)) (l : Bool) → IsPlain k → SetsExec (node_from k c l) say.Ok
+sets_file kind.File c l plain = refl
+sets_file kind.Exec c l plain = refl
+sets_file kind.Link c l (inl a) = cc
+sets_file kind.Link c l (inr a) = cc
+sets_file kind.Dir c l (inl a) = cc
+sets_file kind.Dir c l (inr a) = cc
+
+as_exec : (exec : Bool) (k : Kind) (c : Option (List ℕ)) (l : Bool) → IsPlain k → node_from (exec_kind exec) c false ≡ with_exec exec (node_from k c l)
+as_exec false kind.File c l plain = refl
+as_exec true kind.File c l plain = refl
+as_exec false kind.Exec c l plain = refl
+as_exec true kind.Exec c l plain = refl
+as_exec exec kind.Link c l (inl a) = cc
+as_exec exec kind.Link c l (inr a) = cc
+as_exec exec kind.Dir c l (inl a) = cc
+as_exec exec kind.Dir c l (inr a) = cc
+
+-- the file of another kind, in its place
+pub exec_put : (G : Tree) (p : Path) (exec : Bool) (k : Kind) (c : Option (List ℕ)) (l : Bool) → IsPlain k → G p ≡ Some (node_from k c l) → ((n : Name) (r : Path) → G (p ++ n ∷ r) ≡ None)
+    → graft p (leaf (node_from (exec_kind exec) c false)) G ≡ done G (ask.SetExec p exec)
+exec_put G p exec k c l plain there bare =
+    put_alone G p (leaf (node_from (exec_kind exec) c false)) bare (λ n r. refl)
+    ∙ ap (λ (n : Node). put G p (Some n)) (as_exec exec k c l plain)
+    ∙ ap (λ (o : Option Node). put G p (option_map (with_exec exec) o)) (sym there)

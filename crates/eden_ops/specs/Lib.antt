@@ -5,3 +5,4 @@ pub mod Faults
 pub mod Contents
 pub mod Attempts
 pub mod Laws
+pub mod Changes

@@ -8,6 +8,7 @@ mod answer;
 mod bring;
 mod contents;
 mod end;
+mod exec;
 mod kinds;
 mod laws;
 mod links;
@@ -19,6 +20,7 @@ mod walk;
 mod what;
 
 pub use answer::{Attempt, Walked};
+pub use exec::set_exec;
 pub use kinds::kind;
 pub use laws::{keeps_laws, wait_laws};
 pub use links::readlink;

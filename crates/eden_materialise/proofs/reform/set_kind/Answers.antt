@@ -1,8 +1,8 @@
 use Rattle.std.proofs.Common.{Some}
 use Rattle.eden_tree.specs.Directory.{Row}
 use Rattle.eden_materialise.specs.Reforms.{of_kind}
-use Rattle.eden_materialise.proofs.Listings.{changes_table, changes_saved, changes_stay, changes_kept_then, changes_shown, changes_unseen}
-use Rattle.eden_materialise.proofs.Reforms.{may_reform}
+use Rattle.eden_materialise.proofs.Listings.{changes_table, changes_saved, changes_stay, changes_kept_then, changes_unseen}
+use Rattle.eden_materialise.proofs.Reforms.{may_reform, reform_shown}
 use Rattle.eden_materialise.proofs.reform.set_kind.Goals as goal
 
 pub change-requires-clause-may : goal.change-requires-clause-may
@@ -43,10 +43,8 @@ pub returns-clause-shown : goal.returns-clause-shown
 returns-clause-shown g c h w has =
     let t = c.args.inodes.now in
     let then = c.change.new.self in
-    let F = g.F.Files.stored t.files in
-    let may = may_reform g.W.World.honest g.W.World.repository F t.root t.next c.args.path.now c.args.name.now c.args.kind w c.holds.ensures.table has c.requires.file in
-    changes_shown g.W.World.honest g.W.World.repository c.args.path.now c.args.name.now (Some (of_kind c.args.kind w)) F t.root (g.F.Files.failures t.files)
-    (g.F.Files.stored then.files) then.root (g.F.Files.failures then.files) t.next c.holds.ensures.table may h (c.holds.ensures.kept h) c.change.result (c.change.ensures.does w has)
+    reform_shown g.W.World.honest g.W.World.repository c.args.path.now c.args.name.now c.args.kind w (g.F.Files.stored t.files) t.root (g.F.Files.failures t.files)
+    (g.F.Files.stored then.files) then.root (g.F.Files.failures then.files) t.next c.holds.ensures.table h (c.holds.ensures.kept h) has c.requires.file c.change.result (c.change.ensures.does w has)
 
 pub returns-clause-unseen : goal.returns-clause-unseen
 returns-clause-unseen g c h =

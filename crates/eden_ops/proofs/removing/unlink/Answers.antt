@@ -17,7 +17,7 @@ use Rattle.eden_ops.specs.declared.answer.Attempt.{Attempt}
 use Rattle.eden_ops.specs.Attempts.{Attempts, Meets, MeetsShown, IsShown}
 use Rattle.eden_ops.specs.Keeping.{shows}
 use Rattle.eden_ops.proofs.Answering.{walk_ended, says_absent, says_here, says_at}
-use Rattle.eden_ops.proofs.Changing.{not_root, has_entry, gone_alone, file_alone, changed, refused, unlinks, asks_unlink, unlinks_file, unlinks_dir}
+use Rattle.eden_ops.proofs.Changing.{not_root, none_held, has_entry, put_alone, file_alone, changed, refused, unlinks, asks_unlink, unlinks_file, unlinks_dir}
 use Rattle.eden_ops.proofs.Fetching.{shown_kind}
 use Rattle.eden_ops.proofs.Seeing.{kept_dirs}
 use Rattle.eden_ops.proofs.removing.unlink.Goals as goal
@@ -26,10 +26,6 @@ file_not_dir : (told : Kind) → (told ≡ kind.File) ⊎ ((told ≡ kind.Exec) 
 file_not_dir told (inl a) dir = cc
 file_not_dir told (inr (inl a)) dir = cc
 file_not_dir told (inr (inr a)) dir = cc
-
-none_held : (o : Option Directory) → is_some o ≡ false → o ≡ None
-none_held None is = refl
-none_held (Some d) is = absurd (false≢true (sym is))
 
 pub returns-in-Err : goal.returns-in-Err
 returns-in-Err g c =
@@ -98,7 +94,7 @@ returns-in-Ok g c =
     c.in-Ok.ensures.shown h
     ∙ ap (λ (q : Path). graft q (λ below. None) (shows g.W.World g.F.Files t)) (sym split)
     ∙ ap (graft p (λ below. None)) (e.same h)
-    ∙ gone_alone G p (λ n r. sym (ap (λ (T : Tree). T (p ++ n ∷ r)) (e.same h)) ∙ file_alone c.shown_laws.ensures.below R F p t.root seen.row (kept_dirs R F t.root t.next (c.holds.ensures.kept h)) seen.there file n r))
+    ∙ put_alone G p (λ below. None) (λ n r. sym (ap (λ (T : Tree). T (p ++ n ∷ r)) (e.same h)) ∙ file_alone c.shown_laws.ensures.below R F p t.root seen.row (kept_dirs R F t.root t.next (c.holds.ensures.kept h)) seen.there file n r) (λ n r. refl))
 
 pub returns-in-Err-remove_entry : goal.returns-in-Err-remove_entry
 returns-in-Err-remove_entry g c =

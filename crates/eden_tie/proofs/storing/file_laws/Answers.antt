@@ -1,6 +1,9 @@
-use Rattle.eden_tie.proofs.Filing.{file_shows, empty_shows, loose_elsewhere}
+use Rattle.eden_tie.proofs.Filing.{content_shows, file_shows, empty_shows, loose_elsewhere, entry_elsewhere}
 use Rattle.eden_tie.proofs.Contents.{content_sound, content_kept, content_grafts}
 use Rattle.eden_tie.proofs.storing.file_laws.Goals as goal
+
+pub returns-clause-content : goal.returns-clause-content
+returns-clause-content c = content_shows
 
 pub returns-clause-file : goal.returns-clause-file
 returns-clause-file c = file_shows
@@ -10,6 +13,9 @@ returns-clause-empty c = empty_shows
 
 pub returns-clause-elsewhere : goal.returns-clause-elsewhere
 returns-clause-elsewhere c = loose_elsewhere
+
+pub returns-clause-entry : goal.returns-clause-entry
+returns-clause-entry c = entry_elsewhere
 
 pub returns-clause-sound : goal.returns-clause-sound
 returns-clause-sound c = content_sound

@@ -1,0 +1,130 @@
+use Rattle.std.proofs.Common.{◌≡◌, ◌≢◌, ◌++◌, ◌∷◌, [], false, Option, Some, Ok, sym, refl, subst, ap, ◌∙◌}
+use Rattle.eden_model.specs.declared.errno.Errno.TheVariants.{EINVAL, EISDIR}
+use Rattle.eden_model.specs.declared.kind.Kind.{Kind}
+use Rattle.eden_model.specs.declared.kind.Kind.TheVariants as kind
+use Rattle.eden_model.specs.declared.node.Node.{Node}
+use Rattle.eden_model.specs.declared.reply.Reply.TheVariants as say
+use Rattle.eden_model.specs.declared.request.Request.TheVariants as ask
+use Rattle.eden_model.specs.Repository.{source_of, content_with}
+use Rattle.eden_model.specs.Shown.{node_from}
+use Rattle.eden_model.specs.Trees.{Tree, Path, reach, graft}
+use Rattle.eden_overlay.specs.Held.{own_files}
+use Rattle.eden_tree.specs.Directory.{child_of}
+use Rattle.eden_tree.specs.Paths.{row_at}
+use Rattle.eden_tie.specs.Filing.{leaf, content_shown}
+use Rattle.eden_inode.specs.declared.seen.Seen.{Seen}
+use Rattle.eden_ops.specs.declared.answer.Attempt.{Attempt}
+use Rattle.eden_ops.specs.Attempts.{Attempts, Meets, MeetsShown, IsShown}
+use Rattle.eden_ops.specs.Changes.{exec_kind}
+use Rattle.eden_ops.specs.Keeping.{shows}
+use Rattle.eden_ops.proofs.Answering.{walk_ended, says_absent, says_here, says_at}
+use Rattle.eden_ops.proofs.Changing.{none_held, has_file, file_alone, changed, refused, sets_exec, asks_exec, sets_link, sets_dir, sets_file, exec_put}
+use Rattle.eden_ops.proofs.Fetching.{shown_kind}
+use Rattle.eden_ops.proofs.Looking.{IsPlain, plain_other}
+use Rattle.eden_ops.proofs.Seeing.{kept_dirs, shown_there}
+use Rattle.eden_ops.proofs.exec.set_exec.Goals as goal
+
+-- the kind that was told
+as_told : (k told : Kind) → k ≡ told → IsPlain told → IsPlain k
+as_told k told is plain = subst IsPlain (sym is) plain
+
+link_not_dir : (told : Kind) → told ≡ kind.Link → told ≢ kind.Dir
+link_not_dir told a dir = cc
+
+pub returns-in-Err : goal.returns-in-Err
+returns-in-Err g c =
+    let p = c.args.path.now in
+    let s = c.args.inodes.now in
+    let t = c.meet.new.inodes in
+    let e = c.in-Err.ensures in
+    subst (λ (a : Attempt). Attempts g.W.World g.F.Files (ask.SetExec p c.args.exec) s t c.args.cache.now c.meet.new.cache a) (sym c.ended.ensures)
+    (walk_ended g.W.World g.F.Files (ask.SetExec p c.args.exec) p sets_exec (asks_exec p c.args.exec) s t c.args.cache.now c.meet.new.cache e.same e.keeps e.cache c.in-Err.stop e.meets e.shown)
+
+pub returns-in-Ok-None : goal.returns-in-Ok-None
+returns-in-Ok-None g c =
+    let p = c.args.path.now in
+    let s = c.args.inodes.now in
+    let t = c.meet.new.inodes in
+    let e = c.in-Ok-None.ensures in
+    says_absent g.W.World g.F.Files (ask.SetExec p c.args.exec) p sets_exec (asks_exec p c.args.exec) s t c.args.cache.now c.meet.new.cache e.same e.keeps e.cache
+    (λ h. subst (λ (o : Option Seen). MeetsShown g.W.World g.F.Files p s t (Ok o)) c.in-Ok-None.field-0-is (e.shown h))
+
+pub returns-in-Link : goal.returns-in-Link
+returns-in-Link g c =
+    let p = c.args.path.now in
+    let s = c.args.inodes.now in
+    let t = c.meet.new.inodes in
+    let e = c.in-Ok-Some.ensures in
+    let R = g.W.World.repository in
+    let F = g.F.Files.stored t.files in
+    let G = shows g.W.World g.F.Files s in
+    let seen = subst (λ (o : Option Seen). Meets g.W.World g.F.Files p s t c.meet.new.cache (Ok o)) c.in-Ok-Some.field-0-is e.meets in
+    let shown : g.W.World.honest → IsShown R F (row_at p t.root) (reach G p) = λ h. subst (λ (o : Option Seen). MeetsShown g.W.World g.F.Files p s t (Ok o)) c.in-Ok-Some.field-0-is (e.shown h) in
+    let other = c.what.ensures.other (link_not_dir c.what.result c.in-Link.is) in
+    says_here g.W.World g.F.Files (ask.SetExec p c.args.exec) p sets_exec (asks_exec p c.args.exec) s t c.args.cache.now c.meet.new.cache e.same e.keeps e.cache seen.row seen.there shown (say.Err EINVAL) refl (λ T. refl)
+    (λ h listed. sets_link seen.row.kind (content_with R (own_files F) (source_of seen.row.number seen.row.origin)) listed (sym seen.kind ∙ other.1 ∙ c.in-Link.is))
+
+pub returns-in-Dir : goal.returns-in-Dir
+returns-in-Dir g c =
+    let p = c.args.path.now in
+    let s = c.args.inodes.now in
+    let t = c.meet.new.inodes in
+    let e = c.in-Ok-Some.ensures in
+    let R = g.W.World.repository in
+    let F = g.F.Files.stored t.files in
+    let G = shows g.W.World g.F.Files s in
+    let seen = subst (λ (o : Option Seen). Meets g.W.World g.F.Files p s t c.meet.new.cache (Ok o)) c.in-Ok-Some.field-0-is e.meets in
+    let shown : g.W.World.honest → IsShown R F (row_at p t.root) (reach G p) = λ h. subst (λ (o : Option Seen). MeetsShown g.W.World g.F.Files p s t (Ok o)) c.in-Ok-Some.field-0-is (e.shown h) in
+    says_here g.W.World g.F.Files (ask.SetExec p c.args.exec) p sets_exec (asks_exec p c.args.exec) s t c.args.cache.now c.meet.new.cache e.same e.keeps e.cache seen.row seen.there shown (say.Err EISDIR) refl (λ T. refl)
+    (λ h listed. sets_dir seen.row.kind (content_with R (own_files F) (source_of seen.row.number seen.row.origin)) listed (shown_kind p t.root c.in-Ok-Some.seen seen R F _ (shown h) (c.what.ensures.dir c.in-Dir.is)))
+
+pub set_kind-requires-clause-there : goal.set_kind-requires-clause-there
+set_kind-requires-clause-there g c =
+    let p = c.args.path.now in
+    let s = c.args.inodes.now in
+    let t = c.meet.new.inodes in
+    let e = c.in-Ok-Some.ensures in
+    let seen = subst (λ (o : Option Seen). Meets g.W.World g.F.Files p s t c.meet.new.cache (Ok o)) c.in-Ok-Some.field-0-is e.meets in
+    let other = c.what.ensures.other (plain_other c.what.result c.in-File.is) in
+    let plain = as_told seen.row.kind c.what.result (sym seen.kind ∙ other.1) c.in-File.is in
+    (seen.row, has_file p c.in-Some.above.now c.in-Some.name.now t.root seen.row (sym c.as_slice.ensures ∙ c.in-Some.ensures.cases.0) seen.there (none_held (child_of seen.row) (sym seen.loaded ∙ other.0)) (plain_other seen.row.kind plain))
+
+pub returns-in-Ok : goal.returns-in-Ok
+returns-in-Ok g c =
+    let p = c.args.path.now in
+    let s = c.args.inodes.now in
+    let t = c.meet.new.inodes in
+    let e = c.in-Ok-Some.ensures in
+    let R = g.W.World.repository in
+    let F = g.F.Files.stored t.files in
+    let G = shows g.W.World g.F.Files s in
+    let seen = subst (λ (o : Option Seen). Meets g.W.World g.F.Files p s t c.meet.new.cache (Ok o)) c.in-Ok-Some.field-0-is e.meets in
+    let shown : g.W.World.honest → IsShown R F (row_at p t.root) (reach G p) = λ h. subst (λ (o : Option Seen). MeetsShown g.W.World g.F.Files p s t (Ok o)) c.in-Ok-Some.field-0-is (e.shown h) in
+    let u = c.set_kind.new.inodes in
+    let split = sym c.as_slice.ensures ∙ c.in-Some.ensures.cases.0 in
+    let other = c.what.ensures.other (plain_other c.what.result c.in-File.is) in
+    let plain = as_told seen.row.kind c.what.result (sym seen.kind ∙ other.1) c.in-File.is in
+    let file : seen.row.kind ≢ kind.Dir = plain_other seen.row.kind plain in
+    let has = has_file p c.in-Some.above.now c.in-Some.name.now t.root seen.row split seen.there (none_held (child_of seen.row) (sym seen.loaded ∙ other.0)) file in
+    changed g.W.World g.F.Files (ask.SetExec p c.args.exec) s t u c.args.cache.now c.meet.new.cache e.same ((c.keeps_laws.ensures.counts s t e.keeps).1.1.1) e.cache
+    (λ h. says_at R F p sets_exec G (row_at p t.root) seen.row seen.there (shown h) say.Ok (λ listed. sets_file seen.row.kind (content_with R (own_files F) (source_of seen.row.number seen.row.origin)) listed plain))
+    (λ h.
+    let dirs = kept_dirs R F t.root t.next (c.holds.ensures.kept h) in
+    let there = shown_there c.shown_laws.ensures.below c.shown_laws.ensures.absent R F t.root dirs p seen.row seen.there in
+    c.in-Ok.ensures.shown h seen.row has
+    ∙ ap (λ (q : Path). graft q (leaf (node_from c.exec_kind.result (content_shown R F seen.row) false)) (shows g.W.World g.F.Files t)) (sym split)
+    ∙ ap (λ (k : Kind). graft p (leaf (node_from k (content_shown R F seen.row) false)) (shows g.W.World g.F.Files t)) c.exec_kind.ensures.is
+    ∙ ap (graft p (leaf (node_from (exec_kind c.args.exec) (content_shown R F seen.row) false))) (e.same h)
+    ∙ exec_put G p c.args.exec seen.row.kind (content_shown R F seen.row) there.1.1.listed plain
+    (sym (ap (λ (T : Tree). T p) (e.same h)) ∙ there.1.0 ∙ ap (λ (n : Node). Some n) there.1.1.is)
+    (λ n r. sym (ap (λ (T : Tree). T (p ++ n ∷ r)) (e.same h)) ∙ file_alone c.shown_laws.ensures.below R F p t.root seen.row dirs seen.there file n r))
+
+pub returns-in-Err-set_kind : goal.returns-in-Err-set_kind
+returns-in-Err-set_kind g c =
+    let p = c.args.path.now in
+    let s = c.args.inodes.now in
+    let t = c.meet.new.inodes in
+    let u = c.set_kind.new.inodes in
+    let e = c.in-Ok-Some.ensures in
+    let x = c.in-Err-set_kind.ensures in
+    refused g.W.World g.F.Files (ask.SetExec p c.args.exec) s t u c.args.cache.now c.meet.new.cache e.same ((c.keeps_laws.ensures.counts s t e.keeps).1.1.1) e.cache c.in-Err-set_kind.fault x.fault (λ y is. cc) x.unseen

@@ -1,0 +1,60 @@
+//! Files that can be executed, or can't.
+ghost use Rattle.std.specs.Prelude.{◌≡◌, ◌≢◌};
+ghost use Rattle.eden_model.specs.declared.kind.Kind.TheVariants as kinds;
+ghost use Rattle.eden_model.specs.declared.request.Request.TheVariants as ask;
+ghost use Rattle.eden_ops.specs.Attempts.{Attempts};
+ghost use Rattle.eden_ops.specs.Caches.{IsStocked};
+ghost use Rattle.eden_ops.specs.Changes.{exec_kind};
+
+use crate::answer::Attempt;
+use crate::end::ended;
+use crate::laws::keeps_laws;
+use crate::meet::meet;
+use crate::what::what;
+use eden_cache::ObjectCache;
+use eden_inode::Inodes;
+use eden_materialise::set_kind;
+use eden_model::{Errno, Kind, Path, Reply, World};
+use eden_overlay::Files;
+use eden_tie::shown_laws;
+use std::alloc::{Allocator, Global};
+
+fn exec_kind(exec: bool) -> Kind
+    ensures is { result ≡ exec_kind exec }
+    ensures file { result ≢ kinds.Dir }
+{
+    if exec { Kind::Exec } else { Kind::File }
+}
+
+/// Makes a file one that can be executed, or one that can't. Its content isn't fetched.
+pub fn set_exec<A: Allocator + Clone, W: World, F: Files<W>, C: Allocator + Clone>(
+    inodes: &mut Inodes<A, W, F>,
+    cache: &mut ObjectCache<C>,
+    alloc: Global,
+    path: &Path,
+    exec: bool,
+) -> Attempt
+    requires { IsStocked W.repository W.honest cache.old }
+    ensures { Attempts W.World F.Files (ask.SetExec path.now exec) inodes.old inodes.new cache.old cache.new result }
+{
+    let seen = match meet(inodes, cache, alloc, path) {
+        Err(stop) => return ended(stop),
+        Ok(None) => return Attempt::Finished(Reply::Err(Errno::ENOENT)),
+        Ok(Some(seen)) => seen,
+    };
+    match what(seen) {
+        Kind::Link => return Attempt::Finished(Reply::Err(Errno::EINVAL)),
+        Kind::Dir => return Attempt::Finished(Reply::Err(Errno::EISDIR)),
+        Kind::File | Kind::Exec => {}
+    }
+    keeps_laws::<W, F>();
+    shown_laws();
+    inodes.holds();
+    let Some((name, above)) = path.as_slice().split_last() else {
+        unreachable!()
+    };
+    match set_kind(inodes, alloc, above, name, exec_kind(exec)) {
+        Ok(()) => Attempt::Finished(Reply::Ok),
+        Err(fault) => Attempt::Finished(Reply::Fault(fault)),
+    }
+}
