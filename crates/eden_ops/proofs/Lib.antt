@@ -13,4 +13,5 @@ pub mod Answering
 pub mod Looking
 pub mod Origins
 pub mod Fetching
+pub mod Saving
 pub mod Changing

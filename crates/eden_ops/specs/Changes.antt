@@ -1,9 +1,21 @@
--- What a change makes of an entry.
-use Rattle.std.specs.Prelude.{Bool, true, false}
+-- What a change makes of an entry, and what it leaves of a table.
+use Rattle.std.specs.Prelude.{◌≡◌, ◌≤◌, Bool, true, false}
 use Rattle.eden_model.specs.declared.kind.Kind.{Kind}
 use Rattle.eden_model.specs.declared.kind.Kind.TheVariants as kind
+use Rattle.eden_overlay.specs.declared.files.Files.{Ghosts as Files}
+use Rattle.eden_tie.specs.Chains.{AreSaved, StaysLoaded}
+use Rattle.eden_inode.specs.Tables.{Table}
 
 -- the kind of a file that can be executed, or can't
 abbrev pub exec_kind : Bool → Kind
 exec_kind false = kind.File
 exec_kind true = kind.Exec
+
+module _ {W F : Type 0} (f : Files F W) where
+  -- Whatever was answered: what was loaded is, and where no directory was unsaved none is.
+  pub record Leaves (s t : Table F) : Type 0 where
+    pub loaded : StaysLoaded s.root t.root
+    pub saved : AreSaved s.root → AreSaved t.root
+    pub next : s.next ≤ t.next
+    pub failures : f.failures s.files ≤ f.failures t.files
+    pub clock : t.clock ≡ s.clock

@@ -6,6 +6,7 @@ use Rattle.eden_overlay.specs.declared.files.Files.{Ghosts as Files}
 use Rattle.eden_tree.specs.Directory.{Row}
 use Rattle.eden_tree.specs.Paths.{Standing, standing_at}
 use Rattle.eden_inode.specs.Tables.{Table}
+use Rattle.eden_ops.specs.Changes.{Leaves}
 use Rattle.eden_ops.specs.Known.{known, IsLoadedAt, place_on}
 use Rattle.eden_ops.specs.Keeping.{shows, Keeps}
 
@@ -33,6 +34,9 @@ module _ {W F : Type 0} (w : Ghosts W) (f : Files F W) where
 
   abbrev pub KeepsCounts : Type 0
   KeepsCounts = (s t : Table F) → Keeps w f s t → (t.clock ≡ s.clock) × ((t.changes ≡ s.changes) × ((s.next ≤ t.next) × (f.failures s.files ≤ f.failures t.files)))
+
+  abbrev pub KeepsLeaves : Type 0
+  KeepsLeaves = (s t : Table F) → Keeps w f s t → Leaves f s t
 
 -- ---- waits that follow each other
 

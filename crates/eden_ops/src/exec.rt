@@ -4,7 +4,7 @@ ghost use Rattle.eden_model.specs.declared.kind.Kind.TheVariants as kinds;
 ghost use Rattle.eden_model.specs.declared.request.Request.TheVariants as ask;
 ghost use Rattle.eden_ops.specs.Attempts.{Attempts};
 ghost use Rattle.eden_ops.specs.Caches.{IsStocked};
-ghost use Rattle.eden_ops.specs.Changes.{exec_kind};
+ghost use Rattle.eden_ops.specs.Changes.{exec_kind, Leaves};
 
 use crate::answer::Attempt;
 use crate::end::ended;
@@ -35,7 +35,8 @@ pub fn set_exec<A: Allocator + Clone, W: World, F: Files<W>, C: Allocator + Clon
     exec: bool,
 ) -> Attempt
     requires { IsStocked W.repository W.honest cache.old }
-    ensures { Attempts W.World F.Files (ask.SetExec path.now exec) inodes.old inodes.new cache.old cache.new result }
+    ensures attempts { Attempts W.World F.Files (ask.SetExec path.now exec) inodes.old inodes.new cache.old cache.new result }
+    ensures leaves { Leaves F.Files inodes.old inodes.new }
 {
     let seen = match meet(inodes, cache, alloc, path) {
         Err(stop) => return ended(stop),

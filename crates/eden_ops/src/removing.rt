@@ -2,6 +2,7 @@
 ghost use Rattle.eden_model.specs.declared.request.Request.TheVariants as ask;
 ghost use Rattle.eden_ops.specs.Attempts.{Attempts};
 ghost use Rattle.eden_ops.specs.Caches.{IsStocked};
+ghost use Rattle.eden_ops.specs.Changes.{Leaves};
 
 use crate::answer::Attempt;
 use crate::end::ended;
@@ -24,7 +25,8 @@ pub fn unlink<A: Allocator + Clone, W: World, F: Files<W>, C: Allocator + Clone>
     path: &Path,
 ) -> Attempt
     requires { IsStocked W.repository W.honest cache.old }
-    ensures { Attempts W.World F.Files (ask.Unlink path.now) inodes.old inodes.new cache.old cache.new result }
+    ensures attempts { Attempts W.World F.Files (ask.Unlink path.now) inodes.old inodes.new cache.old cache.new result }
+    ensures leaves { Leaves F.Files inodes.old inodes.new }
 {
     let Some((name, above)) = path.as_slice().split_last() else {
         return Attempt::Finished(Reply::Err(Errno::EISDIR));

@@ -21,6 +21,7 @@ use Rattle.eden_ops.proofs.Answering.{walk_ended, says_absent, says_here, says_a
 use Rattle.eden_ops.proofs.Changing.{none_held, has_file, file_alone, changed, refused, sets_exec, asks_exec, sets_link, sets_dir, sets_file, exec_put}
 use Rattle.eden_ops.proofs.Fetching.{shown_kind}
 use Rattle.eden_ops.proofs.Looking.{IsPlain, plain_other}
+use Rattle.eden_ops.proofs.Saving.{keeps_leaves, leaves_changed, fault_count, same_count}
 use Rattle.eden_ops.proofs.Seeing.{kept_dirs, shown_there}
 use Rattle.eden_ops.proofs.exec.set_exec.Goals as goal
 
@@ -31,8 +32,8 @@ as_told k told is plain = subst IsPlain (sym is) plain
 link_not_dir : (told : Kind) → told ≡ kind.Link → told ≢ kind.Dir
 link_not_dir told a dir = cc
 
-pub returns-in-Err : goal.returns-in-Err
-returns-in-Err g c =
+pub returns-in-Err-clause-attempts : goal.returns-in-Err-clause-attempts
+returns-in-Err-clause-attempts g c =
     let p = c.args.path.now in
     let s = c.args.inodes.now in
     let t = c.meet.new.inodes in
@@ -40,8 +41,8 @@ returns-in-Err g c =
     subst (λ (a : Attempt). Attempts g.W.World g.F.Files (ask.SetExec p c.args.exec) s t c.args.cache.now c.meet.new.cache a) (sym c.ended.ensures)
     (walk_ended g.W.World g.F.Files (ask.SetExec p c.args.exec) p sets_exec (asks_exec p c.args.exec) s t c.args.cache.now c.meet.new.cache e.same e.keeps e.cache c.in-Err.stop e.meets e.shown)
 
-pub returns-in-Ok-None : goal.returns-in-Ok-None
-returns-in-Ok-None g c =
+pub returns-in-Ok-None-clause-attempts : goal.returns-in-Ok-None-clause-attempts
+returns-in-Ok-None-clause-attempts g c =
     let p = c.args.path.now in
     let s = c.args.inodes.now in
     let t = c.meet.new.inodes in
@@ -49,8 +50,8 @@ returns-in-Ok-None g c =
     says_absent g.W.World g.F.Files (ask.SetExec p c.args.exec) p sets_exec (asks_exec p c.args.exec) s t c.args.cache.now c.meet.new.cache e.same e.keeps e.cache
     (λ h. subst (λ (o : Option Seen). MeetsShown g.W.World g.F.Files p s t (Ok o)) c.in-Ok-None.field-0-is (e.shown h))
 
-pub returns-in-Link : goal.returns-in-Link
-returns-in-Link g c =
+pub returns-in-Link-clause-attempts : goal.returns-in-Link-clause-attempts
+returns-in-Link-clause-attempts g c =
     let p = c.args.path.now in
     let s = c.args.inodes.now in
     let t = c.meet.new.inodes in
@@ -64,8 +65,8 @@ returns-in-Link g c =
     says_here g.W.World g.F.Files (ask.SetExec p c.args.exec) p sets_exec (asks_exec p c.args.exec) s t c.args.cache.now c.meet.new.cache e.same e.keeps e.cache seen.row seen.there shown (say.Err EINVAL) refl (λ T. refl)
     (λ h listed. sets_link seen.row.kind (content_with R (own_files F) (source_of seen.row.number seen.row.origin)) listed (sym seen.kind ∙ other.1 ∙ c.in-Link.is))
 
-pub returns-in-Dir : goal.returns-in-Dir
-returns-in-Dir g c =
+pub returns-in-Dir-clause-attempts : goal.returns-in-Dir-clause-attempts
+returns-in-Dir-clause-attempts g c =
     let p = c.args.path.now in
     let s = c.args.inodes.now in
     let t = c.meet.new.inodes in
@@ -89,8 +90,8 @@ set_kind-requires-clause-there g c =
     let plain = as_told seen.row.kind c.what.result (sym seen.kind ∙ other.1) c.in-File.is in
     (seen.row, has_file p c.in-Some.above.now c.in-Some.name.now t.root seen.row (sym c.as_slice.ensures ∙ c.in-Some.ensures.cases.0) seen.there (none_held (child_of seen.row) (sym seen.loaded ∙ other.0)) (plain_other seen.row.kind plain))
 
-pub returns-in-Ok : goal.returns-in-Ok
-returns-in-Ok g c =
+pub returns-in-Ok-clause-attempts : goal.returns-in-Ok-clause-attempts
+returns-in-Ok-clause-attempts g c =
     let p = c.args.path.now in
     let s = c.args.inodes.now in
     let t = c.meet.new.inodes in
@@ -119,8 +120,8 @@ returns-in-Ok g c =
     (sym (ap (λ (T : Tree). T p) (e.same h)) ∙ there.1.0 ∙ ap (λ (n : Node). Some n) there.1.1.is)
     (λ n r. sym (ap (λ (T : Tree). T (p ++ n ∷ r)) (e.same h)) ∙ file_alone c.shown_laws.ensures.below R F p t.root seen.row dirs seen.there file n r))
 
-pub returns-in-Err-set_kind : goal.returns-in-Err-set_kind
-returns-in-Err-set_kind g c =
+pub returns-in-Err-set_kind-clause-attempts : goal.returns-in-Err-set_kind-clause-attempts
+returns-in-Err-set_kind-clause-attempts g c =
     let p = c.args.path.now in
     let s = c.args.inodes.now in
     let t = c.meet.new.inodes in
@@ -128,3 +129,26 @@ returns-in-Err-set_kind g c =
     let e = c.in-Ok-Some.ensures in
     let x = c.in-Err-set_kind.ensures in
     refused g.W.World g.F.Files (ask.SetExec p c.args.exec) s t u c.args.cache.now c.meet.new.cache e.same ((c.keeps_laws.ensures.counts s t e.keeps).1.1.1) e.cache c.in-Err-set_kind.fault x.fault (λ y is. cc) x.unseen
+
+pub returns-in-Err-clause-leaves : goal.returns-in-Err-clause-leaves
+returns-in-Err-clause-leaves g c = keeps_leaves g.W.World g.F.Files c.args.inodes.now c.meet.new.inodes c.meet.ensures.keeps
+
+pub returns-in-Ok-None-clause-leaves : goal.returns-in-Ok-None-clause-leaves
+returns-in-Ok-None-clause-leaves g c = keeps_leaves g.W.World g.F.Files c.args.inodes.now c.meet.new.inodes c.meet.ensures.keeps
+
+pub returns-in-Dir-clause-leaves : goal.returns-in-Dir-clause-leaves
+returns-in-Dir-clause-leaves g c = keeps_leaves g.W.World g.F.Files c.args.inodes.now c.meet.new.inodes c.meet.ensures.keeps
+
+pub returns-in-Link-clause-leaves : goal.returns-in-Link-clause-leaves
+returns-in-Link-clause-leaves g c = keeps_leaves g.W.World g.F.Files c.args.inodes.now c.meet.new.inodes c.meet.ensures.keeps
+
+pub returns-in-Ok-clause-leaves : goal.returns-in-Ok-clause-leaves
+returns-in-Ok-clause-leaves g c =
+    let x = c.in-Ok.ensures in
+    leaves_changed g.W.World g.F.Files c.args.inodes.now c.meet.new.inodes c.set_kind.new.inodes c.meet.ensures.keeps x.stays x.saved x.rest.0 x.rest.1 (same_count (g.F.Files.failures c.meet.new.inodes.files) (g.F.Files.failures c.set_kind.new.inodes.files) x.counted)
+
+pub returns-in-Err-set_kind-clause-leaves : goal.returns-in-Err-set_kind-clause-leaves
+returns-in-Err-set_kind-clause-leaves g c =
+    let x = c.in-Err-set_kind.ensures in
+    leaves_changed g.W.World g.F.Files c.args.inodes.now c.meet.new.inodes c.set_kind.new.inodes c.meet.ensures.keeps x.stays x.saved x.rest.0 x.rest.1
+    (fault_count (g.F.Files.failures c.meet.new.inodes.files) (g.F.Files.failures c.set_kind.new.inodes.files) c.in-Err-set_kind.fault x.fault)

@@ -1,4 +1,5 @@
 use Rattle.eden_ops.proofs.Steps.{keeps_shown, keeps_files, keeps_entries, keeps_counts}
+use Rattle.eden_ops.proofs.Saving.{keeps_leaves}
 use Rattle.eden_ops.proofs.laws.keeps_laws.Goals as goal
 
 pub returns : goal.returns
@@ -8,4 +9,5 @@ returns g c =
       files = keeps_files g.W.World g.F.Files;
       entries = keeps_entries g.W.World g.F.Files;
       counts = keeps_counts g.W.World g.F.Files;
+      leaves = keeps_leaves g.W.World g.F.Files;
     }

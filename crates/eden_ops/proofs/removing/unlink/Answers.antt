@@ -19,6 +19,7 @@ use Rattle.eden_ops.specs.Keeping.{shows}
 use Rattle.eden_ops.proofs.Answering.{walk_ended, says_absent, says_here, says_at}
 use Rattle.eden_ops.proofs.Changing.{not_root, none_held, has_entry, put_alone, file_alone, changed, refused, unlinks, asks_unlink, unlinks_file, unlinks_dir}
 use Rattle.eden_ops.proofs.Fetching.{shown_kind}
+use Rattle.eden_ops.proofs.Saving.{keeps_leaves, leaves_changed, fault_count}
 use Rattle.eden_ops.proofs.Seeing.{kept_dirs}
 use Rattle.eden_ops.proofs.removing.unlink.Goals as goal
 
@@ -27,8 +28,8 @@ file_not_dir told (inl a) dir = cc
 file_not_dir told (inr (inl a)) dir = cc
 file_not_dir told (inr (inr a)) dir = cc
 
-pub returns-in-Err : goal.returns-in-Err
-returns-in-Err g c =
+pub returns-in-Err-clause-attempts : goal.returns-in-Err-clause-attempts
+returns-in-Err-clause-attempts g c =
     let p = c.args.path.now in
     let s = c.args.inodes.now in
     let t = c.meet.new.inodes in
@@ -37,8 +38,8 @@ returns-in-Err g c =
     subst (λ (a : Attempt). Attempts g.W.World g.F.Files (ask.Unlink p) s t c.args.cache.now c.meet.new.cache a) (sym c.ended.ensures)
     (walk_ended g.W.World g.F.Files (ask.Unlink p) p unlinks (asks_unlink p (not_root p c.in-Some.above.now c.in-Some.name.now split)) s t c.args.cache.now c.meet.new.cache e.same e.keeps e.cache c.in-Err.stop e.meets e.shown)
 
-pub returns-in-Ok-None : goal.returns-in-Ok-None
-returns-in-Ok-None g c =
+pub returns-in-Ok-None-clause-attempts : goal.returns-in-Ok-None-clause-attempts
+returns-in-Ok-None-clause-attempts g c =
     let p = c.args.path.now in
     let s = c.args.inodes.now in
     let t = c.meet.new.inodes in
@@ -47,8 +48,8 @@ returns-in-Ok-None g c =
     says_absent g.W.World g.F.Files (ask.Unlink p) p unlinks (asks_unlink p (not_root p c.in-Some.above.now c.in-Some.name.now split)) s t c.args.cache.now c.meet.new.cache e.same e.keeps e.cache
     (λ h. subst (λ (o : Option Seen). MeetsShown g.W.World g.F.Files p s t (Ok o)) c.in-Ok-None.field-0-is (e.shown h))
 
-pub returns-in-Dir : goal.returns-in-Dir
-returns-in-Dir g c =
+pub returns-in-Dir-clause-attempts : goal.returns-in-Dir-clause-attempts
+returns-in-Dir-clause-attempts g c =
     let p = c.args.path.now in
     let s = c.args.inodes.now in
     let t = c.meet.new.inodes in
@@ -72,8 +73,8 @@ remove_entry-requires g c =
     let other = c.what.ensures.other (file_not_dir c.what.result c.in-File.is) in
     record { there = has_entry p c.in-Some.above.now c.in-Some.name.now t.root seen.row split seen.there (none_held (child_of seen.row) (sym seen.loaded ∙ other.0)) }
 
-pub returns-in-Ok : goal.returns-in-Ok
-returns-in-Ok g c =
+pub returns-in-Ok-clause-attempts : goal.returns-in-Ok-clause-attempts
+returns-in-Ok-clause-attempts g c =
     let p = c.args.path.now in
     let s = c.args.inodes.now in
     let t = c.meet.new.inodes in
@@ -96,8 +97,8 @@ returns-in-Ok g c =
     ∙ ap (graft p (λ below. None)) (e.same h)
     ∙ put_alone G p (λ below. None) (λ n r. sym (ap (λ (T : Tree). T (p ++ n ∷ r)) (e.same h)) ∙ file_alone c.shown_laws.ensures.below R F p t.root seen.row (kept_dirs R F t.root t.next (c.holds.ensures.kept h)) seen.there file n r) (λ n r. refl))
 
-pub returns-in-Err-remove_entry : goal.returns-in-Err-remove_entry
-returns-in-Err-remove_entry g c =
+pub returns-in-Err-remove_entry-clause-attempts : goal.returns-in-Err-remove_entry-clause-attempts
+returns-in-Err-remove_entry-clause-attempts g c =
     let p = c.args.path.now in
     let s = c.args.inodes.now in
     let t = c.meet.new.inodes in
@@ -105,3 +106,23 @@ returns-in-Err-remove_entry g c =
     let e = c.in-Ok-Some.ensures in
     let x = c.in-Err-remove_entry.ensures in
     refused g.W.World g.F.Files (ask.Unlink p) s t u c.args.cache.now c.meet.new.cache e.same ((c.keeps_laws.ensures.counts s t e.keeps).1.1.1) e.cache c.in-Err-remove_entry.fault x.fault (λ y is. cc) x.unseen
+
+pub returns-in-Err-clause-leaves : goal.returns-in-Err-clause-leaves
+returns-in-Err-clause-leaves g c = keeps_leaves g.W.World g.F.Files c.args.inodes.now c.meet.new.inodes c.meet.ensures.keeps
+
+pub returns-in-Ok-None-clause-leaves : goal.returns-in-Ok-None-clause-leaves
+returns-in-Ok-None-clause-leaves g c = keeps_leaves g.W.World g.F.Files c.args.inodes.now c.meet.new.inodes c.meet.ensures.keeps
+
+pub returns-in-Dir-clause-leaves : goal.returns-in-Dir-clause-leaves
+returns-in-Dir-clause-leaves g c = keeps_leaves g.W.World g.F.Files c.args.inodes.now c.meet.new.inodes c.meet.ensures.keeps
+
+pub returns-in-Ok-clause-leaves : goal.returns-in-Ok-clause-leaves
+returns-in-Ok-clause-leaves g c =
+    let x = c.in-Ok.ensures in
+    leaves_changed g.W.World g.F.Files c.args.inodes.now c.meet.new.inodes c.remove_entry.new.inodes c.meet.ensures.keeps x.stays x.saved x.rest.0 x.rest.1 x.counted
+
+pub returns-in-Err-remove_entry-clause-leaves : goal.returns-in-Err-remove_entry-clause-leaves
+returns-in-Err-remove_entry-clause-leaves g c =
+    let x = c.in-Err-remove_entry.ensures in
+    leaves_changed g.W.World g.F.Files c.args.inodes.now c.meet.new.inodes c.remove_entry.new.inodes c.meet.ensures.keeps x.stays x.saved x.rest.0 x.rest.1
+    (fault_count (g.F.Files.failures c.meet.new.inodes.files) (g.F.Files.failures c.remove_entry.new.inodes.files) c.in-Err-remove_entry.fault x.fault)
