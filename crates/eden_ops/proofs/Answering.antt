@@ -37,12 +37,16 @@ use Rattle.eden_ops.specs.Keeping.{shows, Keeps}
 use Rattle.eden_ops.specs.Known.{content_known, known_by, known_node, known, is_unlisted, place_from, place_on, place}
 use Rattle.eden_ops.proofs.Walking.{walk_here, place_passes}
 
--- a request whose reply is by what stands at its path
-pub record Asks (q : Request) (p : Path) (here : Tree → Node → Reply → Type 0) : Type 0 where
-  pub says : (G : Tree) (r : Reply) → At G p (here G) r → Replies G q r
-  pub only : (G : Tree) (r : Reply) → Replies G q r → At G p (here G) r
+-- a request whose reply is by what stands at its path, or by its absence
+pub record Asked (q : Request) (p : Path) (absent : Reply → Type 0) (here : Tree → Node → Reply → Type 0) : Type 0 where
+  pub says : (G : Tree) (r : Reply) → Table_Meets (reach G p) absent (here G) r → Replies G q r
+  pub only : (G : Tree) (r : Reply) → Replies G q r → Table_Meets (reach G p) absent (here G) r
   pub at : (G : Tree) → place G q ≡ place_on G p
   pub plain : (x : Path) → q ≡ ask.Kind x → x ≡ p
+
+-- .. which is refused
+abbrev pub Asks : Request → Path → (Tree → Node → Reply → Type 0) → Type 0
+Asks q p here = Asked q p (Refuses ENOENT) here
 
 -- ---- where the walk is unlisted, the place is an unlisted directory
 
@@ -83,16 +87,20 @@ no_entry _ x (makes_dir p) is = cc
 no_entry _ x (links p target) is = cc
 
 -- the reply by the entry that is met on what is shown
+says_met : (R : Repository) (G : Stored) (p : Path) (absent : Reply → Type 0) (here : Tree → Node → Reply → Type 0) (T : Tree) (o : Option Row) (y : Row) → o ≡ Some y → IsShown R G o (reach T p) → (r : Reply)
+    → ((listed : Bool) → here T (shown_node R G y listed) r) → Table_Meets (reach T p) absent (here T) r
+says_met R G p absent here T o y at h r says =
+    let row = some_inj h.row y (sym h.there ∙ at) in
+    subst (λ (x : Reach). Table_Meets x absent (here T) r) (sym (h.is ∙ ap (λ (z : Row). Here (shown_node R G z h.listed)) row)) (says h.listed)
+
 pub says_at : (R : Repository) (G : Stored) (p : Path) (here : Tree → Node → Reply → Type 0) (T : Tree) (o : Option Row) (y : Row) → o ≡ Some y → IsShown R G o (reach T p) → (r : Reply)
     → ((listed : Bool) → here T (shown_node R G y listed) r) → At T p (here T) r
-says_at R G p here T o y at h r says =
-    let row = some_inj h.row y (sym h.there ∙ at) in
-    subst (λ (x : Reach). Table_Meets x (Refuses ENOENT) (here T) r) (sym (h.is ∙ ap (λ (z : Row). Here (shown_node R G z h.listed)) row)) (says h.listed)
+says_at R G p here T o y at h r says = says_met R G p (Refuses ENOENT) here T o y at h r says
 
-module _ {W F : Type 0} (w : Ghosts W) (f : Files F W) (q : Request) (p : Path) (here : Tree → Node → Reply → Type 0) (asks : Asks q p here) (s t : Table F) (c d : Cache)
+module _ {W F : Type 0} {absent : Reply → Type 0} (w : Ghosts W) (f : Files F W) (q : Request) (p : Path) (here : Tree → Node → Reply → Type 0) (asks : Asked q p absent here) (s t : Table F) (c d : Cache)
     (same : w.honest → shows w f t ≡ shows w f s) (keeps : Keeps w f s t) (cache : FindsTheSame c d) where
   -- a reply that leaves the tree
-  pub replied : (r : Reply) → fault_of r ≡ None → ((G : Tree) → after G q r ≡ G) → (w.honest → At (shows w f s) p (here (shows w f s)) r) → Attempts w f q s t c d (Finished r)
+  pub replied : (r : Reply) → fault_of r ≡ None → ((G : Tree) → after G q r ≡ G) → (w.honest → Table_Meets (reach (shows w f s) p) absent (here (shows w f s)) r) → Attempts w f q s t c d (Finished r)
   replied r fine still says = record {
     answer = record {
       reply = λ h x. asks.says (shows w f s) r (says h);
@@ -112,7 +120,7 @@ module _ {W F : Type 0} (w : Ghosts W) (f : Files F W) (q : Request) (p : Path) 
   -- ---- the walk ends before the path does
 
   silent : (G : Tree) (r : Reply) → walk G p ≡ Unlisted → ¬ Replies G q r
-  silent G r un h = subst (λ (x : Reach). Table_Meets x (Refuses ENOENT) (here G) r) (ap (λ (v : Walk). ends v (G p)) un) (asks.only G r h)
+  silent G r un h = subst (λ (x : Reach). Table_Meets x absent (here G) r) (ap (λ (v : Walk). ends v (G p)) un) (asks.only G r h)
 
   lawful : (e : Fault) → IsLawful w f (ask.Kind p) s t e → IsLawful w f q s t e
   lawful (fault.Fetch id cause) h = h
@@ -124,7 +132,7 @@ module _ {W F : Type 0} (w : Ghosts W) (f : Files F W) (q : Request) (p : Path) 
 
   pub walk_ended : (z : Stop) → Meets w f p s t d (Err z) → (w.honest → MeetsShown w f p s t (Err z)) → Attempts w f q s t c d (stopped z)
   walk_ended (stop.Errs e) h shown =
-      replied (say.Err e) refl (λ G. refl) (λ honest. subst (λ (x : Reach). Table_Meets x (Refuses ENOENT) (here (shows w f s)) (say.Err e)) (sym (shown honest)) refl)
+      replied (say.Err e) refl (λ G. refl) (λ honest. subst (λ (x : Reach). Table_Meets x absent (here (shows w f s)) (say.Err e)) (sym (shown honest)) refl)
   walk_ended (stop.Needs k) h shown = record {
     answer = record {
       need = record {
@@ -140,13 +148,10 @@ module _ {W F : Type 0} (w : Ghosts W) (f : Files F W) (q : Request) (p : Path) 
 
   -- ---- at the path
 
-  pub says_absent : (w.honest → MeetsShown w f p s t (Ok None)) → Attempts w f q s t c d (Finished (say.Err ENOENT))
-  says_absent shown = replied (say.Err ENOENT) refl (λ G. refl) (λ honest. subst (λ (x : Reach). Table_Meets x (Refuses ENOENT) (here (shows w f s)) (say.Err ENOENT)) (sym (shown honest)) refl)
-
   -- by the entry there
   pub says_here : (y : Row) → row_at p t.root ≡ Some y → (w.honest → IsShown w.repository (f.stored t.files) (row_at p t.root) (reach (shows w f s) p)) → (r : Reply) → fault_of r ≡ None
       → ((G : Tree) → after G q r ≡ G) → (w.honest → (listed : Bool) → here (shows w f s) (shown_node w.repository (f.stored t.files) y listed) r) → Attempts w f q s t c d (Finished r)
-  says_here y at shown r fine still says = replied r fine still (λ honest. says_at w.repository (f.stored t.files) p here (shows w f s) (row_at p t.root) y at (shown honest) r (says honest))
+  says_here y at shown r fine still says = replied r fine still (λ honest. says_met w.repository (f.stored t.files) p absent here (shows w f s) (row_at p t.root) y at (shown honest) r (says honest))
 
   -- what the entry there wants: its object, or what its stored file lacks
   module _ (y : Row) (at : row_at p t.root ≡ Some y) where
@@ -169,7 +174,7 @@ module _ {W F : Type 0} (w : Ghosts W) (f : Files F W) (q : Request) (p : Path) 
     lacked (stop.Needs k) other need h = record {
       answer = record {
         need = record {
-          silent = λ r x. (need k refl).0 r (subst (λ (v : Reach). Table_Meets v (Refuses ENOENT) (here (known t.root)) r) known_here (asks.only (known t.root) r x));
+          silent = λ r x. (need k refl).0 r (subst (λ (v : Reach). Table_Meets v absent (here (known t.root)) r) known_here (asks.only (known t.root) r x));
           wanted = subst (λ (x : Path). Wants (row_at x t.root) d k) (sym place_is) h;
           unsized = (need k refl).1;
         };
@@ -178,3 +183,10 @@ module _ {W F : Type 0} (w : Ghosts W) (f : Files F W) (q : Request) (p : Path) 
       cache = cache;
     }
     lacked (stop.Faults e) other need h = faulted e (lawful_here e other h)
+
+-- nothing is at the path, which is refused
+pub says_absent : {W F : Type 0} (w : Ghosts W) (f : Files F W) (q : Request) (p : Path) (here : Tree → Node → Reply → Type 0) (asks : Asks q p here) (s t : Table F) (c d : Cache)
+    → (w.honest → shows w f t ≡ shows w f s) → Keeps w f s t → FindsTheSame c d → (w.honest → MeetsShown w f p s t (Ok None)) → Attempts w f q s t c d (Finished (say.Err ENOENT))
+says_absent w f q p here asks s t c d same keeps cache shown =
+    replied w f q p here asks s t c d same keeps cache (say.Err ENOENT) refl (λ G. refl)
+    (λ honest. subst (λ (x : Reach). Table_Meets x (Refuses ENOENT) (here (shows w f s)) (say.Err ENOENT)) (sym (shown honest)) refl)
