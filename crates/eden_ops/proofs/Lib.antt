@@ -15,3 +15,4 @@ pub mod Origins
 pub mod Fetching
 pub mod Saving
 pub mod Changing
+pub mod Adding

@@ -129,7 +129,7 @@ module _ {W F : Type 0} (w : Ghosts W) (f : Files F W) where
       }
 
   -- and then a change
-  pub leaves_changed : (s t u : Table F) → Keeps w f s t → StaysLoaded t.root u.root → (AreSaved t.root → AreSaved u.root) → u.next ≡ t.next → u.clock ≡ t.clock
+  pub leaves_changed : (s t u : Table F) → Keeps w f s t → StaysLoaded t.root u.root → (AreSaved t.root → AreSaved u.root) → t.next ≤ u.next → u.clock ≡ t.clock
       → f.failures t.files ≤ f.failures u.files → Leaves f s u
   leaves_changed s t u k stays saved next clock counted =
       let a = keeps_leaves s t k in
@@ -143,8 +143,8 @@ module _ {W F : Type 0} (w : Ghosts W) (f : Files F W) where
         clock = clock ∙ a.clock;
       }
 
-pub same_count : (a b : ℕ) → b ≡ a → a ≤ b
-same_count a b is = omega (arith, is)
+pub no_less : (a b : ℕ) → b ≡ a → a ≤ b
+no_less a b is = omega (arith, is)
 
 pub fault_count : (a b : ℕ) (e : Fault) → IsStoreFault a b e → a ≤ b
 fault_count a b (fault.Fetch id cause) h = absurd h

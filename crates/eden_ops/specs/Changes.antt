@@ -1,15 +1,27 @@
 -- What a change makes of an entry, and what it leaves of a table.
-use Rattle.std.specs.Prelude.{◌≡◌, ◌≤◌, Bool, true, false}
+use Rattle.std.specs.Prelude.{◌≡◌, ◌≢◌, ◌≤◌, ℕ, Bool, true, false, List, [], length}
 use Rattle.eden_model.specs.declared.kind.Kind.{Kind}
 use Rattle.eden_model.specs.declared.kind.Kind.TheVariants as kind
+use Rattle.eden_model.specs.declared.request.Request.{Request}
+use Rattle.eden_model.specs.declared.request.Request.TheVariants as ask
+use Rattle.eden_model.specs.Limits.{most_target}
+use Rattle.eden_model.specs.Trees.{Path}
 use Rattle.eden_overlay.specs.declared.files.Files.{Ghosts as Files}
 use Rattle.eden_tie.specs.Chains.{AreSaved, StaysLoaded}
 use Rattle.eden_inode.specs.Tables.{Table}
+use Rattle.eden_materialise.specs.declared.new_entry.NewEntry.{NewEntry}
+use Rattle.eden_materialise.specs.declared.new_entry.NewEntry.TheVariants as new
 
 -- the kind of a file that can be executed, or can't
 abbrev pub exec_kind : Bool → Kind
 exec_kind false = kind.File
 exec_kind true = kind.Exec
+
+-- the request makes this entry at the path
+pub data IsAdding (p : Path) : Request → NewEntry → Type 0 where
+  file : (content : _) → content.now ≡ [] → IsAdding p (ask.Create p) (new.File false content)
+  dir : IsAdding p (ask.Mkdir p) new.Dir
+  link : (target : _) → length target.now ≢ 0 → length target.now ≤ most_target → IsAdding p (ask.Symlink p target.now) (new.Link target)
 
 module _ {W F : Type 0} (f : Files F W) where
   -- Whatever was answered: what was loaded is, and where no directory was unsaved none is.

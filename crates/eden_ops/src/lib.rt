@@ -4,6 +4,7 @@
 //! files stored. It fetches nothing: where an object is lacking, it names it, and is made again once the object is cached.
 #![tactic(auto)]
 
+mod adding;
 mod answer;
 mod bring;
 mod contents;
@@ -19,6 +20,7 @@ mod sizes;
 mod walk;
 mod what;
 
+pub use adding::{create, mkdir, symlink};
 pub use answer::{Attempt, Walked};
 pub use exec::set_exec;
 pub use kinds::kind;

@@ -21,7 +21,7 @@ use Rattle.eden_ops.proofs.Answering.{walk_ended, says_absent, says_here, says_a
 use Rattle.eden_ops.proofs.Changing.{none_held, has_file, file_alone, changed, refused, sets_exec, asks_exec, sets_link, sets_dir, sets_file, exec_put}
 use Rattle.eden_ops.proofs.Fetching.{shown_kind}
 use Rattle.eden_ops.proofs.Looking.{IsPlain, plain_other}
-use Rattle.eden_ops.proofs.Saving.{keeps_leaves, leaves_changed, fault_count, same_count}
+use Rattle.eden_ops.proofs.Saving.{keeps_leaves, leaves_changed, fault_count, no_less}
 use Rattle.eden_ops.proofs.Seeing.{kept_dirs, shown_there}
 use Rattle.eden_ops.proofs.exec.set_exec.Goals as goal
 
@@ -145,10 +145,10 @@ returns-in-Link-clause-leaves g c = keeps_leaves g.W.World g.F.Files c.args.inod
 pub returns-in-Ok-clause-leaves : goal.returns-in-Ok-clause-leaves
 returns-in-Ok-clause-leaves g c =
     let x = c.in-Ok.ensures in
-    leaves_changed g.W.World g.F.Files c.args.inodes.now c.meet.new.inodes c.set_kind.new.inodes c.meet.ensures.keeps x.stays x.saved x.rest.0 x.rest.1 (same_count (g.F.Files.failures c.meet.new.inodes.files) (g.F.Files.failures c.set_kind.new.inodes.files) x.counted)
+    leaves_changed g.W.World g.F.Files c.args.inodes.now c.meet.new.inodes c.set_kind.new.inodes c.meet.ensures.keeps x.stays x.saved (no_less c.meet.new.inodes.next c.set_kind.new.inodes.next x.rest.0) x.rest.1 (no_less (g.F.Files.failures c.meet.new.inodes.files) (g.F.Files.failures c.set_kind.new.inodes.files) x.counted)
 
 pub returns-in-Err-set_kind-clause-leaves : goal.returns-in-Err-set_kind-clause-leaves
 returns-in-Err-set_kind-clause-leaves g c =
     let x = c.in-Err-set_kind.ensures in
-    leaves_changed g.W.World g.F.Files c.args.inodes.now c.meet.new.inodes c.set_kind.new.inodes c.meet.ensures.keeps x.stays x.saved x.rest.0 x.rest.1
+    leaves_changed g.W.World g.F.Files c.args.inodes.now c.meet.new.inodes c.set_kind.new.inodes c.meet.ensures.keeps x.stays x.saved (no_less c.meet.new.inodes.next c.set_kind.new.inodes.next x.rest.0) x.rest.1
     (fault_count (g.F.Files.failures c.meet.new.inodes.files) (g.F.Files.failures c.set_kind.new.inodes.files) c.in-Err-set_kind.fault x.fault)

@@ -19,7 +19,7 @@ use Rattle.eden_ops.specs.Keeping.{shows}
 use Rattle.eden_ops.proofs.Answering.{walk_ended, says_absent, says_here, says_at}
 use Rattle.eden_ops.proofs.Changing.{not_root, none_held, has_entry, put_alone, file_alone, changed, refused, unlinks, asks_unlink, unlinks_file, unlinks_dir}
 use Rattle.eden_ops.proofs.Fetching.{shown_kind}
-use Rattle.eden_ops.proofs.Saving.{keeps_leaves, leaves_changed, fault_count}
+use Rattle.eden_ops.proofs.Saving.{keeps_leaves, leaves_changed, fault_count, no_less}
 use Rattle.eden_ops.proofs.Seeing.{kept_dirs}
 use Rattle.eden_ops.proofs.removing.unlink.Goals as goal
 
@@ -119,10 +119,10 @@ returns-in-Dir-clause-leaves g c = keeps_leaves g.W.World g.F.Files c.args.inode
 pub returns-in-Ok-clause-leaves : goal.returns-in-Ok-clause-leaves
 returns-in-Ok-clause-leaves g c =
     let x = c.in-Ok.ensures in
-    leaves_changed g.W.World g.F.Files c.args.inodes.now c.meet.new.inodes c.remove_entry.new.inodes c.meet.ensures.keeps x.stays x.saved x.rest.0 x.rest.1 x.counted
+    leaves_changed g.W.World g.F.Files c.args.inodes.now c.meet.new.inodes c.remove_entry.new.inodes c.meet.ensures.keeps x.stays x.saved (no_less c.meet.new.inodes.next c.remove_entry.new.inodes.next x.rest.0) x.rest.1 x.counted
 
 pub returns-in-Err-remove_entry-clause-leaves : goal.returns-in-Err-remove_entry-clause-leaves
 returns-in-Err-remove_entry-clause-leaves g c =
     let x = c.in-Err-remove_entry.ensures in
-    leaves_changed g.W.World g.F.Files c.args.inodes.now c.meet.new.inodes c.remove_entry.new.inodes c.meet.ensures.keeps x.stays x.saved x.rest.0 x.rest.1
+    leaves_changed g.W.World g.F.Files c.args.inodes.now c.meet.new.inodes c.remove_entry.new.inodes c.meet.ensures.keeps x.stays x.saved (no_less c.meet.new.inodes.next c.remove_entry.new.inodes.next x.rest.0) x.rest.1
     (fault_count (g.F.Files.failures c.meet.new.inodes.files) (g.F.Files.failures c.remove_entry.new.inodes.files) c.in-Err-remove_entry.fault x.fault)

@@ -1,0 +1,95 @@
+use Rattle.std.proofs.Common.{◌≡◌, ◌++◌, ◌∷◌, [], Option, Some, None, Ok, Err, sym, refl, subst, ap, ◌∙◌}
+use Rattle.eden_model.specs.declared.errno.Errno.TheVariants.{EEXIST}
+use Rattle.eden_model.specs.declared.reply.Reply.TheVariants as say
+use Rattle.eden_model.specs.Operations.{Meets as Table_Meets, Says}
+use Rattle.eden_model.specs.Trees.{Tree, Path, Reach, reach, graft}
+use Rattle.eden_tree.specs.Paths.{row_at}
+use Rattle.eden_tie.specs.Filing.{leaf}
+use Rattle.eden_inode.specs.declared.seen.Seen.{Seen}
+use Rattle.eden_materialise.specs.Filing.{node_as}
+use Rattle.eden_ops.specs.declared.answer.Attempt.{Attempt}
+use Rattle.eden_ops.specs.Attempts.{Attempts, Meets, MeetsShown, IsShown}
+use Rattle.eden_ops.specs.Keeping.{shows}
+use Rattle.eden_ops.proofs.Adding.{adds, asked_add, short_new, lacks_entry, absent_alone, put_new, not_added, add_count, given_more, one_given}
+use Rattle.eden_ops.proofs.Answering.{walk_ended, says_here}
+use Rattle.eden_ops.proofs.Changing.{not_root, changed}
+use Rattle.eden_ops.proofs.Saving.{keeps_leaves, leaves_changed, no_less}
+use Rattle.eden_ops.proofs.Seeing.{kept_dirs}
+use Rattle.eden_ops.proofs.adding.add.Goals as goal
+
+pub returns-in-Err-clause-attempts : goal.returns-in-Err-clause-attempts
+returns-in-Err-clause-attempts g c q adding =
+    let p = c.args.path.now in
+    let s = c.args.inodes.now in
+    let t = c.meet.new.inodes in
+    let e = c.in-Err.ensures in
+    let root = not_root p c.in-Some.above.now c.in-Some.name.now (sym c.as_slice.ensures ∙ c.in-Some.ensures.cases.0) in
+    subst (λ (a : Attempt). Attempts g.W.World g.F.Files q s t c.args.cache.now c.meet.new.cache a) (sym c.ended.ensures)
+    (walk_ended g.W.World g.F.Files q p adds (asked_add p root q c.args.new adding) s t c.args.cache.now c.meet.new.cache e.same e.keeps e.cache c.in-Err.stop e.meets e.shown)
+
+pub returns-in-Err-clause-leaves : goal.returns-in-Err-clause-leaves
+returns-in-Err-clause-leaves g c = keeps_leaves g.W.World g.F.Files c.args.inodes.now c.meet.new.inodes c.meet.ensures.keeps
+
+pub returns-in-Ok-Some-clause-leaves : goal.returns-in-Ok-Some-clause-leaves
+returns-in-Ok-Some-clause-leaves g c = keeps_leaves g.W.World g.F.Files c.args.inodes.now c.meet.new.inodes c.meet.ensures.keeps
+
+pub add_entry-requires-clause-lacks : goal.add_entry-requires-clause-lacks
+add_entry-requires-clause-lacks g c =
+    let p = c.args.path.now in
+    let s = c.args.inodes.now in
+    let t = c.meet.new.inodes in
+    let met = subst (λ (o : Option Seen). Meets g.W.World g.F.Files p s t c.meet.new.cache (Ok o)) c.in-Ok-None.field-0-is c.in-Ok-None.ensures.meets in
+    lacks_entry p c.in-Some.above.now c.in-Some.name.now t.root (sym c.as_slice.ensures ∙ c.in-Some.ensures.cases.0) met.0 met.1
+
+pub add_entry-requires-clause-short : goal.add_entry-requires-clause-short
+add_entry-requires-clause-short g c = short_new c.args.path.now c.requires.asked.0 c.args.new c.requires.asked.1
+
+pub returns-in-Ok-clause-attempts : goal.returns-in-Ok-clause-attempts
+returns-in-Ok-clause-attempts g c q adding =
+    let p = c.args.path.now in
+    let s = c.args.inodes.now in
+    let t = c.meet.new.inodes in
+    let u = c.add_entry.new.inodes in
+    let e = c.in-Ok-None.ensures in
+    let R = g.W.World.repository in
+    let F = g.F.Files.stored t.files in
+    let G = shows g.W.World g.F.Files s in
+    let split = sym c.as_slice.ensures ∙ c.in-Some.ensures.cases.0 in
+    let root = not_root p c.in-Some.above.now c.in-Some.name.now split in
+    let met = subst (λ (o : Option Seen). Meets g.W.World g.F.Files p s t c.meet.new.cache (Ok o)) c.in-Ok-None.field-0-is e.meets in
+    let lacks = lacks_entry p c.in-Some.above.now c.in-Some.name.now t.root split met.0 met.1 in
+    changed g.W.World g.F.Files q s t u c.args.cache.now c.meet.new.cache e.same ((c.keeps_laws.ensures.counts s t e.keeps).1.1.1) e.cache
+    (λ h. (asked_add p root q c.args.new adding).says G say.Ok
+    (subst (λ (x : Reach). Table_Meets x (Says say.Ok) (adds G) say.Ok) (sym (subst (λ (o : Option Seen). MeetsShown g.W.World g.F.Files p s t (Ok o)) c.in-Ok-None.field-0-is (e.shown h))) refl))
+    (λ h.
+    c.in-Ok.ensures.shown h
+    ∙ ap (λ (r : Path). graft r (leaf (node_as c.args.new)) (shows g.W.World g.F.Files t)) (sym split)
+    ∙ ap (graft p (leaf (node_as c.args.new))) (e.same h)
+    ∙ put_new G p q c.args.new adding (λ n r. sym (ap (λ (T : Tree). T (p ++ n ∷ r)) (e.same h))
+    ∙ absent_alone c.shown_laws.ensures.absent R F p c.in-Some.above.now c.in-Some.name.now t.root (kept_dirs R F t.root t.next (c.holds.ensures.kept h)) split lacks n r))
+
+pub returns-in-Ok-clause-leaves : goal.returns-in-Ok-clause-leaves
+returns-in-Ok-clause-leaves g c =
+    let x = c.in-Ok.ensures in
+    let t = c.meet.new.inodes in
+    let u = c.add_entry.new.inodes in
+    leaves_changed g.W.World g.F.Files c.args.inodes.now t u c.meet.ensures.keeps x.stays x.saved (one_given t.next u.next x.next) x.rest
+    (no_less (g.F.Files.failures t.files) (g.F.Files.failures u.files) x.counted)
+
+pub returns-in-Err-add_entry-clause-attempts : goal.returns-in-Err-add_entry-clause-attempts
+returns-in-Err-add_entry-clause-attempts g c q adding =
+    let s = c.args.inodes.now in
+    let t = c.meet.new.inodes in
+    let u = c.add_entry.new.inodes in
+    let e = c.in-Ok-None.ensures in
+    let x = c.in-Err-add_entry.ensures in
+    not_added g.W.World g.F.Files c.args.path.now q c.args.new adding s t u c.args.cache.now c.meet.new.cache e.same ((c.keeps_laws.ensures.counts s t e.keeps).1.1.1) e.cache c.in-Err-add_entry.fault x.fault
+    (λ is. x.unused (c.in-Err-add_entry.is ∙ ap Err is)) x.unseen
+
+pub returns-in-Err-add_entry-clause-leaves : goal.returns-in-Err-add_entry-clause-leaves
+returns-in-Err-add_entry-clause-leaves g c =
+    let x = c.in-Err-add_entry.ensures in
+    let t = c.meet.new.inodes in
+    let u = c.add_entry.new.inodes in
+    leaves_changed g.W.World g.F.Files c.args.inodes.now t u c.meet.ensures.keeps x.stays x.saved (given_more t.next u.next _ _ x.given) x.rest
+    (add_count t.next (g.F.Files.failures t.files) (g.F.Files.failures u.files) c.in-Err-add_entry.fault x.fault)

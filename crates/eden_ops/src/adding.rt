@@ -1,0 +1,98 @@
+//! Entries that are made.
+ghost use Rattle.std.specs.Prelude.{◌≡◌};
+ghost use Rattle.eden_model.specs.declared.request.Request as request;
+ghost use Rattle.eden_model.specs.declared.request.Request.TheVariants as ask;
+ghost use Rattle.eden_ops.specs.Attempts.{Attempts};
+ghost use Rattle.eden_ops.specs.Caches.{IsStocked};
+ghost use Rattle.eden_ops.specs.Changes.{IsAdding, Leaves};
+
+use crate::answer::Attempt;
+use crate::end::ended;
+use crate::laws::keeps_laws;
+use crate::meet::meet;
+use eden_cache::ObjectCache;
+use eden_inode::Inodes;
+use eden_materialise::{NewEntry, add_entry};
+use eden_model::{Errno, MAX_TARGET, Path, Reply, World};
+use eden_overlay::Files;
+use eden_tie::shown_laws;
+use std::alloc::{Allocator, Global};
+
+/// Adds an entry at a path.
+fn add<A: Allocator + Clone, W: World, F: Files<W>, C: Allocator + Clone>(
+    inodes: &mut Inodes<A, W, F>,
+    cache: &mut ObjectCache<C>,
+    alloc: Global,
+    path: &Path,
+    new: NewEntry<'_>,
+) -> Attempt
+    requires stocked { IsStocked W.repository W.honest cache.old }
+    requires asked { (q : request.Request) × IsAdding path.now q new }
+    ensures attempts { (q : request.Request) → IsAdding path.now q new.entry → Attempts W.World F.Files q inodes.old inodes.new cache.old cache.new result }
+    ensures leaves { Leaves F.Files inodes.old inodes.new }
+{
+    let Some((name, above)) = path.as_slice().split_last() else {
+        return Attempt::Finished(Reply::Err(Errno::EEXIST));
+    };
+    match meet(inodes, cache, alloc, path) {
+        Err(stop) => return ended(stop),
+        Ok(Some(_)) => return Attempt::Finished(Reply::Err(Errno::EEXIST)),
+        Ok(None) => {}
+    }
+    keeps_laws::<W, F>();
+    shown_laws();
+    inodes.holds();
+    match add_entry(inodes, alloc, above, name, new) {
+        Ok(()) => Attempt::Finished(Reply::Ok),
+        Err(fault) => Attempt::Finished(Reply::Fault(fault)),
+    }
+}
+
+/// Makes an empty file.
+pub fn create<A: Allocator + Clone, W: World, F: Files<W>, C: Allocator + Clone>(
+    inodes: &mut Inodes<A, W, F>,
+    cache: &mut ObjectCache<C>,
+    alloc: Global,
+    path: &Path,
+) -> Attempt
+    requires { IsStocked W.repository W.honest cache.old }
+    ensures attempts { Attempts W.World F.Files (ask.Create path.now) inodes.old inodes.new cache.old cache.new result }
+    ensures leaves { Leaves F.Files inodes.old inodes.new }
+{
+    add(inodes, cache, alloc, path, NewEntry::File(false, &[]))
+}
+
+/// Makes a directory without entries.
+pub fn mkdir<A: Allocator + Clone, W: World, F: Files<W>, C: Allocator + Clone>(
+    inodes: &mut Inodes<A, W, F>,
+    cache: &mut ObjectCache<C>,
+    alloc: Global,
+    path: &Path,
+) -> Attempt
+    requires { IsStocked W.repository W.honest cache.old }
+    ensures attempts { Attempts W.World F.Files (ask.Mkdir path.now) inodes.old inodes.new cache.old cache.new result }
+    ensures leaves { Leaves F.Files inodes.old inodes.new }
+{
+    add(inodes, cache, alloc, path, NewEntry::Dir)
+}
+
+/// Makes a link to a target of 1 to 4,095 bytes.
+pub fn symlink<A: Allocator + Clone, W: World, F: Files<W>, C: Allocator + Clone>(
+    inodes: &mut Inodes<A, W, F>,
+    cache: &mut ObjectCache<C>,
+    alloc: Global,
+    path: &Path,
+    target: &[u8],
+) -> Attempt
+    requires { IsStocked W.repository W.honest cache.old }
+    ensures attempts { Attempts W.World F.Files (ask.Symlink path.now target.now) inodes.old inodes.new cache.old cache.new result }
+    ensures leaves { Leaves F.Files inodes.old inodes.new }
+{
+    if target.is_empty() {
+        return Attempt::Finished(Reply::Err(Errno::ENOENT));
+    }
+    if target.len() > MAX_TARGET {
+        return Attempt::Finished(Reply::Err(Errno::ENAMETOOLONG));
+    }
+    add(inodes, cache, alloc, path, NewEntry::Link(target))
+}
