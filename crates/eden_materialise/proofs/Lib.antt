@@ -11,3 +11,6 @@ mod EntryMoves
 mod Chains
 mod Reforms
 mod Removals
+mod Filing
+mod Additions
+mod Fills

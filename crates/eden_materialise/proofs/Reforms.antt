@@ -19,7 +19,6 @@ use Rattle.eden_overlay.specs.Held.{own_files}
 use Rattle.eden_tree.specs.Directory.{Row, Directory, child_of}
 use Rattle.eden_tree.specs.Rows.{find_row}
 use Rattle.eden_tree.proofs.CallerLemmas.{same-≡}
-use Rattle.eden_tie.specs.Changing.{changed, MayGo}
 use Rattle.eden_tie.specs.Filing.{leaf, content_shown}
 use Rattle.eden_tie.specs.Kept.{IsTable, IsKept}
 use Rattle.eden_tie.specs.Listings.{stored_entry, listing_of}
@@ -31,7 +30,7 @@ use Rattle.eden_materialise.specs.Reforms.{HasFile, of_kind}
 use Rattle.eden_materialise.proofs.Listings.{changes_shown}
 
 -- an entry of a listing that can be stored can be
-each_can : (n : Name) (es : List (Name × Row)) (w : Row) → AllByRecursion IsStorable (map stored_entry es) → find_row n es ≡ Some w → IsStorable (stored_entry (n, w))
+pub each_can : (n : Name) (es : List (Name × Row)) (w : Row) → AllByRecursion IsStorable (map stored_entry es) → find_row n es ≡ Some w → IsStorable (stored_entry (n, w))
 each_can n [] w all h = absurd (none-some w h)
 each_can n (e ∷ es) w all h = elim (bytes_eq n e.0) as (λ b. bytes_eq n e.0 ≡ b → cond b (Some e.1) (find_row n es) ≡ Some w → IsStorable (stored_entry (n, w))) [
   | true ↦ λ same is.

@@ -7,3 +7,5 @@ pub mod Listings
 pub mod EntryMoves
 pub mod Reforms
 pub mod Removals
+pub mod Filing
+pub mod Fills

@@ -20,7 +20,8 @@ use eden_overlay::{Files, FilesFault, Overlay};
 use eden_tree::{Dir, Entry};
 use std::alloc::{Allocator, Global};
 
-fn is_own(origin: Origin) -> bool
+/// Whether the origin is the mount's own.
+pub(crate) fn is_own(origin: Origin) -> bool
     ensures { result ≡ is_own origin }
 {
     match origin {

@@ -5,21 +5,27 @@
 //! `eden_tie` has the laws by which files and memory stay tied.
 #![tactic(auto)]
 
+mod addition;
 mod chain;
 mod change;
+mod content;
 mod entry_change;
 mod entry_move;
 mod fault;
 mod listing;
 mod memory;
 mod moving;
+mod new_entry;
 mod owning;
 mod reform;
 mod removal;
 mod renaming;
 
+pub use addition::add_entry;
+pub use content::store_content;
 pub use entry_change::change_entry;
 pub use entry_move::move_entry;
+pub use new_entry::NewEntry;
 pub use owning::materialise;
 pub use reform::set_kind;
 pub use removal::remove_entry;

@@ -23,7 +23,7 @@ pub use Rattle.eden_tie.proofs.Marked.{marked_table, marked_kept, marked_shown}
 pub use Rattle.eden_tie.proofs.Staying.{moved_stays, marked_stays, moved_saved, left_elsewhere, moved_elsewhere}
 -- what loads, and directories that go, keep of a table's invariant, beside `kept_laws`
 pub use Rattle.eden_tie.proofs.Tables.{own_loads_table, unloads_table}
-pub use Rattle.eden_tie.proofs.KeptLemmas.{own_loads_kept, unloads_kept, tables_unload}
+pub use Rattle.eden_tie.proofs.KeptLemmas.{next_rises, own_loads_kept, unloads_kept, tables_unload}
 pub use Rattle.eden_tie.proofs.Gone.{goes_kept}
 -- what a directory would be loaded from, and what is shown once it is, or goes
 pub use Rattle.eden_tie.proofs.Objects.{none_inside, object_from, empty_from}

@@ -1,0 +1,82 @@
+use Rattle.std.proofs.Common.{ap}
+use Rattle.eden_inode.specs.Tables.{Table}
+use Rattle.eden_tie.specs.Shown.{shown_in}
+use Rattle.eden_materialise.proofs.Additions.{adds_may, adds_table, adds_kept, adds_stored, adds_strays, adds_shown, adds_unseen, adds_saved, adds_stay}
+use Rattle.eden_materialise.proofs.addition.add_entry.Goals as goal
+
+pub returns-then-not-has_room-clause-numbers : goal.returns-then-not-has_room-clause-numbers
+returns-then-not-has_room-clause-numbers g c none y d at holds room = absurd (c.if-not-has_room.ensures y d at holds room)
+
+pub returns-in-None-clause-unseen : goal.returns-in-None-clause-unseen
+returns-in-None-clause-unseen g c h = ap (λ (t : Table g.row.F.Denot). shown_in g.W.World.repository (g.F.Files.stored t.files) t.root) c.in-None.ensures.none.1
+
+pub change-requires-clause-may : goal.change-requires-clause-may
+change-requires-clause-may g c =
+    let l = c.requires.lacks in
+    adds_may g.row.F.Denot g.F.Files.stored g.F.Files.failures g.W.World.honest g.W.World.repository c.args.path.now c.args.name.now c.args.new c.args.inodes.now c.give_number.new.self
+    c.in-Some.number c.in-Some.ensures.some.1 c.in-Some.ensures.some.0 l c.holds.ensures.table c.holds.ensures.kept
+    (c.if-not-has_room.ensures l.row l.directory l.at l.holds) c.as_slice.ensures.named c.requires.short c.holds-in-Some.ensures.table
+
+pub change-requires-clause-table : goal.change-requires-clause-table
+change-requires-clause-table g c files root answer does =
+    let l = c.requires.lacks in
+    adds_table g.row.F.Denot g.F.Files.stored g.F.Files.failures g.W.World.honest g.W.World.repository c.args.path.now c.args.name.now c.args.new c.args.inodes.now c.give_number.new.self
+    c.in-Some.number c.in-Some.ensures.some.1 c.in-Some.ensures.some.0 l c.holds.ensures.table c.holds.ensures.kept
+    (c.if-not-has_room.ensures l.row l.directory l.at l.holds) c.as_slice.ensures.named c.requires.short c.holds-in-Some.ensures.table (g.F.Files.stored files) root
+    (g.F.Files.failures files) answer does
+
+pub change-requires-clause-kept : goal.change-requires-clause-kept
+change-requires-clause-kept g c h files root answer does =
+    let l = c.requires.lacks in
+    adds_kept g.row.F.Denot g.F.Files.stored g.F.Files.failures g.W.World.honest g.W.World.repository c.args.path.now c.args.name.now c.args.new c.args.inodes.now c.give_number.new.self
+    c.in-Some.number c.in-Some.ensures.some.1 c.in-Some.ensures.some.0 l c.holds.ensures.table c.holds.ensures.kept
+    (c.if-not-has_room.ensures l.row l.directory l.at l.holds) c.as_slice.ensures.named c.requires.short c.holds-in-Some.ensures.table (g.F.Files.stored files) root
+    (g.F.Files.failures files) answer does h
+
+pub returns-in-Some-clause-stored : goal.returns-in-Some-clause-stored
+returns-in-Some-clause-stored g c h =
+    let l = c.requires.lacks in
+    adds_stored g.row.F.Denot g.F.Files.stored g.F.Files.failures g.W.World.honest g.W.World.repository c.args.path.now c.args.name.now c.args.new c.args.inodes.now c.give_number.new.self
+    c.in-Some.number c.in-Some.ensures.some.1 c.in-Some.ensures.some.0 l c.holds.ensures.table c.holds.ensures.kept
+    (c.if-not-has_room.ensures l.row l.directory l.at l.holds) c.as_slice.ensures.named c.requires.short c.holds-in-Some.ensures.table (g.F.Files.stored c.change.new.self.files) c.change.new.self.root
+    (g.F.Files.failures c.change.new.self.files) c.change.result c.change.ensures.does h
+
+pub returns-in-Some-clause-strays : goal.returns-in-Some-clause-strays
+returns-in-Some-clause-strays g c h =
+    let l = c.requires.lacks in
+    adds_strays g.row.F.Denot g.F.Files.stored g.F.Files.failures g.W.World.honest g.W.World.repository c.args.path.now c.args.name.now c.args.new c.args.inodes.now c.give_number.new.self
+    c.in-Some.number c.in-Some.ensures.some.1 c.in-Some.ensures.some.0 l c.holds.ensures.table c.holds.ensures.kept
+    (c.if-not-has_room.ensures l.row l.directory l.at l.holds) c.as_slice.ensures.named c.requires.short c.holds-in-Some.ensures.table (g.F.Files.stored c.change.new.self.files) c.change.new.self.root
+    (g.F.Files.failures c.change.new.self.files) c.change.result c.change.ensures.does h
+
+pub returns-in-Some-clause-shown : goal.returns-in-Some-clause-shown
+returns-in-Some-clause-shown g c h =
+    let l = c.requires.lacks in
+    adds_shown g.row.F.Denot g.F.Files.stored g.F.Files.failures g.W.World.honest g.W.World.repository c.args.path.now c.args.name.now c.args.new c.args.inodes.now c.give_number.new.self
+    c.in-Some.number c.in-Some.ensures.some.1 c.in-Some.ensures.some.0 l c.holds.ensures.table c.holds.ensures.kept
+    (c.if-not-has_room.ensures l.row l.directory l.at l.holds) c.as_slice.ensures.named c.requires.short c.holds-in-Some.ensures.table (g.F.Files.stored c.change.new.self.files) c.change.new.self.root
+    (g.F.Files.failures c.change.new.self.files) c.change.result c.change.ensures.does h
+
+pub returns-in-Some-clause-unseen : goal.returns-in-Some-clause-unseen
+returns-in-Some-clause-unseen g c h =
+    let l = c.requires.lacks in
+    adds_unseen g.row.F.Denot g.F.Files.stored g.F.Files.failures g.W.World.honest g.W.World.repository c.args.path.now c.args.name.now c.args.new c.args.inodes.now c.give_number.new.self
+    c.in-Some.number c.in-Some.ensures.some.1 c.in-Some.ensures.some.0 l c.holds.ensures.table c.holds.ensures.kept
+    (c.if-not-has_room.ensures l.row l.directory l.at l.holds) c.as_slice.ensures.named c.requires.short c.holds-in-Some.ensures.table (g.F.Files.stored c.change.new.self.files) c.change.new.self.root
+    (g.F.Files.failures c.change.new.self.files) c.change.result c.change.ensures.does h
+
+pub returns-in-Some-clause-saved : goal.returns-in-Some-clause-saved
+returns-in-Some-clause-saved g c all =
+    let l = c.requires.lacks in
+    adds_saved g.row.F.Denot g.F.Files.stored g.F.Files.failures g.W.World.honest g.W.World.repository c.args.path.now c.args.name.now c.args.new c.args.inodes.now c.give_number.new.self
+    c.in-Some.number c.in-Some.ensures.some.1 c.in-Some.ensures.some.0 l c.holds.ensures.table c.holds.ensures.kept
+    (c.if-not-has_room.ensures l.row l.directory l.at l.holds) c.as_slice.ensures.named c.requires.short c.holds-in-Some.ensures.table (g.F.Files.stored c.change.new.self.files) c.change.new.self.root
+    (g.F.Files.failures c.change.new.self.files) c.change.result c.change.ensures.does all
+
+pub returns-in-Some-clause-stays : goal.returns-in-Some-clause-stays
+returns-in-Some-clause-stays g c =
+    let l = c.requires.lacks in
+    adds_stay g.row.F.Denot g.F.Files.stored g.F.Files.failures g.W.World.honest g.W.World.repository c.args.path.now c.args.name.now c.args.new c.args.inodes.now c.give_number.new.self
+    c.in-Some.number c.in-Some.ensures.some.1 c.in-Some.ensures.some.0 l c.holds.ensures.table c.holds.ensures.kept
+    (c.if-not-has_room.ensures l.row l.directory l.at l.holds) c.as_slice.ensures.named c.requires.short c.holds-in-Some.ensures.table (g.F.Files.stored c.change.new.self.files) c.change.new.self.root
+    (g.F.Files.failures c.change.new.self.files) c.change.result c.change.ensures.does

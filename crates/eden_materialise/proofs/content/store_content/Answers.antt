@@ -1,0 +1,106 @@
+use Rattle.eden_materialise.proofs.Fills.{fills_ok, fills_stored, fills_err, fills_strays, fills_fault, fills_counted, fills_table, fills_saved, fills_stay, fills_kept, fills_unseen, fills_shown}
+use Rattle.eden_materialise.proofs.content.store_content.Goals as goal
+
+pub change-requires-clause-may : goal.change-requires-clause-may
+change-requires-clause-may g c = record {
+  next = c.args.inodes.now.next;
+  table = c.holds.ensures.table;
+  kept = c.holds.ensures.kept;
+  entry = c.requires.there.0;
+  has = c.requires.there.1;
+  short = c.requires.short;
+}
+
+pub change-requires-clause-table : goal.change-requires-clause-table
+change-requires-clause-table g c files root answer does =
+    let t = c.args.inodes.now in
+    fills_table g.W.World.honest g.W.World.repository c.args.path.now c.args.name.now c.requires.there.0 c.args.content.now (g.F.Files.stored t.files) t.root t.next
+    c.holds.ensures.table c.requires.there.1 c.requires.short (g.F.Files.failures t.files) (g.F.Files.stored files) root (g.F.Files.failures files)
+    answer (does c.requires.there.0 c.requires.there.1)
+
+pub change-requires-clause-kept : goal.change-requires-clause-kept
+change-requires-clause-kept g c h files root answer does =
+    let t = c.args.inodes.now in
+    fills_kept g.W.World.honest g.W.World.repository c.args.path.now c.args.name.now c.requires.there.0 c.args.content.now (g.F.Files.stored t.files) t.root t.next
+    c.holds.ensures.table c.requires.there.1 c.requires.short (g.F.Files.failures t.files) (g.F.Files.stored files) root (g.F.Files.failures files)
+    h (c.holds.ensures.kept h) answer (does c.requires.there.0 c.requires.there.1)
+
+pub returns-clause-ok : goal.returns-clause-ok
+returns-clause-ok g c w has =
+    let t = c.args.inodes.now in
+    let then = c.change.new.self in
+    fills_ok g.W.World.honest g.W.World.repository c.args.path.now c.args.name.now w c.args.content.now (g.F.Files.stored t.files) t.root t.next
+    c.holds.ensures.table has c.requires.short (g.F.Files.failures t.files) (g.F.Files.stored then.files) then.root (g.F.Files.failures then.files)
+    c.change.result (c.change.ensures.does w has)
+
+pub returns-clause-stored : goal.returns-clause-stored
+returns-clause-stored g c h w has =
+    let t = c.args.inodes.now in
+    let then = c.change.new.self in
+    fills_stored g.W.World.honest g.W.World.repository c.args.path.now c.args.name.now w c.args.content.now (g.F.Files.stored t.files) t.root t.next
+    c.holds.ensures.table has c.requires.short (g.F.Files.failures t.files) (g.F.Files.stored then.files) then.root (g.F.Files.failures then.files)
+    c.change.result (c.change.ensures.does w has) h
+
+pub returns-clause-err : goal.returns-clause-err
+returns-clause-err g c =
+    let t = c.args.inodes.now in
+    let then = c.change.new.self in
+    fills_err g.W.World.honest g.W.World.repository c.args.path.now c.args.name.now c.requires.there.0 c.args.content.now (g.F.Files.stored t.files) t.root t.next
+    c.holds.ensures.table c.requires.there.1 c.requires.short (g.F.Files.failures t.files) (g.F.Files.stored then.files) then.root (g.F.Files.failures then.files)
+    c.change.result (c.change.ensures.does c.requires.there.0 c.requires.there.1)
+
+pub returns-clause-strays : goal.returns-clause-strays
+returns-clause-strays g c h w has =
+    let t = c.args.inodes.now in
+    let then = c.change.new.self in
+    fills_strays g.W.World.honest g.W.World.repository c.args.path.now c.args.name.now w c.args.content.now (g.F.Files.stored t.files) t.root t.next
+    c.holds.ensures.table has c.requires.short (g.F.Files.failures t.files) (g.F.Files.stored then.files) then.root (g.F.Files.failures then.files)
+    c.change.result (c.change.ensures.does w has) h
+
+pub returns-clause-fault : goal.returns-clause-fault
+returns-clause-fault g c =
+    let t = c.args.inodes.now in
+    let then = c.change.new.self in
+    fills_fault g.W.World.honest g.W.World.repository c.args.path.now c.args.name.now c.requires.there.0 c.args.content.now (g.F.Files.stored t.files) t.root t.next
+    c.holds.ensures.table c.requires.there.1 c.requires.short (g.F.Files.failures t.files) (g.F.Files.stored then.files) then.root (g.F.Files.failures then.files)
+    c.change.result (c.change.ensures.does c.requires.there.0 c.requires.there.1)
+
+pub returns-clause-counted : goal.returns-clause-counted
+returns-clause-counted g c =
+    let t = c.args.inodes.now in
+    let then = c.change.new.self in
+    fills_counted g.W.World.honest g.W.World.repository c.args.path.now c.args.name.now c.requires.there.0 c.args.content.now (g.F.Files.stored t.files) t.root t.next
+    c.holds.ensures.table c.requires.there.1 c.requires.short (g.F.Files.failures t.files) (g.F.Files.stored then.files) then.root (g.F.Files.failures then.files)
+    c.change.result (c.change.ensures.does c.requires.there.0 c.requires.there.1)
+
+pub returns-clause-shown : goal.returns-clause-shown
+returns-clause-shown g c h w has =
+    let t = c.args.inodes.now in
+    let then = c.change.new.self in
+    fills_shown g.W.World.honest g.W.World.repository c.args.path.now c.args.name.now w c.args.content.now (g.F.Files.stored t.files) t.root t.next
+    c.holds.ensures.table has c.requires.short (g.F.Files.failures t.files) (g.F.Files.stored then.files) then.root (g.F.Files.failures then.files)
+    h (c.holds.ensures.kept h) c.change.result (c.change.ensures.does w has)
+
+pub returns-clause-unseen : goal.returns-clause-unseen
+returns-clause-unseen g c h =
+    let t = c.args.inodes.now in
+    let then = c.change.new.self in
+    fills_unseen g.W.World.honest g.W.World.repository c.args.path.now c.args.name.now c.requires.there.0 c.args.content.now (g.F.Files.stored t.files) t.root t.next
+    c.holds.ensures.table c.requires.there.1 c.requires.short (g.F.Files.failures t.files) (g.F.Files.stored then.files) then.root (g.F.Files.failures then.files)
+    h (c.holds.ensures.kept h) c.change.result (c.change.ensures.does c.requires.there.0 c.requires.there.1)
+
+pub returns-clause-saved : goal.returns-clause-saved
+returns-clause-saved g c all =
+    let t = c.args.inodes.now in
+    let then = c.change.new.self in
+    fills_saved g.W.World.honest g.W.World.repository c.args.path.now c.args.name.now c.requires.there.0 c.args.content.now (g.F.Files.stored t.files) t.root t.next
+    c.holds.ensures.table c.requires.there.1 c.requires.short (g.F.Files.failures t.files) (g.F.Files.stored then.files) then.root (g.F.Files.failures then.files)
+    c.change.result (c.change.ensures.does c.requires.there.0 c.requires.there.1) all
+
+pub returns-clause-stays : goal.returns-clause-stays
+returns-clause-stays g c =
+    let t = c.args.inodes.now in
+    let then = c.change.new.self in
+    fills_stay g.W.World.honest g.W.World.repository c.args.path.now c.args.name.now c.requires.there.0 c.args.content.now (g.F.Files.stored t.files) t.root t.next
+    c.holds.ensures.table c.requires.there.1 c.requires.short (g.F.Files.failures t.files) (g.F.Files.stored then.files) then.root (g.F.Files.failures then.files)
+    c.change.result (c.change.ensures.does c.requires.there.0 c.requires.there.1)

@@ -1,0 +1,155 @@
+//! A content stored for a file in the table of a mount.
+
+ghost use Rattle.std.specs.Prelude.{◌≡◌, ◌≤◌, ◌∷◌, [], ◌++◌, ◌+◌, min, false, if◌then◌else◌, Some, MatchBool, length, IfErr, OnOk, OnErr};
+ghost use Rattle.eden_model.specs.Shown.{node_from};
+ghost use Rattle.eden_model.specs.Trees.{graft};
+ghost use Rattle.eden_overlay_format.specs.Content.{content_most};
+ghost use Rattle.eden_overlay.specs.Held.{with_content, with_entries};
+ghost use Rattle.eden_tree.specs.Directory.{Row};
+ghost use Rattle.eden_tie.specs.Chains.{AreSaved, StaysLoaded, chained, Above};
+ghost use Rattle.eden_tie.specs.Changing.{changed};
+ghost use Rattle.eden_tie.specs.Filing.{leaf};
+ghost use Rattle.eden_tie.specs.Laws.{owned};
+ghost use Rattle.eden_tie.specs.Listings.{listing_of};
+ghost use Rattle.eden_tie.specs.Materialising.{is_own};
+ghost use Rattle.eden_tie.specs.Shown.{shown_in};
+ghost use Rattle.eden_materialise.specs.Faults.{IsStoreFault};
+ghost use Rattle.eden_materialise.specs.Filing.{RefusedBy};
+ghost use Rattle.eden_materialise.specs.Fills.{MayFill, FillsFile};
+ghost use Rattle.eden_materialise.specs.Puts.{AtDirectory};
+ghost use Rattle.eden_materialise.specs.Reforms.{HasFile};
+
+use crate::chain::is_own;
+use crate::entry_change::put_in;
+use crate::fault::told;
+use eden_inode::Inodes;
+use eden_model::{Fault, Name, Origin, World};
+use eden_overlay::{Files, Overlay};
+use eden_tree::{Change, Entry};
+use std::alloc::{Allocator, Global};
+
+/// Where a file's own content is, or would be.
+#[derive(Clone, Copy)]
+struct Place {
+    number: u64,
+    /// Whether it is there: the entry is the mount's own already.
+    own: bool,
+}
+
+fn place_of<A: Allocator>(root: &Entry<A>, path: &[Name], name: &Name) -> Place
+    requires { (w : Row) × HasFile root.now path.now name.now w }
+    ensures number { (w : Row) → HasFile root.now path.now name.now w → result.number ≡ w.number }
+    ensures own { (w : Row) → HasFile root.now path.now name.now w → result.own ≡ is_own w.origin }
+{
+    match root.walk(path) {
+        None => unreachable!(),
+        Some(above) => match above.directory() {
+            None => unreachable!(),
+            Some(dir) => match dir.get(name) {
+                None => unreachable!(),
+                Some(entry) => {
+                    return Place {
+                        number: entry.number,
+                        own: is_own(entry.origin),
+                    };
+                }
+            },
+        },
+    }
+}
+
+/// A copy of a file's entry, as the mount's own.
+fn as_own<A: Allocator>(root: &Entry<A>, path: &[Name], name: &Name) -> Entry<A>
+    requires { (w : Row) × HasFile root.now path.now name.now w }
+    ensures { (w : Row) → HasFile root.now path.now name.now w → result ≡ owned w }
+{
+    match root.walk(path) {
+        None => unreachable!(),
+        Some(above) => match above.directory() {
+            None => unreachable!(),
+            Some(dir) => match dir.get(name) {
+                None => unreachable!(),
+                Some(entry) => {
+                    return Entry {
+                        number: entry.number,
+                        kind: entry.kind,
+                        origin: Origin::Own,
+                        child: None,
+                    };
+                }
+            },
+        },
+    }
+}
+
+/// The content that a file is to have.
+#[derive(Drop)]
+struct Filling<'a> {
+    alloc: Global,
+    path: &'a [Name],
+    name: &'a Name,
+    content: &'a [u8],
+}
+
+impl<A: Allocator, W: World, F: Files<W>> Change<A, Overlay<W, F>> for Filling<'_> {
+    type Output = Result<(), Fault>;
+
+    ghost may = { λ filling overlay x. MayFill W.honest W.repository (F.stored overlay) x filling.path.now filling.name.now filling.content.now };
+
+    ghost does = { λ filling old x new z answer. (w : Row) → HasFile x filling.path.now filling.name.now w → FillsFile W.honest filling.path.now filling.name.now w (F.stored old) (with_content (F.stored old) w.number filling.content.now) x (F.failures old) (F.stored new) z (F.failures new) answer };
+
+    fn change(self, overlay: &mut Overlay<W, F>, entry: &mut Entry<A>) -> Result<(), Fault> {
+        let place = place_of(entry, self.path, self.name);
+        match overlay.put_file(self.alloc, place.number, self.content) {
+            Err(fault) => return Err(told(fault)),
+            Ok(()) => {
+                if place.own {
+                    return Ok(());
+                }
+                let file = as_own(entry, self.path, self.name);
+                match put_in(self.alloc, entry, overlay, self.path, self.name, file) {
+                    Ok(()) => return Ok(()),
+                    Err(fault) => return Err(told(fault)),
+                }
+            }
+        }
+    }
+}
+
+/// Stores a content of at most 2^30 bytes for a file or a link of the loaded directory at a path, under the entry's number.
+/// Where the entry is the mount's own already, nothing else is stored, and memory is as before. Else the file is one that
+/// nothing names yet; then the entry becomes the mount's own: the directory is stored with it so, and the chain above it as
+/// far as it isn't the mount's own; then memory is so.
+///
+/// The tree that is shown has the content there, and is as before elsewhere. Errors: `Overlay` where the device failed, and
+/// `Memory`. Memory is as it was then, and so is what is shown.
+pub fn store_content<A: Allocator + Clone, W: World, F: Files<W>>(
+    inodes: &mut Inodes<A, W, F>,
+    alloc: Global,
+    path: &[Name],
+    name: &Name,
+    content: &[u8],
+) -> Result<(), Fault>
+    requires there { (w : Row) × HasFile inodes.old.root path.now name.now w }
+    requires short { length content.now ≤ content_most }
+    ensures ok { (w : Row) → HasFile inodes.old.root path.now name.now w → AtDirectory path.now inodes.old.root (λ y d. OnOk result (inodes.new.root ≡ (if is_own w.origin then inodes.old.root else chained path.now (changed d name.now (Some (owned w))) inodes.old.root))) }
+    ensures stored { W.honest → (w : Row) → HasFile inodes.old.root path.now name.now w → AtDirectory path.now inodes.old.root (λ y d. OnOk result (MatchBool (is_own w.origin) (F.stored inodes.new.files ≡ with_content (F.stored inodes.old.files) w.number content.now) (Above (with_entries (with_content (F.stored inodes.old.files) w.number content.now) y.number (listing_of (changed d name.now (Some (owned w))))) inodes.old.root path.now (F.stored inodes.new.files)))) }
+    ensures err { OnErr result (inodes.new.root ≡ inodes.old.root) }
+    ensures strays { W.honest → (w : Row) → HasFile inodes.old.root path.now name.now w → OnErr result (RefusedBy (F.stored inodes.old.files) (with_content (F.stored inodes.old.files) w.number content.now) inodes.old.root path.now (F.stored inodes.new.files)) }
+    ensures fault { IfErr result (IsStoreFault (F.failures inodes.old.files) (F.failures inodes.new.files)) }
+    ensures counted { OnOk result (F.failures inodes.new.files ≡ F.failures inodes.old.files) }
+    ensures shown { W.honest → (w : Row) → HasFile inodes.old.root path.now name.now w → OnOk result (shown_in W.repository (F.stored inodes.new.files) inodes.new.root ≡ graft (path.now ++ name.now ∷ []) (leaf (node_from w.kind (Some content.now) false)) (shown_in W.repository (F.stored inodes.old.files) inodes.old.root)) }
+    ensures unseen { W.honest → OnErr result (shown_in W.repository (F.stored inodes.new.files) inodes.new.root ≡ shown_in W.repository (F.stored inodes.old.files) inodes.old.root) }
+    ensures saved { AreSaved inodes.old.root → AreSaved inodes.new.root }
+    ensures stays { StaysLoaded inodes.old.root inodes.new.root }
+    ensures changes { inodes.new.changes ≡ min (inodes.old.changes + 1) u64.MAX }
+    ensures rest { (inodes.new.next ≡ inodes.old.next) × (inodes.new.clock ≡ inodes.old.clock) }
+{
+    inodes.holds();
+    inodes.change(Filling {
+        alloc,
+        path,
+        name,
+        content,
+    })
+}
