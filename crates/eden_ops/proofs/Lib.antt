@@ -11,5 +11,6 @@ pub mod Seeing
 pub mod Reached
 pub mod Answering
 pub mod Looking
+pub mod Listed
 pub mod Origins
 pub mod Fetching
