@@ -1,4 +1,4 @@
--- An entry that was met, and the part of its content.
+-- An entry that was met, the part of its content, and its directory.
 use Rattle.std.proofs.Common.{◌≡◌, ◌≢◌, ◌⊎◌, Bool, true, false, Option, Some, None, sym, refl, ◌∙◌, ap, subst, inl, inr}
 use Rattle.std.proofs.lemmas.Bool.{false≢true}
 use Rattle.std.specs.Option.{is_some, IsSome}
@@ -6,16 +6,19 @@ use Rattle.eden_model.specs.declared.id.Key.{Key}
 use Rattle.eden_model.specs.declared.kind.Kind.TheVariants as kind
 use Rattle.eden_model.specs.Repository.{Repository}
 use Rattle.eden_model.specs.Shown.{node_from}
+use Rattle.eden_model.specs.declared.node.Node.TheVariants.{Dir}
 use Rattle.eden_model.specs.Trees.{Path, Reach}
 use Rattle.eden_overlay.specs.Files.{Stored}
 use Rattle.eden_cache.specs.Cache.{Cache}
 use Rattle.eden_tree.specs.Directory.{Row, child_of}
 use Rattle.eden_tree.specs.Paths.{row_at}
+use Rattle.eden_tie.specs.Loading.{IsAt}
 use Rattle.eden_inode.specs.declared.seen.Seen.{Seen}
 use Rattle.eden_ops.specs.Attempts.{IsSeen, IsShown, Wants}
 use Rattle.eden_ops.specs.Contents.{HasContent}
-use Rattle.eden_ops.specs.Known.{content_known, known_node}
-use Rattle.eden_ops.proofs.Walking.{known_unloaded}
+use Rattle.eden_ops.specs.Known.{content_known, known_node, IsLoadedAt}
+use Rattle.eden_ops.proofs.Meeting.{some_of}
+use Rattle.eden_ops.proofs.Walking.{known_at, known_loaded, known_unloaded}
 
 none_if : {X : Type 0} (o : Option X) (b : Bool) → b ≡ is_some o → b ≡ false → o ≡ None
 none_if None b is off = refl
@@ -47,3 +50,14 @@ module _ (p : Path) (x : Row) (seen : Seen) (s : IsSeen p x seen) where
   ) where
     some_eq : (a b : Row) → Some a ≡ Some b → a ≡ b
     some_eq a b is = cc
+
+  -- its directory, which is loaded or not
+  pub is_loaded : seen.loaded ≡ true → IsLoadedAt p x
+  is_loaded on = let d = some_of (child_of s.row) seen.loaded s.loaded on in known_at x p s.row (Dir true) s.there (known_loaded s.row d.0 d.1)
+
+  pub dir_kind : seen.loaded ≡ false → (seen.loaded ≡ true) ⊎ (seen.kind ≡ kind.Dir) → s.row.kind ≡ kind.Dir
+  dir_kind off (inl on) = absurd (false≢true (sym off ∙ on))
+  dir_kind off (inr dir) = sym s.kind ∙ dir
+
+  pub is_away : seen.loaded ≡ false → (seen.loaded ≡ true) ⊎ (seen.kind ≡ kind.Dir) → IsAt p x seen.origin
+  is_away off dir = record { row = s.row; there = s.there; kind = dir_kind off dir; unloaded = away off; origin = sym s.origin }

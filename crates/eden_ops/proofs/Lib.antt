@@ -11,6 +11,7 @@ pub mod Seeing
 pub mod Reached
 pub mod Answering
 pub mod Looking
+pub mod Listed
 pub mod Origins
 pub mod Fetching
 pub mod Saving

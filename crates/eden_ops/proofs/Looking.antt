@@ -1,6 +1,6 @@
 -- The looks, one by one.
-use Rattle.std.proofs.Common.{◌≡◌, ◌≢◌, ◌⊎◌, ◌==◌, ℕ, Bool, true, false, nat_lt, List, [], length, take, drop, Option, Some, None, sym, refl, subst, inl, inr}
-use Rattle.eden_model.specs.declared.errno.Errno.TheVariants.{EINVAL, EISDIR}
+use Rattle.std.proofs.Common.{◌≡◌, ◌≢◌, ◌⊎◌, ◌==◌, ◌||◌, ℕ, Bool, true, false, nat_lt, List, [], length, take, drop, Option, Some, None, sym, refl, subst, inl, inr}
+use Rattle.eden_model.specs.declared.errno.Errno.TheVariants.{EINVAL, EISDIR, ENOTDIR}
 use Rattle.eden_model.specs.declared.id.ObjKind.TheVariants as objects
 use Rattle.eden_model.specs.declared.kind.Kind.{Kind}
 use Rattle.eden_model.specs.declared.kind.Kind.TheVariants as kind
@@ -9,10 +9,10 @@ use Rattle.eden_model.specs.declared.node.Node.TheVariants.{File}
 use Rattle.eden_model.specs.declared.request.Request.TheVariants as ask
 use Rattle.eden_model.specs.declared.reply.Reply.{Reply}
 use Rattle.eden_model.specs.declared.reply.Reply.TheVariants as say
-use Rattle.eden_model.specs.Operations.{Says, Whether, Unless, Into, At, Reads, ReadsLink, Stats, Replies, kind_of}
-use Rattle.eden_model.specs.Limits.{most_data}
+use Rattle.eden_model.specs.Operations.{Says, Whether, Unless, Into, At, OnDir, Reads, ReadsLink, Stats, Lists, Replies, kind_of}
+use Rattle.eden_model.specs.Limits.{most_data, most_entries}
 use Rattle.eden_model.specs.Shown.{node_from}
-use Rattle.eden_model.specs.Trees.{Path, Tree}
+use Rattle.eden_model.specs.Trees.{Name, Path, Tree}
 use Rattle.eden_ops.specs.Attempts.{object_kind}
 use Rattle.eden_ops.proofs.Answering.{Asks}
 
@@ -57,6 +57,11 @@ refuses_read G p offset count many = subst (λ (b : Bool). Unless b EINVAL (At G
 
 abbrev pub IsPlain : Kind → Type 0
 IsPlain k = (k ≡ kind.File) ⊎ (k ≡ kind.Exec)
+
+pub no_dir : (k : Kind) → (k ≡ kind.File) ⊎ ((k ≡ kind.Exec) ⊎ (k ≡ kind.Link)) → k ≢ kind.Dir
+no_dir k (inl a) is = cc
+no_dir k (inr (inl a)) is = cc
+no_dir k (inr (inr a)) is = cc
 
 pub plain_other : (k : Kind) → IsPlain k → k ≢ kind.Dir
 plain_other k (inl a) is = cc
@@ -156,3 +161,34 @@ stats_lost kind.File c l r other lost h = subst (λ (o : Option (List ℕ)). Int
 stats_lost kind.Exec c l r other lost h = subst (λ (o : Option (List ℕ)). Into o (λ bytes. say.Stat kind.Exec (length bytes)) r) lost h
 stats_lost kind.Link c l r other lost h = subst (λ (o : Option (List ℕ)). Into o (λ bytes. say.Stat kind.Link (length bytes)) r) lost h
 stats_lost kind.Dir c l r other lost h = absurd (other refl)
+
+-- ---- list
+
+abbrev pub lists : Path → Option Name → ℕ → Tree → Node → Reply → Type 0
+lists p after limit G n = Lists G p after limit n
+
+module _ (p : Path) (after : Option Name) (limit : ℕ) where
+  abbrev Limited : Bool → Tree → Reply → Type 0
+  Limited b G r = Unless b EINVAL (At G p (Lists G p after limit)) r
+
+  pub asks_list : (limit == 0) ≡ false → nat_lt most_entries limit ≡ false → Asks (ask.List p after limit) p (lists p after limit)
+  asks_list some few = record {
+    says = λ G r h. subst (λ (b : Bool). Limited (b || nat_lt most_entries limit) G r) (sym some) (subst (λ (b : Bool). Limited b G r) (sym few) h);
+    only = λ G r h. subst (λ (b : Bool). Limited b G r) few (subst (λ (b : Bool). Limited (b || nat_lt most_entries limit) G r) some h);
+    at = λ G. refl;
+    plain = λ x is. cc;
+    quiet = λ G. refl;
+  }
+
+pub lists_other : (P : Reply → Type 0) (k : Kind) (c : Option (List ℕ)) (l : Bool) → k ≢ kind.Dir → OnDir P (node_from k c l) (say.Err ENOTDIR)
+lists_other P kind.File c l other = refl
+lists_other P kind.Exec c l other = refl
+lists_other P kind.Link c l other = refl
+lists_other P kind.Dir c l other = absurd (other refl)
+
+-- .. of a directory that isn't loaded
+pub lists_away : (P : Reply → Type 0) (k : Kind) (c : Option (List ℕ)) (r : Reply) → k ≡ kind.Dir → ¬ OnDir P (node_from k c false) r
+lists_away P kind.File c r is h = cc
+lists_away P kind.Exec c r is h = cc
+lists_away P kind.Link c r is h = cc
+lists_away P kind.Dir c r is h = h

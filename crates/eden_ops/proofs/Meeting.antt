@@ -61,7 +61,7 @@ shorter (n ∷ p) (suc i) (suc j) x y le at =
     let z = shorter p i j two.0 y (omega arith) two.1.1 in
     (z.0, ap (option_and_then (λ (d : Directory). option_and_then (row_at (take i p)) (find_row n d.rows))) one.1.0 ∙ ap (option_and_then (row_at (take i p))) two.1.0 ∙ z.1)
 
-some_of : {X : Type 0} (o : Option X) (b : Bool) → b ≡ is_some o → b ≡ true → (x : X) × (o ≡ Some x)
+pub some_of : {X : Type 0} (o : Option X) (b : Bool) → b ≡ is_some o → b ≡ true → (x : X) × (o ≡ Some x)
 some_of None b is t = cc
 some_of (Some x) b is t = (x, refl)
 

@@ -1,18 +1,19 @@
 -- What is met on the tree that is shown.
-use Rattle.std.proofs.Common.{◌≡◌, ◌⊎◌, Option, Some, None, Result, Ok, Err, sym, refl, ◌∙◌, ap, inl, inr}
+use Rattle.std.proofs.Common.{◌≡◌, ◌⊎◌, Option, Some, None, Result, Ok, Err, sym, refl, ◌∙◌, ap, subst, inl, inr}
 use Rattle.eden_model.specs.declared.errno.Errno.{Errno}
 use Rattle.eden_model.specs.declared.node.Node.{Node}
 use Rattle.eden_model.specs.declared.world.World.{Ghosts}
 use Rattle.eden_model.specs.Trees.{Path, Tree, Walk, Passes, Stops, Unlisted, walk, Fails, Absent, Here, ends, reach}
 use Rattle.eden_overlay.specs.declared.files.Files.{Ghosts as Files}
 use Rattle.eden_cache.specs.Cache.{Cache}
+use Rattle.eden_tree.specs.Paths.{row_at}
 use Rattle.eden_tie.specs.ShownLaws.{AreDirectories, ShowsBelow, ShowsAbsent}
 use Rattle.eden_inode.specs.declared.seen.Seen.{Seen}
 use Rattle.eden_inode.specs.Tables.{Table}
 use Rattle.eden_ops.specs.declared.answer.Stop.{Stop}
 use Rattle.eden_ops.specs.declared.answer.Stop.TheVariants as stop
 use Rattle.eden_ops.specs.declared.answer.Walked.TheVariants as walked
-use Rattle.eden_ops.specs.Attempts.{Meets, MeetsShown, EndsShown}
+use Rattle.eden_ops.specs.Attempts.{IsSeen, IsShown, Meets, MeetsShown, EndsShown}
 use Rattle.eden_ops.specs.Keeping.{shows}
 use Rattle.eden_ops.specs.Known.{known}
 use Rattle.eden_ops.proofs.Seeing.{shown_there, meets_error, meets_absent, meets_here}
@@ -39,6 +40,14 @@ module _ {W F : Type 0} (w : Ghosts W) (f : Files F W) (p : Path) (s t : Table F
     met_shown (Err (stop.Errs e)) h = ap (λ (G : Tree). reach G p) (sym same) ∙ meets_error below missing w.repository (f.stored t.files) t.root dirs p e h
     met_shown (Err (stop.Needs k)) h = tt
     met_shown (Err (stop.Faults e)) h = tt
+
+-- the entry that was met
+module _ {W F : Type 0} (w : Ghosts W) (f : Files F W) (p : Path) (s t : Table F) (d : Cache) (o : Option Seen) (seen : Seen) (is : o ≡ Some seen) where
+  pub seen_at : Meets w f p s t d (Ok o) → IsSeen p t.root seen
+  seen_at h = subst (λ (a : Option Seen). Meets w f p s t d (Ok a)) is h
+
+  pub shown_at : (w.honest → MeetsShown w f p s t (Ok o)) → w.honest → IsShown w.repository (f.stored t.files) (row_at p t.root) (reach (shows w f s) p)
+  shown_at h honest = subst (λ (a : Option Seen). MeetsShown w f p s t (Ok a)) is (h honest)
 
 -- a walk that meets its path passes, and one that meets an error stops
 passes_of : (G : Tree) (p : Path) (w : Walk) (o : Option Node) → (ends w o ≡ Absent) ⊎ ((n : Node) × (ends w o ≡ Here n)) → w ≡ Passes

@@ -105,7 +105,7 @@ module _ (below : ShowsBelow) (missing : ShowsAbsent) (R : Repository) (F : Stor
   dir_true kind.Link c l is up = cc
   dir_true kind.Dir c l is up = ap Dir up
 
-  shown_dir : (p : Path) (y : Row) (d : Directory) → row_at p x ≡ Some y → child_of y ≡ Some d → G p ≡ Some (Dir true)
+  pub shown_dir : (p : Path) (y : Row) (d : Directory) → row_at p x ≡ Some y → child_of y ≡ Some d → G p ≡ Some (Dir true)
   shown_dir p y d at holds =
       let h = shown_there p y at in
       h.1.0 ∙ ap (λ (n : Node). Some n) (h.1.1.is ∙ dir_true y.kind (content_with R (own_files F) (source_of y.number y.origin)) h.1.1.listed (dirs y d (place_at p x y at) holds) (h.1.1.loaded (subst (λ (o : Option Directory). IsSome o) (sym holds) refl)).1)

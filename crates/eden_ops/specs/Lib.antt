@@ -3,6 +3,7 @@ pub mod Caches
 pub mod Keeping
 pub mod Faults
 pub mod Contents
+pub mod Listings
 pub mod Attempts
 pub mod Laws
 pub mod Changes

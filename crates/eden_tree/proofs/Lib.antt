@@ -1,4 +1,5 @@
 pub mod CallerLemmas
+pub mod Behind
 pub mod Children
 pub mod Halving
 pub mod NameOrder

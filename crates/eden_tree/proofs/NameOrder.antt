@@ -30,6 +30,9 @@ same-greater m n h = bytes_eq_is_cmp n m ∙ ap is_eq (turned m n ∙ ap orderin
 pub lt-less : (m n : Name) → order m n ≡ Less → name_lt n m ≡ false
 lt-less m n h = ap is_lt (turned m n ∙ ap ordering_reverse h)
 
+pub lt-equal : (m n : Name) → order m n ≡ Equal → name_lt n m ≡ false
+lt-equal m n h = ap is_lt (turned m n ∙ ap ordering_reverse h)
+
 pub lt-greater : (m n : Name) → order m n ≡ Greater → name_lt n m ≡ true
 lt-greater m n h = ap is_lt (turned m n ∙ ap ordering_reverse h)
 

@@ -1,10 +1,11 @@
-ghost use Rattle.std.specs.Prelude.{◌≡◌, ◌<◌, ◌≤◌, ◌^◌, ℕ, List, [], ◌∷◌, false, length, min, slice_get, IfSome, IfNone, IfErr, OnOk, OnErr, IsSome, IsSomeAnd, Some, None};
+ghost use Rattle.std.specs.Prelude.{◌≡◌, ◌<◌, ◌≤◌, ◌^◌, ℕ, List, [], ◌∷◌, false, length, drop, filter, min, slice_get, IfSome, IfNone, IfErr, OnOk, OnErr, IsSome, IsSomeAnd, Some, None};
 ghost use Rattle.std.specs.Borrow.{sem};
 ghost use Rattle.std.specs.Map.{keys_of};
 ghost use Rattle.std.specs.Option.{option_copied, option_copied_mut, option_map, option_and_then};
 ghost use Rattle.eden_tree.specs.Directory.{child_of, with_child};
 ghost use Rattle.eden_tree.specs.Rows.{find_row, put_row, drop_row, change_row, set_row};
 ghost use Rattle.eden_model.specs.Named.{AreRising};
+ghost use Rattle.eden_model.specs.Operations.{name_lt};
 ghost use Rattle.eden_tree.specs.Paths.{directory_at, depth_of};
 
 use crate::search::{place, search};
@@ -212,6 +213,17 @@ impl<A: Allocator> Dir<A> {
         match found.place {
             Ok(i) => (Some(i as u32), found.compared),
             Err(_) => (None, found.compared),
+        }
+    }
+
+    /// The position of the first entry of a greater name, in byte order of names: how many entries have none.
+    pub fn behind(&self, name: &Name) -> u32
+        ensures within { result ≤ length self.now.rows }
+        ensures greater { drop result self.now.rows ≡ filter (λ r. name_lt name.now r.0) self.now.rows }
+    {
+        match place(&self.items, name) {
+            Ok(i) => i as u32 + 1,
+            Err(i) => i as u32,
         }
     }
 

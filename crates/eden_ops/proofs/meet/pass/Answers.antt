@@ -1,9 +1,8 @@
-use Rattle.std.proofs.Common.{◌≡◌, ◌⊎◌, ◌<◌, length, take, refl, sym, ◌∙◌, subst, inl, inr, arith}
-use Rattle.eden_model.specs.declared.kind.Kind.{Kind}
-use Rattle.eden_model.specs.declared.kind.Kind.TheVariants as kind
+use Rattle.std.proofs.Common.{◌≡◌, ◌<◌, length, take, refl, sym, ◌∙◌, subst, arith}
 use Rattle.eden_ops.specs.Keeping.{same}
 use Rattle.eden_ops.specs.Known.{IsLoadedAt}
 use Rattle.eden_ops.proofs.Finding.{finds_on}
+use Rattle.eden_ops.proofs.Looking.{no_dir}
 use Rattle.eden_ops.proofs.Meeting.{seen_here, absent_here, ends_absent, ends_file, is_at, ends_unlisted}
 use Rattle.eden_ops.proofs.Rounds.{last_after, walk_after, meets_err, counted_above}
 use Rattle.eden_ops.proofs.Steps.{keeps_on, looks}
@@ -42,18 +41,13 @@ pub returns-then-seen-clause-keeps : goal.returns-then-seen-clause-keeps
 returns-then-seen-clause-keeps g c =
     keeps_on g.W.World g.F.Files c.args.inodes.now c.fronts.inodes c.look-seen.new.self c.fronts.invariant.keeps (looks g.W.World g.F.Files c.fronts.inodes c.look-seen.new.self c.args.path.now c.look-seen.ensures.stamped)
 
-other_kind : (k : Kind) → (k ≡ kind.File) ⊎ ((k ≡ kind.Exec) ⊎ (k ≡ kind.Link)) → k ≡ kind.Dir → ⊥
-other_kind k (inl a) is = cc
-other_kind k (inr (inl a)) is = cc
-other_kind k (inr (inr a)) is = cc
-
 pub returns-in-File : goal.returns-in-File
 returns-in-File g c =
     let last = last_after g.W.World g.F.Files c.args.path.now c.fronts.inodes c.look-seen.new.self c.look-seen.result c.look-seen.ensures.stamped c.look-seen.ensures.last in
     let le = last.names in
     let a = c.if-seen-path.false in
     record {
-      meets = ends_file c.args.path.now c.look-seen.new.self.root c.look-seen.result last c.if-seen.false (omega (arith, le, a)) (other_kind c.look-seen.result.kind c.in-File.is);
+      meets = ends_file c.args.path.now c.look-seen.new.self.root c.look-seen.result last c.if-seen.false (omega (arith, le, a)) (no_dir c.look-seen.result.kind c.in-File.is);
       keeps = keeps_on g.W.World g.F.Files c.args.inodes.now c.fronts.inodes c.look-seen.new.self c.fronts.invariant.keeps (looks g.W.World g.F.Files c.fronts.inodes c.look-seen.new.self c.args.path.now c.look-seen.ensures.stamped);
       cache = c.fronts.invariant.cache;
     }

@@ -19,15 +19,10 @@ use Rattle.eden_ops.specs.Keeping.{shows}
 use Rattle.eden_ops.proofs.Answering.{walk_ended, says_absent, says_here, says_at, replied, lacked}
 use Rattle.eden_ops.proofs.Fetching.{has_content, shown_kind, known_lost}
 use Rattle.eden_ops.proofs.Finding.{finds_on, still_stocked}
-use Rattle.eden_ops.proofs.Looking.{stats, asks_stat, stats_dir, stats_some, stats_lost}
+use Rattle.eden_ops.proofs.Looking.{no_dir, stats, asks_stat, stats_dir, stats_some, stats_lost}
 use Rattle.eden_ops.proofs.Rounds.{lacks_since}
 use Rattle.eden_ops.proofs.Steps.{keeps_on}
 use Rattle.eden_ops.proofs.sizes.stat.Goals as goal
-
-file_not_dir : (told : Kind) → (told ≡ kind.File) ⊎ ((told ≡ kind.Exec) ⊎ (told ≡ kind.Link)) → told ≢ kind.Dir
-file_not_dir told (inl a) dir = cc
-file_not_dir told (inr (inl a)) dir = cc
-file_not_dir told (inr (inr a)) dir = cc
 
 pub returns-in-Err-clause-attempts : goal.returns-in-Err-clause-attempts
 returns-in-Err-clause-attempts g c =
@@ -72,7 +67,7 @@ returns-in-Err-size-clause-attempts g c =
     let shown : g.W.World.honest → IsShown R F (row_at p t.root) (reach (shows g.W.World g.F.Files s) p) = λ h. subst (λ (o : Option Seen). MeetsShown g.W.World g.F.Files p s t (Ok o)) c.in-Ok-Some.field-0-is (e.shown h) in
     let u = c.size.new.inodes in
     let b = c.size.ensures in
-    let other = c.what-kind.ensures.other (file_not_dir c.what-kind.result c.in-File.is) in
+    let other = c.what-kind.ensures.other (no_dir c.what-kind.result c.in-File.is) in
     let at : row_at p u.root ≡ Some seen.row = ap (row_at p) b.still ∙ seen.there in
     subst (λ (a : Attempt). Attempts g.W.World g.F.Files (ask.Stat c.args.path.now) s u c.args.cache.now c.size.new.cache a) (sym c.ended-in-Err-size.ensures)
     (lacked g.W.World g.F.Files (ask.Stat c.args.path.now) p stats (asks_stat c.args.path.now) s u c.args.cache.now c.size.new.cache (λ h. b.same h ∙ e.same h) (keeps_on g.W.World g.F.Files s t u e.keeps b.keeps)
@@ -80,7 +75,7 @@ returns-in-Err-size-clause-attempts g c =
     (λ k is.
     let wants = subst (λ (z : Stop). Lacks g.W.World g.F.Files p t u c.size.new.cache z) is c.in-Err-size.ensures.lacks in
     let lost = known_lost p u.root c.in-Ok-Some.seen (record { row = seen.row; there = at; number = seen.number; kind = seen.kind; origin = seen.origin; loaded = seen.loaded }) c.size.new.cache k other.0 wants in (
-      λ r h. stats_lost seen.row.kind (content_known seen.row.origin) false r (λ dir. file_not_dir c.what-kind.result c.in-File.is (sym other.1 ∙ seen.kind ∙ dir)) lost.1 (subst (λ (n : Node). Stats n r) lost.0 h),
+      λ r h. stats_lost seen.row.kind (content_known seen.row.origin) false r (λ dir. no_dir c.what-kind.result c.in-File.is (sym other.1 ∙ seen.kind ∙ dir)) lost.1 (subst (λ (n : Node). Stats n r) lost.0 h),
       λ x y blob. b.unkept k (c.in-Err-size.is ∙ ap Err is),
     )) (lacks_since g.W.World g.F.Files p s t u c.size.new.cache e.keeps c.in-Err-size.stop c.in-Err-size.ensures.lacks))
 
@@ -102,7 +97,7 @@ returns-in-Ok-clause-attempts g c =
     let shown : g.W.World.honest → IsShown R F (row_at p t.root) (reach (shows g.W.World g.F.Files s) p) = λ h. subst (λ (o : Option Seen). MeetsShown g.W.World g.F.Files p s t (Ok o)) c.in-Ok-Some.field-0-is (e.shown h) in
     let u = c.size.new.inodes in
     let b = c.size.ensures in
-    let other = c.what-kind.ensures.other (file_not_dir c.what-kind.result c.in-File.is) in
+    let other = c.what-kind.ensures.other (no_dir c.what-kind.result c.in-File.is) in
     let had = c.in-Ok.ensures.ok in
     let told : c.what-kind.result ≡ seen.row.kind = sym other.1 ∙ seen.kind in
     replied g.W.World g.F.Files (ask.Stat c.args.path.now) p stats (asks_stat c.args.path.now) s u c.args.cache.now c.size.new.cache (λ h. b.same h ∙ e.same h) (keeps_on g.W.World g.F.Files s t u e.keeps b.keeps)
@@ -111,7 +106,7 @@ returns-in-Ok-clause-attempts g c =
     (λ listed.
     let has = had h seen.row seen.there in
     subst (λ (r : Reply). Stats (shown_node R F seen.row listed) r) (ap (λ (k : Kind). say.Stat k (length has.0)) (sym told) ∙ ap (say.Stat c.what-kind.result) (sym has.1.1))
-    (stats_some seen.row.kind (content_with R (own_files F) (source_of seen.row.number seen.row.origin)) listed has.0 (λ dir. file_not_dir c.what-kind.result c.in-File.is (told ∙ dir)) has.1.0)))
+    (stats_some seen.row.kind (content_with R (own_files F) (source_of seen.row.number seen.row.origin)) listed has.0 (λ dir. no_dir c.what-kind.result c.in-File.is (told ∙ dir)) has.1.0)))
 
 pub size-requires-clause-content : goal.size-requires-clause-content
 size-requires-clause-content g c =
@@ -123,8 +118,8 @@ size-requires-clause-content g c =
     let F = g.F.Files.stored t.files in
     let seen = subst (λ (o : Option Seen). Meets g.W.World g.F.Files p s t c.meet.new.cache (Ok o)) c.in-Ok-Some.field-0-is e.meets in
     let shown : g.W.World.honest → IsShown R F (row_at p t.root) (reach (shows g.W.World g.F.Files s) p) = λ h. subst (λ (o : Option Seen). MeetsShown g.W.World g.F.Files p s t (Ok o)) c.in-Ok-Some.field-0-is (e.shown h) in
-    let other = c.what-kind.ensures.other (file_not_dir c.what-kind.result c.in-File.is) in
-    has_content p t.root c.in-Ok-Some.seen seen t.root refl (λ dir. file_not_dir c.what-kind.result c.in-File.is (sym other.1 ∙ dir))
+    let other = c.what-kind.ensures.other (no_dir c.what-kind.result c.in-File.is) in
+    has_content p t.root c.in-Ok-Some.seen seen t.root refl (λ dir. no_dir c.what-kind.result c.in-File.is (sym other.1 ∙ dir))
 
 pub size-requires-clause-stocked : goal.size-requires-clause-stocked
 size-requires-clause-stocked g c = still_stocked g.W.World.repository g.W.World.honest c.args.cache.now c.meet.new.cache c.meet.ensures.cache c.requires

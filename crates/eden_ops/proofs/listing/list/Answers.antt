@@ -1,0 +1,122 @@
+use Rattle.std.proofs.Common.{◌≡◌, true, Option, Some, Ok, sym, refl, subst, ap, ◌∙◌}
+use Rattle.std.proofs.lemmas.Bool.{le-ltb, ne_eqb}
+use Rattle.eden_model.specs.declared.errno.Errno.TheVariants.{ENOTDIR}
+use Rattle.eden_model.specs.declared.fault.Fault.TheVariants as fault
+use Rattle.eden_model.specs.declared.node.Node.{Node}
+use Rattle.eden_model.specs.declared.reply.Reply.TheVariants as say
+use Rattle.eden_model.specs.declared.request.Request.TheVariants as ask
+use Rattle.eden_model.specs.Histories.{fault_of}
+use Rattle.eden_model.specs.Operations.{IsListing, Lists, ListsSome}
+use Rattle.eden_model.specs.Repository.{source_of, content_with}
+use Rattle.eden_model.specs.Trees.{Tree, Here, reach}
+use Rattle.eden_model.specs.declared.node.Node.TheVariants.{Dir}
+use Rattle.eden_overlay.specs.Held.{own_files}
+use Rattle.eden_tree.specs.Paths.{row_at}
+use Rattle.eden_inode.specs.declared.seen.Seen.{Seen}
+use Rattle.eden_ops.specs.declared.answer.Attempt.{Attempt}
+use Rattle.eden_ops.specs.Attempts.{Attempts, MeetsShown}
+use Rattle.eden_ops.specs.Keeping.{shows, same}
+use Rattle.eden_ops.specs.Known.{content_known, known}
+use Rattle.eden_ops.proofs.Answering.{walk_ended, says_absent, says_here, faulted, replied, lacked}
+use Rattle.eden_ops.proofs.Fetching.{away, dir_kind}
+use Rattle.eden_ops.proofs.Finding.{finds_on}
+use Rattle.eden_ops.proofs.Listed.{page_told}
+use Rattle.eden_ops.proofs.Looking.{no_dir, lists, asks_list, lists_other, lists_away}
+use Rattle.eden_ops.proofs.Reached.{seen_at, shown_at}
+use Rattle.eden_ops.proofs.Rounds.{lacks_since}
+use Rattle.eden_ops.proofs.Steps.{keeps_on}
+use Rattle.eden_ops.proofs.Walking.{known_unloaded}
+use Rattle.eden_ops.proofs.listing.list.Goals as goal
+
+pub returns-then-limit-eq0-clause-keeps : goal.returns-then-limit-eq0-clause-keeps
+returns-then-limit-eq0-clause-keeps g c = same
+
+pub returns-in-Err-clause-attempts : goal.returns-in-Err-clause-attempts
+returns-in-Err-clause-attempts g c =
+    let p = c.args.path.now in
+    let q = ask.List p c.args.after.now c.args.limit in
+    let s = c.args.inodes.now in
+    let t = c.meet.new.inodes in
+    let e = c.in-Err.ensures in
+    subst (λ (a : Attempt). Attempts g.W.World g.F.Files q s t c.args.cache.now c.meet.new.cache a) (sym c.ended.ensures)
+    (walk_ended g.W.World g.F.Files q p (lists p c.args.after.now c.args.limit) (asks_list p c.args.after.now c.args.limit (ne_eqb c.args.limit 0 c.if-limit-eq0.false) (le-ltb 1000 c.args.limit c.if-limit-gt-MAX_ENTRIES.false)) s t c.args.cache.now c.meet.new.cache e.same e.keeps e.cache c.in-Err.stop e.meets e.shown)
+
+pub returns-in-Ok-None-clause-attempts : goal.returns-in-Ok-None-clause-attempts
+returns-in-Ok-None-clause-attempts g c =
+    let p = c.args.path.now in
+    let s = c.args.inodes.now in
+    let t = c.meet.new.inodes in
+    let e = c.in-Ok-None.ensures in
+    says_absent g.W.World g.F.Files (ask.List p c.args.after.now c.args.limit) p (lists p c.args.after.now c.args.limit) (asks_list p c.args.after.now c.args.limit (ne_eqb c.args.limit 0 c.if-limit-eq0.false) (le-ltb 1000 c.args.limit c.if-limit-gt-MAX_ENTRIES.false)) s t c.args.cache.now c.meet.new.cache e.same e.keeps e.cache
+    (λ h. subst (λ (o : Option Seen). MeetsShown g.W.World g.F.Files p s t (Ok o)) c.in-Ok-None.field-0-is (e.shown h))
+
+pub returns-in-File : goal.returns-in-File
+returns-in-File g c =
+    let p = c.args.path.now in
+    let s = c.args.inodes.now in
+    let t = c.meet.new.inodes in
+    let e = c.in-Ok-Some.ensures in
+    let seen = seen_at g.W.World g.F.Files p s t c.meet.new.cache _ c.in-Ok-Some.seen c.in-Ok-Some.field-0-is e.meets in
+    let shown = shown_at g.W.World g.F.Files p s t c.meet.new.cache _ c.in-Ok-Some.seen c.in-Ok-Some.field-0-is e.shown in
+    let other = c.what.ensures.other (no_dir c.what.result c.in-File.is) in
+    record {
+      attempts = says_here g.W.World g.F.Files (ask.List p c.args.after.now c.args.limit) p (lists p c.args.after.now c.args.limit) (asks_list p c.args.after.now c.args.limit (ne_eqb c.args.limit 0 c.if-limit-eq0.false) (le-ltb 1000 c.args.limit c.if-limit-gt-MAX_ENTRIES.false)) s t c.args.cache.now c.meet.new.cache e.same e.keeps e.cache seen.row seen.there shown (say.Err ENOTDIR) refl
+          (λ h listed. lists_other (ListsSome (shows g.W.World g.F.Files s) p c.args.after.now c.args.limit) seen.row.kind (content_with g.W.World.repository (own_files (g.F.Files.stored t.files)) (source_of seen.row.number seen.row.origin)) listed
+          (λ dir. no_dir c.what.result c.in-File.is (sym other.1 ∙ seen.kind ∙ dir)));
+      keeps = e.keeps;
+    }
+
+pub returns-in-Err-bring_seen-clause-attempts : goal.returns-in-Err-bring_seen-clause-attempts
+returns-in-Err-bring_seen-clause-attempts g c =
+    let p = c.args.path.now in
+    let q = ask.List p c.args.after.now c.args.limit in
+    let s = c.args.inodes.now in
+    let t = c.meet.new.inodes in
+    let u = c.bring_seen.new.inodes in
+    let e = c.in-Ok-Some.ensures in
+    let b = c.bring_seen.ensures in
+    let z = c.in-Err-bring_seen.ensures in
+    let seen = seen_at g.W.World g.F.Files p s t c.meet.new.cache _ c.in-Ok-Some.seen c.in-Ok-Some.field-0-is e.meets in
+    let at : row_at p u.root ≡ Some seen.row = ap (row_at p) z.still ∙ seen.there in
+    subst (λ (a : Attempt). Attempts g.W.World g.F.Files q s u c.args.cache.now c.bring_seen.new.cache a) (sym c.ended-in-Err-bring_seen.ensures)
+    (lacked g.W.World g.F.Files q p (lists p c.args.after.now c.args.limit) (asks_list p c.args.after.now c.args.limit (ne_eqb c.args.limit 0 c.if-limit-eq0.false) (le-ltb 1000 c.args.limit c.if-limit-gt-MAX_ENTRIES.false)) s u c.args.cache.now c.bring_seen.new.cache (λ h. b.same h ∙ e.same h) (keeps_on g.W.World g.F.Files s t u e.keeps b.keeps)
+    (finds_on c.args.cache.now c.meet.new.cache c.bring_seen.new.cache e.cache b.cache) seen.row at c.in-Err-bring_seen.stop (λ x is. cc)
+    (λ k is. (
+      λ r h. lists_away (ListsSome (known u.root) p c.args.after.now c.args.limit) seen.row.kind (content_known seen.row.origin) r (dir_kind p t.root c.in-Ok-Some.seen seen z.away (c.what.ensures.dir c.in-Dir.is))
+          (subst (λ (n : Node). Lists (known u.root) p c.args.after.now c.args.limit n r) (known_unloaded seen.row (away p t.root c.in-Ok-Some.seen seen z.away)) h),
+      λ x y. cc,
+    )) (lacks_since g.W.World g.F.Files p s t u c.bring_seen.new.cache e.keeps c.in-Err-bring_seen.stop z.lacks))
+
+pub returns-in-Err-bring_seen-clause-keeps : goal.returns-in-Err-bring_seen-clause-keeps
+returns-in-Err-bring_seen-clause-keeps g c = keeps_on g.W.World g.F.Files c.args.inodes.now c.meet.new.inodes c.bring_seen.new.inodes c.meet.ensures.keeps c.bring_seen.ensures.keeps
+
+pub returns-in-Err-page_at-clause-attempts : goal.returns-in-Err-page_at-clause-attempts
+returns-in-Err-page_at-clause-attempts g c =
+    let p = c.args.path.now in
+    let s = c.args.inodes.now in
+    let t = c.meet.new.inodes in
+    let u = c.bring_seen.new.inodes in
+    let e = c.in-Ok-Some.ensures in
+    let b = c.bring_seen.ensures in
+    faulted g.W.World g.F.Files (ask.List p c.args.after.now c.args.limit) p (lists p c.args.after.now c.args.limit) (asks_list p c.args.after.now c.args.limit (ne_eqb c.args.limit 0 c.if-limit-eq0.false) (le-ltb 1000 c.args.limit c.if-limit-gt-MAX_ENTRIES.false)) s u c.args.cache.now c.bring_seen.new.cache (λ h. b.same h ∙ e.same h) (keeps_on g.W.World g.F.Files s t u e.keeps b.keeps)
+    (finds_on c.args.cache.now c.meet.new.cache c.bring_seen.new.cache e.cache b.cache) fault.Memory (λ x is. cc)
+
+pub returns-in-Err-page_at-clause-keeps : goal.returns-in-Err-page_at-clause-keeps
+returns-in-Err-page_at-clause-keeps g c = keeps_on g.W.World g.F.Files c.args.inodes.now c.meet.new.inodes c.bring_seen.new.inodes c.meet.ensures.keeps c.bring_seen.ensures.keeps
+
+pub returns-in-Ok-clause-attempts : goal.returns-in-Ok-clause-attempts
+returns-in-Ok-clause-attempts g c =
+    let p = c.args.path.now in
+    let s = c.args.inodes.now in
+    let t = c.meet.new.inodes in
+    let u = c.bring_seen.new.inodes in
+    let e = c.in-Ok-Some.ensures in
+    let b = c.bring_seen.ensures in
+    let had = c.in-Ok.ensures in
+    let alike : g.W.World.honest → shows g.W.World g.F.Files u ≡ shows g.W.World g.F.Files s = λ h. b.same h ∙ e.same h in
+    replied g.W.World g.F.Files (ask.List p c.args.after.now c.args.limit) p (lists p c.args.after.now c.args.limit) (asks_list p c.args.after.now c.args.limit (ne_eqb c.args.limit 0 c.if-limit-eq0.false) (le-ltb 1000 c.args.limit c.if-limit-gt-MAX_ENTRIES.false)) s u c.args.cache.now c.bring_seen.new.cache alike (keeps_on g.W.World g.F.Files s t u e.keeps b.keeps)
+    (finds_on c.args.cache.now c.meet.new.cache c.bring_seen.new.cache e.cache b.cache) c.in-Ok.reply (ap fault_of had.is)
+    (λ h. page_told (shows g.W.World g.F.Files s) p c.args.after.now c.args.limit c.in-Ok.reply had.all had.is (subst (λ (G : Tree). IsListing G p had.all) (alike h) (had.listing h)) (subst (λ (G : Tree). reach G p ≡ Here (Dir true)) (alike h) (had.here h)))
+
+pub returns-in-Ok-clause-keeps : goal.returns-in-Ok-clause-keeps
+returns-in-Ok-clause-keeps g c = keeps_on g.W.World g.F.Files c.args.inodes.now c.meet.new.inodes c.bring_seen.new.inodes c.meet.ensures.keeps c.bring_seen.ensures.keeps
