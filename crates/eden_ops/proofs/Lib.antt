@@ -16,4 +16,4 @@ pub mod Origins
 pub mod Fetching
 pub mod Saving
 pub mod Changing
-pub mod Adding
+pub mod Additions

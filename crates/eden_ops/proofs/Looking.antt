@@ -177,7 +177,6 @@ module _ (p : Path) (after : Option Name) (limit : ℕ) where
     only = λ G r h. subst (λ (b : Bool). Limited b G r) few (subst (λ (b : Bool). Limited (b || nat_lt most_entries limit) G r) some h);
     at = λ G. refl;
     plain = λ x is. cc;
-    quiet = λ G. refl;
   }
 
 pub lists_other : (P : Reply → Type 0) (k : Kind) (c : Option (List ℕ)) (l : Bool) → k ≢ kind.Dir → OnDir P (node_from k c l) (say.Err ENOTDIR)

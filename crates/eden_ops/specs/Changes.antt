@@ -1,5 +1,6 @@
 -- What a change makes of an entry, and what it leaves of a table.
 use Rattle.std.specs.Prelude.{◌≡◌, ◌≢◌, ◌≤◌, ℕ, Bool, true, false, List, [], length}
+use Rattle.std.specs.Borrow.{Bor}
 use Rattle.eden_model.specs.declared.kind.Kind.{Kind}
 use Rattle.eden_model.specs.declared.kind.Kind.TheVariants as kind
 use Rattle.eden_model.specs.declared.request.Request.{Request}
@@ -19,9 +20,9 @@ exec_kind true = kind.Exec
 
 -- the request makes this entry at the path
 pub data IsAdding (p : Path) : Request → NewEntry → Type 0 where
-  file : (content : _) → content.now ≡ [] → IsAdding p (ask.Create p) (new.File false content)
+  file : (content : Bor (List ℕ)) → content.now ≡ [] → IsAdding p (ask.Create p) (new.File false content)
   dir : IsAdding p (ask.Mkdir p) new.Dir
-  link : (target : _) → length target.now ≢ 0 → length target.now ≤ most_target → IsAdding p (ask.Symlink p target.now) (new.Link target)
+  link : (target : Bor (List ℕ)) → length target.now ≢ 0 → length target.now ≤ most_target → IsAdding p (ask.Symlink p target.now) (new.Link target)
 
 module _ {W F : Type 0} (f : Files F W) where
   -- Whatever was answered: what was loaded is, and where no directory was unsaved none is.

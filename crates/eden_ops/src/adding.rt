@@ -91,7 +91,7 @@ pub fn symlink<A: Allocator + Clone, W: World, F: Files<W>, C: Allocator + Clone
     if target.is_empty() {
         return Attempt::Finished(Reply::Err(Errno::ENOENT));
     }
-    if target.len() > MAX_TARGET {
+    if target.len() as u64 > MAX_TARGET {
         return Attempt::Finished(Reply::Err(Errno::ENAMETOOLONG));
     }
     add(inodes, cache, alloc, path, NewEntry::Link(target))

@@ -1,7 +1,8 @@
-use Rattle.std.proofs.Common.{◌≡◌, ◌++◌, ◌∷◌, [], Option, Some, None, Ok, Err, sym, refl, subst, ap, ◌∙◌}
+use Rattle.std.proofs.Common.{◌≡◌, ◌==◌, ℕ, ◌++◌, ◌∷◌, [], Option, Some, None, Ok, Err, sym, refl, subst, ap, ◌∙◌}
 use Rattle.eden_model.specs.declared.errno.Errno.TheVariants.{EEXIST}
 use Rattle.eden_model.specs.declared.reply.Reply.TheVariants as say
 use Rattle.eden_model.specs.Operations.{Meets as Table_Meets, Says}
+use Rattle.eden_model.specs.Paths.{is_root}
 use Rattle.eden_model.specs.Trees.{Tree, Path, Reach, reach, graft}
 use Rattle.eden_tree.specs.Paths.{row_at}
 use Rattle.eden_tie.specs.Filing.{leaf}
@@ -10,7 +11,7 @@ use Rattle.eden_materialise.specs.Filing.{node_as}
 use Rattle.eden_ops.specs.declared.answer.Attempt.{Attempt}
 use Rattle.eden_ops.specs.Attempts.{Attempts, Meets, MeetsShown, IsShown}
 use Rattle.eden_ops.specs.Keeping.{shows}
-use Rattle.eden_ops.proofs.Adding.{adds, asked_add, short_new, lacks_entry, absent_alone, put_new, not_added, add_count, given_more, one_given}
+use Rattle.eden_ops.proofs.Additions.{adds, asked_add, short_new, lacks_entry, absent_alone, put_new, not_added, root_refused, add_count, given_more, one_given}
 use Rattle.eden_ops.proofs.Answering.{walk_ended, says_here}
 use Rattle.eden_ops.proofs.Changing.{not_root, changed}
 use Rattle.eden_ops.proofs.Saving.{keeps_leaves, leaves_changed, no_less}
@@ -84,7 +85,7 @@ returns-in-Err-add_entry-clause-attempts g c q adding =
     let e = c.in-Ok-None.ensures in
     let x = c.in-Err-add_entry.ensures in
     not_added g.W.World g.F.Files c.args.path.now q c.args.new adding s t u c.args.cache.now c.meet.new.cache e.same ((c.keeps_laws.ensures.counts s t e.keeps).1.1.1) e.cache c.in-Err-add_entry.fault x.fault
-    (λ is. x.unused (c.in-Err-add_entry.is ∙ ap Err is)) x.unseen
+    (λ is. x.unused (ap Err is)) x.unseen
 
 pub returns-in-Err-add_entry-clause-leaves : goal.returns-in-Err-add_entry-clause-leaves
 returns-in-Err-add_entry-clause-leaves g c =
@@ -93,3 +94,20 @@ returns-in-Err-add_entry-clause-leaves g c =
     let u = c.add_entry.new.inodes in
     leaves_changed g.W.World g.F.Files c.args.inodes.now t u c.meet.ensures.keeps x.stays x.saved (given_more t.next u.next _ _ x.given) x.rest
     (add_count t.next (g.F.Files.failures t.files) (g.F.Files.failures u.files) c.in-Err-add_entry.fault x.fault)
+
+pub returns-in_default-clause-attempts : goal.returns-in_default-clause-attempts
+returns-in_default-clause-attempts g c q adding =
+    let p = c.args.path.now in
+    let s = c.args.inodes.now in
+    root_refused g.W.World g.F.Files p q c.args.new adding s c.args.cache.now (ap is_root (sym c.as_slice.ensures) ∙ ap (λ (n : ℕ). n == 0) c.in_default.ensures.cases)
+
+pub returns-in-Ok-Some-clause-attempts : goal.returns-in-Ok-Some-clause-attempts
+returns-in-Ok-Some-clause-attempts g c q adding =
+    let p = c.args.path.now in
+    let s = c.args.inodes.now in
+    let t = c.meet.new.inodes in
+    let e = c.in-Ok-Some.ensures in
+    let root = not_root p c.in-Some.above.now c.in-Some.name.now (sym c.as_slice.ensures ∙ c.in-Some.ensures.cases.0) in
+    let seen = subst (λ (o : Option Seen). Meets g.W.World g.F.Files p s t c.meet.new.cache (Ok o)) c.in-Ok-Some.field-0-is e.meets in
+    let shown : g.W.World.honest → IsShown g.W.World.repository (g.F.Files.stored t.files) (row_at p t.root) (reach (shows g.W.World g.F.Files s) p) = λ h. subst (λ (o : Option Seen). MeetsShown g.W.World g.F.Files p s t (Ok o)) c.in-Ok-Some.field-0-is (e.shown h) in
+    says_here g.W.World g.F.Files q p adds (asked_add p root q c.args.new adding) s t c.args.cache.now c.meet.new.cache e.same e.keeps e.cache seen.row seen.there shown (say.Err EEXIST) refl (λ T. refl) (λ h listed. refl)

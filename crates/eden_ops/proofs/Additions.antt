@@ -155,6 +155,12 @@ put_new G p q e adding bare = put_alone G p (leaf (node_as e)) bare (λ n r. ref
 
 -- ---- a refusal
 
+pub root_refused : {W F : Type 0} (w : Ghosts W) (f : Files F W) (p : Path) (q : Request) (e : NewEntry) → IsAdding p q e → (s : Table F) (c : Cache) → is_root p ≡ true → Attempts w f q s s c c (Finished (say.Err EEXIST))
+root_refused w f p q e adding s c root = record {
+  answer = record { reply = λ h x. adds_root p q e (shows w f s) root adding; fault = λ a is. cc; shown = λ h. refl };
+  cache = record { objects = λ k. refl; sizes = λ id. refl };
+}
+
 module _ {W F : Type 0} (w : Ghosts W) (f : Files F W) (p : Path) (q : Request) (e : NewEntry) (adding : IsAdding p q e) (s t u : Table F) (c d : Cache)
     (same : w.honest → shows w f t ≡ shows w f s) (rises : f.failures s.files ≤ f.failures t.files) (cache : FindsTheSame c d) where
   pub not_added : (a : Fault) → IsAddFault t.next (f.failures t.files) (f.failures u.files) a → (a ≡ fault.Numbers → u ≡ t) → (w.honest → shows w f u ≡ shows w f t) → Attempts w f q s u c d (Finished (say.Fault a))
