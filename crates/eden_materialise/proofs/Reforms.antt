@@ -14,11 +14,12 @@ use Rattle.eden_overlay.specs.Files.{Stored}
 use Rattle.eden_tree.specs.Directory.{Row, Directory, child_of}
 use Rattle.eden_tree.specs.Rows.{find_row}
 use Rattle.eden_tree.proofs.CallerLemmas.{same-≡}
+use Rattle.eden_tie.specs.Filing.{HasFile}
 use Rattle.eden_tie.specs.Kept.{IsTable}
 use Rattle.eden_tie.specs.Listings.{stored_entry, listing_of}
 use Rattle.eden_tie.specs.Standing.{MayStand, kept_number}
 use Rattle.eden_tie.proofs.CallerLemmas.{place_at, entry_storable}
-use Rattle.eden_materialise.specs.Reforms.{HasFile, of_kind}
+use Rattle.eden_materialise.specs.Reforms.{of_kind}
 
 -- an entry of a listing that can be stored can be
 pub each_can : (n : Name) (es : List (Name × Row)) (w : Row) → AllByRecursion IsStorable (map stored_entry es) → find_row n es ≡ Some w → IsStorable (stored_entry (n, w))

@@ -45,5 +45,5 @@ pub use Rattle.eden_tie.proofs.Stands.{stands_sound, put_sound, put_can, stands_
 -- files that nothing has as its own
 pub use Rattle.eden_tie.proofs.LooseFiles.{loose_sound, loose_kept, loose_alike}
 -- the own file of an entry
-pub use Rattle.eden_tie.proofs.Filing.{file_shows, empty_shows, loose_elsewhere}
+pub use Rattle.eden_tie.proofs.Filing.{leaf_puts, file_shows, empty_shows, loose_elsewhere}
 pub use Rattle.eden_tie.proofs.Contents.{content_sound, content_kept, content_grafts}

@@ -1,24 +1,47 @@
 -- What the own file of an entry shows, and that a chain's stores leave it.
-use Rattle.std.proofs.Common.{◌≡◌, ◌≢◌, ℕ, true, false, List, [], ◌∷◌, Some, refl, ap, ◌∙◌}
+use Rattle.std.proofs.Common.{◌≡◌, ◌≢◌, ℕ, true, false, cond, List, [], ◌∷◌, ◌++◌, Option, Some, None, refl, sym, ap, ◌∙◌, append-nil}
 use Rattle.std.proofs.Math.Path.{fun_ext}
 use Rattle.std.specs.Option.{option_map, option_and_then, is_some}
 use Rattle.eden_model.specs.declared.kind.Kind.{Kind}
 use Rattle.eden_model.specs.declared.kind.Kind.TheVariants as kind
 use Rattle.eden_model.specs.declared.kind.Origin.{Origin}
+use Rattle.eden_model.specs.declared.node.Node.{Node}
 use Rattle.eden_model.specs.declared.node.Node.TheVariants as node
+use Rattle.eden_model.specs.Operations.{put}
+use Rattle.eden_model.specs.Paths.{path_eq, behind_of}
 use Rattle.eden_model.specs.Repository.{Repository, Own, source_of}
 use Rattle.eden_model.specs.Shown.{Item, Items, Ground, node_from, shown, map_items}
-use Rattle.eden_model.specs.Trees.{Path}
+use Rattle.eden_model.specs.Trees.{Name, Path, Tree, grafted, graft}
+use Rattle.eden_model.proofs.CallerLemmas.{path_eq-Decides, behind_sound, behind_back}
 use Rattle.eden_overlay.specs.Files.{Stored}
 use Rattle.eden_overlay.specs.Held.{HoldsContent, HoldsEntries, items_of, own_files}
 use Rattle.eden_overlay.proofs.CallerLemmas.{put_apart}
-use Rattle.eden_tie.specs.Filing.{leaf, FileShows, EmptyShows, LooseElsewhere}
+use Rattle.eden_tie.specs.Filing.{leaf, LeafPuts, FileShows, EmptyShows, LooseElsewhere}
 use Rattle.eden_tie.specs.Listings.{top}
 use Rattle.eden_tie.specs.Shown.{TableSource, Away, table_ground}
 use Rattle.eden_tie.proofs.Chain.{place_at}
 use Rattle.eden_tie.proofs.ChainKept.{above_elsewhere}
 use Rattle.eden_tie.proofs.Items.{unloaded_item}
 use Rattle.eden_tie.proofs.LooseFiles.{away}
+
+-- where a path begins with the front and isn't it, there is nothing
+off_front : (F : Tree) (p : Path) (o : Node) → ((n : Name) (q : Path) → F (p ++ n ∷ q) ≡ None) → (q : Path) → path_eq p q ≡ false → (b : Option Path) → behind_of p q ≡ b
+    → grafted b (leaf o) (F q) ≡ F q
+off_front F p o below q off None is = refl
+off_front F p o below q off (Some []) is =
+    let same : path_eq p q ≡ true = (path_eq-Decides p q).1 (sym (behind_sound p q [] is ∙ append-nil p)) in
+    let both : true ≡ false = sym same ∙ off in
+    absurd (cc)
+off_front F p o below q off (Some (n ∷ r)) is = sym (ap F (behind_sound p q (n ∷ r) is) ∙ below n r)
+
+pub leaf_puts : LeafPuts
+leaf_puts F p o below = fun_ext at
+  where
+    at : (q : Path) → grafted (behind_of p q) (leaf o) (F q) ≡ put F p (Some o) q
+    at q = elim (path_eq p q) as (λ b. path_eq p q ≡ b → grafted (behind_of p q) (leaf o) (F q) ≡ cond b (Some o) (F q)) [
+      | true ↦ λ same. ap (λ (r : Option Path). grafted r (leaf o) (F q)) (ap (behind_of p) (sym ((path_eq-Decides p q).0 same) ∙ sym (append-nil p)) ∙ behind_back p [])
+      | false ↦ λ off. off_front F p o below q off (behind_of p q) refl
+    ] refl
 
 module _ (R : Repository) (F : Stored) (j : ℕ) where
   abbrev table : Ground TableSource

@@ -4,6 +4,7 @@ use Rattle.eden_model.specs.declared.kind.Kind.TheVariants as kind
 use Rattle.eden_model.specs.declared.kind.Origin.TheVariants as origin
 use Rattle.eden_model.specs.declared.node.Node.{Node}
 use Rattle.eden_model.specs.declared.node.Node.TheVariants as node
+use Rattle.eden_model.specs.Operations.{put}
 use Rattle.eden_model.specs.Repository.{Repository}
 use Rattle.eden_model.specs.Shown.{node_from}
 use Rattle.eden_model.specs.Trees.{Name, Path, Tree, graft}
@@ -26,6 +27,10 @@ abbrev pub leaf : Node → Tree
 leaf n [] = Some n
 leaf n (m ∷ p) = None
 
+-- In the place of what has nothing below it, it is one node put into the tree, as the table of operations has it.
+abbrev pub LeafPuts : Type 0
+LeafPuts = (F : Tree) (p : Path) (o : Node) → ((n : Name) (q : Path) → F (p ++ n ∷ q) ≡ None) → graft p (leaf o) F ≡ put F p (Some o)
+
 -- a file or a link of its own shows the content of its file
 abbrev pub FileShows : Type 0
 FileShows = (R : Repository) (F : Stored) (w : Row) (content : List ℕ) → w.kind ≢ kind.Dir → w.origin ≡ origin.Own → child_of w ≡ None
@@ -44,8 +49,8 @@ LooseElsewhere = (R : Repository) (F : Stored) (x : Row) (next k : ℕ) → IsTa
 
 -- ---- a content in the place of another
 
--- in the loaded directory at a path the entry of that name is a file or a link of its own
-pub record HasOwnFile (x : Row) (p : Path) (n : Name) (w : Row) : Type 0 where
+-- in the loaded directory at a path the entry of that name is this one, a file or a link that isn't loaded
+pub record HasFile (x : Row) (p : Path) (n : Name) (w : Row) : Type 0 where
   pub row : Row
   pub directory : Directory
   pub at : row_at p x ≡ Some row
@@ -53,19 +58,18 @@ pub record HasOwnFile (x : Row) (p : Path) (n : Name) (w : Row) : Type 0 where
   pub there : find_row n directory.rows ≡ Some w
   pub unloaded : child_of w ≡ None
   pub file : w.kind ≢ kind.Dir
-  pub own : w.origin ≡ origin.Own
 
--- its content may be stored in the place of the old one: the files stay sound, and the table kept
+-- where it is its own, a content may be stored in the place of the old one: the files stay sound, and the table kept
 abbrev pub ContentSound : Type 0
 ContentSound = (R : Repository) (F : Stored) (x : Row) (next : ℕ) (p : Path) (n : Name) (w : Row) (content : List ℕ) → IsTable x next → IsKept R F x next
-    → HasOwnFile x p n w → length content ≤ content_most → AreSound (with_content F w.number content)
+    → HasFile x p n w → w.origin ≡ origin.Own → length content ≤ content_most → AreSound (with_content F w.number content)
 
 abbrev pub ContentKept : Type 0
 ContentKept = (R : Repository) (F : Stored) (x : Row) (next : ℕ) (p : Path) (n : Name) (w : Row) (content : List ℕ) → IsTable x next → IsKept R F x next
-    → HasOwnFile x p n w → length content ≤ content_most → IsKept R (with_content F w.number content) x next
+    → HasFile x p n w → w.origin ≡ origin.Own → length content ≤ content_most → IsKept R (with_content F w.number content) x next
 
 -- it shows there then, and all else is as before
 abbrev pub ContentGrafts : Type 0
 ContentGrafts = (R : Repository) (F : Stored) (x : Row) (next : ℕ) (p : Path) (n : Name) (w : Row) (content : List ℕ) → IsTable x next → IsKept R F x next
-    → HasOwnFile x p n w → length content ≤ content_most
+    → HasFile x p n w → w.origin ≡ origin.Own → length content ≤ content_most
     → shown_in R (with_content F w.number content) x ≡ graft (p ++ n ∷ []) (leaf (node_from w.kind (Some content) false)) (shown_in R F x)

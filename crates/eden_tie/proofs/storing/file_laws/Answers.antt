@@ -1,6 +1,9 @@
-use Rattle.eden_tie.proofs.Filing.{file_shows, empty_shows, loose_elsewhere}
+use Rattle.eden_tie.proofs.Filing.{leaf_puts, file_shows, empty_shows, loose_elsewhere}
 use Rattle.eden_tie.proofs.Contents.{content_sound, content_kept, content_grafts}
 use Rattle.eden_tie.proofs.storing.file_laws.Goals as goal
+
+pub returns-clause-leaf : goal.returns-clause-leaf
+returns-clause-leaf c = leaf_puts
 
 pub returns-clause-file : goal.returns-clause-file
 returns-clause-file c = file_shows
