@@ -18,7 +18,7 @@ use Rattle.eden_overlay.proofs.CallerLemmas.{moved, contents_held}
 use Rattle.eden_tree.specs.Directory.{Row, child_of}
 use Rattle.eden_tie.specs.Chains.{AreSaved, StaysLoaded, chained, Above}
 use Rattle.eden_tie.specs.Changing.{changed}
-use Rattle.eden_tie.specs.Filing.{leaf, HasOwnFile}
+use Rattle.eden_tie.specs.Filing.{leaf, HasFile}
 use Rattle.eden_tie.specs.Kept.{IsTable, IsKept}
 use Rattle.eden_tie.specs.Laws.{owned}
 use Rattle.eden_tie.specs.Listings.{stored_entry, listing_of}
@@ -32,7 +32,6 @@ use Rattle.eden_materialise.specs.Filing.{not_filed, RefusedBy}
 use Rattle.eden_materialise.specs.Fills.{MayFill, FillsFile}
 use Rattle.eden_materialise.specs.Listings.{IsHeldFor}
 use Rattle.eden_materialise.specs.Puts.{AtDirectory}
-use Rattle.eden_materialise.specs.Reforms.{HasFile}
 use Rattle.eden_materialise.proofs.Filing.{files_ok, files_stored, files_err, files_strays, files_fault, files_counted, files_table, files_saved, files_stay, files_kept, files_unseen, files_shown}
 use Rattle.eden_materialise.proofs.Reforms.{each_can}
 
@@ -61,9 +60,6 @@ module _ (honest : Type 0) (R : Repository) (p : Path) (n : Name) (w : Row) (con
   loose : is_own w.origin ≡ false → IsLoose x next w.number
   loose other = other_entry p a.row a.directory n w a.at a.holds a.there a.unloaded (other_then w.origin other) refl
 
-  its_own : is_own w.origin ≡ true → HasOwnFile x p n w
-  its_own own = record { row = a.row; directory = a.directory; at = a.at; holds = a.holds; there = a.there; unloaded = a.unloaded; file = a.file; own = own_then w.origin own }
-
   pub may_fill : (B : Stored) → (honest → B ≡ M) → MayStand honest R B x next p n (Some (owned w))
   may_fill B is =
       let are : AreStorable (listing_of a.directory) = table.listed a.row a.directory (place_at p x a.row a.at) a.holds in
@@ -86,13 +82,13 @@ module _ (honest : Type 0) (R : Repository) (p : Path) (n : Name) (w : Row) (con
   module _ (k : IsKept R F x next) where
     pub fill_sound : AreSound M
     fill_sound = elim (is_own w.origin) as (λ b. is_own w.origin ≡ b → AreSound M) [
-      | true ↦ λ own. content_sound R F x next p n w content table k (its_own own) short
+      | true ↦ λ own. content_sound R F x next p n w content table k a (own_then w.origin own) short
       | false ↦ λ other. loose_sound R F x next w.number _ table k (loose other)
     ] refl
 
     filled_kept : IsKept R M x next
     filled_kept = elim (is_own w.origin) as (λ b. is_own w.origin ≡ b → IsKept R M x next) [
-      | true ↦ λ own. content_kept R F x next p n w content table k (its_own own) short
+      | true ↦ λ own. content_kept R F x next p n w content table k a (own_then w.origin own) short
       | false ↦ λ other. loose_kept R F x next w.number _ table k (loose other)
     ] refl
 
@@ -167,7 +163,7 @@ module _ (honest : Type 0) (R : Repository) (p : Path) (n : Name) (w : Row) (con
       fills_shown (Err e) c = tt
       fills_shown (Ok u) (inl (own, c)) =
           ap (λ (r : Row). shown_in R G r) c.root ∙ ap (λ (H : Stored). shown_in R H x) (c.ok h)
-          ∙ content_grafts R F x next p n w content table k (its_own own) short
+          ∙ content_grafts R F x next p n w content table k a (own_then w.origin own) short
       fills_shown (Ok u) (inr (other, c)) =
           files_shown honest p n (owned w) F M x old G z now R next table may_fill h k (filled_kept k)
           (loose_alike R F x next w.number _ table k (loose other)) shows

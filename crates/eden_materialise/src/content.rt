@@ -8,7 +8,7 @@ ghost use Rattle.eden_overlay.specs.Held.{with_content, with_entries};
 ghost use Rattle.eden_tree.specs.Directory.{Row};
 ghost use Rattle.eden_tie.specs.Chains.{AreSaved, StaysLoaded, chained, Above};
 ghost use Rattle.eden_tie.specs.Changing.{changed};
-ghost use Rattle.eden_tie.specs.Filing.{leaf};
+ghost use Rattle.eden_tie.specs.Filing.{leaf, HasFile};
 ghost use Rattle.eden_tie.specs.Laws.{owned};
 ghost use Rattle.eden_tie.specs.Listings.{listing_of};
 ghost use Rattle.eden_tie.specs.Materialising.{is_own};
@@ -17,7 +17,6 @@ ghost use Rattle.eden_materialise.specs.Faults.{IsStoreFault};
 ghost use Rattle.eden_materialise.specs.Filing.{RefusedBy};
 ghost use Rattle.eden_materialise.specs.Fills.{MayFill, FillsFile};
 ghost use Rattle.eden_materialise.specs.Puts.{AtDirectory};
-ghost use Rattle.eden_materialise.specs.Reforms.{HasFile};
 
 use crate::chain::is_own;
 use crate::entry_change::put_in;

@@ -7,12 +7,12 @@ ghost use Rattle.eden_model.specs.Trees.{graft};
 ghost use Rattle.eden_tree.specs.Directory.{Row};
 ghost use Rattle.eden_tie.specs.Chains.{AreSaved, StaysLoaded, chained};
 ghost use Rattle.eden_tie.specs.Changing.{changed};
-ghost use Rattle.eden_tie.specs.Filing.{leaf, content_shown};
+ghost use Rattle.eden_tie.specs.Filing.{leaf, content_shown, HasFile};
 ghost use Rattle.eden_tie.specs.Shown.{shown_in};
 ghost use Rattle.eden_materialise.specs.Faults.{IsStoreFault};
 ghost use Rattle.eden_materialise.specs.Listings.{ChangesEntry};
 ghost use Rattle.eden_materialise.specs.Puts.{AtDirectory};
-ghost use Rattle.eden_materialise.specs.Reforms.{HasFile, of_kind, IsHeldFile};
+ghost use Rattle.eden_materialise.specs.Reforms.{of_kind, IsHeldFile};
 
 use crate::entry_change::put_in;
 use crate::fault::told;

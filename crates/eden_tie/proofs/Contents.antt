@@ -24,7 +24,7 @@ use Rattle.eden_tree.specs.Rows.{find_row}
 use Rattle.eden_tree.specs.Paths.{row_at}
 use Rattle.eden_tree.proofs.CallerLemmas.{same-≢, same-refl, child_of-with_child, reads_on}
 use Rattle.eden_tie.specs.Changing.{MayGo, changed, with_listing}
-use Rattle.eden_tie.specs.Filing.{leaf, HasOwnFile, ContentSound, ContentKept, ContentGrafts}
+use Rattle.eden_tie.specs.Filing.{leaf, HasFile, ContentSound, ContentKept, ContentGrafts}
 use Rattle.eden_tie.specs.Kept.{IsTable, IsKept}
 use Rattle.eden_tie.specs.Listings.{full_entry, listing_of, full_listing, Place, top}
 use Rattle.eden_tie.specs.Shown.{shown_in}
@@ -62,7 +62,7 @@ same_outside front A B N T outside inside = fun_ext at
     ] refl
 
 module _ (R : Repository) (F : Stored) (x : Row) (next : ℕ) (p : Path) (n : Name) (w : Row) (content : List ℕ) (table : IsTable x next) (k : IsKept R F x next)
-    (a : HasOwnFile x p n w) (short : length content ≤ content_most) where
+    (a : HasFile x p n w) (own_w : w.origin ≡ origin.Own) (short : length content ≤ content_most) where
   abbrev t : Ties F k.full x next
   t = k.ties
 
@@ -85,7 +85,7 @@ module _ (R : Repository) (F : Stored) (x : Row) (next : ℕ) (p : Path) (n : Na
   away = away_row k.full x next t.fits a.row a.directory n w place a.holds a.there a.unloaded
 
   old : (was : List ℕ) × HoldsContent k.full w.number was
-  old = content_there k.full w.number w.kind a.file (t.fits.sound.owned a.row.number (full_entry (n, w)) live names (as_is w a.unloaded ∙ a.own))
+  old = content_there k.full w.number w.kind a.file (t.fits.sound.owned a.row.number (full_entry (n, w)) live names (as_is w a.unloaded ∙ own_w))
 
   least : 2 ≤ w.number
   least = numbers_from_two k.full a.row.number (full_entry (n, w)) names
@@ -183,7 +183,7 @@ module _ (R : Repository) (F : Stored) (x : Row) (next : ℕ) (p : Path) (n : Na
   outside =
       sym (dropped files)
       ∙ by_origin a.row.origin (shown_in R files then ≡ shown_in R F then)
-      (λ other. absurd (not_own_below R F x next table k a.row a.directory n w place a.holds a.there other a.own)) unseen
+      (λ other. absurd (not_own_below R F x next table k a.row a.directory n w place a.holds a.there other own_w)) unseen
       ∙ dropped F
 
   inside : (r : Path) → shown_in R files x (front ++ r) ≡ leaf (node_from w.kind (Some content) false) r
@@ -191,18 +191,18 @@ module _ (R : Repository) (F : Stored) (x : Row) (next : ℕ) (p : Path) (n : Na
       shows_below R files front r x w t.fits.is_dir
       (reads_on p (n ∷ []) x ∙ ap (option_and_then (row_at (n ∷ []))) a.at
       ∙ ap (option_and_then (λ (d : Directory). option_and_then (row_at []) (find_row n d.rows))) a.holds ∙ ap (option_and_then (row_at [])) a.there)
-      ∙ ap (λ (T : Tree). T r) (file_shows R files w content a.file a.own a.unloaded (contents_held F w.number content short))
+      ∙ ap (λ (T : Tree). T r) (file_shows R files w content a.file own_w a.unloaded (contents_held F w.number content short))
 
   grafts : shown_in R files x ≡ graft front (leaf (node_from w.kind (Some content) false)) (shown_in R F x)
   grafts = same_outside front (shown_in R files x) (shown_in R F x) nothing (leaf (node_from w.kind (Some content) false)) outside inside
 
 pub content_kept : ContentKept
-content_kept R F x next p n w content table k a short =
-    record { full = with_content k.full w.number content; ties = content_ties R F x next p n w content table k a short; agrees = k.agrees }
+content_kept R F x next p n w content table k a own_w short =
+    record { full = with_content k.full w.number content; ties = content_ties R F x next p n w content table k a own_w short; agrees = k.agrees }
 
 pub content_sound : ContentSound
-content_sound R F x next p n w content table k a short =
-    ties_sound (with_content F w.number content) (with_content k.full w.number content) x next (content_ties R F x next p n w content table k a short)
+content_sound R F x next p n w content table k a own_w short =
+    ties_sound (with_content F w.number content) (with_content k.full w.number content) x next (content_ties R F x next p n w content table k a own_w short)
 
 pub content_grafts : ContentGrafts
-content_grafts R F x next p n w content table k a short = grafts R F x next p n w content table k a short
+content_grafts R F x next p n w content table k a own_w short = grafts R F x next p n w content table k a own_w short

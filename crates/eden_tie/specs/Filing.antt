@@ -60,8 +60,8 @@ EntryElsewhere = (R : Repository) (F : Stored) (x : Row) (next : ℕ) → IsTabl
 
 -- ---- a content in the place of another
 
--- in the loaded directory at a path the entry of that name is a file or a link of its own
-pub record HasOwnFile (x : Row) (p : Path) (n : Name) (w : Row) : Type 0 where
+-- in the loaded directory at a path the entry of that name is this one, a file or a link that isn't loaded
+pub record HasFile (x : Row) (p : Path) (n : Name) (w : Row) : Type 0 where
   pub row : Row
   pub directory : Directory
   pub at : row_at p x ≡ Some row
@@ -69,19 +69,18 @@ pub record HasOwnFile (x : Row) (p : Path) (n : Name) (w : Row) : Type 0 where
   pub there : find_row n directory.rows ≡ Some w
   pub unloaded : child_of w ≡ None
   pub file : w.kind ≢ kind.Dir
-  pub own : w.origin ≡ origin.Own
 
--- its content may be stored in the place of the old one: the files stay sound, and the table kept
+-- where it is its own, a content may be stored in the place of the old one: the files stay sound, and the table kept
 abbrev pub ContentSound : Type 0
 ContentSound = (R : Repository) (F : Stored) (x : Row) (next : ℕ) (p : Path) (n : Name) (w : Row) (content : List ℕ) → IsTable x next → IsKept R F x next
-    → HasOwnFile x p n w → length content ≤ content_most → AreSound (with_content F w.number content)
+    → HasFile x p n w → w.origin ≡ origin.Own → length content ≤ content_most → AreSound (with_content F w.number content)
 
 abbrev pub ContentKept : Type 0
 ContentKept = (R : Repository) (F : Stored) (x : Row) (next : ℕ) (p : Path) (n : Name) (w : Row) (content : List ℕ) → IsTable x next → IsKept R F x next
-    → HasOwnFile x p n w → length content ≤ content_most → IsKept R (with_content F w.number content) x next
+    → HasFile x p n w → w.origin ≡ origin.Own → length content ≤ content_most → IsKept R (with_content F w.number content) x next
 
 -- it shows there then, and all else is as before
 abbrev pub ContentGrafts : Type 0
 ContentGrafts = (R : Repository) (F : Stored) (x : Row) (next : ℕ) (p : Path) (n : Name) (w : Row) (content : List ℕ) → IsTable x next → IsKept R F x next
-    → HasOwnFile x p n w → length content ≤ content_most
+    → HasFile x p n w → w.origin ≡ origin.Own → length content ≤ content_most
     → shown_in R (with_content F w.number content) x ≡ graft (p ++ n ∷ []) (leaf (node_from w.kind (Some content) false)) (shown_in R F x)
