@@ -5,4 +5,5 @@ pub mod Faults
 pub mod Contents
 pub mod Listings
 pub mod Attempts
+pub mod Looks
 pub mod Laws
