@@ -13,4 +13,5 @@ pub mod Answering
 pub mod Looking
 pub mod Listed
 pub mod Origins
+pub mod Telling
 pub mod Fetching
