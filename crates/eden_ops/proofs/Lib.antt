@@ -13,6 +13,7 @@ pub mod Answering
 pub mod Looking
 pub mod Listed
 pub mod Origins
+pub mod Telling
 pub mod Fetching
 pub mod Saving
 pub mod Changing

@@ -5,5 +5,6 @@ pub mod Faults
 pub mod Contents
 pub mod Listings
 pub mod Attempts
+pub mod Looks
 pub mod Laws
 pub mod Changes

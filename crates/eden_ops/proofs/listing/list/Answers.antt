@@ -7,22 +7,21 @@ use Rattle.eden_model.specs.declared.reply.Reply.TheVariants as say
 use Rattle.eden_model.specs.declared.request.Request.TheVariants as ask
 use Rattle.eden_model.specs.Histories.{fault_of}
 use Rattle.eden_model.specs.Operations.{after, IsListing, Lists, ListsSome}
-use Rattle.eden_model.specs.Repository.{source_of, content_with}
 use Rattle.eden_model.specs.Trees.{Tree, Here, reach}
 use Rattle.eden_model.specs.declared.node.Node.TheVariants.{Dir}
-use Rattle.eden_overlay.specs.Held.{own_files}
 use Rattle.eden_tree.specs.Paths.{row_at}
 use Rattle.eden_inode.specs.declared.seen.Seen.{Seen}
 use Rattle.eden_ops.specs.declared.answer.Attempt.{Attempt}
 use Rattle.eden_ops.specs.Attempts.{Attempts, MeetsShown}
 use Rattle.eden_ops.specs.Keeping.{shows, same}
 use Rattle.eden_ops.specs.Known.{content_known, known}
-use Rattle.eden_ops.proofs.Answering.{walk_ended, says_absent, says_here, faulted, replied, lacked}
+use Rattle.eden_ops.proofs.Answering.{walk_ended, says_absent, faulted, replied, lacked}
 use Rattle.eden_ops.proofs.Fetching.{away, dir_kind}
 use Rattle.eden_ops.proofs.Finding.{finds_on}
 use Rattle.eden_ops.proofs.Listed.{page_told}
+use Rattle.eden_ops.proofs.Telling.{met_tells}
 use Rattle.eden_ops.proofs.Looking.{no_dir, lists, asks_list, lists_other, lists_away}
-use Rattle.eden_ops.proofs.Reached.{seen_at, shown_at}
+use Rattle.eden_ops.proofs.Reached.{seen_at}
 use Rattle.eden_ops.proofs.Rounds.{lacks_since}
 use Rattle.eden_ops.proofs.Steps.{keeps_on}
 use Rattle.eden_ops.proofs.Walking.{known_unloaded}
@@ -52,17 +51,11 @@ returns-in-Ok-None-clause-attempts g c =
 
 pub returns-in-File : goal.returns-in-File
 returns-in-File g c =
-    let p = c.args.path.now in
-    let s = c.args.inodes.now in
-    let t = c.meet.new.inodes in
     let e = c.in-Ok-Some.ensures in
-    let seen = seen_at g.W.World g.F.Files p s t c.meet.new.cache _ c.in-Ok-Some.seen c.in-Ok-Some.field-0-is e.meets in
-    let shown = shown_at g.W.World g.F.Files p s t c.meet.new.cache _ c.in-Ok-Some.seen c.in-Ok-Some.field-0-is e.shown in
     let other = c.what.ensures.other (no_dir c.what.result c.in-File.is) in
     record {
-      attempts = says_here g.W.World g.F.Files (ask.List p c.args.after.now c.args.limit) p (lists p c.args.after.now c.args.limit) (asks_list p c.args.after.now c.args.limit (ne_eqb c.args.limit 0 c.if-limit-eq0.false) (le-ltb 1000 c.args.limit c.if-limit-gt-MAX_ENTRIES.false)) s t c.args.cache.now c.meet.new.cache e.same e.keeps e.cache seen.row seen.there shown (say.Err ENOTDIR) refl (λ T. refl)
-          (λ h listed. lists_other (ListsSome (shows g.W.World g.F.Files s) p c.args.after.now c.args.limit) seen.row.kind (content_with g.W.World.repository (own_files (g.F.Files.stored t.files)) (source_of seen.row.number seen.row.origin)) listed
-          (λ dir. no_dir c.what.result c.in-File.is (sym other.1 ∙ seen.kind ∙ dir)));
+      attempts = met_tells g.W.World g.F.Files c.args.path.now c.args.inodes.now c.meet.new.inodes c.meet.new.cache _ c.in-Ok-Some.seen c.in-Ok-Some.field-0-is e.meets (ask.List c.args.path.now c.args.after.now c.args.limit) (lists c.args.path.now c.args.after.now c.args.limit) (asks_list c.args.path.now c.args.after.now c.args.limit (ne_eqb c.args.limit 0 c.if-limit-eq0.false) (le-ltb 1000 c.args.limit c.if-limit-gt-MAX_ENTRIES.false)) c.args.cache.now e.same e.keeps e.cache e.shown (say.Err ENOTDIR) refl (λ T. refl)
+          (λ k a listed is on. lists_other (ListsSome (shows g.W.World g.F.Files c.args.inodes.now) c.args.path.now c.args.after.now c.args.limit) k a listed (λ dir. no_dir c.what.result c.in-File.is (sym other.1 ∙ sym is ∙ dir)));
       keeps = e.keeps;
     }
 
@@ -115,7 +108,7 @@ returns-in-Ok-clause-attempts g c =
     let had = c.in-Ok.ensures in
     let alike : g.W.World.honest → shows g.W.World g.F.Files u ≡ shows g.W.World g.F.Files s = λ h. b.same h ∙ e.same h in
     replied g.W.World g.F.Files (ask.List p c.args.after.now c.args.limit) p (lists p c.args.after.now c.args.limit) (asks_list p c.args.after.now c.args.limit (ne_eqb c.args.limit 0 c.if-limit-eq0.false) (le-ltb 1000 c.args.limit c.if-limit-gt-MAX_ENTRIES.false)) s u c.args.cache.now c.bring_seen.new.cache alike (keeps_on g.W.World g.F.Files s t u e.keeps b.keeps)
-    (finds_on c.args.cache.now c.meet.new.cache c.bring_seen.new.cache e.cache b.cache) c.in-Ok.reply (ap fault_of had.is) (λ T. ap (after T (ask.List p c.args.after.now c.args.limit)) had.is)
+    (finds_on c.args.cache.now c.meet.new.cache c.bring_seen.new.cache e.cache b.cache) c.in-Ok.reply (ap fault_of had.is) (λ T. ap (after T (ask.List c.args.path.now c.args.after.now c.args.limit)) had.is)
     (λ h. page_told (shows g.W.World g.F.Files s) p c.args.after.now c.args.limit c.in-Ok.reply had.all had.is (subst (λ (G : Tree). IsListing G p had.all) (alike h) (had.listing h)) (subst (λ (G : Tree). reach G p ≡ Here (Dir true)) (alike h) (had.here h)))
 
 pub returns-in-Ok-clause-keeps : goal.returns-in-Ok-clause-keeps

@@ -1,26 +1,21 @@
-use Rattle.std.proofs.Common.{◌≡◌, ◌==◌, ℕ, false, Option, Some, Ok, sym, refl, subst, ap, ◌∙◌, [], inl, inr}
+use Rattle.std.proofs.Common.{◌≡◌, ◌==◌, ℕ, false, Option, Ok, sym, refl, subst, ap, ◌∙◌, [], inl, inr}
 use Rattle.std.proofs.lemmas.Bool.{le-ltb, ne_eqb}
-use Rattle.eden_ops.specs.Known.{content_known}
 use Rattle.eden_model.specs.declared.errno.Errno.TheVariants.{EINVAL, EISDIR}
 use Rattle.eden_model.specs.declared.kind.Kind.{Kind}
-use Rattle.eden_model.specs.declared.node.Node.{Node}
 use Rattle.eden_model.specs.declared.reply.Reply.TheVariants as say
 use Rattle.eden_model.specs.declared.request.Request.TheVariants as ask
 use Rattle.eden_model.specs.Operations.{Reads}
 use Rattle.eden_model.specs.Repository.{source_of, content_with}
 use Rattle.eden_overlay.specs.Held.{own_files}
-use Rattle.eden_tree.specs.Paths.{row_at}
 use Rattle.eden_inode.specs.declared.seen.Seen.{Seen}
 use Rattle.eden_ops.specs.declared.answer.Attempt.{Attempt}
-use Rattle.eden_ops.specs.declared.answer.Stop.{Stop}
-use Rattle.eden_ops.specs.Attempts.{Attempts, Meets, MeetsShown, IsShown, Lacks, shown_node}
-use Rattle.eden_model.specs.Trees.{reach}
-use Rattle.eden_ops.specs.Keeping.{shows, same}
-use Rattle.eden_ops.proofs.Answering.{walk_ended, says_absent, says_here, says_at, replied, lacked}
-use Rattle.eden_ops.proofs.Fetching.{has_content, shown_kind, known_lost}
-use Rattle.eden_ops.proofs.Finding.{finds_on, still_stocked}
+use Rattle.eden_ops.specs.Attempts.{Attempts, MeetsShown, shown_node}
+use Rattle.eden_ops.specs.Keeping.{same}
+use Rattle.eden_ops.proofs.Answering.{walk_ended, says_absent}
+use Rattle.eden_ops.proofs.Finding.{still_stocked}
+use Rattle.eden_ops.proofs.Telling.{as_dir, met_content, met_tells, content_tells, content_lacks}
+use Rattle.eden_model.specs.Shown.{node_from}
 use Rattle.eden_ops.proofs.Looking.{reads, asks_read, IsPlain, plain_other, reads_link, reads_dir, reads_none, reads_some, reads_lost}
-use Rattle.eden_ops.proofs.Rounds.{lacks_since}
 use Rattle.eden_ops.proofs.Steps.{keeps_on}
 use Rattle.eden_ops.proofs.reading.read.Goals as goal
 
@@ -52,66 +47,32 @@ returns-in-Ok-None-clause-attempts g c =
 
 pub returns-in-Link-clause-attempts : goal.returns-in-Link-clause-attempts
 returns-in-Link-clause-attempts g c =
-    let p = c.args.path.now in
-    let s = c.args.inodes.now in
-    let t = c.meet.new.inodes in
     let e = c.in-Ok-Some.ensures in
-    let R = g.W.World.repository in
-    let F = g.F.Files.stored t.files in
-    let seen = subst (λ (o : Option Seen). Meets g.W.World g.F.Files p s t c.meet.new.cache (Ok o)) c.in-Ok-Some.field-0-is e.meets in
-    let shown : g.W.World.honest → IsShown R F (row_at p t.root) (reach (shows g.W.World g.F.Files s) p) = λ h. subst (λ (o : Option Seen). MeetsShown g.W.World g.F.Files p s t (Ok o)) c.in-Ok-Some.field-0-is (e.shown h) in
-    says_here g.W.World g.F.Files (ask.Read c.args.path.now c.args.offset c.args.count) p (reads c.args.offset c.args.count) (asks_read c.args.path.now c.args.offset c.args.count (le-ltb 65536 c.args.count c.if-count-gt-MAX_DATA.false)) s t c.args.cache.now c.meet.new.cache e.same e.keeps e.cache seen.row seen.there shown (say.Err EINVAL) refl (λ G. refl)
-    (λ h listed. reads_link c.args.offset c.args.count seen.row.kind (content_with R (own_files F) (source_of seen.row.number seen.row.origin)) listed (sym seen.kind ∙ (c.what.ensures.other (λ dir. cc)).1 ∙ c.in-Link.is))
+    met_tells g.W.World g.F.Files c.args.path.now c.args.inodes.now c.meet.new.inodes c.meet.new.cache _ c.in-Ok-Some.seen c.in-Ok-Some.field-0-is e.meets (ask.Read c.args.path.now c.args.offset c.args.count) (reads c.args.offset c.args.count) (asks_read c.args.path.now c.args.offset c.args.count (le-ltb 65536 c.args.count c.if-count-gt-MAX_DATA.false)) c.args.cache.now e.same e.keeps e.cache e.shown (say.Err EINVAL) refl (λ T. refl)
+    (λ k a listed is on. reads_link c.args.offset c.args.count k a listed (is ∙ (c.what.ensures.other (λ dir. cc)).1 ∙ c.in-Link.is))
 
 pub returns-in-Dir-clause-attempts : goal.returns-in-Dir-clause-attempts
 returns-in-Dir-clause-attempts g c =
-    let p = c.args.path.now in
-    let s = c.args.inodes.now in
-    let t = c.meet.new.inodes in
     let e = c.in-Ok-Some.ensures in
-    let R = g.W.World.repository in
-    let F = g.F.Files.stored t.files in
-    let seen = subst (λ (o : Option Seen). Meets g.W.World g.F.Files p s t c.meet.new.cache (Ok o)) c.in-Ok-Some.field-0-is e.meets in
-    let shown : g.W.World.honest → IsShown R F (row_at p t.root) (reach (shows g.W.World g.F.Files s) p) = λ h. subst (λ (o : Option Seen). MeetsShown g.W.World g.F.Files p s t (Ok o)) c.in-Ok-Some.field-0-is (e.shown h) in
-    says_here g.W.World g.F.Files (ask.Read c.args.path.now c.args.offset c.args.count) p (reads c.args.offset c.args.count) (asks_read c.args.path.now c.args.offset c.args.count (le-ltb 65536 c.args.count c.if-count-gt-MAX_DATA.false)) s t c.args.cache.now c.meet.new.cache e.same e.keeps e.cache seen.row seen.there shown (say.Err EISDIR) refl (λ G. refl)
-    (λ h listed. reads_dir c.args.offset c.args.count seen.row.kind (content_with R (own_files F) (source_of seen.row.number seen.row.origin)) listed (shown_kind p t.root c.in-Ok-Some.seen seen R F _ (shown h) (c.what.ensures.dir c.in-Dir.is)))
+    met_tells g.W.World g.F.Files c.args.path.now c.args.inodes.now c.meet.new.inodes c.meet.new.cache _ c.in-Ok-Some.seen c.in-Ok-Some.field-0-is e.meets (ask.Read c.args.path.now c.args.offset c.args.count) (reads c.args.offset c.args.count) (asks_read c.args.path.now c.args.offset c.args.count (le-ltb 65536 c.args.count c.if-count-gt-MAX_DATA.false)) c.args.cache.now e.same e.keeps e.cache e.shown (say.Err EISDIR) refl (λ T. refl)
+    (λ k a listed is on. reads_dir c.args.offset c.args.count k a listed (as_dir k c.in-Ok-Some.seen is on (c.what.ensures.dir c.in-Dir.is)))
 
 pub returns-then-count-eq0-clause-attempts : goal.returns-then-count-eq0-clause-attempts
 returns-then-count-eq0-clause-attempts g c =
-    let p = c.args.path.now in
-    let s = c.args.inodes.now in
-    let t = c.meet.new.inodes in
     let e = c.in-Ok-Some.ensures in
-    let R = g.W.World.repository in
-    let F = g.F.Files.stored t.files in
-    let seen = subst (λ (o : Option Seen). Meets g.W.World g.F.Files p s t c.meet.new.cache (Ok o)) c.in-Ok-Some.field-0-is e.meets in
-    let shown : g.W.World.honest → IsShown R F (row_at p t.root) (reach (shows g.W.World g.F.Files s) p) = λ h. subst (λ (o : Option Seen). MeetsShown g.W.World g.F.Files p s t (Ok o)) c.in-Ok-Some.field-0-is (e.shown h) in
     let other = c.what.ensures.other (plain_other c.what.result c.in-File.is) in
     let none : c.new-then-count-eq0.result ≡ [] = c.new-then-count-eq0.ensures ∙ c.new.ensures.items in
-    says_here g.W.World g.F.Files (ask.Read c.args.path.now c.args.offset c.args.count) p (reads c.args.offset c.args.count) (asks_read c.args.path.now c.args.offset c.args.count (le-ltb 65536 c.args.count c.if-count-gt-MAX_DATA.false)) s t c.args.cache.now c.meet.new.cache e.same e.keeps e.cache seen.row seen.there shown (say.Data c.new-then-count-eq0.result) refl (λ G. refl)
-    (λ h listed. subst (λ b. reads c.args.offset c.args.count (shows g.W.World g.F.Files s) (shown_node R F seen.row listed) (say.Data b)) (sym none) (reads_none c.args.offset c.args.count seen.row.kind (content_with R (own_files F) (source_of seen.row.number seen.row.origin)) listed (as_told seen.row.kind c.what.result (sym seen.kind ∙ other.1) c.in-File.is) (ap (λ (n : ℕ). n == 0) c.if-count-eq0.true)))
+    met_tells g.W.World g.F.Files c.args.path.now c.args.inodes.now c.meet.new.inodes c.meet.new.cache _ c.in-Ok-Some.seen c.in-Ok-Some.field-0-is e.meets (ask.Read c.args.path.now c.args.offset c.args.count) (reads c.args.offset c.args.count) (asks_read c.args.path.now c.args.offset c.args.count (le-ltb 65536 c.args.count c.if-count-gt-MAX_DATA.false)) c.args.cache.now e.same e.keeps e.cache e.shown (say.Data c.new-then-count-eq0.result) refl (λ T. refl)
+    (λ k a listed is on. subst (λ b. Reads c.args.offset c.args.count (node_from k a listed) (say.Data b)) (sym none) (reads_none c.args.offset c.args.count k a listed (as_told k c.what.result (is ∙ other.1) c.in-File.is) (ap (λ (n : ℕ). n == 0) c.if-count-eq0.true)))
 
 pub returns-in-Err-part-clause-attempts : goal.returns-in-Err-part-clause-attempts
 returns-in-Err-part-clause-attempts g c =
-    let p = c.args.path.now in
-    let s = c.args.inodes.now in
-    let t = c.meet.new.inodes in
     let e = c.in-Ok-Some.ensures in
-    let R = g.W.World.repository in
-    let F = g.F.Files.stored t.files in
-    let seen = subst (λ (o : Option Seen). Meets g.W.World g.F.Files p s t c.meet.new.cache (Ok o)) c.in-Ok-Some.field-0-is e.meets in
-    let shown : g.W.World.honest → IsShown R F (row_at p t.root) (reach (shows g.W.World g.F.Files s) p) = λ h. subst (λ (o : Option Seen). MeetsShown g.W.World g.F.Files p s t (Ok o)) c.in-Ok-Some.field-0-is (e.shown h) in
-    let u = c.part.new.inodes in
     let b = c.part.ensures in
     let other = c.what.ensures.other (plain_other c.what.result c.in-File.is) in
-    let at : row_at p u.root ≡ Some seen.row = ap (row_at p) b.still ∙ seen.there in
-    subst (λ (a : Attempt). Attempts g.W.World g.F.Files (ask.Read c.args.path.now c.args.offset c.args.count) s u c.args.cache.now c.part.new.cache a) (sym c.ended-in-Err-part.ensures)
-    (lacked g.W.World g.F.Files (ask.Read c.args.path.now c.args.offset c.args.count) p (reads c.args.offset c.args.count) (asks_read c.args.path.now c.args.offset c.args.count (le-ltb 65536 c.args.count c.if-count-gt-MAX_DATA.false)) s u c.args.cache.now c.part.new.cache (λ h. b.same h ∙ e.same h) (keeps_on g.W.World g.F.Files s t u e.keeps b.keeps)
-    (finds_on c.args.cache.now c.meet.new.cache c.part.new.cache e.cache b.cache) seen.row at c.in-Err-part.stop (λ x is. cc)
-    (λ k is.
-    let wants = subst (λ (z : Stop). Lacks g.W.World g.F.Files p t u c.part.new.cache z) is c.in-Err-part.ensures.lacks in
-    let lost = known_lost p u.root c.in-Ok-Some.seen (record { row = seen.row; there = at; number = seen.number; kind = seen.kind; origin = seen.origin; loaded = seen.loaded }) c.part.new.cache k other.0 wants in
-    (λ r h. reads_lost c.args.offset c.args.count seen.row.kind (content_known seen.row.origin) false r (as_told seen.row.kind c.what.result (sym seen.kind ∙ other.1) c.in-File.is) (ne_eqb c.args.count 0 c.if-count-eq0.false) lost.1 (subst (λ (n : Node). Reads c.args.offset c.args.count n r) lost.0 h), λ x y. cc)) (lacks_since g.W.World g.F.Files p s t u c.part.new.cache e.keeps c.in-Err-part.stop c.in-Err-part.ensures.lacks))
+    subst (λ (a : Attempt). Attempts g.W.World g.F.Files (ask.Read c.args.path.now c.args.offset c.args.count) c.args.inodes.now c.part.new.inodes c.args.cache.now c.part.new.cache a) (sym c.ended-in-Err-part.ensures)
+    (content_lacks g.W.World g.F.Files c.args.path.now c.args.inodes.now c.meet.new.inodes c.meet.new.cache _ c.in-Ok-Some.seen c.in-Ok-Some.field-0-is e.meets (ask.Read c.args.path.now c.args.offset c.args.count) (reads c.args.offset c.args.count) (asks_read c.args.path.now c.args.offset c.args.count (le-ltb 65536 c.args.count c.if-count-gt-MAX_DATA.false)) c.args.cache.now e.same e.keeps e.cache e.shown c.part.new.inodes c.part.new.cache b.same b.keeps b.still b.cache other.0 (λ x is. cc) c.in-Err-part.stop
+    (λ k is. (λ n a r same lost. reads_lost c.args.offset c.args.count n a false r (as_told n c.what.result (same ∙ other.1) c.in-File.is) (ne_eqb c.args.count 0 c.if-count-eq0.false) lost, λ x y. cc)) c.in-Err-part.ensures.lacks)
 
 pub returns-in-Err-part-clause-keeps : goal.returns-in-Err-part-clause-keeps
 returns-in-Err-part-clause-keeps g c = keeps_on g.W.World g.F.Files c.args.inodes.now c.meet.new.inodes c.part.new.inodes c.meet.ensures.keeps c.part.ensures.keeps
@@ -121,34 +82,21 @@ returns-in-Ok-clause-keeps g c = keeps_on g.W.World g.F.Files c.args.inodes.now 
 
 pub returns-in-Ok-clause-attempts : goal.returns-in-Ok-clause-attempts
 returns-in-Ok-clause-attempts g c =
-    let p = c.args.path.now in
-    let s = c.args.inodes.now in
-    let t = c.meet.new.inodes in
     let e = c.in-Ok-Some.ensures in
-    let R = g.W.World.repository in
-    let F = g.F.Files.stored t.files in
-    let seen = subst (λ (o : Option Seen). Meets g.W.World g.F.Files p s t c.meet.new.cache (Ok o)) c.in-Ok-Some.field-0-is e.meets in
-    let shown : g.W.World.honest → IsShown R F (row_at p t.root) (reach (shows g.W.World g.F.Files s) p) = λ h. subst (λ (o : Option Seen). MeetsShown g.W.World g.F.Files p s t (Ok o)) c.in-Ok-Some.field-0-is (e.shown h) in
-    let u = c.part.new.inodes in
     let b = c.part.ensures in
     let other = c.what.ensures.other (plain_other c.what.result c.in-File.is) in
     let had = c.in-Ok.ensures.ok in
-    replied g.W.World g.F.Files (ask.Read c.args.path.now c.args.offset c.args.count) p (reads c.args.offset c.args.count) (asks_read c.args.path.now c.args.offset c.args.count (le-ltb 65536 c.args.count c.if-count-gt-MAX_DATA.false)) s u c.args.cache.now c.part.new.cache (λ h. b.same h ∙ e.same h) (keeps_on g.W.World g.F.Files s t u e.keeps b.keeps)
-    (finds_on c.args.cache.now c.meet.new.cache c.part.new.cache e.cache b.cache) (say.Data c.in-Ok.bytes) refl (λ G. refl)
-    (λ h. says_at R F p (reads c.args.offset c.args.count) (shows g.W.World g.F.Files s) (row_at p t.root) seen.row seen.there (shown h) (say.Data c.in-Ok.bytes) (λ listed. subst (λ d. reads c.args.offset c.args.count (shows g.W.World g.F.Files s) (shown_node R F seen.row listed) (say.Data d)) (sym had.part) (reads_some c.args.offset c.args.count seen.row.kind (content_with R (own_files F) (source_of seen.row.number seen.row.origin)) listed had.content (as_told seen.row.kind c.what.result (sym seen.kind ∙ other.1) c.in-File.is) (ne_eqb c.args.count 0 c.if-count-eq0.false) (had.is.shown h seen.row seen.there))))
+    let R = g.W.World.repository in
+    let F = g.F.Files.stored c.meet.new.inodes.files in
+    content_tells g.W.World g.F.Files c.args.path.now c.args.inodes.now c.meet.new.inodes c.meet.new.cache _ c.in-Ok-Some.seen c.in-Ok-Some.field-0-is e.meets (ask.Read c.args.path.now c.args.offset c.args.count) (reads c.args.offset c.args.count) (asks_read c.args.path.now c.args.offset c.args.count (le-ltb 65536 c.args.count c.if-count-gt-MAX_DATA.false)) c.args.cache.now e.same e.keeps e.cache e.shown c.part.new.inodes c.part.new.cache b.same b.keeps b.still b.cache (say.Data c.in-Ok.bytes) refl (λ T. refl)
+    (λ h y at listed is. subst (λ a. Reads c.args.offset c.args.count (shown_node R F y listed) (say.Data a)) (sym had.part)
+    (reads_some c.args.offset c.args.count y.kind (content_with R (own_files F) (source_of y.number y.origin)) listed had.content (as_told y.kind c.what.result (is ∙ other.1) c.in-File.is) (ne_eqb c.args.count 0 c.if-count-eq0.false) (had.is.shown h y at)))
 
 pub part-requires-clause-content : goal.part-requires-clause-content
 part-requires-clause-content g c =
-    let p = c.args.path.now in
-    let s = c.args.inodes.now in
-    let t = c.meet.new.inodes in
     let e = c.in-Ok-Some.ensures in
-    let R = g.W.World.repository in
-    let F = g.F.Files.stored t.files in
-    let seen = subst (λ (o : Option Seen). Meets g.W.World g.F.Files p s t c.meet.new.cache (Ok o)) c.in-Ok-Some.field-0-is e.meets in
-    let shown : g.W.World.honest → IsShown R F (row_at p t.root) (reach (shows g.W.World g.F.Files s) p) = λ h. subst (λ (o : Option Seen). MeetsShown g.W.World g.F.Files p s t (Ok o)) c.in-Ok-Some.field-0-is (e.shown h) in
     let other = c.what.ensures.other (plain_other c.what.result c.in-File.is) in
-    has_content p t.root c.in-Ok-Some.seen seen t.root refl (λ dir. plain_other c.what.result c.in-File.is (sym other.1 ∙ dir))
+    met_content g.W.World g.F.Files c.args.path.now c.args.inodes.now c.meet.new.inodes c.meet.new.cache _ c.in-Ok-Some.seen c.in-Ok-Some.field-0-is e.meets (λ dir. plain_other c.what.result c.in-File.is (sym other.1 ∙ dir))
 
 pub part-requires-clause-stocked : goal.part-requires-clause-stocked
 part-requires-clause-stocked g c = still_stocked g.W.World.repository g.W.World.honest c.args.cache.now c.meet.new.cache c.meet.ensures.cache c.requires

@@ -1,0 +1,19 @@
+-- Requests that change nothing.
+use Rattle.eden_model.specs.declared.request.Request.{Request}
+use Rattle.eden_model.specs.declared.request.Request.TheVariants as ask
+
+abbrev pub IsLook : Request → Type 0
+IsLook (ask.Kind p) = Unit {0}
+IsLook (ask.Stat p) = Unit {0}
+IsLook (ask.Read p offset count) = Unit {0}
+IsLook (ask.ReadLink p) = Unit {0}
+IsLook (ask.List p after limit) = Unit {0}
+IsLook (ask.Write p offset bytes) = ⊥
+IsLook (ask.Truncate p size) = ⊥
+IsLook (ask.Create p) = ⊥
+IsLook (ask.SetExec p exec) = ⊥
+IsLook (ask.Mkdir p) = ⊥
+IsLook (ask.Symlink p target) = ⊥
+IsLook (ask.Unlink p) = ⊥
+IsLook (ask.Rmdir p) = ⊥
+IsLook (ask.Rename from to) = ⊥

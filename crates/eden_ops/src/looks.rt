@@ -1,0 +1,47 @@
+//! The looks, by their request.
+ghost use Rattle.eden_ops.specs.Attempts.{Attempts};
+ghost use Rattle.eden_ops.specs.Caches.{IsStocked};
+ghost use Rattle.eden_ops.specs.Keeping.{Keeps};
+ghost use Rattle.eden_ops.specs.Looks.{IsLook};
+
+use crate::answer::Attempt;
+use crate::kinds::kind;
+use crate::links::readlink;
+use crate::listing::list;
+use crate::reading::read;
+use crate::sizes::stat;
+use eden_cache::ObjectCache;
+use eden_inode::Inodes;
+use eden_model::{Request, World};
+use eden_overlay::Files;
+use std::alloc::{Allocator, Global};
+
+/// One attempt of a request that changes nothing: a `kind`, `stat`, `read`, `readlink` or `list`.
+pub fn look<A: Allocator + Clone, W: World, F: Files<W>, C: Allocator + Clone>(
+    inodes: &mut Inodes<A, W, F>,
+    cache: &mut ObjectCache<C>,
+    alloc: Global,
+    request: &Request,
+) -> Attempt
+    requires look { IsLook request.now }
+    requires stocked { IsStocked W.repository W.honest cache.old }
+    ensures attempts { Attempts W.World F.Files request.now inodes.old inodes.new cache.old cache.new result }
+    ensures keeps { Keeps W.World F.Files inodes.old inodes.new }
+{
+    match request {
+        Request::Kind(path) => kind(inodes, cache, alloc, path),
+        Request::Stat(path) => stat(inodes, cache, alloc, path),
+        Request::Read(path, offset, count) => read(inodes, cache, alloc, path, *offset, *count),
+        Request::ReadLink(path) => readlink(inodes, cache, alloc, path),
+        Request::List(path, after, limit) => list(inodes, cache, alloc, path, after, *limit),
+        Request::Write(..)
+        | Request::Truncate(..)
+        | Request::Create(_)
+        | Request::SetExec(..)
+        | Request::Mkdir(_)
+        | Request::Symlink(..)
+        | Request::Unlink(_)
+        | Request::Rmdir(_)
+        | Request::Rename(..) => unreachable!(),
+    }
+}
