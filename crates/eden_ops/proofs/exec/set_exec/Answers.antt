@@ -14,15 +14,16 @@ use Rattle.eden_tree.specs.Paths.{row_at}
 use Rattle.eden_tie.specs.Filing.{leaf, content_shown}
 use Rattle.eden_inode.specs.declared.seen.Seen.{Seen}
 use Rattle.eden_ops.specs.declared.answer.Attempt.{Attempt}
-use Rattle.eden_ops.specs.Attempts.{Attempts, Meets, MeetsShown, IsShown}
+use Rattle.eden_ops.specs.Attempts.{Attempts, MeetsShown, IsShown}
 use Rattle.eden_ops.specs.Changes.{exec_kind}
 use Rattle.eden_ops.specs.Keeping.{shows}
-use Rattle.eden_ops.proofs.Answering.{walk_ended, says_absent, says_here, says_at}
+use Rattle.eden_ops.proofs.Answering.{walk_ended, says_absent, says_at}
 use Rattle.eden_ops.proofs.Changing.{none_held, has_file, file_alone, changed, refused, sets_exec, asks_exec, sets_link, sets_dir, sets_file, exec_put}
-use Rattle.eden_ops.proofs.Fetching.{shown_kind}
 use Rattle.eden_ops.proofs.Looking.{IsPlain, plain_other}
+use Rattle.eden_ops.proofs.Reached.{seen_at, shown_at}
 use Rattle.eden_ops.proofs.Saving.{keeps_leaves, leaves_changed, fault_count, no_less}
 use Rattle.eden_ops.proofs.Seeing.{kept_dirs, shown_there}
+use Rattle.eden_ops.proofs.Telling.{as_dir, met_tells}
 use Rattle.eden_ops.proofs.exec.set_exec.Goals as goal
 
 -- the kind that was told
@@ -53,31 +54,16 @@ returns-in-Ok-None-clause-attempts g c =
 pub returns-in-Link-clause-attempts : goal.returns-in-Link-clause-attempts
 returns-in-Link-clause-attempts g c =
     let p = c.args.path.now in
-    let s = c.args.inodes.now in
-    let t = c.meet.new.inodes in
     let e = c.in-Ok-Some.ensures in
-    let R = g.W.World.repository in
-    let F = g.F.Files.stored t.files in
-    let G = shows g.W.World g.F.Files s in
-    let seen = subst (λ (o : Option Seen). Meets g.W.World g.F.Files p s t c.meet.new.cache (Ok o)) c.in-Ok-Some.field-0-is e.meets in
-    let shown : g.W.World.honest → IsShown R F (row_at p t.root) (reach G p) = λ h. subst (λ (o : Option Seen). MeetsShown g.W.World g.F.Files p s t (Ok o)) c.in-Ok-Some.field-0-is (e.shown h) in
-    let other = c.what.ensures.other (link_not_dir c.what.result c.in-Link.is) in
-    says_here g.W.World g.F.Files (ask.SetExec p c.args.exec) p sets_exec (asks_exec p c.args.exec) s t c.args.cache.now c.meet.new.cache e.same e.keeps e.cache seen.row seen.there shown (say.Err EINVAL) refl (λ T. refl)
-    (λ h listed. sets_link seen.row.kind (content_with R (own_files F) (source_of seen.row.number seen.row.origin)) listed (sym seen.kind ∙ other.1 ∙ c.in-Link.is))
+    met_tells g.W.World g.F.Files p c.args.inodes.now c.meet.new.inodes c.meet.new.cache _ c.in-Ok-Some.seen c.in-Ok-Some.field-0-is e.meets (ask.SetExec p c.args.exec) sets_exec (asks_exec p c.args.exec) c.args.cache.now e.same e.keeps e.cache e.shown (say.Err EINVAL) refl (λ T. refl)
+    (λ k a listed is on. sets_link k a listed (is ∙ (c.what.ensures.other (link_not_dir c.what.result c.in-Link.is)).1 ∙ c.in-Link.is))
 
 pub returns-in-Dir-clause-attempts : goal.returns-in-Dir-clause-attempts
 returns-in-Dir-clause-attempts g c =
     let p = c.args.path.now in
-    let s = c.args.inodes.now in
-    let t = c.meet.new.inodes in
     let e = c.in-Ok-Some.ensures in
-    let R = g.W.World.repository in
-    let F = g.F.Files.stored t.files in
-    let G = shows g.W.World g.F.Files s in
-    let seen = subst (λ (o : Option Seen). Meets g.W.World g.F.Files p s t c.meet.new.cache (Ok o)) c.in-Ok-Some.field-0-is e.meets in
-    let shown : g.W.World.honest → IsShown R F (row_at p t.root) (reach G p) = λ h. subst (λ (o : Option Seen). MeetsShown g.W.World g.F.Files p s t (Ok o)) c.in-Ok-Some.field-0-is (e.shown h) in
-    says_here g.W.World g.F.Files (ask.SetExec p c.args.exec) p sets_exec (asks_exec p c.args.exec) s t c.args.cache.now c.meet.new.cache e.same e.keeps e.cache seen.row seen.there shown (say.Err EISDIR) refl (λ T. refl)
-    (λ h listed. sets_dir seen.row.kind (content_with R (own_files F) (source_of seen.row.number seen.row.origin)) listed (shown_kind p t.root c.in-Ok-Some.seen seen R F _ (shown h) (c.what.ensures.dir c.in-Dir.is)))
+    met_tells g.W.World g.F.Files p c.args.inodes.now c.meet.new.inodes c.meet.new.cache _ c.in-Ok-Some.seen c.in-Ok-Some.field-0-is e.meets (ask.SetExec p c.args.exec) sets_exec (asks_exec p c.args.exec) c.args.cache.now e.same e.keeps e.cache e.shown (say.Err EISDIR) refl (λ T. refl)
+    (λ k a listed is on. sets_dir k a listed (as_dir k c.in-Ok-Some.seen is on (c.what.ensures.dir c.in-Dir.is)))
 
 pub set_kind-requires-clause-there : goal.set_kind-requires-clause-there
 set_kind-requires-clause-there g c =
@@ -85,7 +71,7 @@ set_kind-requires-clause-there g c =
     let s = c.args.inodes.now in
     let t = c.meet.new.inodes in
     let e = c.in-Ok-Some.ensures in
-    let seen = subst (λ (o : Option Seen). Meets g.W.World g.F.Files p s t c.meet.new.cache (Ok o)) c.in-Ok-Some.field-0-is e.meets in
+    let seen = seen_at g.W.World g.F.Files p s t c.meet.new.cache _ c.in-Ok-Some.seen c.in-Ok-Some.field-0-is e.meets in
     let other = c.what.ensures.other (plain_other c.what.result c.in-File.is) in
     let plain = as_told seen.row.kind c.what.result (sym seen.kind ∙ other.1) c.in-File.is in
     (seen.row, has_file p c.in-Some.above.now c.in-Some.name.now t.root seen.row (sym c.as_slice.ensures ∙ c.in-Some.ensures.cases.0) seen.there (none_held (child_of seen.row) (sym seen.loaded ∙ other.0)) (plain_other seen.row.kind plain))
@@ -99,8 +85,8 @@ returns-in-Ok-clause-attempts g c =
     let R = g.W.World.repository in
     let F = g.F.Files.stored t.files in
     let G = shows g.W.World g.F.Files s in
-    let seen = subst (λ (o : Option Seen). Meets g.W.World g.F.Files p s t c.meet.new.cache (Ok o)) c.in-Ok-Some.field-0-is e.meets in
-    let shown : g.W.World.honest → IsShown R F (row_at p t.root) (reach G p) = λ h. subst (λ (o : Option Seen). MeetsShown g.W.World g.F.Files p s t (Ok o)) c.in-Ok-Some.field-0-is (e.shown h) in
+    let seen = seen_at g.W.World g.F.Files p s t c.meet.new.cache _ c.in-Ok-Some.seen c.in-Ok-Some.field-0-is e.meets in
+    let shown : g.W.World.honest → IsShown R F (row_at p t.root) (reach G p) = shown_at g.W.World g.F.Files p s t c.meet.new.cache _ c.in-Ok-Some.seen c.in-Ok-Some.field-0-is e.shown in
     let u = c.set_kind.new.inodes in
     let split = sym c.as_slice.ensures ∙ c.in-Some.ensures.cases.0 in
     let other = c.what.ensures.other (plain_other c.what.result c.in-File.is) in

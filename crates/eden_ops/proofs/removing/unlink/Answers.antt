@@ -14,13 +14,14 @@ use Rattle.eden_tree.specs.Directory.{Directory, child_of}
 use Rattle.eden_tree.specs.Paths.{row_at}
 use Rattle.eden_inode.specs.declared.seen.Seen.{Seen}
 use Rattle.eden_ops.specs.declared.answer.Attempt.{Attempt}
-use Rattle.eden_ops.specs.Attempts.{Attempts, Meets, MeetsShown, IsShown}
+use Rattle.eden_ops.specs.Attempts.{Attempts, MeetsShown, IsShown}
 use Rattle.eden_ops.specs.Keeping.{shows}
-use Rattle.eden_ops.proofs.Answering.{walk_ended, says_absent, says_here, says_at}
+use Rattle.eden_ops.proofs.Answering.{walk_ended, says_absent, says_at}
 use Rattle.eden_ops.proofs.Changing.{not_root, none_held, has_entry, put_alone, file_alone, changed, refused, unlinks, asks_unlink, unlinks_file, unlinks_dir}
-use Rattle.eden_ops.proofs.Fetching.{shown_kind}
+use Rattle.eden_ops.proofs.Reached.{seen_at, shown_at}
 use Rattle.eden_ops.proofs.Saving.{keeps_leaves, leaves_changed, fault_count, no_less}
 use Rattle.eden_ops.proofs.Seeing.{kept_dirs}
+use Rattle.eden_ops.proofs.Telling.{as_dir, met_tells}
 use Rattle.eden_ops.proofs.removing.unlink.Goals as goal
 
 file_not_dir : (told : Kind) → (told ≡ kind.File) ⊎ ((told ≡ kind.Exec) ⊎ (told ≡ kind.Link)) → told ≢ kind.Dir
@@ -51,16 +52,9 @@ returns-in-Ok-None-clause-attempts g c =
 pub returns-in-Dir-clause-attempts : goal.returns-in-Dir-clause-attempts
 returns-in-Dir-clause-attempts g c =
     let p = c.args.path.now in
-    let s = c.args.inodes.now in
-    let t = c.meet.new.inodes in
     let e = c.in-Ok-Some.ensures in
-    let R = g.W.World.repository in
-    let F = g.F.Files.stored t.files in
-    let split = sym c.as_slice.ensures ∙ c.in-Some.ensures.cases.0 in
-    let seen = subst (λ (o : Option Seen). Meets g.W.World g.F.Files p s t c.meet.new.cache (Ok o)) c.in-Ok-Some.field-0-is e.meets in
-    let shown : g.W.World.honest → IsShown R F (row_at p t.root) (reach (shows g.W.World g.F.Files s) p) = λ h. subst (λ (o : Option Seen). MeetsShown g.W.World g.F.Files p s t (Ok o)) c.in-Ok-Some.field-0-is (e.shown h) in
-    says_here g.W.World g.F.Files (ask.Unlink p) p unlinks (asks_unlink p (not_root p c.in-Some.above.now c.in-Some.name.now split)) s t c.args.cache.now c.meet.new.cache e.same e.keeps e.cache seen.row seen.there shown (say.Err EISDIR) refl (λ G. refl)
-    (λ h listed. unlinks_dir seen.row.kind (content_with R (own_files F) (source_of seen.row.number seen.row.origin)) listed (shown_kind p t.root c.in-Ok-Some.seen seen R F _ (shown h) (c.what.ensures.dir c.in-Dir.is)))
+    met_tells g.W.World g.F.Files p c.args.inodes.now c.meet.new.inodes c.meet.new.cache _ c.in-Ok-Some.seen c.in-Ok-Some.field-0-is e.meets (ask.Unlink p) unlinks (asks_unlink p (not_root p c.in-Some.above.now c.in-Some.name.now (sym c.as_slice.ensures ∙ c.in-Some.ensures.cases.0))) c.args.cache.now e.same e.keeps e.cache e.shown (say.Err EISDIR) refl (λ T. refl)
+    (λ k a listed is on. unlinks_dir k a listed (as_dir k c.in-Ok-Some.seen is on (c.what.ensures.dir c.in-Dir.is)))
 
 pub remove_entry-requires : goal.remove_entry-requires
 remove_entry-requires g c =
@@ -69,7 +63,7 @@ remove_entry-requires g c =
     let t = c.meet.new.inodes in
     let e = c.in-Ok-Some.ensures in
     let split = sym c.as_slice.ensures ∙ c.in-Some.ensures.cases.0 in
-    let seen = subst (λ (o : Option Seen). Meets g.W.World g.F.Files p s t c.meet.new.cache (Ok o)) c.in-Ok-Some.field-0-is e.meets in
+    let seen = seen_at g.W.World g.F.Files p s t c.meet.new.cache _ c.in-Ok-Some.seen c.in-Ok-Some.field-0-is e.meets in
     let other = c.what.ensures.other (file_not_dir c.what.result c.in-File.is) in
     record { there = has_entry p c.in-Some.above.now c.in-Some.name.now t.root seen.row split seen.there (none_held (child_of seen.row) (sym seen.loaded ∙ other.0)) }
 
@@ -84,8 +78,8 @@ returns-in-Ok-clause-attempts g c =
     let F = g.F.Files.stored t.files in
     let G = shows g.W.World g.F.Files s in
     let split = sym c.as_slice.ensures ∙ c.in-Some.ensures.cases.0 in
-    let seen = subst (λ (o : Option Seen). Meets g.W.World g.F.Files p s t c.meet.new.cache (Ok o)) c.in-Ok-Some.field-0-is e.meets in
-    let shown : g.W.World.honest → IsShown R F (row_at p t.root) (reach G p) = λ h. subst (λ (o : Option Seen). MeetsShown g.W.World g.F.Files p s t (Ok o)) c.in-Ok-Some.field-0-is (e.shown h) in
+    let seen = seen_at g.W.World g.F.Files p s t c.meet.new.cache _ c.in-Ok-Some.seen c.in-Ok-Some.field-0-is e.meets in
+    let shown : g.W.World.honest → IsShown R F (row_at p t.root) (reach G p) = shown_at g.W.World g.F.Files p s t c.meet.new.cache _ c.in-Ok-Some.seen c.in-Ok-Some.field-0-is e.shown in
     let other = c.what.ensures.other (file_not_dir c.what.result c.in-File.is) in
     let file : seen.row.kind ≢ kind.Dir = λ dir. file_not_dir c.what.result c.in-File.is (sym other.1 ∙ seen.kind ∙ dir) in
     changed g.W.World g.F.Files (ask.Unlink p) s t u c.args.cache.now c.meet.new.cache e.same ((c.keeps_laws.ensures.counts s t e.keeps).1.1.1) e.cache
