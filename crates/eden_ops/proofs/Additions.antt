@@ -1,5 +1,5 @@
 -- What a request that makes an entry answers, and the tree after it.
-use Rattle.std.proofs.Common.{◌≡◌, ◌≢◌, ◌≤◌, ◌<◌, ◌+◌, ◌⊎◌, ◌==◌, nat_lt, ℕ, Bool, true, false, List, [], ◌∷◌, ◌++◌, length, Option, Some, None, Result, Err, sym, refl, ◌∙◌, ap, subst, inl, inr, arith}
+use Rattle.std.proofs.Common.{◌≡◌, ◌≢◌, ◌≤◌, ◌<◌, ◌+◌, ◌⊎◌, ◌==◌, nat_lt, ℕ, Bool, true, false, List, [], ◌∷◌, ◌++◌, length, Option, Some, None, sym, refl, ◌∙◌, ap, subst, inl, inr, arith}
 use Rattle.std.proofs.lemmas.List.{append-nil, append_assoc}
 use Rattle.std.proofs.lemmas.Bool.{le-ltb, ne_eqb}
 use Rattle.std.specs.Option.{option_and_then}
@@ -14,15 +14,15 @@ use Rattle.eden_model.specs.declared.reply.Reply.{Reply}
 use Rattle.eden_model.specs.declared.reply.Reply.TheVariants as say
 use Rattle.eden_model.specs.declared.world.World.{Ghosts}
 use Rattle.eden_model.specs.Limits.{most_target}
-use Rattle.eden_model.specs.Operations.{Meets as Table_Meets, Says, Refuses, Unless, Adds, Targets, Replies, put, done}
+use Rattle.eden_model.specs.Operations.{Meets as Table_Meets, Says, Unless, Adds, Targets, Replies, put, done}
 use Rattle.eden_model.specs.Paths.{is_root}
 use Rattle.eden_model.specs.Repository.{Repository}
-use Rattle.eden_model.specs.Trees.{Name, Path, Tree, Walk, Passes, through, walk_from, walk, Reach, reach, graft}
+use Rattle.eden_model.specs.Trees.{Name, Path, Tree, Walk, Passes, through, walk_from, walk, reach, graft}
 use Rattle.eden_overlay_format.specs.Directory.{number_end}
 use Rattle.eden_overlay.specs.declared.files.Files.{Ghosts as Files}
 use Rattle.eden_overlay.specs.Files.{Stored}
 use Rattle.eden_cache.specs.Cache.{Cache}
-use Rattle.eden_tree.specs.Directory.{Row, Directory, child_of}
+use Rattle.eden_tree.specs.Directory.{Row, Directory}
 use Rattle.eden_tree.specs.Rows.{find_row}
 use Rattle.eden_tree.specs.Paths.{row_at}
 use Rattle.eden_tree.proofs.CallerLemmas.{reads_on}
@@ -31,8 +31,6 @@ use Rattle.eden_tie.specs.Shown.{shown_in}
 use Rattle.eden_tie.specs.ShownLaws.{AreDirectories, ShowsAbsent}
 use Rattle.eden_inode.specs.Tables.{Table}
 use Rattle.eden_materialise.specs.declared.new_entry.NewEntry.{NewEntry}
-use Rattle.eden_materialise.specs.declared.new_entry.NewEntry.TheVariants as new
-use Rattle.eden_materialise.specs.Faults.{IsStoreFault}
 use Rattle.eden_materialise.specs.Filing.{node_as, IsShort, LacksEntry, IsAddFault}
 use Rattle.eden_ops.specs.declared.answer.Attempt.TheVariants.{Finished}
 use Rattle.eden_ops.specs.Attempts.{Attempts}
@@ -43,7 +41,6 @@ use Rattle.eden_ops.specs.Keeping.{shows}
 use Rattle.eden_ops.specs.Known.{known}
 use Rattle.eden_ops.proofs.Answering.{Asked}
 use Rattle.eden_ops.proofs.Changing.{put_alone, refused}
-use Rattle.eden_ops.proofs.Rounds.{rose_on}
 use Rattle.eden_ops.proofs.Walking.{known_dir}
 
 -- ---- the table's words

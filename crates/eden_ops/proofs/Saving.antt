@@ -1,5 +1,5 @@
 -- No directory is marked unsaved by what changes nothing.
-use Rattle.std.proofs.Common.{◌≡◌, ◌≤◌, ℕ, Bool, false, List, [], ◌∷◌, ◌++◌, Option, Some, None, sym, refl, ◌∙◌, ap, subst, inl, inr, arith}
+use Rattle.std.proofs.Common.{◌≡◌, ◌≤◌, ℕ, Bool, false, [], ◌∷◌, ◌++◌, Option, Some, None, sym, refl, ◌∙◌, ap, subst, inl, inr, arith}
 use Rattle.std.proofs.lemmas.Option.{same_Some, none-some}
 use Rattle.std.specs.Option.{option_map, option_and_then}
 use Rattle.eden_model.specs.declared.fault.Fault.{Fault}
@@ -15,7 +15,7 @@ use Rattle.eden_tree.proofs.CallerLemmas.{reads_on, edits_one, stamps_along, chi
 use Rattle.eden_tie.specs.Chains.{AreSaved, StaysLoaded}
 use Rattle.eden_tie.specs.Listings.{Place, top, inside}
 use Rattle.eden_tie.specs.Loading.{IsNew, LoadsOwn}
-use Rattle.eden_tie.proofs.CallerLemmas.{map_some, place_at, none_inside, loaded_there, Loaded, loaded_found}
+use Rattle.eden_tie.proofs.CallerLemmas.{map_some, place_at, none_inside, loaded_there, loaded_found}
 use Rattle.eden_inode.specs.Tables.{Table, HasNoTree}
 use Rattle.eden_materialise.specs.Faults.{IsStoreFault}
 use Rattle.eden_ops.specs.Changes.{Leaves}

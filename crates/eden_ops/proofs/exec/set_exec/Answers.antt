@@ -1,4 +1,4 @@
-use Rattle.std.proofs.Common.{◌≡◌, ◌≢◌, ◌++◌, ◌∷◌, [], false, Option, Some, Ok, sym, refl, subst, ap, ◌∙◌}
+use Rattle.std.proofs.Common.{◌≡◌, ◌≢◌, ◌++◌, ◌∷◌, false, Option, Some, Ok, sym, refl, subst, ap, ◌∙◌}
 use Rattle.eden_model.specs.declared.errno.Errno.TheVariants.{EINVAL, EISDIR}
 use Rattle.eden_model.specs.declared.kind.Kind.{Kind}
 use Rattle.eden_model.specs.declared.kind.Kind.TheVariants as kind

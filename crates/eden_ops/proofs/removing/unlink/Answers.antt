@@ -1,16 +1,13 @@
-use Rattle.std.proofs.Common.{◌≡◌, ◌≢◌, ◌⊎◌, ◌++◌, ◌∷◌, [], false, Bool, Option, Some, None, Ok, sym, refl, subst, ap, ◌∙◌, inl, inr}
-use Rattle.std.proofs.lemmas.Bool.{false≢true}
-use Rattle.std.specs.Option.{is_some}
+use Rattle.std.proofs.Common.{◌≡◌, ◌≢◌, ◌⊎◌, ◌++◌, ◌∷◌, Option, None, Ok, sym, refl, subst, ap, ◌∙◌, inl, inr}
 use Rattle.eden_model.specs.declared.errno.Errno.TheVariants.{EISDIR}
 use Rattle.eden_model.specs.declared.kind.Kind.{Kind}
 use Rattle.eden_model.specs.declared.kind.Kind.TheVariants as kind
 use Rattle.eden_model.specs.declared.reply.Reply.TheVariants as say
 use Rattle.eden_model.specs.declared.request.Request.TheVariants as ask
-use Rattle.eden_model.specs.Operations.{put}
 use Rattle.eden_model.specs.Repository.{source_of, content_with}
 use Rattle.eden_model.specs.Trees.{Tree, Path, reach, graft}
 use Rattle.eden_overlay.specs.Held.{own_files}
-use Rattle.eden_tree.specs.Directory.{Directory, child_of}
+use Rattle.eden_tree.specs.Directory.{child_of}
 use Rattle.eden_tree.specs.Paths.{row_at}
 use Rattle.eden_inode.specs.declared.seen.Seen.{Seen}
 use Rattle.eden_ops.specs.declared.answer.Attempt.{Attempt}
