@@ -1,1 +1,3 @@
+mod Caches
+mod Places
 mod Storable

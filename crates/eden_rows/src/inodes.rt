@@ -15,20 +15,20 @@ use std::process::Abort;
 use std::test::Fail;
 
 /// A table whose root is an object.
-type Table = Inodes<Global, Outside, MemoryFiles<Outside>>;
+pub(crate) type Table = Inodes<Global, Outside, MemoryFiles<Outside>>;
 
 /// A path, name by name.
-type Names = &'static [&'static [u8]];
+pub(crate) type Names = &'static [&'static [u8]];
 
-const ROOT: Names = &[];
+pub(crate) const ROOT: Names = &[];
 
-const BAK: Names = &[b"bak"];
+pub(crate) const BAK: Names = &[b"bak"];
 
-const BAK_TEST: Names = &[b"bak", b"test.txt"];
+pub(crate) const BAK_TEST: Names = &[b"bak", b"test.txt"];
 
 const NEW: Names = &[b"new.txt"];
 
-const TEST: Names = &[b"test.txt"];
+pub(crate) const TEST: Names = &[b"test.txt"];
 
 const END: u64 = 1 << 63;
 
@@ -71,7 +71,7 @@ const AGED: &[Step] = &[
     Step::Unload(ROOT, 2, 1),
 ];
 
-fn names(alloc: Global, path: Names) -> Result<Vec<Name>, Fail> {
+pub(crate) fn names(alloc: Global, path: Names) -> Result<Vec<Name>, Fail> {
     let mut names = Vec::new(alloc);
     for bytes in path {
         names.push(name(alloc, bytes)?)?;
@@ -80,7 +80,7 @@ fn names(alloc: Global, path: Names) -> Result<Vec<Name>, Fail> {
 }
 
 /// The entries of a tree among the samples.
-fn entries(alloc: Global, tree: Sample) -> Result<Vec<TreeEntry>, Fail>
+pub(crate) fn entries(alloc: Global, tree: Sample) -> Result<Vec<TreeEntry>, Fail>
     ensures { IfOk result (λ v. NamesDiffer v.items) }
 {
     let key = Key {
@@ -94,7 +94,7 @@ fn entries(alloc: Global, tree: Sample) -> Result<Vec<TreeEntry>, Fail>
 }
 
 /// A table of that tree, with nothing loaded.
-fn table(alloc: Global, tree: Sample, next: u64) -> Table
+pub(crate) fn table(alloc: Global, tree: Sample, next: u64) -> Table
     requires least { number_least ≤ next }
     requires most { next ≤ number_end }
 {
@@ -103,7 +103,7 @@ fn table(alloc: Global, tree: Sample, next: u64) -> Table
 }
 
 /// Loads the directory at a path from the entries of that tree, which is its own.
-fn load(
+pub(crate) fn load(
     rt: &impl Abort,
     alloc: Global,
     table: &mut Table,
@@ -119,7 +119,7 @@ fn load(
 }
 
 /// What stands at a path.
-fn seen<F: Files<Outside>>(
+pub(crate) fn seen<F: Files<Outside>>(
     rt: &impl Abort,
     table: &mut Inodes<Global, Outside, F>,
     path: &[Name],

@@ -2,6 +2,10 @@
 #![tactic(auto)]
 
 #[cfg(test)]
+mod attempts;
+#[cfg(test)]
+mod calls;
+#[cfg(test)]
 mod changes;
 #[cfg(test)]
 mod inodes;
@@ -15,3 +19,5 @@ mod own;
 mod random;
 #[cfg(test)]
 mod tree;
+#[cfg(test)]
+mod worked;

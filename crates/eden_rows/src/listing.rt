@@ -3,6 +3,7 @@
 ghost use Rattle.std.specs.Prelude.{◌≡◌, ◌≤◌, IsTrue, IfSome, length};
 ghost use Rattle.eden_model.specs.declared.kind.Origin.TheVariants as origins;
 ghost use Rattle.eden_overlay_format.specs.Content.{content_most};
+ghost use Rattle.eden_tie.specs.Changing.{MayGo};
 ghost use Rattle.eden_rows.specs.Listings.{IsOpen, IsOpenAt, IsNewOwn, IsOwnFile};
 
 use eden_inode::Inodes;
@@ -17,13 +18,13 @@ const NUMBER_LEAST: u64 = 2;
 
 /// An entry whose contents are the mount's own.
 #[derive(Clone, Copy)]
-pub struct Own {
-    pub kind: Kind,
-    pub number: u64,
+pub(crate) struct Own {
+    pub(crate) kind: Kind,
+    pub(crate) number: u64,
 }
 
 /// What is asked of a table's root, with what is loaded below it.
-pub trait Question<A: Allocator> {
+pub(crate) trait Question<A: Allocator> {
     ghost use Rattle.std.specs.Prelude.{IsTrue};
     ghost use Rattle.eden_tree.specs.Directory.{Row};
 
@@ -53,7 +54,7 @@ impl<A: Allocator, S, Q: Question<A>> Change<A, S> for Asked<'_, Q> {
 }
 
 /// Asks it of the root as it stands.
-pub fn ask<A: Allocator + Clone, F: Files<Outside>, Q: Question<A>>(
+pub(crate) fn ask<A: Allocator + Clone, F: Files<Outside>, Q: Question<A>>(
     table: &mut Inodes<A, Outside, F>,
     question: &Q,
 ) -> bool
@@ -64,7 +65,7 @@ pub fn ask<A: Allocator + Clone, F: Files<Outside>, Q: Question<A>>(
     table.change(Asked { question })
 }
 
-fn is_own(origin: Origin) -> bool
+pub(crate) fn is_own(origin: Origin) -> bool
     ensures { IsTrue result → origin ≡ origins.Own }
 {
     match origin {
@@ -73,18 +74,22 @@ fn is_own(origin: Origin) -> bool
     }
 }
 
+/// Whether a directory has no loaded one under that name.
+pub(crate) fn may_go<A: Allocator>(dir: &Dir<A>, name: &Name) -> bool
+    ensures { IsTrue result → MayGo dir.now name.now }
+{
+    match dir.get(name) {
+        None => true,
+        Some(entry) => entry.directory().is_none(),
+    }
+}
+
 /// Whether a directory has room, and no loaded directory under that name.
 fn is_open<A: Allocator>(dir: &Dir<A>, name: &Name) -> bool
     ensures { IsTrue result → IsOpen name.now dir.now }
 {
     let _named = name.as_slice();
-    if dir.count() == u32::MAX {
-        return false;
-    }
-    match dir.get(name) {
-        None => true,
-        Some(entry) => entry.directory().is_none(),
-    }
+    dir.count() != u32::MAX && may_go(dir, name)
 }
 
 /// Whether the directory at a path is loaded, and open to a change under that name.
@@ -143,7 +148,7 @@ fn change_open<A: Allocator + Clone, F: Files<Outside>>(
 
 /// Puts an own entry under a name of the directory at a path, in place of one that is there. None where the table isn't
 /// open to that, or the number was never given.
-pub fn put<A: Allocator + Clone, F: Files<Outside>>(
+pub(crate) fn put<A: Allocator + Clone, F: Files<Outside>>(
     alloc: Global,
     table: &mut Inodes<A, Outside, F>,
     path: &[Name],
@@ -157,7 +162,7 @@ pub fn put<A: Allocator + Clone, F: Files<Outside>>(
 }
 
 /// Takes out what is under a name of the directory at a path. None where the table isn't open to that.
-pub fn take<A: Allocator + Clone, F: Files<Outside>>(
+pub(crate) fn take<A: Allocator + Clone, F: Files<Outside>>(
     alloc: Global,
     table: &mut Inodes<A, Outside, F>,
     path: &[Name],
@@ -184,7 +189,7 @@ impl<A: Allocator> Question<A> for HoldsContent<'_> {
 }
 
 /// The content of the own file at a path. None where there is none.
-pub fn content_at<A: Allocator + Clone, F: Files<Outside>>(
+pub(crate) fn content_at<A: Allocator + Clone, F: Files<Outside>>(
     alloc: Global,
     table: &mut Inodes<A, Outside, F>,
     path: &[Name],
@@ -205,7 +210,7 @@ fn put_empty<F: Files<Outside>>(
 }
 
 /// Files with an own root, which has no entries.
-pub fn first_files(alloc: Global) -> Result<MemoryFiles<Outside>, FilesFault> {
+pub(crate) fn first_files(alloc: Global) -> Result<MemoryFiles<Outside>, FilesFault> {
     let mut overlay = Overlay::new(MemoryFiles::<Outside>::new(alloc));
     put_empty(alloc, &mut overlay, 1)?;
     Ok(overlay.into_files())
@@ -235,7 +240,7 @@ impl<A: Allocator, F: Files<Outside>> Change<A, Overlay<Outside, F>> for NewFile
 }
 
 /// Stores the file of an entry that is to come: a content, or a directory without entries.
-pub fn store<A: Allocator + Clone, F: Files<Outside>>(
+pub(crate) fn store<A: Allocator + Clone, F: Files<Outside>>(
     alloc: Global,
     table: &mut Inodes<A, Outside, F>,
     number: u64,

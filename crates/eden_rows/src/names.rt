@@ -6,7 +6,7 @@ use eden_model::Name;
 use std::alloc::Global;
 use std::test::Fail;
 
-pub fn name(alloc: Global, bytes: &[u8]) -> Result<Name, Fail>
+pub(crate) fn name(alloc: Global, bytes: &[u8]) -> Result<Name, Fail>
     ensures { IfOk result (λ n. n ≡ bytes.now) }
 {
     match Name::new(bytes.to_vec(alloc)?) {

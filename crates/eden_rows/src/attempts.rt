@@ -1,0 +1,209 @@
+//! Requests on the sample commit with an object cache: what each needs, and its reply once that is cached.
+
+ghost use Rattle.std.specs.Prelude.{◌≡◌};
+ghost use Rattle.eden_model.specs.Repository.{Repository};
+ghost use Rattle.eden_ops.specs.Caches.{IsStocked};
+
+use crate::inodes::{Names, ROOT, TEST, Table, names, table};
+use crate::worked::{LINK, LINK_3, put_new};
+use eden_cache::ObjectCache;
+use eden_model::{Errno, Key, Kind, Path, Reply};
+use eden_object::Object;
+use eden_ops::{Attempt, Walked, kind, reach, read, readlink, stat};
+use eden_samples::{ONE_FILE, Sample, VERSION_1};
+use std::alloc::Global;
+use std::process::Abort;
+use std::test::Fail;
+
+#[derive(Clone, Copy)]
+enum Ask {
+    Reach,
+    Kind,
+    Stat,
+    /// So many bytes from the first on.
+    Read(u64),
+    ReadLink,
+}
+
+#[derive(Clone, Copy)]
+enum Want {
+    Need(Sample),
+    Through,
+    Kind(Kind),
+    Stat(Kind, u64),
+    Data(&'static [u8]),
+    Err(Errno),
+    /// Any other answer.
+    Other,
+}
+
+#[derive(Clone, Copy)]
+enum Step {
+    /// This is asked about the path, and answered so.
+    Ask(Names, Ask, Want),
+    /// An object is cached.
+    Put(Sample),
+    /// A link is made in the root.
+    Link(&'static [u8]),
+}
+
+const REACHED: &[Step] = &[
+    Step::Ask(TEST, Ask::Reach, Want::Need(ONE_FILE)),
+    Step::Put(ONE_FILE),
+    Step::Ask(TEST, Ask::Reach, Want::Through),
+];
+
+const TOLD: &[Step] = &[
+    Step::Ask(ROOT, Ask::Kind, Want::Kind(Kind::Dir)),
+    Step::Ask(TEST, Ask::Kind, Want::Need(ONE_FILE)),
+    Step::Put(ONE_FILE),
+    Step::Ask(TEST, Ask::Kind, Want::Kind(Kind::File)),
+];
+
+const MEASURED: &[Step] = &[
+    Step::Ask(TEST, Ask::Stat, Want::Need(ONE_FILE)),
+    Step::Put(ONE_FILE),
+    Step::Ask(TEST, Ask::Stat, Want::Need(VERSION_1)),
+    Step::Put(VERSION_1),
+    Step::Ask(TEST, Ask::Stat, Want::Stat(Kind::File, 10)),
+];
+
+const READ: &[Step] = &[
+    Step::Ask(TEST, Ask::Read(100), Want::Need(ONE_FILE)),
+    Step::Put(ONE_FILE),
+    Step::Ask(TEST, Ask::Read(100), Want::Need(VERSION_1)),
+    Step::Put(VERSION_1),
+    Step::Ask(TEST, Ask::Read(100), Want::Data(b"version 1\n")),
+];
+
+const LINKED: &[Step] = &[
+    Step::Ask(LINK, Ask::ReadLink, Want::Need(ONE_FILE)),
+    Step::Put(ONE_FILE),
+    Step::Ask(LINK, Ask::ReadLink, Want::Err(Errno::ENOENT)),
+    Step::Link(b"a/b"),
+    Step::Ask(LINK, Ask::ReadLink, Want::Data(b"a/b")),
+    Step::Ask(LINK, Ask::Read(1), Want::Err(Errno::EINVAL)),
+];
+
+const ROWS: &[&[Step]] = &[REACHED, TOLD, MEASURED, READ, LINKED];
+
+fn key_of(object: Sample) -> Key {
+    Key {
+        kind: object.kind,
+        id: object.id,
+    }
+}
+
+/// Of an outside that is never honest nothing has to be known of what is cached.
+fn is_stocked(cache: &ObjectCache<Global>)
+    ensures { (R : Repository) → IsStocked R ⊥ cache.now }
+{
+    let _ = cache.usage();
+}
+
+/// The walk as what is wanted of it.
+fn is_walked(walked: Walked, want: Want) -> bool {
+    match (walked, want) {
+        (Walked::Through, Want::Through) => true,
+        (Walked::Needs(key), Want::Need(object)) => key == key_of(object),
+        _ => false,
+    }
+}
+
+fn is_answer(attempt: &Attempt, want: Want) -> bool {
+    match (attempt, want) {
+        (Attempt::Need(key), Want::Need(object)) => *key == key_of(object),
+        (Attempt::Finished(reply), want) => is_reply(reply, want),
+        _ => false,
+    }
+}
+
+fn is_reply(reply: &Reply, want: Want) -> bool {
+    match (reply, want) {
+        (Reply::Kind(kind), Want::Kind(wanted)) => *kind == wanted,
+        (Reply::Stat(kind, size), Want::Stat(wanted, length)) => {
+            *kind == wanted && *size == length
+        }
+        (Reply::Data(bytes), Want::Data(wanted)) => bytes.as_slice() == wanted,
+        (Reply::Err(errno), Want::Err(wanted)) => *errno == wanted,
+        _ => false,
+    }
+}
+
+/// Whether that is the answer.
+fn answers(
+    alloc: Global,
+    table: &mut Table,
+    cache: &mut ObjectCache<Global>,
+    path: &Path,
+    ask: Ask,
+    want: Want,
+) -> bool {
+    is_stocked(cache);
+    match ask {
+        Ask::Reach => is_walked(reach(table, cache, alloc, path), want),
+        Ask::Kind => is_answer(&kind(table, cache, alloc, path), want),
+        Ask::Stat => is_answer(&stat(table, cache, alloc, path), want),
+        Ask::Read(count) => is_answer(&read(table, cache, alloc, path, 0, count), want),
+        Ask::ReadLink => is_answer(&readlink(table, cache, alloc, path), want),
+    }
+}
+
+fn put_object(
+    alloc: Global,
+    cache: &mut ObjectCache<Global>,
+    object: Sample,
+) -> Result<bool, Fail> {
+    let key = key_of(object);
+    match Object::checked(alloc, key, object.framed.to_vec(alloc)?) {
+        Ok(object) => Ok(cache.put(key, object).is_ok()),
+        Err(_) => Ok(false),
+    }
+}
+
+fn path_of(alloc: Global, path: Names) -> Result<Path, Fail> {
+    match Path::new(names(alloc, path)?) {
+        Ok(path) => Ok(path),
+        Err(_) => Err(Fail::from("no path")),
+    }
+}
+
+fn take(
+    rt: &impl Abort,
+    alloc: Global,
+    table: &mut Table,
+    cache: &mut ObjectCache<Global>,
+    step: Step,
+) -> Result<(), Fail> {
+    match step {
+        Step::Ask(path, ask, want) => {
+            let path = path_of(alloc, path)?;
+            assert!(rt; answers(alloc, table, cache, &path, ask, want));
+        }
+        Step::Put(object) => assert!(rt; put_object(alloc, cache, object)?),
+        Step::Link(target) => {
+            assert!(rt; table.give_number().is_some());
+            let done = put_new(rt, alloc, table, (ROOT, b"l"), LINK_3, Some(target))?;
+            assert_eq!(rt; done, Some(Ok(())));
+        }
+    }
+    Ok(())
+}
+
+/// Takes the steps on a table of the commit with one file, with nothing loaded and nothing cached.
+fn take_all(rt: &impl Abort, alloc: Global, steps: &[Step]) -> Result<(), Fail> {
+    let mut table = table(alloc, ONE_FILE, 2);
+    let mut cache = ObjectCache::new(alloc, 8, 1 << 20, 8)?;
+    for step in steps {
+        take(rt, alloc, &mut table, &mut cache, *step)?;
+    }
+    Ok(())
+}
+
+#[test]
+fn requests_need_objects_and_are_answered(rt: HostRuntime) -> Result<(), Fail> {
+    for steps in ROWS {
+        take_all(&rt, rt.alloc(), steps)?;
+    }
+    Ok(())
+}
