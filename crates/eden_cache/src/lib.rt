@@ -11,6 +11,3 @@ mod laws;
 
 pub use cache::{BYTES_LIMIT, OBJECTS_LIMIT, ObjectCache, SIZES_LIMIT, Usage};
 pub use laws::cache_laws;
-
-#[cfg(test)]
-mod tests;

@@ -9,8 +9,6 @@
 mod imports;
 mod keys;
 mod laws;
-#[cfg(test)]
-mod tests;
 
 pub use imports::{FLIGHTS_LIMIT, Imports, PASSES_LIMIT, Wanted};
 pub use laws::queue_laws;

@@ -25,6 +25,3 @@ pub use local::Local;
 pub use mount::Mount;
 pub use room::Room;
 pub use seats::Pending;
-
-#[cfg(test)]
-mod tests;

@@ -1,8 +1,8 @@
-ghost use Rattle.std.specs.Prelude.{◌≡◌, ℕ, [], IfOk, OnErr, IfSome, IfNone};
+ghost use Rattle.std.specs.Prelude.{◌≡◌, ◌<◌, ℕ, [], IfOk, IfErr, OnOk, OnErr, IfSome, IfNone};
 ghost use Rattle.eden_model.specs.Histories.{Legal};
 ghost use Rattle.eden_object.specs.Objects.{IsHonest};
-ghost use Rattle.eden_mount.specs.Core.{Pends, IsLeastBusy};
-ghost use Rattle.eden_mount.specs.Steps.{Starts, Turns, Takes, Arrives, Fails, LetsGo};
+ghost use Rattle.eden_mount.specs.Core.{Pends, IsFree, IsLeastBusy, pending_count, taken_room};
+ghost use Rattle.eden_mount.specs.Steps.{IsRefused, Starts, Turns, Takes, Arrives, Fails, LetsGo};
 ghost use Rattle.eden_mount.specs.Runs.{IsHonestEvent, AreHonest, Steps, Runs};
 ghost use Rattle.eden_mount.specs.Kept.{IsMount, core_from};
 ghost use Rattle.eden_mount.specs.Serving.{IsAtRest};
@@ -12,7 +12,7 @@ use crate::arrival::keep;
 use crate::attempts::Attempts;
 use crate::events::{Arrived, Event, Outcome, Turned};
 use crate::room::Room;
-use crate::seats::{Pending, count};
+use crate::seats::{Pending, count, occupy};
 use crate::settling::{Settled, settle};
 use eden_import::Imports;
 use eden_model::{Cause, Entry, Key, Path, Request, StartFault, World};
@@ -121,23 +121,36 @@ impl<W: World, T: Attempts<W> + Drop, A: Allocator> Mount<W, T, A> {
     pub fn start(&mut self, pass: u32, request: Request) -> Result<(), StartFault>
         ensures { Starts self.old pass request result self.new }
     {
+        let pending = self.admit(pass)?;
+        let Ok(()) = self.history.reserve(pending + 1) else {
+            return Err(StartFault::Memory);
+        };
+        let since = self.history.len() as u32;
+        occupy(
+            &mut self.seats,
+            pass as usize - 1,
+            Pending { request, since },
+        );
+        Ok(())
+    }
+
+    /// Tests whether the pass may start a request, but for memory. How many are pending now.
+    fn admit(&self, pass: u32) -> Result<usize, StartFault>
+        ensures pending { IfOk result (λ pending. pending ≡ pending_count self.now.seats) }
+        ensures admitted { OnOk result (IsFree pass self.now × (taken_room self.now < self.now.limit)) }
+        ensures refused { IfErr result (IsRefused self.now pass) }
+    {
         if pass == 0 || pass > self.imports.passes() {
             return Err(StartFault::NoPass);
         }
-        let seat = pass as usize - 1;
-        if self.seats[seat].is_some() {
+        if self.seats[pass as usize - 1].is_some() {
             return Err(StartFault::Busy);
         }
         let pending = count(self.seats.as_slice());
         if self.history.len() + pending >= self.limit as usize {
             return Err(StartFault::HistoryFull(self.limit));
         }
-        let Ok(()) = self.history.reserve(pending + 1) else {
-            return Err(StartFault::Memory);
-        };
-        let since = self.history.len() as u32;
-        self.seats[seat] = Some(Pending { request, since });
-        Ok(())
+        Ok(pending)
     }
 
     /// Goes on with the pass's request, from the root: it finishes, and its entry is written, or it waits for a key and

@@ -28,6 +28,3 @@ pub use id_text::parse_id;
 pub use laws::{one_frame, one_list};
 pub use object::Object;
 pub use word::Word;
-
-#[cfg(test)]
-mod tests;

@@ -1,32 +1,29 @@
-use Rattle.std.proofs.Common.{◌≡◌, ◌-◌, ◌<◌, ◌+◌, length, sym, ap, ◌∙◌, refl, arith, rules}
+use Rattle.std.proofs.Common.{◌≡◌, ◌-◌, ◌<◌, List, Option, length, sym, ap, ◌∙◌, subst, arith, rules}
+use Rattle.std.specs.Vec.{vec_capacity}
 use Rattle.eden_mount.specs.declared.seats.Pending.{Pending}
-use Rattle.eden_mount.specs.Core.{IsFree, seat_of, pending_count}
-use Rattle.eden_mount.specs.Kept.{core_from}
-use Rattle.eden_mount.proofs.SeatLemmas.{seat_taken, seat_free, count_taken}
+use Rattle.eden_mount.specs.Core.{Core, IsFree, pending_count, taken_room}
+use Rattle.eden_mount.specs.Kept.{IsHeld, core_from}
+use Rattle.eden_mount.proofs.SeatLemmas.{count_taken}
 use Rattle.eden_mount.proofs.Keeping.{start_keeps}
 use Rattle.eden_mount.proofs.mount.Mount.start.Goals as goal
-
-pub returns-then-is_some : goal.returns-then-is_some
-returns-then-is_some g c =
-    let a = c.self.inside in
-    let seats : length a.seats.items ≡ a.imports.passes = c.self.invariant.0.seats in
-    let within : c.args.pass - 1 < length a.seats.items = omega (arith, seats, c.passes.ensures.value) in
-    let found = seat_taken a.seats.items (c.args.pass - 1) c.index.result.now within c.index.ensures (sym c.is_some.ensures ∙ c.if-is_some.true) in
-    ((search rules, found.0, (omega arith, ap (seat_of c.args.pass) (sym c.self.view_is) ∙ found.1)), refl {a = c.args.self.now})
 
 pub invariant_of-self-2 : goal.invariant_of-self-2
 invariant_of-self-2 g c =
     let a = c.self.inside in
+    let A = g.T.Attempts.table in
+    let honest = g.W.World.honest in
+    let opening = g.W.World.opening in
+    let pass = c.args.pass in
     let m = core_from a.table a.imports a.seats.items a.history.items a.limit in
+    let s : Pending = record { request = c.args.request; since = c.len-since.result } in
+    let May : Core g.row.T.Denot → Type 0 = λ n. IsFree pass n × (taken_room n < n.limit) in
+    let may : May m = subst May (sym c.self.view_is) c.in_ok-pending.ensures.admitted in
     let seats : length a.seats.items ≡ a.imports.passes = c.self.invariant.0.seats in
-    let passes : c.passes.result ≡ a.imports.passes = c.passes.ensures.value in
-    let within : c.args.pass - 1 < length a.seats.items = omega (arith, seats, passes) in
-    let none = seat_free a.seats.items (c.args.pass - 1) c.index.result.now within c.index.ensures (sym c.is_some.ensures ∙ c.if-is_some.false) in
-    let counted : c.count-pending.result ≡ pending_count a.seats.items = c.count-pending.ensures ∙ ap pending_count c.as_slice.ensures.value in
-    let few : length a.history.items + pending_count a.seats.items < a.limit = search rules in
-    let free : IsFree c.args.pass m = ((omega arith, omega (arith, passes)), none) in (
-      start_keeps g.T.Attempts.table g.W.World.honest g.W.World.opening m c.args.pass (record { request = c.args.request; since = c.len-since.result }) c.reserve.new.self.items c.self.invariant.0 free few c.reserve.ensures.items (search rules),
-      let s : Pending = record { request = c.args.request; since = c.len-since.result } in
-          let more = count_taken a.seats.items (c.args.pass - 1) s within none in
-          omega (arith, more, counted, c.in-Ok.ensures.ok),
+    let within : pass - 1 < length a.seats.items = omega (arith, seats, may.0.0.0, may.0.0.1) in
+    let counted : c.in_ok-pending.pending ≡ pending_count a.seats.items = c.in_ok-pending.ensures.pending ∙ ap (λ (n : Core g.row.T.Denot). pending_count n.seats) (sym c.self.view_is) in
+    let more = count_taken a.seats.items (pass - 1) s within may.0.1 in
+    let Held : List (Option Pending) → Type 0 = λ xs. IsHeld A honest opening (vec_capacity c.reserve.new.self) (core_from a.table a.imports xs c.reserve.new.self.items a.limit) in
+    subst Held (sym c.occupy.ensures) (
+      start_keeps A honest opening m pass s c.reserve.new.self.items c.self.invariant.0 may.0 may.1 c.reserve.ensures.items (search rules),
+      omega (arith, more, counted, c.in-Ok.ensures.ok),
     )

@@ -3,8 +3,8 @@ ghost use Rattle.eden_mount.specs.Serving.{IsAtRest};
 
 mod shelf;
 
-use crate::{Arrived, Config, Event, Local, Mount, Outcome, Room, Turned};
 use eden_model::{Bytes, Cause, Fault, Key, Kind, Outside, Path, Reply, Request, StartFault};
+use eden_mount::{Arrived, Config, Event, Local, Mount, Outcome, Room, Turned};
 use eden_samples::EMPTY_BLOB;
 use eden_source::MemorySource;
 use shelf::{Shelf, UNLOADED};

@@ -2,7 +2,7 @@
 ghost use Rattle.eden_model.specs.declared.id.ObjKind.TheVariants.{Blob};
 ghost use Rattle.eden_object.specs.Objects.{IsFramed};
 
-use crate::{BYTES_LIMIT, OBJECTS_LIMIT, ObjectCache, SIZES_LIMIT};
+use eden_cache::{BYTES_LIMIT, OBJECTS_LIMIT, ObjectCache, SIZES_LIMIT};
 use eden_model::{Id, Key, ObjKind};
 use eden_object::{Object, check};
 use linked_list_allocator::LocalHeap;

@@ -1,4 +1,4 @@
-use crate::{FLIGHTS_LIMIT, Imports, PASSES_LIMIT, Wanted};
+use eden_import::{FLIGHTS_LIMIT, Imports, PASSES_LIMIT, Wanted};
 use eden_model::{Cause, Id, Key, ObjKind};
 use std::alloc::Global;
 use std::process::Abort;

@@ -1,7 +1,10 @@
 // The ids that Git gives, and what each test of `check` refuses.
 ghost use Rattle.std.specs.Prelude.{◌≡◌, IfOk};
 
-use super::*;
+use eden_object::{
+    Cause, Id, Key, Mode, Name, ObjKind, Object, TreeEntry, check, decode_blob, decode_tree,
+    encode_blob, encode_tree, id_of, is_encodable, parse_id,
+};
 use std::alloc::{AllocError, Global};
 use std::process::Abort;
 use std::test::Fail;
