@@ -12,11 +12,15 @@ mod inodes;
 #[cfg(test)]
 mod listing;
 #[cfg(test)]
+mod mount;
+#[cfg(test)]
 mod names;
 #[cfg(test)]
 mod own;
 #[cfg(test)]
 mod random;
+#[cfg(test)]
+mod stops;
 #[cfg(test)]
 mod tree;
 #[cfg(test)]
