@@ -1,6 +1,5 @@
 //! Requests on the sample commit with an object cache: what each needs, and its reply once that is cached.
 
-ghost use Rattle.std.specs.Prelude.{◌≡◌};
 ghost use Rattle.eden_model.specs.Repository.{Repository};
 ghost use Rattle.eden_ops.specs.Caches.{IsStocked};
 

@@ -1,8 +1,7 @@
 //! Calls that change a table, where the table as it stands allows them: None where it doesn't, and nothing is tried then.
 
-ghost use Rattle.std.specs.Prelude.{◌≡◌, ◌≢◌, ◌∷◌, [], ◌++◌, IsTrue, Some, IsSomeAnd, IsSome};
+ghost use Rattle.std.specs.Prelude.{◌≡◌, ◌≢◌, IsTrue};
 ghost use Rattle.eden_tree.specs.Directory.{Row, child_of};
-ghost use Rattle.eden_tree.specs.Rows.{find_row};
 ghost use Rattle.eden_tie.specs.Chains.{IsLoadedAt};
 ghost use Rattle.eden_tie.specs.Filing.{HasFile};
 ghost use Rattle.eden_materialise.specs.Removals.{HasEntry};
