@@ -4,11 +4,14 @@ ghost use Rattle.eden_model.specs.Repository.{Repository};
 ghost use Rattle.eden_ops.specs.Caches.{IsStocked};
 
 use crate::inodes::{Names, ROOT, TEST, Table, names, table};
-use crate::worked::{LINK, LINK_3, put_new};
+use crate::worked::LINK;
 use eden_cache::ObjectCache;
-use eden_model::{Errno, Key, Kind, Path, Reply};
+use eden_model::{Errno, Key, Kind, Name, Path, Reply};
 use eden_object::Object;
-use eden_ops::{Attempt, Walked, kind, reach, read, readlink, stat};
+use eden_ops::{
+    Attempt, Walked, create, kind, list, mkdir, reach, read, readlink, set_exec, stat, symlink,
+    unlink,
+};
 use eden_samples::{ONE_FILE, Sample, VERSION_1};
 use std::alloc::Global;
 use std::process::Abort;
@@ -22,6 +25,13 @@ enum Ask {
     /// So many bytes from the first on.
     Read(u64),
     ReadLink,
+    /// So many entries from the first on.
+    List(u64),
+    Create,
+    Mkdir,
+    Symlink(&'static [u8]),
+    SetExec(bool),
+    Unlink,
 }
 
 #[derive(Clone, Copy)]
@@ -31,6 +41,9 @@ enum Want {
     Kind(Kind),
     Stat(Kind, u64),
     Data(&'static [u8]),
+    /// These entries, and whether more follow.
+    Entries(&'static [(&'static [u8], Kind)], bool),
+    Ok,
     Err(Errno),
     /// Any other answer.
     Other,
@@ -42,9 +55,11 @@ enum Step {
     Ask(Names, Ask, Want),
     /// An object is cached.
     Put(Sample),
-    /// A link is made in the root.
-    Link(&'static [u8]),
 }
+
+const IN_ROOT: Names = &[b"d"];
+
+const BELOW: Names = &[b"d", b"f"];
 
 const REACHED: &[Step] = &[
     Step::Ask(TEST, Ask::Reach, Want::Need(ONE_FILE)),
@@ -79,12 +94,47 @@ const LINKED: &[Step] = &[
     Step::Ask(LINK, Ask::ReadLink, Want::Need(ONE_FILE)),
     Step::Put(ONE_FILE),
     Step::Ask(LINK, Ask::ReadLink, Want::Err(Errno::ENOENT)),
-    Step::Link(b"a/b"),
+    Step::Ask(LINK, Ask::Symlink(b"a/b"), Want::Ok),
     Step::Ask(LINK, Ask::ReadLink, Want::Data(b"a/b")),
     Step::Ask(LINK, Ask::Read(1), Want::Err(Errno::EINVAL)),
 ];
 
-const ROWS: &[&[Step]] = &[REACHED, TOLD, MEASURED, READ, LINKED];
+const LISTED: &[Step] = &[
+    Step::Ask(ROOT, Ask::List(2), Want::Need(ONE_FILE)),
+    Step::Put(ONE_FILE),
+    Step::Ask(IN_ROOT, Ask::Mkdir, Want::Ok),
+    Step::Ask(IN_ROOT, Ask::Mkdir, Want::Err(Errno::EEXIST)),
+    Step::Ask(
+        ROOT,
+        Ask::List(2),
+        Want::Entries(&[(b"d", Kind::Dir), (b"test.txt", Kind::File)], false),
+    ),
+    Step::Ask(
+        ROOT,
+        Ask::List(1),
+        Want::Entries(&[(b"d", Kind::Dir)], true),
+    ),
+    Step::Ask(IN_ROOT, Ask::List(1), Want::Entries(&[], false)),
+    Step::Ask(TEST, Ask::List(1), Want::Err(Errno::ENOTDIR)),
+];
+
+/// A change asks for the directories above its path and for no content.
+const CHANGED: &[Step] = &[
+    Step::Ask(TEST, Ask::SetExec(true), Want::Need(ONE_FILE)),
+    Step::Put(ONE_FILE),
+    Step::Ask(TEST, Ask::SetExec(true), Want::Ok),
+    Step::Ask(TEST, Ask::Kind, Want::Kind(Kind::Exec)),
+    Step::Ask(IN_ROOT, Ask::Mkdir, Want::Ok),
+    Step::Ask(BELOW, Ask::Create, Want::Ok),
+    Step::Ask(BELOW, Ask::Stat, Want::Stat(Kind::File, 0)),
+    Step::Ask(BELOW, Ask::Create, Want::Err(Errno::EEXIST)),
+    Step::Ask(IN_ROOT, Ask::Unlink, Want::Err(Errno::EISDIR)),
+    Step::Ask(BELOW, Ask::Unlink, Want::Ok),
+    Step::Ask(BELOW, Ask::Unlink, Want::Err(Errno::ENOENT)),
+    Step::Ask(LINK, Ask::Symlink(b""), Want::Err(Errno::ENOENT)),
+];
+
+const ROWS: &[&[Step]] = &[REACHED, TOLD, MEASURED, READ, LINKED, LISTED, CHANGED];
 
 fn key_of(object: Sample) -> Key {
     Key {
@@ -124,9 +174,22 @@ fn is_reply(reply: &Reply, want: Want) -> bool {
             *kind == wanted && *size == length
         }
         (Reply::Data(bytes), Want::Data(wanted)) => bytes.as_slice() == wanted,
+        (Reply::Entries(entries, more), Want::Entries(wanted, left)) => {
+            *more == left && are_entries(entries.as_slice(), wanted)
+        }
+        (Reply::Ok, Want::Ok) => true,
         (Reply::Err(errno), Want::Err(wanted)) => *errno == wanted,
         _ => false,
     }
+}
+
+fn are_entries(entries: &[(Name, Kind)], wanted: &[(&'static [u8], Kind)]) -> bool {
+    for ((name, kind), (text, wanted)) in entries.iter().zip(wanted) {
+        if name.as_slice() != *text || kind != wanted {
+            return false;
+        }
+    }
+    entries.len() == wanted.len()
 }
 
 /// Whether that is the answer.
@@ -145,6 +208,26 @@ fn answers(
         Ask::Stat => is_answer(&stat(table, cache, alloc, path), want),
         Ask::Read(count) => is_answer(&read(table, cache, alloc, path, 0, count), want),
         Ask::ReadLink => is_answer(&readlink(table, cache, alloc, path), want),
+        Ask::List(limit) => is_answer(&list(table, cache, alloc, path, &None, limit), want),
+        change => is_answer(&changed(alloc, table, cache, path, change), want),
+    }
+}
+
+/// What a change is answered.
+fn changed(
+    alloc: Global,
+    table: &mut Table,
+    cache: &mut ObjectCache<Global>,
+    path: &Path,
+    ask: Ask,
+) -> Attempt {
+    is_stocked(cache);
+    match ask {
+        Ask::Mkdir => mkdir(table, cache, alloc, path),
+        Ask::Symlink(target) => symlink(table, cache, alloc, path, target),
+        Ask::SetExec(exec) => set_exec(table, cache, alloc, path, exec),
+        Ask::Unlink => unlink(table, cache, alloc, path),
+        _ => create(table, cache, alloc, path),
     }
 }
 
@@ -180,11 +263,6 @@ fn take(
             assert!(rt; answers(alloc, table, cache, &path, ask, want));
         }
         Step::Put(object) => assert!(rt; put_object(alloc, cache, object)?),
-        Step::Link(target) => {
-            assert!(rt; table.give_number().is_some());
-            let done = put_new(rt, alloc, table, (ROOT, b"l"), LINK_3, Some(target))?;
-            assert_eq!(rt; done, Some(Ok(())));
-        }
     }
     Ok(())
 }

@@ -13,12 +13,12 @@ use std::process::Abort;
 use std::test::Fail;
 
 /// How many steps begin with an own root without entries, and after how many of them all is compared.
-const STEPS: u32 = 8_000;
+const STEPS: u32 = 20_000;
 
 const BETWEEN: u32 = 100;
 
 /// How often the commit is begun with, and how many steps follow each time.
-const RUNS: u32 = 50;
+const RUNS: u32 = 200;
 
 const SHORT: u32 = 60;
 
@@ -312,7 +312,7 @@ fn random_changes_show_as_in_a_map(rt: HostRuntime) -> Result<(), Fail> {
         failures: 0,
     };
     run_empty(&rt, rt.alloc(), &&heap, &mut tally)?;
-    assert!(rt; tally.changed > STEPS / 8 && tally.failures > u64::from(STEPS / 40));
+    assert!(rt; tally.changed > STEPS / 4 && tally.failures > u64::from(STEPS / 20));
     assert!(rt; heap.used() == 0);
     Ok(())
 }
@@ -328,7 +328,7 @@ fn random_changes_of_the_commit_show_as_in_a_map(rt: HostRuntime) -> Result<(), 
     for _ in 0..RUNS {
         run_commit(&rt, rt.alloc(), &&heap, &mut seed, &mut tally)?;
     }
-    assert!(rt; tally.changed > RUNS * SHORT / 8 && tally.failures > u64::from(RUNS * SHORT / 40));
+    assert!(rt; tally.changed > RUNS * SHORT / 4 && tally.failures > u64::from(RUNS * SHORT / 20));
     assert!(rt; heap.used() == 0);
     Ok(())
 }

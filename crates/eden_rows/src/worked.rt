@@ -56,7 +56,7 @@ const FILE_2: Own = Own {
     number: 2,
 };
 
-pub(crate) const LINK_3: Own = Own {
+const LINK_3: Own = Own {
     kind: Kind::Link,
     number: 3,
 };
@@ -182,7 +182,7 @@ fn move_to(alloc: Global, table: &mut Table, from: Place, to: Place) -> Result<A
 }
 
 /// Stores a content, or a directory without entries, and puts its entry in.
-pub(crate) fn put_new(
+fn put_new(
     rt: &impl Abort,
     alloc: Global,
     table: &mut Table,
