@@ -27,6 +27,9 @@ bench: ## times the work that grows with its input, at full size
 	@cd crates/eden_bench && for count in 100 10000 100000 1000000; do out/eden_bench directory $$count timed; done
 	@cd crates/eden_bench && for count in 10 10000; do out/eden_bench overlay $$count timed; done
 	@cd crates/eden_bench && for count in 100 10000 1000000; do out/eden_bench inodes $$count timed; done
+	@cd crates/eden_bench && for count in 10 10000; do out/eden_bench changes $$count timed; done
+	@cd crates/eden_bench && for count in 10 10000; do \
+	    folder=$$(mktemp -d) && out/eden_bench changes $$count timed $$folder; rm -r $$folder; done
 	@cd crates/eden_bench && out/eden_bench cache 1000000 timed
 	@cd crates/eden_bench && out/eden_bench lines 100000 timed
 

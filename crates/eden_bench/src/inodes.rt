@@ -8,7 +8,7 @@ use crate::tree::{Order, tree_body};
 use eden_inode::Inodes;
 use eden_model::{Id, Mode, Name, Origin, Outside, TreeEntry};
 use eden_object::decode_tree;
-use eden_overlay::{MemoryFiles, Overlay};
+use eden_overlay::{Files, MemoryFiles, Overlay};
 use eden_tree::Entry;
 use std::alloc::{AllocError, Global};
 use std::io;
@@ -34,22 +34,21 @@ const FIRST: u64 = 2;
 /// A table over files in memory.
 type Table = Inodes<Global, Outside, MemoryFiles<Outside>>;
 
-/// A table whose root is an object and isn't loaded.
-fn table(alloc: Global) -> Table {
-    let overlay = Overlay::new(MemoryFiles::<Outside>::new(alloc));
-    Inodes::new(alloc, overlay, Origin::Object(ID), FIRST)
+/// A table over these files whose root is an object and isn't loaded.
+pub fn table<F: Files<Outside>>(alloc: Global, files: F) -> Inodes<Global, Outside, F> {
+    Inodes::new(alloc, Overlay::new(files), Origin::Object(ID), FIRST)
 }
 
 fn tables(alloc: Global, count: u32) -> Result<Vec<Table>, AllocError> {
     let mut tables = Vec::new(alloc);
     for _ in 0..count {
-        tables.push(table(alloc))?;
+        tables.push(table(alloc, MemoryFiles::new(alloc)))?;
     }
     Ok(tables)
 }
 
 /// The entries of a tree's body; none where it is no tree's.
-fn entries_of(alloc: Global, body: &[u8]) -> Result<Vec<TreeEntry>, AllocError>
+pub fn entries_of(alloc: Global, body: &[u8]) -> Result<Vec<TreeEntry>, AllocError>
     ensures { IfOk result (λ v. NamesDiffer v.items) }
 {
     match decode_tree(alloc, body)? {
@@ -70,7 +69,12 @@ fn read_again(alloc: Global, body: &[u8], rounds: u32) -> Result<usize, AllocErr
 
 /// Loads the directory at a path from those entries. False where none is there that a tree object has, or where memory
 /// is refused.
-fn load(alloc: Global, table: &mut Table, path: &[Name], entries: &[TreeEntry]) -> bool
+pub fn load<F: Files<Outside>>(
+    alloc: Global,
+    table: &mut Inodes<Global, Outside, F>,
+    path: &[Name],
+    entries: &[TreeEntry],
+) -> bool
     requires { NamesDiffer entries.now }
 {
     match table.missing(path) {
@@ -220,7 +224,7 @@ fn measure_looks<R: Print + Clock>(
 /// Looks along paths of several lengths, through directories of one entry each.
 fn measure_paths<R: Print + Clock + AllocGlobal>(rt: &R, timing: Timing) -> io::Result<()> {
     let names = names(rt.alloc())?;
-    let mut table = table(rt.alloc());
+    let mut table: Table = table(rt.alloc(), MemoryFiles::new(rt.alloc()));
     let loaded = nest(rt.alloc(), &mut table, names.as_slice())?;
     println!(rt; "{loaded} directories nested")?;
     for depth in [1, 8, 64] {

@@ -3,6 +3,7 @@
 #![tactic(auto)]
 
 mod cache;
+mod changes;
 mod directory;
 mod inodes;
 mod lines;
@@ -13,13 +14,15 @@ mod timing;
 mod tree;
 
 use std::alloc::Global;
+use std::path::PathBuf;
 use std::process::ExitCode;
 use std::rt::{Clock, Env};
 use std::{env, io};
 use timing::Timing;
 
 const USAGE: &str =
-    "usage: eden_bench cache|directory|inodes|lines|overlay|tree COUNT [timed], or eden_bench oracle";
+    "usage: eden_bench cache|changes|directory|inodes|lines|overlay|tree COUNT [timed], \
+     or eden_bench changes COUNT timed FOLDER, or eden_bench oracle";
 
 /// Runs the workload that the words name. False where they name none.
 fn run<R: Print + Clock + AllocGlobal>(rt: &R, words: &[String]) -> io::Result<bool> {
@@ -33,6 +36,7 @@ fn run<R: Print + Clock + AllocGlobal>(rt: &R, words: &[String]) -> io::Result<b
     };
     match name.as_str() {
         "cache" => cache::run(rt, count, timing)?,
+        "changes" => changes::run(rt, count, timing)?,
         "directory" => directory::run(rt, count, timing)?,
         "inodes" => inodes::run(rt, count, timing)?,
         "lines" => lines::run(rt, count, timing)?,
@@ -40,6 +44,16 @@ fn run<R: Print + Clock + AllocGlobal>(rt: &R, words: &[String]) -> io::Result<b
         "tree" => tree::run(rt, count, timing)?,
         _ => return Ok(false),
     }
+    Ok(true)
+}
+
+/// Runs the changes over files in a folder. False where the count is no number.
+fn run_on(rt: &HostRuntime, count: &str, folder: &str) -> io::Result<bool> {
+    let Ok(count) = count.parse::<u32>() else {
+        return Ok(false);
+    };
+    let folder = PathBuf::from(String::from_str(rt.alloc(), folder)?);
+    changes::run_on(rt, &folder, count, Timing::Timed)?;
     Ok(true)
 }
 
@@ -63,12 +77,15 @@ fn answer(rt: &HostRuntime) -> io::Result<ExitCode> {
 
 fn main(rt: HostRuntime) -> io::Result<ExitCode> {
     let words = words(&rt)?;
-    if let [_, name] = words.as_slice()
-        && name.as_str() == "oracle"
-    {
-        return answer(&rt);
-    }
-    if run(&rt, words.as_slice())? {
+    let is_done = match words.as_slice() {
+        [_, name] if name.as_str() == "oracle" => return answer(&rt),
+        [_, name, count, timed, folder]
+            if name.as_str() == "changes" && timed.as_str() == "timed" => {
+            run_on(&rt, count.as_str(), folder.as_str())?
+        }
+        words => run(&rt, words)?,
+    };
+    if is_done {
         return Ok(ExitCode::SUCCESS);
     }
     eprintln!(rt; "{USAGE}")?;
