@@ -9,7 +9,7 @@ ghost use Rattle.eden_rows.specs.Places.{HasUnloaded, IsSource, IsTarget, CanRen
 
 use crate::listing::{Question, ask, is_own, may_go};
 use eden_inode::Inodes;
-use eden_materialise::{materialise, move_entry, remove_entry, set_kind};
+use eden_materialise::{materialise, move_entry, remove_entry, set_kind, store_content};
 use eden_model::{Fault, Kind, Name, Outside};
 use eden_overlay::Files;
 use eden_tree::{Dir, Entry};
@@ -133,6 +133,20 @@ pub(crate) fn turn_into<A: Allocator + Clone, F: Files<Outside>>(
         return None;
     }
     Some(set_kind(table, alloc, path, name, kind))
+}
+
+/// Stores a content for the file of a name. None for a content of more than 2^30 bytes too.
+pub(crate) fn fill<A: Allocator + Clone, F: Files<Outside>>(
+    alloc: Global,
+    table: &mut Inodes<A, Outside, F>,
+    path: &[Name],
+    name: &Name,
+    content: &[u8],
+) -> Option<Result<(), Fault>> {
+    if content.len() > 1 << 30 || !ask(table, &HoldsFile { path, name }) {
+        return None;
+    }
+    Some(store_content(table, alloc, path, name, content))
 }
 
 fn is_source<A: Allocator>(root: &Entry<A>, path: &[Name], name: &Name) -> bool

@@ -1,6 +1,6 @@
 //! Changes of a table over files in memory: rows of the sample commit's trees, with the files that they leave.
 
-use crate::calls::{Move, own, remove, rename, turn_into};
+use crate::calls::{Move, fill, own, remove, rename, turn_into};
 use crate::inodes::{BAK, BAK_TEST, Names, ROOT, TEST, Table, load, names, seen, table};
 use crate::listing::{Own, put, store};
 use crate::names::name;
@@ -27,6 +27,8 @@ enum Change {
     Own(Names),
     /// A file has another kind.
     Turn(Place, Kind),
+    /// A file has this content.
+    Fill(Place, &'static [u8]),
     Remove(Place),
     Move(Place, Place),
     /// An own entry comes, with this number: a content, or a directory without entries.
@@ -75,6 +77,16 @@ const TURNED: &[Step] = &[
     Step::Done(Change::Turn((ROOT, b"test.txt"), Kind::Exec)),
     Step::Look(TEST, 2, Kind::Exec, Some(VERSION_1)),
     Step::Files(&[(1, 107)]),
+];
+
+/// A file of the commit has a content of the mount's own, and then another one.
+const FILLED: &[Step] = &[
+    Step::Load(ROOT, ONE_FILE),
+    Step::Done(Change::Fill((ROOT, b"test.txt"), WRITTEN)),
+    Step::Look(TEST, 2, Kind::File, None),
+    Step::Files(&[(1, 87), (2, 77)]),
+    Step::Done(Change::Fill((ROOT, b"test.txt"), b"")),
+    Step::Files(&[(1, 87), (2, 64)]),
 ];
 
 /// A file of the commit moves into a new directory.
@@ -145,6 +157,7 @@ const REMOVED: &[Step] = &[
 
 const ROWS: &[&[Step]] = &[
     TURNED,
+    FILLED,
     MOVED_BETWEEN,
     MOVED_WITHIN,
     MOVED_OVER,
@@ -215,6 +228,10 @@ fn try_change(
         Change::Turn(place, kind) => {
             let spot = spot_of(alloc, place)?;
             Ok(turn_into(alloc, table, &spot.path, &spot.name, kind))
+        }
+        Change::Fill(place, content) => {
+            let spot = spot_of(alloc, place)?;
+            Ok(fill(alloc, table, &spot.path, &spot.name, content))
         }
         Change::Remove(place) => {
             let spot = spot_of(alloc, place)?;
