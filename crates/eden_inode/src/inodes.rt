@@ -98,6 +98,13 @@ impl<A: Allocator + Clone, W: World, F: Files<W>> Inodes<A, W, F> {
         let _ = &self.root;
     }
 
+    /// How often the device failed so far; it stays at 2^64 - 1.
+    pub fn failures(&self) -> u64
+        ensures { result ≡ F.failures self.now.files }
+    {
+        self.overlay.failures()
+    }
+
     /// Where a directory that isn't loaded comes from: None for every other path.
     pub fn unloaded(&self, path: &[Name]) -> Option<Origin>
         ensures some { IfSome result (λ o. IsAt path.now self.now.root o) }

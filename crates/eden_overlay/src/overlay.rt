@@ -61,6 +61,13 @@ impl<W: World, F: Files<W>> Overlay<W, F> {
         self.files
     }
 
+    /// How often the device failed so far; it stays at 2^64 - 1.
+    pub fn failures(&self) -> u64
+        ensures { result ≡ F.failures self.now }
+    {
+        self.files.failures()
+    }
+
     /// Stores a content of at most 2^30 bytes as the file of that number, in place of any that was there. After an error
     /// nothing has changed.
     pub fn put_file(&mut self, alloc: Global, number: u64, content: &[u8]) -> Result<(), FilesFault>
