@@ -1,5 +1,6 @@
 pub mod Walking
 pub mod Deeper
+pub mod Left
 pub mod Growing
 pub mod Steps
 pub mod Bringing

@@ -7,4 +7,5 @@ pub mod Listings
 pub mod Attempts
 pub mod Looks
 pub mod Laws
+pub mod Left
 pub mod Changes

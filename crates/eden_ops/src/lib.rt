@@ -27,7 +27,7 @@ pub use adding::{create, mkdir, symlink};
 pub use answer::{Attempt, Walked};
 pub use exec::set_exec;
 pub use kinds::kind;
-pub use laws::{keeps_laws, wait_laws};
+pub use laws::{keeps_laws, need_laws, wait_laws};
 pub use links::readlink;
 pub use listing::list;
 pub use looks::look;
