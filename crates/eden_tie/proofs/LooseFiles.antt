@@ -4,11 +4,11 @@ use Rattle.eden_model.specs.Repository.{Repository}
 use Rattle.eden_overlay.specs.Files.{Stored, put}
 use Rattle.eden_overlay.specs.Held.{without}
 use Rattle.eden_overlay.specs.Laws.{IsStray, IsUnnamed}
-use Rattle.eden_overlay.proofs.CallerLemmas.{put_apart}
+use Rattle.eden_overlay.proofs.CallerLemmas.{put_apart, numbers_from_two}
 use Rattle.eden_tree.specs.Directory.{Row}
 use Rattle.eden_tie.specs.Kept.{IsTable, IsKept}
 use Rattle.eden_tie.specs.Listings.{full_entry, top, inside}
-use Rattle.eden_tie.specs.Loose.{IsLoose, never_given, other_entry, LooseSound, LooseKept, LooseAlike}
+use Rattle.eden_tie.specs.Loose.{IsLoose, the_state, never_given, other_entry, LooseSound, LooseKept, LooseAlike}
 use Rattle.eden_tie.specs.Shown.{shown_in}
 use Rattle.eden_tie.specs.Ties.{IsAway, Ties}
 use Rattle.eden_tie.proofs.Backed.{backs_stray, backed_alike}
@@ -21,6 +21,10 @@ use Rattle.eden_tie.proofs.Sound.{ties_sound}
 
 module _ (R : Repository) (F : Stored) (x : Row) (next : ℕ) (table : IsTable x next) (k : IsKept R F x next) where
   stray : (j : ℕ) → IsLoose x next j → IsStray k.full j
+  stray j (the_state zero) = record {
+    not_root = λ is. omega (arith, zero, is);
+    not_own = λ c e r n own is. (let least = numbers_from_two k.full c e n in omega (arith, least, zero, is));
+  }
   stray j (never_given after) = record {
     not_root = λ is. (let least = table.least in omega (arith, least, after, is));
     not_own = λ c e r n own is. (let less = k.ties.fits.below c e r n in omega (arith, less, after, is));
@@ -29,6 +33,10 @@ module _ (R : Repository) (F : Stored) (x : Row) (next : ℕ) (table : IsTable x
       subst (IsStray k.full) is (is_stray F k.full x next k.ties y d (place_at p x y at) h n w there shut other)
 
   pub away : (j : ℕ) → IsLoose x next j → IsAway x j
+  away j (the_state zero) v e top h is = let root = table.root in omega (arith, zero, root, is)
+  away j (the_state zero) v e (inside u c m q r i f) h is =
+      let least = numbers_from_two k.full u.number (full_entry (m, q)) (named_full k.full x next k.ties.fits u c m q r i f) in
+      omega (arith, least, zero, is)
   away j (never_given after) v e top h is = let least = table.least in let root = table.root in omega (arith, least, after, root, is)
   away j (never_given after) v e (inside u c m q r i f) h is =
       let less = k.ties.fits.below u.number (full_entry (m, q)) (place_counts k.full x next k.ties.fits u c r i) (named_full k.full x next k.ties.fits u c m q r i f) in

@@ -11,8 +11,9 @@ use Rattle.eden_tree.specs.Paths.{row_at}
 use Rattle.eden_tie.specs.Kept.{IsTable, IsKept}
 use Rattle.eden_tie.specs.Shown.{shown_in}
 
--- the number was never given, or is that of an entry that isn't loaded nor its own
+-- the number is the state's, was never given, or is that of an entry that isn't loaded nor its own
 pub data IsLoose (x : Row) (next k : ℕ) : Type 0 where
+  the_state : k ≡ 0 → IsLoose x next k
   never_given : next ≤ k → IsLoose x next k
   other_entry : (p : Path) (y : Row) (d : Directory) (n : Name) (w : Row) → row_at p x ≡ Some y → child_of y ≡ Some d → find_row n d.rows ≡ Some w
       → child_of w ≡ None → w.origin ≢ origin.Own → w.number ≡ k → IsLoose x next k

@@ -1,0 +1,76 @@
+ghost use Rattle.std.specs.Prelude.{◌≡◌, ℕ, IfOk, IfErr};
+ghost use Rattle.eden_ops.specs.Keeping.{shows};
+ghost use Rattle.eden_inode.specs.Tables.{fresh_root};
+ghost use Rattle.eden_cache.specs.Cache.{empty};
+ghost use Rattle.eden_overlay.specs.Held.{without};
+ghost use Rattle.eden_checkout.specs.Opening.{CanOpen, StartsAt, files_show, root_from, IsOpenFault};
+
+use crate::fault::OpenFault;
+use crate::opening::{Start, begin};
+use eden_cache::ObjectCache;
+use eden_inode::Inodes;
+use eden_model::{Id, World};
+use eden_overlay::{Files, Overlay};
+use std::alloc::{Allocator, Global};
+use std::marker::Model;
+
+/// The loaded part of a commit's tree over an overlay's files, and the objects that came.
+///
+/// Under an honest outside each object that is kept is the repository's.
+#[derive(Drop)]
+pub struct Checkout<A: Allocator + Clone, W: World, F: Files<W>> {
+    inodes: Inodes<A, W, F>,
+    cache: ObjectCache<A>,
+    root: Id,
+}
+
+impl<A: Allocator + Clone, W: World, F: Files<W>> Model for Checkout<A, W, F> {
+    ghost use Rattle.std.specs.Coded.{codes};
+    ghost use Rattle.eden_tree.specs.Coding.{child_code};
+    ghost use Rattle.eden_ops.specs.Caches.{IsStocked};
+    ghost use Rattle.eden_checkout.specs.Checkouts.{Checkout};
+    ghost use Rattle.eden_checkout.specs.Opening.{IsRootOf};
+
+    ghost Value = { Checkout F };
+
+    ghost coded = { Prim.hlevel (codes, child_code) };
+
+    ghost view = { λ c. record { inodes = c.inodes; cache = c.cache; root = c.root } };
+
+    ghost invariant = { λ c. IsStocked W.repository W.honest c.cache × IsRootOf c.root c.inodes.root.origin };
+}
+
+impl<A: Allocator + Clone, W: World, F: Files<W>> Checkout<A, W, F> {
+    /// Opens an overlay over a commit's tree, with a cache in which nothing is yet. Over no files nothing has changed since
+    /// the commit; else they are those that a checkout of the same commit was closed to, and the state among them is removed
+    /// as the last act.
+    ///
+    /// Errors: `NotClean` where there are files and no state, `OtherRoot`, `Damaged` of the state alone, `Device` and
+    /// `Memory`. The files come back as they were.
+    pub fn open(
+        alloc: Global,
+        dirs: A,
+        files: F,
+        root: Id,
+        cache: ObjectCache<A>,
+    ) -> Result<Self, (OpenFault, F)>
+        requires files { W.honest → CanOpen W.repository W.opening root (F.stored files) }
+        requires cache { (entries bytes sizes : ℕ) × (cache ≡ empty entries bytes sizes) }
+        ensures shown { W.honest → IfOk result (λ c. shows W.World F.Files c.inodes ≡ W.opening) }
+        ensures stored { W.honest → IfOk result (λ c. F.stored c.inodes.files ≡ without (F.stored files) 0) }
+        ensures next { W.honest → IfOk result (λ c. StartsAt (F.stored files) root c.inodes.next) }
+        ensures fresh { IfOk result (λ c. (c.inodes.clock ≡ 0) × ((c.inodes.changes ≡ 0) × ((c.cache ≡ cache) × (c.root ≡ root)))) }
+        ensures fault { IfErr result (λ e. IsOpenFault W.honest root (F.stored files) (F.failures files) (F.failures e.1) e.0) }
+        ensures unchanged { W.honest → IfErr result (λ e. F.stored e.1 ≡ F.stored files) }
+    {
+        let mut overlay = Overlay::new(files);
+        match begin(alloc, &mut overlay, root) {
+            Err(fault) => Err((fault, overlay.into_files())),
+            Ok(Start { origin, next }) => Ok(Checkout {
+                inodes: Inodes::new(dirs, overlay, origin, next),
+                cache,
+                root,
+            }),
+        }
+    }
+}

@@ -1,0 +1,12 @@
+//! A commit's checkout: the loaded part of its tree over an overlay's files, and the objects that came.
+//!
+//! A checkout is opened over the files that another was closed to, or over none, and is what a mount attempts requests
+//! over.
+#![tactic(auto)]
+
+mod checkout;
+mod fault;
+mod opening;
+
+pub use checkout::Checkout;
+pub use fault::OpenFault;
