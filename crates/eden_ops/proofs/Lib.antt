@@ -16,5 +16,6 @@ pub mod Origins
 pub mod Telling
 pub mod Fetching
 pub mod Saving
+pub mod Going
 pub mod Changing
 pub mod Additions
