@@ -12,6 +12,7 @@ mod end;
 mod exec;
 mod kinds;
 mod laws;
+mod letting;
 mod links;
 mod listing;
 mod looks;
