@@ -24,17 +24,18 @@ pub(crate) fn let_go<A: Allocator + Clone, W: World, F: Files<W>>(
     ensures goes { LetsGo path.now inodes.old.root inodes.new.root }
     ensures fault { IfErr result (IsStoreFault (F.failures inodes.old.files) (F.failures inodes.new.files)) }
     ensures counted { F.failures inodes.old.files ≤ F.failures inodes.new.files }
+    ensures unfailed { OnOk result (F.failures inodes.new.files ≡ F.failures inodes.old.files) }
     ensures same { W.honest → shows W.World F.Files inodes.new ≡ shows W.World F.Files inodes.old }
     ensures saved { AreSaved inodes.old.root → AreSaved inodes.new.root }
     ensures rest { (inodes.new.next ≡ inodes.old.next) × (inodes.new.clock ≡ inodes.old.clock) }
 {
     let failures = inodes.failures();
     inodes.unload(alloc, path, 0);
-    if inodes.directory(path).is_none() {
-        return Ok(());
-    }
     if inodes.failures() > failures {
         return Err(Fault::Overlay);
+    }
+    if inodes.directory(path).is_none() {
+        return Ok(());
     }
     Err(Fault::Memory)
 }
