@@ -4,6 +4,7 @@ use Rattle.std.proofs.lemmas.List.{append-nil}
 use Rattle.std.proofs.lemmas.Option.{same_Some, none-some}
 use Rattle.std.specs.Option.{option_map}
 use Rattle.std.specs.Str.{bytes_eq}
+use Rattle.eden_model.specs.declared.kind.Kind.TheVariants as kind
 use Rattle.eden_model.specs.declared.node.Node.TheVariants.{Dir}
 use Rattle.eden_model.specs.Paths.{behind_of}
 use Rattle.eden_model.specs.Trees.{Name, Path, grafted}
@@ -19,7 +20,7 @@ use Rattle.eden_ops.proofs.Walking.{front_loaded, known_at, known_loaded, known_
 -- ---- one after the other
 
 stays_same : (y : Standing) → Stays y y
-stays_same y = record { number = refl; kind = refl; origin = refl; loaded = λ stamp unsaved is. (stamp, is) }
+stays_same y = record { number = refl; kind = refl; origin = refl; loaded = λ stamp unsaved is. (stamp, is); leaf = λ other none. none }
 
 stays_on : (y v u : Standing) → Stays y v → Stays v u → Stays y u
 stays_on y v u a b = record {
@@ -27,6 +28,7 @@ stays_on y v u a b = record {
   kind = b.kind ∙ a.kind;
   origin = b.origin ∙ a.origin;
   loaded = λ stamp unsaved is. let c = a.loaded stamp unsaved is in b.loaded c.0 unsaved c.1;
+  leaf = λ other none. b.leaf (λ dir. other (sym a.kind ∙ dir)) (a.leaf other none);
 }
 
 pub grows_same : (x : Row) → Grows x x
@@ -46,6 +48,7 @@ stays_stamped s y = record {
   kind = refl;
   origin = refl;
   loaded = λ stamp unsaved is. (s, ap (option_map (λ (l : ℕ × Bool). (s, l.1))) is);
+  leaf = λ other none. ap (option_map (λ (l : ℕ × Bool). (s, l.1))) none;
 }
 
 stamped_there : (s : ℕ) (o : Option Path) (was now : Option Standing) (y : Standing) → now ≡ grafted o (λ r. option_map (stamped s) was) was → was ≡ Some y
@@ -93,7 +96,7 @@ front_of (b ∷ p) (a ∷ q) n m r is =
     let h = front_of p q n m r rest in
     (h.0, ap (λ (k : Name). k ∷ p) first ∙ ap (λ (t : Path). a ∷ t) h.1)
 
-module _ (p : Path) (x y : Row) (d : Directory) (at : row_at p x ≡ Some y) (none : child_of y ≡ None) where
+module _ (p : Path) (x y : Row) (d : Directory) (at : row_at p x ≡ Some y) (none : child_of y ≡ None) (dir : y.kind ≡ kind.Dir) where
   -- nothing stands below what isn't loaded
   nothing_below : (n : Name) (r : Path) (v : Standing) → standing_at (p ++ n ∷ r) x ≡ Some v → ⊥
   nothing_below n r v is =
@@ -110,6 +113,7 @@ module _ (p : Path) (x y : Row) (d : Directory) (at : row_at p x ≡ Some y) (no
     kind = refl;
     origin = refl;
     loaded = λ stamp unsaved is. absurd (none-some (stamp, unsaved) (sym (ap (option_map (λ (e : Directory). (e.stamp, e.unsaved))) none) ∙ is));
+    leaf = λ other away. absurd (other dir);
   }
 
   abbrev new : Row

@@ -1,5 +1,6 @@
 -- What follows of what an attempt leaves, and of waits that follow each other.
-use Rattle.std.specs.Prelude.{◌≡◌, ◌≤◌, ◌<◌, ◌++◌, ◌∷◌, ℕ, Bool, [], length, Some, None}
+use Rattle.std.specs.Prelude.{◌≡◌, ◌≢◌, ◌≤◌, ◌<◌, ◌++◌, ◌∷◌, ℕ, Bool, [], length, Some, None}
+use Rattle.eden_model.specs.declared.kind.Kind.TheVariants as kinds
 use Rattle.eden_model.specs.declared.world.World.{Ghosts}
 use Rattle.eden_model.specs.Trees.{Name, Path, Tree, Unlisted, walk}
 use Rattle.eden_overlay.specs.declared.files.Files.{Ghosts as Files}
@@ -10,12 +11,13 @@ use Rattle.eden_ops.specs.Changes.{Leaves}
 use Rattle.eden_ops.specs.Known.{known, IsLoadedAt, place_on}
 use Rattle.eden_ops.specs.Keeping.{shows, Keeps}
 
--- an entry as it was, but that it may be loaded now: what was loaded is, with its mark
+-- an entry as it was, but that a directory may be loaded now: what was loaded is, with its mark
 pub record Stays (y v : Standing) : Type 0 where
   pub number : v.number ≡ y.number
   pub kind : v.kind ≡ y.kind
   pub origin : v.origin ≡ y.origin
   pub loaded : (stamp : ℕ) (unsaved : Bool) → y.loaded ≡ Some (stamp, unsaved) → (at : ℕ) × (v.loaded ≡ Some (at, unsaved))
+  pub leaf : y.kind ≢ kinds.Dir → y.loaded ≡ None → v.loaded ≡ None
 
 -- each entry is as it was, and a loaded directory has no other names
 pub record Grows (x z : Row) : Type 0 where
