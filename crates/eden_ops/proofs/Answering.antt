@@ -91,7 +91,7 @@ tree_wanted x q d k dir h =
     h.kind ∙ ap object_kind (dir_child h.row.kind (content_known h.row.origin) h.row.child is)
 
 -- a look makes no entry
-no_entry : (r : Request) (x : Path) → Makes r → r ≡ ask.Kind x → ⊥
+pub no_entry : (r : Request) (x : Path) → Makes r → r ≡ ask.Kind x → ⊥
 no_entry _ x (creates p) is = cc
 no_entry _ x (makes_dir p) is = cc
 no_entry _ x (links p target) is = cc

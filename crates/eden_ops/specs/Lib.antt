@@ -8,3 +8,4 @@ pub mod Attempts
 pub mod Looks
 pub mod Laws
 pub mod Changes
+pub mod Renames
