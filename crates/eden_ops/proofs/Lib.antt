@@ -22,3 +22,4 @@ pub mod Changing
 pub mod Additions
 pub mod Owned
 pub mod Relocation
+pub mod Renames

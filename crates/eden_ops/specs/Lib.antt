@@ -11,3 +11,4 @@ pub mod Left
 pub mod Changes
 pub mod Letting
 pub mod Relocating
+pub mod Renames

@@ -11,6 +11,7 @@ mod contents;
 mod end;
 mod exec;
 mod kinds;
+mod landing;
 mod laws;
 mod letting;
 mod links;
