@@ -46,10 +46,6 @@ is_dir kind.Exec no = absurd (no (λ is. cc))
 is_dir kind.Link no = absurd (no (λ is. cc))
 is_dir kind.Dir no = refl
 
--- the mark of an entry's directory
-abbrev mark_of : Row → Option (ℕ × Bool)
-mark_of y = option_map (λ (d : Directory). (d.stamp, d.unsaved)) (child_of y)
-
 module _ (y v : Row) (stays : Stays (standing y) (standing v)) where
   bare_node : node_from v.kind (content_known v.origin) false ≡ node_from y.kind (content_known y.origin) false
   bare_node = ap (λ (k : Kind). node_from k (content_known v.origin) false) stays.kind ∙ ap (λ (o : Origin). node_from y.kind (content_known o) false) stays.origin
