@@ -41,10 +41,10 @@ dir_node kind.Link c is = cc
 dir_node kind.Dir c is = refl
 
 is_dir : (k : Kind) → ¬ (k ≢ kind.Dir) → k ≡ kind.Dir
-is_dir kind.File no = absurd (no (λ is. cc))
-is_dir kind.Exec no = absurd (no (λ is. cc))
-is_dir kind.Link no = absurd (no (λ is. cc))
-is_dir kind.Dir no = refl
+is_dir kind.File never = absurd (never (λ is. cc))
+is_dir kind.Exec never = absurd (never (λ is. cc))
+is_dir kind.Link never = absurd (never (λ is. cc))
+is_dir kind.Dir never = refl
 
 module _ (y v : Row) (stays : Stays (standing y) (standing v)) where
   bare_node : node_from v.kind (content_known v.origin) false ≡ node_from y.kind (content_known y.origin) false
