@@ -37,12 +37,22 @@ use Rattle.eden_ops.specs.Keeping.{shows, Keeps}
 use Rattle.eden_ops.specs.Known.{content_known, known_by, known_node, known, is_unlisted, place_from, place_on, place}
 use Rattle.eden_ops.proofs.Walking.{walk_here, place_passes}
 
--- a request whose reply is by what stands at its path, or by its absence
+-- a request that looks at a path first: its reply is by what stands there, or by its absence
+pub record Starts (q : Request) (p : Path) (absent : Reply → Type 0) (here : Tree → Node → Reply → Type 0) : Type 0 where
+  pub says : (G : Tree) (r : Reply) → Table_Meets (reach G p) absent (here G) r → Replies G q r
+  pub only : (G : Tree) (r : Reply) → Replies G q r → Table_Meets (reach G p) absent (here G) r
+  pub at : (G : Tree) → walk G p ≡ Unlisted → place G q ≡ place_on G p
+  pub plain : (x : Path) → q ≡ ask.Kind x → x ≡ p
+
+-- .. and at no other
 pub record Asked (q : Request) (p : Path) (absent : Reply → Type 0) (here : Tree → Node → Reply → Type 0) : Type 0 where
   pub says : (G : Tree) (r : Reply) → Table_Meets (reach G p) absent (here G) r → Replies G q r
   pub only : (G : Tree) (r : Reply) → Replies G q r → Table_Meets (reach G p) absent (here G) r
   pub at : (G : Tree) → place G q ≡ place_on G p
   pub plain : (x : Path) → q ≡ ask.Kind x → x ≡ p
+
+starts : {q : Request} {p : Path} {absent : Reply → Type 0} {here : Tree → Node → Reply → Type 0} → Asked q p absent here → Starts q p absent here
+starts asks = record { says = asks.says; only = asks.only; at = λ G is. asks.at G; plain = asks.plain }
 
 -- .. which is refused
 abbrev pub Asks : Request → Path → (Tree → Node → Reply → Type 0) → Type 0
@@ -81,7 +91,7 @@ tree_wanted x q d k dir h =
     h.kind ∙ ap object_kind (dir_child h.row.kind (content_known h.row.origin) h.row.child is)
 
 -- a look makes no entry
-no_entry : (r : Request) (x : Path) → Makes r → r ≡ ask.Kind x → ⊥
+pub no_entry : (r : Request) (x : Path) → Makes r → r ≡ ask.Kind x → ⊥
 no_entry _ x (creates p) is = cc
 no_entry _ x (makes_dir p) is = cc
 no_entry _ x (links p target) is = cc
@@ -97,13 +107,14 @@ pub says_at : (R : Repository) (G : Stored) (p : Path) (here : Tree → Node →
     → ((listed : Bool) → here T (shown_node R G y listed) r) → At T p (here T) r
 says_at R G p here T o y at h r says = says_met R G p (Refuses ENOENT) here T o y at h r says
 
-module _ {W F : Type 0} {absent : Reply → Type 0} (w : Ghosts W) (f : Files F W) (q : Request) (p : Path) (here : Tree → Node → Reply → Type 0) (asks : Asked q p absent here) (s t : Table F) (c d : Cache)
-    (same : w.honest → shows w f t ≡ shows w f s) (keeps : Keeps w f s t) (cache : FindsTheSame c d) where
+-- ---- what is answered, and changes nothing
+
+module _ {W F : Type 0} (w : Ghosts W) (f : Files F W) (q : Request) (s t : Table F) (c d : Cache) (same : w.honest → shows w f t ≡ shows w f s) (cache : FindsTheSame c d) where
   -- a reply that leaves the tree
-  pub replied : (r : Reply) → fault_of r ≡ None → ((G : Tree) → after G q r ≡ G) → (w.honest → Table_Meets (reach (shows w f s) p) absent (here (shows w f s)) r) → Attempts w f q s t c d (Finished r)
-  replied r fine still says = record {
+  pub answered : (r : Reply) → fault_of r ≡ None → ((G : Tree) → after G q r ≡ G) → (w.honest → Replies (shows w f s) q r) → Attempts w f q s t c d (Finished r)
+  answered r fine still says = record {
     answer = record {
-      reply = λ h x. asks.says (shows w f s) r (says h);
+      reply = λ h x. says h;
       fault = λ e is. let x : Some e ≡ None = ap fault_of (sym is) ∙ fine in cc;
       shown = λ h. same h ∙ sym (still (shows w f s));
     };
@@ -111,47 +122,68 @@ module _ {W F : Type 0} {absent : Reply → Type 0} (w : Ghosts W) (f : Files F 
   }
 
   -- a fault
-  pub faulted : (e : Fault) → IsLawful w f q s t e → Attempts w f q s t c d (Finished (say.Fault e))
-  faulted e lawful = record {
+  pub failed : (e : Fault) → IsLawful w f q s t e → Attempts w f q s t c d (Finished (say.Fault e))
+  failed e lawful = record {
     answer = record { reply = λ h x. cc; fault = λ a is. let one : e ≡ a = cc in subst (λ (b : Fault). IsLawful w f q s t b) one lawful; shown = same };
     cache = cache;
   }
 
+module _ {W F : Type 0} {absent : Reply → Type 0} (w : Ghosts W) (f : Files F W) (q : Request) (p : Path) (here : Tree → Node → Reply → Type 0) (first : Starts q p absent here) (s t : Table F) (c d : Cache)
+    (same : w.honest → shows w f t ≡ shows w f s) (keeps : Keeps w f s t) (cache : FindsTheSame c d) where
+  -- a reply that leaves the tree
+  pub first_replied : (r : Reply) → fault_of r ≡ None → ((G : Tree) → after G q r ≡ G) → (w.honest → Table_Meets (reach (shows w f s) p) absent (here (shows w f s)) r) → Attempts w f q s t c d (Finished r)
+  first_replied r fine still says = answered w f q s t c d same cache r fine still (λ h. first.says (shows w f s) r (says h))
+
   -- ---- the walk ends before the path does
 
   silent : (G : Tree) (r : Reply) → walk G p ≡ Unlisted → ¬ Replies G q r
-  silent G r un h = subst (λ (x : Reach). Table_Meets x absent (here G) r) (ap (λ (v : Walk). ends v (G p)) un) (asks.only G r h)
+  silent G r un h = subst (λ (x : Reach). Table_Meets x absent (here G) r) (ap (λ (v : Walk). ends v (G p)) un) (first.only G r h)
 
-  lawful : (e : Fault) → IsLawful w f (ask.Kind p) s t e → IsLawful w f q s t e
-  lawful (fault.Fetch id cause) h = h
-  lawful fault.Memory h = λ x is. subst (λ (y : Path). walk (known s.root) y ≡ Unlisted) (sym (asks.plain x is)) (h p refl)
-  lawful fault.Overlay (inl rose) = inl rose
-  lawful fault.Overlay (inr damaged) = inr (subst (λ (x : Path). IsDamaged w f x t) (sym (asks.at (known t.root))) damaged)
-  lawful fault.Numbers (inl m) = absurd (no_entry (ask.Kind p) p m.0 refl)
-  lawful fault.Numbers (inr h) = inr (subst (λ (x : Path). WantsNumbers w f x t) (sym (asks.at (known t.root))) h)
+  lawful : (e : Fault) → walk (known t.root) p ≡ Unlisted → IsLawful w f (ask.Kind p) s t e → IsLawful w f q s t e
+  lawful (fault.Fetch id cause) un h = h
+  lawful fault.Memory un h = λ x is. subst (λ (y : Path). walk (known s.root) y ≡ Unlisted) (sym (first.plain x is)) (h p refl)
+  lawful fault.Overlay un (inl rose) = inl rose
+  lawful fault.Overlay un (inr damaged) = inr (subst (λ (x : Path). IsDamaged w f x t) (sym (first.at (known t.root) un)) damaged)
+  lawful fault.Numbers un (inl m) = absurd (no_entry (ask.Kind p) p m.0 refl)
+  lawful fault.Numbers un (inr h) = inr (subst (λ (x : Path). WantsNumbers w f x t) (sym (first.at (known t.root) un)) h)
 
-  pub walk_ended : (z : Stop) → Meets w f p s t d (Err z) → (w.honest → MeetsShown w f p s t (Err z)) → Attempts w f q s t c d (stopped z)
-  walk_ended (stop.Errs e) h shown =
-      replied (say.Err e) refl (λ G. refl) (λ honest. subst (λ (x : Reach). Table_Meets x absent (here (shows w f s)) (say.Err e)) (sym (shown honest)) refl)
-  walk_ended (stop.Needs k) h shown = record {
+  pub first_ended : (z : Stop) → Meets w f p s t d (Err z) → (w.honest → MeetsShown w f p s t (Err z)) → Attempts w f q s t c d (stopped z)
+  first_ended (stop.Errs e) h shown =
+      first_replied (say.Err e) refl (λ G. refl) (λ honest. subst (λ (x : Reach). Table_Meets x absent (here (shows w f s)) (say.Err e)) (sym (shown honest)) refl)
+  first_ended (stop.Needs k) h shown = record {
     answer = record {
       need = record {
         silent = λ r. silent (known t.root) r h.0;
-        wanted = subst (λ (x : Path). Wants (row_at x t.root) d k) (sym (asks.at (known t.root))) h.1;
+        wanted = subst (λ (x : Path). Wants (row_at x t.root) d k) (sym (first.at (known t.root) h.0)) h.1;
         unsized = λ x is blob. let tree = tree_wanted t.root (place_on (known t.root) p) d k (place_dir (known t.root) [] p h.0) h.1 in let no : objects.Blob ≡ objects.Tree = sym blob ∙ tree in cc;
       };
       keeps = keeps;
     };
     cache = cache;
   }
-  walk_ended (stop.Faults e) h shown = faulted e (lawful e h)
+  first_ended (stop.Faults e) h shown = failed w f q s t c d same cache e (lawful e h.0 h.1)
 
   -- ---- at the path
 
   -- by the entry there
+  pub first_here : (y : Row) → row_at p t.root ≡ Some y → (w.honest → IsShown w.repository (f.stored t.files) (row_at p t.root) (reach (shows w f s) p)) → (r : Reply) → fault_of r ≡ None
+      → ((G : Tree) → after G q r ≡ G) → (w.honest → (listed : Bool) → here (shows w f s) (shown_node w.repository (f.stored t.files) y listed) r) → Attempts w f q s t c d (Finished r)
+  first_here y at shown r fine still says = first_replied r fine still (λ honest. says_met w.repository (f.stored t.files) p absent here (shows w f s) (row_at p t.root) y at (shown honest) r (says honest))
+
+module _ {W F : Type 0} {absent : Reply → Type 0} (w : Ghosts W) (f : Files F W) (q : Request) (p : Path) (here : Tree → Node → Reply → Type 0) (asks : Asked q p absent here) (s t : Table F) (c d : Cache)
+    (same : w.honest → shows w f t ≡ shows w f s) (keeps : Keeps w f s t) (cache : FindsTheSame c d) where
+  pub replied : (r : Reply) → fault_of r ≡ None → ((G : Tree) → after G q r ≡ G) → (w.honest → Table_Meets (reach (shows w f s) p) absent (here (shows w f s)) r) → Attempts w f q s t c d (Finished r)
+  replied = first_replied w f q p here (starts asks) s t c d same keeps cache
+
+  pub faulted : (e : Fault) → IsLawful w f q s t e → Attempts w f q s t c d (Finished (say.Fault e))
+  faulted = failed w f q s t c d same cache
+
+  pub walk_ended : (z : Stop) → Meets w f p s t d (Err z) → (w.honest → MeetsShown w f p s t (Err z)) → Attempts w f q s t c d (stopped z)
+  walk_ended = first_ended w f q p here (starts asks) s t c d same keeps cache
+
   pub says_here : (y : Row) → row_at p t.root ≡ Some y → (w.honest → IsShown w.repository (f.stored t.files) (row_at p t.root) (reach (shows w f s) p)) → (r : Reply) → fault_of r ≡ None
       → ((G : Tree) → after G q r ≡ G) → (w.honest → (listed : Bool) → here (shows w f s) (shown_node w.repository (f.stored t.files) y listed) r) → Attempts w f q s t c d (Finished r)
-  says_here y at shown r fine still says = replied r fine still (λ honest. says_met w.repository (f.stored t.files) p absent here (shows w f s) (row_at p t.root) y at (shown honest) r (says honest))
+  says_here = first_here w f q p here (starts asks) s t c d same keeps cache
 
   -- what the entry there wants: its object, or what its stored file lacks
   module _ (y : Row) (at : row_at p t.root ≡ Some y) where

@@ -40,15 +40,15 @@ module _ {W F : Type 0} (w : Ghosts W) (f : Files F W) (p : Path) (s t : Table F
   own_keeps none l = loads_own w f s t p none l.0 l.1 (record { stored = stored; failures = counted; clock = rest.0; changes = rest.1 })
 
   pub own_loaded : HasNoTree p s.root → LoadsOwn w.honest s.clock (f.stored s.files) s.root p t.root → IsLoadedAt p t.root
-  own_loaded (inl at) l = subst (λ (z : Row). IsLoadedAt p z) (sym l.is) (loaded_there p s.root at.row l.directory at.there at.kind at.unloaded s.clock)
-  own_loaded (inr at) l = subst (λ (z : Row). IsLoadedAt p z) (sym l.is) (loaded_there p s.root at.row l.directory at.there at.kind at.unloaded s.clock)
+  own_loaded (inl at) l = subst (λ (z : Row). IsLoadedAt p z) (sym l.is) (loaded_there p s.root at.row l.directory at.there at.unloaded at.kind s.clock)
+  own_loaded (inr at) l = subst (λ (z : Row). IsLoadedAt p z) (sym l.is) (loaded_there p s.root at.row l.directory at.there at.unloaded at.kind s.clock)
 
   -- from a tree object
   pub object_keeps : (es : List TreeEntry) → HasTree w.repository w.honest p s.root es → LoadsObject s.clock s.next s.root p es t.root t.next → Keeps w f s t
   object_keeps es has l = loads_object w f s t p es has l (record { stored = stored; failures = counted; clock = rest.0; changes = rest.1 })
 
   pub object_loaded : (es : List TreeEntry) → HasTree w.repository w.honest p s.root es → LoadsObject s.clock s.next s.root p es t.root t.next → IsLoadedAt p t.root
-  object_loaded es has l = subst (λ (z : Row). IsLoadedAt p z) (sym l.is) (loaded_there p s.root has.at.row l.directory has.at.there has.at.kind has.at.unloaded s.clock)
+  object_loaded es has l = subst (λ (z : Row). IsLoadedAt p z) (sym l.is) (loaded_there p s.root has.at.row l.directory has.at.there has.at.unloaded has.at.kind s.clock)
 
   -- refused
   module _ (still : (t.root ≡ s.root) × (t.next ≡ s.next)) where

@@ -20,11 +20,7 @@ use Rattle.eden_ops.proofs.Walking.{front_loaded, known_at, known_loaded, known_
 -- ---- one after the other
 
 stays_same : (y : Standing) → Stays y y
-stays_same y = record { number = refl; kind = refl; origin = refl; loaded = λ stamp unsaved is. (stamp, is); since = λ mark none is. absurd (none-some mark (sym none ∙ is)) }
-
-dir_since : (y v u : Standing) → Stays y v → Stays v u → (o : Option (ℕ × Bool)) → v.loaded ≡ o → (mark : ℕ × Bool) → y.loaded ≡ None → u.loaded ≡ Some mark → y.kind ≡ kind.Dir
-dir_since y v u a b None between mark none is = sym a.kind ∙ b.since mark between is
-dir_since y v u a b (Some m) between mark none is = a.since m none between
+stays_same y = record { number = refl; kind = refl; origin = refl; loaded = λ stamp unsaved is. (stamp, is); leaf = λ other none. none }
 
 stays_on : (y v u : Standing) → Stays y v → Stays v u → Stays y u
 stays_on y v u a b = record {
@@ -32,7 +28,7 @@ stays_on y v u a b = record {
   kind = b.kind ∙ a.kind;
   origin = b.origin ∙ a.origin;
   loaded = λ stamp unsaved is. let c = a.loaded stamp unsaved is in b.loaded c.0 unsaved c.1;
-  since = dir_since y v u a b v.loaded refl;
+  leaf = λ other none. b.leaf (λ dir. other (sym a.kind ∙ dir)) (a.leaf other none);
 }
 
 pub grows_same : (x : Row) → Grows x x
@@ -52,7 +48,7 @@ stays_stamped s y = record {
   kind = refl;
   origin = refl;
   loaded = λ stamp unsaved is. (s, ap (option_map (λ (l : ℕ × Bool). (s, l.1))) is);
-  since = λ mark none is. absurd (none-some mark (sym (ap (option_map (λ (l : ℕ × Bool). (s, l.1))) none) ∙ is));
+  leaf = λ other none. ap (option_map (λ (l : ℕ × Bool). (s, l.1))) none;
 }
 
 stamped_there : (s : ℕ) (o : Option Path) (was now : Option Standing) (y : Standing) → now ≡ grafted o (λ r. option_map (stamped s) was) was → was ≡ Some y
@@ -100,7 +96,7 @@ front_of (b ∷ p) (a ∷ q) n m r is =
     let h = front_of p q n m r rest in
     (h.0, ap (λ (k : Name). k ∷ p) first ∙ ap (λ (t : Path). a ∷ t) h.1)
 
-module _ (p : Path) (x y : Row) (d : Directory) (at : row_at p x ≡ Some y) (dir : y.kind ≡ kind.Dir) (none : child_of y ≡ None) where
+module _ (p : Path) (x y : Row) (d : Directory) (at : row_at p x ≡ Some y) (none : child_of y ≡ None) (dir : y.kind ≡ kind.Dir) where
   -- nothing stands below what isn't loaded
   nothing_below : (n : Name) (r : Path) (v : Standing) → standing_at (p ++ n ∷ r) x ≡ Some v → ⊥
   nothing_below n r v is =
@@ -117,7 +113,7 @@ module _ (p : Path) (x y : Row) (d : Directory) (at : row_at p x ≡ Some y) (di
     kind = refl;
     origin = refl;
     loaded = λ stamp unsaved is. absurd (none-some (stamp, unsaved) (sym (ap (option_map (λ (e : Directory). (e.stamp, e.unsaved))) none) ∙ is));
-    since = λ mark away is. dir;
+    leaf = λ other away. absurd (other dir);
   }
 
   abbrev new : Row

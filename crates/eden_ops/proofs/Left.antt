@@ -40,9 +40,11 @@ dir_node kind.Exec c is = cc
 dir_node kind.Link c is = cc
 dir_node kind.Dir c is = refl
 
--- the mark of an entry's directory
-abbrev mark_of : Row → Option (ℕ × Bool)
-mark_of y = option_map (λ (d : Directory). (d.stamp, d.unsaved)) (child_of y)
+is_dir : (k : Kind) → ¬ (k ≢ kind.Dir) → k ≡ kind.Dir
+is_dir kind.File never = absurd (never (λ is. cc))
+is_dir kind.Exec never = absurd (never (λ is. cc))
+is_dir kind.Link never = absurd (never (λ is. cc))
+is_dir kind.Dir never = refl
 
 module _ (y v : Row) (stays : Stays (standing y) (standing v)) where
   bare_node : node_from v.kind (content_known v.origin) false ≡ node_from y.kind (content_known y.origin) false
@@ -54,7 +56,7 @@ module _ (y v : Row) (stays : Stays (standing y) (standing v)) where
       let up = stays.loaded d.stamp d.unsaved (ap (option_map (λ (x : Directory). (x.stamp, x.unsaved))) was) in
       absurd (none-some (up.0, d.unsaved) (sym (ap (option_map (λ (x : Directory). (x.stamp, x.unsaved))) now) ∙ up.1))
   node_by None (Some e) was now =
-      let dir = stays.since (e.stamp, e.unsaved) (ap (option_map (λ (x : Directory). (x.stamp, x.unsaved))) was) (ap (option_map (λ (x : Directory). (x.stamp, x.unsaved))) now) in
+      let dir = is_dir y.kind (λ other. none-some (e.stamp, e.unsaved) (sym (stays.leaf other (ap (option_map (λ (x : Directory). (x.stamp, x.unsaved))) was)) ∙ ap (option_map (λ (x : Directory). (x.stamp, x.unsaved))) now)) in
       inr (known_unloaded y was ∙ dir_node y.kind (content_known y.origin) dir, known_loaded v e now)
   node_by None None was now = inl (known_unloaded v now ∙ bare_node ∙ sym (known_unloaded y was))
 

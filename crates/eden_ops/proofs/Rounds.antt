@@ -55,13 +55,13 @@ module _ {W F : Type 0} (w : Ghosts W) (f : Files F W) (p : Path) where
     lawful fault.Overlay (inr damaged) = inr (subst (λ (r : Path). IsDamaged w f r v) (sym place_there) damaged)
     lawful fault.Numbers h = inr (subst (λ (r : Path). WantsNumbers w f r v) (sym place_there) h)
 
+    ends_here : walk (known v.root) p ≡ Unlisted
+    ends_here = ap (λ (x : Row). walk (known x) p) still ∙ ends_unlisted p u.root seen last away lt dir
+
     pub ends_there : (z : Stop) → Lacks w f (take seen.names p) u v e z → Ends w f p s v e (walked_by z)
     ends_there (stop.Errs a) h = absurd h
-    ends_there (stop.Needs k) h = (
-      ap (λ (x : Row). walk (known x) p) still ∙ ends_unlisted p u.root seen last away lt dir,
-      subst (λ (r : Path). Wants (row_at r v.root) e k) (sym place_there) h,
-    )
-    ends_there (stop.Faults a) h = lawful a h
+    ends_there (stop.Needs k) h = (ends_here, subst (λ (r : Path). Wants (row_at r v.root) e k) (sym place_there) h)
+    ends_there (stop.Faults a) h = (ends_here, lawful a h)
 
     pub meets_err : (r : Result (Option Seen) Stop) (z : Stop) → IsErr r → IsErrAnd r (λ y. y ≡ z) → Lacks w f (take seen.names p) u v e z → Meets w f p s v e r
     meets_err (Ok o) z err is h = cc

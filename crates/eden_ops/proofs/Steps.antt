@@ -27,11 +27,11 @@ module _ {W F : Type 0} (w : Ghosts W) (f : Files F W) where
   -- ---- what a step leaves
 
   own_grows : (s : Table F) (p : Path) (z : Row) → HasNoTree p s.root → (l : LoadsOwn w.honest s.clock (f.stored s.files) s.root p z) → Grows s.root (stamped_along p s.clock (edit_row p (with_child (Some l.directory)) s.root))
-  own_grows s p z (inl at) l = grows_loaded p s.root at.row l.directory at.there at.kind at.unloaded s.clock
-  own_grows s p z (inr at) l = grows_loaded p s.root at.row l.directory at.there at.kind at.unloaded s.clock
+  own_grows s p z (inl at) l = grows_loaded p s.root at.row l.directory at.there at.unloaded at.kind s.clock
+  own_grows s p z (inr at) l = grows_loaded p s.root at.row l.directory at.there at.unloaded at.kind s.clock
 
   load_grows : (s t : Table F) (p : Path) → Loads w f p s t → Grows s.root t.root
-  load_grows s t p (from_object id es at tree l) = subst (λ (z : Row). Grows s.root z) (sym l.is) (grows_loaded p s.root at.row l.directory at.there at.kind at.unloaded s.clock)
+  load_grows s t p (from_object id es at tree l) = subst (λ (z : Row). Grows s.root z) (sym l.is) (grows_loaded p s.root at.row l.directory at.there at.unloaded at.kind s.clock)
   load_grows s t p (without none l next) = subst (λ (z : Row). Grows s.root z) (sym l.is) (own_grows s p t.root none l)
 
   step_grows : (s t : Table F) → Step w f s t → Grows s.root t.root

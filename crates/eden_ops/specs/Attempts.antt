@@ -126,7 +126,7 @@ module _ {W F : Type 0} (w : Ghosts W) (f : Files F W) where
   Ends p s t d walked.Through = walk (known t.root) p ≡ Passes
   Ends p s t d (walked.Errs e) = walk (known t.root) p ≡ Stops e
   Ends p s t d (walked.Needs k) = (walk (known t.root) p ≡ Unlisted) × Wants (row_at (place_on (known t.root) p) t.root) d k
-  Ends p s t d (walked.Faults e) = IsLawful w f (ask.Kind p) s t e
+  Ends p s t d (walked.Faults e) = (walk (known t.root) p ≡ Unlisted) × IsLawful w f (ask.Kind p) s t e
 
   -- it ends so over what memory knows now, and nothing changed
   pub record Reaches (p : Path) (s t : Table F) (c d : Cache) (a : Walked) : Type 0 where

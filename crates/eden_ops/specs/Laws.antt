@@ -1,5 +1,5 @@
 -- What follows of what an attempt leaves, and of waits that follow each other.
-use Rattle.std.specs.Prelude.{◌≡◌, ◌≤◌, ◌<◌, ◌++◌, ◌∷◌, ℕ, Bool, [], length, Some, None}
+use Rattle.std.specs.Prelude.{◌≡◌, ◌≢◌, ◌≤◌, ◌<◌, ◌++◌, ◌∷◌, ℕ, Bool, [], length, Some, None}
 use Rattle.eden_model.specs.declared.kind.Kind.TheVariants as kinds
 use Rattle.eden_model.specs.declared.world.World.{Ghosts}
 use Rattle.eden_model.specs.Trees.{Name, Path, Tree, Unlisted, walk}
@@ -17,7 +17,7 @@ pub record Stays (y v : Standing) : Type 0 where
   pub kind : v.kind ≡ y.kind
   pub origin : v.origin ≡ y.origin
   pub loaded : (stamp : ℕ) (unsaved : Bool) → y.loaded ≡ Some (stamp, unsaved) → (at : ℕ) × (v.loaded ≡ Some (at, unsaved))
-  pub since : (mark : ℕ × Bool) → y.loaded ≡ None → v.loaded ≡ Some mark → y.kind ≡ kinds.Dir
+  pub leaf : y.kind ≢ kinds.Dir → y.loaded ≡ None → v.loaded ≡ None
 
 -- each entry is as it was, and a loaded directory has no other names
 pub record Grows (x z : Row) : Type 0 where

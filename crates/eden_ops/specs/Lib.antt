@@ -9,3 +9,6 @@ pub mod Looks
 pub mod Laws
 pub mod Left
 pub mod Changes
+pub mod Letting
+pub mod Relocating
+pub mod Renames

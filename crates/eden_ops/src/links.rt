@@ -5,7 +5,7 @@ ghost use Rattle.eden_ops.specs.Caches.{IsStocked};
 ghost use Rattle.eden_ops.specs.Keeping.{Keeps};
 
 use crate::answer::Attempt;
-use crate::contents::part;
+use crate::contents::{Form, make};
 use crate::end::ended;
 use crate::meet::meet;
 use crate::what::what;
@@ -36,7 +36,8 @@ pub fn readlink<A: Allocator + Clone, W: World, F: Files<W>, C: Allocator + Clon
         Kind::Dir => return Attempt::Finished(Reply::Err(Errno::EINVAL)),
         Kind::Link => {}
     }
-    match part(inodes, cache, alloc, path, seen.origin, 0, MAX_FILE) {
+    let form = Form::Part(0, MAX_FILE);
+    match make(inodes, cache, alloc, path, seen.origin, form) {
         Err(stop) => ended(stop),
         Ok(bytes) => Attempt::Finished(Reply::Data(bytes)),
     }

@@ -1,0 +1,180 @@
+-- What stands where an entry is to go.
+use Rattle.std.proofs.Common.{◌≡◌, ◌≢◌, ◌⊎◌, ◌==◌, ◌&&◌, ◌++◌, ◌∷◌, ℕ, Bool, true, false, cond, List, [], length, if◌then◌else◌, Option, Some, None, Ok, Err, sym, refl, ◌∙◌, ap, subst, inl, inr}
+use Rattle.std.proofs.Math.Dec.{eqb-suc-zero}
+use Rattle.std.proofs.lemmas.Bool.{false≢true}
+use Rattle.std.specs.Cmp.Lexicographic.{nat_list_eq_equiv}
+use Rattle.std.specs.Option.{option_map, option_and_then, IsSome}
+use Rattle.std.specs.Str.{bytes_eq}
+use Rattle.eden_model.specs.declared.errno.Errno.{Errno}
+use Rattle.eden_model.specs.declared.errno.Errno.TheVariants.{ENOTDIR, EISDIR, ENOTEMPTY}
+use Rattle.eden_model.specs.declared.fault.Fault.{Fault}
+use Rattle.eden_model.specs.declared.fault.Fault.TheVariants as fault
+use Rattle.eden_model.specs.declared.kind.Kind.{Kind}
+use Rattle.eden_model.specs.declared.kind.Kind.TheVariants as kind
+use Rattle.eden_model.specs.declared.node.Node.{Node}
+use Rattle.eden_model.specs.declared.node.Node.TheVariants.{Dir}
+use Rattle.eden_model.specs.declared.request.Request.TheVariants as ask
+use Rattle.eden_model.specs.declared.reply.Reply.{Reply}
+use Rattle.eden_model.specs.declared.reply.Reply.TheVariants as say
+use Rattle.eden_model.specs.declared.world.World.{Ghosts}
+use Rattle.eden_model.specs.Named.{AreRising}
+use Rattle.eden_model.specs.Operations.{Meets as Table_Meets, Says, Replaces, IfEmpty, Removes, Unlinks, kind_at, kind_of}
+use Rattle.eden_model.specs.Repository.{Repository, source_of, content_with}
+use Rattle.eden_model.specs.Shown.{node_from}
+use Rattle.eden_model.specs.Trees.{Name, Path, Tree, Walk, Passes, Unlisted, walk, Reach, Fails, Absent, Here, ends, reach}
+use Rattle.eden_overlay.specs.declared.files.Files.{Ghosts as Files}
+use Rattle.eden_overlay.specs.Files.{Stored}
+use Rattle.eden_overlay.specs.Held.{own_files}
+use Rattle.eden_cache.specs.Cache.{Cache}
+use Rattle.eden_tree.specs.Directory.{Row, Directory, child_of}
+use Rattle.eden_tree.specs.Rows.{find_row}
+use Rattle.eden_tree.specs.Paths.{row_at}
+use Rattle.eden_tie.specs.Kept.{IsKept}
+use Rattle.eden_tie.specs.Shown.{shown_in}
+use Rattle.eden_tie.specs.ShownLaws.{ShowsBelow, ShowsAbsent}
+use Rattle.eden_tie.proofs.CallerLemmas.{and_then_some, map_some}
+use Rattle.eden_inode.specs.declared.seen.Seen.{Seen}
+use Rattle.eden_inode.specs.Tables.{Table}
+use Rattle.eden_ops.specs.declared.answer.Stop.{Stop}
+use Rattle.eden_ops.specs.declared.answer.Stop.TheVariants as stop
+use Rattle.eden_ops.specs.Attempts.{Wants, IsSeen, IsShown, Meets, MeetsShown, Lacks, shown_node}
+use Rattle.eden_ops.specs.Faults.{IsDamaged, WantsNumbers, IsCaused, IsLawful}
+use Rattle.eden_ops.specs.Keeping.{shows, Keeps}
+use Rattle.eden_ops.specs.Known.{content_known, known_node, known, place_on, IsLoadedAt}
+use Rattle.eden_ops.specs.Listings.{kind_in, kinds_in}
+use Rattle.eden_ops.specs.Renames.{MayLand, Lands, LandsShown}
+use Rattle.eden_ops.proofs.Answering.{no_entry}
+use Rattle.eden_ops.proofs.Fetching.{away, dir_kind, shown_kind}
+use Rattle.eden_ops.proofs.Listed.{kind_found, lists_rows, reaches_dir}
+use Rattle.eden_ops.proofs.Looking.{lists_other, lists_away}
+use Rattle.eden_ops.proofs.Changing.{unlinks_file, unlinks_dir}
+use Rattle.eden_ops.proofs.Rounds.{lacks_since}
+use Rattle.eden_ops.proofs.Seeing.{kept_dirs}
+use Rattle.eden_ops.proofs.Walking.{walk_here, place_passes, known_unloaded, known_dir}
+
+-- ---- a loaded directory, with entries or without
+
+none_of_map : {X Y : Type 0} (f : X → Y) (o : Option X) → None ≡ option_map f o → o ≡ None
+none_of_map f None is = refl
+none_of_map f (Some x) is = cc
+
+some_of_map : {X Y : Type 0} (f : X → Y) (o : Option X) (y : Y) → Some y ≡ option_map f o → IsSome o
+some_of_map f None y is = cc
+some_of_map f (Some x) y is = refl
+
+bare_by : (G : Tree) (p : Path) (rows : List (Name × Row)) → ((n : Name) → option_map (λ (z : Row). z.kind) (find_row n rows) ≡ option_map kind_of (G (p ++ n ∷ [])))
+    → IfEmpty G p (if length rows == 0 then say.Ok else say.Err ENOTEMPTY)
+bare_by G p [] children = inl ((λ n. none_of_map kind_of (G (p ++ n ∷ [])) (children n)), refl)
+bare_by G p (e ∷ rows) children =
+    let first : Some e.1.kind ≡ option_map kind_of (G (p ++ e.0 ∷ [])) =
+    sym (ap (λ (b : Bool). option_map (λ (z : Row). z.kind) (cond b (Some e.1) (find_row e.0 rows))) (nat_list_eq_equiv.refl e.0)) ∙ children e.0 in
+    subst (λ (b : Bool). IfEmpty G p (if b then say.Ok else say.Err ENOTEMPTY)) (sym (eqb-suc-zero (length rows)))
+    (inr ((e.0, some_of_map kind_of (G (p ++ e.0 ∷ [])) e.1.kind first), refl))
+
+-- what the table says over it
+pub bare_told : {W F : Type 0} (w : Ghosts W) (f : Files F W) (p : Path) (t : Table F) (d : Directory) → ShowsBelow → ShowsAbsent
+    → (w.honest → IsKept w.repository (f.stored t.files) t.root t.next) → option_and_then child_of (row_at p t.root) ≡ Some d → AreRising (λ r. r.0) d.rows → (n : ℕ) → n ≡ length d.rows
+    → w.honest → MayLand (shows w f t) p true (if n == 0 then say.Ok else say.Err ENOTEMPTY)
+bare_told w f p t d below missing kept loaded rising n count honest =
+    let R = w.repository in
+    let F = f.stored t.files in
+    let dirs = kept_dirs R F t.root t.next (kept honest) in
+    let y = and_then_some child_of (row_at p t.root) d loaded in
+    let G = shows w f t in
+    let all = (lists_rows below missing R F t.root dirs p y.0 d y.1.0 y.1.1 rising).children in
+    let bare = bare_by G p d.rows (λ m. sym (kind_found m d.rows) ∙ all m) in
+    subst (λ (v : Reach). Table_Meets v (Says say.Ok) (Replaces G p true) (if n == 0 then say.Ok else say.Err ENOTEMPTY)) (sym (reaches_dir below missing R F t.root dirs p y.0 d y.1.0 y.1.1))
+    (subst (λ (m : ℕ). IfEmpty G p (if m == 0 then say.Ok else say.Err ENOTEMPTY)) (sym count) bare)
+
+-- ---- the walk ends before the path does
+
+module _ {W F : Type 0} (w : Ghosts W) (f : Files F W) (p : Path) (dir : Bool) (s t : Table F) (d : Cache) where
+  silent_there : (G : Tree) (r : Reply) → walk G p ≡ Unlisted → ¬ MayLand G p dir r
+  silent_there G r un h = subst (λ (x : Reach). Table_Meets x (Says say.Ok) (Replaces G p dir) r) (ap (λ (v : Walk). ends v (G p)) un) h
+
+  caused_there : (e : Fault) → IsLawful w f (ask.Kind p) s t e → IsCaused w f (place_on (known t.root) p) s t e
+  caused_there (fault.Fetch id cause) h = h
+  caused_there fault.Memory h = tt
+  caused_there fault.Overlay h = h
+  caused_there fault.Numbers (inl m) = absurd (no_entry (ask.Kind p) p m.0 refl)
+  caused_there fault.Numbers (inr h) = h
+
+  pub land_ended : (z : Stop) → Meets w f p s t d (Err z) → Lands w f p dir s t d (Err z)
+  land_ended (stop.Errs e) h = tt
+  land_ended (stop.Needs k) h = (λ r. silent_there (known t.root) r h.0, h.1)
+  land_ended (stop.Faults e) h = caused_there e h.1
+
+  pub land_fails : (z : Stop) → MeetsShown w f p s t (Err z) → LandsShown w f p dir s (Err z)
+  land_fails (stop.Errs e) h = subst (λ (x : Reach). Table_Meets x (Says say.Ok) (Replaces (shows w f s) p dir) (say.Err e)) (sym h) refl
+  land_fails (stop.Needs k) h = tt
+  land_fails (stop.Faults e) h = tt
+
+pub land_free : (G : Tree) (p : Path) (dir : Bool) → reach G p ≡ Absent → MayLand G p dir say.Ok
+land_free G p dir is = subst (λ (x : Reach). Table_Meets x (Says say.Ok) (Replaces G p dir) say.Ok) (sym is) refl
+
+-- ---- something is there
+
+replaced : (R : Repository) (F : Stored) (G : Tree) (p : Path) (x : Row) (seen : Seen) (at : IsSeen p x seen) (dir : Bool) (r : Reply) → IsShown R F (row_at p x) (reach G p)
+    → ((c : Option (List ℕ)) (l : Bool) → Replaces G p dir (node_from at.row.kind c l) r) → MayLand G p dir r
+replaced R F G p x seen at dir r h says =
+    let same : h.row ≡ at.row = some_eq h.row at.row (sym h.there ∙ at.there) in
+    subst (λ (v : Reach). Table_Meets v (Says say.Ok) (Replaces G p dir) r) (sym (h.is ∙ ap (λ (z : Row). Here (shown_node R F z h.listed)) same))
+    (says (content_with R (own_files F) (source_of at.row.number at.row.origin)) h.listed)
+  where
+    some_eq : (a b : Row) → Some a ≡ Some b → a ≡ b
+    some_eq a b is = cc
+
+module _ (R : Repository) (F : Stored) (G : Tree) (p : Path) (x : Row) (seen : Seen) (at : IsSeen p x seen) (h : IsShown R F (row_at p x) (reach G p)) where
+  -- a file or a link
+  pub land_over_file : (dir : Bool) → dir ≡ false → seen.kind ≢ kind.Dir → MayLand G p dir say.Ok
+  land_over_file dir is other = subst (λ (b : Bool). MayLand G p b say.Ok) (sym is) (replaced R F G p x seen at false say.Ok h (λ c l. unlinks_file at.row.kind c l (λ k. other (at.kind ∙ k))))
+
+  pub file_refuses : (dir : Bool) → dir ≡ true → seen.kind ≢ kind.Dir → MayLand G p dir (say.Err ENOTDIR)
+  file_refuses dir is other =
+      subst (λ (b : Bool). MayLand G p b (say.Err ENOTDIR)) (sym is) (replaced R F G p x seen at true (say.Err ENOTDIR) h (λ c l. lists_other (IfEmpty G p) at.row.kind c l (λ k. other (at.kind ∙ k))))
+
+  -- .. or a directory
+  pub dir_refuses : (dir : Bool) → dir ≡ false → (seen.loaded ≡ true) ⊎ (seen.kind ≡ kind.Dir) → MayLand G p dir (say.Err EISDIR)
+  dir_refuses dir is told =
+      subst (λ (b : Bool). MayLand G p b (say.Err EISDIR)) (sym is)
+      (replaced R F G p x seen at false (say.Err EISDIR) h (λ c l. unlinks_dir at.row.kind c l (shown_kind p x seen at R F (reach G p) h told)))
+
+-- .. that can't be loaded
+module _ {W F : Type 0} (w : Ghosts W) (f : Files F W) (p : Path) (s t u : Table F) (d : Cache) (seen : Seen) (at : IsSeen p t.root seen) (still : u.root ≡ t.root) (off : seen.loaded ≡ false)
+    (told : (seen.loaded ≡ true) ⊎ (seen.kind ≡ kind.Dir)) where
+  here_still : row_at p u.root ≡ Some at.row
+  here_still = ap (row_at p) still ∙ at.there
+
+  passes_still : walk (known u.root) p ≡ Passes
+  passes_still = walk_here u.root p at.row here_still
+
+  place_still : place_on (known u.root) p ≡ p
+  place_still = place_passes (known u.root) p passes_still
+
+  known_away : reach (known u.root) p ≡ Here (node_from at.row.kind (content_known at.row.origin) false)
+  known_away =
+      ap (λ (v : Walk). ends v (known u.root p)) passes_still
+      ∙ ap (λ (o : Option Row). ends Passes (option_map known_node o)) here_still
+      ∙ ap (λ (n : Node). Here n) (known_unloaded at.row (away p t.root seen at off))
+
+  unlisted_there : (r : Reply) → ¬ MayLand (known u.root) p true r
+  unlisted_there r h =
+      lists_away (IfEmpty (known u.root) p) at.row.kind (content_known at.row.origin) r (dir_kind p t.root seen at off told)
+      (subst (λ (v : Reach). Table_Meets v (Says say.Ok) (Replaces (known u.root) p true) r) known_away h)
+
+  lacks_by : (z : Stop) → Lacks w f p s u d z → Lands w f p true s u d (Err z)
+  lacks_by (stop.Errs e) h = absurd h
+  lacks_by (stop.Needs k) h = (unlisted_there, subst (λ (x : Path). Wants (row_at x u.root) d k) (sym place_still) h)
+  lacks_by (stop.Faults e) h = subst (λ (x : Path). IsCaused w f x s u e) (sym place_still) h
+
+  pub land_lacks : (dir : Bool) → dir ≡ true → Keeps w f s t → (z : Stop) → Lacks w f p t u d z → Lands w f p dir s u d (Err z)
+  land_lacks dir is keeps z h = subst (λ (b : Bool). Lands w f p b s u d (Err z)) (sym is) (lacks_by z (lacks_since w f p s t u d keeps z h))
+
+  pub land_untold : (dir : Bool) (z : Stop) → Lacks w f p t u d z → LandsShown w f p dir s (Err z)
+  land_untold dir (stop.Errs e) h = absurd h
+  land_untold dir (stop.Needs k) h = tt
+  land_untold dir (stop.Faults e) h = tt
+
+-- the directories above a loaded one are loaded
+pub loaded_passes : (x : Row) (p : Path) → IsLoadedAt p x → walk (known x) p ≡ Passes
+loaded_passes x p is = let y = known_dir x p is in walk_here x p y.0 y.1.0

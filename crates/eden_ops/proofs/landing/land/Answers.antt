@@ -1,0 +1,87 @@
+use Rattle.std.proofs.Common.{◌≡◌, ◌≢◌, ◌⊎◌, if◌then◌else◌, Bool, true, Option, Ok, sym, subst, ap, ◌∙◌}
+use Rattle.eden_model.specs.declared.errno.Errno.TheVariants.{ENOTEMPTY}
+use Rattle.eden_model.specs.declared.reply.Reply.TheVariants as say
+use Rattle.eden_model.specs.Trees.{Tree, Path, reach}
+use Rattle.eden_tree.specs.Paths.{row_at}
+use Rattle.eden_inode.specs.declared.seen.Seen.{Seen}
+use Rattle.eden_ops.specs.Attempts.{IsSeen, IsShown, Meets, MeetsShown}
+use Rattle.eden_ops.specs.Keeping.{shows}
+use Rattle.eden_ops.specs.Known.{IsLoadedAt}
+use Rattle.eden_ops.specs.Renames.{MayLand}
+use Rattle.eden_ops.proofs.Finding.{finds_on}
+use Rattle.eden_ops.proofs.Looking.{no_dir}
+use Rattle.eden_ops.proofs.Reached.{seen_at, shown_at, met_passes}
+use Rattle.eden_ops.proofs.Renames.{land_ended, land_fails, land_free, land_over_file, file_refuses, dir_refuses, land_lacks, land_untold, loaded_passes}
+use Rattle.eden_ops.proofs.Steps.{keeps_on}
+use Rattle.eden_ops.proofs.landing.land.Goals as goal
+
+pub returns-in-Err-clause-lands : goal.returns-in-Err-clause-lands
+returns-in-Err-clause-lands g c = land_ended g.W.World g.F.Files c.args.path.now c.args.dir c.args.inodes.now c.meet.new.inodes c.meet.new.cache c.in-Err.stop c.in-Err.ensures.meets
+
+pub returns-in-Err-clause-shown : goal.returns-in-Err-clause-shown
+returns-in-Err-clause-shown g c h = land_fails g.W.World g.F.Files c.args.path.now c.args.dir c.args.inodes.now c.meet.new.inodes c.meet.new.cache c.in-Err.stop (c.in-Err.ensures.shown h)
+
+pub returns-in-File : goal.returns-in-File
+returns-in-File g c =
+    let p = c.args.path.now in
+    let s = c.args.inodes.now in
+    let t = c.meet.new.inodes in
+    let e = c.in-Ok-Some.ensures in
+    let seen = seen_at g.W.World g.F.Files p s t c.meet.new.cache _ c.in-Ok-Some.seen c.in-Ok-Some.field-0-is e.meets in
+    let shown : g.W.World.honest → IsShown g.W.World.repository (g.F.Files.stored t.files) (row_at p t.root) (reach (shows g.W.World g.F.Files s) p) = shown_at g.W.World g.F.Files p s t c.meet.new.cache _ c.in-Ok-Some.seen c.in-Ok-Some.field-0-is e.shown in
+    let other = no_dir c.what.result c.in-File.is in
+    let file = c.what.ensures.other other in
+    record {
+      lands = met_passes g.W.World g.F.Files p s t c.meet.new.cache _ e.meets;
+      shown = λ h. land_over_file g.W.World.repository (g.F.Files.stored t.files) (shows g.W.World g.F.Files s) p t.root c.in-Ok-Some.seen seen (shown h) c.args.dir c.if-dir.false (λ dir. other (sym file.1 ∙ dir));
+      same = e.same;
+      keeps = e.keeps;
+      cache = e.cache;
+    }
+
+pub returns-in-Err-bring_seen-clause-lands : goal.returns-in-Err-bring_seen-clause-lands
+returns-in-Err-bring_seen-clause-lands g c =
+    let p = c.args.path.now in
+    let s = c.args.inodes.now in
+    let t = c.meet.new.inodes in
+    let e = c.in-Ok-Some.ensures in
+    let z = c.in-Err-bring_seen.ensures in
+    let seen = seen_at g.W.World g.F.Files p s t c.meet.new.cache _ c.in-Ok-Some.seen c.in-Ok-Some.field-0-is e.meets in
+    land_lacks g.W.World g.F.Files p s t c.bring_seen.new.inodes c.bring_seen.new.cache c.in-Ok-Some.seen seen z.still z.away (c.what.ensures.dir c.in-Dir.is) c.args.dir c.if-not-dir.false e.keeps c.in-Err-bring_seen.stop z.lacks
+
+pub returns-in-Err-bring_seen-clause-same : goal.returns-in-Err-bring_seen-clause-same
+returns-in-Err-bring_seen-clause-same g c h = c.bring_seen.ensures.same h ∙ c.in-Ok-Some.ensures.same h
+
+pub returns-in-Err-bring_seen-clause-keeps : goal.returns-in-Err-bring_seen-clause-keeps
+returns-in-Err-bring_seen-clause-keeps g c = keeps_on g.W.World g.F.Files c.args.inodes.now c.meet.new.inodes c.bring_seen.new.inodes c.in-Ok-Some.ensures.keeps c.bring_seen.ensures.keeps
+
+pub returns-then-is_bare-clause-lands : goal.returns-then-is_bare-clause-lands
+returns-then-is_bare-clause-lands g c = loaded_passes c.bring_seen.new.inodes.root c.args.path.now c.in-Ok.ensures.ok
+
+pub returns-then-is_bare-clause-shown : goal.returns-then-is_bare-clause-shown
+returns-then-is_bare-clause-shown g c h =
+    let s = shows g.W.World g.F.Files c.args.inodes.now in
+    subst (λ (b : Bool). MayLand s c.args.path.now b say.Ok) (sym c.if-not-dir.false)
+    (subst (λ (p : Path). MayLand s p true say.Ok) c.as_slice.ensures
+    (subst (λ (G : Tree). MayLand G c.as_slice.result.now true say.Ok) (c.bring_seen.ensures.same h ∙ c.in-Ok-Some.ensures.same h)
+    (subst (λ (b : Bool). MayLand (shows g.W.World g.F.Files c.bring_seen.new.inodes) c.as_slice.result.now true (if b then say.Ok else say.Err ENOTEMPTY)) c.if-is_bare.true (c.is_bare.ensures h))))
+
+pub returns-then-is_bare-clause-same : goal.returns-then-is_bare-clause-same
+returns-then-is_bare-clause-same g c h = c.bring_seen.ensures.same h ∙ c.in-Ok-Some.ensures.same h
+
+pub returns-then-is_bare-clause-keeps : goal.returns-then-is_bare-clause-keeps
+returns-then-is_bare-clause-keeps g c = keeps_on g.W.World g.F.Files c.args.inodes.now c.meet.new.inodes c.bring_seen.new.inodes c.in-Ok-Some.ensures.keeps c.bring_seen.ensures.keeps
+
+pub returns-clause-shown : goal.returns-clause-shown
+returns-clause-shown g c h =
+    let s = shows g.W.World g.F.Files c.args.inodes.now in
+    subst (λ (b : Bool). MayLand s c.args.path.now b (say.Err ENOTEMPTY)) (sym c.if-not-dir.false)
+    (subst (λ (p : Path). MayLand s p true (say.Err ENOTEMPTY)) c.as_slice.ensures
+    (subst (λ (G : Tree). MayLand G c.as_slice.result.now true (say.Err ENOTEMPTY)) (c.bring_seen.ensures.same h ∙ c.in-Ok-Some.ensures.same h)
+    (subst (λ (b : Bool). MayLand (shows g.W.World g.F.Files c.bring_seen.new.inodes) c.as_slice.result.now true (if b then say.Ok else say.Err ENOTEMPTY)) c.if-is_bare.false (c.is_bare.ensures h))))
+
+pub returns-clause-same : goal.returns-clause-same
+returns-clause-same g c h = c.bring_seen.ensures.same h ∙ c.in-Ok-Some.ensures.same h
+
+pub returns-clause-keeps : goal.returns-clause-keeps
+returns-clause-keeps g c = keeps_on g.W.World g.F.Files c.args.inodes.now c.meet.new.inodes c.bring_seen.new.inodes c.in-Ok-Some.ensures.keeps c.bring_seen.ensures.keeps

@@ -1,0 +1,80 @@
+//! What may go to a path.
+ghost use Rattle.std.specs.Prelude.{◌≡◌, if◌then◌else◌, true};
+ghost use Rattle.eden_model.specs.declared.errno.Errno.TheVariants as errno;
+ghost use Rattle.eden_model.specs.declared.reply.Reply.TheVariants as say;
+ghost use Rattle.eden_ops.specs.Caches.{IsStocked, FindsTheSame};
+ghost use Rattle.eden_ops.specs.Keeping.{shows, Keeps};
+ghost use Rattle.eden_ops.specs.Known.{IsLoadedAt};
+ghost use Rattle.eden_ops.specs.Renames.{MayLand, Lands, LandsShown};
+
+use crate::answer::Stop;
+use crate::listing::bring_seen;
+use crate::meet::meet;
+use crate::what::what;
+use eden_cache::ObjectCache;
+use eden_inode::Inodes;
+use eden_model::{Errno, Kind, Name, Path, World};
+use eden_overlay::Files;
+use eden_tie::shown_laws;
+use std::alloc::{Allocator, Global};
+
+/// Whether the directory that is loaded at a path has no entries.
+fn is_bare<A: Allocator + Clone, W: World, F: Files<W>>(
+    inodes: &Inodes<A, W, F>,
+    path: &[Name],
+) -> bool
+    requires { IsLoadedAt path.now inodes.now.root }
+    ensures { W.honest → MayLand (shows W.World F.Files inodes.now) path.now true (if result then say.Ok else say.Err errno.ENOTEMPTY) }
+{
+    shown_laws();
+    inodes.holds();
+    match inodes.directory(path) {
+        None => unreachable!(),
+        Some(dir) => dir.count() == 0,
+    }
+}
+
+/// Whether a directory, or else a file or a link, may go to a path: nothing stands there, or what it may replace.
+///
+/// Errors: those of the walk over the directories above; `ENOTDIR` for a directory over what is none, `EISDIR` for a file
+/// or a link over a directory, and `ENOTEMPTY` for a directory over one with entries, which is loaded for that.
+pub(crate) fn land<A: Allocator + Clone, W: World, F: Files<W>, C: Allocator + Clone>(
+    inodes: &mut Inodes<A, W, F>,
+    cache: &mut ObjectCache<C>,
+    alloc: Global,
+    path: &Path,
+    dir: bool,
+) -> Result<(), Stop>
+    requires { IsStocked W.repository W.honest cache.old }
+    ensures lands { Lands W.World F.Files path.now dir inodes.old inodes.new cache.new result }
+    ensures shown { W.honest → LandsShown W.World F.Files path.now dir inodes.old result }
+    ensures same { W.honest → shows W.World F.Files inodes.new ≡ shows W.World F.Files inodes.old }
+    ensures keeps { Keeps W.World F.Files inodes.old inodes.new }
+    ensures cache { FindsTheSame cache.old cache.new }
+{
+    let seen = match meet(inodes, cache, alloc, path) {
+        Err(stop) => return Err(stop),
+        Ok(None) => return Ok(()),
+        Ok(Some(seen)) => seen,
+    };
+    match what(seen) {
+        Kind::File | Kind::Exec | Kind::Link => {
+            if dir {
+                return Err(Stop::Errs(Errno::ENOTDIR));
+            }
+            return Ok(());
+        }
+        Kind::Dir => {}
+    }
+    if !dir {
+        return Err(Stop::Errs(Errno::EISDIR));
+    }
+    match bring_seen(inodes, cache, alloc, path, seen) {
+        Err(stop) => return Err(stop),
+        Ok(()) => {}
+    }
+    if is_bare(inodes, path.as_slice()) {
+        return Ok(());
+    }
+    Err(Stop::Errs(Errno::ENOTEMPTY))
+}
