@@ -1,1 +1,3 @@
 pub mod Opened
+pub mod Stocking
+pub mod Closed

@@ -1,16 +1,19 @@
-ghost use Rattle.std.specs.Prelude.{◌≡◌, ℕ, IfOk, IfErr};
+ghost use Rattle.std.specs.Prelude.{◌≡◌, [], IfOk, IfErr};
 ghost use Rattle.eden_ops.specs.Keeping.{shows};
 ghost use Rattle.eden_inode.specs.Tables.{fresh_root};
-ghost use Rattle.eden_cache.specs.Cache.{empty};
-ghost use Rattle.eden_overlay.specs.Held.{without};
+ghost use Rattle.eden_model.specs.Failures.{Rose};
+ghost use Rattle.eden_overlay.specs.declared.files.FilesFault.TheVariants as fault;
+ghost use Rattle.eden_overlay.specs.Held.{HoldsState, without};
 ghost use Rattle.eden_checkout.specs.Opening.{CanOpen, StartsAt, files_show, root_from, IsOpenFault};
 
+use crate::closing::{as_files, store_state};
 use crate::fault::OpenFault;
 use crate::opening::{Start, begin};
 use eden_cache::ObjectCache;
 use eden_inode::Inodes;
 use eden_model::{Id, World};
-use eden_overlay::{Files, Overlay};
+use eden_ops::let_go;
+use eden_overlay::{Files, FilesFault, Overlay};
 use std::alloc::{Allocator, Global};
 use std::marker::Model;
 
@@ -55,7 +58,7 @@ impl<A: Allocator + Clone, W: World, F: Files<W>> Checkout<A, W, F> {
         cache: ObjectCache<A>,
     ) -> Result<Self, (OpenFault, F)>
         requires files { W.honest → CanOpen W.repository W.opening root (F.stored files) }
-        requires cache { (entries bytes sizes : ℕ) × (cache ≡ empty entries bytes sizes) }
+        requires cache { (cache.objects ≡ []) × (cache.sizes ≡ []) }
         ensures shown { W.honest → IfOk result (λ c. shows W.World F.Files c.inodes ≡ W.opening) }
         ensures stored { W.honest → IfOk result (λ c. F.stored c.inodes.files ≡ without (F.stored files) 0) }
         ensures next { W.honest → IfOk result (λ c. StartsAt (F.stored files) root c.inodes.next) }
@@ -72,5 +75,34 @@ impl<A: Allocator + Clone, W: World, F: Files<W>> Checkout<A, W, F> {
                 root,
             }),
         }
+    }
+
+    /// Closes the checkout: what is unsaved is stored, and then the state, so that the files are those of `open`.
+    ///
+    /// Errors: the device failed, or there was no memory. The checkout comes back then, and shows what it showed.
+    pub fn close(mut self, alloc: Global) -> Result<F, (FilesFault, Self)>
+        ensures state { W.honest → IfOk result (λ files. HoldsState (F.stored files) (record { root = self.root; next = self.inodes.next })) }
+        ensures opens { W.honest → IfOk result (λ files. CanOpen W.repository (shows W.World F.Files self.inodes) self.root (F.stored files)) }
+        ensures shown { W.honest → IfErr result (λ e. shows W.World F.Files e.1.inodes ≡ shows W.World F.Files self.inodes) }
+        ensures device { IfErr result (λ e. e.0 ≡ fault.Device → Rose (F.failures self.inodes.files) (F.failures e.1.inodes.files)) }
+        ensures rest { IfErr result (λ e. (e.1.inodes.next ≡ self.inodes.next) × ((e.1.cache ≡ self.cache) × (e.1.root ≡ self.root))) }
+    {
+        if let Err(fault) = let_go(&mut self.inodes, alloc, &[]) {
+            return Err((as_files(fault), self));
+        }
+        if let Err(fault) = store_state(&mut self.inodes, alloc, self.root) {
+            return Err((fault, self));
+        }
+        self.inodes.holds();
+        let Checkout { inodes, .. } = self;
+        Ok(inodes.into_overlay().into_files())
+    }
+
+    /// Gives up the checkout: the files as they stand.
+    pub fn abandon(self) -> F
+        ensures { result ≡ self.inodes.files }
+    {
+        let Checkout { inodes, .. } = self;
+        inodes.into_overlay().into_files()
     }
 }

@@ -5,6 +5,7 @@
 #![tactic(auto)]
 
 mod checkout;
+mod closing;
 mod fault;
 mod opening;
 

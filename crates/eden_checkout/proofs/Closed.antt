@@ -1,0 +1,73 @@
+-- Files as they are when a checkout is closed.
+use Rattle.std.proofs.Common.{◌≡◌, ◌≢◌, ◌<◌, ◌⊎◌, ◌≤◌, ℕ, List, [], Option, Some, None, sym, refl, ◌∙◌, ap, subst, inl, inr}
+use Rattle.std.proofs.lemmas.Option.{same_Some}
+use Rattle.eden_model.specs.declared.id.Id.{Id}
+use Rattle.eden_model.specs.declared.kind.Kind.TheVariants as kind
+use Rattle.eden_model.specs.declared.kind.Origin.{Origin}
+use Rattle.eden_model.specs.declared.kind.Origin.TheVariants as origin
+use Rattle.eden_model.specs.Repository.{Repository}
+use Rattle.eden_overlay_format.specs.declared.state.State.{State}
+use Rattle.eden_overlay_format.specs.declared.stored_entry.StoredEntry.{StoredEntry}
+use Rattle.eden_overlay_format.specs.State.{IsGoodState}
+use Rattle.eden_overlay_format.proofs.CallerLemmas.{state_written}
+use Rattle.eden_overlay.specs.Files.{Stored}
+use Rattle.eden_overlay.specs.Held.{HoldsState, with_state, without}
+use Rattle.eden_overlay.specs.Soundness.{HoldsKind, IsLive, Names}
+use Rattle.eden_overlay.proofs.CallerLemmas.{nothing_there}
+use Rattle.eden_tree.specs.Directory.{Child, unloaded, loaded, Row, directory_in, child_of}
+use Rattle.eden_tree.specs.Paths.{Standing, standing, standing_at}
+use Rattle.eden_tie.specs.Kept.{IsTable, IsKept}
+use Rattle.eden_tie.specs.Laws.{TiesSound, NumbersBelow}
+use Rattle.eden_tie.specs.Loose.{the_state}
+use Rattle.eden_tie.specs.Shown.{shown_in}
+use Rattle.eden_tie.proofs.CallerLemmas.{loose_alike}
+use Rattle.eden_inode.specs.Tables.{fresh_root}
+use Rattle.eden_ops.specs.Letting.{LetsGo}
+use Rattle.eden_checkout.specs.Opening.{root_from, files_show, IsRootOf, CanOpen}
+
+-- the root's origin stays where directories are let go of
+pub root_left : (x z : Row) → LetsGo [] x z → z.origin ≡ x.origin
+root_left x z g =
+    let h = g.left [] (standing z) refl in
+    h.1.1.origin ∙ ap (λ (s : Standing). s.origin) (sym (same_Some (standing x) h.0 h.1.0))
+
+pub still_root : (id : Id) (a b : Origin) → IsRootOf id a → b ≡ a → IsRootOf id b
+still_root id a b is same = subst (IsRootOf id) (sym same) is
+
+-- a root that isn't loaded is a fresh one
+bare : (k : Child) → directory_in k ≡ None → k ≡ unloaded
+bare unloaded none = refl
+bare (loaded s u r) none = cc
+
+is_fresh : (x : Row) (next : ℕ) → IsTable x next → child_of x ≡ None → x ≡ fresh_root x.origin
+is_fresh x next table none = let shut = bare x.child none in
+    ap (λ n. record { number = n; kind = x.kind; origin = x.origin; child = x.child }) table.root
+    ∙ ap (λ k. record { number = 1; kind = k; origin = x.origin; child = x.child }) table.kind
+    ∙ ap (λ c. record { number = 1; kind = kind.Dir; origin = x.origin; child = c }) shut
+
+-- file 1 stands where the root is the mount's own, and nowhere else
+root_stands : (root : Id) (F : Stored) (o : Origin) (f : Option (List ℕ)) → F 1 ≡ f → IsRootOf root o → (o ≢ origin.Own → F 1 ≡ None) → (o ≡ origin.Own → HoldsKind F 1 kind.Dir) → root_from root f ≡ o
+root_stands root F o None is (inl object) rootless rooted = sym object
+root_stands root F o None is (inr own) rootless rooted = absurd (nothing_there F 1 kind.Dir is (rooted own))
+root_stands root F o (Some b) is (inr own) rootless rooted = sym own
+root_stands root F o (Some b) is (inl object) rootless rooted = let none : Some b ≡ None = sym is ∙ rootless (λ own. cc) in cc
+
+module _ (R : Repository) (F : Stored) (x : Row) (next : ℕ) (root : Id) (table : IsTable x next) (kept : IsKept R F x next) (none : child_of x ≡ None) (of : IsRootOf root x.origin)
+    (sound : TiesSound) (below : NumbersBelow) where
+  pub shows_on : files_show R root F ≡ shown_in R F x
+  shows_on =
+      ap (λ (o : Origin). shown_in R (without F 0) (fresh_root o)) (root_stands root F x.origin (F 1) refl of kept.ties.rootless kept.ties.rooted)
+      ∙ ap (shown_in R (without F 0)) (sym (is_fresh x next table none))
+      ∙ loose_alike R F x next 0 None table kept (the_state refl)
+
+  pub can_open : HoldsState F (record { root = root; next = next }) → CanOpen R (shown_in R F x) root F
+  can_open held = record {
+    sound = sound F kept.full x next kept.ties;
+    shown = shows_on;
+    below = λ s other c e live names.
+    let same : record { root = root; next = next } ≡ s = same_Some (record { root = root; next = next }) s (sym held ∙ other) in
+    subst (λ (t : State). e.number < t.next) same (below F kept.full x next kept.ties c e live names);
+  }
+
+pub holds_state : (F : Stored) (s : State) → IsGoodState s → HoldsState (with_state F s) s
+holds_state F s good = state_written s good
