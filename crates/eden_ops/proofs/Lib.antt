@@ -20,3 +20,4 @@ pub mod Going
 pub mod Changing
 pub mod Additions
 pub mod Owned
+pub mod Relocation

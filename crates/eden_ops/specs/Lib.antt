@@ -9,3 +9,4 @@ pub mod Looks
 pub mod Laws
 pub mod Changes
 pub mod Letting
+pub mod Relocating

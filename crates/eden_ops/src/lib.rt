@@ -19,6 +19,7 @@ mod looks;
 mod meet;
 mod pages;
 mod reading;
+mod relocating;
 mod removing;
 mod sizes;
 mod walk;
