@@ -1,10 +1,11 @@
 -- An entry that goes to another path: both paths are cleared, both directories their own, and then it can move.
-use Rattle.std.proofs.Common.{◌≡◌, ℕ, Bool, true, [], ◌∷◌, ◌++◌, length, Option, Some, None, Result, Ok, IfSome, IfErr, refl, sym, ap, ◌∙◌, subst, inl, inr, arith, append_assoc, length-append}
+use Rattle.std.proofs.Common.{◌≡◌, ℕ, Bool, true, [], ◌∷◌, ◌++◌, length, Option, Some, None, Result, Ok, Err, IsErr, IfSome, IfErr, refl, sym, ap, ◌∙◌, subst, inl, inr, arith, append_assoc, length-append}
 use Rattle.std.proofs.lemmas.Bool.{false≢true}
 use Rattle.std.proofs.lemmas.List.{append-nil}
 use Rattle.std.proofs.lemmas.Option.{none-some}
 use Rattle.std.proofs.lemmas.Result.{on_ok_weaker}
 use Rattle.std.specs.Option.{option_map, option_and_then, is_some}
+use Rattle.std.specs.Result.{IsErrAnd}
 use Rattle.eden_model.specs.declared.fault.Fault.{Fault}
 use Rattle.eden_model.specs.declared.world.World.{Ghosts}
 use Rattle.eden_model.specs.Operations.{move}
@@ -46,6 +47,11 @@ module _ {W F : Type 0} (w : Ghosts W) (f : Files F W) where
     next = two.next ∙ one.next;
     clock = two.clock ∙ one.clock;
   }
+
+  -- an error that is handed on
+  pub readies_err : (s t : Table F) (r : Result (Unit {0}) Fault) (e : Fault) → IsErr r → IsErrAnd r (λ z. z ≡ e) → Readies w f s t (Err e) → Readies w f s t r
+  readies_err s t (Ok x) e is told a = absurd (cc)
+  readies_err s t (Err x) e is told a = subst (λ (z : Fault). Readies w f s t (Err z)) (sym told) a
 
 -- ---- fronts of paths
 

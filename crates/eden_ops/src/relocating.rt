@@ -25,14 +25,8 @@ fn clear_both<A: Allocator + Clone, W: World, F: Files<W>>(
     ensures stays { StaysBeside from.now to.now inodes.old.root inodes.new.root }
     ensures readies { Readies W.World F.Files inodes.old inodes.new result }
 {
-    match let_go(inodes, alloc, from) {
-        Err(fault) => return Err(fault),
-        Ok(()) => {}
-    }
-    match let_go(inodes, alloc, to) {
-        Err(fault) => Err(fault),
-        Ok(()) => Ok(()),
-    }
+    let_go(inodes, alloc, from)?;
+    let_go(inodes, alloc, to)
 }
 
 /// Makes the loaded directories along both paths the mount's own.
@@ -48,14 +42,8 @@ fn own_both<A: Allocator + Clone, W: World, F: Files<W>>(
     ensures stays { StaysLoaded inodes.old.root inodes.new.root }
     ensures readies { Readies W.World F.Files inodes.old inodes.new result }
 {
-    match materialise(inodes, alloc, one) {
-        Err(fault) => return Err(fault),
-        Ok(()) => {}
-    }
-    match materialise(inodes, alloc, other) {
-        Err(fault) => Err(fault),
-        Ok(()) => Ok(()),
-    }
+    materialise(inodes, alloc, one)?;
+    materialise(inodes, alloc, other)
 }
 
 /// Moves the entry at one path to another, in place of what stands there. What is loaded at and below both is let go
@@ -87,16 +75,8 @@ pub(crate) fn relocate<A: Allocator + Clone, W: World, F: Files<W>>(
     let Some((new_name, new_above)) = new.split_last() else {
         unreachable!()
     };
-    match clear_both(inodes, alloc, old, new) {
-        Err(fault) => return Err(fault),
-        Ok(()) => {}
-    }
-    match own_both(inodes, alloc, above, new_above) {
-        Err(fault) => return Err(fault),
-        Ok(()) => {}
-    }
-    match move_entry(inodes, alloc, above, name, new_above, new_name) {
-        Err(fault) => Err(fault),
-        Ok(()) => Ok(()),
-    }
+    clear_both(inodes, alloc, old, new)?;
+    own_both(inodes, alloc, above, new_above)?;
+    move_entry(inodes, alloc, above, name, new_above, new_name)?;
+    Ok(())
 }
