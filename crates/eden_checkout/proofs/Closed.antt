@@ -1,5 +1,5 @@
 -- Files as they are when a checkout is closed.
-use Rattle.std.proofs.Common.{◌≡◌, ◌≢◌, ◌<◌, ◌⊎◌, ◌≤◌, ℕ, List, [], Option, Some, None, sym, refl, ◌∙◌, ap, subst, inl, inr}
+use Rattle.std.proofs.Common.{◌≡◌, ◌≢◌, ◌<◌, ◌⊎◌, ◌≤◌, ℕ, List, [], Option, Some, None, Result, Ok, Err, OnOk, OnErr, sym, refl, ◌∙◌, ap, subst, inl, inr}
 use Rattle.std.proofs.lemmas.Option.{same_Some}
 use Rattle.eden_model.specs.declared.id.Id.{Id}
 use Rattle.eden_model.specs.declared.kind.Kind.TheVariants as kind
@@ -8,8 +8,11 @@ use Rattle.eden_model.specs.declared.kind.Origin.TheVariants as origin
 use Rattle.eden_model.specs.Repository.{Repository}
 use Rattle.eden_overlay_format.specs.declared.state.State.{State}
 use Rattle.eden_overlay_format.specs.declared.stored_entry.StoredEntry.{StoredEntry}
-use Rattle.eden_overlay_format.specs.State.{IsGoodState}
+use Rattle.eden_overlay_format.specs.declared.header.Identifier.TheVariants as identifier
+use Rattle.eden_overlay_format.specs.Stored.{written}
+use Rattle.eden_overlay_format.specs.State.{IsGoodState, state_body}
 use Rattle.eden_overlay_format.proofs.CallerLemmas.{state_written}
+use Rattle.eden_overlay.specs.declared.files.FilesFault.{FilesFault}
 use Rattle.eden_overlay.specs.Files.{Stored}
 use Rattle.eden_overlay.specs.Held.{HoldsState, with_state, without}
 use Rattle.eden_overlay.specs.Soundness.{HoldsKind, IsLive, Names}
@@ -71,3 +74,15 @@ module _ (R : Repository) (F : Stored) (x : Row) (next : ℕ) (root : Id) (table
 
 pub holds_state : (F : Stored) (s : State) → IsGoodState s → HoldsState (with_state F s) s
 holds_state F s good = state_written s good
+
+-- what follows where the call was done
+pub on_done : {X Y : Type 0} (r : Result (Unit {0}) FilesFault) → (X → Y) → OnOk r X → OnOk r Y
+on_done (Ok v) f h = f h
+on_done (Err e) f h = h
+
+-- the state shows nothing
+pub stored_alike : (R : Repository) (F G : Stored) (x z : Row) (next : ℕ) (s : State) (r : Result (Unit {0}) FilesFault) → IsTable x next → IsKept R F x next → z ≡ x → OnOk r (G ≡ with_state F s) → OnErr r (G ≡ F)
+    → shown_in R G z ≡ shown_in R F x
+stored_alike R F G x z next s (Ok v) table kept root ok err =
+    ap (shown_in R G) root ∙ ap (λ (H : Stored). shown_in R H x) ok ∙ loose_alike R F x next 0 (Some (written identifier.File (state_body s))) table kept (the_state refl)
+stored_alike R F G x z next s (Err e) table kept root ok err = ap (shown_in R G) root ∙ ap (λ (H : Stored). shown_in R H x) err

@@ -14,6 +14,7 @@ use eden_inode::Inodes;
 use eden_model::{Id, World};
 use eden_ops::let_go;
 use eden_overlay::{Files, FilesFault, Overlay};
+use eden_tie::tie_laws;
 use std::alloc::{Allocator, Global};
 use std::marker::Model;
 
@@ -93,6 +94,7 @@ impl<A: Allocator + Clone, W: World, F: Files<W>> Checkout<A, W, F> {
         if let Err(fault) = store_state(&mut self.inodes, alloc, self.root) {
             return Err((fault, self));
         }
+        tie_laws();
         self.inodes.holds();
         let Checkout { inodes, .. } = self;
         Ok(inodes.into_overlay().into_files())

@@ -1,11 +1,25 @@
-use Rattle.std.proofs.Common.{rules, ◌≡◌, ◌≤◌, Err, OnOk, OnErr, ℕ, ◌+◌, ◌-◌, ◌*◌, ◌<◌, length, ◌/◌, ◌%◌, Bool, true, false, nat_eq, nat_lt, List, [], ◌∷◌, ◌++◌, slice_index_or, slice_set, bit_and, bit_or, Fits, w8, w32, w64, Bor, MutBor}
-use Rattle.eden_model.specs.Failures.{Counted}
+use Rattle.std.proofs.Common.{rules, ◌≡◌, ℕ, sym, ◌∙◌, ap, subst, ◌≤◌}
+use Rattle.eden_overlay_format.specs.declared.state.State.{State}
 use Rattle.eden_overlay_format.specs.Directory.{number_least, number_end}
-use Rattle.eden_overlay.specs.declared.files.FilesFault.TheVariants as files
+use Rattle.eden_overlay_format.specs.State.{IsGoodState}
+use Rattle.eden_overlay.specs.Files.{Stored}
 use Rattle.eden_overlay.specs.Held.{HoldsState, with_state}
-use Rattle.eden_checkout.specs.Closing.{Leaves, as_files}
+use Rattle.eden_checkout.proofs.Closed.{on_done, holds_state, stored_alike}
 use Rattle.eden_checkout.proofs.closing.store_state.Goals as goal
 
--- src/closing.rt:42:1
 pub returns-clause-held : goal.returns-clause-held
-returns-clause-held g c = ?
+returns-clause-held g c h =
+    let next = c.next_number.ensures in
+    let state : State = record { root = c.args.root; next = c.args.inodes.now.next } in
+    let good : IsGoodState state = record { root = search rules; least = c.holds.ensures.table.least; most = c.holds.ensures.table.most } in
+    let same = ap (λ n. with_state (g.F.Files.stored c.args.inodes.now.files) (record { root = c.args.root; next = n })) next in
+    on_done c.change.result
+    (λ is. subst (λ (F : Stored). HoldsState F state) (sym (is ∙ same)) (holds_state (g.F.Files.stored c.args.inodes.now.files) state good))
+    (c.change.ensures.does.ok h)
+
+pub returns-clause-same : goal.returns-clause-same
+returns-clause-same g c h =
+    let d = c.change.ensures.does in
+    let t = c.args.inodes.now in
+    stored_alike g.W.World.repository (g.F.Files.stored t.files) (g.F.Files.stored c.change.new.self.files) t.root c.change.new.self.root t.next (record { root = c.args.root; next = c.next_number.result }) c.change.result
+    c.holds.ensures.table (c.holds.ensures.kept h) d.root (d.ok h) (d.err h)

@@ -1,0 +1,47 @@
+use Rattle.std.proofs.Common.{◌∙◌, ◌≡◌, None, sym, refl, ap, subst}
+use Rattle.eden_model.specs.declared.id.Id.{Id}
+use Rattle.eden_model.specs.declared.kind.Origin.{Origin}
+use Rattle.eden_overlay.specs.Held.{HoldsState}
+use Rattle.eden_model.specs.Trees.{Tree}
+use Rattle.eden_overlay.specs.Files.{Stored}
+use Rattle.eden_tree.specs.Directory.{Row, child_of}
+use Rattle.eden_tie.specs.Shown.{shown_in}
+use Rattle.eden_inode.specs.Tables.{Table}
+use Rattle.eden_ops.specs.Keeping.{shows}
+use Rattle.eden_checkout.specs.Checkouts.{Checkout}
+use Rattle.eden_checkout.specs.Opening.{CanOpen, IsRootOf}
+use Rattle.eden_checkout.proofs.Closed.{root_left, still_root, can_open}
+use Rattle.eden_checkout.proofs.checkout.Checkout.close.Goals as goal
+
+pub invariant_of-self : goal.invariant_of-self
+invariant_of-self g c =
+    (c.self.invariant.0, still_root c.self.inside.root c.self.inside.inodes.root.origin c.let_go.new.inodes.root.origin c.self.invariant.1 (root_left c.self.inside.inodes.root c.let_go.new.inodes.root c.let_go.ensures.goes))
+
+pub returns-in-Err-clause-shown : goal.returns-in-Err-clause-shown
+returns-in-Err-clause-shown g c h = c.let_go.ensures.same h ∙ ap (λ (t : Checkout _). shows g.W.World g.F.Files t.inodes) c.self.view_is
+
+pub invariant_of-self-in-Err-store_state : goal.invariant_of-self-in-Err-store_state
+invariant_of-self-in-Err-store_state g c =
+    let same = ap (λ (x : Row). x.origin) c.store_state.ensures.root ∙ root_left c.self.inside.inodes.root c.let_go.new.inodes.root c.let_go.ensures.goes in
+    (c.self.invariant.0, still_root c.self.inside.root c.self.inside.inodes.root.origin c.store_state.new.inodes.root.origin c.self.invariant.1 same)
+
+pub returns-in-Err-store_state-clause-shown : goal.returns-in-Err-store_state-clause-shown
+returns-in-Err-store_state-clause-shown g c h = c.store_state.ensures.same h ∙ c.let_go.ensures.same h ∙ ap (λ (t : Checkout _). shows g.W.World g.F.Files t.inodes) c.self.view_is
+
+pub returns-clause-opens : goal.returns-clause-opens
+returns-clause-opens g c h =
+    let t : Table _ = c.store_state.new.inodes in
+    let F : Stored = g.F.Files.stored t.files in
+    let x : Row = c.store_state.new.inodes.root in
+    let root : Id = c.self.inside.root in
+    let of : IsRootOf root x.origin = still_root root c.self.inside.inodes.root.origin x.origin c.self.invariant.1 (ap (λ (y : Row). y.origin) c.store_state.ensures.root ∙ root_left c.self.inside.inodes.root c.let_go.new.inodes.root c.let_go.ensures.goes) in
+    let none : child_of x ≡ None = ap child_of c.store_state.ensures.root ∙ c.in_default.ensures.away c.let_go.new.inodes.root refl in
+    let held : HoldsState F (record { root = root; next = t.next }) = subst (λ n. HoldsState F (record { root = root; next = n })) (sym c.store_state.ensures.rest.0) (c.in_default-store_state.ensures.held h) in
+    let opens : CanOpen g.W.World.repository (shown_in g.W.World.repository F x) root F =
+        can_open g.W.World.repository F x t.next root c.holds.ensures.table (c.holds.ensures.kept h) none of c.tie_laws.ensures.sound c.tie_laws.ensures.numbers_below held in
+    let same : shown_in g.W.World.repository F x ≡ shows g.W.World g.F.Files c.args.self.inodes =
+        c.store_state.ensures.same h ∙ c.let_go.ensures.same h ∙ ap (λ (s : Checkout _). shows g.W.World g.F.Files s.inodes) c.self.view_is in
+    let now : F ≡ g.F.Files.stored c.into_files.result = ap g.F.Files.stored (sym (c.into_files.ensures ∙ c.into_overlay.ensures)) in
+    subst (λ (G : Stored). CanOpen g.W.World.repository (shows g.W.World g.F.Files c.args.self.inodes) c.args.self.root G) now
+    (subst (λ (i : Id). CanOpen g.W.World.repository (shows g.W.World g.F.Files c.args.self.inodes) i F) (ap (λ (s : Checkout _). s.root) c.self.view_is)
+    (subst (λ (T : Tree). CanOpen g.W.World.repository T root F) same opens))
