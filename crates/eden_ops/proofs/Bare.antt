@@ -26,7 +26,7 @@ without_stamp y = record { number = y.number; kind = y.kind; origin = y.origin; 
 abbrev pub bare : Row → Bare
 bare x = record { number = x.number; kind = x.kind; origin = x.origin; loaded = is_some (child_of x) }
 
-some_pair : {X Y : Type 0} (g : X → Y) (o : Option X) → is_some (option_map g o) ≡ is_some o
+pub some_pair : {X Y : Type 0} (g : X → Y) (o : Option X) → is_some (option_map g o) ≡ is_some o
 some_pair g None = refl
 some_pair g (Some x) = refl
 

@@ -98,6 +98,6 @@ pub not_ok : (r : Answer) (X : Type 0) → IsErr r → OnOk r X
 not_ok (Ok x) X is = cc
 not_ok (Err z) X is = tt
 
-pub on_err : (r : Answer) (X : Type 0) → X → OnErr r X
+pub on_err : {T E : Type 0} (r : Result T E) (X : Type 0) → X → OnErr r X
 on_err (Ok x) X h = tt
 on_err (Err z) X h = h

@@ -103,14 +103,14 @@ above_of q None w at = cc
 above_of q (Some y) w at = (y, (refl, at))
 
 -- w is the entry of that name in the loaded directory at a path
-record IsIn (x : Row) (above : Path) (n : Name) (w : Row) : Type 0 where
+pub record IsIn (x : Row) (above : Path) (n : Name) (w : Row) : Type 0 where
   pub row : Row
   pub directory : Directory
   pub at : row_at above x ≡ Some row
   pub holds : child_of row ≡ Some directory
   pub there : find_row n directory.rows ≡ Some w
 
-is_in : (p above : Path) (n : Name) (x w : Row) → p ≡ above ++ n ∷ [] → row_at p x ≡ Some w → IsIn x above n w
+pub is_in : (p above : Path) (n : Name) (x w : Row) → p ≡ above ++ n ∷ [] → row_at p x ≡ Some w → IsIn x above n w
 is_in p above n x w split at =
     let y = above_of (n ∷ []) (row_at above x) w (sym (reads_on above (n ∷ []) x) ∙ sym (ap (λ (q : Path). row_at q x) split) ∙ at) in
     let d = entry_of n y.0 w y.1.1 in

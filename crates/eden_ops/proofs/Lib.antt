@@ -16,6 +16,9 @@ pub mod Origins
 pub mod Telling
 pub mod Fetching
 pub mod Saving
+pub mod Going
 pub mod Changing
 pub mod Additions
 pub mod Renames
+pub mod Owned
+pub mod Relocation

@@ -24,7 +24,7 @@ use Rattle.eden_ops.specs.Laws.{Grows, KeepsLeaves}
 use Rattle.eden_ops.proofs.Steps.{keeps_entries, keeps_counts}
 
 -- the mark of each loaded directory, by its path
-abbrev SavedAt : Row → Type 0
+abbrev pub SavedAt : Row → Type 0
 SavedAt x = (p : Path) (v : Standing) (stamp : ℕ) (unsaved : Bool) → standing_at p x ≡ Some v → v.loaded ≡ Some (stamp, unsaved) → unsaved ≡ false
 
 place_path : (x y : Row) → Place x y → (p : Path) × (row_at p x ≡ Some y)
@@ -33,13 +33,13 @@ place_path x z (inside y d n _ place holds found) =
     let h = place_path x y place in
     (h.0 ++ n ∷ [], reads_on h.0 (n ∷ []) x ∙ ap (option_and_then (row_at (n ∷ []))) h.1 ∙ ap (option_and_then (λ (e : Directory). option_and_then (row_at []) (find_row n e.rows))) holds ∙ ap (option_and_then (row_at [])) found)
 
-by_path : (x : Row) → AreSaved x → SavedAt x
+pub by_path : (x : Row) → AreSaved x → SavedAt x
 by_path x all p v stamp unsaved at loaded =
     let y = map_some standing (row_at p x) v (sym at) in
     let d = map_some (λ (e : Directory). (e.stamp, e.unsaved)) (child_of y.0) (stamp, unsaved) (sym (ap (λ (s : Standing). s.loaded) y.1.1 ∙ loaded)) in
     sym (ap (λ (m : ℕ × Bool). m.1) d.1.1) ∙ all y.0 d.0 (place_at p x y.0 y.1.0) d.1.0
 
-by_place : (x : Row) → SavedAt x → AreSaved x
+pub by_place : (x : Row) → SavedAt x → AreSaved x
 by_place x all y d place holds =
     let h = place_path x y place in
     all h.0 (standing y) d.stamp d.unsaved (ap (option_map standing) h.1) (ap (option_map (λ (e : Directory). (e.stamp, e.unsaved))) holds)

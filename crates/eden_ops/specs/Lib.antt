@@ -9,3 +9,5 @@ pub mod Looks
 pub mod Laws
 pub mod Changes
 pub mod Renames
+pub mod Letting
+pub mod Relocating

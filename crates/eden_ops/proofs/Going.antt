@@ -1,0 +1,110 @@
+-- What is left once directories went.
+use Rattle.std.proofs.Common.{◌≡◌, ◌⊎◌, ℕ, false, [], ◌∷◌, Option, Some, None, sym, refl, ◌∙◌, ap, subst, inl, inr}
+use Rattle.std.proofs.lemmas.List.{append-nil}
+use Rattle.std.proofs.lemmas.Option.{same_Some, none-some}
+use Rattle.std.specs.Option.{option_map, option_and_then}
+use Rattle.eden_model.specs.Paths.{behind_of}
+use Rattle.eden_model.specs.Trees.{Path, grafted}
+use Rattle.eden_model.proofs.CallerLemmas.{behind_sound}
+use Rattle.eden_overlay.specs.Files.{Stored}
+use Rattle.eden_tree.specs.Directory.{Row, Directory, child_of, with_child}
+use Rattle.eden_tree.specs.Rows.{find_row}
+use Rattle.eden_tree.specs.Paths.{row_at, edit_row, Standing, standing, standing_at}
+use Rattle.eden_tree.proofs.CallerLemmas.{edits_one, edits_there, edits_not_beside, edits_nothing, child_of-with_child}
+use Rattle.eden_tie.specs.Chains.{AreSaved, IsLoadedAt}
+use Rattle.eden_tie.specs.Unloading.{Unloads, none, one_more, same_files}
+use Rattle.eden_tie.proofs.CallerLemmas.{map_some, loaded_there, loaded_found}
+use Rattle.eden_ops.specs.Letting.{IsLeft, LetsGo}
+use Rattle.eden_ops.proofs.Saving.{SavedAt, by_path, by_place}
+
+-- the entry v of what is left was there before
+abbrev pub WasThere : Row → Path → Standing → Type 0
+WasThere x q v = (y : Standing) × ((standing_at q x ≡ Some y) × IsLeft y v)
+
+left_same : (v : Standing) → IsLeft v v
+left_same v = record { number = refl; kind = refl; origin = refl; loaded = inl refl }
+
+left_on : (y v w : Standing) → IsLeft y v → IsLeft v w → IsLeft y w
+left_on y v w a b = record { number = b.number ∙ a.number; kind = b.kind ∙ a.kind; origin = b.origin ∙ a.origin; loaded = by b.loaded a.loaded } where
+  by : (w.loaded ≡ v.loaded) ⊎ (w.loaded ≡ None) → (v.loaded ≡ y.loaded) ⊎ (v.loaded ≡ None) → (w.loaded ≡ y.loaded) ⊎ (w.loaded ≡ None)
+  by (inl one) (inl two) = inl (one ∙ two)
+  by (inl one) (inr two) = inr (one ∙ two)
+  by (inr gone) two = inr gone
+
+-- ---- one directory that went
+
+module _ (path : Path) (x row : Row) (at : row_at path x ≡ Some row) where
+  abbrev bare : Row
+  bare = with_child None row
+
+  bare_left : IsLeft (standing row) (standing bare)
+  bare_left = record { number = refl; kind = refl; origin = refl; loaded = inr (ap (option_map (λ (e : Directory). (e.stamp, e.unsaved))) (child_of-with_child None row)) }
+
+  was_by : (q : Path) (v : Standing) (o : Option Path) → behind_of path q ≡ o → grafted o (λ r. standing_at r bare) (standing_at q x) ≡ Some v → WasThere x q v
+  was_by q v None front is = (v, (is, left_same v))
+  was_by q v (Some []) front is =
+      let here : path ≡ q = sym (append-nil path) ∙ sym (behind_sound path q [] front) in
+      (standing row, (ap (option_map standing) (ap (λ (p : Path). row_at p x) (sym here) ∙ at), subst (IsLeft (standing row)) (same_Some (standing bare) v is) bare_left))
+  was_by q v (Some (n ∷ r)) front is =
+      absurd (none-some v (sym (ap (λ (c : Option Directory). option_map standing (option_and_then (λ (e : Directory). option_and_then (row_at r) (find_row n e.rows)) c)) (child_of-with_child None row)) ∙ is))
+
+  was_there : (q : Path) (v : Standing) → standing_at q (edit_row path (with_child None) x) ≡ Some v → WasThere x q v
+  was_there q v is = was_by q v (behind_of path q) refl (sym (edits_one path (with_child None) x row q at) ∙ is)
+
+-- any number of them
+unloads_left : (honest : Type 0) (clock age : ℕ) (F : Stored) (x : Row) (G : Stored) (z : Row) (c : ℕ) → Unloads honest clock age F x G z c
+    → (q : Path) (v : Standing) → standing_at q z ≡ Some v → WasThere x q v
+unloads_left honest clock age F x _ _ _ none q v is = (v, (is, left_same v))
+unloads_left honest clock age F x _ _ _ (one_more G y c H z u g) q v is =
+    let a = was_there g.path y g.row g.at q v (sym (ap (standing_at q) g.gone) ∙ is) in
+    let b = unloads_left honest clock age F x G y c u q a.0 a.1.0 in
+    (b.0, (b.1.0, left_on b.0 a.0 v b.1.1 a.1.1))
+unloads_left honest clock age F x _ _ _ (same_files G y c H u same) q v is = unloads_left honest clock age F x G y c u q v is
+
+-- .. at and below a path alone
+pub lets_go : (honest : Type 0) (clock age : ℕ) (F : Stored) (x : Row) (G : Stored) (z : Row) (c : ℕ) → Unloads honest clock age F x G z c
+    → (p : Path) → (y : Row) × (z ≡ edit_row p (λ w. y) x) → LetsGo p x z
+lets_go honest clock age F x G z c u p one = record { elsewhere = one; left = unloads_left honest clock age F x G z c u }
+
+module _ (p : Path) (x z : Row) (g : LetsGo p x z) where
+  -- none of them was marked unsaved where none is now
+  left_saved : SavedAt x → SavedAt z
+  left_saved all q v stamp unsaved at loaded = by was.1.1.loaded where
+    was : WasThere x q v
+    was = g.left q v at
+
+    by : (v.loaded ≡ was.0.loaded) ⊎ (v.loaded ≡ None) → unsaved ≡ false
+    by (inl one) = all q was.0 stamp unsaved was.1.0 (sym one ∙ loaded)
+    by (inr gone) = absurd (none-some (stamp, unsaved) (sym gone ∙ loaded))
+
+  pub goes_saved : AreSaved x → AreSaved z
+  goes_saved all = by_place z (left_saved (by_path x all))
+
+  -- what doesn't stand at or below the path is as it was
+  pub kept_elsewhere : (q : Path) → behind_of p q ≡ None → standing_at q z ≡ standing_at q x
+  kept_elsewhere q off = ap (standing_at q) g.elsewhere.1 ∙ by_row (row_at p x) refl where
+    by_row : (o : Option Row) → row_at p x ≡ o → standing_at q (edit_row p (λ w. g.elsewhere.0) x) ≡ standing_at q x
+    by_row None at = ap (standing_at q) (edits_nothing p (λ w. g.elsewhere.0) x at)
+    by_row (Some y) at = edits_one p (λ w. g.elsewhere.0) x y q at ∙ ap (λ (o : Option Path). grafted o (λ r. standing_at r g.elsewhere.0) (standing_at q x)) off
+
+  pub beside : (q : Path) → behind_of p q ≡ None → behind_of q p ≡ None → row_at q z ≡ row_at q x
+  beside q off back = ap (row_at q) g.elsewhere.1 ∙ edits_not_beside p q (λ w. g.elsewhere.0) x off back
+
+  -- .. and loaded where it was
+  pub loaded_elsewhere : (q : Path) → behind_of p q ≡ None → IsLoadedAt q x → IsLoadedAt q z
+  loaded_elsewhere q off is =
+      let l = loaded_found q x is in
+      let s = kept_elsewhere q off ∙ ap (option_map standing) l.at in
+      let y = map_some standing (row_at q z) (standing l.row) (sym s) in
+      let d = map_some (λ (e : Directory). (e.stamp, e.unsaved)) (child_of y.0) (l.directory.stamp, l.directory.unsaved)
+      (sym (ap (λ (v : Standing). v.loaded) y.1.1 ∙ ap (option_map (λ (e : Directory). (e.stamp, e.unsaved))) l.holds)) in
+      loaded_there q z y.0 d.0 y.1.0 d.1.0
+
+  -- the entry at the path is there with the number, kind and origin that it had
+  pub stays_there : (y : Row) → row_at p x ≡ Some y → (v : Row) × ((row_at p z ≡ Some v) × IsLeft (standing y) (standing v))
+  stays_there y at =
+      let v = g.elsewhere.0 in
+      let now : row_at p z ≡ Some v = ap (row_at p) g.elsewhere.1 ∙ edits_there p (λ w. v) x ∙ ap (option_map (λ w. v)) at in
+      let was = g.left p (standing v) (ap (option_map standing) now) in
+      let one : was.0 ≡ standing y = same_Some was.0 (standing y) (sym was.1.0 ∙ ap (option_map standing) at) in
+      (v, (now, subst (λ (s : Standing). IsLeft s (standing v)) one was.1.1))

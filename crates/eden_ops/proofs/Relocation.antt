@@ -1,0 +1,225 @@
+-- An entry that goes to another path: both paths are cleared, both directories their own, and then it can move.
+use Rattle.std.proofs.Common.{◌≡◌, ℕ, Bool, true, [], ◌∷◌, ◌++◌, length, Option, Some, None, Result, Ok, Err, IsErr, IfSome, IfErr, refl, sym, ap, ◌∙◌, subst, inl, inr, arith, append_assoc, length-append}
+use Rattle.std.proofs.lemmas.Bool.{false≢true}
+use Rattle.std.proofs.lemmas.List.{append-nil}
+use Rattle.std.proofs.lemmas.Option.{none-some}
+use Rattle.std.proofs.lemmas.Result.{on_ok_weaker}
+use Rattle.std.specs.Option.{option_map, option_and_then, is_some}
+use Rattle.std.specs.Result.{IsErrAnd}
+use Rattle.eden_model.specs.declared.fault.Fault.{Fault}
+use Rattle.eden_model.specs.declared.world.World.{Ghosts}
+use Rattle.eden_model.specs.Operations.{move}
+use Rattle.eden_model.specs.Paths.{behind_of}
+use Rattle.eden_model.specs.Trees.{Name, Path, Tree, grafted}
+use Rattle.eden_model.proofs.CallerLemmas.{behind_sound, behind_back}
+use Rattle.eden_overlay.specs.declared.files.Files.{Ghosts as Files}
+use Rattle.eden_overlay.specs.Files.{Stored}
+use Rattle.eden_tree.specs.Directory.{Row, Directory, child_of, with_child}
+use Rattle.eden_tree.specs.Rows.{find_row}
+use Rattle.eden_tree.specs.Paths.{row_at, Standing, standing, standing_at}
+use Rattle.eden_tree.proofs.CallerLemmas.{reads_on, edits_one, steps_down, child_of-with_child}
+use Rattle.eden_tie.specs.Chains.{IsLoadedAt, AreSaved}
+use Rattle.eden_tie.specs.Changing.{MayMove, marked_source}
+use Rattle.eden_tie.specs.Laws.{owned}
+use Rattle.eden_tie.specs.Materialising.{owned_along}
+use Rattle.eden_tie.specs.Moving.{CanMove}
+use Rattle.eden_tie.proofs.CallerLemmas.{map_some, loaded_there, loaded_found}
+use Rattle.eden_inode.specs.Tables.{Table}
+use Rattle.eden_materialise.specs.EntryMoves.{IsUnmoved}
+use Rattle.eden_materialise.specs.Faults.{IsStoreFault}
+use Rattle.eden_ops.specs.Letting.{LetsGo}
+use Rattle.eden_ops.specs.Relocating.{CanRelocate, IsUnloadedAt, IsCleared, StaysBeside, AreSavedBut, both_owned, Readies}
+use Rattle.eden_ops.proofs.Changing.{none_held, is_in}
+use Rattle.eden_ops.proofs.Going.{kept_elsewhere, loaded_elsewhere, stays_there}
+use Rattle.eden_ops.proofs.Owned.{is_held, owned_held, behind_itself, owned_own, owned_still}
+use Rattle.eden_ops.proofs.Saving.{by_path}
+use Rattle.eden_ops.proofs.Walking.{front_loaded}
+
+-- ---- one step after another
+
+module _ {W F : Type 0} (w : Ghosts W) (f : Files F W) where
+  pub readies_on : (s t u : Table F) (a : Result (Unit {0}) Fault) → Readies w f s t (Ok tt) → Readies w f t u a → Readies w f s u a
+  readies_on s t u a one two = record {
+    shown = λ h. two.shown h ∙ one.shown h;
+    saved = λ all. two.saved (one.saved all);
+    fault = subst (λ (k : ℕ). IfErr a (IsStoreFault k (f.failures u.files))) one.counted two.fault;
+    counted = on_ok_weaker a (λ is. is ∙ one.counted) two.counted;
+    next = two.next ∙ one.next;
+    clock = two.clock ∙ one.clock;
+  }
+
+  -- an error that is handed on
+  pub readies_err : (s t : Table F) (r : Result (Unit {0}) Fault) (e : Fault) → IsErr r → IsErrAnd r (λ z. z ≡ e) → Readies w f s t (Err e) → Readies w f s t r
+  readies_err s t (Ok x) e is told a = absurd (cc)
+  readies_err s t (Err x) e is told a = subst (λ (z : Fault). Readies w f s t (Err z)) (sym told) a
+
+-- ---- fronts of paths
+
+-- what isn't a front of a path isn't one of the path without its last name
+not_front : (front q : Path) (k : Name) → behind_of front (q ++ k ∷ []) ≡ None → behind_of front q ≡ None
+not_front front q k none = by (behind_of front q) refl where
+  by : (o : Option Path) → behind_of front q ≡ o → o ≡ None
+  by None is = refl
+  by (Some r) is =
+      absurd (none-some (r ++ k ∷ []) (sym none ∙ ap (λ (p : Path). behind_of front (p ++ k ∷ [])) (behind_sound front q r is)
+      ∙ ap (behind_of front) (append_assoc front r (k ∷ [])) ∙ behind_back front (r ++ k ∷ [])))
+
+-- .. which doesn't begin with the whole of it
+not_whole : (q : Path) (k : Name) → behind_of (q ++ k ∷ []) q ≡ None
+not_whole q k = by (behind_of (q ++ k ∷ []) q) refl where
+  by : (o : Option Path) → behind_of (q ++ k ∷ []) q ≡ o → o ≡ None
+  by None is = refl
+  by (Some r) is =
+      let l : length q ≡ length ((q ++ k ∷ []) ++ r) = ap length (behind_sound (q ++ k ∷ []) q r is) in
+      absurd (omega (arith, l, length-append (q ++ k ∷ []) r, length-append q (k ∷ [])))
+
+-- ---- both paths are cleared
+
+abbrev mark_of : Directory → ℕ × Bool
+mark_of d = (d.stamp, d.unsaved)
+
+no_mark : (o : Option Directory) → option_map mark_of o ≡ None → o ≡ None
+no_mark None is = refl
+no_mark (Some d) is = cc
+
+away_kept : (q : Path) (x z : Row) → standing_at q z ≡ standing_at q x → IsUnloadedAt q x → IsUnloadedAt q z
+away_kept q x z same none w at =
+    let y = map_some standing (row_at q x) (standing w) (sym (ap (option_map standing) at) ∙ same) in
+    no_mark (child_of w) (sym (ap (λ (s : Standing). s.loaded) y.1.1) ∙ ap (option_map mark_of) (none y.0 y.1.0))
+
+module _ (from to : Path) where
+  pub first_cleared : (x z : Row) → LetsGo from x z → CanRelocate x from to → CanRelocate z from to
+  first_cleared x z g may =
+      let v = stays_there from x z g may.row may.there in
+      record {
+        row = v.0;
+        there = v.1.0;
+        above = λ p n is. loaded_elsewhere from x z g p (not_front from p n (ap (behind_of from) (sym is) ∙ may.not_below)) (may.above p n is);
+        not_below = may.not_below;
+        not_above = may.not_above;
+      }
+
+  pub second_cleared : (x z : Row) → LetsGo to x z → CanRelocate x from to → IsUnloadedAt from x → IsUnloadedAt to z → IsCleared z from to
+  second_cleared x z g may from_away to_away =
+      let same = kept_elsewhere to x z g from may.not_above in
+      let v = map_some standing (row_at from z) (standing may.row) (sym (same ∙ ap (option_map standing) may.there)) in
+      record {
+        can = record {
+          row = v.0;
+          there = v.1.0;
+          above = λ p n is. loaded_elsewhere to x z g p (ap (λ (q : Path). behind_of q p) is ∙ not_whole p n) (may.above p n is);
+          not_below = may.not_below;
+          not_above = may.not_above;
+        };
+        from_unloaded = away_kept from x z same from_away;
+        to_unloaded = to_away;
+      }
+
+  pub first_stays : (x z : Row) → LetsGo from x z → StaysBeside from to x z
+  first_stays x z g q off other is = loaded_elsewhere from x z g q off is
+
+  pub second_stays : (x y z : Row) → LetsGo from x y → LetsGo to y z → StaysBeside from to x z
+  second_stays x y z a b q off other is = loaded_elsewhere to y z b q other (loaded_elsewhere from x y a q off is)
+
+-- ---- what can move
+
+-- the directory above an entry that is there
+pub above_loaded : (x y : Row) (from p : Path) (n : Name) → from ≡ p ++ n ∷ [] → row_at from x ≡ Some y → IsLoadedAt p x
+above_loaded x y from p n split at =
+    let h = front_loaded x p n [] y (sym (ap (λ (q : Path). row_at q x) split) ∙ at) in
+    loaded_there p x h.0 h.1.1.0 h.1.0 h.1.1.1
+
+module _ (x : Row) (p : Path) (n : Name) (q : Path) (m : Name) (c : IsCleared x (p ++ n ∷ []) (q ++ m ∷ [])) where
+  abbrev half : Row
+  half = owned (owned_along p x)
+
+  abbrev z : Row
+  z = both_owned p q x
+
+  held_alike : (r : Path) → option_map is_held (row_at r z) ≡ option_map is_held (row_at r x)
+  held_alike r = owned_held q r half ∙ owned_held p r x
+
+  still_away : (r : Path) → IsUnloadedAt r x → IsUnloadedAt r z
+  still_away r none w at =
+      let y = map_some is_held (row_at r x) (is_held w) (sym (ap (option_map is_held) at) ∙ held_alike r) in
+      none_held (child_of w) (sym y.1.1 ∙ ap is_some (none y.0 y.1.0))
+
+  may_go_there : (d : Directory) (y : Row) → row_at q z ≡ Some y → child_of y ≡ Some d → (o : Option Row) → find_row m d.rows ≡ o → IfSome o (λ w. child_of w ≡ None)
+  may_go_there d y at holds None found = tt
+  may_go_there d y at holds (Some w) found =
+      still_away (q ++ m ∷ []) c.to_unloaded w (reads_on q (m ∷ []) z ∙ ap (option_and_then (row_at (m ∷ []))) at ∙ steps_down m [] y w d holds found)
+
+  can_so : IsLoadedAt q z → CanMove z p n q m
+  can_so loaded =
+      let w = map_some is_held (row_at (p ++ n ∷ []) z) (is_held c.can.row) (sym (held_alike (p ++ n ∷ []) ∙ ap (option_map is_held) c.can.there)) in
+      let h = is_in (p ++ n ∷ []) p n z w.0 refl w.1.0 in
+      let t = loaded_found q z loaded in
+      record {
+        from = h.row;
+        source = h.directory;
+        entry = w.0;
+        at_from = h.at;
+        holds_source = h.holds;
+        own_from = owned_still q p half (owned_own p x) h.row h.at;
+        there = h.there;
+        unloaded = still_away (p ++ n ∷ []) c.from_unloaded w.0 w.1.0;
+        to = t.row;
+        target = t.directory;
+        at_to = t.at;
+        holds_target = t.holds;
+        own_to = owned_own q half t.row t.at;
+        may_go = may_go_there t.directory t.row t.at t.holds (find_row m t.directory.rows) refl;
+        other = λ is. none-some [] (sym c.can.not_below ∙ ap (behind_of (p ++ n ∷ [])) (sym is) ∙ behind_itself (p ++ n ∷ []));
+      }
+
+pub can_move : (x y : Row) (from to p : Path) (n : Name) (q : Path) (m : Name) → from ≡ p ++ n ∷ [] → to ≡ q ++ m ∷ [] → IsCleared x from to → y ≡ both_owned p q x → IsLoadedAt q y
+    → CanMove y p n q m
+can_move x y from to p n q m split cut c is loaded =
+    subst (λ (a : Row). CanMove a p n q m) (sym is)
+    (can_so x p n q m (subst (λ (r : Path). IsCleared x r (q ++ m ∷ [])) split (subst (IsCleared x from) cut c)) (subst (IsLoadedAt q) is loaded))
+
+-- what is shown once it moved, in the words of both paths
+pub moves_shown : (now before old : Tree) (from to p q : Path) → now ≡ move before p q → before ≡ old → from ≡ p → to ≡ q → now ≡ move old from to
+moves_shown now before old from to p q is same split cut =
+    is ∙ ap (λ (T : Tree). move T p q) same ∙ ap (λ (r : Path). move old r q) (sym split) ∙ ap (λ (r : Path). move old from r) (sym cut)
+
+-- ---- marks
+
+-- none is unsaved where all are saved
+is_saved : (x : Row) → AreSaved x → (r : Path) (y : Row) (d : Directory) → standing_at r x ≡ Some (standing y) → child_of y ≡ Some d → d.unsaved ≡ true → ⊥
+is_saved x saved r y d at holds unsaved =
+    false≢true (sym (by_path x saved r (standing y) d.stamp d.unsaved at (ap (option_map mark_of) holds)) ∙ unsaved)
+
+pub saved_but : (from : Path) (x : Row) → AreSaved x → AreSavedBut from x
+saved_but from x saved r y d at holds unsaved = absurd (is_saved x saved r y d (ap (option_map standing) at) holds unsaved)
+
+module _ (x : Row) (p : Path) (n : Name) (q : Path) (m : Name) where
+  module _ (may : MayMove x p n q m) (saved : AreSaved x) where
+    abbrev marked : Directory
+    marked = record may.source { unsaved = true }
+
+    abbrev then : Row
+    then = with_child (Some marked) may.from
+
+    -- an entry below the marked directory
+    below_marked : (k : Name) (s : Path) → standing_at (k ∷ s) then ≡ standing_at (p ++ k ∷ s) x
+    below_marked k s =
+        ap (λ (o : Option Directory). option_map standing (option_and_then (λ (d : Directory). option_and_then (row_at s) (find_row k d.rows)) o)) (child_of-with_child (Some marked) may.from)
+        ∙ ap (λ (o : Option Directory). option_map standing (option_and_then (λ (d : Directory). option_and_then (row_at s) (find_row k d.rows)) o)) (sym may.holds_source)
+        ∙ ap (λ (o : Option Row). option_map standing (option_and_then (row_at (k ∷ s)) o)) (sym may.at_from)
+        ∙ ap (option_map standing) (sym (reads_on p (k ∷ s) x))
+
+    marked_by : (r : Path) (y : Row) (d : Directory) → child_of y ≡ Some d → d.unsaved ≡ true → (o : Option Path) → behind_of p r ≡ o
+        → grafted o (λ s. standing_at s then) (standing_at r x) ≡ Some (standing y) → (k : Name) × (p ++ n ∷ [] ≡ r ++ k ∷ [])
+    marked_by r y d holds unsaved None front is = absurd (is_saved x saved r y d is holds unsaved)
+    marked_by r y d holds unsaved (Some []) front is = (n, ap (λ (s : Path). s ++ n ∷ []) (sym (append-nil p) ∙ sym (behind_sound p r [] front)))
+    marked_by r y d holds unsaved (Some (k ∷ s)) front is =
+        absurd (is_saved x saved r y d (ap (λ (t : Path). standing_at t x) (behind_sound p r (k ∷ s) front) ∙ sym (below_marked k s) ∙ is) holds unsaved)
+
+    marked_but : AreSavedBut (p ++ n ∷ []) (marked_source x p n q m may)
+    marked_but r y d at holds unsaved =
+        marked_by r y d holds unsaved (behind_of p r) refl (sym (edits_one p (with_child (Some marked)) x may.from r may.at_from) ∙ ap (option_map standing) at)
+
+  pub unmoved_but : (honest : Type 0) (F G : Stored) (z : Row) → IsUnmoved honest p n q m F x G z → AreSaved x → AreSavedBut (p ++ n ∷ []) z
+  unmoved_but honest F G z (inl same) saved = subst (AreSavedBut (p ++ n ∷ [])) (sym same.0) (saved_but (p ++ n ∷ []) x saved)
+  unmoved_but honest F G z (inr left) saved = subst (AreSavedBut (p ++ n ∷ [])) (sym left.1.1.0) (marked_but left.1.0 saved)

@@ -1,0 +1,62 @@
+use Rattle.std.proofs.Common.{◌++◌, ◌∷◌, [], sym, ◌∙◌, subst}
+use Rattle.eden_model.specs.Trees.{Path}
+use Rattle.eden_ops.specs.Keeping.{shows}
+use Rattle.eden_ops.specs.Relocating.{AreSavedBut}
+use Rattle.eden_ops.proofs.Bringing.{on_err}
+use Rattle.eden_ops.proofs.Relocation.{above_loaded, can_move, moves_shown, saved_but, unmoved_but}
+use Rattle.eden_ops.proofs.relocating.relocate.Goals as goal
+
+pub returns-in_err-clear_both-clause-err : goal.returns-in_err-clear_both-clause-err
+returns-in_err-clear_both-clause-err g c = λ h. on_err c.from_residual.result _ (c.in_err-clear_both.ensures.readies.shown h)
+
+pub returns-in_err-clear_both-clause-marked : goal.returns-in_err-clear_both-clause-marked
+returns-in_err-clear_both-clause-marked g c = λ all. saved_but c.args.from.now c.clear_both.new.inodes.root (c.in_err-clear_both.ensures.readies.saved all)
+
+pub own_both-requires-clause-one : goal.own_both-requires-clause-one
+own_both-requires-clause-one g c =
+    let can = c.in_ok-clear_both.ensures.cleared.can in
+    above_loaded c.clear_both.new.inodes.root can.row c.as_slice-old.result.now c.in-Some.above.now c.in-Some.name.now c.in-Some.ensures.cases.0 can.there
+
+pub returns-in_err-own_both-clause-err : goal.returns-in_err-own_both-clause-err
+returns-in_err-own_both-clause-err g c = λ h. on_err c.from_residual-in_err-own_both.result _ (c.in_err-own_both.ensures.readies.shown h ∙ c.in_ok-clear_both.ensures.readies.shown h)
+
+pub returns-in_err-own_both-clause-marked : goal.returns-in_err-own_both-clause-marked
+returns-in_err-own_both-clause-marked g c = λ all. saved_but c.args.from.now c.own_both.new.inodes.root (c.in_err-own_both.ensures.readies.saved (c.in_ok-clear_both.ensures.readies.saved all))
+
+pub move_entry-requires : goal.move_entry-requires
+move_entry-requires g c =
+    let q = c.in-Some-split_last.new_above.now in
+    let cleared = c.in_ok-clear_both.ensures.cleared in
+    let own = c.in_ok-own_both.ensures in
+    record {
+      may = can_move c.clear_both.new.inodes.root c.own_both.new.inodes.root c.as_slice-old.result.now c.as_slice-new.result.now
+          c.in-Some.above.now c.in-Some.name.now q c.in-Some-split_last.new_name.now c.in-Some.ensures.cases.0 c.in-Some-split_last.ensures.cases.0
+          cleared own.owned (own.stays q (cleared.can.above q c.in-Some-split_last.new_name.now c.in-Some-split_last.ensures.cases.0));
+    }
+
+pub returns-in_err-move_entry-clause-err : goal.returns-in_err-move_entry-clause-err
+returns-in_err-move_entry-clause-err g c = λ h.
+    on_err c.from_residual-in_err-move_entry.result _ (c.in_err-move_entry.ensures.unseen h ∙ c.in_ok-own_both.ensures.readies.shown h ∙ c.in_ok-clear_both.ensures.readies.shown h)
+
+pub returns-in_err-move_entry-clause-marked : goal.returns-in_err-move_entry-clause-marked
+returns-in_err-move_entry-clause-marked g c = λ all.
+    let u = c.own_both.new.inodes in
+    let v = c.move_entry.new.inodes in
+    subst (λ (r : Path). AreSavedBut r v.root) (sym (sym c.as_slice-old.ensures ∙ c.in-Some.ensures.cases.0))
+    (unmoved_but u.root c.in-Some.above.now c.in-Some.name.now c.in-Some-split_last.new_above.now c.in-Some-split_last.new_name.now
+    g.W.World.honest (g.F.Files.stored u.files) (g.F.Files.stored v.files) v.root c.in_err-move_entry.ensures.err
+    (c.in_ok-own_both.ensures.readies.saved (c.in_ok-clear_both.ensures.readies.saved all)))
+
+pub returns-clause-ok : goal.returns-clause-ok
+returns-clause-ok g c = λ h.
+    moves_shown (shows g.W.World g.F.Files c.move_entry.new.inodes) (shows g.W.World g.F.Files c.own_both.new.inodes) (shows g.W.World g.F.Files c.args.inodes.now) c.args.from.now c.args.to.now
+    (c.in-Some.above.now ++ c.in-Some.name.now ∷ []) (c.in-Some-split_last.new_above.now ++ c.in-Some-split_last.new_name.now ∷ [])
+    (c.in_ok-move_entry.ensures.shown h) (c.in_ok-own_both.ensures.readies.shown h ∙ c.in_ok-clear_both.ensures.readies.shown h)
+    (sym c.as_slice-old.ensures ∙ c.in-Some.ensures.cases.0) (sym c.as_slice-new.ensures ∙ c.in-Some-split_last.ensures.cases.0)
+
+pub returns-clause-saved : goal.returns-clause-saved
+returns-clause-saved g c = λ all. c.in_ok-move_entry.ensures.saved (c.in_ok-own_both.ensures.readies.saved (c.in_ok-clear_both.ensures.readies.saved all))
+
+pub returns-clause-marked : goal.returns-clause-marked
+returns-clause-marked g c = λ all.
+    saved_but c.args.from.now c.move_entry.new.inodes.root (c.in_ok-move_entry.ensures.saved (c.in_ok-own_both.ensures.readies.saved (c.in_ok-clear_both.ensures.readies.saved all)))

@@ -1,0 +1,41 @@
+//! Directories that are let go of.
+ghost use Rattle.std.specs.Prelude.{◌≡◌, ◌≤◌, Some, None, IfErr, OnOk};
+ghost use Rattle.eden_tie.specs.Chains.{AreSaved};
+ghost use Rattle.eden_tree.specs.Directory.{Row, child_of};
+ghost use Rattle.eden_tree.specs.Paths.{row_at};
+ghost use Rattle.eden_materialise.specs.Faults.{IsStoreFault};
+ghost use Rattle.eden_ops.specs.Keeping.{shows};
+ghost use Rattle.eden_ops.specs.Letting.{LetsGo};
+
+use eden_inode::Inodes;
+use eden_model::{Fault, Name, World};
+use eden_overlay::Files;
+use std::alloc::{Allocator, Global};
+
+/// Lets go of every directory that is loaded at and below a path; an unsaved one is stored first.
+///
+/// Errors: `Overlay` where the device failed, and `Memory`: then some of them are still loaded.
+pub(crate) fn let_go<A: Allocator + Clone, W: World, F: Files<W>>(
+    inodes: &mut Inodes<A, W, F>,
+    alloc: Global,
+    path: &[Name],
+) -> Result<(), Fault>
+    ensures away { OnOk result ((y : Row) → row_at path.now inodes.new.root ≡ Some y → child_of y ≡ None) }
+    ensures goes { LetsGo path.now inodes.old.root inodes.new.root }
+    ensures fault { IfErr result (IsStoreFault (F.failures inodes.old.files) (F.failures inodes.new.files)) }
+    ensures counted { F.failures inodes.old.files ≤ F.failures inodes.new.files }
+    ensures unfailed { OnOk result (F.failures inodes.new.files ≡ F.failures inodes.old.files) }
+    ensures same { W.honest → shows W.World F.Files inodes.new ≡ shows W.World F.Files inodes.old }
+    ensures saved { AreSaved inodes.old.root → AreSaved inodes.new.root }
+    ensures rest { (inodes.new.next ≡ inodes.old.next) × (inodes.new.clock ≡ inodes.old.clock) }
+{
+    let failures = inodes.failures();
+    inodes.unload(alloc, path, 0);
+    if inodes.failures() > failures {
+        return Err(Fault::Overlay);
+    }
+    if inodes.directory(path).is_none() {
+        return Ok(());
+    }
+    Err(Fault::Memory)
+}

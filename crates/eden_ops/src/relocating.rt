@@ -1,0 +1,82 @@
+//! Entries that go to another path.
+ghost use Rattle.std.specs.Prelude.{◌≡◌, ◌≤◌, OnOk, OnErr, IfErr};
+ghost use Rattle.eden_model.specs.Operations.{move};
+ghost use Rattle.eden_tie.specs.Chains.{AreSaved, IsLoadedAt, StaysLoaded};
+ghost use Rattle.eden_materialise.specs.Faults.{IsStoreFault};
+ghost use Rattle.eden_ops.specs.Keeping.{shows};
+ghost use Rattle.eden_ops.specs.Relocating.{CanRelocate, IsCleared, StaysBeside, AreSavedBut, both_owned, Readies};
+
+use crate::letting::let_go;
+use eden_inode::Inodes;
+use eden_materialise::{materialise, move_entry};
+use eden_model::{Fault, Name, Path, World};
+use eden_overlay::Files;
+use std::alloc::{Allocator, Global};
+
+/// Lets go of what is loaded at and below both paths.
+fn clear_both<A: Allocator + Clone, W: World, F: Files<W>>(
+    inodes: &mut Inodes<A, W, F>,
+    alloc: Global,
+    from: &[Name],
+    to: &[Name],
+) -> Result<(), Fault>
+    requires may { CanRelocate inodes.old.root from.now to.now }
+    ensures cleared { OnOk result (IsCleared inodes.new.root from.now to.now) }
+    ensures stays { StaysBeside from.now to.now inodes.old.root inodes.new.root }
+    ensures readies { Readies W.World F.Files inodes.old inodes.new result }
+{
+    let_go(inodes, alloc, from)?;
+    let_go(inodes, alloc, to)
+}
+
+/// Makes the loaded directories along both paths the mount's own.
+fn own_both<A: Allocator + Clone, W: World, F: Files<W>>(
+    inodes: &mut Inodes<A, W, F>,
+    alloc: Global,
+    one: &[Name],
+    other: &[Name],
+) -> Result<(), Fault>
+    requires one { IsLoadedAt one.now inodes.old.root }
+    requires other { IsLoadedAt other.now inodes.old.root }
+    ensures owned { OnOk result (inodes.new.root ≡ both_owned one.now other.now inodes.old.root) }
+    ensures stays { StaysLoaded inodes.old.root inodes.new.root }
+    ensures readies { Readies W.World F.Files inodes.old inodes.new result }
+{
+    materialise(inodes, alloc, one)?;
+    materialise(inodes, alloc, other)
+}
+
+/// Moves the entry at one path to another, in place of what stands there. What is loaded at and below both is let go
+/// first, and the directories above both become the mount's own.
+///
+/// Errors: `Overlay` where the device failed, and `Memory`, also where there is no room for one more entry. What is shown is
+/// as before then; the directory above the entry may be left unsaved.
+pub(crate) fn relocate<A: Allocator + Clone, W: World, F: Files<W>>(
+    inodes: &mut Inodes<A, W, F>,
+    alloc: Global,
+    from: &Path,
+    to: &Path,
+) -> Result<(), Fault>
+    requires may { CanRelocate inodes.old.root from.now to.now }
+    ensures ok { W.honest → OnOk result (shows W.World F.Files inodes.new ≡ move (shows W.World F.Files inodes.old) from.now to.now) }
+    ensures err { W.honest → OnErr result (shows W.World F.Files inodes.new ≡ shows W.World F.Files inodes.old) }
+    ensures fault { IfErr result (IsStoreFault (F.failures inodes.old.files) (F.failures inodes.new.files)) }
+    ensures counted { F.failures inodes.old.files ≤ F.failures inodes.new.files }
+    ensures loaded { StaysBeside from.now to.now inodes.old.root inodes.new.root }
+    ensures saved { OnOk result (AreSaved inodes.old.root → AreSaved inodes.new.root) }
+    ensures marked { AreSaved inodes.old.root → AreSavedBut from.now inodes.new.root }
+    ensures rest { (inodes.new.next ≡ inodes.old.next) × (inodes.new.clock ≡ inodes.old.clock) }
+{
+    let old = from.as_slice();
+    let new = to.as_slice();
+    let Some((name, above)) = old.split_last() else {
+        unreachable!()
+    };
+    let Some((new_name, new_above)) = new.split_last() else {
+        unreachable!()
+    };
+    clear_both(inodes, alloc, old, new)?;
+    own_both(inodes, alloc, above, new_above)?;
+    move_entry(inodes, alloc, above, name, new_above, new_name)?;
+    Ok(())
+}
