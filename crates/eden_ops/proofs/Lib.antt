@@ -22,3 +22,4 @@ pub mod Additions
 pub mod Renames
 pub mod Owned
 pub mod Relocation
+pub mod TwoPaths
