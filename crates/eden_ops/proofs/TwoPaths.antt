@@ -36,20 +36,21 @@ use Rattle.eden_materialise.specs.Faults.{IsStoreFault}
 use Rattle.eden_ops.specs.declared.answer.Attempt.TheVariants.{Finished}
 use Rattle.eden_ops.specs.declared.answer.Stop.{Stop}
 use Rattle.eden_ops.specs.declared.answer.Stop.TheVariants as stop
-use Rattle.eden_ops.specs.Attempts.{Attempts, Wants, IsSeen, IsShown, shown_node, stopped}
+use Rattle.eden_ops.specs.Attempts.{Attempts, Wants, IsSeen, IsShown, Meets, MeetsShown, shown_node, stopped}
 use Rattle.eden_ops.specs.Caches.{FindsTheSame}
 use Rattle.eden_ops.specs.Faults.{IsCaused, IsLawful}
 use Rattle.eden_ops.specs.Keeping.{shows, Keeps}
 use Rattle.eden_ops.specs.Known.{content_known, known_by, known_node, known, is_silent, place_on, place}
 use Rattle.eden_ops.specs.Laws.{Grows}
 use Rattle.eden_ops.specs.Relocating.{CanRelocate}
-use Rattle.eden_ops.specs.Renames.{MayLand, Goes, IsPlainReply, IsByPaths, Lands, LandsShown}
+use Rattle.eden_ops.specs.Renames.{IsTold, MayLand, Goes, IsPlainReply, IsByPaths, Lands, LandsShown}
 use Rattle.eden_ops.proofs.Additions.{passes_above}
 use Rattle.eden_ops.proofs.Answering.{Starts, answered, failed, first_here, says_at, some_inj}
 use Rattle.eden_ops.proofs.Changing.{changed, refused}
 use Rattle.eden_ops.proofs.Deeper.{stays_loaded}
 use Rattle.eden_ops.proofs.Fetching.{away, shown_kind, is_loaded}
 use Rattle.eden_ops.proofs.Finding.{finds_on}
+use Rattle.eden_ops.proofs.Reached.{seen_at, shown_at}
 use Rattle.eden_ops.proofs.Renames.{none_of_map}
 use Rattle.eden_ops.proofs.Rounds.{caused_since}
 use Rattle.eden_ops.proofs.Steps.{keeps_on, keeps_entries, keeps_counts}
@@ -73,12 +74,7 @@ known_as_dir : (c : Child) (k : Kind) (o : Option (List ℕ)) → k ≡ kind.Dir
 known_as_dir unloaded k o is = node_dir k o false is
 known_as_dir (loaded s u r) k o is = refl
 
--- what was seen is told to be a directory or not
-pub record IsTold (seen : Seen) (dir : Bool) : Type 0 where
-  pub yes : dir ≡ true → (seen.loaded ≡ true) ⊎ (seen.kind ≡ kind.Dir)
-  pub otherwise : dir ≡ false → (seen.loaded ≡ false) × (seen.kind ≢ kind.Dir)
-
--- .. as it is shown
+-- what was seen, as it is shown
 shown_as : (R : Repository) (F : Stored) (p : Path) (x : Row) (seen : Seen) (at : IsSeen p x seen) (met : Reach) → IsShown R F (row_at p x) met → (b : Bool) → IsTold seen b → (l : Bool) → is_dir (shown_node R F at.row l) ≡ b
 shown_as R F p x seen at met h true told l = node_dir at.row.kind (content_with R (own_files F) (source_of at.row.number at.row.origin)) l (shown_kind p x seen at R F met h (told.yes refl))
 shown_as R F p x seen at met h false told l = node_other at.row.kind (content_with R (own_files F) (source_of at.row.number at.row.origin)) l (λ k. (told.otherwise refl).1 (at.kind ∙ k))
@@ -161,14 +157,14 @@ module _ (from to : Path) (dir : Bool) (paths : IsByPaths from to dir None) wher
 abbrev pub moves : Path → Path → Tree → Node → Reply → Type 0
 moves from to G n = Moves G from to n
 
-module _ (from to : Path) (root : is_root from ≡ false) (other : is_root to ≡ false) where
-  abbrev q : Request
-  q = ask.Rename from to
+place_past : (from to : Path) (G : Tree) → walk G from ≡ Passes → place G (ask.Rename from to) ≡ place_on G to
+place_past from to G on = ap (λ (v : Walk). place_on G (if is_silent v then from else to)) on
 
+module _ (from to : Path) (root : is_root from ≡ false) (other : is_root to ≡ false) where
   no_root : (is_root from || is_root to) ≡ false
   no_root = ap (λ (b : Bool). b || is_root to) root ∙ other
 
-  pub starts_rename : Starts q from (Refuses ENOENT) (moves from to)
+  pub starts_rename : Starts (ask.Rename from to) from (Refuses ENOENT) (moves from to)
   starts_rename = record {
     says = λ G r h. subst (λ (b : Bool). Unless b EBUSY (At G from (Moves G from to)) r) (sym no_root) h;
     only = λ G r h. subst (λ (b : Bool). Unless b EBUSY (At G from (Moves G from to)) r) no_root h;
@@ -176,74 +172,100 @@ module _ (from to : Path) (root : is_root from ≡ false) (other : is_root to �
     plain = λ x is. cc;
   }
 
-  place_past : (G : Tree) → walk G from ≡ Passes → place G q ≡ place_on G to
-  place_past G on = ap (λ (v : Walk). place_on G (if is_silent v then from else to)) on
+-- ---- an entry stands at the first path
 
-  -- ---- an entry stands at the first path
+-- what was met there, and what is kept since the request came
+pub record Begins {W F : Type 0} (w : Ghosts W) (f : Files F W) (from to : Path) (s t : Table F) (c d : Cache) (seen : Seen) (dir : Bool) : Type 0 where
+  pub root : is_root from ≡ false
+  pub other : is_root to ≡ false
+  pub at : IsSeen from t.root seen
+  pub shown : w.honest → IsShown w.repository (f.stored t.files) (row_at from t.root) (reach (shows w f s) from)
+  pub told : IsTold seen dir
+  pub same : w.honest → shows w f t ≡ shows w f s
+  pub keeps : Keeps w f s t
+  pub cache : FindsTheSame c d
 
-  module _ {W F : Type 0} (w : Ghosts W) (f : Files F W) (s t : Table F) (c d : Cache) (same : w.honest → shows w f t ≡ shows w f s) (keeps : Keeps w f s t) (cache : FindsTheSame c d)
-      (seen : Seen) (at : IsSeen from t.root seen) (shown : w.honest → IsShown w.repository (f.stored t.files) (row_at from t.root) (reach (shows w f s) from)) (dir : Bool) (told : IsTold seen dir) where
-    as_shown : (h : w.honest) (l : Bool) → is_dir (shown_node w.repository (f.stored t.files) at.row l) ≡ dir
-    as_shown h l = shown_as w.repository (f.stored t.files) from t.root seen at (reach (shows w f s) from) (shown h) dir told l
+pub begins : {W F : Type 0} (w : Ghosts W) (f : Files F W) (from to : Path) (s t : Table F) (c d : Cache) (o : Option Seen) (seen : Seen) (dir : Bool) → o ≡ Some seen → is_root from ≡ false → is_root to ≡ false
+    → Meets w f from s t d (Ok o) → (w.honest → MeetsShown w f from s t (Ok o)) → (w.honest → shows w f t ≡ shows w f s) → Keeps w f s t → FindsTheSame c d → IsTold seen dir → Begins w f from to s t c d seen dir
+begins w f from to s t c d o seen dir is root other meets shown same keeps cache told = record {
+  root = root;
+  other = other;
+  at = seen_at w f from s t d o seen is meets;
+  shown = shown_at w f from s t d o seen is shown;
+  told = told;
+  same = same;
+  keeps = keeps;
+  cache = cache;
+}
 
-    pub plain_told : (r : Reply) → IsPlainReply from to dir r → Attempts w f q s t c d (Finished r)
-    plain_told r plain =
-        first_here w f q from (moves from to) starts_rename s t c d same keeps cache at.row at.there shown r plain.fine plain.leaves
-        (λ h l. subst (λ (b : Bool). Goes (shows w f s) from to b r) (sym (as_shown h l)) (plain.says (shows w f s)))
+module _ {W F : Type 0} (w : Ghosts W) (f : Files F W) (from to : Path) (s t : Table F) (c d : Cache) (seen : Seen) (dir : Bool) (b : Begins w f from to s t c d seen dir) where
+  abbrev q : Request
+  q = ask.Rename from to
 
-    module _ (paths : IsByPaths from to dir None) (u : Table F) (e : Cache) (alike : w.honest → shows w f u ≡ shows w f t) (on : Keeps w f t u) (finds : FindsTheSame d e) where
-      says : w.honest → (r : Reply) → MayLand (shows w f t) to dir r → Replies (shows w f s) q r
-      says h r may =
-          starts_rename.says (shows w f s) r
-          (says_at w.repository (f.stored t.files) from (moves from to) (shows w f s) (row_at from t.root) at.row at.there (shown h) r
-          (λ l. subst (λ (b : Bool). Goes (shows w f s) from to b r) (sym (as_shown h l)) (goes from to dir paths (shows w f s) r (subst (λ (G : Tree). MayLand G to dir r) (same h) may))))
+  starts : Starts q from (Refuses ENOENT) (moves from to)
+  starts = starts_rename from to b.root b.other
 
-      here : IsStill from u.root dir
-      here = still from t.root u.root seen at (keeps_entries w f t u on) dir told
+  as_shown : (h : w.honest) (l : Bool) → is_dir (shown_node w.repository (f.stored t.files) b.at.row l) ≡ dir
+  as_shown h l = shown_as w.repository (f.stored t.files) from t.root seen b.at (reach (shows w f s) from) (b.shown h) dir b.told l
 
-      only : (r : Reply) → Replies (known u.root) q r → MayLand (known u.root) to dir r
-      only r h =
-          lands from to dir paths (known u.root) r
-          (subst (λ (b : Bool). Goes (known u.root) from to b r) here.is
-          (subst (λ (x : Reach). Table_Meets x (Refuses ENOENT) (moves from to (known u.root)) r) (reach_here u.root from here.row here.there) (starts_rename.only (known u.root) r h)))
+  pub plain_told : (r : Reply) → IsPlainReply from to dir r → Attempts w f q s t c d (Finished r)
+  plain_told r plain =
+      first_here w f q from (moves from to) starts s t c d b.same b.keeps b.cache b.at.row b.at.there b.shown r plain.fine plain.leaves
+      (λ h l. subst (λ (b : Bool). Goes (shows w f s) from to b r) (sym (as_shown h l)) (plain.says (shows w f s)))
 
-      place_is : place (known u.root) q ≡ place_on (known u.root) to
-      place_is = place_past (known u.root) (walk_here u.root from here.row here.there)
+  module _ (paths : IsByPaths from to dir None) (u : Table F) (e : Cache) (alike : w.honest → shows w f u ≡ shows w f t) (on : Keeps w f t u) (finds : FindsTheSame d e) where
+    says : w.honest → (r : Reply) → MayLand (shows w f t) to dir r → Replies (shows w f s) q r
+    says h r may =
+        starts.says (shows w f s) r
+        (says_at w.repository (f.stored t.files) from (moves from to) (shows w f s) (row_at from t.root) b.at.row b.at.there (b.shown h) r
+        (λ l. subst (λ (b : Bool). Goes (shows w f s) from to b r) (sym (as_shown h l)) (goes from to dir paths (shows w f s) r (subst (λ (G : Tree). MayLand G to dir r) (b.same h) may))))
 
-      abbrev since : w.honest → shows w f u ≡ shows w f s
-      since h = alike h ∙ same h
+    here : IsStill from u.root dir
+    here = still from t.root u.root seen b.at (keeps_entries w f t u on) dir b.told
 
-      lawful : (a : Fault) → IsCaused w f (place_on (known u.root) to) s u a → IsLawful w f q s u a
-      lawful (fault.Fetch id cause) h = h
-      lawful fault.Memory h = λ x is. cc
-      lawful fault.Overlay h = subst (λ (p : Path). IsCaused w f p s u fault.Overlay) (sym place_is) h
-      lawful fault.Numbers h = inr (subst (λ (p : Path). IsCaused w f p s u fault.Numbers) (sym place_is) h)
+    only : (r : Reply) → Replies (known u.root) q r → MayLand (known u.root) to dir r
+    only r h =
+        lands from to dir paths (known u.root) r
+        (subst (λ (b : Bool). Goes (known u.root) from to b r) here.is
+        (subst (λ (x : Reach). Table_Meets x (Refuses ENOENT) (moves from to (known u.root)) r) (reach_here u.root from here.row here.there) (starts.only (known u.root) r h)))
 
-      pub land_stopped : (z : Stop) → Lands w f to dir t u e (Err z) → (w.honest → LandsShown w f to dir t (Err z)) → Attempts w f q s u c e (stopped z)
-      land_stopped (stop.Errs a) h told = answered w f q s u c e since (finds_on c d e cache finds) (say.Err a) refl (λ G. refl) (λ honest. says honest (say.Err a) (told honest))
-      land_stopped (stop.Needs k) h told = record {
-        answer = record {
-          need = record {
-            silent = λ r x. h.0 r (only r x);
-            wanted = subst (λ (p : Path). Wants (row_at p u.root) e k) (sym place_is) h.1;
-            unsized = λ x is. cc;
-          };
-          keeps = keeps_on w f s t u keeps on;
+    place_is : place (known u.root) q ≡ place_on (known u.root) to
+    place_is = place_past from to (known u.root) (walk_here u.root from here.row here.there)
+
+    abbrev since : w.honest → shows w f u ≡ shows w f s
+    since h = alike h ∙ b.same h
+
+    lawful : (a : Fault) → IsCaused w f (place_on (known u.root) to) s u a → IsLawful w f q s u a
+    lawful (fault.Fetch id cause) h = h
+    lawful fault.Memory h = λ x is. cc
+    lawful fault.Overlay h = subst (λ (p : Path). IsCaused w f p s u fault.Overlay) (sym place_is) h
+    lawful fault.Numbers h = inr (subst (λ (p : Path). IsCaused w f p s u fault.Numbers) (sym place_is) h)
+
+    pub land_stopped : (z : Stop) → Lands w f to dir t u e (Err z) → (w.honest → LandsShown w f to dir t (Err z)) → Attempts w f q s u c e (stopped z)
+    land_stopped (stop.Errs a) h told = answered w f q s u c e since (finds_on c d e b.cache finds) (say.Err a) refl (λ G. refl) (λ honest. says honest (say.Err a) (told honest))
+    land_stopped (stop.Needs k) h told = record {
+      answer = record {
+        need = record {
+          silent = λ r x. h.0 r (only r x);
+          wanted = subst (λ (p : Path). Wants (row_at p u.root) e k) (sym place_is) h.1;
+          unsized = λ x is. cc;
         };
-        cache = finds_on c d e cache finds;
-      }
-      land_stopped (stop.Faults a) h told = failed w f q s u c e since (finds_on c d e cache finds) a (lawful a (caused_since w f (place_on (known u.root) to) s t u keeps a h))
+        keeps = keeps_on w f s t u b.keeps on;
+      };
+      cache = finds_on c d e b.cache finds;
+    }
+    land_stopped (stop.Faults a) h told = failed w f q s u c e since (finds_on c d e b.cache finds) a (lawful a (caused_since w f (place_on (known u.root) to) s t u b.keeps a h))
 
-      pub can_go : walk (known u.root) to ≡ Passes → CanRelocate u.root from to
-      can_go passes = can from to dir paths u.root here passes
+    pub can_go : walk (known u.root) to ≡ Passes → CanRelocate u.root from to
+    can_go passes = can from to dir paths u.root here passes
 
-      rises : f.failures s.files ≤ f.failures u.files
-      rises = (keeps_counts w f s u (keeps_on w f s t u keeps on)).1.1.1
+    rises : f.failures s.files ≤ f.failures u.files
+    rises = (keeps_counts w f s u (keeps_on w f s t u b.keeps on)).1.1.1
 
-      pub went : (v : Table F) → (w.honest → MayLand (shows w f t) to dir say.Ok) → (w.honest → shows w f v ≡ move (shows w f u) from to) → Attempts w f q s v c e (Finished say.Ok)
-      went v may is =
-          changed w f q s u v c e since rises (finds_on c d e cache finds) (λ h. says h say.Ok (may h))
-          (λ h. is h ∙ ap (λ (G : Tree). move G from to) (since h) ∙ sym (ap (λ (b : Bool). if b then shows w f s else move (shows w f s) from to) paths.0))
+    pub went : (v : Table F) → (w.honest → MayLand (shows w f t) to dir say.Ok) → (w.honest → shows w f v ≡ move (shows w f u) from to) → Attempts w f q s v c e (Finished say.Ok)
+    went v may is =
+        changed w f q s u v c e since rises (finds_on c d e b.cache finds) (λ h. says h say.Ok (may h))
+        (λ h. is h ∙ ap (λ (G : Tree). move G from to) (since h) ∙ sym (ap (λ (b : Bool). if b then shows w f s else move (shows w f s) from to) paths.0))
 
-      pub stayed : (v : Table F) (a : Fault) → IsStoreFault (f.failures u.files) (f.failures v.files) a → (w.honest → shows w f v ≡ shows w f u) → Attempts w f q s v c e (Finished (say.Fault a))
-      stayed v a store is = refused w f q s u v c e since rises (finds_on c d e cache finds) a store (λ x y. cc) is
+    pub stayed : (v : Table F) (a : Fault) → IsStoreFault (f.failures u.files) (f.failures v.files) a → (w.honest → shows w f v ≡ shows w f u) → Attempts w f q s v c e (Finished (say.Fault a))
+    stayed v a store is = refused w f q s u v c e since rises (finds_on c d e b.cache finds) a store (λ x y. cc) is

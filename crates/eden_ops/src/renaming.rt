@@ -1,11 +1,10 @@
 //! Entries that are renamed.
-ghost use Rattle.std.specs.Prelude.{◌≡◌, ◌≢◌, ◌⊎◌, true, false};
-ghost use Rattle.eden_model.specs.declared.kind.Kind.TheVariants as kind;
+ghost use Rattle.std.specs.Prelude.{◌≡◌};
 ghost use Rattle.eden_model.specs.declared.request.Request.TheVariants as ask;
 ghost use Rattle.eden_model.specs.Operations.{is_front};
 ghost use Rattle.eden_ops.specs.Attempts.{Attempts};
 ghost use Rattle.eden_ops.specs.Caches.{IsStocked};
-ghost use Rattle.eden_ops.specs.Renames.{IsByPaths};
+ghost use Rattle.eden_ops.specs.Renames.{IsTold, IsByPaths};
 
 use crate::answer::Attempt;
 use crate::end::ended;
@@ -40,8 +39,7 @@ fn is_front(front: &[Name], path: &[Name]) -> bool
 
 /// Whether the entry is a directory.
 fn is_dir(seen: Seen) -> bool
-    ensures dir { result ≡ true → (seen.loaded ≡ true) ⊎ (seen.kind ≡ kind.Dir) }
-    ensures other { result ≡ false → (seen.loaded ≡ false) × (seen.kind ≢ kind.Dir) }
+    ensures { IsTold seen result }
 {
     match what(seen) {
         Kind::Dir => true,

@@ -5,12 +5,11 @@ use Rattle.eden_model.specs.Trees.{Path, reach}
 use Rattle.eden_tree.specs.Paths.{row_at}
 use Rattle.eden_inode.specs.declared.seen.Seen.{Seen}
 use Rattle.eden_ops.specs.declared.answer.Attempt.{Attempt}
-use Rattle.eden_ops.specs.Attempts.{Attempts, MeetsShown, IsSeen, IsShown}
+use Rattle.eden_ops.specs.Attempts.{Attempts, MeetsShown}
 use Rattle.eden_ops.specs.Keeping.{shows}
 use Rattle.eden_ops.specs.Renames.{IsByPaths}
 use Rattle.eden_ops.proofs.Answering.{first_ended, first_absent}
-use Rattle.eden_ops.proofs.Reached.{seen_at, shown_at}
-use Rattle.eden_ops.proofs.TwoPaths.{IsTold, moves, starts_rename, plain_told, land_stopped, can_go, went, stayed}
+use Rattle.eden_ops.proofs.TwoPaths.{moves, starts_rename, begins, plain_told, land_stopped, can_go, went, stayed}
 use Rattle.eden_ops.proofs.renaming.rename.Goals as goal
 
 pub returns-in-Err : goal.returns-in-Err
@@ -43,90 +42,53 @@ returns-in-Ok-None g c =
 
 pub returns-in-Some : goal.returns-in-Some
 returns-in-Some g c =
-    let from = c.args.from.now in
-    let to = c.args.to.now in
     let s = c.args.inodes.now in
     let t = c.meet.new.inodes in
     let e = c.in-Ok-Some.ensures in
-    let root : is_root from ≡ false = sym c.is_root.ensures ∙ c.if-is_root.false in
-    let other : is_root to ≡ false = sym c.is_root-else-is_root.ensures ∙ c.if-is_root-2.false in
-    let seen = seen_at g.W.World g.F.Files from s t c.meet.new.cache _ c.in-Ok-Some.seen c.in-Ok-Some.field-0-is e.meets in
-    let shown : g.W.World.honest → IsShown g.W.World.repository (g.F.Files.stored t.files) (row_at from t.root) (reach (shows g.W.World g.F.Files s) from) = shown_at g.W.World g.F.Files from s t c.meet.new.cache _ c.in-Ok-Some.seen c.in-Ok-Some.field-0-is e.shown in
-    let told : IsTold c.in-Ok-Some.seen c.is_dir-dir.result = record { yes = c.is_dir-dir.ensures.dir; otherwise = c.is_dir-dir.ensures.other } in
-    record {
-      attempts = plain_told from to root other g.W.World g.F.Files s t c.args.cache.now c.meet.new.cache e.same e.keeps e.cache c.in-Ok-Some.seen seen shown c.is_dir-dir.result told c.in-Some.reply c.in-Some.ensures;
-    }
+    let began = begins g.W.World g.F.Files c.args.from.now c.args.to.now s t c.args.cache.now c.meet.new.cache _ c.in-Ok-Some.seen c.is_dir-dir.result c.in-Ok-Some.field-0-is (sym c.is_root.ensures ∙ c.if-is_root.false)
+    (sym c.is_root-else-is_root.ensures ∙ c.if-is_root-2.false) e.meets e.shown e.same e.keeps e.cache c.is_dir-dir.ensures in
+    record { attempts = plain_told g.W.World g.F.Files c.args.from.now c.args.to.now s t c.args.cache.now c.meet.new.cache c.in-Ok-Some.seen c.is_dir-dir.result began c.in-Some.reply c.in-Some.ensures }
 
 pub returns-in-Err-land : goal.returns-in-Err-land
 returns-in-Err-land g c =
-    let from = c.args.from.now in
-    let to = c.args.to.now in
     let s = c.args.inodes.now in
     let t = c.meet.new.inodes in
     let e = c.in-Ok-Some.ensures in
+    let began = begins g.W.World g.F.Files c.args.from.now c.args.to.now s t c.args.cache.now c.meet.new.cache _ c.in-Ok-Some.seen c.is_dir-dir.result c.in-Ok-Some.field-0-is (sym c.is_root.ensures ∙ c.if-is_root.false)
+    (sym c.is_root-else-is_root.ensures ∙ c.if-is_root-2.false) e.meets e.shown e.same e.keeps e.cache c.is_dir-dir.ensures in
     let l = c.in-Err-land.ensures in
-    let root : is_root from ≡ false = sym c.is_root.ensures ∙ c.if-is_root.false in
-    let other : is_root to ≡ false = sym c.is_root-else-is_root.ensures ∙ c.if-is_root-2.false in
-    let seen = seen_at g.W.World g.F.Files from s t c.meet.new.cache _ c.in-Ok-Some.seen c.in-Ok-Some.field-0-is e.meets in
-    let shown : g.W.World.honest → IsShown g.W.World.repository (g.F.Files.stored t.files) (row_at from t.root) (reach (shows g.W.World g.F.Files s) from) = shown_at g.W.World g.F.Files from s t c.meet.new.cache _ c.in-Ok-Some.seen c.in-Ok-Some.field-0-is e.shown in
-    let told : IsTold c.in-Ok-Some.seen c.is_dir-dir.result = record { yes = c.is_dir-dir.ensures.dir; otherwise = c.is_dir-dir.ensures.other } in
     record {
-      attempts = subst (λ (a : Attempt). Attempts g.W.World g.F.Files (ask.Rename from to) s c.land.new.inodes c.args.cache.now c.land.new.cache a) (sym c.ended-in-Err-land.ensures)
-          (land_stopped from to root other g.W.World g.F.Files s t c.args.cache.now c.meet.new.cache e.same e.keeps e.cache c.in-Ok-Some.seen seen shown c.is_dir-dir.result told c.in-None.ensures
-          c.land.new.inodes c.land.new.cache l.same l.keeps l.cache c.in-Err-land.stop l.lands l.shown);
+      attempts = subst (λ (a : Attempt). Attempts g.W.World g.F.Files (ask.Rename c.args.from.now c.args.to.now) s c.land.new.inodes c.args.cache.now c.land.new.cache a) (sym c.ended-in-Err-land.ensures)
+          (land_stopped g.W.World g.F.Files c.args.from.now c.args.to.now s t c.args.cache.now c.meet.new.cache c.in-Ok-Some.seen c.is_dir-dir.result began c.in-None.ensures c.land.new.inodes c.land.new.cache l.same l.keeps l.cache c.in-Err-land.stop l.lands l.shown);
     }
 
 pub relocate-requires : goal.relocate-requires
 relocate-requires g c =
-    let from = c.args.from.now in
-    let to = c.args.to.now in
     let s = c.args.inodes.now in
     let t = c.meet.new.inodes in
     let e = c.in-Ok-Some.ensures in
+    let began = begins g.W.World g.F.Files c.args.from.now c.args.to.now s t c.args.cache.now c.meet.new.cache _ c.in-Ok-Some.seen c.is_dir-dir.result c.in-Ok-Some.field-0-is (sym c.is_root.ensures ∙ c.if-is_root.false)
+    (sym c.is_root-else-is_root.ensures ∙ c.if-is_root-2.false) e.meets e.shown e.same e.keeps e.cache c.is_dir-dir.ensures in
     let l = c.in-Ok.ensures in
-    let root : is_root from ≡ false = sym c.is_root.ensures ∙ c.if-is_root.false in
-    let other : is_root to ≡ false = sym c.is_root-else-is_root.ensures ∙ c.if-is_root-2.false in
-    let seen = seen_at g.W.World g.F.Files from s t c.meet.new.cache _ c.in-Ok-Some.seen c.in-Ok-Some.field-0-is e.meets in
-    let shown : g.W.World.honest → IsShown g.W.World.repository (g.F.Files.stored t.files) (row_at from t.root) (reach (shows g.W.World g.F.Files s) from) = shown_at g.W.World g.F.Files from s t c.meet.new.cache _ c.in-Ok-Some.seen c.in-Ok-Some.field-0-is e.shown in
-    let told : IsTold c.in-Ok-Some.seen c.is_dir-dir.result = record { yes = c.is_dir-dir.ensures.dir; otherwise = c.is_dir-dir.ensures.other } in
-    record {
-      may = can_go from to root other g.W.World g.F.Files s t c.args.cache.now c.meet.new.cache e.same e.keeps e.cache c.in-Ok-Some.seen seen shown c.is_dir-dir.result told c.in-None.ensures
-          c.land.new.inodes c.land.new.cache l.same l.keeps l.cache l.lands;
-    }
+    record { may = can_go g.W.World g.F.Files c.args.from.now c.args.to.now s t c.args.cache.now c.meet.new.cache c.in-Ok-Some.seen c.is_dir-dir.result began c.in-None.ensures c.land.new.inodes c.land.new.cache l.same l.keeps l.cache l.lands }
 
 pub returns-in-Ok-relocate : goal.returns-in-Ok-relocate
 returns-in-Ok-relocate g c =
-    let from = c.args.from.now in
-    let to = c.args.to.now in
     let s = c.args.inodes.now in
     let t = c.meet.new.inodes in
     let e = c.in-Ok-Some.ensures in
+    let began = begins g.W.World g.F.Files c.args.from.now c.args.to.now s t c.args.cache.now c.meet.new.cache _ c.in-Ok-Some.seen c.is_dir-dir.result c.in-Ok-Some.field-0-is (sym c.is_root.ensures ∙ c.if-is_root.false)
+    (sym c.is_root-else-is_root.ensures ∙ c.if-is_root-2.false) e.meets e.shown e.same e.keeps e.cache c.is_dir-dir.ensures in
     let l = c.in-Ok.ensures in
-    let root : is_root from ≡ false = sym c.is_root.ensures ∙ c.if-is_root.false in
-    let other : is_root to ≡ false = sym c.is_root-else-is_root.ensures ∙ c.if-is_root-2.false in
-    let seen = seen_at g.W.World g.F.Files from s t c.meet.new.cache _ c.in-Ok-Some.seen c.in-Ok-Some.field-0-is e.meets in
-    let shown : g.W.World.honest → IsShown g.W.World.repository (g.F.Files.stored t.files) (row_at from t.root) (reach (shows g.W.World g.F.Files s) from) = shown_at g.W.World g.F.Files from s t c.meet.new.cache _ c.in-Ok-Some.seen c.in-Ok-Some.field-0-is e.shown in
-    let told : IsTold c.in-Ok-Some.seen c.is_dir-dir.result = record { yes = c.is_dir-dir.ensures.dir; otherwise = c.is_dir-dir.ensures.other } in
-    record {
-      attempts = went from to root other g.W.World g.F.Files s t c.args.cache.now c.meet.new.cache e.same e.keeps e.cache c.in-Ok-Some.seen seen shown c.is_dir-dir.result told c.in-None.ensures
-          c.land.new.inodes c.land.new.cache l.same l.keeps l.cache c.relocate.new.inodes l.shown c.in-Ok-relocate.ensures.ok;
-    }
+    record { attempts = went g.W.World g.F.Files c.args.from.now c.args.to.now s t c.args.cache.now c.meet.new.cache c.in-Ok-Some.seen c.is_dir-dir.result began c.in-None.ensures c.land.new.inodes c.land.new.cache l.same l.keeps l.cache c.relocate.new.inodes l.shown c.in-Ok-relocate.ensures.ok }
 
 pub returns-in-Err-relocate : goal.returns-in-Err-relocate
 returns-in-Err-relocate g c =
-    let from = c.args.from.now in
-    let to = c.args.to.now in
     let s = c.args.inodes.now in
     let t = c.meet.new.inodes in
     let e = c.in-Ok-Some.ensures in
+    let began = begins g.W.World g.F.Files c.args.from.now c.args.to.now s t c.args.cache.now c.meet.new.cache _ c.in-Ok-Some.seen c.is_dir-dir.result c.in-Ok-Some.field-0-is (sym c.is_root.ensures ∙ c.if-is_root.false)
+    (sym c.is_root-else-is_root.ensures ∙ c.if-is_root-2.false) e.meets e.shown e.same e.keeps e.cache c.is_dir-dir.ensures in
     let l = c.in-Ok.ensures in
     let x = c.in-Err-relocate.ensures in
-    let root : is_root from ≡ false = sym c.is_root.ensures ∙ c.if-is_root.false in
-    let other : is_root to ≡ false = sym c.is_root-else-is_root.ensures ∙ c.if-is_root-2.false in
-    let seen = seen_at g.W.World g.F.Files from s t c.meet.new.cache _ c.in-Ok-Some.seen c.in-Ok-Some.field-0-is e.meets in
-    let shown : g.W.World.honest → IsShown g.W.World.repository (g.F.Files.stored t.files) (row_at from t.root) (reach (shows g.W.World g.F.Files s) from) = shown_at g.W.World g.F.Files from s t c.meet.new.cache _ c.in-Ok-Some.seen c.in-Ok-Some.field-0-is e.shown in
-    let told : IsTold c.in-Ok-Some.seen c.is_dir-dir.result = record { yes = c.is_dir-dir.ensures.dir; otherwise = c.is_dir-dir.ensures.other } in
-    record {
-      attempts = stayed from to root other g.W.World g.F.Files s t c.args.cache.now c.meet.new.cache e.same e.keeps e.cache c.in-Ok-Some.seen seen shown c.is_dir-dir.result told c.in-None.ensures
-          c.land.new.inodes c.land.new.cache l.same l.keeps l.cache c.relocate.new.inodes c.in-Err-relocate.fault x.fault x.err;
-    }
+    record { attempts = stayed g.W.World g.F.Files c.args.from.now c.args.to.now s t c.args.cache.now c.meet.new.cache c.in-Ok-Some.seen c.is_dir-dir.result began c.in-None.ensures c.land.new.inodes c.land.new.cache l.same l.keeps l.cache c.relocate.new.inodes c.in-Err-relocate.fault x.fault x.err }
