@@ -23,3 +23,4 @@ pub mod Additions
 pub mod Owned
 pub mod Relocation
 pub mod Renames
+pub mod TwoPaths

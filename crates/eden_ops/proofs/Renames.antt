@@ -50,11 +50,11 @@ use Rattle.eden_ops.proofs.Looking.{lists_other, lists_away}
 use Rattle.eden_ops.proofs.Changing.{unlinks_file, unlinks_dir}
 use Rattle.eden_ops.proofs.Rounds.{lacks_since}
 use Rattle.eden_ops.proofs.Seeing.{kept_dirs}
-use Rattle.eden_ops.proofs.Walking.{walk_here, place_passes, known_unloaded, known_dir}
+use Rattle.eden_ops.proofs.Walking.{walk_here, reach_here, place_passes, known_unloaded, known_dir}
 
 -- ---- a loaded directory, with entries or without
 
-none_of_map : {X Y : Type 0} (f : X → Y) (o : Option X) → None ≡ option_map f o → o ≡ None
+pub none_of_map : {X Y : Type 0} (f : X → Y) (o : Option X) → None ≡ option_map f o → o ≡ None
 none_of_map f None is = refl
 none_of_map f (Some x) is = cc
 
@@ -152,10 +152,7 @@ module _ {W F : Type 0} (w : Ghosts W) (f : Files F W) (p : Path) (s t u : Table
   place_still = place_passes (known u.root) p passes_still
 
   known_away : reach (known u.root) p ≡ Here (node_from at.row.kind (content_known at.row.origin) false)
-  known_away =
-      ap (λ (v : Walk). ends v (known u.root p)) passes_still
-      ∙ ap (λ (o : Option Row). ends Passes (option_map known_node o)) here_still
-      ∙ ap (λ (n : Node). Here n) (known_unloaded at.row (away p t.root seen at off))
+  known_away = reach_here u.root p at.row here_still ∙ ap (λ (n : Node). Here n) (known_unloaded at.row (away p t.root seen at off))
 
   unlisted_there : (r : Reply) → ¬ MayLand (known u.root) p true r
   unlisted_there r h =

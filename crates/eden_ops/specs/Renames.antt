@@ -1,6 +1,7 @@
 -- What a rename meets.
-use Rattle.std.specs.Prelude.{◌≡◌, ◌&&◌, Bool, false, Option, Some, None, Result, Ok, Err}
+use Rattle.std.specs.Prelude.{◌≡◌, ◌≢◌, ◌⊎◌, ◌&&◌, Bool, true, false, Option, Some, None, Result, Ok, Err}
 use Rattle.eden_model.specs.declared.errno.Errno.TheVariants.{EINVAL, ENOTEMPTY}
+use Rattle.eden_model.specs.declared.kind.Kind.TheVariants as kind
 use Rattle.eden_model.specs.declared.request.Request.TheVariants as ask
 use Rattle.eden_model.specs.declared.reply.Reply.{Reply}
 use Rattle.eden_model.specs.declared.reply.Reply.TheVariants as say
@@ -12,6 +13,7 @@ use Rattle.eden_model.specs.Trees.{Path, Tree, Passes, walk, reach}
 use Rattle.eden_overlay.specs.declared.files.Files.{Ghosts as Files}
 use Rattle.eden_tree.specs.Paths.{row_at}
 use Rattle.eden_cache.specs.Cache.{Cache}
+use Rattle.eden_inode.specs.declared.seen.Seen.{Seen}
 use Rattle.eden_inode.specs.Tables.{Table}
 use Rattle.eden_ops.specs.declared.answer.Stop.{Stop}
 use Rattle.eden_ops.specs.declared.answer.Stop.TheVariants as stop
@@ -19,6 +21,11 @@ use Rattle.eden_ops.specs.Attempts.{Wants}
 use Rattle.eden_ops.specs.Faults.{IsCaused}
 use Rattle.eden_ops.specs.Keeping.{shows}
 use Rattle.eden_ops.specs.Known.{known, place_on}
+
+-- what was seen is a directory, or isn't
+pub record IsTold (seen : Seen) (dir : Bool) : Type 0 where
+  pub yes : dir ≡ true → (seen.loaded ≡ true) ⊎ (seen.kind ≡ kind.Dir)
+  pub otherwise : dir ≡ false → (seen.loaded ≡ false) × (seen.kind ≢ kind.Dir)
 
 -- what the table says where a directory, or else a file or a link, is to stand at a path
 abbrev pub MayLand : Tree → Path → Bool → Reply → Type 0
