@@ -18,3 +18,4 @@ pub mod Fetching
 pub mod Saving
 pub mod Changing
 pub mod Additions
+pub mod Filled
