@@ -24,3 +24,4 @@ pub mod Owned
 pub mod Relocation
 pub mod Renames
 pub mod TwoPaths
+pub mod Filled
