@@ -21,7 +21,7 @@ use eden_overlay::Files;
 use std::alloc::{Allocator, Global};
 
 /// Loads the directory that was seen at a path, unless it is loaded.
-fn bring_seen<A: Allocator + Clone, W: World, F: Files<W>, C: Allocator + Clone>(
+pub(crate) fn bring_seen<A: Allocator + Clone, W: World, F: Files<W>, C: Allocator + Clone>(
     inodes: &mut Inodes<A, W, F>,
     cache: &mut ObjectCache<C>,
     alloc: Global,
