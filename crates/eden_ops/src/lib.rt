@@ -8,6 +8,7 @@ mod adding;
 mod answer;
 mod bring;
 mod contents;
+mod emptied;
 mod end;
 mod exec;
 mod fill;
@@ -31,6 +32,7 @@ mod writing;
 
 pub use adding::{create, mkdir, symlink};
 pub use answer::{Attempt, Walked};
+pub use emptied::rmdir;
 pub use exec::set_exec;
 pub use kinds::kind;
 pub use laws::{keeps_laws, need_laws, wait_laws};
