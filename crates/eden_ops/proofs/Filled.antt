@@ -40,22 +40,6 @@ use Rattle.eden_ops.proofs.Answering.{Asks, says_at}
 use Rattle.eden_ops.proofs.Changing.{changed_by}
 use Rattle.eden_ops.proofs.Looking.{IsPlain, plain_other}
 
--- ---- what is left by one after the other
-
-pub leaves_on : {W F : Type 0} (f : Files F W) (s t u : Table F) → Leaves f s t → Leaves f t u → Leaves f s u
-leaves_on f s t u a b =
-    let n = a.next in
-    let m = b.next in
-    let i = a.failures in
-    let j = b.failures in
-    record {
-      loaded = λ p is. b.loaded p (a.loaded p is);
-      saved = λ all. b.saved (a.saved all);
-      next = omega (arith, n, m);
-      failures = omega (arith, i, j);
-      clock = b.clock ∙ a.clock;
-    }
-
 -- ---- a request for a file
 
 module _ (file : Bool → Option (List ℕ) → Reply → Type 0) where

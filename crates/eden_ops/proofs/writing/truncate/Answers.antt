@@ -14,11 +14,11 @@ use Rattle.eden_ops.specs.declared.answer.Attempt.{Attempt}
 use Rattle.eden_ops.specs.Attempts.{Attempts, MeetsShown}
 use Rattle.eden_ops.proofs.Answering.{walk_ended, says_absent}
 use Rattle.eden_ops.proofs.Changing.{none_held, refused}
-use Rattle.eden_ops.proofs.Filled.{leaves_on, on_link, on_dir, truncates, asks_truncate, truncates_far, truncates_none, truncates_some, truncates_lost, truncated_none, truncated_some, file_at, fills}
+use Rattle.eden_ops.proofs.Filled.{on_link, on_dir, truncates, asks_truncate, truncates_far, truncates_none, truncates_some, truncates_lost, truncated_none, truncated_some, file_at, fills}
 use Rattle.eden_ops.proofs.Finding.{finds_on, still_stocked}
 use Rattle.eden_ops.proofs.Looking.{IsPlain, plain_other}
 use Rattle.eden_ops.proofs.Reached.{seen_at, shown_at}
-use Rattle.eden_ops.proofs.Saving.{keeps_leaves}
+use Rattle.eden_ops.proofs.Saving.{leaves_more, keeps_leaves}
 use Rattle.eden_ops.proofs.Steps.{keeps_on, keeps_counts}
 use Rattle.eden_ops.proofs.Telling.{as_dir, met_content, met_tells, content_lacks}
 use Rattle.eden_ops.proofs.writing.truncate.Goals as goal
@@ -173,12 +173,12 @@ returns-then-size-gt-MAX_FILE-clause-leaves g c = keeps_leaves g.W.World g.F.Fil
 pub returns-in-Ok-clause-leaves : goal.returns-in-Ok-clause-leaves
 returns-in-Ok-clause-leaves g c =
     let s = c.args.inodes.now in
-    leaves_on g.F.Files s c.meet.new.inodes c.fill.new.inodes (keeps_leaves g.W.World g.F.Files s c.meet.new.inodes c.meet.ensures.keeps) c.fill.ensures.leaves
+    leaves_more g.F.Files s c.meet.new.inodes c.fill.new.inodes (keeps_leaves g.W.World g.F.Files s c.meet.new.inodes c.meet.ensures.keeps) c.fill.ensures.leaves
 
 pub returns-in-Err-fill-clause-leaves : goal.returns-in-Err-fill-clause-leaves
 returns-in-Err-fill-clause-leaves g c =
     let s = c.args.inodes.now in
-    leaves_on g.F.Files s c.meet.new.inodes c.fill.new.inodes (keeps_leaves g.W.World g.F.Files s c.meet.new.inodes c.meet.ensures.keeps) c.fill.ensures.leaves
+    leaves_more g.F.Files s c.meet.new.inodes c.fill.new.inodes (keeps_leaves g.W.World g.F.Files s c.meet.new.inodes c.meet.ensures.keeps) c.fill.ensures.leaves
 
 pub returns-in-Err-make-clause-leaves : goal.returns-in-Err-make-clause-leaves
 returns-in-Err-make-clause-leaves g c = keeps_leaves g.W.World g.F.Files c.args.inodes.now c.make.new.inodes (keeps_on g.W.World g.F.Files c.args.inodes.now c.meet.new.inodes c.make.new.inodes c.meet.ensures.keeps c.make.ensures.keeps)
@@ -186,9 +186,9 @@ returns-in-Err-make-clause-leaves g c = keeps_leaves g.W.World g.F.Files c.args.
 pub returns-in-Ok-fill-clause-leaves : goal.returns-in-Ok-fill-clause-leaves
 returns-in-Ok-fill-clause-leaves g c =
     let s = c.args.inodes.now in
-    leaves_on g.F.Files s c.make.new.inodes c.fill-2.new.inodes (keeps_leaves g.W.World g.F.Files s c.make.new.inodes (keeps_on g.W.World g.F.Files s c.meet.new.inodes c.make.new.inodes c.meet.ensures.keeps c.make.ensures.keeps)) c.fill-2.ensures.leaves
+    leaves_more g.F.Files s c.make.new.inodes c.fill-2.new.inodes (keeps_leaves g.W.World g.F.Files s c.make.new.inodes (keeps_on g.W.World g.F.Files s c.meet.new.inodes c.make.new.inodes c.meet.ensures.keeps c.make.ensures.keeps)) c.fill-2.ensures.leaves
 
 pub returns-clause-leaves : goal.returns-clause-leaves
 returns-clause-leaves g c =
     let s = c.args.inodes.now in
-    leaves_on g.F.Files s c.make.new.inodes c.fill-2.new.inodes (keeps_leaves g.W.World g.F.Files s c.make.new.inodes (keeps_on g.W.World g.F.Files s c.meet.new.inodes c.make.new.inodes c.meet.ensures.keeps c.make.ensures.keeps)) c.fill-2.ensures.leaves
+    leaves_more g.F.Files s c.make.new.inodes c.fill-2.new.inodes (keeps_leaves g.W.World g.F.Files s c.make.new.inodes (keeps_on g.W.World g.F.Files s c.meet.new.inodes c.make.new.inodes c.meet.ensures.keeps c.make.ensures.keeps)) c.fill-2.ensures.leaves
