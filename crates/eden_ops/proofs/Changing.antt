@@ -38,7 +38,7 @@ use Rattle.eden_tie.specs.ShownLaws.{AreDirectories, ShowsBelow}
 use Rattle.eden_inode.specs.Tables.{Table}
 use Rattle.eden_materialise.specs.Faults.{IsStoreFault}
 use Rattle.eden_materialise.specs.Removals.{HasEntry}
-use Rattle.eden_ops.specs.declared.answer.Attempt.TheVariants.{Finished}
+use Rattle.eden_model.specs.declared.attempt.Attempt.TheVariants.{Finished}
 use Rattle.eden_ops.specs.Attempts.{Attempts}
 use Rattle.eden_ops.specs.Caches.{FindsTheSame}
 use Rattle.eden_ops.specs.Changes.{exec_kind}

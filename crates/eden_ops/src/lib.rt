@@ -31,7 +31,7 @@ mod what;
 mod writing;
 
 pub use adding::{create, mkdir, symlink};
-pub use answer::{Attempt, Walked};
+pub use answer::Walked;
 pub use emptied::rmdir;
 pub use exec::set_exec;
 pub use kinds::kind;

@@ -4,7 +4,6 @@ ghost use Rattle.eden_ops.specs.Attempts.{Attempts};
 ghost use Rattle.eden_ops.specs.Caches.{IsStocked};
 ghost use Rattle.eden_ops.specs.Changes.{Leaves};
 
-use crate::answer::Attempt;
 use crate::contents::{Form, make};
 use crate::end::ended;
 use crate::fill::fill;
@@ -12,7 +11,7 @@ use crate::meet::meet;
 use crate::what::what;
 use eden_cache::ObjectCache;
 use eden_inode::Inodes;
-use eden_model::{Errno, Kind, MAX_DATA, MAX_FILE, Path, Reply, World};
+use eden_model::{Attempt, Errno, Kind, MAX_DATA, MAX_FILE, Path, Reply, World};
 use eden_overlay::Files;
 use std::alloc::{Allocator, Global};
 
