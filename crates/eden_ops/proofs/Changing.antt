@@ -5,22 +5,23 @@ use Rattle.std.proofs.Math.Path.{fun_ext}
 use Rattle.std.proofs.lemmas.Bool.{false≢true}
 use Rattle.std.proofs.lemmas.List.{append-nil, length-append}
 use Rattle.std.specs.Option.{option_map, option_and_then, is_some}
-use Rattle.eden_model.specs.declared.errno.Errno.TheVariants.{EINVAL, EISDIR}
+use Rattle.eden_model.specs.declared.errno.Errno.TheVariants.{EBUSY, EINVAL, EISDIR, ENOENT, ENOTEMPTY}
 use Rattle.eden_model.specs.declared.fault.Fault.{Fault}
 use Rattle.eden_model.specs.declared.fault.Fault.TheVariants as fault
 use Rattle.eden_model.specs.declared.kind.Kind.{Kind}
 use Rattle.eden_model.specs.declared.kind.Kind.TheVariants as kind
 use Rattle.eden_model.specs.declared.node.Node.{Node}
+use Rattle.eden_model.specs.declared.node.Node.TheVariants.{Dir}
 use Rattle.eden_model.specs.declared.request.Request.{Request}
 use Rattle.eden_model.specs.declared.request.Request.TheVariants as ask
 use Rattle.eden_model.specs.declared.reply.Reply.{Reply}
 use Rattle.eden_model.specs.declared.reply.Reply.TheVariants as say
 use Rattle.eden_model.specs.declared.world.World.{Ghosts}
-use Rattle.eden_model.specs.Operations.{At, Unless, Unlinks, SetsExec, Replies, with_exec, put, done}
+use Rattle.eden_model.specs.Operations.{At, Meets, Refuses, Unless, Unlinks, Removes, SetsExec, Replies, with_exec, put, done}
 use Rattle.eden_model.specs.Paths.{path_eq, behind_of, is_root}
 use Rattle.eden_model.specs.Repository.{Repository}
 use Rattle.eden_model.specs.Shown.{Ground, Item, Items, if_dir, node_from, shown}
-use Rattle.eden_model.specs.Trees.{Name, Path, Tree, grafted, graft}
+use Rattle.eden_model.specs.Trees.{Name, Path, Tree, Reach, Here, reach, grafted, graft}
 use Rattle.eden_model.proofs.CallerLemmas.{path_eq-Decides, behind_sound, behind_back}
 use Rattle.eden_overlay.specs.declared.files.Files.{Ghosts as Files}
 use Rattle.eden_overlay.specs.Files.{Stored}
@@ -42,6 +43,7 @@ use Rattle.eden_ops.specs.Caches.{FindsTheSame}
 use Rattle.eden_ops.specs.Changes.{exec_kind}
 use Rattle.eden_ops.specs.Faults.{IsLawful}
 use Rattle.eden_ops.specs.Keeping.{shows}
+use Rattle.eden_ops.specs.Listings.{HasNoEntries, HasEntries}
 use Rattle.eden_ops.proofs.Answering.{Asks}
 use Rattle.eden_ops.proofs.Looking.{IsPlain}
 use Rattle.eden_ops.proofs.Rounds.{rose_on}
@@ -189,6 +191,27 @@ unlinks_dir kind.File c l is = cc
 unlinks_dir kind.Exec c l is = cc
 unlinks_dir kind.Link c l is = cc
 unlinks_dir kind.Dir c l is = refl
+
+-- ---- rmdir
+
+abbrev pub removes : Path → Tree → Node → Reply → Type 0
+removes p G n = Removes G p n
+
+pub asks_rmdir : (p : Path) → is_root p ≡ false → Asks (ask.Rmdir p) p (removes p)
+asks_rmdir p other = record {
+  says = λ G r h. subst (λ (b : Bool). Unless b EBUSY (At G p (Removes G p)) r) (sym other) h;
+  only = λ G r h. subst (λ (b : Bool). Unless b EBUSY (At G p (Removes G p)) r) other h;
+  at = λ G. refl;
+  plain = λ x is. cc;
+}
+
+-- of a directory that is shown, with no entries or with one
+module _ (G : Tree) (p : Path) (here : reach G p ≡ Here (Dir true)) where
+  pub removes_empty : HasNoEntries G p → At G p (Removes G p) say.Ok
+  removes_empty none = subst (λ (x : Reach). Meets x (Refuses ENOENT) (Removes G p) say.Ok) (sym here) (inl (λ n. none n [], refl))
+
+  pub removes_full : HasEntries G p → At G p (Removes G p) (say.Err ENOTEMPTY)
+  removes_full some = subst (λ (x : Reach). Meets x (Refuses ENOENT) (Removes G p) (say.Err ENOTEMPTY)) (sym here) (inr (some, refl))
 
 -- ---- setexec
 

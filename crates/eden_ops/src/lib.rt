@@ -8,6 +8,7 @@ mod adding;
 mod answer;
 mod bring;
 mod contents;
+mod emptied;
 mod end;
 mod exec;
 mod kinds;
@@ -29,6 +30,7 @@ mod what;
 
 pub use adding::{create, mkdir, symlink};
 pub use answer::{Attempt, Walked};
+pub use emptied::rmdir;
 pub use exec::set_exec;
 pub use kinds::kind;
 pub use laws::{keeps_laws, wait_laws};
