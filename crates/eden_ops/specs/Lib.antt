@@ -8,6 +8,6 @@ pub mod Attempts
 pub mod Looks
 pub mod Laws
 pub mod Changes
-pub mod Renames
 pub mod Letting
 pub mod Relocating
+pub mod Renames
