@@ -42,7 +42,7 @@ use Rattle.eden_ops.proofs.Walking.{walk_here}
 
 -- ---- what the table lists of a loaded directory is what it has
 
-pub kind_found : (n : Name) (es : List (Name × Row)) → kind_at (map kind_in es) n ≡ option_map (λ (z : Row). z.kind) (find_row n es)
+kind_found : (n : Name) (es : List (Name × Row)) → kind_at (map kind_in es) n ≡ option_map (λ (z : Row). z.kind) (find_row n es)
 kind_found n [] = refl
 kind_found n (e ∷ es) =
     ap (λ (b : Bool). cond b (Some e.1.kind) (kind_at (map kind_in es) n)) (is_eq-slice_cmp n e.0)

@@ -4,7 +4,7 @@ ghost use Rattle.eden_model.specs.declared.request.Request.TheVariants as ask;
 ghost use Rattle.eden_model.specs.Operations.{is_front};
 ghost use Rattle.eden_ops.specs.Attempts.{Attempts};
 ghost use Rattle.eden_ops.specs.Caches.{IsStocked};
-ghost use Rattle.eden_ops.specs.Renames.{IsTold, IsByPaths};
+ghost use Rattle.eden_ops.specs.Renames.{IsTold, IsByPaths, LeavesBeside};
 
 use crate::end::ended;
 use crate::landing::land;
@@ -68,6 +68,7 @@ fn by_paths(from: &Path, to: &Path, dir: bool) -> Option<Reply>
 /// Errors, in the order of the checks: `EBUSY` from or to the root; those of the walk to the entry, and `ENOENT`; `EINVAL`
 /// for a directory to below itself; `ENOTEMPTY` to above itself; those of the walk to the other path; and there `ENOTDIR` for
 /// a directory over what is none, `EISDIR` for a file or a link over a directory, and `ENOTEMPTY` over one with entries.
+/// After a fault the directory above the entry may be left unsaved.
 pub fn rename<A: Allocator + Clone, W: World, F: Files<W>, C: Allocator + Clone>(
     inodes: &mut Inodes<A, W, F>,
     cache: &mut ObjectCache<C>,
@@ -77,6 +78,7 @@ pub fn rename<A: Allocator + Clone, W: World, F: Files<W>, C: Allocator + Clone>
 ) -> Attempt
     requires { IsStocked W.repository W.honest cache.old }
     ensures attempts { Attempts W.World F.Files (ask.Rename from.now to.now) inodes.old inodes.new cache.old cache.new result }
+    ensures leaves { LeavesBeside F.Files from.now to.now inodes.old inodes.new result }
 {
     if from.is_root() || to.is_root() {
         return Attempt::Finished(Reply::Err(Errno::EBUSY));
