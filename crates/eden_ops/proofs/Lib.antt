@@ -19,3 +19,4 @@ pub mod Saving
 pub mod Changing
 pub mod Additions
 pub mod Filled
+pub mod Filing

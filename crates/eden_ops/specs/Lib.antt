@@ -6,5 +6,6 @@ pub mod Contents
 pub mod Listings
 pub mod Attempts
 pub mod Looks
+pub mod Requests
 pub mod Laws
 pub mod Changes

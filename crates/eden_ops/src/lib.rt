@@ -10,6 +10,7 @@ mod bring;
 mod contents;
 mod end;
 mod exec;
+mod file;
 mod fill;
 mod kinds;
 mod laws;
