@@ -25,3 +25,4 @@ pub mod Relocation
 pub mod Renames
 pub mod TwoPaths
 pub mod Filled
+pub mod Filing

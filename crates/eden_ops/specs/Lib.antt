@@ -6,6 +6,7 @@ pub mod Contents
 pub mod Listings
 pub mod Attempts
 pub mod Looks
+pub mod Requests
 pub mod Laws
 pub mod Left
 pub mod Changes

@@ -11,6 +11,7 @@ mod contents;
 mod emptied;
 mod end;
 mod exec;
+mod file;
 mod fill;
 mod kinds;
 mod landing;

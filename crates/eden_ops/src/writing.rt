@@ -4,14 +4,14 @@ ghost use Rattle.eden_ops.specs.Attempts.{Attempts};
 ghost use Rattle.eden_ops.specs.Caches.{IsStocked};
 ghost use Rattle.eden_ops.specs.Changes.{Leaves};
 
+use crate::answer::Attempt;
 use crate::contents::{Form, make};
 use crate::end::ended;
+use crate::file::meet_file;
 use crate::fill::fill;
-use crate::meet::meet;
-use crate::what::what;
 use eden_cache::ObjectCache;
 use eden_inode::Inodes;
-use eden_model::{Attempt, Errno, Kind, MAX_DATA, MAX_FILE, Path, Reply, World};
+use eden_model::{Errno, MAX_DATA, MAX_FILE, Path, Reply, World};
 use eden_overlay::Files;
 use std::alloc::{Allocator, Global};
 
@@ -27,16 +27,10 @@ pub fn truncate<A: Allocator + Clone, W: World, F: Files<W>, C: Allocator + Clon
     ensures attempts { Attempts W.World F.Files (ask.Truncate path.now size) inodes.old inodes.new cache.old cache.new result }
     ensures leaves { Leaves F.Files inodes.old inodes.new }
 {
-    let seen = match meet(inodes, cache, alloc, path) {
+    let seen = match meet_file(inodes, cache, alloc, path) {
         Err(stop) => return ended(stop),
-        Ok(None) => return Attempt::Finished(Reply::Err(Errno::ENOENT)),
-        Ok(Some(seen)) => seen,
+        Ok(seen) => seen,
     };
-    match what(seen) {
-        Kind::Link => return Attempt::Finished(Reply::Err(Errno::EINVAL)),
-        Kind::Dir => return Attempt::Finished(Reply::Err(Errno::EISDIR)),
-        Kind::File | Kind::Exec => {}
-    }
     if size > MAX_FILE {
         return Attempt::Finished(Reply::Err(Errno::EFBIG));
     }
@@ -74,16 +68,10 @@ pub fn write<A: Allocator + Clone, W: World, F: Files<W>, C: Allocator + Clone>(
     if count > MAX_DATA {
         return Attempt::Finished(Reply::Err(Errno::EINVAL));
     }
-    let seen = match meet(inodes, cache, alloc, path) {
+    let seen = match meet_file(inodes, cache, alloc, path) {
         Err(stop) => return ended(stop),
-        Ok(None) => return Attempt::Finished(Reply::Err(Errno::ENOENT)),
-        Ok(Some(seen)) => seen,
+        Ok(seen) => seen,
     };
-    match what(seen) {
-        Kind::Link => return Attempt::Finished(Reply::Err(Errno::EINVAL)),
-        Kind::Dir => return Attempt::Finished(Reply::Err(Errno::EISDIR)),
-        Kind::File | Kind::Exec => {}
-    }
     if count == 0 {
         return Attempt::Finished(Reply::Count(0));
     }
