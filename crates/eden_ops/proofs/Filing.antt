@@ -37,10 +37,10 @@ use Rattle.eden_ops.specs.Requests.{IsFileSeen, IsForFile, for_read, for_write, 
 use Rattle.eden_ops.proofs.Answering.{Asks, walk_ended, says_absent}
 use Rattle.eden_ops.proofs.Changing.{asks_exec, refused}
 use Rattle.eden_ops.proofs.Fetching.{away}
-use Rattle.eden_ops.proofs.Filled.{on_link, on_dir, asks_write, asks_truncate, leaves_on, file_at, fills}
+use Rattle.eden_ops.proofs.Filled.{on_link, on_dir, asks_write, asks_truncate, file_at, fills}
 use Rattle.eden_ops.proofs.Finding.{finds_on}
 use Rattle.eden_ops.proofs.Looking.{asks_read, IsPlain}
-use Rattle.eden_ops.proofs.Saving.{keeps_leaves}
+use Rattle.eden_ops.proofs.Saving.{leaves_more, keeps_leaves}
 use Rattle.eden_ops.proofs.Steps.{keeps_on, keeps_counts}
 use Rattle.eden_ops.proofs.Telling.{met_tells, content_lacks}
 
@@ -120,4 +120,4 @@ module _ {W F : Type 0} (w : Ghosts W) (f : Files F W) (p : Path) (s t : Table F
       file_refused a store other unseen = refused w f q s v u c e together ((keeps_counts w f s v (keeps_on w f s t v keeps kept)).1.1.1) (finds_on c d e cache finds) a store other unseen
 
       pub file_leaves : Leaves f v u → Leaves f s u
-      file_leaves l = leaves_on f s v u (keeps_leaves w f s v (keeps_on w f s t v keeps kept)) l
+      file_leaves l = leaves_more f s v u (keeps_leaves w f s v (keeps_on w f s t v keeps kept)) l

@@ -6,7 +6,7 @@ use Rattle.eden_model.specs.declared.reply.Reply.TheVariants as say
 use Rattle.eden_model.specs.declared.request.Request.TheVariants as ask
 use Rattle.eden_model.specs.Operations.{truncated}
 use Rattle.eden_tie.specs.Filing.{content_shown}
-use Rattle.eden_ops.specs.declared.answer.Attempt.{Attempt}
+use Rattle.eden_model.specs.declared.attempt.Attempt.{Attempt}
 use Rattle.eden_ops.specs.Attempts.{Attempts}
 use Rattle.eden_ops.specs.Keeping.{same}
 use Rattle.eden_ops.specs.Requests.{for_truncate}
