@@ -1,6 +1,6 @@
 //! Directories that are let go of.
-ghost use Rattle.std.specs.Prelude.{◌≡◌, ◌≤◌, Some, None, IfErr, OnOk, OnErr};
-ghost use Rattle.eden_tie.specs.Chains.{IsLoadedAt, AreSaved};
+ghost use Rattle.std.specs.Prelude.{◌≡◌, ◌≤◌, Some, None, IfErr, OnOk};
+ghost use Rattle.eden_tie.specs.Chains.{AreSaved};
 ghost use Rattle.eden_tree.specs.Directory.{Row, child_of};
 ghost use Rattle.eden_tree.specs.Paths.{row_at};
 ghost use Rattle.eden_materialise.specs.Faults.{IsStoreFault};
@@ -15,13 +15,12 @@ use std::alloc::{Allocator, Global};
 /// Lets go of every directory that is loaded at and below a path; an unsaved one is stored first.
 ///
 /// Errors: `Overlay` where the device failed, and `Memory`: then some of them are still loaded.
-pub(crate) fn let_go<A: Allocator + Clone, W: World, F: Files<W>>(
+pub fn let_go<A: Allocator + Clone, W: World, F: Files<W>>(
     inodes: &mut Inodes<A, W, F>,
     alloc: Global,
     path: &[Name],
 ) -> Result<(), Fault>
     ensures away { OnOk result ((y : Row) → row_at path.now inodes.new.root ≡ Some y → child_of y ≡ None) }
-    ensures left { OnErr result (IsLoadedAt path.now inodes.new.root) }
     ensures goes { LetsGo path.now inodes.old.root inodes.new.root }
     ensures fault { IfErr result (IsStoreFault (F.failures inodes.old.files) (F.failures inodes.new.files)) }
     ensures counted { F.failures inodes.old.files ≤ F.failures inodes.new.files }

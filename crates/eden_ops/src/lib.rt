@@ -37,6 +37,7 @@ pub use emptied::rmdir;
 pub use exec::set_exec;
 pub use kinds::kind;
 pub use laws::{keeps_laws, need_laws, wait_laws};
+pub use letting::let_go;
 pub use links::readlink;
 pub use listing::list;
 pub use looks::look;
