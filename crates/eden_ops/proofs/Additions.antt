@@ -32,7 +32,7 @@ use Rattle.eden_tie.specs.ShownLaws.{AreDirectories, ShowsAbsent}
 use Rattle.eden_inode.specs.Tables.{Table}
 use Rattle.eden_materialise.specs.declared.new_entry.NewEntry.{NewEntry}
 use Rattle.eden_materialise.specs.Filing.{node_as, IsShort, LacksEntry, IsAddFault}
-use Rattle.eden_ops.specs.declared.answer.Attempt.TheVariants.{Finished}
+use Rattle.eden_model.specs.declared.attempt.Attempt.TheVariants.{Finished}
 use Rattle.eden_ops.specs.Attempts.{Attempts}
 use Rattle.eden_ops.specs.Caches.{FindsTheSame}
 use Rattle.eden_ops.specs.Changes.{IsAdding, file, dir, link}

@@ -17,7 +17,8 @@ use Rattle.eden_model.specs.declared.request.Request.TheVariants as ask
 use Rattle.eden_model.specs.declared.reply.Reply.{Reply}
 use Rattle.eden_model.specs.declared.reply.Reply.TheVariants as say
 use Rattle.eden_model.specs.declared.world.World.{Ghosts}
-use Rattle.eden_model.specs.Operations.{At, Meets, Refuses, Unless, Unlinks, Removes, SetsExec, Replies, with_exec, put, done}
+use Rattle.eden_model.specs.Histories.{fault_of}
+use Rattle.eden_model.specs.Operations.{At, Meets, Refuses, Unless, Unlinks, Removes, SetsExec, Replies, with_exec, put, done, after}
 use Rattle.eden_model.specs.Paths.{path_eq, behind_of, is_root}
 use Rattle.eden_model.specs.Repository.{Repository}
 use Rattle.eden_model.specs.Shown.{Ground, Item, Items, if_dir, node_from, shown}
@@ -37,7 +38,7 @@ use Rattle.eden_tie.specs.ShownLaws.{AreDirectories, ShowsBelow}
 use Rattle.eden_inode.specs.Tables.{Table}
 use Rattle.eden_materialise.specs.Faults.{IsStoreFault}
 use Rattle.eden_materialise.specs.Removals.{HasEntry}
-use Rattle.eden_ops.specs.declared.answer.Attempt.TheVariants.{Finished}
+use Rattle.eden_model.specs.declared.attempt.Attempt.TheVariants.{Finished}
 use Rattle.eden_ops.specs.Attempts.{Attempts}
 use Rattle.eden_ops.specs.Caches.{FindsTheSame}
 use Rattle.eden_ops.specs.Changes.{exec_kind}
@@ -138,14 +139,18 @@ not_root (m ∷ p) above n split = eqb-suc-zero (length p)
 
 -- ---- what is answered
 
+-- it was done
+pub changed_by : {W F : Type 0} (w : Ghosts W) (f : Files F W) (q : Request) (s u : Table F) (c d : Cache) → FindsTheSame c d → (r : Reply) → fault_of r ≡ None
+    → (w.honest → Replies (shows w f s) q r) → (w.honest → shows w f u ≡ after (shows w f s) q r) → Attempts w f q s u c d (Finished r)
+changed_by w f q s u c d cache r fine says shown = record {
+  answer = record { reply = λ h x. says h; fault = λ e is. let x : Some e ≡ None = ap fault_of (sym is) ∙ fine in cc; shown = shown };
+  cache = cache;
+}
+
 module _ {W F : Type 0} (w : Ghosts W) (f : Files F W) (q : Request) (s t u : Table F) (c d : Cache)
     (same : w.honest → shows w f t ≡ shows w f s) (rises : f.failures s.files ≤ f.failures t.files) (cache : FindsTheSame c d) where
-  -- the change was made
   pub changed : (w.honest → Replies (shows w f s) q say.Ok) → (w.honest → shows w f u ≡ done (shows w f s) q) → Attempts w f q s u c d (Finished say.Ok)
-  changed says shown = record {
-    answer = record { reply = λ h x. says h; fault = λ e is. cc; shown = shown };
-    cache = cache;
-  }
+  changed says shown = changed_by w f q s u c d cache say.Ok refl says shown
 
   -- the device or the memory refused it
   pub refused : (e : Fault) → IsStoreFault (f.failures t.files) (f.failures u.files) e → ((x : Path) → q ≡ ask.Kind x → ⊥) → (w.honest → shows w f u ≡ shows w f t)

@@ -29,7 +29,7 @@ long_by : (front far : Path) (b : Bool) → length front ≤ length far → leng
 long_by front far true h = omega arith
 long_by front far false h = h
 
-place_long : (F : Tree) (front rest : Path) → length front ≤ length (place_from F front rest)
+pub place_long : (F : Tree) (front rest : Path) → length front ≤ length (place_from F front rest)
 place_long F front [] = omega arith
 place_long F front (n ∷ rest) =
     let h = place_long F (front ++ n ∷ []) rest in

@@ -1,5 +1,6 @@
 pub mod Walking
 pub mod Deeper
+pub mod Left
 pub mod Growing
 pub mod Steps
 pub mod Bringing
@@ -19,7 +20,9 @@ pub mod Saving
 pub mod Going
 pub mod Changing
 pub mod Additions
-pub mod Renames
 pub mod Owned
 pub mod Relocation
+pub mod Renames
 pub mod TwoPaths
+pub mod Filled
+pub mod Filing

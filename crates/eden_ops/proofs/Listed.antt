@@ -77,7 +77,7 @@ module _ (below : ShowsBelow) (missing : ShowsAbsent) (R : Repository) (F : Stor
   pub lists_rows : AreRising (λ r. r.0) d.rows → IsListing G p (kinds_in d)
   lists_rows rising = record { rising = kinds_rise d rising; children = λ n. kind_found n d.rows ∙ child_by n (find_row n d.rows) refl }
 
-  reaches_dir : reach G p ≡ Here (Dir true)
+  pub reaches_dir : reach G p ≡ Here (Dir true)
   reaches_dir = meets_here below missing R F x dirs p (Dir true) (walk_here x p y at) (shown_dir below missing R F x dirs p y d at holds)
 
   -- .. with no entries, or with one

@@ -134,6 +134,9 @@ leaves_on f paths s t u a b =
     let d = b.failures in
     record { loaded = λ p in_them is. b.loaded p in_them (a.loaded p in_them is); next = omega (arith, n, m); failures = omega (arith, c, d); clock = b.clock ∙ a.clock }
 
+pub leaves_more : {W F : Type 0} (f : Files F W) (s t u : Table F) → Leaves f s t → Leaves f t u → Leaves f s u
+leaves_more f s t u a b = record { everywhere = leaves_on f (λ p. Unit {0}) s t u a.everywhere b.everywhere; saved = λ all. b.saved (a.saved all) }
+
 module _ {W F : Type 0} (w : Ghosts W) (f : Files F W) where
   -- what leaves something on every path leaves it on some
   pub leaves_some : (paths : Path → Type 0) (s t : Table F) → Keeps w f s t → LeavesOn f paths s t
@@ -145,11 +148,7 @@ module _ {W F : Type 0} (w : Ghosts W) (f : Files F W) where
   pub leaves_changed : (s t u : Table F) → Keeps w f s t → StaysLoaded t.root u.root → (AreSaved t.root → AreSaved u.root) → t.next ≤ u.next → u.clock ≡ t.clock
       → f.failures t.files ≤ f.failures u.files → Leaves f s u
   leaves_changed s t u k stays saved next clock counted =
-      let a = keeps_leaves w f s t k in
-      record {
-        everywhere = leaves_on f (λ p. Unit {0}) s t u a.everywhere (record { loaded = λ p all. stays p; next = next; failures = counted; clock = clock });
-        saved = λ all. saved (a.saved all);
-      }
+      leaves_more f s t u (keeps_leaves w f s t k) (record { everywhere = record { loaded = λ p all. stays p; next = next; failures = counted; clock = clock }; saved = saved })
 
 pub no_less : (a b : ℕ) → b ≡ a → a ≤ b
 no_less a b is = omega (arith, is)

@@ -32,8 +32,8 @@ use Rattle.eden_tie.proofs.CallerLemmas.{map_some, loaded_there}
 use Rattle.eden_inode.specs.declared.seen.Seen.{Seen}
 use Rattle.eden_inode.specs.Tables.{Table}
 use Rattle.eden_materialise.specs.Faults.{IsStoreFault}
-use Rattle.eden_ops.specs.declared.answer.Attempt.{Attempt}
-use Rattle.eden_ops.specs.declared.answer.Attempt.TheVariants.{Finished}
+use Rattle.eden_model.specs.declared.attempt.Attempt.{Attempt}
+use Rattle.eden_model.specs.declared.attempt.Attempt.TheVariants.{Finished}
 use Rattle.eden_ops.specs.declared.answer.Stop.{Stop}
 use Rattle.eden_ops.specs.declared.answer.Stop.TheVariants as stop
 use Rattle.eden_ops.specs.Attempts.{Attempts, Wants, IsSeen, IsShown, Meets, MeetsShown, shown_node, stopped}

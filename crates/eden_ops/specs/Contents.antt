@@ -1,16 +1,19 @@
--- The content of a file or a link, and its parts.
-use Rattle.std.specs.Prelude.{◌≡◌, ◌≢◌, ◌≤◌, ℕ, List, length, take, drop, Some}
+-- The content of a file or a link, and what is made of it.
+use Rattle.std.specs.Prelude.{◌≡◌, ◌≢◌, ◌≤◌, ◌<◌, ◌+◌, ℕ, List, length, take, drop, Some, None}
 use Rattle.eden_model.specs.declared.kind.Kind.TheVariants as kind
 use Rattle.eden_model.specs.declared.kind.Origin.{Origin}
 use Rattle.eden_model.specs.declared.world.World.{Ghosts}
 use Rattle.eden_model.specs.Limits.{most_file}
+use Rattle.eden_model.specs.Operations.{resized, written}
 use Rattle.eden_model.specs.Repository.{source_of, content_with}
 use Rattle.eden_model.specs.Trees.{Path}
 use Rattle.eden_overlay.specs.declared.files.Files.{Ghosts as Files}
 use Rattle.eden_overlay.specs.Held.{own_files}
-use Rattle.eden_tree.specs.Directory.{Row}
+use Rattle.eden_tree.specs.Directory.{Row, child_of}
 use Rattle.eden_tree.specs.Paths.{row_at}
 use Rattle.eden_inode.specs.Tables.{Table}
+use Rattle.eden_ops.specs.declared.contents.Form.{Form}
+use Rattle.eden_ops.specs.declared.contents.Form.TheVariants as form
 
 -- the entry at the path is a file or a link of that origin
 pub record HasContent (p : Path) (x : Row) (o : Origin) : Type 0 where
@@ -19,17 +22,36 @@ pub record HasContent (p : Path) (x : Row) (o : Origin) : Type 0 where
   pub kind : row.kind ≢ kind.Dir
   pub origin : row.origin ≡ o
 
+-- the entry at the path is this one, a file or a link that isn't loaded
+pub record IsFileAt (p : Path) (x y : Row) : Type 0 where
+  pub there : row_at p x ≡ Some y
+  pub unloaded : child_of y ≡ None
+  pub file : y.kind ≢ kind.Dir
+
+-- what is made of a content
+abbrev pub made : Form → List ℕ → List ℕ
+made (form.Part offset count) content = take count (drop offset content)
+made (form.Written offset bytes) content = written offset bytes.now content
+made (form.Resized size) content = resized size content
+
+-- some bytes are written, and up to the longest content at most
+abbrev pub Fits : Form → Type 0
+Fits (form.Part offset count) = Unit {0}
+Fits (form.Written offset bytes) = (0 < length bytes.now) × (offset + length bytes.now ≤ most_file)
+Fits (form.Resized size) = size ≤ most_file
+
 module _ {W F : Type 0} (w : Ghosts W) (f : Files F W) where
   -- the content that the entry at the path shows, where the outside is honest
   pub record IsContent (p : Path) (t : Table F) (content : List ℕ) : Type 0 where
     pub shown : w.honest → (y : Row) → row_at p t.root ≡ Some y → content_with w.repository (own_files (f.stored t.files)) (source_of y.number y.origin) ≡ Some content
     pub short : length content ≤ most_file
 
-  -- its bytes from an offset on, at most so many
-  pub record IsPart (p : Path) (t : Table F) (offset count : ℕ) (bytes : List ℕ) : Type 0 where
+  -- what is made of it
+  pub record IsMade (p : Path) (t : Table F) (a : Form) (bytes : List ℕ) : Type 0 where
     pub content : List ℕ
     pub is : IsContent p t content
-    pub part : bytes ≡ take count (drop offset content)
+    pub made : bytes ≡ made a content
+    pub short : length bytes ≤ most_file
 
   -- the length of the content that the entry at the path shows, where the outside is honest
   abbrev pub HasLength : Path → Table F → ℕ → Type 0

@@ -11,7 +11,6 @@ ghost use Rattle.eden_ops.specs.Keeping.{shows};
 ghost use Rattle.eden_ops.specs.Known.{IsLoadedAt};
 ghost use Rattle.eden_ops.specs.Listings.{HasNoEntries, HasEntries};
 
-use crate::answer::Attempt;
 use crate::end::ended;
 use crate::letting::let_go;
 use crate::listing::bring_seen;
@@ -20,7 +19,7 @@ use crate::what::what;
 use eden_cache::ObjectCache;
 use eden_inode::Inodes;
 use eden_materialise::remove_entry;
-use eden_model::{Errno, Kind, Path, Reply, World};
+use eden_model::{Attempt, Errno, Kind, Path, Reply, World};
 use eden_overlay::Files;
 use eden_tie::shown_laws;
 use std::alloc::{Allocator, Global};

@@ -6,7 +6,6 @@ ghost use Rattle.eden_ops.specs.Attempts.{Attempts};
 ghost use Rattle.eden_ops.specs.Caches.{IsStocked};
 ghost use Rattle.eden_ops.specs.Changes.{exec_kind, Leaves};
 
-use crate::answer::Attempt;
 use crate::end::ended;
 use crate::laws::keeps_laws;
 use crate::meet::meet;
@@ -14,7 +13,7 @@ use crate::what::what;
 use eden_cache::ObjectCache;
 use eden_inode::Inodes;
 use eden_materialise::set_kind;
-use eden_model::{Errno, Kind, Path, Reply, World};
+use eden_model::{Attempt, Errno, Kind, Path, Reply, World};
 use eden_overlay::Files;
 use eden_tie::shown_laws;
 use std::alloc::{Allocator, Global};

@@ -1,3 +1,4 @@
+ghost use Rattle.eden_ops.specs.Left.{FewAreLeft, SomeAreLeft, NeedsStay, LeftFalls};
 ghost use Rattle.eden_ops.specs.Laws.{KeepsShown, KeepsFiles, KeepsEntries, KeepsCounts, KeepsLeaves, PlaceIsFront, NextIsDeeper};
 
 use eden_model::World;
@@ -20,4 +21,13 @@ pub fn keeps_laws<W: World, F: Files<W>>()
 pub fn wait_laws()
     ensures front { PlaceIsFront }
     ensures deeper { NextIsDeeper }
+{}
+
+/// How many objects a request may still need, and how that falls: at most one for each place of its paths, never more than
+/// before, one less for each needed object that comes; and what was needed is needed still, or the request has come further.
+pub fn need_laws()
+    ensures few { FewAreLeft }
+    ensures some { SomeAreLeft }
+    ensures stay { NeedsStay }
+    ensures falls { LeftFalls }
 {}

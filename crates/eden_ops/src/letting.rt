@@ -15,7 +15,7 @@ use std::alloc::{Allocator, Global};
 /// Lets go of every directory that is loaded at and below a path; an unsaved one is stored first.
 ///
 /// Errors: `Overlay` where the device failed, and `Memory`: then some of them are still loaded.
-pub(crate) fn let_go<A: Allocator + Clone, W: World, F: Files<W>>(
+pub fn let_go<A: Allocator + Clone, W: World, F: Files<W>>(
     inodes: &mut Inodes<A, W, F>,
     alloc: Global,
     path: &[Name],

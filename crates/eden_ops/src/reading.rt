@@ -4,14 +4,13 @@ ghost use Rattle.eden_ops.specs.Attempts.{Attempts};
 ghost use Rattle.eden_ops.specs.Caches.{IsStocked};
 ghost use Rattle.eden_ops.specs.Keeping.{Keeps};
 
-use crate::answer::Attempt;
-use crate::contents::part;
+use crate::contents::{Form, make};
 use crate::end::ended;
 use crate::meet::meet;
 use crate::what::what;
 use eden_cache::ObjectCache;
 use eden_inode::Inodes;
-use eden_model::{Bytes, Errno, Kind, MAX_DATA, Path, Reply, World};
+use eden_model::{Attempt, Bytes, Errno, Kind, MAX_DATA, Path, Reply, World};
 use eden_overlay::Files;
 use std::alloc::{Allocator, Global};
 
@@ -44,7 +43,8 @@ pub fn read<A: Allocator + Clone, W: World, F: Files<W>, C: Allocator + Clone>(
     if count == 0 {
         return Attempt::Finished(Reply::Data(Bytes::new(Vec::new(alloc))));
     }
-    match part(inodes, cache, alloc, path, seen.origin, offset, count) {
+    let form = Form::Part(offset, count);
+    match make(inodes, cache, alloc, path, seen.origin, form) {
         Err(stop) => ended(stop),
         Ok(bytes) => Attempt::Finished(Reply::Data(bytes)),
     }

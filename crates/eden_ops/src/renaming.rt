@@ -6,7 +6,6 @@ ghost use Rattle.eden_ops.specs.Attempts.{Attempts};
 ghost use Rattle.eden_ops.specs.Caches.{IsStocked};
 ghost use Rattle.eden_ops.specs.Renames.{IsTold, IsByPaths, LeavesBeside};
 
-use crate::answer::Attempt;
 use crate::end::ended;
 use crate::landing::land;
 use crate::laws::keeps_laws;
@@ -15,7 +14,7 @@ use crate::relocating::relocate;
 use crate::what::what;
 use eden_cache::ObjectCache;
 use eden_inode::{Inodes, Seen};
-use eden_model::{Errno, Kind, Name, Path, Reply, World};
+use eden_model::{Attempt, Errno, Kind, Name, Path, Reply, World};
 use eden_overlay::Files;
 use std::alloc::{Allocator, Global};
 

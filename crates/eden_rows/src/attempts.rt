@@ -6,11 +6,10 @@ ghost use Rattle.eden_ops.specs.Caches.{IsStocked};
 use crate::inodes::{Names, ROOT, TEST, Table, names, table};
 use crate::worked::LINK;
 use eden_cache::ObjectCache;
-use eden_model::{Errno, Key, Kind, Name, Path, Reply};
+use eden_model::{Attempt, Errno, Key, Kind, Name, Path, Reply};
 use eden_object::Object;
 use eden_ops::{
-    Attempt, Walked, create, kind, list, mkdir, reach, read, readlink, set_exec, stat, symlink,
-    unlink,
+    Walked, create, kind, list, mkdir, reach, read, readlink, set_exec, stat, symlink, unlink,
 };
 use eden_samples::{ONE_FILE, Sample, VERSION_1};
 use std::alloc::Global;

@@ -9,7 +9,7 @@ use Rattle.eden_model.specs.Trees.{Tree, Path, reach, graft}
 use Rattle.eden_tree.specs.Paths.{row_at}
 use Rattle.eden_tie.proofs.CallerLemmas.{map_some}
 use Rattle.eden_inode.specs.declared.seen.Seen.{Seen}
-use Rattle.eden_ops.specs.declared.answer.Attempt.{Attempt}
+use Rattle.eden_model.specs.declared.attempt.Attempt.{Attempt}
 use Rattle.eden_ops.specs.Attempts.{Attempts, MeetsShown}
 use Rattle.eden_ops.specs.Changes.{IsOutside}
 use Rattle.eden_ops.specs.Keeping.{shows}

@@ -9,7 +9,7 @@ use Rattle.eden_model.specs.Operations.{ReadsLink}
 use Rattle.eden_model.specs.Repository.{source_of, content_with}
 use Rattle.eden_overlay.specs.Held.{own_files}
 use Rattle.eden_inode.specs.declared.seen.Seen.{Seen}
-use Rattle.eden_ops.specs.declared.answer.Attempt.{Attempt}
+use Rattle.eden_model.specs.declared.attempt.Attempt.{Attempt}
 use Rattle.eden_ops.specs.Attempts.{Attempts, MeetsShown, shown_node}
 use Rattle.eden_ops.proofs.Answering.{walk_ended, says_absent}
 use Rattle.eden_ops.proofs.Finding.{still_stocked}
@@ -62,38 +62,38 @@ returns-in-Dir-clause-attempts g c =
     met_tells g.W.World g.F.Files c.args.path.now c.args.inodes.now c.meet.new.inodes c.meet.new.cache _ c.in-Ok-Some.seen c.in-Ok-Some.field-0-is e.meets (ask.ReadLink c.args.path.now) reads_target (asks_target c.args.path.now) c.args.cache.now e.same e.keeps e.cache e.shown (say.Err EINVAL) refl (λ T. refl)
     (λ k a listed is on. target_other k a listed (dir_not_link k (as_dir k c.in-Ok-Some.seen is on (c.what.ensures.dir c.in-Dir.is))))
 
-pub returns-in-Err-part-clause-attempts : goal.returns-in-Err-part-clause-attempts
-returns-in-Err-part-clause-attempts g c =
+pub returns-in-Err-make-clause-attempts : goal.returns-in-Err-make-clause-attempts
+returns-in-Err-make-clause-attempts g c =
     let e = c.in-Ok-Some.ensures in
-    let b = c.part.ensures in
+    let b = c.make.ensures in
     let other = c.what.ensures.other (link_not_dir c.what.result c.in-Link.is) in
-    subst (λ (a : Attempt). Attempts g.W.World g.F.Files (ask.ReadLink c.args.path.now) c.args.inodes.now c.part.new.inodes c.args.cache.now c.part.new.cache a) (sym c.ended-in-Err-part.ensures)
-    (content_lacks g.W.World g.F.Files c.args.path.now c.args.inodes.now c.meet.new.inodes c.meet.new.cache _ c.in-Ok-Some.seen c.in-Ok-Some.field-0-is e.meets (ask.ReadLink c.args.path.now) reads_target (asks_target c.args.path.now) c.args.cache.now e.same e.keeps e.cache e.shown c.part.new.inodes c.part.new.cache b.same b.keeps b.still b.cache other.0 (λ x is. cc) c.in-Err-part.stop
-    (λ k is. (λ n a r same lost. target_lost n a false r (same ∙ other.1 ∙ c.in-Link.is) lost, λ x y. cc)) c.in-Err-part.ensures.lacks)
+    subst (λ (a : Attempt). Attempts g.W.World g.F.Files (ask.ReadLink c.args.path.now) c.args.inodes.now c.make.new.inodes c.args.cache.now c.make.new.cache a) (sym c.ended-in-Err-make.ensures)
+    (content_lacks g.W.World g.F.Files c.args.path.now c.args.inodes.now c.meet.new.inodes c.meet.new.cache _ c.in-Ok-Some.seen c.in-Ok-Some.field-0-is e.meets (ask.ReadLink c.args.path.now) reads_target (asks_target c.args.path.now) c.args.cache.now e.same e.keeps e.cache e.shown c.make.new.inodes c.make.new.cache b.same b.keeps b.still b.cache other.0 (λ x is. cc) c.in-Err-make.stop
+    (λ k is. (λ n a r same lost. target_lost n a false r (same ∙ other.1 ∙ c.in-Link.is) lost, λ x y. cc)) c.in-Err-make.ensures.lacks)
 
-pub returns-in-Err-part-clause-keeps : goal.returns-in-Err-part-clause-keeps
-returns-in-Err-part-clause-keeps g c = keeps_on g.W.World g.F.Files c.args.inodes.now c.meet.new.inodes c.part.new.inodes c.meet.ensures.keeps c.part.ensures.keeps
+pub returns-in-Err-make-clause-keeps : goal.returns-in-Err-make-clause-keeps
+returns-in-Err-make-clause-keeps g c = keeps_on g.W.World g.F.Files c.args.inodes.now c.meet.new.inodes c.make.new.inodes c.meet.ensures.keeps c.make.ensures.keeps
 
 pub returns-in-Ok-clause-keeps : goal.returns-in-Ok-clause-keeps
-returns-in-Ok-clause-keeps g c = keeps_on g.W.World g.F.Files c.args.inodes.now c.meet.new.inodes c.part.new.inodes c.meet.ensures.keeps c.part.ensures.keeps
+returns-in-Ok-clause-keeps g c = keeps_on g.W.World g.F.Files c.args.inodes.now c.meet.new.inodes c.make.new.inodes c.meet.ensures.keeps c.make.ensures.keeps
 
 pub returns-in-Ok-clause-attempts : goal.returns-in-Ok-clause-attempts
 returns-in-Ok-clause-attempts g c =
     let e = c.in-Ok-Some.ensures in
-    let b = c.part.ensures in
+    let b = c.make.ensures in
     let other = c.what.ensures.other (link_not_dir c.what.result c.in-Link.is) in
     let had = c.in-Ok.ensures.ok in
     let R = g.W.World.repository in
     let F = g.F.Files.stored c.meet.new.inodes.files in
-    content_tells g.W.World g.F.Files c.args.path.now c.args.inodes.now c.meet.new.inodes c.meet.new.cache _ c.in-Ok-Some.seen c.in-Ok-Some.field-0-is e.meets (ask.ReadLink c.args.path.now) reads_target (asks_target c.args.path.now) c.args.cache.now e.same e.keeps e.cache e.shown c.part.new.inodes c.part.new.cache b.same b.keeps b.still b.cache (say.Data c.in-Ok.bytes) refl (λ T. refl)
-    (λ h y at listed is. subst (λ a. ReadsLink (shown_node R F y listed) (say.Data a)) (sym (had.part ∙ take_all 1073741824 had.content had.is.short))
+    content_tells g.W.World g.F.Files c.args.path.now c.args.inodes.now c.meet.new.inodes c.meet.new.cache _ c.in-Ok-Some.seen c.in-Ok-Some.field-0-is e.meets (ask.ReadLink c.args.path.now) reads_target (asks_target c.args.path.now) c.args.cache.now e.same e.keeps e.cache e.shown c.make.new.inodes c.make.new.cache b.same b.keeps b.still b.cache (say.Data c.in-Ok.bytes) refl (λ T. refl)
+    (λ h y at listed is. subst (λ a. ReadsLink (shown_node R F y listed) (say.Data a)) (sym (had.made ∙ take_all 1073741824 had.content had.is.short))
     (target_some y.kind (content_with R (own_files F) (source_of y.number y.origin)) listed had.content (is ∙ other.1 ∙ c.in-Link.is) (had.is.shown h y at)))
 
-pub part-requires-clause-content : goal.part-requires-clause-content
-part-requires-clause-content g c =
+pub make-requires-clause-content : goal.make-requires-clause-content
+make-requires-clause-content g c =
     let e = c.in-Ok-Some.ensures in
     let other = c.what.ensures.other (link_not_dir c.what.result c.in-Link.is) in
     met_content g.W.World g.F.Files c.args.path.now c.args.inodes.now c.meet.new.inodes c.meet.new.cache _ c.in-Ok-Some.seen c.in-Ok-Some.field-0-is e.meets (λ dir. link_not_dir c.what.result c.in-Link.is (sym other.1 ∙ dir))
 
-pub part-requires-clause-stocked : goal.part-requires-clause-stocked
-part-requires-clause-stocked g c = still_stocked g.W.World.repository g.W.World.honest c.args.cache.now c.meet.new.cache c.meet.ensures.cache c.requires
+pub make-requires-clause-stocked : goal.make-requires-clause-stocked
+make-requires-clause-stocked g c = still_stocked g.W.World.repository g.W.World.honest c.args.cache.now c.meet.new.cache c.meet.ensures.cache c.requires

@@ -8,7 +8,7 @@ use Rattle.eden_model.specs.Operations.{Reads}
 use Rattle.eden_model.specs.Repository.{source_of, content_with}
 use Rattle.eden_overlay.specs.Held.{own_files}
 use Rattle.eden_inode.specs.declared.seen.Seen.{Seen}
-use Rattle.eden_ops.specs.declared.answer.Attempt.{Attempt}
+use Rattle.eden_model.specs.declared.attempt.Attempt.{Attempt}
 use Rattle.eden_ops.specs.Attempts.{Attempts, MeetsShown, shown_node}
 use Rattle.eden_ops.specs.Keeping.{same}
 use Rattle.eden_ops.proofs.Answering.{walk_ended, says_absent}
@@ -65,38 +65,38 @@ returns-then-count-eq0-clause-attempts g c =
     met_tells g.W.World g.F.Files c.args.path.now c.args.inodes.now c.meet.new.inodes c.meet.new.cache _ c.in-Ok-Some.seen c.in-Ok-Some.field-0-is e.meets (ask.Read c.args.path.now c.args.offset c.args.count) (reads c.args.offset c.args.count) (asks_read c.args.path.now c.args.offset c.args.count (le-ltb 65536 c.args.count c.if-count-gt-MAX_DATA.false)) c.args.cache.now e.same e.keeps e.cache e.shown (say.Data c.new-then-count-eq0.result) refl (λ T. refl)
     (λ k a listed is on. subst (λ b. Reads c.args.offset c.args.count (node_from k a listed) (say.Data b)) (sym none) (reads_none c.args.offset c.args.count k a listed (as_told k c.what.result (is ∙ other.1) c.in-File.is) (ap (λ (n : ℕ). n == 0) c.if-count-eq0.true)))
 
-pub returns-in-Err-part-clause-attempts : goal.returns-in-Err-part-clause-attempts
-returns-in-Err-part-clause-attempts g c =
+pub returns-in-Err-make-clause-attempts : goal.returns-in-Err-make-clause-attempts
+returns-in-Err-make-clause-attempts g c =
     let e = c.in-Ok-Some.ensures in
-    let b = c.part.ensures in
+    let b = c.make.ensures in
     let other = c.what.ensures.other (plain_other c.what.result c.in-File.is) in
-    subst (λ (a : Attempt). Attempts g.W.World g.F.Files (ask.Read c.args.path.now c.args.offset c.args.count) c.args.inodes.now c.part.new.inodes c.args.cache.now c.part.new.cache a) (sym c.ended-in-Err-part.ensures)
-    (content_lacks g.W.World g.F.Files c.args.path.now c.args.inodes.now c.meet.new.inodes c.meet.new.cache _ c.in-Ok-Some.seen c.in-Ok-Some.field-0-is e.meets (ask.Read c.args.path.now c.args.offset c.args.count) (reads c.args.offset c.args.count) (asks_read c.args.path.now c.args.offset c.args.count (le-ltb 65536 c.args.count c.if-count-gt-MAX_DATA.false)) c.args.cache.now e.same e.keeps e.cache e.shown c.part.new.inodes c.part.new.cache b.same b.keeps b.still b.cache other.0 (λ x is. cc) c.in-Err-part.stop
-    (λ k is. (λ n a r same lost. reads_lost c.args.offset c.args.count n a false r (as_told n c.what.result (same ∙ other.1) c.in-File.is) (ne_eqb c.args.count 0 c.if-count-eq0.false) lost, λ x y. cc)) c.in-Err-part.ensures.lacks)
+    subst (λ (a : Attempt). Attempts g.W.World g.F.Files (ask.Read c.args.path.now c.args.offset c.args.count) c.args.inodes.now c.make.new.inodes c.args.cache.now c.make.new.cache a) (sym c.ended-in-Err-make.ensures)
+    (content_lacks g.W.World g.F.Files c.args.path.now c.args.inodes.now c.meet.new.inodes c.meet.new.cache _ c.in-Ok-Some.seen c.in-Ok-Some.field-0-is e.meets (ask.Read c.args.path.now c.args.offset c.args.count) (reads c.args.offset c.args.count) (asks_read c.args.path.now c.args.offset c.args.count (le-ltb 65536 c.args.count c.if-count-gt-MAX_DATA.false)) c.args.cache.now e.same e.keeps e.cache e.shown c.make.new.inodes c.make.new.cache b.same b.keeps b.still b.cache other.0 (λ x is. cc) c.in-Err-make.stop
+    (λ k is. (λ n a r same lost. reads_lost c.args.offset c.args.count n a false r (as_told n c.what.result (same ∙ other.1) c.in-File.is) (ne_eqb c.args.count 0 c.if-count-eq0.false) lost, λ x y. cc)) c.in-Err-make.ensures.lacks)
 
-pub returns-in-Err-part-clause-keeps : goal.returns-in-Err-part-clause-keeps
-returns-in-Err-part-clause-keeps g c = keeps_on g.W.World g.F.Files c.args.inodes.now c.meet.new.inodes c.part.new.inodes c.meet.ensures.keeps c.part.ensures.keeps
+pub returns-in-Err-make-clause-keeps : goal.returns-in-Err-make-clause-keeps
+returns-in-Err-make-clause-keeps g c = keeps_on g.W.World g.F.Files c.args.inodes.now c.meet.new.inodes c.make.new.inodes c.meet.ensures.keeps c.make.ensures.keeps
 
 pub returns-in-Ok-clause-keeps : goal.returns-in-Ok-clause-keeps
-returns-in-Ok-clause-keeps g c = keeps_on g.W.World g.F.Files c.args.inodes.now c.meet.new.inodes c.part.new.inodes c.meet.ensures.keeps c.part.ensures.keeps
+returns-in-Ok-clause-keeps g c = keeps_on g.W.World g.F.Files c.args.inodes.now c.meet.new.inodes c.make.new.inodes c.meet.ensures.keeps c.make.ensures.keeps
 
 pub returns-in-Ok-clause-attempts : goal.returns-in-Ok-clause-attempts
 returns-in-Ok-clause-attempts g c =
     let e = c.in-Ok-Some.ensures in
-    let b = c.part.ensures in
+    let b = c.make.ensures in
     let other = c.what.ensures.other (plain_other c.what.result c.in-File.is) in
     let had = c.in-Ok.ensures.ok in
     let R = g.W.World.repository in
     let F = g.F.Files.stored c.meet.new.inodes.files in
-    content_tells g.W.World g.F.Files c.args.path.now c.args.inodes.now c.meet.new.inodes c.meet.new.cache _ c.in-Ok-Some.seen c.in-Ok-Some.field-0-is e.meets (ask.Read c.args.path.now c.args.offset c.args.count) (reads c.args.offset c.args.count) (asks_read c.args.path.now c.args.offset c.args.count (le-ltb 65536 c.args.count c.if-count-gt-MAX_DATA.false)) c.args.cache.now e.same e.keeps e.cache e.shown c.part.new.inodes c.part.new.cache b.same b.keeps b.still b.cache (say.Data c.in-Ok.bytes) refl (λ T. refl)
-    (λ h y at listed is. subst (λ a. Reads c.args.offset c.args.count (shown_node R F y listed) (say.Data a)) (sym had.part)
+    content_tells g.W.World g.F.Files c.args.path.now c.args.inodes.now c.meet.new.inodes c.meet.new.cache _ c.in-Ok-Some.seen c.in-Ok-Some.field-0-is e.meets (ask.Read c.args.path.now c.args.offset c.args.count) (reads c.args.offset c.args.count) (asks_read c.args.path.now c.args.offset c.args.count (le-ltb 65536 c.args.count c.if-count-gt-MAX_DATA.false)) c.args.cache.now e.same e.keeps e.cache e.shown c.make.new.inodes c.make.new.cache b.same b.keeps b.still b.cache (say.Data c.in-Ok.bytes) refl (λ T. refl)
+    (λ h y at listed is. subst (λ a. Reads c.args.offset c.args.count (shown_node R F y listed) (say.Data a)) (sym had.made)
     (reads_some c.args.offset c.args.count y.kind (content_with R (own_files F) (source_of y.number y.origin)) listed had.content (as_told y.kind c.what.result (is ∙ other.1) c.in-File.is) (ne_eqb c.args.count 0 c.if-count-eq0.false) (had.is.shown h y at)))
 
-pub part-requires-clause-content : goal.part-requires-clause-content
-part-requires-clause-content g c =
+pub make-requires-clause-content : goal.make-requires-clause-content
+make-requires-clause-content g c =
     let e = c.in-Ok-Some.ensures in
     let other = c.what.ensures.other (plain_other c.what.result c.in-File.is) in
     met_content g.W.World g.F.Files c.args.path.now c.args.inodes.now c.meet.new.inodes c.meet.new.cache _ c.in-Ok-Some.seen c.in-Ok-Some.field-0-is e.meets (λ dir. plain_other c.what.result c.in-File.is (sym other.1 ∙ dir))
 
-pub part-requires-clause-stocked : goal.part-requires-clause-stocked
-part-requires-clause-stocked g c = still_stocked g.W.World.repository g.W.World.honest c.args.cache.now c.meet.new.cache c.meet.ensures.cache c.requires
+pub make-requires-clause-stocked : goal.make-requires-clause-stocked
+make-requires-clause-stocked g c = still_stocked g.W.World.repository g.W.World.honest c.args.cache.now c.meet.new.cache c.meet.ensures.cache c.requires

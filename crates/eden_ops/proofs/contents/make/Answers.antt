@@ -2,7 +2,7 @@ use Rattle.std.proofs.Common.{◌∙◌}
 use Rattle.eden_ops.specs.Keeping.{same}
 use Rattle.eden_ops.proofs.Origins.{not_empty}
 use Rattle.eden_ops.proofs.Steps.{reads}
-use Rattle.eden_ops.proofs.contents.part.Goals as goal
+use Rattle.eden_ops.proofs.contents.make.Goals as goal
 
 pub unreachable-requires : goal.unreachable-requires
 unreachable-requires g c =
@@ -19,28 +19,28 @@ returns-in_err-content-in-Own-clause-keeps g c =
     let e = c.content.ensures in
     reads g.W.World g.F.Files c.args.inodes.now c.content.new.self e.rest e.files e.counted
 
-pub returns-in_err-copied-in-Own-clause-same : goal.returns-in_err-copied-in-Own-clause-same
-returns-in_err-copied-in-Own-clause-same g c =
+pub returns-in_err-made-in-Own-clause-same : goal.returns-in_err-made-in-Own-clause-same
+returns-in_err-made-in-Own-clause-same g c =
     let e = c.content.ensures in
     c.keeps_laws.ensures.shown c.args.inodes.now c.content.new.self (reads g.W.World g.F.Files c.args.inodes.now c.content.new.self e.rest e.files e.counted)
 
-pub returns-in_err-copied-in-Own-clause-keeps : goal.returns-in_err-copied-in-Own-clause-keeps
-returns-in_err-copied-in-Own-clause-keeps g c =
+pub returns-in_err-made-in-Own-clause-keeps : goal.returns-in_err-made-in-Own-clause-keeps
+returns-in_err-made-in-Own-clause-keeps g c =
     let e = c.content.ensures in
     reads g.W.World g.F.Files c.args.inodes.now c.content.new.self e.rest e.files e.counted
 
-pub returns-in_ok-copied-in-Own-clause-same : goal.returns-in_ok-copied-in-Own-clause-same
-returns-in_ok-copied-in-Own-clause-same g c =
+pub returns-in_ok-made-in-Own-clause-same : goal.returns-in_ok-made-in-Own-clause-same
+returns-in_ok-made-in-Own-clause-same g c =
     let e = c.content.ensures in
     c.keeps_laws.ensures.shown c.args.inodes.now c.content.new.self (reads g.W.World g.F.Files c.args.inodes.now c.content.new.self e.rest e.files e.counted)
 
-pub returns-in_ok-copied-in-Own-clause-keeps : goal.returns-in_ok-copied-in-Own-clause-keeps
-returns-in_ok-copied-in-Own-clause-keeps g c =
+pub returns-in_ok-made-in-Own-clause-keeps : goal.returns-in_ok-made-in-Own-clause-keeps
+returns-in_ok-made-in-Own-clause-keeps g c =
     let e = c.content.ensures in
     reads g.W.World g.F.Files c.args.inodes.now c.content.new.self e.rest e.files e.counted
 
-pub returns-in_err-cached_part-in-Object-clause-keeps : goal.returns-in_err-cached_part-in-Object-clause-keeps
-returns-in_err-cached_part-in-Object-clause-keeps g c = same
+pub returns-in_err-cached_form-in-Object-clause-keeps : goal.returns-in_err-cached_form-in-Object-clause-keeps
+returns-in_err-cached_form-in-Object-clause-keeps g c = same
 
 pub returns-in-None-clause-keeps : goal.returns-in-None-clause-keeps
 returns-in-None-clause-keeps g c = same
