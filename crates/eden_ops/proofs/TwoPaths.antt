@@ -15,12 +15,11 @@ use Rattle.eden_model.specs.declared.request.Request.TheVariants as ask
 use Rattle.eden_model.specs.declared.reply.Reply.{Reply}
 use Rattle.eden_model.specs.declared.reply.Reply.TheVariants as say
 use Rattle.eden_model.specs.declared.world.World.{Ghosts}
-use Rattle.eden_model.specs.Histories.{fault_of}
-use Rattle.eden_model.specs.Operations.{At, Meets as Table_Meets, Says, Refuses, Whether, Unless, Moves, Replies, is_dir, is_front, move, after}
-use Rattle.eden_model.specs.Paths.{path_eq, behind_of, is_root}
+use Rattle.eden_model.specs.Operations.{At, Meets as Table_Meets, Says, Refuses, Whether, Unless, Moves, Replies, is_dir, is_front, move}
+use Rattle.eden_model.specs.Paths.{behind_of, is_root}
 use Rattle.eden_model.specs.Repository.{Repository, source_of, content_with}
 use Rattle.eden_model.specs.Shown.{node_from}
-use Rattle.eden_model.specs.Trees.{Name, Path, Tree, Walk, Passes, Unlisted, walk, Reach, Here, reach}
+use Rattle.eden_model.specs.Trees.{Name, Path, Tree, Walk, Passes, walk, Reach, reach}
 use Rattle.eden_model.proofs.CallerLemmas.{path_eq-Decides, behind_sound}
 use Rattle.eden_overlay.specs.declared.files.Files.{Ghosts as Files}
 use Rattle.eden_overlay.specs.Files.{Stored}

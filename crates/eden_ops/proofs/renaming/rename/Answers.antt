@@ -1,13 +1,10 @@
-use Rattle.std.proofs.Common.{◌≡◌, false, Option, None, Some, Ok, Err, sym, refl, subst, ap, ◌∙◌}
+use Rattle.std.proofs.Common.{◌≡◌, false, Option, Ok, sym, refl, subst, ◌∙◌}
 use Rattle.eden_model.specs.declared.request.Request.TheVariants as ask
 use Rattle.eden_model.specs.Paths.{is_root}
-use Rattle.eden_model.specs.Trees.{Path, reach}
-use Rattle.eden_tree.specs.Paths.{row_at}
 use Rattle.eden_inode.specs.declared.seen.Seen.{Seen}
 use Rattle.eden_model.specs.declared.attempt.Attempt.{Attempt}
 use Rattle.eden_ops.specs.Attempts.{Attempts, MeetsShown}
-use Rattle.eden_ops.specs.Keeping.{shows, same}
-use Rattle.eden_ops.specs.Renames.{IsByPaths}
+use Rattle.eden_ops.specs.Keeping.{same}
 use Rattle.eden_ops.proofs.Answering.{first_ended, first_absent}
 use Rattle.eden_ops.proofs.TwoPaths.{moves, starts_rename, begins, plain_told, land_stopped, can_go, went, stayed, leaves_kept, leaves_moved}
 use Rattle.eden_ops.proofs.Steps.{keeps_on}
