@@ -10,7 +10,7 @@ use Rattle.eden_model.specs.Trees.{Tree, Path, graft}
 use Rattle.eden_overlay.specs.Held.{own_files}
 use Rattle.eden_tree.specs.Paths.{row_at}
 use Rattle.eden_tie.specs.Filing.{leaf, content_shown}
-use Rattle.eden_ops.specs.declared.answer.Attempt.{Attempt}
+use Rattle.eden_model.specs.declared.attempt.Attempt.{Attempt}
 use Rattle.eden_ops.specs.Attempts.{Attempts}
 use Rattle.eden_ops.specs.Requests.{for_exec}
 use Rattle.eden_ops.specs.Changes.{exec_kind}

@@ -6,7 +6,7 @@ use Rattle.eden_model.specs.Operations.{Reads}
 use Rattle.eden_model.specs.Repository.{source_of, content_with}
 use Rattle.eden_model.specs.Shown.{node_from}
 use Rattle.eden_overlay.specs.Held.{own_files}
-use Rattle.eden_ops.specs.declared.answer.Attempt.{Attempt}
+use Rattle.eden_model.specs.declared.attempt.Attempt.{Attempt}
 use Rattle.eden_ops.specs.Attempts.{Attempts, shown_node}
 use Rattle.eden_ops.specs.Keeping.{same}
 use Rattle.eden_ops.specs.Requests.{for_read}
