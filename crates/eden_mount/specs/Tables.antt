@@ -11,8 +11,8 @@ use Rattle.eden_model.specs.Trees.{Path, Tree}
 use Rattle.eden_model.specs.Operations.{Replies, after}
 use Rattle.eden_model.specs.Histories.{fault_of}
 use Rattle.eden_object.specs.Objects.{Body, IsBodyOf}
-use Rattle.eden_mount.specs.declared.attempts.Attempt.{Attempt}
-use Rattle.eden_mount.specs.declared.attempts.Attempt.TheVariants as ended
+use Rattle.eden_model.specs.declared.attempt.Attempt.{Attempt}
+use Rattle.eden_model.specs.declared.attempt.Attempt.TheVariants as ended
 
 pub record Table (T : Type 0) : Type 1 where
   -- the tree that it shows

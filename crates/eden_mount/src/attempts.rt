@@ -1,15 +1,6 @@
-use eden_model::{Key, Path, Reply, Request, World};
+use eden_model::{Attempt, Key, Path, Request, World};
 use eden_object::Object;
 use std::alloc::Global;
-
-/// How an attempt of a request ended.
-#[derive(Debug, Drop)]
-pub enum Attempt {
-    /// With its reply.
-    Finished(Reply),
-    /// It needs this object, which the cache lacks.
-    Need(Key),
-}
 
 /// A table of inodes with a cache of objects, over which requests are attempted. It fetches nothing itself.
 pub trait Attempts<W: World> {

@@ -17,7 +17,7 @@ mod room;
 mod seats;
 mod settling;
 
-pub use attempts::{Attempt, Attempts};
+pub use attempts::Attempts;
 pub use config::Config;
 pub use events::{Arrived, Event, Outcome, Turned};
 pub use laws::run_laws;

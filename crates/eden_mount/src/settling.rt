@@ -2,8 +2,8 @@
 ghost use Rattle.std.specs.Prelude.{◌≡◌};
 ghost use Rattle.eden_mount.specs.Replying.{Settles};
 
-use crate::attempts::{Attempt, Attempts};
-use eden_model::{Cause, Fault, Key, Reply, Request, World};
+use crate::attempts::Attempts;
+use eden_model::{Attempt, Cause, Fault, Key, Reply, Request, World};
 use std::alloc::Global;
 
 /// A reply to tell and one to keep, which are equal; or the key that the request waits for.

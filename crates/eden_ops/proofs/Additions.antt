@@ -32,7 +32,7 @@ use Rattle.eden_tie.specs.ShownLaws.{AreDirectories, ShowsAbsent}
 use Rattle.eden_inode.specs.Tables.{Table}
 use Rattle.eden_materialise.specs.declared.new_entry.NewEntry.{NewEntry}
 use Rattle.eden_materialise.specs.Filing.{node_as, IsShort, LacksEntry, IsAddFault}
-use Rattle.eden_ops.specs.declared.answer.Attempt.TheVariants.{Finished}
+use Rattle.eden_model.specs.declared.attempt.Attempt.TheVariants.{Finished}
 use Rattle.eden_ops.specs.Attempts.{Attempts}
 use Rattle.eden_ops.specs.Caches.{FindsTheSame}
 use Rattle.eden_ops.specs.Changes.{IsAdding, file, dir, link}
@@ -115,11 +115,11 @@ through_passes (Some (node.Link c)) beyond is = cc
 through_passes (Some (node.Dir true)) beyond is = (refl, is)
 through_passes (Some (node.Dir false)) beyond is = cc
 
-passes_above : (F : Tree) (front above : Path) (n : Name) → walk_from F front (above ++ n ∷ []) ≡ Passes → F (front ++ above) ≡ Some (node.Dir true)
-passes_above F front [] n is = ap F (append-nil front) ∙ (through_passes (F front) (walk_from F (front ++ n ∷ []) []) is).0
-passes_above F front (m ∷ above) n is =
+pub passes_above : (F : Tree) (front above : Path) (n : Name) (rest : Path) → walk_from F front (above ++ n ∷ rest) ≡ Passes → F (front ++ above) ≡ Some (node.Dir true)
+passes_above F front [] n rest is = ap F (append-nil front) ∙ (through_passes (F front) (walk_from F (front ++ n ∷ []) rest) is).0
+passes_above F front (m ∷ above) n rest is =
     ap F (sym (append_assoc front (m ∷ []) above))
-    ∙ passes_above F (front ++ m ∷ []) above n (through_passes (F front) (walk_from F (front ++ m ∷ []) (above ++ n ∷ [])) is).1
+    ∙ passes_above F (front ++ m ∷ []) above n rest (through_passes (F front) (walk_from F (front ++ m ∷ []) (above ++ n ∷ rest)) is).1
 
 absent_in : (n : Name) (d : Directory) → option_and_then (row_at []) (find_row n d.rows) ≡ None → find_row n d.rows ≡ None
 absent_in n d is = by (find_row n d.rows) is where
@@ -129,7 +129,7 @@ absent_in n d is = by (find_row n d.rows) is where
 
 pub lacks_entry : (p above : Path) (n : Name) (x : Row) → p ≡ above ++ n ∷ [] → walk (known x) p ≡ Passes → row_at p x ≡ None → LacksEntry x above n
 lacks_entry p above n x split passes none =
-    let y = known_dir x above (passes_above (known x) [] above n (sym (ap (walk (known x)) split) ∙ passes)) in
+    let y = known_dir x above (passes_above (known x) [] above n [] (sym (ap (walk (known x)) split) ∙ passes)) in
     record {
       row = y.0;
       directory = y.1.1.0;

@@ -20,14 +20,14 @@ use Rattle.eden_model.specs.Histories.{fault_of}
 use Rattle.eden_model.specs.Operations.{At, Meets as Table_Meets, Refuses, Replies, after}
 use Rattle.eden_model.specs.Repository.{Repository}
 use Rattle.eden_model.specs.Shown.{node_from}
-use Rattle.eden_model.specs.Trees.{Path, Tree, Walk, Passes, Unlisted, through, walk_from, walk, Reach, Here, ends, reach}
+use Rattle.eden_model.specs.Trees.{Path, Tree, Walk, Unlisted, through, walk_from, walk, Reach, Here, ends, reach}
 use Rattle.eden_overlay.specs.declared.files.Files.{Ghosts as Files}
 use Rattle.eden_overlay.specs.Files.{Stored}
 use Rattle.eden_cache.specs.Cache.{Cache}
 use Rattle.eden_tree.specs.Directory.{Child, unloaded, loaded, Row}
 use Rattle.eden_tree.specs.Paths.{row_at}
 use Rattle.eden_inode.specs.Tables.{Table}
-use Rattle.eden_ops.specs.declared.answer.Attempt.TheVariants.{Finished}
+use Rattle.eden_model.specs.declared.attempt.Attempt.TheVariants.{Finished}
 use Rattle.eden_ops.specs.declared.answer.Stop.{Stop}
 use Rattle.eden_ops.specs.declared.answer.Stop.TheVariants as stop
 use Rattle.eden_ops.specs.Attempts.{Attempts, Wants, IsUnsized, Meets, MeetsShown, Lacks, IsShown, shown_node, object_kind, stopped}
@@ -35,7 +35,7 @@ use Rattle.eden_ops.specs.Caches.{FindsTheSame}
 use Rattle.eden_ops.specs.Faults.{IsDamaged, WantsNumbers, IsCaused, IsLawful, Makes, creates, makes_dir, links}
 use Rattle.eden_ops.specs.Keeping.{shows, Keeps}
 use Rattle.eden_ops.specs.Known.{content_known, known_by, known_node, known, is_unlisted, place_from, place_on, place}
-use Rattle.eden_ops.proofs.Walking.{walk_here, place_passes}
+use Rattle.eden_ops.proofs.Walking.{walk_here, reach_here, place_passes}
 
 -- a request that looks at a path first: its reply is by what stands there, or by its absence
 pub record Starts (q : Request) (p : Path) (absent : Reply → Type 0) (here : Tree → Node → Reply → Type 0) : Type 0 where
@@ -81,7 +81,7 @@ dir_child : (k : Kind) (n : Option (List ℕ)) (c : Child) → known_by c (node_
 dir_child k n unloaded is = dir_kind k n is
 dir_child k n (loaded s u r) is = let same : true ≡ false = cc in absurd (false≢true (sym same))
 
-some_inj : {X : Type 0} (a b : X) → Some a ≡ Some b → a ≡ b
+pub some_inj : {X : Type 0} (a b : X) → Some a ≡ Some b → a ≡ b
 some_inj a b is = cc
 
 -- the object of a directory is a tree
@@ -187,9 +187,6 @@ module _ {W F : Type 0} {absent : Reply → Type 0} (w : Ghosts W) (f : Files F 
 
   -- what the entry there wants: its object, or what its stored file lacks
   module _ (y : Row) (at : row_at p t.root ≡ Some y) where
-    known_here : reach (known t.root) p ≡ Here (known_node y)
-    known_here = ap (λ (v : Walk). ends v (known t.root p)) (walk_here t.root p y at) ∙ ap (λ (o : Option Row). ends Passes (option_map known_node o)) at
-
     place_is : place (known t.root) q ≡ p
     place_is = asks.at (known t.root) ∙ place_passes (known t.root) p (walk_here t.root p y at)
 
@@ -206,7 +203,7 @@ module _ {W F : Type 0} {absent : Reply → Type 0} (w : Ghosts W) (f : Files F 
     lacked (stop.Needs k) other need h = record {
       answer = record {
         need = record {
-          silent = λ r x. (need k refl).0 r (subst (λ (v : Reach). Table_Meets v absent (here (known t.root)) r) known_here (asks.only (known t.root) r x));
+          silent = λ r x. (need k refl).0 r (subst (λ (v : Reach). Table_Meets v absent (here (known t.root)) r) (reach_here t.root p y at) (asks.only (known t.root) r x));
           wanted = subst (λ (x : Path). Wants (row_at x t.root) d k) (sym place_is) h;
           unsized = (need k refl).1;
         };
@@ -217,8 +214,12 @@ module _ {W F : Type 0} {absent : Reply → Type 0} (w : Ghosts W) (f : Files F 
     lacked (stop.Faults e) other need h = faulted e (lawful_here e other h)
 
 -- nothing is at the path, which is refused
+pub first_absent : {W F : Type 0} (w : Ghosts W) (f : Files F W) (q : Request) (p : Path) (here : Tree → Node → Reply → Type 0) (first : Starts q p (Refuses ENOENT) here) (s t : Table F) (c d : Cache)
+    → (w.honest → shows w f t ≡ shows w f s) → Keeps w f s t → FindsTheSame c d → (w.honest → MeetsShown w f p s t (Ok None)) → Attempts w f q s t c d (Finished (say.Err ENOENT))
+first_absent w f q p here first s t c d same keeps cache shown =
+    first_replied w f q p here first s t c d same keeps cache (say.Err ENOENT) refl (λ G. refl)
+    (λ honest. subst (λ (x : Reach). Table_Meets x (Refuses ENOENT) (here (shows w f s)) (say.Err ENOENT)) (sym (shown honest)) refl)
+
 pub says_absent : {W F : Type 0} (w : Ghosts W) (f : Files F W) (q : Request) (p : Path) (here : Tree → Node → Reply → Type 0) (asks : Asks q p here) (s t : Table F) (c d : Cache)
     → (w.honest → shows w f t ≡ shows w f s) → Keeps w f s t → FindsTheSame c d → (w.honest → MeetsShown w f p s t (Ok None)) → Attempts w f q s t c d (Finished (say.Err ENOENT))
-says_absent w f q p here asks s t c d same keeps cache shown =
-    replied w f q p here asks s t c d same keeps cache (say.Err ENOENT) refl (λ G. refl)
-    (λ honest. subst (λ (x : Reach). Table_Meets x (Refuses ENOENT) (here (shows w f s)) (say.Err ENOENT)) (sym (shown honest)) refl)
+says_absent w f q p here asks s t c d same keeps cache shown = first_absent w f q p here (starts asks) s t c d same keeps cache shown

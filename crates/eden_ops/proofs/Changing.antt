@@ -5,22 +5,24 @@ use Rattle.std.proofs.Math.Path.{fun_ext}
 use Rattle.std.proofs.lemmas.Bool.{false≢true}
 use Rattle.std.proofs.lemmas.List.{append-nil, length-append}
 use Rattle.std.specs.Option.{option_map, option_and_then, is_some}
-use Rattle.eden_model.specs.declared.errno.Errno.TheVariants.{EINVAL, EISDIR}
+use Rattle.eden_model.specs.declared.errno.Errno.TheVariants.{EBUSY, EISDIR, ENOENT, ENOTEMPTY}
 use Rattle.eden_model.specs.declared.fault.Fault.{Fault}
 use Rattle.eden_model.specs.declared.fault.Fault.TheVariants as fault
 use Rattle.eden_model.specs.declared.kind.Kind.{Kind}
 use Rattle.eden_model.specs.declared.kind.Kind.TheVariants as kind
 use Rattle.eden_model.specs.declared.node.Node.{Node}
+use Rattle.eden_model.specs.declared.node.Node.TheVariants.{Dir}
 use Rattle.eden_model.specs.declared.request.Request.{Request}
 use Rattle.eden_model.specs.declared.request.Request.TheVariants as ask
 use Rattle.eden_model.specs.declared.reply.Reply.{Reply}
 use Rattle.eden_model.specs.declared.reply.Reply.TheVariants as say
 use Rattle.eden_model.specs.declared.world.World.{Ghosts}
-use Rattle.eden_model.specs.Operations.{At, Unless, Unlinks, SetsExec, Replies, with_exec, put, done}
+use Rattle.eden_model.specs.Histories.{fault_of}
+use Rattle.eden_model.specs.Operations.{At, Meets, Refuses, Unless, Unlinks, Removes, SetsExec, Replies, with_exec, put, done, after}
 use Rattle.eden_model.specs.Paths.{path_eq, behind_of, is_root}
 use Rattle.eden_model.specs.Repository.{Repository}
 use Rattle.eden_model.specs.Shown.{Ground, Item, Items, if_dir, node_from, shown}
-use Rattle.eden_model.specs.Trees.{Name, Path, Tree, grafted, graft}
+use Rattle.eden_model.specs.Trees.{Name, Path, Tree, Reach, Here, reach, grafted, graft}
 use Rattle.eden_model.proofs.CallerLemmas.{path_eq-Decides, behind_sound, behind_back}
 use Rattle.eden_overlay.specs.declared.files.Files.{Ghosts as Files}
 use Rattle.eden_overlay.specs.Files.{Stored}
@@ -36,12 +38,13 @@ use Rattle.eden_tie.specs.ShownLaws.{AreDirectories, ShowsBelow}
 use Rattle.eden_inode.specs.Tables.{Table}
 use Rattle.eden_materialise.specs.Faults.{IsStoreFault}
 use Rattle.eden_materialise.specs.Removals.{HasEntry}
-use Rattle.eden_ops.specs.declared.answer.Attempt.TheVariants.{Finished}
+use Rattle.eden_model.specs.declared.attempt.Attempt.TheVariants.{Finished}
 use Rattle.eden_ops.specs.Attempts.{Attempts}
 use Rattle.eden_ops.specs.Caches.{FindsTheSame}
 use Rattle.eden_ops.specs.Changes.{exec_kind}
 use Rattle.eden_ops.specs.Faults.{IsLawful}
 use Rattle.eden_ops.specs.Keeping.{shows}
+use Rattle.eden_ops.specs.Listings.{HasNoEntries, HasEntries}
 use Rattle.eden_ops.proofs.Answering.{Asks}
 use Rattle.eden_ops.proofs.Looking.{IsPlain}
 use Rattle.eden_ops.proofs.Rounds.{rose_on}
@@ -136,14 +139,18 @@ not_root (m ∷ p) above n split = eqb-suc-zero (length p)
 
 -- ---- what is answered
 
+-- it was done
+pub changed_by : {W F : Type 0} (w : Ghosts W) (f : Files F W) (q : Request) (s u : Table F) (c d : Cache) → FindsTheSame c d → (r : Reply) → fault_of r ≡ None
+    → (w.honest → Replies (shows w f s) q r) → (w.honest → shows w f u ≡ after (shows w f s) q r) → Attempts w f q s u c d (Finished r)
+changed_by w f q s u c d cache r fine says shown = record {
+  answer = record { reply = λ h x. says h; fault = λ e is. let x : Some e ≡ None = ap fault_of (sym is) ∙ fine in cc; shown = shown };
+  cache = cache;
+}
+
 module _ {W F : Type 0} (w : Ghosts W) (f : Files F W) (q : Request) (s t u : Table F) (c d : Cache)
     (same : w.honest → shows w f t ≡ shows w f s) (rises : f.failures s.files ≤ f.failures t.files) (cache : FindsTheSame c d) where
-  -- the change was made
   pub changed : (w.honest → Replies (shows w f s) q say.Ok) → (w.honest → shows w f u ≡ done (shows w f s) q) → Attempts w f q s u c d (Finished say.Ok)
-  changed says shown = record {
-    answer = record { reply = λ h x. says h; fault = λ e is. cc; shown = shown };
-    cache = cache;
-  }
+  changed says shown = changed_by w f q s u c d cache say.Ok refl says shown
 
   -- the device or the memory refused it
   pub refused : (e : Fault) → IsStoreFault (f.failures t.files) (f.failures u.files) e → ((x : Path) → q ≡ ask.Kind x → ⊥) → (w.honest → shows w f u ≡ shows w f t)
@@ -190,6 +197,27 @@ unlinks_dir kind.Exec c l is = cc
 unlinks_dir kind.Link c l is = cc
 unlinks_dir kind.Dir c l is = refl
 
+-- ---- rmdir
+
+abbrev pub removes : Path → Tree → Node → Reply → Type 0
+removes p G n = Removes G p n
+
+pub asks_rmdir : (p : Path) → is_root p ≡ false → Asks (ask.Rmdir p) p (removes p)
+asks_rmdir p other = record {
+  says = λ G r h. subst (λ (b : Bool). Unless b EBUSY (At G p (Removes G p)) r) (sym other) h;
+  only = λ G r h. subst (λ (b : Bool). Unless b EBUSY (At G p (Removes G p)) r) other h;
+  at = λ G. refl;
+  plain = λ x is. cc;
+}
+
+-- of a directory that is shown, with no entries or with one
+module _ (G : Tree) (p : Path) (here : reach G p ≡ Here (Dir true)) where
+  pub removes_empty : HasNoEntries G p → At G p (Removes G p) say.Ok
+  removes_empty none = subst (λ (x : Reach). Meets x (Refuses ENOENT) (Removes G p) say.Ok) (sym here) (inl (λ n. none n [], refl))
+
+  pub removes_full : HasEntries G p → At G p (Removes G p) (say.Err ENOTEMPTY)
+  removes_full some = subst (λ (x : Reach). Meets x (Refuses ENOENT) (Removes G p) (say.Err ENOTEMPTY)) (sym here) (inr (some, refl))
+
 -- ---- setexec
 
 abbrev pub sets_exec : Tree → Node → Reply → Type 0
@@ -197,18 +225,6 @@ sets_exec G n = SetsExec n
 
 pub asks_exec : (p : Path) (exec : Bool) → Asks (ask.SetExec p exec) p sets_exec
 asks_exec p exec = record { says = λ G r h. h; only = λ G r h. h; at = λ G. refl; plain = λ x is. cc }
-
-pub sets_link : (k : Kind) (c : Option (List ℕ)) (l : Bool) → k ≡ kind.Link → SetsExec (node_from k c l) (say.Err EINVAL)
-sets_link kind.File c l is = cc
-sets_link kind.Exec c l is = cc
-sets_link kind.Link c l is = refl
-sets_link kind.Dir c l is = cc
-
-pub sets_dir : (k : Kind) (c : Option (List ℕ)) (l : Bool) → k ≡ kind.Dir → SetsExec (node_from k c l) (say.Err EISDIR)
-sets_dir kind.File c l is = cc
-sets_dir kind.Exec c l is = cc
-sets_dir kind.Link c l is = cc
-sets_dir kind.Dir c l is = refl
 
 pub sets_file : (k : Kind) (c : Option (List ℕ)) (l : Bool) → IsPlain k → SetsExec (node_from k c l) say.Ok
 sets_file kind.File c l plain = refl

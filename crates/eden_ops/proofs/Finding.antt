@@ -1,5 +1,5 @@
 -- The same found in one cache after another.
-use Rattle.std.proofs.Common.{sym, ◌∙◌}
+use Rattle.std.proofs.Common.{sym, refl, ◌∙◌}
 use Rattle.eden_model.specs.Repository.{Repository}
 use Rattle.eden_cache.specs.Cache.{Cache}
 use Rattle.eden_ops.specs.Caches.{IsStocked, FindsTheSame}
@@ -12,3 +12,6 @@ still_stocked R honest c d same held = record {
   objects = λ k o is. held.objects k o (sym (same.objects k) ∙ is);
   sizes = λ id n is h. held.sizes id n (sym (same.sizes id) ∙ is) h;
 }
+
+pub finds_same : (c : Cache) → FindsTheSame c c
+finds_same c = record { objects = λ k. refl; sizes = λ id. refl }

@@ -23,3 +23,7 @@ pub mod Additions
 pub mod Owned
 pub mod Relocation
 pub mod Renames
+pub mod TwoPaths
+pub mod Filled
+pub mod Filing
+pub mod Leaving

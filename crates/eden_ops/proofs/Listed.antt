@@ -1,12 +1,13 @@
 -- The listing of a loaded directory, and its pages.
-use Rattle.std.proofs.Common.{◌≡◌, ℕ, zero, suc, ◌+◌, ◌-◌, ◌<◌, ◌++◌, Bool, true, false, cond, nat_lt, min, List, [], ◌∷◌, length, map, take, drop, filter, get_or, Option, Some, None, Result, Ok, Err, IfOk, sym, refl, ◌∙◌, ap, subst, arith}
+use Rattle.std.proofs.Common.{◌≡◌, ℕ, zero, suc, ◌+◌, ◌-◌, ◌<◌, ◌==◌, ◌++◌, Bool, true, false, cond, nat_lt, min, List, [], ◌∷◌, length, map, take, drop, filter, get_or, Option, Some, None, Result, Ok, Err, IfOk, MatchBool, sym, refl, ◌∙◌, ap, subst, arith}
+use Rattle.std.proofs.Math.Dec.{eqb-suc-zero}
 use Rattle.std.specs.List.{slice_get}
 use Rattle.std.specs.List.Sorted.{IsStrictlySortedBy}
 use Rattle.std.specs.Cmp.Lexicographic.{slice_cmp}
 use Rattle.std.specs.Ordering.{nat_cmp}
-use Rattle.std.specs.Option.{option_map, option_and_then}
+use Rattle.std.specs.Option.{option_map, option_and_then, IsSome}
 use Rattle.std.specs.Str.{bytes_eq}
-use Rattle.std.proofs.lemmas.List.{length-drop, length-map, drop-map, take-map, take_min, map_more, get_or-drop}
+use Rattle.std.proofs.lemmas.List.{nil_from_length, length-drop, length-map, drop-map, take-map, take_min, map_more, get_or-drop}
 use Rattle.std.proofs.lemmas.Map.Made.{keys_of-map_values}
 use Rattle.std.proofs.lemmas.Map.Text.{is_eq-slice_cmp}
 use Rattle.std.proofs.lemmas.Option.{slice_get_within, get_or_from_slice_get}
@@ -27,20 +28,21 @@ use Rattle.eden_overlay.specs.Held.{own_files}
 use Rattle.eden_tree.specs.Directory.{Row, Directory, child_of}
 use Rattle.eden_tree.specs.Rows.{find_row}
 use Rattle.eden_tree.specs.Paths.{row_at}
-use Rattle.eden_tree.proofs.CallerLemmas.{reads_on}
+use Rattle.eden_tree.proofs.CallerLemmas.{same-refl, reads_on}
 use Rattle.eden_tie.specs.Shown.{shown_in}
 use Rattle.eden_tie.specs.ShownLaws.{AreDirectories, ShowsBelow, ShowsAbsent}
 use Rattle.eden_tie.specs.Kept.{IsKept}
 use Rattle.eden_tie.proofs.CallerLemmas.{and_then_some, place_at, rising_of}
 use Rattle.eden_inode.specs.Tables.{Table}
-use Rattle.eden_ops.specs.Listings.{kind_in, kinds_in, IsPage}
+use Rattle.eden_ops.specs.Keeping.{shows}
+use Rattle.eden_ops.specs.Listings.{kind_in, kinds_in, HasNoEntries, HasEntries, IsPage}
 use Rattle.eden_ops.proofs.Looking.{kind_node}
 use Rattle.eden_ops.proofs.Seeing.{kept_dirs, shown_there, shown_dir, meets_here}
 use Rattle.eden_ops.proofs.Walking.{walk_here}
 
 -- ---- what the table lists of a loaded directory is what it has
 
-pub kind_found : (n : Name) (es : List (Name × Row)) → kind_at (map kind_in es) n ≡ option_map (λ (z : Row). z.kind) (find_row n es)
+kind_found : (n : Name) (es : List (Name × Row)) → kind_at (map kind_in es) n ≡ option_map (λ (z : Row). z.kind) (find_row n es)
 kind_found n [] = refl
 kind_found n (e ∷ es) =
     ap (λ (b : Bool). cond b (Some e.1.kind) (kind_at (map kind_in es) n)) (is_eq-slice_cmp n e.0)
@@ -77,6 +79,40 @@ module _ (below : ShowsBelow) (missing : ShowsAbsent) (R : Repository) (F : Stor
 
   pub reaches_dir : reach G p ≡ Here (Dir true)
   reaches_dir = meets_here below missing R F x dirs p (Dir true) (walk_here x p y at) (shown_dir below missing R F x dirs p y d at holds)
+
+  -- .. with no entries, or with one
+  none_below : d.rows ≡ [] → HasNoEntries G p
+  none_below none n rest = missing R F p n rest x y d dirs at holds (ap (find_row n) none)
+
+  some_below : (e : Name × Row) (es : List (Name × Row)) → d.rows ≡ e ∷ es → HasEntries G p
+  some_below e es is =
+      let found : find_row e.0 d.rows ≡ Some e.1 = ap (find_row e.0) is ∙ ap (λ (b : Bool). cond b (Some e.1) (find_row e.0 es)) (same-refl e.0) in
+      let h = shown_there below missing R F x dirs (p ++ e.0 ∷ []) e.1 (row_below e.0 e.1 found) in
+      (e.0, subst (λ (o : Option Node). IsSome o) (sym h.1.0) refl)
+
+  by_rows : (k : ℕ) → suc k ≡ length d.rows → (es : List (Name × Row)) → d.rows ≡ es → HasEntries G p
+  by_rows k long [] is = let l : suc k ≡ 0 = long ∙ ap length is in absurd (omega (arith, l))
+  by_rows k long (e ∷ es) is = some_below e es is
+
+  empty_told : (count : ℕ) → count ≡ length d.rows → MatchBool (count == 0) (HasNoEntries G p) (HasEntries G p)
+  empty_told zero long = none_below (nil_from_length d.rows (sym long))
+  empty_told (suc k) long = subst (λ (b : Bool). MatchBool b (HasNoEntries G p) (HasEntries G p)) (sym (eqb-suc-zero k)) (by_rows k long d.rows refl)
+
+-- the directory that is loaded at a path, over what is shown
+module _ {W F : Type 0} (w : Ghosts W) (f : Files F W) (p : Path) (t : Table F) (below : ShowsBelow) (missing : ShowsAbsent) (d : Directory)
+    (kept : w.honest → IsKept w.repository (f.stored t.files) t.root t.next) (loaded : option_and_then child_of (row_at p t.root) ≡ Some d) where
+  dirs : w.honest → AreDirectories t.root
+  dirs h = kept_dirs w.repository (f.stored t.files) t.root t.next (kept h)
+
+  pub empty_shown : (count : ℕ) → count ≡ length d.rows → w.honest → MatchBool (count == 0) (HasNoEntries (shows w f t) p) (HasEntries (shows w f t) p)
+  empty_shown count long h =
+      let y = and_then_some child_of (row_at p t.root) d loaded in
+      empty_told below missing w.repository (f.stored t.files) t.root (dirs h) p y.0 d y.1.0 y.1.1 count long
+
+  pub dir_shown : w.honest → reach (shows w f t) p ≡ Here (Dir true)
+  dir_shown h =
+      let y = and_then_some child_of (row_at p t.root) d loaded in
+      reaches_dir below missing w.repository (f.stored t.files) t.root (dirs h) p y.0 d y.1.0 y.1.1
 
 -- ---- pages
 

@@ -1,15 +1,9 @@
 -- What stands where an entry is to go.
-use Rattle.std.proofs.Common.{◌≡◌, ◌≢◌, ◌⊎◌, ◌==◌, ◌&&◌, ◌++◌, ◌∷◌, ℕ, Bool, true, false, cond, List, [], length, if◌then◌else◌, Option, Some, None, Ok, Err, sym, refl, ◌∙◌, ap, subst, inl, inr}
-use Rattle.std.proofs.Math.Dec.{eqb-suc-zero}
-use Rattle.std.proofs.lemmas.Bool.{false≢true}
-use Rattle.std.specs.Cmp.Lexicographic.{nat_list_eq_equiv}
-use Rattle.std.specs.Option.{option_map, option_and_then, IsSome}
-use Rattle.std.specs.Str.{bytes_eq}
-use Rattle.eden_model.specs.declared.errno.Errno.{Errno}
+use Rattle.std.proofs.Common.{◌≡◌, ◌≢◌, ◌⊎◌, ℕ, Bool, true, false, List, [], Option, Some, None, Err, sym, refl, ◌∙◌, ap, subst, inl, inr}
+use Rattle.std.specs.Option.{option_map}
 use Rattle.eden_model.specs.declared.errno.Errno.TheVariants.{ENOTDIR, EISDIR, ENOTEMPTY}
 use Rattle.eden_model.specs.declared.fault.Fault.{Fault}
 use Rattle.eden_model.specs.declared.fault.Fault.TheVariants as fault
-use Rattle.eden_model.specs.declared.kind.Kind.{Kind}
 use Rattle.eden_model.specs.declared.kind.Kind.TheVariants as kind
 use Rattle.eden_model.specs.declared.node.Node.{Node}
 use Rattle.eden_model.specs.declared.node.Node.TheVariants.{Dir}
@@ -17,74 +11,36 @@ use Rattle.eden_model.specs.declared.request.Request.TheVariants as ask
 use Rattle.eden_model.specs.declared.reply.Reply.{Reply}
 use Rattle.eden_model.specs.declared.reply.Reply.TheVariants as say
 use Rattle.eden_model.specs.declared.world.World.{Ghosts}
-use Rattle.eden_model.specs.Named.{AreRising}
-use Rattle.eden_model.specs.Operations.{Meets as Table_Meets, Says, Replaces, IfEmpty, Removes, Unlinks, kind_at, kind_of}
+use Rattle.eden_model.specs.Operations.{Meets as Table_Meets, Says, Replaces, IfEmpty}
 use Rattle.eden_model.specs.Repository.{Repository, source_of, content_with}
 use Rattle.eden_model.specs.Shown.{node_from}
-use Rattle.eden_model.specs.Trees.{Name, Path, Tree, Walk, Passes, Unlisted, walk, Reach, Fails, Absent, Here, ends, reach}
+use Rattle.eden_model.specs.Trees.{Path, Tree, Walk, Passes, Unlisted, walk, Reach, Absent, Here, ends, reach}
 use Rattle.eden_overlay.specs.declared.files.Files.{Ghosts as Files}
 use Rattle.eden_overlay.specs.Files.{Stored}
 use Rattle.eden_overlay.specs.Held.{own_files}
 use Rattle.eden_cache.specs.Cache.{Cache}
-use Rattle.eden_tree.specs.Directory.{Row, Directory, child_of}
-use Rattle.eden_tree.specs.Rows.{find_row}
+use Rattle.eden_tree.specs.Directory.{Row}
 use Rattle.eden_tree.specs.Paths.{row_at}
-use Rattle.eden_tie.specs.Kept.{IsKept}
-use Rattle.eden_tie.specs.Shown.{shown_in}
-use Rattle.eden_tie.specs.ShownLaws.{ShowsBelow, ShowsAbsent}
-use Rattle.eden_tie.proofs.CallerLemmas.{and_then_some, map_some}
 use Rattle.eden_inode.specs.declared.seen.Seen.{Seen}
 use Rattle.eden_inode.specs.Tables.{Table}
 use Rattle.eden_ops.specs.declared.answer.Stop.{Stop}
 use Rattle.eden_ops.specs.declared.answer.Stop.TheVariants as stop
 use Rattle.eden_ops.specs.Attempts.{Wants, IsSeen, IsShown, Meets, MeetsShown, Lacks, shown_node}
-use Rattle.eden_ops.specs.Faults.{IsDamaged, WantsNumbers, IsCaused, IsLawful}
+use Rattle.eden_ops.specs.Faults.{IsCaused, IsLawful}
 use Rattle.eden_ops.specs.Keeping.{shows, Keeps}
-use Rattle.eden_ops.specs.Known.{content_known, known_node, known, place_on, IsLoadedAt}
-use Rattle.eden_ops.specs.Listings.{kind_in, kinds_in}
+use Rattle.eden_ops.specs.Known.{content_known, known, place_on, IsLoadedAt}
+use Rattle.eden_ops.specs.Listings.{HasNoEntries, HasEntries}
 use Rattle.eden_ops.specs.Renames.{MayLand, Lands, LandsShown}
 use Rattle.eden_ops.proofs.Answering.{no_entry}
 use Rattle.eden_ops.proofs.Fetching.{away, dir_kind, shown_kind}
-use Rattle.eden_ops.proofs.Listed.{kind_found, lists_rows, reaches_dir}
 use Rattle.eden_ops.proofs.Looking.{lists_other, lists_away}
 use Rattle.eden_ops.proofs.Changing.{unlinks_file, unlinks_dir}
 use Rattle.eden_ops.proofs.Rounds.{lacks_since}
-use Rattle.eden_ops.proofs.Seeing.{kept_dirs}
-use Rattle.eden_ops.proofs.Walking.{walk_here, place_passes, known_unloaded, known_dir}
+use Rattle.eden_ops.proofs.Walking.{walk_here, reach_here, place_passes, known_unloaded, known_dir}
 
--- ---- a loaded directory, with entries or without
-
-none_of_map : {X Y : Type 0} (f : X → Y) (o : Option X) → None ≡ option_map f o → o ≡ None
+pub none_of_map : {X Y : Type 0} (f : X → Y) (o : Option X) → None ≡ option_map f o → o ≡ None
 none_of_map f None is = refl
 none_of_map f (Some x) is = cc
-
-some_of_map : {X Y : Type 0} (f : X → Y) (o : Option X) (y : Y) → Some y ≡ option_map f o → IsSome o
-some_of_map f None y is = cc
-some_of_map f (Some x) y is = refl
-
-bare_by : (G : Tree) (p : Path) (rows : List (Name × Row)) → ((n : Name) → option_map (λ (z : Row). z.kind) (find_row n rows) ≡ option_map kind_of (G (p ++ n ∷ [])))
-    → IfEmpty G p (if length rows == 0 then say.Ok else say.Err ENOTEMPTY)
-bare_by G p [] children = inl ((λ n. none_of_map kind_of (G (p ++ n ∷ [])) (children n)), refl)
-bare_by G p (e ∷ rows) children =
-    let first : Some e.1.kind ≡ option_map kind_of (G (p ++ e.0 ∷ [])) =
-    sym (ap (λ (b : Bool). option_map (λ (z : Row). z.kind) (cond b (Some e.1) (find_row e.0 rows))) (nat_list_eq_equiv.refl e.0)) ∙ children e.0 in
-    subst (λ (b : Bool). IfEmpty G p (if b then say.Ok else say.Err ENOTEMPTY)) (sym (eqb-suc-zero (length rows)))
-    (inr ((e.0, some_of_map kind_of (G (p ++ e.0 ∷ [])) e.1.kind first), refl))
-
--- what the table says over it
-pub bare_told : {W F : Type 0} (w : Ghosts W) (f : Files F W) (p : Path) (t : Table F) (d : Directory) → ShowsBelow → ShowsAbsent
-    → (w.honest → IsKept w.repository (f.stored t.files) t.root t.next) → option_and_then child_of (row_at p t.root) ≡ Some d → AreRising (λ r. r.0) d.rows → (n : ℕ) → n ≡ length d.rows
-    → w.honest → MayLand (shows w f t) p true (if n == 0 then say.Ok else say.Err ENOTEMPTY)
-bare_told w f p t d below missing kept loaded rising n count honest =
-    let R = w.repository in
-    let F = f.stored t.files in
-    let dirs = kept_dirs R F t.root t.next (kept honest) in
-    let y = and_then_some child_of (row_at p t.root) d loaded in
-    let G = shows w f t in
-    let all = (lists_rows below missing R F t.root dirs p y.0 d y.1.0 y.1.1 rising).children in
-    let bare = bare_by G p d.rows (λ m. sym (kind_found m d.rows) ∙ all m) in
-    subst (λ (v : Reach). Table_Meets v (Says say.Ok) (Replaces G p true) (if n == 0 then say.Ok else say.Err ENOTEMPTY)) (sym (reaches_dir below missing R F t.root dirs p y.0 d y.1.0 y.1.1))
-    (subst (λ (m : ℕ). IfEmpty G p (if m == 0 then say.Ok else say.Err ENOTEMPTY)) (sym count) bare)
 
 -- ---- the walk ends before the path does
 
@@ -139,7 +95,19 @@ module _ (R : Repository) (F : Stored) (G : Tree) (p : Path) (x : Row) (seen : S
       subst (λ (b : Bool). MayLand G p b (say.Err EISDIR)) (sym is)
       (replaced R F G p x seen at false (say.Err EISDIR) h (λ c l. unlinks_dir at.row.kind c l (shown_kind p x seen at R F (reach G p) h told)))
 
--- .. that can't be loaded
+-- .. which is loaded
+module _ (G : Tree) (p : Path) (here : reach G p ≡ Here (Dir true)) where
+  pub land_over_none : (dir : Bool) → dir ≡ true → HasNoEntries G p → MayLand G p dir say.Ok
+  land_over_none dir is none =
+      subst (λ (b : Bool). MayLand G p b say.Ok) (sym is)
+      (subst (λ (v : Reach). Table_Meets v (Says say.Ok) (Replaces G p true) say.Ok) (sym here) (inl ((λ n. none n []), refl)))
+
+  pub land_over_some : (dir : Bool) → dir ≡ true → HasEntries G p → MayLand G p dir (say.Err ENOTEMPTY)
+  land_over_some dir is some =
+      subst (λ (b : Bool). MayLand G p b (say.Err ENOTEMPTY)) (sym is)
+      (subst (λ (v : Reach). Table_Meets v (Says say.Ok) (Replaces G p true) (say.Err ENOTEMPTY)) (sym here) (inr (some, refl)))
+
+-- .. or can't be
 module _ {W F : Type 0} (w : Ghosts W) (f : Files F W) (p : Path) (s t u : Table F) (d : Cache) (seen : Seen) (at : IsSeen p t.root seen) (still : u.root ≡ t.root) (off : seen.loaded ≡ false)
     (told : (seen.loaded ≡ true) ⊎ (seen.kind ≡ kind.Dir)) where
   here_still : row_at p u.root ≡ Some at.row
@@ -152,10 +120,7 @@ module _ {W F : Type 0} (w : Ghosts W) (f : Files F W) (p : Path) (s t u : Table
   place_still = place_passes (known u.root) p passes_still
 
   known_away : reach (known u.root) p ≡ Here (node_from at.row.kind (content_known at.row.origin) false)
-  known_away =
-      ap (λ (v : Walk). ends v (known u.root p)) passes_still
-      ∙ ap (λ (o : Option Row). ends Passes (option_map known_node o)) here_still
-      ∙ ap (λ (n : Node). Here n) (known_unloaded at.row (away p t.root seen at off))
+  known_away = reach_here u.root p at.row here_still ∙ ap (λ (n : Node). Here n) (known_unloaded at.row (away p t.root seen at off))
 
   unlisted_there : (r : Reply) → ¬ MayLand (known u.root) p true r
   unlisted_there r h =

@@ -77,7 +77,7 @@ module _ {W F : Type 0} (w : Ghosts W) (f : Files F W) (p : Path) where
       omega (arith, there)
 
   -- what is lacking since a later table is lacking since one before it
-  caused_since : (s t u : Table F) → Keeps w f s t → (a : Fault) → IsCaused w f p t u a → IsCaused w f p s u a
+  pub caused_since : (s t u : Table F) → Keeps w f s t → (a : Fault) → IsCaused w f p t u a → IsCaused w f p s u a
   caused_since s t u before (fault.Fetch id why) h = h
   caused_since s t u before fault.Memory h = tt
   caused_since s t u before fault.Overlay (inl rose) = inl (rose_on (f.failures s.files) (f.failures t.files) (f.failures u.files) (keeps_counts w f s t before).1.1.1 rose)

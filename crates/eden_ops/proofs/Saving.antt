@@ -18,7 +18,7 @@ use Rattle.eden_tie.specs.Loading.{IsNew, LoadsOwn}
 use Rattle.eden_tie.proofs.CallerLemmas.{map_some, place_at, none_inside, loaded_there, loaded_found}
 use Rattle.eden_inode.specs.Tables.{Table, HasNoTree}
 use Rattle.eden_materialise.specs.Faults.{IsStoreFault}
-use Rattle.eden_ops.specs.Changes.{Leaves}
+use Rattle.eden_ops.specs.Changes.{LeavesOn, Leaves}
 use Rattle.eden_ops.specs.Keeping.{Loads, from_object, without, Step, stamps, loads, rests, Keeps, same, on}
 use Rattle.eden_ops.specs.Laws.{Grows, KeepsLeaves}
 use Rattle.eden_ops.proofs.Steps.{keeps_entries, keeps_counts}
@@ -121,27 +121,34 @@ module _ {W F : Type 0} (w : Ghosts W) (f : Files F W) where
   keeps_leaves s t k =
       let n = keeps_counts w f s t k in
       record {
-        loaded = grows_loads s.root t.root (keeps_entries w f s t k);
+        everywhere = record { loaded = λ p all. grows_loads s.root t.root (keeps_entries w f s t k) p; next = n.1.1.0; failures = n.1.1.1; clock = n.0 };
         saved = λ all. by_place t.root (steps_saved s t k (by_path s.root all));
-        next = n.1.1.0;
-        failures = n.1.1.1;
-        clock = n.0;
       }
+
+-- two changes, one after the other
+pub leaves_on : {W F : Type 0} (f : Files F W) (paths : Path → Type 0) (s t u : Table F) → LeavesOn f paths s t → LeavesOn f paths t u → LeavesOn f paths s u
+leaves_on f paths s t u a b =
+    let n = a.next in
+    let m = b.next in
+    let c = a.failures in
+    let d = b.failures in
+    record { loaded = λ p in_them is. b.loaded p in_them (a.loaded p in_them is); next = omega (arith, n, m); failures = omega (arith, c, d); clock = b.clock ∙ a.clock }
+
+pub leaves_more : {W F : Type 0} (f : Files F W) (s t u : Table F) → Leaves f s t → Leaves f t u → Leaves f s u
+leaves_more f s t u a b = record { everywhere = leaves_on f (λ p. Unit {0}) s t u a.everywhere b.everywhere; saved = λ all. b.saved (a.saved all) }
+
+module _ {W F : Type 0} (w : Ghosts W) (f : Files F W) where
+  -- what leaves something on every path leaves it on some
+  pub leaves_some : (paths : Path → Type 0) (s t : Table F) → Keeps w f s t → LeavesOn f paths s t
+  leaves_some paths s t k =
+      let a = (keeps_leaves w f s t k).everywhere in
+      record { loaded = λ p in_them. a.loaded p tt; next = a.next; failures = a.failures; clock = a.clock }
 
   -- and then a change
   pub leaves_changed : (s t u : Table F) → Keeps w f s t → StaysLoaded t.root u.root → (AreSaved t.root → AreSaved u.root) → t.next ≤ u.next → u.clock ≡ t.clock
       → f.failures t.files ≤ f.failures u.files → Leaves f s u
   leaves_changed s t u k stays saved next clock counted =
-      let a = keeps_leaves s t k in
-      let n = a.next in
-      let c = a.failures in
-      record {
-        loaded = λ p is. stays p (a.loaded p is);
-        saved = λ all. saved (a.saved all);
-        next = omega (arith, n, next);
-        failures = omega (arith, c, counted);
-        clock = clock ∙ a.clock;
-      }
+      leaves_more f s t u (keeps_leaves w f s t k) (record { everywhere = record { loaded = λ p all. stays p; next = next; failures = counted; clock = clock }; saved = saved })
 
 pub no_less : (a b : ℕ) → b ≡ a → a ≤ b
 no_less a b is = omega (arith, is)

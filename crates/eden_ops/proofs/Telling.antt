@@ -20,7 +20,7 @@ use Rattle.eden_tree.specs.Directory.{Row}
 use Rattle.eden_tree.specs.Paths.{row_at}
 use Rattle.eden_inode.specs.declared.seen.Seen.{Seen}
 use Rattle.eden_inode.specs.Tables.{Table}
-use Rattle.eden_ops.specs.declared.answer.Attempt.TheVariants.{Finished}
+use Rattle.eden_model.specs.declared.attempt.Attempt.TheVariants.{Finished}
 use Rattle.eden_ops.specs.declared.answer.Stop.{Stop}
 use Rattle.eden_ops.specs.declared.answer.Stop.TheVariants as stop
 use Rattle.eden_ops.specs.Attempts.{Attempts, IsSeen, IsShown, IsUnsized, Meets, MeetsShown, Lacks, shown_node, stopped}

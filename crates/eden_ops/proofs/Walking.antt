@@ -8,7 +8,7 @@ use Rattle.eden_model.specs.declared.kind.Kind.TheVariants as kind
 use Rattle.eden_model.specs.declared.node.Node.{Node}
 use Rattle.eden_model.specs.declared.node.Node.TheVariants.{File, Link, Dir}
 use Rattle.eden_model.specs.Shown.{node_from}
-use Rattle.eden_model.specs.Trees.{Name, Path, Tree, Walk, Passes, Stops, Unlisted, through, walk_from, walk}
+use Rattle.eden_model.specs.Trees.{Name, Path, Tree, Walk, Passes, Stops, Unlisted, through, walk_from, walk, Here, ends, reach}
 use Rattle.eden_tree.specs.Directory.{Child, unloaded, loaded, Row, Directory, listed, directory_in, child_of}
 use Rattle.eden_tree.specs.Rows.{find_row}
 use Rattle.eden_tree.specs.Paths.{row_at}
@@ -67,6 +67,9 @@ module _ (x : Row) where
   -- the whole path is in memory
   pub walk_here : (p : Path) (y : Row) → row_at p x ≡ Some y → walk (known x) p ≡ Passes
   walk_here p y at = ap (walk (known x)) (sym (append-nil p)) ∙ walk_along [] p [] y at
+
+  pub reach_here : (p : Path) (y : Row) → row_at p x ≡ Some y → reach (known x) p ≡ Here (known_node y)
+  reach_here p y at = ap (λ (v : Walk). ends v (known x p)) (walk_here p y at) ∙ ap (λ (o : Option Row). ends Passes (option_map known_node o)) at
 
   module _ (q : Path) (n : Name) (rest : Path) (y : Row) (at : row_at q x ≡ Some y) where
     -- the last entry in memory on the path is a directory that isn't loaded

@@ -1,14 +1,15 @@
 -- What a change makes of an entry, and what it leaves of a table.
-use Rattle.std.specs.Prelude.{◌≡◌, ◌≢◌, ◌≤◌, ℕ, Bool, true, false, List, [], length}
+use Rattle.std.specs.Prelude.{◌≡◌, ◌≢◌, ◌≤◌, ℕ, Bool, true, false, List, [], length, None}
 use Rattle.std.specs.Borrow.{Bor}
 use Rattle.eden_model.specs.declared.kind.Kind.{Kind}
 use Rattle.eden_model.specs.declared.kind.Kind.TheVariants as kind
 use Rattle.eden_model.specs.declared.request.Request.{Request}
 use Rattle.eden_model.specs.declared.request.Request.TheVariants as ask
 use Rattle.eden_model.specs.Limits.{most_target}
+use Rattle.eden_model.specs.Paths.{behind_of}
 use Rattle.eden_model.specs.Trees.{Path}
 use Rattle.eden_overlay.specs.declared.files.Files.{Ghosts as Files}
-use Rattle.eden_tie.specs.Chains.{AreSaved, StaysLoaded}
+use Rattle.eden_tie.specs.Chains.{IsLoadedAt, AreSaved}
 use Rattle.eden_inode.specs.Tables.{Table}
 use Rattle.eden_materialise.specs.declared.new_entry.NewEntry.{NewEntry}
 use Rattle.eden_materialise.specs.declared.new_entry.NewEntry.TheVariants as new
@@ -24,11 +25,19 @@ pub data IsAdding (p : Path) : Request → NewEntry → Type 0 where
   dir : IsAdding p (ask.Mkdir p) new.Dir
   link : (target : Bor (List ℕ)) → length target.now ≢ 0 → length target.now ≤ most_target → IsAdding p (ask.Symlink p target.now) (new.Link target)
 
+-- a path that is neither this one nor below it
+abbrev pub IsOutside : Path → Path → Type 0
+IsOutside p q = behind_of p q ≡ None
+
 module _ {W F : Type 0} (f : Files F W) where
-  -- Whatever was answered: what was loaded is, and where no directory was unsaved none is.
-  pub record Leaves (s t : Table F) : Type 0 where
-    pub loaded : StaysLoaded s.root t.root
-    pub saved : AreSaved s.root → AreSaved t.root
+  -- Whatever was answered: what was loaded on these paths is, numbers are only given, and the device's failures only rise.
+  pub record LeavesOn (paths : Path → Type 0) (s t : Table F) : Type 0 where
+    pub loaded : (p : Path) → paths p → IsLoadedAt p s.root → IsLoadedAt p t.root
     pub next : s.next ≤ t.next
     pub failures : f.failures s.files ≤ f.failures t.files
     pub clock : t.clock ≡ s.clock
+
+  -- .. on every path, and where no directory was unsaved none is
+  pub record Leaves (s t : Table F) : Type 0 where
+    pub everywhere : LeavesOn (λ p. Unit {0}) s t
+    pub saved : AreSaved s.root → AreSaved t.root

@@ -1,5 +1,5 @@
 -- The content of a file or a link, and what is made of it.
-use Rattle.std.specs.Prelude.{◌≡◌, ◌≢◌, ◌≤◌, ◌<◌, ◌+◌, ℕ, List, length, take, drop, Some}
+use Rattle.std.specs.Prelude.{◌≡◌, ◌≢◌, ◌≤◌, ◌<◌, ◌+◌, ℕ, List, length, take, drop, Some, None}
 use Rattle.eden_model.specs.declared.kind.Kind.TheVariants as kind
 use Rattle.eden_model.specs.declared.kind.Origin.{Origin}
 use Rattle.eden_model.specs.declared.world.World.{Ghosts}
@@ -9,7 +9,7 @@ use Rattle.eden_model.specs.Repository.{source_of, content_with}
 use Rattle.eden_model.specs.Trees.{Path}
 use Rattle.eden_overlay.specs.declared.files.Files.{Ghosts as Files}
 use Rattle.eden_overlay.specs.Held.{own_files}
-use Rattle.eden_tree.specs.Directory.{Row}
+use Rattle.eden_tree.specs.Directory.{Row, child_of}
 use Rattle.eden_tree.specs.Paths.{row_at}
 use Rattle.eden_inode.specs.Tables.{Table}
 use Rattle.eden_ops.specs.declared.contents.Form.{Form}
@@ -21,6 +21,12 @@ pub record HasContent (p : Path) (x : Row) (o : Origin) : Type 0 where
   pub there : row_at p x ≡ Some row
   pub kind : row.kind ≢ kind.Dir
   pub origin : row.origin ≡ o
+
+-- the entry at the path is this one, a file or a link that isn't loaded
+pub record IsFileAt (p : Path) (x y : Row) : Type 0 where
+  pub there : row_at p x ≡ Some y
+  pub unloaded : child_of y ≡ None
+  pub file : y.kind ≢ kind.Dir
 
 -- what is made of a content
 abbrev pub made : Form → List ℕ → List ℕ

@@ -6,9 +6,11 @@ pub mod Contents
 pub mod Listings
 pub mod Attempts
 pub mod Looks
+pub mod Requests
 pub mod Laws
 pub mod Left
 pub mod Changes
 pub mod Letting
 pub mod Relocating
 pub mod Renames
+pub mod Leaving

@@ -6,14 +6,13 @@ ghost use Rattle.eden_ops.specs.Attempts.{Attempts};
 ghost use Rattle.eden_ops.specs.Caches.{IsStocked};
 ghost use Rattle.eden_ops.specs.Changes.{IsAdding, Leaves};
 
-use crate::answer::Attempt;
 use crate::end::ended;
 use crate::laws::keeps_laws;
 use crate::meet::meet;
 use eden_cache::ObjectCache;
 use eden_inode::Inodes;
 use eden_materialise::{NewEntry, add_entry};
-use eden_model::{Errno, MAX_TARGET, Path, Reply, World};
+use eden_model::{Attempt, Errno, MAX_TARGET, Path, Reply, World};
 use eden_overlay::Files;
 use eden_tie::shown_laws;
 use std::alloc::{Allocator, Global};

@@ -2,17 +2,8 @@ ghost use Rattle.std.specs.Prelude.{◌≡◌};
 ghost use Rattle.eden_model.specs.declared.fault.Fault.TheVariants as fault;
 ghost use Rattle.eden_ops.specs.declared.answer.Stop.TheVariants as stop;
 
-use eden_model::{Errno, Fault, Key, Reply};
+use eden_model::{Errno, Fault, Key};
 use std::alloc::AllocError;
-
-/// What came of one attempt of a request.
-#[derive(Debug, Drop)]
-pub enum Attempt {
-    /// The reply: the table's, or a fault.
-    Finished(Reply),
-    /// The table gives no reply without the object of this key, which isn't cached.
-    Need(Key),
-}
 
 /// How the walk over the directories above a path ends.
 #[derive(Clone, Copy, Debug, PartialEq, Eq)]

@@ -2,8 +2,8 @@
 ghost use Rattle.std.specs.Prelude.{◌≡◌};
 ghost use Rattle.eden_ops.specs.Attempts.{stopped};
 
-use crate::answer::{Attempt, Stop};
-use eden_model::Reply;
+use crate::answer::Stop;
+use eden_model::{Attempt, Reply};
 
 /// What the attempt answers.
 pub(crate) fn ended(stop: Stop) -> Attempt

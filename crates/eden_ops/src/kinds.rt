@@ -4,12 +4,11 @@ ghost use Rattle.eden_ops.specs.Attempts.{Attempts};
 ghost use Rattle.eden_ops.specs.Caches.{IsStocked};
 ghost use Rattle.eden_ops.specs.Keeping.{Keeps};
 
-use crate::answer::Attempt;
 use crate::end::ended;
 use crate::meet::meet;
 use eden_cache::ObjectCache;
 use eden_inode::Inodes;
-use eden_model::{Errno, Path, Reply, World};
+use eden_model::{Attempt, Errno, Path, Reply, World};
 use eden_overlay::Files;
 use std::alloc::{Allocator, Global};
 

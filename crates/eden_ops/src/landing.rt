@@ -1,38 +1,19 @@
 //! What may go to a path.
-ghost use Rattle.std.specs.Prelude.{◌≡◌, if◌then◌else◌, true};
-ghost use Rattle.eden_model.specs.declared.errno.Errno.TheVariants as errno;
-ghost use Rattle.eden_model.specs.declared.reply.Reply.TheVariants as say;
+ghost use Rattle.std.specs.Prelude.{◌≡◌};
 ghost use Rattle.eden_ops.specs.Caches.{IsStocked, FindsTheSame};
 ghost use Rattle.eden_ops.specs.Keeping.{shows, Keeps};
-ghost use Rattle.eden_ops.specs.Known.{IsLoadedAt};
-ghost use Rattle.eden_ops.specs.Renames.{MayLand, Lands, LandsShown};
+ghost use Rattle.eden_ops.specs.Renames.{Lands, LandsShown};
 
 use crate::answer::Stop;
+use crate::emptied::is_empty;
 use crate::listing::bring_seen;
 use crate::meet::meet;
 use crate::what::what;
 use eden_cache::ObjectCache;
 use eden_inode::Inodes;
-use eden_model::{Errno, Kind, Name, Path, World};
+use eden_model::{Errno, Kind, Path, World};
 use eden_overlay::Files;
-use eden_tie::shown_laws;
 use std::alloc::{Allocator, Global};
-
-/// Whether the directory that is loaded at a path has no entries.
-fn is_bare<A: Allocator + Clone, W: World, F: Files<W>>(
-    inodes: &Inodes<A, W, F>,
-    path: &[Name],
-) -> bool
-    requires { IsLoadedAt path.now inodes.now.root }
-    ensures { W.honest → MayLand (shows W.World F.Files inodes.now) path.now true (if result then say.Ok else say.Err errno.ENOTEMPTY) }
-{
-    shown_laws();
-    inodes.holds();
-    match inodes.directory(path) {
-        None => unreachable!(),
-        Some(dir) => dir.count() == 0,
-    }
-}
 
 /// Whether a directory, or else a file or a link, may go to a path: nothing stands there, or what it may replace.
 ///
@@ -73,7 +54,7 @@ pub(crate) fn land<A: Allocator + Clone, W: World, F: Files<W>, C: Allocator + C
         Err(stop) => return Err(stop),
         Ok(()) => {}
     }
-    if is_bare(inodes, path.as_slice()) {
+    if is_empty(inodes, path) {
         return Ok(());
     }
     Err(Stop::Errs(Errno::ENOTEMPTY))

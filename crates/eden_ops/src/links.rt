@@ -4,14 +4,13 @@ ghost use Rattle.eden_ops.specs.Attempts.{Attempts};
 ghost use Rattle.eden_ops.specs.Caches.{IsStocked};
 ghost use Rattle.eden_ops.specs.Keeping.{Keeps};
 
-use crate::answer::Attempt;
 use crate::contents::{Form, make};
 use crate::end::ended;
 use crate::meet::meet;
 use crate::what::what;
 use eden_cache::ObjectCache;
 use eden_inode::Inodes;
-use eden_model::{Errno, Kind, MAX_FILE, Path, Reply, World};
+use eden_model::{Attempt, Errno, Kind, MAX_FILE, Path, Reply, World};
 use eden_overlay::Files;
 use std::alloc::{Allocator, Global};
 

@@ -7,7 +7,7 @@ ghost use Rattle.eden_ops.specs.Caches.{IsStocked, FindsTheSame};
 ghost use Rattle.eden_ops.specs.Keeping.{shows, Keeps};
 ghost use Rattle.eden_ops.specs.Known.{IsLoadedAt};
 
-use crate::answer::{Attempt, Stop};
+use crate::answer::Stop;
 use crate::bring::bring;
 use crate::end::ended;
 use crate::laws::keeps_laws;
@@ -16,7 +16,7 @@ use crate::pages::page_at;
 use crate::what::what;
 use eden_cache::ObjectCache;
 use eden_inode::{Inodes, Seen};
-use eden_model::{Errno, Fault, Kind, MAX_ENTRIES, Name, Path, Reply, World};
+use eden_model::{Attempt, Errno, Fault, Kind, MAX_ENTRIES, Name, Path, Reply, World};
 use eden_overlay::Files;
 use std::alloc::{Allocator, Global};
 

@@ -4,7 +4,6 @@ ghost use Rattle.eden_ops.specs.Caches.{IsStocked};
 ghost use Rattle.eden_ops.specs.Keeping.{Keeps};
 ghost use Rattle.eden_ops.specs.Looks.{IsLook};
 
-use crate::answer::Attempt;
 use crate::kinds::kind;
 use crate::links::readlink;
 use crate::listing::list;
@@ -12,7 +11,7 @@ use crate::reading::read;
 use crate::sizes::stat;
 use eden_cache::ObjectCache;
 use eden_inode::Inodes;
-use eden_model::{Request, World};
+use eden_model::{Attempt, Request, World};
 use eden_overlay::Files;
 use std::alloc::{Allocator, Global};
 

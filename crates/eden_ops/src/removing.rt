@@ -4,7 +4,6 @@ ghost use Rattle.eden_ops.specs.Attempts.{Attempts};
 ghost use Rattle.eden_ops.specs.Caches.{IsStocked};
 ghost use Rattle.eden_ops.specs.Changes.{Leaves};
 
-use crate::answer::Attempt;
 use crate::end::ended;
 use crate::laws::keeps_laws;
 use crate::meet::meet;
@@ -12,7 +11,7 @@ use crate::what::what;
 use eden_cache::ObjectCache;
 use eden_inode::Inodes;
 use eden_materialise::remove_entry;
-use eden_model::{Errno, Kind, Path, Reply, World};
+use eden_model::{Attempt, Errno, Kind, Path, Reply, World};
 use eden_overlay::Files;
 use eden_tie::shown_laws;
 use std::alloc::{Allocator, Global};

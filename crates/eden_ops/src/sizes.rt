@@ -9,14 +9,14 @@ ghost use Rattle.eden_ops.specs.Caches.{IsStocked, FindsTheSame, IsSize, object_
 ghost use Rattle.eden_ops.specs.Contents.{HasContent, HasLength};
 ghost use Rattle.eden_ops.specs.Keeping.{shows, Keeps};
 
-use crate::answer::{Attempt, Stop};
+use crate::answer::Stop;
 use crate::end::ended;
 use crate::laws::keeps_laws;
 use crate::meet::meet;
 use crate::what::what;
 use eden_cache::{ObjectCache, cache_laws};
 use eden_inode::Inodes;
-use eden_model::{Errno, Id, Key, Kind, ObjKind, Origin, Path, Reply, World};
+use eden_model::{Attempt, Errno, Id, Key, Kind, ObjKind, Origin, Path, Reply, World};
 use eden_overlay::Files;
 use std::alloc::{Allocator, Global};
 

@@ -2,8 +2,8 @@
 ghost use Rattle.std.specs.Prelude.{◌≡◌, ◌≤◌, true};
 ghost use Rattle.eden_model.specs.Requests.{most_objects};
 
-use eden_model::{Bytes, Key, Kind, Outside, Path, Reply, Request};
-use eden_mount::{Attempt, Attempts};
+use eden_model::{Attempt, Bytes, Key, Kind, Outside, Path, Reply, Request};
+use eden_mount::Attempts;
 use eden_object::Object;
 use std::alloc::Global;
 

@@ -8,7 +8,7 @@ use Rattle.eden_tree.specs.Paths.{row_at}
 use Rattle.eden_tie.specs.Filing.{leaf}
 use Rattle.eden_inode.specs.declared.seen.Seen.{Seen}
 use Rattle.eden_materialise.specs.Filing.{node_as}
-use Rattle.eden_ops.specs.declared.answer.Attempt.{Attempt}
+use Rattle.eden_model.specs.declared.attempt.Attempt.{Attempt}
 use Rattle.eden_ops.specs.Attempts.{Attempts, Meets, MeetsShown, IsShown}
 use Rattle.eden_ops.specs.Keeping.{shows}
 use Rattle.eden_ops.proofs.Additions.{adds, asked_add, short_new, lacks_entry, absent_alone, put_new, not_added, root_refused, add_count, given_more, one_given}

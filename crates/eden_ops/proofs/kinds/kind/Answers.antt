@@ -4,7 +4,7 @@ use Rattle.eden_model.specs.declared.request.Request.TheVariants as ask
 use Rattle.eden_model.specs.Repository.{source_of, content_with}
 use Rattle.eden_overlay.specs.Held.{own_files}
 use Rattle.eden_inode.specs.declared.seen.Seen.{Seen}
-use Rattle.eden_ops.specs.declared.answer.Attempt.{Attempt}
+use Rattle.eden_model.specs.declared.attempt.Attempt.{Attempt}
 use Rattle.eden_ops.specs.Attempts.{Attempts, Meets, MeetsShown}
 use Rattle.eden_ops.proofs.Answering.{walk_ended, says_absent, says_here}
 use Rattle.eden_ops.proofs.Looking.{asks_kind, tells_kind, kind_node}

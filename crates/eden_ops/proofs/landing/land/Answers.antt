@@ -1,17 +1,14 @@
-use Rattle.std.proofs.Common.{◌≡◌, ◌≢◌, ◌⊎◌, if◌then◌else◌, Bool, true, Option, Ok, sym, subst, ap, ◌∙◌}
+use Rattle.std.proofs.Common.{sym, subst, ◌∙◌}
 use Rattle.eden_model.specs.declared.errno.Errno.TheVariants.{ENOTEMPTY}
 use Rattle.eden_model.specs.declared.reply.Reply.TheVariants as say
-use Rattle.eden_model.specs.Trees.{Tree, Path, reach}
+use Rattle.eden_model.specs.Trees.{Tree, reach}
 use Rattle.eden_tree.specs.Paths.{row_at}
-use Rattle.eden_inode.specs.declared.seen.Seen.{Seen}
-use Rattle.eden_ops.specs.Attempts.{IsSeen, IsShown, Meets, MeetsShown}
+use Rattle.eden_ops.specs.Attempts.{IsShown}
 use Rattle.eden_ops.specs.Keeping.{shows}
-use Rattle.eden_ops.specs.Known.{IsLoadedAt}
 use Rattle.eden_ops.specs.Renames.{MayLand}
-use Rattle.eden_ops.proofs.Finding.{finds_on}
 use Rattle.eden_ops.proofs.Looking.{no_dir}
 use Rattle.eden_ops.proofs.Reached.{seen_at, shown_at, met_passes}
-use Rattle.eden_ops.proofs.Renames.{land_ended, land_fails, land_free, land_over_file, file_refuses, dir_refuses, land_lacks, land_untold, loaded_passes}
+use Rattle.eden_ops.proofs.Renames.{land_ended, land_fails, land_over_file, land_over_none, land_over_some, land_lacks, loaded_passes}
 use Rattle.eden_ops.proofs.Steps.{keeps_on}
 use Rattle.eden_ops.proofs.landing.land.Goals as goal
 
@@ -55,30 +52,26 @@ returns-in-Err-bring_seen-clause-same g c h = c.bring_seen.ensures.same h ∙ c.
 pub returns-in-Err-bring_seen-clause-keeps : goal.returns-in-Err-bring_seen-clause-keeps
 returns-in-Err-bring_seen-clause-keeps g c = keeps_on g.W.World g.F.Files c.args.inodes.now c.meet.new.inodes c.bring_seen.new.inodes c.in-Ok-Some.ensures.keeps c.bring_seen.ensures.keeps
 
-pub returns-then-is_bare-clause-lands : goal.returns-then-is_bare-clause-lands
-returns-then-is_bare-clause-lands g c = loaded_passes c.bring_seen.new.inodes.root c.args.path.now c.in-Ok.ensures.ok
+pub returns-then-is_empty-clause-lands : goal.returns-then-is_empty-clause-lands
+returns-then-is_empty-clause-lands g c = loaded_passes c.bring_seen.new.inodes.root c.args.path.now c.in-Ok.ensures.ok
 
-pub returns-then-is_bare-clause-shown : goal.returns-then-is_bare-clause-shown
-returns-then-is_bare-clause-shown g c h =
-    let s = shows g.W.World g.F.Files c.args.inodes.now in
-    subst (λ (b : Bool). MayLand s c.args.path.now b say.Ok) (sym c.if-not-dir.false)
-    (subst (λ (p : Path). MayLand s p true say.Ok) c.as_slice.ensures
-    (subst (λ (G : Tree). MayLand G c.as_slice.result.now true say.Ok) (c.bring_seen.ensures.same h ∙ c.in-Ok-Some.ensures.same h)
-    (subst (λ (b : Bool). MayLand (shows g.W.World g.F.Files c.bring_seen.new.inodes) c.as_slice.result.now true (if b then say.Ok else say.Err ENOTEMPTY)) c.if-is_bare.true (c.is_bare.ensures h))))
+pub returns-then-is_empty-clause-shown : goal.returns-then-is_empty-clause-shown
+returns-then-is_empty-clause-shown g c h =
+    let p = c.args.path.now in
+    let same = c.bring_seen.ensures.same h ∙ c.in-Ok-Some.ensures.same h in
+    subst (λ (G : Tree). MayLand G p c.args.dir say.Ok) same (land_over_none (shows g.W.World g.F.Files c.bring_seen.new.inodes) p (c.is_empty.ensures.here h) c.args.dir c.if-not-dir.false (c.if-is_empty.ensures.entries h))
 
-pub returns-then-is_bare-clause-same : goal.returns-then-is_bare-clause-same
-returns-then-is_bare-clause-same g c h = c.bring_seen.ensures.same h ∙ c.in-Ok-Some.ensures.same h
+pub returns-then-is_empty-clause-same : goal.returns-then-is_empty-clause-same
+returns-then-is_empty-clause-same g c h = c.bring_seen.ensures.same h ∙ c.in-Ok-Some.ensures.same h
 
-pub returns-then-is_bare-clause-keeps : goal.returns-then-is_bare-clause-keeps
-returns-then-is_bare-clause-keeps g c = keeps_on g.W.World g.F.Files c.args.inodes.now c.meet.new.inodes c.bring_seen.new.inodes c.in-Ok-Some.ensures.keeps c.bring_seen.ensures.keeps
+pub returns-then-is_empty-clause-keeps : goal.returns-then-is_empty-clause-keeps
+returns-then-is_empty-clause-keeps g c = keeps_on g.W.World g.F.Files c.args.inodes.now c.meet.new.inodes c.bring_seen.new.inodes c.in-Ok-Some.ensures.keeps c.bring_seen.ensures.keeps
 
 pub returns-clause-shown : goal.returns-clause-shown
 returns-clause-shown g c h =
-    let s = shows g.W.World g.F.Files c.args.inodes.now in
-    subst (λ (b : Bool). MayLand s c.args.path.now b (say.Err ENOTEMPTY)) (sym c.if-not-dir.false)
-    (subst (λ (p : Path). MayLand s p true (say.Err ENOTEMPTY)) c.as_slice.ensures
-    (subst (λ (G : Tree). MayLand G c.as_slice.result.now true (say.Err ENOTEMPTY)) (c.bring_seen.ensures.same h ∙ c.in-Ok-Some.ensures.same h)
-    (subst (λ (b : Bool). MayLand (shows g.W.World g.F.Files c.bring_seen.new.inodes) c.as_slice.result.now true (if b then say.Ok else say.Err ENOTEMPTY)) c.if-is_bare.false (c.is_bare.ensures h))))
+    let p = c.args.path.now in
+    let same = c.bring_seen.ensures.same h ∙ c.in-Ok-Some.ensures.same h in
+    subst (λ (G : Tree). MayLand G p c.args.dir (say.Err ENOTEMPTY)) same (land_over_some (shows g.W.World g.F.Files c.bring_seen.new.inodes) p (c.is_empty.ensures.here h) c.args.dir c.if-not-dir.false (c.if-is_empty.ensures.entries h))
 
 pub returns-clause-same : goal.returns-clause-same
 returns-clause-same g c h = c.bring_seen.ensures.same h ∙ c.in-Ok-Some.ensures.same h

@@ -9,7 +9,7 @@ use Rattle.eden_model.specs.Operations.{ReadsLink}
 use Rattle.eden_model.specs.Repository.{source_of, content_with}
 use Rattle.eden_overlay.specs.Held.{own_files}
 use Rattle.eden_inode.specs.declared.seen.Seen.{Seen}
-use Rattle.eden_ops.specs.declared.answer.Attempt.{Attempt}
+use Rattle.eden_model.specs.declared.attempt.Attempt.{Attempt}
 use Rattle.eden_ops.specs.Attempts.{Attempts, MeetsShown, shown_node}
 use Rattle.eden_ops.proofs.Answering.{walk_ended, says_absent}
 use Rattle.eden_ops.proofs.Finding.{still_stocked}

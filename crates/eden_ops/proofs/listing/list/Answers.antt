@@ -11,7 +11,7 @@ use Rattle.eden_model.specs.Trees.{Tree, Here, reach}
 use Rattle.eden_model.specs.declared.node.Node.TheVariants.{Dir}
 use Rattle.eden_tree.specs.Paths.{row_at}
 use Rattle.eden_inode.specs.declared.seen.Seen.{Seen}
-use Rattle.eden_ops.specs.declared.answer.Attempt.{Attempt}
+use Rattle.eden_model.specs.declared.attempt.Attempt.{Attempt}
 use Rattle.eden_ops.specs.Attempts.{Attempts, MeetsShown}
 use Rattle.eden_ops.specs.Keeping.{shows, same}
 use Rattle.eden_ops.specs.Known.{content_known, known}

@@ -10,7 +10,7 @@ use Rattle.eden_overlay.specs.Held.{own_files}
 use Rattle.eden_tree.specs.Directory.{child_of}
 use Rattle.eden_tree.specs.Paths.{row_at}
 use Rattle.eden_inode.specs.declared.seen.Seen.{Seen}
-use Rattle.eden_ops.specs.declared.answer.Attempt.{Attempt}
+use Rattle.eden_model.specs.declared.attempt.Attempt.{Attempt}
 use Rattle.eden_ops.specs.Attempts.{Attempts, MeetsShown, IsShown}
 use Rattle.eden_ops.specs.Keeping.{shows}
 use Rattle.eden_ops.proofs.Answering.{walk_ended, says_absent, says_at}

@@ -1,0 +1,255 @@
+use Rattle.std.proofs.Common.{le_trans, ◌≡◌, true, Option, Some, None, Ok, sym, refl, subst, ap, ◌∙◌}
+use Rattle.eden_model.specs.declared.errno.Errno.TheVariants.{ENOTDIR, ENOTEMPTY}
+use Rattle.eden_model.specs.declared.node.Node.{Node}
+use Rattle.eden_model.specs.declared.node.Node.TheVariants.{Dir}
+use Rattle.eden_model.specs.declared.reply.Reply.TheVariants as say
+use Rattle.eden_model.specs.declared.request.Request.TheVariants as ask
+use Rattle.eden_model.specs.Operations.{IfEmpty, Removes}
+use Rattle.eden_model.specs.Trees.{Tree, Path, reach, graft}
+use Rattle.eden_tree.specs.Paths.{row_at}
+use Rattle.eden_tie.proofs.CallerLemmas.{map_some}
+use Rattle.eden_inode.specs.declared.seen.Seen.{Seen}
+use Rattle.eden_model.specs.declared.attempt.Attempt.{Attempt}
+use Rattle.eden_ops.specs.Attempts.{Attempts, MeetsShown}
+use Rattle.eden_ops.specs.Changes.{IsOutside}
+use Rattle.eden_ops.specs.Keeping.{shows}
+use Rattle.eden_ops.specs.Known.{content_known, known_node, known}
+use Rattle.eden_ops.specs.Letting.{LetsGo}
+use Rattle.eden_ops.specs.Listings.{HasNoEntries, HasEntries}
+use Rattle.eden_ops.proofs.Answering.{walk_ended, says_absent, replied, lacked}
+use Rattle.eden_ops.proofs.Changing.{not_root, has_entry, put_alone, changed, refused, removes, asks_rmdir, removes_empty, removes_full}
+use Rattle.eden_ops.proofs.Fetching.{away, dir_kind}
+use Rattle.eden_ops.proofs.Finding.{finds_on}
+use Rattle.eden_ops.proofs.Going.{leaves_gone, leaves_then, stays_there}
+use Rattle.eden_ops.proofs.Looking.{no_dir, lists_other, lists_away}
+use Rattle.eden_ops.proofs.Reached.{seen_at}
+use Rattle.eden_ops.proofs.Rounds.{lacks_since}
+use Rattle.eden_ops.proofs.Saving.{keeps_leaves, leaves_some, fault_count}
+use Rattle.eden_ops.proofs.Steps.{keeps_on, keeps_counts}
+use Rattle.eden_ops.proofs.Telling.{met_tells}
+use Rattle.eden_ops.proofs.Walking.{known_unloaded}
+use Rattle.eden_ops.proofs.emptied.rmdir.Goals as goal
+
+-- ---- the walk ends before, or nothing is there
+
+pub returns-in-Err-clause-attempts : goal.returns-in-Err-clause-attempts
+returns-in-Err-clause-attempts g c =
+    let p = c.args.path.now in
+    let s = c.args.inodes.now in
+    let t = c.meet.new.inodes in
+    let e = c.in-Err.ensures in
+    let split = sym c.as_slice.ensures ∙ c.in-Some.ensures.cases.0 in
+    subst (λ (a : Attempt). Attempts g.W.World g.F.Files (ask.Rmdir p) s t c.args.cache.now c.meet.new.cache a) (sym c.ended.ensures)
+    (walk_ended g.W.World g.F.Files (ask.Rmdir p) p (removes p) (asks_rmdir p (not_root p c.in-Some.above.now c.in-Some.name.now split)) s t c.args.cache.now c.meet.new.cache e.same e.keeps e.cache c.in-Err.stop e.meets e.shown)
+
+pub returns-in-Err-clause-leaves : goal.returns-in-Err-clause-leaves
+returns-in-Err-clause-leaves g c = leaves_some g.W.World g.F.Files (IsOutside c.args.path.now) c.args.inodes.now c.meet.new.inodes c.meet.ensures.keeps
+
+pub returns-in-Err-clause-saved : goal.returns-in-Err-clause-saved
+returns-in-Err-clause-saved g c = (keeps_leaves g.W.World g.F.Files c.args.inodes.now c.meet.new.inodes c.meet.ensures.keeps).saved
+
+pub returns-in-Ok-None-clause-attempts : goal.returns-in-Ok-None-clause-attempts
+returns-in-Ok-None-clause-attempts g c =
+    let p = c.args.path.now in
+    let s = c.args.inodes.now in
+    let t = c.meet.new.inodes in
+    let e = c.in-Ok-None.ensures in
+    let split = sym c.as_slice.ensures ∙ c.in-Some.ensures.cases.0 in
+    says_absent g.W.World g.F.Files (ask.Rmdir p) p (removes p) (asks_rmdir p (not_root p c.in-Some.above.now c.in-Some.name.now split)) s t c.args.cache.now c.meet.new.cache e.same e.keeps e.cache
+    (λ h. subst (λ (o : Option Seen). MeetsShown g.W.World g.F.Files p s t (Ok o)) c.in-Ok-None.field-0-is (e.shown h))
+
+pub returns-in-Ok-None-clause-leaves : goal.returns-in-Ok-None-clause-leaves
+returns-in-Ok-None-clause-leaves g c = leaves_some g.W.World g.F.Files (IsOutside c.args.path.now) c.args.inodes.now c.meet.new.inodes c.meet.ensures.keeps
+
+pub returns-in-Ok-None-clause-saved : goal.returns-in-Ok-None-clause-saved
+returns-in-Ok-None-clause-saved g c = (keeps_leaves g.W.World g.F.Files c.args.inodes.now c.meet.new.inodes c.meet.ensures.keeps).saved
+
+-- ---- what is there is no directory, or isn't loaded
+
+pub returns-in-File : goal.returns-in-File
+returns-in-File g c =
+    let p = c.args.path.now in
+    let s = c.args.inodes.now in
+    let t = c.meet.new.inodes in
+    let e = c.in-Ok-Some.ensures in
+    let split = sym c.as_slice.ensures ∙ c.in-Some.ensures.cases.0 in
+    let other = c.what.ensures.other (no_dir c.what.result c.in-File.is) in
+    record {
+      attempts = met_tells g.W.World g.F.Files p s t c.meet.new.cache _ c.in-Ok-Some.seen c.in-Ok-Some.field-0-is e.meets (ask.Rmdir p) (removes p) (asks_rmdir p (not_root p c.in-Some.above.now c.in-Some.name.now split)) c.args.cache.now e.same e.keeps e.cache e.shown (say.Err ENOTDIR) refl (λ T. refl)
+          (λ k a listed is on. lists_other (IfEmpty (shows g.W.World g.F.Files s) p) k a listed (λ dir. no_dir c.what.result c.in-File.is (sym other.1 ∙ sym is ∙ dir)));
+      leaves = leaves_some g.W.World g.F.Files (IsOutside p) s t e.keeps;
+      saved = (keeps_leaves g.W.World g.F.Files s t e.keeps).saved;
+    }
+
+pub returns-in-Err-bring_seen-clause-attempts : goal.returns-in-Err-bring_seen-clause-attempts
+returns-in-Err-bring_seen-clause-attempts g c =
+    let p = c.args.path.now in
+    let q = ask.Rmdir p in
+    let s = c.args.inodes.now in
+    let t = c.meet.new.inodes in
+    let u = c.bring_seen.new.inodes in
+    let e = c.in-Ok-Some.ensures in
+    let b = c.bring_seen.ensures in
+    let z = c.in-Err-bring_seen.ensures in
+    let split = sym c.as_slice.ensures ∙ c.in-Some.ensures.cases.0 in
+    let seen = seen_at g.W.World g.F.Files p s t c.meet.new.cache _ c.in-Ok-Some.seen c.in-Ok-Some.field-0-is e.meets in
+    let at : row_at p u.root ≡ Some seen.row = ap (row_at p) z.still ∙ seen.there in
+    subst (λ (a : Attempt). Attempts g.W.World g.F.Files q s u c.args.cache.now c.bring_seen.new.cache a) (sym c.ended-in-Err-bring_seen.ensures)
+    (lacked g.W.World g.F.Files q p (removes p) (asks_rmdir p (not_root p c.in-Some.above.now c.in-Some.name.now split)) s u c.args.cache.now c.bring_seen.new.cache (λ h. b.same h ∙ e.same h) (keeps_on g.W.World g.F.Files s t u e.keeps b.keeps)
+    (finds_on c.args.cache.now c.meet.new.cache c.bring_seen.new.cache e.cache b.cache) seen.row at c.in-Err-bring_seen.stop (λ x is. cc)
+    (λ k is. (
+      λ r h. lists_away (IfEmpty (known u.root) p) seen.row.kind (content_known seen.row.origin) r (dir_kind p t.root c.in-Ok-Some.seen seen z.away (c.what.ensures.dir c.in-Dir.is))
+          (subst (λ (n : Node). Removes (known u.root) p n r) (known_unloaded seen.row (away p t.root c.in-Ok-Some.seen seen z.away)) h),
+      λ x y. cc,
+    )) (lacks_since g.W.World g.F.Files p s t u c.bring_seen.new.cache e.keeps c.in-Err-bring_seen.stop z.lacks))
+
+pub returns-in-Err-bring_seen-clause-leaves : goal.returns-in-Err-bring_seen-clause-leaves
+returns-in-Err-bring_seen-clause-leaves g c =
+    leaves_some g.W.World g.F.Files (IsOutside c.args.path.now) c.args.inodes.now c.bring_seen.new.inodes (keeps_on g.W.World g.F.Files c.args.inodes.now c.meet.new.inodes c.bring_seen.new.inodes c.meet.ensures.keeps c.bring_seen.ensures.keeps)
+
+pub returns-in-Err-bring_seen-clause-saved : goal.returns-in-Err-bring_seen-clause-saved
+returns-in-Err-bring_seen-clause-saved g c =
+    (keeps_leaves g.W.World g.F.Files c.args.inodes.now c.bring_seen.new.inodes (keeps_on g.W.World g.F.Files c.args.inodes.now c.meet.new.inodes c.bring_seen.new.inodes c.meet.ensures.keeps c.bring_seen.ensures.keeps)).saved
+
+-- ---- it has entries
+
+pub returns-then-not-is_empty-clause-attempts : goal.returns-then-not-is_empty-clause-attempts
+returns-then-not-is_empty-clause-attempts g c =
+    let p = c.args.path.now in
+    let s = c.args.inodes.now in
+    let t = c.meet.new.inodes in
+    let u = c.bring_seen.new.inodes in
+    let e = c.in-Ok-Some.ensures in
+    let b = c.bring_seen.ensures in
+    let split = sym c.as_slice.ensures ∙ c.in-Some.ensures.cases.0 in
+    let alike : g.W.World.honest → shows g.W.World g.F.Files u ≡ shows g.W.World g.F.Files s = λ h. b.same h ∙ e.same h in
+    replied g.W.World g.F.Files (ask.Rmdir p) p (removes p) (asks_rmdir p (not_root p c.in-Some.above.now c.in-Some.name.now split)) s u c.args.cache.now c.bring_seen.new.cache alike (keeps_on g.W.World g.F.Files s t u e.keeps b.keeps)
+    (finds_on c.args.cache.now c.meet.new.cache c.bring_seen.new.cache e.cache b.cache) (say.Err ENOTEMPTY) refl (λ T. refl)
+    (λ h. removes_full (shows g.W.World g.F.Files s) p (sym (ap (λ (G : Tree). reach G p) (alike h)) ∙ c.is_empty.ensures.here h) (subst (λ (G : Tree). HasEntries G p) (alike h) (c.if-not-is_empty.ensures.entries h)))
+
+pub returns-then-not-is_empty-clause-leaves : goal.returns-then-not-is_empty-clause-leaves
+returns-then-not-is_empty-clause-leaves g c =
+    leaves_some g.W.World g.F.Files (IsOutside c.args.path.now) c.args.inodes.now c.bring_seen.new.inodes (keeps_on g.W.World g.F.Files c.args.inodes.now c.meet.new.inodes c.bring_seen.new.inodes c.meet.ensures.keeps c.bring_seen.ensures.keeps)
+
+pub returns-then-not-is_empty-clause-saved : goal.returns-then-not-is_empty-clause-saved
+returns-then-not-is_empty-clause-saved g c =
+    (keeps_leaves g.W.World g.F.Files c.args.inodes.now c.bring_seen.new.inodes (keeps_on g.W.World g.F.Files c.args.inodes.now c.meet.new.inodes c.bring_seen.new.inodes c.meet.ensures.keeps c.bring_seen.ensures.keeps)).saved
+
+-- ---- it is let go of
+
+pub returns-in-Err-let_go-clause-attempts : goal.returns-in-Err-let_go-clause-attempts
+returns-in-Err-let_go-clause-attempts g c =
+    let p = c.args.path.now in
+    let s = c.args.inodes.now in
+    let t = c.meet.new.inodes in
+    let u = c.bring_seen.new.inodes in
+    let v = c.let_go.new.inodes in
+    let e = c.in-Ok-Some.ensures in
+    let b = c.bring_seen.ensures in
+    let kept = keeps_on g.W.World g.F.Files s t u e.keeps b.keeps in
+    refused g.W.World g.F.Files (ask.Rmdir p) s u v c.args.cache.now c.bring_seen.new.cache (λ h. b.same h ∙ e.same h) (keeps_counts g.W.World g.F.Files s u kept).1.1.1
+    (finds_on c.args.cache.now c.meet.new.cache c.bring_seen.new.cache e.cache b.cache) c.in-Err-let_go.fault c.in-Err-let_go.ensures.fault (λ y is. cc) c.let_go.ensures.same
+
+pub returns-in-Err-let_go-clause-leaves : goal.returns-in-Err-let_go-clause-leaves
+returns-in-Err-let_go-clause-leaves g c =
+    let p = c.args.path.now in
+    let s = c.args.inodes.now in
+    let u = c.bring_seen.new.inodes in
+    let v = c.let_go.new.inodes in
+    let goes = subst (λ (q : Path). LetsGo q u.root v.root) c.as_slice-2.ensures c.let_go.ensures.goes in
+    leaves_gone g.W.World g.F.Files p s u v (keeps_on g.W.World g.F.Files s c.meet.new.inodes u c.meet.ensures.keeps c.bring_seen.ensures.keeps) goes c.let_go.ensures.rest c.let_go.ensures.counted
+
+pub returns-in-Err-let_go-clause-saved : goal.returns-in-Err-let_go-clause-saved
+returns-in-Err-let_go-clause-saved g c all =
+    let s = c.args.inodes.now in
+    let u = c.bring_seen.new.inodes in
+    c.let_go.ensures.saved ((keeps_leaves g.W.World g.F.Files s u (keeps_on g.W.World g.F.Files s c.meet.new.inodes u c.meet.ensures.keeps c.bring_seen.ensures.keeps)).saved all)
+
+-- ---- it is removed
+
+pub remove_entry-requires : goal.remove_entry-requires
+remove_entry-requires g c =
+    let p = c.args.path.now in
+    let u = c.bring_seen.new.inodes in
+    let v = c.let_go.new.inodes in
+    let split = sym c.as_slice.ensures ∙ c.in-Some.ensures.cases.0 in
+    let goes = subst (λ (q : Path). LetsGo q u.root v.root) c.as_slice-2.ensures c.let_go.ensures.goes in
+    let y = map_some known_node (row_at p u.root) (Dir true) (sym c.in_default-bring_seen.ensures.ok) in
+    let z = stays_there p u.root v.root goes y.0 y.1.0 in
+    record { there = has_entry p c.in-Some.above.now c.in-Some.name.now v.root z.0 split z.1.0 (c.in_default-let_go.ensures.away z.0 (ap (λ (q : Path). row_at q v.root) c.as_slice-2.ensures ∙ z.1.0)) }
+
+pub returns-in-Ok-clause-attempts : goal.returns-in-Ok-clause-attempts
+returns-in-Ok-clause-attempts g c =
+    let p = c.args.path.now in
+    let s = c.args.inodes.now in
+    let t = c.meet.new.inodes in
+    let u = c.bring_seen.new.inodes in
+    let v = c.let_go.new.inodes in
+    let z = c.remove_entry.new.inodes in
+    let e = c.in-Ok-Some.ensures in
+    let b = c.bring_seen.ensures in
+    let G = shows g.W.World g.F.Files s in
+    let split = sym c.as_slice.ensures ∙ c.in-Some.ensures.cases.0 in
+    let alike : g.W.World.honest → shows g.W.World g.F.Files u ≡ G = λ h. b.same h ∙ e.same h in
+    let same : g.W.World.honest → shows g.W.World g.F.Files v ≡ G = λ h. c.let_go.ensures.same h ∙ alike h in
+    let none : g.W.World.honest → HasNoEntries G p = λ h. subst (λ (T : Tree). HasNoEntries T p) (alike h) (c.if-not-is_empty.ensures.entries h) in
+    let counts = (keeps_counts g.W.World g.F.Files s u (keeps_on g.W.World g.F.Files s t u e.keeps b.keeps)).1.1.1 in
+    changed g.W.World g.F.Files (ask.Rmdir p) s v z c.args.cache.now c.bring_seen.new.cache same (le_trans counts c.let_go.ensures.counted)
+    (finds_on c.args.cache.now c.meet.new.cache c.bring_seen.new.cache e.cache b.cache)
+    (λ h. (asks_rmdir p (not_root p c.in-Some.above.now c.in-Some.name.now split)).says G say.Ok
+    (removes_empty G p (sym (ap (λ (T : Tree). reach T p) (alike h)) ∙ c.is_empty.ensures.here h) (none h)))
+    (λ h.
+    c.in-Ok.ensures.shown h
+    ∙ ap (λ (q : Path). graft q (λ below. None) (shows g.W.World g.F.Files v)) (sym split)
+    ∙ ap (graft p (λ below. None)) (same h)
+    ∙ put_alone G p (λ below. None) (none h) (λ n r. refl))
+
+pub returns-in-Ok-clause-leaves : goal.returns-in-Ok-clause-leaves
+returns-in-Ok-clause-leaves g c =
+    let p = c.args.path.now in
+    let s = c.args.inodes.now in
+    let u = c.bring_seen.new.inodes in
+    let v = c.let_go.new.inodes in
+    let x = c.in-Ok.ensures in
+    let goes = subst (λ (q : Path). LetsGo q u.root v.root) c.as_slice-2.ensures c.let_go.ensures.goes in
+    leaves_then g.W.World g.F.Files p s u v (keeps_on g.W.World g.F.Files s c.meet.new.inodes u c.meet.ensures.keeps c.bring_seen.ensures.keeps) goes c.let_go.ensures.rest c.let_go.ensures.counted
+    c.remove_entry.new.inodes x.stays x.rest x.counted
+
+pub returns-in-Ok-clause-saved : goal.returns-in-Ok-clause-saved
+returns-in-Ok-clause-saved g c all =
+    let s = c.args.inodes.now in
+    let u = c.bring_seen.new.inodes in
+    c.remove_entry.ensures.saved (c.let_go.ensures.saved ((keeps_leaves g.W.World g.F.Files s u (keeps_on g.W.World g.F.Files s c.meet.new.inodes u c.meet.ensures.keeps c.bring_seen.ensures.keeps)).saved all))
+
+pub returns-in-Err-remove_entry-clause-attempts : goal.returns-in-Err-remove_entry-clause-attempts
+returns-in-Err-remove_entry-clause-attempts g c =
+    let p = c.args.path.now in
+    let s = c.args.inodes.now in
+    let t = c.meet.new.inodes in
+    let u = c.bring_seen.new.inodes in
+    let v = c.let_go.new.inodes in
+    let e = c.in-Ok-Some.ensures in
+    let b = c.bring_seen.ensures in
+    let x = c.in-Err-remove_entry.ensures in
+    let counts = (keeps_counts g.W.World g.F.Files s u (keeps_on g.W.World g.F.Files s t u e.keeps b.keeps)).1.1.1 in
+    refused g.W.World g.F.Files (ask.Rmdir p) s v c.remove_entry.new.inodes c.args.cache.now c.bring_seen.new.cache (λ h. c.let_go.ensures.same h ∙ b.same h ∙ e.same h)
+    (le_trans counts c.let_go.ensures.counted)
+    (finds_on c.args.cache.now c.meet.new.cache c.bring_seen.new.cache e.cache b.cache) c.in-Err-remove_entry.fault x.fault (λ y is. cc) x.unseen
+
+pub returns-in-Err-remove_entry-clause-leaves : goal.returns-in-Err-remove_entry-clause-leaves
+returns-in-Err-remove_entry-clause-leaves g c =
+    let p = c.args.path.now in
+    let s = c.args.inodes.now in
+    let u = c.bring_seen.new.inodes in
+    let v = c.let_go.new.inodes in
+    let z = c.remove_entry.new.inodes in
+    let x = c.in-Err-remove_entry.ensures in
+    let goes = subst (λ (q : Path). LetsGo q u.root v.root) c.as_slice-2.ensures c.let_go.ensures.goes in
+    leaves_then g.W.World g.F.Files p s u v (keeps_on g.W.World g.F.Files s c.meet.new.inodes u c.meet.ensures.keeps c.bring_seen.ensures.keeps) goes c.let_go.ensures.rest c.let_go.ensures.counted
+    z x.stays x.rest (fault_count (g.F.Files.failures v.files) (g.F.Files.failures z.files) c.in-Err-remove_entry.fault x.fault)
+
+pub returns-in-Err-remove_entry-clause-saved : goal.returns-in-Err-remove_entry-clause-saved
+returns-in-Err-remove_entry-clause-saved g c all =
+    let s = c.args.inodes.now in
+    let u = c.bring_seen.new.inodes in
+    c.remove_entry.ensures.saved (c.let_go.ensures.saved ((keeps_leaves g.W.World g.F.Files s u (keeps_on g.W.World g.F.Files s c.meet.new.inodes u c.meet.ensures.keeps c.bring_seen.ensures.keeps)).saved all))

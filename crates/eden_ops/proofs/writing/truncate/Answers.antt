@@ -1,0 +1,154 @@
+use Rattle.std.proofs.Common.{false, ◌==◌, ℕ, [], List, Some, sym, refl, subst, ap, ◌∙◌}
+use Rattle.std.proofs.lemmas.Bool.{lt-ltb, le-ltb, ne_eqb}
+use Rattle.eden_model.specs.declared.errno.Errno.TheVariants.{EFBIG}
+use Rattle.eden_model.specs.declared.reply.Reply.TheVariants as say
+use Rattle.eden_model.specs.declared.request.Request.TheVariants as ask
+use Rattle.eden_model.specs.Operations.{truncated}
+use Rattle.eden_tie.specs.Filing.{content_shown}
+use Rattle.eden_model.specs.declared.attempt.Attempt.{Attempt}
+use Rattle.eden_ops.specs.Attempts.{Attempts}
+use Rattle.eden_ops.specs.Keeping.{same}
+use Rattle.eden_ops.specs.Requests.{for_truncate}
+use Rattle.eden_ops.proofs.Fetching.{has_content}
+use Rattle.eden_ops.proofs.Filing.{file_tells, file_lacks, is_file, file_fills, file_refused, file_leaves}
+use Rattle.eden_ops.proofs.Filled.{truncates, asks_truncate, truncates_far, truncates_none, truncates_some, truncates_lost, truncated_none, truncated_some}
+use Rattle.eden_ops.proofs.Finding.{still_stocked, finds_same}
+use Rattle.eden_ops.proofs.Looking.{plain_other}
+use Rattle.eden_ops.proofs.Saving.{keeps_leaves}
+use Rattle.eden_ops.proofs.Steps.{keeps_on}
+use Rattle.eden_ops.proofs.writing.truncate.Goals as goal
+
+pub returns-in-Err-clause-attempts : goal.returns-in-Err-clause-attempts
+returns-in-Err-clause-attempts g c =
+    subst (λ (a : Attempt). Attempts g.W.World g.F.Files (ask.Truncate c.args.path.now c.args.size) c.args.inodes.now c.meet_file.new.inodes c.args.cache.now c.meet_file.new.cache a) (sym c.ended.ensures)
+    (c.in-Err.ensures.ends (ask.Truncate c.args.path.now c.args.size) (for_truncate c.args.size))
+
+pub returns-then-size-gt-MAX_FILE-clause-attempts : goal.returns-then-size-gt-MAX_FILE-clause-attempts
+returns-then-size-gt-MAX_FILE-clause-attempts g c =
+    let p = c.args.path.now in
+    let s = c.args.inodes.now in
+    let t = c.meet_file.new.inodes in
+    let d = c.meet_file.new.cache in
+    let e = c.in-Ok.ensures in
+    file_tells g.W.World g.F.Files p s t c.args.cache.now d c.in-Ok.seen e.file e.shown e.same e.keeps e.cache (ask.Truncate c.args.path.now c.args.size) (truncates c.args.size) (asks_truncate c.args.size c.args.path.now) (say.Err EFBIG) refl (λ T. refl)
+    (λ k a l plain. truncates_far c.args.size k a l plain (lt-ltb 1073741824 c.args.size c.if-size-gt-MAX_FILE.true))
+
+pub fill-requires-clause-there : goal.fill-requires-clause-there
+fill-requires-clause-there g c =
+    let p = c.args.path.now in
+    let s = c.args.inodes.now in
+    let t = c.meet_file.new.inodes in
+    let d = c.meet_file.new.cache in
+    let e = c.in-Ok.ensures in
+    (e.file.entry.row, is_file g.W.World g.F.Files p s t c.args.cache.now d c.in-Ok.seen e.file e.shown e.same e.keeps e.cache (ask.Truncate c.args.path.now c.args.size) (truncates c.args.size) (asks_truncate c.args.size c.args.path.now) t d (λ h. refl) same refl (finds_same d))
+
+pub returns-in-Ok-fill-clause-attempts : goal.returns-in-Ok-fill-clause-attempts
+returns-in-Ok-fill-clause-attempts g c =
+    let p = c.args.path.now in
+    let s = c.args.inodes.now in
+    let t = c.meet_file.new.inodes in
+    let d = c.meet_file.new.cache in
+    let e = c.in-Ok.ensures in
+    file_fills g.W.World g.F.Files p s t c.args.cache.now d c.in-Ok.seen e.file e.shown e.same e.keeps e.cache (ask.Truncate c.args.path.now c.args.size) (truncates c.args.size) (asks_truncate c.args.size c.args.path.now) t d (λ h. refl) same refl (finds_same d) c.fill.new.inodes (truncated c.args.size) [] (say.Ok) refl (λ T. refl)
+    (λ h. truncated_none c.args.size (content_shown g.W.World.repository (g.F.Files.stored t.files) e.file.entry.row) (ap (λ (n : ℕ). n == 0) c.if-size-eq0.true))
+    (λ h l plain. truncates_none c.args.size e.file.entry.row.kind (content_shown g.W.World.repository (g.F.Files.stored t.files) e.file.entry.row) l plain (le-ltb 1073741824 c.args.size c.if-size-gt-MAX_FILE.false) (ap (λ (n : ℕ). n == 0) c.if-size-eq0.true)) c.in-Ok-fill.ensures.shown
+
+pub returns-in-Err-fill-clause-attempts : goal.returns-in-Err-fill-clause-attempts
+returns-in-Err-fill-clause-attempts g c =
+    let p = c.args.path.now in
+    let s = c.args.inodes.now in
+    let t = c.meet_file.new.inodes in
+    let d = c.meet_file.new.cache in
+    let e = c.in-Ok.ensures in
+    let x = c.in-Err-fill.ensures in
+    file_refused g.W.World g.F.Files p s t c.args.cache.now d c.in-Ok.seen e.file e.shown e.same e.keeps e.cache (ask.Truncate c.args.path.now c.args.size) (truncates c.args.size) (asks_truncate c.args.size c.args.path.now) t d (λ h. refl) same refl (finds_same d) c.fill.new.inodes c.in-Err-fill.fault x.fault (λ y is. cc) x.unseen
+
+pub make-requires-clause-content : goal.make-requires-clause-content
+make-requires-clause-content g c =
+    let file = c.in-Ok.ensures.file in
+    has_content c.args.path.now c.meet_file.new.inodes.root c.in-Ok.seen file.entry c.meet_file.new.inodes.root refl (plain_other c.in-Ok.seen.kind file.plain)
+
+pub make-requires-clause-stocked : goal.make-requires-clause-stocked
+make-requires-clause-stocked g c = still_stocked g.W.World.repository g.W.World.honest c.args.cache.now c.meet_file.new.cache c.meet_file.ensures.cache c.requires
+
+pub returns-in-Err-make-clause-attempts : goal.returns-in-Err-make-clause-attempts
+returns-in-Err-make-clause-attempts g c =
+    let p = c.args.path.now in
+    let s = c.args.inodes.now in
+    let t = c.meet_file.new.inodes in
+    let d = c.meet_file.new.cache in
+    let e = c.in-Ok.ensures in
+    let b = c.make.ensures in
+    subst (λ (a : Attempt). Attempts g.W.World g.F.Files (ask.Truncate c.args.path.now c.args.size) s c.make.new.inodes c.args.cache.now c.make.new.cache a) (sym c.ended-in-Err-make.ensures)
+    (file_lacks g.W.World g.F.Files p s t c.args.cache.now d c.in-Ok.seen e.file e.shown e.same e.keeps e.cache (ask.Truncate c.args.path.now c.args.size) (truncates c.args.size) (asks_truncate c.args.size c.args.path.now) c.make.new.inodes c.make.new.cache b.same b.keeps b.still b.cache (λ x is. cc) (λ k x is. cc) c.in-Err-make.stop (λ k a r plain none. truncates_lost c.args.size k a false plain (le-ltb 1073741824 c.args.size c.if-size-gt-MAX_FILE.false) (ne_eqb c.args.size 0 c.if-size-eq0.false) r none) c.in-Err-make.ensures.lacks)
+
+pub returns-in-Err-make-clause-leaves : goal.returns-in-Err-make-clause-leaves
+returns-in-Err-make-clause-leaves g c = keeps_leaves g.W.World g.F.Files c.args.inodes.now c.make.new.inodes (keeps_on g.W.World g.F.Files c.args.inodes.now c.meet_file.new.inodes c.make.new.inodes c.meet_file.ensures.keeps c.make.ensures.keeps)
+
+pub returns-in-Ok-fill-2-clause-attempts : goal.returns-in-Ok-fill-2-clause-attempts
+returns-in-Ok-fill-2-clause-attempts g c =
+    let p = c.args.path.now in
+    let s = c.args.inodes.now in
+    let t = c.meet_file.new.inodes in
+    let d = c.meet_file.new.cache in
+    let e = c.in-Ok.ensures in
+    let b = c.make.ensures in
+    let had = c.in-Ok-make.ensures.ok in
+    file_fills g.W.World g.F.Files p s t c.args.cache.now d c.in-Ok.seen e.file e.shown e.same e.keeps e.cache (ask.Truncate c.args.path.now c.args.size) (truncates c.args.size) (asks_truncate c.args.size c.args.path.now) c.make.new.inodes c.make.new.cache b.same b.keeps b.still b.cache c.fill-2.new.inodes (truncated c.args.size) c.as_slice.result.now (say.Ok) refl (λ T. refl)
+    (λ h. truncated_some c.args.size (content_shown g.W.World.repository (g.F.Files.stored t.files) e.file.entry.row) had.content (ne_eqb c.args.size 0 c.if-size-eq0.false) (had.is.shown h e.file.entry.row e.file.entry.there) ∙ ap (λ (x : List ℕ). Some x) (sym (c.as_slice.ensures ∙ had.made)))
+    (λ h l plain. truncates_some c.args.size e.file.entry.row.kind (content_shown g.W.World.repository (g.F.Files.stored t.files) e.file.entry.row) l plain (le-ltb 1073741824 c.args.size c.if-size-gt-MAX_FILE.false) (ne_eqb c.args.size 0 c.if-size-eq0.false) had.content (had.is.shown h e.file.entry.row e.file.entry.there)) c.in-Ok-fill-2.ensures.shown
+
+pub returns-clause-attempts : goal.returns-clause-attempts
+returns-clause-attempts g c =
+    let p = c.args.path.now in
+    let s = c.args.inodes.now in
+    let t = c.meet_file.new.inodes in
+    let d = c.meet_file.new.cache in
+    let e = c.in-Ok.ensures in
+    let b = c.make.ensures in
+    let x = c.in-Err-fill-2.ensures in
+    file_refused g.W.World g.F.Files p s t c.args.cache.now d c.in-Ok.seen e.file e.shown e.same e.keeps e.cache (ask.Truncate c.args.path.now c.args.size) (truncates c.args.size) (asks_truncate c.args.size c.args.path.now) c.make.new.inodes c.make.new.cache b.same b.keeps b.still b.cache c.fill-2.new.inodes c.in-Err-fill-2.fault x.fault (λ y is. cc) x.unseen
+
+pub returns-in-Err-clause-leaves : goal.returns-in-Err-clause-leaves
+returns-in-Err-clause-leaves g c = keeps_leaves g.W.World g.F.Files c.args.inodes.now c.meet_file.new.inodes c.meet_file.ensures.keeps
+
+pub returns-then-size-gt-MAX_FILE-clause-leaves : goal.returns-then-size-gt-MAX_FILE-clause-leaves
+returns-then-size-gt-MAX_FILE-clause-leaves g c = keeps_leaves g.W.World g.F.Files c.args.inodes.now c.meet_file.new.inodes c.meet_file.ensures.keeps
+
+pub returns-in-Ok-fill-clause-leaves : goal.returns-in-Ok-fill-clause-leaves
+returns-in-Ok-fill-clause-leaves g c =
+    let p = c.args.path.now in
+    let s = c.args.inodes.now in
+    let t = c.meet_file.new.inodes in
+    let d = c.meet_file.new.cache in
+    let e = c.in-Ok.ensures in
+    file_leaves g.W.World g.F.Files p s t c.args.cache.now d c.in-Ok.seen e.file e.shown e.same e.keeps e.cache (ask.Truncate c.args.path.now c.args.size) (truncates c.args.size) (asks_truncate c.args.size c.args.path.now) t d (λ h. refl) same refl (finds_same d) c.fill.new.inodes c.fill.ensures.leaves
+
+pub returns-in-Err-fill-clause-leaves : goal.returns-in-Err-fill-clause-leaves
+returns-in-Err-fill-clause-leaves g c =
+    let p = c.args.path.now in
+    let s = c.args.inodes.now in
+    let t = c.meet_file.new.inodes in
+    let d = c.meet_file.new.cache in
+    let e = c.in-Ok.ensures in
+    file_leaves g.W.World g.F.Files p s t c.args.cache.now d c.in-Ok.seen e.file e.shown e.same e.keeps e.cache (ask.Truncate c.args.path.now c.args.size) (truncates c.args.size) (asks_truncate c.args.size c.args.path.now) t d (λ h. refl) same refl (finds_same d) c.fill.new.inodes c.fill.ensures.leaves
+
+pub returns-in-Ok-fill-2-clause-leaves : goal.returns-in-Ok-fill-2-clause-leaves
+returns-in-Ok-fill-2-clause-leaves g c =
+    let p = c.args.path.now in
+    let s = c.args.inodes.now in
+    let t = c.meet_file.new.inodes in
+    let d = c.meet_file.new.cache in
+    let e = c.in-Ok.ensures in
+    let b = c.make.ensures in
+    file_leaves g.W.World g.F.Files p s t c.args.cache.now d c.in-Ok.seen e.file e.shown e.same e.keeps e.cache (ask.Truncate c.args.path.now c.args.size) (truncates c.args.size) (asks_truncate c.args.size c.args.path.now) c.make.new.inodes c.make.new.cache b.same b.keeps b.still b.cache c.fill-2.new.inodes c.fill-2.ensures.leaves
+
+pub returns-clause-leaves : goal.returns-clause-leaves
+returns-clause-leaves g c =
+    let p = c.args.path.now in
+    let s = c.args.inodes.now in
+    let t = c.meet_file.new.inodes in
+    let d = c.meet_file.new.cache in
+    let e = c.in-Ok.ensures in
+    let b = c.make.ensures in
+    file_leaves g.W.World g.F.Files p s t c.args.cache.now d c.in-Ok.seen e.file e.shown e.same e.keeps e.cache (ask.Truncate c.args.path.now c.args.size) (truncates c.args.size) (asks_truncate c.args.size c.args.path.now) c.make.new.inodes c.make.new.cache b.same b.keeps b.still b.cache c.fill-2.new.inodes c.fill-2.ensures.leaves

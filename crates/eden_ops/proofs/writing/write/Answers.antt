@@ -1,0 +1,135 @@
+use Rattle.std.proofs.Common.{◌≤◌, ◌<◌, ◌+◌, ◌-◌, false, ◌==◌, ℕ, length, List, Some, sym, refl, subst, ap, ◌∙◌, arith}
+use Rattle.std.proofs.lemmas.Bool.{lt-ltb, le-ltb, ne_eqb}
+use Rattle.std.specs.Option.{option_map}
+use Rattle.eden_model.specs.declared.errno.Errno.TheVariants.{EFBIG}
+use Rattle.eden_model.specs.declared.reply.Reply.TheVariants as say
+use Rattle.eden_model.specs.declared.request.Request.TheVariants as ask
+use Rattle.eden_model.specs.Operations.{written}
+use Rattle.eden_tie.specs.Filing.{content_shown}
+use Rattle.eden_model.specs.declared.attempt.Attempt.{Attempt}
+use Rattle.eden_ops.specs.Attempts.{Attempts}
+use Rattle.eden_ops.specs.Requests.{for_write}
+use Rattle.eden_ops.proofs.Fetching.{has_content}
+use Rattle.eden_ops.proofs.Filing.{file_tells, file_lacks, is_file, file_fills, file_refused, file_leaves}
+use Rattle.eden_ops.proofs.Filled.{writes, asks_write, writes_none, writes_far, writes_some, writes_lost, writes_nothing}
+use Rattle.eden_ops.proofs.Finding.{still_stocked}
+use Rattle.eden_ops.proofs.Looking.{plain_other}
+use Rattle.eden_ops.proofs.Saving.{keeps_leaves}
+use Rattle.eden_ops.proofs.Steps.{keeps_on}
+use Rattle.eden_ops.proofs.writing.write.Goals as goal
+
+within : (offset count : ℕ) → count ≤ 65536 → offset ≤ 1073741824 - count → offset + count ≤ 1073741824
+within offset count few near = omega (arith, few, near)
+
+past : (offset count : ℕ) → count ≤ 65536 → 1073741824 - count < offset → 1073741824 < offset + count
+past offset count few far = omega (arith, few, far)
+
+pub returns-in-Err-clause-attempts : goal.returns-in-Err-clause-attempts
+returns-in-Err-clause-attempts g c =
+    subst (λ (a : Attempt). Attempts g.W.World g.F.Files (ask.Write c.args.path.now c.args.offset c.args.bytes.now) c.args.inodes.now c.meet_file.new.inodes c.args.cache.now c.meet_file.new.cache a) (sym c.ended.ensures)
+    (c.in-Err.ensures.ends (ask.Write c.args.path.now c.args.offset c.args.bytes.now) (for_write c.args.offset c.args.bytes.now c.if-count-gt-MAX_DATA.false))
+
+pub returns-then-count-eq0-clause-attempts : goal.returns-then-count-eq0-clause-attempts
+returns-then-count-eq0-clause-attempts g c =
+    let p = c.args.path.now in
+    let s = c.args.inodes.now in
+    let t = c.meet_file.new.inodes in
+    let d = c.meet_file.new.cache in
+    let e = c.in-Ok.ensures in
+    file_tells g.W.World g.F.Files p s t c.args.cache.now d c.in-Ok.seen e.file e.shown e.same e.keeps e.cache (ask.Write c.args.path.now c.args.offset c.args.bytes.now) (writes c.args.offset c.args.bytes.now) (asks_write c.args.offset c.args.bytes.now c.args.path.now (le-ltb 65536 (length c.args.bytes.now) c.if-count-gt-MAX_DATA.false)) (say.Count 0) refl (writes_nothing p c.args.offset c.args.bytes.now 0 (ap (λ (n : ℕ). n == 0) c.if-count-eq0.true))
+    (λ k a l plain. writes_none c.args.offset c.args.bytes.now k a l plain (ap (λ (n : ℕ). n == 0) c.if-count-eq0.true))
+
+pub returns-then-offset-count-clause-attempts : goal.returns-then-offset-count-clause-attempts
+returns-then-offset-count-clause-attempts g c =
+    let p = c.args.path.now in
+    let s = c.args.inodes.now in
+    let t = c.meet_file.new.inodes in
+    let d = c.meet_file.new.cache in
+    let e = c.in-Ok.ensures in
+    file_tells g.W.World g.F.Files p s t c.args.cache.now d c.in-Ok.seen e.file e.shown e.same e.keeps e.cache (ask.Write c.args.path.now c.args.offset c.args.bytes.now) (writes c.args.offset c.args.bytes.now) (asks_write c.args.offset c.args.bytes.now c.args.path.now (le-ltb 65536 (length c.args.bytes.now) c.if-count-gt-MAX_DATA.false)) (say.Err EFBIG) refl (λ T. refl)
+    (λ k a l plain. writes_far c.args.offset c.args.bytes.now k a l plain (ne_eqb (length c.args.bytes.now) 0 c.if-count-eq0.false) (lt-ltb 1073741824 (c.args.offset + length c.args.bytes.now) (past c.args.offset (length c.args.bytes.now) c.if-count-gt-MAX_DATA.false c.if-offset-count.true)))
+
+pub make-requires-clause-content : goal.make-requires-clause-content
+make-requires-clause-content g c =
+    let file = c.in-Ok.ensures.file in
+    has_content c.args.path.now c.meet_file.new.inodes.root c.in-Ok.seen file.entry c.meet_file.new.inodes.root refl (plain_other c.in-Ok.seen.kind file.plain)
+
+pub make-requires-clause-stocked : goal.make-requires-clause-stocked
+make-requires-clause-stocked g c = still_stocked g.W.World.repository g.W.World.honest c.args.cache.now c.meet_file.new.cache c.meet_file.ensures.cache c.requires
+
+pub returns-in-Err-make-clause-attempts : goal.returns-in-Err-make-clause-attempts
+returns-in-Err-make-clause-attempts g c =
+    let p = c.args.path.now in
+    let s = c.args.inodes.now in
+    let t = c.meet_file.new.inodes in
+    let d = c.meet_file.new.cache in
+    let e = c.in-Ok.ensures in
+    let b = c.make.ensures in
+    subst (λ (a : Attempt). Attempts g.W.World g.F.Files (ask.Write c.args.path.now c.args.offset c.args.bytes.now) s c.make.new.inodes c.args.cache.now c.make.new.cache a) (sym c.ended-in-Err-make.ensures)
+    (file_lacks g.W.World g.F.Files p s t c.args.cache.now d c.in-Ok.seen e.file e.shown e.same e.keeps e.cache (ask.Write c.args.path.now c.args.offset c.args.bytes.now) (writes c.args.offset c.args.bytes.now) (asks_write c.args.offset c.args.bytes.now c.args.path.now (le-ltb 65536 (length c.args.bytes.now) c.if-count-gt-MAX_DATA.false)) c.make.new.inodes c.make.new.cache b.same b.keeps b.still b.cache (λ x is. cc) (λ k x is. cc) c.in-Err-make.stop (λ k a r plain none. writes_lost c.args.offset c.args.bytes.now k a false plain (ne_eqb (length c.args.bytes.now) 0 c.if-count-eq0.false) (le-ltb 1073741824 (c.args.offset + length c.args.bytes.now) (within c.args.offset (length c.args.bytes.now) c.if-count-gt-MAX_DATA.false c.if-offset-count.false)) r none) c.in-Err-make.ensures.lacks)
+
+pub returns-in-Err-make-clause-leaves : goal.returns-in-Err-make-clause-leaves
+returns-in-Err-make-clause-leaves g c = keeps_leaves g.W.World g.F.Files c.args.inodes.now c.make.new.inodes (keeps_on g.W.World g.F.Files c.args.inodes.now c.meet_file.new.inodes c.make.new.inodes c.meet_file.ensures.keeps c.make.ensures.keeps)
+
+pub fill-requires-clause-there : goal.fill-requires-clause-there
+fill-requires-clause-there g c =
+    let p = c.args.path.now in
+    let s = c.args.inodes.now in
+    let t = c.meet_file.new.inodes in
+    let d = c.meet_file.new.cache in
+    let e = c.in-Ok.ensures in
+    let b = c.make.ensures in
+    (e.file.entry.row, is_file g.W.World g.F.Files p s t c.args.cache.now d c.in-Ok.seen e.file e.shown e.same e.keeps e.cache (ask.Write c.args.path.now c.args.offset c.args.bytes.now) (writes c.args.offset c.args.bytes.now) (asks_write c.args.offset c.args.bytes.now c.args.path.now (le-ltb 65536 (length c.args.bytes.now) c.if-count-gt-MAX_DATA.false)) c.make.new.inodes c.make.new.cache b.same b.keeps b.still b.cache)
+
+pub returns-in-Ok-fill-clause-attempts : goal.returns-in-Ok-fill-clause-attempts
+returns-in-Ok-fill-clause-attempts g c =
+    let p = c.args.path.now in
+    let s = c.args.inodes.now in
+    let t = c.meet_file.new.inodes in
+    let d = c.meet_file.new.cache in
+    let e = c.in-Ok.ensures in
+    let b = c.make.ensures in
+    let had = c.in-Ok-make.ensures.ok in
+    file_fills g.W.World g.F.Files p s t c.args.cache.now d c.in-Ok.seen e.file e.shown e.same e.keeps e.cache (ask.Write c.args.path.now c.args.offset c.args.bytes.now) (writes c.args.offset c.args.bytes.now) (asks_write c.args.offset c.args.bytes.now c.args.path.now (le-ltb 65536 (length c.args.bytes.now) c.if-count-gt-MAX_DATA.false)) c.make.new.inodes c.make.new.cache b.same b.keeps b.still b.cache c.fill.new.inodes (option_map (written c.args.offset c.args.bytes.now)) c.as_slice.result.now (say.Count (length c.args.bytes.now)) refl (λ T. refl)
+    (λ h. ap (option_map (written c.args.offset c.args.bytes.now)) (had.is.shown h e.file.entry.row e.file.entry.there) ∙ ap (λ (x : List ℕ). Some x) (sym (c.as_slice.ensures ∙ had.made)))
+    (λ h l plain. writes_some c.args.offset c.args.bytes.now e.file.entry.row.kind (content_shown g.W.World.repository (g.F.Files.stored t.files) e.file.entry.row) l plain (ne_eqb (length c.args.bytes.now) 0 c.if-count-eq0.false) (le-ltb 1073741824 (c.args.offset + length c.args.bytes.now) (within c.args.offset (length c.args.bytes.now) c.if-count-gt-MAX_DATA.false c.if-offset-count.false)) had.content (had.is.shown h e.file.entry.row e.file.entry.there)) c.in-Ok-fill.ensures.shown
+
+pub returns-clause-attempts : goal.returns-clause-attempts
+returns-clause-attempts g c =
+    let p = c.args.path.now in
+    let s = c.args.inodes.now in
+    let t = c.meet_file.new.inodes in
+    let d = c.meet_file.new.cache in
+    let e = c.in-Ok.ensures in
+    let b = c.make.ensures in
+    let x = c.in-Err-fill.ensures in
+    file_refused g.W.World g.F.Files p s t c.args.cache.now d c.in-Ok.seen e.file e.shown e.same e.keeps e.cache (ask.Write c.args.path.now c.args.offset c.args.bytes.now) (writes c.args.offset c.args.bytes.now) (asks_write c.args.offset c.args.bytes.now c.args.path.now (le-ltb 65536 (length c.args.bytes.now) c.if-count-gt-MAX_DATA.false)) c.make.new.inodes c.make.new.cache b.same b.keeps b.still b.cache c.fill.new.inodes c.in-Err-fill.fault x.fault (λ y is. cc) x.unseen
+
+pub returns-in-Err-clause-leaves : goal.returns-in-Err-clause-leaves
+returns-in-Err-clause-leaves g c = keeps_leaves g.W.World g.F.Files c.args.inodes.now c.meet_file.new.inodes c.meet_file.ensures.keeps
+
+pub returns-then-count-eq0-clause-leaves : goal.returns-then-count-eq0-clause-leaves
+returns-then-count-eq0-clause-leaves g c = keeps_leaves g.W.World g.F.Files c.args.inodes.now c.meet_file.new.inodes c.meet_file.ensures.keeps
+
+pub returns-then-offset-count-clause-leaves : goal.returns-then-offset-count-clause-leaves
+returns-then-offset-count-clause-leaves g c = keeps_leaves g.W.World g.F.Files c.args.inodes.now c.meet_file.new.inodes c.meet_file.ensures.keeps
+
+pub returns-in-Ok-fill-clause-leaves : goal.returns-in-Ok-fill-clause-leaves
+returns-in-Ok-fill-clause-leaves g c =
+    let p = c.args.path.now in
+    let s = c.args.inodes.now in
+    let t = c.meet_file.new.inodes in
+    let d = c.meet_file.new.cache in
+    let e = c.in-Ok.ensures in
+    let b = c.make.ensures in
+    file_leaves g.W.World g.F.Files p s t c.args.cache.now d c.in-Ok.seen e.file e.shown e.same e.keeps e.cache (ask.Write c.args.path.now c.args.offset c.args.bytes.now) (writes c.args.offset c.args.bytes.now) (asks_write c.args.offset c.args.bytes.now c.args.path.now (le-ltb 65536 (length c.args.bytes.now) c.if-count-gt-MAX_DATA.false)) c.make.new.inodes c.make.new.cache b.same b.keeps b.still b.cache c.fill.new.inodes c.fill.ensures.leaves
+
+pub returns-clause-leaves : goal.returns-clause-leaves
+returns-clause-leaves g c =
+    let p = c.args.path.now in
+    let s = c.args.inodes.now in
+    let t = c.meet_file.new.inodes in
+    let d = c.meet_file.new.cache in
+    let e = c.in-Ok.ensures in
+    let b = c.make.ensures in
+    file_leaves g.W.World g.F.Files p s t c.args.cache.now d c.in-Ok.seen e.file e.shown e.same e.keeps e.cache (ask.Write c.args.path.now c.args.offset c.args.bytes.now) (writes c.args.offset c.args.bytes.now) (asks_write c.args.offset c.args.bytes.now c.args.path.now (le-ltb 65536 (length c.args.bytes.now) c.if-count-gt-MAX_DATA.false)) c.make.new.inodes c.make.new.cache b.same b.keeps b.still b.cache c.fill.new.inodes c.fill.ensures.leaves

@@ -1,0 +1,83 @@
+//! Directories without entries.
+ghost use Rattle.std.specs.Prelude.{◌≡◌, true, MatchBool};
+ghost use Rattle.eden_model.specs.declared.node.Node.TheVariants.{Dir};
+ghost use Rattle.eden_model.specs.declared.request.Request.TheVariants as ask;
+ghost use Rattle.eden_model.specs.Trees.{Here, reach};
+ghost use Rattle.eden_tie.specs.Chains.{AreSaved};
+ghost use Rattle.eden_ops.specs.Attempts.{Attempts};
+ghost use Rattle.eden_ops.specs.Caches.{IsStocked};
+ghost use Rattle.eden_ops.specs.Changes.{IsOutside, LeavesOn};
+ghost use Rattle.eden_ops.specs.Keeping.{shows};
+ghost use Rattle.eden_ops.specs.Known.{IsLoadedAt};
+ghost use Rattle.eden_ops.specs.Listings.{HasNoEntries, HasEntries};
+
+use crate::end::ended;
+use crate::letting::let_go;
+use crate::listing::bring_seen;
+use crate::meet::meet;
+use crate::what::what;
+use eden_cache::ObjectCache;
+use eden_inode::Inodes;
+use eden_materialise::remove_entry;
+use eden_model::{Attempt, Errno, Kind, Path, Reply, World};
+use eden_overlay::Files;
+use eden_tie::shown_laws;
+use std::alloc::{Allocator, Global};
+
+/// Whether the directory that is loaded at a path has no entries.
+pub(crate) fn is_empty<A: Allocator + Clone, W: World, F: Files<W>>(
+    inodes: &Inodes<A, W, F>,
+    path: &Path,
+) -> bool
+    requires { IsLoadedAt path.now inodes.now.root }
+    ensures entries { W.honest → MatchBool result (HasNoEntries (shows W.World F.Files inodes.now) path.now) (HasEntries (shows W.World F.Files inodes.now) path.now) }
+    ensures here { W.honest → reach (shows W.World F.Files inodes.now) path.now ≡ Here (Dir true) }
+{
+    shown_laws();
+    inodes.holds();
+    match inodes.directory(path.as_slice()) {
+        None => unreachable!(),
+        Some(dir) => dir.count() == 0,
+    }
+}
+
+/// Removes a directory that has no entries. It is loaded, to see that it has none, and let go of before it goes.
+pub fn rmdir<A: Allocator + Clone, W: World, F: Files<W>, C: Allocator + Clone>(
+    inodes: &mut Inodes<A, W, F>,
+    cache: &mut ObjectCache<C>,
+    alloc: Global,
+    path: &Path,
+) -> Attempt
+    requires { IsStocked W.repository W.honest cache.old }
+    ensures attempts { Attempts W.World F.Files (ask.Rmdir path.now) inodes.old inodes.new cache.old cache.new result }
+    ensures leaves { LeavesOn F.Files (IsOutside path.now) inodes.old inodes.new }
+    ensures saved { AreSaved inodes.old.root → AreSaved inodes.new.root }
+{
+    let Some((name, above)) = path.as_slice().split_last() else {
+        return Attempt::Finished(Reply::Err(Errno::EBUSY));
+    };
+    let seen = match meet(inodes, cache, alloc, path) {
+        Err(stop) => return ended(stop),
+        Ok(None) => return Attempt::Finished(Reply::Err(Errno::ENOENT)),
+        Ok(Some(seen)) => seen,
+    };
+    match what(seen) {
+        Kind::File | Kind::Exec | Kind::Link => {
+            return Attempt::Finished(Reply::Err(Errno::ENOTDIR));
+        }
+        Kind::Dir => {}
+    }
+    if let Err(stop) = bring_seen(inodes, cache, alloc, path, seen) {
+        return ended(stop);
+    }
+    if !is_empty(inodes, path) {
+        return Attempt::Finished(Reply::Err(Errno::ENOTEMPTY));
+    }
+    if let Err(fault) = let_go(inodes, alloc, path.as_slice()) {
+        return Attempt::Finished(Reply::Fault(fault));
+    }
+    match remove_entry(inodes, alloc, above, name) {
+        Ok(()) => Attempt::Finished(Reply::Ok),
+        Err(fault) => Attempt::Finished(Reply::Fault(fault)),
+    }
+}

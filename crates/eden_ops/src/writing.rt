@@ -1,0 +1,91 @@
+//! Contents of files that are changed.
+ghost use Rattle.eden_model.specs.declared.request.Request.TheVariants as ask;
+ghost use Rattle.eden_ops.specs.Attempts.{Attempts};
+ghost use Rattle.eden_ops.specs.Caches.{IsStocked};
+ghost use Rattle.eden_ops.specs.Changes.{Leaves};
+
+use crate::contents::{Form, make};
+use crate::end::ended;
+use crate::file::meet_file;
+use crate::fill::fill;
+use eden_cache::ObjectCache;
+use eden_inode::Inodes;
+use eden_model::{Attempt, Errno, MAX_DATA, MAX_FILE, Path, Reply, World};
+use eden_overlay::Files;
+use std::alloc::{Allocator, Global};
+
+/// Cuts a file to a size in bytes, or fills it up with zeros; over 2^30 is refused. To size 0 its content isn't fetched. A fault
+/// leaves the file as it was.
+pub fn truncate<A: Allocator + Clone, W: World, F: Files<W>, C: Allocator + Clone>(
+    inodes: &mut Inodes<A, W, F>,
+    cache: &mut ObjectCache<C>,
+    alloc: Global,
+    path: &Path,
+    size: u64,
+) -> Attempt
+    requires { IsStocked W.repository W.honest cache.old }
+    ensures attempts { Attempts W.World F.Files (ask.Truncate path.now size) inodes.old inodes.new cache.old cache.new result }
+    ensures leaves { Leaves F.Files inodes.old inodes.new }
+{
+    let seen = match meet_file(inodes, cache, alloc, path) {
+        Err(stop) => return ended(stop),
+        Ok(seen) => seen,
+    };
+    if size > MAX_FILE {
+        return Attempt::Finished(Reply::Err(Errno::EFBIG));
+    }
+    if size == 0 {
+        return match fill(inodes, alloc, path, &[]) {
+            Ok(()) => Attempt::Finished(Reply::Ok),
+            Err(fault) => Attempt::Finished(Reply::Fault(fault)),
+        };
+    }
+    let content = match make(inodes, cache, alloc, path, seen.origin, Form::Resized(size)) {
+        Err(stop) => return ended(stop),
+        Ok(content) => content,
+    };
+    match fill(inodes, alloc, path, content.as_slice()) {
+        Ok(()) => Attempt::Finished(Reply::Ok),
+        Err(fault) => Attempt::Finished(Reply::Fault(fault)),
+    }
+}
+
+/// Writes bytes into a file, from the offset on, and answers how many; over 65,536 are refused, and a write that would end
+/// past 2^30. A gap between its old end and the offset is filled with zeros. Where there are no bytes to write, its content
+/// isn't fetched and nothing changes. A fault leaves the file as it was.
+pub fn write<A: Allocator + Clone, W: World, F: Files<W>, C: Allocator + Clone>(
+    inodes: &mut Inodes<A, W, F>,
+    cache: &mut ObjectCache<C>,
+    alloc: Global,
+    path: &Path,
+    offset: u64,
+    bytes: &[u8],
+) -> Attempt
+    requires { IsStocked W.repository W.honest cache.old }
+    ensures attempts { Attempts W.World F.Files (ask.Write path.now offset bytes.now) inodes.old inodes.new cache.old cache.new result }
+    ensures leaves { Leaves F.Files inodes.old inodes.new }
+{
+    let count = bytes.len() as u64;
+    if count > MAX_DATA {
+        return Attempt::Finished(Reply::Err(Errno::EINVAL));
+    }
+    let seen = match meet_file(inodes, cache, alloc, path) {
+        Err(stop) => return ended(stop),
+        Ok(seen) => seen,
+    };
+    if count == 0 {
+        return Attempt::Finished(Reply::Count(0));
+    }
+    if offset > MAX_FILE - count {
+        return Attempt::Finished(Reply::Err(Errno::EFBIG));
+    }
+    let form = Form::Written(offset, bytes);
+    let content = match make(inodes, cache, alloc, path, seen.origin, form) {
+        Err(stop) => return ended(stop),
+        Ok(content) => content,
+    };
+    match fill(inodes, alloc, path, content.as_slice()) {
+        Ok(()) => Attempt::Finished(Reply::Count(count)),
+        Err(fault) => Attempt::Finished(Reply::Fault(fault)),
+    }
+}
