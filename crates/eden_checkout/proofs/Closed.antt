@@ -1,11 +1,12 @@
 -- Files as they are when a checkout is closed.
-use Rattle.std.proofs.Common.{◌≡◌, ◌≢◌, ◌<◌, ◌⊎◌, ◌≤◌, ℕ, List, [], Option, Some, None, Result, Ok, Err, OnOk, OnErr, sym, refl, ◌∙◌, ap, subst, inl, inr}
+use Rattle.std.proofs.Common.{◌≡◌, ◌≢◌, ◌<◌, ◌⊎◌, ◌≤◌, ℕ, List, Option, Some, None, Result, Ok, Err, OnOk, OnErr, sym, refl, ◌∙◌, ap, subst, inl, inr}
 use Rattle.std.proofs.lemmas.Option.{same_Some}
 use Rattle.eden_model.specs.declared.id.Id.{Id}
 use Rattle.eden_model.specs.declared.kind.Kind.TheVariants as kind
 use Rattle.eden_model.specs.declared.kind.Origin.{Origin}
 use Rattle.eden_model.specs.declared.kind.Origin.TheVariants as origin
 use Rattle.eden_model.specs.Repository.{Repository}
+use Rattle.eden_model.specs.Trees.{Path}
 use Rattle.eden_overlay_format.specs.declared.state.State.{State}
 use Rattle.eden_overlay_format.specs.declared.stored_entry.StoredEntry.{StoredEntry}
 use Rattle.eden_overlay_format.specs.declared.header.Identifier.TheVariants as identifier
@@ -25,17 +26,23 @@ use Rattle.eden_tie.specs.Loose.{the_state}
 use Rattle.eden_tie.specs.Shown.{shown_in}
 use Rattle.eden_tie.proofs.CallerLemmas.{loose_alike}
 use Rattle.eden_inode.specs.Tables.{fresh_root}
+use Rattle.eden_ops.specs.Changes.{StaysOrBecomesOwn}
 use Rattle.eden_ops.specs.Letting.{LetsGo}
 use Rattle.eden_checkout.specs.Opening.{root_from, files_show, IsRootOf, CanOpen}
 
 -- the root's origin stays where directories are let go of
-pub root_left : (x z : Row) → LetsGo [] x z → z.origin ≡ x.origin
-root_left x z g =
+pub root_left : (p : Path) (x z : Row) → LetsGo p x z → z.origin ≡ x.origin
+root_left p x z g =
     let h = g.left [] (standing z) refl in
     h.1.1.origin ∙ ap (λ (s : Standing). s.origin) (sym (same_Some (standing x) h.0 h.1.0))
 
 pub still_root : (id : Id) (a b : Origin) → IsRootOf id a → b ≡ a → IsRootOf id b
 still_root id a b is same = subst (IsRootOf id) (sym same) is
+
+-- .. and after any attempt the root is the commit's, or the mount's own
+pub comes_from : (id : Id) (a b : Origin) → IsRootOf id a → StaysOrBecomesOwn a b → IsRootOf id b
+comes_from id a b is (inl same) = still_root id a b is same
+comes_from id a b is (inr own) = inr own
 
 -- a root that isn't loaded is a fresh one
 bare : (k : Child) → directory_in k ≡ None → k ≡ unloaded

@@ -1,3 +1,4 @@
 pub mod Opened
 pub mod Stocking
 pub mod Closed
+pub mod Tries

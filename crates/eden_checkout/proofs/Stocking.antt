@@ -1,5 +1,5 @@
 -- What is cached stays what came for its key.
-use Rattle.std.proofs.Common.{◌≡◌, ◌⊎◌, ℕ, List, length, Option, Some, None, sym, refl, ◌∙◌, ap, subst, inl, inr}
+use Rattle.std.proofs.Common.{◌≡◌, ◌⊎◌, ℕ, List, length, Option, Some, None, Result, Ok, Err, OnOk, OnErr, sym, refl, ◌∙◌, ap, subst, inl, inr}
 use Rattle.std.specs.Map.{lookup}
 use Rattle.eden_model.specs.declared.id.Id.{Id}
 use Rattle.eden_model.specs.declared.id.Key.{Key}
@@ -29,3 +29,8 @@ module _ (R : Repository) (honest : Type 0) (others : FindsNoOther) (other_sizes
 
   pub stocked_put : KeepsObject c k o d.objects → KeepsSize k.kind c k.id (length o.bytes) d.sizes → IsStocked R honest d
   stocked_put kept sizes = record { objects = put_objects kept; sizes = put_sizes k.kind refl sizes }
+
+  -- .. or nothing was put in
+  pub stocked_by : (r : Result (Unit {0}) Body) → OnOk r (KeepsObject c k o d.objects) → OnOk r (KeepsSize k.kind c k.id (length o.bytes) d.sizes) → OnErr r (d ≡ c) → IsStocked R honest d
+  stocked_by (Ok v) kept sizes same = stocked_put kept sizes
+  stocked_by (Err x) kept sizes same = subst (IsStocked R honest) (sym same) stocked

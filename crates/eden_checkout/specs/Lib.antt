@@ -1,3 +1,4 @@
 pub mod Opening
 pub mod Checkouts
 pub mod Closing
+pub mod Attempted

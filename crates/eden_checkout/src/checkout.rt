@@ -23,8 +23,8 @@ use std::marker::Model;
 /// Under an honest outside each object that is kept is the repository's.
 #[derive(Drop)]
 pub struct Checkout<A: Allocator + Clone, W: World, F: Files<W>> {
-    inodes: Inodes<A, W, F>,
-    cache: ObjectCache<A>,
+    pub(crate) inodes: Inodes<A, W, F>,
+    pub(crate) cache: ObjectCache<A>,
     root: Id,
 }
 

@@ -4,6 +4,7 @@
 //! over.
 #![tactic(auto)]
 
+mod attempted;
 mod checkout;
 mod closing;
 mod fault;

@@ -27,3 +27,4 @@ pub mod TwoPaths
 pub mod Filled
 pub mod Filing
 pub mod Leaving
+pub mod CallerLemmas

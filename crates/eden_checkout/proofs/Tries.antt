@@ -1,0 +1,83 @@
+-- A checkout as a mount knows it.
+use Rattle.std.proofs.Common.{length, Result, Ok, Err, OnOk, ◌≡◌, ◌≤◌, ◌<◌, ◌⊎◌, ℕ, Bool, true, false, Option, Some, None, sym, refl, ◌∙◌, ap, subst, inl, inr}
+use Rattle.std.specs.Option.{is_some}
+use Rattle.eden_model.specs.declared.attempt.Attempt.{Attempt}
+use Rattle.eden_model.specs.declared.attempt.Attempt.TheVariants.{Finished, Need}
+use Rattle.eden_model.specs.declared.fault.Cause.{Cause}
+use Rattle.eden_model.specs.declared.fault.Fault.TheVariants as fault
+use Rattle.eden_model.specs.declared.id.Id.{Id}
+use Rattle.eden_model.specs.declared.id.Key.{Key}
+use Rattle.eden_model.specs.declared.reply.Reply.TheVariants as say
+use Rattle.eden_model.specs.declared.request.Request.{Request}
+use Rattle.eden_model.specs.declared.world.World.{Ghosts}
+use Rattle.eden_model.specs.Trees.{Path}
+use Rattle.eden_object.specs.Objects.{Body}
+use Rattle.eden_overlay.specs.declared.files.Files.{Ghosts as Files}
+use Rattle.eden_cache.specs.Cache.{Cache, KeepsObject, KeepsSize}
+use Rattle.eden_tree.specs.Directory.{Row}
+use Rattle.eden_inode.specs.Tables.{Table}
+use Rattle.eden_mount.specs.Tables.{Tries, Ticks, Stores, Unloads}
+use Rattle.eden_ops.specs.Attempts.{IsRealNeed}
+use Rattle.eden_ops.specs.Caches.{FindsTheSame, object_at}
+use Rattle.eden_ops.specs.Keeping.{shows}
+use Rattle.eden_ops.specs.Laws.{KeepsShown, KeepsEntries}
+use Rattle.eden_ops.specs.Left.{left, SomeAreLeft, NeedsStay, LeftFalls}
+use Rattle.eden_checkout.specs.Attempted.{IsTicked, IsTried, IsPut, IsUnloaded, attempted}
+use Rattle.eden_checkout.specs.Checkouts.{Checkout}
+
+module _ {W F : Type 0} (w : Ghosts W) (f : Files F W) (shown : KeepsShown w f) (entries : KeepsEntries w f) (some : SomeAreLeft) (stay : NeedsStay) (s t : Checkout F) (q : Request) where
+  found_still : FindsTheSame s.cache t.cache → (k : Key) → is_some (object_at s.cache k) ≡ true → is_some (object_at t.cache k) ≡ true
+  found_still finds k is = ap is_some (finds.objects k) ∙ is
+
+  pub tries : (a : Attempt) → IsTried w f s q a t → Tries (attempted w f) w.honest s q a t
+  tries (Finished r) tried = record {
+    tried = tried;
+    reply = tried.attempts.answer.reply;
+    tree = tried.attempts.answer.shown;
+    unfetched = λ id cause is. tried.attempts.answer.fault (fault.Fetch id cause) is;
+    cache = found_still tried.attempts.cache;
+  }
+  tries (Need k) tried =
+      let waits = tried.attempts.answer in
+      let grows = entries s.inodes t.inodes waits.keeps in
+      let left = some s.inodes.root t.inodes.root s.cache t.cache q k grows tried.attempts.cache waits.need in
+      record {
+        tried = tried;
+        needed = waits.need;
+        lacks = ap is_some waits.need.wanted.lacks;
+        still = λ j before. stay s.inodes.root t.inodes.root s.cache t.cache q j k grows tried.attempts.cache before waits.need;
+        tree = shown s.inodes t.inodes waits.keeps;
+        cache = found_still tried.attempts.cache;
+        some = left.0;
+        left = left.1;
+      }
+
+module _ {W F : Type 0} (w : Ghosts W) (f : Files F W) where
+  -- a turn looks at no entry
+  pub ticks : (s t : Checkout F) → IsTicked w f s t → Ticks (attempted w f) s t
+  ticks s t is = record {
+    ticked = is;
+    tree = ap (λ (u : Checkout F). shows w f u.inodes) is;
+    cache = λ k. ap (λ (u : Checkout F). is_some (object_at u.cache k)) is;
+    needs = λ q k need. subst (λ (u : Checkout F). IsRealNeed q u.inodes.root u.cache k) (sym is) need;
+    left = λ q. ap (λ (u : Checkout F). left u.inodes.root u.cache q) is;
+  }
+
+  -- an object that is kept is one that was needed, less
+  pub stores : LeftFalls → (s t : Checkout F) (k : Key) (o : Body) → IsPut w f s k o t → object_at t.cache k ≡ Some o → Stores (attempted w f) s k o t
+  stores falls s t k o put found = record {
+    kept = put;
+    tree = ap (shows w f) put.inodes;
+    cached = ap is_some found;
+    left = λ q need.
+    let root = ap (λ (u : Table F). u.root) put.inodes in
+    subst (λ (x : Row). left x t.cache q < left s.inodes.root s.cache q) (sym root) (falls s.inodes.root s.cache t.cache q k o need found);
+  }
+
+  pub stores_by : LeftFalls → (s t : Checkout F) (k : Key) (o : Body) (r : Result (Unit {0}) Body) → t.inodes ≡ s.inodes → t.root ≡ s.root
+      → OnOk r (KeepsObject s.cache k o t.cache.objects) → OnOk r (KeepsSize k.kind s.cache k.id (length o.bytes) t.cache.sizes) → OnOk r (object_at t.cache k ≡ Some o) → OnOk r (Stores (attempted w f) s k o t)
+  stores_by falls s t k o (Ok v) inodes root kept size found = stores falls s t k o (record { objects = kept; size = size; inodes = inodes; root = root }) found
+  stores_by falls s t k o (Err x) inodes root kept size found = kept
+
+  pub unloads : (s t : Checkout F) (p : Path) (age gone : ℕ) → IsUnloaded w f s p age gone t → (w.honest → shows w f t.inodes ≡ shows w f s.inodes) → Unloads (attempted w f) w.honest s p age gone t
+  unloads s t p age gone is same = record { unloaded = is; tree = same; cache = λ k. ap (λ (c : Cache). is_some (object_at c k)) is.cache }

@@ -1,0 +1,27 @@
+use Rattle.std.proofs.Common.{◌≡◌, ◌∙◌, sym, refl, ap, subst}
+use Rattle.eden_inode.specs.Tables.{Table}
+use Rattle.eden_mount.specs.Tables.{Tries, Ticks, Stores, Unloads}
+use Rattle.eden_checkout.specs.Attempted.{attempted}
+use Rattle.eden_checkout.specs.Checkouts.{Checkout}
+use Rattle.eden_ops.proofs.CallerLemmas.{lets_go}
+use Rattle.eden_checkout.proofs.Closed.{root_left, still_root}
+use Rattle.eden_checkout.proofs.Tries.{unloads}
+use Rattle.eden_checkout.proofs.attempted.CheckoutAttempts.unload.Goals as goal
+
+pub invariant_of-self : goal.invariant_of-self
+invariant_of-self g c =
+    let x = c.self.inside in
+    let e = c.unload.ensures in
+    let goes = lets_go g.W.World.honest x.inodes.clock c.args.older_than (g.F.Files.stored x.inodes.files) x.inodes.root (g.F.Files.stored c.unload.new.self.files) c.unload.new.self.root e.unloads.0 e.unloads.1.1 in
+    let origin = root_left c.as_slice.result.now x.inodes.root c.unload.new.self.root (goes c.as_slice.result.now e.elsewhere) in
+    (c.self.invariant.0, still_root x.root x.inodes.root.origin c.unload.new.self.root.origin c.self.invariant.1 origin)
+
+pub returns : goal.returns
+returns g c =
+    let x = c.self.inside in
+    let e = c.unload.ensures in
+    let s : Checkout _ = record { inodes = x.inodes; cache = x.cache; root = x.root } in
+    let t : Checkout _ = record { inodes = c.unload.new.self; cache = x.cache; root = x.root } in
+    subst (λ (u : Checkout _). Unloads (attempted g.W.World g.F.Files) g.W.World.honest u c.args.path.now c.args.older_than c.unload.result t) c.self.view_is
+    (unloads g.W.World g.F.Files s t c.args.path.now c.args.older_than c.unload.result
+    (record { count = e.unloads.0; counted = e.unloads.1.0; unloads = e.unloads.1.1; failures = e.counted; rest = e.rest; cache = refl; root = refl }) e.shown)

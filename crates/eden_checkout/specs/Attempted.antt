@@ -1,0 +1,59 @@
+-- What a mount knows of a checkout.
+use Rattle.std.specs.Prelude.{◌≡◌, ◌≤◌, ◌+◌, ◌-◌, ◌^◌, ℕ, min, length}
+use Rattle.std.specs.Option.{is_some}
+use Rattle.eden_model.specs.declared.attempt.Attempt.{Attempt}
+use Rattle.eden_model.specs.declared.id.Key.{Key}
+use Rattle.eden_model.specs.declared.request.Request.{Request}
+use Rattle.eden_model.specs.declared.world.World.{Ghosts}
+use Rattle.eden_model.specs.Trees.{Path}
+use Rattle.eden_object.specs.Objects.{Body}
+use Rattle.eden_overlay.specs.declared.files.Files.{Ghosts as Files}
+use Rattle.eden_cache.specs.Cache.{KeepsObject, KeepsSize}
+use Rattle.eden_tie.specs.Unloading.{Unloads}
+use Rattle.eden_mount.specs.Tables.{Table}
+use Rattle.eden_ops.specs.Attempts.{IsRealNeed, Attempts}
+use Rattle.eden_ops.specs.Caches.{object_at}
+use Rattle.eden_ops.specs.Keeping.{shows}
+use Rattle.eden_ops.specs.Leaving.{LeavesAfter}
+use Rattle.eden_ops.specs.Left.{left}
+use Rattle.eden_checkout.specs.Checkouts.{Checkout}
+
+module _ {W F : Type 0} (w : Ghosts W) (f : Files F W) where
+  -- the clock goes on, and stays at its end
+  abbrev pub IsTicked : Checkout F → Checkout F → Type 0
+  IsTicked s t = t ≡ record s { inodes = record s.inodes { clock = min (s.inodes.clock + 1) (2 ^ 64 - 1) } }
+
+  -- an attempt, as the table's and the cache's
+  pub record IsTried (s : Checkout F) (q : Request) (a : Attempt) (t : Checkout F) : Type 0 where
+    pub attempts : Attempts w f q s.inodes t.inodes s.cache t.cache a
+    pub leaves : LeavesAfter f q s.inodes t.inodes a
+    pub root : t.root ≡ s.root
+
+  -- the object is cached, and what is loaded stays as it is
+  pub record IsPut (s : Checkout F) (k : Key) (o : Body) (t : Checkout F) : Type 0 where
+    pub objects : KeepsObject s.cache k o t.cache.objects
+    pub size : KeepsSize k.kind s.cache k.id (length o.bytes) t.cache.sizes
+    pub inodes : t.inodes ≡ s.inodes
+    pub root : t.root ≡ s.root
+
+  -- so many directories went, and the cache stays as it is
+  pub record IsUnloaded (s : Checkout F) (p : Path) (age gone : ℕ) (t : Checkout F) : Type 0 where
+    pub count : ℕ
+    pub counted : gone ≡ min count (2 ^ 64 - 1)
+    pub unloads : Unloads w.honest s.inodes.clock age (f.stored s.inodes.files) s.inodes.root (f.stored t.inodes.files) t.inodes.root count
+    pub failures : f.failures s.inodes.files ≤ f.failures t.inodes.files
+    pub rest : (t.inodes.next ≡ s.inodes.next) × (t.inodes.clock ≡ s.inodes.clock)
+    pub cache : t.cache ≡ s.cache
+    pub root : t.root ≡ s.root
+
+  abbrev pub attempted : Table (Checkout F)
+  attempted = record {
+    shown = λ t. shows w f t.inodes;
+    caches = λ t k. is_some (object_at t.cache k);
+    needs = λ t q k. IsRealNeed q t.inodes.root t.cache k;
+    left = λ t q. left t.inodes.root t.cache q;
+    ticked = IsTicked;
+    tried = IsTried;
+    kept = IsPut;
+    unloaded = IsUnloaded;
+  }

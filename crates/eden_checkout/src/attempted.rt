@@ -1,0 +1,38 @@
+//! What a mount attempts over a checkout.
+use crate::checkout::Checkout;
+use eden_cache::cache_laws;
+use eden_model::{Attempt, Key, Path, Request, World};
+use eden_mount::Attempts;
+use eden_object::Object;
+use eden_ops::{attempt, keeps_laws, need_laws};
+use eden_overlay::Files;
+use std::alloc::{Allocator, Global};
+
+impl<A: Allocator + Clone, W: World, F: Files<W>> Attempts<W> for Checkout<A, W, F> {
+    ghost use Rattle.eden_checkout.specs.Attempted.{attempted};
+    ghost use Rattle.eden_ops.proofs.CallerLemmas.{few_are_left};
+
+    ghost table = { attempted W.World F.Files };
+
+    ghost few = { λ t q. few_are_left t.inodes.root t.cache q };
+
+    fn tick(&mut self) {
+        self.inodes.tick();
+    }
+
+    fn attempt(&mut self, alloc: Global, request: &Request) -> Attempt {
+        keeps_laws::<W, F>();
+        need_laws();
+        attempt(&mut self.inodes, &mut self.cache, alloc, request)
+    }
+
+    fn put(&mut self, key: Key, object: Object) -> Result<(), Object> {
+        cache_laws();
+        need_laws();
+        self.cache.put(key, object)
+    }
+
+    fn unload(&mut self, alloc: Global, path: &Path, older_than: u64) -> u64 {
+        self.inodes.unload(alloc, path.as_slice(), older_than)
+    }
+}
