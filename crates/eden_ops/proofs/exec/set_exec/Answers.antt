@@ -11,8 +11,11 @@ use Rattle.eden_model.specs.Trees.{Tree, Path, reach, graft}
 use Rattle.eden_overlay.specs.Held.{own_files}
 use Rattle.eden_tree.specs.Directory.{child_of}
 use Rattle.eden_tree.specs.Paths.{row_at}
+use Rattle.eden_tie.specs.Changing.{changed as changed_listing}
 use Rattle.eden_tie.specs.Filing.{leaf, content_shown}
+use Rattle.eden_tie.proofs.CallerLemmas.{loaded_there}
 use Rattle.eden_inode.specs.declared.seen.Seen.{Seen}
+use Rattle.eden_materialise.specs.Reforms.{of_kind}
 use Rattle.eden_model.specs.declared.attempt.Attempt.{Attempt}
 use Rattle.eden_ops.specs.Attempts.{Attempts, MeetsShown, IsShown}
 use Rattle.eden_ops.specs.Changes.{exec_kind}
@@ -21,6 +24,7 @@ use Rattle.eden_ops.proofs.Answering.{walk_ended, says_absent, says_at}
 use Rattle.eden_ops.proofs.Changing.{none_held, has_file, file_alone, changed, refused, sets_exec, asks_exec, sets_link, sets_dir, sets_file, exec_put}
 use Rattle.eden_ops.proofs.Looking.{IsPlain, plain_other}
 use Rattle.eden_ops.proofs.Reached.{seen_at, shown_at}
+use Rattle.eden_ops.proofs.Roots.{root_same, root_chained}
 use Rattle.eden_ops.proofs.Saving.{keeps_leaves, leaves_changed, fault_count, no_less}
 use Rattle.eden_ops.proofs.Seeing.{kept_dirs, shown_there}
 use Rattle.eden_ops.proofs.Telling.{as_dir, met_tells}
@@ -131,10 +135,21 @@ returns-in-Link-clause-leaves g c = keeps_leaves g.W.World g.F.Files c.args.inod
 pub returns-in-Ok-clause-leaves : goal.returns-in-Ok-clause-leaves
 returns-in-Ok-clause-leaves g c =
     let x = c.in-Ok.ensures in
-    leaves_changed g.W.World g.F.Files c.args.inodes.now c.meet.new.inodes c.set_kind.new.inodes c.meet.ensures.keeps x.stays x.saved (no_less c.meet.new.inodes.next c.set_kind.new.inodes.next x.rest.0) x.rest.1 (no_less (g.F.Files.failures c.meet.new.inodes.files) (g.F.Files.failures c.set_kind.new.inodes.files) x.counted)
+    let p = c.args.path.now in
+    let s = c.args.inodes.now in
+    let t = c.meet.new.inodes in
+    let above = c.in-Some.above.now in
+    let name = c.in-Some.name.now in
+    let split = sym c.as_slice.ensures ∙ c.in-Some.ensures.cases.0 in
+    let seen = seen_at g.W.World g.F.Files p s t c.meet.new.cache _ c.in-Ok-Some.seen c.in-Ok-Some.field-0-is c.in-Ok-Some.ensures.meets in
+    let other = c.what.ensures.other (plain_other c.what.result c.in-File.is) in
+    let plain = as_told seen.row.kind c.what.result (sym seen.kind ∙ other.1) c.in-File.is in
+    let has = has_file p above name t.root seen.row split seen.there (none_held (child_of seen.row) (sym seen.loaded ∙ other.0)) (plain_other seen.row.kind plain) in
+    let root = root_chained above t.root c.set_kind.new.inodes.root (λ d. changed_listing d name (Some (of_kind c.exec_kind.result seen.row))) (loaded_there above t.root has.row has.directory has.at has.holds) (x.ok seen.row has) in
+    leaves_changed g.W.World g.F.Files c.args.inodes.now c.meet.new.inodes c.set_kind.new.inodes c.meet.ensures.keeps x.stays root x.saved (no_less c.meet.new.inodes.next c.set_kind.new.inodes.next x.rest.0) x.rest.1 (no_less (g.F.Files.failures c.meet.new.inodes.files) (g.F.Files.failures c.set_kind.new.inodes.files) x.counted)
 
 pub returns-in-Err-set_kind-clause-leaves : goal.returns-in-Err-set_kind-clause-leaves
 returns-in-Err-set_kind-clause-leaves g c =
     let x = c.in-Err-set_kind.ensures in
-    leaves_changed g.W.World g.F.Files c.args.inodes.now c.meet.new.inodes c.set_kind.new.inodes c.meet.ensures.keeps x.stays x.saved (no_less c.meet.new.inodes.next c.set_kind.new.inodes.next x.rest.0) x.rest.1
+    leaves_changed g.W.World g.F.Files c.args.inodes.now c.meet.new.inodes c.set_kind.new.inodes c.meet.ensures.keeps x.stays (root_same c.meet.new.inodes.root c.set_kind.new.inodes.root x.err) x.saved (no_less c.meet.new.inodes.next c.set_kind.new.inodes.next x.rest.0) x.rest.1
     (fault_count (g.F.Files.failures c.meet.new.inodes.files) (g.F.Files.failures c.set_kind.new.inodes.files) c.in-Err-set_kind.fault x.fault)

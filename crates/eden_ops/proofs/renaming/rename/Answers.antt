@@ -1,13 +1,10 @@
-use Rattle.std.proofs.Common.{◌≡◌, false, Option, None, Some, Ok, Err, sym, refl, subst, ap, ◌∙◌}
+use Rattle.std.proofs.Common.{◌≡◌, false, Option, Ok, sym, refl, subst, ◌∙◌}
 use Rattle.eden_model.specs.declared.request.Request.TheVariants as ask
 use Rattle.eden_model.specs.Paths.{is_root}
-use Rattle.eden_model.specs.Trees.{Path, reach}
-use Rattle.eden_tree.specs.Paths.{row_at}
 use Rattle.eden_inode.specs.declared.seen.Seen.{Seen}
 use Rattle.eden_model.specs.declared.attempt.Attempt.{Attempt}
 use Rattle.eden_ops.specs.Attempts.{Attempts, MeetsShown}
-use Rattle.eden_ops.specs.Keeping.{shows, same}
-use Rattle.eden_ops.specs.Renames.{IsByPaths}
+use Rattle.eden_ops.specs.Keeping.{same}
 use Rattle.eden_ops.proofs.Answering.{first_ended, first_absent}
 use Rattle.eden_ops.proofs.TwoPaths.{moves, starts_rename, begins, plain_told, land_stopped, can_go, went, stayed, leaves_kept, leaves_moved}
 use Rattle.eden_ops.proofs.Steps.{keeps_on}
@@ -107,10 +104,10 @@ pub returns-in-Ok-relocate-clause-leaves : goal.returns-in-Ok-relocate-clause-le
 returns-in-Ok-relocate-clause-leaves g c =
     let x = c.in-Ok-relocate.ensures in
     leaves_moved g.W.World g.F.Files c.args.from.now c.args.to.now c.args.inodes.now c.land.new.inodes _ (keeps_on g.W.World g.F.Files c.args.inodes.now c.meet.new.inodes c.land.new.inodes c.meet.ensures.keeps c.land.ensures.keeps)
-    c.relocate.new.inodes x.loaded x.rest x.counted (λ fine. x.saved) x.marked
+    c.relocate.new.inodes x.loaded x.root x.rest x.counted (λ fine. x.saved) x.marked
 
 pub returns-in-Err-relocate-clause-leaves : goal.returns-in-Err-relocate-clause-leaves
 returns-in-Err-relocate-clause-leaves g c =
     let x = c.in-Err-relocate.ensures in
     leaves_moved g.W.World g.F.Files c.args.from.now c.args.to.now c.args.inodes.now c.land.new.inodes _ (keeps_on g.W.World g.F.Files c.args.inodes.now c.meet.new.inodes c.land.new.inodes c.meet.ensures.keeps c.land.ensures.keeps)
-    c.relocate.new.inodes x.loaded x.rest x.counted (λ fine. absurd (fine c.in-Err-relocate.fault refl)) x.marked
+    c.relocate.new.inodes x.loaded x.root x.rest x.counted (λ fine. absurd (fine c.in-Err-relocate.fault refl)) x.marked
