@@ -20,7 +20,7 @@ use Rattle.eden_model.specs.Histories.{fault_of}
 use Rattle.eden_model.specs.Operations.{At, Meets as Table_Meets, Refuses, Replies, after}
 use Rattle.eden_model.specs.Repository.{Repository}
 use Rattle.eden_model.specs.Shown.{node_from}
-use Rattle.eden_model.specs.Trees.{Path, Tree, Walk, Passes, Unlisted, through, walk_from, walk, Reach, Here, ends, reach}
+use Rattle.eden_model.specs.Trees.{Path, Tree, Walk, Unlisted, through, walk_from, walk, Reach, Here, ends, reach}
 use Rattle.eden_overlay.specs.declared.files.Files.{Ghosts as Files}
 use Rattle.eden_overlay.specs.Files.{Stored}
 use Rattle.eden_cache.specs.Cache.{Cache}

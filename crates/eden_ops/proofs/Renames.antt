@@ -1,15 +1,9 @@
 -- What stands where an entry is to go.
-use Rattle.std.proofs.Common.{◌≡◌, ◌≢◌, ◌⊎◌, ◌==◌, ◌&&◌, ◌++◌, ◌∷◌, ℕ, Bool, true, false, cond, List, [], length, if◌then◌else◌, Option, Some, None, Ok, Err, sym, refl, ◌∙◌, ap, subst, inl, inr}
-use Rattle.std.proofs.Math.Dec.{eqb-suc-zero}
-use Rattle.std.proofs.lemmas.Bool.{false≢true}
-use Rattle.std.specs.Cmp.Lexicographic.{nat_list_eq_equiv}
-use Rattle.std.specs.Option.{option_map, option_and_then, IsSome}
-use Rattle.std.specs.Str.{bytes_eq}
-use Rattle.eden_model.specs.declared.errno.Errno.{Errno}
+use Rattle.std.proofs.Common.{◌≡◌, ◌≢◌, ◌⊎◌, ℕ, Bool, true, false, List, [], Option, Some, None, Err, sym, refl, ◌∙◌, ap, subst, inl, inr}
+use Rattle.std.specs.Option.{option_map}
 use Rattle.eden_model.specs.declared.errno.Errno.TheVariants.{ENOTDIR, EISDIR, ENOTEMPTY}
 use Rattle.eden_model.specs.declared.fault.Fault.{Fault}
 use Rattle.eden_model.specs.declared.fault.Fault.TheVariants as fault
-use Rattle.eden_model.specs.declared.kind.Kind.{Kind}
 use Rattle.eden_model.specs.declared.kind.Kind.TheVariants as kind
 use Rattle.eden_model.specs.declared.node.Node.{Node}
 use Rattle.eden_model.specs.declared.node.Node.TheVariants.{Dir}
@@ -17,30 +11,24 @@ use Rattle.eden_model.specs.declared.request.Request.TheVariants as ask
 use Rattle.eden_model.specs.declared.reply.Reply.{Reply}
 use Rattle.eden_model.specs.declared.reply.Reply.TheVariants as say
 use Rattle.eden_model.specs.declared.world.World.{Ghosts}
-use Rattle.eden_model.specs.Named.{AreRising}
-use Rattle.eden_model.specs.Operations.{Meets as Table_Meets, Says, Replaces, IfEmpty, Removes, Unlinks, kind_at, kind_of}
+use Rattle.eden_model.specs.Operations.{Meets as Table_Meets, Says, Replaces, IfEmpty}
 use Rattle.eden_model.specs.Repository.{Repository, source_of, content_with}
 use Rattle.eden_model.specs.Shown.{node_from}
-use Rattle.eden_model.specs.Trees.{Name, Path, Tree, Walk, Passes, Unlisted, walk, Reach, Fails, Absent, Here, ends, reach}
+use Rattle.eden_model.specs.Trees.{Path, Tree, Walk, Passes, Unlisted, walk, Reach, Absent, Here, ends, reach}
 use Rattle.eden_overlay.specs.declared.files.Files.{Ghosts as Files}
 use Rattle.eden_overlay.specs.Files.{Stored}
 use Rattle.eden_overlay.specs.Held.{own_files}
 use Rattle.eden_cache.specs.Cache.{Cache}
-use Rattle.eden_tree.specs.Directory.{Row, Directory, child_of}
-use Rattle.eden_tree.specs.Rows.{find_row}
+use Rattle.eden_tree.specs.Directory.{Row}
 use Rattle.eden_tree.specs.Paths.{row_at}
-use Rattle.eden_tie.specs.Kept.{IsKept}
-use Rattle.eden_tie.specs.Shown.{shown_in}
-use Rattle.eden_tie.specs.ShownLaws.{ShowsBelow, ShowsAbsent}
-use Rattle.eden_tie.proofs.CallerLemmas.{and_then_some, map_some}
 use Rattle.eden_inode.specs.declared.seen.Seen.{Seen}
 use Rattle.eden_inode.specs.Tables.{Table}
 use Rattle.eden_ops.specs.declared.answer.Stop.{Stop}
 use Rattle.eden_ops.specs.declared.answer.Stop.TheVariants as stop
 use Rattle.eden_ops.specs.Attempts.{Wants, IsSeen, IsShown, Meets, MeetsShown, Lacks, shown_node}
-use Rattle.eden_ops.specs.Faults.{IsDamaged, WantsNumbers, IsCaused, IsLawful}
+use Rattle.eden_ops.specs.Faults.{IsCaused, IsLawful}
 use Rattle.eden_ops.specs.Keeping.{shows, Keeps}
-use Rattle.eden_ops.specs.Known.{content_known, known_node, known, place_on, IsLoadedAt}
+use Rattle.eden_ops.specs.Known.{content_known, known, place_on, IsLoadedAt}
 use Rattle.eden_ops.specs.Listings.{HasNoEntries, HasEntries}
 use Rattle.eden_ops.specs.Renames.{MayLand, Lands, LandsShown}
 use Rattle.eden_ops.proofs.Answering.{no_entry}
@@ -48,7 +36,6 @@ use Rattle.eden_ops.proofs.Fetching.{away, dir_kind, shown_kind}
 use Rattle.eden_ops.proofs.Looking.{lists_other, lists_away}
 use Rattle.eden_ops.proofs.Changing.{unlinks_file, unlinks_dir}
 use Rattle.eden_ops.proofs.Rounds.{lacks_since}
-use Rattle.eden_ops.proofs.Seeing.{kept_dirs}
 use Rattle.eden_ops.proofs.Walking.{walk_here, reach_here, place_passes, known_unloaded, known_dir}
 
 pub none_of_map : {X Y : Type 0} (f : X → Y) (o : Option X) → None ≡ option_map f o → o ≡ None

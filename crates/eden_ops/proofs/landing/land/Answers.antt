@@ -1,17 +1,14 @@
-use Rattle.std.proofs.Common.{◌≡◌, ◌≢◌, ◌⊎◌, if◌then◌else◌, Bool, true, Option, Ok, sym, subst, ap, ◌∙◌}
+use Rattle.std.proofs.Common.{sym, subst, ◌∙◌}
 use Rattle.eden_model.specs.declared.errno.Errno.TheVariants.{ENOTEMPTY}
 use Rattle.eden_model.specs.declared.reply.Reply.TheVariants as say
-use Rattle.eden_model.specs.Trees.{Tree, Path, reach}
+use Rattle.eden_model.specs.Trees.{Tree, reach}
 use Rattle.eden_tree.specs.Paths.{row_at}
-use Rattle.eden_inode.specs.declared.seen.Seen.{Seen}
-use Rattle.eden_ops.specs.Attempts.{IsSeen, IsShown, Meets, MeetsShown}
+use Rattle.eden_ops.specs.Attempts.{IsShown}
 use Rattle.eden_ops.specs.Keeping.{shows}
-use Rattle.eden_ops.specs.Known.{IsLoadedAt}
 use Rattle.eden_ops.specs.Renames.{MayLand}
-use Rattle.eden_ops.proofs.Finding.{finds_on}
 use Rattle.eden_ops.proofs.Looking.{no_dir}
 use Rattle.eden_ops.proofs.Reached.{seen_at, shown_at, met_passes}
-use Rattle.eden_ops.proofs.Renames.{land_ended, land_fails, land_free, land_over_file, file_refuses, dir_refuses, land_over_none, land_over_some, land_lacks, land_untold, loaded_passes}
+use Rattle.eden_ops.proofs.Renames.{land_ended, land_fails, land_over_file, land_over_none, land_over_some, land_lacks, loaded_passes}
 use Rattle.eden_ops.proofs.Steps.{keeps_on}
 use Rattle.eden_ops.proofs.landing.land.Goals as goal
 
