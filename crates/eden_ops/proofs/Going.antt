@@ -17,9 +17,10 @@ use Rattle.eden_tie.specs.Chains.{AreSaved, IsLoadedAt, StaysLoaded}
 use Rattle.eden_tie.specs.Unloading.{Unloads, none, one_more, same_files}
 use Rattle.eden_tie.proofs.CallerLemmas.{map_some, loaded_there, loaded_found}
 use Rattle.eden_inode.specs.Tables.{Table}
-use Rattle.eden_ops.specs.Changes.{IsOutside, LeavesOn}
+use Rattle.eden_ops.specs.Changes.{IsOutside, StaysOrBecomesOwn, LeavesOn}
 use Rattle.eden_ops.specs.Keeping.{Keeps}
 use Rattle.eden_ops.specs.Letting.{IsLeft, LetsGo}
+use Rattle.eden_ops.proofs.Roots.{root_left}
 use Rattle.eden_ops.proofs.Saving.{SavedAt, by_path, by_place, leaves_on, leaves_some, no_less}
 
 -- the entry v of what is left was there before
@@ -120,7 +121,7 @@ module _ {W F : Type 0} (w : Ghosts W) (f : Files F W) (p : Path) (s t u : Table
   pub leaves_gone : LeavesOn f (IsOutside p) s u
   leaves_gone =
       leaves_on f (IsOutside p) s t u (leaves_some w f (IsOutside p) s t keeps)
-      (record { loaded = λ q off is. loaded_elsewhere p t.root u.root g q off is; next = no_less t.next u.next rest.0; failures = counted; clock = rest.1 })
+      (record { loaded = λ q off is. loaded_elsewhere p t.root u.root g q off is; root = root_left p t.root u.root g; next = no_less t.next u.next rest.0; failures = counted; clock = rest.1 })
 
-  pub leaves_then : (v : Table F) → StaysLoaded u.root v.root → (v.next ≡ u.next) × (v.clock ≡ u.clock) → f.failures u.files ≤ f.failures v.files → LeavesOn f (IsOutside p) s v
-  leaves_then v stays still more = leaves_on f (IsOutside p) s u v leaves_gone (record { loaded = λ q off. stays q; next = no_less u.next v.next still.0; failures = more; clock = still.1 })
+  pub leaves_then : (v : Table F) → StaysLoaded u.root v.root → StaysOrBecomesOwn u.root.origin v.root.origin → (v.next ≡ u.next) × (v.clock ≡ u.clock) → f.failures u.files ≤ f.failures v.files → LeavesOn f (IsOutside p) s v
+  leaves_then v stays root still more = leaves_on f (IsOutside p) s u v leaves_gone (record { loaded = λ q off. stays q; root = root; next = no_less u.next v.next still.0; failures = more; clock = still.1 })

@@ -16,6 +16,7 @@ pub mod Listed
 pub mod Origins
 pub mod Telling
 pub mod Fetching
+pub mod Roots
 pub mod Saving
 pub mod Going
 pub mod Changing

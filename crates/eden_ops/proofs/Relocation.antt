@@ -32,6 +32,7 @@ use Rattle.eden_ops.specs.Relocating.{CanRelocate, IsUnloadedAt, IsCleared, Stay
 use Rattle.eden_ops.proofs.Changing.{none_held, is_in}
 use Rattle.eden_ops.proofs.Going.{kept_elsewhere, loaded_elsewhere, stays_there}
 use Rattle.eden_ops.proofs.Owned.{is_held, owned_held, behind_itself, owned_own, owned_still}
+use Rattle.eden_ops.proofs.Roots.{comes_on}
 use Rattle.eden_ops.proofs.Saving.{by_path}
 use Rattle.eden_ops.proofs.Walking.{front_loaded}
 
@@ -42,6 +43,7 @@ module _ {W F : Type 0} (w : Ghosts W) (f : Files F W) where
   readies_on s t u a one two = record {
     shown = λ h. two.shown h ∙ one.shown h;
     saved = λ all. two.saved (one.saved all);
+    root = comes_on s.root.origin t.root.origin u.root.origin one.root two.root;
     fault = subst (λ (k : ℕ). IfErr a (IsStoreFault k (f.failures u.files))) one.counted two.fault;
     counted = on_ok_weaker a (λ is. is ∙ one.counted) two.counted;
     next = two.next ∙ one.next;

@@ -1,5 +1,5 @@
 -- No directory is marked unsaved by what changes nothing.
-use Rattle.std.proofs.Common.{◌≡◌, ◌≤◌, ℕ, Bool, false, [], ◌∷◌, ◌++◌, Option, Some, None, sym, refl, ◌∙◌, ap, subst, inl, inr, arith}
+use Rattle.std.proofs.Common.{◌≡◌, ◌≤◌, ℕ, Bool, false, [], ◌∷◌, ◌++◌, Option, Some, None, Result, Ok, Err, OnOk, IfErr, sym, refl, ◌∙◌, ap, subst, inl, inr, arith}
 use Rattle.std.proofs.lemmas.Option.{same_Some, none-some}
 use Rattle.std.specs.Option.{option_map, option_and_then}
 use Rattle.eden_model.specs.declared.fault.Fault.{Fault}
@@ -18,9 +18,10 @@ use Rattle.eden_tie.specs.Loading.{IsNew, LoadsOwn}
 use Rattle.eden_tie.proofs.CallerLemmas.{map_some, place_at, none_inside, loaded_there, loaded_found}
 use Rattle.eden_inode.specs.Tables.{Table, HasNoTree}
 use Rattle.eden_materialise.specs.Faults.{IsStoreFault}
-use Rattle.eden_ops.specs.Changes.{LeavesOn, Leaves}
+use Rattle.eden_ops.specs.Changes.{StaysOrBecomesOwn, LeavesOn, Leaves}
 use Rattle.eden_ops.specs.Keeping.{Loads, from_object, without, Step, stamps, loads, rests, Keeps, same, on}
 use Rattle.eden_ops.specs.Laws.{Grows, KeepsLeaves}
+use Rattle.eden_ops.proofs.Roots.{comes_on, root_grows}
 use Rattle.eden_ops.proofs.Steps.{keeps_entries, keeps_counts}
 
 -- the mark of each loaded directory, by its path
@@ -121,7 +122,7 @@ module _ {W F : Type 0} (w : Ghosts W) (f : Files F W) where
   keeps_leaves s t k =
       let n = keeps_counts w f s t k in
       record {
-        everywhere = record { loaded = λ p all. grows_loads s.root t.root (keeps_entries w f s t k) p; next = n.1.1.0; failures = n.1.1.1; clock = n.0 };
+        everywhere = record { loaded = λ p all. grows_loads s.root t.root (keeps_entries w f s t k) p; root = root_grows s.root t.root (keeps_entries w f s t k); next = n.1.1.0; failures = n.1.1.1; clock = n.0 };
         saved = λ all. by_place t.root (steps_saved s t k (by_path s.root all));
       }
 
@@ -132,7 +133,7 @@ leaves_on f paths s t u a b =
     let m = b.next in
     let c = a.failures in
     let d = b.failures in
-    record { loaded = λ p in_them is. b.loaded p in_them (a.loaded p in_them is); next = omega (arith, n, m); failures = omega (arith, c, d); clock = b.clock ∙ a.clock }
+    record { loaded = λ p in_them is. b.loaded p in_them (a.loaded p in_them is); root = comes_on s.root.origin t.root.origin u.root.origin a.root b.root; next = omega (arith, n, m); failures = omega (arith, c, d); clock = b.clock ∙ a.clock }
 
 pub leaves_more : {W F : Type 0} (f : Files F W) (s t u : Table F) → Leaves f s t → Leaves f t u → Leaves f s u
 leaves_more f s t u a b = record { everywhere = leaves_on f (λ p. Unit {0}) s t u a.everywhere b.everywhere; saved = λ all. b.saved (a.saved all) }
@@ -142,13 +143,13 @@ module _ {W F : Type 0} (w : Ghosts W) (f : Files F W) where
   pub leaves_some : (paths : Path → Type 0) (s t : Table F) → Keeps w f s t → LeavesOn f paths s t
   leaves_some paths s t k =
       let a = (keeps_leaves w f s t k).everywhere in
-      record { loaded = λ p in_them. a.loaded p tt; next = a.next; failures = a.failures; clock = a.clock }
+      record { loaded = λ p in_them. a.loaded p tt; root = a.root; next = a.next; failures = a.failures; clock = a.clock }
 
   -- and then a change
-  pub leaves_changed : (s t u : Table F) → Keeps w f s t → StaysLoaded t.root u.root → (AreSaved t.root → AreSaved u.root) → t.next ≤ u.next → u.clock ≡ t.clock
+  pub leaves_changed : (s t u : Table F) → Keeps w f s t → StaysLoaded t.root u.root → StaysOrBecomesOwn t.root.origin u.root.origin → (AreSaved t.root → AreSaved u.root) → t.next ≤ u.next → u.clock ≡ t.clock
       → f.failures t.files ≤ f.failures u.files → Leaves f s u
-  leaves_changed s t u k stays saved next clock counted =
-      leaves_more f s t u (keeps_leaves w f s t k) (record { everywhere = record { loaded = λ p all. stays p; next = next; failures = counted; clock = clock }; saved = saved })
+  leaves_changed s t u k stays root saved next clock counted =
+      leaves_more f s t u (keeps_leaves w f s t k) (record { everywhere = record { loaded = λ p all. stays p; root = root; next = next; failures = counted; clock = clock }; saved = saved })
 
 pub no_less : (a b : ℕ) → b ≡ a → a ≤ b
 no_less a b is = omega (arith, is)
@@ -158,3 +159,8 @@ fault_count a b (fault.Fetch id cause) h = absurd h
 fault_count a b fault.Memory h = omega (arith, h)
 fault_count a b fault.Overlay h = h.kept
 fault_count a b fault.Numbers h = absurd h
+
+-- what an answer tells of the device's failures
+pub stored_count : (a : Result (Unit {0}) Fault) (m n : ℕ) → IfErr a (IsStoreFault m n) → OnOk a (n ≡ m) → m ≤ n
+stored_count (Ok u) m n fault kept = no_less m n kept
+stored_count (Err e) m n fault kept = fault_count m n e fault

@@ -38,6 +38,7 @@ use Rattle.eden_ops.specs.declared.answer.Stop.{Stop}
 use Rattle.eden_ops.specs.declared.answer.Stop.TheVariants as stop
 use Rattle.eden_ops.specs.Attempts.{Attempts, Wants, IsSeen, IsShown, Meets, MeetsShown, shown_node, stopped}
 use Rattle.eden_ops.specs.Caches.{FindsTheSame}
+use Rattle.eden_ops.specs.Changes.{StaysOrBecomesOwn}
 use Rattle.eden_ops.specs.Faults.{IsCaused, IsLawful}
 use Rattle.eden_ops.specs.Keeping.{shows, Keeps}
 use Rattle.eden_ops.specs.Known.{content_known, known_by, known_node, known, is_silent, place_on, place}
@@ -281,12 +282,12 @@ module _ {W F : Type 0} (w : Ghosts W) (f : Files F W) (from to : Path) (s t : T
       record { beside = leaves_some w f (IsBeside from to) s t keeps; saved = λ fine. saved; marked = λ all. saved_but from t.root (saved all) }
 
   -- .. after the change too
-  pub leaves_moved : (u : Table F) → StaysBeside from to t.root u.root → (u.next ≡ t.next) × (u.clock ≡ t.clock) → f.failures t.files ≤ f.failures u.files → (IsNoFault a → AreSaved t.root → AreSaved u.root)
+  pub leaves_moved : (u : Table F) → StaysBeside from to t.root u.root → StaysOrBecomesOwn t.root.origin u.root.origin → (u.next ≡ t.next) × (u.clock ≡ t.clock) → f.failures t.files ≤ f.failures u.files → (IsNoFault a → AreSaved t.root → AreSaved u.root)
       → (AreSaved t.root → AreSavedBut from u.root) → LeavesBeside f from to s u a
-  leaves_moved u stays rest counted saved marked =
+  leaves_moved u stays root rest counted saved marked =
       let before = (keeps_leaves w f s t keeps).saved in
       record {
-        beside = leaves_on f (IsBeside from to) s t u (leaves_some w f (IsBeside from to) s t keeps) (record { loaded = λ p o. stays p o.0 o.1; next = no_less t.next u.next rest.0; failures = counted; clock = rest.1 });
+        beside = leaves_on f (IsBeside from to) s t u (leaves_some w f (IsBeside from to) s t keeps) (record { loaded = λ p o. stays p o.0 o.1; root = root; next = no_less t.next u.next rest.0; failures = counted; clock = rest.1 });
         saved = λ fine all. saved fine (before all);
         marked = λ all. marked (before all);
       }

@@ -1,8 +1,10 @@
 -- What a change makes of an entry, and what it leaves of a table.
-use Rattle.std.specs.Prelude.{◌≡◌, ◌≢◌, ◌≤◌, ℕ, Bool, true, false, List, [], length, None}
+use Rattle.std.specs.Prelude.{◌≡◌, ◌≢◌, ◌≤◌, ◌⊎◌, ℕ, Bool, true, false, List, [], length, None}
 use Rattle.std.specs.Borrow.{Bor}
 use Rattle.eden_model.specs.declared.kind.Kind.{Kind}
 use Rattle.eden_model.specs.declared.kind.Kind.TheVariants as kind
+use Rattle.eden_model.specs.declared.kind.Origin.{Origin}
+use Rattle.eden_model.specs.declared.kind.Origin.TheVariants as origin
 use Rattle.eden_model.specs.declared.request.Request.{Request}
 use Rattle.eden_model.specs.declared.request.Request.TheVariants as ask
 use Rattle.eden_model.specs.Limits.{most_target}
@@ -29,10 +31,16 @@ pub data IsAdding (p : Path) : Request → NewEntry → Type 0 where
 abbrev pub IsOutside : Path → Path → Type 0
 IsOutside p q = behind_of p q ≡ None
 
+-- what came from there does so still, or became the mount's own
+abbrev pub StaysOrBecomesOwn : Origin → Origin → Type 0
+StaysOrBecomesOwn was now = (now ≡ was) ⊎ (now ≡ origin.Own)
+
 module _ {W F : Type 0} (f : Files F W) where
-  -- Whatever was answered: what was loaded on these paths is, numbers are only given, and the device's failures only rise.
+  -- Whatever was answered: what was loaded on these paths is, the root comes from where it came or is the mount's own, numbers
+  -- are only given, and the device's failures only rise.
   pub record LeavesOn (paths : Path → Type 0) (s t : Table F) : Type 0 where
     pub loaded : (p : Path) → paths p → IsLoadedAt p s.root → IsLoadedAt p t.root
+    pub root : StaysOrBecomesOwn s.root.origin t.root.origin
     pub next : s.next ≤ t.next
     pub failures : f.failures s.files ≤ f.failures t.files
     pub clock : t.clock ≡ s.clock

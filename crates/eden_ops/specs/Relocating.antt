@@ -12,6 +12,7 @@ use Rattle.eden_tie.specs.Laws.{owned}
 use Rattle.eden_tie.specs.Materialising.{owned_along}
 use Rattle.eden_inode.specs.Tables.{Table}
 use Rattle.eden_materialise.specs.Faults.{IsStoreFault}
+use Rattle.eden_ops.specs.Changes.{StaysOrBecomesOwn}
 use Rattle.eden_ops.specs.Keeping.{shows}
 
 -- The entry at the one path is there, and the directory above the other is loaded; neither path is a front of the other.
@@ -50,6 +51,7 @@ module _ {W F : Type 0} (w : Ghosts W) (f : Files F W) where
   pub record Readies (s t : Table F) (answer : Result (Unit {0}) Fault) : Type 0 where
     pub shown : w.honest → shows w f t ≡ shows w f s
     pub saved : AreSaved s.root → AreSaved t.root
+    pub root : StaysOrBecomesOwn s.root.origin t.root.origin
     pub fault : IfErr answer (IsStoreFault (f.failures s.files) (f.failures t.files))
     pub counted : OnOk answer (f.failures t.files ≡ f.failures s.files)
     pub next : t.next ≡ s.next

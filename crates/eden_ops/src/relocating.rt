@@ -3,6 +3,7 @@ ghost use Rattle.std.specs.Prelude.{◌≡◌, ◌≤◌, OnOk, OnErr, IfErr};
 ghost use Rattle.eden_model.specs.Operations.{move};
 ghost use Rattle.eden_tie.specs.Chains.{AreSaved, IsLoadedAt, StaysLoaded};
 ghost use Rattle.eden_materialise.specs.Faults.{IsStoreFault};
+ghost use Rattle.eden_ops.specs.Changes.{StaysOrBecomesOwn};
 ghost use Rattle.eden_ops.specs.Keeping.{shows};
 ghost use Rattle.eden_ops.specs.Relocating.{CanRelocate, IsCleared, StaysBeside, AreSavedBut, both_owned, Readies};
 
@@ -64,6 +65,7 @@ pub(crate) fn relocate<A: Allocator + Clone, W: World, F: Files<W>>(
     ensures counted { F.failures inodes.old.files ≤ F.failures inodes.new.files }
     ensures loaded { StaysBeside from.now to.now inodes.old.root inodes.new.root }
     ensures saved { OnOk result (AreSaved inodes.old.root → AreSaved inodes.new.root) }
+    ensures root { StaysOrBecomesOwn inodes.old.root.origin inodes.new.root.origin }
     ensures marked { AreSaved inodes.old.root → AreSavedBut from.now inodes.new.root }
     ensures rest { (inodes.new.next ≡ inodes.old.next) × (inodes.new.clock ≡ inodes.old.clock) }
 {

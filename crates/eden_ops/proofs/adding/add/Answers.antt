@@ -1,19 +1,22 @@
-use Rattle.std.proofs.Common.{◌==◌, ℕ, ◌++◌, ◌∷◌, Option, Ok, Err, sym, refl, subst, ap, ◌∙◌}
+use Rattle.std.proofs.Common.{◌==◌, ℕ, ◌++◌, ◌∷◌, Option, Some, Ok, Err, sym, refl, subst, ap, ◌∙◌}
 use Rattle.eden_model.specs.declared.errno.Errno.TheVariants.{EEXIST}
 use Rattle.eden_model.specs.declared.reply.Reply.TheVariants as say
 use Rattle.eden_model.specs.Operations.{Meets as Table_Meets, Says}
 use Rattle.eden_model.specs.Paths.{is_root}
 use Rattle.eden_model.specs.Trees.{Tree, Path, Reach, reach, graft}
 use Rattle.eden_tree.specs.Paths.{row_at}
+use Rattle.eden_tie.specs.Changing.{changed as changed_listing}
 use Rattle.eden_tie.specs.Filing.{leaf}
+use Rattle.eden_tie.proofs.CallerLemmas.{loaded_there}
 use Rattle.eden_inode.specs.declared.seen.Seen.{Seen}
-use Rattle.eden_materialise.specs.Filing.{node_as}
+use Rattle.eden_materialise.specs.Filing.{node_as, own_row}
 use Rattle.eden_model.specs.declared.attempt.Attempt.{Attempt}
 use Rattle.eden_ops.specs.Attempts.{Attempts, Meets, MeetsShown, IsShown}
 use Rattle.eden_ops.specs.Keeping.{shows}
 use Rattle.eden_ops.proofs.Additions.{adds, asked_add, short_new, lacks_entry, absent_alone, put_new, not_added, root_refused, add_count, given_more, one_given}
 use Rattle.eden_ops.proofs.Answering.{walk_ended, says_here}
 use Rattle.eden_ops.proofs.Changing.{not_root, changed}
+use Rattle.eden_ops.proofs.Roots.{root_same, root_chained}
 use Rattle.eden_ops.proofs.Saving.{keeps_leaves, leaves_changed, no_less}
 use Rattle.eden_ops.proofs.Seeing.{kept_dirs}
 use Rattle.eden_ops.proofs.adding.add.Goals as goal
@@ -74,7 +77,13 @@ returns-in-Ok-clause-leaves g c =
     let x = c.in-Ok.ensures in
     let t = c.meet.new.inodes in
     let u = c.add_entry.new.inodes in
-    leaves_changed g.W.World g.F.Files c.args.inodes.now t u c.meet.ensures.keeps x.stays x.saved (one_given t.next u.next x.next) x.rest
+    let p = c.args.path.now in
+    let above = c.in-Some.above.now in
+    let name = c.in-Some.name.now in
+    let met = subst (λ (o : Option Seen). Meets g.W.World g.F.Files p c.args.inodes.now t c.meet.new.cache (Ok o)) c.in-Ok-None.field-0-is c.in-Ok-None.ensures.meets in
+    let lacks = lacks_entry p above name t.root (sym c.as_slice.ensures ∙ c.in-Some.ensures.cases.0) met.0 met.1 in
+    let root = root_chained above t.root u.root (λ d. changed_listing d name (Some (own_row t.next c.args.new))) (loaded_there above t.root lacks.row lacks.directory lacks.at lacks.holds) x.ok in
+    leaves_changed g.W.World g.F.Files c.args.inodes.now t u c.meet.ensures.keeps x.stays root x.saved (one_given t.next u.next x.next) x.rest
     (no_less (g.F.Files.failures t.files) (g.F.Files.failures u.files) x.counted)
 
 pub returns-in-Err-add_entry-clause-attempts : goal.returns-in-Err-add_entry-clause-attempts
@@ -92,7 +101,7 @@ returns-in-Err-add_entry-clause-leaves g c =
     let x = c.in-Err-add_entry.ensures in
     let t = c.meet.new.inodes in
     let u = c.add_entry.new.inodes in
-    leaves_changed g.W.World g.F.Files c.args.inodes.now t u c.meet.ensures.keeps x.stays x.saved (given_more t.next u.next _ _ x.given) x.rest
+    leaves_changed g.W.World g.F.Files c.args.inodes.now t u c.meet.ensures.keeps x.stays (root_same t.root u.root x.err) x.saved (given_more t.next u.next _ _ x.given) x.rest
     (add_count t.next (g.F.Files.failures t.files) (g.F.Files.failures u.files) c.in-Err-add_entry.fault x.fault)
 
 pub returns-in_default-clause-attempts : goal.returns-in_default-clause-attempts

@@ -7,6 +7,7 @@ use Rattle.eden_model.specs.declared.request.Request.TheVariants as ask
 use Rattle.eden_model.specs.Operations.{IfEmpty, Removes}
 use Rattle.eden_model.specs.Trees.{Tree, Path, reach, graft}
 use Rattle.eden_tree.specs.Paths.{row_at}
+use Rattle.eden_tie.specs.Changing.{changed as changed_listing}
 use Rattle.eden_tie.proofs.CallerLemmas.{map_some}
 use Rattle.eden_inode.specs.declared.seen.Seen.{Seen}
 use Rattle.eden_model.specs.declared.attempt.Attempt.{Attempt}
@@ -23,6 +24,8 @@ use Rattle.eden_ops.proofs.Finding.{finds_on}
 use Rattle.eden_ops.proofs.Going.{leaves_gone, leaves_then, stays_there}
 use Rattle.eden_ops.proofs.Looking.{no_dir, lists_other, lists_away}
 use Rattle.eden_ops.proofs.Reached.{seen_at}
+use Rattle.eden_ops.proofs.Relocation.{above_loaded}
+use Rattle.eden_ops.proofs.Roots.{root_same, root_chained}
 use Rattle.eden_ops.proofs.Rounds.{lacks_since}
 use Rattle.eden_ops.proofs.Saving.{keeps_leaves, leaves_some, fault_count}
 use Rattle.eden_ops.proofs.Steps.{keeps_on, keeps_counts}
@@ -211,9 +214,15 @@ returns-in-Ok-clause-leaves g c =
     let u = c.bring_seen.new.inodes in
     let v = c.let_go.new.inodes in
     let x = c.in-Ok.ensures in
+    let above = c.in-Some.above.now in
+    let name = c.in-Some.name.now in
     let goes = subst (λ (q : Path). LetsGo q u.root v.root) c.as_slice-2.ensures c.let_go.ensures.goes in
+    let y = map_some known_node (row_at p u.root) (Dir true) (sym c.in_default-bring_seen.ensures.ok) in
+    let there = stays_there p u.root v.root goes y.0 y.1.0 in
+    let loaded = above_loaded v.root there.0 p above name (sym c.as_slice.ensures ∙ c.in-Some.ensures.cases.0) there.1.0 in
+    let root = root_chained above v.root c.remove_entry.new.inodes.root (λ d. changed_listing d name None) loaded x.ok in
     leaves_then g.W.World g.F.Files p s u v (keeps_on g.W.World g.F.Files s c.meet.new.inodes u c.meet.ensures.keeps c.bring_seen.ensures.keeps) goes c.let_go.ensures.rest c.let_go.ensures.counted
-    c.remove_entry.new.inodes x.stays x.rest x.counted
+    c.remove_entry.new.inodes x.stays root x.rest x.counted
 
 pub returns-in-Ok-clause-saved : goal.returns-in-Ok-clause-saved
 returns-in-Ok-clause-saved g c all =
@@ -246,7 +255,7 @@ returns-in-Err-remove_entry-clause-leaves g c =
     let x = c.in-Err-remove_entry.ensures in
     let goes = subst (λ (q : Path). LetsGo q u.root v.root) c.as_slice-2.ensures c.let_go.ensures.goes in
     leaves_then g.W.World g.F.Files p s u v (keeps_on g.W.World g.F.Files s c.meet.new.inodes u c.meet.ensures.keeps c.bring_seen.ensures.keeps) goes c.let_go.ensures.rest c.let_go.ensures.counted
-    z x.stays x.rest (fault_count (g.F.Files.failures v.files) (g.F.Files.failures z.files) c.in-Err-remove_entry.fault x.fault)
+    z x.stays (root_same v.root z.root x.err) x.rest (fault_count (g.F.Files.failures v.files) (g.F.Files.failures z.files) c.in-Err-remove_entry.fault x.fault)
 
 pub returns-in-Err-remove_entry-clause-saved : goal.returns-in-Err-remove_entry-clause-saved
 returns-in-Err-remove_entry-clause-saved g c all =

@@ -9,7 +9,10 @@ use Rattle.eden_model.specs.Shown.{node_from}
 use Rattle.eden_model.specs.Trees.{Tree, Path, graft}
 use Rattle.eden_overlay.specs.Held.{own_files}
 use Rattle.eden_tree.specs.Paths.{row_at}
+use Rattle.eden_tie.specs.Changing.{changed as changed_listing}
 use Rattle.eden_tie.specs.Filing.{leaf, content_shown}
+use Rattle.eden_tie.proofs.CallerLemmas.{loaded_there}
+use Rattle.eden_materialise.specs.Reforms.{of_kind}
 use Rattle.eden_model.specs.declared.attempt.Attempt.{Attempt}
 use Rattle.eden_ops.specs.Attempts.{Attempts}
 use Rattle.eden_ops.specs.Requests.{for_exec}
@@ -19,6 +22,7 @@ use Rattle.eden_ops.proofs.Answering.{says_at}
 use Rattle.eden_ops.proofs.Changing.{has_file, file_alone, changed, refused, sets_exec, sets_file, exec_put}
 use Rattle.eden_ops.proofs.Fetching.{away}
 use Rattle.eden_ops.proofs.Looking.{IsPlain, plain_other}
+use Rattle.eden_ops.proofs.Roots.{root_same, root_chained}
 use Rattle.eden_ops.proofs.Saving.{keeps_leaves, leaves_changed, fault_count, no_less}
 use Rattle.eden_ops.proofs.Seeing.{kept_dirs, shown_there}
 use Rattle.eden_ops.proofs.exec.set_exec.Goals as goal
@@ -82,10 +86,18 @@ returns-in-Err-clause-leaves g c = keeps_leaves g.W.World g.F.Files c.args.inode
 pub returns-in-Ok-set_kind-clause-leaves : goal.returns-in-Ok-set_kind-clause-leaves
 returns-in-Ok-set_kind-clause-leaves g c =
     let x = c.in-Ok-set_kind.ensures in
-    leaves_changed g.W.World g.F.Files c.args.inodes.now c.meet_file.new.inodes c.set_kind.new.inodes c.meet_file.ensures.keeps x.stays x.saved (no_less c.meet_file.new.inodes.next c.set_kind.new.inodes.next x.rest.0) x.rest.1 (no_less (g.F.Files.failures c.meet_file.new.inodes.files) (g.F.Files.failures c.set_kind.new.inodes.files) x.counted)
+    let e = c.in-Ok.ensures in
+    let t = c.meet_file.new.inodes in
+    let above = c.in-Some.above.now in
+    let name = c.in-Some.name.now in
+    let seen = e.file.entry in
+    let plain = subst IsPlain seen.kind e.file.plain in
+    let has = has_file c.args.path.now above name t.root seen.row (sym c.as_slice.ensures ∙ c.in-Some.ensures.cases.0) seen.there (away c.args.path.now t.root c.in-Ok.field-0 seen e.file.away) (plain_other seen.row.kind plain) in
+    let root = root_chained above t.root c.set_kind.new.inodes.root (λ d. changed_listing d name (Some (of_kind c.exec_kind.result seen.row))) (loaded_there above t.root has.row has.directory has.at has.holds) (x.ok seen.row has) in
+    leaves_changed g.W.World g.F.Files c.args.inodes.now c.meet_file.new.inodes c.set_kind.new.inodes c.meet_file.ensures.keeps x.stays root x.saved (no_less c.meet_file.new.inodes.next c.set_kind.new.inodes.next x.rest.0) x.rest.1 (no_less (g.F.Files.failures c.meet_file.new.inodes.files) (g.F.Files.failures c.set_kind.new.inodes.files) x.counted)
 
 pub returns-in-Err-set_kind-clause-leaves : goal.returns-in-Err-set_kind-clause-leaves
 returns-in-Err-set_kind-clause-leaves g c =
     let x = c.in-Err-set_kind.ensures in
-    leaves_changed g.W.World g.F.Files c.args.inodes.now c.meet_file.new.inodes c.set_kind.new.inodes c.meet_file.ensures.keeps x.stays x.saved (no_less c.meet_file.new.inodes.next c.set_kind.new.inodes.next x.rest.0) x.rest.1
+    leaves_changed g.W.World g.F.Files c.args.inodes.now c.meet_file.new.inodes c.set_kind.new.inodes c.meet_file.ensures.keeps x.stays (root_same c.meet_file.new.inodes.root c.set_kind.new.inodes.root x.err) x.saved (no_less c.meet_file.new.inodes.next c.set_kind.new.inodes.next x.rest.0) x.rest.1
     (fault_count (g.F.Files.failures c.meet_file.new.inodes.files) (g.F.Files.failures c.set_kind.new.inodes.files) c.in-Err-set_kind.fault x.fault)

@@ -1,16 +1,20 @@
+use Rattle.std.proofs.Common.{ap, inr}
+use Rattle.eden_tree.specs.Directory.{Row}
+use Rattle.eden_tie.specs.Materialising.{owned_along}
 use Rattle.eden_ops.proofs.Relocation.{readies_on, readies_err}
+use Rattle.eden_ops.proofs.Roots.{root_same, root_owned}
 use Rattle.eden_ops.proofs.relocating.own_both.Goals as goal
 
 pub returns-in_err-materialise-clause-readies : goal.returns-in_err-materialise-clause-readies
 returns-in_err-materialise-clause-readies g c =
     let e = c.in_err-materialise.ensures in
     readies_err g.W.World g.F.Files c.args.inodes.now c.materialise.new.inodes c.from_residual.result c.in_err-materialise.field-0.0 c.from_residual.ensures.0 c.from_residual.ensures.1
-    (record { shown = e.shown; saved = e.saved; fault = e.fault; counted = tt; next = e.rest.0; clock = e.rest.1 })
+    (record { shown = e.shown; saved = e.saved; root = root_same c.args.inodes.now.root c.materialise.new.inodes.root e.err; fault = e.fault; counted = tt; next = e.rest.0; clock = e.rest.1 })
 
 pub returns-clause-readies : goal.returns-clause-readies
 returns-clause-readies g c =
     let a = c.in_ok-materialise.ensures in
     let b = c.materialise-2.ensures in
     readies_on g.W.World g.F.Files c.args.inodes.now c.materialise.new.inodes c.materialise-2.new.inodes c.materialise-2.result
-    (record { shown = a.shown; saved = a.saved; fault = tt; counted = a.counted; next = a.rest.0; clock = a.rest.1 })
-    (record { shown = b.shown; saved = b.saved; fault = b.fault; counted = b.counted; next = b.rest.0; clock = b.rest.1 })
+    (record { shown = a.shown; saved = a.saved; root = inr (ap (λ (r : Row). r.origin) a.ok); fault = tt; counted = a.counted; next = a.rest.0; clock = a.rest.1 })
+    (record { shown = b.shown; saved = b.saved; root = root_owned c.materialise-2.result c.materialise.new.inodes.root (owned_along c.args.other.now c.materialise.new.inodes.root) c.materialise-2.new.inodes.root b.ok b.err; fault = b.fault; counted = b.counted; next = b.rest.0; clock = b.rest.1 })

@@ -4,6 +4,7 @@ use Rattle.eden_ops.specs.Keeping.{shows}
 use Rattle.eden_ops.specs.Relocating.{AreSavedBut}
 use Rattle.eden_ops.proofs.Bringing.{on_err}
 use Rattle.eden_ops.proofs.Relocation.{above_loaded, can_move, moves_shown, saved_but, unmoved_but}
+use Rattle.eden_ops.proofs.Roots.{comes_on, root_moved, root_unmoved}
 use Rattle.eden_ops.proofs.relocating.relocate.Goals as goal
 
 pub returns-in_err-clear_both-clause-err : goal.returns-in_err-clear_both-clause-err
@@ -11,6 +12,9 @@ returns-in_err-clear_both-clause-err g c = λ h. on_err c.from_residual.result _
 
 pub returns-in_err-clear_both-clause-marked : goal.returns-in_err-clear_both-clause-marked
 returns-in_err-clear_both-clause-marked g c = λ all. saved_but c.args.from.now c.clear_both.new.inodes.root (c.in_err-clear_both.ensures.readies.saved all)
+
+pub returns-in_err-clear_both-clause-root : goal.returns-in_err-clear_both-clause-root
+returns-in_err-clear_both-clause-root g c = c.in_err-clear_both.ensures.readies.root
 
 pub own_both-requires-clause-one : goal.own_both-requires-clause-one
 own_both-requires-clause-one g c =
@@ -22,6 +26,10 @@ returns-in_err-own_both-clause-err g c = λ h. on_err c.from_residual-in_err-own
 
 pub returns-in_err-own_both-clause-marked : goal.returns-in_err-own_both-clause-marked
 returns-in_err-own_both-clause-marked g c = λ all. saved_but c.args.from.now c.own_both.new.inodes.root (c.in_err-own_both.ensures.readies.saved (c.in_ok-clear_both.ensures.readies.saved all))
+
+pub returns-in_err-own_both-clause-root : goal.returns-in_err-own_both-clause-root
+returns-in_err-own_both-clause-root g c =
+    comes_on c.args.inodes.now.root.origin c.clear_both.new.inodes.root.origin c.own_both.new.inodes.root.origin c.in_ok-clear_both.ensures.readies.root c.in_err-own_both.ensures.readies.root
 
 pub move_entry-requires : goal.move_entry-requires
 move_entry-requires g c =
@@ -47,6 +55,15 @@ returns-in_err-move_entry-clause-marked g c = λ all.
     g.W.World.honest (g.F.Files.stored u.files) (g.F.Files.stored v.files) v.root c.in_err-move_entry.ensures.err
     (c.in_ok-own_both.ensures.readies.saved (c.in_ok-clear_both.ensures.readies.saved all)))
 
+pub returns-in_err-move_entry-clause-root : goal.returns-in_err-move_entry-clause-root
+returns-in_err-move_entry-clause-root g c =
+    let u = c.own_both.new.inodes in
+    let v = c.move_entry.new.inodes in
+    comes_on c.args.inodes.now.root.origin u.root.origin v.root.origin
+    (comes_on c.args.inodes.now.root.origin c.clear_both.new.inodes.root.origin u.root.origin c.in_ok-clear_both.ensures.readies.root c.in_ok-own_both.ensures.readies.root)
+    (root_unmoved g.W.World.honest c.in-Some.above.now c.in-Some.name.now c.in-Some-split_last.new_above.now c.in-Some-split_last.new_name.now
+    (g.F.Files.stored u.files) u.root (g.F.Files.stored v.files) v.root c.in_err-move_entry.ensures.err)
+
 pub returns-clause-ok : goal.returns-clause-ok
 returns-clause-ok g c = λ h.
     moves_shown (shows g.W.World g.F.Files c.move_entry.new.inodes) (shows g.W.World g.F.Files c.own_both.new.inodes) (shows g.W.World g.F.Files c.args.inodes.now) c.args.from.now c.args.to.now
@@ -60,3 +77,12 @@ returns-clause-saved g c = λ all. c.in_ok-move_entry.ensures.saved (c.in_ok-own
 pub returns-clause-marked : goal.returns-clause-marked
 returns-clause-marked g c = λ all.
     saved_but c.args.from.now c.move_entry.new.inodes.root (c.in_ok-move_entry.ensures.saved (c.in_ok-own_both.ensures.readies.saved (c.in_ok-clear_both.ensures.readies.saved all)))
+
+pub returns-clause-root : goal.returns-clause-root
+returns-clause-root g c =
+    let u = c.own_both.new.inodes in
+    let v = c.move_entry.new.inodes in
+    comes_on c.args.inodes.now.root.origin u.root.origin v.root.origin
+    (comes_on c.args.inodes.now.root.origin c.clear_both.new.inodes.root.origin u.root.origin c.in_ok-clear_both.ensures.readies.root c.in_ok-own_both.ensures.readies.root)
+    (root_moved g.W.World.honest c.in-Some.above.now c.in-Some.name.now c.in-Some-split_last.new_above.now c.in-Some-split_last.new_name.now
+    (g.F.Files.stored u.files) u.root (g.F.Files.failures u.files) (g.F.Files.stored v.files) v.root (g.F.Files.failures v.files) c.in_ok-move_entry.ensures.ok)

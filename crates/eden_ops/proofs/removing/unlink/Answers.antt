@@ -9,6 +9,7 @@ use Rattle.eden_model.specs.Trees.{Tree, Path, reach, graft}
 use Rattle.eden_overlay.specs.Held.{own_files}
 use Rattle.eden_tree.specs.Directory.{child_of}
 use Rattle.eden_tree.specs.Paths.{row_at}
+use Rattle.eden_tie.specs.Changing.{changed as changed_listing}
 use Rattle.eden_inode.specs.declared.seen.Seen.{Seen}
 use Rattle.eden_model.specs.declared.attempt.Attempt.{Attempt}
 use Rattle.eden_ops.specs.Attempts.{Attempts, MeetsShown, IsShown}
@@ -16,6 +17,8 @@ use Rattle.eden_ops.specs.Keeping.{shows}
 use Rattle.eden_ops.proofs.Answering.{walk_ended, says_absent, says_at}
 use Rattle.eden_ops.proofs.Changing.{not_root, none_held, has_entry, put_alone, file_alone, changed, refused, unlinks, asks_unlink, unlinks_file, unlinks_dir}
 use Rattle.eden_ops.proofs.Reached.{seen_at, shown_at}
+use Rattle.eden_ops.proofs.Relocation.{above_loaded}
+use Rattle.eden_ops.proofs.Roots.{root_same, root_chained}
 use Rattle.eden_ops.proofs.Saving.{keeps_leaves, leaves_changed, fault_count, no_less}
 use Rattle.eden_ops.proofs.Seeing.{kept_dirs}
 use Rattle.eden_ops.proofs.Telling.{as_dir, met_tells}
@@ -110,10 +113,17 @@ returns-in-Dir-clause-leaves g c = keeps_leaves g.W.World g.F.Files c.args.inode
 pub returns-in-Ok-clause-leaves : goal.returns-in-Ok-clause-leaves
 returns-in-Ok-clause-leaves g c =
     let x = c.in-Ok.ensures in
-    leaves_changed g.W.World g.F.Files c.args.inodes.now c.meet.new.inodes c.remove_entry.new.inodes c.meet.ensures.keeps x.stays x.saved (no_less c.meet.new.inodes.next c.remove_entry.new.inodes.next x.rest.0) x.rest.1 x.counted
+    let p = c.args.path.now in
+    let t = c.meet.new.inodes in
+    let above = c.in-Some.above.now in
+    let name = c.in-Some.name.now in
+    let seen = seen_at g.W.World g.F.Files p c.args.inodes.now t c.meet.new.cache _ c.in-Ok-Some.seen c.in-Ok-Some.field-0-is c.in-Ok-Some.ensures.meets in
+    let loaded = above_loaded t.root seen.row p above name (sym c.as_slice.ensures ∙ c.in-Some.ensures.cases.0) seen.there in
+    let root = root_chained above t.root c.remove_entry.new.inodes.root (λ d. changed_listing d name None) loaded x.ok in
+    leaves_changed g.W.World g.F.Files c.args.inodes.now c.meet.new.inodes c.remove_entry.new.inodes c.meet.ensures.keeps x.stays root x.saved (no_less c.meet.new.inodes.next c.remove_entry.new.inodes.next x.rest.0) x.rest.1 x.counted
 
 pub returns-in-Err-remove_entry-clause-leaves : goal.returns-in-Err-remove_entry-clause-leaves
 returns-in-Err-remove_entry-clause-leaves g c =
     let x = c.in-Err-remove_entry.ensures in
-    leaves_changed g.W.World g.F.Files c.args.inodes.now c.meet.new.inodes c.remove_entry.new.inodes c.meet.ensures.keeps x.stays x.saved (no_less c.meet.new.inodes.next c.remove_entry.new.inodes.next x.rest.0) x.rest.1
+    leaves_changed g.W.World g.F.Files c.args.inodes.now c.meet.new.inodes c.remove_entry.new.inodes c.meet.ensures.keeps x.stays (root_same c.meet.new.inodes.root c.remove_entry.new.inodes.root x.err) x.saved (no_less c.meet.new.inodes.next c.remove_entry.new.inodes.next x.rest.0) x.rest.1
     (fault_count (g.F.Files.failures c.meet.new.inodes.files) (g.F.Files.failures c.remove_entry.new.inodes.files) c.in-Err-remove_entry.fault x.fault)
