@@ -6,7 +6,6 @@ use Rattle.eden_model.specs.declared.kind.Kind.TheVariants as kind
 use Rattle.eden_model.specs.declared.kind.Origin.{Origin}
 use Rattle.eden_model.specs.declared.kind.Origin.TheVariants as origin
 use Rattle.eden_model.specs.Repository.{Repository}
-use Rattle.eden_model.specs.Trees.{Path}
 use Rattle.eden_overlay_format.specs.declared.state.State.{State}
 use Rattle.eden_overlay_format.specs.declared.stored_entry.StoredEntry.{StoredEntry}
 use Rattle.eden_overlay_format.specs.declared.header.Identifier.TheVariants as identifier
@@ -19,7 +18,6 @@ use Rattle.eden_overlay.specs.Held.{HoldsState, with_state, without}
 use Rattle.eden_overlay.specs.Soundness.{HoldsKind, IsLive, Names}
 use Rattle.eden_overlay.proofs.CallerLemmas.{nothing_there}
 use Rattle.eden_tree.specs.Directory.{Child, unloaded, loaded, Row, directory_in, child_of}
-use Rattle.eden_tree.specs.Paths.{Standing, standing, standing_at}
 use Rattle.eden_tie.specs.Kept.{IsTable, IsKept}
 use Rattle.eden_tie.specs.Laws.{TiesSound, NumbersBelow}
 use Rattle.eden_tie.specs.Loose.{the_state}
@@ -27,14 +25,7 @@ use Rattle.eden_tie.specs.Shown.{shown_in}
 use Rattle.eden_tie.proofs.CallerLemmas.{loose_alike}
 use Rattle.eden_inode.specs.Tables.{fresh_root}
 use Rattle.eden_ops.specs.Changes.{StaysOrBecomesOwn}
-use Rattle.eden_ops.specs.Letting.{LetsGo}
 use Rattle.eden_checkout.specs.Opening.{root_from, files_show, IsRootOf, CanOpen}
-
--- the root's origin stays where directories are let go of
-pub root_left : (p : Path) (x z : Row) → LetsGo p x z → z.origin ≡ x.origin
-root_left p x z g =
-    let h = g.left [] (standing z) refl in
-    h.1.1.origin ∙ ap (λ (s : Standing). s.origin) (sym (same_Some (standing x) h.0 h.1.0))
 
 pub still_root : (id : Id) (a b : Origin) → IsRootOf id a → b ≡ a → IsRootOf id b
 still_root id a b is same = subst (IsRootOf id) (sym same) is

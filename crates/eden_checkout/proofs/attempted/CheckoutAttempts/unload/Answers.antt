@@ -3,8 +3,8 @@ use Rattle.eden_inode.specs.Tables.{Table}
 use Rattle.eden_mount.specs.Tables.{Tries, Ticks, Stores, Unloads}
 use Rattle.eden_checkout.specs.Attempted.{attempted}
 use Rattle.eden_checkout.specs.Checkouts.{Checkout}
-use Rattle.eden_ops.proofs.CallerLemmas.{lets_go}
-use Rattle.eden_checkout.proofs.Closed.{root_left, still_root}
+use Rattle.eden_ops.proofs.CallerLemmas.{lets_go, root_left}
+use Rattle.eden_checkout.proofs.Closed.{comes_from}
 use Rattle.eden_checkout.proofs.Tries.{unloads}
 use Rattle.eden_checkout.proofs.attempted.CheckoutAttempts.unload.Goals as goal
 
@@ -14,7 +14,7 @@ invariant_of-self g c =
     let e = c.unload.ensures in
     let goes = lets_go g.W.World.honest x.inodes.clock c.args.older_than (g.F.Files.stored x.inodes.files) x.inodes.root (g.F.Files.stored c.unload.new.self.files) c.unload.new.self.root e.unloads.0 e.unloads.1.1 in
     let origin = root_left c.as_slice.result.now x.inodes.root c.unload.new.self.root (goes c.as_slice.result.now e.elsewhere) in
-    (c.self.invariant.0, still_root x.root x.inodes.root.origin c.unload.new.self.root.origin c.self.invariant.1 origin)
+    (c.self.invariant.0, comes_from x.root x.inodes.root.origin c.unload.new.self.root.origin c.self.invariant.1 origin)
 
 pub returns : goal.returns
 returns g c =
