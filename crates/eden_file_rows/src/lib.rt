@@ -1,12 +1,16 @@
-//! Worked rows of files, sources and overlays, over real folders and over systems that fail, so that no library below is
-//! proved a second time for them.
+//! Worked rows of files, sources, overlays and what they store, over real folders and over systems that fail, and of
+//! directories in memory, so that no library below is proved a second time for them.
 #![tactic(auto)]
 
 #[cfg(test)]
 mod files;
+#[cfg(test)]
+mod formats;
 #[cfg(test)]
 mod kinds;
 #[cfg(test)]
 mod overlays;
 #[cfg(test)]
 mod sources;
+#[cfg(test)]
+mod trees;

@@ -1,51 +1,10 @@
 //! What an overlay over files in memory stores, gets, removes and refuses.
-ghost use Rattle.std.specs.Prelude.{IfOk};
-ghost use Rattle.eden_overlay_format.specs.Directory.{AreStorable};
-
-use eden_model::{Id, Kind, Name, Origin, Outside};
+use crate::formats::{DIRECTORY, FILE, OWN_BODY, cut, one_file, stored};
+use eden_model::{Id, Origin, Outside};
 use eden_overlay::{Files, GetFault, MemoryFiles, Overlay};
-use eden_overlay_format::{Refusal, State, StoredEntry};
-use std::alloc::{AllocError, Global};
-use std::process::Abort;
+use eden_overlay_format::{Refusal, State};
+use std::alloc::Global;
 use std::test::Fail;
-
-const FILE: [u8; 8] = [0x4f, 0x56, 0x46, 0x4c, 0, 0, 0, 1];
-
-const DIRECTORY: [u8; 8] = [0x4f, 0x56, 0x44, 0x52, 0, 0, 0, 1];
-
-// A stored file: the first 8 bytes of its header, 56 zeros, and its body.
-fn stored(alloc: Global, front: &[u8], body: &[u8]) -> Result<Vec<u8>, AllocError> {
-    let mut bytes = front.to_vec(alloc)?;
-    bytes.extend_from_slice(&[0; 56])?;
-    bytes.extend_from_slice(body)?;
-    Ok(bytes)
-}
-
-// The first bytes.
-fn cut<'a>(rt: &impl Abort, bytes: &'a [u8], len: usize) -> &'a [u8] {
-    assert!(rt; len <= bytes.len());
-    &bytes[..len]
-}
-
-// A directory with the file `test.txt`, number 2, whose content is its own.
-fn one_file(alloc: Global) -> Result<Vec<StoredEntry>, Fail>
-    ensures { IfOk result (λ v. AreStorable v.items) }
-{
-    match Name::new(b"test.txt".to_vec(alloc)?) {
-        Ok(name) => {
-            let entry = StoredEntry {
-                name,
-                kind: Kind::File,
-                origin: Origin::Own,
-                number: 2,
-            };
-            Ok(Vec::from_array(alloc, [entry])?)
-        }
-        Err(_) => Err(Fail::from("no name")),
-    }
-}
-
-const ONE_FILE: &[u8] = b"\0\0\0\x01\0\x01\0\0\0\0\0\0\0\x02\x08test.txt";
 
 type InMemory = Overlay<Outside, MemoryFiles<Outside>>;
 
@@ -62,7 +21,7 @@ fn filled(alloc: Global) -> Result<InMemory, Fail> {
     let mut overlay = Overlay::<Outside, _>::new(MemoryFiles::<Outside>::new(alloc));
     overlay.put_file(alloc, 2, b"hello")?;
     overlay.put_file(alloc, 2, b"hi")?;
-    overlay.put_dir(alloc, 1, &one_file(alloc)?)?;
+    overlay.put_dir(alloc, 1, &one_file(alloc, Origin::Own)?)?;
     overlay.put_state(alloc, STATE)?;
     Ok(overlay)
 }
@@ -97,7 +56,7 @@ fn files_are_got(rt: HostRuntime) -> Result<(), Fail> {
 // The files of that overlay: their numbers, the first bytes of their headers, their bodies and their lengths.
 const STORED: &[(u64, [u8; 8], &[u8], usize)] = &[
     (0, FILE, STATE_BODY, 92),
-    (1, DIRECTORY, ONE_FILE, 87),
+    (1, DIRECTORY, OWN_BODY, 87),
     (2, FILE, b"hi", 66),
 ];
 
@@ -105,7 +64,7 @@ const STORED: &[(u64, [u8; 8], &[u8], usize)] = &[
 fn files_are_stored(rt: HostRuntime) -> Result<(), Fail> {
     let mut files = filled(rt.alloc())?.into_files();
     for (number, front, body, len) in STORED {
-        let bytes = stored(rt.alloc(), front, body)?;
+        let bytes = stored(rt.alloc(), front, 0, body)?;
         assert!(rt; bytes.len() == *len);
         assert!(rt; files.read(rt.alloc(), *number)? == Some(bytes));
     }
@@ -128,10 +87,10 @@ fn files_are_removed(rt: HostRuntime) -> Result<(), Fail> {
 #[test]
 fn damage_is_told(rt: HostRuntime) -> Result<(), Fail> {
     let alloc = rt.alloc();
-    let directory = stored(alloc, &DIRECTORY, ONE_FILE)?;
-    let file = stored(alloc, &FILE, b"hi")?;
-    let later = stored(alloc, &[0x4f, 0x56, 0x44, 0x52, 0, 0, 0, 2], ONE_FILE)?;
-    let shorter = stored(alloc, &DIRECTORY, cut(&rt, ONE_FILE, 22))?;
+    let directory = stored(alloc, &DIRECTORY, 0, OWN_BODY)?;
+    let file = stored(alloc, &FILE, 0, b"hi")?;
+    let later = stored(alloc, &[0x4f, 0x56, 0x44, 0x52, 0, 0, 0, 2], 0, OWN_BODY)?;
+    let shorter = stored(alloc, &DIRECTORY, 0, cut(&rt, OWN_BODY, 22))?;
     for (bytes, as_directory, as_file) in [
         (
             cut(&rt, &directory, 63),

@@ -5,7 +5,7 @@ use Rattle.std.proofs.Math.Path.{fun_ext}
 use Rattle.std.proofs.lemmas.Bool.{false≢true}
 use Rattle.std.proofs.lemmas.List.{append-nil, length-append}
 use Rattle.std.specs.Option.{option_map, option_and_then, is_some}
-use Rattle.eden_model.specs.declared.errno.Errno.TheVariants.{EBUSY, EINVAL, EISDIR, ENOENT, ENOTEMPTY}
+use Rattle.eden_model.specs.declared.errno.Errno.TheVariants.{EBUSY, EISDIR, ENOENT, ENOTEMPTY}
 use Rattle.eden_model.specs.declared.fault.Fault.{Fault}
 use Rattle.eden_model.specs.declared.fault.Fault.TheVariants as fault
 use Rattle.eden_model.specs.declared.kind.Kind.{Kind}
@@ -225,18 +225,6 @@ sets_exec G n = SetsExec n
 
 pub asks_exec : (p : Path) (exec : Bool) → Asks (ask.SetExec p exec) p sets_exec
 asks_exec p exec = record { says = λ G r h. h; only = λ G r h. h; at = λ G. refl; plain = λ x is. cc }
-
-pub sets_link : (k : Kind) (c : Option (List ℕ)) (l : Bool) → k ≡ kind.Link → SetsExec (node_from k c l) (say.Err EINVAL)
-sets_link kind.File c l is = cc
-sets_link kind.Exec c l is = cc
-sets_link kind.Link c l is = refl
-sets_link kind.Dir c l is = cc
-
-pub sets_dir : (k : Kind) (c : Option (List ℕ)) (l : Bool) → k ≡ kind.Dir → SetsExec (node_from k c l) (say.Err EISDIR)
-sets_dir kind.File c l is = cc
-sets_dir kind.Exec c l is = cc
-sets_dir kind.Link c l is = cc
-sets_dir kind.Dir c l is = refl
 
 pub sets_file : (k : Kind) (c : Option (List ℕ)) (l : Bool) → IsPlain k → SetsExec (node_from k c l) say.Ok
 sets_file kind.File c l plain = refl

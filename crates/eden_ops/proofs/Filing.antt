@@ -1,5 +1,5 @@
 -- What a request for a file answers of what it meets.
-use Rattle.std.proofs.Common.{◌≡◌, ◌≤◌, ℕ, Bool, true, false, length, List, Option, Some, None, Ok, Err, sym, refl, ◌∙◌, ap, subst, inl, inr}
+use Rattle.std.proofs.Common.{◌≡◌, ℕ, Bool, true, false, length, List, Option, Some, None, Ok, Err, sym, refl, ◌∙◌, subst}
 use Rattle.std.proofs.lemmas.Bool.{le-ltb}
 use Rattle.eden_model.specs.declared.errno.Errno.TheVariants.{ENOENT, EINVAL, EISDIR}
 use Rattle.eden_model.specs.declared.fault.Fault.{Fault}

@@ -26,3 +26,4 @@ pub mod Renames
 pub mod TwoPaths
 pub mod Filled
 pub mod Filing
+pub mod Leaving

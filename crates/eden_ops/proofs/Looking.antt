@@ -1,6 +1,6 @@
 -- The looks, one by one.
 use Rattle.std.proofs.Common.{◌≡◌, ◌≢◌, ◌⊎◌, ◌==◌, ◌||◌, ℕ, Bool, true, false, nat_lt, List, [], length, take, drop, Option, Some, None, sym, refl, subst, inl, inr}
-use Rattle.eden_model.specs.declared.errno.Errno.TheVariants.{EINVAL, EISDIR, ENOTDIR}
+use Rattle.eden_model.specs.declared.errno.Errno.TheVariants.{EINVAL, ENOTDIR}
 use Rattle.eden_model.specs.declared.id.ObjKind.TheVariants as objects
 use Rattle.eden_model.specs.declared.kind.Kind.{Kind}
 use Rattle.eden_model.specs.declared.kind.Kind.TheVariants as kind
@@ -74,18 +74,6 @@ file_node kind.Link c l (inl a) = cc
 file_node kind.Link c l (inr a) = cc
 file_node kind.Dir c l (inl a) = cc
 file_node kind.Dir c l (inr a) = cc
-
-pub reads_link : (offset count : ℕ) (k : Kind) (c : Option (List ℕ)) (l : Bool) → k ≡ kind.Link → Reads offset count (node_from k c l) (say.Err EINVAL)
-reads_link offset count kind.File c l h = cc
-reads_link offset count kind.Exec c l h = cc
-reads_link offset count kind.Link c l h = refl
-reads_link offset count kind.Dir c l h = cc
-
-pub reads_dir : (offset count : ℕ) (k : Kind) (c : Option (List ℕ)) (l : Bool) → k ≡ kind.Dir → Reads offset count (node_from k c l) (say.Err EISDIR)
-reads_dir offset count kind.File c l h = cc
-reads_dir offset count kind.Exec c l h = cc
-reads_dir offset count kind.Link c l h = cc
-reads_dir offset count kind.Dir c l h = refl
 
 reads_as : (offset count : ℕ) (x : Bool) (c : Option (List ℕ)) (r : Reply) (b : Bool) → (count == 0) ≡ b → Whether b (Says (say.Data [])) (Into c (λ bytes. say.Data (take count (drop offset bytes)))) r → Reads offset count (File x c) r
 reads_as offset count x c r b is h = subst (λ (a : Bool). Whether a (Says (say.Data [])) (Into c (λ bytes. say.Data (take count (drop offset bytes)))) r) (sym is) h

@@ -13,3 +13,4 @@ pub mod Changes
 pub mod Letting
 pub mod Relocating
 pub mod Renames
+pub mod Leaving

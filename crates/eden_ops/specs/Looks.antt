@@ -1,4 +1,4 @@
--- Requests that change nothing.
+-- Requests that change nothing, and those that change something at one path.
 use Rattle.eden_model.specs.declared.request.Request.{Request}
 use Rattle.eden_model.specs.declared.request.Request.TheVariants as ask
 
@@ -17,3 +17,14 @@ IsLook (ask.Symlink p target) = ⊥
 IsLook (ask.Unlink p) = ⊥
 IsLook (ask.Rmdir p) = ⊥
 IsLook (ask.Rename from to) = ⊥
+
+abbrev pub IsChange : Request → Type 0
+IsChange (ask.Write p offset bytes) = Unit {0}
+IsChange (ask.Truncate p size) = Unit {0}
+IsChange (ask.Create p) = Unit {0}
+IsChange (ask.SetExec p exec) = Unit {0}
+IsChange (ask.Mkdir p) = Unit {0}
+IsChange (ask.Symlink p target) = Unit {0}
+IsChange (ask.Unlink p) = Unit {0}
+IsChange (ask.Rmdir p) = Unit {0}
+IsChange _ = ⊥

@@ -7,13 +7,12 @@ ghost use Rattle.eden_ops.specs.Caches.{IsStocked};
 ghost use Rattle.eden_ops.specs.Changes.{exec_kind, Leaves};
 
 use crate::end::ended;
+use crate::file::meet_file;
 use crate::laws::keeps_laws;
-use crate::meet::meet;
-use crate::what::what;
 use eden_cache::ObjectCache;
 use eden_inode::Inodes;
 use eden_materialise::set_kind;
-use eden_model::{Attempt, Errno, Kind, Path, Reply, World};
+use eden_model::{Attempt, Kind, Path, Reply, World};
 use eden_overlay::Files;
 use eden_tie::shown_laws;
 use std::alloc::{Allocator, Global};
@@ -37,15 +36,9 @@ pub fn set_exec<A: Allocator + Clone, W: World, F: Files<W>, C: Allocator + Clon
     ensures attempts { Attempts W.World F.Files (ask.SetExec path.now exec) inodes.old inodes.new cache.old cache.new result }
     ensures leaves { Leaves F.Files inodes.old inodes.new }
 {
-    let seen = match meet(inodes, cache, alloc, path) {
+    match meet_file(inodes, cache, alloc, path) {
         Err(stop) => return ended(stop),
-        Ok(None) => return Attempt::Finished(Reply::Err(Errno::ENOENT)),
-        Ok(Some(seen)) => seen,
-    };
-    match what(seen) {
-        Kind::Link => return Attempt::Finished(Reply::Err(Errno::EINVAL)),
-        Kind::Dir => return Attempt::Finished(Reply::Err(Errno::EISDIR)),
-        Kind::File | Kind::Exec => {}
+        Ok(_) => {}
     }
     keeps_laws::<W, F>();
     shown_laws();

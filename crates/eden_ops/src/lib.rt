@@ -6,6 +6,7 @@
 
 mod adding;
 mod answer;
+mod attempting;
 mod bring;
 mod contents;
 mod emptied;
@@ -33,6 +34,7 @@ mod writing;
 
 pub use adding::{create, mkdir, symlink};
 pub use answer::Walked;
+pub use attempting::{attempt, change};
 pub use emptied::rmdir;
 pub use exec::set_exec;
 pub use kinds::kind;

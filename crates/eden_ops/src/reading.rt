@@ -6,11 +6,10 @@ ghost use Rattle.eden_ops.specs.Keeping.{Keeps};
 
 use crate::contents::{Form, make};
 use crate::end::ended;
-use crate::meet::meet;
-use crate::what::what;
+use crate::file::meet_file;
 use eden_cache::ObjectCache;
 use eden_inode::Inodes;
-use eden_model::{Attempt, Bytes, Errno, Kind, MAX_DATA, Path, Reply, World};
+use eden_model::{Attempt, Bytes, Errno, MAX_DATA, Path, Reply, World};
 use eden_overlay::Files;
 use std::alloc::{Allocator, Global};
 
@@ -30,16 +29,10 @@ pub fn read<A: Allocator + Clone, W: World, F: Files<W>, C: Allocator + Clone>(
     if count > MAX_DATA {
         return Attempt::Finished(Reply::Err(Errno::EINVAL));
     }
-    let seen = match meet(inodes, cache, alloc, path) {
+    let seen = match meet_file(inodes, cache, alloc, path) {
         Err(stop) => return ended(stop),
-        Ok(None) => return Attempt::Finished(Reply::Err(Errno::ENOENT)),
-        Ok(Some(seen)) => seen,
+        Ok(seen) => seen,
     };
-    match what(seen) {
-        Kind::Link => return Attempt::Finished(Reply::Err(Errno::EINVAL)),
-        Kind::Dir => return Attempt::Finished(Reply::Err(Errno::EISDIR)),
-        Kind::File | Kind::Exec => {}
-    }
     if count == 0 {
         return Attempt::Finished(Reply::Data(Bytes::new(Vec::new(alloc))));
     }

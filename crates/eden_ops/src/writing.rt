@@ -14,7 +14,8 @@ use eden_model::{Attempt, Errno, MAX_DATA, MAX_FILE, Path, Reply, World};
 use eden_overlay::Files;
 use std::alloc::{Allocator, Global};
 
-/// Cuts a file to a size, or fills it up with zeros; over 2^30 is refused. To size 0 its content isn't fetched.
+/// Cuts a file to a size in bytes, or fills it up with zeros; over 2^30 is refused. To size 0 its content isn't fetched. A fault
+/// leaves the file as it was.
 pub fn truncate<A: Allocator + Clone, W: World, F: Files<W>, C: Allocator + Clone>(
     inodes: &mut Inodes<A, W, F>,
     cache: &mut ObjectCache<C>,
@@ -49,8 +50,9 @@ pub fn truncate<A: Allocator + Clone, W: World, F: Files<W>, C: Allocator + Clon
     }
 }
 
-/// Writes bytes into a file, from the offset on; over 65,536 are refused, and a write that would end past 2^30. A gap between
-/// its old end and the offset is filled with zeros. Where there are no bytes to write, its content isn't fetched.
+/// Writes bytes into a file, from the offset on, and answers how many; over 65,536 are refused, and a write that would end
+/// past 2^30. A gap between its old end and the offset is filled with zeros. Where there are no bytes to write, its content
+/// isn't fetched and nothing changes. A fault leaves the file as it was.
 pub fn write<A: Allocator + Clone, W: World, F: Files<W>, C: Allocator + Clone>(
     inodes: &mut Inodes<A, W, F>,
     cache: &mut ObjectCache<C>,

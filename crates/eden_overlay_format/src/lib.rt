@@ -22,6 +22,3 @@ pub use laws::format_laws;
 pub use refusal::{DecodeFault, Refusal};
 pub use state::{State, decode_state, encode_state};
 pub use stored_entry::StoredEntry;
-
-#[cfg(test)]
-mod tests;

@@ -9,7 +9,8 @@ use eden_cache::ObjectCache;
 use eden_model::{Attempt, Errno, Key, Kind, Name, Path, Reply};
 use eden_object::Object;
 use eden_ops::{
-    Walked, create, kind, list, mkdir, reach, read, readlink, set_exec, stat, symlink, unlink,
+    Walked, create, kind, list, mkdir, reach, read, readlink, set_exec, stat, symlink, truncate,
+    unlink, write,
 };
 use eden_samples::{ONE_FILE, Sample, VERSION_1};
 use std::alloc::Global;
@@ -30,6 +31,9 @@ enum Ask {
     Mkdir,
     Symlink(&'static [u8]),
     SetExec(bool),
+    /// These bytes from an offset on.
+    Write(u64, &'static [u8]),
+    Truncate(u64),
     Unlink,
 }
 
@@ -42,6 +46,7 @@ enum Want {
     Data(&'static [u8]),
     /// These entries, and whether more follow.
     Entries(&'static [(&'static [u8], Kind)], bool),
+    Count(u64),
     Ok,
     Err(Errno),
     /// Any other answer.
@@ -133,7 +138,38 @@ const CHANGED: &[Step] = &[
     Step::Ask(LINK, Ask::Symlink(b""), Want::Err(Errno::ENOENT)),
 ];
 
-const ROWS: &[&[Step]] = &[REACHED, TOLD, MEASURED, READ, LINKED, LISTED, CHANGED];
+/// Bytes that are written into the middle, and past the end with a gap.
+const WRITTEN: &[Step] = &[
+    Step::Ask(TEST, Ask::Write(8, b"2"), Want::Need(ONE_FILE)),
+    Step::Put(ONE_FILE),
+    Step::Ask(TEST, Ask::Write(8, b""), Want::Count(0)),
+    Step::Ask(TEST, Ask::Write(1 << 30, b"2"), Want::Err(Errno::EFBIG)),
+    Step::Ask(TEST, Ask::Write(8, b"2"), Want::Need(VERSION_1)),
+    Step::Put(VERSION_1),
+    Step::Ask(TEST, Ask::Write(8, b"2"), Want::Count(1)),
+    Step::Ask(TEST, Ask::Read(100), Want::Data(b"version 2\n")),
+    Step::Ask(TEST, Ask::Write(12, b"ab"), Want::Count(2)),
+    Step::Ask(TEST, Ask::Read(100), Want::Data(b"version 2\n\0\0ab")),
+    Step::Ask(ROOT, Ask::Write(0, b"a"), Want::Err(Errno::EISDIR)),
+];
+
+/// A file cut to nothing asks for no content, a file cut to anything else does.
+const CUT: &[Step] = &[
+    Step::Put(ONE_FILE),
+    Step::Ask(TEST, Ask::Truncate((1 << 30) + 1), Want::Err(Errno::EFBIG)),
+    Step::Ask(TEST, Ask::Truncate(7), Want::Need(VERSION_1)),
+    Step::Ask(TEST, Ask::Truncate(0), Want::Ok),
+    Step::Ask(TEST, Ask::Stat, Want::Stat(Kind::File, 0)),
+    Step::Ask(TEST, Ask::Write(0, b"abc"), Want::Count(3)),
+    Step::Ask(TEST, Ask::Truncate(2), Want::Ok),
+    Step::Ask(TEST, Ask::Truncate(4), Want::Ok),
+    Step::Ask(TEST, Ask::Read(100), Want::Data(b"ab\0\0")),
+    Step::Ask(IN_ROOT, Ask::Truncate(0), Want::Err(Errno::ENOENT)),
+];
+
+const ROWS: &[&[Step]] = &[
+    REACHED, TOLD, MEASURED, READ, LINKED, LISTED, CHANGED, WRITTEN, CUT,
+];
 
 fn key_of(object: Sample) -> Key {
     Key {
@@ -176,6 +212,7 @@ fn is_reply(reply: &Reply, want: Want) -> bool {
         (Reply::Entries(entries, more), Want::Entries(wanted, left)) => {
             *more == left && are_entries(entries.as_slice(), wanted)
         }
+        (Reply::Count(count), Want::Count(wanted)) => *count == wanted,
         (Reply::Ok, Want::Ok) => true,
         (Reply::Err(errno), Want::Err(wanted)) => *errno == wanted,
         _ => false,
@@ -225,6 +262,8 @@ fn changed(
         Ask::Mkdir => mkdir(table, cache, alloc, path),
         Ask::Symlink(target) => symlink(table, cache, alloc, path, target),
         Ask::SetExec(exec) => set_exec(table, cache, alloc, path, exec),
+        Ask::Write(offset, bytes) => write(table, cache, alloc, path, offset, bytes),
+        Ask::Truncate(size) => truncate(table, cache, alloc, path, size),
         Ask::Unlink => unlink(table, cache, alloc, path),
         _ => create(table, cache, alloc, path),
     }

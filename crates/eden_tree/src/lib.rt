@@ -10,8 +10,6 @@ mod change;
 mod dir;
 mod laws;
 mod search;
-#[cfg(test)]
-mod tests;
 
 pub use change::Change;
 pub use dir::{Dir, Entry};

@@ -1,5 +1,4 @@
-use Rattle.std.proofs.Common.{◌≡◌, ◌≢◌, ◌++◌, ◌∷◌, false, Option, Some, Ok, sym, refl, subst, ap, ◌∙◌}
-use Rattle.eden_model.specs.declared.errno.Errno.TheVariants.{EINVAL, EISDIR}
+use Rattle.std.proofs.Common.{◌≢◌, ◌++◌, ◌∷◌, false, Some, sym, subst, ap, ◌∙◌}
 use Rattle.eden_model.specs.declared.kind.Kind.{Kind}
 use Rattle.eden_model.specs.declared.kind.Kind.TheVariants as kind
 use Rattle.eden_model.specs.declared.node.Node.{Node}
@@ -7,98 +6,59 @@ use Rattle.eden_model.specs.declared.reply.Reply.TheVariants as say
 use Rattle.eden_model.specs.declared.request.Request.TheVariants as ask
 use Rattle.eden_model.specs.Repository.{source_of, content_with}
 use Rattle.eden_model.specs.Shown.{node_from}
-use Rattle.eden_model.specs.Trees.{Tree, Path, reach, graft}
+use Rattle.eden_model.specs.Trees.{Tree, Path, graft}
 use Rattle.eden_overlay.specs.Held.{own_files}
-use Rattle.eden_tree.specs.Directory.{child_of}
 use Rattle.eden_tree.specs.Paths.{row_at}
 use Rattle.eden_tie.specs.Filing.{leaf, content_shown}
-use Rattle.eden_inode.specs.declared.seen.Seen.{Seen}
 use Rattle.eden_model.specs.declared.attempt.Attempt.{Attempt}
-use Rattle.eden_ops.specs.Attempts.{Attempts, MeetsShown, IsShown}
+use Rattle.eden_ops.specs.Attempts.{Attempts}
+use Rattle.eden_ops.specs.Requests.{for_exec}
 use Rattle.eden_ops.specs.Changes.{exec_kind}
 use Rattle.eden_ops.specs.Keeping.{shows}
-use Rattle.eden_ops.proofs.Answering.{walk_ended, says_absent, says_at}
-use Rattle.eden_ops.proofs.Changing.{none_held, has_file, file_alone, changed, refused, sets_exec, asks_exec, sets_link, sets_dir, sets_file, exec_put}
+use Rattle.eden_ops.proofs.Answering.{says_at}
+use Rattle.eden_ops.proofs.Changing.{has_file, file_alone, changed, refused, sets_exec, sets_file, exec_put}
+use Rattle.eden_ops.proofs.Fetching.{away}
 use Rattle.eden_ops.proofs.Looking.{IsPlain, plain_other}
-use Rattle.eden_ops.proofs.Reached.{seen_at, shown_at}
 use Rattle.eden_ops.proofs.Saving.{keeps_leaves, leaves_changed, fault_count, no_less}
 use Rattle.eden_ops.proofs.Seeing.{kept_dirs, shown_there}
-use Rattle.eden_ops.proofs.Telling.{as_dir, met_tells}
 use Rattle.eden_ops.proofs.exec.set_exec.Goals as goal
-
--- the kind that was told
-as_told : (k told : Kind) → k ≡ told → IsPlain told → IsPlain k
-as_told k told is plain = subst IsPlain (sym is) plain
-
-link_not_dir : (told : Kind) → told ≡ kind.Link → told ≢ kind.Dir
-link_not_dir told a dir = cc
 
 pub returns-in-Err-clause-attempts : goal.returns-in-Err-clause-attempts
 returns-in-Err-clause-attempts g c =
-    let p = c.args.path.now in
-    let s = c.args.inodes.now in
-    let t = c.meet.new.inodes in
-    let e = c.in-Err.ensures in
-    subst (λ (a : Attempt). Attempts g.W.World g.F.Files (ask.SetExec p c.args.exec) s t c.args.cache.now c.meet.new.cache a) (sym c.ended.ensures)
-    (walk_ended g.W.World g.F.Files (ask.SetExec p c.args.exec) p sets_exec (asks_exec p c.args.exec) s t c.args.cache.now c.meet.new.cache e.same e.keeps e.cache c.in-Err.stop e.meets e.shown)
-
-pub returns-in-Ok-None-clause-attempts : goal.returns-in-Ok-None-clause-attempts
-returns-in-Ok-None-clause-attempts g c =
-    let p = c.args.path.now in
-    let s = c.args.inodes.now in
-    let t = c.meet.new.inodes in
-    let e = c.in-Ok-None.ensures in
-    says_absent g.W.World g.F.Files (ask.SetExec p c.args.exec) p sets_exec (asks_exec p c.args.exec) s t c.args.cache.now c.meet.new.cache e.same e.keeps e.cache
-    (λ h. subst (λ (o : Option Seen). MeetsShown g.W.World g.F.Files p s t (Ok o)) c.in-Ok-None.field-0-is (e.shown h))
-
-pub returns-in-Link-clause-attempts : goal.returns-in-Link-clause-attempts
-returns-in-Link-clause-attempts g c =
-    let p = c.args.path.now in
-    let e = c.in-Ok-Some.ensures in
-    met_tells g.W.World g.F.Files p c.args.inodes.now c.meet.new.inodes c.meet.new.cache _ c.in-Ok-Some.seen c.in-Ok-Some.field-0-is e.meets (ask.SetExec p c.args.exec) sets_exec (asks_exec p c.args.exec) c.args.cache.now e.same e.keeps e.cache e.shown (say.Err EINVAL) refl (λ T. refl)
-    (λ k a listed is on. sets_link k a listed (is ∙ (c.what.ensures.other (link_not_dir c.what.result c.in-Link.is)).1 ∙ c.in-Link.is))
-
-pub returns-in-Dir-clause-attempts : goal.returns-in-Dir-clause-attempts
-returns-in-Dir-clause-attempts g c =
-    let p = c.args.path.now in
-    let e = c.in-Ok-Some.ensures in
-    met_tells g.W.World g.F.Files p c.args.inodes.now c.meet.new.inodes c.meet.new.cache _ c.in-Ok-Some.seen c.in-Ok-Some.field-0-is e.meets (ask.SetExec p c.args.exec) sets_exec (asks_exec p c.args.exec) c.args.cache.now e.same e.keeps e.cache e.shown (say.Err EISDIR) refl (λ T. refl)
-    (λ k a listed is on. sets_dir k a listed (as_dir k c.in-Ok-Some.seen is on (c.what.ensures.dir c.in-Dir.is)))
+    subst (λ (a : Attempt). Attempts g.W.World g.F.Files (ask.SetExec c.args.path.now c.args.exec) c.args.inodes.now c.meet_file.new.inodes c.args.cache.now c.meet_file.new.cache a) (sym c.ended.ensures)
+    (c.in-Err.ensures.ends (ask.SetExec c.args.path.now c.args.exec) (for_exec c.args.exec))
 
 pub set_kind-requires-clause-there : goal.set_kind-requires-clause-there
 set_kind-requires-clause-there g c =
     let p = c.args.path.now in
     let s = c.args.inodes.now in
-    let t = c.meet.new.inodes in
-    let e = c.in-Ok-Some.ensures in
-    let seen = seen_at g.W.World g.F.Files p s t c.meet.new.cache _ c.in-Ok-Some.seen c.in-Ok-Some.field-0-is e.meets in
-    let other = c.what.ensures.other (plain_other c.what.result c.in-File.is) in
-    let plain = as_told seen.row.kind c.what.result (sym seen.kind ∙ other.1) c.in-File.is in
-    (seen.row, has_file p c.in-Some.above.now c.in-Some.name.now t.root seen.row (sym c.as_slice.ensures ∙ c.in-Some.ensures.cases.0) seen.there (none_held (child_of seen.row) (sym seen.loaded ∙ other.0)) (plain_other seen.row.kind plain))
+    let t = c.meet_file.new.inodes in
+    let e = c.in-Ok.ensures in
+    let seen = e.file.entry in
+    let plain = subst IsPlain seen.kind e.file.plain in
+    (seen.row, has_file p c.in-Some.above.now c.in-Some.name.now t.root seen.row (sym c.as_slice.ensures ∙ c.in-Some.ensures.cases.0) seen.there (away p t.root c.in-Ok.field-0 seen e.file.away) (plain_other seen.row.kind plain))
 
-pub returns-in-Ok-clause-attempts : goal.returns-in-Ok-clause-attempts
-returns-in-Ok-clause-attempts g c =
+pub returns-in-Ok-set_kind-clause-attempts : goal.returns-in-Ok-set_kind-clause-attempts
+returns-in-Ok-set_kind-clause-attempts g c =
     let p = c.args.path.now in
     let s = c.args.inodes.now in
-    let t = c.meet.new.inodes in
-    let e = c.in-Ok-Some.ensures in
+    let t = c.meet_file.new.inodes in
+    let e = c.in-Ok.ensures in
     let R = g.W.World.repository in
     let F = g.F.Files.stored t.files in
     let G = shows g.W.World g.F.Files s in
-    let seen = seen_at g.W.World g.F.Files p s t c.meet.new.cache _ c.in-Ok-Some.seen c.in-Ok-Some.field-0-is e.meets in
-    let shown : g.W.World.honest → IsShown R F (row_at p t.root) (reach G p) = shown_at g.W.World g.F.Files p s t c.meet.new.cache _ c.in-Ok-Some.seen c.in-Ok-Some.field-0-is e.shown in
+    let seen = e.file.entry in
     let u = c.set_kind.new.inodes in
     let split = sym c.as_slice.ensures ∙ c.in-Some.ensures.cases.0 in
-    let other = c.what.ensures.other (plain_other c.what.result c.in-File.is) in
-    let plain = as_told seen.row.kind c.what.result (sym seen.kind ∙ other.1) c.in-File.is in
+    let plain = subst IsPlain seen.kind e.file.plain in
     let file : seen.row.kind ≢ kind.Dir = plain_other seen.row.kind plain in
-    let has = has_file p c.in-Some.above.now c.in-Some.name.now t.root seen.row split seen.there (none_held (child_of seen.row) (sym seen.loaded ∙ other.0)) file in
-    changed g.W.World g.F.Files (ask.SetExec p c.args.exec) s t u c.args.cache.now c.meet.new.cache e.same ((c.keeps_laws.ensures.counts s t e.keeps).1.1.1) e.cache
-    (λ h. says_at R F p sets_exec G (row_at p t.root) seen.row seen.there (shown h) say.Ok (λ listed. sets_file seen.row.kind (content_with R (own_files F) (source_of seen.row.number seen.row.origin)) listed plain))
+    let has = has_file p c.in-Some.above.now c.in-Some.name.now t.root seen.row split seen.there (away p t.root c.in-Ok.field-0 seen e.file.away) file in
+    changed g.W.World g.F.Files (ask.SetExec p c.args.exec) s t u c.args.cache.now c.meet_file.new.cache e.same ((c.keeps_laws.ensures.counts s t e.keeps).1.1.1) e.cache
+    (λ h. says_at R F p sets_exec G (row_at p t.root) seen.row seen.there (e.shown h) say.Ok (λ listed. sets_file seen.row.kind (content_with R (own_files F) (source_of seen.row.number seen.row.origin)) listed plain))
     (λ h.
     let dirs = kept_dirs R F t.root t.next (c.holds.ensures.kept h) in
     let there = shown_there c.shown_laws.ensures.below c.shown_laws.ensures.absent R F t.root dirs p seen.row seen.there in
-    c.in-Ok.ensures.shown h seen.row has
+    c.in-Ok-set_kind.ensures.shown h seen.row has
     ∙ ap (λ (q : Path). graft q (leaf (node_from c.exec_kind.result (content_shown R F seen.row) false)) (shows g.W.World g.F.Files t)) (sym split)
     ∙ ap (λ (k : Kind). graft p (leaf (node_from k (content_shown R F seen.row) false)) (shows g.W.World g.F.Files t)) c.exec_kind.ensures.is
     ∙ ap (graft p (leaf (node_from (exec_kind c.args.exec) (content_shown R F seen.row) false))) (e.same h)
@@ -110,31 +70,22 @@ pub returns-in-Err-set_kind-clause-attempts : goal.returns-in-Err-set_kind-claus
 returns-in-Err-set_kind-clause-attempts g c =
     let p = c.args.path.now in
     let s = c.args.inodes.now in
-    let t = c.meet.new.inodes in
+    let t = c.meet_file.new.inodes in
     let u = c.set_kind.new.inodes in
-    let e = c.in-Ok-Some.ensures in
+    let e = c.in-Ok.ensures in
     let x = c.in-Err-set_kind.ensures in
-    refused g.W.World g.F.Files (ask.SetExec p c.args.exec) s t u c.args.cache.now c.meet.new.cache e.same ((c.keeps_laws.ensures.counts s t e.keeps).1.1.1) e.cache c.in-Err-set_kind.fault x.fault (λ y is. cc) x.unseen
+    refused g.W.World g.F.Files (ask.SetExec p c.args.exec) s t u c.args.cache.now c.meet_file.new.cache e.same ((c.keeps_laws.ensures.counts s t e.keeps).1.1.1) e.cache c.in-Err-set_kind.fault x.fault (λ y is. cc) x.unseen
 
 pub returns-in-Err-clause-leaves : goal.returns-in-Err-clause-leaves
-returns-in-Err-clause-leaves g c = keeps_leaves g.W.World g.F.Files c.args.inodes.now c.meet.new.inodes c.meet.ensures.keeps
+returns-in-Err-clause-leaves g c = keeps_leaves g.W.World g.F.Files c.args.inodes.now c.meet_file.new.inodes c.meet_file.ensures.keeps
 
-pub returns-in-Ok-None-clause-leaves : goal.returns-in-Ok-None-clause-leaves
-returns-in-Ok-None-clause-leaves g c = keeps_leaves g.W.World g.F.Files c.args.inodes.now c.meet.new.inodes c.meet.ensures.keeps
-
-pub returns-in-Dir-clause-leaves : goal.returns-in-Dir-clause-leaves
-returns-in-Dir-clause-leaves g c = keeps_leaves g.W.World g.F.Files c.args.inodes.now c.meet.new.inodes c.meet.ensures.keeps
-
-pub returns-in-Link-clause-leaves : goal.returns-in-Link-clause-leaves
-returns-in-Link-clause-leaves g c = keeps_leaves g.W.World g.F.Files c.args.inodes.now c.meet.new.inodes c.meet.ensures.keeps
-
-pub returns-in-Ok-clause-leaves : goal.returns-in-Ok-clause-leaves
-returns-in-Ok-clause-leaves g c =
-    let x = c.in-Ok.ensures in
-    leaves_changed g.W.World g.F.Files c.args.inodes.now c.meet.new.inodes c.set_kind.new.inodes c.meet.ensures.keeps x.stays x.saved (no_less c.meet.new.inodes.next c.set_kind.new.inodes.next x.rest.0) x.rest.1 (no_less (g.F.Files.failures c.meet.new.inodes.files) (g.F.Files.failures c.set_kind.new.inodes.files) x.counted)
+pub returns-in-Ok-set_kind-clause-leaves : goal.returns-in-Ok-set_kind-clause-leaves
+returns-in-Ok-set_kind-clause-leaves g c =
+    let x = c.in-Ok-set_kind.ensures in
+    leaves_changed g.W.World g.F.Files c.args.inodes.now c.meet_file.new.inodes c.set_kind.new.inodes c.meet_file.ensures.keeps x.stays x.saved (no_less c.meet_file.new.inodes.next c.set_kind.new.inodes.next x.rest.0) x.rest.1 (no_less (g.F.Files.failures c.meet_file.new.inodes.files) (g.F.Files.failures c.set_kind.new.inodes.files) x.counted)
 
 pub returns-in-Err-set_kind-clause-leaves : goal.returns-in-Err-set_kind-clause-leaves
 returns-in-Err-set_kind-clause-leaves g c =
     let x = c.in-Err-set_kind.ensures in
-    leaves_changed g.W.World g.F.Files c.args.inodes.now c.meet.new.inodes c.set_kind.new.inodes c.meet.ensures.keeps x.stays x.saved (no_less c.meet.new.inodes.next c.set_kind.new.inodes.next x.rest.0) x.rest.1
-    (fault_count (g.F.Files.failures c.meet.new.inodes.files) (g.F.Files.failures c.set_kind.new.inodes.files) c.in-Err-set_kind.fault x.fault)
+    leaves_changed g.W.World g.F.Files c.args.inodes.now c.meet_file.new.inodes c.set_kind.new.inodes c.meet_file.ensures.keeps x.stays x.saved (no_less c.meet_file.new.inodes.next c.set_kind.new.inodes.next x.rest.0) x.rest.1
+    (fault_count (g.F.Files.failures c.meet_file.new.inodes.files) (g.F.Files.failures c.set_kind.new.inodes.files) c.in-Err-set_kind.fault x.fault)

@@ -1,4 +1,4 @@
-use Rattle.std.proofs.Common.{◌≡◌, ◌≤◌, ◌<◌, ◌+◌, ◌-◌, false, ◌==◌, ℕ, length, List, Some, sym, refl, subst, ap, ◌∙◌, arith}
+use Rattle.std.proofs.Common.{◌≤◌, ◌<◌, ◌+◌, ◌-◌, false, ◌==◌, ℕ, length, List, Some, sym, refl, subst, ap, ◌∙◌, arith}
 use Rattle.std.proofs.lemmas.Bool.{lt-ltb, le-ltb, ne_eqb}
 use Rattle.std.specs.Option.{option_map}
 use Rattle.eden_model.specs.declared.errno.Errno.TheVariants.{EFBIG}
@@ -8,12 +8,11 @@ use Rattle.eden_model.specs.Operations.{written}
 use Rattle.eden_tie.specs.Filing.{content_shown}
 use Rattle.eden_model.specs.declared.attempt.Attempt.{Attempt}
 use Rattle.eden_ops.specs.Attempts.{Attempts}
-use Rattle.eden_ops.specs.Keeping.{same}
 use Rattle.eden_ops.specs.Requests.{for_write}
 use Rattle.eden_ops.proofs.Fetching.{has_content}
 use Rattle.eden_ops.proofs.Filing.{file_tells, file_lacks, is_file, file_fills, file_refused, file_leaves}
 use Rattle.eden_ops.proofs.Filled.{writes, asks_write, writes_none, writes_far, writes_some, writes_lost, writes_nothing}
-use Rattle.eden_ops.proofs.Finding.{still_stocked, finds_same}
+use Rattle.eden_ops.proofs.Finding.{still_stocked}
 use Rattle.eden_ops.proofs.Looking.{plain_other}
 use Rattle.eden_ops.proofs.Saving.{keeps_leaves}
 use Rattle.eden_ops.proofs.Steps.{keeps_on}

@@ -1,21 +1,27 @@
+//! The files of an overlay as bytes: what is written, read and refused.
 ghost use Rattle.std.specs.Prelude.{IfOk};
 ghost use Rattle.eden_overlay_format.specs.Directory.{AreStorable, HasOrigin};
 ghost use Rattle.eden_model.specs.declared.kind.Kind.TheVariants as kind;
 
-use super::*;
 use eden_model::{Id, Kind, Name, Origin};
+use eden_overlay_format::{
+    DecodeFault, Refusal, State, StoredEntry, decode_dir, decode_file, decode_state, encode_dir,
+    encode_file, encode_state,
+};
 use std::alloc::{AllocError, Global};
 use std::process::Abort;
 use std::test::Fail;
 
-const FILE: [u8; 8] = [0x4f, 0x56, 0x46, 0x4c, 0, 0, 0, 1];
+/// How a stored content or state begins.
+pub const FILE: [u8; 8] = [0x4f, 0x56, 0x46, 0x4c, 0, 0, 0, 1];
 
 const LATER_FILE: [u8; 8] = [0x4f, 0x56, 0x46, 0x4c, 0, 0, 0, 2];
 
-const DIRECTORY: [u8; 8] = [0x4f, 0x56, 0x44, 0x52, 0, 0, 0, 1];
+/// How a stored directory begins.
+pub const DIRECTORY: [u8; 8] = [0x4f, 0x56, 0x44, 0x52, 0, 0, 0, 1];
 
 /// A stored file: the first 8 bytes of its header, the 56 that say nothing, and its body.
-fn stored(alloc: Global, front: &[u8], unread: u8, body: &[u8]) -> Result<Vec<u8>, AllocError> {
+pub fn stored(alloc: Global, front: &[u8], unread: u8, body: &[u8]) -> Result<Vec<u8>, AllocError> {
     let mut bytes = front.to_vec(alloc)?;
     bytes.extend_from_slice(&[unread; 56])?;
     bytes.extend_from_slice(body)?;
@@ -23,7 +29,7 @@ fn stored(alloc: Global, front: &[u8], unread: u8, body: &[u8]) -> Result<Vec<u8
 }
 
 /// The first bytes.
-fn cut<'a>(rt: &impl Abort, bytes: &'a [u8], len: usize) -> &'a [u8] {
+pub fn cut<'a>(rt: &impl Abort, bytes: &'a [u8], len: usize) -> &'a [u8] {
     assert!(rt; len <= bytes.len());
     &bytes[..len]
 }
@@ -143,14 +149,14 @@ fn bad_directories(rt: HostRuntime) -> Result<(), Fail> {
     Ok(())
 }
 
-/// A directory with one file, number 2.
-fn one_file(alloc: Global, text: &[u8], origin: Origin) -> Result<Vec<StoredEntry>, Fail>
+/// A directory with the file `test.txt` alone, number 2.
+pub fn one_file(alloc: Global, origin: Origin) -> Result<Vec<StoredEntry>, Fail>
     requires { HasOrigin kind.File origin }
     ensures { IfOk result (λ v. AreStorable v.items) }
 {
     let kind = Kind::File;
     let number = 2;
-    match Name::new(text.to_vec(alloc)?) {
+    match Name::new(b"test.txt".to_vec(alloc)?) {
         Ok(name) => {
             let entry = StoredEntry {
                 name,
@@ -164,11 +170,12 @@ fn one_file(alloc: Global, text: &[u8], origin: Origin) -> Result<Vec<StoredEntr
     }
 }
 
-const OWN_BODY: &[u8] = b"\x00\x00\x00\x01\x00\x01\x00\x00\x00\x00\x00\x00\x00\x02\x08test.txt";
+/// The body of that directory, where the file's content is its own.
+pub const OWN_BODY: &[u8] = b"\x00\x00\x00\x01\x00\x01\x00\x00\x00\x00\x00\x00\x00\x02\x08test.txt";
 
 #[test]
 fn own_file_is_written(rt: HostRuntime) -> Result<(), Fail> {
-    let entries = one_file(rt.alloc(), b"test.txt", Origin::Own)?;
+    let entries = one_file(rt.alloc(), Origin::Own)?;
     let written = encode_dir(rt.alloc(), &entries)?;
     let file = stored(rt.alloc(), &DIRECTORY, 0, OWN_BODY)?;
     assert!(rt; written == file);
@@ -182,7 +189,7 @@ const OBJECT_BODY: &[u8] =
 #[test]
 fn object_file_is_written(rt: HostRuntime) -> Result<(), Fail> {
     let id = Id { bytes: [0x22; 20] };
-    let entries = one_file(rt.alloc(), b"test.txt", Origin::Object(id))?;
+    let entries = one_file(rt.alloc(), Origin::Object(id))?;
     let written = encode_dir(rt.alloc(), &entries)?;
     let file = stored(rt.alloc(), &DIRECTORY, 0, OBJECT_BODY)?;
     assert!(rt; written == file);

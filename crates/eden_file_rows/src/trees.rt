@@ -1,5 +1,6 @@
-use crate::{Change, Dir, Entry};
+//! Directories in memory: a subtree that moves, a path that is changed, and no memory.
 use eden_model::{Kind, Name, Origin};
+use eden_tree::{Change, Dir, Entry};
 use linked_list_allocator::LocalHeap;
 use std::alloc::{AllocError, Allocator, Global};
 use std::collections::BTreeMap;

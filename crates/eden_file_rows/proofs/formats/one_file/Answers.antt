@@ -4,7 +4,7 @@ use Rattle.eden_model.specs.declared.kind.Kind.TheVariants as kind
 use Rattle.eden_model.specs.Names.{name_refusal}
 use Rattle.eden_overlay_format.specs.declared.stored_entry.StoredEntry.{StoredEntry}
 use Rattle.eden_overlay_format.specs.Directory.{IsStorable, AreStorable}
-use Rattle.eden_overlay_format.proofs.tests.one_file.Goals as goal
+use Rattle.eden_file_rows.proofs.formats.one_file.Goals as goal
 
 -- one entry stands in order
 alone : (e : StoredEntry) → IsStorable e → AreStorable (e ∷ [])
