@@ -8,7 +8,6 @@ ghost use Rattle.eden_ops.specs.Renames.{IsTold, IsByPaths, LeavesBeside};
 
 use crate::end::ended;
 use crate::landing::land;
-use crate::laws::keeps_laws;
 use crate::meet::meet;
 use crate::relocating::relocate;
 use crate::what::what;
@@ -93,7 +92,6 @@ pub fn rename<A: Allocator + Clone, W: World, F: Files<W>, C: Allocator + Clone>
         Some(reply) => return Attempt::Finished(reply),
         None => {}
     }
-    keeps_laws::<W, F>();
     match land(inodes, cache, alloc, to, dir) {
         Err(stop) => return ended(stop),
         Ok(()) => {}
