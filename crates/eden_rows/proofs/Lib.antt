@@ -1,3 +1,2 @@
-mod Caches
 mod Places
 mod Storable

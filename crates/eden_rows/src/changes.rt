@@ -2,11 +2,10 @@
 
 use crate::listing::first_files;
 use crate::mount::{LETTERS, Mount, Place, below};
-use crate::random::random;
 use crate::tree::{Node, Tree};
 use eden_model::{Kind, Origin, Outside};
 use eden_overlay::MemoryFiles;
-use eden_samples::{NEW_FILE, ONE_FILE, Sample, TWO_FILES, VERSION_1, VERSION_2};
+use eden_samples::{NEW_FILE, ONE_FILE, Sample, TWO_FILES, VERSION_1, VERSION_2, random};
 use linked_list_allocator::LocalHeap;
 use std::alloc::{Allocator, Global};
 use std::process::Abort;

@@ -2,8 +2,6 @@
 #![tactic(auto)]
 
 #[cfg(test)]
-mod attempts;
-#[cfg(test)]
 mod calls;
 #[cfg(test)]
 mod changes;
@@ -17,8 +15,6 @@ mod mount;
 mod names;
 #[cfg(test)]
 mod own;
-#[cfg(test)]
-mod random;
 #[cfg(test)]
 mod stops;
 #[cfg(test)]

@@ -18,7 +18,7 @@ const IN_D: Names = &[b"d"];
 
 const MOVED: Names = &[b"d", b"t"];
 
-pub(crate) const LINK: Names = &[b"l"];
+const LINK: Names = &[b"l"];
 
 /// A change of a table.
 #[derive(Clone, Copy)]

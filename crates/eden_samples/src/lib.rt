@@ -1,12 +1,18 @@
-//! What tests of several crates share: objects as Git has them, and a file system that fails where a test wants it.
+//! What tests of several crates share: paths, random words, objects as Git has them, and a file system that fails where a
+//! test wants it.
 #![tactic(auto)]
 
 mod faulty;
 mod folders;
 mod objects;
+mod paths;
+mod words;
 
 pub use faulty::{Call, FaultyDir, FaultyFile, FaultySystem};
 pub use folders::empty_folder;
 pub use objects::{
-    EMPTY_BLOB, EMPTY_TREE, NEW_FILE, ONE_FILE, Sample, TWO_FILES, VERSION_1, VERSION_2,
+    ALL_KINDS, EMPTY_BLOB, EMPTY_TREE, NEW_FILE, ONE_FILE, ONE_MODULE, Sample, TARGET, TWO_FILES,
+    VERSION_1, VERSION_2,
 };
+pub use paths::{name, path};
+pub use words::random;

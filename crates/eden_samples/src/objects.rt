@@ -92,3 +92,40 @@ pub const TWO_FILES: Sample = Sample {
     kind: ObjKind::Tree,
     framed: b"tree 101\040000 bak\0\xd82\x9f\xc1\xcc\x93\x87\x80\xff\xdd\x9f\x94\xe0\xd3d\xe0\xeat\xf5y100644 new.txt\0\xfaI\xb0w\x97#\x91\xadX\x03pP\xf2\xa7_t\xe3g\x1e\x92100644 test.txt\0\x1fzzG*\xbf=\xd9d?\xd6\x15\xf6\xda7\x9cJ\xcb>:",
 };
+
+/// The blob of `new.txt`, as the target of a link.
+pub const TARGET: Sample = Sample {
+    id: Id {
+        bytes: [
+            0xc0, 0x52, 0x8f, 0xd6, 0xcc, 0x98, 0x8c, 0x0a, 0x40, 0xce, 0x0b, 0xe1, 0x1b, 0xc1,
+            0x92, 0xfc, 0x8d, 0xc5, 0x34, 0x6e,
+        ],
+    },
+    kind: ObjKind::Blob,
+    framed: b"blob 7\0new.txt",
+};
+
+/// The tree with the one entry `sub`, another repository's commit.
+pub const ONE_MODULE: Sample = Sample {
+    id: Id {
+        bytes: [
+            0xab, 0xb0, 0xd5, 0xd7, 0x13, 0xfd, 0xd6, 0x63, 0xed, 0xbd, 0x98, 0xf2, 0xd7, 0x67,
+            0x03, 0xe9, 0x6d, 0xc6, 0xa7, 0x03,
+        ],
+    },
+    kind: ObjKind::Tree,
+    framed: b"tree 31\0160000 sub\0\x11\x11\x11\x11\x11\x11\x11\x11\x11\x11\x11\x11\x11\x11\x11\x11\x11\x11\x11\x11",
+};
+
+/// The tree with an entry of each kind: the directory `bak`, which is `TWO_FILES`, the executable file `new.txt`, which
+/// is `VERSION_1`, another repository's commit `sub`, and the link `test.txt`, which is `TARGET`.
+pub const ALL_KINDS: Sample = Sample {
+    id: Id {
+        bytes: [
+            0x45, 0xc0, 0xd5, 0xf6, 0x29, 0x59, 0xe5, 0xe9, 0xa5, 0x8c, 0x92, 0xc6, 0x3c, 0x30,
+            0x75, 0x9e, 0x25, 0x91, 0x71, 0x41,
+        ],
+    },
+    kind: ObjKind::Tree,
+    framed: b"tree 132\040000 bak\0<N\x9c\xd7\x89\xd8\x8d\x8d\x89\xc1\x077\x07\xc3X^A\xb0\xe6\x14100755 new.txt\0\x83\xba\xaea\x80Ne\xccs\xa7 \x1arRu\x0cv\x06j0160000 sub\0\x11\x11\x11\x11\x11\x11\x11\x11\x11\x11\x11\x11\x11\x11\x11\x11\x11\x11\x11\x11120000 test.txt\0\xc0R\x8f\xd6\xcc\x98\x8c\n@\xce\x0b\xe1\x1b\xc1\x92\xfc\x8d\xc54n",
+};

@@ -1,0 +1,22 @@
+//! Worked rows of attempts, and random requests beside the slow oracle, so that no library below is proved a second time
+//! for them.
+#![tactic(auto)]
+
+#[cfg(test)]
+mod changes;
+#[cfg(test)]
+mod looks;
+#[cfg(test)]
+mod mount;
+#[cfg(test)]
+mod renames;
+#[cfg(test)]
+mod replies;
+#[cfg(test)]
+mod requests;
+#[cfg(test)]
+mod steps;
+#[cfg(test)]
+mod stream;
+#[cfg(test)]
+mod whole;

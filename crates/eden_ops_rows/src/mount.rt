@@ -1,0 +1,158 @@
+//! A table over files that stop, with its object cache, and one attempt of any request on it.
+
+ghost use Rattle.eden_model.specs.Repository.{Repository};
+ghost use Rattle.eden_ops.specs.Caches.{IsStocked};
+
+use eden_cache::ObjectCache;
+use eden_inode::Inodes;
+use eden_model::{Attempt, Key, Origin, Outside, Reply, Request};
+use eden_object::Object;
+use eden_ops::{
+    create, kind, list, mkdir, read, readlink, rename, rmdir, set_exec, stat, symlink, truncate,
+    unlink, write,
+};
+use eden_overlay::{MemoryFiles, Overlay, StopFiles};
+use eden_samples::{
+    ALL_KINDS, NEW_FILE, ONE_FILE, Sample, TARGET, TWO_FILES, VERSION_1, VERSION_2,
+};
+use std::alloc::Global;
+use std::cell::Cell;
+use std::process::Abort;
+use std::rc::Rc;
+
+/// The most attempts of one request: each needs another object, or one that was lost since.
+pub(crate) const TRIES: u32 = 1_000;
+
+/// The objects that an attempt may need.
+const OBJECTS: &[Sample] = &[
+    ALL_KINDS, TWO_FILES, ONE_FILE, NEW_FILE, TARGET, VERSION_1, VERSION_2,
+];
+
+pub(crate) type Table = Inodes<Global, Outside, StopFiles<MemoryFiles<Outside>>>;
+
+/// A table, its object cache, and how many calls on its files still pass.
+#[derive(Drop)]
+pub(crate) struct Mount {
+    pub(crate) alloc: Global,
+    pub(crate) table: Table,
+    pub(crate) cache: ObjectCache<Global>,
+    pub(crate) calls: Rc<Cell<u64>>,
+}
+
+pub(crate) fn key_of(object: Sample) -> Key {
+    Key {
+        kind: object.kind,
+        id: object.id,
+    }
+}
+
+/// Of an outside that is never honest nothing has to be known of what is cached.
+pub(crate) fn is_stocked(cache: &ObjectCache<Global>)
+    ensures { (R : Repository) → IsStocked R ⊥ cache.now }
+{
+    let _ = cache.usage();
+}
+
+fn attempt_change(
+    alloc: Global,
+    table: &mut Table,
+    cache: &mut ObjectCache<Global>,
+    request: &Request,
+) -> Attempt {
+    is_stocked(cache);
+    match request {
+        Request::Write(path, offset, bytes) => {
+            write(table, cache, alloc, path, *offset, bytes.as_slice())
+        }
+        Request::Truncate(path, size) => truncate(table, cache, alloc, path, *size),
+        Request::Create(path) => create(table, cache, alloc, path),
+        Request::SetExec(path, exec) => set_exec(table, cache, alloc, path, *exec),
+        Request::Mkdir(path) => mkdir(table, cache, alloc, path),
+        Request::Symlink(path, target) => symlink(table, cache, alloc, path, target.as_slice()),
+        Request::Unlink(path) => unlink(table, cache, alloc, path),
+        Request::Rmdir(path) => rmdir(table, cache, alloc, path),
+        Request::Rename(from, to) => rename(table, cache, alloc, from, to),
+        Request::Kind(path)
+        | Request::Stat(path)
+        | Request::Read(path, _, _)
+        | Request::ReadLink(path)
+        | Request::List(path, _, _) => kind(table, cache, alloc, path),
+    }
+}
+
+/// One attempt of a request.
+fn attempt(
+    alloc: Global,
+    table: &mut Table,
+    cache: &mut ObjectCache<Global>,
+    request: &Request,
+) -> Attempt {
+    is_stocked(cache);
+    match request {
+        Request::Kind(path) => kind(table, cache, alloc, path),
+        Request::Stat(path) => stat(table, cache, alloc, path),
+        Request::Read(path, offset, count) => read(table, cache, alloc, path, *offset, *count),
+        Request::ReadLink(path) => readlink(table, cache, alloc, path),
+        Request::List(path, after, limit) => list(table, cache, alloc, path, after, *limit),
+        change => attempt_change(alloc, table, cache, change),
+    }
+}
+
+/// The object of a key.
+fn object_of(rt: &impl Abort, key: Key) -> Sample {
+    for object in OBJECTS {
+        if key_of(*object) == key {
+            return *object;
+        }
+    }
+    None.expect(rt, "an object of the repository")
+}
+
+impl Mount {
+    /// A mount of that tree, over no files, whose cache holds so many objects: 1 to 8. All calls pass.
+    pub(crate) fn open(rt: &impl Abort, alloc: Global, root: Sample, objects: usize) -> Mount {
+        assert!(rt; 1 <= objects && objects <= 8);
+        let calls = Rc::new(alloc, Cell::new(u64::MAX)).expect(rt, "memory");
+        let shared = calls.clone().expect(rt, "memory");
+        let files = StopFiles::new(MemoryFiles::<Outside>::new(alloc), shared);
+        Mount {
+            alloc,
+            table: Inodes::new(alloc, Overlay::new(files), Origin::Object(root.id), 2),
+            cache: ObjectCache::new(alloc, objects, 1 << 20, 8).expect(rt, "memory"),
+            calls,
+        }
+    }
+
+    pub(crate) fn attempt(&mut self, request: &Request) -> Attempt {
+        attempt(self.alloc, &mut self.table, &mut self.cache, request)
+    }
+
+    /// Puts an object into the cache.
+    pub(crate) fn put(&mut self, rt: &impl Abort, object: Sample) {
+        let key = key_of(object);
+        let framed = object.framed.to_vec(self.alloc).expect(rt, "memory");
+        let object = Object::checked(self.alloc, key, framed).expect(rt, "an object");
+        assert!(rt; self.cache.put(key, object).is_ok());
+    }
+
+    /// One attempt; what it needs is put into the cache then. None where it needs something.
+    pub(crate) fn turn(&mut self, rt: &impl Abort, request: &Request) -> Option<Reply> {
+        match self.attempt(request) {
+            Attempt::Finished(reply) => Some(reply),
+            Attempt::Need(key) => {
+                self.put(rt, object_of(rt, key));
+                None
+            }
+        }
+    }
+
+    /// Attempts till there is a reply.
+    pub(crate) fn answer(&mut self, rt: &impl Abort, request: &Request) -> Reply {
+        for _ in 0..TRIES {
+            if let Some(reply) = self.turn(rt, request) {
+                return reply;
+            }
+        }
+        None.expect(rt, "a reply")
+    }
+}

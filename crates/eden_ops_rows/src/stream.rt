@@ -1,0 +1,227 @@
+//! Random requests on a mount that loses objects, unloads directories and has files that stop, beside the slow oracle.
+
+use crate::mount::{Mount, TRIES};
+use crate::replies::is_same;
+use crate::requests::request;
+use crate::whole::{Places, kind_at, path_of, told, whole};
+use eden_model::{Kind, Path, Reply, Request};
+use eden_oracle::WholeTree;
+use eden_samples::{ALL_KINDS, random};
+use std::alloc::Global;
+use std::process::Abort;
+use std::test::Fail;
+
+/// How often the commit is begun with, and how many requests follow each time.
+const RUNS: &[(u32, u32)] = &[(48, 50), (2, 300)];
+
+const ALL: u32 = 3_000;
+
+/// After how many requests all is compared.
+const BETWEEN: u32 = 25;
+
+/// The most paths that are compared at once.
+const MOST_PATHS: u32 = 100_000;
+
+/// How many changes were made, and how often an object was needed, the table refused and the device failed.
+#[derive(Clone, Copy)]
+struct Tally {
+    changed: u32,
+    needs: u32,
+    refused: u32,
+    faults: u32,
+}
+
+/// A mount, and what it must show.
+#[derive(Drop)]
+struct Pair {
+    mount: Mount,
+    tree: WholeTree,
+}
+
+fn places_below(rt: &impl Abort, alloc: Global, places: &[u8], place: u8) -> Places {
+    let mut below = places.to_vec(alloc).expect(rt, "memory");
+    below.push(place).expect(rt, "memory");
+    below
+}
+
+/// What is asked of an entry to see all of it.
+fn request_of(kind: Option<Kind>, at: Path) -> Request {
+    match kind {
+        None => Request::Kind(at),
+        Some(Kind::Dir) => Request::List(at, None, 1_000),
+        Some(Kind::Link) => Request::ReadLink(at),
+        Some(Kind::File | Kind::Exec) => Request::Read(at, 0, 65_536),
+    }
+}
+
+/// Whether both reply the same, once the mount has what it needs.
+fn agree(rt: &impl Abort, pair: &mut Pair, request: &Request) -> bool {
+    let reply = pair.mount.answer(rt, request);
+    is_same(&reply, &told(rt, pair.mount.alloc, &mut pair.tree, request))
+}
+
+/// Whether both show the same at a path, and what the oracle has there.
+fn show_same(rt: &impl Abort, pair: &mut Pair, places: &[u8]) -> (bool, Option<Kind>) {
+    let alloc = pair.mount.alloc;
+    let kind = kind_at(rt, alloc, &mut pair.tree, places);
+    let look = request_of(kind, path_of(rt, alloc, places));
+    let stat = Request::Stat(path_of(rt, alloc, places));
+    (agree(rt, pair, &look) && agree(rt, pair, &stat), kind)
+}
+
+/// Whether both show the same everywhere. All calls on the files pass then.
+fn show_same_tree(rt: &impl Abort, pair: &mut Pair) -> bool {
+    let alloc = pair.mount.alloc;
+    pair.mount.calls.set(u64::MAX);
+    let mut left = Vec::new(alloc);
+    left.push(Vec::<u8>::new(alloc)).expect(rt, "memory");
+    for _ in 0..MOST_PATHS {
+        let Some(places) = left.pop() else {
+            return true;
+        };
+        let (is_same, kind) = show_same(rt, pair, &places);
+        if !is_same {
+            return false;
+        }
+        if kind == Some(Kind::Dir) {
+            for place in 0..4 {
+                left.push(places_below(rt, alloc, &places, place))
+                    .expect(rt, "memory");
+            }
+        }
+    }
+    false
+}
+
+/// Unloads what is that old at and below a random path.
+fn unload(rt: &impl Abort, mount: &mut Mount, word: u32) {
+    let places = [(word % 4) as u8, (word / 4 % 4) as u8];
+    let depth = (word / 16 % 3) as usize;
+    let at = path_of(rt, mount.alloc, &places[..depth]);
+    let age = u64::from(word / 64 % 2);
+    mount.table.unload(mount.alloc, at.as_slice(), age);
+}
+
+/// Now and then directories are unloaded, or the clock goes on.
+fn disturb(rt: &impl Abort, mount: &mut Mount, seed: &mut u64) {
+    let word = random(seed);
+    match word % 8 {
+        0 => unload(rt, mount, word / 8),
+        1..=3 => mount.table.tick(),
+        _ => {}
+    }
+}
+
+/// The device stops after a few calls, or doesn't.
+fn allow(mount: &Mount, seed: &mut u64) {
+    let calls = u64::from(random(seed) % 32);
+    mount.calls.set(if calls < 8 { calls } else { u64::MAX });
+}
+
+/// Attempts till there is a reply, with disturbances between them.
+fn reply(
+    rt: &impl Abort,
+    mount: &mut Mount,
+    request: &Request,
+    seed: &mut u64,
+    tally: &mut Tally,
+) -> Reply {
+    for _ in 0..TRIES {
+        allow(mount, seed);
+        disturb(rt, mount, seed);
+        if let Some(reply) = mount.turn(rt, request) {
+            return reply;
+        }
+        tally.needs = tally.needs.saturating_add(1);
+    }
+    None.expect(rt, "a reply")
+}
+
+fn count(tally: &mut Tally, reply: &Reply) {
+    match reply {
+        Reply::Ok | Reply::Count(_) => tally.changed = tally.changed.saturating_add(1),
+        Reply::Err(_) => tally.refused = tally.refused.saturating_add(1),
+        Reply::Fault(_) => tally.faults = tally.faults.saturating_add(1),
+        _ => {}
+    }
+}
+
+/// One request: where the mount replies no fault, the oracle replies the same; and it replies one only where the device has
+/// stopped.
+fn step(rt: &impl Abort, pair: &mut Pair, seed: &mut u64, tally: &mut Tally) {
+    let alloc = pair.mount.alloc;
+    let request = request(rt, alloc, &mut pair.tree, seed);
+    let reply = reply(rt, &mut pair.mount, &request, seed, tally);
+    count(tally, &reply);
+    match reply {
+        Reply::Fault(_) => assert_eq!(rt; pair.mount.calls.get(), 0),
+        reply => {
+            let want = told(rt, alloc, &mut pair.tree, &request);
+            assert!(rt;
+                is_same(&reply, &want),
+                "{request:?}: {reply:?}, not {want:?}"
+            );
+        }
+    }
+}
+
+/// So many requests on the commit, with room for so many objects.
+fn run(
+    rt: &impl Abort,
+    alloc: Global,
+    objects: usize,
+    steps: u32,
+    seed: &mut u64,
+    tally: &mut Tally,
+) {
+    let mut pair = Pair {
+        mount: Mount::open(rt, alloc, ALL_KINDS, objects),
+        tree: whole(rt, alloc),
+    };
+    for count in 1..=steps {
+        step(rt, &mut pair, seed, tally);
+        if count % BETWEEN == 0 {
+            assert!(rt; show_same_tree(rt, &mut pair), "after {count} steps");
+        }
+    }
+}
+
+/// So many times that, with room for one object or two.
+fn run_all(
+    rt: &impl Abort,
+    alloc: Global,
+    count: u32,
+    steps: u32,
+    seed: &mut u64,
+    tally: &mut Tally,
+) {
+    for run_count in 0..count {
+        run(rt, alloc, 1 + (run_count % 2) as usize, steps, seed, tally);
+    }
+}
+
+#[test]
+fn random_requests_are_answered_as_by_the_oracle(rt: HostRuntime) -> Result<(), Fail> {
+    let mut seed = 1;
+    let mut tally = Tally {
+        changed: 0,
+        needs: 0,
+        refused: 0,
+        faults: 0,
+    };
+    for (count, steps) in RUNS {
+        run_all(&rt, rt.alloc(), *count, *steps, &mut seed, &mut tally);
+    }
+    let Tally {
+        changed,
+        needs,
+        refused,
+        faults,
+    } = tally;
+    assert!(rt;
+        changed > ALL / 4 && refused > ALL / 4,
+        "{changed} {refused} {needs} {faults}"
+    );
+    assert!(rt; needs > ALL / 16 && faults > ALL / 40, "{needs} {faults}");
+    Ok(())
+}

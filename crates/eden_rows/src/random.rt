@@ -1,7 +1,0 @@
-//! Random words, the same in each run.
-
-/// A linear congruential generator with a multiplier of Steele and Vigna, its upper half.
-pub(crate) fn random(state: &mut u64) -> u32 {
-    *state = state.wrapping_mul(0xd134_2543_de82_ef95).wrapping_add(1);
-    (*state >> 32) as u32
-}
