@@ -12,12 +12,12 @@ use std::process::Abort;
 use std::test::Fail;
 
 /// How often the commit is begun with, and how many requests follow each time.
-const RUNS: &[(u32, u32)] = &[(48, 50), (2, 300)];
+const RUNS: &[(u32, u32)] = &[(600, 50), (20, 500)];
 
-const ALL: u32 = 3_000;
+const ALL: u32 = 40_000;
 
 /// After how many requests all is compared.
-const BETWEEN: u32 = 25;
+const BETWEEN: u32 = 10;
 
 /// The most paths that are compared at once.
 const MOST_PATHS: u32 = 100_000;
