@@ -7,10 +7,7 @@ use eden_cache::ObjectCache;
 use eden_inode::Inodes;
 use eden_model::{Attempt, Key, Origin, Outside, Reply, Request};
 use eden_object::Object;
-use eden_ops::{
-    create, kind, list, mkdir, read, readlink, rename, rmdir, set_exec, stat, symlink, truncate,
-    unlink, write,
-};
+use eden_ops::attempt;
 use eden_overlay::{MemoryFiles, Overlay, StopFiles};
 use eden_samples::{
     ALL_KINDS, NEW_FILE, ONE_FILE, Sample, TARGET, TWO_FILES, VERSION_1, VERSION_2,
@@ -53,51 +50,6 @@ pub(crate) fn is_stocked(cache: &ObjectCache<Global>)
     let _ = cache.usage();
 }
 
-fn attempt_change(
-    alloc: Global,
-    table: &mut Table,
-    cache: &mut ObjectCache<Global>,
-    request: &Request,
-) -> Attempt {
-    is_stocked(cache);
-    match request {
-        Request::Write(path, offset, bytes) => {
-            write(table, cache, alloc, path, *offset, bytes.as_slice())
-        }
-        Request::Truncate(path, size) => truncate(table, cache, alloc, path, *size),
-        Request::Create(path) => create(table, cache, alloc, path),
-        Request::SetExec(path, exec) => set_exec(table, cache, alloc, path, *exec),
-        Request::Mkdir(path) => mkdir(table, cache, alloc, path),
-        Request::Symlink(path, target) => symlink(table, cache, alloc, path, target.as_slice()),
-        Request::Unlink(path) => unlink(table, cache, alloc, path),
-        Request::Rmdir(path) => rmdir(table, cache, alloc, path),
-        Request::Rename(from, to) => rename(table, cache, alloc, from, to),
-        Request::Kind(path)
-        | Request::Stat(path)
-        | Request::Read(path, _, _)
-        | Request::ReadLink(path)
-        | Request::List(path, _, _) => kind(table, cache, alloc, path),
-    }
-}
-
-/// One attempt of a request.
-fn attempt(
-    alloc: Global,
-    table: &mut Table,
-    cache: &mut ObjectCache<Global>,
-    request: &Request,
-) -> Attempt {
-    is_stocked(cache);
-    match request {
-        Request::Kind(path) => kind(table, cache, alloc, path),
-        Request::Stat(path) => stat(table, cache, alloc, path),
-        Request::Read(path, offset, count) => read(table, cache, alloc, path, *offset, *count),
-        Request::ReadLink(path) => readlink(table, cache, alloc, path),
-        Request::List(path, after, limit) => list(table, cache, alloc, path, after, *limit),
-        change => attempt_change(alloc, table, cache, change),
-    }
-}
-
 /// The object of a key.
 fn object_of(rt: &impl Abort, key: Key) -> Sample {
     for object in OBJECTS {
@@ -124,7 +76,8 @@ impl Mount {
     }
 
     pub(crate) fn attempt(&mut self, request: &Request) -> Attempt {
-        attempt(self.alloc, &mut self.table, &mut self.cache, request)
+        is_stocked(&self.cache);
+        attempt(&mut self.table, &mut self.cache, self.alloc, request)
     }
 
     /// Puts an object into the cache.
