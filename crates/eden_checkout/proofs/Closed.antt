@@ -66,8 +66,8 @@ module _ (R : Repository) (F : Stored) (x : Row) (next : ℕ) (root : Id) (table
     sound = sound F kept.full x next kept.ties;
     shown = shows_on;
     below = λ s other c e live names.
-    let same : record { root = root; next = next } ≡ s = same_Some (record { root = root; next = next }) s (sym held ∙ other) in
-    subst (λ (t : State). e.number < t.next) same (below F kept.full x next kept.ties c e live names);
+        let same : record { root = root; next = next } ≡ s = same_Some (record { root = root; next = next }) s (sym held ∙ other) in
+        subst (λ (t : State). e.number < t.next) same (below F kept.full x next kept.ties c e live names);
   }
 
 pub holds_state : (F : Stored) (s : State) → IsGoodState s → HoldsState (with_state F s) s

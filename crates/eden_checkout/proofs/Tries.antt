@@ -70,8 +70,8 @@ module _ {W F : Type 0} (w : Ghosts W) (f : Files F W) where
     tree = ap (shows w f) put.inodes;
     cached = ap is_some found;
     left = λ q need.
-    let root = ap (λ (u : Table F). u.root) put.inodes in
-    subst (λ (x : Row). left x t.cache q < left s.inodes.root s.cache q) (sym root) (falls s.inodes.root s.cache t.cache q k o need found);
+        let root = ap (λ (u : Table F). u.root) put.inodes in
+        subst (λ (x : Row). left x t.cache q < left s.inodes.root s.cache q) (sym root) (falls s.inodes.root s.cache t.cache q k o need found);
   }
 
   pub stores_by : LeftFalls → (s t : Checkout F) (k : Key) (o : Body) (r : Result (Unit {0}) Body) → t.inodes ≡ s.inodes → t.root ≡ s.root

@@ -29,11 +29,7 @@ impl<A: Allocator, W: World, F: Files<W>> Change<A, Overlay<W, F>> for StateStor
 
     ghost does = { λ stored old x new z answer. Leaves W.honest stored.state (F.stored old) x (F.failures old) (F.stored new) z (F.failures new) answer };
 
-    fn change(
-        self,
-        overlay: &mut Overlay<W, F>,
-        _entry: &mut Entry<A>,
-    ) -> Result<(), FilesFault> {
+    fn change(self, overlay: &mut Overlay<W, F>, _entry: &mut Entry<A>) -> Result<(), FilesFault> {
         overlay.put_state(self.alloc, self.state)
     }
 }

@@ -40,9 +40,9 @@ returns-clause-opens g c h =
     let none : child_of x ≡ None = ap child_of c.store_state.ensures.root ∙ c.in_default.ensures.away c.let_go.new.inodes.root refl in
     let held : HoldsState F (record { root = root; next = t.next }) = subst (λ n. HoldsState F (record { root = root; next = n })) (sym c.store_state.ensures.rest.0) (c.in_default-store_state.ensures.held h) in
     let opens : CanOpen g.W.World.repository (shown_in g.W.World.repository F x) root F =
-        can_open g.W.World.repository F x t.next root c.holds.ensures.table (c.holds.ensures.kept h) none of c.tie_laws.ensures.sound c.tie_laws.ensures.numbers_below held in
+    can_open g.W.World.repository F x t.next root c.holds.ensures.table (c.holds.ensures.kept h) none of c.tie_laws.ensures.sound c.tie_laws.ensures.numbers_below held in
     let same : shown_in g.W.World.repository F x ≡ shows g.W.World g.F.Files c.args.self.inodes =
-        c.store_state.ensures.same h ∙ c.let_go.ensures.same h ∙ ap (λ (s : Checkout _). shows g.W.World g.F.Files s.inodes) c.self.view_is in
+    c.store_state.ensures.same h ∙ c.let_go.ensures.same h ∙ ap (λ (s : Checkout _). shows g.W.World g.F.Files s.inodes) c.self.view_is in
     let now : F ≡ g.F.Files.stored c.into_files.result = ap g.F.Files.stored (sym (c.into_files.ensures ∙ c.into_overlay.ensures)) in
     subst (λ (G : Stored). CanOpen g.W.World.repository (shows g.W.World g.F.Files c.args.self.inodes) c.args.self.root G) now
     (subst (λ (i : Id). CanOpen g.W.World.repository (shows g.W.World g.F.Files c.args.self.inodes) i F) (ap (λ (s : Checkout _). s.root) c.self.view_is)
