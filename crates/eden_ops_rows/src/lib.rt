@@ -9,6 +9,8 @@ mod looks;
 #[cfg(test)]
 mod mount;
 #[cfg(test)]
+mod paths;
+#[cfg(test)]
 mod renames;
 #[cfg(test)]
 mod replies;

@@ -1,10 +1,11 @@
 //! Renames: their replies, what they need, and the files that they leave.
 
 use crate::mount::Mount;
+use crate::paths::path;
 use crate::replies::is_same;
 use crate::steps::{Ask, D, D_T, E, Names, ROOT, Row, Step, TEST, Want, check_all};
 use eden_model::{Errno, Fault, Kind, Path, Reply, Request};
-use eden_samples::{ONE_FILE, TWO_FILES, VERSION_1, path};
+use eden_samples::{ONE_FILE, TWO_FILES, VERSION_1};
 use std::alloc::Global;
 use std::process::Abort;
 use std::test::Fail;

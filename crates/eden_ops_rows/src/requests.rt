@@ -1,9 +1,10 @@
 //! Random requests, most of them of what stands there.
 
+use crate::paths::name;
 use crate::whole::{Places, bytes, kind_at, name_at, path_of};
 use eden_model::{Bytes, Kind, Name, Path, Request};
 use eden_oracle::WholeTree;
-use eden_samples::{name, random};
+use eden_samples::random;
 use std::alloc::Global;
 use std::process::Abort;
 

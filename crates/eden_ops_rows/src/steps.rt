@@ -1,11 +1,12 @@
 //! Requests on a mount, one after the other: what each needs, its reply, and the files that are left.
 
 use crate::mount::{Mount, key_of};
+use crate::paths::{name, path};
 use crate::replies::is_same;
 use crate::whole::bytes;
 use eden_model::{Attempt, Entries, Errno, Fault, Kind, Name, Outside, Path, Reply, Request};
 use eden_overlay::{Files, MemoryFiles};
-use eden_samples::{Sample, name, path};
+use eden_samples::Sample;
 use std::alloc::Global;
 use std::process::Abort;
 

@@ -1,8 +1,8 @@
 //! The slow oracle over the commit that has an entry of each kind.
 
+use crate::paths::path;
 use eden_model::{Bytes, Kind, Node, Path, Reply, Request};
 use eden_oracle::WholeTree;
-use eden_samples::path;
 use std::alloc::Global;
 use std::process::Abort;
 

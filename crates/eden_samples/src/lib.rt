@@ -1,11 +1,10 @@
-//! What tests of several crates share: paths, random words, objects as Git has them, and a file system that fails where a
+//! What tests of several crates share: random words, objects as Git has them, and a file system that fails where a
 //! test wants it.
 #![tactic(auto)]
 
 mod faulty;
 mod folders;
 mod objects;
-mod paths;
 mod words;
 
 pub use faulty::{Call, FaultyDir, FaultyFile, FaultySystem};
@@ -14,5 +13,4 @@ pub use objects::{
     ALL_KINDS, EMPTY_BLOB, EMPTY_TREE, NEW_FILE, ONE_FILE, ONE_MODULE, Sample, TARGET, TWO_FILES,
     VERSION_1, VERSION_2,
 };
-pub use paths::{name, path};
 pub use words::random;
