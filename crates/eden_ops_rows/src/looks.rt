@@ -1,11 +1,12 @@
 //! Requests that change nothing: what each needs, and its reply once that is cached.
 
 use crate::mount::{Mount, is_stocked, key_of};
+use crate::paths::path;
 use crate::steps::{Ask, D, Names, ROOT, Row, Step, TEST, Want, check_all};
 use eden_model::{Errno, Kind};
 use eden_ops::{Walked, reach};
 use eden_samples::{
-    ALL_KINDS, EMPTY_TREE, NEW_FILE, ONE_FILE, ONE_MODULE, TARGET, TWO_FILES, VERSION_1, path,
+    ALL_KINDS, EMPTY_TREE, NEW_FILE, ONE_FILE, ONE_MODULE, TARGET, TWO_FILES, VERSION_1,
 };
 use std::test::Fail;
 
