@@ -1,0 +1,17 @@
+-- What a session is told of one caller's requests.
+use Rattle.std.specs.Prelude.{◌≡◌, Result, Ok, Err}
+use Rattle.eden_model.specs.declared.fault.CallFault.{CallFault}
+use Rattle.eden_model.specs.declared.fault.CallFault.TheVariants as call
+use Rattle.eden_model.specs.declared.fault.StartFault.{StartFault}
+use Rattle.eden_model.specs.declared.id.Id.{Id}
+use Rattle.eden_model.specs.declared.request.Request.{Request}
+use Rattle.eden_model.specs.declared.reply.Reply.{Reply}
+use Rattle.eden_source.specs.Fetching.{Answer}
+use Rattle.eden_mount.specs.Tables.{Table}
+use Rattle.eden_mount.specs.Serving.{Desk, Lends, Declines}
+
+module _ {S : Type 0} (fetched : S → Id → Answer → S → Type 0) {T : Type 0} (A : Table T) (honest : Type 0) where
+  -- a request was served, and its reply lies there; or the mount didn't take it, and nothing changed
+  abbrev pub CallAnswers : Desk T S → Request → Result Reply CallFault → Desk T S → Type 0
+  CallAnswers old q (Ok reply) new = Lends fetched A honest q old reply new
+  CallAnswers old q (Err fault) new = (start : StartFault) × (fault ≡ call.Start start) × Declines old start new
