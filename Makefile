@@ -19,8 +19,9 @@ test: ## proves everything from nothing, and runs every test; its last line coun
 	tests/exporter
 	tests/end-to-end
 
-soak: ## compares the slow oracle with the second table of operations over a million random requests
+soak: ## a million random requests: the slow oracle beside the second table of operations, and attempts beside the slow oracle
 	tests/oracle 1000000
+	scripts/soak-attempts
 
 bench: ## times the work that grows with its input, at full size
 	@cd crates/eden_bench && rt run -- tree 1000000 timed
