@@ -26,7 +26,7 @@ module _ {W F : Type 0} (w : Ghosts W) (f : Files F W) where
   -- an attempt, as the table's and the cache's
   pub record IsTried (s : Checkout F) (q : Request) (a : Attempt) (t : Checkout F) : Type 0 where
     pub attempts : Attempts w f q s.inodes t.inodes s.cache t.cache a
-    pub leaves : LeavesAfter f q s.inodes t.inodes a
+    pub leaves : LeavesAfter w f q s.inodes t.inodes a
     pub root : t.root ≡ s.root
 
   -- the object is cached, and what is loaded stays as it is

@@ -28,7 +28,7 @@ pub fn change<A: Allocator + Clone, W: World, F: Files<W>, C: Allocator + Clone>
     requires change { IsChange request.now }
     requires stocked { IsStocked W.repository W.honest cache.old }
     ensures attempts { Attempts W.World F.Files request.now inodes.old inodes.new cache.old cache.new result }
-    ensures leaves { LeavesAfter F.Files request.now inodes.old inodes.new result }
+    ensures leaves { LeavesAfter W.World F.Files request.now inodes.old inodes.new result }
 {
     match request {
         Request::Write(path, offset, data) => {
@@ -60,7 +60,7 @@ pub fn attempt<A: Allocator + Clone, W: World, F: Files<W>, C: Allocator + Clone
 ) -> Attempt
     requires { IsStocked W.repository W.honest cache.old }
     ensures attempts { Attempts W.World F.Files request.now inodes.old inodes.new cache.old cache.new result }
-    ensures leaves { LeavesAfter F.Files request.now inodes.old inodes.new result }
+    ensures leaves { LeavesAfter W.World F.Files request.now inodes.old inodes.new result }
 {
     keeps_laws::<W, F>();
     match request {
