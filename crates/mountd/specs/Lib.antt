@@ -1,5 +1,6 @@
 pub mod CommandLine
 pub mod Commit
+pub mod Grammar
 pub mod Samples
 pub mod Serving
 pub mod Steps

@@ -1,11 +1,10 @@
 //! The command line.
-ghost use Rattle.std.specs.Prelude.{◌≡◌, ◌⊎◌, ◌↔◌, IfErr, IfOk, IsErrOf, OnOk, false, map, option_map, string_bytes};
+ghost use Rattle.std.specs.Prelude.{◌≡◌, ◌⊎◌, IfErr, IfOk, OnOk, false, map};
 ghost use Rattle.clap.specs.declared.builder.command.Command.TheViews.{out-Command as fields_of};
-ghost use Rattle.clap.specs.Words.{app_of, kind_of, rule_of, subcommand_of, subcommand_rows_of};
 ghost use Rattle.clap.specs.declared.error.kind.ErrorKind.TheVariants.{OutOfMemory};
-ghost use Rattle.hex.specs.Hex.{encode_lower};
-ghost use Rattle.mountd.specs.CommandLine.{AsksFor, IsTaken, Refuses, mountd_line, required_option, stdio_line, stdio_values};
-ghost use Rattle.eden_object.specs.IdText.{IsIdText};
+ghost use Rattle.clap.specs.Words.{app_of, first_value, found_of, kind_of, rows_of, rule_of, shape_of, subcommand_of, subcommand_rows_of};
+ghost use Rattle.mountd.specs.CommandLine.{AsksFor, IsAsked, IsTaken, Refuses, RefusesValues, mountd_line, stdio, stdio_options};
+ghost use Rattle.mountd.specs.Grammar.{HasRequired, option_rule, required, subcommand_shape};
 ghost use Rattle.mountd.specs.declared.options.OptionsError.TheVariants as error;
 
 use clap::error::ErrorKind;
@@ -61,29 +60,21 @@ pub fn options<S: AsStr>(alloc: Global, words: &[S]) -> Result<Command, OptionsE
     ensures err { IfErr result (Refuses (map S.text words.now)) }
 {
     let matches = matches_of(alloc, words)?;
-    // `clap` has seen that the subcommand and both options are there.
-    let (root, objects) = stdio_values(&matches).unwrap();
-    Ok(Command::Stdio(stdio_options(alloc, root, objects)?))
+    // `clap` has seen that the subcommand is there.
+    let given = matches.subcommand_matches("stdio").unwrap();
+    Ok(Command::Stdio(stdio_options(alloc, given)?))
 }
 
-fn stdio_options(alloc: Global, root: &str, objects: &str) -> Result<StdioOptions, OptionsError>
-    ensures root { IfOk result (λ options. encode_lower options.root.bytes ≡ root.now) }
-    ensures objects { IfOk result (λ options. string_bytes options.objects ≡ objects.now) }
-    ensures bad_root { IsErrOf result error.Root ↔ ¬ IsIdText root.now }
-    ensures err { IfErr result (λ why. (why ≡ error.Root) ⊎ (why ≡ error.Memory)) }
+fn stdio_options(alloc: Global, given: &ArgMatches) -> Result<StdioOptions, OptionsError>
+    requires { HasRequired stdio_options (rows_of (found_of given.now)) }
+    ensures ok { IfOk result (IsAsked (first_value (found_of given.now))) }
+    ensures err { IfErr result (RefusesValues (first_value (found_of given.now))) }
 {
+    let root = given.get_str("root").unwrap();
+    let objects = given.get_str("objects").unwrap();
     let root = parse_id(root).ok_or(OptionsError::Root)?;
     let objects = String::from_str(alloc, objects)?;
     Ok(StdioOptions { root, objects })
-}
-
-/// The values of `--root` and `--objects`.
-fn stdio_values<'a>(matches: &ArgMatches<'a>) -> Option<(&'a str, &'a str)>
-    ensures { option_map (λ values. (values.0.now, values.1.now)) result
-        ≡ stdio_values (subcommand_rows_of matches.now) }
-{
-    let given = matches.subcommand_matches("stdio")?;
-    Some((given.get_str("root")?, given.get_str("objects")?))
 }
 
 /// What `clap` finds in the words.
@@ -122,7 +113,7 @@ fn command_line<'a>(alloc: Global) -> Result<clap::Command<'a>, AllocError>
 }
 
 fn stdio_line<'a>(alloc: Global) -> Result<clap::Command<'a>, AllocError>
-    ensures shape { IfOk result (λ command. app_of command ≡ stdio_line) }
+    ensures shape { IfOk result (λ command. shape_of command ≡ subcommand_shape stdio) }
     ensures local { IfOk result (λ command. (fields_of command).has_globals ≡ false) }
 {
     let root = required_option(alloc, "root", "ID").help(
@@ -136,7 +127,7 @@ fn stdio_line<'a>(alloc: Global) -> Result<clap::Command<'a>, AllocError>
 }
 
 fn required_option<'a>(alloc: Global, name: &'a str, value: &'a str) -> Arg<'a>
-    ensures rule { rule_of result ≡ required_option name.entry.now }
+    ensures rule { rule_of result ≡ option_rule (required name.entry.now) }
     ensures local { result.global ≡ false }
 {
     Arg::new(alloc, name)
