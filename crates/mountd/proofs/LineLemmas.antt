@@ -63,7 +63,11 @@ pub asked-taken : (words : List Text) (f : Found) (options : StdioOptions) → s
     → IsAsked (first_value f) options → IsAsked (stdio_value words) options
 asked-taken words f options met asked =
     let same = values-taken words f met in
-    record { root = sym (same _) ∙ asked.root; objects = sym (same _) ∙ asked.objects }
+    record {
+      root = sym (same _) ∙ asked.root;
+      objects = sym (same _) ∙ asked.objects;
+      overlay = sym (same _) ∙ asked.overlay;
+    }
 
 -- a value that `stdio` refuses
 pub values_refuse : (words : List Text) (f : Found) (why : OptionsError) → IsTaken words

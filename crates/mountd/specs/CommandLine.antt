@@ -1,10 +1,10 @@
 -- What the program's command line says.
-use Rattle.std.specs.Prelude.{◌≡◌, ⊤, List, [], ◌∷◌, Option, Some, codes, string_bytes}
+use Rattle.std.specs.Prelude.{◌≡◌, ⊤, List, [], ◌∷◌, Option, Some, codes, option_map, string_bytes}
 use Rattle.clap.specs.Kinds.{IsAmong}
 use Rattle.clap.specs.Words.{App, Text, fault_of, kind_of, subcommand_of}
 use Rattle.hex.specs.Hex.{encode_lower}
 use Rattle.eden_object.specs.IdText.{IsIdText}
-use Rattle.mountd.specs.Grammar.{LineOption, Subcommand, program, required, value_in}
+use Rattle.mountd.specs.Grammar.{LineOption, Subcommand, optional, program, required, value_in}
 use Rattle.mountd.specs.declared.options.Command.{Command}
 use Rattle.mountd.specs.declared.options.Command.TheVariants as command
 use Rattle.mountd.specs.declared.options.OptionsError.{OptionsError}
@@ -12,9 +12,9 @@ use Rattle.mountd.specs.declared.options.OptionsError.TheVariants as error
 use Rattle.mountd.specs.declared.options.StdioOptions.{StdioOptions}
 
 abbrev pub stdio_options : List LineOption
-stdio_options = required (codes "root") ∷ required (codes "objects") ∷ []
+stdio_options = required (codes "root") ∷ required (codes "objects") ∷ optional (codes "overlay") ∷ []
 
--- `stdio --root ID --objects DIR`
+-- `stdio --root ID --objects DIR [--overlay DIR]`
 abbrev pub stdio : Subcommand
 stdio = (codes "stdio", stdio_options)
 
@@ -29,6 +29,7 @@ stdio_value words = value_in stdio.0 (subcommand_of mountd_line words)
 pub record IsAsked (value : Text → Option Text) (options : StdioOptions) : Type 0 where
   pub root : value (codes "root") ≡ Some (encode_lower options.root.bytes)
   pub objects : value (codes "objects") ≡ Some (string_bytes options.objects)
+  pub overlay : value (codes "overlay") ≡ option_map string_bytes options.overlay
 
 -- the words ask for this
 abbrev pub AsksFor : List Text → Command → Type 0

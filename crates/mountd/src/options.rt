@@ -1,10 +1,10 @@
 //! The command line.
-ghost use Rattle.std.specs.Prelude.{◌≡◌, ◌⊎◌, IfErr, IfOk, OnOk, false, map};
+ghost use Rattle.std.specs.Prelude.{◌≡◌, ◌⊎◌, IfErr, IfOk, OnOk, codes, false, map, option_map, string_bytes};
 ghost use Rattle.clap.specs.declared.builder.command.Command.TheViews.{out-Command as fields_of};
 ghost use Rattle.clap.specs.declared.error.kind.ErrorKind.TheVariants.{OutOfMemory};
 ghost use Rattle.clap.specs.Words.{app_of, first_value, found_of, kind_of, rows_of, rule_of, shape_of, subcommand_of, subcommand_rows_of};
 ghost use Rattle.mountd.specs.CommandLine.{AsksFor, IsAsked, IsTaken, Refuses, RefusesValues, mountd_line, stdio, stdio_options};
-ghost use Rattle.mountd.specs.Grammar.{HasRequired, option_rule, required, subcommand_shape};
+ghost use Rattle.mountd.specs.Grammar.{HasRequired, option_rule, optional, required, subcommand_shape};
 ghost use Rattle.mountd.specs.declared.options.OptionsError.TheVariants as error;
 
 use clap::error::ErrorKind;
@@ -22,6 +22,8 @@ pub struct StdioOptions {
     pub root: Id,
     /// The folder that the objects lie in.
     pub objects: String,
+    /// The folder that keeps the changes, where they are not to stay in memory alone.
+    pub overlay: Option<String>,
 }
 
 /// What the program is asked for.
@@ -74,7 +76,23 @@ fn stdio_options(alloc: Global, given: &ArgMatches) -> Result<StdioOptions, Opti
     let objects = given.get_str("objects").unwrap();
     let root = parse_id(root).ok_or(OptionsError::Root)?;
     let objects = String::from_str(alloc, objects)?;
-    Ok(StdioOptions { root, objects })
+    let overlay = overlay(alloc, given)?;
+    Ok(StdioOptions {
+        root,
+        objects,
+        overlay,
+    })
+}
+
+/// The value of `--overlay`, where it is given.
+fn overlay(alloc: Global, given: &ArgMatches) -> Result<Option<String>, AllocError>
+    ensures { IfOk result (λ overlay.
+        first_value (found_of given.now) (codes "overlay") ≡ option_map string_bytes overlay) }
+{
+    match given.get_str("overlay") {
+        Some(folder) => Ok(Some(String::from_str(alloc, folder)?)),
+        None => Ok(None),
+    }
 }
 
 /// What `clap` finds in the words.
@@ -120,18 +138,26 @@ fn stdio_line<'a>(alloc: Global) -> Result<clap::Command<'a>, AllocError>
         "The root directory's tree: 40 lower-case hexadecimal digits",
     );
     let objects = required_option(alloc, "objects", "DIR").help("The folder of Git objects");
+    let overlay = optional_option(alloc, "overlay", "DIR").help(
+        "The folder that keeps the changes [default: they stay in memory]",
+    );
     clap::Command::new(alloc, "stdio")
         .about("Serves one session over standard input and output")
         .arg(root)?
-        .arg(objects)
+        .arg(objects)?
+        .arg(overlay)
 }
 
 fn required_option<'a>(alloc: Global, name: &'a str, value: &'a str) -> Arg<'a>
     ensures rule { rule_of result ≡ option_rule (required name.entry.now) }
     ensures local { result.global ≡ false }
 {
-    Arg::new(alloc, name)
-        .long(name)
-        .value_name(value)
-        .required(true)
+    optional_option(alloc, name, value).required(true)
+}
+
+fn optional_option<'a>(alloc: Global, name: &'a str, value: &'a str) -> Arg<'a>
+    ensures rule { rule_of result ≡ option_rule (optional name.entry.now) }
+    ensures local { result.global ≡ false }
+{
+    Arg::new(alloc, name).long(name).value_name(value)
 }

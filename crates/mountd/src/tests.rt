@@ -16,11 +16,32 @@ const FOLDER: &str = "objects";
 
 const GOOD: &[&str] = &["mountd", "stdio", "--root", ROOT, "--objects", FOLDER];
 
+const FULL: &[&str] = &[
+    "mountd",
+    "stdio",
+    "--overlay=changes",
+    "--root",
+    ROOT,
+    "--objects",
+    FOLDER,
+];
+
 #[test]
 fn takes_a_good_line(rt: HostRuntime) -> Result<(), Fail> {
     let Command::Stdio(given) = options(rt.alloc(), GOOD)?;
     assert!(rt; given.root.bytes == ROOT_BYTES);
     assert!(rt; given.objects.as_str() == FOLDER);
+    assert!(rt; given.overlay.is_none());
+    Ok(())
+}
+
+#[test]
+fn takes_a_line_with_all_options(rt: HostRuntime) -> Result<(), Fail> {
+    let Command::Stdio(given) = options(rt.alloc(), FULL)?;
+    assert!(rt; given.root.bytes == ROOT_BYTES);
+    assert!(rt; given.objects.as_str() == FOLDER);
+    let overlay = expect(&rt, given.overlay);
+    assert!(rt; overlay.as_str() == "changes");
     Ok(())
 }
 
@@ -53,8 +74,12 @@ const NO_LINES: &[Refused] = &[
         "error: the following required arguments were not provided:\n  --objects <DIR>",
     ),
     (
+        &["mountd", "stdio", "--root", ROOT, "--rescan"],
+        "error: unexpected argument '--rescan' found",
+    ),
+    (
         &["mountd", "stdio", "--root", ROOT, "--overlay", FOLDER],
-        "error: unexpected argument '--overlay' found",
+        "error: the following required arguments were not provided:\n  --objects <DIR>",
     ),
     (
         &["mountd", "mount"],
@@ -83,7 +108,7 @@ fn refuses_what_is_no_line(rt: HostRuntime) -> Result<(), Fail> {
 const TOP_HELP: &str = "Answers requests on the files of a Git commit\n\nUsage: mountd <COMMAND>\n";
 
 const STDIO_HELP: &str =
-    "Serves one session over standard input and output\n\nUsage: mountd stdio --root <ID> --objects <DIR>\n";
+    "Serves one session over standard input and output\n\nUsage: mountd stdio [OPTIONS] --root <ID> --objects <DIR>\n";
 
 const HELP: &[Refused] = &[
     (&["mountd", "--help"], TOP_HELP),
