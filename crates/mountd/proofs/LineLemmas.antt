@@ -1,5 +1,6 @@
 -- What the matches of the program's command line say.
 use Rattle.std.proofs.Common.{◌≡◌, ◌∙◌, ap, sym, subst, inl, inr, ◌⊎◌, refl, List, [], ◌∷◌, Option, Some, None, codes, option_map}
+use Rattle.std.proofs.Math.Path.{fun_ext}
 use Rattle.std.specs.Prelude.{Box}
 use Rattle.std.specs.Box.{box_value}
 use Rattle.clap.specs.Simple.{subcommand_of, subcommand_rows, subcommand_rows_of}
@@ -55,26 +56,28 @@ rows-taken words m f taken rows given =
 
 -- .. and so are the values
 values-taken : (words : List Text) (f : Found) → subcommand_of mountd_line words ≡ Some (stdio.0, rows_of f)
-    → (option : Text) → first_value f option ≡ stdio_value words option
-values-taken words f met option =
-    first_value-rows f option ∙ sym (ap (λ (o : Option (Text × List Row)). value_in stdio.0 o option) met)
+    → first_value f ≡ stdio_value words
+values-taken words f met = fun_ext (λ option.
+    first_value-rows f option ∙ sym (ap (λ (o : Option (Text × List Row)). value_in stdio.0 o option) met))
 
 pub asked-taken : (words : List Text) (f : Found) (options : StdioOptions) → subcommand_of mountd_line words ≡ Some (stdio.0, rows_of f)
     → IsAsked (first_value f) options → IsAsked (stdio_value words) options
 asked-taken words f options met asked =
-    let same = values-taken words f met in
-    record {
-      root = sym (same _) ∙ asked.root;
-      objects = sym (same _) ∙ asked.objects;
-      overlay = sym (same _) ∙ asked.overlay;
-    }
+    let P : (Text → Option Text) → Type 0 = λ value. IsAsked value options in
+    subst P (values-taken words f met) asked
 
 -- a value that `stdio` refuses
 pub values_refuse : (words : List Text) (f : Found) (why : OptionsError) → IsTaken words
     → subcommand_of mountd_line words ≡ Some (stdio.0, rows_of f) → RefusesValues (first_value f) why → Refuses words why
-values_refuse words f (error.Refused reason) taken met refused = absurd refused
-values_refuse words f error.Root taken met refused = (taken, (refused.0, sym (values-taken words f met _) ∙ refused.1, refused.2))
-values_refuse words f error.Memory taken met refused = tt
+values_refuse words f why taken met refused =
+    let P : (Text → Option Text) → Type 0 = λ value. RefusesValues value why in
+    by_fault why (subst P (values-taken words f met) refused)
+  where
+    by_fault : (e : OptionsError) → RefusesValues (stdio_value words) e → Refuses words e
+    by_fault (error.Refused reason) why = absurd why
+    by_fault error.Root why = (taken, why)
+    by_fault (error.Number option) why = (taken, why)
+    by_fault error.Memory why = tt
 
 -- an error of `clap`
 pub clap_refuses : (words : List Text) (reason : Error) (e : OptionsError) → HasKind (fault_of mountd_line words) reason

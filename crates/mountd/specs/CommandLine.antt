@@ -5,16 +5,23 @@ use Rattle.clap.specs.Words.{App, Text, fault_of, kind_of, subcommand_of}
 use Rattle.hex.specs.Hex.{encode_lower}
 use Rattle.eden_object.specs.IdText.{IsIdText}
 use Rattle.mountd.specs.Grammar.{LineOption, Subcommand, optional, program, required, value_in}
+use Rattle.mountd.specs.Numbers.{IsNoNumber, SaysNumber, number_name}
+use Rattle.mountd.specs.declared.numbers.NumberOption.TheVariants.{History, CacheEntries, CacheBytes}
 use Rattle.mountd.specs.declared.options.Command.{Command}
 use Rattle.mountd.specs.declared.options.Command.TheVariants as command
 use Rattle.mountd.specs.declared.options.OptionsError.{OptionsError}
 use Rattle.mountd.specs.declared.options.OptionsError.TheVariants as error
 use Rattle.mountd.specs.declared.options.StdioOptions.{StdioOptions}
 
-abbrev pub stdio_options : List LineOption
-stdio_options = required (codes "root") ∷ required (codes "objects") ∷ optional (codes "overlay") ∷ []
+-- `[--overlay DIR] [--history N] [--cache-entries N] [--cache-bytes N]`, of whatever opens a mount
+abbrev pub mount_options : List LineOption
+mount_options = optional (codes "overlay") ∷ optional (number_name History) ∷ optional (number_name CacheEntries)
+    ∷ optional (number_name CacheBytes) ∷ []
 
--- `stdio --root ID --objects DIR [--overlay DIR]`
+abbrev pub stdio_options : List LineOption
+stdio_options = required (codes "root") ∷ required (codes "objects") ∷ mount_options
+
+-- `stdio --root ID --objects DIR` with the options of a mount
 abbrev pub stdio : Subcommand
 stdio = (codes "stdio", stdio_options)
 
@@ -30,6 +37,9 @@ pub record IsAsked (value : Text → Option Text) (options : StdioOptions) : Typ
   pub root : value (codes "root") ≡ Some (encode_lower options.root.bytes)
   pub objects : value (codes "objects") ≡ Some (string_bytes options.objects)
   pub overlay : value (codes "overlay") ≡ option_map string_bytes options.overlay
+  pub history : SaysNumber History (value (number_name History)) options.history
+  pub entries : SaysNumber CacheEntries (value (number_name CacheEntries)) options.entries
+  pub bytes : SaysNumber CacheBytes (value (number_name CacheBytes)) options.bytes
 
 -- the words ask for this
 abbrev pub AsksFor : List Text → Command → Type 0
@@ -43,10 +53,12 @@ IsTaken words = fault_of mountd_line words ≡ []
 abbrev pub RefusesValues : (Text → Option Text) → OptionsError → Type 0
 RefusesValues value (error.Refused why) = ⊥
 RefusesValues value error.Root = (root : Text) × (value (codes "root") ≡ Some root) × ¬ IsIdText root
+RefusesValues value (error.Number option) = (text : Text) × (value (number_name option) ≡ Some text) × IsNoNumber option text
 RefusesValues value error.Memory = ⊤
 
 -- why the words are refused
 abbrev pub Refuses : List Text → OptionsError → Type 0
 Refuses words (error.Refused why) = IsAmong (kind_of why) (fault_of mountd_line words)
 Refuses words error.Root = IsTaken words × RefusesValues (stdio_value words) error.Root
+Refuses words (error.Number option) = IsTaken words × RefusesValues (stdio_value words) (error.Number option)
 Refuses words error.Memory = ⊤

@@ -1,5 +1,5 @@
 -- Command lines of a program with subcommands, whose options each take one value, in the words of `clap`'s grammar.
-use Rattle.std.specs.Prelude.{◌≡◌, ◌⊎◌, ⊤, Bool, true, false, List, [], ◌∷◌, map, Option, Some, None, is_some, if◌then◌else◌}
+use Rattle.std.specs.Prelude.{◌≡◌, ◌⊎◌, ⊤, Bool, true, false, List, [], ◌∷◌, ◌++◌, map, Option, Some, None, is_some, if◌then◌else◌}
 use Rattle.std.specs.Str.{bytes_eq}
 use Rattle.clap.specs.Words.{App, Row, Rule, Shape, Text, first_of, new_rule}
 use Rattle.clap.specs.Simple.{new_shape}
@@ -30,6 +30,11 @@ Subcommand = Text × List LineOption
 
 abbrev pub subcommand_shape : Subcommand → Shape
 subcommand_shape subcommand = record (new_shape subcommand.0) { rules = map option_rule subcommand.1 }
+
+-- the same with more options
+abbrev pub with_options : Shape → List LineOption → Shape
+with_options shape [] = shape
+with_options shape (option ∷ rest) = with_options (record shape { rules = shape.rules ++ option_rule option ∷ [] }) rest
 
 -- the program of this name, which wants one of its subcommands
 abbrev pub program : Text → List Subcommand → App

@@ -1,12 +1,14 @@
 //! The command line.
-ghost use Rattle.std.specs.Prelude.{◌≡◌, ◌⊎◌, IfErr, IfOk, OnOk, codes, false, map, option_map, string_bytes};
+ghost use Rattle.std.specs.Prelude.{◌≡◌, ◌≤◌, ◌⊎◌, ◌∷◌, [], IfErr, IfOk, OnOk, codes, false, map, option_map, string_bytes};
 ghost use Rattle.clap.specs.declared.builder.command.Command.TheViews.{out-Command as fields_of};
 ghost use Rattle.clap.specs.declared.error.kind.ErrorKind.TheVariants.{OutOfMemory};
 ghost use Rattle.clap.specs.Words.{app_of, first_value, found_of, kind_of, rows_of, rule_of, shape_of, subcommand_of, subcommand_rows_of};
-ghost use Rattle.mountd.specs.CommandLine.{AsksFor, IsAsked, IsTaken, Refuses, RefusesValues, mountd_line, stdio, stdio_options};
-ghost use Rattle.mountd.specs.Grammar.{HasRequired, option_rule, optional, required, subcommand_shape};
+ghost use Rattle.mountd.specs.CommandLine.{AsksFor, IsAsked, IsTaken, Refuses, RefusesValues, mount_options, mountd_line, stdio, stdio_options};
+ghost use Rattle.mountd.specs.Grammar.{HasRequired, option_rule, optional, required, subcommand_shape, with_options};
+ghost use Rattle.mountd.specs.Numbers.{IsNoNumber, SaysNumber, most_of, number_name};
 ghost use Rattle.mountd.specs.declared.options.OptionsError.TheVariants as error;
 
+use crate::numbers::NumberOption;
 use clap::error::ErrorKind;
 use clap::{Arg, ArgMatches};
 use eden_model::Id;
@@ -24,6 +26,12 @@ pub struct StdioOptions {
     pub objects: String,
     /// The folder that keeps the changes, where they are not to stay in memory alone.
     pub overlay: Option<String>,
+    /// How many entries the history holds, from 1 to 2^32 - 1.
+    pub history: u32,
+    /// How many objects the cache holds, from 1 to 65,536.
+    pub entries: usize,
+    /// How many bytes the cache's objects have together, from 1 to 2^40.
+    pub bytes: u64,
 }
 
 /// What the program is asked for.
@@ -41,6 +49,9 @@ pub enum OptionsError {
     /// The value of `--root` is no id.
     #[error("mountd: --root takes 40 lower-case hexadecimal digits")]
     Root,
+    /// The value of this option is no number that it takes.
+    #[error("mountd: {0}")]
+    Number(NumberOption),
     #[error("mountd: out of memory")]
     Memory,
 }
@@ -77,10 +88,16 @@ fn stdio_options(alloc: Global, given: &ArgMatches) -> Result<StdioOptions, Opti
     let root = parse_id(root).ok_or(OptionsError::Root)?;
     let objects = String::from_str(alloc, objects)?;
     let overlay = overlay(alloc, given)?;
+    let history = number(given, NumberOption::History)? as u32;
+    let entries = number(given, NumberOption::CacheEntries)? as usize;
+    let bytes = number(given, NumberOption::CacheBytes)?;
     Ok(StdioOptions {
         root,
         objects,
         overlay,
+        history,
+        entries,
+        bytes,
     })
 }
 
@@ -92,6 +109,21 @@ fn overlay(alloc: Global, given: &ArgMatches) -> Result<Option<String>, AllocErr
     match given.get_str("overlay") {
         Some(folder) => Ok(Some(String::from_str(alloc, folder)?)),
         None => Ok(None),
+    }
+}
+
+/// The number that an option has: the one that is given, or its default.
+fn number(given: &ArgMatches, option: NumberOption) -> Result<u64, OptionsError>
+    ensures ok { IfOk result (SaysNumber option (first_value (found_of given.now) (number_name option))) }
+    ensures range { IfOk result (λ n. (1 ≤ n) × (n ≤ most_of option)) }
+    ensures err { IfErr result (RefusesValues (first_value (found_of given.now))) }
+{
+    match given.get_str(option.name()) {
+        Some(text) => match option.read(text) {
+            Some(number) => Ok(number),
+            None => Err(OptionsError::Number(option)),
+        },
+        None => Ok(option.default()),
     }
 }
 
@@ -131,33 +163,89 @@ fn command_line<'a>(alloc: Global) -> Result<clap::Command<'a>, AllocError>
 }
 
 fn stdio_line<'a>(alloc: Global) -> Result<clap::Command<'a>, AllocError>
-    ensures shape { IfOk result (λ command. shape_of command ≡ subcommand_shape stdio) }
-    ensures local { IfOk result (λ command. (fields_of command).has_globals ≡ false) }
+    ensures shape { IfOk result (λ line. shape_of line ≡ subcommand_shape stdio) }
+    ensures local { IfOk result (λ line. (fields_of line).has_globals ≡ false) }
 {
-    let root = required_option(alloc, "root", "ID").help(
+    let line = clap::Command::new(alloc, "stdio").about(
+        "Serves one session over standard input and output",
+    );
+    let line = with_required(
+        alloc,
+        line,
+        ("root", "ID"),
         "The root directory's tree: 40 lower-case hexadecimal digits",
-    );
-    let objects = required_option(alloc, "objects", "DIR").help("The folder of Git objects");
-    let overlay = optional_option(alloc, "overlay", "DIR").help(
+    )?;
+    let line = with_required(alloc, line, ("objects", "DIR"), "The folder of Git objects")?;
+    with_mount_options(alloc, line)
+}
+
+/// The line with the options of whatever opens a mount.
+fn with_mount_options<'a>(
+    alloc: Global,
+    line: clap::Command<'a>,
+) -> Result<clap::Command<'a>, AllocError>
+    requires { (fields_of line).has_globals ≡ false }
+    ensures shape { IfOk result (λ more. shape_of more ≡ with_options (shape_of line.entry) mount_options) }
+    ensures local { IfOk result (λ more. (fields_of more).has_globals ≡ false) }
+{
+    let line = with_optional(
+        alloc,
+        line,
+        ("overlay", "DIR"),
         "The folder that keeps the changes [default: they stay in memory]",
-    );
-    clap::Command::new(alloc, "stdio")
-        .about("Serves one session over standard input and output")
-        .arg(root)?
-        .arg(objects)?
-        .arg(overlay)
+    )?;
+    let line = with_optional(
+        alloc,
+        line,
+        ("history", "N"),
+        "How many entries the history holds [default: 1000000]",
+    )?;
+    let line = with_optional(
+        alloc,
+        line,
+        ("cache-entries", "N"),
+        "How many objects the cache holds [default: 1024]",
+    )?;
+    with_optional(
+        alloc,
+        line,
+        ("cache-bytes", "N"),
+        "How many bytes the cache's objects have together [default: 268435456]",
+    )
 }
 
-fn required_option<'a>(alloc: Global, name: &'a str, value: &'a str) -> Arg<'a>
-    ensures rule { rule_of result ≡ option_rule (required name.entry.now) }
-    ensures local { result.global ≡ false }
+/// The line with an option more, of this name and value, that must be given.
+fn with_required<'a>(
+    alloc: Global,
+    line: clap::Command<'a>,
+    name: (&'a str, &'a str),
+    help: &'a str,
+) -> Result<clap::Command<'a>, AllocError>
+    requires { (fields_of line).has_globals ≡ false }
+    ensures shape { IfOk result (λ more. shape_of more ≡ with_options (shape_of line.entry) (required name.entry.0.now ∷ [])) }
+    ensures local { IfOk result (λ more. (fields_of more).has_globals ≡ false) }
 {
-    optional_option(alloc, name, value).required(true)
+    line.arg(option(alloc, name).required(true).help(help))
 }
 
-fn optional_option<'a>(alloc: Global, name: &'a str, value: &'a str) -> Arg<'a>
-    ensures rule { rule_of result ≡ option_rule (optional name.entry.now) }
+/// The line with an option more, of this name and value, that may be left out.
+fn with_optional<'a>(
+    alloc: Global,
+    line: clap::Command<'a>,
+    name: (&'a str, &'a str),
+    help: &'a str,
+) -> Result<clap::Command<'a>, AllocError>
+    requires { (fields_of line).has_globals ≡ false }
+    ensures shape { IfOk result (λ more. shape_of more ≡ with_options (shape_of line.entry) (optional name.entry.0.now ∷ [])) }
+    ensures local { IfOk result (λ more. (fields_of more).has_globals ≡ false) }
+{
+    line.arg(option(alloc, name).help(help))
+}
+
+fn option<'a>(alloc: Global, name: (&'a str, &'a str)) -> Arg<'a>
+    ensures rule { rule_of result ≡ option_rule (optional name.entry.0.now) }
     ensures local { result.global ≡ false }
 {
+    let (name, value) = name;
     Arg::new(alloc, name).long(name).value_name(value)
 }
