@@ -5,7 +5,7 @@ use Rattle.std.specs.Prelude.{Box}
 use Rattle.std.specs.Box.{box_value}
 use Rattle.clap.specs.Simple.{subcommand_of, subcommand_rows, subcommand_rows_of}
 use Rattle.clap.specs.Matches.{first_value, subcommand_name_of}
-use Rattle.clap.specs.Walk.{Row, Text, first_of, rows_of}
+use Rattle.clap.specs.Walk.{Row, Text, rows_of}
 use Rattle.clap.specs.declared.parser.matches.ArgMatches.{ArgMatches}
 use Rattle.clap.specs.declared.parser.matches.ArgMatches.TheViews.{out-ArgMatches, out-SubCommand}
 use Rattle.clap.specs.declared.parser.matches.Found.{Found}

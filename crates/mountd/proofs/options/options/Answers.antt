@@ -1,8 +1,7 @@
 use Rattle.std.proofs.Common.{rules, ◌≡◌, map}
-use Rattle.clap.specs.Matches.{first_value, found_of}
+use Rattle.clap.specs.Matches.{found_of}
 use Rattle.clap.specs.Simple.{subcommand_of, subcommand_rows_of}
-use Rattle.clap.specs.Walk.{rows_of}
-use Rattle.mountd.specs.CommandLine.{IsAsked, IsTaken, Refuses, RefusesValues, mountd_line, stdio_value}
+use Rattle.mountd.specs.CommandLine.{IsTaken, Refuses, mountd_line}
 use Rattle.mountd.proofs.LineLemmas.{asked-taken, name-taken, rows-taken, values_refuse}
 use Rattle.mountd.proofs.options.options.Goals as goal
 
