@@ -3,9 +3,13 @@
 #![tactic(auto)]
 
 mod caller;
+mod fault;
+mod life;
 mod opening;
 mod serving;
 
 pub use caller::Caller;
-pub use opening::{Backing, close, open};
-pub use serving::serve;
+pub use fault::LifeFault;
+pub use life::{Backing, Ending, live};
+pub use opening::open;
+pub use serving::{Served, serve, serve_table};
