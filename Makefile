@@ -31,6 +31,11 @@ bench: ## times the work that grows with its input, at full size
 	@cd crates/eden_bench && for count in 10 10000; do out/eden_bench changes $$count timed; done
 	@cd crates/eden_bench && for count in 10 10000; do \
 	    folder=$$(mktemp -d) && out/eden_bench changes $$count timed $$folder; rm -r $$folder; done
+	@cd crates/eden_bench && for count in 10 10000 100000; do out/eden_bench attempts $$count timed; done
+	@cd crates/eden_bench && for count in 10 10000; do \
+	    folder=$$(mktemp -d) && out/eden_bench attempts $$count timed $$folder; rm -r $$folder; done
+	@cd crates/eden_bench && out/eden_bench large 64 timed
+	@cd crates/eden_bench && folder=$$(mktemp -d) && out/eden_bench large 64 timed $$folder; rm -r $$folder
 	@cd crates/eden_bench && out/eden_bench cache 1000000 timed
 	@cd crates/eden_bench && out/eden_bench lines 100000 timed
 
