@@ -5,6 +5,8 @@
 #[cfg(test)]
 mod changes;
 #[cfg(test)]
+mod kept;
+#[cfg(test)]
 mod looks;
 #[cfg(test)]
 mod mount;
