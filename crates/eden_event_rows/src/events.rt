@@ -3,7 +3,7 @@
 use crate::grounds::{Ground, Life};
 use crate::mounts::allow;
 use crate::waits::seat;
-use eden_model::{Cause, Fault, Key, Kind, Reply, Request};
+use eden_model::{Cause, Fault, Key, Kind, Path, Reply, Request};
 use eden_mount::{Arrived, Turned};
 use eden_random::{is_same, kind_at, path_of, request, some_look};
 use eden_samples::random;
@@ -44,6 +44,29 @@ fn some_pass(life: &Life, seed: &mut u64, is_busy: bool) -> u32 {
     random(seed) % 10
 }
 
+/// What a look is about.
+fn looked_at(request: &Request) -> Option<&Path> {
+    match request {
+        Request::Stat(at) | Request::ReadLink(at) => Some(at),
+        Request::Read(at, _, _) => Some(at),
+        Request::List(at, _, _) => Some(at),
+        _ => None,
+    }
+}
+
+/// A request after which what a pending look is about is gone or empty, so that it needs nothing any more.
+fn taking_away(rt: &impl Abort, ground: &Ground, life: &Life, seed: &mut u64) -> Option<Request> {
+    let word = random(seed);
+    let pending = life.asked[seat(word)].as_ref()?;
+    let at = looked_at(pending)?.copy(ground.alloc).expect(rt, "memory");
+    let to = path_of(ground.alloc, &[(word / 8 % 4) as u8]).expect(rt, "a path");
+    Some(match word / 32 % 3 {
+        0 => Request::Unlink(at),
+        1 => Request::Truncate(at, 0),
+        _ => Request::Rename(at, to),
+    })
+}
+
 /// A request of any kind, or a look.
 fn some_request(rt: &impl Abort, ground: &mut Ground, seed: &mut u64) -> Request {
     let made = if random(seed) % 2 == 0 {
@@ -54,10 +77,20 @@ fn some_request(rt: &impl Abort, ground: &mut Ground, seed: &mut u64) -> Request
     made.expect(rt, "a request")
 }
 
+/// A request, now and then one that another pass's request meets.
+fn next_request(rt: &impl Abort, ground: &mut Ground, life: &Life, seed: &mut u64) -> Request {
+    if random(seed) % 3 == 0 {
+        if let Some(request) = taking_away(rt, ground, life, seed) {
+            return request;
+        }
+    }
+    some_request(rt, ground, seed)
+}
+
 /// A start of some pass, or of none that there is.
 fn start(rt: &impl Abort, ground: &mut Ground, life: &mut Life, seed: &mut u64) -> Met {
     let pass = some_pass(life, seed, false);
-    let request = some_request(rt, ground, seed);
+    let request = next_request(rt, ground, life, seed);
     let copy = request.copy(ground.alloc).expect(rt, "memory");
     let admits = life.admits(pass);
     assert_eq!(rt; life.mount.start(pass, request), admits);
@@ -215,9 +248,9 @@ fn arrive(
     Met::Stored
 }
 
-/// What the repository has comes, or other bytes do. Where nothing is in flight, a key is taken first.
+/// What the repository has comes, or other bytes do. Where nothing is in flight, a key is taken first now and then.
 fn come(rt: &impl Abort, ground: &Ground, life: &mut Life, seed: &mut u64) -> Met {
-    if life.waits.flight.is_empty() {
+    if life.waits.flight.is_empty() && random(seed) % 2 == 0 {
         take(rt, life);
     }
     let key = some_key(rt, ground, life, seed);
@@ -254,9 +287,9 @@ fn unload(rt: &impl Abort, ground: &mut Ground, life: &mut Life, seed: &mut u64)
 pub(crate) fn event(rt: &impl Abort, ground: &mut Ground, life: &mut Life, seed: &mut u64) -> Met {
     match random(seed) % 32 {
         0..=8 => start(rt, ground, life, seed),
-        9..=19 => turn(rt, ground, life, seed),
-        20..=22 => take(rt, life),
-        23..=26 => come(rt, ground, life, seed),
+        9..=20 => turn(rt, ground, life, seed),
+        21 => take(rt, life),
+        22..=26 => come(rt, ground, life, seed),
         27 => fail(rt, ground, life, seed),
         _ => unload(rt, ground, life, seed),
     }

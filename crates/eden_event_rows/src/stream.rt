@@ -169,7 +169,7 @@ fn check_tally(rt: &impl Abort, tally: &Tally) {
         "{tally:?}"
     );
     assert!(rt;
-        tally.fetch_faults > ALL / 150 && tally.overlay_faults > ALL / 500,
+        tally.fetch_faults > ALL / 150 && tally.overlay_faults > ALL / 1_000,
         "{tally:?}"
     );
     assert!(rt; tally.gone > ALL / 100, "{tally:?}");
