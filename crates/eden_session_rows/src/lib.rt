@@ -4,6 +4,8 @@
 #[cfg(test)]
 mod changes;
 #[cfg(test)]
+mod honest;
+#[cfg(test)]
 mod looks;
 #[cfg(test)]
 mod mounts;
