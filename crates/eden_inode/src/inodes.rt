@@ -261,8 +261,8 @@ impl<A: Allocator + Clone, W: World, F: Files<W>> Inodes<A, W, F> {
         Ok(())
     }
 
-    /// The content of an own file or link, as it is stored. Errors: `Memory`, and `Overlay` where the device failed or the
-    /// stored file is none.
+    /// The content of an own file or link, as it is stored. Where the overlay keeps it in memory it is handed out without a
+    /// read; `keep` gives it back. Errors: `Memory`, and `Overlay` where the device failed or the stored file is none.
     pub fn content(&mut self, alloc: Global, path: &[Name]) -> Result<Content, Fault>
         requires { (y : Row) × ((row_at path.now self.old.root ≡ Some y) × ((y.origin ≡ origin.Own) × (y.kind ≢ kind.Dir))) }
         ensures ok { W.honest → IfOk result (λ content. (y : Row) → row_at path.now self.old.root ≡ Some y → HoldsContent (F.stored self.old.files) y.number content) }
@@ -276,6 +276,18 @@ impl<A: Allocator + Clone, W: World, F: Files<W>> Inodes<A, W, F> {
         };
         let number = entry.number;
         own_content(alloc, &mut self.overlay, number)
+    }
+
+    /// Keeps the content of an own file or link in memory, in place of any other, if the overlay keeps contents of its length:
+    /// who asks for it next has it without the files.
+    pub fn keep(&mut self, path: &[Name], content: Content)
+        requires { W.honest → (y : Row) → row_at path.now self.old.root ≡ Some y → HoldsContent (F.stored self.old.files) y.number content }
+        ensures { self.new ≡ self.old }
+    {
+        if let Some(entry) = self.root.walk(path) {
+            let number = entry.number;
+            self.overlay.keep(number, content);
+        }
     }
 
     /// Lets go of the loaded directories at and below a path that have not been used for so many turns, the leaves first; an

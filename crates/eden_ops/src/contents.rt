@@ -126,7 +126,9 @@ pub(crate) fn make<A: Allocator + Clone, W: World, F: Files<W>, C: Allocator + C
         Origin::Empty => unreachable!(),
         Origin::Own => {
             let content = inodes.content(alloc, path.as_slice())?;
-            Ok(made(alloc, content.as_slice(), form)?)
+            let bytes = made(alloc, content.as_slice(), form)?;
+            inodes.keep(path.as_slice(), content);
+            Ok(bytes)
         }
         Origin::Object(id) => match cached_form::<W, C>(cache, alloc, id, form)? {
             None => {

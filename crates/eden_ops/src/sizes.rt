@@ -92,7 +92,9 @@ fn size<A: Allocator + Clone, W: World, F: Files<W>, C: Allocator + Clone>(
         Origin::Empty => unreachable!(),
         Origin::Own => {
             let content = inodes.content(alloc, path.as_slice())?;
-            Ok(content.as_slice().len() as u64)
+            let length = content.as_slice().len() as u64;
+            inodes.keep(path.as_slice(), content);
+            Ok(length)
         }
         Origin::Object(id) => object_size::<W, C>(cache, id),
     }

@@ -2,6 +2,7 @@ pub mod CallerLemmas
 pub mod Held
 pub mod Puts
 pub mod Strays
+pub mod Bodies
 pub mod Contents
 pub mod Directories
 pub mod Cycles

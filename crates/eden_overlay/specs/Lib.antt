@@ -5,4 +5,5 @@ pub mod Gates
 pub mod Held
 pub mod Soundness
 pub mod Getting
+pub mod Keeping
 pub mod Laws

@@ -1,4 +1,4 @@
-ghost use Rattle.std.specs.Prelude.{◌≡◌, ◌≤◌, Some, length, IfOk, IfErr};
+ghost use Rattle.std.specs.Prelude.{◌≡◌, ◌≤◌, ℕ, List, Some, length, IfOk, IfErr};
 ghost use Rattle.eden_overlay_format.specs.Stored.{Refuses};
 ghost use Rattle.eden_overlay_format.specs.Content.{content_most};
 ghost use Rattle.eden_overlay_format.specs.Values.{content_in};
@@ -33,6 +33,14 @@ impl Content {
     {
         let _content = decode_file(&file)?;
         Ok(Content { file })
+    }
+
+    /// The content of a file that was encoded as one.
+    pub(crate) fn of_encoded(file: Vec<u8>) -> Content
+        requires { (content : List ℕ) × (content_in file.items ≡ Some content) }
+        ensures { content_in file.items ≡ Some result }
+    {
+        Content { file }
     }
 
     /// The bytes.

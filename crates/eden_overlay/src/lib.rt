@@ -22,6 +22,7 @@ mod laws;
 mod memory;
 mod names;
 mod overlay;
+mod recent;
 
 pub use content::Content;
 pub use fault::GetFault;

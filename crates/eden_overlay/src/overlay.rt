@@ -13,12 +13,14 @@ ghost use Rattle.eden_overlay.specs.Files.{Lists};
 ghost use Rattle.eden_overlay.specs.Held.{HoldsContent, HoldsEntries, HoldsState, with_content, with_entries, with_state, without};
 ghost use Rattle.eden_overlay.specs.Soundness.{AreSound};
 ghost use Rattle.eden_overlay.specs.Getting.{Explains};
+ghost use Rattle.eden_overlay.specs.Keeping.{IsKeptOf};
 ghost use Rattle.eden_overlay.specs.declared.files.FilesFault.TheVariants as files;
 ghost use Rattle.eden_overlay.specs.declared.fault.GetFault.TheVariants as get;
 
 use crate::content::Content;
 use crate::fault::GetFault;
 use crate::files::{Files, FilesFault};
+use crate::recent::Recent;
 use eden_model::World;
 use eden_overlay_format::{
     State, StoredEntry, decode_dir, decode_state, encode_dir, encode_file, encode_state,
@@ -31,9 +33,13 @@ const STATE_NUMBER: u64 = 0;
 
 /// The stored files of a mount, in which no name dangles: whoever stores or removes a file shows first that it will be
 /// so. Contracts see the files.
+///
+/// The content that was last stored, or was got and given back, stays in memory, if it isn't too long. Under an honest
+/// outside it is what its file holds.
 #[derive(Drop)]
 pub struct Overlay<W: World, F: Files<W>> {
     files: F,
+    recent: Recent,
     world: PhantomData<W>,
 }
 
@@ -41,15 +47,29 @@ impl<W: World, F: Files<W>> Model for Overlay<W, F> {
     ghost Value = { F };
 
     ghost view = { λ o. o.files };
+
+    ghost invariant = { λ o. W.honest → IsKeptOf (F.stored o.files) o.recent.kept };
 }
 
 impl<W: World, F: Files<W>> Overlay<W, F> {
-    /// An overlay over those files.
+    /// An overlay over those files, which keeps no content of a byte or more in memory.
     pub fn new(files: F) -> Self
         ensures { result ≡ files }
     {
         Overlay {
             files,
+            recent: Recent::new(0),
+            world: PhantomData,
+        }
+    }
+
+    /// The same overlay, which from now on keeps a content of at most so many bytes in memory.
+    pub fn keeping(self, most: u64) -> Self
+        ensures { result ≡ self }
+    {
+        Overlay {
+            files: self.files,
+            recent: Recent::new(most),
             world: PhantomData,
         }
     }
@@ -77,8 +97,16 @@ impl<W: World, F: Files<W>> Overlay<W, F> {
         ensures err { W.honest → OnErr result (F.stored self.new ≡ F.stored self.old) }
         ensures counted { Counted (result ≡ Err files.Device) (F.failures self.old) (F.failures self.new) }
     {
+        // Before there is the file, beside the content.
+        self.recent.clear();
         let bytes = encode_file(alloc, content)?;
-        self.files.replace(alloc, number, &bytes)
+        match self.files.replace(alloc, number, &bytes) {
+            Err(fault) => Err(fault),
+            Ok(()) => {
+                self.recent.keep(number, Content::of_encoded(bytes));
+                Ok(())
+            }
+        }
     }
 
     /// Stores a directory as the file of that number, in place of any that was there: the root's is 1. After an error
@@ -95,21 +123,33 @@ impl<W: World, F: Files<W>> Overlay<W, F> {
         ensures err { W.honest → OnErr result (F.stored self.new ≡ F.stored self.old) }
         ensures counted { Counted (result ≡ Err files.Device) (F.failures self.old) (F.failures self.new) }
     {
+        self.recent.forget(number);
         let bytes = encode_dir(alloc, entries)?;
         self.files.replace(alloc, number, &bytes)
     }
 
-    /// The content of the file of that number, or why there is none.
+    /// The content of the file of that number, or why there is none. The files aren't asked for a content that is kept.
     pub fn get_file(&mut self, alloc: Global, number: u64) -> Result<Content, GetFault>
         ensures found { W.honest → IfOk result (λ content. HoldsContent (F.stored self.old) number content) }
         ensures refused { W.honest → IfErr result (Explains identifier.File content_in (F.stored self.old number)) }
         ensures unchanged { W.honest → F.stored self.new ≡ F.stored self.old }
         ensures counted { Counted (result ≡ Err get.Device) (F.failures self.old) (F.failures self.new) }
     {
+        if let Some(content) = self.recent.take(number) {
+            return Ok(content);
+        }
         match self.files.read(alloc, number)? {
             Some(file) => Content::of_file(file).map_err(GetFault::Damaged),
             None => Err(GetFault::Absent),
         }
+    }
+
+    /// Keeps a content that was got in memory, in place of any other, if it isn't too long.
+    pub fn keep(&mut self, number: u64, content: Content)
+        requires { W.honest → HoldsContent (F.stored self.old) number content }
+        ensures { self.new ≡ self.old }
+    {
+        self.recent.keep(number, content);
     }
 
     /// The entries of the directory of that number, or why there are none.
@@ -133,6 +173,7 @@ impl<W: World, F: Files<W>> Overlay<W, F> {
         ensures err { W.honest → OnErr result (F.stored self.new ≡ F.stored self.old) }
         ensures counted { Counted (result ≡ Err files.Device) (F.failures self.old) (F.failures self.new) }
     {
+        self.recent.forget(number);
         self.files.remove(alloc, number)
     }
 
@@ -145,6 +186,7 @@ impl<W: World, F: Files<W>> Overlay<W, F> {
         ensures err { W.honest → OnErr result (F.stored self.new ≡ F.stored self.old) }
         ensures counted { Counted (result ≡ Err files.Device) (F.failures self.old) (F.failures self.new) }
     {
+        self.recent.forget(STATE_NUMBER);
         let bytes = encode_state(alloc, state)?;
         self.files.replace(alloc, STATE_NUMBER, &bytes)
     }
@@ -169,6 +211,7 @@ impl<W: World, F: Files<W>> Overlay<W, F> {
         ensures err { W.honest → OnErr result (F.stored self.new ≡ F.stored self.old) }
         ensures counted { Counted (result ≡ Err files.Device) (F.failures self.old) (F.failures self.new) }
     {
+        self.recent.forget(STATE_NUMBER);
         self.files.remove(alloc, STATE_NUMBER)
     }
 
