@@ -17,6 +17,7 @@ test: ## proves everything from nothing, and runs every test; its last line coun
 	rt ci
 	tests/oracle
 	tests/exporter
+	tests/overlay-life
 	tests/end-to-end
 
 soak: ## a million random requests: the slow oracle beside the second table of operations, attempts beside the slow oracle, and events on mounts

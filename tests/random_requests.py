@@ -6,6 +6,7 @@ from tree_model import LONGEST_DATA, LONGEST_FILE, LONGEST_TARGET, MOST_ENTRIES
 LONGEST_CONTENT = 4_096
 WORDS = ["kind", "stat", "read", "readlink", "list", "write", "truncate", "create", "setexec", "mkdir", "symlink",
          "unlink", "rmdir", "rename", "create", "create", "mkdir", "mkdir", "symlink", "write"]
+LOOKS = ["kind", "stat", "read", "readlink", "list"]
 REMOVING = ["unlink", "rmdir", "rename"]
 
 
@@ -44,9 +45,9 @@ class Requests:
         """Where a read or a write begins: where a file may end, or so far out that nothing fits behind it."""
         return self.random.choice([0, 1, self.random.randrange(3_000), LONGEST_FILE, 2**64 - LONGEST_DATA - 2])
 
-    def one(self):
+    def one(self, words=WORDS):
         crowded = len(self.tree.nodes) >= self.most_nodes
-        word = self.random.choice(REMOVING if crowded else WORDS)
+        word = self.random.choice(REMOVING if crowded else words)
         return word, getattr(self, word)()
 
     def kind(self):
