@@ -55,7 +55,7 @@ fn end<W: World, S: Drop, A: Allocator + Clone, F: Files<W>>(
     alloc: Global,
     served: Served<Checkout<A, W, F>, S>,
 ) -> Ending<F, S>
-    ensures { Ends W.World F.Files served.table (shows W.World F.Files served.table.inodes) served.source served.said result }
+    ensures { Ends W.World F.Files served.table.root served.table (shows W.World F.Files served.table.inodes) served.source served.said result }
 {
     let Served {
         table,

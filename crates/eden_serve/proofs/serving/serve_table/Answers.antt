@@ -1,7 +1,8 @@
-use Rattle.std.proofs.Common.{◌≡◌, ◌∙◌, sym, ap, subst}
+use Rattle.std.proofs.Common.{◌≡◌, ◌++◌, ◌∙◌, sym, ap, subst}
 use Rattle.eden_model.specs.Histories.{Legal, replay}
 use Rattle.eden_mount.specs.Core.{Core}
 use Rattle.eden_mount.specs.Serving.{Desk, IsAtRest}
+use Rattle.eden_serve.proofs.Staying.{serves_stay}
 use Rattle.eden_serve.proofs.serving.serve_table.Goals as goal
 
 pub returns : goal.returns
@@ -17,6 +18,7 @@ returns g c =
       };
       ended = c.serve-said.new.caller;
       session = c.serve-said.ensures;
+      stays = (let said = c.serve-said.ensures in serves_stay g.S.Source.fetched g.T.Attempts.table g.W.World.honest (said.items ++ said.last) said.given c.new-caller.result c.serve-said.new.caller said.served);
       legal = λ h. subst (λ (m : Core _). Legal g.W.World.opening m.history) last (c.holds.ensures.legal h);
       shown = λ h. subst (λ (m : Core _). g.T.Attempts.table.shown m.table ≡ replay g.W.World.opening m.history) last (c.holds.ensures.shown h);
       table = c.into_table.ensures ∙ ap (λ (m : Core _). m.table) last;
