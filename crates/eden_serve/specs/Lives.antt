@@ -1,5 +1,6 @@
 -- A mount's life: the overlay is opened over a commit's tree, one caller's session is served, and the overlay is closed.
 use Rattle.std.specs.Prelude.{◌≡◌, Option, Some, None, Result, Ok, Err, ⊤}
+use Rattle.std.specs.List.{AllByRecursion}
 use Rattle.eden_model.specs.declared.id.Id.{Id}
 use Rattle.eden_model.specs.declared.world.World.{Ghosts}
 use Rattle.eden_model.specs.Histories.{Legal, replay}
@@ -18,7 +19,7 @@ use Rattle.eden_serve.specs.declared.fault.LifeFault.{LifeFault}
 use Rattle.eden_serve.specs.declared.fault.LifeFault.TheVariants as life
 use Rattle.eden_serve.specs.declared.life.Backing.{Backing}
 use Rattle.eden_serve.specs.declared.life.Ending.{Ending}
-use Rattle.eden_serve.specs.Calls.{CallAnswers}
+use Rattle.eden_serve.specs.Calls.{CallAnswers, MayBeTold}
 use Rattle.eden_serve.specs.Opening.{IsOpened, IsRefused, IsClosed, StaysOpen}
 use Rattle.eden_serve.specs.Serving.{Begins}
 
@@ -49,9 +50,9 @@ module _ {W F : Type 0} (w : Ghosts W) (f : Files F W) where
       pub unwritten : output.1 ≡ output.0
       pub unclosed : left.unclosed ≡ None
 
-    -- The overlay was opened, the caller served, and the overlay closed, however the session ended. Each request met the
-    -- settings' passes and limit, and the files are the same commit's. Where the outside is honest, the history is one of
-    -- the opening tree, and what the files show is the tree after it.
+    -- The overlay was opened, the caller served, and the overlay closed, however the session ended. A request wasn't taken
+    -- for the settings' limit or for want of memory alone, and the files are the same commit's. Where the outside is honest,
+    -- the history is one of the opening tree, and what the files show is the tree after it.
     pub record IsLived (root : Id) (settings : Settings) (backing : Backing F S) (input output : Known × Known) (left : Ending F S) : Type 0 where
       pub begun : Desk (Checkout F) S
       pub begins : Begins (room_for settings) begun.core.table backing.source begun
@@ -59,6 +60,7 @@ module _ {W F : Type 0} (w : Ghosts W) (f : Files F W) where
       pub ended : Desk (Checkout F) S
       pub said : Result ⊤ SessionFault
       pub session : Session (CallAnswers fetched (attempted w f) w.honest) (begun, ended) input output said
+      pub told : AllByRecursion (MayBeTold settings.history) session.given
       pub stays : Stays (attempted w f) begun.core ended.core
       pub legal : w.honest → Legal w.opening ended.core.history
       pub ends : Ends root ended.core.table (replay w.opening ended.core.history) ended.source said left

@@ -1,10 +1,12 @@
 use Rattle.std.proofs.Common.{◌≡◌, ◌∙◌, Result, sym, ap, subst}
+use Rattle.std.specs.List.{AllByRecursion}
 use Rattle.eden_model.specs.Histories.{replay}
 use Rattle.eden_mount.specs.Core.{Core}
 use Rattle.eden_mount.specs.Settings.{Room}
 use Rattle.eden_checkout.specs.Checkouts.{Checkout}
 use Rattle.eden_wire.specs.Serving.{Known}
 use Rattle.eden_serve.specs.declared.fault.LifeFault.{LifeFault}
+use Rattle.eden_serve.specs.Calls.{MayBeTold}
 use Rattle.eden_serve.specs.Lives.{LivesBy, IsLived}
 use Rattle.eden_serve.specs.Opening.{IsOpened}
 use Rattle.eden_serve.specs.Serving.{Begins}
@@ -31,6 +33,7 @@ returns-in-Ok g c =
       ended = s.ended;
       said = x.said;
       session = s.session;
+      told = subst (λ (r : Room). AllByRecursion (MayBeTold r.limit) s.session.given) c.in-Ok.ensures.room s.told;
       stays = s.stays;
       legal = s.legal;
       ends = record {
