@@ -19,9 +19,9 @@ test: ## proves everything from nothing, and runs every test; its last line coun
 	tests/exporter
 	tests/end-to-end
 
-soak: ## a million random requests: the slow oracle beside the second table of operations, and attempts beside the slow oracle
+soak: ## a million random requests: the slow oracle beside the second table of operations, attempts beside the slow oracle, and events on mounts
 	tests/oracle 1000000
-	scripts/soak-attempts
+	scripts/soak-rows
 
 bench: ## times the work that grows with its input, at full size
 	@cd crates/eden_bench && rt run -- tree 1000000 timed
@@ -31,6 +31,11 @@ bench: ## times the work that grows with its input, at full size
 	@cd crates/eden_bench && for count in 10 10000; do out/eden_bench changes $$count timed; done
 	@cd crates/eden_bench && for count in 10 10000; do \
 	    folder=$$(mktemp -d) && out/eden_bench changes $$count timed $$folder; rm -r $$folder; done
+	@cd crates/eden_bench && for count in 10 10000 100000; do out/eden_bench attempts $$count timed; done
+	@cd crates/eden_bench && for count in 10 10000; do \
+	    folder=$$(mktemp -d) && out/eden_bench attempts $$count timed $$folder; rm -r $$folder; done
+	@cd crates/eden_bench && out/eden_bench large 64 timed
+	@cd crates/eden_bench && folder=$$(mktemp -d) && out/eden_bench large 64 timed $$folder; rm -r $$folder
 	@cd crates/eden_bench && out/eden_bench cache 1000000 timed
 	@cd crates/eden_bench && out/eden_bench lines 100000 timed
 

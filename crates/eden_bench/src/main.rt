@@ -2,10 +2,13 @@
 //! with `timed` how long each part took. `make bench` runs them at full size.
 #![tactic(auto)]
 
+mod attempts;
 mod cache;
 mod changes;
+mod checkout;
 mod directory;
 mod inodes;
+mod large;
 mod lines;
 mod name;
 mod oracle;
@@ -21,8 +24,8 @@ use std::{env, io};
 use timing::Timing;
 
 const USAGE: &str =
-    "usage: eden_bench cache|changes|directory|inodes|lines|overlay|tree COUNT [timed], \
-     or eden_bench changes COUNT timed FOLDER, or eden_bench oracle";
+    "usage: eden_bench attempts|cache|changes|directory|inodes|large|lines|overlay|tree COUNT [timed], \
+     or eden_bench attempts|changes|large COUNT timed FOLDER, or eden_bench oracle";
 
 /// Runs the workload that the words name. False where they name none.
 fn run<R: Print + Clock + AllocGlobal>(rt: &R, words: &[String]) -> io::Result<bool> {
@@ -35,10 +38,12 @@ fn run<R: Print + Clock + AllocGlobal>(rt: &R, words: &[String]) -> io::Result<b
         return Ok(false);
     };
     match name.as_str() {
+        "attempts" => attempts::run(rt, count, timing)?,
         "cache" => cache::run(rt, count, timing)?,
         "changes" => changes::run(rt, count, timing)?,
         "directory" => directory::run(rt, count, timing)?,
         "inodes" => inodes::run(rt, count, timing)?,
+        "large" => large::run(rt, count, timing)?,
         "lines" => lines::run(rt, count, timing)?,
         "overlay" => overlay::run(rt, count, timing)?,
         "tree" => tree::run(rt, count, timing)?,
@@ -47,13 +52,18 @@ fn run<R: Print + Clock + AllocGlobal>(rt: &R, words: &[String]) -> io::Result<b
     Ok(true)
 }
 
-/// Runs the changes over files in a folder. False where the count is no number.
-fn run_on(rt: &HostRuntime, count: &str, folder: &str) -> io::Result<bool> {
+/// Runs a workload over files in a folder. False where the words name none.
+fn run_on(rt: &HostRuntime, name: &str, count: &str, folder: &str) -> io::Result<bool> {
     let Ok(count) = count.parse::<u32>() else {
         return Ok(false);
     };
     let folder = PathBuf::from(String::from_str(rt.alloc(), folder)?);
-    changes::run_on(rt, &folder, count, Timing::Timed)?;
+    match name {
+        "attempts" => attempts::run_on(rt, &folder, count, Timing::Timed)?,
+        "changes" => changes::run_on(rt, &folder, count, Timing::Timed)?,
+        "large" => large::run_on(rt, &folder, count, Timing::Timed)?,
+        _ => return Ok(false),
+    }
     Ok(true)
 }
 
@@ -79,9 +89,8 @@ fn main(rt: HostRuntime) -> io::Result<ExitCode> {
     let words = words(&rt)?;
     let is_done = match words.as_slice() {
         [_, name] if name.as_str() == "oracle" => return answer(&rt),
-        [_, name, count, timed, folder]
-            if name.as_str() == "changes" && timed.as_str() == "timed" => {
-            run_on(&rt, count.as_str(), folder.as_str())?
+        [_, name, count, timed, folder] if timed.as_str() == "timed" => {
+            run_on(&rt, name.as_str(), count.as_str(), folder.as_str())?
         }
         words => run(&rt, words)?,
     };

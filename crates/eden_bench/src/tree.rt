@@ -51,7 +51,7 @@ pub fn tree_body(alloc: Global, order: Order, count: u32) -> Result<Vec<u8>, All
 }
 
 /// The framed tree of so many files.
-fn framed_tree(alloc: Global, order: Order, count: u32) -> Result<Vec<u8>, AllocError> {
+pub fn framed_tree(alloc: Global, order: Order, count: u32) -> Result<Vec<u8>, AllocError> {
     let body = tree_body(alloc, order, count)?;
     let header = format!(in alloc; "tree {}\0", body.len())?;
     let mut framed = Vec::from_slice(alloc, header.as_bytes())?;

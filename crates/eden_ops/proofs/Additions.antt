@@ -39,6 +39,7 @@ use Rattle.eden_ops.specs.Changes.{IsAdding, file, dir, link}
 use Rattle.eden_ops.specs.Faults.{Makes, creates, makes_dir, links, IsLawful}
 use Rattle.eden_ops.specs.Keeping.{shows}
 use Rattle.eden_ops.specs.Known.{known}
+use Rattle.eden_ops.specs.Leaving.{given}
 use Rattle.eden_ops.proofs.Answering.{Asked}
 use Rattle.eden_ops.proofs.Changing.{put_alone, refused}
 use Rattle.eden_ops.proofs.Walking.{known_dir}
@@ -184,6 +185,18 @@ add_count next a b fault.Numbers h = let same = h.1 in omega (arith, same)
 pub given_more : (a b : ℕ) (X Y : Type 0) → ((b ≡ a) × X) ⊎ ((b ≡ a + 1) × Y) → a ≤ b
 given_more a b X Y (inl h) = let same = h.0 in omega (arith, same)
 given_more a b X Y (inr h) = let one = h.0 in omega (arith, one)
+
+pub adds_one : (p : Path) (q : Request) (e : NewEntry) → IsAdding p q e → given q ≡ 1
+adds_one p _ _ (file content empty) = refl
+adds_one p _ _ dir = refl
+adds_one p _ _ (link target some short) = refl
+
+pub one_more : (a b m : ℕ) → b ≡ a + 1 → m ≡ 1 → b ≤ a + m
+one_more a b m is one = omega (arith, is, one)
+
+pub one_at_most : (a b m : ℕ) (X Y : Type 0) → ((b ≡ a) × X) ⊎ ((b ≡ a + 1) × Y) → m ≡ 1 → b ≤ a + m
+one_at_most a b m X Y (inl h) one = let same = h.0 in omega (arith, same)
+one_at_most a b m X Y (inr h) one = one_more a b m h.0 one
 
 pub one_given : (a b : ℕ) → b ≡ a + 1 → a ≤ b
 one_given a b is = omega (arith, is)

@@ -29,7 +29,6 @@ use Rattle.eden_model.specs.declared.attempt.Attempt.TheVariants.{Finished}
 use Rattle.eden_ops.specs.declared.answer.Stop.{Stop}
 use Rattle.eden_ops.specs.Attempts.{Attempts, IsShown, IsUnsized, Meets, MeetsShown, Lacks, shown_node, stopped}
 use Rattle.eden_ops.specs.Caches.{FindsTheSame}
-use Rattle.eden_ops.specs.Changes.{Leaves}
 use Rattle.eden_ops.specs.Contents.{IsFileAt}
 use Rattle.eden_ops.specs.Keeping.{shows, Keeps}
 use Rattle.eden_ops.specs.Known.{known}
@@ -40,7 +39,6 @@ use Rattle.eden_ops.proofs.Fetching.{away}
 use Rattle.eden_ops.proofs.Filled.{on_link, on_dir, asks_write, asks_truncate, file_at, fills}
 use Rattle.eden_ops.proofs.Finding.{finds_on}
 use Rattle.eden_ops.proofs.Looking.{asks_read, IsPlain}
-use Rattle.eden_ops.proofs.Saving.{leaves_more, keeps_leaves}
 use Rattle.eden_ops.proofs.Steps.{keeps_on, keeps_counts}
 use Rattle.eden_ops.proofs.Telling.{met_tells, content_lacks}
 
@@ -118,6 +116,3 @@ module _ {W F : Type 0} (w : Ghosts W) (f : Files F W) (p : Path) (s t : Table F
 
       pub file_refused : (a : Fault) → IsStoreFault (f.failures v.files) (f.failures u.files) a → ((x : Path) → q ≡ ask.Kind x → ⊥) → (w.honest → shows w f u ≡ shows w f v) → Attempts w f q s u c e (Finished (say.Fault a))
       file_refused a store other unseen = refused w f q s v u c e together ((keeps_counts w f s v (keeps_on w f s t v keeps kept)).1.1.1) (finds_on c d e cache finds) a store other unseen
-
-      pub file_leaves : Leaves f v u → Leaves f s u
-      file_leaves l = leaves_more f s v u (keeps_leaves w f s v (keeps_on w f s t v keeps kept)) l

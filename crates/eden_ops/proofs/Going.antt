@@ -1,27 +1,21 @@
 -- What is left once directories went.
-use Rattle.std.proofs.Common.{◌≡◌, ◌⊎◌, ◌≤◌, ℕ, false, [], ◌∷◌, Option, Some, None, sym, refl, ◌∙◌, ap, subst, inl, inr}
+use Rattle.std.proofs.Common.{◌≡◌, ◌⊎◌, ℕ, false, [], ◌∷◌, Option, Some, None, sym, refl, ◌∙◌, ap, subst, inl, inr}
 use Rattle.std.proofs.lemmas.List.{append-nil}
 use Rattle.std.proofs.lemmas.Option.{same_Some, none-some}
 use Rattle.std.specs.Option.{option_map, option_and_then}
-use Rattle.eden_model.specs.declared.world.World.{Ghosts}
 use Rattle.eden_model.specs.Paths.{behind_of}
 use Rattle.eden_model.specs.Trees.{Path, grafted}
 use Rattle.eden_model.proofs.CallerLemmas.{behind_sound}
-use Rattle.eden_overlay.specs.declared.files.Files.{Ghosts as Files}
 use Rattle.eden_overlay.specs.Files.{Stored}
 use Rattle.eden_tree.specs.Directory.{Row, Directory, child_of, with_child}
 use Rattle.eden_tree.specs.Rows.{find_row}
 use Rattle.eden_tree.specs.Paths.{row_at, edit_row, Standing, standing, standing_at}
 use Rattle.eden_tree.proofs.CallerLemmas.{edits_one, edits_there, edits_not_beside, edits_nothing, child_of-with_child}
-use Rattle.eden_tie.specs.Chains.{AreSaved, IsLoadedAt, StaysLoaded}
+use Rattle.eden_tie.specs.Chains.{AreSaved, IsLoadedAt}
 use Rattle.eden_tie.specs.Unloading.{Unloads, none, one_more, same_files}
 use Rattle.eden_tie.proofs.CallerLemmas.{map_some, loaded_there, loaded_found}
-use Rattle.eden_inode.specs.Tables.{Table}
-use Rattle.eden_ops.specs.Changes.{IsOutside, StaysOrBecomesOwn, LeavesOn}
-use Rattle.eden_ops.specs.Keeping.{Keeps}
 use Rattle.eden_ops.specs.Letting.{IsLeft, LetsGo}
-use Rattle.eden_ops.proofs.Roots.{root_left}
-use Rattle.eden_ops.proofs.Saving.{SavedAt, by_path, by_place, leaves_on, leaves_some, no_less}
+use Rattle.eden_ops.proofs.Saving.{SavedAt, by_path, by_place}
 
 -- the entry v of what is left was there before
 abbrev pub WasThere : Row → Path → Standing → Type 0
@@ -114,14 +108,3 @@ module _ (p : Path) (x z : Row) (g : LetsGo p x z) where
       let was = g.left p (standing v) (ap (option_map standing) now) in
       let one : was.0 ≡ standing y = same_Some was.0 (standing y) (sym was.1.0 ∙ ap (option_map standing) at) in
       (v, (now, subst (λ (s : Standing). IsLeft s (standing v)) one was.1.1))
-
--- what an attempt leaves that lets go of what is at and below a path, and then changes it
-module _ {W F : Type 0} (w : Ghosts W) (f : Files F W) (p : Path) (s t u : Table F) (keeps : Keeps w f s t) (g : LetsGo p t.root u.root) (rest : (u.next ≡ t.next) × (u.clock ≡ t.clock))
-    (counted : f.failures t.files ≤ f.failures u.files) where
-  pub leaves_gone : LeavesOn f (IsOutside p) s u
-  leaves_gone =
-      leaves_on f (IsOutside p) s t u (leaves_some w f (IsOutside p) s t keeps)
-      (record { loaded = λ q off is. loaded_elsewhere p t.root u.root g q off is; root = root_left p t.root u.root g; next = no_less t.next u.next rest.0; failures = counted; clock = rest.1 })
-
-  pub leaves_then : (v : Table F) → StaysLoaded u.root v.root → StaysOrBecomesOwn u.root.origin v.root.origin → (v.next ≡ u.next) × (v.clock ≡ u.clock) → f.failures u.files ≤ f.failures v.files → LeavesOn f (IsOutside p) s v
-  leaves_then v stays root still more = leaves_on f (IsOutside p) s u v leaves_gone (record { loaded = λ q off. stays q; root = root; next = no_less u.next v.next still.0; failures = more; clock = still.1 })

@@ -1,32 +1,113 @@
 -- What an attempt leaves, by its request.
-use Rattle.std.proofs.Common.{◌≡◌, ◌⊎◌, sym, subst}
+use Rattle.std.proofs.Common.{◌≡◌, ◌≢◌, ◌≤◌, ◌+◌, ℕ, refl, ◌∙◌, arith}
 use Rattle.eden_model.specs.declared.attempt.Attempt.{Attempt}
+use Rattle.eden_model.specs.declared.attempt.Attempt.TheVariants.{Finished}
+use Rattle.eden_model.specs.declared.errno.Errno.{Errno}
 use Rattle.eden_model.specs.declared.request.Request.{Request}
 use Rattle.eden_model.specs.declared.request.Request.TheVariants as ask
+use Rattle.eden_model.specs.declared.reply.Reply.TheVariants as say
+use Rattle.eden_model.specs.declared.world.World.{Ghosts}
 use Rattle.eden_model.specs.Trees.{Path}
 use Rattle.eden_overlay.specs.declared.files.Files.{Ghosts as Files}
+use Rattle.eden_tree.specs.Directory.{Row}
+use Rattle.eden_tie.specs.Chains.{AreSaved}
 use Rattle.eden_inode.specs.Tables.{Table}
-use Rattle.eden_ops.specs.Changes.{Leaves}
-use Rattle.eden_ops.specs.Leaving.{LeavesAfter}
-use Rattle.eden_ops.specs.Looks.{IsLook}
-use Rattle.eden_ops.specs.Renames.{LeavesBeside}
+use Rattle.eden_ops.specs.Changes.{IsOutside, StaysOrBecomesOwn, LeavesOn, Leaves}
+use Rattle.eden_ops.specs.Keeping.{Keeps}
+use Rattle.eden_ops.specs.Leaving.{LetsBe, given, SavedAfter, Gives, LeavesAfter}
+use Rattle.eden_ops.specs.Letting.{LetsGo}
+use Rattle.eden_ops.specs.Relocating.{StaysBeside, AreSavedBut}
+use Rattle.eden_ops.specs.Renames.{IsNoFault}
+use Rattle.eden_ops.proofs.Going.{goes_saved, loaded_elsewhere}
+use Rattle.eden_ops.proofs.Relocation.{saved_but}
+use Rattle.eden_ops.proofs.Roots.{root_left}
+use Rattle.eden_ops.proofs.Saving.{keeps_leaves, leaves_on, leaves_some, no_less}
 
-module _ {W F : Type 0} (f : Files F W) (s t : Table F) (a : Attempt) where
-  pub look_leaves : (q : Request) → IsLook q → Leaves f s t → LeavesAfter f q s t a
-  look_leaves (ask.Kind p) is l = record { on = l.everywhere; saved = λ fine. l.saved; marked = l.saved }
-  look_leaves (ask.Stat p) is l = record { on = l.everywhere; saved = λ fine. l.saved; marked = l.saved }
-  look_leaves (ask.Read p o n) is l = record { on = l.everywhere; saved = λ fine. l.saved; marked = l.saved }
-  look_leaves (ask.ReadLink p) is l = record { on = l.everywhere; saved = λ fine. l.saved; marked = l.saved }
-  look_leaves (ask.List p b n) is l = record { on = l.everywhere; saved = λ fine. l.saved; marked = l.saved }
-  look_leaves (ask.Write p o b) is l = absurd is
-  look_leaves (ask.Truncate p n) is l = absurd is
-  look_leaves (ask.Create p) is l = absurd is
-  look_leaves (ask.SetExec p e) is l = absurd is
-  look_leaves (ask.Mkdir p) is l = absurd is
-  look_leaves (ask.Symlink p b) is l = absurd is
-  look_leaves (ask.Unlink p) is l = absurd is
-  look_leaves (ask.Rmdir p) is l = absurd is
-  look_leaves (ask.Rename p r) is l = absurd is
+saved_after : (q : Request) (x : Row) → AreSaved x → SavedAfter q x
+saved_after (ask.Rename from to) x all = saved_but from x all
+saved_after (ask.Kind p) x all = all
+saved_after (ask.Stat p) x all = all
+saved_after (ask.Read p offset count) x all = all
+saved_after (ask.ReadLink p) x all = all
+saved_after (ask.List p after limit) x all = all
+saved_after (ask.Write p offset bytes) x all = all
+saved_after (ask.Truncate p size) x all = all
+saved_after (ask.Create p) x all = all
+saved_after (ask.SetExec p exec) x all = all
+saved_after (ask.Mkdir p) x all = all
+saved_after (ask.Symlink p target) x all = all
+saved_after (ask.Unlink p) x all = all
+saved_after (ask.Rmdir p) x all = all
 
-  pub rename_leaves : (q : Request) (from to : Path) → q ≡ ask.Rename from to → LeavesBeside f from to s t a → LeavesAfter f q s t a
-  rename_leaves q from to is l = subst (λ (r : Request). LeavesAfter f r s t a) (sym is) (record { on = l.beside; saved = l.saved; marked = l.marked })
+pub none_given : (a b n : ℕ) → b ≡ a → b ≤ a + n
+none_given a b n is = omega (arith, is)
+
+-- the answer is no error
+abbrev pub IsNoError : Attempt → Type 0
+IsNoError a = (e : Errno) → a ≢ Finished (say.Err e)
+
+module _ {W F : Type 0} (w : Ghosts W) (f : Files F W) (s t : Table F) (keeps : Keeps w f s t) where
+  before : Leaves f s t
+  before = keeps_leaves w f s t keeps
+
+  gives_then : (paths : Path → Type 0) (most : ℕ) (u : Table F) → LeavesOn f paths t u → u.next ≤ t.next + most → Gives w f paths most s u
+  gives_then paths most u l more = record { reached = t; walked = keeps; stays = l.loaded; no_less = l.next; no_more = more }
+
+  -- directories were loaded, and no more
+  pub leaves_kept : (q : Request) (a : Attempt) → LeavesAfter w f q s t a
+  leaves_kept q a = record {
+    on = leaves_some f (LetsBe q) s t before;
+    gives = record { reached = t; walked = keeps; stays = λ p in_them is. is; no_less = omega arith; no_more = none_given t.next t.next (given q) refl };
+    errs = λ e is. keeps;
+    saved = λ fine. before.saved;
+    marked = λ all. saved_after q t.root (before.saved all);
+  }
+
+  module _ (u : Table F) (a : Attempt) (fine : IsNoError a) where
+    -- .. and then a change that lets loaded directories be
+    pub leaves_changed : (q : Request) → Leaves f t u → u.next ≤ t.next + given q → LeavesAfter w f q s u a
+    leaves_changed q l more = record {
+      on = leaves_on f (LetsBe q) s t u (leaves_some f (LetsBe q) s t before) (leaves_some f (LetsBe q) t u l);
+      gives = gives_then (LetsBe q) (given q) u (leaves_some f (LetsBe q) t u l) more;
+      errs = λ e is. absurd (fine e is);
+      saved = λ no all. l.saved (before.saved all);
+      marked = λ all. saved_after q u.root (l.saved (before.saved all));
+    }
+
+    -- .. or an entry moved
+    pub leaves_moved : (from to : Path) → StaysBeside from to t.root u.root → StaysOrBecomesOwn t.root.origin u.root.origin → (u.next ≡ t.next) × (u.clock ≡ t.clock) → f.failures t.files ≤ f.failures u.files
+        → (IsNoFault a → AreSaved t.root → AreSaved u.root) → (AreSaved t.root → AreSavedBut from u.root) → LeavesAfter w f (ask.Rename from to) s u a
+    leaves_moved from to stays root rest counted saved marked =
+        let paths = LetsBe (ask.Rename from to) in
+        let l : LeavesOn f paths t u = record { loaded = λ p o. stays p o.0 o.1; root = root; next = no_less t.next u.next rest.0; failures = counted; clock = rest.1 } in
+        record {
+          on = leaves_on f paths s t u (leaves_some f paths s t before) l;
+          gives = gives_then paths 0 u l (none_given t.next u.next 0 rest.0);
+          errs = λ e is. absurd (fine e is);
+          saved = λ no all. saved no (before.saved all);
+          marked = λ all. marked (before.saved all);
+        }
+
+-- directories went that stood at and below a path
+module _ {W F : Type 0} (w : Ghosts W) (f : Files F W) (p : Path) (s t u : Table F) (keeps : Keeps w f s t) (g : LetsGo p t.root u.root) (rest : (u.next ≡ t.next) × (u.clock ≡ t.clock))
+    (counted : f.failures t.files ≤ f.failures u.files) (a : Attempt) (fine : IsNoError a) where
+  gone : LeavesOn f (IsOutside p) t u
+  gone = record { loaded = λ q off is. loaded_elsewhere p t.root u.root g q off is; root = root_left p t.root u.root g; next = no_less t.next u.next rest.0; failures = counted; clock = rest.1 }
+
+  leaves_went : (v : Table F) → LeavesOn f (IsOutside p) t v → v.next ≡ t.next → (AreSaved u.root → AreSaved v.root) → LeavesAfter w f (ask.Rmdir p) s v a
+  leaves_went v l next saved =
+      let all_saved : AreSaved s.root → AreSaved v.root = λ all. saved (goes_saved p t.root u.root g ((keeps_leaves w f s t keeps).saved all)) in
+      record {
+        on = leaves_on f (IsOutside p) s t v (leaves_some f (IsOutside p) s t (keeps_leaves w f s t keeps)) l;
+        gives = gives_then w f s t keeps (IsOutside p) 0 v l (none_given t.next v.next 0 next);
+        errs = λ e is. absurd (fine e is);
+        saved = λ no. all_saved;
+        marked = all_saved;
+      }
+
+  pub leaves_gone : LeavesAfter w f (ask.Rmdir p) s u a
+  leaves_gone = leaves_went u gone rest.0 (λ all. all)
+
+  -- .. and then the entry there was removed
+  pub leaves_removed : (v : Table F) → Leaves f u v → v.next ≡ u.next → LeavesAfter w f (ask.Rmdir p) s v a
+  leaves_removed v l next = leaves_went v (leaves_on f (IsOutside p) t u v gone (leaves_some f (IsOutside p) u v l)) (next ∙ rest.0) l.saved

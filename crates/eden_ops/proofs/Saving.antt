@@ -135,21 +135,16 @@ leaves_on f paths s t u a b =
     let d = b.failures in
     record { loaded = λ p in_them is. b.loaded p in_them (a.loaded p in_them is); root = comes_on s.root.origin t.root.origin u.root.origin a.root b.root; next = omega (arith, n, m); failures = omega (arith, c, d); clock = b.clock ∙ a.clock }
 
-pub leaves_more : {W F : Type 0} (f : Files F W) (s t u : Table F) → Leaves f s t → Leaves f t u → Leaves f s u
-leaves_more f s t u a b = record { everywhere = leaves_on f (λ p. Unit {0}) s t u a.everywhere b.everywhere; saved = λ all. b.saved (a.saved all) }
+-- what leaves something on every path leaves it on some
+pub leaves_some : {W F : Type 0} (f : Files F W) (paths : Path → Type 0) (s t : Table F) → Leaves f s t → LeavesOn f paths s t
+leaves_some f paths s t l =
+    let a = l.everywhere in
+    record { loaded = λ p in_them. a.loaded p tt; root = a.root; next = a.next; failures = a.failures; clock = a.clock }
 
-module _ {W F : Type 0} (w : Ghosts W) (f : Files F W) where
-  -- what leaves something on every path leaves it on some
-  pub leaves_some : (paths : Path → Type 0) (s t : Table F) → Keeps w f s t → LeavesOn f paths s t
-  leaves_some paths s t k =
-      let a = (keeps_leaves w f s t k).everywhere in
-      record { loaded = λ p in_them. a.loaded p tt; root = a.root; next = a.next; failures = a.failures; clock = a.clock }
-
-  -- and then a change
-  pub leaves_changed : (s t u : Table F) → Keeps w f s t → StaysLoaded t.root u.root → StaysOrBecomesOwn t.root.origin u.root.origin → (AreSaved t.root → AreSaved u.root) → t.next ≤ u.next → u.clock ≡ t.clock
-      → f.failures t.files ≤ f.failures u.files → Leaves f s u
-  leaves_changed s t u k stays root saved next clock counted =
-      leaves_more f s t u (keeps_leaves w f s t k) (record { everywhere = record { loaded = λ p all. stays p; root = root; next = next; failures = counted; clock = clock }; saved = saved })
+-- a change, by its parts
+pub leaves_by : {W F : Type 0} (f : Files F W) (t u : Table F) → StaysLoaded t.root u.root → StaysOrBecomesOwn t.root.origin u.root.origin → (AreSaved t.root → AreSaved u.root) → t.next ≤ u.next → u.clock ≡ t.clock
+    → f.failures t.files ≤ f.failures u.files → Leaves f t u
+leaves_by f t u stays root saved next clock counted = record { everywhere = record { loaded = λ p all. stays p; root = root; next = next; failures = counted; clock = clock }; saved = saved }
 
 pub no_less : (a b : ℕ) → b ≡ a → a ≤ b
 no_less a b is = omega (arith, is)

@@ -27,24 +27,22 @@ use Rattle.eden_overlay.specs.Held.{own_files}
 use Rattle.eden_cache.specs.Cache.{Cache}
 use Rattle.eden_tree.specs.Directory.{Child, unloaded, loaded, Row, Directory, child_of}
 use Rattle.eden_tree.specs.Paths.{row_at, Standing, standing}
-use Rattle.eden_tie.specs.Chains.{IsLoadedAt, AreSaved}
+use Rattle.eden_tie.specs.Chains.{IsLoadedAt}
 use Rattle.eden_tie.proofs.CallerLemmas.{map_some, loaded_there}
 use Rattle.eden_inode.specs.declared.seen.Seen.{Seen}
 use Rattle.eden_inode.specs.Tables.{Table}
 use Rattle.eden_materialise.specs.Faults.{IsStoreFault}
-use Rattle.eden_model.specs.declared.attempt.Attempt.{Attempt}
 use Rattle.eden_model.specs.declared.attempt.Attempt.TheVariants.{Finished}
 use Rattle.eden_ops.specs.declared.answer.Stop.{Stop}
 use Rattle.eden_ops.specs.declared.answer.Stop.TheVariants as stop
 use Rattle.eden_ops.specs.Attempts.{Attempts, Wants, IsSeen, IsShown, Meets, MeetsShown, shown_node, stopped}
 use Rattle.eden_ops.specs.Caches.{FindsTheSame}
-use Rattle.eden_ops.specs.Changes.{StaysOrBecomesOwn}
 use Rattle.eden_ops.specs.Faults.{IsCaused, IsLawful}
 use Rattle.eden_ops.specs.Keeping.{shows, Keeps}
 use Rattle.eden_ops.specs.Known.{content_known, known_by, known_node, known, is_silent, place_on, place}
 use Rattle.eden_ops.specs.Laws.{Grows}
-use Rattle.eden_ops.specs.Relocating.{CanRelocate, StaysBeside, AreSavedBut}
-use Rattle.eden_ops.specs.Renames.{IsBeside, IsNoFault, LeavesBeside, IsTold, MayLand, Goes, IsPlainReply, IsByPaths, Lands, LandsShown}
+use Rattle.eden_ops.specs.Relocating.{CanRelocate}
+use Rattle.eden_ops.specs.Renames.{IsTold, MayLand, Goes, IsPlainReply, IsByPaths, Lands, LandsShown}
 use Rattle.eden_ops.proofs.Additions.{passes_above}
 use Rattle.eden_ops.proofs.Answering.{Starts, answered, failed, first_here, says_at, some_inj}
 use Rattle.eden_ops.proofs.Changing.{changed, refused}
@@ -52,10 +50,8 @@ use Rattle.eden_ops.proofs.Deeper.{stays_loaded}
 use Rattle.eden_ops.proofs.Fetching.{away, shown_kind, is_loaded}
 use Rattle.eden_ops.proofs.Finding.{finds_on}
 use Rattle.eden_ops.proofs.Reached.{seen_at, shown_at}
-use Rattle.eden_ops.proofs.Relocation.{saved_but}
 use Rattle.eden_ops.proofs.Renames.{none_of_map}
 use Rattle.eden_ops.proofs.Rounds.{caused_since}
-use Rattle.eden_ops.proofs.Saving.{keeps_leaves, leaves_some, leaves_on, no_less}
 use Rattle.eden_ops.proofs.Steps.{keeps_on, keeps_entries, keeps_counts}
 use Rattle.eden_ops.proofs.Walking.{reach_here, walk_here, known_dir, known_unloaded}
 
@@ -272,22 +268,3 @@ module _ {W F : Type 0} (w : Ghosts W) (f : Files F W) (from to : Path) (s t : T
 
     pub stayed : (v : Table F) (a : Fault) → IsStoreFault (f.failures u.files) (f.failures v.files) a → (w.honest → shows w f v ≡ shows w f u) → Attempts w f q s v c e (Finished (say.Fault a))
     stayed v a store is = refused w f q s u v c e since rises (finds_on c d e b.cache finds) a store (λ x y. cc) is
-
--- ---- what it leaves
-
-module _ {W F : Type 0} (w : Ghosts W) (f : Files F W) (from to : Path) (s t : Table F) (a : Attempt) (keeps : Keeps w f s t) where
-  pub leaves_kept : LeavesBeside f from to s t a
-  leaves_kept =
-      let saved = (keeps_leaves w f s t keeps).saved in
-      record { beside = leaves_some w f (IsBeside from to) s t keeps; saved = λ fine. saved; marked = λ all. saved_but from t.root (saved all) }
-
-  -- .. after the change too
-  pub leaves_moved : (u : Table F) → StaysBeside from to t.root u.root → StaysOrBecomesOwn t.root.origin u.root.origin → (u.next ≡ t.next) × (u.clock ≡ t.clock) → f.failures t.files ≤ f.failures u.files → (IsNoFault a → AreSaved t.root → AreSaved u.root)
-      → (AreSaved t.root → AreSavedBut from u.root) → LeavesBeside f from to s u a
-  leaves_moved u stays root rest counted saved marked =
-      let before = (keeps_leaves w f s t keeps).saved in
-      record {
-        beside = leaves_on f (IsBeside from to) s t u (leaves_some w f (IsBeside from to) s t keeps) (record { loaded = λ p o. stays p o.0 o.1; root = root; next = no_less t.next u.next rest.0; failures = counted; clock = rest.1 });
-        saved = λ fine all. saved fine (before all);
-        marked = λ all. marked (before all);
-      }

@@ -1,13 +1,19 @@
 -- What an attempt of any request leaves of a table.
+use Rattle.std.specs.Prelude.{◌≡◌, ◌≤◌, ◌+◌, ℕ}
 use Rattle.eden_model.specs.declared.attempt.Attempt.{Attempt}
+use Rattle.eden_model.specs.declared.attempt.Attempt.TheVariants.{Finished}
+use Rattle.eden_model.specs.declared.errno.Errno.{Errno}
 use Rattle.eden_model.specs.declared.request.Request.{Request}
 use Rattle.eden_model.specs.declared.request.Request.TheVariants as ask
+use Rattle.eden_model.specs.declared.reply.Reply.TheVariants as say
+use Rattle.eden_model.specs.declared.world.World.{Ghosts}
 use Rattle.eden_model.specs.Trees.{Path}
 use Rattle.eden_overlay.specs.declared.files.Files.{Ghosts as Files}
 use Rattle.eden_tree.specs.Directory.{Row}
-use Rattle.eden_tie.specs.Chains.{AreSaved}
+use Rattle.eden_tie.specs.Chains.{IsLoadedAt, AreSaved}
 use Rattle.eden_inode.specs.Tables.{Table}
 use Rattle.eden_ops.specs.Changes.{IsOutside, LeavesOn}
+use Rattle.eden_ops.specs.Keeping.{Keeps}
 use Rattle.eden_ops.specs.Relocating.{AreSavedBut}
 use Rattle.eden_ops.specs.Renames.{IsBeside, IsNoFault}
 
@@ -17,13 +23,32 @@ LetsBe (ask.Rmdir p) q = IsOutside p q
 LetsBe (ask.Rename from to) q = IsBeside from to q
 LetsBe _ q = Unit {0}
 
+-- how many numbers a request gives at most, beside those of the entries that it loads
+abbrev pub given : Request → ℕ
+given (ask.Create p) = 1
+given (ask.Mkdir p) = 1
+given (ask.Symlink p target) = 1
+given _ = 0
+
 -- where no directory was unsaved none is then; after a fault of a rename, none but the one that its entry stands in
 abbrev pub SavedAfter : Request → Row → Type 0
 SavedAfter (ask.Rename from to) x = AreSavedBut from x
 SavedAfter _ x = AreSaved x
 
-module _ {W F : Type 0} (f : Files F W) where
+module _ {W F : Type 0} (w : Ghosts W) (f : Files F W) where
+  -- Directories are loaded on the way, each entry of a tree object with the next number, and on these paths they stay so.
+  -- Beside that at most so many numbers are given.
+  pub record Gives (paths : Path → Type 0) (most : ℕ) (s t : Table F) : Type 0 where
+    pub reached : Table F
+    pub walked : Keeps w f s reached
+    pub stays : (p : Path) → paths p → IsLoadedAt p reached.root → IsLoadedAt p t.root
+    pub no_less : reached.next ≤ t.next
+    pub no_more : t.next ≤ reached.next + most
+
+  -- An error changes nothing, but that directories are loaded on the way.
   pub record LeavesAfter (q : Request) (s t : Table F) (a : Attempt) : Type 0 where
     pub on : LeavesOn f (LetsBe q) s t
+    pub gives : Gives (LetsBe q) (given q) s t
+    pub errs : (e : Errno) → a ≡ Finished (say.Err e) → Keeps w f s t
     pub saved : IsNoFault a → AreSaved s.root → AreSaved t.root
     pub marked : AreSaved s.root → SavedAfter q t.root

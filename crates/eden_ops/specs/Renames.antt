@@ -13,7 +13,6 @@ use Rattle.eden_model.specs.Paths.{path_eq}
 use Rattle.eden_model.specs.Trees.{Path, Tree, Passes, walk, reach}
 use Rattle.eden_overlay.specs.declared.files.Files.{Ghosts as Files}
 use Rattle.eden_tree.specs.Paths.{row_at}
-use Rattle.eden_tie.specs.Chains.{AreSaved}
 use Rattle.eden_cache.specs.Cache.{Cache}
 use Rattle.eden_inode.specs.declared.seen.Seen.{Seen}
 use Rattle.eden_inode.specs.Tables.{Table}
@@ -22,11 +21,10 @@ use Rattle.eden_model.specs.declared.attempt.Attempt.TheVariants.{Finished}
 use Rattle.eden_ops.specs.declared.answer.Stop.{Stop}
 use Rattle.eden_ops.specs.declared.answer.Stop.TheVariants as stop
 use Rattle.eden_ops.specs.Attempts.{Wants}
-use Rattle.eden_ops.specs.Changes.{IsOutside, LeavesOn}
+use Rattle.eden_ops.specs.Changes.{IsOutside}
 use Rattle.eden_ops.specs.Faults.{IsCaused}
 use Rattle.eden_ops.specs.Keeping.{shows}
 use Rattle.eden_ops.specs.Known.{known, place_on}
-use Rattle.eden_ops.specs.Relocating.{AreSavedBut}
 
 -- a path that is neither at or below the one nor at or below the other
 abbrev pub IsBeside : Path → Path → Path → Type 0
@@ -78,11 +76,3 @@ module _ {W F : Type 0} (w : Ghosts W) (f : Files F W) where
   LandsShown p dir s (Err (stop.Errs e)) = MayLand (shows w f s) p dir (say.Err e)
   LandsShown p dir s (Err (stop.Needs k)) = Unit {0}
   LandsShown p dir s (Err (stop.Faults e)) = Unit {0}
-
-module _ {W F : Type 0} (f : Files F W) where
-  -- Whatever was answered: what was loaded beside the two paths is, and after a fault the directory above the first alone may
-  -- be unsaved where none was.
-  pub record LeavesBeside (from to : Path) (s t : Table F) (a : Attempt) : Type 0 where
-    pub beside : LeavesOn f (IsBeside from to) s t
-    pub saved : IsNoFault a → AreSaved s.root → AreSaved t.root
-    pub marked : AreSaved s.root → AreSavedBut from t.root

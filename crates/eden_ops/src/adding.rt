@@ -4,7 +4,8 @@ ghost use Rattle.eden_model.specs.declared.request.Request as request;
 ghost use Rattle.eden_model.specs.declared.request.Request.TheVariants as ask;
 ghost use Rattle.eden_ops.specs.Attempts.{Attempts};
 ghost use Rattle.eden_ops.specs.Caches.{IsStocked};
-ghost use Rattle.eden_ops.specs.Changes.{IsAdding, Leaves};
+ghost use Rattle.eden_ops.specs.Changes.{IsAdding};
+ghost use Rattle.eden_ops.specs.Leaving.{LeavesAfter};
 
 use crate::end::ended;
 use crate::laws::keeps_laws;
@@ -28,7 +29,7 @@ fn add<A: Allocator + Clone, W: World, F: Files<W>, C: Allocator + Clone>(
     requires stocked { IsStocked W.repository W.honest cache.old }
     requires asked { (q : request.Request) × IsAdding path.now q new }
     ensures attempts { (q : request.Request) → IsAdding path.now q new.entry → Attempts W.World F.Files q inodes.old inodes.new cache.old cache.new result }
-    ensures leaves { Leaves F.Files inodes.old inodes.new }
+    ensures leaves { (q : request.Request) → IsAdding path.now q new.entry → LeavesAfter W.World F.Files q inodes.old inodes.new result }
 {
     let Some((name, above)) = path.as_slice().split_last() else {
         return Attempt::Finished(Reply::Err(Errno::EEXIST));
@@ -56,7 +57,7 @@ pub fn create<A: Allocator + Clone, W: World, F: Files<W>, C: Allocator + Clone>
 ) -> Attempt
     requires { IsStocked W.repository W.honest cache.old }
     ensures attempts { Attempts W.World F.Files (ask.Create path.now) inodes.old inodes.new cache.old cache.new result }
-    ensures leaves { Leaves F.Files inodes.old inodes.new }
+    ensures leaves { LeavesAfter W.World F.Files (ask.Create path.now) inodes.old inodes.new result }
 {
     add(inodes, cache, alloc, path, NewEntry::File(false, &[]))
 }
@@ -70,7 +71,7 @@ pub fn mkdir<A: Allocator + Clone, W: World, F: Files<W>, C: Allocator + Clone>(
 ) -> Attempt
     requires { IsStocked W.repository W.honest cache.old }
     ensures attempts { Attempts W.World F.Files (ask.Mkdir path.now) inodes.old inodes.new cache.old cache.new result }
-    ensures leaves { Leaves F.Files inodes.old inodes.new }
+    ensures leaves { LeavesAfter W.World F.Files (ask.Mkdir path.now) inodes.old inodes.new result }
 {
     add(inodes, cache, alloc, path, NewEntry::Dir)
 }
@@ -85,7 +86,7 @@ pub fn symlink<A: Allocator + Clone, W: World, F: Files<W>, C: Allocator + Clone
 ) -> Attempt
     requires { IsStocked W.repository W.honest cache.old }
     ensures attempts { Attempts W.World F.Files (ask.Symlink path.now target.now) inodes.old inodes.new cache.old cache.new result }
-    ensures leaves { Leaves F.Files inodes.old inodes.new }
+    ensures leaves { LeavesAfter W.World F.Files (ask.Symlink path.now target.now) inodes.old inodes.new result }
 {
     if target.is_empty() {
         return Attempt::Finished(Reply::Err(Errno::ENOENT));

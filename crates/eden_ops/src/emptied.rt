@@ -3,12 +3,11 @@ ghost use Rattle.std.specs.Prelude.{◌≡◌, true, MatchBool};
 ghost use Rattle.eden_model.specs.declared.node.Node.TheVariants.{Dir};
 ghost use Rattle.eden_model.specs.declared.request.Request.TheVariants as ask;
 ghost use Rattle.eden_model.specs.Trees.{Here, reach};
-ghost use Rattle.eden_tie.specs.Chains.{AreSaved};
 ghost use Rattle.eden_ops.specs.Attempts.{Attempts};
 ghost use Rattle.eden_ops.specs.Caches.{IsStocked};
-ghost use Rattle.eden_ops.specs.Changes.{IsOutside, LeavesOn};
 ghost use Rattle.eden_ops.specs.Keeping.{shows};
 ghost use Rattle.eden_ops.specs.Known.{IsLoadedAt};
+ghost use Rattle.eden_ops.specs.Leaving.{LeavesAfter};
 ghost use Rattle.eden_ops.specs.Listings.{HasNoEntries, HasEntries};
 
 use crate::end::ended;
@@ -50,8 +49,7 @@ pub fn rmdir<A: Allocator + Clone, W: World, F: Files<W>, C: Allocator + Clone>(
 ) -> Attempt
     requires { IsStocked W.repository W.honest cache.old }
     ensures attempts { Attempts W.World F.Files (ask.Rmdir path.now) inodes.old inodes.new cache.old cache.new result }
-    ensures leaves { LeavesOn F.Files (IsOutside path.now) inodes.old inodes.new }
-    ensures saved { AreSaved inodes.old.root → AreSaved inodes.new.root }
+    ensures leaves { LeavesAfter W.World F.Files (ask.Rmdir path.now) inodes.old inodes.new result }
 {
     let Some((name, above)) = path.as_slice().split_last() else {
         return Attempt::Finished(Reply::Err(Errno::EBUSY));

@@ -4,7 +4,8 @@ ghost use Rattle.eden_model.specs.declared.kind.Kind.TheVariants as kinds;
 ghost use Rattle.eden_model.specs.declared.request.Request.TheVariants as ask;
 ghost use Rattle.eden_ops.specs.Attempts.{Attempts};
 ghost use Rattle.eden_ops.specs.Caches.{IsStocked};
-ghost use Rattle.eden_ops.specs.Changes.{exec_kind, Leaves};
+ghost use Rattle.eden_ops.specs.Changes.{exec_kind};
+ghost use Rattle.eden_ops.specs.Leaving.{LeavesAfter};
 
 use crate::end::ended;
 use crate::file::meet_file;
@@ -34,7 +35,7 @@ pub fn set_exec<A: Allocator + Clone, W: World, F: Files<W>, C: Allocator + Clon
 ) -> Attempt
     requires { IsStocked W.repository W.honest cache.old }
     ensures attempts { Attempts W.World F.Files (ask.SetExec path.now exec) inodes.old inodes.new cache.old cache.new result }
-    ensures leaves { Leaves F.Files inodes.old inodes.new }
+    ensures leaves { LeavesAfter W.World F.Files (ask.SetExec path.now exec) inodes.old inodes.new result }
 {
     match meet_file(inodes, cache, alloc, path) {
         Err(stop) => return ended(stop),

@@ -30,6 +30,7 @@ pub(crate) fn fill<A: Allocator + Clone, W: World, F: Files<W>>(
     ensures unseen { W.honest → OnErr result (shows W.World F.Files inodes.new ≡ shows W.World F.Files inodes.old) }
     ensures fault { IfErr result (IsStoreFault (F.failures inodes.old.files) (F.failures inodes.new.files)) }
     ensures leaves { Leaves F.Files inodes.old inodes.new }
+    ensures next { inodes.new.next ≡ inodes.old.next }
 {
     shown_laws();
     inodes.holds();

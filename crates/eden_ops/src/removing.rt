@@ -2,7 +2,7 @@
 ghost use Rattle.eden_model.specs.declared.request.Request.TheVariants as ask;
 ghost use Rattle.eden_ops.specs.Attempts.{Attempts};
 ghost use Rattle.eden_ops.specs.Caches.{IsStocked};
-ghost use Rattle.eden_ops.specs.Changes.{Leaves};
+ghost use Rattle.eden_ops.specs.Leaving.{LeavesAfter};
 
 use crate::end::ended;
 use crate::laws::keeps_laws;
@@ -25,7 +25,7 @@ pub fn unlink<A: Allocator + Clone, W: World, F: Files<W>, C: Allocator + Clone>
 ) -> Attempt
     requires { IsStocked W.repository W.honest cache.old }
     ensures attempts { Attempts W.World F.Files (ask.Unlink path.now) inodes.old inodes.new cache.old cache.new result }
-    ensures leaves { Leaves F.Files inodes.old inodes.new }
+    ensures leaves { LeavesAfter W.World F.Files (ask.Unlink path.now) inodes.old inodes.new result }
 {
     let Some((name, above)) = path.as_slice().split_last() else {
         return Attempt::Finished(Reply::Err(Errno::EISDIR));

@@ -4,7 +4,8 @@ ghost use Rattle.eden_model.specs.declared.request.Request.TheVariants as ask;
 ghost use Rattle.eden_model.specs.Operations.{is_front};
 ghost use Rattle.eden_ops.specs.Attempts.{Attempts};
 ghost use Rattle.eden_ops.specs.Caches.{IsStocked};
-ghost use Rattle.eden_ops.specs.Renames.{IsTold, IsByPaths, LeavesBeside};
+ghost use Rattle.eden_ops.specs.Leaving.{LeavesAfter};
+ghost use Rattle.eden_ops.specs.Renames.{IsTold, IsByPaths};
 
 use crate::end::ended;
 use crate::landing::land;
@@ -77,7 +78,7 @@ pub fn rename<A: Allocator + Clone, W: World, F: Files<W>, C: Allocator + Clone>
 ) -> Attempt
     requires { IsStocked W.repository W.honest cache.old }
     ensures attempts { Attempts W.World F.Files (ask.Rename from.now to.now) inodes.old inodes.new cache.old cache.new result }
-    ensures leaves { LeavesBeside F.Files from.now to.now inodes.old inodes.new result }
+    ensures leaves { LeavesAfter W.World F.Files (ask.Rename from.now to.now) inodes.old inodes.new result }
 {
     if from.is_root() || to.is_root() {
         return Attempt::Finished(Reply::Err(Errno::EBUSY));

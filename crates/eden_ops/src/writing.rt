@@ -2,7 +2,7 @@
 ghost use Rattle.eden_model.specs.declared.request.Request.TheVariants as ask;
 ghost use Rattle.eden_ops.specs.Attempts.{Attempts};
 ghost use Rattle.eden_ops.specs.Caches.{IsStocked};
-ghost use Rattle.eden_ops.specs.Changes.{Leaves};
+ghost use Rattle.eden_ops.specs.Leaving.{LeavesAfter};
 
 use crate::contents::{Form, make};
 use crate::end::ended;
@@ -25,7 +25,7 @@ pub fn truncate<A: Allocator + Clone, W: World, F: Files<W>, C: Allocator + Clon
 ) -> Attempt
     requires { IsStocked W.repository W.honest cache.old }
     ensures attempts { Attempts W.World F.Files (ask.Truncate path.now size) inodes.old inodes.new cache.old cache.new result }
-    ensures leaves { Leaves F.Files inodes.old inodes.new }
+    ensures leaves { LeavesAfter W.World F.Files (ask.Truncate path.now size) inodes.old inodes.new result }
 {
     let seen = match meet_file(inodes, cache, alloc, path) {
         Err(stop) => return ended(stop),
@@ -63,7 +63,7 @@ pub fn write<A: Allocator + Clone, W: World, F: Files<W>, C: Allocator + Clone>(
 ) -> Attempt
     requires { IsStocked W.repository W.honest cache.old }
     ensures attempts { Attempts W.World F.Files (ask.Write path.now offset bytes.now) inodes.old inodes.new cache.old cache.new result }
-    ensures leaves { Leaves F.Files inodes.old inodes.new }
+    ensures leaves { LeavesAfter W.World F.Files (ask.Write path.now offset bytes.now) inodes.old inodes.new result }
 {
     let count = bytes.len() as u64;
     if count > MAX_DATA {

@@ -15,10 +15,6 @@ mod paths;
 #[cfg(test)]
 mod renames;
 #[cfg(test)]
-mod replies;
-#[cfg(test)]
-mod requests;
-#[cfg(test)]
 mod steps;
 #[cfg(test)]
 mod stream;

@@ -2,10 +2,10 @@
 
 use crate::mount::{KEPT, Mount, key_of};
 use crate::paths::{name, path};
-use crate::replies::is_same;
 use crate::whole::bytes;
 use eden_model::{Attempt, Entries, Errno, Fault, Kind, Name, Outside, Path, Reply, Request};
 use eden_overlay::{Files, MemoryFiles};
+use eden_random::is_same;
 use eden_samples::Sample;
 use std::alloc::Global;
 use std::process::Abort;

@@ -1,10 +1,12 @@
 //! A session of one caller.
+ghost use Rattle.std.specs.Prelude.{◌≡◌};
 ghost use Rattle.eden_wire.specs.Serving.{Session};
 ghost use Rattle.eden_serve.specs.Calls.{CallAnswers};
+ghost use Rattle.eden_serve.specs.Serving.{ServesCaller};
 
 use crate::caller::Caller;
 use eden_model::World;
-use eden_mount::Attempts;
+use eden_mount::{Attempts, Local, Mount, Room};
 use eden_source::Source;
 use eden_wire::{SessionFault, session};
 use std::alloc::{Allocator, Global};
@@ -23,4 +25,36 @@ pub fn serve<W: World, S: Source<W> + Drop, T: Attempts<W> + Drop, A: Allocator,
     ensures { Session (CallAnswers S.fetched T.table W.honest) (caller.old, caller.new) (R.remaining reader.old, R.remaining reader.new) (O.contents writer.old, O.contents writer.new) result }
 {
     session(alloc, reader, writer, caller)
+}
+
+/// What is left of a mount whose caller was served: its table and its source, and how the session ended.
+#[derive(Drop)]
+pub struct Served<T, S> {
+    pub table: T,
+    pub source: S,
+    pub said: Result<(), SessionFault>,
+}
+
+/// Serves one caller over a table that shows the opening tree, in a mount of that room.
+pub fn serve_table<
+    W: World,
+    S: Source<W> + Drop,
+    T: Attempts<W> + Drop,
+    A: Allocator,
+    R: Read,
+    O: Write,
+>(alloc: Global, room: Room<A>, table: T, source: S, reader: &mut R, writer: &mut O) -> Served<T, S>
+    requires shown { W.honest → T.table.shown table ≡ W.opening }
+    ensures { ServesCaller S.fetched T.table W.honest W.opening room table source (R.remaining reader.old, R.remaining reader.new) (O.contents writer.old, O.contents writer.new) result }
+{
+    let mount: Mount<W, T, A> = Mount::new(room, table);
+    let mut caller = Caller::new(Local::new(alloc, mount, source));
+    let said = serve(alloc, reader, writer, &mut caller);
+    let (mount, source) = caller.into_local().into_parts();
+    mount.holds();
+    Served {
+        table: mount.into_table(),
+        source,
+        said,
+    }
 }

@@ -22,6 +22,7 @@ mod split;
 mod word;
 
 pub use laws::line_laws;
+pub use number::read_number;
 pub use output::WriteFailed;
 pub use reply::{Scratch, write_reply};
 pub use request::{Item, read_request};

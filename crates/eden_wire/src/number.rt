@@ -1,7 +1,7 @@
 ghost use Rattle.std.specs.Prelude.{◌≡◌, ◌^◌, ◌<◌, decimal, MatchOption, ℕ};
 
 /// The number below 2^64 that is spelled so, with no leading zero.
-pub(crate) fn read_number(text: &[u8]) -> Option<u64>
+pub fn read_number(text: &[u8]) -> Option<u64>
     ensures { MatchOption result ((n : ℕ) → n < 2 ^ 64 → text.now ≡ decimal n → ⊥) (λ n. text.now ≡ decimal n) }
 {
     if text.is_empty() || (text[0] == b'0' && text.len() > 1) {

@@ -1,18 +1,14 @@
--- A command line that `clap` takes gives `stdio` both of its options.
-use Rattle.std.proofs.Common.{◌≡◌, subst, refl, inl, inr, arith, ℕ, Bool, true, false, cond, not, ◌&&◌, ◌||◌, List, [], ◌∷◌, Option, Some, None, fold, codes, option_map, true≢false}
+-- What a level of a command line shows that `clap` takes: no step of it has a fault, and none stops at `help`.
+use Rattle.std.proofs.Common.{◌≡◌, subst, refl, ℕ, Bool, true, false, cond, not, ◌&&◌, List, [], ◌∷◌, Option, Some, None, fold, codes}
 use Rattle.std.specs.Prelude.{is_some}
-use Rattle.std.specs.Option.{option_map_or}
 use Rattle.std.specs.Str.{bytes_eq}
-use Rattle.std.proofs.lemmas.Slice.Eq.{bytes_eq-Decides}
 use Rattle.clap.specs.Lexer.{long_of, short_of}
-use Rattle.clap.specs.Kinds.{Kinds, check_kinds, or_else}
-use Rattle.clap.specs.Faults.{check_fault, defaults_fault, entered_fault, fault_of, level_fault, other_fault, settle_fault, step_fault, turn_fault, walk_fault, word_fault}
-use Rattle.clap.specs.Takes.{is_given}
-use Rattle.clap.specs.Simple.{App, Shape, argument_words, built, built_leaf, entered, help_shape, inherited, label_of, names_of, rows_at}
-use Rattle.clap.specs.Walk.{Held, Names, Outcome, Row, Rule, Step, Text, Waiting, Walk, after_flag, after_step, answers_to, arg_by_index, arg_by_long, bundle, done, finished, first_of, idle, long_met, long_or_other, next, nothing_held, option, plain, plain_word, positional, refused, settled, short_or_plain, subcommand, subcommand_met, subcommand_or_other, to_positional, trailing, value, waits, walk, walk_from, walked, walked_from, word_met}
+use Rattle.clap.specs.Kinds.{Kinds, or_else}
+use Rattle.clap.specs.Faults.{check_fault, defaults_fault, level_fault, other_fault, settle_fault, step_fault, turn_fault, walk_fault, word_fault}
+use Rattle.clap.specs.Simple.{Shape}
+use Rattle.clap.specs.Walk.{Held, Names, Outcome, Rule, Step, Text, Waiting, Walk, after_flag, after_step, arg_by_index, arg_by_long, bundle, done, finished, idle, long_met, long_or_other, next, nothing_held, option, plain, plain_word, positional, refused, settled, short_or_plain, subcommand, subcommand_met, subcommand_or_other, to_positional, trailing, value, waits, walk, walk_from, walked, walked_from, word_met}
 use Rattle.clap.specs.declared.error.kind.ErrorKind.{ErrorKind}
-use Rattle.mountd.proofs.FilledRows.{AllValued, Filled, Filled-finished, both_empty, given_value}
-use Rattle.mountd.specs.CommandLine.{both, mountd_line, stdio_in, stdio_line, stdio_values}
+use Rattle.mountd.proofs.FilledRows.{both_empty}
 
 -- ---- no walk without a fault stops at `help`
 
@@ -23,7 +19,7 @@ HelpFree (trailing position) = Unit {0}
 HelpFree (subcommand name) = bytes_eq name (codes "help") ≡ false
 HelpFree value = Unit {0}
 
-abbrev is_help : Option (Text × List Text) → Bool
+abbrev pub is_help : Option (Text × List Text) → Bool
 is_help None = false
 is_help (Some p) = bytes_eq p.0 (codes "help")
 
@@ -94,7 +90,7 @@ turn_stop s names None w word off same e stop =
     step_stop s.rules word w met.0 met.1 (subst (λ (x : Option (Text × List Text)). is_help x ≡ false) same stop)
     (HelpFree-word s names w.is_trailing w.waiting w.position word w.held off parts.0)
 
-walk_stop : (s : Shape) (names : Names) (w : Walk) (words : List Text) → s.disable_help_subcommand ≡ false → walk_fault s names w words ≡ []
+pub walk_stop : (s : Shape) (names : Names) (w : Walk) (words : List Text) → s.disable_help_subcommand ≡ false → walk_fault s names w words ≡ []
     → is_help w.stopped ≡ false → is_help (fold (walked s.rules names) w words).stopped ≡ false
 unfolding walk_fault walked
 walk_stop s names w [] off e stop = stop
@@ -105,7 +101,7 @@ walk_stop s names w (word ∷ rest) off e stop =
 -- ---- one level
 
 -- what a level with no fault shows
-level_parts : (s : Shape) (names : Names) (words : List Text) (has : Bool) (below : Kinds) → level_fault s names nothing_held words has below ≡ []
+pub level_parts : (s : Shape) (names : Names) (words : List Text) (has : Bool) (below : Kinds) → level_fault s names nothing_held words has below ≡ []
     → (walk_fault s names (walk_from nothing_held) words ≡ []) × (below ≡ [])
     × (settle_fault s.rules s.args_override_self (walk s.rules names nothing_held words).held ≡ [])
     × (check_fault s (finished s.rules (walk s.rules names nothing_held words).held) has ≡ [])
@@ -115,84 +111,3 @@ level_parts s names words has below e =
     let third = both_empty (settle_fault s.rules s.args_override_self (walk s.rules names nothing_held words).held) _ second.1 in
     let fourth = both_empty (defaults_fault (settled s.rules (walk s.rules names nothing_held words).held).rows s.rules) _ third.1 in
     (first.0, second.0, third.0, fourth.1)
-
-both_given : (root objects : Bool) → check_kinds false false (not root || (not objects || false)) ≡ [] → (root ≡ true) × (objects ≡ true)
-both_given true true e = (refl, refl)
-both_given true false e = cc e
-both_given false true e = cc e
-both_given false false e = cc e
-
-is_some-both : (root objects : Option Text) → is_some root ≡ true → is_some objects ≡ true → is_some (both root objects) ≡ true
-is_some-both None objects e f = cc e
-is_some-both (Some root) None e f = cc f
-is_some-both (Some root) (Some objects) e f = refl
-
-abbrev line : App
-line = built mountd_line
-
-needs_one : (rows : List Row) (has : Bool) → check_fault line.top rows has ≡ [] → has ≡ true
-needs_one rows true e = refl
-needs_one rows false e = cc e
-
-abbrev stdio : Shape
-stdio = built_leaf (inherited line.top stdio_line.top)
-
-stdio_valued : AllValued stdio.rules
-stdio_valued = (inl (refl, omega arith), (inl (refl, omega arith), (inr refl, tt)))
-
-stdio_given : (words : List Text) → level_fault stdio [] nothing_held words false [] ≡ []
-    → is_some (stdio_values (Some (rows_at stdio words))) ≡ true
-stdio_given words e =
-    let parts = level_parts stdio [] words false [] e in
-    let rows = finished stdio.rules (walk stdio.rules [] nothing_held words).held in
-    let filled : Filled rows = Filled-finished stdio [] words stdio_valued parts.0 parts.2 in
-    let given = both_given (is_given (codes "root") rows) (is_given (codes "objects") rows) parts.3 in
-    is_some-both (first_of (codes "root") rows) (first_of (codes "objects") rows)
-    (given_value (codes "root") rows filled given.0) (given_value (codes "objects") rows filled given.1)
-
--- ---- the whole line
-
-help_named : (word : Text) → bytes_eq word (codes "help") ≡ false → bytes_eq (codes "help") word ≡ false
-help_named word e = go (bytes_eq (codes "help") word) refl
-  where
-    go : (b : Bool) → bytes_eq (codes "help") word ≡ b → b ≡ false
-    go true is =
-        let same : codes "help" ≡ word = (bytes_eq-Decides (codes "help") word).0 is in
-        absurd (true≢false (rw (← same) at e))
-    go false is = refl
-
-abbrev help : Shape
-help = built_leaf help_shape
-
-pick : (words : List Text) (is_stdio is_help_name : Bool) → is_help_name ≡ false
-    → option_map_or (λ s. level_fault s [] nothing_held words false []) (cond is_stdio (Some stdio) (cond is_help_name (Some help) None)) [] ≡ []
-    → is_some (option_map (λ s. rows_at s words) (cond is_stdio (Some stdio) (cond is_help_name (Some help) None))) ≡ true
-    → is_some (stdio_values (option_map (λ s. rows_at s words) (cond is_stdio (Some stdio) (cond is_help_name (Some help) None)))) ≡ true
-pick words true is_help_name none e some = stdio_given words e
-pick words false true none e some = absurd (true≢false none)
-pick words false false none e some = cc some
-
-or_false : (b : Bool) → b ≡ false → (b || false) ≡ false
-or_false true e = e
-or_false false e = refl
-
-entered_stdio : (stop : Option (Text × List Text)) → entered_fault line stop ≡ [] → is_some (entered line stop) ≡ true → is_help stop ≡ false
-    → is_some (stdio_values (entered line stop)) ≡ true
-entered_stdio None e some free = cc some
-entered_stdio (Some p) e some free =
-    pick p.1 (answers_to p.0 (label_of stdio)) (answers_to p.0 (label_of help)) (or_false _ (help_named p.0 free)) e some
-
--- the words that `clap` takes give both values
-pub stdio_in-taken : (words : List Text) → fault_of mountd_line words ≡ [] → is_some (stdio_in words) ≡ true
-stdio_in-taken words e =
-    let given = argument_words mountd_line words in
-    let names = names_of line in
-    let stop = (walk line.top.rules names nothing_held given).stopped in
-    let parts = level_parts line.top names given (is_some (entered line stop)) (entered_fault line stop) e in
-    let free = walk_stop line.top names (walk_from nothing_held) given refl parts.0 refl in
-    entered_stdio stop parts.1 (needs_one (finished line.top.rules (walk line.top.rules names nothing_held given).held) (is_some (entered line stop)) parts.3) free
-
--- a value seen as another is there exactly where it is
-pub is_some-map : {A B : Type 0} (f : A → B) (o : Option A) → is_some (option_map f o) ≡ true → is_some o ≡ true
-is_some-map f (Some x) e = refl
-is_some-map f None e = cc e

@@ -1,56 +1,64 @@
--- What the command line says, in the words of `clap`'s grammar: `long` options with a value, and subcommands.
-use Rattle.std.specs.Prelude.{◌≡◌, ⊤, List, [], Option, Some, None, codes, if◌then◌else◌, true, string_bytes}
-use Rattle.std.specs.Str.{bytes_eq}
+-- What the program's command line says.
+use Rattle.std.specs.Prelude.{◌≡◌, ⊤, List, [], ◌∷◌, Option, Some, codes, option_map, string_bytes}
 use Rattle.clap.specs.Kinds.{IsAmong}
-use Rattle.clap.specs.Words.{App, Row, Rule, Text, fault_of, first_of, kind_of, new_app, new_rule, subcommand_of, with_rule, with_subcommand}
-use Rattle.clap.specs.Simple.{on_top}
+use Rattle.clap.specs.Words.{App, Text, fault_of, kind_of, subcommand_of}
 use Rattle.hex.specs.Hex.{encode_lower}
 use Rattle.eden_object.specs.IdText.{IsIdText}
+use Rattle.mountd.specs.Grammar.{LineOption, Subcommand, optional, program, required, value_in}
+use Rattle.mountd.specs.Numbers.{IsNoNumber, SaysNumber, number_name}
+use Rattle.mountd.specs.declared.numbers.NumberOption.TheVariants.{History, CacheEntries, CacheBytes}
 use Rattle.mountd.specs.declared.options.Command.{Command}
 use Rattle.mountd.specs.declared.options.Command.TheVariants as command
 use Rattle.mountd.specs.declared.options.OptionsError.{OptionsError}
 use Rattle.mountd.specs.declared.options.OptionsError.TheVariants as error
+use Rattle.mountd.specs.declared.options.StdioOptions.{StdioOptions}
 
--- `--NAME VALUE`, which must be given
-abbrev pub required_option : Text → Rule
-required_option name = record (new_rule name) { long = Some name; value_names = 1; required = true }
+-- `[--overlay DIR] [--history N] [--cache-entries N] [--cache-bytes N]`, of whatever opens a mount
+abbrev pub mount_options : List LineOption
+mount_options = optional (codes "overlay") ∷ optional (number_name History) ∷ optional (number_name CacheEntries)
+    ∷ optional (number_name CacheBytes) ∷ []
 
--- `stdio --root ID --objects DIR`
-abbrev pub stdio_line : App
-stdio_line = with_rule (with_rule (new_app (codes "stdio")) (required_option (codes "root"))) (required_option (codes "objects"))
+abbrev pub stdio_options : List LineOption
+stdio_options = required (codes "root") ∷ required (codes "objects") ∷ mount_options
 
--- `mountd`, which wants one of its subcommands
+-- `stdio --root ID --objects DIR` with the options of a mount
+abbrev pub stdio : Subcommand
+stdio = (codes "stdio", stdio_options)
+
 abbrev pub mountd_line : App
-mountd_line = with_subcommand (on_top (λ top. record top { subcommand_required = true }) (new_app (codes "mountd"))) stdio_line.top
+mountd_line = program (codes "mountd") (stdio ∷ [])
 
--- both values, if both are there
-abbrev pub both : Option Text → Option Text → Option (Text × Text)
-both None objects = None
-both (Some root) None = None
-both (Some root) (Some objects) = Some (root, objects)
+-- the value that the words give an option of `stdio`
+abbrev pub stdio_value : List Text → Text → Option Text
+stdio_value words = value_in stdio.0 (subcommand_of mountd_line words)
 
--- the values of `--root` and `--objects`, where the subcommand that was met is `stdio` and has both
-abbrev pub stdio_values : Option (Text × List Row) → Option (Text × Text)
-stdio_values None = None
-stdio_values (Some met) = if bytes_eq met.0 (codes "stdio")
-    then both (first_of (codes "root") met.1) (first_of (codes "objects") met.1) else None
-
--- those values in the words
-abbrev pub stdio_in : List Text → Option (Text × Text)
-stdio_in words = stdio_values (subcommand_of mountd_line words)
+-- the options are what these values say
+pub record IsAsked (value : Text → Option Text) (options : StdioOptions) : Type 0 where
+  pub root : value (codes "root") ≡ Some (encode_lower options.root.bytes)
+  pub objects : value (codes "objects") ≡ Some (string_bytes options.objects)
+  pub overlay : value (codes "overlay") ≡ option_map string_bytes options.overlay
+  pub history : SaysNumber History (value (number_name History)) options.history
+  pub entries : SaysNumber CacheEntries (value (number_name CacheEntries)) options.entries
+  pub bytes : SaysNumber CacheBytes (value (number_name CacheBytes)) options.bytes
 
 -- the words ask for this
 abbrev pub AsksFor : List Text → Command → Type 0
-AsksFor words (command.Stdio options) =
-    stdio_in words ≡ Some (encode_lower options.root.bytes, string_bytes options.objects)
+AsksFor words (command.Stdio options) = IsAsked (stdio_value words) options
 
 -- `clap` takes the words
 abbrev pub IsTaken : List Text → Type 0
 IsTaken words = fault_of mountd_line words ≡ []
 
+-- why `stdio` refuses such values
+abbrev pub RefusesValues : (Text → Option Text) → OptionsError → Type 0
+RefusesValues value (error.Refused why) = ⊥
+RefusesValues value error.Root = (root : Text) × (value (codes "root") ≡ Some root) × ¬ IsIdText root
+RefusesValues value (error.Number option) = (text : Text) × (value (number_name option) ≡ Some text) × IsNoNumber option text
+RefusesValues value error.Memory = ⊤
+
 -- why the words are refused
 abbrev pub Refuses : List Text → OptionsError → Type 0
 Refuses words (error.Refused why) = IsAmong (kind_of why) (fault_of mountd_line words)
-Refuses words error.Root = IsTaken words
-    × ((root objects : Text) × (stdio_in words ≡ Some (root, objects)) × ¬ IsIdText root)
+Refuses words error.Root = IsTaken words × RefusesValues (stdio_value words) error.Root
+Refuses words (error.Number option) = IsTaken words × RefusesValues (stdio_value words) (error.Number option)
 Refuses words error.Memory = ⊤

@@ -2,6 +2,7 @@
 #![tactic(auto)]
 
 mod direct;
+mod numbers;
 mod options;
 mod place;
 mod report;

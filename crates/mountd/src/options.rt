@@ -1,13 +1,14 @@
 //! The command line.
-ghost use Rattle.std.specs.Prelude.{◌≡◌, ◌⊎◌, ◌↔◌, IfErr, IfOk, IsErrOf, OnOk, false, map, option_map, string_bytes};
+ghost use Rattle.std.specs.Prelude.{◌≡◌, ◌≤◌, ◌⊎◌, ◌∷◌, [], IfErr, IfOk, OnOk, codes, false, map, option_map, string_bytes};
 ghost use Rattle.clap.specs.declared.builder.command.Command.TheViews.{out-Command as fields_of};
-ghost use Rattle.clap.specs.Words.{app_of, kind_of, rule_of, subcommand_of, subcommand_rows_of};
 ghost use Rattle.clap.specs.declared.error.kind.ErrorKind.TheVariants.{OutOfMemory};
-ghost use Rattle.hex.specs.Hex.{encode_lower};
-ghost use Rattle.mountd.specs.CommandLine.{AsksFor, IsTaken, Refuses, mountd_line, required_option, stdio_line, stdio_values};
-ghost use Rattle.eden_object.specs.IdText.{IsIdText};
+ghost use Rattle.clap.specs.Words.{app_of, first_value, found_of, kind_of, rows_of, rule_of, shape_of, subcommand_of, subcommand_rows_of};
+ghost use Rattle.mountd.specs.CommandLine.{AsksFor, IsAsked, IsTaken, Refuses, RefusesValues, mount_options, mountd_line, stdio, stdio_options};
+ghost use Rattle.mountd.specs.Grammar.{HasRequired, option_rule, optional, required, subcommand_shape, with_options};
+ghost use Rattle.mountd.specs.Numbers.{IsNoNumber, SaysNumber, most_of, number_name};
 ghost use Rattle.mountd.specs.declared.options.OptionsError.TheVariants as error;
 
+use crate::numbers::NumberOption;
 use clap::error::ErrorKind;
 use clap::{Arg, ArgMatches};
 use eden_model::Id;
@@ -23,6 +24,14 @@ pub struct StdioOptions {
     pub root: Id,
     /// The folder that the objects lie in.
     pub objects: String,
+    /// The folder that keeps the changes, where they are not to stay in memory alone.
+    pub overlay: Option<String>,
+    /// How many entries the history holds, from 1 to 2^32 - 1.
+    pub history: u32,
+    /// How many objects the cache holds, from 1 to 65,536.
+    pub entries: usize,
+    /// How many bytes the cache's objects have together, from 1 to 2^40.
+    pub bytes: u64,
 }
 
 /// What the program is asked for.
@@ -40,6 +49,9 @@ pub enum OptionsError {
     /// The value of `--root` is no id.
     #[error("mountd: --root takes 40 lower-case hexadecimal digits")]
     Root,
+    /// The value of this option is no number that it takes.
+    #[error("mountd: {0}")]
+    Number(NumberOption),
     #[error("mountd: out of memory")]
     Memory,
 }
@@ -61,29 +73,58 @@ pub fn options<S: AsStr>(alloc: Global, words: &[S]) -> Result<Command, OptionsE
     ensures err { IfErr result (Refuses (map S.text words.now)) }
 {
     let matches = matches_of(alloc, words)?;
-    // `clap` has seen that the subcommand and both options are there.
-    let (root, objects) = stdio_values(&matches).unwrap();
-    Ok(Command::Stdio(stdio_options(alloc, root, objects)?))
+    // `clap` has seen that the subcommand is there.
+    let given = matches.subcommand_matches("stdio").unwrap();
+    Ok(Command::Stdio(stdio_options(alloc, given)?))
 }
 
-fn stdio_options(alloc: Global, root: &str, objects: &str) -> Result<StdioOptions, OptionsError>
-    ensures root { IfOk result (λ options. encode_lower options.root.bytes ≡ root.now) }
-    ensures objects { IfOk result (λ options. string_bytes options.objects ≡ objects.now) }
-    ensures bad_root { IsErrOf result error.Root ↔ ¬ IsIdText root.now }
-    ensures err { IfErr result (λ why. (why ≡ error.Root) ⊎ (why ≡ error.Memory)) }
+fn stdio_options(alloc: Global, given: &ArgMatches) -> Result<StdioOptions, OptionsError>
+    requires { HasRequired stdio_options (rows_of (found_of given.now)) }
+    ensures ok { IfOk result (IsAsked (first_value (found_of given.now))) }
+    ensures err { IfErr result (RefusesValues (first_value (found_of given.now))) }
 {
+    let root = given.get_str("root").unwrap();
+    let objects = given.get_str("objects").unwrap();
     let root = parse_id(root).ok_or(OptionsError::Root)?;
     let objects = String::from_str(alloc, objects)?;
-    Ok(StdioOptions { root, objects })
+    let overlay = overlay(alloc, given)?;
+    let history = number(given, NumberOption::History)? as u32;
+    let entries = number(given, NumberOption::CacheEntries)? as usize;
+    let bytes = number(given, NumberOption::CacheBytes)?;
+    Ok(StdioOptions {
+        root,
+        objects,
+        overlay,
+        history,
+        entries,
+        bytes,
+    })
 }
 
-/// The values of `--root` and `--objects`.
-fn stdio_values<'a>(matches: &ArgMatches<'a>) -> Option<(&'a str, &'a str)>
-    ensures { option_map (λ values. (values.0.now, values.1.now)) result
-        ≡ stdio_values (subcommand_rows_of matches.now) }
+/// The value of `--overlay`, where it is given.
+fn overlay(alloc: Global, given: &ArgMatches) -> Result<Option<String>, AllocError>
+    ensures { IfOk result (λ overlay.
+        first_value (found_of given.now) (codes "overlay") ≡ option_map string_bytes overlay) }
 {
-    let given = matches.subcommand_matches("stdio")?;
-    Some((given.get_str("root")?, given.get_str("objects")?))
+    match given.get_str("overlay") {
+        Some(folder) => Ok(Some(String::from_str(alloc, folder)?)),
+        None => Ok(None),
+    }
+}
+
+/// The number that an option has: the one that is given, or its default.
+fn number(given: &ArgMatches, option: NumberOption) -> Result<u64, OptionsError>
+    ensures ok { IfOk result (SaysNumber option (first_value (found_of given.now) (number_name option))) }
+    ensures range { IfOk result (λ n. (1 ≤ n) × (n ≤ most_of option)) }
+    ensures err { IfErr result (RefusesValues (first_value (found_of given.now))) }
+{
+    match given.get_str(option.name()) {
+        Some(text) => match option.read(text) {
+            Some(number) => Ok(number),
+            None => Err(OptionsError::Number(option)),
+        },
+        None => Ok(option.default()),
+    }
 }
 
 /// What `clap` finds in the words.
@@ -122,25 +163,89 @@ fn command_line<'a>(alloc: Global) -> Result<clap::Command<'a>, AllocError>
 }
 
 fn stdio_line<'a>(alloc: Global) -> Result<clap::Command<'a>, AllocError>
-    ensures shape { IfOk result (λ command. app_of command ≡ stdio_line) }
-    ensures local { IfOk result (λ command. (fields_of command).has_globals ≡ false) }
+    ensures shape { IfOk result (λ line. shape_of line ≡ subcommand_shape stdio) }
+    ensures local { IfOk result (λ line. (fields_of line).has_globals ≡ false) }
 {
-    let root = required_option(alloc, "root", "ID").help(
-        "The root directory's tree: 40 lower-case hexadecimal digits",
+    let line = clap::Command::new(alloc, "stdio").about(
+        "Serves one session over standard input and output",
     );
-    let objects = required_option(alloc, "objects", "DIR").help("The folder of Git objects");
-    clap::Command::new(alloc, "stdio")
-        .about("Serves one session over standard input and output")
-        .arg(root)?
-        .arg(objects)
+    let line = with_required(
+        alloc,
+        line,
+        ("root", "ID"),
+        "The root directory's tree: 40 lower-case hexadecimal digits",
+    )?;
+    let line = with_required(alloc, line, ("objects", "DIR"), "The folder of Git objects")?;
+    with_mount_options(alloc, line)
 }
 
-fn required_option<'a>(alloc: Global, name: &'a str, value: &'a str) -> Arg<'a>
-    ensures rule { rule_of result ≡ required_option name.entry.now }
+/// The line with the options of whatever opens a mount.
+fn with_mount_options<'a>(
+    alloc: Global,
+    line: clap::Command<'a>,
+) -> Result<clap::Command<'a>, AllocError>
+    requires { (fields_of line).has_globals ≡ false }
+    ensures shape { IfOk result (λ more. shape_of more ≡ with_options (shape_of line.entry) mount_options) }
+    ensures local { IfOk result (λ more. (fields_of more).has_globals ≡ false) }
+{
+    let line = with_optional(
+        alloc,
+        line,
+        ("overlay", "DIR"),
+        "The folder that keeps the changes [default: they stay in memory]",
+    )?;
+    let line = with_optional(
+        alloc,
+        line,
+        ("history", "N"),
+        "How many entries the history holds [default: 1000000]",
+    )?;
+    let line = with_optional(
+        alloc,
+        line,
+        ("cache-entries", "N"),
+        "How many objects the cache holds [default: 1024]",
+    )?;
+    with_optional(
+        alloc,
+        line,
+        ("cache-bytes", "N"),
+        "How many bytes the cache's objects have together [default: 268435456]",
+    )
+}
+
+/// The line with an option more, of this name and value, that must be given.
+fn with_required<'a>(
+    alloc: Global,
+    line: clap::Command<'a>,
+    name: (&'a str, &'a str),
+    help: &'a str,
+) -> Result<clap::Command<'a>, AllocError>
+    requires { (fields_of line).has_globals ≡ false }
+    ensures shape { IfOk result (λ more. shape_of more ≡ with_options (shape_of line.entry) (required name.entry.0.now ∷ [])) }
+    ensures local { IfOk result (λ more. (fields_of more).has_globals ≡ false) }
+{
+    line.arg(option(alloc, name).required(true).help(help))
+}
+
+/// The line with an option more, of this name and value, that may be left out.
+fn with_optional<'a>(
+    alloc: Global,
+    line: clap::Command<'a>,
+    name: (&'a str, &'a str),
+    help: &'a str,
+) -> Result<clap::Command<'a>, AllocError>
+    requires { (fields_of line).has_globals ≡ false }
+    ensures shape { IfOk result (λ more. shape_of more ≡ with_options (shape_of line.entry) (optional name.entry.0.now ∷ [])) }
+    ensures local { IfOk result (λ more. (fields_of more).has_globals ≡ false) }
+{
+    line.arg(option(alloc, name).help(help))
+}
+
+fn option<'a>(alloc: Global, name: (&'a str, &'a str)) -> Arg<'a>
+    ensures rule { rule_of result ≡ option_rule (optional name.entry.0.now) }
     ensures local { result.global ≡ false }
 {
-    Arg::new(alloc, name)
-        .long(name)
-        .value_name(value)
-        .required(true)
+    let (name, value) = name;
+    Arg::new(alloc, name).long(name).value_name(value)
 }

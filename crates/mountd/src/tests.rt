@@ -16,11 +16,43 @@ const FOLDER: &str = "objects";
 
 const GOOD: &[&str] = &["mountd", "stdio", "--root", ROOT, "--objects", FOLDER];
 
+const FULL: &[&str] = &[
+    "mountd",
+    "stdio",
+    "--overlay=changes",
+    "--cache-bytes=1099511627776",
+    "--cache-entries",
+    "65536",
+    "--root",
+    ROOT,
+    "--history",
+    "1",
+    "--objects",
+    FOLDER,
+];
+
 #[test]
 fn takes_a_good_line(rt: HostRuntime) -> Result<(), Fail> {
     let Command::Stdio(given) = options(rt.alloc(), GOOD)?;
     assert!(rt; given.root.bytes == ROOT_BYTES);
     assert!(rt; given.objects.as_str() == FOLDER);
+    assert!(rt; given.overlay.is_none());
+    assert!(rt; given.history == 1_000_000);
+    assert!(rt; given.entries == 1024);
+    assert!(rt; given.bytes == 1 << 28);
+    Ok(())
+}
+
+#[test]
+fn takes_a_line_with_all_options(rt: HostRuntime) -> Result<(), Fail> {
+    let Command::Stdio(given) = options(rt.alloc(), FULL)?;
+    assert!(rt; given.root.bytes == ROOT_BYTES);
+    assert!(rt; given.objects.as_str() == FOLDER);
+    let overlay = given.overlay.ok_or("no overlay")?;
+    assert!(rt; overlay.as_str() == "changes");
+    assert!(rt; given.history == 1);
+    assert!(rt; given.entries == 65_536);
+    assert!(rt; given.bytes == 1 << 40);
     Ok(())
 }
 
@@ -53,8 +85,12 @@ const NO_LINES: &[Refused] = &[
         "error: the following required arguments were not provided:\n  --objects <DIR>",
     ),
     (
+        &["mountd", "stdio", "--root", ROOT, "--rescan"],
+        "error: unexpected argument '--rescan' found",
+    ),
+    (
         &["mountd", "stdio", "--root", ROOT, "--overlay", FOLDER],
-        "error: unexpected argument '--overlay' found",
+        "error: the following required arguments were not provided:\n  --objects <DIR>",
     ),
     (
         &["mountd", "mount"],
@@ -83,7 +119,7 @@ fn refuses_what_is_no_line(rt: HostRuntime) -> Result<(), Fail> {
 const TOP_HELP: &str = "Answers requests on the files of a Git commit\n\nUsage: mountd <COMMAND>\n";
 
 const STDIO_HELP: &str =
-    "Serves one session over standard input and output\n\nUsage: mountd stdio --root <ID> --objects <DIR>\n";
+    "Serves one session over standard input and output\n\nUsage: mountd stdio [OPTIONS] --root <ID> --objects <DIR>\n";
 
 const HELP: &[Refused] = &[
     (&["mountd", "--help"], TOP_HELP),
@@ -111,6 +147,61 @@ fn refuses_what_is_no_root(rt: HostRuntime) -> Result<(), Fail> {
         let words = ["mountd", "stdio", "--root", *root, "--objects", FOLDER];
         let text = refusal(rt.alloc(), words.as_slice())?;
         assert!(rt; text.as_str() == "mountd: --root takes 40 lower-case hexadecimal digits");
+    }
+    Ok(())
+}
+
+/// What follows a good line, and how the text begins that refuses it.
+const NO_NUMBERS: &[Refused] = &[
+    (
+        &["--history", "0"],
+        "mountd: --history takes a number from 1 to 4294967295",
+    ),
+    (
+        &["--history", "4294967296"],
+        "mountd: --history takes a number from 1 to 4294967295",
+    ),
+    (
+        &["--history", "01"],
+        "mountd: --history takes a number from 1 to 4294967295",
+    ),
+    (
+        &["--history=+1"],
+        "mountd: --history takes a number from 1 to 4294967295",
+    ),
+    (
+        &["--history="],
+        "mountd: --history takes a number from 1 to 4294967295",
+    ),
+    (
+        &["--cache-entries", "65537"],
+        "mountd: --cache-entries takes a number from 1 to 65536",
+    ),
+    (
+        &["--cache-bytes", "1099511627777"],
+        "mountd: --cache-bytes takes a number from 1 to 1099511627776",
+    ),
+    (
+        &["--cache-bytes", "18446744073709551617"],
+        "mountd: --cache-bytes takes a number from 1 to 1099511627776",
+    ),
+    (
+        &["--history", "1", "--history", "1"],
+        "error: the argument '--history <N>' cannot be used multiple times",
+    ),
+    (
+        &["--history", "-1"],
+        "error: unexpected argument '-1' found",
+    ),
+];
+
+#[test]
+fn refuses_what_is_no_number(rt: HostRuntime) -> Result<(), Fail> {
+    for (words, refused) in NO_NUMBERS {
+        let mut line = Vec::from_slice(rt.alloc(), GOOD)?;
+        line.extend_from_slice(words)?;
+        let text = refusal(rt.alloc(), line.as_slice())?;
+        assert!(rt; text.as_str().starts_with(*refused), "{text}");
     }
     Ok(())
 }

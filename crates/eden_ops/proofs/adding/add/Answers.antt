@@ -11,13 +11,16 @@ use Rattle.eden_tie.proofs.CallerLemmas.{loaded_there}
 use Rattle.eden_inode.specs.declared.seen.Seen.{Seen}
 use Rattle.eden_materialise.specs.Filing.{node_as, own_row}
 use Rattle.eden_model.specs.declared.attempt.Attempt.{Attempt}
+use Rattle.eden_model.specs.declared.attempt.Attempt.TheVariants.{Finished}
 use Rattle.eden_ops.specs.Attempts.{Attempts, Meets, MeetsShown, IsShown}
-use Rattle.eden_ops.specs.Keeping.{shows}
-use Rattle.eden_ops.proofs.Additions.{adds, asked_add, short_new, lacks_entry, absent_alone, put_new, not_added, root_refused, add_count, given_more, one_given}
+use Rattle.eden_ops.specs.Keeping.{shows, same}
+use Rattle.eden_ops.specs.Leaving.{given}
+use Rattle.eden_ops.proofs.Additions.{adds, asked_add, short_new, lacks_entry, absent_alone, put_new, not_added, root_refused, add_count, given_more, one_given, adds_one, one_more, one_at_most}
 use Rattle.eden_ops.proofs.Answering.{walk_ended, says_here}
 use Rattle.eden_ops.proofs.Changing.{not_root, changed}
 use Rattle.eden_ops.proofs.Roots.{root_same, root_chained}
-use Rattle.eden_ops.proofs.Saving.{keeps_leaves, leaves_changed, no_less}
+use Rattle.eden_ops.proofs.Leaving.{leaves_kept, leaves_changed}
+use Rattle.eden_ops.proofs.Saving.{leaves_by, no_less}
 use Rattle.eden_ops.proofs.Seeing.{kept_dirs}
 use Rattle.eden_ops.proofs.adding.add.Goals as goal
 
@@ -32,10 +35,10 @@ returns-in-Err-clause-attempts g c q adding =
     (walk_ended g.W.World g.F.Files q p adds (asked_add p root q c.args.new adding) s t c.args.cache.now c.meet.new.cache e.same e.keeps e.cache c.in-Err.stop e.meets e.shown)
 
 pub returns-in-Err-clause-leaves : goal.returns-in-Err-clause-leaves
-returns-in-Err-clause-leaves g c = keeps_leaves g.W.World g.F.Files c.args.inodes.now c.meet.new.inodes c.meet.ensures.keeps
+returns-in-Err-clause-leaves g c q adding = leaves_kept g.W.World g.F.Files c.args.inodes.now c.meet.new.inodes c.meet.ensures.keeps q _
 
 pub returns-in-Ok-Some-clause-leaves : goal.returns-in-Ok-Some-clause-leaves
-returns-in-Ok-Some-clause-leaves g c = keeps_leaves g.W.World g.F.Files c.args.inodes.now c.meet.new.inodes c.meet.ensures.keeps
+returns-in-Ok-Some-clause-leaves g c q adding = leaves_kept g.W.World g.F.Files c.args.inodes.now c.meet.new.inodes c.meet.ensures.keeps q _
 
 pub add_entry-requires-clause-lacks : goal.add_entry-requires-clause-lacks
 add_entry-requires-clause-lacks g c =
@@ -73,7 +76,7 @@ returns-in-Ok-clause-attempts g c q adding =
     ∙ absent_alone c.shown_laws.ensures.absent R F p c.in-Some.above.now c.in-Some.name.now t.root (kept_dirs R F t.root t.next (c.holds.ensures.kept h)) split lacks n r))
 
 pub returns-in-Ok-clause-leaves : goal.returns-in-Ok-clause-leaves
-returns-in-Ok-clause-leaves g c =
+returns-in-Ok-clause-leaves g c q adding =
     let x = c.in-Ok.ensures in
     let t = c.meet.new.inodes in
     let u = c.add_entry.new.inodes in
@@ -83,8 +86,8 @@ returns-in-Ok-clause-leaves g c =
     let met = subst (λ (o : Option Seen). Meets g.W.World g.F.Files p c.args.inodes.now t c.meet.new.cache (Ok o)) c.in-Ok-None.field-0-is c.in-Ok-None.ensures.meets in
     let lacks = lacks_entry p above name t.root (sym c.as_slice.ensures ∙ c.in-Some.ensures.cases.0) met.0 met.1 in
     let root = root_chained above t.root u.root (λ d. changed_listing d name (Some (own_row t.next c.args.new))) (loaded_there above t.root lacks.row lacks.directory lacks.at lacks.holds) x.ok in
-    leaves_changed g.W.World g.F.Files c.args.inodes.now t u c.meet.ensures.keeps x.stays root x.saved (one_given t.next u.next x.next) x.rest
-    (no_less (g.F.Files.failures t.files) (g.F.Files.failures u.files) x.counted)
+    let l = leaves_by g.F.Files t u x.stays root x.saved (one_given t.next u.next x.next) x.rest (no_less (g.F.Files.failures t.files) (g.F.Files.failures u.files) x.counted) in
+    leaves_changed g.W.World g.F.Files c.args.inodes.now t c.meet.ensures.keeps u (Finished say.Ok) (λ e is. cc) q l (one_more t.next u.next (given q) x.next (adds_one p q c.args.new adding))
 
 pub returns-in-Err-add_entry-clause-attempts : goal.returns-in-Err-add_entry-clause-attempts
 returns-in-Err-add_entry-clause-attempts g c q adding =
@@ -97,12 +100,14 @@ returns-in-Err-add_entry-clause-attempts g c q adding =
     (λ is. x.unused (ap Err is)) x.unseen
 
 pub returns-in-Err-add_entry-clause-leaves : goal.returns-in-Err-add_entry-clause-leaves
-returns-in-Err-add_entry-clause-leaves g c =
+returns-in-Err-add_entry-clause-leaves g c q adding =
     let x = c.in-Err-add_entry.ensures in
     let t = c.meet.new.inodes in
     let u = c.add_entry.new.inodes in
-    leaves_changed g.W.World g.F.Files c.args.inodes.now t u c.meet.ensures.keeps x.stays (root_same t.root u.root x.err) x.saved (given_more t.next u.next _ _ x.given) x.rest
-    (add_count t.next (g.F.Files.failures t.files) (g.F.Files.failures u.files) c.in-Err-add_entry.fault x.fault)
+    let counted = add_count t.next (g.F.Files.failures t.files) (g.F.Files.failures u.files) c.in-Err-add_entry.fault x.fault in
+    let l = leaves_by g.F.Files t u x.stays (root_same t.root u.root x.err) x.saved (given_more t.next u.next _ _ x.given) x.rest counted in
+    leaves_changed g.W.World g.F.Files c.args.inodes.now t c.meet.ensures.keeps u (Finished (say.Fault c.in-Err-add_entry.fault)) (λ e is. cc) q l
+    (one_at_most t.next u.next (given q) _ _ x.given (adds_one c.args.path.now q c.args.new adding))
 
 pub returns-in_default-clause-attempts : goal.returns-in_default-clause-attempts
 returns-in_default-clause-attempts g c q adding =
@@ -120,3 +125,6 @@ returns-in-Ok-Some-clause-attempts g c q adding =
     let seen = subst (λ (o : Option Seen). Meets g.W.World g.F.Files p s t c.meet.new.cache (Ok o)) c.in-Ok-Some.field-0-is e.meets in
     let shown : g.W.World.honest → IsShown g.W.World.repository (g.F.Files.stored t.files) (row_at p t.root) (reach (shows g.W.World g.F.Files s) p) = λ h. subst (λ (o : Option Seen). MeetsShown g.W.World g.F.Files p s t (Ok o)) c.in-Ok-Some.field-0-is (e.shown h) in
     says_here g.W.World g.F.Files q p adds (asked_add p root q c.args.new adding) s t c.args.cache.now c.meet.new.cache e.same e.keeps e.cache seen.row seen.there shown (say.Err EEXIST) refl (λ T. refl) (λ h listed. refl)
+
+pub returns-in_default-clause-leaves : goal.returns-in_default-clause-leaves
+returns-in_default-clause-leaves g c q adding = leaves_kept g.W.World g.F.Files c.args.inodes.now c.args.inodes.now same q _

@@ -8,3 +8,6 @@ add-requires-clause-asked g c = (ask.Create c.args.path.now, file _ refl)
 
 pub returns-clause-attempts : goal.returns-clause-attempts
 returns-clause-attempts g c = c.add.ensures.attempts (ask.Create c.args.path.now) (file _ refl)
+
+pub returns-clause-leaves : goal.returns-clause-leaves
+returns-clause-leaves g c = c.add.ensures.leaves (ask.Create c.args.path.now) (file _ refl)

@@ -7,3 +7,6 @@ add-requires-clause-asked g c = (ask.Mkdir c.args.path.now, dir)
 
 pub returns-clause-attempts : goal.returns-clause-attempts
 returns-clause-attempts g c = c.add.ensures.attempts (ask.Mkdir c.args.path.now) (dir)
+
+pub returns-clause-leaves : goal.returns-clause-leaves
+returns-clause-leaves g c = c.add.ensures.leaves (ask.Mkdir c.args.path.now) dir

@@ -11,9 +11,9 @@ use Rattle.eden_tie.specs.Changing.{changed as changed_listing}
 use Rattle.eden_tie.proofs.CallerLemmas.{map_some}
 use Rattle.eden_inode.specs.declared.seen.Seen.{Seen}
 use Rattle.eden_model.specs.declared.attempt.Attempt.{Attempt}
+use Rattle.eden_model.specs.declared.attempt.Attempt.TheVariants.{Finished}
 use Rattle.eden_ops.specs.Attempts.{Attempts, MeetsShown}
-use Rattle.eden_ops.specs.Changes.{IsOutside}
-use Rattle.eden_ops.specs.Keeping.{shows}
+use Rattle.eden_ops.specs.Keeping.{shows, same}
 use Rattle.eden_ops.specs.Known.{content_known, known_node, known}
 use Rattle.eden_ops.specs.Letting.{LetsGo}
 use Rattle.eden_ops.specs.Listings.{HasNoEntries, HasEntries}
@@ -21,13 +21,14 @@ use Rattle.eden_ops.proofs.Answering.{walk_ended, says_absent, replied, lacked}
 use Rattle.eden_ops.proofs.Changing.{not_root, has_entry, put_alone, changed, refused, removes, asks_rmdir, removes_empty, removes_full}
 use Rattle.eden_ops.proofs.Fetching.{away, dir_kind}
 use Rattle.eden_ops.proofs.Finding.{finds_on}
-use Rattle.eden_ops.proofs.Going.{leaves_gone, leaves_then, stays_there}
+use Rattle.eden_ops.proofs.Going.{stays_there}
+use Rattle.eden_ops.proofs.Leaving.{leaves_kept, leaves_gone, leaves_removed}
 use Rattle.eden_ops.proofs.Looking.{no_dir, lists_other, lists_away}
 use Rattle.eden_ops.proofs.Reached.{seen_at}
 use Rattle.eden_ops.proofs.Relocation.{above_loaded}
 use Rattle.eden_ops.proofs.Roots.{root_same, root_chained}
 use Rattle.eden_ops.proofs.Rounds.{lacks_since}
-use Rattle.eden_ops.proofs.Saving.{keeps_leaves, leaves_some, fault_count}
+use Rattle.eden_ops.proofs.Saving.{leaves_by, fault_count, no_less}
 use Rattle.eden_ops.proofs.Steps.{keeps_on, keeps_counts}
 use Rattle.eden_ops.proofs.Telling.{met_tells}
 use Rattle.eden_ops.proofs.Walking.{known_unloaded}
@@ -46,10 +47,7 @@ returns-in-Err-clause-attempts g c =
     (walk_ended g.W.World g.F.Files (ask.Rmdir p) p (removes p) (asks_rmdir p (not_root p c.in-Some.above.now c.in-Some.name.now split)) s t c.args.cache.now c.meet.new.cache e.same e.keeps e.cache c.in-Err.stop e.meets e.shown)
 
 pub returns-in-Err-clause-leaves : goal.returns-in-Err-clause-leaves
-returns-in-Err-clause-leaves g c = leaves_some g.W.World g.F.Files (IsOutside c.args.path.now) c.args.inodes.now c.meet.new.inodes c.meet.ensures.keeps
-
-pub returns-in-Err-clause-saved : goal.returns-in-Err-clause-saved
-returns-in-Err-clause-saved g c = (keeps_leaves g.W.World g.F.Files c.args.inodes.now c.meet.new.inodes c.meet.ensures.keeps).saved
+returns-in-Err-clause-leaves g c = leaves_kept g.W.World g.F.Files c.args.inodes.now c.meet.new.inodes c.meet.ensures.keeps (ask.Rmdir c.args.path.now) _
 
 pub returns-in-Ok-None-clause-attempts : goal.returns-in-Ok-None-clause-attempts
 returns-in-Ok-None-clause-attempts g c =
@@ -62,10 +60,7 @@ returns-in-Ok-None-clause-attempts g c =
     (λ h. subst (λ (o : Option Seen). MeetsShown g.W.World g.F.Files p s t (Ok o)) c.in-Ok-None.field-0-is (e.shown h))
 
 pub returns-in-Ok-None-clause-leaves : goal.returns-in-Ok-None-clause-leaves
-returns-in-Ok-None-clause-leaves g c = leaves_some g.W.World g.F.Files (IsOutside c.args.path.now) c.args.inodes.now c.meet.new.inodes c.meet.ensures.keeps
-
-pub returns-in-Ok-None-clause-saved : goal.returns-in-Ok-None-clause-saved
-returns-in-Ok-None-clause-saved g c = (keeps_leaves g.W.World g.F.Files c.args.inodes.now c.meet.new.inodes c.meet.ensures.keeps).saved
+returns-in-Ok-None-clause-leaves g c = leaves_kept g.W.World g.F.Files c.args.inodes.now c.meet.new.inodes c.meet.ensures.keeps (ask.Rmdir c.args.path.now) _
 
 -- ---- what is there is no directory, or isn't loaded
 
@@ -80,8 +75,7 @@ returns-in-File g c =
     record {
       attempts = met_tells g.W.World g.F.Files p s t c.meet.new.cache _ c.in-Ok-Some.seen c.in-Ok-Some.field-0-is e.meets (ask.Rmdir p) (removes p) (asks_rmdir p (not_root p c.in-Some.above.now c.in-Some.name.now split)) c.args.cache.now e.same e.keeps e.cache e.shown (say.Err ENOTDIR) refl (λ T. refl)
           (λ k a listed is on. lists_other (IfEmpty (shows g.W.World g.F.Files s) p) k a listed (λ dir. no_dir c.what.result c.in-File.is (sym other.1 ∙ sym is ∙ dir)));
-      leaves = leaves_some g.W.World g.F.Files (IsOutside p) s t e.keeps;
-      saved = (keeps_leaves g.W.World g.F.Files s t e.keeps).saved;
+      leaves = leaves_kept g.W.World g.F.Files s t e.keeps (ask.Rmdir p) _;
     }
 
 pub returns-in-Err-bring_seen-clause-attempts : goal.returns-in-Err-bring_seen-clause-attempts
@@ -108,11 +102,7 @@ returns-in-Err-bring_seen-clause-attempts g c =
 
 pub returns-in-Err-bring_seen-clause-leaves : goal.returns-in-Err-bring_seen-clause-leaves
 returns-in-Err-bring_seen-clause-leaves g c =
-    leaves_some g.W.World g.F.Files (IsOutside c.args.path.now) c.args.inodes.now c.bring_seen.new.inodes (keeps_on g.W.World g.F.Files c.args.inodes.now c.meet.new.inodes c.bring_seen.new.inodes c.meet.ensures.keeps c.bring_seen.ensures.keeps)
-
-pub returns-in-Err-bring_seen-clause-saved : goal.returns-in-Err-bring_seen-clause-saved
-returns-in-Err-bring_seen-clause-saved g c =
-    (keeps_leaves g.W.World g.F.Files c.args.inodes.now c.bring_seen.new.inodes (keeps_on g.W.World g.F.Files c.args.inodes.now c.meet.new.inodes c.bring_seen.new.inodes c.meet.ensures.keeps c.bring_seen.ensures.keeps)).saved
+    leaves_kept g.W.World g.F.Files c.args.inodes.now c.bring_seen.new.inodes (keeps_on g.W.World g.F.Files c.args.inodes.now c.meet.new.inodes c.bring_seen.new.inodes c.meet.ensures.keeps c.bring_seen.ensures.keeps) (ask.Rmdir c.args.path.now) _
 
 -- ---- it has entries
 
@@ -132,11 +122,7 @@ returns-then-not-is_empty-clause-attempts g c =
 
 pub returns-then-not-is_empty-clause-leaves : goal.returns-then-not-is_empty-clause-leaves
 returns-then-not-is_empty-clause-leaves g c =
-    leaves_some g.W.World g.F.Files (IsOutside c.args.path.now) c.args.inodes.now c.bring_seen.new.inodes (keeps_on g.W.World g.F.Files c.args.inodes.now c.meet.new.inodes c.bring_seen.new.inodes c.meet.ensures.keeps c.bring_seen.ensures.keeps)
-
-pub returns-then-not-is_empty-clause-saved : goal.returns-then-not-is_empty-clause-saved
-returns-then-not-is_empty-clause-saved g c =
-    (keeps_leaves g.W.World g.F.Files c.args.inodes.now c.bring_seen.new.inodes (keeps_on g.W.World g.F.Files c.args.inodes.now c.meet.new.inodes c.bring_seen.new.inodes c.meet.ensures.keeps c.bring_seen.ensures.keeps)).saved
+    leaves_kept g.W.World g.F.Files c.args.inodes.now c.bring_seen.new.inodes (keeps_on g.W.World g.F.Files c.args.inodes.now c.meet.new.inodes c.bring_seen.new.inodes c.meet.ensures.keeps c.bring_seen.ensures.keeps) (ask.Rmdir c.args.path.now) _
 
 -- ---- it is let go of
 
@@ -161,12 +147,7 @@ returns-in-Err-let_go-clause-leaves g c =
     let v = c.let_go.new.inodes in
     let goes = subst (λ (q : Path). LetsGo q u.root v.root) c.as_slice-2.ensures c.let_go.ensures.goes in
     leaves_gone g.W.World g.F.Files p s u v (keeps_on g.W.World g.F.Files s c.meet.new.inodes u c.meet.ensures.keeps c.bring_seen.ensures.keeps) goes c.let_go.ensures.rest c.let_go.ensures.counted
-
-pub returns-in-Err-let_go-clause-saved : goal.returns-in-Err-let_go-clause-saved
-returns-in-Err-let_go-clause-saved g c all =
-    let s = c.args.inodes.now in
-    let u = c.bring_seen.new.inodes in
-    c.let_go.ensures.saved ((keeps_leaves g.W.World g.F.Files s u (keeps_on g.W.World g.F.Files s c.meet.new.inodes u c.meet.ensures.keeps c.bring_seen.ensures.keeps)).saved all)
+    (Finished (say.Fault c.in-Err-let_go.fault)) (λ e is. cc)
 
 -- ---- it is removed
 
@@ -221,14 +202,10 @@ returns-in-Ok-clause-leaves g c =
     let there = stays_there p u.root v.root goes y.0 y.1.0 in
     let loaded = above_loaded v.root there.0 p above name (sym c.as_slice.ensures ∙ c.in-Some.ensures.cases.0) there.1.0 in
     let root = root_chained above v.root c.remove_entry.new.inodes.root (λ d. changed_listing d name None) loaded x.ok in
-    leaves_then g.W.World g.F.Files p s u v (keeps_on g.W.World g.F.Files s c.meet.new.inodes u c.meet.ensures.keeps c.bring_seen.ensures.keeps) goes c.let_go.ensures.rest c.let_go.ensures.counted
-    c.remove_entry.new.inodes x.stays root x.rest x.counted
-
-pub returns-in-Ok-clause-saved : goal.returns-in-Ok-clause-saved
-returns-in-Ok-clause-saved g c all =
-    let s = c.args.inodes.now in
-    let u = c.bring_seen.new.inodes in
-    c.remove_entry.ensures.saved (c.let_go.ensures.saved ((keeps_leaves g.W.World g.F.Files s u (keeps_on g.W.World g.F.Files s c.meet.new.inodes u c.meet.ensures.keeps c.bring_seen.ensures.keeps)).saved all))
+    let z = c.remove_entry.new.inodes in
+    let l = leaves_by g.F.Files v z x.stays root c.remove_entry.ensures.saved (no_less v.next z.next x.rest.0) x.rest.1 x.counted in
+    leaves_removed g.W.World g.F.Files p s u v (keeps_on g.W.World g.F.Files s c.meet.new.inodes u c.meet.ensures.keeps c.bring_seen.ensures.keeps) goes c.let_go.ensures.rest c.let_go.ensures.counted
+    (Finished say.Ok) (λ e is. cc) z l x.rest.0
 
 pub returns-in-Err-remove_entry-clause-attempts : goal.returns-in-Err-remove_entry-clause-attempts
 returns-in-Err-remove_entry-clause-attempts g c =
@@ -254,11 +231,10 @@ returns-in-Err-remove_entry-clause-leaves g c =
     let z = c.remove_entry.new.inodes in
     let x = c.in-Err-remove_entry.ensures in
     let goes = subst (λ (q : Path). LetsGo q u.root v.root) c.as_slice-2.ensures c.let_go.ensures.goes in
-    leaves_then g.W.World g.F.Files p s u v (keeps_on g.W.World g.F.Files s c.meet.new.inodes u c.meet.ensures.keeps c.bring_seen.ensures.keeps) goes c.let_go.ensures.rest c.let_go.ensures.counted
-    z x.stays (root_same v.root z.root x.err) x.rest (fault_count (g.F.Files.failures v.files) (g.F.Files.failures z.files) c.in-Err-remove_entry.fault x.fault)
+    let counted = fault_count (g.F.Files.failures v.files) (g.F.Files.failures z.files) c.in-Err-remove_entry.fault x.fault in
+    let l = leaves_by g.F.Files v z x.stays (root_same v.root z.root x.err) c.remove_entry.ensures.saved (no_less v.next z.next x.rest.0) x.rest.1 counted in
+    leaves_removed g.W.World g.F.Files p s u v (keeps_on g.W.World g.F.Files s c.meet.new.inodes u c.meet.ensures.keeps c.bring_seen.ensures.keeps) goes c.let_go.ensures.rest c.let_go.ensures.counted
+    (Finished (say.Fault c.in-Err-remove_entry.fault)) (λ e is. cc) z l x.rest.0
 
-pub returns-in-Err-remove_entry-clause-saved : goal.returns-in-Err-remove_entry-clause-saved
-returns-in-Err-remove_entry-clause-saved g c all =
-    let s = c.args.inodes.now in
-    let u = c.bring_seen.new.inodes in
-    c.remove_entry.ensures.saved (c.let_go.ensures.saved ((keeps_leaves g.W.World g.F.Files s u (keeps_on g.W.World g.F.Files s c.meet.new.inodes u c.meet.ensures.keeps c.bring_seen.ensures.keeps)).saved all))
+pub returns-in_default-clause-leaves : goal.returns-in_default-clause-leaves
+returns-in_default-clause-leaves g c = leaves_kept g.W.World g.F.Files c.args.inodes.now c.args.inodes.now same (ask.Rmdir c.args.path.now) _

@@ -14,6 +14,7 @@ use Rattle.eden_tie.specs.Filing.{leaf, content_shown}
 use Rattle.eden_tie.proofs.CallerLemmas.{loaded_there}
 use Rattle.eden_materialise.specs.Reforms.{of_kind}
 use Rattle.eden_model.specs.declared.attempt.Attempt.{Attempt}
+use Rattle.eden_model.specs.declared.attempt.Attempt.TheVariants.{Finished}
 use Rattle.eden_ops.specs.Attempts.{Attempts}
 use Rattle.eden_ops.specs.Requests.{for_exec}
 use Rattle.eden_ops.specs.Changes.{exec_kind}
@@ -23,7 +24,8 @@ use Rattle.eden_ops.proofs.Changing.{has_file, file_alone, changed, refused, set
 use Rattle.eden_ops.proofs.Fetching.{away}
 use Rattle.eden_ops.proofs.Looking.{IsPlain, plain_other}
 use Rattle.eden_ops.proofs.Roots.{root_same, root_chained}
-use Rattle.eden_ops.proofs.Saving.{keeps_leaves, leaves_changed, fault_count, no_less}
+use Rattle.eden_ops.proofs.Leaving.{none_given, leaves_kept, leaves_changed}
+use Rattle.eden_ops.proofs.Saving.{leaves_by, fault_count, no_less}
 use Rattle.eden_ops.proofs.Seeing.{kept_dirs, shown_there}
 use Rattle.eden_ops.proofs.exec.set_exec.Goals as goal
 
@@ -81,7 +83,7 @@ returns-in-Err-set_kind-clause-attempts g c =
     refused g.W.World g.F.Files (ask.SetExec p c.args.exec) s t u c.args.cache.now c.meet_file.new.cache e.same ((c.keeps_laws.ensures.counts s t e.keeps).1.1.1) e.cache c.in-Err-set_kind.fault x.fault (λ y is. cc) x.unseen
 
 pub returns-in-Err-clause-leaves : goal.returns-in-Err-clause-leaves
-returns-in-Err-clause-leaves g c = keeps_leaves g.W.World g.F.Files c.args.inodes.now c.meet_file.new.inodes c.meet_file.ensures.keeps
+returns-in-Err-clause-leaves g c = leaves_kept g.W.World g.F.Files c.args.inodes.now c.meet_file.new.inodes c.meet_file.ensures.keeps (ask.SetExec c.args.path.now c.args.exec) _
 
 pub returns-in-Ok-set_kind-clause-leaves : goal.returns-in-Ok-set_kind-clause-leaves
 returns-in-Ok-set_kind-clause-leaves g c =
@@ -94,10 +96,15 @@ returns-in-Ok-set_kind-clause-leaves g c =
     let plain = subst IsPlain seen.kind e.file.plain in
     let has = has_file c.args.path.now above name t.root seen.row (sym c.as_slice.ensures ∙ c.in-Some.ensures.cases.0) seen.there (away c.args.path.now t.root c.in-Ok.field-0 seen e.file.away) (plain_other seen.row.kind plain) in
     let root = root_chained above t.root c.set_kind.new.inodes.root (λ d. changed_listing d name (Some (of_kind c.exec_kind.result seen.row))) (loaded_there above t.root has.row has.directory has.at has.holds) (x.ok seen.row has) in
-    leaves_changed g.W.World g.F.Files c.args.inodes.now c.meet_file.new.inodes c.set_kind.new.inodes c.meet_file.ensures.keeps x.stays root x.saved (no_less c.meet_file.new.inodes.next c.set_kind.new.inodes.next x.rest.0) x.rest.1 (no_less (g.F.Files.failures c.meet_file.new.inodes.files) (g.F.Files.failures c.set_kind.new.inodes.files) x.counted)
+    let u = c.set_kind.new.inodes in
+    let l = leaves_by g.F.Files t u x.stays root x.saved (no_less t.next u.next x.rest.0) x.rest.1 (no_less (g.F.Files.failures t.files) (g.F.Files.failures u.files) x.counted) in
+    leaves_changed g.W.World g.F.Files c.args.inodes.now t c.meet_file.ensures.keeps u (Finished say.Ok) (λ e is. cc) (ask.SetExec c.args.path.now c.args.exec) l (none_given t.next u.next 0 x.rest.0)
 
 pub returns-in-Err-set_kind-clause-leaves : goal.returns-in-Err-set_kind-clause-leaves
 returns-in-Err-set_kind-clause-leaves g c =
     let x = c.in-Err-set_kind.ensures in
-    leaves_changed g.W.World g.F.Files c.args.inodes.now c.meet_file.new.inodes c.set_kind.new.inodes c.meet_file.ensures.keeps x.stays (root_same c.meet_file.new.inodes.root c.set_kind.new.inodes.root x.err) x.saved (no_less c.meet_file.new.inodes.next c.set_kind.new.inodes.next x.rest.0) x.rest.1
-    (fault_count (g.F.Files.failures c.meet_file.new.inodes.files) (g.F.Files.failures c.set_kind.new.inodes.files) c.in-Err-set_kind.fault x.fault)
+    let t = c.meet_file.new.inodes in
+    let u = c.set_kind.new.inodes in
+    let counted = fault_count (g.F.Files.failures t.files) (g.F.Files.failures u.files) c.in-Err-set_kind.fault x.fault in
+    let l = leaves_by g.F.Files t u x.stays (root_same t.root u.root x.err) x.saved (no_less t.next u.next x.rest.0) x.rest.1 counted in
+    leaves_changed g.W.World g.F.Files c.args.inodes.now t c.meet_file.ensures.keeps u (Finished (say.Fault c.in-Err-set_kind.fault)) (λ e is. cc) (ask.SetExec c.args.path.now c.args.exec) l (none_given t.next u.next 0 x.rest.0)

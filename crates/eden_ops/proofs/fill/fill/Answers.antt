@@ -6,10 +6,10 @@ use Rattle.eden_tie.specs.Changing.{changed}
 use Rattle.eden_tie.specs.Filing.{leaf}
 use Rattle.eden_tie.specs.Laws.{owned}
 use Rattle.eden_tie.specs.Materialising.{is_own}
-use Rattle.eden_ops.specs.Keeping.{shows, same}
+use Rattle.eden_ops.specs.Keeping.{shows}
 use Rattle.eden_ops.proofs.Changing.{has_file, file_alone, put_alone}
 use Rattle.eden_ops.proofs.Roots.{root_filled}
-use Rattle.eden_ops.proofs.Saving.{leaves_changed, no_less, stored_count}
+use Rattle.eden_ops.proofs.Saving.{leaves_by, no_less, stored_count}
 use Rattle.eden_ops.proofs.Seeing.{kept_dirs}
 use Rattle.eden_ops.proofs.fill.fill.Goals as goal
 
@@ -44,4 +44,4 @@ returns-clause-leaves g c =
     let file = has_file c.args.path.now above name s.root h.0 (sym c.as_slice.ensures ∙ c.in-Some.ensures.cases.0) h.1.there h.1.unloaded h.1.file in
     let root = root_filled c.store_content.result (is_own h.0.origin) above s.root t.root (changed file.directory name (Some (owned h.0))) (x.ok h.0 file file.row file.directory file.at file.holds) x.err in
     let counted = stored_count c.store_content.result (g.F.Files.failures s.files) (g.F.Files.failures t.files) x.fault x.counted in
-    leaves_changed g.W.World g.F.Files s s t same x.stays root x.saved (no_less s.next t.next x.rest.0) x.rest.1 counted
+    leaves_by g.F.Files s t x.stays root x.saved (no_less s.next t.next x.rest.0) x.rest.1 counted

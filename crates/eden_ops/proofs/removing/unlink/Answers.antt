@@ -12,14 +12,16 @@ use Rattle.eden_tree.specs.Paths.{row_at}
 use Rattle.eden_tie.specs.Changing.{changed as changed_listing}
 use Rattle.eden_inode.specs.declared.seen.Seen.{Seen}
 use Rattle.eden_model.specs.declared.attempt.Attempt.{Attempt}
+use Rattle.eden_model.specs.declared.attempt.Attempt.TheVariants.{Finished}
 use Rattle.eden_ops.specs.Attempts.{Attempts, MeetsShown, IsShown}
-use Rattle.eden_ops.specs.Keeping.{shows}
+use Rattle.eden_ops.specs.Keeping.{shows, same}
 use Rattle.eden_ops.proofs.Answering.{walk_ended, says_absent, says_at}
 use Rattle.eden_ops.proofs.Changing.{not_root, none_held, has_entry, put_alone, file_alone, changed, refused, unlinks, asks_unlink, unlinks_file, unlinks_dir}
 use Rattle.eden_ops.proofs.Reached.{seen_at, shown_at}
 use Rattle.eden_ops.proofs.Relocation.{above_loaded}
 use Rattle.eden_ops.proofs.Roots.{root_same, root_chained}
-use Rattle.eden_ops.proofs.Saving.{keeps_leaves, leaves_changed, fault_count, no_less}
+use Rattle.eden_ops.proofs.Leaving.{none_given, leaves_kept, leaves_changed}
+use Rattle.eden_ops.proofs.Saving.{leaves_by, fault_count, no_less}
 use Rattle.eden_ops.proofs.Seeing.{kept_dirs}
 use Rattle.eden_ops.proofs.Telling.{as_dir, met_tells}
 use Rattle.eden_ops.proofs.removing.unlink.Goals as goal
@@ -102,13 +104,13 @@ returns-in-Err-remove_entry-clause-attempts g c =
     refused g.W.World g.F.Files (ask.Unlink p) s t u c.args.cache.now c.meet.new.cache e.same ((c.keeps_laws.ensures.counts s t e.keeps).1.1.1) e.cache c.in-Err-remove_entry.fault x.fault (λ y is. cc) x.unseen
 
 pub returns-in-Err-clause-leaves : goal.returns-in-Err-clause-leaves
-returns-in-Err-clause-leaves g c = keeps_leaves g.W.World g.F.Files c.args.inodes.now c.meet.new.inodes c.meet.ensures.keeps
+returns-in-Err-clause-leaves g c = leaves_kept g.W.World g.F.Files c.args.inodes.now c.meet.new.inodes c.meet.ensures.keeps (ask.Unlink c.args.path.now) _
 
 pub returns-in-Ok-None-clause-leaves : goal.returns-in-Ok-None-clause-leaves
-returns-in-Ok-None-clause-leaves g c = keeps_leaves g.W.World g.F.Files c.args.inodes.now c.meet.new.inodes c.meet.ensures.keeps
+returns-in-Ok-None-clause-leaves g c = leaves_kept g.W.World g.F.Files c.args.inodes.now c.meet.new.inodes c.meet.ensures.keeps (ask.Unlink c.args.path.now) _
 
 pub returns-in-Dir-clause-leaves : goal.returns-in-Dir-clause-leaves
-returns-in-Dir-clause-leaves g c = keeps_leaves g.W.World g.F.Files c.args.inodes.now c.meet.new.inodes c.meet.ensures.keeps
+returns-in-Dir-clause-leaves g c = leaves_kept g.W.World g.F.Files c.args.inodes.now c.meet.new.inodes c.meet.ensures.keeps (ask.Unlink c.args.path.now) _
 
 pub returns-in-Ok-clause-leaves : goal.returns-in-Ok-clause-leaves
 returns-in-Ok-clause-leaves g c =
@@ -120,10 +122,18 @@ returns-in-Ok-clause-leaves g c =
     let seen = seen_at g.W.World g.F.Files p c.args.inodes.now t c.meet.new.cache _ c.in-Ok-Some.seen c.in-Ok-Some.field-0-is c.in-Ok-Some.ensures.meets in
     let loaded = above_loaded t.root seen.row p above name (sym c.as_slice.ensures ∙ c.in-Some.ensures.cases.0) seen.there in
     let root = root_chained above t.root c.remove_entry.new.inodes.root (λ d. changed_listing d name None) loaded x.ok in
-    leaves_changed g.W.World g.F.Files c.args.inodes.now c.meet.new.inodes c.remove_entry.new.inodes c.meet.ensures.keeps x.stays root x.saved (no_less c.meet.new.inodes.next c.remove_entry.new.inodes.next x.rest.0) x.rest.1 x.counted
+    let u = c.remove_entry.new.inodes in
+    let l = leaves_by g.F.Files t u x.stays root x.saved (no_less t.next u.next x.rest.0) x.rest.1 x.counted in
+    leaves_changed g.W.World g.F.Files c.args.inodes.now t c.meet.ensures.keeps u (Finished say.Ok) (λ e is. cc) (ask.Unlink p) l (none_given t.next u.next 0 x.rest.0)
 
 pub returns-in-Err-remove_entry-clause-leaves : goal.returns-in-Err-remove_entry-clause-leaves
 returns-in-Err-remove_entry-clause-leaves g c =
     let x = c.in-Err-remove_entry.ensures in
-    leaves_changed g.W.World g.F.Files c.args.inodes.now c.meet.new.inodes c.remove_entry.new.inodes c.meet.ensures.keeps x.stays (root_same c.meet.new.inodes.root c.remove_entry.new.inodes.root x.err) x.saved (no_less c.meet.new.inodes.next c.remove_entry.new.inodes.next x.rest.0) x.rest.1
-    (fault_count (g.F.Files.failures c.meet.new.inodes.files) (g.F.Files.failures c.remove_entry.new.inodes.files) c.in-Err-remove_entry.fault x.fault)
+    let t = c.meet.new.inodes in
+    let u = c.remove_entry.new.inodes in
+    let counted = fault_count (g.F.Files.failures t.files) (g.F.Files.failures u.files) c.in-Err-remove_entry.fault x.fault in
+    let l = leaves_by g.F.Files t u x.stays (root_same t.root u.root x.err) x.saved (no_less t.next u.next x.rest.0) x.rest.1 counted in
+    leaves_changed g.W.World g.F.Files c.args.inodes.now t c.meet.ensures.keeps u (Finished (say.Fault c.in-Err-remove_entry.fault)) (λ e is. cc) (ask.Unlink c.args.path.now) l (none_given t.next u.next 0 x.rest.0)
+
+pub returns-in_default-clause-leaves : goal.returns-in_default-clause-leaves
+returns-in_default-clause-leaves g c = leaves_kept g.W.World g.F.Files c.args.inodes.now c.args.inodes.now same (ask.Unlink c.args.path.now) _

@@ -3,10 +3,13 @@ use Rattle.eden_model.specs.declared.request.Request.TheVariants as ask
 use Rattle.eden_model.specs.Paths.{is_root}
 use Rattle.eden_inode.specs.declared.seen.Seen.{Seen}
 use Rattle.eden_model.specs.declared.attempt.Attempt.{Attempt}
+use Rattle.eden_model.specs.declared.attempt.Attempt.TheVariants.{Finished}
+use Rattle.eden_model.specs.declared.reply.Reply.TheVariants as say
 use Rattle.eden_ops.specs.Attempts.{Attempts, MeetsShown}
 use Rattle.eden_ops.specs.Keeping.{same}
 use Rattle.eden_ops.proofs.Answering.{first_ended, first_absent}
-use Rattle.eden_ops.proofs.TwoPaths.{moves, starts_rename, begins, plain_told, land_stopped, can_go, went, stayed, leaves_kept, leaves_moved}
+use Rattle.eden_ops.proofs.TwoPaths.{moves, starts_rename, begins, plain_told, land_stopped, can_go, went, stayed}
+use Rattle.eden_ops.proofs.Leaving.{leaves_kept, leaves_moved}
 use Rattle.eden_ops.proofs.Steps.{keeps_on}
 use Rattle.eden_ops.proofs.renaming.rename.Goals as goal
 
@@ -86,28 +89,29 @@ returns-in-Err-relocate-clause-attempts g c =
     stayed g.W.World g.F.Files c.args.from.now c.args.to.now s t c.args.cache.now c.meet.new.cache c.in-Ok-Some.seen c.is_dir-dir.result began c.in-None.ensures c.land.new.inodes c.land.new.cache l.same l.keeps l.cache c.relocate.new.inodes c.in-Err-relocate.fault x.fault x.err
 
 pub returns-then-is_root-clause-leaves : goal.returns-then-is_root-clause-leaves
-returns-then-is_root-clause-leaves g c = leaves_kept g.W.World g.F.Files c.args.from.now c.args.to.now c.args.inodes.now c.args.inodes.now _ same
+returns-then-is_root-clause-leaves g c = leaves_kept g.W.World g.F.Files c.args.inodes.now c.args.inodes.now same (ask.Rename c.args.from.now c.args.to.now) _
 
 pub returns-in-Err-clause-leaves : goal.returns-in-Err-clause-leaves
-returns-in-Err-clause-leaves g c = leaves_kept g.W.World g.F.Files c.args.from.now c.args.to.now c.args.inodes.now c.meet.new.inodes _ c.meet.ensures.keeps
+returns-in-Err-clause-leaves g c = leaves_kept g.W.World g.F.Files c.args.inodes.now c.meet.new.inodes c.meet.ensures.keeps (ask.Rename c.args.from.now c.args.to.now) _
 
 pub returns-in-Ok-None-clause-leaves : goal.returns-in-Ok-None-clause-leaves
-returns-in-Ok-None-clause-leaves g c = leaves_kept g.W.World g.F.Files c.args.from.now c.args.to.now c.args.inodes.now c.meet.new.inodes _ c.meet.ensures.keeps
+returns-in-Ok-None-clause-leaves g c = leaves_kept g.W.World g.F.Files c.args.inodes.now c.meet.new.inodes c.meet.ensures.keeps (ask.Rename c.args.from.now c.args.to.now) _
 
 pub returns-in-Some-clause-leaves : goal.returns-in-Some-clause-leaves
-returns-in-Some-clause-leaves g c = leaves_kept g.W.World g.F.Files c.args.from.now c.args.to.now c.args.inodes.now c.meet.new.inodes _ c.meet.ensures.keeps
+returns-in-Some-clause-leaves g c = leaves_kept g.W.World g.F.Files c.args.inodes.now c.meet.new.inodes c.meet.ensures.keeps (ask.Rename c.args.from.now c.args.to.now) _
 
 pub returns-in-Err-land-clause-leaves : goal.returns-in-Err-land-clause-leaves
-returns-in-Err-land-clause-leaves g c = leaves_kept g.W.World g.F.Files c.args.from.now c.args.to.now c.args.inodes.now c.land.new.inodes _ (keeps_on g.W.World g.F.Files c.args.inodes.now c.meet.new.inodes c.land.new.inodes c.meet.ensures.keeps c.land.ensures.keeps)
+returns-in-Err-land-clause-leaves g c =
+    leaves_kept g.W.World g.F.Files c.args.inodes.now c.land.new.inodes (keeps_on g.W.World g.F.Files c.args.inodes.now c.meet.new.inodes c.land.new.inodes c.meet.ensures.keeps c.land.ensures.keeps) (ask.Rename c.args.from.now c.args.to.now) _
 
 pub returns-in-Ok-relocate-clause-leaves : goal.returns-in-Ok-relocate-clause-leaves
 returns-in-Ok-relocate-clause-leaves g c =
     let x = c.in-Ok-relocate.ensures in
-    leaves_moved g.W.World g.F.Files c.args.from.now c.args.to.now c.args.inodes.now c.land.new.inodes _ (keeps_on g.W.World g.F.Files c.args.inodes.now c.meet.new.inodes c.land.new.inodes c.meet.ensures.keeps c.land.ensures.keeps)
-    c.relocate.new.inodes x.loaded x.root x.rest x.counted (λ fine. x.saved) x.marked
+    leaves_moved g.W.World g.F.Files c.args.inodes.now c.land.new.inodes (keeps_on g.W.World g.F.Files c.args.inodes.now c.meet.new.inodes c.land.new.inodes c.meet.ensures.keeps c.land.ensures.keeps)
+    c.relocate.new.inodes (Finished say.Ok) (λ e is. cc) c.args.from.now c.args.to.now x.loaded x.root x.rest x.counted (λ fine. x.saved) x.marked
 
 pub returns-in-Err-relocate-clause-leaves : goal.returns-in-Err-relocate-clause-leaves
 returns-in-Err-relocate-clause-leaves g c =
     let x = c.in-Err-relocate.ensures in
-    leaves_moved g.W.World g.F.Files c.args.from.now c.args.to.now c.args.inodes.now c.land.new.inodes _ (keeps_on g.W.World g.F.Files c.args.inodes.now c.meet.new.inodes c.land.new.inodes c.meet.ensures.keeps c.land.ensures.keeps)
-    c.relocate.new.inodes x.loaded x.root x.rest x.counted (λ fine. absurd (fine c.in-Err-relocate.fault refl)) x.marked
+    leaves_moved g.W.World g.F.Files c.args.inodes.now c.land.new.inodes (keeps_on g.W.World g.F.Files c.args.inodes.now c.meet.new.inodes c.land.new.inodes c.meet.ensures.keeps c.land.ensures.keeps)
+    c.relocate.new.inodes (Finished (say.Fault c.in-Err-relocate.fault)) (λ e is. cc) c.args.from.now c.args.to.now x.loaded x.root x.rest x.counted (λ fine. absurd (fine c.in-Err-relocate.fault refl)) x.marked

@@ -6,15 +6,16 @@ use Rattle.eden_model.specs.declared.request.Request.TheVariants as ask
 use Rattle.eden_model.specs.Operations.{truncated}
 use Rattle.eden_tie.specs.Filing.{content_shown}
 use Rattle.eden_model.specs.declared.attempt.Attempt.{Attempt}
+use Rattle.eden_model.specs.declared.attempt.Attempt.TheVariants.{Finished}
 use Rattle.eden_ops.specs.Attempts.{Attempts}
 use Rattle.eden_ops.specs.Keeping.{same}
 use Rattle.eden_ops.specs.Requests.{for_truncate}
 use Rattle.eden_ops.proofs.Fetching.{has_content}
-use Rattle.eden_ops.proofs.Filing.{file_tells, file_lacks, is_file, file_fills, file_refused, file_leaves}
+use Rattle.eden_ops.proofs.Filing.{file_tells, file_lacks, is_file, file_fills, file_refused}
 use Rattle.eden_ops.proofs.Filled.{truncates, asks_truncate, truncates_far, truncates_none, truncates_some, truncates_lost, truncated_none, truncated_some}
 use Rattle.eden_ops.proofs.Finding.{still_stocked, finds_same}
 use Rattle.eden_ops.proofs.Looking.{plain_other}
-use Rattle.eden_ops.proofs.Saving.{keeps_leaves}
+use Rattle.eden_ops.proofs.Leaving.{none_given, leaves_kept, leaves_changed}
 use Rattle.eden_ops.proofs.Steps.{keeps_on}
 use Rattle.eden_ops.proofs.writing.truncate.Goals as goal
 
@@ -83,7 +84,8 @@ returns-in-Err-make-clause-attempts g c =
     (file_lacks g.W.World g.F.Files p s t c.args.cache.now d c.in-Ok.seen e.file e.shown e.same e.keeps e.cache (ask.Truncate c.args.path.now c.args.size) (truncates c.args.size) (asks_truncate c.args.size c.args.path.now) c.make.new.inodes c.make.new.cache b.same b.keeps b.still b.cache (λ x is. cc) (λ k x is. cc) c.in-Err-make.stop (λ k a r plain none. truncates_lost c.args.size k a false plain (le-ltb 1073741824 c.args.size c.if-size-gt-MAX_FILE.false) (ne_eqb c.args.size 0 c.if-size-eq0.false) r none) c.in-Err-make.ensures.lacks)
 
 pub returns-in-Err-make-clause-leaves : goal.returns-in-Err-make-clause-leaves
-returns-in-Err-make-clause-leaves g c = keeps_leaves g.W.World g.F.Files c.args.inodes.now c.make.new.inodes (keeps_on g.W.World g.F.Files c.args.inodes.now c.meet_file.new.inodes c.make.new.inodes c.meet_file.ensures.keeps c.make.ensures.keeps)
+returns-in-Err-make-clause-leaves g c =
+    leaves_kept g.W.World g.F.Files c.args.inodes.now c.make.new.inodes (keeps_on g.W.World g.F.Files c.args.inodes.now c.meet_file.new.inodes c.make.new.inodes c.meet_file.ensures.keeps c.make.ensures.keeps) (ask.Truncate c.args.path.now c.args.size) _
 
 pub returns-in-Ok-fill-2-clause-attempts : goal.returns-in-Ok-fill-2-clause-attempts
 returns-in-Ok-fill-2-clause-attempts g c =
@@ -110,45 +112,27 @@ returns-clause-attempts g c =
     file_refused g.W.World g.F.Files p s t c.args.cache.now d c.in-Ok.seen e.file e.shown e.same e.keeps e.cache (ask.Truncate c.args.path.now c.args.size) (truncates c.args.size) (asks_truncate c.args.size c.args.path.now) c.make.new.inodes c.make.new.cache b.same b.keeps b.still b.cache c.fill-2.new.inodes c.in-Err-fill-2.fault x.fault (λ y is. cc) x.unseen
 
 pub returns-in-Err-clause-leaves : goal.returns-in-Err-clause-leaves
-returns-in-Err-clause-leaves g c = keeps_leaves g.W.World g.F.Files c.args.inodes.now c.meet_file.new.inodes c.meet_file.ensures.keeps
+returns-in-Err-clause-leaves g c = leaves_kept g.W.World g.F.Files c.args.inodes.now c.meet_file.new.inodes c.meet_file.ensures.keeps (ask.Truncate c.args.path.now c.args.size) _
 
 pub returns-then-size-gt-MAX_FILE-clause-leaves : goal.returns-then-size-gt-MAX_FILE-clause-leaves
-returns-then-size-gt-MAX_FILE-clause-leaves g c = keeps_leaves g.W.World g.F.Files c.args.inodes.now c.meet_file.new.inodes c.meet_file.ensures.keeps
+returns-then-size-gt-MAX_FILE-clause-leaves g c = leaves_kept g.W.World g.F.Files c.args.inodes.now c.meet_file.new.inodes c.meet_file.ensures.keeps (ask.Truncate c.args.path.now c.args.size) _
 
 pub returns-in-Ok-fill-clause-leaves : goal.returns-in-Ok-fill-clause-leaves
 returns-in-Ok-fill-clause-leaves g c =
-    let p = c.args.path.now in
-    let s = c.args.inodes.now in
-    let t = c.meet_file.new.inodes in
-    let d = c.meet_file.new.cache in
-    let e = c.in-Ok.ensures in
-    file_leaves g.W.World g.F.Files p s t c.args.cache.now d c.in-Ok.seen e.file e.shown e.same e.keeps e.cache (ask.Truncate c.args.path.now c.args.size) (truncates c.args.size) (asks_truncate c.args.size c.args.path.now) t d (λ h. refl) same refl (finds_same d) c.fill.new.inodes c.fill.ensures.leaves
+    leaves_changed g.W.World g.F.Files c.args.inodes.now c.meet_file.new.inodes c.meet_file.ensures.keeps
+    c.fill.new.inodes (Finished say.Ok) (λ e is. cc) (ask.Truncate c.args.path.now c.args.size) c.fill.ensures.leaves (none_given c.meet_file.new.inodes.next c.fill.new.inodes.next 0 c.fill.ensures.next)
 
 pub returns-in-Err-fill-clause-leaves : goal.returns-in-Err-fill-clause-leaves
 returns-in-Err-fill-clause-leaves g c =
-    let p = c.args.path.now in
-    let s = c.args.inodes.now in
-    let t = c.meet_file.new.inodes in
-    let d = c.meet_file.new.cache in
-    let e = c.in-Ok.ensures in
-    file_leaves g.W.World g.F.Files p s t c.args.cache.now d c.in-Ok.seen e.file e.shown e.same e.keeps e.cache (ask.Truncate c.args.path.now c.args.size) (truncates c.args.size) (asks_truncate c.args.size c.args.path.now) t d (λ h. refl) same refl (finds_same d) c.fill.new.inodes c.fill.ensures.leaves
+    leaves_changed g.W.World g.F.Files c.args.inodes.now c.meet_file.new.inodes c.meet_file.ensures.keeps
+    c.fill.new.inodes (Finished (say.Fault c.in-Err-fill.fault)) (λ e is. cc) (ask.Truncate c.args.path.now c.args.size) c.fill.ensures.leaves (none_given c.meet_file.new.inodes.next c.fill.new.inodes.next 0 c.fill.ensures.next)
 
 pub returns-in-Ok-fill-2-clause-leaves : goal.returns-in-Ok-fill-2-clause-leaves
 returns-in-Ok-fill-2-clause-leaves g c =
-    let p = c.args.path.now in
-    let s = c.args.inodes.now in
-    let t = c.meet_file.new.inodes in
-    let d = c.meet_file.new.cache in
-    let e = c.in-Ok.ensures in
-    let b = c.make.ensures in
-    file_leaves g.W.World g.F.Files p s t c.args.cache.now d c.in-Ok.seen e.file e.shown e.same e.keeps e.cache (ask.Truncate c.args.path.now c.args.size) (truncates c.args.size) (asks_truncate c.args.size c.args.path.now) c.make.new.inodes c.make.new.cache b.same b.keeps b.still b.cache c.fill-2.new.inodes c.fill-2.ensures.leaves
+    leaves_changed g.W.World g.F.Files c.args.inodes.now c.make.new.inodes (keeps_on g.W.World g.F.Files c.args.inodes.now c.meet_file.new.inodes c.make.new.inodes c.meet_file.ensures.keeps c.make.ensures.keeps)
+    c.fill-2.new.inodes (Finished say.Ok) (λ e is. cc) (ask.Truncate c.args.path.now c.args.size) c.fill-2.ensures.leaves (none_given c.make.new.inodes.next c.fill-2.new.inodes.next 0 c.fill-2.ensures.next)
 
 pub returns-clause-leaves : goal.returns-clause-leaves
 returns-clause-leaves g c =
-    let p = c.args.path.now in
-    let s = c.args.inodes.now in
-    let t = c.meet_file.new.inodes in
-    let d = c.meet_file.new.cache in
-    let e = c.in-Ok.ensures in
-    let b = c.make.ensures in
-    file_leaves g.W.World g.F.Files p s t c.args.cache.now d c.in-Ok.seen e.file e.shown e.same e.keeps e.cache (ask.Truncate c.args.path.now c.args.size) (truncates c.args.size) (asks_truncate c.args.size c.args.path.now) c.make.new.inodes c.make.new.cache b.same b.keeps b.still b.cache c.fill-2.new.inodes c.fill-2.ensures.leaves
+    leaves_changed g.W.World g.F.Files c.args.inodes.now c.make.new.inodes (keeps_on g.W.World g.F.Files c.args.inodes.now c.meet_file.new.inodes c.make.new.inodes c.meet_file.ensures.keeps c.make.ensures.keeps)
+    c.fill-2.new.inodes (Finished (say.Fault c.in-Err-fill-2.fault)) (λ e is. cc) (ask.Truncate c.args.path.now c.args.size) c.fill-2.ensures.leaves (none_given c.make.new.inodes.next c.fill-2.new.inodes.next 0 c.fill-2.ensures.next)

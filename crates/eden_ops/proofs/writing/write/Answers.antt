@@ -7,14 +7,16 @@ use Rattle.eden_model.specs.declared.request.Request.TheVariants as ask
 use Rattle.eden_model.specs.Operations.{written}
 use Rattle.eden_tie.specs.Filing.{content_shown}
 use Rattle.eden_model.specs.declared.attempt.Attempt.{Attempt}
+use Rattle.eden_model.specs.declared.attempt.Attempt.TheVariants.{Finished}
 use Rattle.eden_ops.specs.Attempts.{Attempts}
+use Rattle.eden_ops.specs.Keeping.{same}
 use Rattle.eden_ops.specs.Requests.{for_write}
 use Rattle.eden_ops.proofs.Fetching.{has_content}
-use Rattle.eden_ops.proofs.Filing.{file_tells, file_lacks, is_file, file_fills, file_refused, file_leaves}
+use Rattle.eden_ops.proofs.Filing.{file_tells, file_lacks, is_file, file_fills, file_refused}
 use Rattle.eden_ops.proofs.Filled.{writes, asks_write, writes_none, writes_far, writes_some, writes_lost, writes_nothing}
 use Rattle.eden_ops.proofs.Finding.{still_stocked}
 use Rattle.eden_ops.proofs.Looking.{plain_other}
-use Rattle.eden_ops.proofs.Saving.{keeps_leaves}
+use Rattle.eden_ops.proofs.Leaving.{none_given, leaves_kept, leaves_changed}
 use Rattle.eden_ops.proofs.Steps.{keeps_on}
 use Rattle.eden_ops.proofs.writing.write.Goals as goal
 
@@ -69,7 +71,8 @@ returns-in-Err-make-clause-attempts g c =
     (file_lacks g.W.World g.F.Files p s t c.args.cache.now d c.in-Ok.seen e.file e.shown e.same e.keeps e.cache (ask.Write c.args.path.now c.args.offset c.args.bytes.now) (writes c.args.offset c.args.bytes.now) (asks_write c.args.offset c.args.bytes.now c.args.path.now (le-ltb 65536 (length c.args.bytes.now) c.if-count-gt-MAX_DATA.false)) c.make.new.inodes c.make.new.cache b.same b.keeps b.still b.cache (λ x is. cc) (λ k x is. cc) c.in-Err-make.stop (λ k a r plain none. writes_lost c.args.offset c.args.bytes.now k a false plain (ne_eqb (length c.args.bytes.now) 0 c.if-count-eq0.false) (le-ltb 1073741824 (c.args.offset + length c.args.bytes.now) (within c.args.offset (length c.args.bytes.now) c.if-count-gt-MAX_DATA.false c.if-offset-count.false)) r none) c.in-Err-make.ensures.lacks)
 
 pub returns-in-Err-make-clause-leaves : goal.returns-in-Err-make-clause-leaves
-returns-in-Err-make-clause-leaves g c = keeps_leaves g.W.World g.F.Files c.args.inodes.now c.make.new.inodes (keeps_on g.W.World g.F.Files c.args.inodes.now c.meet_file.new.inodes c.make.new.inodes c.meet_file.ensures.keeps c.make.ensures.keeps)
+returns-in-Err-make-clause-leaves g c =
+    leaves_kept g.W.World g.F.Files c.args.inodes.now c.make.new.inodes (keeps_on g.W.World g.F.Files c.args.inodes.now c.meet_file.new.inodes c.make.new.inodes c.meet_file.ensures.keeps c.make.ensures.keeps) (ask.Write c.args.path.now c.args.offset c.args.bytes.now) _
 
 pub fill-requires-clause-there : goal.fill-requires-clause-there
 fill-requires-clause-there g c =
@@ -106,30 +109,23 @@ returns-clause-attempts g c =
     file_refused g.W.World g.F.Files p s t c.args.cache.now d c.in-Ok.seen e.file e.shown e.same e.keeps e.cache (ask.Write c.args.path.now c.args.offset c.args.bytes.now) (writes c.args.offset c.args.bytes.now) (asks_write c.args.offset c.args.bytes.now c.args.path.now (le-ltb 65536 (length c.args.bytes.now) c.if-count-gt-MAX_DATA.false)) c.make.new.inodes c.make.new.cache b.same b.keeps b.still b.cache c.fill.new.inodes c.in-Err-fill.fault x.fault (λ y is. cc) x.unseen
 
 pub returns-in-Err-clause-leaves : goal.returns-in-Err-clause-leaves
-returns-in-Err-clause-leaves g c = keeps_leaves g.W.World g.F.Files c.args.inodes.now c.meet_file.new.inodes c.meet_file.ensures.keeps
+returns-in-Err-clause-leaves g c = leaves_kept g.W.World g.F.Files c.args.inodes.now c.meet_file.new.inodes c.meet_file.ensures.keeps (ask.Write c.args.path.now c.args.offset c.args.bytes.now) _
 
 pub returns-then-count-eq0-clause-leaves : goal.returns-then-count-eq0-clause-leaves
-returns-then-count-eq0-clause-leaves g c = keeps_leaves g.W.World g.F.Files c.args.inodes.now c.meet_file.new.inodes c.meet_file.ensures.keeps
+returns-then-count-eq0-clause-leaves g c = leaves_kept g.W.World g.F.Files c.args.inodes.now c.meet_file.new.inodes c.meet_file.ensures.keeps (ask.Write c.args.path.now c.args.offset c.args.bytes.now) _
 
 pub returns-then-offset-count-clause-leaves : goal.returns-then-offset-count-clause-leaves
-returns-then-offset-count-clause-leaves g c = keeps_leaves g.W.World g.F.Files c.args.inodes.now c.meet_file.new.inodes c.meet_file.ensures.keeps
+returns-then-offset-count-clause-leaves g c = leaves_kept g.W.World g.F.Files c.args.inodes.now c.meet_file.new.inodes c.meet_file.ensures.keeps (ask.Write c.args.path.now c.args.offset c.args.bytes.now) _
 
 pub returns-in-Ok-fill-clause-leaves : goal.returns-in-Ok-fill-clause-leaves
 returns-in-Ok-fill-clause-leaves g c =
-    let p = c.args.path.now in
-    let s = c.args.inodes.now in
-    let t = c.meet_file.new.inodes in
-    let d = c.meet_file.new.cache in
-    let e = c.in-Ok.ensures in
-    let b = c.make.ensures in
-    file_leaves g.W.World g.F.Files p s t c.args.cache.now d c.in-Ok.seen e.file e.shown e.same e.keeps e.cache (ask.Write c.args.path.now c.args.offset c.args.bytes.now) (writes c.args.offset c.args.bytes.now) (asks_write c.args.offset c.args.bytes.now c.args.path.now (le-ltb 65536 (length c.args.bytes.now) c.if-count-gt-MAX_DATA.false)) c.make.new.inodes c.make.new.cache b.same b.keeps b.still b.cache c.fill.new.inodes c.fill.ensures.leaves
+    leaves_changed g.W.World g.F.Files c.args.inodes.now c.make.new.inodes (keeps_on g.W.World g.F.Files c.args.inodes.now c.meet_file.new.inodes c.make.new.inodes c.meet_file.ensures.keeps c.make.ensures.keeps)
+    c.fill.new.inodes (Finished (say.Count (length c.args.bytes.now))) (λ e is. cc) (ask.Write c.args.path.now c.args.offset c.args.bytes.now) c.fill.ensures.leaves (none_given c.make.new.inodes.next c.fill.new.inodes.next 0 c.fill.ensures.next)
 
 pub returns-clause-leaves : goal.returns-clause-leaves
 returns-clause-leaves g c =
-    let p = c.args.path.now in
-    let s = c.args.inodes.now in
-    let t = c.meet_file.new.inodes in
-    let d = c.meet_file.new.cache in
-    let e = c.in-Ok.ensures in
-    let b = c.make.ensures in
-    file_leaves g.W.World g.F.Files p s t c.args.cache.now d c.in-Ok.seen e.file e.shown e.same e.keeps e.cache (ask.Write c.args.path.now c.args.offset c.args.bytes.now) (writes c.args.offset c.args.bytes.now) (asks_write c.args.offset c.args.bytes.now c.args.path.now (le-ltb 65536 (length c.args.bytes.now) c.if-count-gt-MAX_DATA.false)) c.make.new.inodes c.make.new.cache b.same b.keeps b.still b.cache c.fill.new.inodes c.fill.ensures.leaves
+    leaves_changed g.W.World g.F.Files c.args.inodes.now c.make.new.inodes (keeps_on g.W.World g.F.Files c.args.inodes.now c.meet_file.new.inodes c.make.new.inodes c.meet_file.ensures.keeps c.make.ensures.keeps)
+    c.fill.new.inodes (Finished (say.Fault c.in-Err-fill.fault)) (λ e is. cc) (ask.Write c.args.path.now c.args.offset c.args.bytes.now) c.fill.ensures.leaves (none_given c.make.new.inodes.next c.fill.new.inodes.next 0 c.fill.ensures.next)
+
+pub returns-then-count-gt-MAX_DATA-clause-leaves : goal.returns-then-count-gt-MAX_DATA-clause-leaves
+returns-then-count-gt-MAX_DATA-clause-leaves g c = leaves_kept g.W.World g.F.Files c.args.inodes.now c.args.inodes.now same (ask.Write c.args.path.now c.args.offset c.args.bytes.now) _

@@ -1,5 +1,3 @@
-//! Whether two replies are one.
-
 use eden_model::{Kind, Name, Reply};
 
 fn are_same(one: &[(Name, Kind)], other: &[(Name, Kind)]) -> bool {
@@ -11,7 +9,8 @@ fn are_same(one: &[(Name, Kind)], other: &[(Name, Kind)]) -> bool {
     one.len() == other.len()
 }
 
-pub(crate) fn is_same(one: &Reply, other: &Reply) -> bool {
+/// Whether two replies are one.
+pub fn is_same(one: &Reply, other: &Reply) -> bool {
     match (one, other) {
         (Reply::Ok, Reply::Ok) => true,
         (Reply::Kind(kind), Reply::Kind(wanted)) => kind == wanted,

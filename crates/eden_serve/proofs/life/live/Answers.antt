@@ -1,0 +1,41 @@
+use Rattle.std.proofs.Common.{◌≡◌, ◌∙◌, Result, sym, ap, subst}
+use Rattle.eden_model.specs.Histories.{replay}
+use Rattle.eden_mount.specs.Core.{Core}
+use Rattle.eden_mount.specs.Settings.{Room}
+use Rattle.eden_checkout.specs.Checkouts.{Checkout}
+use Rattle.eden_wire.specs.Serving.{Known}
+use Rattle.eden_serve.specs.declared.fault.LifeFault.{LifeFault}
+use Rattle.eden_serve.specs.Lives.{LivesBy, IsLived}
+use Rattle.eden_serve.specs.Opening.{IsOpened}
+use Rattle.eden_serve.specs.Serving.{Begins}
+use Rattle.eden_serve.proofs.Living.{closes_after, lived}
+use Rattle.eden_serve.proofs.life.live.Goals as goal
+
+pub returns-in-Ok : goal.returns-in-Ok
+returns-in-Ok g c =
+    let w = g.W.World in
+    let f = g.F.Files in
+    let settings = c.args.config.now in
+    let input : Known × Known = (g.R.Read.remaining c.args.reader.now, g.R.Read.remaining c.serve_table-served.new.reader) in
+    let output : Known × Known = (g.O.Write.contents c.args.writer.now, g.O.Write.contents c.serve_table-served.new.writer) in
+    let left = c.end.result in
+    let x = c.serve_table-served.result in
+    let s = c.serve_table-served.ensures in
+    let table : s.begun.core.table ≡ c.in-Ok.table = ap (λ (m : Core _). m.table) s.begins.core in
+    let whole : IsLived w f g.S.Source.fetched c.args.root settings c.args.backing input output left = record {
+      begun = s.begun;
+      begins = subst (λ (r : Room). Begins r s.begun.core.table c.args.backing.source s.begun) c.in-Ok.ensures.room
+          (subst (λ (t : Checkout _). Begins c.in-Ok.room t c.args.backing.source s.begun) (sym table) s.begins);
+      opened = subst (λ (t : Checkout _). IsOpened w f c.args.root settings c.args.backing.files t) (sym table) c.in-Ok.ensures.opened;
+      ended = s.ended;
+      said = x.said;
+      session = s.session;
+      legal = s.legal;
+      ends = record {
+        files = closes_after w f x.table s.ended.core.table (replay w.opening s.ended.core.history) s.table s.shown left.unclosed left.backing.files c.end.ensures.files;
+        source_left = c.end.ensures.source_left ∙ s.source;
+        told = c.end.ensures.told;
+      };
+    } in
+    subst (λ (o : Result (Unit {0}) LifeFault). LivesBy w f g.S.Source.fetched o c.args.root settings c.args.backing input output left) (sym c.end.ensures.told)
+    (lived w f g.S.Source.fetched c.args.root settings c.args.backing input output left x.said left.unclosed whole)

@@ -1,0 +1,24 @@
+use Rattle.std.proofs.Common.{◌≡◌, ◌∙◌, sym, ap, subst}
+use Rattle.eden_model.specs.Histories.{Legal, replay}
+use Rattle.eden_mount.specs.Core.{Core}
+use Rattle.eden_mount.specs.Serving.{Desk, IsAtRest}
+use Rattle.eden_serve.proofs.serving.serve_table.Goals as goal
+
+pub returns : goal.returns
+returns g c =
+    let first : c.new-caller.result.core ≡ c.new-mount.result = ap (λ (d : Desk _ _). d.core) c.new-caller.ensures ∙ c.new.ensures.mount in
+    let last : c.into_parts-mount.result.0 ≡ c.serve-said.new.caller.core = c.into_parts-mount.ensures.mount ∙ ap (λ (d : Desk _ _). d.core) c.into_local.ensures in
+    record {
+      begun = c.new-caller.result;
+      begins = record {
+        core = first ∙ c.new-mount.ensures.value;
+        source = ap (λ (d : Desk _ _). d.source) c.new-caller.ensures ∙ c.new.ensures.source;
+        rest = subst (λ (m : Core _). IsAtRest m) (sym first) c.new-mount.ensures.rest;
+      };
+      ended = c.serve-said.new.caller;
+      session = c.serve-said.ensures;
+      legal = λ h. subst (λ (m : Core _). Legal g.W.World.opening m.history) last (c.holds.ensures.legal h);
+      shown = λ h. subst (λ (m : Core _). g.T.Attempts.table.shown m.table ≡ replay g.W.World.opening m.history) last (c.holds.ensures.shown h);
+      table = c.into_table.ensures ∙ ap (λ (m : Core _). m.table) last;
+      source = c.into_parts-mount.ensures.source ∙ ap (λ (d : Desk _ _). d.source) c.into_local.ensures;
+    }

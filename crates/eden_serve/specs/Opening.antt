@@ -1,0 +1,45 @@
+-- How a checkout is opened over an overlay with a mount's settings, and closed to it.
+use Rattle.std.specs.Prelude.{◌≡◌}
+use Rattle.eden_model.specs.declared.id.Id.{Id}
+use Rattle.eden_model.specs.declared.world.World.{Ghosts}
+use Rattle.eden_model.specs.Failures.{Rose}
+use Rattle.eden_model.specs.Trees.{Tree}
+use Rattle.eden_cache.specs.Cache.{empty}
+use Rattle.eden_overlay.specs.declared.files.Files.{Ghosts as Files}
+use Rattle.eden_overlay.specs.declared.files.FilesFault.{FilesFault}
+use Rattle.eden_overlay.specs.declared.files.FilesFault.TheVariants as fault
+use Rattle.eden_overlay.specs.Held.{HoldsState}
+use Rattle.eden_ops.specs.Keeping.{shows}
+use Rattle.eden_mount.specs.Settings.{Settings}
+use Rattle.eden_checkout.specs.declared.fault.OpenFault.{OpenFault}
+use Rattle.eden_checkout.specs.Checkouts.{Checkout}
+use Rattle.eden_checkout.specs.Opening.{CanOpen, StartsAt, IsOpenFault}
+
+module _ {W F : Type 0} (w : Ghosts W) (f : Files F W) where
+  -- The files were opened on that commit's tree, with the settings' cache, in which nothing is yet. Where the outside is
+  -- honest the checkout shows the opening tree.
+  pub record IsOpened (root : Id) (settings : Settings) (files : F) (t : Checkout F) : Type 0 where
+    pub commit : t.root ≡ root
+    pub cache : t.cache ≡ empty settings.entries settings.bytes settings.sizes
+    pub next : w.honest → StartsAt (f.stored files) root t.inodes.next
+    pub shown : w.honest → shows w f t.inodes ≡ w.opening
+
+  -- the files weren't opened, for that fault, and are as they were
+  pub record IsRefused (root : Id) (files : F) (fault : OpenFault) (left : F) : Type 0 where
+    pub why : IsOpenFault w.honest root (f.stored files) (f.failures files) (f.failures left) fault
+    pub unchanged : w.honest → f.stored left ≡ f.stored files
+
+  -- The files that a checkout was closed to hold its state. Where the outside is honest they can be opened again on the
+  -- same commit's tree, and show this tree.
+  pub record IsClosed (t : Checkout F) (tree : Tree) (files : F) : Type 0 where
+    pub state : w.honest → HoldsState (f.stored files) (record { root = t.root; next = t.inodes.next })
+    pub opens : w.honest → CanOpen w.repository tree t.root (f.stored files)
+
+  -- The checkout wasn't closed, for that fault. It is then another, over these files, which shows this tree still.
+  pub record StaysOpen (t : Checkout F) (tree : Tree) (why : FilesFault) (files : F) : Type 0 where
+    pub left : Checkout F
+    pub over : files ≡ left.inodes.files
+    pub shown : w.honest → shows w f left.inodes ≡ tree
+    pub commit : left.root ≡ t.root
+    pub next : left.inodes.next ≡ t.inodes.next
+    pub device : why ≡ fault.Device → Rose (f.failures t.inodes.files) (f.failures files)

@@ -1,0 +1,59 @@
+//! A commit's checkout opened over an overlay, with the room of a mount.
+ghost use Rattle.std.specs.Prelude.{◌≡◌, IfOk, IfErr};
+ghost use Rattle.eden_cache.specs.Cache.{empty};
+ghost use Rattle.eden_mount.specs.Settings.{room_for};
+ghost use Rattle.eden_checkout.specs.Opening.{CanOpen};
+ghost use Rattle.eden_serve.specs.Opening.{IsOpened, IsRefused};
+
+use eden_cache::ObjectCache;
+use eden_checkout::{Checkout, OpenFault};
+use eden_model::{Id, World};
+use eden_mount::{Config, Room};
+use eden_overlay::Files;
+use std::alloc::{AllocError, Allocator, Global};
+
+/// What a mount of these settings needs of memory before an overlay is opened.
+fn room<A: Allocator + Clone>(
+    alloc: Global,
+    memory: &A,
+    config: &Config,
+) -> Result<(Room<A>, ObjectCache<A>), AllocError>
+    ensures room { IfOk result (λ r. r.0 ≡ room_for config.now) }
+    ensures cache { IfOk result (λ r. r.1 ≡ empty config.now.entries config.now.bytes config.now.sizes) }
+{
+    config.holds();
+    let cache = ObjectCache::new(
+        memory.clone()?,
+        config.entries(),
+        config.bytes(),
+        config.sizes(),
+    )?;
+    let room = Room::new(alloc, memory.clone()?, config)?;
+    Ok((room, cache))
+}
+
+/// Opens an overlay over a commit's tree, for a mount of these settings. Memory for its queue, its seats and the cache is
+/// made first, so that the state among the files is removed only once nothing more can be refused. What is queued,
+/// cached and loaded lies in `memory`.
+///
+/// Errors: those of `Checkout::open`, and `Memory`. The files come back as they were.
+pub fn open<W: World, A: Allocator + Clone, F: Files<W>>(
+    alloc: Global,
+    memory: A,
+    files: F,
+    root: Id,
+    config: &Config,
+) -> Result<(Room<A>, Checkout<A, W, F>), (OpenFault, F)>
+    requires files { W.honest → CanOpen W.repository W.opening root (F.stored files) }
+    ensures room { IfOk result (λ o. o.0 ≡ room_for config.now) }
+    ensures opened { IfOk result (λ o. IsOpened W.World F.Files root config.now files o.1) }
+    ensures refused { IfErr result (λ e. IsRefused W.World F.Files root files e.0 e.1) }
+{
+    let Ok((room, cache)) = room(alloc, &memory, config) else {
+        return Err((OpenFault::Memory, files));
+    };
+    match Checkout::open(alloc, memory, files, root, cache) {
+        Err(refused) => Err(refused),
+        Ok(checkout) => Ok((room, checkout)),
+    }
+}

@@ -1,0 +1,19 @@
+use Rattle.std.proofs.Common.{◌≡◌, ◌∙◌, ap, subst, IfOk, [], ◌∷◌, codes}
+use Rattle.clap.specs.Words.{Shape, shape_of}
+use Rattle.mountd.specs.Grammar.{optional, with_options}
+use Rattle.mountd.specs.Numbers.{number_name}
+use Rattle.mountd.specs.declared.numbers.NumberOption.TheVariants.{History, CacheEntries, CacheBytes}
+use Rattle.mountd.proofs.options.with_mount_options.Goals as goal
+
+pub returns-clause-shape : goal.returns-clause-shape
+returns-clause-shape c =
+    let overlay = optional (codes "overlay") in
+    let history = optional (number_name History) in
+    let entries = optional (number_name CacheEntries) in
+    let bytes = optional (number_name CacheBytes) in
+    let two : shape_of c.in_ok-line-2.line ≡ with_options (shape_of c.args.line) (overlay ∷ history ∷ []) =
+    c.in_ok-line-2.ensures.shape ∙ ap (λ s. with_options s (history ∷ [])) c.in_ok-line.ensures.shape in
+    let three : shape_of c.in_ok-line-3.line ≡ with_options (shape_of c.args.line) (overlay ∷ history ∷ entries ∷ []) =
+    c.in_ok-line-3.ensures.shape ∙ ap (λ s. with_options s (entries ∷ [])) two in
+    let P : Shape → Type 0 = λ s. IfOk c.with_optional-4.result (λ more. shape_of more ≡ with_options s (bytes ∷ [])) in
+    subst P three c.with_optional-4.ensures.shape

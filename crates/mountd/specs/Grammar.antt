@@ -1,0 +1,61 @@
+-- Command lines of a program with subcommands, whose options each take one value, in the words of `clap`'s grammar.
+use Rattle.std.specs.Prelude.{◌≡◌, ◌⊎◌, ⊤, Bool, true, false, List, [], ◌∷◌, ◌++◌, map, Option, Some, None, is_some, if◌then◌else◌}
+use Rattle.std.specs.Str.{bytes_eq}
+use Rattle.clap.specs.Words.{App, Row, Rule, Shape, Text, first_of, new_rule}
+use Rattle.clap.specs.Simple.{new_shape}
+
+-- `--NAME VALUE`, which must be given or may be left out
+pub data LineOption : Type 0 where
+  required : Text → LineOption
+  optional : Text → LineOption
+
+abbrev pub name_of : LineOption → Text
+name_of (required name) = name
+name_of (optional name) = name
+
+abbrev pub is_required : LineOption → Bool
+is_required (required name) = true
+is_required (optional name) = false
+
+abbrev pub option_rule : LineOption → Rule
+option_rule option = record (new_rule (name_of option)) {
+  long = Some (name_of option);
+  value_names = 1;
+  required = is_required option;
+}
+
+-- a name, and the options that may follow it
+abbrev pub Subcommand : Type 0
+Subcommand = Text × List LineOption
+
+abbrev pub subcommand_shape : Subcommand → Shape
+subcommand_shape subcommand = record (new_shape subcommand.0) { rules = map option_rule subcommand.1 }
+
+-- the same with more options
+abbrev pub with_options : Shape → List LineOption → Shape
+with_options shape [] = shape
+with_options shape (option ∷ rest) = with_options (record shape { rules = shape.rules ++ option_rule option ∷ [] }) rest
+
+-- the program of this name, which wants one of its subcommands
+abbrev pub program : Text → List Subcommand → App
+program name subcommands = record {
+  top = record (new_shape name) { is_leaf = false; subcommand_required = true };
+  subs = map subcommand_shape subcommands;
+}
+
+-- the value of an option, where the subcommand that was met has this name
+abbrev pub value_in : Text → Option (Text × List Row) → Text → Option Text
+value_in subcommand None option = None
+value_in subcommand (Some met) option = if bytes_eq met.0 subcommand then first_of option met.1 else None
+
+-- each option that must be given has a value
+abbrev pub HasRequired : List LineOption → List Row → Type 0
+HasRequired [] rows = ⊤
+HasRequired (required name ∷ rest) rows = (is_some (first_of name rows) ≡ true) × HasRequired rest rows
+HasRequired (optional name ∷ rest) rows = HasRequired rest rows
+
+-- one of the subcommands was met, with each option that it requires
+abbrev pub Meets : List Subcommand → Option (Text × List Row) → Type 0
+Meets [] met = ⊥
+Meets (subcommand ∷ rest) met =
+    ((rows : List Row) × (met ≡ Some (subcommand.0, rows)) × HasRequired subcommand.1 rows) ⊎ Meets rest met
