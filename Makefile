@@ -19,9 +19,9 @@ test: ## proves everything from nothing, and runs every test; its last line coun
 	tests/exporter
 	tests/end-to-end
 
-soak: ## a million random requests: the slow oracle beside the second table of operations, and attempts beside the slow oracle
+soak: ## a million random requests: the slow oracle beside the second table of operations, attempts beside the slow oracle, and events on mounts
 	tests/oracle 1000000
-	scripts/soak-attempts
+	scripts/soak-rows
 
 bench: ## times the work that grows with its input, at full size
 	@cd crates/eden_bench && rt run -- tree 1000000 timed

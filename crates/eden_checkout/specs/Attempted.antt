@@ -13,9 +13,10 @@ use Rattle.eden_tie.specs.Unloading.{Unloads}
 use Rattle.eden_mount.specs.Tables.{Table}
 use Rattle.eden_ops.specs.Attempts.{IsRealNeed, Attempts}
 use Rattle.eden_ops.specs.Caches.{object_at}
-use Rattle.eden_ops.specs.Keeping.{shows}
+use Rattle.eden_ops.specs.Keeping.{shows, Keeps}
 use Rattle.eden_ops.specs.Leaving.{LeavesAfter}
 use Rattle.eden_ops.specs.Left.{left}
+use Rattle.eden_ops.specs.Looks.{IsLook}
 use Rattle.eden_checkout.specs.Checkouts.{Checkout}
 
 module _ {W F : Type 0} (w : Ghosts W) (f : Files F W) where
@@ -23,10 +24,11 @@ module _ {W F : Type 0} (w : Ghosts W) (f : Files F W) where
   abbrev pub IsTicked : Checkout F → Checkout F → Type 0
   IsTicked s t = t ≡ record s { inodes = record s.inodes { clock = min (s.inodes.clock + 1) (2 ^ 64 - 1) } }
 
-  -- an attempt, as the table's and the cache's
+  -- an attempt, as the table's and the cache's; a look changes nothing, but that directories are loaded on the way
   pub record IsTried (s : Checkout F) (q : Request) (a : Attempt) (t : Checkout F) : Type 0 where
     pub attempts : Attempts w f q s.inodes t.inodes s.cache t.cache a
     pub leaves : LeavesAfter w f q s.inodes t.inodes a
+    pub looks : IsLook q → Keeps w f s.inodes t.inodes
     pub root : t.root ≡ s.root
 
   -- the object is cached, and what is loaded stays as it is

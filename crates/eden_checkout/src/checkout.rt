@@ -47,7 +47,7 @@ impl<A: Allocator + Clone, W: World, F: Files<W>> Model for Checkout<A, W, F> {
 impl<A: Allocator + Clone, W: World, F: Files<W>> Checkout<A, W, F> {
     /// Opens an overlay over a commit's tree, with a cache in which nothing is yet. Over no files nothing has changed since
     /// the commit; else they are those that a checkout of the same commit was closed to, and the state among them is removed
-    /// as the last act.
+    /// as the last act. An own content stays in memory if it has at most as many bytes as the cache may hold.
     ///
     /// Errors: `NotClean` where there are files and no state, `OtherRoot`, `Damaged` of the state alone, `Device` and
     /// `Memory`. The files come back as they were.
@@ -67,7 +67,7 @@ impl<A: Allocator + Clone, W: World, F: Files<W>> Checkout<A, W, F> {
         ensures fault { IfErr result (λ e. IsOpenFault W.honest root (F.stored files) (F.failures files) (F.failures e.1) e.0) }
         ensures unchanged { W.honest → IfErr result (λ e. F.stored e.1 ≡ F.stored files) }
     {
-        let mut overlay = Overlay::new(files);
+        let mut overlay = Overlay::new(files).keeping(cache.most_bytes());
         match begin(alloc, &mut overlay, root) {
             Err(fault) => Err((fault, overlay.into_files())),
             Ok(Start { origin, next }) => Ok(Checkout {

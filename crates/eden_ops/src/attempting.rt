@@ -1,8 +1,9 @@
 //! One attempt of any request.
 ghost use Rattle.eden_ops.specs.Attempts.{Attempts};
 ghost use Rattle.eden_ops.specs.Caches.{IsStocked};
+ghost use Rattle.eden_ops.specs.Keeping.{Keeps};
 ghost use Rattle.eden_ops.specs.Leaving.{LeavesAfter};
-ghost use Rattle.eden_ops.specs.Looks.{IsChange};
+ghost use Rattle.eden_ops.specs.Looks.{IsLook, IsChange};
 
 use crate::adding::{create, mkdir, symlink};
 use crate::emptied::rmdir;
@@ -61,6 +62,7 @@ pub fn attempt<A: Allocator + Clone, W: World, F: Files<W>, C: Allocator + Clone
     requires { IsStocked W.repository W.honest cache.old }
     ensures attempts { Attempts W.World F.Files request.now inodes.old inodes.new cache.old cache.new result }
     ensures leaves { LeavesAfter W.World F.Files request.now inodes.old inodes.new result }
+    ensures looks { IsLook request.now → Keeps W.World F.Files inodes.old inodes.new }
 {
     keeps_laws::<W, F>();
     match request {

@@ -5,6 +5,8 @@
 #[cfg(test)]
 mod changes;
 #[cfg(test)]
+mod kept;
+#[cfg(test)]
 mod looks;
 #[cfg(test)]
 mod mount;
@@ -12,10 +14,6 @@ mod mount;
 mod paths;
 #[cfg(test)]
 mod renames;
-#[cfg(test)]
-mod replies;
-#[cfg(test)]
-mod requests;
 #[cfg(test)]
 mod steps;
 #[cfg(test)]

@@ -20,6 +20,9 @@ use std::rc::Rc;
 /// The most attempts of one request: each needs another object, or one that was lost since.
 pub(crate) const TRIES: u32 = 1_000;
 
+/// The longest content that stays in memory, where a test doesn't say otherwise.
+pub(crate) const KEPT: u64 = 1 << 20;
+
 /// The objects that an attempt may need.
 const OBJECTS: &[Sample] = &[
     ALL_KINDS, TWO_FILES, ONE_FILE, NEW_FILE, TARGET, VERSION_1, VERSION_2,
@@ -63,13 +66,25 @@ fn object_of(rt: &impl Abort, key: Key) -> Sample {
 impl Mount {
     /// A mount of that tree, over no files, whose cache holds so many objects: 1 to 8. All calls pass.
     pub(crate) fn open(rt: &impl Abort, alloc: Global, root: Sample, objects: usize) -> Mount {
+        Mount::keeping(rt, alloc, root, objects, KEPT)
+    }
+
+    /// The same, where an own content of at most so many bytes stays in memory.
+    pub(crate) fn keeping(
+        rt: &impl Abort,
+        alloc: Global,
+        root: Sample,
+        objects: usize,
+        kept: u64,
+    ) -> Mount {
         assert!(rt; 1 <= objects && objects <= 8);
         let calls = Rc::new(alloc, Cell::new(u64::MAX)).expect(rt, "memory");
         let shared = calls.clone().expect(rt, "memory");
         let files = StopFiles::new(MemoryFiles::<Outside>::new(alloc), shared);
+        let overlay = Overlay::new(files).keeping(kept);
         Mount {
             alloc,
-            table: Inodes::new(alloc, Overlay::new(files), Origin::Object(root.id), 2),
+            table: Inodes::new(alloc, overlay, Origin::Object(root.id), 2),
             cache: ObjectCache::new(alloc, objects, 1 << 20, 8).expect(rt, "memory"),
             calls,
         }

@@ -2,9 +2,9 @@
 
 use crate::mount::Mount;
 use crate::paths::path;
-use crate::replies::is_same;
 use crate::steps::{Ask, D, D_T, E, Names, ROOT, Row, Step, TEST, Want, check_all};
 use eden_model::{Errno, Fault, Kind, Path, Reply, Request};
+use eden_random::is_same;
 use eden_samples::{ONE_FILE, TWO_FILES, VERSION_1};
 use std::alloc::Global;
 use std::process::Abort;

@@ -1,11 +1,11 @@
 //! Requests on a mount, one after the other: what each needs, its reply, and the files that are left.
 
-use crate::mount::{Mount, key_of};
+use crate::mount::{KEPT, Mount, key_of};
 use crate::paths::{name, path};
-use crate::replies::is_same;
 use crate::whole::bytes;
 use eden_model::{Attempt, Entries, Errno, Fault, Kind, Name, Outside, Path, Reply, Request};
 use eden_overlay::{Files, MemoryFiles};
+use eden_random::is_same;
 use eden_samples::Sample;
 use std::alloc::Global;
 use std::process::Abort;
@@ -186,9 +186,9 @@ fn sizes(rt: &impl Abort, mount: Mount) -> Vec<(u64, usize)> {
     sizes
 }
 
-/// Takes the steps of a row, and looks at its files.
-fn check(rt: &impl Abort, alloc: Global, row: Row) {
-    let mut mount = Mount::open(rt, alloc, row.root, row.objects);
+/// Takes the steps of a row, where contents of at most so many bytes stay in memory, and looks at its files.
+pub(crate) fn check(rt: &impl Abort, alloc: Global, row: Row, kept: u64) {
+    let mut mount = Mount::keeping(rt, alloc, row.root, row.objects, kept);
     for (count, step) in row.steps.iter().enumerate() {
         assert!(rt; take(rt, &mut mount, *step), "step {count}");
     }
@@ -197,6 +197,6 @@ fn check(rt: &impl Abort, alloc: Global, row: Row) {
 
 pub(crate) fn check_all(rt: &impl Abort, alloc: Global, rows: &[Row]) {
     for row in rows {
-        check(rt, alloc, *row);
+        check(rt, alloc, *row, KEPT);
     }
 }

@@ -1,11 +1,10 @@
 //! Random requests on a mount that loses objects, unloads directories and has files that stop, beside the slow oracle.
 
 use crate::mount::{Mount, TRIES};
-use crate::replies::is_same;
-use crate::requests::request;
-use crate::whole::{Places, kind_at, path_of, told, whole};
-use eden_model::{Kind, Path, Reply, Request};
+use crate::whole::{told, whole};
+use eden_model::{Reply, Request};
 use eden_oracle::WholeTree;
+use eden_random::{all_looks, is_same, path_of, request};
 use eden_samples::{ALL_KINDS, random};
 use std::alloc::Global;
 use std::process::Abort;
@@ -18,9 +17,6 @@ const ALL: u32 = 40_000;
 
 /// After how many requests all is compared.
 const BETWEEN: u32 = 10;
-
-/// The most paths that are compared at once.
-const MOST_PATHS: u32 = 100_000;
 
 /// How many changes were made, and how often an object was needed, the table refused and the device failed.
 #[derive(Clone, Copy)]
@@ -38,66 +34,29 @@ struct Pair {
     tree: WholeTree,
 }
 
-fn places_below(rt: &impl Abort, alloc: Global, places: &[u8], place: u8) -> Places {
-    let mut below = places.to_vec(alloc).expect(rt, "memory");
-    below.push(place).expect(rt, "memory");
-    below
-}
-
-/// What is asked of an entry to see all of it.
-fn request_of(kind: Option<Kind>, at: Path) -> Request {
-    match kind {
-        None => Request::Kind(at),
-        Some(Kind::Dir) => Request::List(at, None, 1_000),
-        Some(Kind::Link) => Request::ReadLink(at),
-        Some(Kind::File | Kind::Exec) => Request::Read(at, 0, 65_536),
-    }
-}
-
 /// Whether both reply the same, once the mount has what it needs.
 fn agree(rt: &impl Abort, pair: &mut Pair, request: &Request) -> bool {
     let reply = pair.mount.answer(rt, request);
     is_same(&reply, &told(rt, pair.mount.alloc, &mut pair.tree, request))
 }
 
-/// Whether both show the same at a path, and what the oracle has there.
-fn show_same(rt: &impl Abort, pair: &mut Pair, places: &[u8]) -> (bool, Option<Kind>) {
-    let alloc = pair.mount.alloc;
-    let kind = kind_at(rt, alloc, &mut pair.tree, places);
-    let look = request_of(kind, path_of(rt, alloc, places));
-    let stat = Request::Stat(path_of(rt, alloc, places));
-    (agree(rt, pair, &look) && agree(rt, pair, &stat), kind)
-}
-
 /// Whether both show the same everywhere. All calls on the files pass then.
 fn show_same_tree(rt: &impl Abort, pair: &mut Pair) -> bool {
-    let alloc = pair.mount.alloc;
     pair.mount.calls.set(u64::MAX);
-    let mut left = Vec::new(alloc);
-    left.push(Vec::<u8>::new(alloc)).expect(rt, "memory");
-    for _ in 0..MOST_PATHS {
-        let Some(places) = left.pop() else {
-            return true;
-        };
-        let (is_same, kind) = show_same(rt, pair, &places);
-        if !is_same {
+    let looks = all_looks(pair.mount.alloc, &mut pair.tree).expect(rt, "memory");
+    for look in &looks {
+        if !agree(rt, pair, look) {
             return false;
         }
-        if kind == Some(Kind::Dir) {
-            for place in 0..4 {
-                left.push(places_below(rt, alloc, &places, place))
-                    .expect(rt, "memory");
-            }
-        }
     }
-    false
+    true
 }
 
 /// Unloads what is that old at and below a random path.
 fn unload(rt: &impl Abort, mount: &mut Mount, word: u32) {
     let places = [(word % 4) as u8, (word / 4 % 4) as u8];
     let depth = (word / 16 % 3) as usize;
-    let at = path_of(rt, mount.alloc, &places[..depth]);
+    let at = path_of(mount.alloc, &places[..depth]).expect(rt, "a path");
     let age = u64::from(word / 64 % 2);
     mount.table.unload(mount.alloc, at.as_slice(), age);
 }
@@ -150,7 +109,7 @@ fn count(tally: &mut Tally, reply: &Reply) {
 /// stopped.
 fn step(rt: &impl Abort, pair: &mut Pair, seed: &mut u64, tally: &mut Tally) {
     let alloc = pair.mount.alloc;
-    let request = request(rt, alloc, &mut pair.tree, seed);
+    let request = request(alloc, &mut pair.tree, seed).expect(rt, "a request");
     let reply = reply(rt, &mut pair.mount, &request, seed, tally);
     count(tally, &reply);
     match reply {

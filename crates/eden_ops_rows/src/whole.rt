@@ -1,18 +1,12 @@
 //! The slow oracle over the commit that has an entry of each kind.
 
-use crate::paths::path;
-use eden_model::{Bytes, Kind, Node, Path, Reply, Request};
+use eden_model::{Bytes, Kind, Node, Reply, Request};
 use eden_oracle::WholeTree;
+use eden_random::path_of;
 use std::alloc::Global;
 use std::process::Abort;
 
-/// The names of all paths.
-pub(crate) const NAMES: [&[u8]; 4] = [b"bak", b"new.txt", b"sub", b"test.txt"];
-
-/// A path as the places of its names among these.
-pub(crate) type Places = Vec<u8>;
-
-/// What the commit has: paths, kinds and contents.
+/// What the commit has: paths as places of names, kinds and contents.
 const COMMIT: &[(&[u8], Kind, &[u8])] = &[
     (&[], Kind::Dir, b""),
     (&[0], Kind::Dir, b""),
@@ -25,22 +19,8 @@ const COMMIT: &[(&[u8], Kind, &[u8])] = &[
     (&[3], Kind::Link, b"new.txt"),
 ];
 
-/// The name at a place; there are four.
-pub(crate) fn name_at(place: u8) -> &'static [u8] {
-    NAMES[(place % 4) as usize]
-}
-
-/// The path of those places.
-pub(crate) fn path_of(rt: &impl Abort, alloc: Global, places: &[u8]) -> Path {
-    let mut parts = Vec::new(alloc);
-    for place in places {
-        parts.push(name_at(*place)).expect(rt, "memory");
-    }
-    path(rt, alloc, parts.as_slice())
-}
-
 pub(crate) fn bytes(rt: &impl Abort, alloc: Global, bytes: &[u8]) -> Bytes {
-    Bytes::new(bytes.to_vec(alloc).expect(rt, "memory"))
+    eden_random::bytes(alloc, bytes).expect(rt, "memory")
 }
 
 fn node(rt: &impl Abort, alloc: Global, kind: Kind, content: &[u8]) -> Node {
@@ -57,8 +37,8 @@ pub(crate) fn whole(rt: &impl Abort, alloc: Global) -> WholeTree {
     let mut rows = Vec::new(alloc);
     for (places, kind, content) in COMMIT {
         let node = node(rt, alloc, *kind, content);
-        rows.push((path_of(rt, alloc, places), node))
-            .expect(rt, "memory");
+        let at = path_of(alloc, places).expect(rt, "a path");
+        rows.push((at, node)).expect(rt, "memory");
     }
     let tree = WholeTree::new(alloc, rows).expect(rt, "memory");
     tree.expect(rt, "a tree")
@@ -73,18 +53,4 @@ pub(crate) fn told(
 ) -> Reply {
     let told = tree.step(alloc, request).expect(rt, "memory");
     told.expect(rt, "a reply")
-}
-
-/// What stands at a path. None where nothing does.
-pub(crate) fn kind_at(
-    rt: &impl Abort,
-    alloc: Global,
-    tree: &mut WholeTree,
-    places: &[u8],
-) -> Option<Kind> {
-    let request = Request::Kind(path_of(rt, alloc, places));
-    match told(rt, alloc, tree, &request) {
-        Reply::Kind(kind) => Some(kind),
-        _ => None,
-    }
 }

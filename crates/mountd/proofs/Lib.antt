@@ -1,9 +1,4 @@
 pub mod FilledRows
 pub mod LineLemmas
-pub mod Looking
-pub mod Meeting
 pub mod MetLines
-pub mod Replying
-pub mod SampleLemmas
 pub mod TakenLines
-pub mod Walking

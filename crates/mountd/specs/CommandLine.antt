@@ -4,6 +4,7 @@ use Rattle.clap.specs.Kinds.{IsAmong}
 use Rattle.clap.specs.Words.{App, Text, fault_of, kind_of, subcommand_of}
 use Rattle.hex.specs.Hex.{encode_lower}
 use Rattle.eden_object.specs.IdText.{IsIdText}
+use Rattle.eden_mount.specs.Settings.{Settings}
 use Rattle.mountd.specs.Grammar.{LineOption, Subcommand, optional, program, required, value_in}
 use Rattle.mountd.specs.Numbers.{IsNoNumber, SaysNumber, number_name}
 use Rattle.mountd.specs.declared.numbers.NumberOption.TheVariants.{History, CacheEntries, CacheBytes}
@@ -32,14 +33,21 @@ mountd_line = program (codes "mountd") (stdio ∷ [])
 abbrev pub stdio_value : List Text → Text → Option Text
 stdio_value words = value_in stdio.0 (subcommand_of mountd_line words)
 
+-- the limits of a mount with one caller are what these values say
+pub record SaysLimits (value : Text → Option Text) (limits : Settings) : Type 0 where
+  pub passes : limits.passes ≡ 1
+  pub flights : limits.flights ≡ 16
+  pub history : SaysNumber History (value (number_name History)) limits.history
+  pub entries : SaysNumber CacheEntries (value (number_name CacheEntries)) limits.entries
+  pub bytes : SaysNumber CacheBytes (value (number_name CacheBytes)) limits.bytes
+  pub sizes : limits.sizes ≡ 65536
+
 -- the options are what these values say
 pub record IsAsked (value : Text → Option Text) (options : StdioOptions) : Type 0 where
   pub root : value (codes "root") ≡ Some (encode_lower options.root.bytes)
   pub objects : value (codes "objects") ≡ Some (string_bytes options.objects)
   pub overlay : value (codes "overlay") ≡ option_map string_bytes options.overlay
-  pub history : SaysNumber History (value (number_name History)) options.history
-  pub entries : SaysNumber CacheEntries (value (number_name CacheEntries)) options.entries
-  pub bytes : SaysNumber CacheBytes (value (number_name CacheBytes)) options.bytes
+  pub limits : SaysLimits value options.limits
 
 -- the words ask for this
 abbrev pub AsksFor : List Text → Command → Type 0

@@ -1,7 +1,4 @@
 pub mod CommandLine
-pub mod Commit
+pub mod Endings
 pub mod Grammar
 pub mod Numbers
-pub mod Samples
-pub mod Serving
-pub mod Steps

@@ -1,25 +1,24 @@
-//! The program `mountd`: answers requests on the files of a Git commit.
+//! The program `mountd`: answers requests on the files of a Git commit, and keeps what they change.
 #![tactic(auto)]
 
-mod direct;
+mod hold;
 mod numbers;
 mod options;
-mod place;
 mod report;
-mod stdio;
 #[cfg(test)]
 mod tests;
 
-use direct::Direct;
 use eden_model::Outside;
+use eden_overlay::{Files, FolderFiles, MemoryFiles};
+use eden_serve::{Backing, live};
 use eden_source::FolderSource;
+use hold::hold;
 use options::{Command, StdioOptions, options};
 use std::alloc::Global;
 use std::path::PathBuf;
 use std::process::ExitCode;
 use std::rt::Env;
 use std::{env, io};
-use stdio::stdio;
 
 /// The program's name and the words after it.
 fn words(rt: &(impl Env + Alloc<A = Global>)) -> io::Result<Vec<String>> {
@@ -27,15 +26,49 @@ fn words(rt: &(impl Env + Alloc<A = Global>)) -> io::Result<Vec<String>> {
     Ok(words)
 }
 
-/// Serves one session over standard input and output.
-fn serve(rt: &HostRuntime, options: StdioOptions) -> ExitCode {
-    let source = FolderSource::new(*rt, PathBuf::from(options.objects));
-    let mut commit = Direct::<Outside, _>::new(rt.alloc(), source, options.root);
+/// Serves one session over standard input and output, on a mount over these files.
+fn serve<F: Files<Outside>>(rt: &HostRuntime, options: StdioOptions, files: F) -> ExitCode {
+    let StdioOptions {
+        root,
+        objects,
+        limits,
+        ..
+    } = options;
+    let source = FolderSource::new(*rt, PathBuf::from(objects));
+    let backing = Backing { files, source };
     let mut reader = rt.stdin();
     let mut writer = rt.stdout();
-    match stdio(rt.alloc(), &mut reader, &mut writer, &mut commit) {
-        Ok(()) => ExitCode::SUCCESS,
-        Err(fault) => report::session(rt, fault.name()),
+    let memory = rt.alloc();
+    let ending = live::<Outside, _, _, _, _, _>(
+        memory,
+        memory,
+        backing,
+        root,
+        &limits,
+        &mut reader,
+        &mut writer,
+    );
+    report::ending(rt, ending.outcome)
+}
+
+/// Serves a session whose changes stay in a folder.
+fn serve_folder(rt: &HostRuntime, options: StdioOptions, folder: String) -> ExitCode {
+    let folder = PathBuf::from(folder);
+    match hold(rt, rt.alloc(), &folder) {
+        Ok(lock) => {
+            let status = serve(rt, options, FolderFiles::new(*rt, folder));
+            drop(lock);
+            status
+        }
+        Err(fault) => report::unopened(rt, fault.name()),
+    }
+}
+
+/// Serves one session over standard input and output.
+fn stdio(rt: &HostRuntime, mut options: StdioOptions) -> ExitCode {
+    match options.overlay.take() {
+        Some(folder) => serve_folder(rt, options, folder),
+        None => serve(rt, options, MemoryFiles::new(rt.alloc())),
     }
 }
 
@@ -45,7 +78,7 @@ fn main(rt: HostRuntime) -> ExitCode {
         Err(error) => return report::arguments(&rt, &error),
     };
     match options(rt.alloc(), words.as_slice()) {
-        Ok(Command::Stdio(options)) => serve(&rt, options),
+        Ok(Command::Stdio(options)) => stdio(&rt, options),
         Err(error) => report::command_line(&rt, &error),
     }
 }

@@ -3,7 +3,7 @@ ghost use Rattle.std.specs.Prelude.{◌≡◌, ◌≤◌, ◌⊎◌, ◌∷◌, 
 ghost use Rattle.clap.specs.declared.builder.command.Command.TheViews.{out-Command as fields_of};
 ghost use Rattle.clap.specs.declared.error.kind.ErrorKind.TheVariants.{OutOfMemory};
 ghost use Rattle.clap.specs.Words.{app_of, first_value, found_of, kind_of, rows_of, rule_of, shape_of, subcommand_of, subcommand_rows_of};
-ghost use Rattle.mountd.specs.CommandLine.{AsksFor, IsAsked, IsTaken, Refuses, RefusesValues, mount_options, mountd_line, stdio, stdio_options};
+ghost use Rattle.mountd.specs.CommandLine.{AsksFor, IsAsked, IsTaken, Refuses, RefusesValues, SaysLimits, mount_options, mountd_line, stdio, stdio_options};
 ghost use Rattle.mountd.specs.Grammar.{HasRequired, option_rule, optional, required, subcommand_shape, with_options};
 ghost use Rattle.mountd.specs.Numbers.{IsNoNumber, SaysNumber, most_of, number_name};
 ghost use Rattle.mountd.specs.declared.options.OptionsError.TheVariants as error;
@@ -12,10 +12,17 @@ use crate::numbers::NumberOption;
 use clap::error::ErrorKind;
 use clap::{Arg, ArgMatches};
 use eden_model::Id;
+use eden_mount::Config;
 use eden_object::parse_id;
 use std::alloc::{AllocError, Global};
 use std::convert::AsStr;
 use thiserror::Error;
+
+/// How many objects may be asked for at once.
+const FLIGHTS: u32 = 16;
+
+/// How many lengths of contents are kept.
+const SIZES: usize = 65_536;
 
 /// What `mountd stdio` is asked to serve.
 #[derive(Debug, Drop)]
@@ -26,12 +33,8 @@ pub struct StdioOptions {
     pub objects: String,
     /// The folder that keeps the changes, where they are not to stay in memory alone.
     pub overlay: Option<String>,
-    /// How many entries the history holds, from 1 to 2^32 - 1.
-    pub history: u32,
-    /// How many objects the cache holds, from 1 to 65,536.
-    pub entries: usize,
-    /// How many bytes the cache's objects have together, from 1 to 2^40.
-    pub bytes: u64,
+    /// The limits of the mount, which has one caller.
+    pub limits: Config,
 }
 
 /// What the program is asked for.
@@ -88,16 +91,12 @@ fn stdio_options(alloc: Global, given: &ArgMatches) -> Result<StdioOptions, Opti
     let root = parse_id(root).ok_or(OptionsError::Root)?;
     let objects = String::from_str(alloc, objects)?;
     let overlay = overlay(alloc, given)?;
-    let history = number(given, NumberOption::History)? as u32;
-    let entries = number(given, NumberOption::CacheEntries)? as usize;
-    let bytes = number(given, NumberOption::CacheBytes)?;
+    let limits = limits(given)?;
     Ok(StdioOptions {
         root,
         objects,
         overlay,
-        history,
-        entries,
-        bytes,
+        limits,
     })
 }
 
@@ -110,6 +109,18 @@ fn overlay(alloc: Global, given: &ArgMatches) -> Result<Option<String>, AllocErr
         Some(folder) => Ok(Some(String::from_str(alloc, folder)?)),
         None => Ok(None),
     }
+}
+
+/// The limits of a mount with one caller.
+fn limits(given: &ArgMatches) -> Result<Config, OptionsError>
+    ensures ok { IfOk result (SaysLimits (first_value (found_of given.now))) }
+    ensures err { IfErr result (RefusesValues (first_value (found_of given.now))) }
+{
+    let history = number(given, NumberOption::History)? as u32;
+    let entries = number(given, NumberOption::CacheEntries)? as usize;
+    let bytes = number(given, NumberOption::CacheBytes)?;
+    // What an option takes, a mount takes.
+    Ok(Config::new(1, FLIGHTS, history, entries, bytes, SIZES).unwrap())
 }
 
 /// The number that an option has: the one that is given, or its default.

@@ -1,16 +1,22 @@
-//! How a run ends that did not go well: a line on standard error, and a status.
+//! How a run ends: with status 0, or with a line on standard error and another.
 //!
 //! Where standard error can't be written, the status alone tells.
 ghost use Rattle.std.specs.Prelude.{◌≡◌};
 ghost use Rattle.std.specs.Process.{exit_status};
+ghost use Rattle.mountd.specs.Endings.{close_name, open_name, status_of};
 
 use crate::options::OptionsError;
+use eden_checkout::OpenFault;
+use eden_overlay::FilesFault;
+use eden_serve::LifeFault;
 use std::io;
 use std::process::ExitCode;
 
 const REFUSED: u8 = 2;
 
-const SESSION: u8 = 4;
+const UNOPENED: u8 = 3;
+
+const FAULT: u8 = 4;
 
 /// Tells why the arguments can't be read, as where they are not UTF-8. Status 2.
 pub fn arguments<R: Eprint>(rt: &R, error: &io::Error) -> ExitCode
@@ -32,10 +38,55 @@ pub fn command_line<R: Eprint>(rt: &R, error: &OptionsError) -> ExitCode
     ExitCode::from(REFUSED)
 }
 
-/// Tells by which fault, called `name`, a session ended. Status 4.
-pub fn session<R: Eprint>(rt: &R, name: &str) -> ExitCode
+/// Tells by which fault, called `name`, the overlay wasn't opened. Status 3.
+pub fn unopened<R: Eprint>(rt: &R, name: &str) -> ExitCode
+    ensures { exit_status result ≡ 3 }
+{
+    let _ = eprintln!(rt; "mountd: open {name}");
+    ExitCode::from(UNOPENED)
+}
+
+/// Tells how a mount's life ended, where it didn't end well: by which fault, without the fault's values.
+///
+/// Status 0; 3, where the overlay wasn't opened; 4, where the session or the close ended in a fault.
+pub fn ending<R: Eprint>(rt: &R, outcome: Result<(), LifeFault>) -> ExitCode
+    ensures { exit_status result ≡ status_of outcome }
+{
+    match outcome {
+        Ok(()) => ExitCode::SUCCESS,
+        Err(LifeFault::Open(fault)) => unopened(rt, open_name(fault)),
+        Err(LifeFault::Session(fault)) => ended(rt, "session", fault.name()),
+        Err(LifeFault::Close(fault)) => ended(rt, "close", close_name(fault)),
+    }
+}
+
+// Tells what ended by which fault. Status 4.
+fn ended<R: Eprint>(rt: &R, what: &str, name: &str) -> ExitCode
     ensures { exit_status result ≡ 4 }
 {
-    let _ = eprintln!(rt; "mountd: session {name}");
-    ExitCode::from(SESSION)
+    let _ = eprintln!(rt; "mountd: {what} {name}");
+    ExitCode::from(FAULT)
+}
+
+// The name of a fault of the opening.
+fn open_name(fault: OpenFault) -> &'static str
+    ensures { result.now ≡ open_name fault }
+{
+    match fault {
+        OpenFault::NotClean => "NotClean",
+        OpenFault::OtherRoot(_) => "OtherRoot",
+        OpenFault::Damaged(_, _) => "Damaged",
+        OpenFault::Device => "Device",
+        OpenFault::Memory => "Memory",
+    }
+}
+
+// The name of a fault of the close.
+fn close_name(fault: FilesFault) -> &'static str
+    ensures { result.now ≡ close_name fault }
+{
+    match fault {
+        FilesFault::Device => "Device",
+        FilesFault::Memory => "Memory",
+    }
 }

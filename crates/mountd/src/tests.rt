@@ -37,9 +37,9 @@ fn takes_a_good_line(rt: HostRuntime) -> Result<(), Fail> {
     assert!(rt; given.root.bytes == ROOT_BYTES);
     assert!(rt; given.objects.as_str() == FOLDER);
     assert!(rt; given.overlay.is_none());
-    assert!(rt; given.history == 1_000_000);
-    assert!(rt; given.entries == 1024);
-    assert!(rt; given.bytes == 1 << 28);
+    assert!(rt; given.limits.history() == 1_000_000);
+    assert!(rt; given.limits.entries() == 1024);
+    assert!(rt; given.limits.bytes() == 1 << 28);
     Ok(())
 }
 
@@ -50,9 +50,9 @@ fn takes_a_line_with_all_options(rt: HostRuntime) -> Result<(), Fail> {
     assert!(rt; given.objects.as_str() == FOLDER);
     let overlay = given.overlay.ok_or("no overlay")?;
     assert!(rt; overlay.as_str() == "changes");
-    assert!(rt; given.history == 1);
-    assert!(rt; given.entries == 65_536);
-    assert!(rt; given.bytes == 1 << 40);
+    assert!(rt; given.limits.history() == 1);
+    assert!(rt; given.limits.entries() == 65_536);
+    assert!(rt; given.limits.bytes() == 1 << 40);
     Ok(())
 }
 

@@ -1,0 +1,104 @@
+//! Mounts over files in memory that stop now and then.
+
+ghost use Rattle.std.specs.Prelude.{◌≡◌, []};
+
+use crate::waits::PASSES;
+use eden_cache::ObjectCache;
+use eden_checkout::{Checkout, OpenFault};
+use eden_model::{Id, Outside};
+use eden_mount::{Config, Mount, Room};
+use eden_overlay::{FilesFault, MemoryFiles, StopFiles};
+use eden_samples::random;
+use std::alloc::Global;
+use std::cell::Cell;
+use std::process::Abort;
+use std::rc::Rc;
+
+/// How many keys may be in flight.
+pub(crate) const FLIGHTS: u32 = 3;
+
+pub(crate) type Stored = MemoryFiles<Outside>;
+
+pub(crate) type Tree = Checkout<Global, Outside, StopFiles<Stored>>;
+
+pub(crate) type Mounted = Mount<Outside, Tree, Global>;
+
+/// What a mount is opened with: the commit's tree, how many objects are cached, 1 to 8, and the history's limit.
+#[derive(Clone, Copy)]
+pub(crate) struct Settings {
+    pub(crate) root: Id,
+    pub(crate) objects: usize,
+    pub(crate) history: u32,
+}
+
+/// A cache of so many objects.
+fn cache(rt: &impl Abort, alloc: Global, objects: usize) -> ObjectCache<Global>
+    ensures objects { result.objects ≡ [] }
+    ensures sizes { result.sizes ≡ [] }
+{
+    assert!(rt; 1 <= objects && objects <= 8);
+    match ObjectCache::new(alloc, objects, 1 << 20, 4) {
+        Ok(cache) => cache,
+        Err(_) => rt.abort(),
+    }
+}
+
+fn room(rt: &impl Abort, alloc: Global, history: u32) -> Room<Global> {
+    let config = Config::new(PASSES, FLIGHTS, history, 1, 1, 1).expect(rt, "within the limits");
+    Room::new(alloc, alloc, &config).expect(rt, "memory")
+}
+
+/// The device stops after a few calls, or doesn't.
+pub(crate) fn allow(calls: &Rc<Cell<u64>>, seed: &mut u64) {
+    let few = u64::from(random(seed) % 32);
+    calls.set(if few < 8 { few } else { u64::MAX });
+}
+
+/// A mount over these files, of which as many calls pass as the number allows.
+pub(crate) fn open(
+    rt: &impl Abort,
+    alloc: Global,
+    files: Stored,
+    calls: &Rc<Cell<u64>>,
+    settings: Settings,
+) -> Result<Mounted, (OpenFault, Stored)> {
+    let shared = calls.clone().expect(rt, "memory");
+    let files = StopFiles::new(files, shared);
+    let cache = cache(rt, alloc, settings.objects);
+    match Checkout::open(alloc, alloc, files, settings.root, cache) {
+        Ok(tree) => Ok(Mount::new(room(rt, alloc, settings.history), tree)),
+        Err((fault, files)) => Err((fault, files.into_files())),
+    }
+}
+
+/// A mount over files that may stop once while it is opened.
+pub(crate) fn open_again(
+    rt: &impl Abort,
+    alloc: Global,
+    files: Stored,
+    calls: &Rc<Cell<u64>>,
+    settings: Settings,
+) -> Mounted {
+    match open(rt, alloc, files, calls, settings) {
+        Ok(mount) => mount,
+        Err((fault, files)) => {
+            assert!(rt; fault == OpenFault::Device && calls.get() == 0);
+            calls.set(u64::MAX);
+            let mount = open(rt, alloc, files, calls, settings);
+            mount.ok().expect(rt, "a mount")
+        }
+    }
+}
+
+/// The files of a table that is closed, which may stop once meanwhile.
+pub(crate) fn close(rt: &impl Abort, alloc: Global, tree: Tree, calls: &Rc<Cell<u64>>) -> Stored {
+    match tree.close(alloc) {
+        Ok(files) => files.into_files(),
+        Err((fault, tree)) => {
+            assert!(rt; fault == FilesFault::Device && calls.get() == 0);
+            calls.set(u64::MAX);
+            let files = tree.close(alloc).ok().expect(rt, "closed files");
+            files.into_files()
+        }
+    }
+}

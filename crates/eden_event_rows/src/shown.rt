@@ -1,0 +1,66 @@
+//! All that a mount shows, beside the oracle's tree.
+
+use crate::grounds::Ground;
+use crate::mounts::{Mounted, Settings, Stored, close, open_again};
+use eden_model::{Fault, Reply, Request};
+use eden_mount::Turned;
+use eden_random::{all_looks, is_same};
+use std::process::Abort;
+
+/// The most turns of one request.
+const TRIES: u32 = 1_000;
+
+/// More requests than there are looks at one tree.
+const LONG: u32 = 1_000_000;
+
+/// What is wanted is fetched, as the repository has it.
+fn fetch(rt: &impl Abort, ground: &Ground, mount: &mut Mounted) {
+    let key = mount.take_want().expect(rt, "a key");
+    match ground.commit.framed(key) {
+        Err(cause) => {
+            mount.fail(key, cause);
+        }
+        Ok(framed) => {
+            let framed = framed.to_vec(ground.alloc).expect(rt, "memory");
+            mount.arrive(key, framed);
+        }
+    }
+}
+
+/// What the mount's first pass is told.
+fn answer(rt: &impl Abort, ground: &Ground, mount: &mut Mounted, request: Request) -> Reply {
+    assert!(rt; mount.start(1, request).is_ok());
+    for _ in 0..TRIES {
+        if let Turned::Done(_, reply) = mount.turn(1) {
+            return reply;
+        }
+        fetch(rt, ground, mount);
+    }
+    None.expect(rt, "a reply")
+}
+
+/// Whether a look is answered as by the oracle: where that has no reply, an object can't be had.
+fn agree(rt: &impl Abort, ground: &mut Ground, mount: &mut Mounted, look: Request) -> bool {
+    let want = ground.tree.step(ground.alloc, &look).expect(rt, "memory");
+    let reply = answer(rt, ground, mount, look);
+    match want {
+        Some(want) => is_same(&reply, &want),
+        None => matches!(reply, Reply::Fault(Fault::Fetch(_, _))),
+    }
+}
+
+/// Closed files show the oracle's tree. They come back closed.
+pub(crate) fn show_same(rt: &impl Abort, ground: &mut Ground, files: Stored) -> Stored {
+    let settings = Settings {
+        root: ground.commit.root(rt),
+        objects: 2,
+        history: LONG,
+    };
+    ground.calls.set(u64::MAX);
+    let mut mount = open_again(rt, ground.alloc, files, &ground.calls, settings);
+    let looks = all_looks(ground.alloc, &mut ground.tree).expect(rt, "memory");
+    for look in looks {
+        assert!(rt; agree(rt, ground, &mut mount, look));
+    }
+    close(rt, ground.alloc, mount.into_table(), &ground.calls)
+}

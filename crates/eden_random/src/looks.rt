@@ -1,0 +1,65 @@
+use crate::names::{Places, path_of};
+use crate::unmade::Unmade;
+use eden_model::{Kind, Path, Reply, Request};
+use eden_oracle::WholeTree;
+use std::alloc::{AllocError, Global};
+
+/// What stands at a path. None where nothing does that the oracle knows.
+pub fn kind_at(alloc: Global, tree: &mut WholeTree, places: &[u8]) -> Result<Option<Kind>, Unmade> {
+    let request = Request::Kind(path_of(alloc, places)?);
+    match tree.step(alloc, &request)? {
+        Some(Reply::Kind(kind)) => Ok(Some(kind)),
+        _ => Ok(None),
+    }
+}
+
+/// What is asked of an entry to see all of it.
+pub(crate) fn look_at(kind: Option<Kind>, at: Path) -> Request {
+    match kind {
+        None => Request::Kind(at),
+        Some(Kind::Dir) => Request::List(at, None, 1_000),
+        Some(Kind::Link) => Request::ReadLink(at),
+        Some(Kind::File | Kind::Exec) => Request::Read(at, 0, 65_536),
+    }
+}
+
+/// Notes the four paths that go on with one name more.
+fn push_below(alloc: Global, paths: &mut Vec<Places>, places: &[u8]) -> Result<(), AllocError> {
+    for place in 0..4 {
+        let mut below = places.to_vec(alloc)?;
+        below.push(place)?;
+        paths.push(below)?;
+    }
+    Ok(())
+}
+
+/// Asks all of one path, and notes those below it where it is a directory's.
+fn push_looks(
+    alloc: Global,
+    tree: &mut WholeTree,
+    looks: &mut Vec<Request>,
+    paths: &mut Vec<Places>,
+    places: &[u8],
+) -> Result<(), Unmade> {
+    let kind = kind_at(alloc, tree, places)?;
+    looks.push(look_at(kind, path_of(alloc, places)?))?;
+    looks.push(Request::Stat(path_of(alloc, places)?))?;
+    if kind == Some(Kind::Dir) {
+        push_below(alloc, paths, places)?;
+    }
+    Ok(())
+}
+
+/// Requests whose replies say all of the oracle's tree, which stays as it is.
+pub fn all_looks(alloc: Global, tree: &mut WholeTree) -> Result<Vec<Request>, Unmade> {
+    let mut looks = Vec::new(alloc);
+    let mut paths = Vec::new(alloc);
+    paths.push(Vec::<u8>::new(alloc))?;
+    for _ in 0..u64::MAX {
+        let Some(places) = paths.pop() else {
+            return Ok(looks);
+        };
+        push_looks(alloc, tree, &mut looks, &mut paths, &places)?;
+    }
+    Ok(looks)
+}

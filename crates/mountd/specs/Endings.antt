@@ -1,0 +1,36 @@
+-- How a run ends: the names of its faults, and its status.
+use Rattle.std.specs.Prelude.{ℕ, List, Result, Ok, Err, ⊤, codes}
+use Rattle.eden_overlay.specs.declared.files.FilesFault.{FilesFault}
+use Rattle.eden_overlay.specs.declared.files.FilesFault.TheVariants as files
+use Rattle.eden_checkout.specs.declared.fault.OpenFault.{OpenFault}
+use Rattle.eden_checkout.specs.declared.fault.OpenFault.TheVariants as opens
+use Rattle.eden_serve.specs.declared.fault.LifeFault.{LifeFault}
+use Rattle.eden_serve.specs.declared.fault.LifeFault.TheVariants as life
+use Rattle.mountd.specs.declared.hold.HoldFault.{HoldFault}
+use Rattle.mountd.specs.declared.hold.HoldFault.TheVariants as hold
+
+-- the name of why the overlay wasn't opened
+abbrev pub open_name : OpenFault → List ℕ
+open_name opens.NotClean = codes "NotClean"
+open_name (opens.OtherRoot root) = codes "OtherRoot"
+open_name (opens.Damaged number refusal) = codes "Damaged"
+open_name opens.Device = codes "Device"
+open_name opens.Memory = codes "Memory"
+
+-- .. of why the folder isn't held
+abbrev pub hold_name : HoldFault → List ℕ
+hold_name hold.Locked = codes "Locked"
+hold_name hold.Device = codes "Device"
+hold_name hold.Memory = codes "Memory"
+
+-- .. of why it wasn't closed
+abbrev pub close_name : FilesFault → List ℕ
+close_name files.Device = codes "Device"
+close_name files.Memory = codes "Memory"
+
+-- the status of a life that ended so
+abbrev pub status_of : Result ⊤ LifeFault → ℕ
+status_of (Ok _) = 0
+status_of (Err (life.Open fault)) = 3
+status_of (Err (life.Session fault)) = 4
+status_of (Err (life.Close fault)) = 4

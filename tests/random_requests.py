@@ -1,0 +1,111 @@
+"""Random requests on a tree that is kept as a dictionary, their lines, and those whose replies say all of a tree."""
+
+from protocol import data_text, name_text, path_text
+from tree_model import LONGEST_DATA, LONGEST_FILE, LONGEST_TARGET, MOST_ENTRIES
+
+LONGEST_CONTENT = 4_096
+WORDS = ["kind", "stat", "read", "readlink", "list", "write", "truncate", "create", "setexec", "mkdir", "symlink",
+         "unlink", "rmdir", "rename", "create", "create", "mkdir", "mkdir", "symlink", "write"]
+REMOVING = ["unlink", "rmdir", "rename"]
+
+
+class Requests:
+    """Random requests, most of them about what is there. Past so many nodes they only take away and move."""
+
+    def __init__(self, generator, tree, names, most_nodes):
+        self.random = generator
+        self.tree = tree
+        self.names = names
+        self.most_nodes = most_nodes
+
+    def name(self):
+        return self.random.choice(self.names)
+
+    def there(self):
+        return self.random.choice(list(self.tree.nodes))
+
+    def path(self):
+        chance = self.random.random()
+        if chance < 0.6:
+            return self.there()
+        if chance < 0.95:
+            return self.there() + (self.name(),)
+        return tuple(self.name() for _ in range(self.random.randrange(5)))
+
+    def size(self, longest):
+        """A length, short or long, at times one past the limit."""
+        return self.random.choice([0, 1, self.random.randrange(64), self.random.randrange(LONGEST_CONTENT), longest])
+
+    def data(self, longest):
+        rare = self.random.random() < 0.002
+        return self.random.randbytes(longest + 1 if rare else self.random.choice([0, 1, 3, 60, 700]))
+
+    def offset(self):
+        """Where a read or a write begins: where a file may end, or so far out that nothing fits behind it."""
+        return self.random.choice([0, 1, self.random.randrange(3_000), LONGEST_FILE, 2**64 - LONGEST_DATA - 2])
+
+    def one(self):
+        crowded = len(self.tree.nodes) >= self.most_nodes
+        word = self.random.choice(REMOVING if crowded else WORDS)
+        return word, getattr(self, word)()
+
+    def kind(self):
+        return (self.path(),)
+
+    stat = readlink = create = mkdir = unlink = rmdir = kind
+
+    def read(self):
+        return self.path(), self.offset(), self.size(LONGEST_DATA + 1)
+
+    def list(self):
+        after = self.random.choice([None, self.name()])
+        return self.path(), after, self.random.choice([0, 1, 2, 5, MOST_ENTRIES, MOST_ENTRIES + 1])
+
+    def write(self):
+        return self.path(), self.offset(), self.data(LONGEST_DATA)
+
+    def truncate(self):
+        return self.path(), self.size(LONGEST_FILE + 1)
+
+    def setexec(self):
+        return self.path(), self.random.random() < 0.5
+
+    def symlink(self):
+        return self.path(), self.data(LONGEST_TARGET)
+
+    def rename(self):
+        return self.path(), self.path()
+
+
+def field_text(field):
+    if isinstance(field, bool):
+        return b"1" if field else b"0"
+    if isinstance(field, int):
+        return b"%d" % field
+    if isinstance(field, tuple):
+        return path_text(field)
+    return data_text(field)
+
+
+def line_of(word, fields):
+    texts = [field_text(field) for field in fields if field is not None]
+    if word == "list":
+        texts.insert(1, b"-") if fields[1] is None else texts.__setitem__(1, name_text(fields[1]))
+    return b" ".join([word.encode(), *texts])
+
+
+def pages(content):
+    """Where the pages of a content begin. The last one is short, so that it tells the end; a lost content has one."""
+    return range(0, len(content or b"") + 1, LONGEST_DATA)
+
+
+def whole(tree):
+    """Requests whose replies say all of the tree, whose directories have at most as many entries as a list can have."""
+    for path, node in sorted(tree.nodes.items()):
+        yield "kind", (path,)
+        if node[0] == "dir":
+            yield "list", (path, None, MOST_ENTRIES)
+        elif node[0] == "file":
+            yield from (("read", (path, start, LONGEST_DATA)) for start in pages(node[2]))
+        else:
+            yield "readlink", (path,)
