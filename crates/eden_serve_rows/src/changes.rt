@@ -1,157 +1,69 @@
-//! What was changed is there in the next life over the same files, which asks for no more than it needs.
-use crate::lives::{Life, Sizes, are_there, closed};
-use eden_overlay::MemoryFiles;
-use eden_samples::{NEW_FILE, ONE_FILE, TWO_FILES, VERSION_1};
-use std::alloc::Global;
-use std::process::Abort;
+//! Sessions that change what the commit shows.
+use crate::sessions::{Session, check};
+use eden_samples::{ONE_FILE, VERSION_1};
 
-/// A life over no files, the files that it leaves, and a life over those.
-#[derive(Clone, Copy)]
-struct Row {
-    first: Life,
-    files: Sizes,
-    again: Life,
-}
-
-/// The state alone is left where nothing was changed, and nothing is remembered.
-const UNCHANGED: Row = Row {
-    first: Life {
-        root: ONE_FILE,
-        history: 1_000,
-        input: "kind /\nkind /test.txt\n",
-        said: "kind dir\nkind file\n",
-        asked: &[ONE_FILE],
-    },
-    files: &[(0, 92)],
-    again: Life {
-        root: ONE_FILE,
-        history: 1_000,
-        input: "kind /\nkind /test.txt\n",
-        said: "kind dir\nkind file\n",
-        asked: &[ONE_FILE],
-    },
-};
-
-/// The whole of what is asked for again is in the files.
-const WRITTEN: Row = Row {
-    first: Life {
-        root: ONE_FILE,
-        history: 1_000,
-        input: "kind /test.txt\nwrite /test.txt 12 21\nread /test.txt 0 100\n",
-        said: "kind file\ncount 1\ndata 13 76657273696f6e20310a000021\n",
-        asked: &[ONE_FILE, VERSION_1],
-    },
-    files: &[(0, 92), (1, 87), (2, 77)],
-    again: Life {
-        root: ONE_FILE,
-        history: 1_000,
-        input: "read /test.txt 0 100\nwrite /test.txt 0 56\nread /test.txt 0 7\n",
-        said: "data 13 76657273696f6e20310a000021\ncount 1\ndata 7 56657273696f6e\n",
-        asked: &[],
-    },
-};
-
-/// What wasn't changed still comes from the commit.
-const WRITTEN_IN_PART: Row = Row {
-    first: Life {
-        root: TWO_FILES,
-        history: 1_000,
-        input: "write /new.txt 0 4e\n",
-        said: "count 1\n",
-        asked: &[TWO_FILES, NEW_FILE],
-    },
-    files: &[(0, 92), (1, 159), (3, 73)],
-    again: Life {
-        root: TWO_FILES,
-        history: 1_000,
-        input: "read /new.txt 0 9\nread /bak/test.txt 0 7\n",
-        said: "data 9 4e65772066696c650a\ndata 7 76657273696f6e\n",
-        asked: &[ONE_FILE, VERSION_1],
-    },
-};
-
-/// A file of the commit that was moved is one of the commit still.
-const MOVED: Row = Row {
-    first: Life {
-        root: ONE_FILE,
-        history: 1_000,
-        input: "mkdir /d\nrename /test.txt /d/t\nkind /test.txt\n",
-        said: "ok\nok\nerr 2 ENOENT\n",
-        asked: &[ONE_FILE],
-    },
-    files: &[(0, 92), (1, 80), (3, 100)],
-    again: Life {
-        root: ONE_FILE,
-        history: 1_000,
-        input: "kind /test.txt\nread /d/t 0 7\n",
-        said: "err 2 ENOENT\ndata 7 76657273696f6e\n",
-        asked: &[VERSION_1],
-    },
-};
-
-/// A line that is no request ends the session without a fault, and what came before it stays.
-const NO_REQUEST: Row = Row {
-    first: Life {
-        root: ONE_FILE,
-        history: 1_000,
-        input: "write /test.txt 12 21\nkind /a-b\nunlink /test.txt\n",
-        said: "count 1\nerr 71 EPROTO\n",
-        asked: &[ONE_FILE, VERSION_1],
-    },
-    files: &[(0, 92), (1, 87), (2, 77)],
-    again: Life {
-        root: ONE_FILE,
-        history: 1_000,
-        input: "read /test.txt 12 9\n",
-        said: "data 1 21\n",
-        asked: &[],
-    },
-};
-
-/// A change that the history has no room for isn't made, and a new life has room again.
-const FULL: Row = Row {
-    first: Life {
-        root: ONE_FILE,
-        history: 1,
-        input: "mkdir /d\nmkdir /e\n",
-        said: "ok\nfault history 1\n",
-        asked: &[ONE_FILE],
-    },
-    files: &[(0, 92), (1, 119), (3, 68)],
-    again: Life {
-        root: ONE_FILE,
-        history: 1,
-        input: "list / - 9\n",
-        said: "entries 2 dir d file test.txt end\n",
-        asked: &[],
-    },
-};
-
-fn check(rt: &impl Abort, alloc: Global, row: Row) {
-    let mut files = closed(rt, alloc, MemoryFiles::new(alloc), &row.first);
-    assert!(rt;
-        are_there(alloc, &mut files, row.files),
-        "{}",
-        row.first.input
-    );
-    closed(rt, alloc, files, &row.again);
-}
+const WRITTEN: &[Session] = &[
+    (
+        ONE_FILE,
+        "write /test.txt 5 -\ntruncate /test.txt 1073741825\ntruncate /test.txt 0\nread /test.txt 0 9\n",
+        "count 0\nerr 27 EFBIG\nok\ndata 0\n",
+        &[ONE_FILE],
+    ),
+    (
+        ONE_FILE,
+        "setexec /test.txt 1\nkind /test.txt\nsetexec /test.txt 1\n",
+        "ok\nkind exec\nok\n",
+        &[ONE_FILE],
+    ),
+];
 
 #[test]
-fn changes_are_there_in_the_next_life(rt: HostRuntime) {
-    for row in [WRITTEN, WRITTEN_IN_PART, MOVED] {
-        check(&rt, rt.alloc(), row);
-    }
+fn writes_files(rt: HostRuntime) {
+    check(&rt, rt.alloc(), WRITTEN);
 }
 
-#[test]
-fn what_is_not_changed_comes_from_the_commit(rt: HostRuntime) {
-    check(&rt, rt.alloc(), UNCHANGED);
-}
+const MOVED: &[Session] = &[
+    (
+        ONE_FILE,
+        "mkdir /d\nrename /test.txt /d/t\nread /d/t 0 7\nrename /d /d/e\nrename /d /\nrename /d/t /d\n",
+        "ok\nok\ndata 7 76657273696f6e\nerr 22 EINVAL\nerr 16 EBUSY\nerr 39 ENOTEMPTY\n",
+        &[ONE_FILE, VERSION_1],
+    ),
+    (
+        ONE_FILE,
+        "mkdir /d\nrename /test.txt /d/t\nrmdir /d\nrename /d /d\nunlink /d\n",
+        "ok\nok\nerr 39 ENOTEMPTY\nok\nerr 21 EISDIR\n",
+        &[ONE_FILE],
+    ),
+];
 
 #[test]
-fn only_requests_that_are_taken_change_something(rt: HostRuntime) {
-    for row in [NO_REQUEST, FULL] {
-        check(&rt, rt.alloc(), row);
-    }
+fn moves_entries(rt: HostRuntime) {
+    check(&rt, rt.alloc(), MOVED);
+}
+
+const ADDED: &[Session] = &[
+    (
+        ONE_FILE,
+        "symlink /l 612f62\nreadlink /l\nkind /l/x\nread /l 0 1\nsymlink /m -\n",
+        "ok\ndata 3 612f62\nerr 20 ENOTDIR\nerr 22 EINVAL\nerr 2 ENOENT\n",
+        &[ONE_FILE],
+    ),
+    (
+        ONE_FILE,
+        "symlink /l 612f62\nrename /l /test.txt\nkind /test.txt\n",
+        "ok\nok\nkind link\n",
+        &[ONE_FILE],
+    ),
+    (
+        ONE_FILE,
+        "create /a%2Db\nlist / - 9\nkind /a-b\n",
+        "ok\nentries 2 file a%2Db file test.txt end\nerr 71 EPROTO\n",
+        &[ONE_FILE],
+    ),
+];
+
+#[test]
+fn adds_entries(rt: HostRuntime) {
+    check(&rt, rt.alloc(), ADDED);
 }

@@ -1,5 +1,5 @@
 //! Lives that a fault ends, of the reader, the writer or the files' device.
-use crate::lives::{Fate, Life, Sizes, Stored, are_there, closed, ending, left, lived};
+use crate::lives::{Fate, Life, Sizes, Stored, are_there, closed, ending, left, lived, over};
 use crate::refusals::check_refused;
 use eden_checkout::OpenFault;
 use eden_overlay::{FilesFault, MemoryFiles, StopFiles};
@@ -148,7 +148,8 @@ fn a_failed_read_keeps_the_changes(rt: HostRuntime) {
 fn a_failed_write_keeps_the_changes(rt: HostRuntime) {
     let mut reader = CHANGE.input.as_bytes();
     let files = MemoryFiles::new(rt.alloc());
-    let ending = ending(&rt, rt.alloc(), files, &CHANGE, &mut reader, &mut Gone);
+    let backing = over(&rt, rt.alloc(), files);
+    let ending = ending(&rt, rt.alloc(), backing, &CHANGE, &mut reader, &mut Gone);
     let fate = Fate {
         outcome: Err(LifeFault::Session(SessionFault::Write)),
         unclosed: None,

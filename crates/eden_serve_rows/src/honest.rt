@@ -1,6 +1,6 @@
 //! A World that is honest: all that is promised of a mount's life where the outside is honest holds of these runs.
 ghost use Rattle.eden_object.specs.Objects.{IsHonest};
-ghost use Rattle.eden_session_rows.specs.Samples.{sample};
+ghost use Rattle.eden_serve_rows.specs.Samples.{sample};
 
 use eden_checkout::opening_laws;
 use eden_model::{Id, World};
@@ -18,7 +18,7 @@ struct Honest;
 
 impl World for Honest {
     ghost use Rattle.eden_model.specs.Repository.{Whole};
-    ghost use Rattle.eden_session_rows.specs.Samples.{sample, two_files};
+    ghost use Rattle.eden_serve_rows.specs.Samples.{sample, two_files};
 
     ghost repository = { sample };
 

@@ -10,7 +10,7 @@ use Rattle.eden_object.specs.Frames.{frame}
 use Rattle.eden_object.specs.Laws.{OneFrame, OneList}
 use Rattle.eden_object.specs.Objects.{IsHonest}
 use Rattle.eden_object.specs.Trees.{AreEntries, IsTreeBody, spelled_mode}
-use Rattle.eden_session_rows.specs.Samples.{sample, version_1, version_2, new_file, one_file, two_files, file, bak, one_file_entries, two_files_entries}
+use Rattle.eden_serve_rows.specs.Samples.{sample, version_1, version_2, new_file, one_file, two_files, file, bak, one_file_entries, two_files_entries}
 
 blob_is_honest : OneFrame → (id : Id) (framed content : List ℕ) → framed ≡ frame word.Blob content → sample.blob id ≡ Some content → IsHonest sample id framed
 blob_is_honest one_frame id framed content is has = record {

@@ -1,5 +1,5 @@
-use Rattle.eden_session_rows.proofs.SampleLemmas.{version_1_is_honest, version_2_is_honest, new_file_is_honest, one_file_is_honest, two_files_is_honest}
-use Rattle.eden_session_rows.proofs.honest.objects.Goals as goal
+use Rattle.eden_serve_rows.proofs.SampleLemmas.{version_1_is_honest, version_2_is_honest, new_file_is_honest, one_file_is_honest, two_files_is_honest}
+use Rattle.eden_serve_rows.proofs.honest.objects.Goals as goal
 
 pub put-requires : goal.put-requires
 put-requires c = version_1_is_honest c.one_frame.ensures

@@ -1,7 +1,7 @@
 use Rattle.std.proofs.Common.{ℕ, List, ap}
 use Rattle.eden_overlay.specs.InMemory.{stored_in}
-use Rattle.eden_session_rows.specs.Samples.{sample, two_files}
-use Rattle.eden_session_rows.proofs.honest.lived.Goals as goal
+use Rattle.eden_serve_rows.specs.Samples.{sample, two_files}
+use Rattle.eden_serve_rows.proofs.honest.lived.Goals as goal
 
 pub live-requires : goal.live-requires
 live-requires c = record {
