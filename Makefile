@@ -39,6 +39,8 @@ bench: ## times the work that grows with its input, at full size
 	@cd crates/eden_bench && folder=$$(mktemp -d) && out/eden_bench large 64 timed $$folder; rm -r $$folder
 	@cd crates/eden_bench && out/eden_bench cache 1000000 timed
 	@cd crates/eden_bench && out/eden_bench lines 100000 timed
+	@$(MAKE) --no-print-directory run > /dev/null
+	@scripts/bench-mountd
 
 fmt: ## lays out every source and proof file
 	@for crate in crates/*/; do (cd $$crate && rt fmt) || exit 1; done

@@ -26,7 +26,7 @@ unowned : (root : Id) (o : Option (List ℕ)) → o ≡ None → root_from root 
 unowned root None is = λ own. cc
 unowned root (Some b) is = cc
 
-nothing_named : (F : Stored) → AreNone F → (c : ℕ) (e : StoredEntry) → ¬ Names F c e
+pub nothing_named : (F : Stored) → AreNone F → (c : ℕ) (e : StoredEntry) → ¬ Names F c e
 nothing_named F none c e n = let h : None ≡ Some n.entries = sym (ap (option_and_then entries_in) (none c)) ∙ n.held in cc
 
 state_stray : (F : Stored) → IsStray F 0

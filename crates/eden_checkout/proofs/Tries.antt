@@ -34,6 +34,7 @@ module _ {W F : Type 0} (w : Ghosts W) (f : Files F W) (shown : KeepsShown w f) 
     tried = tried;
     reply = tried.attempts.answer.reply;
     tree = tried.attempts.answer.shown;
+    commit = tried.root;
     unfetched = λ id cause is. tried.attempts.answer.fault (fault.Fetch id cause) is;
     cache = found_still tried.attempts.cache;
   }
@@ -47,6 +48,7 @@ module _ {W F : Type 0} (w : Ghosts W) (f : Files F W) (shown : KeepsShown w f) 
         lacks = ap is_some waits.need.wanted.lacks;
         still = λ j before. stay s.inodes.root t.inodes.root s.cache t.cache q j k grows tried.attempts.cache before waits.need;
         tree = shown s.inodes t.inodes waits.keeps;
+        commit = tried.root;
         cache = found_still tried.attempts.cache;
         some = left.0;
         left = left.1;
@@ -58,6 +60,7 @@ module _ {W F : Type 0} (w : Ghosts W) (f : Files F W) where
   ticks s t is = record {
     ticked = is;
     tree = ap (λ (u : Checkout F). shows w f u.inodes) is;
+    commit = ap (λ (u : Checkout F). u.root) is;
     cache = λ k. ap (λ (u : Checkout F). is_some (object_at u.cache k)) is;
     needs = λ q k need. subst (λ (u : Checkout F). IsRealNeed q u.inodes.root u.cache k) (sym is) need;
     left = λ q. ap (λ (u : Checkout F). left u.inodes.root u.cache q) is;
@@ -68,6 +71,7 @@ module _ {W F : Type 0} (w : Ghosts W) (f : Files F W) where
   stores falls s t k o put found = record {
     kept = put;
     tree = ap (shows w f) put.inodes;
+    commit = put.root;
     cached = ap is_some found;
     left = λ q need.
         let root = ap (λ (u : Table F). u.root) put.inodes in
@@ -80,4 +84,4 @@ module _ {W F : Type 0} (w : Ghosts W) (f : Files F W) where
   stores_by falls s t k o (Err x) inodes root kept size found = kept
 
   pub unloads : (s t : Checkout F) (p : Path) (age gone : ℕ) → IsUnloaded w f s p age gone t → (w.honest → shows w f t.inodes ≡ shows w f s.inodes) → Unloads (attempted w f) w.honest s p age gone t
-  unloads s t p age gone is same = record { unloaded = is; tree = same; cache = λ k. ap (λ (c : Cache). is_some (object_at c k)) is.cache }
+  unloads s t p age gone is same = record { unloaded = is; tree = same; commit = is.root; cache = λ k. ap (λ (c : Cache). is_some (object_at c k)) is.cache }

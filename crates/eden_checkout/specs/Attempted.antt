@@ -51,6 +51,7 @@ module _ {W F : Type 0} (w : Ghosts W) (f : Files F W) where
   abbrev pub attempted : Table (Checkout F)
   attempted = record {
     shown = λ t. shows w f t.inodes;
+    commit = λ t. t.root;
     caches = λ t k. is_some (object_at t.cache k);
     needs = λ t q k. IsRealNeed q t.inodes.root t.cache k;
     left = λ t q. left t.inodes.root t.cache q;

@@ -2,3 +2,4 @@ pub mod Opening
 pub mod Checkouts
 pub mod Closing
 pub mod Attempted
+pub mod Laws

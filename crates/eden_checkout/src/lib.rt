@@ -8,7 +8,9 @@ mod attempted;
 mod checkout;
 mod closing;
 mod fault;
+mod laws;
 mod opening;
 
 pub use checkout::Checkout;
 pub use fault::OpenFault;
+pub use laws::opening_laws;

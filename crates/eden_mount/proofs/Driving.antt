@@ -27,7 +27,8 @@ use Rattle.eden_mount.specs.Core.{Core, seat_of, Pends, IsFree, entry, pending_f
 use Rattle.eden_mount.specs.Kept.{IsMount}
 use Rattle.eden_mount.specs.Replying.{Replied, attempted, uncopied, failed, ToldBy, WaitsBy}
 use Rattle.eden_mount.specs.Steps.{Turns, Takes}
-use Rattle.eden_mount.specs.Serving.{FailsBy, HasFailed, Comes, IsAtRest, IsDriven, Serves, budget, turns_left, left_at, drive_size, Hands, Drives}
+use Rattle.eden_mount.specs.Serving.{FailsBy, HasFailed, Comes, IsAtRest, IsDriven, Serves, Stays, budget, turns_left, left_at, drive_size, Hands, Drives}
+use Rattle.eden_mount.proofs.CallerLemmas.{stays_on}
 
 -- ---- the queue of one caller
 
@@ -101,6 +102,7 @@ module _ {T : Type 0} (A : Table T) where
     driven : IsDriven A q m'
     history : m'.history ≡ m.history
     seats : m'.seats ≡ m.seats
+    stays : Stays A m m'
     how : HasGone q a m m'
 
   -- the queue after the caller's key landed, with a mark or without
@@ -130,6 +132,7 @@ module _ {T : Type 0} (A : Table T) where
         driven = driven_on q k m m' kept h seats (ap (λ (x : Queue). x.queue) queue) (ap (λ (x : Queue). x.flight) queue) (ap (want_of 1) queue ∙ (all_are_met m.queue k cause.Memory 1).0) none;
         history = ap (λ (x : Core T). x.history) is;
         seats = seats;
+        stays = record { commit = keeps.2.commit; passes = ap (λ (x : Queue). x.passes) queue; limit = ap (λ (x : Core T). x.limit) is };
         how = inl (mark, keeps.2.left q h.needs);
       }
 
@@ -150,6 +153,7 @@ module _ {T : Type 0} (A : Table T) where
         driven = driven_on q k m m' kept h seats (ap (λ (y : Queue). y.queue) queue) (ap (λ (y : Queue). y.flight) queue) want needed;
         history = ap (λ (y : Core T). y.history) is;
         seats = seats;
+        stays = record { commit = ap A.commit table; passes = ap (λ (y : Queue). y.passes) queue; limit = ap (λ (y : Core T). y.limit) is };
         how = inr (x, why, mark, table);
       }
 
@@ -231,6 +235,7 @@ module _ {T : Type 0} (A : Table T) (honest : Type 0) where
     some : 1 ≤ A.left m2.table q
     history : m2.history ≡ m.history
     seats : m2.seats ≡ m.seats
+    stays : Stays A m m2
 
   flies : (q : Request) (m m1 m2 : Core T) (k j : Key) → IsQueue m2.queue → IsDriven A q m → Turns A honest m 1 (Wait k) m1 → Takes m1 (Some j) m2 → Flies q m m2 k j
   flies q m m1 m2 k j kept2 h (s, p, is, w) (next, is2) =
@@ -261,6 +266,11 @@ module _ {T : Type 0} (A : Table T) (honest : Type 0) where
         some = subst (λ (t : T). 1 ≤ A.left t q) (sym table) wait.awaits.needs.some;
         history = ap (λ (x : Core T). x.history) is2 ∙ ap (λ (x : Core T). x.history) is;
         seats = seats;
+        stays = record {
+          commit = ap A.commit table ∙ wait.awaits.needs.commit ∙ wait.ticks.commit;
+          passes = ap (λ (x : Queue). x.passes) queue2;
+          limit = ap (λ (x : Core T). x.limit) is2 ∙ ap (λ (x : Core T). x.limit) is;
+        };
       }
 
 module _ {S : Type 0} (fetched : S → Id → Answer → S → Type 0) {T : Type 0} (A : Table T) (honest : Type 0) (q : Request) where
@@ -275,6 +285,12 @@ module _ {S : Type 0} (fetched : S → Id → Answer → S → Type 0) {T : Type
       let g = goes A q k hand.answer m2 m3 kept3 f.flying (came_of m m2 m3 s t k j f.same hand) in
       let less = fewer_turns A (mark_of 1 m.queue) (A.left m.table q) (A.left m2.table q) q (record { key = k; answer = hand.answer }) m2 m3 refl f.within f.some g.how in
       (g.driven, subst (λ n. n < drive_size A m) (sym (size_of A q m3 g.driven)) (subst (λ n. turns_left (mark_of 1 m3.queue) (A.left m3.table q) < n) (sym (size_of A q m h)) less))
+
+  -- a reply leaves the commit
+  same_commit : (t u : T) (mark : Option Mark) (r : Reply) → Replied A honest t q mark r u → A.commit u ≡ A.commit t
+  same_commit t u mark r (attempted done) = done.commit
+  same_commit t u mark r (uncopied found done large memory) = done.commit
+  same_commit t u mark r (failed k x needs marked was) = needs.commit
 
   pub done_drives : (m m' : Core T) (s : S) (n : ℕ) (r : Reply) → IsDriven A q m → Turns A honest m 1 (Done n r) m' → Drives fetched A honest q m s r m' s
   done_drives m m' s n r h (p, pends, number, is, told) =
@@ -291,6 +307,11 @@ module _ {S : Type 0} (fetched : S → Id → Answer → S → Type 0) {T : Type
         quiet = record {
           queue = ap (λ (x : Queue). x.queue) queue ∙ h.quiet.queue;
           flight = ap (λ (x : Queue). x.flight) queue ∙ h.quiet.flight;
+        };
+        stays = record {
+          commit = same_commit mine.begun m'.table (mark_of 1 m.queue) r mine.replied ∙ mine.ticks.commit;
+          passes = ap (λ (x : Queue). x.passes) queue;
+          limit = ap (λ (x : Core T). x.limit) is;
         };
         failed = λ id x e. inr (why mine.begun m'.table id x e mine.replied);
       }
@@ -320,6 +341,7 @@ module _ {S : Type 0} (fetched : S → Id → Answer → S → Type 0) {T : Type
         history = d.history ∙ ap (λ es. es ++ entry 1 q r ∷ []) (g.history ∙ f.history);
         seats = d.seats ∙ ap (λ xs. set xs 0 None) (g.seats ∙ f.seats);
         quiet = d.quiet;
+        stays = stays_on A m m2 m' f.stays (stays_on A m2 m3 m' g.stays d.stays);
         failed = λ id x e. inl (failed_here A q a m2 m3 d.asks id x g.how (d.failed id x e));
       }
 
@@ -365,5 +387,10 @@ module _ {T : Type 0} (A : Table T) (honest : Type 0) (opening : Tree) (q : Requ
           quiet = d.quiet;
           free = ap (λ (x : List (Option Pending)). slice_index_or x 0 None) d.seats ∙ emptied m1.seats;
         };
+        stays = stays_on A m m1 m' (record {
+          commit = ap (λ (x : Core T). A.commit x.table) is;
+          passes = ap (λ (x : Core T). x.queue.passes) is;
+          limit = ap (λ (x : Core T). x.limit) is;
+        }) d.stays;
         failed = λ id x e. ⊎_elim (λ f. f) (λ w. absurd (let both : None ≡ Some (w.0, x) = sym clear ∙ w.2 in cc both)) (d.failed id x e);
       }

@@ -1,3 +1,4 @@
+pub mod CallerLemmas
 mod SeatLemmas
 mod TurnLemmas
 mod Payloads

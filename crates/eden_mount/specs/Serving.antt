@@ -77,6 +77,12 @@ left_at A t (Some s) = A.left t s.request
 abbrev pub drive_size : {T : Type 0} → Table T → Core T → ℕ
 drive_size A m = turns_left (mark_of 1 m.queue) (left_at A m.table (seat_of 1 m))
 
+-- what a mount was opened with: its table's commit, how many passes it has, and how long its history may become
+pub record Stays {T : Type 0} (A : Table T) (m m' : Core T) : Type 0 where
+  pub commit : A.commit m'.table ≡ A.commit m.table
+  pub passes : m'.queue.passes ≡ m.queue.passes
+  pub limit : m'.limit ≡ m.limit
+
 -- the last turn told the reply
 pub record IsTold {T : Type 0} (A : Table T) (honest : Type 0) (q : Request) (r : Reply) (u : T) : Type 0 where
   pub before : T
@@ -99,6 +105,7 @@ module _ {S : Type 0} (fetched : S → Id → Answer → S → Type 0) {T : Type
     pub history : m'.history ≡ m.history ++ entry 1 q r ∷ []
     pub seats : m'.seats ≡ slice_set m.seats 0 None
     pub quiet : IsQuiet m'
+    pub stays : Stays A m m'
     pub failed : (id : Id) (x : Cause) → r ≡ say.Fault (fault.Fetch id x)
         → HasFailed asks id x ⊎ ((k : Key) × (k.id ≡ id) × (mark_of 1 m.queue ≡ Some (k, x)))
 
@@ -114,6 +121,7 @@ module _ {S : Type 0} (fetched : S → Id → Answer → S → Type 0) {T : Type
     pub told : IsTold A honest q r m'.table
     pub history : m'.history ≡ m.history ++ entry 1 q r ∷ []
     pub rest : IsAtRest m'
+    pub stays : Stays A m m'
     pub failed : (id : Id) (x : Cause) → r ≡ say.Fault (fault.Fetch id x) → HasFailed asks id x
 
   -- .. or refused, and nothing changed

@@ -17,6 +17,8 @@ use Rattle.eden_model.specs.declared.attempt.Attempt.TheVariants as ended
 pub record Table (T : Type 0) : Type 1 where
   -- the tree that it shows
   pub shown : T → Tree
+  -- the commit that it is a checkout of, by the id of its tree
+  pub commit : T → Id
   -- whether its cache has the object
   pub caches : T → Key → Bool
   -- the request's checks, in their order, end at what that object alone gives, and the cache lacks it
@@ -37,6 +39,7 @@ module _ {T : Type 0} (A : Table T) where
   pub record Ticks (t u : T) : Type 0 where
     pub ticked : A.ticked t u
     pub tree : A.shown u ≡ A.shown t
+    pub commit : A.commit u ≡ A.commit t
     pub cache : (k : Key) → A.caches u k ≡ A.caches t k
     pub needs : (q : Request) (k : Key) → A.needs t q k → A.needs u q k
     pub left : (q : Request) → A.left u q ≡ A.left t q
@@ -45,6 +48,7 @@ module _ {T : Type 0} (A : Table T) where
   pub record Stores (t : T) (k : Key) (o : Body) (u : T) : Type 0 where
     pub kept : A.kept t k o u
     pub tree : A.shown u ≡ A.shown t
+    pub commit : A.commit u ≡ A.commit t
     pub cached : A.caches u k ≡ true
     pub left : (q : Request) → A.needs t q k → A.left u q < A.left t q
 
@@ -59,6 +63,7 @@ module _ {T : Type 0} (A : Table T) (honest : Type 0) where
     pub tried : A.tried t q (ended.Finished r) u
     pub reply : honest → fault_of r ≡ None → Replies (A.shown t) q r
     pub tree : honest → A.shown u ≡ after (A.shown t) q r
+    pub commit : A.commit u ≡ A.commit t
     -- nothing is fetched in an attempt
     pub unfetched : (id : Id) (x : Cause) → r ≢ say.Fault (fault.Fetch id x)
     pub cache : (k : Key) → A.caches t k ≡ true → A.caches u k ≡ true
@@ -70,6 +75,7 @@ module _ {T : Type 0} (A : Table T) (honest : Type 0) where
     pub lacks : A.caches u k ≡ false
     pub still : (j : Key) → A.needs t q j → (j ≡ k) ⊎ (A.left u q < A.left t q)
     pub tree : honest → A.shown u ≡ A.shown t
+    pub commit : A.commit u ≡ A.commit t
     pub cache : (j : Key) → A.caches t j ≡ true → A.caches u j ≡ true
     pub some : 1 ≤ A.left u q
     pub left : A.left u q ≤ A.left t q
@@ -82,4 +88,5 @@ module _ {T : Type 0} (A : Table T) (honest : Type 0) where
   pub record Unloads (t : T) (p : Path) (age gone : ℕ) (u : T) : Type 0 where
     pub unloaded : A.unloaded t p age gone u
     pub tree : honest → A.shown u ≡ A.shown t
+    pub commit : A.commit u ≡ A.commit t
     pub cache : (k : Key) → A.caches u k ≡ A.caches t k

@@ -97,7 +97,7 @@ impl<W: World, F: Files<W>> Overlay<W, F> {
         ensures err { W.honest → OnErr result (F.stored self.new ≡ F.stored self.old) }
         ensures counted { Counted (result ≡ Err files.Device) (F.failures self.old) (F.failures self.new) }
     {
-        // Before there is the file, beside the content.
+        // First, so that memory never holds it beside the new content and the new file.
         self.recent.clear();
         let bytes = encode_file(alloc, content)?;
         match self.files.replace(alloc, number, &bytes) {

@@ -1,5 +1,6 @@
 -- A mount's life: the overlay is opened over a commit's tree, one caller's session is served, and the overlay is closed.
 use Rattle.std.specs.Prelude.{◌≡◌, Option, Some, None, Result, Ok, Err, ⊤}
+use Rattle.std.specs.List.{AllByRecursion}
 use Rattle.eden_model.specs.declared.id.Id.{Id}
 use Rattle.eden_model.specs.declared.world.World.{Ghosts}
 use Rattle.eden_model.specs.Histories.{Legal, replay}
@@ -7,7 +8,7 @@ use Rattle.eden_model.specs.Trees.{Tree}
 use Rattle.eden_source.specs.Fetching.{Answer}
 use Rattle.eden_overlay.specs.declared.files.Files.{Ghosts as Files}
 use Rattle.eden_overlay.specs.declared.files.FilesFault.{FilesFault}
-use Rattle.eden_mount.specs.Serving.{Desk}
+use Rattle.eden_mount.specs.Serving.{Desk, Stays}
 use Rattle.eden_mount.specs.Settings.{Settings, room_for}
 use Rattle.eden_checkout.specs.declared.fault.OpenFault.{OpenFault}
 use Rattle.eden_checkout.specs.Attempted.{attempted}
@@ -18,7 +19,7 @@ use Rattle.eden_serve.specs.declared.fault.LifeFault.{LifeFault}
 use Rattle.eden_serve.specs.declared.fault.LifeFault.TheVariants as life
 use Rattle.eden_serve.specs.declared.life.Backing.{Backing}
 use Rattle.eden_serve.specs.declared.life.Ending.{Ending}
-use Rattle.eden_serve.specs.Calls.{CallAnswers}
+use Rattle.eden_serve.specs.Calls.{CallAnswers, MayBeTold}
 use Rattle.eden_serve.specs.Opening.{IsOpened, IsRefused, IsClosed, StaysOpen}
 use Rattle.eden_serve.specs.Serving.{Begins}
 
@@ -29,14 +30,14 @@ first_fault (Ok _) (Some fault) = Err (life.Close fault)
 first_fault (Ok _) None = Ok tt
 
 module _ {W F : Type 0} (w : Ghosts W) (f : Files F W) where
-  -- the checkout that shows this tree was closed to the files, or it wasn't
-  abbrev pub Closes : Checkout F → Tree → Option FilesFault → F → Type 0
-  Closes t tree None files = IsClosed w f t tree files
-  Closes t tree (Some why) files = StaysOpen w f t tree why files
+  -- the commit's checkout, which shows this tree, was closed to the files, or it wasn't
+  abbrev pub Closes : Id → Checkout F → Tree → Option FilesFault → F → Type 0
+  Closes root t tree None files = IsClosed w f root t tree files
+  Closes root t tree (Some why) files = StaysOpen w f root t tree why files
 
   -- a served caller's checkout was closed, and the first fault told
-  pub record Ends {S : Type 0} (t : Checkout F) (tree : Tree) (source : S) (said : Result ⊤ SessionFault) (left : Ending F S) : Type 0 where
-    pub files : Closes t tree left.unclosed left.backing.files
+  pub record Ends {S : Type 0} (root : Id) (t : Checkout F) (tree : Tree) (source : S) (said : Result ⊤ SessionFault) (left : Ending F S) : Type 0 where
+    pub files : Closes root t tree left.unclosed left.backing.files
     pub source_left : left.backing.source ≡ source
     pub told : left.outcome ≡ first_fault said left.unclosed
 
@@ -49,8 +50,9 @@ module _ {W F : Type 0} (w : Ghosts W) (f : Files F W) where
       pub unwritten : output.1 ≡ output.0
       pub unclosed : left.unclosed ≡ None
 
-    -- The overlay was opened, the caller served, and the overlay closed, however the session ended. Where the outside is
-    -- honest, the history is one of the opening tree, and what the files show is the tree after it.
+    -- The overlay was opened, the caller served, and the overlay closed, however the session ended. A request wasn't taken
+    -- for the settings' limit or for want of memory alone, and the files are the same commit's. Where the outside is honest,
+    -- the history is one of the opening tree, and what the files show is the tree after it.
     pub record IsLived (root : Id) (settings : Settings) (backing : Backing F S) (input output : Known × Known) (left : Ending F S) : Type 0 where
       pub begun : Desk (Checkout F) S
       pub begins : Begins (room_for settings) begun.core.table backing.source begun
@@ -58,8 +60,10 @@ module _ {W F : Type 0} (w : Ghosts W) (f : Files F W) where
       pub ended : Desk (Checkout F) S
       pub said : Result ⊤ SessionFault
       pub session : Session (CallAnswers fetched (attempted w f) w.honest) (begun, ended) input output said
+      pub told : AllByRecursion (MayBeTold settings.history) session.given
+      pub stays : Stays (attempted w f) begun.core ended.core
       pub legal : w.honest → Legal w.opening ended.core.history
-      pub ends : Ends ended.core.table (replay w.opening ended.core.history) ended.source said left
+      pub ends : Ends root ended.core.table (replay w.opening ended.core.history) ended.source said left
 
     abbrev pub LivesBy : Result ⊤ LifeFault → Id → Settings → Backing F S → Known × Known → Known × Known → Ending F S → Type 0
     LivesBy (Err (life.Open why)) root settings backing input output left = IsUnserved root backing input output why left

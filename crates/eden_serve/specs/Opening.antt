@@ -29,17 +29,18 @@ module _ {W F : Type 0} (w : Ghosts W) (f : Files F W) where
     pub why : IsOpenFault w.honest root (f.stored files) (f.failures files) (f.failures left) fault
     pub unchanged : w.honest → f.stored left ≡ f.stored files
 
-  -- The files that a checkout was closed to hold its state. Where the outside is honest they can be opened again on the
-  -- same commit's tree, and show this tree.
-  pub record IsClosed (t : Checkout F) (tree : Tree) (files : F) : Type 0 where
-    pub state : w.honest → HoldsState (f.stored files) (record { root = t.root; next = t.inodes.next })
-    pub opens : w.honest → CanOpen w.repository tree t.root (f.stored files)
+  -- A checkout of that commit was closed to the files. Where the outside is honest they hold its state, can be opened again
+  -- on the same commit's tree, and show this tree.
+  pub record IsClosed (root : Id) (t : Checkout F) (tree : Tree) (files : F) : Type 0 where
+    pub state : w.honest → HoldsState (f.stored files) (record { root = root; next = t.inodes.next })
+    pub opens : w.honest → CanOpen w.repository tree root (f.stored files)
 
-  -- The checkout wasn't closed, for that fault. It is then another, over these files, which shows this tree still.
-  pub record StaysOpen (t : Checkout F) (tree : Tree) (why : FilesFault) (files : F) : Type 0 where
+  -- The checkout of that commit wasn't closed, for that fault. It is then another, over these files, which shows this tree
+  -- still.
+  pub record StaysOpen (root : Id) (t : Checkout F) (tree : Tree) (why : FilesFault) (files : F) : Type 0 where
     pub left : Checkout F
     pub over : files ≡ left.inodes.files
     pub shown : w.honest → shows w f left.inodes ≡ tree
-    pub commit : left.root ≡ t.root
+    pub commit : left.root ≡ root
     pub next : left.inodes.next ≡ t.inodes.next
     pub device : why ≡ fault.Device → Rose (f.failures t.inodes.files) (f.failures files)

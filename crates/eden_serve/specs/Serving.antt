@@ -1,16 +1,17 @@
 -- One caller served over a table.
 use Rattle.std.specs.Prelude.{◌≡◌, []}
+use Rattle.std.specs.List.{AllByRecursion}
 use Rattle.eden_model.specs.declared.id.Id.{Id}
 use Rattle.eden_model.specs.Histories.{Legal, replay}
 use Rattle.eden_model.specs.Trees.{Tree}
 use Rattle.eden_source.specs.Fetching.{Answer}
 use Rattle.eden_mount.specs.Kept.{core_from}
-use Rattle.eden_mount.specs.Serving.{Desk, IsAtRest}
+use Rattle.eden_mount.specs.Serving.{Desk, IsAtRest, Stays}
 use Rattle.eden_mount.specs.Settings.{Room}
 use Rattle.eden_mount.specs.Tables.{Table}
 use Rattle.eden_wire.specs.Serving.{Known, Session}
 use Rattle.eden_serve.specs.declared.serving.Served.{Served}
-use Rattle.eden_serve.specs.Calls.{CallAnswers}
+use Rattle.eden_serve.specs.Calls.{CallAnswers, MayBeTold}
 
 -- a caller in whose mount of that room nothing has happened, and whose source wasn't asked
 pub record Begins {T S : Type 0} (r : Room) (t : T) (s : S) (d : Desk T S) : Type 0 where
@@ -19,12 +20,15 @@ pub record Begins {T S : Type 0} (r : Room) (t : T) (s : S) (d : Desk T S) : Typ
   pub rest : IsAtRest d.core
 
 -- The caller's session was served: the bytes that were read are its lines, and those that were written their answers'
--- texts. Where the outside is honest, the mount's history is one of the opening tree, and the table shows the tree after it.
+-- texts. A request wasn't taken for the room's limit or for want of memory alone, and what the mount was opened with stays.
+-- Where the outside is honest, its history is one of the opening tree, and the table shows the tree after it.
 pub record ServesCaller {S : Type 0} (fetched : S → Id → Answer → S → Type 0) {T : Type 0} (A : Table T) (honest : Type 0) (opening : Tree) (r : Room) (t : T) (s : S) (input output : Known × Known) (x : Served T S) : Type 0 where
   pub begun : Desk T S
   pub begins : Begins r t s begun
   pub ended : Desk T S
   pub session : Session (CallAnswers fetched A honest) (begun, ended) input output x.said
+  pub told : AllByRecursion (MayBeTold r.limit) session.given
+  pub stays : Stays A begun.core ended.core
   pub legal : honest → Legal opening ended.core.history
   pub shown : honest → A.shown ended.core.table ≡ replay opening ended.core.history
   pub table : x.table ≡ ended.core.table

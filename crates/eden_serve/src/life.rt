@@ -55,7 +55,7 @@ fn end<W: World, S: Drop, A: Allocator + Clone, F: Files<W>>(
     alloc: Global,
     served: Served<Checkout<A, W, F>, S>,
 ) -> Ending<F, S>
-    ensures { Ends W.World F.Files served.table (shows W.World F.Files served.table.inodes) served.source served.said result }
+    ensures { Ends W.World F.Files served.table.root served.table (shows W.World F.Files served.table.inodes) served.source served.said result }
 {
     let Served {
         table,
@@ -83,7 +83,8 @@ fn end<W: World, S: Drop, A: Allocator + Clone, F: Files<W>>(
 ///
 /// The session ends where the input does, or at a line that is no request. The overlay is closed after a session's fault
 /// too; only where the close fails are the files left without their state. What was told are the replies of the commit's
-/// whole tree, changed by one request after another, and files that were closed show the tree after them.
+/// whole tree, changed by one request after another, and files that were closed show the tree after them. A request that
+/// isn't taken is told that the history is full at the settings' limit, or that there is no memory.
 ///
 /// Errors are told in `outcome`, the first in the order opening, session, close. Where the overlay isn't opened, nothing
 /// is read or written.

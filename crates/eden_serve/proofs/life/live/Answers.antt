@@ -1,10 +1,12 @@
 use Rattle.std.proofs.Common.{◌≡◌, ◌∙◌, Result, sym, ap, subst}
+use Rattle.std.specs.List.{AllByRecursion}
 use Rattle.eden_model.specs.Histories.{replay}
 use Rattle.eden_mount.specs.Core.{Core}
 use Rattle.eden_mount.specs.Settings.{Room}
 use Rattle.eden_checkout.specs.Checkouts.{Checkout}
 use Rattle.eden_wire.specs.Serving.{Known}
 use Rattle.eden_serve.specs.declared.fault.LifeFault.{LifeFault}
+use Rattle.eden_serve.specs.Calls.{MayBeTold}
 use Rattle.eden_serve.specs.Lives.{LivesBy, IsLived}
 use Rattle.eden_serve.specs.Opening.{IsOpened}
 use Rattle.eden_serve.specs.Serving.{Begins}
@@ -22,6 +24,7 @@ returns-in-Ok g c =
     let x = c.serve_table-served.result in
     let s = c.serve_table-served.ensures in
     let table : s.begun.core.table ≡ c.in-Ok.table = ap (λ (m : Core _). m.table) s.begins.core in
+    let root : s.ended.core.table.root ≡ c.args.root = s.stays.commit ∙ ap (λ (t : Checkout _). t.root) table ∙ c.in-Ok.ensures.opened.commit in
     let whole : IsLived w f g.S.Source.fetched c.args.root settings c.args.backing input output left = record {
       begun = s.begun;
       begins = subst (λ (r : Room). Begins r s.begun.core.table c.args.backing.source s.begun) c.in-Ok.ensures.room
@@ -30,9 +33,11 @@ returns-in-Ok g c =
       ended = s.ended;
       said = x.said;
       session = s.session;
+      told = subst (λ (r : Room). AllByRecursion (MayBeTold r.limit) s.session.given) c.in-Ok.ensures.room s.told;
+      stays = s.stays;
       legal = s.legal;
       ends = record {
-        files = closes_after w f x.table s.ended.core.table (replay w.opening s.ended.core.history) s.table s.shown left.unclosed left.backing.files c.end.ensures.files;
+        files = closes_after w f c.args.root x.table s.ended.core.table (replay w.opening s.ended.core.history) s.table root s.shown left.unclosed left.backing.files c.end.ensures.files;
         source_left = c.end.ensures.source_left ∙ s.source;
         told = c.end.ensures.told;
       };

@@ -1,5 +1,6 @@
 //! Sessions that look alone: each object is asked for once, and only where a request needs it.
-use crate::mounts::{Session, check, no_objects, put, said, samples};
+use crate::objects::{no_objects, put, samples};
+use crate::sessions::{Session, check, said};
 use eden_samples::{EMPTY_TREE, NEW_FILE, ONE_FILE, ONE_MODULE, TWO_FILES, VERSION_1, VERSION_2};
 use std::alloc::Global;
 use std::test::Fail;
@@ -16,8 +17,8 @@ const FIRST_RUN: &[Session] = &[
 ];
 
 #[test]
-fn serves_the_first_run(rt: HostRuntime) -> Result<(), Fail> {
-    check(&rt, rt.alloc(), FIRST_RUN)
+fn serves_the_first_run(rt: HostRuntime) {
+    check(&rt, rt.alloc(), FIRST_RUN);
 }
 
 const ASKED_FOR: &[Session] = &[
@@ -39,8 +40,8 @@ const ASKED_FOR: &[Session] = &[
 ];
 
 #[test]
-fn asks_only_for_what_a_request_needs(rt: HostRuntime) -> Result<(), Fail> {
-    check(&rt, rt.alloc(), ASKED_FOR)
+fn asks_only_for_what_a_request_needs(rt: HostRuntime) {
+    check(&rt, rt.alloc(), ASKED_FOR);
 }
 
 const PARTS: &[Session] = &[(
@@ -51,8 +52,8 @@ const PARTS: &[Session] = &[(
 )];
 
 #[test]
-fn reads_parts(rt: HostRuntime) -> Result<(), Fail> {
-    check(&rt, rt.alloc(), PARTS)
+fn reads_parts(rt: HostRuntime) {
+    check(&rt, rt.alloc(), PARTS);
 }
 
 const PAGES: &[Session] = &[
@@ -71,8 +72,8 @@ const PAGES: &[Session] = &[
 ];
 
 #[test]
-fn lists_pages(rt: HostRuntime) -> Result<(), Fail> {
-    check(&rt, rt.alloc(), PAGES)
+fn lists_pages(rt: HostRuntime) {
+    check(&rt, rt.alloc(), PAGES);
 }
 
 const NOT_THERE: &[Session] = &[(
@@ -83,8 +84,8 @@ const NOT_THERE: &[Session] = &[(
 )];
 
 #[test]
-fn refuses_what_is_not_there(rt: HostRuntime) -> Result<(), Fail> {
-    check(&rt, rt.alloc(), NOT_THERE)
+fn refuses_what_is_not_there(rt: HostRuntime) {
+    check(&rt, rt.alloc(), NOT_THERE);
 }
 
 /// The front of a line, with so many times a piece behind it.
@@ -109,7 +110,13 @@ const LIMITS: &[(&str, &str, usize, &str)] = &[
 fn keeps_the_limits_of_names_and_paths(rt: HostRuntime) -> Result<(), Fail> {
     for (front, piece, count, wanted) in LIMITS {
         let line = line(rt.alloc(), front, piece, *count)?;
-        let said = said(rt.alloc(), samples(rt.alloc())?, ONE_FILE, line.as_str())?;
+        let said = said(
+            &rt,
+            rt.alloc(),
+            samples(rt.alloc())?,
+            ONE_FILE,
+            line.as_str(),
+        );
         assert!(rt; said.as_slice() == wanted.as_bytes());
     }
     Ok(())
@@ -124,8 +131,8 @@ const SUBMODULE: &[Session] = &[(
 )];
 
 #[test]
-fn shows_a_submodule_as_an_empty_directory(rt: HostRuntime) -> Result<(), Fail> {
-    check(&rt, rt.alloc(), SUBMODULE)
+fn shows_a_submodule_as_an_empty_directory(rt: HostRuntime) {
+    check(&rt, rt.alloc(), SUBMODULE);
 }
 
 const ONE_BYTE: &[Session] = &[(
@@ -139,17 +146,18 @@ const ONE_BYTE: &[Session] = &[(
 fn believes_no_wrong_bytes(rt: HostRuntime) -> Result<(), Fail> {
     let mut objects = samples(rt.alloc())?;
     put(&mut objects, rt.alloc(), VERSION_1.id, b"blob 6\0hello\n")?;
-    let said = said(rt.alloc(), objects, ONE_FILE, "read /test.txt 0 1\n")?;
+    let said = said(&rt, rt.alloc(), objects, ONE_FILE, "read /test.txt 0 1\n");
     let wanted = "fault fetch 83baae61804e65cc73a7201a7252750c76066a30 BadDigest\n";
     assert!(rt; said.as_slice() == wanted.as_bytes());
-    check(&rt, rt.alloc(), ONE_BYTE)
+    check(&rt, rt.alloc(), ONE_BYTE);
+    Ok(())
 }
 
 #[test]
 fn tells_of_missing_objects(rt: HostRuntime) -> Result<(), Fail> {
     let objects = no_objects(rt.alloc());
     let input = "kind /\nlist / - 1\nkind /\n";
-    let said = said(rt.alloc(), objects, ONE_FILE, input)?;
+    let said = said(&rt, rt.alloc(), objects, ONE_FILE, input);
     let wanted =
         "kind dir\nfault fetch d8329fc1cc938780ffdd9f94e0d364e0ea74f579 Missing\nkind dir\n";
     assert!(rt; said.as_slice() == wanted.as_bytes());

@@ -1,0 +1,44 @@
+-- Files that nothing was stored in show the commit's whole tree.
+use Rattle.std.proofs.Common.{◌≡◌, ◌≢◌, ◌⊎◌, ℕ, List, Option, None, sym, refl, ◌∙◌, ap, inl, inr}
+use Rattle.std.proofs.Math.Path.{fun_ext}
+use Rattle.std.specs.Option.{option_and_then}
+use Rattle.eden_model.specs.declared.id.Id.{Id}
+use Rattle.eden_model.specs.declared.kind.Origin.TheVariants as origin
+use Rattle.eden_model.specs.Repository.{Repository, Whole}
+use Rattle.eden_overlay_format.specs.Values.{state_in}
+use Rattle.eden_overlay.specs.Files.{Stored}
+use Rattle.eden_overlay.specs.Held.{without}
+use Rattle.eden_overlay.specs.Laws.{RootlessSound}
+use Rattle.eden_overlay.proofs.CallerLemmas.{put_here, put_apart, same_or_apart}
+use Rattle.eden_tie.specs.Shown.{shown_in}
+use Rattle.eden_tie.specs.ShownLaws.{ShowsAway}
+use Rattle.eden_inode.specs.Tables.{fresh_root}
+use Rattle.eden_checkout.specs.Laws.{OpensFresh}
+use Rattle.eden_checkout.specs.Opening.{AreNone, CanOpen, files_show, root_from}
+use Rattle.eden_checkout.proofs.Opened.{nothing_named}
+
+abbrev pub nothing : Stored
+nothing = λ k. None
+
+still_none : (F : Stored) → AreNone F → without F 0 ≡ nothing
+still_none F none = fun_ext at_number where
+  by_number : (k : ℕ) → (0 ≡ k) ⊎ (0 ≢ k) → without F 0 k ≡ None
+  by_number k (inl is) = put_here F 0 k None is
+  by_number k (inr other) = put_apart F 0 k None other ∙ none k
+
+  at_number : (k : ℕ) → without F 0 k ≡ None
+  at_number k = by_number k (same_or_apart 0 k)
+
+module _ (away : ShowsAway) (R : Repository) (root : Id) (F : Stored) (none : AreNone F) where
+  whole_shown : files_show R root F ≡ Whole R root
+  whole_shown =
+      ap (λ o. shown_in R (without F 0) (fresh_root (root_from root o))) (none 1)
+      ∙ ap (λ (G : Stored). shown_in R G (fresh_root (origin.Object root))) (still_none F none)
+      ∙ away R nothing (fresh_root (origin.Object root)) refl
+
+pub opens_fresh : RootlessSound → ShowsAway → OpensFresh
+opens_fresh rootless away R root F none = record {
+  sound = rootless F (none 1);
+  shown = whole_shown away R root F none;
+  below = λ s held c e live names. absurd (nothing_named F none c e names);
+}

@@ -1,0 +1,12 @@
+ghost use Rattle.eden_checkout.specs.Laws.{OpensFresh};
+
+use eden_overlay::overlay_laws;
+use eden_tie::shown_laws;
+
+/// What whoever opens a checkout over no files has to know: it shows the commit's whole tree.
+pub fn opening_laws()
+    ensures fresh { OpensFresh }
+{
+    overlay_laws();
+    shown_laws();
+}

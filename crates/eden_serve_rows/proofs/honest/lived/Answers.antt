@@ -1,0 +1,9 @@
+use Rattle.std.proofs.Common.{ℕ, List, ap}
+use Rattle.eden_overlay.specs.InMemory.{stored_in}
+use Rattle.eden_serve_rows.specs.Samples.{sample, two_files}
+use Rattle.eden_serve_rows.proofs.honest.lived.Goals as goal
+
+pub live-requires : goal.live-requires
+live-requires c = record {
+  files = λ h. c.opening_laws.ensures.fresh sample two_files _ (λ k. ap (λ (rows : List (ℕ × List ℕ)). stored_in rows k) c.new-files.ensures);
+}
