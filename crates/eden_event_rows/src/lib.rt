@@ -15,3 +15,5 @@ mod shown;
 mod stream;
 #[cfg(test)]
 mod waits;
+#[cfg(test)]
+mod worked;
