@@ -56,7 +56,8 @@ fn repeat<F: Files<Outside>>(
     done
 }
 
-/// Makes the requests in turn, so many times, and tells how many were done, and how long each took.
+/// Makes the requests in turn, so many times, and tells how many were done, and how long each took. They were made once
+/// before, so that what they look at is loaded.
 fn measure<R: Print + Clock + AllocGlobal, F: Files<Outside>>(
     rt: &R,
     tree: &mut Tree<F>,
@@ -65,6 +66,7 @@ fn measure<R: Print + Clock + AllocGlobal, F: Files<Outside>>(
     rounds: u32,
     timing: Timing,
 ) -> io::Result<()> {
+    repeat(rt.alloc(), tree, requests, 1);
     let start = Instant::now(rt)?;
     let done = repeat(rt.alloc(), tree, requests, rounds);
     println!(rt; "  {what}: {done}")?;
