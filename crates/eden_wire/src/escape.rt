@@ -1,4 +1,4 @@
-ghost use Rattle.std.specs.Prelude.{◌≡◌, ◌<◌, ◌++◌, List, ℕ, MatchOption};
+ghost use Rattle.std.specs.Prelude.{◌≡◌, ◌<◌, ◌++◌, List, [], ◌∷◌, ℕ, MatchOption};
 ghost use Rattle.eden_wire.specs.Names.{is_plain, upper_digit, byte_text};
 
 /// Whether a byte of a name stands for itself: a letter, a digit, `.` or `_`.
@@ -19,16 +19,24 @@ fn digit(c: u8) -> Option<u8>
     }
 }
 
+/// The byte that `%` and two digits spell, if it doesn't stand for itself.
+fn escaped(high: u8, low: u8) -> Option<u8>
+    ensures { MatchOption result ((b : ℕ) → b < 256 → 37 ∷ high ∷ low ∷ [] ≡ byte_text b → ⊥) (λ b. (37 ∷ high ∷ low ∷ [] ≡ byte_text b) × (b < 256)) }
+{
+    let b = 16 * digit(high)? + digit(low)?;
+    if is_plain(b) { None } else { Some(b) }
+}
+
 /// The byte that the front of the text spells, and the text after it.
 pub(crate) fn first_byte(text: &[u8]) -> Option<(u8, &[u8])>
     ensures { MatchOption result ((b : ℕ) (rest : List ℕ) → b < 256 → text.now ≡ byte_text b ++ rest → ⊥) (λ x. (text.now ≡ byte_text x.0 ++ x.1.now) × (x.0 < 256)) }
 {
-    match text {
-        [b, rest @ ..] if is_plain(*b) => Some((*b, rest)),
-        [b'%', high, low, rest @ ..] => {
-            let b = 16 * digit(*high)? + digit(*low)?;
-            if is_plain(b) { None } else { Some((b, rest)) }
-        }
+    let (first, rest) = text.split_first()?;
+    if is_plain(*first) {
+        return Some((*first, rest));
+    }
+    match rest {
+        [high, low, more @ ..] if *first == b'%' => Some((escaped(*high, *low)?, more)),
         _ => None,
     }
 }
