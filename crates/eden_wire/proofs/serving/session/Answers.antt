@@ -1,7 +1,8 @@
 use Rattle.std.proofs.Common.{◌≡◌, ◌≤◌, length, arith, sym, ap, ◌∙◌, subst, drop, Ok}
+use Rattle.std.proofs.KnownBytes.{Keeps-refl}
 use Rattle.eden_wire.specs.Lines.{longest_line}
 use Rattle.eden_wire.specs.Turns.{Ended}
-use Rattle.eden_wire.proofs.RunLemmas.{SoFar, so_far_none, so_far_kept, so_far_more, session_none, session_end, session_bad, session_unwritten, keeps_from_none, nothing_read, answered_as, answered_short}
+use Rattle.eden_wire.proofs.RunLemmas.{SoFar, so_far_none, so_far_kept, so_far_more, session_none, session_end, session_bad, session_unwritten, session_unread, keeps_from_none, nothing_read, answered_as, answered_short}
 use Rattle.eden_wire.proofs.serving.session.Goals as goal
 use Rattle.eden_wire.proofs.serving.session.Goals.{in-Ok-read+in-Ok-true, in-Err+else-ne}
 
@@ -34,6 +35,12 @@ returns-in-Err-outcome g c =
     let found = c.in-Ok-read.ensures in
     session_unwritten g.S.Service.answers _ _ _ _ _ _ _ _ _ c.reads.input.pending.items found.piece _ _ c.in-Err-outcome.field-0 c.reads.invariant.so_far found.consumed
     (answered_as g.S.Service.answers _ _ _ _ _ _ _ _ _ _ (c.as_slice-bytes.ensures ∙ found.joined) c.in-Err-outcome.is c.answer_piece-used.ensures.answered)
+
+pub returns-then-ne : goal.returns-then-ne
+returns-then-ne g c = session_unread g.S.Service.answers _ _ _ _ _ _ _ _ c.reads.invariant.so_far c.in-Err.ensures.0
+
+pub returns : goal.returns
+returns g c = session_unread g.S.Service.answers _ _ _ _ _ _ _ _ c.reads.invariant.so_far (Keeps-refl _)
 
 pub reads-preserved : goal.reads-preserved
 reads-preserved g c =
