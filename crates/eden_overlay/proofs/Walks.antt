@@ -242,7 +242,10 @@ module _ (F : Stored) (visited : List Place) (was_met : ℕ → Bool) (pass : Pa
 
 -- ---- the end, where nothing is pending
 
-module _ (F : Stored) (was_met : ℕ → Bool) (w : Walked F [] was_met) where
+module _ (F G : Stored) (same : G ≡ F) (was_met : ℕ → Bool) (walked : Walked G [] was_met) where
+  w : Walked F [] was_met
+  w = subst (λ (X : Stored). Walked X [] was_met) same walked
+
   last_pass : Pass F w.visited [] was_met
   last_pass = subst (λ l. Pass F w.visited l was_met) (none_left w.left w.stack) w.pass
 

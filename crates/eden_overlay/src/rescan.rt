@@ -109,10 +109,11 @@ fn pending_entries(alloc: Global, entries: &[StoredEntry]) -> Result<Vec<Pending
 }
 
 impl<W: World, F: Files<W>> Overlay<W, F> {
-    /// The next number that no live directory names: one more than the greatest that one does, or 2.
+    /// The next number: one more than the greatest that a live directory names, or 2 where none is named.
     ///
-    /// It goes from file 1 down, through each directory that is its own, in the byte order of the names, and looks at
-    /// each file that is an entry's own. The first fault that it meets is answered. It takes memory for the numbers alone.
+    /// One pass goes from file 1 down, in the byte order of the names, into a directory as soon as it is met, and reads
+    /// each file that is an entry's own. Whatever the files say, it ends. Of an entry it keeps the number, the kind and
+    /// whether it has a file of its own, and never the name. Where file 1 isn't stored, the next number is 2.
     pub fn rescan(&mut self, alloc: Global) -> Result<u64, RescanFault>
         ensures sound { W.honest → OnOk result (AreSound (F.stored self.old)) }
         ensures next { W.honest → IfOk result (IsNextOf (F.stored self.old)) }
@@ -123,6 +124,7 @@ impl<W: World, F: Files<W>> Overlay<W, F> {
     {
         let pending = match self.get_dir(alloc, ROOT_NUMBER) {
             Ok(entries) => pending_entries(alloc, &entries)?,
+            // Without the root's file there is nothing yet, and nothing dangles.
             Err(fault) => match fault {
                 GetFault::Absent => return Ok(LEAST_NUMBER),
                 _ => return Err(fault_of(ROOT_NUMBER, fault)),

@@ -1,4 +1,4 @@
-use Rattle.std.proofs.Common.{◌≡◌, ◌∙◌, List, [], true, false, sym, ap, subst, nat_cmp, arith, Err}
+use Rattle.std.proofs.Common.{◌≡◌, ◌∙◌, List, true, false, sym, ap, subst, nat_cmp, arith, Err}
 use Rattle.std.specs.BTreeSet.{contains}
 use Rattle.std.proofs.lemmas.Map.Keys.{ge_from_not_lt}
 use Rattle.eden_overlay_format.specs.declared.header.Identifier.TheVariants as identifier
@@ -56,24 +56,18 @@ returns-in_err-met-clause-refused g c =
 
 pub returns-in-Some-clause-sound : goal.returns-in-Some-clause-sound
 returns-in-Some-clause-sound g c = λ honest.
-    let same = c.get_dir.ensures.unchanged honest in
-    let w = subst (λ (X : Stored). Walked X [] (contains nat_cmp c.in_ok-met.met)) same (c.in_ok-met.ensures.all honest) in
-    sound_then (g.F.Files.stored c.args.self.now) _ w (c.in-Ok.entries.items, c.in-Ok.ensures.found honest)
+    sound_then _ _ (c.get_dir.ensures.unchanged honest) (contains nat_cmp c.in_ok-met.met) (c.in_ok-met.ensures.all honest) (c.in-Ok.entries.items, c.in-Ok.ensures.found honest)
 
 pub returns-in-Some-clause-next : goal.returns-in-Some-clause-next
 returns-in-Some-clause-next g c = λ honest.
-    let same = c.get_dir.ensures.unchanged honest in
-    let w = subst (λ (X : Stored). Walked X [] (contains nat_cmp c.in_ok-met.met)) same (c.in_ok-met.ensures.all honest) in
-    next_then (g.F.Files.stored c.args.self.now) _ w c.in-Some.last.now c.in-Some.ensures.member (λ q has. ge_from_not_lt c.in-Some.last.now q (c.in-Some.ensures.greatest q has))
+    next_then _ _ (c.get_dir.ensures.unchanged honest) (contains nat_cmp c.in_ok-met.met) (c.in_ok-met.ensures.all honest) c.in-Some.last.now c.in-Some.ensures.member
+    (λ q has. ge_from_not_lt c.in-Some.last.now q (c.in-Some.ensures.greatest q has))
 
 pub returns-clause-sound : goal.returns-clause-sound
 returns-clause-sound g c = λ honest.
-    let same = c.get_dir.ensures.unchanged honest in
-    let w = subst (λ (X : Stored). Walked X [] (contains nat_cmp c.in_ok-met.met)) same (c.in_ok-met.ensures.all honest) in
-    sound_then (g.F.Files.stored c.args.self.now) _ w (c.in-Ok.entries.items, c.in-Ok.ensures.found honest)
+    sound_then _ _ (c.get_dir.ensures.unchanged honest) (contains nat_cmp c.in_ok-met.met) (c.in_ok-met.ensures.all honest) (c.in-Ok.entries.items, c.in-Ok.ensures.found honest)
 
 pub returns-clause-next : goal.returns-clause-next
 returns-clause-next g c = λ honest.
-    let same = c.get_dir.ensures.unchanged honest in
-    let w = subst (λ (X : Stored). Walked X [] (contains nat_cmp c.in_ok-met.met)) same (c.in_ok-met.ensures.all honest) in
-    least_then (g.F.Files.stored c.args.self.now) _ w (λ q has. none_in c.in_ok-met.met.keys q (λ more. let wrong : false ≡ true = c.in-None.ensures.variant.1 more in cc) has)
+    least_then _ _ (c.get_dir.ensures.unchanged honest) (contains nat_cmp c.in_ok-met.met) (c.in_ok-met.ensures.all honest)
+    (λ q has. none_in c.in_ok-met.met.keys q (λ more. let wrong : false ≡ true = c.in-None.ensures.variant.1 more in cc) has)
