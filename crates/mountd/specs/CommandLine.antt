@@ -1,11 +1,11 @@
 -- What the program's command line says.
-use Rattle.std.specs.Prelude.{◌≡◌, ⊤, List, [], ◌∷◌, Option, Some, codes, option_map, string_bytes}
+use Rattle.std.specs.Prelude.{◌≡◌, ◌↔◌, ⊤, IsTrue, List, [], ◌∷◌, Option, Some, codes, option_map, string_bytes}
 use Rattle.clap.specs.Kinds.{IsAmong}
 use Rattle.clap.specs.Words.{App, Text, fault_of, kind_of, subcommand_of}
 use Rattle.hex.specs.Hex.{encode_lower}
 use Rattle.eden_object.specs.IdText.{IsIdText}
 use Rattle.eden_mount.specs.Settings.{Settings}
-use Rattle.mountd.specs.Grammar.{LineOption, Subcommand, optional, program, required, value_in}
+use Rattle.mountd.specs.Grammar.{LineOption, Subcommand, flag, optional, program, required, value_in}
 use Rattle.mountd.specs.Numbers.{IsNoNumber, SaysNumber, number_name}
 use Rattle.mountd.specs.declared.numbers.NumberOption.TheVariants.{History, CacheEntries, CacheBytes}
 use Rattle.mountd.specs.declared.options.Command.{Command}
@@ -14,10 +14,10 @@ use Rattle.mountd.specs.declared.options.OptionsError.{OptionsError}
 use Rattle.mountd.specs.declared.options.OptionsError.TheVariants as error
 use Rattle.mountd.specs.declared.options.StdioOptions.{StdioOptions}
 
--- `[--overlay DIR] [--history N] [--cache-entries N] [--cache-bytes N]`, of whatever opens a mount
+-- `[--overlay DIR] [--rescan] [--history N] [--cache-entries N] [--cache-bytes N]`, of whatever opens a mount
 abbrev pub mount_options : List LineOption
-mount_options = optional (codes "overlay") ∷ optional (number_name History) ∷ optional (number_name CacheEntries)
-    ∷ optional (number_name CacheBytes) ∷ []
+mount_options = optional (codes "overlay") ∷ flag (codes "rescan") ∷ optional (number_name History)
+    ∷ optional (number_name CacheEntries) ∷ optional (number_name CacheBytes) ∷ []
 
 abbrev pub stdio_options : List LineOption
 stdio_options = required (codes "root") ∷ required (codes "objects") ∷ mount_options
@@ -33,6 +33,10 @@ mountd_line = program (codes "mountd") (stdio ∷ [])
 abbrev pub stdio_value : List Text → Text → Option Text
 stdio_value words = value_in stdio.0 (subcommand_of mountd_line words)
 
+-- the flag is given: it has no value of its own, and `clap` says this one
+abbrev pub IsGiven : (Text → Option Text) → Text → Type 0
+IsGiven value name = value name ≡ Some (codes "true")
+
 -- the limits of a mount with one caller are what these values say
 pub record SaysLimits (value : Text → Option Text) (limits : Settings) : Type 0 where
   pub passes : limits.passes ≡ 1
@@ -47,6 +51,7 @@ pub record IsAsked (value : Text → Option Text) (options : StdioOptions) : Typ
   pub root : value (codes "root") ≡ Some (encode_lower options.root.bytes)
   pub objects : value (codes "objects") ≡ Some (string_bytes options.objects)
   pub overlay : value (codes "overlay") ≡ option_map string_bytes options.overlay
+  pub rescan : IsTrue options.rescan ↔ IsGiven value (codes "rescan")
   pub limits : SaysLimits value options.limits
 
 -- the words ask for this

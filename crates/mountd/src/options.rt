@@ -1,16 +1,16 @@
 //! The command line.
-ghost use Rattle.std.specs.Prelude.{◌≡◌, ◌≤◌, ◌⊎◌, ◌∷◌, [], IfErr, IfOk, OnOk, codes, false, map, option_map, string_bytes};
+ghost use Rattle.std.specs.Prelude.{◌≡◌, ◌≤◌, ◌⊎◌, ◌↔◌, IsTrue, ◌∷◌, [], IfErr, IfOk, OnOk, codes, false, map, option_map, string_bytes};
 ghost use Rattle.clap.specs.declared.builder.command.Command.TheViews.{out-Command as fields_of};
 ghost use Rattle.clap.specs.declared.error.kind.ErrorKind.TheVariants.{OutOfMemory};
 ghost use Rattle.clap.specs.Words.{app_of, first_value, found_of, kind_of, rows_of, rule_of, shape_of, subcommand_of, subcommand_rows_of};
-ghost use Rattle.mountd.specs.CommandLine.{AsksFor, IsAsked, IsTaken, Refuses, RefusesValues, SaysLimits, mount_options, mountd_line, stdio, stdio_options};
-ghost use Rattle.mountd.specs.Grammar.{HasRequired, option_rule, optional, required, subcommand_shape, with_options};
+ghost use Rattle.mountd.specs.CommandLine.{AsksFor, IsAsked, IsGiven, IsTaken, Refuses, RefusesValues, SaysLimits, mount_options, mountd_line, stdio, stdio_options};
+ghost use Rattle.mountd.specs.Grammar.{HasRequired, flag, option_rule, optional, required, subcommand_shape, with_options};
 ghost use Rattle.mountd.specs.Numbers.{IsNoNumber, SaysNumber, most_of, number_name};
 ghost use Rattle.mountd.specs.declared.options.OptionsError.TheVariants as error;
 
 use crate::numbers::NumberOption;
 use clap::error::ErrorKind;
-use clap::{Arg, ArgMatches};
+use clap::{Arg, ArgAction, ArgMatches};
 use eden_model::Id;
 use eden_mount::Config;
 use eden_object::parse_id;
@@ -33,6 +33,8 @@ pub struct StdioOptions {
     pub objects: String,
     /// The folder that keeps the changes, where they are not to stay in memory alone.
     pub overlay: Option<String>,
+    /// Whether they are looked through at the opening, as after a kill.
+    pub rescan: bool,
     /// The limits of the mount, which has one caller.
     pub limits: Config,
 }
@@ -91,11 +93,13 @@ fn stdio_options(alloc: Global, given: &ArgMatches) -> Result<StdioOptions, Opti
     let root = parse_id(root).ok_or(OptionsError::Root)?;
     let objects = String::from_str(alloc, objects)?;
     let overlay = overlay(alloc, given)?;
+    let rescan = is_given(given, "rescan");
     let limits = limits(given)?;
     Ok(StdioOptions {
         root,
         objects,
         overlay,
+        rescan,
         limits,
     })
 }
@@ -109,6 +113,13 @@ fn overlay(alloc: Global, given: &ArgMatches) -> Result<Option<String>, AllocErr
         Some(folder) => Ok(Some(String::from_str(alloc, folder)?)),
         None => Ok(None),
     }
+}
+
+/// Whether the flag of this name is given.
+fn is_given(given: &ArgMatches, name: &str) -> bool
+    ensures { IsTrue result ↔ IsGiven (first_value (found_of given.now)) name.now }
+{
+    given.get_str(name) == Some("true")
 }
 
 /// The limits of a mount with one caller.
@@ -205,6 +216,12 @@ fn with_mount_options<'a>(
         ("overlay", "DIR"),
         "The folder that keeps the changes [default: they stay in memory]",
     )?;
+    let line = with_flag(
+        alloc,
+        line,
+        "rescan",
+        "Opens an overlay that wasn't closed, by what its files say",
+    )?;
     let line = with_optional(
         alloc,
         line,
@@ -251,6 +268,21 @@ fn with_optional<'a>(
     ensures local { IfOk result (λ more. (fields_of more).has_globals ≡ false) }
 {
     line.arg(option(alloc, name).help(help))
+}
+
+/// The line with a flag more, of this name.
+fn with_flag<'a>(
+    alloc: Global,
+    line: clap::Command<'a>,
+    name: &'a str,
+    help: &'a str,
+) -> Result<clap::Command<'a>, AllocError>
+    requires { (fields_of line).has_globals ≡ false }
+    ensures shape { IfOk result (λ more. shape_of more ≡ with_options (shape_of line.entry) (flag name.entry.now ∷ [])) }
+    ensures local { IfOk result (λ more. (fields_of more).has_globals ≡ false) }
+{
+    let flag = Arg::new(alloc, name).long(name).action(ArgAction::SetTrue);
+    line.arg(flag.help(help))
 }
 
 fn option<'a>(alloc: Global, name: (&'a str, &'a str)) -> Arg<'a>

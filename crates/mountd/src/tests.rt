@@ -27,6 +27,7 @@ const FULL: &[&str] = &[
     ROOT,
     "--history",
     "1",
+    "--rescan",
     "--objects",
     FOLDER,
 ];
@@ -37,6 +38,7 @@ fn takes_a_good_line(rt: HostRuntime) -> Result<(), Fail> {
     assert!(rt; given.root.bytes == ROOT_BYTES);
     assert!(rt; given.objects.as_str() == FOLDER);
     assert!(rt; given.overlay.is_none());
+    assert!(rt; !given.rescan);
     assert!(rt; given.limits.history() == 1_000_000);
     assert!(rt; given.limits.entries() == 1024);
     assert!(rt; given.limits.bytes() == 1 << 28);
@@ -50,6 +52,7 @@ fn takes_a_line_with_all_options(rt: HostRuntime) -> Result<(), Fail> {
     assert!(rt; given.objects.as_str() == FOLDER);
     let overlay = given.overlay.ok_or("no overlay")?;
     assert!(rt; overlay.as_str() == "changes");
+    assert!(rt; given.rescan);
     assert!(rt; given.limits.history() == 1);
     assert!(rt; given.limits.entries() == 65_536);
     assert!(rt; given.limits.bytes() == 1 << 40);
@@ -85,8 +88,16 @@ const NO_LINES: &[Refused] = &[
         "error: the following required arguments were not provided:\n  --objects <DIR>",
     ),
     (
-        &["mountd", "stdio", "--root", ROOT, "--rescan"],
-        "error: unexpected argument '--rescan' found",
+        &[
+            "mountd",
+            "stdio",
+            "--root",
+            ROOT,
+            "--objects",
+            FOLDER,
+            "--rescan=yes",
+        ],
+        "error: unexpected value 'yes' for '--rescan' found; no more were expected",
     ),
     (
         &["mountd", "stdio", "--root", ROOT, "--overlay", FOLDER],
