@@ -31,10 +31,20 @@ pub fn import<R: Files + Alloc + Eprint + Clone + Drop>(
 ) -> Result<Id, ImportFault>
     ensures { IfOk result (λ id. (entries : List TreeEntry) × HasPlainModes entries × IsTreeOf entries id) }
 {
-    let entries = import_entries(alloc, folder, LEVELS, store)?;
-    let id = import_tree(alloc, entries.as_slice(), store)?;
+    let outcome = import_top(alloc, folder, store);
     store.tell_end();
-    Ok(id)
+    outcome
+}
+
+fn import_top<R: Files + Alloc + Eprint + Clone + Drop>(
+    alloc: Global,
+    folder: &PathBuf,
+    store: &mut Store<R>,
+) -> Result<Id, ImportFault>
+    ensures { IfOk result (λ id. (entries : List TreeEntry) × HasPlainModes entries × IsTreeOf entries id) }
+{
+    let entries = import_entries(alloc, folder, LEVELS, store)?;
+    import_tree(alloc, entries.as_slice(), store)
 }
 
 // The entries of a folder below which there may be so many levels.

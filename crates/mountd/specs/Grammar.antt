@@ -1,6 +1,5 @@
 -- Command lines of a program with subcommands, whose options each take one value or none, in the words of `clap`'s grammar.
-use Rattle.std.specs.Prelude.{◌≡◌, ◌⊎◌, ⊤, Bool, true, false, List, [], ◌∷◌, ◌++◌, map, Option, Some, None, is_some, if◌then◌else◌}
-use Rattle.std.specs.Str.{bytes_eq}
+use Rattle.std.specs.Prelude.{◌≡◌, ◌⊎◌, ⊤, Bool, true, false, List, [], ◌∷◌, ◌++◌, map, Option, Some, None, is_some}
 use Rattle.clap.specs.Words.{App, Row, Rule, Shape, Text, first_of, new_rule}
 use Rattle.clap.specs.Simple.{new_shape}
 use Rattle.clap.specs.declared.builder.action.ArgAction.TheVariants.{SetTrue}
@@ -35,10 +34,10 @@ program name subcommands = record {
   subs = map subcommand_shape subcommands;
 }
 
--- the value of an option, where the subcommand that was met has this name
-abbrev pub value_in : Text → Option (Text × List Row) → Text → Option Text
-value_in subcommand None option = None
-value_in subcommand (Some met) option = if bytes_eq met.0 subcommand then first_of option met.1 else None
+-- the value of an option of the subcommand that was met
+abbrev pub value_in : Option (Text × List Row) → Text → Option Text
+value_in None option = None
+value_in (Some met) option = first_of option met.1
 
 -- each option that must be given has a value
 abbrev pub HasRequired : List LineOption → List Row → Type 0

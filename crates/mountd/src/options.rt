@@ -3,7 +3,7 @@ ghost use Rattle.std.specs.Prelude.{◌≡◌, ◌≤◌, ◌⊎◌, ◌↔◌, 
 ghost use Rattle.clap.specs.declared.builder.command.Command.TheViews.{out-Command as fields_of};
 ghost use Rattle.clap.specs.declared.error.kind.ErrorKind.TheVariants.{OutOfMemory};
 ghost use Rattle.clap.specs.Words.{app_of, first_value, found_of, kind_of, rows_of, rule_of, shape_of, subcommand_of, subcommand_rows_of};
-ghost use Rattle.mountd.specs.CommandLine.{AsksFor, IsAsked, IsGiven, IsTaken, Refuses, RefusesValues, SaysLimits, mount_options, mountd_line, stdio, stdio_options};
+ghost use Rattle.mountd.specs.CommandLine.{AsksFor, IsAsked, IsGiven, IsImport, IsTaken, Refuses, RefusesValues, SaysLimits, import, import_options, mount_options, mountd_line, stdio, stdio_options};
 ghost use Rattle.mountd.specs.Grammar.{HasRequired, flag, option_rule, optional, required, subcommand_shape, with_options};
 ghost use Rattle.mountd.specs.Numbers.{IsNoNumber, SaysNumber, most_of, number_name};
 ghost use Rattle.mountd.specs.declared.options.OptionsError.TheVariants as error;
@@ -39,10 +39,20 @@ pub struct StdioOptions {
     pub limits: Config,
 }
 
+/// What `mountd import` is asked to import.
+#[derive(Debug, Drop)]
+pub struct ImportOptions {
+    /// The folder whose files become objects.
+    pub from: String,
+    /// The folder that the objects come to lie in.
+    pub objects: String,
+}
+
 /// What the program is asked for.
 #[derive(Debug, Drop)]
 pub enum Command {
     Stdio(StdioOptions),
+    Import(ImportOptions),
 }
 
 /// Why a command line is refused.
@@ -78,9 +88,12 @@ pub fn options<S: AsStr>(alloc: Global, words: &[S]) -> Result<Command, OptionsE
     ensures err { IfErr result (Refuses (map S.text words.now)) }
 {
     let matches = matches_of(alloc, words)?;
-    // `clap` has seen that the subcommand is there.
-    let given = matches.subcommand_matches("stdio").unwrap();
-    Ok(Command::Stdio(stdio_options(alloc, given)?))
+    if let Some(given) = matches.subcommand_matches("stdio") {
+        return Ok(Command::Stdio(stdio_options(alloc, given)?));
+    }
+    // `clap` has seen that one of the subcommands is there.
+    let given = matches.subcommand_matches("import").unwrap();
+    Ok(Command::Import(import_options(alloc, given)?))
 }
 
 fn stdio_options(alloc: Global, given: &ArgMatches) -> Result<StdioOptions, OptionsError>
@@ -102,6 +115,17 @@ fn stdio_options(alloc: Global, given: &ArgMatches) -> Result<StdioOptions, Opti
         rescan,
         limits,
     })
+}
+
+fn import_options(alloc: Global, given: &ArgMatches) -> Result<ImportOptions, AllocError>
+    requires { HasRequired import_options (rows_of (found_of given.now)) }
+    ensures { IfOk result (IsImport (first_value (found_of given.now))) }
+{
+    let from = given.get_str("from").unwrap();
+    let objects = given.get_str("objects").unwrap();
+    let from = String::from_str(alloc, from)?;
+    let objects = String::from_str(alloc, objects)?;
+    Ok(ImportOptions { from, objects })
 }
 
 /// The value of `--overlay`, where it is given.
@@ -178,10 +202,12 @@ fn command_line<'a>(alloc: Global) -> Result<clap::Command<'a>, AllocError>
     ensures { IfOk result (λ command. app_of command ≡ mountd_line) }
 {
     let stdio = stdio_line(alloc)?;
+    let import = import_line(alloc)?;
     clap::Command::new(alloc, "mountd")
         .about("Answers requests on the files of a Git commit")
         .subcommand_required(true)
-        .subcommand(stdio)
+        .subcommand(stdio)?
+        .subcommand(import)
 }
 
 fn stdio_line<'a>(alloc: Global) -> Result<clap::Command<'a>, AllocError>
@@ -199,6 +225,20 @@ fn stdio_line<'a>(alloc: Global) -> Result<clap::Command<'a>, AllocError>
     )?;
     let line = with_required(alloc, line, ("objects", "DIR"), "The folder of Git objects")?;
     with_mount_options(alloc, line)
+}
+
+fn import_line<'a>(alloc: Global) -> Result<clap::Command<'a>, AllocError>
+    ensures shape { IfOk result (λ line. shape_of line ≡ subcommand_shape import) }
+    ensures local { IfOk result (λ line. (fields_of line).has_globals ≡ false) }
+{
+    let line = clap::Command::new(alloc, "import").about("Makes a folder's files Git objects");
+    let line = with_required(alloc, line, ("from", "DIR"), "The folder to import")?;
+    with_required(
+        alloc,
+        line,
+        ("objects", "DIR"),
+        "The folder of Git objects that it is imported into",
+    )
 }
 
 /// The line with the options of whatever opens a mount.

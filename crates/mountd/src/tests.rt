@@ -1,5 +1,5 @@
 //! What no clause says: that a good line is taken, and the texts of refusals.
-use crate::options::{Command, options};
+use crate::options::{Command, StdioOptions, options};
 use std::alloc::{AllocError, Global};
 use std::process::Abort;
 use std::test::Fail;
@@ -32,9 +32,17 @@ const FULL: &[&str] = &[
     FOLDER,
 ];
 
+/// What the words ask `stdio` for.
+fn asked(alloc: Global, words: &[&str]) -> Result<StdioOptions, Fail> {
+    match options(alloc, words)? {
+        Command::Stdio(given) => Ok(given),
+        Command::Import(_) => Err(Fail::from("another command")),
+    }
+}
+
 #[test]
 fn takes_a_good_line(rt: HostRuntime) -> Result<(), Fail> {
-    let Command::Stdio(given) = options(rt.alloc(), GOOD)?;
+    let given = asked(rt.alloc(), GOOD)?;
     assert!(rt; given.root.bytes == ROOT_BYTES);
     assert!(rt; given.objects.as_str() == FOLDER);
     assert!(rt; given.overlay.is_none());
@@ -47,7 +55,7 @@ fn takes_a_good_line(rt: HostRuntime) -> Result<(), Fail> {
 
 #[test]
 fn takes_a_line_with_all_options(rt: HostRuntime) -> Result<(), Fail> {
-    let Command::Stdio(given) = options(rt.alloc(), FULL)?;
+    let given = asked(rt.alloc(), FULL)?;
     assert!(rt; given.root.bytes == ROOT_BYTES);
     assert!(rt; given.objects.as_str() == FOLDER);
     let overlay = given.overlay.ok_or("no overlay")?;
