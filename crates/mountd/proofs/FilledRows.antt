@@ -10,7 +10,7 @@ use Rattle.clap.specs.Takes.{is_given}
 use Rattle.clap.specs.Kinds.{Kinds, or_else, range_kinds, request_kinds}
 use Rattle.clap.specs.Faults.{bundle_fault, bundle_step_fault, flag_word_fault, flags_fault, long_fault, option_fault, react_fault, positional_fault, other_fault, word_fault, step_fault, settle_fault, short_fault, stray_fault, turn_fault, use_fault, walk_fault}
 use Rattle.clap.specs.Walk.{Held, used_by_id, Names, Outcome, Row, Rule, Step, Text, Waiting, Walk, action_of, after_flag, after_step, arg_by_id, arg_by_index, arg_by_long, arg_by_short, at_row, attached_value, bundle, first_of, next, subcommand, bundle_met, bundle_step, default_rows, done, finished, flag_met, has_row, idle, is_pending, long_met, long_or_other, more_values, most_values, nothing_held, option, option_met, option_word, plain, plain_word, positional, reacted, refused, settled, settled_rows, short_met, short_or_plain, subcommand_met, subcommand_or_other, takes_several, takes_values, to_positional, trailing, used, used_as, value, waits, walk, walk_from, walked, walked_from, with_default, with_values, without, word_met}
-use Rattle.clap.specs.declared.builder.action.ArgAction.TheVariants.{Set, Help}
+use Rattle.clap.specs.declared.builder.action.ArgAction.TheVariants.{Set, SetTrue, Help}
 use Rattle.clap.specs.declared.parser.matches.ValueSource.{ValueSource}
 use Rattle.clap.specs.declared.builder.value_parser.Reading.{Reading}
 use Rattle.clap.specs.declared.error.kind.ErrorKind.TheVariants as kind
@@ -20,9 +20,10 @@ abbrev pub Filled : List Row → Type 0
 Filled [] = Unit {0}
 Filled (r ∷ rs) = (0 < length r.values) × Filled rs
 
--- the argument takes one value or more, or asks for help
+-- the argument takes one value or more, asks for help, or has values that stand for a use with none
 abbrev pub IsValued : Rule → Type 0
-IsValued a = ((action_of a ≡ Set) × (0 < (unwrap_or_range a.range).start_inclusive)) ⊎ (action_of a ≡ Help)
+IsValued a = ((action_of a ≡ Set) × (0 < (unwrap_or_range a.range).start_inclusive))
+    ⊎ ((action_of a ≡ Help) ⊎ ((action_of a ≡ SetTrue) × (0 < length a.missing)))
 
 abbrev pub AllValued : List Rule → Type 0
 AllValued [] = Unit {0}
@@ -64,6 +65,11 @@ Filled-with_values : (id : Text) (how : Reading) (s : ValueSource) (v : Text) (v
 Filled-with_values id how s v vs rows h =
     Filled-at_row id (more_values s (v ∷ vs)) _ rows (λ r. (simp length-append (omega arith), tt)) (omega arith, tt) h
 
+Filled-some_values : (id : Text) (how : Reading) (s : ValueSource) (vs : List Text) (rows : List Row) → 0 < length vs → Filled rows
+    → Filled (with_values id how s vs rows)
+Filled-some_values id how s [] rows lt h = absurd (omega arith)
+Filled-some_values id how s (v ∷ vs) rows lt h = Filled-with_values id how s v vs rows h
+
 Filled-without : (id : Text) (rows : List Row) → Filled rows → Filled (without id rows)
 Filled-without id rows h = Filled-at_row id (λ r. []) [] rows (λ r. tt) tt h
 
@@ -82,7 +88,15 @@ Filled-used again a [] rows (inl set) h f =
 Filled-used again a (v ∷ vs) rows (inl set) h f =
     let used_set : Filled (used_as Set a.id _ (v ∷ vs) rows) = Filled-with_values a.id _ _ v vs (without a.id rows) (Filled-without a.id rows f) in
     rw set.0 used_set
-Filled-used again a values rows (inr help) h f =
+Filled-used again a [] rows (inr (inr flag)) h f =
+    let used_flag : Filled (used_as SetTrue a.id _ a.missing rows) =
+    Filled-some_values a.id _ _ a.missing (without a.id rows) flag.1 (Filled-without a.id rows f) in
+    rw flag.0 used_flag
+Filled-used again a (v ∷ vs) rows (inr (inr flag)) h f =
+    let used_flag : Filled (used_as SetTrue a.id _ (v ∷ vs) rows) =
+    Filled-with_values a.id _ _ v vs (without a.id rows) (Filled-without a.id rows f) in
+    rw flag.0 used_flag
+Filled-used again a values rows (inr (inl help)) h f =
     let parts = both_empty (range_kinds (unwrap_or_range a.range).start_inclusive (most_values a) (length values)) _ h in
     let bad : request_kinds Help ≡ [] = rw help at parts.1 in
     cc bad

@@ -1,8 +1,10 @@
 -- What the matches of the program's command line say.
-use Rattle.std.proofs.Common.{◌≡◌, ◌∙◌, ap, sym, subst, inl, inr, ◌⊎◌, refl, List, [], ◌∷◌, Option, Some, None, codes, option_map}
+use Rattle.std.proofs.Common.{◌≡◌, ◌∙◌, ap, sym, subst, inl, inr, ◌⊎◌, refl, Bool, true, false, true≢false, List, [], ◌∷◌, Option, Some, None, codes, option_map}
 use Rattle.std.proofs.Math.Path.{fun_ext}
 use Rattle.std.specs.Prelude.{Box}
 use Rattle.std.specs.Box.{box_value}
+use Rattle.std.specs.Str.{bytes_eq}
+use Rattle.std.proofs.lemmas.Slice.Eq.{bytes_eq-Decides}
 use Rattle.clap.specs.Simple.{subcommand_of, subcommand_rows, subcommand_rows_of}
 use Rattle.clap.specs.Matches.{first_value, subcommand_name_of}
 use Rattle.clap.specs.Walk.{Row, Text, rows_of}
@@ -16,11 +18,10 @@ use Rattle.clap.specs.Faults.{fault_of}
 use Rattle.clap.specs.Values.{kind_of}
 use Rattle.clap.specs.declared.error.Error.{Error}
 use Rattle.clap.specs.declared.error.kind.ErrorKind.TheVariants.{OutOfMemory}
-use Rattle.mountd.specs.CommandLine.{IsAsked, IsTaken, Refuses, RefusesValues, mountd_line, stdio, stdio_value}
-use Rattle.mountd.specs.Grammar.{HasRequired, Meets, value_in}
+use Rattle.mountd.specs.CommandLine.{IsTaken, Refuses, RefusesValues, import, mountd_line, named, stdio, subcommands, value_of}
+use Rattle.mountd.specs.Grammar.{HasRequired, value_in}
 use Rattle.mountd.specs.declared.options.OptionsError.{OptionsError}
 use Rattle.mountd.specs.declared.options.OptionsError.TheVariants as error
-use Rattle.mountd.specs.declared.options.StdioOptions.{StdioOptions}
 use Rattle.mountd.proofs.MetLines.{Meets-taken}
 
 -- the name that stands beside a subcommand's rows
@@ -31,49 +32,89 @@ name_of_rows m = go (out-ArgMatches m).subcommand
     go None = refl
     go (Some b) = refl
 
--- words that `clap` takes are for `stdio`, and give what it requires
-stdio_taken : (words : List Text) → IsTaken words
-    → (rows : List Row) × (subcommand_of mountd_line words ≡ Some (stdio.0, rows)) × HasRequired stdio.1 rows
-stdio_taken words taken = one (subcommand_of mountd_line words) (Meets-taken (codes "mountd") (stdio ∷ []) words taken)
+both_halves : (o : Option (Text × List Row)) (name : Text) (rows : List Row) → option_map (λ p. p.0) o ≡ Some name → option_map (λ p. p.1) o ≡ Some rows
+    → o ≡ Some (name, rows)
+both_halves None name rows e f = cc e
+both_halves (Some (a, b)) name rows e f =
+    let first : a ≡ name = cc e in
+    let second : b ≡ rows = cc f in
+    rw (first, second) refl
+
+-- the subcommand that was met, by its name and its matches
+pub met-named : (words : List Text) (m : ArgMatches) (f : Found) (name : Text) → subcommand_rows_of m ≡ subcommand_of mountd_line words
+    → subcommand_name_of m ≡ Some name → option_map (λ p. p.1) (subcommand_rows_of m) ≡ Some (rows_of f)
+    → subcommand_of mountd_line words ≡ Some (name, rows_of f)
+met-named words m f name rows named given =
+    sym rows ∙ both_halves (subcommand_rows_of m) name (rows_of f) (sym (name_of_rows m) ∙ named) given
+
+abbrev name_or : Option (Text × List Row) → Text
+name_or None = []
+name_or (Some p) = p.0
+
+abbrev rows_or : Option (Text × List Row) → List Row
+rows_or None = []
+rows_or (Some p) = p.1
+
+other_name : (a b : Text) (o : Option (Text × List Row)) (rows more : List Row) → bytes_eq a b ≡ false → o ≡ Some (a, rows) → o ≡ Some (b, more) → ⊥
+other_name a b o rows more differ e f =
+    let both : Some (a, rows) ≡ Some (b, more) = sym e ∙ f in
+    let same : a ≡ b = ap name_or both in
+    let bad : bytes_eq a b ≡ true = (bytes_eq-Decides a b).1 same in
+    true≢false (sym bad ∙ differ)
+
+same_rows : (a : Text) (o : Option (Text × List Row)) (rows more : List Row) → o ≡ Some (a, rows) → o ≡ Some (a, more) → rows ≡ more
+same_rows a o rows more e f =
+    let both : Some (a, rows) ≡ Some (a, more) = sym e ∙ f in
+    ap rows_or both
+
+-- what `stdio` requires is there, where it was met
+pub stdio-required : (words : List Text) (f : Found) → IsTaken words → subcommand_of mountd_line words ≡ Some (stdio.0, rows_of f)
+    → HasRequired stdio.1 (rows_of f)
+stdio-required words f taken met =
+    elim (Meets-taken (codes "mountd") subcommands words taken) [
+      | inl is ↦ subst (HasRequired stdio.1) (same_rows stdio.0 (subcommand_of mountd_line words) is.0 (rows_of f) is.1 met) is.2
+      | inr (inl is) ↦ absurd (other_name stdio.0 import.0 (subcommand_of mountd_line words) (rows_of f) is.0 refl met is.1)
+      | inr (inr none) ↦ absurd none
+    ]
+
+-- .. and `import`
+pub import-required : (words : List Text) (f : Found) → IsTaken words → subcommand_of mountd_line words ≡ Some (import.0, rows_of f)
+    → HasRequired import.1 (rows_of f)
+import-required words f taken met =
+    elim (Meets-taken (codes "mountd") subcommands words taken) [
+      | inl is ↦ absurd (other_name import.0 stdio.0 (subcommand_of mountd_line words) (rows_of f) is.0 refl met is.1)
+      | inr (inl is) ↦ subst (HasRequired import.1) (same_rows import.0 (subcommand_of mountd_line words) is.0 (rows_of f) is.1 met) is.2
+      | inr (inr none) ↦ absurd none
+    ]
+
+-- what isn't `stdio` is `import`
+pub import-named : (words : List Text) (m : ArgMatches) → IsTaken words → subcommand_rows_of m ≡ subcommand_of mountd_line words
+    → (subcommand_name_of m ≡ Some stdio.0 → false ≡ true) → subcommand_name_of m ≡ Some import.0
+import-named words m taken rows other =
+    elim (Meets-taken (codes "mountd") subcommands words taken) [
+      | inl is ↦ absurd (true≢false (sym (other (name_of_rows m ∙ ap (option_map (λ p. p.0)) (rows ∙ is.1)))))
+      | inr (inl is) ↦ name_of_rows m ∙ ap (option_map (λ p. p.0)) (rows ∙ is.1)
+      | inr (inr none) ↦ absurd none
+    ]
+
+pub named-met : (words : List Text) (f : Found) (name : Text) → subcommand_of mountd_line words ≡ Some (name, rows_of f) → named words ≡ Some name
+named-met words f name met = ap (option_map (λ p. p.0)) met
+
+-- the values of the matches are those of the words
+pub by_words : (P : (Text → Option Text) → Type 0) (words : List Text) (f : Found) (name : Text)
+    → subcommand_of mountd_line words ≡ Some (name, rows_of f) → P (first_value f) → P (value_of words)
+by_words P words f name met h =
+    let same : first_value f ≡ value_of words = fun_ext (λ option.
+    first_value-rows f option ∙ sym (ap (λ (o : Option (Text × List Row)). value_in o option) met)) in
+    subst P same h
+
+-- a value that is refused
+pub values_refuse : (words : List Text) (f : Found) (name : Text) (why : OptionsError) → IsTaken words
+    → subcommand_of mountd_line words ≡ Some (name, rows_of f) → RefusesValues (first_value f) why → Refuses words why
+values_refuse words f name why taken met refused =
+    by_fault why (by_words (λ value. RefusesValues value why) words f name met refused)
   where
-    one : (met : Option (Text × List Row)) → Meets (stdio ∷ []) met → (rows : List Row) × (met ≡ Some (stdio.0, rows)) × HasRequired stdio.1 rows
-    one met (inl is) = is
-    one met (inr none) = absurd none
-
-pub name-taken : (words : List Text) (m : ArgMatches) → IsTaken words → subcommand_rows_of m ≡ subcommand_of mountd_line words
-    → subcommand_name_of m ≡ Some (codes "stdio")
-name-taken words m taken rows = name_of_rows m ∙ ap (option_map (λ p. p.0)) (rows ∙ (stdio_taken words taken).1)
-
--- the matches of `stdio` are those of the words
-pub rows-taken : (words : List Text) (m : ArgMatches) (f : Found) → IsTaken words → subcommand_rows_of m ≡ subcommand_of mountd_line words
-    → option_map (λ p. p.1) (subcommand_rows_of m) ≡ Some (rows_of f)
-    → (subcommand_of mountd_line words ≡ Some (stdio.0, rows_of f)) × HasRequired stdio.1 (rows_of f)
-rows-taken words m f taken rows given =
-    let met = stdio_taken words taken in
-    let both : Some met.0 ≡ Some (rows_of f) = sym (ap (option_map (λ p. p.1)) (rows ∙ met.1)) ∙ given in
-    let same : met.0 ≡ rows_of f = cc in
-    subst (λ r. (subcommand_of mountd_line words ≡ Some (stdio.0, r)) × HasRequired stdio.1 r) same (met.1, met.2)
-
--- .. and so are the values
-values-taken : (words : List Text) (f : Found) → subcommand_of mountd_line words ≡ Some (stdio.0, rows_of f)
-    → first_value f ≡ stdio_value words
-values-taken words f met = fun_ext (λ option.
-    first_value-rows f option ∙ sym (ap (λ (o : Option (Text × List Row)). value_in stdio.0 o option) met))
-
-pub asked-taken : (words : List Text) (f : Found) (options : StdioOptions) → subcommand_of mountd_line words ≡ Some (stdio.0, rows_of f)
-    → IsAsked (first_value f) options → IsAsked (stdio_value words) options
-asked-taken words f options met asked =
-    let P : (Text → Option Text) → Type 0 = λ value. IsAsked value options in
-    subst P (values-taken words f met) asked
-
--- a value that `stdio` refuses
-pub values_refuse : (words : List Text) (f : Found) (why : OptionsError) → IsTaken words
-    → subcommand_of mountd_line words ≡ Some (stdio.0, rows_of f) → RefusesValues (first_value f) why → Refuses words why
-values_refuse words f why taken met refused =
-    let P : (Text → Option Text) → Type 0 = λ value. RefusesValues value why in
-    by_fault why (subst P (values-taken words f met) refused)
-  where
-    by_fault : (e : OptionsError) → RefusesValues (stdio_value words) e → Refuses words e
+    by_fault : (e : OptionsError) → RefusesValues (value_of words) e → Refuses words e
     by_fault (error.Refused reason) why = absurd why
     by_fault error.Root why = (taken, why)
     by_fault (error.Number option) why = (taken, why)

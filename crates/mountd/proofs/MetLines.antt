@@ -14,7 +14,7 @@ use Rattle.clap.specs.Simple.{Shape, argument_words, built, built_leaf, entered,
 use Rattle.clap.specs.Walk.{Row, Rule, Text, answers_to, finished, nothing_held, rows_after, walk, walk_from}
 use Rattle.mountd.proofs.FilledRows.{AllValued, Filled, Filled-finished, given_value}
 use Rattle.mountd.proofs.TakenLines.{is_help, level_parts, walk_stop}
-use Rattle.mountd.specs.Grammar.{HasRequired, LineOption, Meets, Subcommand, option_rule, optional, program, required, subcommand_shape}
+use Rattle.mountd.specs.Grammar.{HasRequired, LineOption, Meets, Subcommand, flag, option_rule, optional, program, required, subcommand_shape}
 
 -- no check fails for a want of an argument
 none_wanted : (argument : Bool) → check_kinds false false argument ≡ [] → argument ≡ false
@@ -36,8 +36,10 @@ abbrev built_rules : List LineOption → List Rule
 built_rules options = filled_from 1 (map option_rule options ++ help_rule ∷ [])
 
 all_valued : (options : List LineOption) → AllValued (built_rules options)
-all_valued [] = (inr refl, tt)
-all_valued (option ∷ rest) = (inl (refl, omega arith), all_valued rest)
+all_valued [] = (inr (inl refl), tt)
+all_valued (required name ∷ rest) = (inl (refl, omega arith), all_valued rest)
+all_valued (optional name ∷ rest) = (inl (refl, omega arith), all_valued rest)
+all_valued (flag name ∷ rest) = (inr (inr (refl, omega arith)), all_valued rest)
 
 abbrev is_left_out : List Row → Rule → Bool
 is_left_out rows rule = rule.required && not (is_given rule.id rows)
@@ -49,6 +51,7 @@ all_given (required name ∷ rest) rows filled e =
     let parts = neither (not (is_given name rows)) (list_any (is_left_out rows) (built_rules rest)) e in
     (given_value name rows filled (not_false (is_given name rows) parts.0), all_given rest rows filled parts.1)
 all_given (optional name ∷ rest) rows filled e = all_given rest rows filled e
+all_given (flag name ∷ rest) rows filled e = all_given rest rows filled e
 
 -- what a subcommand takes from the program above it
 abbrev above : Text → Shape

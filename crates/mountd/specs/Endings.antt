@@ -6,6 +6,7 @@ use Rattle.eden_checkout.specs.declared.fault.OpenFault.{OpenFault}
 use Rattle.eden_checkout.specs.declared.fault.OpenFault.TheVariants as opens
 use Rattle.eden_serve.specs.declared.fault.LifeFault.{LifeFault}
 use Rattle.eden_serve.specs.declared.fault.LifeFault.TheVariants as life
+use Rattle.eden_importer.specs.declared.fault.ImportFault.{ImportFault}
 use Rattle.mountd.specs.declared.hold.HoldFault.{HoldFault}
 use Rattle.mountd.specs.declared.hold.HoldFault.TheVariants as hold
 
@@ -36,3 +37,8 @@ status_of (Ok _) = 0
 status_of (Err (life.Open fault)) = 3
 status_of (Err (life.Session fault)) = 4
 status_of (Err (life.Close fault)) = 4
+
+-- .. and of an import
+abbrev pub import_status : Result ⊤ ImportFault → ℕ
+import_status (Ok _) = 0
+import_status (Err fault) = 5

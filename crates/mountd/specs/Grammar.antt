@@ -1,28 +1,19 @@
--- Command lines of a program with subcommands, whose options each take one value, in the words of `clap`'s grammar.
-use Rattle.std.specs.Prelude.{◌≡◌, ◌⊎◌, ⊤, Bool, true, false, List, [], ◌∷◌, ◌++◌, map, Option, Some, None, is_some, if◌then◌else◌}
-use Rattle.std.specs.Str.{bytes_eq}
+-- Command lines of a program with subcommands, whose options each take one value or none, in the words of `clap`'s grammar.
+use Rattle.std.specs.Prelude.{◌≡◌, ◌⊎◌, ⊤, Bool, true, false, List, [], ◌∷◌, ◌++◌, map, Option, Some, None, is_some}
 use Rattle.clap.specs.Words.{App, Row, Rule, Shape, Text, first_of, new_rule}
 use Rattle.clap.specs.Simple.{new_shape}
+use Rattle.clap.specs.declared.builder.action.ArgAction.TheVariants.{SetTrue}
 
--- `--NAME VALUE`, which must be given or may be left out
+-- `--NAME VALUE`, which must be given or may be left out; `--NAME` alone, which may be left out
 pub data LineOption : Type 0 where
   required : Text → LineOption
   optional : Text → LineOption
-
-abbrev pub name_of : LineOption → Text
-name_of (required name) = name
-name_of (optional name) = name
-
-abbrev pub is_required : LineOption → Bool
-is_required (required name) = true
-is_required (optional name) = false
+  flag : Text → LineOption
 
 abbrev pub option_rule : LineOption → Rule
-option_rule option = record (new_rule (name_of option)) {
-  long = Some (name_of option);
-  value_names = 1;
-  required = is_required option;
-}
+option_rule (required name) = record (new_rule name) { long = Some name; value_names = 1; required = true }
+option_rule (optional name) = record (new_rule name) { long = Some name; value_names = 1 }
+option_rule (flag name) = record (new_rule name) { long = Some name; action = Some SetTrue }
 
 -- a name, and the options that may follow it
 abbrev pub Subcommand : Type 0
@@ -43,16 +34,17 @@ program name subcommands = record {
   subs = map subcommand_shape subcommands;
 }
 
--- the value of an option, where the subcommand that was met has this name
-abbrev pub value_in : Text → Option (Text × List Row) → Text → Option Text
-value_in subcommand None option = None
-value_in subcommand (Some met) option = if bytes_eq met.0 subcommand then first_of option met.1 else None
+-- the value of an option of the subcommand that was met
+abbrev pub value_in : Option (Text × List Row) → Text → Option Text
+value_in None option = None
+value_in (Some met) option = first_of option met.1
 
 -- each option that must be given has a value
 abbrev pub HasRequired : List LineOption → List Row → Type 0
 HasRequired [] rows = ⊤
 HasRequired (required name ∷ rest) rows = (is_some (first_of name rows) ≡ true) × HasRequired rest rows
 HasRequired (optional name ∷ rest) rows = HasRequired rest rows
+HasRequired (flag name ∷ rest) rows = HasRequired rest rows
 
 -- one of the subcommands was met, with each option that it requires
 abbrev pub Meets : List Subcommand → Option (Text × List Row) → Type 0

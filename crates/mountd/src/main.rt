@@ -8,13 +8,15 @@ mod report;
 #[cfg(test)]
 mod tests;
 
+use eden_importer::{ImportFault, Progress, Store};
 use eden_model::Outside;
 use eden_overlay::{Files, FolderFiles, MemoryFiles};
 use eden_serve::{Backing, live};
 use eden_source::FolderSource;
 use hold::hold;
-use options::{Command, StdioOptions, options};
+use options::{Command, ImportOptions, StdioOptions, options};
 use std::alloc::Global;
+use std::io::IsTerminal;
 use std::path::PathBuf;
 use std::process::ExitCode;
 use std::rt::Env;
@@ -72,6 +74,22 @@ fn stdio(rt: &HostRuntime, mut options: StdioOptions) -> ExitCode {
     }
 }
 
+/// Imports a folder, and prints the id of its tree.
+fn import(rt: &HostRuntime, options: ImportOptions) -> Result<(), ImportFault> {
+    let progress = if rt.stderr().is_terminal() {
+        Progress::Told
+    } else {
+        Progress::Quiet
+    };
+    let memory = rt.alloc();
+    let from = PathBuf::from(options.from);
+    let mut store = Store::new(*rt, PathBuf::from(options.objects), progress);
+    let root = eden_importer::import(memory, &from, &mut store)?;
+    let digits = hex::encode(memory, root.bytes)?;
+    println!(rt; "{digits}")?;
+    Ok(())
+}
+
 fn main(rt: HostRuntime) -> ExitCode {
     let words = match words(&rt) {
         Ok(words) => words,
@@ -79,6 +97,7 @@ fn main(rt: HostRuntime) -> ExitCode {
     };
     match options(rt.alloc(), words.as_slice()) {
         Ok(Command::Stdio(options)) => stdio(&rt, options),
+        Ok(Command::Import(options)) => report::import(&rt, import(&rt, options)),
         Err(error) => report::command_line(&rt, &error),
     }
 }

@@ -1,16 +1,16 @@
 //! The command line.
-ghost use Rattle.std.specs.Prelude.{◌≡◌, ◌≤◌, ◌⊎◌, ◌∷◌, [], IfErr, IfOk, OnOk, codes, false, map, option_map, string_bytes};
+ghost use Rattle.std.specs.Prelude.{◌≡◌, ◌≤◌, ◌⊎◌, ◌↔◌, IsTrue, ◌∷◌, [], IfErr, IfOk, OnOk, codes, false, map, option_map, string_bytes};
 ghost use Rattle.clap.specs.declared.builder.command.Command.TheViews.{out-Command as fields_of};
 ghost use Rattle.clap.specs.declared.error.kind.ErrorKind.TheVariants.{OutOfMemory};
 ghost use Rattle.clap.specs.Words.{app_of, first_value, found_of, kind_of, rows_of, rule_of, shape_of, subcommand_of, subcommand_rows_of};
-ghost use Rattle.mountd.specs.CommandLine.{AsksFor, IsAsked, IsTaken, Refuses, RefusesValues, SaysLimits, mount_options, mountd_line, stdio, stdio_options};
-ghost use Rattle.mountd.specs.Grammar.{HasRequired, option_rule, optional, required, subcommand_shape, with_options};
+ghost use Rattle.mountd.specs.CommandLine.{AsksFor, IsAsked, IsGiven, IsImport, IsTaken, Refuses, RefusesValues, SaysLimits, import, import_options, mount_options, mountd_line, stdio, stdio_options};
+ghost use Rattle.mountd.specs.Grammar.{HasRequired, flag, option_rule, optional, required, subcommand_shape, with_options};
 ghost use Rattle.mountd.specs.Numbers.{IsNoNumber, SaysNumber, most_of, number_name};
 ghost use Rattle.mountd.specs.declared.options.OptionsError.TheVariants as error;
 
 use crate::numbers::NumberOption;
 use clap::error::ErrorKind;
-use clap::{Arg, ArgMatches};
+use clap::{Arg, ArgAction, ArgMatches};
 use eden_model::Id;
 use eden_mount::Config;
 use eden_object::parse_id;
@@ -33,14 +33,26 @@ pub struct StdioOptions {
     pub objects: String,
     /// The folder that keeps the changes, where they are not to stay in memory alone.
     pub overlay: Option<String>,
+    /// Whether they are looked through at the opening, as after a kill.
+    pub rescan: bool,
     /// The limits of the mount, which has one caller.
     pub limits: Config,
+}
+
+/// What `mountd import` is asked to import.
+#[derive(Debug, Drop)]
+pub struct ImportOptions {
+    /// The folder whose files become objects.
+    pub from: String,
+    /// The folder that the objects come to lie in.
+    pub objects: String,
 }
 
 /// What the program is asked for.
 #[derive(Debug, Drop)]
 pub enum Command {
     Stdio(StdioOptions),
+    Import(ImportOptions),
 }
 
 /// Why a command line is refused.
@@ -76,9 +88,12 @@ pub fn options<S: AsStr>(alloc: Global, words: &[S]) -> Result<Command, OptionsE
     ensures err { IfErr result (Refuses (map S.text words.now)) }
 {
     let matches = matches_of(alloc, words)?;
-    // `clap` has seen that the subcommand is there.
-    let given = matches.subcommand_matches("stdio").unwrap();
-    Ok(Command::Stdio(stdio_options(alloc, given)?))
+    if let Some(given) = matches.subcommand_matches("stdio") {
+        return Ok(Command::Stdio(stdio_options(alloc, given)?));
+    }
+    // `clap` has seen that one of the subcommands is there.
+    let given = matches.subcommand_matches("import").unwrap();
+    Ok(Command::Import(import_options(alloc, given)?))
 }
 
 fn stdio_options(alloc: Global, given: &ArgMatches) -> Result<StdioOptions, OptionsError>
@@ -91,13 +106,26 @@ fn stdio_options(alloc: Global, given: &ArgMatches) -> Result<StdioOptions, Opti
     let root = parse_id(root).ok_or(OptionsError::Root)?;
     let objects = String::from_str(alloc, objects)?;
     let overlay = overlay(alloc, given)?;
+    let rescan = is_given(given, "rescan");
     let limits = limits(given)?;
     Ok(StdioOptions {
         root,
         objects,
         overlay,
+        rescan,
         limits,
     })
+}
+
+fn import_options(alloc: Global, given: &ArgMatches) -> Result<ImportOptions, AllocError>
+    requires { HasRequired import_options (rows_of (found_of given.now)) }
+    ensures { IfOk result (IsImport (first_value (found_of given.now))) }
+{
+    let from = given.get_str("from").unwrap();
+    let objects = given.get_str("objects").unwrap();
+    let from = String::from_str(alloc, from)?;
+    let objects = String::from_str(alloc, objects)?;
+    Ok(ImportOptions { from, objects })
 }
 
 /// The value of `--overlay`, where it is given.
@@ -109,6 +137,13 @@ fn overlay(alloc: Global, given: &ArgMatches) -> Result<Option<String>, AllocErr
         Some(folder) => Ok(Some(String::from_str(alloc, folder)?)),
         None => Ok(None),
     }
+}
+
+/// Whether the flag of this name is given.
+fn is_given(given: &ArgMatches, name: &str) -> bool
+    ensures { IsTrue result ↔ IsGiven (first_value (found_of given.now)) name.now }
+{
+    given.get_str(name) == Some("true")
 }
 
 /// The limits of a mount with one caller.
@@ -167,10 +202,12 @@ fn command_line<'a>(alloc: Global) -> Result<clap::Command<'a>, AllocError>
     ensures { IfOk result (λ command. app_of command ≡ mountd_line) }
 {
     let stdio = stdio_line(alloc)?;
+    let import = import_line(alloc)?;
     clap::Command::new(alloc, "mountd")
         .about("Answers requests on the files of a Git commit")
         .subcommand_required(true)
-        .subcommand(stdio)
+        .subcommand(stdio)?
+        .subcommand(import)
 }
 
 fn stdio_line<'a>(alloc: Global) -> Result<clap::Command<'a>, AllocError>
@@ -190,6 +227,20 @@ fn stdio_line<'a>(alloc: Global) -> Result<clap::Command<'a>, AllocError>
     with_mount_options(alloc, line)
 }
 
+fn import_line<'a>(alloc: Global) -> Result<clap::Command<'a>, AllocError>
+    ensures shape { IfOk result (λ line. shape_of line ≡ subcommand_shape import) }
+    ensures local { IfOk result (λ line. (fields_of line).has_globals ≡ false) }
+{
+    let line = clap::Command::new(alloc, "import").about("Makes a folder's files Git objects");
+    let line = with_required(alloc, line, ("from", "DIR"), "The folder to import")?;
+    with_required(
+        alloc,
+        line,
+        ("objects", "DIR"),
+        "The folder of Git objects that it is imported into",
+    )
+}
+
 /// The line with the options of whatever opens a mount.
 fn with_mount_options<'a>(
     alloc: Global,
@@ -204,6 +255,12 @@ fn with_mount_options<'a>(
         line,
         ("overlay", "DIR"),
         "The folder that keeps the changes [default: they stay in memory]",
+    )?;
+    let line = with_flag(
+        alloc,
+        line,
+        "rescan",
+        "Opens an overlay that wasn't closed, by what its files say",
     )?;
     let line = with_optional(
         alloc,
@@ -251,6 +308,21 @@ fn with_optional<'a>(
     ensures local { IfOk result (λ more. (fields_of more).has_globals ≡ false) }
 {
     line.arg(option(alloc, name).help(help))
+}
+
+/// The line with a flag more, of this name.
+fn with_flag<'a>(
+    alloc: Global,
+    line: clap::Command<'a>,
+    name: &'a str,
+    help: &'a str,
+) -> Result<clap::Command<'a>, AllocError>
+    requires { (fields_of line).has_globals ≡ false }
+    ensures shape { IfOk result (λ more. shape_of more ≡ with_options (shape_of line.entry) (flag name.entry.now ∷ [])) }
+    ensures local { IfOk result (λ more. (fields_of more).has_globals ≡ false) }
+{
+    let flag = Arg::new(alloc, name).long(name).action(ArgAction::SetTrue);
+    line.arg(flag.help(help))
 }
 
 fn option<'a>(alloc: Global, name: (&'a str, &'a str)) -> Arg<'a>

@@ -3,10 +3,11 @@
 //! Where standard error can't be written, the status alone tells.
 ghost use Rattle.std.specs.Prelude.{◌≡◌};
 ghost use Rattle.std.specs.Process.{exit_status};
-ghost use Rattle.mountd.specs.Endings.{close_name, open_name, status_of};
+ghost use Rattle.mountd.specs.Endings.{close_name, import_status, open_name, status_of};
 
 use crate::options::OptionsError;
 use eden_checkout::OpenFault;
+use eden_importer::ImportFault;
 use eden_overlay::FilesFault;
 use eden_serve::LifeFault;
 use std::io;
@@ -17,6 +18,8 @@ const REFUSED: u8 = 2;
 const UNOPENED: u8 = 3;
 
 const FAULT: u8 = 4;
+
+const UNIMPORTED: u8 = 5;
 
 /// Tells why the arguments can't be read, as where they are not UTF-8. Status 2.
 pub fn arguments<R: Eprint>(rt: &R, error: &io::Error) -> ExitCode
@@ -57,6 +60,19 @@ pub fn ending<R: Eprint>(rt: &R, outcome: Result<(), LifeFault>) -> ExitCode
         Err(LifeFault::Open(fault)) => unopened(rt, open_name(fault)),
         Err(LifeFault::Session(fault)) => ended(rt, "session", fault.name()),
         Err(LifeFault::Close(fault)) => ended(rt, "close", close_name(fault)),
+    }
+}
+
+/// Tells by which fault nothing was imported, where there was one. Status 0, or 5.
+pub fn import<R: Eprint>(rt: &R, outcome: Result<(), ImportFault>) -> ExitCode
+    ensures { exit_status result ≡ import_status outcome }
+{
+    match outcome {
+        Ok(()) => ExitCode::SUCCESS,
+        Err(fault) => {
+            let _ = eprintln!(rt; "mountd: import {}", fault.name());
+            ExitCode::from(UNIMPORTED)
+        }
     }
 }
 

@@ -1,5 +1,5 @@
 //! What no clause says: that a good line is taken, and the texts of refusals.
-use crate::options::{Command, options};
+use crate::options::{Command, StdioOptions, options};
 use std::alloc::{AllocError, Global};
 use std::process::Abort;
 use std::test::Fail;
@@ -27,16 +27,26 @@ const FULL: &[&str] = &[
     ROOT,
     "--history",
     "1",
+    "--rescan",
     "--objects",
     FOLDER,
 ];
 
+/// What the words ask `stdio` for.
+fn asked(alloc: Global, words: &[&str]) -> Result<StdioOptions, Fail> {
+    match options(alloc, words)? {
+        Command::Stdio(given) => Ok(given),
+        Command::Import(_) => Err(Fail::from("another command")),
+    }
+}
+
 #[test]
 fn takes_a_good_line(rt: HostRuntime) -> Result<(), Fail> {
-    let Command::Stdio(given) = options(rt.alloc(), GOOD)?;
+    let given = asked(rt.alloc(), GOOD)?;
     assert!(rt; given.root.bytes == ROOT_BYTES);
     assert!(rt; given.objects.as_str() == FOLDER);
     assert!(rt; given.overlay.is_none());
+    assert!(rt; !given.rescan);
     assert!(rt; given.limits.history() == 1_000_000);
     assert!(rt; given.limits.entries() == 1024);
     assert!(rt; given.limits.bytes() == 1 << 28);
@@ -45,11 +55,12 @@ fn takes_a_good_line(rt: HostRuntime) -> Result<(), Fail> {
 
 #[test]
 fn takes_a_line_with_all_options(rt: HostRuntime) -> Result<(), Fail> {
-    let Command::Stdio(given) = options(rt.alloc(), FULL)?;
+    let given = asked(rt.alloc(), FULL)?;
     assert!(rt; given.root.bytes == ROOT_BYTES);
     assert!(rt; given.objects.as_str() == FOLDER);
     let overlay = given.overlay.ok_or("no overlay")?;
     assert!(rt; overlay.as_str() == "changes");
+    assert!(rt; given.rescan);
     assert!(rt; given.limits.history() == 1);
     assert!(rt; given.limits.entries() == 65_536);
     assert!(rt; given.limits.bytes() == 1 << 40);
@@ -85,8 +96,16 @@ const NO_LINES: &[Refused] = &[
         "error: the following required arguments were not provided:\n  --objects <DIR>",
     ),
     (
-        &["mountd", "stdio", "--root", ROOT, "--rescan"],
-        "error: unexpected argument '--rescan' found",
+        &[
+            "mountd",
+            "stdio",
+            "--root",
+            ROOT,
+            "--objects",
+            FOLDER,
+            "--rescan=yes",
+        ],
+        "error: unexpected value 'yes' for '--rescan' found; no more were expected",
     ),
     (
         &["mountd", "stdio", "--root", ROOT, "--overlay", FOLDER],

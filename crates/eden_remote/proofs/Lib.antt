@@ -1,0 +1,5 @@
+pub mod LineLemmas
+pub mod NumberLemmas
+pub mod SendLemmas
+pub mod ReceiveLemmas
+pub mod ServeLemmas
