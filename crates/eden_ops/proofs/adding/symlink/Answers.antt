@@ -1,8 +1,12 @@
-use Rattle.std.proofs.Common.{length, sym}
+use Rattle.std.proofs.Common.{length, sym, refl, ◌∙◌}
 use Rattle.std.proofs.lemmas.Bool.{eqb-false}
+use Rattle.eden_model.specs.declared.errno.Errno.TheVariants.{ENOENT}
+use Rattle.eden_model.specs.declared.reply.Reply.TheVariants as say
 use Rattle.eden_model.specs.declared.request.Request.TheVariants as ask
 use Rattle.eden_ops.specs.Changes.{link}
 use Rattle.eden_ops.specs.Keeping.{same}
+use Rattle.eden_ops.proofs.Answering.{answered}
+use Rattle.eden_ops.proofs.Finding.{finds_same}
 use Rattle.eden_ops.proofs.Leaving.{leaves_kept}
 use Rattle.eden_ops.proofs.adding.symlink.Goals as goal
 
@@ -20,3 +24,9 @@ returns-then-is_empty-clause-leaves g c = leaves_kept g.W.World g.F.Files c.args
 
 pub returns-then-target-gt-MAX_TARGET-clause-leaves : goal.returns-then-target-gt-MAX_TARGET-clause-leaves
 returns-then-target-gt-MAX_TARGET-clause-leaves g c = leaves_kept g.W.World g.F.Files c.args.inodes.now c.args.inodes.now same (ask.Symlink c.args.path.now c.args.target.now) _
+
+pub returns-then-is_empty-clause-attempts : goal.returns-then-is_empty-clause-attempts
+returns-then-is_empty-clause-attempts g c =
+    let q = ask.Symlink c.args.path.now c.args.target.now in
+    let s = c.args.inodes.now in
+    answered g.W.World g.F.Files q s s c.args.cache.now c.args.cache.now (λ h. refl) (finds_same c.args.cache.now) (say.Err ENOENT) refl (λ G. refl) (λ h. rw (sym c.is_empty.ensures ∙ c.if-is_empty.true) refl)

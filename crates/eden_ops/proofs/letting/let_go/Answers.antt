@@ -1,3 +1,4 @@
+use Rattle.std.proofs.Common.{arith}
 use Rattle.eden_ops.proofs.Going.{lets_go, goes_saved}
 use Rattle.eden_ops.proofs.letting.let_go.Goals as goal
 
@@ -18,3 +19,6 @@ returns-clause-goes g c = let e = c.unload.ensures in lets_go g.W.World.honest _
 
 pub returns-clause-saved : goal.returns-clause-saved
 returns-clause-saved g c = goes_saved c.args.path.now c.args.inodes.now.root c.unload.new.self.root (returns-clause-goes g c)
+
+pub returns-then-failures-clause-fault : goal.returns-then-failures-clause-fault
+returns-then-failures-clause-fault g c = omega (arith, c.if-failures.true, c.failures.ensures, c.failures-failures.ensures)
