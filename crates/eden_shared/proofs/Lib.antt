@@ -1,0 +1,5 @@
+pub mod Listed
+pub mod Rising
+pub mod Accounting
+pub mod Opened
+pub mod Holding

@@ -1,0 +1,6 @@
+pub mod Accounts
+pub mod Answers
+pub mod Lanes
+pub mod Passes
+pub mod Calls
+pub mod Opening

@@ -1,0 +1,43 @@
+-- What a pass carries.
+use Rattle.std.specs.Prelude.{◌≡◌, ℕ, zero, suc, ◌+◌, ◌-◌, ◌≤◌, List, [], ◌∷◌, length, slice_get, Some}
+use Rattle.eden_mount.specs.declared.seats.Pending.{Pending}
+use Rattle.eden_mount.specs.Core.{Core, Pends}
+use Rattle.eden_shared.specs.declared.account.Told.{Told}
+use Rattle.eden_shared.specs.Accounts.{told_by}
+
+pub record Carried : Type 0 where
+  pub number : ℕ
+  -- the least number that the pass's next entry may have
+  pub floor : ℕ
+  pub told : List Told
+
+abbrev pub carried : ℕ → ℕ → List Told → Carried
+carried number floor ts = record { number = number; floor = floor; told = ts }
+
+abbrev pub greater : ℕ → ℕ → ℕ
+greater a b = a + (b - a)
+
+-- the numbers rise strictly, from a least one on and below the floor
+abbrev pub Rises : ℕ → List Told → ℕ → Type 0
+Rises least [] floor = least ≤ floor
+Rises least (t ∷ ts) floor = (least ≤ t.number) × Rises (suc t.number) ts floor
+
+-- the passes from c on, which were told nothing
+abbrev pub newcomers : ℕ → ℕ → List Carried
+newcomers c zero = []
+newcomers c (suc n) = carried c 1 [] ∷ newcomers (suc c) n
+
+-- one of them
+abbrev pub Has : List Carried → Carried → Type 0
+Has passes p = (k : ℕ) × (slice_get passes k ≡ Some p)
+
+-- there are n, one of each number from 1 on
+pub record AreEach (passes : List Carried) (n : ℕ) : Type 0 where
+  pub count : length passes ≡ n
+  pub each : (c : ℕ) → 1 ≤ c → c ≤ n → (p : Carried) × Has passes p × (p.number ≡ c)
+
+-- there is one pass of each number, nothing is pending, and what each was told are its entries
+pub record Agrees {T : Type 0} (m : Core T) (passes : List Carried) : Type 0 where
+  pub each : AreEach passes m.queue.passes
+  pub rest : (c : ℕ) (s : Pending) → ¬ Pends c s m
+  pub told : (p : Carried) → Has passes p → p.told ≡ told_by p.number 1 m.history
