@@ -3,3 +3,4 @@ pub mod Rising
 pub mod Accounting
 pub mod Opened
 pub mod Holding
+pub mod Numbered

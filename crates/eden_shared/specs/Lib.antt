@@ -3,4 +3,5 @@ pub mod Answers
 pub mod Lanes
 pub mod Passes
 pub mod Calls
+pub mod Fetched
 pub mod Opening

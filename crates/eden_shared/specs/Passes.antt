@@ -1,5 +1,5 @@
 -- What a pass carries.
-use Rattle.std.specs.Prelude.{◌≡◌, ℕ, zero, suc, ◌+◌, ◌-◌, ◌≤◌, List, [], ◌∷◌, length, slice_get, Some}
+use Rattle.std.specs.Prelude.{◌≡◌, ℕ, zero, suc, ◌+◌, ◌-◌, ◌≤◌, List, [], ◌∷◌, length, slice_get, Some, None}
 use Rattle.eden_mount.specs.declared.seats.Pending.{Pending}
 use Rattle.eden_mount.specs.Core.{Core, Pends}
 use Rattle.eden_shared.specs.declared.account.Told.{Told}
@@ -31,10 +31,19 @@ newcomers c (suc n) = carried c 1 [] ∷ newcomers (suc c) n
 abbrev pub Has : List Carried → Carried → Type 0
 Has passes p = (k : ℕ) × (slice_get passes k ≡ Some p)
 
+-- .. has the number
+abbrev pub HasNumber : List Carried → ℕ → Type 0
+HasNumber passes c = (p : Carried) × Has passes p × (p.number ≡ c)
+
 -- there are n, one of each number from 1 on
 pub record AreEach (passes : List Carried) (n : ℕ) : Type 0 where
   pub count : length passes ≡ n
-  pub each : (c : ℕ) → 1 ≤ c → c ≤ n → (p : Carried) × Has passes p × (p.number ≡ c)
+  pub each : (c : ℕ) → 1 ≤ c → c ≤ n → HasNumber passes c
+
+-- the pass has nothing pending, and was told its entries
+pub record IsKnown {T : Type 0} (m : Core T) (p : Carried) : Type 0 where
+  pub free : slice_get m.seats (p.number - 1) ≡ Some None
+  pub told : p.told ≡ told_by p.number 1 m.history
 
 -- there is one pass of each number, nothing is pending, and what each was told are its entries
 pub record Agrees {T : Type 0} (m : Core T) (passes : List Carried) : Type 0 where

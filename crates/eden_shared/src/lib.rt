@@ -3,6 +3,9 @@
 
 mod account;
 mod ends;
+mod fetching;
+mod finishing;
+mod gathered;
 mod lanes;
 mod locked;
 mod opening;
@@ -10,6 +13,8 @@ mod pass;
 mod shared;
 
 pub use account::{Naming, Told};
+pub use fetching::Fetched;
+pub use finishing::Torn;
 pub use opening::Ties;
 pub use pass::Pass;
 pub use shared::Shared;

@@ -1,14 +1,17 @@
 // What lies under the lock: the mount, whether it was stopped, and one end of each pass's tie.
-ghost use Rattle.std.specs.Prelude.{◌≡◌, ◌-◌, ◌+◌, ◌≤◌, length, slice_get, Some, None, IfOk, OnOk, OnErr, IfErr, IfSome, IfNone};
+ghost use Rattle.std.specs.Prelude.{◌≡◌, ◌-◌, ◌+◌, ◌≤◌, length, slice_get, Some, None, IfOk, OnOk, OnErr, IfErr, IfSome, IfNone, true};
 ghost use Rattle.eden_object.specs.Objects.{IsHonest};
-ghost use Rattle.eden_mount.specs.Steps.{IsUseless};
 ghost use Rattle.eden_shared.specs.Accounts.{account};
 ghost use Rattle.eden_shared.specs.Answers.{after_answer};
 ghost use Rattle.eden_shared.specs.Calls.{AnswersTo, IsLawful, IsRefusal};
+ghost use Rattle.eden_shared.specs.Fetched.{ComesTo};
+ghost use Rattle.eden_shared.specs.Passes.{Agrees, AreEach, Carried, Has, IsKnown};
 
 use crate::account::{Account, Naming};
 use crate::ends::Far;
+use crate::gathered::have_each;
 use crate::lanes::{Answered, Finishes, Lane, Starts, change, look};
+use crate::pass::Pass;
 use eden_model::{CallFault, Cause, Key, Path, Request, StartFault, World};
 use eden_mount::{Arrived, Attempts, Mount, Pending, Turned};
 use std::alloc::Allocator;
@@ -133,7 +136,7 @@ impl<W: World, T: Attempts<W> + Drop, A: Allocator, J: Naming> Locked<W, T, A, J
     /// Takes what came for a key.
     pub(crate) fn arrive(&mut self, key: Key, framed: Vec<u8>) -> Arrived
         requires { W.honest → IsHonest W.repository key.id framed.items }
-        ensures { (x : _) → result ≡ Arrived.Refused x → IsUseless key framed.items x }
+        ensures { ComesTo key framed.items result }
     {
         self.mount.arrive(key, framed)
     }
@@ -146,6 +149,43 @@ impl<W: World, T: Attempts<W> + Drop, A: Allocator, J: Naming> Locked<W, T, A, J
     /// Lets go of loaded directories. How many went.
     pub(crate) fn unload(&mut self, path: &Path, older_than: u64) -> u64 {
         self.mount.unload(path, older_than)
+    }
+
+    /// Looks at a pass: it has nothing pending, and was told its entries and nothing else.
+    fn check(&mut self, pass: &mut Pass<J>)
+        ensures lock { self.new ≡ self.old }
+        ensures pass { pass.new ≡ pass.old }
+        ensures known { IsKnown self.old pass.old }
+    {
+        look(&mut self.lanes, pass.number as usize - 1, &mut pass.end);
+    }
+
+    /// Looks at all of these passes.
+    fn check_all(&mut self, passes: &mut Vec<Pass<J>>)
+        ensures lock { self.new ≡ self.old }
+        ensures passes { passes.new.items ≡ passes.old.items }
+        ensures known { (p : Carried) → Has passes.old.items p → IsKnown self.old p }
+    {
+        for i in 0..passes.len() {
+            self.check(&mut passes[i]);
+        }
+    }
+
+    /// Whether the passes are one of each number. Then nothing is pending, and they were told what the history says.
+    pub(crate) fn agrees(&mut self, passes: &mut Vec<Pass<J>>) -> bool
+        ensures lock { self.new ≡ self.old }
+        ensures passes { passes.new.items ≡ passes.old.items }
+        ensures yes { result ≡ true → Agrees self.old passes.old.items }
+        ensures no { AreEach passes.old.items self.old.queue.passes → result ≡ true }
+        ensures count { length J.names ≡ self.old.queue.passes }
+    {
+        self.mount.holds();
+        self.check_all(passes);
+        let count = self.mount.passes();
+        if passes.len() != count as usize {
+            return false;
+        }
+        have_each(passes.as_slice(), count)
     }
 
     /// The mount, as it is.
