@@ -10,6 +10,7 @@ use Rattle.eden_shared.specs.declared.lanes.Lane.{Lane}
 use Rattle.eden_shared.specs.Accounts.{accounts}
 use Rattle.eden_shared.specs.Lanes.{names_of, values_of}
 use Rattle.eden_shared.specs.Passes.{Carried, Has, AreEach, IsKnown, Agrees}
+use Rattle.eden_shared.proofs.Entries.{knows_own}
 use Rattle.eden_shared.proofs.Accounting.{length_accounts, seat_there}
 
 pub each_more : (P : ℕ → Type 0) (n : ℕ) → ((c : ℕ) → 1 ≤ c → c ≤ n → P c) → P (n + 1) → (c : ℕ) → 1 ≤ c → c ≤ n + 1 → P c
@@ -33,5 +34,5 @@ all_agree m passes seats are known = record {
       let one = are.each c pends.0 (let some = pends.0 in omega arith) in
       let free = ap (λ n. slice_get m.seats (n - 1)) (sym one.2) ∙ (known one.0 one.1).free in
       absurd (cc (sym (seat_there m.seats (c - 1) None free) ∙ pends.1));
-  told = λ p has. (known p has).told;
+  told = λ p has. knows_own m.history p (known p has).told;
 }

@@ -1,11 +1,13 @@
 -- New ties and new passes, one after another.
 use Rattle.std.proofs.Common.{◌≡◌, ℕ, zero, suc, ◌+◌, List, [], ◌∷◌, ◌++◌, length, map, replicate, Some, None, refl, sym, ap, ◌∙◌, arith}
 use Rattle.std.specs.Prelude.{slice_get, slice_index_or}
+use Rattle.std.proofs.lemmas.List.{length-map}
 use Rattle.std.specs.declared.option.Option.{Option}
 use Rattle.eden_mount.specs.declared.seats.Pending.{Pending}
 use Rattle.eden_shared.specs.declared.lanes.Lane.{Lane}
 use Rattle.eden_shared.specs.declared.opening.End.{End}
 use Rattle.eden_shared.specs.Accounts.{account, accounts}
+use Rattle.eden_shared.specs.Lanes.{names_of}
 use Rattle.eden_shared.specs.Opening.{AreTied}
 use Rattle.eden_shared.specs.Passes.{carried, newcomers}
 
@@ -48,6 +50,11 @@ all_free [] free = refl
 all_free (None ∷ seats) free = ap (λ ss. None ∷ ss) (all_free seats (λ k s. free (suc k) s))
 all_free (Some s ∷ seats) free = absurd (free zero s refl)
 
-pub length_alike : {A : Type 0} (n : ℕ) (v : A) → length (replicate n v) ≡ n
+length_alike : {A : Type 0} (n : ℕ) (v : A) → length (replicate n v) ≡ n
 length_alike zero v = refl
 length_alike (suc n) v = ap suc (length_alike n v)
+
+-- there are as many names as ties
+pub as_named : (lanes : List Lane) (ends : List End) (names : List ℕ) (n : ℕ) → AreTied lanes ends n → names_of lanes ≡ names → length names ≡ n
+as_named lanes ends names n tied named =
+    ap length (sym named) ∙ length-map lanes (λ (l : Lane). l.near.name) ∙ sym (length-map lanes (λ (l : Lane). l.near.value)) ∙ ap length tied.near ∙ length_alike n (account None [])

@@ -1,7 +1,8 @@
 -- What a pass carries.
-use Rattle.std.specs.Prelude.{◌≡◌, ℕ, zero, suc, ◌+◌, ◌-◌, ◌≤◌, List, [], ◌∷◌, length, slice_get, Some, None}
+use Rattle.std.specs.Prelude.{◌≡◌, ◌↔◌, ℕ, zero, suc, ◌+◌, ◌-◌, ◌≤◌, List, [], ◌∷◌, length, slice_get, Some, None}
+use Rattle.eden_model.specs.declared.entry.Entry.{Entry}
 use Rattle.eden_mount.specs.declared.seats.Pending.{Pending}
-use Rattle.eden_mount.specs.Core.{Core, Pends}
+use Rattle.eden_mount.specs.Core.{Core, Pends, entry}
 use Rattle.eden_shared.specs.declared.account.Told.{Told}
 use Rattle.eden_shared.specs.Accounts.{told_by}
 
@@ -45,8 +46,20 @@ pub record IsKnown {T : Type 0} (m : Core T) (p : Carried) : Type 0 where
   pub free : slice_get m.seats (p.number - 1) ≡ Some None
   pub told : p.told ≡ told_by p.number 1 m.history
 
--- there is one pass of each number, nothing is pending, and what each was told are its entries
+-- entry n of a history
+abbrev pub IsEntry : List Entry → ℕ → Entry → Type 0
+IsEntry history n e = (1 ≤ n) × (slice_get history (n - 1) ≡ Some e)
+
+-- the pass was told this
+abbrev pub Heard : Carried → Told → Type 0
+Heard p t = (k : ℕ) × (slice_get p.told k ≡ Some t)
+
+-- the pass was told of a call exactly where that entry is its own, with that request and that reply
+abbrev pub KnowsItsOwn : List Entry → Carried → Type 0
+KnowsItsOwn history p = (t : Told) → Heard p t ↔ IsEntry history t.number (entry p.number t.request t.reply)
+
+-- there is one pass of each number, nothing is pending, and each was told of its entries and of nothing else
 pub record Agrees {T : Type 0} (m : Core T) (passes : List Carried) : Type 0 where
   pub each : AreEach passes m.queue.passes
   pub rest : (c : ℕ) (s : Pending) → ¬ Pends c s m
-  pub told : (p : Carried) → Has passes p → p.told ≡ told_by p.number 1 m.history
+  pub told : (p : Carried) → Has passes p → KnowsItsOwn m.history p

@@ -79,6 +79,7 @@ impl<W: World, T: Attempts<W> + Drop, A: Allocator, J: Naming> Shared<W, T, A, J
         requires unused { IsUnused mount }
         requires ties { AreTied ties.lanes.items ties.ends.items mount.queue.passes }
         requires names { names_of ties.lanes.items ≡ J.names }
+        ensures count { length J.names ≡ mount.queue.passes }
         ensures passes { IfOk result (λ s. s.1.items ≡ newcomers 1 mount.queue.passes) }
         ensures err { IfErr result (λ e. e.1 ≡ mount) }
     {

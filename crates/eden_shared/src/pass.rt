@@ -3,7 +3,7 @@ ghost use Rattle.std.specs.Borrow.{sem};
 ghost use Rattle.std.specs.Io.BufRead.{Rests};
 ghost use Rattle.eden_shared.specs.Calls.{IsLawful, Lends};
 ghost use Rattle.eden_shared.specs.contracts.pass.Pass.{the_row};
-ghost use Rattle.eden_shared.specs.Passes.{carried, greater};
+ghost use Rattle.eden_shared.specs.Passes.{carried, greater, Rises};
 
 use crate::account::{Account, Naming, Told};
 use crate::ends::Far;
@@ -47,7 +47,8 @@ impl<J: Naming> Pass<J> {
 
     /// What it was told, in order: the numbers rise, and are below the floor.
     pub fn told(&self) -> &[Told]
-        ensures { result.now ≡ self.now.told }
+        ensures told { result.now ≡ self.now.told }
+        ensures rises { Rises 1 self.now.told self.now.floor }
     {
         self.told.as_slice()
     }

@@ -4,7 +4,7 @@ use Rattle.std.proofs.lemmas.List.{length-map}
 use Rattle.eden_shared.specs.declared.lanes.Lane.{Lane}
 use Rattle.eden_shared.specs.Accounts.{account, accounts}
 use Rattle.eden_shared.specs.Passes.{newcomers}
-use Rattle.eden_shared.proofs.Opened.{accounts_fresh, all_free, length_alike}
+use Rattle.eden_shared.proofs.Opened.{accounts_fresh, all_free, as_named}
 use Rattle.eden_shared.proofs.shared.Shared.open.Goals as goal
 
 pub invariant_of-locked : goal.invariant_of-locked
@@ -15,9 +15,12 @@ invariant_of-locked g c =
       c.requires.ties.near ∙ sym (accounts_fresh 1 m.queue.passes) ∙ (λ i. accounts 1 (replicate (sym c.holds.ensures.seats i) None) (sym c.requires.unused.history i)) ∙ ap (λ s. accounts 1 s m.history) (sym free),
     )
 
+-- as many names as the mount has passes
+pub returns-in-Err-clause-count : goal.returns-in-Err-clause-count
+returns-in-Err-clause-count g c = as_named c.args.ties.lanes.items c.args.ties.ends.items g.J.Naming.names c.args.mount.queue.passes c.requires.ties c.requires.names
+
+pub returns-clause-count : goal.returns-clause-count
+returns-clause-count g c = as_named c.args.ties.lanes.items c.args.ties.ends.items g.J.Naming.names c.args.mount.queue.passes c.requires.ties c.requires.names
+
 pub returns-clause-passes : goal.returns-clause-passes
-returns-clause-passes g c =
-    let lanes = c.args.ties.lanes.items in
-    let names : length g.J.Naming.names ≡ length lanes = ap length (sym c.requires.names) ∙ length-map lanes (λ (l : Lane). l.near.name) in
-    let passes : length lanes ≡ c.args.mount.queue.passes = sym (length-map lanes (λ (l : Lane). l.near.value)) ∙ ap length c.requires.ties.near ∙ length_alike c.args.mount.queue.passes (account None []) in
-    c.in-Ok.ensures ∙ ap (newcomers 1) (names ∙ passes)
+returns-clause-passes g c = c.in-Ok.ensures ∙ ap (newcomers 1) (as_named c.args.ties.lanes.items c.args.ties.ends.items g.J.Naming.names c.args.mount.queue.passes c.requires.ties c.requires.names)
