@@ -1,0 +1,7 @@
+pub mod Listed
+pub mod Rising
+pub mod Accounting
+pub mod Opened
+pub mod Holding
+pub mod Numbered
+pub mod Entries

@@ -1,0 +1,38 @@
+-- Passes that are one of each number.
+use Rattle.std.proofs.Common.{◌≡◌, ℕ, zero, suc, ◌+◌, ◌-◌, ◌<◌, ◌≤◌, List, [], ◌∷◌, length, Some, None, sym, ap, ◌∙◌, subst, arith, ⊎_elim}
+use Rattle.std.proofs.lemmas.Bool.Decides.{eqb_tells}
+use Rattle.std.proofs.lemmas.List.{length-map}
+use Rattle.std.specs.Prelude.{slice_get, slice_index_or}
+use Rattle.std.specs.declared.option.Option.{Option}
+use Rattle.eden_mount.specs.declared.seats.Pending.{Pending}
+use Rattle.eden_mount.specs.Core.{Core}
+use Rattle.eden_shared.specs.declared.lanes.Lane.{Lane}
+use Rattle.eden_shared.specs.Accounts.{accounts}
+use Rattle.eden_shared.specs.Lanes.{names_of, values_of}
+use Rattle.eden_shared.specs.Passes.{Carried, Has, AreEach, IsKnown, Agrees}
+use Rattle.eden_shared.proofs.Entries.{knows_own}
+use Rattle.eden_shared.proofs.Accounting.{length_accounts, seat_there}
+
+pub each_more : (P : ℕ → Type 0) (n : ℕ) → ((c : ℕ) → 1 ≤ c → c ≤ n → P c) → P (n + 1) → (c : ℕ) → 1 ≤ c → c ≤ n + 1 → P c
+each_more P n below here c some le = ⊎_elim (λ x. subst P (sym x.1) here) (λ x. below c some (let other = x.1 in omega arith)) (eqb_tells c (n + 1))
+
+seat_within : (seats : List (Option Pending)) (k : ℕ) (s : Pending) → slice_index_or seats k None ≡ Some s → k < length seats
+seat_within [] k s at = absurd (cc at)
+seat_within (x ∷ seats) zero s at = omega arith
+seat_within (x ∷ seats) (suc k) s at = (let r = seat_within seats k s at in omega arith)
+
+pub as_many : {T : Type 0} (m : Core T) (lanes : List Lane) (names : List ℕ) → names_of lanes ≡ names → values_of lanes ≡ accounts 1 m.seats m.history → length m.seats ≡ m.queue.passes → length names ≡ m.queue.passes
+as_many m lanes names named valued seats =
+    ap length (sym named) ∙ length-map lanes (λ (l : Lane). l.near.name) ∙ sym (length-map lanes (λ (l : Lane). l.near.value)) ∙ ap length valued ∙ length_accounts 1 m.seats m.history ∙ seats
+
+-- where each pass is known, nothing is pending
+pub all_agree : {T : Type 0} (m : Core T) (passes : List Carried) → length m.seats ≡ m.queue.passes → AreEach passes m.queue.passes → ((p : Carried) → Has passes p → IsKnown m p) → Agrees m passes
+all_agree m passes seats are known = record {
+  each = are;
+  rest = λ c s pends.
+      let within = seat_within m.seats (c - 1) s pends.1 in
+      let one = are.each c pends.0 (let some = pends.0 in omega arith) in
+      let free = ap (λ n. slice_get m.seats (n - 1)) (sym one.2) ∙ (known one.0 one.1).free in
+      absurd (cc (sym (seat_there m.seats (c - 1) None free) ∙ pends.1));
+  told = λ p has. knows_own m.history p (known p has).told;
+}

@@ -1,0 +1,6 @@
+use denote.RattleType.{RattleType}
+use denote.Param.Send.{IsSend}
+use Rattle.eden_shared.specs.contracts.ends.Far.{the_row}
+
+pub send : (V : RattleType) → IsSend (the_row V)
+send V = record { owned = λ d vs. ((λ vss. (tt, ((λ uss. (tt, tt)), tt))), tt); leaving = λ k f vs. tt }

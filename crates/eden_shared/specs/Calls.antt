@@ -1,0 +1,57 @@
+-- What a call through the lock promises.
+use Rattle.std.specs.Prelude.{◌≡◌, ℕ, ◌+◌, ◌-◌, ◌<◌, ◌≤◌, ◌++◌, List, [], ◌∷◌, length, slice_get, Some}
+use Rattle.eden_model.specs.declared.entry.Entry.{Entry}
+use Rattle.eden_model.specs.declared.fault.CallFault.{CallFault}
+use Rattle.eden_model.specs.declared.fault.CallFault.TheVariants.{Start, Foreign, Stopped}
+use Rattle.eden_model.specs.declared.fault.StartFault.{StartFault}
+use Rattle.eden_model.specs.declared.fault.StartFault.TheVariants.{NoPass, Busy, HistoryFull, Memory}
+use Rattle.eden_model.specs.declared.request.Request.{Request}
+use Rattle.eden_model.specs.declared.reply.Reply.{Reply}
+use Rattle.eden_model.specs.Histories.{Legal}
+use Rattle.eden_model.specs.Trees.{Tree}
+use Rattle.eden_mount.specs.Core.{entry}
+use Rattle.eden_mount.specs.declared.seats.Pending.{Pending}
+use Rattle.eden_shared.specs.declared.account.Told.{Told}
+use Rattle.eden_shared.specs.declared.lanes.Answered.{Answered}
+use Rattle.eden_shared.specs.Accounts.{told}
+use Rattle.eden_shared.specs.Passes.{Carried, carried}
+
+-- the last number that was told, or 0
+abbrev pub last_told : List Told → ℕ
+last_told [] = 0
+last_told (t ∷ []) = t.number
+last_told (t ∷ u ∷ ts) = last_told (u ∷ ts)
+
+-- why a pass of this lock isn't let start: it is neither unknown nor busy
+abbrev pub IsRefusal : StartFault → Type 0
+IsRefusal NoPass = ⊥
+IsRefusal Busy = ⊥
+IsRefusal (HistoryFull limit) = Unit {0}
+IsRefusal Memory = Unit {0}
+
+-- why a call isn't served; a pass is foreign only by what it learnt, since the history has what it was told
+abbrev pub IsLawful : ℕ → List Told → CallFault → Type 0
+IsLawful floor ts (Start f) = IsRefusal f
+IsLawful floor ts (Foreign f l) = (f ≡ floor) × (l + 1 < f) × (last_told ts ≤ l)
+IsLawful floor ts Stopped = Unit {0}
+
+module _ (honest : Type 0) (opening : Tree) where
+  -- some legal history of n entries ends with this one
+  abbrev pub StandsIn : ℕ → ℕ → Request → Reply → Type 0
+  StandsIn n c q r = (before : List Entry) × (length (before ++ entry c q r ∷ []) ≡ n) × (honest → Legal opening (before ++ entry c q r ∷ []))
+
+  -- what was pending was answered so, at a number behind the start's
+  abbrev pub AnswersTo : ℕ → Answered → Pending → Type 0
+  AnswersTo c a s = StandsIn a.number c s.request a.reply × (s.since < a.number)
+
+  -- the pass was told of one call more, at a number that isn't below its floor
+  pub record Grows (p : Carried) (q : Request) (p' : Carried) : Type 0 where
+    pub number : ℕ
+    pub reply : Reply
+    pub later : p.floor ≤ number
+    pub stands : StandsIn number p.number q reply
+    pub is : p' ≡ carried p.number (number + 1) (p.told ++ told number q reply ∷ [])
+
+  -- .. which is lent
+  abbrev pub Lends : Carried → Request → Told → Carried → Type 0
+  Lends p q t p' = Grows p q p' × (slice_get p'.told (length p'.told - 1) ≡ Some t)

@@ -1,0 +1,33 @@
+use eden_model::{Reply, Request};
+use eden_mount::Pending;
+use std::collections::LinkedList;
+use std::marker::Brand;
+
+/// What a pass was told of one call.
+#[derive(Debug, Drop)]
+pub struct Told {
+    /// The entry's number in the history, from 1 on.
+    pub number: u32,
+    pub request: Request,
+    pub reply: Reply,
+}
+
+/// What a pass and the lock both say of the pass. No value of it is made: it is what the ends of a tie hold.
+pub struct Account {
+    pub pending: Option<Pending>,
+    pub told: LinkedList<Told>,
+}
+
+/// The names of the ties of one shared mount, one for each pass. Whoever opens it picks them.
+pub trait Naming {
+    ghost use Rattle.std.specs.Prelude.{ℕ, List};
+
+    ghost names: { List ℕ };
+}
+
+/// The names here mean nothing: the call that picks gives its own.
+impl Naming for Brand {
+    ghost use Rattle.std.specs.Prelude.{[]};
+
+    ghost names = { [] };
+}

@@ -1,0 +1,198 @@
+// What lies under the lock: the mount, whether it was stopped, and one end of each pass's tie.
+ghost use Rattle.std.specs.Prelude.{◌≡◌, ◌-◌, ◌+◌, ◌≤◌, length, slice_get, Some, None, IfOk, OnOk, OnErr, IfErr, IfSome, IfNone, true};
+ghost use Rattle.eden_object.specs.Objects.{IsHonest};
+ghost use Rattle.eden_shared.specs.Accounts.{account};
+ghost use Rattle.eden_shared.specs.Answers.{after_answer};
+ghost use Rattle.eden_shared.specs.Calls.{AnswersTo, IsLawful, IsRefusal};
+ghost use Rattle.eden_shared.specs.Fetched.{ComesTo};
+ghost use Rattle.eden_shared.specs.Passes.{Agrees, AreEach, Carried, Has, IsKnown};
+
+use crate::account::{Account, Naming};
+use crate::ends::Far;
+use crate::gathered::have_each;
+use crate::lanes::{Answered, Finishes, Lane, Starts, change, look};
+use crate::pass::Pass;
+use eden_model::{CallFault, Cause, Key, Path, Request, StartFault, World};
+use eden_mount::{Arrived, Attempts, Mount, Pending, Turned};
+use std::alloc::Allocator;
+use std::marker::{Model, PhantomData};
+
+/// Contracts see the mount. What the ends hold are its seats and the entries of each pass.
+#[derive(Drop)]
+pub struct Locked<W: World, T: Attempts<W> + Drop, A: Allocator, J: Naming> {
+    pub(crate) mount: Mount<W, T, A>,
+    pub(crate) stopped: bool,
+    pub(crate) lanes: Vec<Lane>,
+    pub(crate) names: PhantomData<J>,
+}
+
+impl<W: World, T: Attempts<W> + Drop, A: Allocator, J: Naming> Model for Locked<W, T, A, J> {
+    ghost use Rattle.std.specs.Prelude.{◌≡◌};
+    ghost use Rattle.eden_mount.specs.Core.{Core};
+    ghost use Rattle.eden_shared.specs.Accounts.{accounts};
+    ghost use Rattle.eden_shared.specs.Lanes.{names_of, values_of};
+
+    ghost Value = { Core T };
+
+    ghost view = { λ l. l.mount };
+
+    ghost invariant = { λ l. (names_of l.lanes.items ≡ J.names) × (values_of l.lanes.items ≡ accounts 1 l.mount.seats l.mount.history) };
+}
+
+impl<W: World, T: Attempts<W> + Drop, A: Allocator, J: Naming> Locked<W, T, A, J> {
+    /// Tests whether the pass may start a request: not after `stop`, and not before the history has come to its floor. How
+    /// long the history is.
+    pub(crate) fn admit(
+        &mut self,
+        number: u32,
+        floor: u64,
+        end: &mut Far<Account>,
+    ) -> Result<u32, CallFault>
+        requires lane { (1 ≤ number) × (slice_get J.names (number - 1) ≡ Some end.old.name) }
+        ensures same { self.new ≡ self.old }
+        ensures end { (end.new.name ≡ end.old.name) × (end.new.value ≡ end.old.value) }
+        ensures length { IfOk result (λ n. n ≡ length self.old.history) }
+        ensures floor { IfOk result (λ n. floor ≤ n + 1) }
+        ensures why { IfErr result (IsLawful floor end.old.value.told) }
+    {
+        look(&mut self.lanes, number as usize - 1, end);
+        if self.stopped {
+            return Err(CallFault::Stopped);
+        }
+        self.mount.holds();
+        let length = self.mount.history().len() as u32;
+        if floor > u64::from(length) + 1 {
+            return Err(CallFault::Foreign { floor, length });
+        }
+        Ok(length)
+    }
+
+    /// Starts a request of a pass that has none pending.
+    pub(crate) fn begin(
+        &mut self,
+        number: u32,
+        end: &mut Far<Account>,
+        request: Request,
+        pending: &Pending,
+    ) -> Result<(), StartFault>
+        requires lane { (1 ≤ number) × (slice_get J.names (number - 1) ≡ Some end.old.name) }
+        requires free { end.old.value.pending ≡ None }
+        requires request { pending.now.request ≡ request }
+        requires since { pending.now.since ≡ length self.old.history }
+        ensures name { end.new.name ≡ end.old.name }
+        ensures ok { OnOk result (end.new.value ≡ account (Some pending.now) end.old.value.told) }
+        ensures err { OnErr result (end.new.value ≡ end.old.value) }
+        ensures why { IfErr result IsRefusal }
+    {
+        let at = number as usize - 1;
+        look(&mut self.lanes, at, end);
+        self.mount.holds();
+        match self.mount.start(number, request) {
+            Err(fault) => Err(fault),
+            Ok(()) => {
+                change::<Pending, Starts>(&mut self.lanes, at, end, pending);
+                Ok(())
+            }
+        }
+    }
+
+    /// One try of the pending request.
+    pub(crate) fn step(&mut self, number: u32, end: &mut Far<Account>) -> Option<Answered>
+        requires { (1 ≤ number) × (slice_get J.names (number - 1) ≡ Some end.old.name) }
+        ensures name { end.new.name ≡ end.old.name }
+        ensures none { IfNone result (end.new.value ≡ end.old.value) }
+        ensures some { IfSome result (λ a. end.new.value ≡ after_answer a end.old.value) }
+        ensures answers { IfSome result (λ a. IfSome end.old.value.pending (AnswersTo W.honest W.opening number a)) }
+    {
+        let at = number as usize - 1;
+        look(&mut self.lanes, at, end);
+        self.mount.holds();
+        match self.mount.turn(number) {
+            Turned::Done(number, reply) => {
+                self.mount.holds();
+                let answer = Answered { number, reply };
+                change::<Answered, Finishes>(&mut self.lanes, at, end, &answer);
+                Some(answer)
+            }
+            Turned::Wait(_) | Turned::Idle => None,
+        }
+    }
+
+    /// From now on no request is started.
+    pub(crate) fn stop(&mut self) {
+        self.stopped = true;
+    }
+
+    /// Whether nothing will be wanted any more: it was stopped, and nothing is pending.
+    pub(crate) fn is_over(&self) -> bool {
+        self.stopped && self.mount.busy().is_none()
+    }
+
+    /// The oldest key that is to be fetched.
+    pub(crate) fn take_want(&mut self) -> Option<Key> {
+        self.mount.take_want()
+    }
+
+    /// Takes what came for a key.
+    pub(crate) fn arrive(&mut self, key: Key, framed: Vec<u8>) -> Arrived
+        requires { W.honest → IsHonest W.repository key.id framed.items }
+        ensures { ComesTo key framed.items result }
+    {
+        self.mount.arrive(key, framed)
+    }
+
+    /// A key can't be had. False where nobody fetches it.
+    pub(crate) fn fail(&mut self, key: Key, cause: Cause) -> bool {
+        self.mount.fail(key, cause)
+    }
+
+    /// Lets go of loaded directories. How many went.
+    pub(crate) fn unload(&mut self, path: &Path, older_than: u64) -> u64 {
+        self.mount.unload(path, older_than)
+    }
+
+    /// Looks at a pass: it has nothing pending, and was told its entries and nothing else.
+    fn check(&mut self, pass: &mut Pass<J>)
+        ensures lock { self.new ≡ self.old }
+        ensures pass { pass.new ≡ pass.old }
+        ensures known { IsKnown self.old pass.old }
+    {
+        look(&mut self.lanes, pass.number as usize - 1, &mut pass.end);
+    }
+
+    /// Looks at all of these passes.
+    fn check_all(&mut self, passes: &mut Vec<Pass<J>>)
+        ensures lock { self.new ≡ self.old }
+        ensures passes { passes.new.items ≡ passes.old.items }
+        ensures known { (p : Carried) → Has passes.old.items p → IsKnown self.old p }
+    {
+        for i in 0..passes.len() {
+            self.check(&mut passes[i]);
+        }
+    }
+
+    /// Whether the passes are one of each number. Then nothing is pending, and they were told what the history says.
+    pub(crate) fn agrees(&mut self, passes: &mut Vec<Pass<J>>) -> bool
+        ensures lock { self.new ≡ self.old }
+        ensures passes { passes.new.items ≡ passes.old.items }
+        ensures yes { result ≡ true → Agrees self.old passes.old.items }
+        ensures no { AreEach passes.old.items self.old.queue.passes → result ≡ true }
+        ensures count { length J.names ≡ self.old.queue.passes }
+    {
+        self.mount.holds();
+        self.check_all(passes);
+        let count = self.mount.passes();
+        if passes.len() != count as usize {
+            return false;
+        }
+        have_each(passes.as_slice(), count)
+    }
+
+    /// The mount, as it is.
+    pub(crate) fn into_mount(self) -> Mount<W, T, A>
+        ensures { result ≡ self }
+    {
+        let Locked { mount, .. } = self;
+        mount
+    }
+}

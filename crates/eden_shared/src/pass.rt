@@ -1,0 +1,102 @@
+ghost use Rattle.std.specs.Prelude.{◌≡◌, ◌+◌, ◌<◌, ◌-◌, length, slice_get, Some, IfErr, MatchResult};
+ghost use Rattle.std.specs.Borrow.{sem};
+ghost use Rattle.std.specs.Io.BufRead.{Rests};
+ghost use Rattle.eden_shared.specs.Calls.{IsLawful, Lends};
+ghost use Rattle.eden_shared.specs.contracts.pass.Pass.{the_row};
+ghost use Rattle.eden_shared.specs.Passes.{carried, greater, Rises};
+
+use crate::account::{Account, Naming, Told};
+use crate::ends::Far;
+use crate::shared::Shared;
+use eden_model::{CallFault, Request, World};
+use eden_mount::Attempts;
+use std::alloc::Allocator;
+use std::marker::{Model, PhantomData};
+use std::sync::Wait;
+
+/// What one caller of a shared mount holds: its number, what it was told, and its floor, the least number that its next
+/// entry may have. No call of it but `call` takes the lock, and none of the others takes memory.
+#[derive(Drop)]
+pub struct Pass<J: Naming> {
+    pub(crate) number: u32,
+    pub(crate) floor: u64,
+    pub(crate) told: Vec<Told>,
+    pub(crate) end: Far<Account>,
+    pub(crate) names: PhantomData<J>,
+}
+
+impl<J: Naming> Model for Pass<J> {
+    ghost use Rattle.std.specs.Prelude.{◌≡◌, ◌-◌, ◌≤◌, slice_get, Some, None};
+    ghost use Rattle.eden_shared.specs.Accounts.{account};
+    ghost use Rattle.eden_shared.specs.Passes.{Carried, carried, Rises};
+
+    ghost Value = { Carried };
+
+    ghost view = { λ p. carried p.number p.floor p.told.items };
+
+    ghost invariant = { λ p. (1 ≤ p.number) × (slice_get J.names (p.number - 1) ≡ Some p.end.name) × (p.end.value ≡ account None p.told.items) × Rises 1 p.told.items p.floor };
+}
+
+impl<J: Naming> Pass<J> {
+    /// The pass's number, from 1 on: its entries in the history have it.
+    pub fn number(&self) -> u32
+        ensures { result ≡ self.now.number }
+    {
+        self.number
+    }
+
+    /// What it was told, in order: the numbers rise, and are below the floor.
+    pub fn told(&self) -> &[Told]
+        ensures told { result.now ≡ self.now.told }
+        ensures rises { Rises 1 self.now.told self.now.floor }
+    {
+        self.told.as_slice()
+    }
+
+    /// What it was told last.
+    pub(crate) fn last(&self) -> &Told
+        requires { 0 < length self.now.told }
+        ensures { slice_get self.now.told (length self.now.told - 1) ≡ Some result.now }
+    {
+        &self.told[self.told.len() - 1]
+    }
+
+    /// The least number that its next entry may have.
+    pub fn floor(&self) -> u64
+        ensures { result ≡ self.now.floor }
+    {
+        self.floor
+    }
+
+    /// Whoever was told this number told the pass of it: its next entry is to be a later one.
+    pub fn learn(&mut self, number: u32)
+        ensures { self.new ≡ carried self.old.number (greater self.old.floor (number + 1)) self.old.told }
+    {
+        let least = u64::from(number) + 1;
+        if least > self.floor {
+            self.floor = least;
+        }
+    }
+
+    /// Asks a request, and waits for its reply, which lies here from then on. Its number isn't below the floor, which is
+    /// behind it afterwards.
+    ///
+    /// Faults: `Start` with `Memory`, or with `HistoryFull`, where entries and pending requests are as many as the history
+    /// may have; `Foreign`, where a number that the pass learnt isn't in the history; `Stopped`. Each leaves the pass as it
+    /// was.
+    pub fn call<W: World, T: Attempts<W> + Drop, A: Allocator, R: Wait>(
+        &mut self,
+        shared: &Shared<W, T, A, J>,
+        rt: &R,
+        request: Request,
+    ) -> Result<&Told, CallFault>
+        ensures* after { sem 𝓛 (Rests (the_row J.row J.Naming) self.entry
+            (λ new. MatchResult result (λ t. Lends W.honest W.opening self.old request t.now new) (λ fault. new ≡ self.old))) }
+        ensures why { IfErr result (IsLawful self.old.floor self.old.told) }
+    {
+        match shared.serve(rt, self, request) {
+            Err(fault) => Err(fault),
+            Ok(()) => Ok(self.last()),
+        }
+    }
+}
