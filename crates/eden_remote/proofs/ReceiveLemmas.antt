@@ -6,13 +6,13 @@ use Rattle.std.specs.Io.KnownBytes.{Consumes}
 use Rattle.std.specs.Str.Parse.{AllDigits}
 use Rattle.std.specs.declared.alloc.Global.{Global}
 use Rattle.std.specs.declared.vec.Vec.{Vec}
-use Rattle.eden_object.proofs.Cuts.{Lacks, one_cut}
+use Rattle.eden_remote.proofs.LineLemmas.{one_front}
 use Rattle.eden_remote.specs.Protocol.{Known, IsOneLine, IsFirstLine, object_line}
 use Rattle.eden_remote.specs.Receiving.{IsNoAnswer, Refused, Hears, Says, HearsSome, HearsByte, HearsLine, HearsPart, HearsBytes}
 use Rattle.eden_remote.specs.declared.refusal.Refusal.{Refusal}
 use Rattle.eden_remote.specs.declared.refusal.Refusal.TheVariants as refusal
 
-digits_lack : (s : List ℕ) → AllDigits 10 s → Lacks 10 s
+digits_lack : (s : List ℕ) → AllDigits 10 s → IsOneLine s
 digits_lack [] h = tt
 digits_lack (c ∷ s) h =
     let range = digit_from_value c h.0 in
@@ -20,22 +20,29 @@ digits_lack (c ∷ s) h =
     (omega arith, digits_lack s h.1)
 
 -- a first line holds no line feed
-first_lacks : (line : List ℕ) → IsFirstLine line → Lacks 10 line
-first_lacks line (inl e) = subst (Lacks 10) (sym e) (omega arith, (omega arith, (omega arith, (omega arith, (omega arith, (omega arith, (omega arith, tt)))))))
-first_lacks line (inr (inl e)) = subst (Lacks 10) (sym e) (omega arith, (omega arith, (omega arith, (omega arith, (omega arith, tt)))))
-first_lacks line (inr (inr h)) = subst (Lacks 10) (sym h.2) (omega arith, (omega arith, (omega arith, (omega arith, (omega arith, (omega arith, (omega arith, digits_lack h.0 h.1.digits)))))))
+first_lacks : (line : List ℕ) → IsFirstLine line → IsOneLine line
+first_lacks line (inl e) = subst IsOneLine (sym e) (omega arith, (omega arith, (omega arith, (omega arith, (omega arith, (omega arith, (omega arith, tt)))))))
+first_lacks line (inr (inl e)) = subst IsOneLine (sym e) (omega arith, (omega arith, (omega arith, (omega arith, (omega arith, tt)))))
+first_lacks line (inr (inr h)) = subst IsOneLine (sym h.2) (omega arith, (omega arith, (omega arith, (omega arith, (omega arith, (omega arith, (omega arith, digits_lack h.0 h.1.digits)))))))
+
+-- a line feed behind bytes that lack it
+cut_beyond : (bytes more xs tail : List ℕ) → IsOneLine bytes → length xs < length bytes → bytes ++ more ≢ xs ++ 10 ∷ tail
+cut_beyond [] more xs tail p n h = omega arith
+cut_beyond (b ∷ bytes) more [] tail p n h = p.0 cc
+cut_beyond (b ∷ bytes) more (x ∷ xs) tail p n h = cut_beyond bytes more xs tail p.1 (omega arith) cc
+
+-- what stands before the first line feed is one line
+one_line : (xs ys us vs : List ℕ) → IsOneLine xs → IsOneLine us → xs ++ 10 ∷ ys ≡ us ++ 10 ∷ vs → xs ≡ us
+one_line xs ys us vs p q h =
+    let no_less : length us < length xs → ⊥ = λ lt. cut_beyond xs (10 ∷ ys) us vs p lt h in
+    let no_more : length xs < length us → ⊥ = λ lt. cut_beyond us (10 ∷ vs) xs ys q lt (sym h) in
+    one_front xs (10 ∷ ys) us (10 ∷ vs) (omega arith) h
 
 -- a line that is no first line begins no answer
 pub no_answer : (line : List ℕ) → IsOneLine line → (IsFirstLine line → ⊥) → IsNoAnswer (line ++ 10 ∷ [])
 no_answer line one h other more tail first short e =
-    let same = one_cut 10 line more other tail one (first_lacks other first) (sym (append_assoc line (10 ∷ []) more) ∙ e) in
-    h (subst IsFirstLine (sym same.0) first)
-
--- a line feed behind bytes that lack it
-cut_beyond : (bytes more xs tail : List ℕ) → Lacks 10 bytes → length xs < length bytes → bytes ++ more ≢ xs ++ 10 ∷ tail
-cut_beyond [] more xs tail p n h = omega arith
-cut_beyond (b ∷ bytes) more [] tail p n h = p.0 cc
-cut_beyond (b ∷ bytes) more (x ∷ xs) tail p n h = cut_beyond bytes more xs tail p.1 (omega arith) cc
+    let same = one_line line more other tail one (first_lacks other first) (sym (append_assoc line (10 ∷ []) more) ∙ e) in
+    h (subst IsFirstLine (sym same) first)
 
 -- neither do 32 bytes without a line feed
 pub no_line : (bytes : List ℕ) → IsOneLine bytes → length bytes ≡ 32 → IsNoAnswer bytes
