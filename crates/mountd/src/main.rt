@@ -8,9 +8,10 @@ mod report;
 #[cfg(test)]
 mod tests;
 
+use eden_checkout::Opening;
 use eden_model::Outside;
 use eden_overlay::{Files, FolderFiles, MemoryFiles};
-use eden_serve::{Backing, live};
+use eden_serve::{Backing, Base, live};
 use eden_source::FolderSource;
 use hold::hold;
 use options::{Command, StdioOptions, options};
@@ -36,6 +37,10 @@ fn serve<F: Files<Outside>>(rt: &HostRuntime, options: StdioOptions, files: F) -
     } = options;
     let source = FolderSource::new(*rt, PathBuf::from(objects));
     let backing = Backing { files, source };
+    let base = Base {
+        root,
+        opening: Opening::Closed,
+    };
     let mut reader = rt.stdin();
     let mut writer = rt.stdout();
     let memory = rt.alloc();
@@ -43,7 +48,7 @@ fn serve<F: Files<Outside>>(rt: &HostRuntime, options: StdioOptions, files: F) -
         memory,
         memory,
         backing,
-        root,
+        base,
         &limits,
         &mut reader,
         &mut writer,
