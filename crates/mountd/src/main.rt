@@ -8,10 +8,11 @@ mod report;
 #[cfg(test)]
 mod tests;
 
+use eden_checkout::Opening;
 use eden_importer::{ImportFault, Progress, Store};
 use eden_model::Outside;
 use eden_overlay::{Files, FolderFiles, MemoryFiles};
-use eden_serve::{Backing, live};
+use eden_serve::{Backing, Base, live};
 use eden_source::FolderSource;
 use hold::hold;
 use options::{Command, ImportOptions, StdioOptions, options};
@@ -38,6 +39,10 @@ fn serve<F: Files<Outside>>(rt: &HostRuntime, options: StdioOptions, files: F) -
     } = options;
     let source = FolderSource::new(*rt, PathBuf::from(objects));
     let backing = Backing { files, source };
+    let base = Base {
+        root,
+        opening: Opening::Closed,
+    };
     let mut reader = rt.stdin();
     let mut writer = rt.stdout();
     let memory = rt.alloc();
@@ -45,7 +50,7 @@ fn serve<F: Files<Outside>>(rt: &HostRuntime, options: StdioOptions, files: F) -
         memory,
         memory,
         backing,
-        root,
+        base,
         &limits,
         &mut reader,
         &mut writer,
