@@ -3,3 +3,4 @@ pub mod NumberLemmas
 pub mod SendLemmas
 pub mod ReceiveLemmas
 pub mod ServeLemmas
+pub mod LawLemmas

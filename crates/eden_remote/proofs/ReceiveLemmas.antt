@@ -20,7 +20,7 @@ digits_lack (c ∷ s) h =
     (omega arith, digits_lack s h.1)
 
 -- a first line holds no line feed
-first_lacks : (line : List ℕ) → IsFirstLine line → IsOneLine line
+pub first_lacks : (line : List ℕ) → IsFirstLine line → IsOneLine line
 first_lacks line (inl e) = subst IsOneLine (sym e) (omega arith, (omega arith, (omega arith, (omega arith, (omega arith, (omega arith, (omega arith, tt)))))))
 first_lacks line (inr (inl e)) = subst IsOneLine (sym e) (omega arith, (omega arith, (omega arith, (omega arith, (omega arith, tt)))))
 first_lacks line (inr (inr h)) = subst IsOneLine (sym h.2) (omega arith, (omega arith, (omega arith, (omega arith, (omega arith, (omega arith, (omega arith, digits_lack h.0 h.1.digits)))))))
@@ -32,7 +32,7 @@ cut_beyond (b ∷ bytes) more [] tail p n h = p.0 cc
 cut_beyond (b ∷ bytes) more (x ∷ xs) tail p n h = cut_beyond bytes more xs tail p.1 (omega arith) cc
 
 -- what stands before the first line feed is one line
-one_line : (xs ys us vs : List ℕ) → IsOneLine xs → IsOneLine us → xs ++ 10 ∷ ys ≡ us ++ 10 ∷ vs → xs ≡ us
+pub one_line : (xs ys us vs : List ℕ) → IsOneLine xs → IsOneLine us → xs ++ 10 ∷ ys ≡ us ++ 10 ∷ vs → xs ≡ us
 one_line xs ys us vs p q h =
     let no_less : length us < length xs → ⊥ = λ lt. cut_beyond xs (10 ∷ ys) us vs p lt h in
     let no_more : length xs < length us → ⊥ = λ lt. cut_beyond us (10 ∷ vs) xs ys q lt (sym h) in

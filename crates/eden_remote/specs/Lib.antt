@@ -4,3 +4,4 @@ pub mod Refusals
 pub mod Serving
 pub mod Receiving
 pub mod Remote
+pub mod Laws

@@ -8,6 +8,7 @@
 #![tactic(auto)]
 
 mod fault;
+mod laws;
 mod line;
 mod number;
 mod receiving;
@@ -18,6 +19,7 @@ mod socket;
 mod text;
 
 pub use fault::AnswerFault;
+pub use laws::{one_answer, one_object};
 pub use receiving::read_answer;
 pub use refusal::Refusal;
 pub use sending::ask;

@@ -1,0 +1,131 @@
+//! What a client hears.
+use crate::mutations::{ROUNDS, mutated};
+use eden_remote::{Refusal, read_answer};
+use std::process::Abort;
+use std::str;
+
+// What a server says, what is heard, and how many bytes are left unread.
+const ANSWERS: &[(&[u8], Result<&[u8], Refusal>, usize)] = &[
+    (b"object 5\nabcde", Ok(b"abcde"), 0),
+    (b"object 5\nabcdefault\n", Ok(b"abcde"), 6),
+    (b"object 0\nmissing\n", Ok(b""), 8),
+    (b"missing\nobject 0\n", Err(Refusal::Missing), 9),
+    (b"fault\n", Err(Refusal::Fault), 0),
+    (b"object 1073741841\nabc", Err(Refusal::TooLarge), 3),
+    (b"object 18446744073709551616\n", Err(Refusal::TooLarge), 0),
+    (
+        b"object 999999999999999999999999\n",
+        Err(Refusal::TooLarge),
+        0,
+    ),
+    (
+        b"object 9999999999999999999999999\n",
+        Err(Refusal::NoAnswer),
+        1,
+    ),
+    (b"object 05\nabcde", Err(Refusal::NoAnswer), 5),
+    (b"object 00\n", Err(Refusal::NoAnswer), 0),
+    (b"object \n", Err(Refusal::NoAnswer), 0),
+    (b"object\n", Err(Refusal::NoAnswer), 0),
+    (b"object +5\nabcde", Err(Refusal::NoAnswer), 5),
+    (b"object 5 \nabcde", Err(Refusal::NoAnswer), 5),
+    (b"Missing\n", Err(Refusal::NoAnswer), 0),
+    (b"missing\r\n", Err(Refusal::NoAnswer), 0),
+    (b"\nmissing\n", Err(Refusal::NoAnswer), 8),
+    (
+        b"aaaaaaaaaaaaaaaaaaaaaaaaaaaaaaa\n",
+        Err(Refusal::NoAnswer),
+        0,
+    ),
+    (
+        b"aaaaaaaaaaaaaaaaaaaaaaaaaaaaaaaaaa",
+        Err(Refusal::NoAnswer),
+        2,
+    ),
+    (b"", Err(Refusal::Ended), 0),
+    (b"missing", Err(Refusal::Ended), 0),
+    (b"anything", Err(Refusal::Ended), 0),
+    (b"object 5\n", Err(Refusal::Ended), 0),
+    (b"object 5\nabcd", Err(Refusal::Ended), 0),
+    (b"object 1073741840\nabcd", Err(Refusal::Ended), 0),
+];
+
+fn is_heard(heard: &Result<Vec<u8>, Refusal>, want: Result<&[u8], Refusal>) -> bool {
+    match (heard, want) {
+        (Ok(bytes), Ok(want)) => bytes.as_slice() == want,
+        (Err(refusal), Err(want)) => *refusal == want,
+        _ => false,
+    }
+}
+
+fn check_heard(
+    rt: &(impl AllocGlobal + Abort),
+    said: &[u8],
+    want: Result<&[u8], Refusal>,
+    left: usize,
+) {
+    let mut reader = said;
+    let heard = read_answer(rt.alloc(), &mut reader);
+    assert!(rt; is_heard(&heard, want), "of {said:?}");
+    assert!(rt; reader.len() == left, "of {said:?}");
+}
+
+#[test]
+fn answers_are_heard(rt: HostRuntime) {
+    for (said, want, left) in ANSWERS {
+        check_heard(&rt, said, *want, *left);
+    }
+}
+
+// What the text of a number is worth, where it has no leading zeros.
+fn number(digits: &[u8]) -> Option<usize> {
+    let text = str::from_utf8(digits).ok()?;
+    let number = text.parse::<usize>().ok()?;
+    let canonical = digits.iter().all(|b| b.is_ascii_digit())
+        && (!digits.starts_with(b"0") || digits.len() == 1);
+    canonical.then_some(number)
+}
+
+// The answer that the bytes begin with, read as a whole.
+fn second_reading(said: &[u8]) -> Result<&[u8], Refusal> {
+    let Some(end) = said.iter().take(32).position(|b| *b == b'\n') else {
+        return Err(if said.len() < 32 {
+            Refusal::Ended
+        } else {
+            Refusal::NoAnswer
+        });
+    };
+    match &said[..end] {
+        b"missing" => Err(Refusal::Missing),
+        b"fault" => Err(Refusal::Fault),
+        line => object(line, &said[end + 1..]),
+    }
+}
+
+fn object<'a>(line: &[u8], rest: &'a [u8]) -> Result<&'a [u8], Refusal> {
+    let digits = line.strip_prefix(b"object ").ok_or(Refusal::NoAnswer)?;
+    let number = number(digits).ok_or(Refusal::NoAnswer)?;
+    if number > 1_073_741_840 {
+        return Err(Refusal::TooLarge);
+    }
+    rest.get(..number).ok_or(Refusal::Ended)
+}
+
+const BASES: [&[u8]; 4] = [
+    b"object 12\nblob 5\0hello",
+    b"object 1073741840\nblob",
+    b"missing\n",
+    b"fault\n",
+];
+
+#[test]
+fn mutated_answers_are_heard(rt: HostRuntime) {
+    let mut state = 1;
+    for round in 0..ROUNDS {
+        let base = BASES[round as usize % BASES.len()];
+        let said = mutated(&rt, base, &mut state);
+        let mut reader = said.as_slice();
+        let heard = read_answer(rt.alloc(), &mut reader);
+        assert!(rt; is_heard(&heard, second_reading(&said)), "of {said:?}");
+    }
+}
