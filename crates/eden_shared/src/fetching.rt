@@ -22,7 +22,8 @@ pub enum Fetched {
 }
 
 impl<W: World, T: Attempts<W> + Drop, A: Allocator, J: Naming> Shared<W, T, A, J> {
-    /// Fetches the oldest key that callers wait for, and hands in what came. The lock isn't held while the source is asked.
+    /// Fetches the oldest key that callers wait for, and hands in what came. The lock isn't held while the source is
+    /// asked.
     pub fn fetch_one<S: Source<W>, R: Wait>(&self, rt: &R, source: &mut S) -> Fetched
         ensures { FetchesOne S.fetched source.old result source.new }
     {
@@ -58,7 +59,8 @@ impl<W: World, T: Attempts<W> + Drop, A: Allocator, J: Naming> Shared<W, T, A, J
         unreachable!()
     }
 
-    /// Asks the source for a key in flight, and hands in what came: callers try again, and one key more may be in flight.
+    /// Asks the source for a key in flight, and hands in what came: callers try again, and one more key may be in
+    /// flight.
     fn fetch<S: Source<W>, R: Wait>(&self, rt: &R, source: &mut S, key: Key) -> Fetched
         ensures { FetchesOne S.fetched source.old result source.new }
     {

@@ -1,9 +1,10 @@
 // What lies under the lock: the mount, whether it was stopped, and one end of each pass's tie.
-ghost use Rattle.std.specs.Prelude.{◌≡◌, ◌-◌, ◌+◌, ◌≤◌, length, slice_get, Some, None, IfOk, OnOk, OnErr, IfErr, IfSome, IfNone, true};
+ghost use Rattle.std.specs.Prelude.{◌≡◌, ◌+◌, ◌≤◌, length, Some, None, IfOk, OnOk, OnErr, IfErr, IfSome, IfNone, true};
 ghost use Rattle.eden_object.specs.Objects.{IsHonest};
 ghost use Rattle.eden_shared.specs.Accounts.{account};
 ghost use Rattle.eden_shared.specs.Answers.{after_answer};
 ghost use Rattle.eden_shared.specs.Calls.{AnswersTo, IsLawful, IsRefusal};
+ghost use Rattle.eden_shared.specs.Lanes.{HasName};
 ghost use Rattle.eden_shared.specs.Fetched.{ComesTo};
 ghost use Rattle.eden_shared.specs.Passes.{Agrees, AreEach, Carried, Has, IsKnown};
 
@@ -36,19 +37,20 @@ impl<W: World, T: Attempts<W> + Drop, A: Allocator, J: Naming> Model for Locked<
 
     ghost view = { λ l. l.mount };
 
-    ghost invariant = { λ l. (names_of l.lanes.items ≡ J.names) × (values_of l.lanes.items ≡ accounts 1 l.mount.seats l.mount.history) };
+    ghost invariant = { λ l. (names_of l.lanes.items ≡ J.names)
+        × (values_of l.lanes.items ≡ accounts 1 l.mount.seats l.mount.history) };
 }
 
 impl<W: World, T: Attempts<W> + Drop, A: Allocator, J: Naming> Locked<W, T, A, J> {
-    /// Tests whether the pass may start a request: not after `stop`, and not before the history has come to its floor. How
-    /// long the history is.
+    /// Tests whether the pass may start a request: not after `stop`, and not before the history has come to its floor.
+    /// How long the history is.
     pub(crate) fn admit(
         &mut self,
         number: u32,
         floor: u64,
         end: &mut Far<Account>,
     ) -> Result<u32, CallFault>
-        requires lane { (1 ≤ number) × (slice_get J.names (number - 1) ≡ Some end.old.name) }
+        requires lane { HasName J.names number end.old.name }
         ensures same { self.new ≡ self.old }
         ensures end { (end.new.name ≡ end.old.name) × (end.new.value ≡ end.old.value) }
         ensures length { IfOk result (λ n. n ≡ length self.old.history) }
@@ -75,7 +77,7 @@ impl<W: World, T: Attempts<W> + Drop, A: Allocator, J: Naming> Locked<W, T, A, J
         request: Request,
         pending: &Pending,
     ) -> Result<(), StartFault>
-        requires lane { (1 ≤ number) × (slice_get J.names (number - 1) ≡ Some end.old.name) }
+        requires lane { HasName J.names number end.old.name }
         requires free { end.old.value.pending ≡ None }
         requires request { pending.now.request ≡ request }
         requires since { pending.now.since ≡ length self.old.history }
@@ -98,7 +100,7 @@ impl<W: World, T: Attempts<W> + Drop, A: Allocator, J: Naming> Locked<W, T, A, J
 
     /// One try of the pending request.
     pub(crate) fn step(&mut self, number: u32, end: &mut Far<Account>) -> Option<Answered>
-        requires { (1 ≤ number) × (slice_get J.names (number - 1) ≡ Some end.old.name) }
+        requires { HasName J.names number end.old.name }
         ensures name { end.new.name ≡ end.old.name }
         ensures none { IfNone result (end.new.value ≡ end.old.value) }
         ensures some { IfSome result (λ a. end.new.value ≡ after_answer a end.old.value) }

@@ -26,15 +26,17 @@ pub struct Pass<J: Naming> {
 }
 
 impl<J: Naming> Model for Pass<J> {
-    ghost use Rattle.std.specs.Prelude.{◌≡◌, ◌-◌, ◌≤◌, slice_get, Some, None};
+    ghost use Rattle.std.specs.Prelude.{◌≡◌, None};
     ghost use Rattle.eden_shared.specs.Accounts.{account};
+    ghost use Rattle.eden_shared.specs.Lanes.{HasName};
     ghost use Rattle.eden_shared.specs.Passes.{Carried, carried, Rises};
 
     ghost Value = { Carried };
 
     ghost view = { λ p. carried p.number p.floor p.told.items };
 
-    ghost invariant = { λ p. (1 ≤ p.number) × (slice_get J.names (p.number - 1) ≡ Some p.end.name) × (p.end.value ≡ account None p.told.items) × Rises 1 p.told.items p.floor };
+    ghost invariant = { λ p. HasName J.names p.number p.end.name × (p.end.value ≡ account None p.told.items)
+        × Rises 1 p.told.items p.floor };
 }
 
 impl<J: Naming> Pass<J> {
@@ -78,12 +80,12 @@ impl<J: Naming> Pass<J> {
         }
     }
 
-    /// Asks a request, and waits for its reply, which lies here from then on. Its number isn't below the floor, which is
-    /// behind it afterwards.
+    /// Asks a request, and waits for its reply, which lies here from then on. Its number isn't below the floor, which
+    /// is behind it afterwards.
     ///
-    /// Faults: `Start` with `Memory`, or with `HistoryFull`, where entries and pending requests are as many as the history
-    /// may have; `Foreign`, where a number that the pass learnt isn't in the history; `Stopped`. Each leaves the pass as it
-    /// was.
+    /// Faults: `Start` with `Memory`, or with `HistoryFull`, where entries and pending requests are as many as the
+    /// history may have; `Foreign`, where a number that the pass learnt isn't in the history; `Stopped`. Each leaves the
+    /// pass as it was.
     pub fn call<W: World, T: Attempts<W> + Drop, A: Allocator, R: Wait>(
         &mut self,
         shared: &Shared<W, T, A, J>,
@@ -91,7 +93,8 @@ impl<J: Naming> Pass<J> {
         request: Request,
     ) -> Result<&Told, CallFault>
         ensures* after { sem 𝓛 (Rests (the_row J.row J.Naming) self.entry
-            (λ new. MatchResult result (λ t. Lends W.honest W.opening self.old request t.now new) (λ fault. new ≡ self.old))) }
+            (λ new. MatchResult result (λ t. Lends W.honest W.opening self.old request t.now new)
+            (λ fault. new ≡ self.old))) }
         ensures why { IfErr result (IsLawful self.old.floor self.old.told) }
     {
         match shared.serve(rt, self, request) {

@@ -1,6 +1,7 @@
-ghost use Rattle.std.specs.Prelude.{◌≡◌, ◌-◌, ◌+◌, ◌<◌, ◌≤◌, length, slice_get, Some, None, IfOk, OnOk, OnErr, IfErr, IfSome};
+ghost use Rattle.std.specs.Prelude.{◌≡◌, ◌+◌, ◌≤◌, Some, None, IfOk, OnOk, OnErr, IfErr, IfSome};
 ghost use Rattle.eden_shared.specs.Accounts.{account};
 ghost use Rattle.eden_shared.specs.Answers.{after_answer};
+ghost use Rattle.eden_shared.specs.Lanes.{HasName};
 ghost use Rattle.eden_shared.specs.Calls.{AnswersTo, Grows, IsLawful};
 
 use crate::account::{Account, Naming, Told};
@@ -35,7 +36,7 @@ impl<W: World, T: Attempts<W> + Drop, A: Allocator, J: Naming> Shared<W, T, A, J
         request: Request,
         kept: Request,
     ) -> Result<Pending, CallFault>
-        requires lane { (1 ≤ number) × (slice_get J.names (number - 1) ≡ Some end.old.name) }
+        requires lane { HasName J.names number end.old.name }
         requires free { end.old.value.pending ≡ None }
         requires kept { kept ≡ request }
         ensures name { end.new.name ≡ end.old.name }
@@ -57,7 +58,7 @@ impl<W: World, T: Attempts<W> + Drop, A: Allocator, J: Naming> Shared<W, T, A, J
 
     /// Tries until the pending request is answered, and waits between two tries.
     fn wait_for<R: Wait>(&self, rt: &R, number: u32, end: &mut Far<Account>) -> Answered
-        requires { (1 ≤ number) × (slice_get J.names (number - 1) ≡ Some end.old.name) }
+        requires { HasName J.names number end.old.name }
         ensures name { end.new.name ≡ end.old.name }
         ensures account { end.new.value ≡ after_answer result end.old.value }
         ensures answers { IfSome end.old.value.pending (AnswersTo W.honest W.opening number result) }

@@ -17,7 +17,7 @@ invariant_of-push g c =
     let name = ap (slice_get g.J.Naming.names) place ∙ ap (λ l. slice_get l (length at.yielded)) (sym c.requires.names ∙ ap far_names all) ∙ mapped_between (λ (x : End). x.far.name) at.yielded rest e in
     let value = ap (λ l. slice_get l (length at.yielded)) (sym c.requires.values ∙ ap far_values all) ∙ mapped_between (λ (x : End). x.far.value) at.yielded rest e in
     let fresh = all_alike (length g.J.Naming.names) (length at.yielded) (account None []) e.far.value value in
-    (omega arith, name, fresh ∙ ap (account None) (sym c.new.ensures.items), subst (λ l. Rises 1 l 1) (sym c.new.ensures.items) (omega arith))
+    ((omega arith, name), fresh ∙ ap (account None) (sym c.new.ensures.items), subst (λ l. Rises 1 l 1) (sym c.new.ensures.items) (omega arith))
 
 pub loop-end-preserved : goal.loop-end-preserved
 loop-end-preserved g c =

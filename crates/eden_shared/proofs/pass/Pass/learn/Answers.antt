@@ -3,4 +3,4 @@ use Rattle.eden_shared.proofs.Rising.{rises_below}
 use Rattle.eden_shared.proofs.pass.Pass.learn.Goals as goal
 
 pub invariant_of-self : goal.invariant_of-self
-invariant_of-self g c = (c.self.invariant.0, c.self.invariant.1, c.self.invariant.2, rises_below _ _ c.self.inside.floor _ (search arith) c.self.invariant.3)
+invariant_of-self g c = (c.self.invariant.0, c.self.invariant.1, rises_below _ _ c.self.inside.floor _ (search arith) c.self.invariant.2)
