@@ -84,6 +84,22 @@ fn files_are_removed(rt: HostRuntime) -> Result<(), Fail> {
     Ok(())
 }
 
+// Whether a stored file of these bytes is told as damaged so, as a directory and as a file.
+fn is_told(
+    alloc: Global,
+    bytes: &[u8],
+    as_directory: Option<Refusal>,
+    as_file: Option<Refusal>,
+) -> bool {
+    let mut files = MemoryFiles::<Outside>::new(alloc);
+    if files.replace(alloc, 3, bytes).is_err() {
+        return false;
+    }
+    let mut overlay = Overlay::<Outside, _>::new(files);
+    overlay.get_dir(alloc, 3).err() == as_directory.map(GetFault::Damaged)
+        && overlay.get_file(alloc, 3).err() == as_file.map(GetFault::Damaged)
+}
+
 #[test]
 fn damage_is_told(rt: HostRuntime) -> Result<(), Fail> {
     let alloc = rt.alloc();
@@ -110,17 +126,7 @@ fn damage_is_told(rt: HostRuntime) -> Result<(), Fail> {
             Some(Refusal::BadIdentifier),
         ),
     ] {
-        let mut files = MemoryFiles::<Outside>::new(alloc);
-        files.replace(alloc, 3, bytes)?;
-        let mut overlay = Overlay::<Outside, _>::new(files);
-        assert_eq!(rt;
-            overlay.get_dir(alloc, 3).err(),
-            as_directory.map(GetFault::Damaged)
-        );
-        assert_eq!(rt;
-            overlay.get_file(alloc, 3).err(),
-            as_file.map(GetFault::Damaged)
-        );
+        assert!(rt; is_told(alloc, bytes, as_directory, as_file));
     }
     Ok(())
 }
