@@ -18,6 +18,7 @@ test: ## proves everything from nothing, and runs every test; its last line coun
 	tests/oracle
 	tests/exporter
 	tests/overlay-life
+	tests/remote
 	tests/end-to-end
 
 soak: ## a million random requests: the slow oracle beside the second table of operations, attempts beside the slow oracle, and events on mounts
@@ -41,6 +42,7 @@ bench: ## times the work that grows with its input, at full size
 	@cd crates/eden_bench && out/eden_bench lines 100000 timed
 	@$(MAKE) --no-print-directory run > /dev/null
 	@scripts/bench-mountd
+	@scripts/bench-remote
 
 fmt: ## lays out every source and proof file
 	@for crate in crates/*/; do (cd $$crate && rt fmt) || exit 1; done

@@ -45,6 +45,11 @@ def body_of(identifier, data):
     return data[HEADER_BYTES:]
 
 
+def looked_at(data):
+    """The file with zeros in those bytes of its header that a reader doesn't look at."""
+    return data[:8] + bytes(56) + data[HEADER_BYTES:] if len(data) >= HEADER_BYTES else data
+
+
 class Fields:
     """The fields of a body, from the front."""
 
