@@ -1,5 +1,5 @@
 //! What no clause says: that a good line is taken, and the texts of refusals.
-use crate::options::{Command, StdioOptions, options};
+use crate::options::{Command, Objects, StdioOptions, options};
 use std::alloc::{AllocError, Global};
 use std::process::Abort;
 use std::test::Fail;
@@ -36,7 +36,7 @@ const FULL: &[&str] = &[
 fn asked(alloc: Global, words: &[&str]) -> Result<StdioOptions, Fail> {
     match options(alloc, words)? {
         Command::Stdio(given) => Ok(given),
-        Command::Import(_) => Err(Fail::from("another command")),
+        Command::Objects(_) | Command::Import(_) => Err(Fail::from("another command")),
     }
 }
 
@@ -44,7 +44,7 @@ fn asked(alloc: Global, words: &[&str]) -> Result<StdioOptions, Fail> {
 fn takes_a_good_line(rt: HostRuntime) -> Result<(), Fail> {
     let given = asked(rt.alloc(), GOOD)?;
     assert!(rt; given.root.bytes == ROOT_BYTES);
-    assert!(rt; given.objects.as_str() == FOLDER);
+    assert!(rt; matches!(&given.objects, Objects::Folder(folder) if folder.as_str() == FOLDER));
     assert!(rt; given.overlay.is_none());
     assert!(rt; !given.rescan);
     assert!(rt; given.limits.history() == 1_000_000);
@@ -57,7 +57,7 @@ fn takes_a_good_line(rt: HostRuntime) -> Result<(), Fail> {
 fn takes_a_line_with_all_options(rt: HostRuntime) -> Result<(), Fail> {
     let given = asked(rt.alloc(), FULL)?;
     assert!(rt; given.root.bytes == ROOT_BYTES);
-    assert!(rt; given.objects.as_str() == FOLDER);
+    assert!(rt; matches!(&given.objects, Objects::Folder(folder) if folder.as_str() == FOLDER));
     let overlay = given.overlay.ok_or("no overlay")?;
     assert!(rt; overlay.as_str() == "changes");
     assert!(rt; given.rescan);
@@ -93,7 +93,7 @@ const NO_LINES: &[Refused] = &[
     ),
     (
         &["mountd", "stdio", "--root", ROOT],
-        "error: the following required arguments were not provided:\n  --objects <DIR>",
+        "mountd: stdio takes one of --objects and --remote",
     ),
     (
         &[
@@ -108,8 +108,21 @@ const NO_LINES: &[Refused] = &[
         "error: unexpected value 'yes' for '--rescan' found; no more were expected",
     ),
     (
-        &["mountd", "stdio", "--root", ROOT, "--overlay", FOLDER],
-        "error: the following required arguments were not provided:\n  --objects <DIR>",
+        &[
+            "mountd",
+            "stdio",
+            "--root",
+            ROOT,
+            "--remote",
+            "1",
+            "--objects",
+            FOLDER,
+        ],
+        "mountd: stdio takes one of --objects and --remote",
+    ),
+    (
+        &["mountd", "stdio", "--objects", FOLDER],
+        "error: the following required arguments were not provided:\n  --root <ID>",
     ),
     (
         &["mountd", "mount"],
@@ -138,7 +151,7 @@ fn refuses_what_is_no_line(rt: HostRuntime) -> Result<(), Fail> {
 const TOP_HELP: &str = "Answers requests on the files of a Git commit\n\nUsage: mountd <COMMAND>\n";
 
 const STDIO_HELP: &str =
-    "Serves one session over standard input and output\n\nUsage: mountd stdio [OPTIONS] --root <ID> --objects <DIR>\n";
+    "Serves one session over standard input and output\n\nUsage: mountd stdio [OPTIONS] --root <ID>\n";
 
 const HELP: &[Refused] = &[
     (&["mountd", "--help"], TOP_HELP),
