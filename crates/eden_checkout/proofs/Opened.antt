@@ -1,22 +1,30 @@
 -- A table over files as they are opened.
-use Rattle.std.proofs.Common.{◌≡◌, ◌≢◌, ◌<◌, ◌⊎◌, ℕ, List, Option, Some, None, sym, refl, ◌∙◌, ap, subst, inl, inr, arith}
+use Rattle.std.proofs.Common.{◌≡◌, ◌≢◌, ◌<◌, ◌⊎◌, ℕ, List, Option, Some, None, Result, Ok, Err, IfErr, sym, refl, ◌∙◌, ap, subst, inl, inr, arith}
 use Rattle.std.specs.Option.{option_and_then}
+use Rattle.std.specs.Result.{IsErrAnd}
 use Rattle.eden_model.specs.declared.id.Id.{Id}
 use Rattle.eden_model.specs.declared.kind.Kind.TheVariants as kind
-use Rattle.eden_model.specs.declared.kind.Origin.{Origin}
 use Rattle.eden_model.specs.declared.kind.Origin.TheVariants as origin
+use Rattle.eden_model.specs.Failures.{Rose}
 use Rattle.eden_model.specs.Repository.{Repository}
 use Rattle.eden_model.specs.Trees.{Tree}
 use Rattle.eden_overlay_format.specs.declared.stored_entry.StoredEntry.{StoredEntry}
 use Rattle.eden_overlay_format.specs.Values.{entries_in}
 use Rattle.eden_overlay.specs.Files.{Stored}
-use Rattle.eden_overlay.specs.Held.{HoldsState, without}
+use Rattle.eden_overlay.specs.Held.{without}
 use Rattle.eden_overlay.specs.Laws.{IsStray}
-use Rattle.eden_overlay.specs.Soundness.{Names, IsLive, HoldsKind}
-use Rattle.eden_overlay.proofs.CallerLemmas.{put_here, put_apart, names_moved, same_or_apart, numbers_from_two, live_stay, state_stays}
+use Rattle.eden_overlay.specs.declared.rescan.RescanFault.{RescanFault}
+use Rattle.eden_overlay.specs.declared.rescan.RescanFault.TheVariants as rescan
+use Rattle.eden_overlay.specs.Rescanning.{IsRescanFault}
+use Rattle.eden_overlay.specs.Soundness.{Names, IsLive, HoldsKind, AreSound}
+use Rattle.eden_overlay.proofs.CallerLemmas.{put_here, put_apart, names_moved, same_or_apart, numbers_from_two, live_stay, state_stays, accused_unsound}
 use Rattle.eden_inode.specs.Tables.{CanStart}
+use Rattle.eden_checkout.specs.declared.fault.OpenFault.{OpenFault}
+use Rattle.eden_checkout.specs.declared.fault.OpenFault.TheVariants as opens
+use Rattle.eden_checkout.specs.declared.opening.Opening.{Opening}
+use Rattle.eden_checkout.specs.declared.opening.Opening.TheVariants as opening
 use Rattle.eden_checkout.specs.declared.opening.Start.{Start}
-use Rattle.eden_checkout.specs.Opening.{root_from, CanOpen, AreNone, StartsAt, Starts}
+use Rattle.eden_checkout.specs.Opening.{root_from, files_show, CanOpen, MayOpen, AreNone, StartsAt, Starts, of_rescan, AreAccused, IsRescanRefusal, IsRefusal}
 
 own_stands : (root : Id) (o : Option (List ℕ)) → root_from root o ≢ origin.Own → o ≡ None
 own_stands root None other = refl
@@ -42,19 +50,53 @@ still_named F c e n = by_number (same_or_apart 0 c) where
   by_number (inl is) = let h : None ≡ Some n.entries = sym (ap (option_and_then entries_in) (put_here F 0 c None is)) ∙ n.held in cc
   by_number (inr other) = names_moved (without F 0) F c e (put_apart F 0 c None other) n
 
-module _ (R : Repository) (opening : Tree) (root : Id) (F : Stored) (can : CanOpen R opening root F) (start : Start) (starts : Starts root F start) where
+module _ (root : Id) (F : Stored) (sound : AreSound F) (start : Start) (from : start.origin ≡ root_from root (F 1)) where
   rooted_by : (F 1 ≡ None) ⊎ HoldsKind F 1 kind.Dir → start.origin ≡ origin.Own → HoldsKind F 1 kind.Dir
-  rooted_by (inl none) own = absurd (unowned root (F 1) none (sym starts.origin ∙ own))
+  rooted_by (inl none) own = absurd (unowned root (F 1) none (sym from ∙ own))
   rooted_by (inr held) own = held
 
-  below_by : StartsAt F root start.next → (c : ℕ) (e : StoredEntry) → IsLive F c → Names F c e → e.number < start.next
-  below_by (inl none) c e live names = absurd (nothing_named F none.0 c e names)
-  below_by (inr held) c e live names = can.below (record { root = root; next = start.next }) held c e live names
-
-  pub can_start : CanStart (without F 0) start.origin start.next
-  can_start = record {
-    rootless = λ other. own_stands root (F 1) (λ own. other (starts.origin ∙ own));
-    rooted = rooted_by can.sound.top;
-    sound = state_stays F None can.sound;
-    below = λ c e live names. below_by starts.next c e ((live_stay F 0 None (state_stray F) c).0 live) (still_named F c e names);
+  can_start_below : ((c : ℕ) (e : StoredEntry) → IsLive F c → Names F c e → e.number < start.next) → CanStart (without F 0) start.origin start.next
+  can_start_below below = record {
+    rootless = λ other. own_stands root (F 1) (λ own. other (from ∙ own));
+    rooted = rooted_by sound.top;
+    sound = state_stays F None sound;
+    below = λ c e live names. below c e ((live_stay F 0 None (state_stray F) c).0 live) (still_named F c e names);
   }
+
+module _ (R : Repository) (tree : Tree) (root : Id) (F : Stored) where
+  below_by : CanOpen R tree root F → (next : ℕ) → StartsAt F root next → (c : ℕ) (e : StoredEntry) → IsLive F c → Names F c e → e.number < next
+  below_by can next (inl none) c e live names = absurd (nothing_named F none.0 c e names)
+  below_by can next (inr held) c e live names = can.below (record { root = root; next = next }) held c e live names
+
+  pub can_start : (how : Opening) → MayOpen how R tree root F → (start : Start) → Starts how root F start → CanStart (without F 0) start.origin start.next
+  can_start opening.Closed can start starts = can_start_below root F can.sound start starts.origin (below_by can start.next starts.next)
+  can_start opening.Rescan shown start starts = can_start_below root F starts.next.0 start starts.origin starts.next.1.below
+
+  pub shown_by : (how : Opening) → MayOpen how R tree root F → files_show R root F ≡ tree
+  shown_by opening.Closed can = can.shown
+  shown_by opening.Rescan shown = shown
+
+-- whoever accuses the files shows that they aren't sound
+pub rescan_refused : (honest : Type 0) (F : Stored) (old new : ℕ) (fault : RescanFault) → IsRescanFault honest F old new fault → IsRescanRefusal honest F old new (of_rescan fault)
+rescan_refused honest F old new (rescan.Dangling k) why = λ h. (why h, accused_unsound F (rescan.Dangling k) (why h))
+rescan_refused honest F old new (rescan.Twice k) why = λ h. (why h, accused_unsound F (rescan.Twice k) (why h))
+rescan_refused honest F old new (rescan.Damaged k refusal) why = λ h. (why h, accused_unsound F (rescan.Damaged k refusal) (why h))
+rescan_refused honest F old new rescan.Device rose = rose
+rescan_refused honest F old new rescan.Memory none = none
+
+-- .. by which the files that were looked at are those that were given
+pub refused_over : (honest : Type 0) (how : Opening) (root : Id) (F G : Stored) (old looked new : ℕ) (fault : OpenFault) → how ≡ opening.Rescan → (honest → G ≡ F) → looked ≡ old
+    → IsRescanRefusal honest G looked new fault → IsRefusal how honest root F old new fault
+refused_over honest how root F G old looked new fault is same count why = subst (λ (o : Opening). IsRefusal o honest root F old new fault) (sym is) (over fault why) where
+  over : (fault : OpenFault) → IsRescanRefusal honest G looked new fault → IsRescanRefusal honest F old new fault
+  over opens.NotClean h = h
+  over (opens.OtherRoot stored) h = h
+  over (opens.Damaged k refusal) h = λ outside. subst (λ (H : Stored). AreAccused H (rescan.Damaged k refusal)) (same outside) (h outside)
+  over opens.Device h = subst (λ n. Rose n new) count h
+  over opens.Memory h = h
+  over (opens.Dangling k) h = λ outside. subst (λ (H : Stored). AreAccused H (rescan.Dangling k)) (same outside) (h outside)
+  over (opens.Twice k) h = λ outside. subst (λ (H : Stored). AreAccused H (rescan.Twice k)) (same outside) (h outside)
+
+pub handed_up : {X Y : Type 0} (r : Result X Y) (e : Y) (P : Y → Type 0) → IsErrAnd r (λ (x : Y). x ≡ e) → P e → IfErr r P
+handed_up (Ok v) e P is h = tt
+handed_up (Err x) e P is h = subst P (sym is) h

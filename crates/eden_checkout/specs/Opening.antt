@@ -16,11 +16,16 @@ use Rattle.eden_overlay.specs.declared.files.FilesFault.TheVariants as files
 use Rattle.eden_overlay.specs.Files.{Stored}
 use Rattle.eden_overlay.specs.Getting.{Explains}
 use Rattle.eden_overlay.specs.Held.{HoldsState, without}
+use Rattle.eden_overlay.specs.declared.rescan.RescanFault.{RescanFault}
+use Rattle.eden_overlay.specs.declared.rescan.RescanFault.TheVariants as rescan
+use Rattle.eden_overlay.specs.Rescanning.{IsNextOf, Accuses}
 use Rattle.eden_overlay.specs.Soundness.{IsLive, Names, AreSound}
 use Rattle.eden_tie.specs.Shown.{shown_in}
 use Rattle.eden_inode.specs.Tables.{fresh_root}
 use Rattle.eden_checkout.specs.declared.fault.OpenFault.{OpenFault}
 use Rattle.eden_checkout.specs.declared.fault.OpenFault.TheVariants as opens
+use Rattle.eden_checkout.specs.declared.opening.Opening.{Opening}
+use Rattle.eden_checkout.specs.declared.opening.Opening.TheVariants as opening
 use Rattle.eden_checkout.specs.declared.opening.Start.{Start}
 
 -- ---- the tree that files show
@@ -41,6 +46,11 @@ pub record CanOpen (R : Repository) (opening : Tree) (root : Id) (F : Stored) : 
   pub shown : files_show R root F ≡ opening
   pub below : (s : State) → HoldsState F s → (c : ℕ) (e : StoredEntry) → IsLive F c → Names F c e → e.number < s.next
 
+-- a rescan finds itself whether they are sound
+abbrev pub MayOpen : Opening → Repository → Tree → Id → Stored → Type 0
+MayOpen opening.Closed R tree root F = CanOpen R tree root F
+MayOpen opening.Rescan R tree root F = files_show R root F ≡ tree
+
 -- ---- what is opened
 
 -- the root is the commit's tree, or the mount's own
@@ -54,15 +64,27 @@ AreNone F = (k : ℕ) → F k ≡ None
 abbrev pub StartsAt : Stored → Id → ℕ → Type 0
 StartsAt F root next = (AreNone F × (next ≡ 2)) ⊎ HoldsState F (record { root = root; next = next })
 
-pub record Starts (root : Id) (F : Stored) (start : Start) : Type 0 where
+-- what is found in files that are opened: the next number, and by a rescan that they are sound
+abbrev pub Finds : Opening → Id → Stored → ℕ → Type 0
+Finds opening.Closed root F next = StartsAt F root next
+Finds opening.Rescan root F next = AreSound F × IsNextOf F next
+
+pub record Starts (how : Opening) (root : Id) (F : Stored) (start : Start) : Type 0 where
   pub origin : start.origin ≡ root_from root (F 1)
-  pub next : StartsAt F root start.next
+  pub next : Finds how root F start.next
 
 -- ---- why an overlay isn't opened
 
 abbrev pub of_files : FilesFault → OpenFault
 of_files files.Device = opens.Device
 of_files files.Memory = opens.Memory
+
+abbrev pub of_rescan : RescanFault → OpenFault
+of_rescan (rescan.Dangling k) = opens.Dangling k
+of_rescan (rescan.Twice k) = opens.Twice k
+of_rescan (rescan.Damaged k refusal) = opens.Damaged k refusal
+of_rescan rescan.Device = opens.Device
+of_rescan rescan.Memory = opens.Memory
 
 -- F are the files, and the counts are those of the device's failures before and then
 abbrev pub IsOpenFault : Type 0 → Id → Stored → ℕ → ℕ → OpenFault → Type 0
@@ -71,3 +93,23 @@ IsOpenFault honest root F old new (opens.OtherRoot stored) = (stored ≢ root) �
 IsOpenFault honest root F old new (opens.Damaged k refusal) = (k ≡ 0) × (honest → Explains identifier.File state_in (F 0) (get.Damaged refusal))
 IsOpenFault honest root F old new opens.Device = Rose old new
 IsOpenFault honest root F old new opens.Memory = Unit {0}
+IsOpenFault honest root F old new (opens.Dangling k) = ⊥
+IsOpenFault honest root F old new (opens.Twice k) = ⊥
+
+-- the files are as that fault accuses them, and so aren't sound
+abbrev pub AreAccused : Stored → RescanFault → Type 0
+AreAccused F fault = Accuses F fault × (¬ AreSound F)
+
+-- .. and why not by a rescan: the first thing that was met from file 1 down, or the device or memory
+abbrev pub IsRescanRefusal : Type 0 → Stored → ℕ → ℕ → OpenFault → Type 0
+IsRescanRefusal honest F old new opens.NotClean = ⊥
+IsRescanRefusal honest F old new (opens.OtherRoot stored) = ⊥
+IsRescanRefusal honest F old new (opens.Damaged k refusal) = honest → AreAccused F (rescan.Damaged k refusal)
+IsRescanRefusal honest F old new opens.Device = Rose old new
+IsRescanRefusal honest F old new opens.Memory = Unit {0}
+IsRescanRefusal honest F old new (opens.Dangling k) = honest → AreAccused F (rescan.Dangling k)
+IsRescanRefusal honest F old new (opens.Twice k) = honest → AreAccused F (rescan.Twice k)
+
+abbrev pub IsRefusal : Opening → Type 0 → Id → Stored → ℕ → ℕ → OpenFault → Type 0
+IsRefusal opening.Closed honest root F old new fault = IsOpenFault honest root F old new fault
+IsRefusal opening.Rescan honest root F old new fault = IsRescanRefusal honest F old new fault

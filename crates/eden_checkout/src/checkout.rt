@@ -1,14 +1,16 @@
-ghost use Rattle.std.specs.Prelude.{◌≡◌, [], IfOk, IfErr};
+ghost use Rattle.std.specs.Prelude.{◌≡◌, [], OnOk, IfOk, IfErr};
 ghost use Rattle.eden_ops.specs.Keeping.{shows};
 ghost use Rattle.eden_inode.specs.Tables.{fresh_root};
 ghost use Rattle.eden_model.specs.Failures.{Rose};
 ghost use Rattle.eden_overlay.specs.declared.files.FilesFault.TheVariants as fault;
 ghost use Rattle.eden_overlay.specs.Held.{HoldsState, without};
-ghost use Rattle.eden_checkout.specs.Opening.{CanOpen, StartsAt, files_show, root_from, IsOpenFault};
+ghost use Rattle.eden_overlay.specs.Rescanning.{IsNextOf};
+ghost use Rattle.eden_overlay.specs.Soundness.{AreSound};
+ghost use Rattle.eden_checkout.specs.Opening.{CanOpen, MayOpen, StartsAt, Finds, files_show, IsOpenFault, IsRescanRefusal, IsRefusal};
 
 use crate::closing::{as_files, store_state};
 use crate::fault::OpenFault;
-use crate::opening::{Start, begin};
+use crate::opening::{Opening, Start, begin};
 use eden_cache::ObjectCache;
 use eden_inode::Inodes;
 use eden_model::{Id, World};
@@ -67,8 +69,55 @@ impl<A: Allocator + Clone, W: World, F: Files<W>> Checkout<A, W, F> {
         ensures fault { IfErr result (λ e. IsOpenFault W.honest root (F.stored files) (F.failures files) (F.failures e.1) e.0) }
         ensures unchanged { W.honest → IfErr result (λ e. F.stored e.1 ≡ F.stored files) }
     {
+        Self::open_by(alloc, dirs, files, root, cache, Opening::Closed)
+    }
+
+    /// Opens an overlay over a commit's tree whatever a run left of it, one that was killed too: what is shown is what the
+    /// directories say that are stored from file 1 down, and the next number is one more than the greatest that they name.
+    /// A state is passed over, and removed as the last act. The cache is as for `open`.
+    ///
+    /// Errors: `Dangling`, `Twice`, and `Damaged` of any file, the first that is met from file 1 down, `Device` and
+    /// `Memory`. The files come back as they were.
+    pub fn open_rescan(
+        alloc: Global,
+        dirs: A,
+        files: F,
+        root: Id,
+        cache: ObjectCache<A>,
+    ) -> Result<Self, (OpenFault, F)>
+        requires files { W.honest → files_show W.repository root (F.stored files) ≡ W.opening }
+        requires cache { (cache.objects ≡ []) × (cache.sizes ≡ []) }
+        ensures sound { W.honest → OnOk result (AreSound (F.stored files)) }
+        ensures shown { W.honest → IfOk result (λ c. shows W.World F.Files c.inodes ≡ W.opening) }
+        ensures stored { W.honest → IfOk result (λ c. F.stored c.inodes.files ≡ without (F.stored files) 0) }
+        ensures next { W.honest → IfOk result (λ c. IsNextOf (F.stored files) c.inodes.next) }
+        ensures fresh { IfOk result (λ c. (c.inodes.clock ≡ 0) × ((c.inodes.changes ≡ 0) × ((c.cache ≡ cache) × (c.root ≡ root)))) }
+        ensures fault { IfErr result (λ e. IsRescanRefusal W.honest (F.stored files) (F.failures files) (F.failures e.1) e.0) }
+        ensures unchanged { W.honest → IfErr result (λ e. F.stored e.1 ≡ F.stored files) }
+    {
+        Self::open_by(alloc, dirs, files, root, cache, Opening::Rescan)
+    }
+
+    /// Opens an overlay over a commit's tree as `open` does, or as `open_rescan` does, with its errors.
+    pub fn open_by(
+        alloc: Global,
+        dirs: A,
+        files: F,
+        root: Id,
+        cache: ObjectCache<A>,
+        opening: Opening,
+    ) -> Result<Self, (OpenFault, F)>
+        requires files { W.honest → MayOpen opening W.repository W.opening root (F.stored files) }
+        requires cache { (cache.objects ≡ []) × (cache.sizes ≡ []) }
+        ensures shown { W.honest → IfOk result (λ c. shows W.World F.Files c.inodes ≡ W.opening) }
+        ensures stored { W.honest → IfOk result (λ c. F.stored c.inodes.files ≡ without (F.stored files) 0) }
+        ensures next { W.honest → IfOk result (λ c. Finds opening root (F.stored files) c.inodes.next) }
+        ensures fresh { IfOk result (λ c. (c.inodes.clock ≡ 0) × ((c.inodes.changes ≡ 0) × ((c.cache ≡ cache) × (c.root ≡ root)))) }
+        ensures fault { IfErr result (λ e. IsRefusal opening W.honest root (F.stored files) (F.failures files) (F.failures e.1) e.0) }
+        ensures unchanged { W.honest → IfErr result (λ e. F.stored e.1 ≡ F.stored files) }
+    {
         let mut overlay = Overlay::new(files).keeping(cache.most_bytes());
-        match begin(alloc, &mut overlay, root) {
+        match begin(alloc, &mut overlay, root, opening) {
             Err(fault) => Err((fault, overlay.into_files())),
             Ok(Start { origin, next }) => Ok(Checkout {
                 inodes: Inodes::new(dirs, overlay, origin, next),

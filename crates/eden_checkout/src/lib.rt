@@ -1,7 +1,7 @@
 //! A commit's checkout: the loaded part of its tree over an overlay's files, and the objects that came.
 //!
-//! A checkout is opened over the files that another was closed to, or over none, and is what a mount attempts requests
-//! over.
+//! A checkout is opened over the files that another was closed to, or over none, or over those that a run left that was
+//! killed. It is what a mount attempts requests over.
 #![tactic(auto)]
 
 mod attempted;
@@ -14,3 +14,4 @@ mod opening;
 pub use checkout::Checkout;
 pub use fault::OpenFault;
 pub use laws::opening_laws;
+pub use opening::Opening;

@@ -3,13 +3,24 @@ ghost use Rattle.std.specs.Prelude.{◌≡◌, ◌≤◌, ℕ, IsSome, OnOk, OnE
 ghost use Rattle.eden_overlay_format.specs.Directory.{number_least, number_end};
 ghost use Rattle.eden_overlay_format.specs.State.{IsGoodState};
 ghost use Rattle.eden_overlay.specs.Held.{HoldsState, without};
-ghost use Rattle.eden_checkout.specs.Opening.{Starts, IsRootOf, IsOpenFault};
+ghost use Rattle.eden_overlay.specs.Rescanning.{IsNextOf};
+ghost use Rattle.eden_overlay.specs.Soundness.{AreSound};
+ghost use Rattle.eden_checkout.specs.Opening.{Starts, IsRootOf, IsOpenFault, IsRescanRefusal, IsRefusal};
 
 use crate::fault::OpenFault;
 use eden_model::{Id, Origin, World};
 use eden_overlay::{Files, GetFault, Overlay};
 use eden_overlay_format::State;
 use std::alloc::Global;
+
+/// How an overlay is opened.
+#[derive(Clone, Copy, Debug, PartialEq, Eq)]
+pub enum Opening {
+    /// By the state that a close left, or over no files.
+    Closed,
+    /// By what the directories say, as a run that was killed left them. A state is passed over.
+    Rescan,
+}
 
 /// The number of the state's file.
 const STATE_FILE: u64 = 0;
@@ -55,18 +66,38 @@ fn state_of<W: World, F: Files<W>>(
     }
 }
 
-/// Looks at the files, and removes the state as the last act.
+/// The next number by what the directories say.
+fn rescanned<W: World, F: Files<W>>(
+    alloc: Global,
+    overlay: &mut Overlay<W, F>,
+) -> Result<u64, OpenFault>
+    ensures sound { W.honest → OnOk result (AreSound (F.stored overlay.old)) }
+    ensures next { W.honest → IfOk result (IsNextOf (F.stored overlay.old)) }
+    ensures least { IfOk result (λ next. number_least ≤ next) }
+    ensures most { IfOk result (λ next. next ≤ number_end) }
+    ensures refused { IfErr result (IsRescanRefusal W.honest (F.stored overlay.old) (F.failures overlay.old) (F.failures overlay.new)) }
+    ensures unchanged { W.honest → F.stored overlay.new ≡ F.stored overlay.old }
+    ensures counted { F.failures overlay.old ≤ F.failures overlay.new }
+{
+    match overlay.rescan(alloc) {
+        Ok(next) => Ok(next),
+        Err(fault) => Err(OpenFault::from(fault)),
+    }
+}
+
+/// Looks at the files, and removes the state as the last act, where there are files.
 pub(crate) fn begin<W: World, F: Files<W>>(
     alloc: Global,
     overlay: &mut Overlay<W, F>,
     root: Id,
+    opening: Opening,
 ) -> Result<Start, OpenFault>
-    ensures ok { W.honest → IfOk result (Starts root (F.stored overlay.old)) }
+    ensures ok { W.honest → IfOk result (Starts opening root (F.stored overlay.old)) }
     ensures stored { W.honest → OnOk result (F.stored overlay.new ≡ without (F.stored overlay.old) 0) }
     ensures root { IfOk result (λ start. IsRootOf root start.origin) }
     ensures least { IfOk result (λ start. number_least ≤ start.next) }
     ensures most { IfOk result (λ start. start.next ≤ number_end) }
-    ensures refused { IfErr result (IsOpenFault W.honest root (F.stored overlay.old) (F.failures overlay.old) (F.failures overlay.new)) }
+    ensures refused { IfErr result (IsRefusal opening W.honest root (F.stored overlay.old) (F.failures overlay.old) (F.failures overlay.new)) }
     ensures unchanged { W.honest → OnErr result (F.stored overlay.new ≡ F.stored overlay.old) }
 {
     let numbers = overlay.list(alloc)?;
@@ -76,15 +107,15 @@ pub(crate) fn begin<W: World, F: Files<W>>(
             next: FIRST_NUMBER,
         });
     }
-    let state = state_of(alloc, overlay, root)?;
+    let next = match opening {
+        Opening::Closed => state_of(alloc, overlay, root)?.next,
+        Opening::Rescan => rescanned(alloc, overlay)?,
+    };
     overlay.remove_state(alloc)?;
     let origin = if numbers.contains(&ROOT_FILE) {
         Origin::Own
     } else {
         Origin::Object(root)
     };
-    Ok(Start {
-        origin,
-        next: state.next,
-    })
+    Ok(Start { origin, next })
 }

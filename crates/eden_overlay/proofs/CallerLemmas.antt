@@ -9,3 +9,4 @@ pub use Rattle.eden_overlay.proofs.Contents.{contents_stay}
 pub use Rattle.eden_overlay.proofs.Directories.{dropped_stay, dropped_unnamed}
 pub use Rattle.eden_overlay.proofs.Entering.{added_stay, entered_stay}
 pub use Rattle.eden_overlay.proofs.Moving.{renamed_stay, moved_stay}
+pub use Rattle.eden_overlay.proofs.Accusing.{accused_unsound}

@@ -15,7 +15,7 @@ use Rattle.std.proofs.lemmas.Map.Made.{is_member-Decides}
 use Rattle.eden_overlay.specs.Files.{Lists, put}
 use Rattle.eden_overlay.specs.InMemory.{files_of, stored_in}
 
-is_at-nat_cmp : (k q : ℕ) → is_at (nat_cmp k) q ≡ (k == q)
+pub is_at-nat_cmp : (k q : ℕ) → is_at (nat_cmp k) q ≡ (k == q)
 is_at-nat_cmp k q = grind (arith, nat_tests)
 
 cond-option_map : {A B : Type 0} (f : A → B) (a b : Bool) (w p : Option A) (o : Option B) → a ≡ b → o ≡ option_map f p → cond a (option_map f w) o ≡ option_map f (cond b w p)

@@ -8,3 +8,6 @@ pub mod Directories
 pub mod Cycles
 pub mod Entering
 pub mod Moving
+pub mod Places
+pub mod Walks
+pub mod Accusing

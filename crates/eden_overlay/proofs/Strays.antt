@@ -65,7 +65,7 @@ no_file_zero F = record {
 
 -- ---- no file 1
 
-nothing_named : (F : Stored) → F 1 ≡ None → (d : ℕ) (e : StoredEntry) → IsLive F d → Names F d e → ⊥
+pub nothing_named : (F : Stored) → F 1 ≡ None → (d : ℕ) (e : StoredEntry) → IsLive F d → Names F d e → ⊥
 nothing_named F none d e here n = nothing_there F 1 kind.Dir none (n.entries, n.held)
 nothing_named F none d e (below c f r m leads) n = nothing_named F none c f r m
 

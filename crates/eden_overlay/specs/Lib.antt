@@ -7,3 +7,5 @@ pub mod Soundness
 pub mod Getting
 pub mod Keeping
 pub mod Laws
+pub mod Rescanning
+pub mod Walking

@@ -1,3 +1,4 @@
+ghost use Rattle.eden_overlay.specs.Rescanning.{AccusedUnsound};
 ghost use Rattle.eden_overlay.specs.Laws.{ContentsHeld, EntriesHeld, NumbersFromTwo, RootlessSound, StraysStay, LiveStay, StateStays, ContentsStay, DroppedStay, DroppedUnnamed, AddedStay, EnteredStay, RenamedStay, MovedStay};
 
 /// What a caller of `Overlay` needs to show that an overlay stays sound.
@@ -9,6 +10,7 @@ pub fn overlay_laws()
     ensures strays { StraysStay }
     ensures live { LiveStay }
     ensures state { StateStays }
+    ensures accused { AccusedUnsound }
     ensures contents { ContentsStay }
     ensures dropped { DroppedStay }
     ensures dropped_unnamed { DroppedUnnamed }

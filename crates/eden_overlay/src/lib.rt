@@ -23,6 +23,7 @@ mod memory;
 mod names;
 mod overlay;
 mod recent;
+mod rescan;
 
 pub use content::Content;
 pub use fault::GetFault;
@@ -32,3 +33,4 @@ pub use gate::{Allowance, FailingFiles, Gate, GatedFiles, OneCall, StopFiles};
 pub use laws::overlay_laws;
 pub use memory::MemoryFiles;
 pub use overlay::Overlay;
+pub use rescan::RescanFault;

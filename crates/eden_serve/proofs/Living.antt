@@ -16,6 +16,7 @@ use Rattle.eden_wire.specs.declared.session_fault.SessionFault.{SessionFault}
 use Rattle.eden_wire.specs.Serving.{Known}
 use Rattle.eden_serve.specs.declared.life.Backing.{Backing}
 use Rattle.eden_serve.specs.declared.life.Ending.{Ending}
+use Rattle.eden_serve.specs.declared.opening.Base.{Base}
 use Rattle.eden_serve.specs.Lives.{Closes, IsLived, LivesBy, first_fault}
 
 module _ {W F : Type 0} (w : Ghosts W) (f : Files F W) where
@@ -38,8 +39,8 @@ module _ {W F : Type 0} (w : Ghosts W) (f : Files F W) where
   }
 
   -- the first fault of a served caller is none of the opening
-  module _ {S : Type 0} (fetched : S → Id → Answer → S → Type 0) (root : Id) (settings : Settings) (backing : Backing F S) (input output : Known × Known) (left : Ending F S) where
-    pub lived : (said : Result (Unit {0}) SessionFault) (o : Option FilesFault) → IsLived w f fetched root settings backing input output left → LivesBy w f fetched (first_fault said o) root settings backing input output left
+  module _ {S : Type 0} (fetched : S → Id → Answer → S → Type 0) (base : Base) (settings : Settings) (backing : Backing F S) (input output : Known × Known) (left : Ending F S) where
+    pub lived : (said : Result (Unit {0}) SessionFault) (o : Option FilesFault) → IsLived w f fetched base settings backing input output left → LivesBy w f fetched (first_fault said o) base settings backing input output left
     lived (Err e) o h = h
     lived (Ok v) (Some e) h = h
     lived (Ok v) None h = h

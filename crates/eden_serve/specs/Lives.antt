@@ -19,6 +19,7 @@ use Rattle.eden_serve.specs.declared.fault.LifeFault.{LifeFault}
 use Rattle.eden_serve.specs.declared.fault.LifeFault.TheVariants as life
 use Rattle.eden_serve.specs.declared.life.Backing.{Backing}
 use Rattle.eden_serve.specs.declared.life.Ending.{Ending}
+use Rattle.eden_serve.specs.declared.opening.Base.{Base}
 use Rattle.eden_serve.specs.Calls.{CallAnswers, MayBeTold}
 use Rattle.eden_serve.specs.Opening.{IsOpened, IsRefused, IsClosed, StaysOpen}
 use Rattle.eden_serve.specs.Serving.{Begins}
@@ -43,8 +44,8 @@ module _ {W F : Type 0} (w : Ghosts W) (f : Files F W) where
 
   module _ {S : Type 0} (fetched : S → Id → Answer → S → Type 0) where
     -- The overlay wasn't opened, for that fault: nothing was read or written, and the source wasn't asked.
-    pub record IsUnserved (root : Id) (backing : Backing F S) (input output : Known × Known) (why : OpenFault) (left : Ending F S) : Type 0 where
-      pub files : IsRefused w f root backing.files why left.backing.files
+    pub record IsUnserved (base : Base) (backing : Backing F S) (input output : Known × Known) (why : OpenFault) (left : Ending F S) : Type 0 where
+      pub files : IsRefused w f base backing.files why left.backing.files
       pub source : left.backing.source ≡ backing.source
       pub unread : input.1 ≡ input.0
       pub unwritten : output.1 ≡ output.0
@@ -53,22 +54,22 @@ module _ {W F : Type 0} (w : Ghosts W) (f : Files F W) where
     -- The overlay was opened, the caller served, and the overlay closed, however the session ended. A request wasn't taken
     -- for the settings' limit or for want of memory alone, and the files are the same commit's. Where the outside is honest,
     -- the history is one of the opening tree, and what the files show is the tree after it.
-    pub record IsLived (root : Id) (settings : Settings) (backing : Backing F S) (input output : Known × Known) (left : Ending F S) : Type 0 where
+    pub record IsLived (base : Base) (settings : Settings) (backing : Backing F S) (input output : Known × Known) (left : Ending F S) : Type 0 where
       pub begun : Desk (Checkout F) S
       pub begins : Begins (room_for settings) begun.core.table backing.source begun
-      pub opened : IsOpened w f root settings backing.files begun.core.table
+      pub opened : IsOpened w f base settings backing.files begun.core.table
       pub ended : Desk (Checkout F) S
       pub said : Result ⊤ SessionFault
       pub session : Session (CallAnswers fetched (attempted w f) w.honest) (begun, ended) input output said
       pub told : AllByRecursion (MayBeTold settings.history) session.given
       pub stays : Stays (attempted w f) begun.core ended.core
       pub legal : w.honest → Legal w.opening ended.core.history
-      pub ends : Ends root ended.core.table (replay w.opening ended.core.history) ended.source said left
+      pub ends : Ends base.root ended.core.table (replay w.opening ended.core.history) ended.source said left
 
-    abbrev pub LivesBy : Result ⊤ LifeFault → Id → Settings → Backing F S → Known × Known → Known × Known → Ending F S → Type 0
-    LivesBy (Err (life.Open why)) root settings backing input output left = IsUnserved root backing input output why left
-    LivesBy outcome root settings backing input output left = IsLived root settings backing input output left
+    abbrev pub LivesBy : Result ⊤ LifeFault → Base → Settings → Backing F S → Known × Known → Known × Known → Ending F S → Type 0
+    LivesBy (Err (life.Open why)) base settings backing input output left = IsUnserved base backing input output why left
+    LivesBy outcome base settings backing input output left = IsLived base settings backing input output left
 
     -- a whole life, with the input, the output, and what the mount stands on before and after it
-    abbrev pub Lives : Id → Settings → Backing F S → Known × Known → Known × Known → Ending F S → Type 0
-    Lives root settings backing input output left = LivesBy left.outcome root settings backing input output left
+    abbrev pub Lives : Base → Settings → Backing F S → Known × Known → Known × Known → Ending F S → Type 0
+    Lives base settings backing input output left = LivesBy left.outcome base settings backing input output left

@@ -13,20 +13,21 @@ use Rattle.eden_ops.specs.Keeping.{shows}
 use Rattle.eden_mount.specs.Settings.{Settings}
 use Rattle.eden_checkout.specs.declared.fault.OpenFault.{OpenFault}
 use Rattle.eden_checkout.specs.Checkouts.{Checkout}
-use Rattle.eden_checkout.specs.Opening.{CanOpen, StartsAt, IsOpenFault}
+use Rattle.eden_checkout.specs.Opening.{CanOpen, Finds, IsRefusal}
+use Rattle.eden_serve.specs.declared.opening.Base.{Base}
 
 module _ {W F : Type 0} (w : Ghosts W) (f : Files F W) where
-  -- The files were opened on that commit's tree, with the settings' cache, in which nothing is yet. Where the outside is
+  -- The files were opened so on that commit's tree, with the settings' cache, in which nothing is yet. Where the outside is
   -- honest the checkout shows the opening tree.
-  pub record IsOpened (root : Id) (settings : Settings) (files : F) (t : Checkout F) : Type 0 where
-    pub commit : t.root ≡ root
+  pub record IsOpened (base : Base) (settings : Settings) (files : F) (t : Checkout F) : Type 0 where
+    pub commit : t.root ≡ base.root
     pub cache : t.cache ≡ empty settings.entries settings.bytes settings.sizes
-    pub next : w.honest → StartsAt (f.stored files) root t.inodes.next
+    pub next : w.honest → Finds base.opening base.root (f.stored files) t.inodes.next
     pub shown : w.honest → shows w f t.inodes ≡ w.opening
 
-  -- the files weren't opened, for that fault, and are as they were
-  pub record IsRefused (root : Id) (files : F) (fault : OpenFault) (left : F) : Type 0 where
-    pub why : IsOpenFault w.honest root (f.stored files) (f.failures files) (f.failures left) fault
+  -- the files weren't opened so, for that fault, and are as they were
+  pub record IsRefused (base : Base) (files : F) (fault : OpenFault) (left : F) : Type 0 where
+    pub why : IsRefusal base.opening w.honest base.root (f.stored files) (f.failures files) (f.failures left) fault
     pub unchanged : w.honest → f.stored left ≡ f.stored files
 
   -- A checkout of that commit was closed to the files. Where the outside is honest they hold its state, can be opened again

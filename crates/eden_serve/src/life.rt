@@ -1,14 +1,14 @@
 //! A mount from its opening over its caller's session to its close.
 ghost use Rattle.std.specs.Prelude.{◌≡◌};
-ghost use Rattle.eden_checkout.specs.Opening.{CanOpen};
+ghost use Rattle.eden_checkout.specs.Opening.{MayOpen};
 ghost use Rattle.eden_ops.specs.Keeping.{shows};
 ghost use Rattle.eden_serve.specs.Lives.{Lives, Ends, first_fault};
 
 use crate::fault::LifeFault;
-use crate::opening::open;
+use crate::opening::{Base, open};
 use crate::serving::{Served, serve_table};
 use eden_checkout::Checkout;
-use eden_model::{Id, World};
+use eden_model::World;
 use eden_mount::Config;
 use eden_overlay::{Files, FilesFault};
 use eden_source::Source;
@@ -92,16 +92,16 @@ pub fn live<W: World, S: Source<W> + Drop, A: Allocator + Clone, F: Files<W>, R:
     alloc: Global,
     memory: A,
     backing: Backing<F, S>,
-    root: Id,
+    base: Base,
     config: &Config,
     reader: &mut R,
     writer: &mut O,
 ) -> Ending<F, S>
-    requires files { W.honest → CanOpen W.repository W.opening root (F.stored backing.files) }
-    ensures { Lives W.World F.Files S.fetched root config.now backing (R.remaining reader.old, R.remaining reader.new) (O.contents writer.old, O.contents writer.new) result }
+    requires files { W.honest → MayOpen base.opening W.repository W.opening base.root (F.stored backing.files) }
+    ensures { Lives W.World F.Files S.fetched base config.now backing (R.remaining reader.old, R.remaining reader.new) (O.contents writer.old, O.contents writer.new) result }
 {
     let Backing { files, source } = backing;
-    match open::<W, A, F>(alloc, memory, files, root, config) {
+    match open::<W, A, F>(alloc, memory, files, base, config) {
         Err((fault, files)) => Ending {
             backing: Backing { files, source },
             unclosed: None,

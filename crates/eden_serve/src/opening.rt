@@ -2,15 +2,24 @@
 ghost use Rattle.std.specs.Prelude.{◌≡◌, IfOk, IfErr};
 ghost use Rattle.eden_cache.specs.Cache.{empty};
 ghost use Rattle.eden_mount.specs.Settings.{room_for};
-ghost use Rattle.eden_checkout.specs.Opening.{CanOpen};
+ghost use Rattle.eden_checkout.specs.Opening.{MayOpen};
 ghost use Rattle.eden_serve.specs.Opening.{IsOpened, IsRefused};
 
 use eden_cache::ObjectCache;
-use eden_checkout::{Checkout, OpenFault};
+use eden_checkout::{Checkout, OpenFault, Opening};
 use eden_model::{Id, World};
 use eden_mount::{Config, Room};
 use eden_overlay::Files;
 use std::alloc::{AllocError, Allocator, Global};
+
+/// What an overlay is opened over, and how.
+#[derive(Clone, Copy, Debug, PartialEq, Eq)]
+pub struct Base {
+    /// The commit's tree.
+    pub root: Id,
+    /// Whether the overlay was closed, or may have been left by a run that was killed.
+    pub opening: Opening,
+}
 
 /// What a mount of these settings needs of memory before an overlay is opened.
 fn room<A: Allocator + Clone>(
@@ -36,23 +45,23 @@ fn room<A: Allocator + Clone>(
 /// made first, so that the state among the files is removed only once nothing more can be refused. What is queued,
 /// cached and loaded lies in `memory`.
 ///
-/// Errors: those of `Checkout::open`, and `Memory`. The files come back as they were.
+/// Errors: those of `Checkout::open`, or of `Checkout::open_rescan`, and `Memory`. The files come back as they were.
 pub fn open<W: World, A: Allocator + Clone, F: Files<W>>(
     alloc: Global,
     memory: A,
     files: F,
-    root: Id,
+    base: Base,
     config: &Config,
 ) -> Result<(Room<A>, Checkout<A, W, F>), (OpenFault, F)>
-    requires files { W.honest → CanOpen W.repository W.opening root (F.stored files) }
+    requires files { W.honest → MayOpen base.opening W.repository W.opening base.root (F.stored files) }
     ensures room { IfOk result (λ o. o.0 ≡ room_for config.now) }
-    ensures opened { IfOk result (λ o. IsOpened W.World F.Files root config.now files o.1) }
-    ensures refused { IfErr result (λ e. IsRefused W.World F.Files root files e.0 e.1) }
+    ensures opened { IfOk result (λ o. IsOpened W.World F.Files base config.now files o.1) }
+    ensures refused { IfErr result (λ e. IsRefused W.World F.Files base files e.0 e.1) }
 {
     let Ok((room, cache)) = room(alloc, &memory, config) else {
         return Err((OpenFault::Memory, files));
     };
-    match Checkout::open(alloc, memory, files, root, cache) {
+    match Checkout::open_by(alloc, memory, files, base.root, cache, base.opening) {
         Err(refused) => Err(refused),
         Ok(checkout) => Ok((room, checkout)),
     }

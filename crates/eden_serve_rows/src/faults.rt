@@ -1,7 +1,7 @@
 //! Lives that a fault ends, of the reader, the writer or the files' device.
 use crate::lives::{Fate, Life, Sizes, Stored, are_there, closed, ending, left, lived, over};
 use crate::refusals::check_refused;
-use eden_checkout::OpenFault;
+use eden_checkout::{OpenFault, Opening};
 use eden_overlay::{FilesFault, MemoryFiles, StopFiles};
 use eden_samples::{ONE_FILE, VERSION_1};
 use eden_serve::LifeFault;
@@ -59,6 +59,7 @@ impl Write for Gone {
 
 const CHANGE: Life = Life {
     root: ONE_FILE,
+    opening: Opening::Closed,
     history: 1_000,
     input: "write /test.txt 12 21\n",
     said: "count 1\n",
@@ -68,6 +69,7 @@ const CHANGE: Life = Life {
 /// The change is there, and nothing is fetched for it.
 const AGAIN: Life = Life {
     root: ONE_FILE,
+    opening: Opening::Closed,
     history: 1_000,
     input: "read /test.txt 0 100\n",
     said: "data 13 76657273696f6e20310a000021\n",
@@ -80,7 +82,7 @@ const UNCLOSED: Sizes = &[(1, 87), (2, 77)];
 
 /// How the life with the one change ends, where its lines end so, and the files that it leaves.
 #[derive(Clone, Copy)]
-struct Row {
+pub(crate) struct Row {
     end: End,
     fate: Fate,
     files: Sizes,
@@ -98,7 +100,7 @@ const READ_FAILS: Row = Row {
     files: CLOSED,
 };
 
-const DEVICE_STOPS: Row = Row {
+pub(crate) const DEVICE_STOPS: Row = Row {
     end: End {
         stops: true,
         fails: false,
@@ -124,7 +126,7 @@ const BOTH: Row = Row {
 };
 
 /// Lives the life with the one change as the row says, and gives the files, of which the device works again.
-fn changed(rt: &impl Abort, alloc: Global, row: Row) -> Stored {
+pub(crate) fn changed(rt: &impl Abort, alloc: Global, row: Row) -> Stored {
     let calls = Rc::new(alloc, Cell::new(u64::MAX)).expect(rt, "memory");
     let shared = calls.clone().expect(rt, "memory");
     let files = StopFiles::new(MemoryFiles::new(alloc), shared);
@@ -163,6 +165,7 @@ fn a_failed_write_keeps_the_changes(rt: HostRuntime) {
 fn a_failed_close_leaves_the_files_without_their_state(rt: HostRuntime) {
     for row in [DEVICE_STOPS, BOTH] {
         let files = changed(&rt, rt.alloc(), row);
-        check_refused(&rt, rt.alloc(), files, ONE_FILE, OpenFault::NotClean);
+        let base = (ONE_FILE, Opening::Closed);
+        check_refused(&rt, rt.alloc(), files, base, OpenFault::NotClean);
     }
 }

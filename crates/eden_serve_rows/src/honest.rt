@@ -2,13 +2,13 @@
 ghost use Rattle.eden_object.specs.Objects.{IsHonest};
 ghost use Rattle.eden_serve_rows.specs.Samples.{sample};
 
-use eden_checkout::opening_laws;
+use eden_checkout::{Opening, opening_laws};
 use eden_model::{Id, World};
 use eden_mount::Config;
 use eden_object::{one_frame, one_list};
 use eden_overlay::MemoryFiles;
 use eden_samples::{NEW_FILE, ONE_FILE, TWO_FILES, VERSION_1, VERSION_2};
-use eden_serve::{Backing, Ending, live};
+use eden_serve::{Backing, Base, Ending, live};
 use eden_source::MemorySource;
 use std::alloc::{AllocError, Global};
 use std::test::Fail;
@@ -62,16 +62,12 @@ fn lived(alloc: Global, input: &str, said: &mut Vec<u8>) -> Result<Life, Fail> {
     let files = MemoryFiles::new(alloc);
     let source = objects(alloc)?;
     let backing = Backing { files, source };
+    let base = Base {
+        root: TWO_FILES.id,
+        opening: Opening::Closed,
+    };
     let mut reader = input.as_bytes();
-    Ok(live::<Honest, _, _, _, _, _>(
-        alloc,
-        alloc,
-        backing,
-        TWO_FILES.id,
-        &limits,
-        &mut reader,
-        said,
-    ))
+    Ok(live::<Honest, _, _, _, _, _>(alloc, alloc, backing, base, &limits, &mut reader, said))
 }
 
 const INPUT: &str =

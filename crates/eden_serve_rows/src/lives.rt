@@ -1,10 +1,11 @@
 //! One life of a mount, over files that are there and the objects of the sample commits.
 use crate::objects::{Asked, asked_for, samples};
+use eden_checkout::Opening;
 use eden_model::Outside;
 use eden_mount::Config;
 use eden_overlay::{Files, FilesFault, MemoryFiles};
 use eden_samples::Sample;
-use eden_serve::{Backing, Ending, LifeFault, live};
+use eden_serve::{Backing, Base, Ending, LifeFault, live};
 use std::alloc::Global;
 use std::io::{Read, Write};
 use std::process::Abort;
@@ -15,6 +16,7 @@ pub(crate) type Stored = MemoryFiles<Outside>;
 #[derive(Clone, Copy)]
 pub(crate) struct Life {
     pub(crate) root: Sample,
+    pub(crate) opening: Opening,
     /// How many entries the history may have.
     pub(crate) history: u32,
     pub(crate) input: &'static str,
@@ -32,8 +34,11 @@ pub(crate) fn ending<F: Files<Outside>, R: Read, O: Write>(
     writer: &mut O,
 ) -> Ending<F, Asked> {
     let config = Config::new(1, 16, life.history, 64, 1 << 20, 64).expect(rt, "settings");
-    let root = life.root.id;
-    live::<Outside, Asked, Global, F, R, O>(alloc, alloc, backing, root, &config, reader, writer)
+    let base = Base {
+        root: life.root.id,
+        opening: life.opening,
+    };
+    live::<Outside, Asked, Global, F, R, O>(alloc, alloc, backing, base, &config, reader, writer)
 }
 
 /// Those files, and the samples.

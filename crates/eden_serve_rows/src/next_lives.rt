@@ -1,5 +1,6 @@
 //! What was changed is there in the next life over the same files, which asks for no more than it needs.
 use crate::lives::{Life, Sizes, are_there, closed};
+use eden_checkout::Opening;
 use eden_overlay::MemoryFiles;
 use eden_samples::{NEW_FILE, ONE_FILE, TWO_FILES, VERSION_1};
 use std::alloc::Global;
@@ -17,6 +18,7 @@ struct Row {
 const UNCHANGED: Row = Row {
     first: Life {
         root: ONE_FILE,
+        opening: Opening::Closed,
         history: 1_000,
         input: "kind /\nkind /test.txt\n",
         said: "kind dir\nkind file\n",
@@ -25,6 +27,7 @@ const UNCHANGED: Row = Row {
     files: &[(0, 92)],
     again: Life {
         root: ONE_FILE,
+        opening: Opening::Closed,
         history: 1_000,
         input: "kind /\nkind /test.txt\n",
         said: "kind dir\nkind file\n",
@@ -36,6 +39,7 @@ const UNCHANGED: Row = Row {
 const WRITTEN: Row = Row {
     first: Life {
         root: ONE_FILE,
+        opening: Opening::Closed,
         history: 1_000,
         input: "kind /test.txt\nwrite /test.txt 12 21\nread /test.txt 0 100\n",
         said: "kind file\ncount 1\ndata 13 76657273696f6e20310a000021\n",
@@ -44,6 +48,7 @@ const WRITTEN: Row = Row {
     files: &[(0, 92), (1, 87), (2, 77)],
     again: Life {
         root: ONE_FILE,
+        opening: Opening::Closed,
         history: 1_000,
         input: "read /test.txt 0 100\nwrite /test.txt 0 56\nread /test.txt 0 7\n",
         said: "data 13 76657273696f6e20310a000021\ncount 1\ndata 7 56657273696f6e\n",
@@ -55,6 +60,7 @@ const WRITTEN: Row = Row {
 const WRITTEN_IN_PART: Row = Row {
     first: Life {
         root: TWO_FILES,
+        opening: Opening::Closed,
         history: 1_000,
         input: "write /new.txt 0 4e\n",
         said: "count 1\n",
@@ -63,6 +69,7 @@ const WRITTEN_IN_PART: Row = Row {
     files: &[(0, 92), (1, 159), (3, 73)],
     again: Life {
         root: TWO_FILES,
+        opening: Opening::Closed,
         history: 1_000,
         input: "read /new.txt 0 9\nread /bak/test.txt 0 7\n",
         said: "data 9 4e65772066696c650a\ndata 7 76657273696f6e\n",
@@ -74,6 +81,7 @@ const WRITTEN_IN_PART: Row = Row {
 const MOVED: Row = Row {
     first: Life {
         root: ONE_FILE,
+        opening: Opening::Closed,
         history: 1_000,
         input: "mkdir /d\nrename /test.txt /d/t\nkind /test.txt\n",
         said: "ok\nok\nerr 2 ENOENT\n",
@@ -82,6 +90,7 @@ const MOVED: Row = Row {
     files: &[(0, 92), (1, 80), (3, 100)],
     again: Life {
         root: ONE_FILE,
+        opening: Opening::Closed,
         history: 1_000,
         input: "kind /test.txt\nread /d/t 0 7\n",
         said: "err 2 ENOENT\ndata 7 76657273696f6e\n",
@@ -93,6 +102,7 @@ const MOVED: Row = Row {
 const NO_REQUEST: Row = Row {
     first: Life {
         root: ONE_FILE,
+        opening: Opening::Closed,
         history: 1_000,
         input: "write /test.txt 12 21\nkind /a-b\nunlink /test.txt\n",
         said: "count 1\nerr 71 EPROTO\n",
@@ -101,6 +111,7 @@ const NO_REQUEST: Row = Row {
     files: &[(0, 92), (1, 87), (2, 77)],
     again: Life {
         root: ONE_FILE,
+        opening: Opening::Closed,
         history: 1_000,
         input: "read /test.txt 12 9\n",
         said: "data 1 21\n",
@@ -112,6 +123,7 @@ const NO_REQUEST: Row = Row {
 const FULL: Row = Row {
     first: Life {
         root: ONE_FILE,
+        opening: Opening::Closed,
         history: 1,
         input: "mkdir /d\nmkdir /e\nkind /..\n",
         said: "ok\nfault history 1\nerr 22 EINVAL\n",
@@ -120,6 +132,7 @@ const FULL: Row = Row {
     files: &[(0, 92), (1, 119), (3, 68)],
     again: Life {
         root: ONE_FILE,
+        opening: Opening::Closed,
         history: 1,
         input: "list / - 9\n",
         said: "entries 2 dir d file test.txt end\n",

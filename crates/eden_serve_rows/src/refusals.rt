@@ -1,6 +1,6 @@
 //! Files that aren't opened: nothing is read, said or asked for.
 use crate::lives::{Fate, Life, Sizes, Stored, are_there, closed, lived};
-use eden_checkout::OpenFault;
+use eden_checkout::{OpenFault, Opening};
 use eden_overlay::{Files, MemoryFiles};
 use eden_overlay_format::Refusal;
 use eden_samples::{ONE_FILE, Sample, TWO_FILES};
@@ -11,22 +11,25 @@ use std::process::Abort;
 /// A life over no files, which makes a directory.
 const FIRST: Life = Life {
     root: ONE_FILE,
+    opening: Opening::Closed,
     history: 1_000,
     input: "mkdir /d\n",
     said: "ok\n",
     asked: &[ONE_FILE],
 };
 
-/// Lives over files that aren't opened on that commit, for this fault, and gives them back.
+/// Lives over files that aren't opened so on that commit, for this fault, and gives them back.
 pub(crate) fn check_refused(
     rt: &impl Abort,
     alloc: Global,
     files: Stored,
-    root: Sample,
+    base: (Sample, Opening),
     fault: OpenFault,
 ) -> Stored {
+    let (root, opening) = base;
     let life = Life {
         root,
+        opening,
         said: "",
         asked: &[],
         ..FIRST
@@ -46,7 +49,7 @@ fn files_of_another_commit_are_refused(rt: HostRuntime) {
     let alloc = rt.alloc();
     let files = closed(&rt, alloc, MemoryFiles::new(alloc), &FIRST);
     let fault = OpenFault::OtherRoot(ONE_FILE.id);
-    let mut files = check_refused(&rt, alloc, files, TWO_FILES, fault);
+    let mut files = check_refused(&rt, alloc, files, (TWO_FILES, Opening::Closed), fault);
     assert!(rt; are_there(alloc, &mut files, &[(0, 92), (1, 119), (3, 68)]));
 }
 
@@ -74,7 +77,7 @@ fn check_damage(rt: &impl Abort, alloc: Global, damage: Damage) {
     let mut files = closed(rt, alloc, MemoryFiles::new(alloc), &FIRST);
     assert!(rt; files.replace(alloc, 0, damage.state).is_ok());
     let fault = OpenFault::Damaged(0, damage.refusal);
-    let mut files = check_refused(rt, alloc, files, ONE_FILE, fault);
+    let mut files = check_refused(rt, alloc, files, (ONE_FILE, Opening::Closed), fault);
     assert!(rt; are_there(alloc, &mut files, damage.files));
 }
 

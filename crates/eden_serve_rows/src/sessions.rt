@@ -1,6 +1,7 @@
 //! Sessions over no files.
 use crate::lives::{Life, closed, ending};
 use crate::objects::Asked;
+use eden_checkout::Opening;
 use eden_overlay::MemoryFiles;
 use eden_samples::Sample;
 use eden_serve::Backing;
@@ -15,6 +16,7 @@ fn life(session: Session) -> Life {
     let (root, input, said, asked) = session;
     Life {
         root,
+        opening: Opening::Closed,
         history: 1_000,
         input,
         said,

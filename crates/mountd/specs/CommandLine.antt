@@ -1,9 +1,10 @@
 -- What the program's command line says.
-use Rattle.std.specs.Prelude.{◌≡◌, ◌↔◌, ◌^◌, ⊤, IsTrue, List, [], ◌∷◌, Option, Some, None, is_some, codes, option_map, string_bytes}
+use Rattle.std.specs.Prelude.{◌≡◌, ◌↔◌, ◌^◌, ⊤, List, [], ◌∷◌, Option, Some, None, is_some, codes, option_map, string_bytes}
 use Rattle.clap.specs.Kinds.{IsAmong}
 use Rattle.clap.specs.Words.{App, Text, fault_of, kind_of, subcommand_of}
 use Rattle.hex.specs.Hex.{encode_lower}
 use Rattle.eden_object.specs.IdText.{IsIdText}
+use Rattle.eden_checkout.specs.declared.opening.Opening.TheVariants as opening
 use Rattle.eden_mount.specs.Settings.{Settings}
 use Rattle.mountd.specs.Grammar.{LineOption, Subcommand, flag, optional, program, required, value_in}
 use Rattle.mountd.specs.Numbers.{GivesNumber, IsNoNumber, SaysNumber, number_name}
@@ -87,7 +88,7 @@ pub record IsAsked (value : Text → Option Text) (options : StdioOptions) : Typ
   pub root : value (codes "root") ≡ Some (encode_lower options.root.bytes)
   pub objects : SaysObjects value options.objects
   pub overlay : value (codes "overlay") ≡ option_map string_bytes options.overlay
-  pub rescan : IsTrue options.rescan ↔ IsGiven value (codes "rescan")
+  pub opening : (options.opening ≡ opening.Rescan) ↔ IsGiven value (codes "rescan")
   pub limits : SaysLimits value options.limits
 
 -- whose objects are to be served, and where, is what these values say

@@ -22,6 +22,8 @@ open_name (opens.OtherRoot root) = codes "OtherRoot"
 open_name (opens.Damaged number refusal) = codes "Damaged"
 open_name opens.Device = codes "Device"
 open_name opens.Memory = codes "Memory"
+open_name (opens.Dangling number) = codes "Dangling"
+open_name (opens.Twice number) = codes "Twice"
 
 -- .. of why the folder isn't held
 abbrev pub hold_name : HoldFault → List ℕ

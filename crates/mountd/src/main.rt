@@ -10,11 +10,11 @@ mod server;
 mod tests;
 
 use eden_importer::{ImportFault, Progress, Store};
-use eden_model::{Id, Outside};
+use eden_model::Outside;
 use eden_mount::Config;
 use eden_overlay::{Files, FolderFiles, MemoryFiles};
 use eden_remote::SocketSource;
-use eden_serve::{Backing, live};
+use eden_serve::{Backing, Base, live};
 use eden_source::{FolderSource, Source};
 use hold::hold;
 use options::{Command, ImportOptions, Objects, StdioOptions, options};
@@ -39,7 +39,7 @@ fn words(rt: &(impl Env + Alloc<A = Global>)) -> io::Result<Vec<String>> {
 /// Serves one session over standard input and output, on a mount over these files and objects.
 fn serve<F: Files<Outside>, S: Source<Outside> + Drop>(
     rt: &HostRuntime,
-    root: Id,
+    base: Base,
     limits: &Config,
     backing: Backing<F, S>,
 ) -> ExitCode {
@@ -50,7 +50,7 @@ fn serve<F: Files<Outside>, S: Source<Outside> + Drop>(
         memory,
         memory,
         backing,
-        root,
+        base,
         limits,
         &mut reader,
         &mut writer,
@@ -63,18 +63,20 @@ fn serve_files<F: Files<Outside>>(rt: &HostRuntime, options: StdioOptions, files
     let StdioOptions {
         root,
         objects,
+        opening,
         limits,
         ..
     } = options;
+    let base = Base { root, opening };
     match objects {
         Objects::Folder(folder) => {
             let source = FolderSource::new(*rt, PathBuf::from(folder));
-            serve(rt, root, &limits, Backing { files, source })
+            serve(rt, base, &limits, Backing { files, source })
         }
         Objects::Port(port) => {
             let patience = Duration::from_secs(PATIENCE);
             let source = SocketSource::new(rt.alloc(), *rt, port, patience);
-            serve(rt, root, &limits, Backing { files, source })
+            serve(rt, base, &limits, Backing { files, source })
         }
     }
 }

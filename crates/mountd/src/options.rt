@@ -11,6 +11,7 @@ ghost use Rattle.mountd.specs.declared.options.OptionsError.TheVariants as error
 use crate::numbers::NumberOption;
 use clap::error::ErrorKind;
 use clap::{Arg, ArgAction, ArgMatches};
+use eden_checkout::Opening;
 use eden_model::Id;
 use eden_mount::Config;
 use eden_object::parse_id;
@@ -54,8 +55,8 @@ pub struct StdioOptions {
     pub objects: Objects,
     /// The folder that keeps the changes, where they are not to stay in memory alone.
     pub overlay: Option<String>,
-    /// Whether they are looked through at the opening, as after a kill.
-    pub rescan: bool,
+    /// How the changes are opened.
+    pub opening: Opening,
     /// The limits of the mount, which has one caller.
     pub limits: Config,
 }
@@ -152,13 +153,13 @@ fn stdio_options(alloc: Global, given: &ArgMatches) -> Result<StdioOptions, Opti
     let root = parse_id(root).ok_or(OptionsError::Root)?;
     let objects = objects_of(alloc, given)?;
     let overlay = overlay(alloc, given)?;
-    let rescan = is_given(given, "rescan");
+    let opening = opening(given);
     let limits = limits(given)?;
     Ok(StdioOptions {
         root,
         objects,
         overlay,
-        rescan,
+        opening,
         limits,
     })
 }
@@ -217,6 +218,17 @@ fn overlay(alloc: Global, given: &ArgMatches) -> Result<Option<String>, AllocErr
     match given.get_str("overlay") {
         Some(folder) => Ok(Some(String::from_str(alloc, folder)?)),
         None => Ok(None),
+    }
+}
+
+/// How an overlay is to be opened.
+fn opening(given: &ArgMatches) -> Opening
+    ensures { (result ≡ Opening.Rescan) ↔ IsGiven (first_value (found_of given.now)) (codes "rescan") }
+{
+    if is_given(given, "rescan") {
+        Opening::Rescan
+    } else {
+        Opening::Closed
     }
 }
 

@@ -106,6 +106,8 @@ fn open_name(fault: OpenFault) -> &'static str
         OpenFault::Damaged(_, _) => "Damaged",
         OpenFault::Device => "Device",
         OpenFault::Memory => "Memory",
+        OpenFault::Dangling(_) => "Dangling",
+        OpenFault::Twice(_) => "Twice",
     }
 }
 

@@ -1,5 +1,6 @@
 //! What no clause says: that a good line is taken, and the texts of refusals.
 use crate::options::{Command, Objects, StdioOptions, options};
+use eden_checkout::Opening;
 use std::alloc::{AllocError, Global};
 use std::process::Abort;
 use std::test::Fail;
@@ -46,7 +47,7 @@ fn takes_a_good_line(rt: HostRuntime) -> Result<(), Fail> {
     assert!(rt; given.root.bytes == ROOT_BYTES);
     assert!(rt; matches!(&given.objects, Objects::Folder(folder) if folder.as_str() == FOLDER));
     assert!(rt; given.overlay.is_none());
-    assert!(rt; !given.rescan);
+    assert!(rt; given.opening == Opening::Closed);
     assert!(rt; given.limits.history() == 1_000_000);
     assert!(rt; given.limits.entries() == 1024);
     assert!(rt; given.limits.bytes() == 1 << 28);
@@ -60,7 +61,7 @@ fn takes_a_line_with_all_options(rt: HostRuntime) -> Result<(), Fail> {
     assert!(rt; matches!(&given.objects, Objects::Folder(folder) if folder.as_str() == FOLDER));
     let overlay = given.overlay.ok_or("no overlay")?;
     assert!(rt; overlay.as_str() == "changes");
-    assert!(rt; given.rescan);
+    assert!(rt; given.opening == Opening::Rescan);
     assert!(rt; given.limits.history() == 1);
     assert!(rt; given.limits.entries() == 65_536);
     assert!(rt; given.limits.bytes() == 1 << 40);

@@ -4,6 +4,7 @@ use Rattle.eden_overlay.proofs.Contents.{contents_stay}
 use Rattle.eden_overlay.proofs.Directories.{dropped_stay, dropped_unnamed}
 use Rattle.eden_overlay.proofs.Entering.{added_stay, entered_stay}
 use Rattle.eden_overlay.proofs.Moving.{renamed_stay, moved_stay}
+use Rattle.eden_overlay.proofs.Accusing.{accused_unsound}
 use Rattle.eden_overlay.proofs.laws.overlay_laws.Goals as goal
 
 pub returns-clause-contents_held : goal.returns-clause-contents_held
@@ -47,3 +48,6 @@ returns-clause-moved c = moved_stay
 
 pub returns-clause-state : goal.returns-clause-state
 returns-clause-state c = state_stays
+
+pub returns-clause-accused : goal.returns-clause-accused
+returns-clause-accused c = accused_unsound

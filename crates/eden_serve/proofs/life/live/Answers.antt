@@ -24,12 +24,12 @@ returns-in-Ok g c =
     let x = c.serve_table-served.result in
     let s = c.serve_table-served.ensures in
     let table : s.begun.core.table ≡ c.in-Ok.table = ap (λ (m : Core _). m.table) s.begins.core in
-    let root : s.ended.core.table.root ≡ c.args.root = s.stays.commit ∙ ap (λ (t : Checkout _). t.root) table ∙ c.in-Ok.ensures.opened.commit in
-    let whole : IsLived w f g.S.Source.fetched c.args.root settings c.args.backing input output left = record {
+    let root : s.ended.core.table.root ≡ c.args.base.root = s.stays.commit ∙ ap (λ (t : Checkout _). t.root) table ∙ c.in-Ok.ensures.opened.commit in
+    let whole : IsLived w f g.S.Source.fetched c.args.base settings c.args.backing input output left = record {
       begun = s.begun;
       begins = subst (λ (r : Room). Begins r s.begun.core.table c.args.backing.source s.begun) c.in-Ok.ensures.room
           (subst (λ (t : Checkout _). Begins c.in-Ok.room t c.args.backing.source s.begun) (sym table) s.begins);
-      opened = subst (λ (t : Checkout _). IsOpened w f c.args.root settings c.args.backing.files t) (sym table) c.in-Ok.ensures.opened;
+      opened = subst (λ (t : Checkout _). IsOpened w f c.args.base settings c.args.backing.files t) (sym table) c.in-Ok.ensures.opened;
       ended = s.ended;
       said = x.said;
       session = s.session;
@@ -37,10 +37,10 @@ returns-in-Ok g c =
       stays = s.stays;
       legal = s.legal;
       ends = record {
-        files = closes_after w f c.args.root x.table s.ended.core.table (replay w.opening s.ended.core.history) s.table root s.shown left.unclosed left.backing.files c.end.ensures.files;
+        files = closes_after w f c.args.base.root x.table s.ended.core.table (replay w.opening s.ended.core.history) s.table root s.shown left.unclosed left.backing.files c.end.ensures.files;
         source_left = c.end.ensures.source_left ∙ s.source;
         told = c.end.ensures.told;
       };
     } in
-    subst (λ (o : Result (Unit {0}) LifeFault). LivesBy w f g.S.Source.fetched o c.args.root settings c.args.backing input output left) (sym c.end.ensures.told)
-    (lived w f g.S.Source.fetched c.args.root settings c.args.backing input output left x.said left.unclosed whole)
+    subst (λ (o : Result (Unit {0}) LifeFault). LivesBy w f g.S.Source.fetched o c.args.base settings c.args.backing input output left) (sym c.end.ensures.told)
+    (lived w f g.S.Source.fetched c.args.base settings c.args.backing input output left x.said left.unclosed whole)

@@ -1,0 +1,13 @@
+use Rattle.std.proofs.Common.{sym, subst}
+use Rattle.eden_checkout.specs.declared.fault.OpenFault.{OpenFault}
+use Rattle.eden_checkout.specs.Opening.{IsRescanRefusal}
+use Rattle.eden_checkout.proofs.Opened.{rescan_refused}
+use Rattle.eden_checkout.proofs.opening.rescanned.Goals as goal
+
+pub returns-in-Err-clause-refused : goal.returns-in-Err-clause-refused
+returns-in-Err-clause-refused g c =
+    let F = g.F.Files.stored c.args.overlay.now in
+    let old = g.F.Files.failures c.args.overlay.now in
+    let new = g.F.Files.failures c.rescan.new.self in
+    subst (λ (e : OpenFault). IsRescanRefusal g.W.World.honest F old new e) (sym c.from.ensures)
+    (rescan_refused g.W.World.honest F old new c.in-Err.fault c.in-Err.ensures.refused)
