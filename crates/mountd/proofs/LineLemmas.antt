@@ -18,7 +18,7 @@ use Rattle.clap.specs.Faults.{fault_of}
 use Rattle.clap.specs.Values.{kind_of}
 use Rattle.clap.specs.declared.error.Error.{Error}
 use Rattle.clap.specs.declared.error.kind.ErrorKind.TheVariants.{OutOfMemory}
-use Rattle.mountd.specs.CommandLine.{IsTaken, Refuses, RefusesValues, import, mountd_line, named, stdio, subcommands, value_of}
+use Rattle.mountd.specs.CommandLine.{IsTaken, Refuses, RefusesNumbers, RefusesValues, import, mountd_line, named, objects, stdio, subcommands, value_of}
 use Rattle.mountd.specs.Grammar.{HasRequired, value_in}
 use Rattle.mountd.specs.declared.options.OptionsError.{OptionsError}
 use Rattle.mountd.specs.declared.options.OptionsError.TheVariants as error
@@ -67,14 +67,30 @@ same_rows a o rows more e f =
     let both : Some (a, rows) ≡ Some (a, more) = sym e ∙ f in
     ap rows_or both
 
+named_by : (m : ArgMatches) (words : List Text) (name : Text) (found : List Row) → subcommand_rows_of m ≡ subcommand_of mountd_line words
+    → subcommand_of mountd_line words ≡ Some (name, found) → subcommand_name_of m ≡ Some name
+named_by m words name found rows met = name_of_rows m ∙ ap (option_map (λ p. p.0)) (rows ∙ met)
+
 -- what `stdio` requires is there, where it was met
 pub stdio-required : (words : List Text) (f : Found) → IsTaken words → subcommand_of mountd_line words ≡ Some (stdio.0, rows_of f)
     → HasRequired stdio.1 (rows_of f)
 stdio-required words f taken met =
     elim (Meets-taken (codes "mountd") subcommands words taken) [
       | inl is ↦ subst (HasRequired stdio.1) (same_rows stdio.0 (subcommand_of mountd_line words) is.0 (rows_of f) is.1 met) is.2
-      | inr (inl is) ↦ absurd (other_name stdio.0 import.0 (subcommand_of mountd_line words) (rows_of f) is.0 refl met is.1)
-      | inr (inr none) ↦ absurd none
+      | inr (inl is) ↦ absurd (other_name stdio.0 objects.0 (subcommand_of mountd_line words) (rows_of f) is.0 refl met is.1)
+      | inr (inr (inl is)) ↦ absurd (other_name stdio.0 import.0 (subcommand_of mountd_line words) (rows_of f) is.0 refl met is.1)
+      | inr (inr (inr none)) ↦ absurd none
+    ]
+
+-- .. and `objects`
+pub objects-required : (words : List Text) (f : Found) → IsTaken words → subcommand_of mountd_line words ≡ Some (objects.0, rows_of f)
+    → HasRequired objects.1 (rows_of f)
+objects-required words f taken met =
+    elim (Meets-taken (codes "mountd") subcommands words taken) [
+      | inl is ↦ absurd (other_name objects.0 stdio.0 (subcommand_of mountd_line words) (rows_of f) is.0 refl met is.1)
+      | inr (inl is) ↦ subst (HasRequired objects.1) (same_rows objects.0 (subcommand_of mountd_line words) is.0 (rows_of f) is.1 met) is.2
+      | inr (inr (inl is)) ↦ absurd (other_name objects.0 import.0 (subcommand_of mountd_line words) (rows_of f) is.0 refl met is.1)
+      | inr (inr (inr none)) ↦ absurd none
     ]
 
 -- .. and `import`
@@ -83,18 +99,21 @@ pub import-required : (words : List Text) (f : Found) → IsTaken words → subc
 import-required words f taken met =
     elim (Meets-taken (codes "mountd") subcommands words taken) [
       | inl is ↦ absurd (other_name import.0 stdio.0 (subcommand_of mountd_line words) (rows_of f) is.0 refl met is.1)
-      | inr (inl is) ↦ subst (HasRequired import.1) (same_rows import.0 (subcommand_of mountd_line words) is.0 (rows_of f) is.1 met) is.2
-      | inr (inr none) ↦ absurd none
+      | inr (inl is) ↦ absurd (other_name import.0 objects.0 (subcommand_of mountd_line words) (rows_of f) is.0 refl met is.1)
+      | inr (inr (inl is)) ↦ subst (HasRequired import.1) (same_rows import.0 (subcommand_of mountd_line words) is.0 (rows_of f) is.1 met) is.2
+      | inr (inr (inr none)) ↦ absurd none
     ]
 
--- what isn't `stdio` is `import`
+-- what is neither `stdio` nor `objects` is `import`
 pub import-named : (words : List Text) (m : ArgMatches) → IsTaken words → subcommand_rows_of m ≡ subcommand_of mountd_line words
-    → (subcommand_name_of m ≡ Some stdio.0 → false ≡ true) → subcommand_name_of m ≡ Some import.0
-import-named words m taken rows other =
+    → (subcommand_name_of m ≡ Some stdio.0 → false ≡ true) → (subcommand_name_of m ≡ Some objects.0 → false ≡ true)
+    → subcommand_name_of m ≡ Some import.0
+import-named words m taken rows no_stdio no_objects =
     elim (Meets-taken (codes "mountd") subcommands words taken) [
-      | inl is ↦ absurd (true≢false (sym (other (name_of_rows m ∙ ap (option_map (λ p. p.0)) (rows ∙ is.1)))))
-      | inr (inl is) ↦ name_of_rows m ∙ ap (option_map (λ p. p.0)) (rows ∙ is.1)
-      | inr (inr none) ↦ absurd none
+      | inl is ↦ absurd (true≢false (sym (no_stdio (named_by m words stdio.0 is.0 rows is.1))))
+      | inr (inl is) ↦ absurd (true≢false (sym (no_objects (named_by m words objects.0 is.0 rows is.1))))
+      | inr (inr (inl is)) ↦ named_by m words import.0 is.0 rows is.1
+      | inr (inr (inr none)) ↦ absurd none
     ]
 
 pub named-met : (words : List Text) (f : Found) (name : Text) → subcommand_of mountd_line words ≡ Some (name, rows_of f) → named words ≡ Some name
@@ -108,15 +127,29 @@ by_words P words f name met h =
     first_value-rows f option ∙ sym (ap (λ (o : Option (Text × List Row)). value_in o option) met)) in
     subst P same h
 
--- a value that is refused
-pub values_refuse : (words : List Text) (f : Found) (name : Text) (why : OptionsError) → IsTaken words
-    → subcommand_of mountd_line words ≡ Some (name, rows_of f) → RefusesValues (first_value f) why → Refuses words why
-values_refuse words f name why taken met refused =
-    by_fault why (by_words (λ value. RefusesValues value why) words f name met refused)
+-- values that `stdio` refuses
+pub values_refuse : (words : List Text) (f : Found) (why : OptionsError) → IsTaken words
+    → subcommand_of mountd_line words ≡ Some (stdio.0, rows_of f) → RefusesValues (first_value f) why → Refuses words why
+values_refuse words f why taken met refused =
+    by_fault why (by_words (λ value. RefusesValues value why) words f stdio.0 met refused)
   where
     by_fault : (e : OptionsError) → RefusesValues (value_of words) e → Refuses words e
     by_fault (error.Refused reason) why = absurd why
     by_fault error.Root why = (taken, why)
+    by_fault error.Source why = (taken, named-met words f stdio.0 met, why)
+    by_fault (error.Number option) why = (taken, why)
+    by_fault error.Memory why = tt
+
+-- .. and `objects`
+pub numbers_refuse : (words : List Text) (f : Found) (why : OptionsError) → IsTaken words
+    → subcommand_of mountd_line words ≡ Some (objects.0, rows_of f) → RefusesNumbers (first_value f) why → Refuses words why
+numbers_refuse words f why taken met refused =
+    by_fault why (by_words (λ value. RefusesNumbers value why) words f objects.0 met refused)
+  where
+    by_fault : (e : OptionsError) → RefusesNumbers (value_of words) e → Refuses words e
+    by_fault (error.Refused reason) why = absurd why
+    by_fault error.Root why = absurd why
+    by_fault error.Source why = absurd why
     by_fault (error.Number option) why = (taken, why)
     by_fault error.Memory why = tt
 

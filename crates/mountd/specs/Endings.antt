@@ -7,8 +7,13 @@ use Rattle.eden_checkout.specs.declared.fault.OpenFault.TheVariants as opens
 use Rattle.eden_serve.specs.declared.fault.LifeFault.{LifeFault}
 use Rattle.eden_serve.specs.declared.fault.LifeFault.TheVariants as life
 use Rattle.eden_importer.specs.declared.fault.ImportFault.{ImportFault}
+use Rattle.eden_remote.specs.declared.fault.AnswerFault.{AnswerFault}
 use Rattle.mountd.specs.declared.hold.HoldFault.{HoldFault}
 use Rattle.mountd.specs.declared.hold.HoldFault.TheVariants as hold
+use Rattle.mountd.specs.declared.server.ListenFault.{ListenFault}
+use Rattle.mountd.specs.declared.server.ListenFault.TheVariants as listen
+use Rattle.mountd.specs.declared.server.ServerFault.{ServerFault}
+use Rattle.mountd.specs.declared.server.ServerFault.TheVariants as server
 
 -- the name of why the overlay wasn't opened
 abbrev pub open_name : OpenFault → List ℕ
@@ -26,6 +31,11 @@ hold_name hold.Locked = codes "Locked"
 hold_name hold.Device = codes "Device"
 hold_name hold.Memory = codes "Memory"
 
+-- .. of why a connection isn't taken
+abbrev pub listen_name : ListenFault → List ℕ
+listen_name listen.Device = codes "Device"
+listen_name listen.Memory = codes "Memory"
+
 -- .. of why it wasn't closed
 abbrev pub close_name : FilesFault → List ℕ
 close_name files.Device = codes "Device"
@@ -37,6 +47,16 @@ status_of (Ok _) = 0
 status_of (Err (life.Open fault)) = 3
 status_of (Err (life.Session fault)) = 4
 status_of (Err (life.Close fault)) = 4
+
+-- .. and of a server of objects; how it ended, by how its connections were taken and served
+abbrev pub server_status : Result ⊤ ServerFault → ℕ
+server_status (Ok _) = 0
+server_status (Err fault) = 4
+
+abbrev pub first_fault : Result ⊤ ListenFault → Result ⊤ AnswerFault → Result ⊤ ServerFault
+first_fault (Err fault) served = Err (server.Listen fault)
+first_fault (Ok _) (Err fault) = Err (server.Session fault)
+first_fault (Ok _) (Ok _) = Ok tt
 
 -- .. and of an import
 abbrev pub import_status : Result ⊤ ImportFault → ℕ

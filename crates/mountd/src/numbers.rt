@@ -1,11 +1,11 @@
 //! Options that take a number.
 ghost use Rattle.std.specs.Prelude.{◌≡◌, ◌≤◌, MatchOption};
-ghost use Rattle.mountd.specs.Numbers.{IsNoNumber, IsNumber, default_of, most_of, number_name};
+ghost use Rattle.mountd.specs.Numbers.{IsNoNumber, IsNumber, least_of, most_of, number_name};
 
 use eden_wire::read_number;
 use std::fmt::{self, Display, Formatter, Write};
 
-/// An option whose value is a number, of at least 1.
+/// An option whose value is a number.
 #[derive(Clone, Copy, Debug)]
 pub enum NumberOption {
     /// How many entries the history holds.
@@ -14,6 +14,12 @@ pub enum NumberOption {
     CacheEntries,
     /// How many bytes the cache's objects have together.
     CacheBytes,
+    /// The port of the server that objects are asked of.
+    Remote,
+    /// The port of a server of objects; 0 lets the machine choose one.
+    Port,
+    /// How many connections a server of objects takes.
+    Sessions,
 }
 
 impl NumberOption {
@@ -25,6 +31,23 @@ impl NumberOption {
             NumberOption::History => "history",
             NumberOption::CacheEntries => "cache-entries",
             NumberOption::CacheBytes => "cache-bytes",
+            NumberOption::Remote => "remote",
+            NumberOption::Port => "port",
+            NumberOption::Sessions => "sessions",
+        }
+    }
+
+    /// The least number that it takes.
+    pub fn least(self) -> u64
+        ensures { result ≡ least_of self }
+    {
+        match self {
+            NumberOption::Port => 0,
+            NumberOption::History
+            | NumberOption::CacheEntries
+            | NumberOption::CacheBytes
+            | NumberOption::Remote
+            | NumberOption::Sessions => 1,
         }
     }
 
@@ -36,17 +59,8 @@ impl NumberOption {
             NumberOption::History => u32::MAX as u64,
             NumberOption::CacheEntries => 65_536,
             NumberOption::CacheBytes => 1 << 40,
-        }
-    }
-
-    /// The number where the option isn't given.
-    pub fn default(self) -> u64
-        ensures { result ≡ default_of self }
-    {
-        match self {
-            NumberOption::History => 1_000_000,
-            NumberOption::CacheEntries => 1_024,
-            NumberOption::CacheBytes => 1 << 28,
+            NumberOption::Remote | NumberOption::Port => u16::MAX as u64,
+            NumberOption::Sessions => 64,
         }
     }
 
@@ -57,7 +71,7 @@ impl NumberOption {
         ensures { MatchOption result (IsNoNumber self text.now) (IsNumber self text.now) }
     {
         let number = read_number(text.as_bytes())?;
-        if number == 0 || number > self.most() {
+        if number < self.least() || number > self.most() {
             return None;
         }
         Some(number)
@@ -69,8 +83,9 @@ impl Display for NumberOption {
     fn fmt<W: Write>(&self, f: &mut Formatter<W>) -> fmt::Result {
         write!(
             f,
-            "--{} takes a number from 1 to {}",
+            "--{} takes a number from {} to {}",
             self.name(),
+            self.least(),
             self.most()
         )
     }

@@ -3,14 +3,15 @@ ghost use Rattle.std.specs.Prelude.{◌≡◌, ◌≤◌, ◌⊎◌, ◌↔◌, 
 ghost use Rattle.clap.specs.declared.builder.command.Command.TheViews.{out-Command as fields_of};
 ghost use Rattle.clap.specs.declared.error.kind.ErrorKind.TheVariants.{OutOfMemory};
 ghost use Rattle.clap.specs.Words.{app_of, first_value, found_of, kind_of, rows_of, rule_of, shape_of, subcommand_of, subcommand_rows_of};
-ghost use Rattle.mountd.specs.CommandLine.{AsksFor, IsAsked, IsGiven, IsImport, IsTaken, Refuses, RefusesValues, SaysLimits, import, import_options, mount_options, mountd_line, stdio, stdio_options};
+ghost use Rattle.mountd.specs.CommandLine.{AreServed, AsksFor, IsAsked, IsGiven, IsImport, IsTaken, Refuses, RefusesNumber, RefusesNumbers, RefusesValues, SaysLimits, SaysObjects, import, import_options, mount_options, mountd_line, objects, objects_options, stdio, stdio_options};
 ghost use Rattle.mountd.specs.Grammar.{HasRequired, flag, option_rule, optional, required, subcommand_shape, with_options};
-ghost use Rattle.mountd.specs.Numbers.{IsNoNumber, SaysNumber, most_of, number_name};
+ghost use Rattle.mountd.specs.Numbers.{IsNoNumber, IsNumber, SaysNumber, least_of, most_of, number_name};
 ghost use Rattle.mountd.specs.declared.options.OptionsError.TheVariants as error;
 
 use crate::numbers::NumberOption;
 use clap::error::ErrorKind;
 use clap::{Arg, ArgAction, ArgMatches};
+use eden_checkout::Opening;
 use eden_model::Id;
 use eden_mount::Config;
 use eden_object::parse_id;
@@ -21,22 +22,54 @@ use thiserror::Error;
 /// How many objects may be asked for at once.
 const FLIGHTS: u32 = 16;
 
+/// How many entries the history holds, where it isn't said.
+const HISTORY: u64 = 1_000_000;
+
+/// How many objects the cache holds, where it isn't said.
+const CACHE_ENTRIES: u64 = 1_024;
+
+/// How many bytes the cache's objects have together, where it isn't said.
+const CACHE_BYTES: u64 = 1 << 28;
+
+/// How many connections a server of objects takes, where it isn't said.
+const SESSIONS: u64 = 2;
+
 /// How many lengths of contents are kept.
 const SIZES: usize = 65_536;
+
+/// Where the objects of a mount come from.
+#[derive(Debug, Drop)]
+pub enum Objects {
+    /// The folder that they lie in.
+    Folder(String),
+    /// The port of a server of this machine.
+    Port(u16),
+}
 
 /// What `mountd stdio` is asked to serve.
 #[derive(Debug, Drop)]
 pub struct StdioOptions {
     /// The root directory's tree.
     pub root: Id,
-    /// The folder that the objects lie in.
-    pub objects: String,
+    /// Where the objects come from.
+    pub objects: Objects,
     /// The folder that keeps the changes, where they are not to stay in memory alone.
     pub overlay: Option<String>,
-    /// Whether they are looked through at the opening, as after a kill.
-    pub rescan: bool,
+    /// How the changes are opened.
+    pub opening: Opening,
     /// The limits of the mount, which has one caller.
     pub limits: Config,
+}
+
+/// Whose objects `mountd objects` is asked to serve, and where.
+#[derive(Debug, Drop)]
+pub struct ObjectsOptions {
+    /// The folder that the objects lie in.
+    pub folder: String,
+    /// The port, or 0 for one that the machine chooses.
+    pub port: u16,
+    /// How many connections are served.
+    pub sessions: u32,
 }
 
 /// What `mountd import` is asked to import.
@@ -52,6 +85,7 @@ pub struct ImportOptions {
 #[derive(Debug, Drop)]
 pub enum Command {
     Stdio(StdioOptions),
+    Objects(ObjectsOptions),
     Import(ImportOptions),
 }
 
@@ -64,6 +98,9 @@ pub enum OptionsError {
     /// The value of `--root` is no id.
     #[error("mountd: --root takes 40 lower-case hexadecimal digits")]
     Root,
+    /// `stdio` is given neither or both of what objects may come from.
+    #[error("mountd: stdio takes one of --objects and --remote")]
+    Source,
     /// The value of this option is no number that it takes.
     #[error("mountd: {0}")]
     Number(NumberOption),
@@ -79,6 +116,14 @@ impl From<AllocError> for OptionsError {
     }
 }
 
+impl From<NumberOption> for OptionsError {
+    ghost from_gives = { λ option e. e ≡ error.Number option };
+
+    fn from(option: NumberOption) -> OptionsError {
+        OptionsError::Number(option)
+    }
+}
+
 /// Reads the command line, of which the first word is the program's name.
 ///
 /// `Memory` may come at any words.
@@ -91,6 +136,9 @@ pub fn options<S: AsStr>(alloc: Global, words: &[S]) -> Result<Command, OptionsE
     if let Some(given) = matches.subcommand_matches("stdio") {
         return Ok(Command::Stdio(stdio_options(alloc, given)?));
     }
+    if let Some(given) = matches.subcommand_matches("objects") {
+        return Ok(Command::Objects(objects_options(alloc, given)?));
+    }
     // `clap` has seen that one of the subcommands is there.
     let given = matches.subcommand_matches("import").unwrap();
     Ok(Command::Import(import_options(alloc, given)?))
@@ -102,18 +150,52 @@ fn stdio_options(alloc: Global, given: &ArgMatches) -> Result<StdioOptions, Opti
     ensures err { IfErr result (RefusesValues (first_value (found_of given.now))) }
 {
     let root = given.get_str("root").unwrap();
-    let objects = given.get_str("objects").unwrap();
     let root = parse_id(root).ok_or(OptionsError::Root)?;
-    let objects = String::from_str(alloc, objects)?;
+    let objects = objects_of(alloc, given)?;
     let overlay = overlay(alloc, given)?;
-    let rescan = is_given(given, "rescan");
+    let opening = opening(given);
     let limits = limits(given)?;
     Ok(StdioOptions {
         root,
         objects,
         overlay,
-        rescan,
+        opening,
         limits,
+    })
+}
+
+/// Where the objects come from.
+fn objects_of(alloc: Global, given: &ArgMatches) -> Result<Objects, OptionsError>
+    ensures ok { IfOk result (SaysObjects (first_value (found_of given.now))) }
+    ensures err { IfErr result (RefusesValues (first_value (found_of given.now))) }
+{
+    let port = given.get_str("remote");
+    match given.get_str("objects") {
+        Some(folder) => match port {
+            Some(_) => Err(OptionsError::Source),
+            None => Ok(Objects::Folder(String::from_str(alloc, folder)?)),
+        },
+        None => match port {
+            Some(text) => Ok(Objects::Port(read(text, NumberOption::Remote)? as u16)),
+            None => Err(OptionsError::Source),
+        },
+    }
+}
+
+fn objects_options(alloc: Global, given: &ArgMatches) -> Result<ObjectsOptions, OptionsError>
+    requires { HasRequired objects_options (rows_of (found_of given.now)) }
+    ensures ok { IfOk result (AreServed (first_value (found_of given.now))) }
+    ensures err { IfErr result (RefusesNumbers (first_value (found_of given.now))) }
+{
+    let folder = given.get_str("dir").unwrap();
+    let port = given.get_str("port").unwrap();
+    let folder = String::from_str(alloc, folder)?;
+    let port = read(port, NumberOption::Port)? as u16;
+    let sessions = number(given, NumberOption::Sessions, SESSIONS)? as u32;
+    Ok(ObjectsOptions {
+        folder,
+        port,
+        sessions,
     })
 }
 
@@ -139,6 +221,17 @@ fn overlay(alloc: Global, given: &ArgMatches) -> Result<Option<String>, AllocErr
     }
 }
 
+/// How an overlay is to be opened.
+fn opening(given: &ArgMatches) -> Opening
+    ensures { (result ≡ Opening.Rescan) ↔ IsGiven (first_value (found_of given.now)) (codes "rescan") }
+{
+    if is_given(given, "rescan") {
+        Opening::Rescan
+    } else {
+        Opening::Closed
+    }
+}
+
 /// Whether the flag of this name is given.
 fn is_given(given: &ArgMatches, name: &str) -> bool
     ensures { IsTrue result ↔ IsGiven (first_value (found_of given.now)) name.now }
@@ -147,29 +240,44 @@ fn is_given(given: &ArgMatches, name: &str) -> bool
 }
 
 /// The limits of a mount with one caller.
-fn limits(given: &ArgMatches) -> Result<Config, OptionsError>
+fn limits(given: &ArgMatches) -> Result<Config, NumberOption>
     ensures ok { IfOk result (SaysLimits (first_value (found_of given.now))) }
-    ensures err { IfErr result (RefusesValues (first_value (found_of given.now))) }
+    ensures err { IfErr result (RefusesNumber (first_value (found_of given.now))) }
 {
-    let history = number(given, NumberOption::History)? as u32;
-    let entries = number(given, NumberOption::CacheEntries)? as usize;
-    let bytes = number(given, NumberOption::CacheBytes)?;
+    let history = number(given, NumberOption::History, HISTORY)? as u32;
+    let entries = number(given, NumberOption::CacheEntries, CACHE_ENTRIES)? as usize;
+    let bytes = number(given, NumberOption::CacheBytes, CACHE_BYTES)?;
     // What an option takes, a mount takes.
     Ok(Config::new(1, FLIGHTS, history, entries, bytes, SIZES).unwrap())
 }
 
 /// The number that an option has: the one that is given, or its default.
-fn number(given: &ArgMatches, option: NumberOption) -> Result<u64, OptionsError>
-    ensures ok { IfOk result (SaysNumber option (first_value (found_of given.now) (number_name option))) }
-    ensures range { IfOk result (λ n. (1 ≤ n) × (n ≤ most_of option)) }
-    ensures err { IfErr result (RefusesValues (first_value (found_of given.now))) }
+///
+/// The error names the option, where its value is no number that it takes.
+fn number(given: &ArgMatches, option: NumberOption, default: u64) -> Result<u64, NumberOption>
+    requires { (least_of option ≤ default) × (default ≤ most_of option) }
+    ensures ok { IfOk result (SaysNumber option default (first_value (found_of given.now) (number_name option))) }
+    ensures range { IfOk result (λ n. (least_of option ≤ n) × (n ≤ most_of option)) }
+    ensures err { IfErr result (RefusesNumber (first_value (found_of given.now))) }
 {
     match given.get_str(option.name()) {
         Some(text) => match option.read(text) {
             Some(number) => Ok(number),
-            None => Err(OptionsError::Number(option)),
+            None => Err(option),
         },
-        None => Ok(option.default()),
+        None => Ok(default),
+    }
+}
+
+/// The number that the text spells for the option, or the option where it is none that it takes.
+fn read(text: &str, option: NumberOption) -> Result<u64, NumberOption>
+    ensures ok { IfOk result (IsNumber option text.now) }
+    ensures range { IfOk result (λ n. (least_of option ≤ n) × (n ≤ most_of option)) }
+    ensures err { IfErr result (λ refused. (refused ≡ option) × IsNoNumber option text.now) }
+{
+    match option.read(text) {
+        Some(number) => Ok(number),
+        None => Err(option),
     }
 }
 
@@ -202,12 +310,15 @@ fn command_line<'a>(alloc: Global) -> Result<clap::Command<'a>, AllocError>
     ensures { IfOk result (λ command. app_of command ≡ mountd_line) }
 {
     let stdio = stdio_line(alloc)?;
+    let objects = objects_line(alloc)?;
     let import = import_line(alloc)?;
-    clap::Command::new(alloc, "mountd")
+    let line = clap::Command::new(alloc, "mountd")
         .about("Answers requests on the files of a Git commit")
         .subcommand_required(true)
-        .subcommand(stdio)?
-        .subcommand(import)
+        .subcommand(stdio)?;
+    let line = line.subcommand(objects)?;
+    let line = line.subcommand(import)?;
+    Ok(line)
 }
 
 fn stdio_line<'a>(alloc: Global) -> Result<clap::Command<'a>, AllocError>
@@ -223,8 +334,34 @@ fn stdio_line<'a>(alloc: Global) -> Result<clap::Command<'a>, AllocError>
         ("root", "ID"),
         "The root directory's tree: 40 lower-case hexadecimal digits",
     )?;
-    let line = with_required(alloc, line, ("objects", "DIR"), "The folder of Git objects")?;
+    let line = with_optional(alloc, line, ("objects", "DIR"), "The folder of Git objects")?;
+    let line = with_optional(
+        alloc,
+        line,
+        ("remote", "PORT"),
+        "The port of a server of Git objects, in the place of --objects",
+    )?;
     with_mount_options(alloc, line)
+}
+
+fn objects_line<'a>(alloc: Global) -> Result<clap::Command<'a>, AllocError>
+    ensures shape { IfOk result (λ line. shape_of line ≡ subcommand_shape objects) }
+    ensures local { IfOk result (λ line. (fields_of line).has_globals ≡ false) }
+{
+    let line = clap::Command::new(alloc, "objects").about("Serves a folder of Git objects");
+    let line = with_required(alloc, line, ("dir", "DIR"), "The folder of Git objects")?;
+    let line = with_required(
+        alloc,
+        line,
+        ("port", "P"),
+        "The port of 127.0.0.1; 0 lets the machine choose",
+    )?;
+    with_optional(
+        alloc,
+        line,
+        ("sessions", "N"),
+        "How many connections are served [default: 2]",
+    )
 }
 
 fn import_line<'a>(alloc: Global) -> Result<clap::Command<'a>, AllocError>

@@ -3,9 +3,10 @@
 //! Where standard error can't be written, the status alone tells.
 ghost use Rattle.std.specs.Prelude.{◌≡◌};
 ghost use Rattle.std.specs.Process.{exit_status};
-ghost use Rattle.mountd.specs.Endings.{close_name, import_status, open_name, status_of};
+ghost use Rattle.mountd.specs.Endings.{close_name, import_status, open_name, server_status, status_of};
 
 use crate::options::OptionsError;
+use crate::server::ServerFault;
 use eden_checkout::OpenFault;
 use eden_importer::ImportFault;
 use eden_overlay::FilesFault;
@@ -60,6 +61,17 @@ pub fn ending<R: Eprint>(rt: &R, outcome: Result<(), LifeFault>) -> ExitCode
         Err(LifeFault::Open(fault)) => unopened(rt, open_name(fault)),
         Err(LifeFault::Session(fault)) => ended(rt, "session", fault.name()),
         Err(LifeFault::Close(fault)) => ended(rt, "close", close_name(fault)),
+    }
+}
+
+/// Tells how a server of objects ended, where it didn't end well. Status 0, or 4.
+pub fn server<R: Eprint>(rt: &R, outcome: Result<(), ServerFault>) -> ExitCode
+    ensures { exit_status result ≡ server_status outcome }
+{
+    match outcome {
+        Ok(()) => ExitCode::SUCCESS,
+        Err(ServerFault::Listen(fault)) => ended(rt, "listen", fault.name()),
+        Err(ServerFault::Session(fault)) => ended(rt, "session", fault.name()),
     }
 }
 

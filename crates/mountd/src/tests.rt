@@ -1,5 +1,6 @@
 //! What no clause says: that a good line is taken, and the texts of refusals.
-use crate::options::{Command, StdioOptions, options};
+use crate::options::{Command, Objects, StdioOptions, options};
+use eden_checkout::Opening;
 use std::alloc::{AllocError, Global};
 use std::process::Abort;
 use std::test::Fail;
@@ -36,7 +37,7 @@ const FULL: &[&str] = &[
 fn asked(alloc: Global, words: &[&str]) -> Result<StdioOptions, Fail> {
     match options(alloc, words)? {
         Command::Stdio(given) => Ok(given),
-        Command::Import(_) => Err(Fail::from("another command")),
+        Command::Objects(_) | Command::Import(_) => Err(Fail::from("another command")),
     }
 }
 
@@ -44,9 +45,9 @@ fn asked(alloc: Global, words: &[&str]) -> Result<StdioOptions, Fail> {
 fn takes_a_good_line(rt: HostRuntime) -> Result<(), Fail> {
     let given = asked(rt.alloc(), GOOD)?;
     assert!(rt; given.root.bytes == ROOT_BYTES);
-    assert!(rt; given.objects.as_str() == FOLDER);
+    assert!(rt; matches!(&given.objects, Objects::Folder(folder) if folder.as_str() == FOLDER));
     assert!(rt; given.overlay.is_none());
-    assert!(rt; !given.rescan);
+    assert!(rt; given.opening == Opening::Closed);
     assert!(rt; given.limits.history() == 1_000_000);
     assert!(rt; given.limits.entries() == 1024);
     assert!(rt; given.limits.bytes() == 1 << 28);
@@ -57,10 +58,10 @@ fn takes_a_good_line(rt: HostRuntime) -> Result<(), Fail> {
 fn takes_a_line_with_all_options(rt: HostRuntime) -> Result<(), Fail> {
     let given = asked(rt.alloc(), FULL)?;
     assert!(rt; given.root.bytes == ROOT_BYTES);
-    assert!(rt; given.objects.as_str() == FOLDER);
+    assert!(rt; matches!(&given.objects, Objects::Folder(folder) if folder.as_str() == FOLDER));
     let overlay = given.overlay.ok_or("no overlay")?;
     assert!(rt; overlay.as_str() == "changes");
-    assert!(rt; given.rescan);
+    assert!(rt; given.opening == Opening::Rescan);
     assert!(rt; given.limits.history() == 1);
     assert!(rt; given.limits.entries() == 65_536);
     assert!(rt; given.limits.bytes() == 1 << 40);
@@ -93,7 +94,7 @@ const NO_LINES: &[Refused] = &[
     ),
     (
         &["mountd", "stdio", "--root", ROOT],
-        "error: the following required arguments were not provided:\n  --objects <DIR>",
+        "mountd: stdio takes one of --objects and --remote",
     ),
     (
         &[
@@ -108,8 +109,21 @@ const NO_LINES: &[Refused] = &[
         "error: unexpected value 'yes' for '--rescan' found; no more were expected",
     ),
     (
-        &["mountd", "stdio", "--root", ROOT, "--overlay", FOLDER],
-        "error: the following required arguments were not provided:\n  --objects <DIR>",
+        &[
+            "mountd",
+            "stdio",
+            "--root",
+            ROOT,
+            "--remote",
+            "1",
+            "--objects",
+            FOLDER,
+        ],
+        "mountd: stdio takes one of --objects and --remote",
+    ),
+    (
+        &["mountd", "stdio", "--objects", FOLDER],
+        "error: the following required arguments were not provided:\n  --root <ID>",
     ),
     (
         &["mountd", "mount"],
@@ -138,7 +152,7 @@ fn refuses_what_is_no_line(rt: HostRuntime) -> Result<(), Fail> {
 const TOP_HELP: &str = "Answers requests on the files of a Git commit\n\nUsage: mountd <COMMAND>\n";
 
 const STDIO_HELP: &str =
-    "Serves one session over standard input and output\n\nUsage: mountd stdio [OPTIONS] --root <ID> --objects <DIR>\n";
+    "Serves one session over standard input and output\n\nUsage: mountd stdio [OPTIONS] --root <ID>\n";
 
 const HELP: &[Refused] = &[
     (&["mountd", "--help"], TOP_HELP),

@@ -1,7 +1,7 @@
 use Rattle.std.proofs.Common.{rules, ◌≡◌, map, subst, sym, refl, true, []}
 use Rattle.clap.specs.Faults.{fault_of, is_simple_and_free}
 use Rattle.clap.specs.Kinds.{HasKind}
-use Rattle.clap.specs.Simple.{App, app_of}
+use Rattle.clap.specs.Simple.{App, app_of, is_simple, subcommand_of, subcommand_rows_of}
 use Rattle.mountd.specs.CommandLine.{mountd_line}
 use Rattle.mountd.proofs.LineLemmas.{clap_refuses}
 use Rattle.mountd.proofs.options.matches_of.Goals as goal
@@ -13,6 +13,14 @@ returns-in-Ok-clause-taken g c =
     let simple : is_simple_and_free (app_of c.in_ok-command_line.field-0) ≡ true =
     subst (λ (a : App). is_simple_and_free a ≡ true) (sym line) refl in
     subst (λ (a : App). fault_of a words ≡ []) line (c.in-Ok.ensures.kinds simple)
+
+pub returns-in-Ok-clause-subcommand : goal.returns-in-Ok-clause-subcommand
+returns-in-Ok-clause-subcommand g c =
+    let words = map g.S.AsStr.text c.args.words.now in
+    let line : app_of c.in_ok-command_line.field-0 ≡ mountd_line = search rules in
+    let simple : is_simple (app_of c.in_ok-command_line.field-0) ≡ true =
+    subst (λ (a : App). is_simple a ≡ true) (sym line) refl in
+    subst (λ (a : App). subcommand_rows_of c.in-Ok.matches ≡ subcommand_of a words) line (c.in-Ok.ensures.matches simple).1
 
 pub returns-in-Err-clause-err : goal.returns-in-Err-clause-err
 returns-in-Err-clause-err g c =

@@ -8,8 +8,3 @@ pub unwrap-root-requires : goal.unwrap-root-requires
 unwrap-root-requires c =
     some_of_text _ c.get_str.result _ c.get_str.ensures
     (ap is_some (first_value-rows (found_of c.args.given.now) (codes "root")) ∙ c.requires.0)
-
-pub unwrap-objects-requires : goal.unwrap-objects-requires
-unwrap-objects-requires c =
-    some_of_text _ c.get_str-2.result _ c.get_str-2.ensures
-    (ap is_some (first_value-rows (found_of c.args.given.now) (codes "objects")) ∙ c.requires.1.0)

@@ -1,0 +1,27 @@
+use Rattle.std.proofs.Common.{◌≡◌, ◌∙◌, ap, true, [], ◌∷◌, codes}
+use Rattle.clap.specs.Simple.{App, Shape, app_of, app_of_fields, new_app, on_top, shape_of, with_subcommand}
+use Rattle.mountd.specs.CommandLine.{import, objects, stdio}
+use Rattle.mountd.specs.Grammar.{program}
+use Rattle.mountd.proofs.options.command_line.Goals as goal
+
+-- a subcommand must be there
+abbrev wants_one : Shape → Shape
+wants_one s = record s { subcommand_required = true }
+
+pub returns : goal.returns
+returns c =
+    let name = codes "mountd" in
+    let about : app_of c.about.result ≡ new_app name = ap app_of_fields c.about.ensures ∙ c.new.ensures.app in
+    let none : app_of c.subcommand_required.result ≡ on_top wants_one (new_app name) =
+    ap app_of_fields c.subcommand_required.ensures ∙ ap (on_top wants_one) about in
+    let one : app_of c.in_ok-line.line ≡ program name (stdio ∷ []) =
+    c.in_ok-line.ensures.shape c.in_ok-stdio.ensures.local
+    ∙ (ap (λ (a : App). with_subcommand a (shape_of c.in_ok-stdio.stdio)) none
+    ∙ ap (λ (s : Shape). with_subcommand (on_top wants_one (new_app name)) s) c.in_ok-stdio.ensures.shape) in
+    let two : app_of c.in_ok-line-2.line ≡ program name (stdio ∷ objects ∷ []) =
+    c.in_ok-line-2.ensures.shape c.in_ok-objects.ensures.local
+    ∙ (ap (λ (a : App). with_subcommand a (shape_of c.in_ok-objects.objects)) one
+    ∙ ap (λ (s : Shape). with_subcommand (program name (stdio ∷ [])) s) c.in_ok-objects.ensures.shape) in
+    c.in_ok-line-3.ensures.shape c.in_ok-import.ensures.local
+    ∙ (ap (λ (a : App). with_subcommand a (shape_of c.in_ok-import.import)) two
+    ∙ ap (λ (s : Shape). with_subcommand (program name (stdio ∷ objects ∷ [])) s) c.in_ok-import.ensures.shape)

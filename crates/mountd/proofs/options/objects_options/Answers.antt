@@ -1,0 +1,28 @@
+use Rattle.std.proofs.Common.{rules, ◌≡◌, ◌∙◌, Some, ap, codes, is_some, subst, sym}
+use Rattle.clap.specs.Matches.{first_value, found_of}
+use Rattle.clap.proofs.CallerLemmas.{some_of_text}
+use Rattle.clap.proofs.WalkLemmas.{first_value-rows}
+use Rattle.mountd.specs.CommandLine.{RefusesNumber}
+use Rattle.mountd.specs.declared.numbers.NumberOption.TheVariants.{Port}
+use Rattle.mountd.proofs.options.objects_options.Goals as goal
+
+pub unwrap-folder-requires : goal.unwrap-folder-requires
+unwrap-folder-requires c =
+    some_of_text _ c.get_str.result _ c.get_str.ensures
+    (ap is_some (first_value-rows (found_of c.args.given.now) (codes "dir")) ∙ c.requires.0)
+
+pub unwrap-port-requires : goal.unwrap-port-requires
+unwrap-port-requires c =
+    some_of_text _ c.get_str-2.result _ c.get_str-2.ensures
+    (ap is_some (first_value-rows (found_of c.args.given.now) (codes "port")) ∙ c.requires.1.0)
+
+pub returns-in_err-port-clause-err : goal.returns-in_err-port-clause-err
+returns-in_err-port-clause-err c =
+    let value = first_value (found_of c.args.given.now) in
+    let text = c.unwrap-port.result.now in
+    let refused = c.in_err-port.field-0.0 in
+    let is : refused ≡ Port = c.in_err-port.ensures.err.0 in
+    let given : value (codes "port") ≡ Some text = search rules in
+    let port : RefusesNumber value Port = (text, given, c.in_err-port.ensures.err.1) in
+    let why : RefusesNumber value refused = subst (RefusesNumber value) (sym is) port in
+    search rules
