@@ -72,6 +72,16 @@ fn object(rt: &HostRuntime, at: &PathBuf, first: &str) -> Result<PathBuf, AllocE
     folder.join(rt.alloc(), "baae61804e65cc73a7201a7252750c76066a30")
 }
 
+fn write_at(rt: &HostRuntime, at: &PathBuf, name: &str, bytes: &[u8]) -> Result<(), Fail> {
+    fs::write(rt, at.join(rt.alloc(), name)?, bytes)?;
+    Ok(())
+}
+
+fn write_object(rt: &HostRuntime, at: &PathBuf, first: &str, bytes: &[u8]) -> Result<(), Fail> {
+    fs::write(rt, object(rt, at, first)?, bytes)?;
+    Ok(())
+}
+
 // Makes objects in an empty folder. By an id's first byte: 83 has an object, 84 has an empty file, 85 a directory in
 // the file's place, 86 a link to nothing, 87 a plain file in the folder's place, 88 a file that is too large, and 89
 // another object alone.
@@ -79,10 +89,10 @@ fn make_objects(rt: &HostRuntime, at: &PathBuf) -> Result<(), Fail> {
     for first in ["83", "84", "85", "86", "88", "89"] {
         fs::create_dir(rt, at.join(rt.alloc(), first)?)?;
     }
-    fs::write(rt, object(rt, at, "83")?, VERSION_1.framed)?;
-    fs::write(rt, object(rt, at, "84")?, b"")?;
-    fs::write(rt, at.join(rt.alloc(), "87")?, VERSION_1.framed)?;
-    fs::write(rt, at.join(rt.alloc(), "89/other")?, VERSION_1.framed)?;
+    write_object(rt, at, "83", VERSION_1.framed)?;
+    write_object(rt, at, "84", b"")?;
+    write_at(rt, at, "87", VERSION_1.framed)?;
+    write_at(rt, at, "89/other", VERSION_1.framed)?;
     make_odd(rt, at)
 }
 

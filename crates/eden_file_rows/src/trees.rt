@@ -101,6 +101,18 @@ fn are_those<A: Allocator>(back: &Name, handed: &Entry<A>, key: &Name, number: u
     *back == *key && handed.number == number
 }
 
+/// Puts a number under a name that the map doesn't have.
+fn put_new(
+    rt: &impl Abort,
+    map: &mut BTreeMap<Name, u64>,
+    key: Name,
+    number: u64,
+) -> Result<(), AllocError> {
+    assert!(rt; map.get(&key).is_none());
+    map.insert(key, number).map_err(AllocError::from)?;
+    Ok(())
+}
+
 /// Puts into both, or takes out of both, and compares what they answer.
 fn change_both<A: Allocator>(
     rt: &impl Abort,
@@ -116,16 +128,13 @@ fn change_both<A: Allocator>(
         return Ok(());
     }
     match dir.insert(key.copy(alloc)?, entry(number, None)) {
-        Ok(()) => {
-            assert!(rt; map.get(&key).is_none());
-            map.insert(key, number).map_err(AllocError::from)?;
-        }
+        Ok(()) => put_new(rt, map, key, number),
         Err((back, handed)) => {
             assert!(rt; map.get(&key).is_some());
             assert!(rt; are_those(&back, &handed, &key, number));
+            Ok(())
         }
     }
-    Ok(())
 }
 
 fn assert_alike<A: Allocator>(rt: &impl Abort, dir: &Dir<A>, map: &BTreeMap<Name, u64>) {
@@ -243,6 +252,13 @@ fn attach_where_free<A: Allocator>(
     dir.attach(name, child);
 }
 
+/// Removes the entry of a loaded directory that was stamped at 2 and is saved.
+fn remove_loaded<A: Allocator>(rt: &impl Abort, dir: &mut Dir<A>, name: &Name) {
+    let entry = dir.remove(name).expect(rt, "an entry");
+    let child = entry.child.expect(rt, "a loaded directory");
+    assert!(rt; child.stamp() == 2 && !child.unsaved());
+}
+
 /// Moves what is below one directory's entry to another's, and takes that entry out.
 fn move_subtree<A: Allocator>(
     rt: &impl Abort,
@@ -255,9 +271,7 @@ fn move_subtree<A: Allocator>(
     assert!(rt; from.depth() == 1 && from.detach(&first).is_none());
     attach_where_free(rt, to, &second, moved);
     assert!(rt; to.depth() == 4);
-    let entry = to.remove(&second).expect(rt, "an entry");
-    let child = entry.child.expect(rt, "a loaded directory");
-    assert!(rt; child.stamp() == 2 && !child.unsaved());
+    remove_loaded(rt, to, &second);
     assert!(rt; to.depth() == 1 && to.count() == 8);
     Ok(())
 }
