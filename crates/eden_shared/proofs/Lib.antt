@@ -5,3 +5,4 @@ pub mod Opened
 pub mod Holding
 pub mod Numbered
 pub mod Entries
+pub mod CallerLemmas
