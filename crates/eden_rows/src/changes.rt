@@ -207,6 +207,44 @@ fn reopen<A: Allocator + Clone>(
     Ok(again)
 }
 
+/// Changes something at a path, over files that stop at a random call, and lets them go on. Whether they stopped.
+fn stopping_change<A: Allocator + Clone>(
+    mount: &mut Mount<A>,
+    tree: &mut Tree,
+    path: &[u8],
+    seed: &mut u64,
+    tally: &mut Tally,
+) -> Result<bool, Fail> {
+    let calls = u64::from(random(seed) % 16);
+    mount.calls.set(if calls < 4 { calls } else { u64::MAX });
+    if change(mount, tree, path, seed)? {
+        tally.changed = tally.changed.saturating_add(1);
+    }
+    let stopped = mount.calls.get() == 0;
+    mount.calls.set(u64::MAX);
+    Ok(stopped)
+}
+
+/// One change at a random path. Whether the files stopped meanwhile.
+fn change_somewhere<A: Allocator + Clone>(
+    rt: &impl Abort,
+    mount: &mut Mount<A>,
+    tree: &mut Tree,
+    seed: &mut u64,
+    tally: &mut Tally,
+) -> Result<bool, Fail> {
+    let path = path(mount.alloc, tree, seed)?;
+    let stopped = stopping_change(mount, tree, &path, seed, tally)?;
+    assert!(rt;
+        if stopped {
+            mount.shows_all(tree)?
+        } else {
+            mount.shows_dir(tree, &path)?
+        }
+    );
+    Ok(stopped)
+}
+
 /// A random step, at every fourth of which the device stops after a few calls, and is mended. What it touched shows what
 /// it must; where the device stopped, all does, and every other time the files alone do.
 fn step<A: Allocator + Clone>(
@@ -218,20 +256,8 @@ fn step<A: Allocator + Clone>(
     tally: &mut Tally,
 ) -> Result<Mount<A>, Fail> {
     let mut mount = mount;
-    let path = path(mount.alloc, tree, seed)?;
-    let calls = u64::from(random(seed) % 16);
-    mount.calls.set(if calls < 4 { calls } else { u64::MAX });
-    if change(&mut mount, tree, &path, seed)? {
-        tally.changed = tally.changed.saturating_add(1);
-    }
-    let stopped = mount.calls.get() == 0;
-    mount.calls.set(u64::MAX);
-    if !stopped {
-        assert!(rt; mount.shows_dir(tree, &path)?);
-        return Ok(mount);
-    }
-    assert!(rt; mount.shows_all(tree)?);
-    if random(seed) % 2 == 0 {
+    let stopped = change_somewhere(rt, &mut mount, tree, seed, tally)?;
+    if !stopped || random(seed) % 2 == 0 {
         return Ok(mount);
     }
     reopen(rt, mount, tree, dirs, tally)
