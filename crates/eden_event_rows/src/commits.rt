@@ -87,6 +87,17 @@ enum Member {
     Module,
 }
 
+/// `test.txt` is `VERSION_1`.
+const ONE_FILE: [Option<Member>; 4] = [None, None, None, Some(Member::File(1))];
+
+/// `bak` is the tree with the one file, and `new.txt` and `test.txt` are `NEW_FILE` and `VERSION_2`.
+const TWO_FILES: [Option<Member>; 4] = [
+    Some(Member::Dir(0)),
+    Some(Member::File(3)),
+    None,
+    Some(Member::File(2)),
+];
+
 /// A tree: what stands at each of the four names.
 #[derive(Drop)]
 struct Tree {
@@ -170,12 +181,17 @@ fn framed(rt: &impl Abort, alloc: Global, entries: &[TreeEntry]) -> Vec<u8> {
     encode_tree(alloc, entries).expect(rt, "memory")
 }
 
-/// A tree that names trees so far.
+/// A random tree that names trees so far.
 fn some_tree(rt: &impl Abort, alloc: Global, trees: &[Tree], seed: &mut u64) -> Tree {
     let mut members = [None; 4];
     for place in 0..4 {
         members[place] = some_member(trees.len(), seed);
     }
+    tree_of(rt, alloc, trees, members)
+}
+
+/// The tree of these entries, whose directories are among the trees so far.
+fn tree_of(rt: &impl Abort, alloc: Global, trees: &[Tree], members: [Option<Member>; 4]) -> Tree {
     let entries = entries(rt, alloc, trees, &members);
     let framed = framed(rt, alloc, entries.as_slice());
     Tree {
@@ -259,6 +275,16 @@ impl Commit {
         }
         let root = root_of(trees.as_slice());
         Commit { trees, root }
+    }
+
+    /// The commit of `TWO_FILES`.
+    pub(crate) fn two_files(rt: &impl Abort, alloc: Global) -> Commit {
+        let mut trees = Vec::new(alloc);
+        for members in [ONE_FILE, TWO_FILES] {
+            let next = tree_of(rt, alloc, trees.as_slice(), members);
+            trees.push(next).expect(rt, "memory");
+        }
+        Commit { trees, root: 1 }
     }
 
     /// The id of its tree.

@@ -3,6 +3,7 @@
 use crate::commits::Commit;
 use crate::mounts::{FLIGHTS, Mounted, Settings, Stored, open_again};
 use crate::waits::{PASSES, Waits, seat};
+use eden_checkout::Opening;
 use eden_model::{Key, Request, StartFault};
 use eden_oracle::WholeTree;
 use eden_samples::random;
@@ -23,7 +24,11 @@ pub(crate) struct Ground {
 impl Ground {
     /// A random commit, to which nothing was done.
     pub(crate) fn new(rt: &impl Abort, alloc: Global, seed: &mut u64) -> Ground {
-        let commit = Commit::new(rt, alloc, seed);
+        Ground::over(rt, alloc, Commit::new(rt, alloc, seed))
+    }
+
+    /// A commit, to which nothing was done.
+    pub(crate) fn over(rt: &impl Abort, alloc: Global, commit: Commit) -> Ground {
         let tree = commit.whole(rt, alloc);
         let calls = Rc::new(alloc, Cell::new(u64::MAX)).expect(rt, "memory");
         Ground {
@@ -53,6 +58,7 @@ impl Life {
         let limit = 10 + random(seed) % 40;
         let settings = Settings {
             root: ground.commit.root(rt),
+            opening: Opening::Closed,
             objects: 1 + (random(seed) % 3) as usize,
             history: limit,
         };

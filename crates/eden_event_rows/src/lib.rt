@@ -12,6 +12,8 @@ mod mounts;
 #[cfg(test)]
 mod shown;
 #[cfg(test)]
+mod stops;
+#[cfg(test)]
 mod stream;
 #[cfg(test)]
 mod waits;

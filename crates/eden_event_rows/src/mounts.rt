@@ -4,7 +4,7 @@ ghost use Rattle.std.specs.Prelude.{◌≡◌, []};
 
 use crate::waits::PASSES;
 use eden_cache::ObjectCache;
-use eden_checkout::{Checkout, OpenFault};
+use eden_checkout::{Checkout, OpenFault, Opening};
 use eden_model::{Id, Outside};
 use eden_mount::{Config, Mount, Room};
 use eden_overlay::{FilesFault, MemoryFiles, StopFiles};
@@ -23,10 +23,12 @@ pub(crate) type Tree = Checkout<Global, Outside, StopFiles<Stored>>;
 
 pub(crate) type Mounted = Mount<Outside, Tree, Global>;
 
-/// What a mount is opened with: the commit's tree, how many objects are cached, 1 to 8, and the history's limit.
+/// What a mount is opened with: the commit's tree, how its files are opened, how many objects are cached, 1 to 8, and the
+/// history's limit.
 #[derive(Clone, Copy)]
 pub(crate) struct Settings {
     pub(crate) root: Id,
+    pub(crate) opening: Opening,
     pub(crate) objects: usize,
     pub(crate) history: u32,
 }
@@ -65,7 +67,7 @@ pub(crate) fn open(
     let shared = calls.clone().expect(rt, "memory");
     let files = StopFiles::new(files, shared);
     let cache = cache(rt, alloc, settings.objects);
-    match Checkout::open(alloc, alloc, files, settings.root, cache) {
+    match Checkout::open_by(alloc, alloc, files, settings.root, cache, settings.opening) {
         Ok(tree) => Ok(Mount::new(room(rt, alloc, settings.history), tree)),
         Err((fault, files)) => Err((fault, files.into_files())),
     }

@@ -2,6 +2,7 @@
 
 use crate::grounds::Ground;
 use crate::mounts::{Mounted, Settings, Stored, close, open_again};
+use eden_checkout::Opening;
 use eden_model::{Fault, Reply, Request};
 use eden_mount::Turned;
 use eden_random::{all_looks, is_same};
@@ -28,7 +29,12 @@ fn fetch(rt: &impl Abort, ground: &Ground, mount: &mut Mounted) {
 }
 
 /// What the mount's first pass is told.
-fn answer(rt: &impl Abort, ground: &Ground, mount: &mut Mounted, request: Request) -> Reply {
+pub(crate) fn answer(
+    rt: &impl Abort,
+    ground: &Ground,
+    mount: &mut Mounted,
+    request: Request,
+) -> Reply {
     assert!(rt; mount.start(1, request).is_ok());
     for _ in 0..TRIES {
         if let Turned::Done(_, reply) = mount.turn(1) {
@@ -49,15 +55,31 @@ fn agree(rt: &impl Abort, ground: &mut Ground, mount: &mut Mounted, look: Reques
     }
 }
 
-/// Closed files show the oracle's tree. They come back closed.
-pub(crate) fn show_same(rt: &impl Abort, ground: &mut Ground, files: Stored) -> Stored {
+/// A mount over files whose device works, opened so.
+pub(crate) fn mounted(
+    rt: &impl Abort,
+    ground: &Ground,
+    opening: Opening,
+    files: Stored,
+) -> Mounted {
     let settings = Settings {
         root: ground.commit.root(rt),
+        opening,
         objects: 2,
         history: LONG,
     };
     ground.calls.set(u64::MAX);
-    let mut mount = open_again(rt, ground.alloc, files, &ground.calls, settings);
+    open_again(rt, ground.alloc, files, &ground.calls, settings)
+}
+
+/// Files that are opened so show the oracle's tree. They come back closed.
+pub(crate) fn show_same(
+    rt: &impl Abort,
+    ground: &mut Ground,
+    opening: Opening,
+    files: Stored,
+) -> Stored {
+    let mut mount = mounted(rt, ground, opening, files);
     let looks = all_looks(ground.alloc, &mut ground.tree).expect(rt, "memory");
     for look in looks {
         assert!(rt; agree(rt, ground, &mut mount, look));

@@ -5,7 +5,7 @@ use crate::grounds::{Ground, Life};
 use crate::mounts::{Settings, Stored, allow, close, open};
 use crate::shown::show_same;
 use crate::waits::PASSES;
-use eden_checkout::OpenFault;
+use eden_checkout::{OpenFault, Opening};
 use eden_model::{Entry, Reply};
 use eden_oracle::WholeTree;
 use eden_overlay::{Files, MemoryFiles};
@@ -92,6 +92,7 @@ fn abandoned(rt: &impl Abort, ground: &Ground, mut files: Stored) {
     let numbers = files.list(ground.alloc).expect(rt, "numbers");
     let settings = Settings {
         root: ground.commit.root(rt),
+        opening: Opening::Closed,
         objects: 1,
         history: 1,
     };
@@ -119,7 +120,7 @@ fn end(
     allow(&ground.calls, seed);
     let files = close(rt, ground.alloc, tree, &ground.calls);
     add(&mut tally.closed);
-    Some(show_same(rt, ground, files))
+    Some(show_same(rt, ground, Opening::Closed, files))
 }
 
 /// One mount over these files. The files, where it was closed.

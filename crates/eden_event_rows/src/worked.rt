@@ -1,6 +1,7 @@
 //! Worked rows of events on mounts of the sample commits.
 
 use crate::mounts::{Mounted, Settings, Stored, close, open};
+use eden_checkout::Opening;
 use eden_model::{Bytes, Cause, Key, Path, Reply, Request, StartFault};
 use eden_mount::{Arrived, Event, Outcome, Turned};
 use eden_overlay::{Files, MemoryFiles};
@@ -41,7 +42,8 @@ fn key_of(object: Sample) -> Key {
     }
 }
 
-fn request(rt: &impl Abort, alloc: Global, line: &str) -> Request {
+/// The request of a line.
+pub(crate) fn request(rt: &impl Abort, alloc: Global, line: &str) -> Request {
     match read_request(alloc, line.as_bytes()).expect(rt, "memory") {
         Item::Asks(request) => request,
         Item::Refuses(_) | Item::Bad => None.expect(rt, "a request"),
@@ -144,6 +146,7 @@ fn over(rt: &impl Abort, alloc: Global, files: Stored, settings: Settings) -> Gr
 fn fresh(rt: &impl Abort, alloc: Global, root: Sample, objects: usize, history: u32) -> Ground {
     let settings = Settings {
         root: root.id,
+        opening: Opening::Closed,
         objects,
         history,
     };
@@ -376,6 +379,7 @@ fn a_full_history_begins_again_at_the_next_opening(rt: HostRuntime) {
     run(&rt, alloc, &mut mount, FULL);
     let settings = Settings {
         root: ONE_FILE.id,
+        opening: Opening::Closed,
         objects: 4,
         history: 3,
     };
@@ -412,6 +416,7 @@ fn numbers_run_out(rt: HostRuntime) {
     let alloc = rt.alloc();
     let settings = Settings {
         root: ONE_FILE.id,
+        opening: Opening::Closed,
         objects: 4,
         history: 9,
     };

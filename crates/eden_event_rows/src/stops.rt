@@ -1,0 +1,168 @@
+//! All changes on a mount whose device stops at each call in turn: it works again for the next request, or never, and then
+//! what is left is opened by a rescan.
+
+use crate::commits::Commit;
+use crate::grounds::Ground;
+use crate::mounts::{Mounted, Settings, Stored, close, open};
+use crate::shown::{answer, mounted, show_same};
+use crate::worked::request;
+use eden_checkout::{OpenFault, Opening};
+use eden_model::{Errno, Fault, Path, Reply, Request};
+use eden_overlay::MemoryFiles;
+use eden_random::is_same;
+use std::alloc::Global;
+use std::process::Abort;
+
+/// Each change, on the commit of two files. What moves is a file of the commit, an own one in another's place, and an empty
+/// directory.
+const CHANGES: &[&str] = &[
+    "mkdir /sub",
+    "write /test.txt 12 21",
+    "create /sub/new.txt",
+    "truncate /new.txt 3",
+    "setexec /new.txt 1",
+    "symlink /sub/test.txt 612f62",
+    "rename /new.txt /bak/new.txt",
+    "rename /sub/new.txt /bak/new.txt",
+    "mkdir /sub/sub",
+    "rename /sub/sub /bak/sub",
+    "unlink /test.txt",
+    "rmdir /bak/sub",
+    "write /bak/test.txt 0 56",
+];
+
+/// Whether a device that stopped works again for the next request.
+#[derive(Clone, Copy, PartialEq, Eq)]
+enum Device {
+    Mended,
+    Stopped,
+}
+
+/// Whether a change is answered as by the oracle, which goes on by it; else the device stopped it.
+fn is_made(rt: &impl Abort, ground: &mut Ground, mount: &mut Mounted, change: &Request) -> bool {
+    let copy = change.copy(ground.alloc).expect(rt, "memory");
+    let reply = answer(rt, ground, mount, copy);
+    if matches!(reply, Reply::Fault(Fault::Overlay)) {
+        assert_eq!(rt; ground.calls.get(), 0);
+        return false;
+    }
+    let step = ground.tree.step(ground.alloc, change);
+    let want = step.expect(rt, "memory").expect(rt, "a reply");
+    assert!(rt;
+        is_same(&reply, &want),
+        "{change:?}: {reply:?}, not {want:?}"
+    );
+    true
+}
+
+/// Asks for all changes. The first that the device stopped.
+fn change(
+    rt: &impl Abort,
+    ground: &mut Ground,
+    mount: &mut Mounted,
+    device: Device,
+) -> Option<Request> {
+    let mut stopped = None;
+    for line in CHANGES {
+        let change = request(rt, ground.alloc, line);
+        if !is_made(rt, ground, mount, &change) && stopped.is_none() {
+            stopped = Some(change);
+        }
+        if device == Device::Mended && ground.calls.get() == 0 {
+            ground.calls.set(u64::MAX);
+        }
+    }
+    stopped
+}
+
+/// A mount of the commit over no files, of which so many calls pass; or the files that weren't opened.
+fn fresh(rt: &impl Abort, ground: &Ground, calls: u64) -> Result<Mounted, Stored> {
+    let settings = Settings {
+        root: ground.commit.root(rt),
+        opening: Opening::Closed,
+        objects: 4,
+        history: 100,
+    };
+    ground.calls.set(calls);
+    let files = MemoryFiles::new(ground.alloc);
+    match open(rt, ground.alloc, files, &ground.calls, settings) {
+        Ok(mount) => Ok(mount),
+        Err((fault, files)) => {
+            assert!(rt; fault == OpenFault::Device && calls == 0);
+            Err(files)
+        }
+    }
+}
+
+/// A file, a link or an empty directory is gone from the oracle's tree.
+fn take_away(rt: &impl Abort, ground: &mut Ground, at: &Path) {
+    let file = Request::Unlink(at.copy(ground.alloc).expect(rt, "memory"));
+    let directory = Request::Rmdir(at.copy(ground.alloc).expect(rt, "memory"));
+    for request in [file, directory] {
+        assert!(rt; ground.tree.step(ground.alloc, &request).is_ok());
+    }
+}
+
+/// The entry that a stopped rename was to move stands in neither directory where the first was stored without it.
+fn forget(rt: &impl Abort, ground: &mut Ground, from: &Path, files: Stored) -> Stored {
+    let mut mount = mounted(rt, ground, Opening::Rescan, files);
+    let at = from.copy(ground.alloc).expect(rt, "memory");
+    let reply = answer(rt, ground, &mut mount, Request::Kind(at));
+    if matches!(reply, Reply::Err(Errno::ENOENT)) {
+        take_away(rt, ground, from);
+    }
+    mount.into_table().abandon().into_files()
+}
+
+/// The files that are left where the device stops once so many calls passed.
+fn stopped(rt: &impl Abort, ground: &mut Ground, calls: u64) -> Stored {
+    let mut mount = match fresh(rt, ground, calls) {
+        Ok(mount) => mount,
+        Err(files) => return files,
+    };
+    let stopped = change(rt, ground, &mut mount, Device::Stopped);
+    let files = mount.into_table().abandon().into_files();
+    match stopped {
+        Some(Request::Rename(from, _)) => forget(rt, ground, &from, files),
+        _ => files,
+    }
+}
+
+fn check_stop(rt: &impl Abort, alloc: Global, calls: u64) {
+    let mut ground = Ground::over(rt, alloc, Commit::two_files(rt, alloc));
+    let files = stopped(rt, &mut ground, calls);
+    show_same(rt, &mut ground, Opening::Rescan, files);
+}
+
+/// The device stops once so many calls passed, and works again for the next request.
+fn check_mend(rt: &impl Abort, alloc: Global, calls: u64) {
+    let mut ground = Ground::over(rt, alloc, Commit::two_files(rt, alloc));
+    if let Ok(mut mount) = fresh(rt, &ground, calls) {
+        change(rt, &mut ground, &mut mount, Device::Mended);
+        let files = close(rt, alloc, mount.into_table(), &ground.calls);
+        show_same(rt, &mut ground, Opening::Closed, files);
+    }
+}
+
+/// How many calls all changes take.
+fn all_calls(rt: &impl Abort, alloc: Global) -> u64 {
+    let mut ground = Ground::over(rt, alloc, Commit::two_files(rt, alloc));
+    let mount = fresh(rt, &ground, u64::MAX);
+    let mut mount = mount.ok().expect(rt, "a mount");
+    assert!(rt; change(rt, &mut ground, &mut mount, Device::Stopped).is_none());
+    u64::MAX - ground.calls.get()
+}
+
+#[test]
+fn a_rescan_shows_what_was_done_before_the_device_stopped(rt: HostRuntime) {
+    for calls in 0..all_calls(&rt, rt.alloc()) {
+        check_stop(&rt, rt.alloc(), calls);
+    }
+}
+
+#[test]
+fn a_change_that_the_device_stopped_is_not_made(rt: HostRuntime) {
+    for calls in 0..all_calls(&rt, rt.alloc()) {
+        check_mend(&rt, rt.alloc(), calls);
+    }
+}
