@@ -19,17 +19,18 @@ pub record Begins {T S : Type 0} (r : Room) (t : T) (s : S) (d : Desk T S) : Typ
   pub source : d.source ≡ s
   pub rest : IsAtRest d.core
 
--- The caller's session was served: the bytes that were read are its lines, and those that were written their answers'
--- texts. A request wasn't taken for the room's limit or for want of memory alone, and what the mount was opened with stays.
--- Where the outside is honest, its history is one of the opening tree, and the table shows the tree after it.
-pub record ServesCaller {S : Type 0} (fetched : S → Id → Answer → S → Type 0) {T : Type 0} (A : Table T) (honest : Type 0) (opening : Tree) (r : Room) (t : T) (s : S) (input output : Known × Known) (x : Served T S) : Type 0 where
-  pub begun : Desk T S
-  pub begins : Begins r t s begun
-  pub ended : Desk T S
-  pub session : Session (CallAnswers fetched A honest) (begun, ended) input output x.said
-  pub told : AllByRecursion (MayBeTold r.limit) session.given
-  pub stays : Stays A begun.core ended.core
-  pub legal : honest → Legal opening ended.core.history
-  pub shown : honest → A.shown ended.core.table ≡ replay opening ended.core.history
-  pub table : x.table ≡ ended.core.table
-  pub source : x.source ≡ ended.source
+module _ {S : Type 0} (fetched : S → Id → Answer → S → Type 0) {T : Type 0} (A : Table T) (honest : Type 0) where
+  -- The caller's session was served: the bytes that were read are its lines, and those that were written their answers'
+  -- texts. A request wasn't taken for the room's limit or for want of memory alone, and what the mount was opened with stays.
+  -- Where the outside is honest, its history is one of the opening tree, and the table shows the tree after it.
+  pub record ServesCaller (opening : Tree) (r : Room) (t : T) (s : S) (input output : Known × Known) (x : Served T S) : Type 0 where
+    pub begun : Desk T S
+    pub begins : Begins r t s begun
+    pub ended : Desk T S
+    pub session : Session (CallAnswers fetched A honest) (begun, ended) input output x.said
+    pub told : AllByRecursion (MayBeTold r.limit) session.given
+    pub stays : Stays A begun.core ended.core
+    pub legal : honest → Legal opening ended.core.history
+    pub shown : honest → A.shown ended.core.table ≡ replay opening ended.core.history
+    pub table : x.table ≡ ended.core.table
+    pub source : x.source ≡ ended.source
