@@ -1,6 +1,9 @@
 // What each event answers over a table that needs one object, in lists of events, and what one caller is told.
+ghost use Rattle.std.specs.Prelude.{◌≡◌};
 ghost use Rattle.eden_mount.specs.Serving.{IsAtRest};
+ghost use Rattle.eden_shared.specs.Opening.{IsUnused};
 
+mod sharing;
 mod shelf;
 
 use eden_model::{Bytes, Cause, Fault, Key, Kind, Outside, Path, Reply, Request, StartFault};
@@ -127,7 +130,9 @@ fn is_answer(answer: &Answer, outcome: &Outcome) -> bool {
 
 /// A mount of three passes and one object in flight, over a shelf.
 fn mount(rt: &impl Abort, alloc: Global, history: u32, wide: bool) -> Mount<Outside, Shelf, Global>
-    ensures { IsAtRest result }
+    ensures rest { IsAtRest result }
+    ensures unused { IsUnused result }
+    ensures passes { result.queue.passes ≡ 3 }
 {
     let config = Config::new(3, 1, history, 1, 1, 1).expect(rt, "within the limits");
     let room = Room::new(alloc, alloc, &config).expect(rt, "memory");

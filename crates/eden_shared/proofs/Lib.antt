@@ -5,4 +5,3 @@ pub mod Opened
 pub mod Holding
 pub mod Numbered
 pub mod Entries
-pub mod CallerLemmas

@@ -1,0 +1,160 @@
+// What the passes of a shared mount are told, one after another and on threads of their own.
+ghost use Rattle.std.specs.Prelude.{◌≡◌};
+ghost use Rattle.eden_shared.specs.Lanes.{names_of};
+ghost use Rattle.eden_shared.specs.Opening.{AreTied};
+
+use crate::mounts::shelf::Shelf;
+use crate::mounts::{bytes, key, mount, read, root};
+use eden_model::{CallFault, Outside, Reply, Request};
+use eden_shared::{Naming, Pass, Shared, Ties};
+use eden_source::MemorySource;
+use std::alloc::Global;
+use std::marker::Brand;
+use std::process::Abort;
+use std::sync::Wait;
+use std::test::Fail;
+use std::thread::{Threads, join};
+
+/// A mount of three passes over a shelf, as it is shared.
+type Held<J> = Shared<Outside, Shelf, Global, J>;
+
+/// The mount, and its three passes.
+fn open<J: Naming>(rt: &impl Abort, alloc: Global, ties: Ties) -> (Held<J>, Vec<Pass<J>>)
+    requires ties { AreTied ties.lanes.items ties.ends.items 3 }
+    requires names { names_of ties.lanes.items ≡ J.names }
+{
+    match Held::<J>::open(alloc, mount(rt, alloc, 9, true), ties) {
+        Ok(opened) => opened,
+        Err(_) => rt.abort(),
+    }
+}
+
+fn ask_root<J: Naming, R: Wait + Abort>(
+    rt: &R,
+    alloc: Global,
+    shared: &Held<J>,
+    pass: &mut Pass<J>,
+) -> Result<u32, CallFault> {
+    let told = pass.call(shared, rt, Request::Kind(root(rt, alloc)))?;
+    Ok(told.number)
+}
+
+/// A pass that learnt a number of which the history knows nothing is told so; another is served until the mount is
+/// stopped.
+fn learn<J: Naming, R: Wait + Abort>(rt: &R, alloc: Global, ties: Ties)
+    requires ties { AreTied ties.lanes.items ties.ends.items 3 }
+    requires names { names_of ties.lanes.items ≡ J.names }
+{
+    let (shared, mut passes) = open::<J>(rt, alloc, ties);
+    let (third, second, first) = (passes.pop(), passes.pop(), passes.pop());
+    let (Some(third), Some(mut second), Some(mut first)) = (third, second, first) else {
+        rt.abort()
+    };
+    second.learn(5);
+    assert!(rt; second.floor() == 6);
+    let foreign = ask_root(rt, alloc, &shared, &mut second);
+    assert!(rt;
+        foreign
+            == Err(CallFault::Foreign {
+                floor: 6,
+                length: 0
+            })
+    );
+    assert!(rt; ask_root(rt, alloc, &shared, &mut first) == Ok(1));
+    shared.stop(rt);
+    assert!(rt; ask_root(rt, alloc, &shared, &mut first) == Err(CallFault::Stopped));
+    assert!(rt; first.told().len() == 1 && first.floor() == 2);
+    passes.push(third).expect(rt, "memory");
+    passes.push(second).expect(rt, "memory");
+    passes.push(first).expect(rt, "memory");
+    assert!(rt; entries(shared, passes) == Some(1));
+}
+
+/// How many entries the history has, where the passes are all there.
+fn entries<J: Naming>(shared: Held<J>, passes: Vec<Pass<J>>) -> Option<usize> {
+    match shared.finish(passes) {
+        Ok(mount) => Some(mount.history().len()),
+        Err(_) => None,
+    }
+}
+
+/// Asks three times for the object, and looks at each reply.
+fn ask<J: Naming, R: Wait + Abort>(
+    rt: &R,
+    alloc: Global,
+    shared: &Held<J>,
+    mut pass: Pass<J>,
+) -> Pass<J> {
+    for count in 1..4usize {
+        let reads = match pass.call(shared, rt, read(rt, alloc)) {
+            Ok(told) => matches!(told.reply, Reply::Data(_)),
+            Err(_) => false,
+        };
+        assert!(rt; reads && pass.told().len() == count);
+    }
+    pass
+}
+
+/// Fetches until the mount is stopped, from a source that has the object.
+fn fetch<J: Naming, R: Wait + Abort>(rt: &R, alloc: Global, shared: &Held<J>) {
+    let mut source = MemorySource::<Outside>::new(alloc);
+    let framed = bytes(rt, alloc, b"blob 0\0").into_vec();
+    source.insert(key().id, framed).expect(rt, "memory");
+    shared.fetch_all(rt, &mut source);
+}
+
+/// Two callers and two fetchers on threads of their own, until both callers were told three times.
+fn race<J: Naming + Send + Sync, R: Threads + Wait + Abort + Sync>(
+    rt: &R,
+    alloc: Global,
+    ties: Ties,
+)
+    requires ties { AreTied ties.lanes.items ties.ends.items 3 }
+    requires names { names_of ties.lanes.items ≡ J.names }
+{
+    let (shared, mut passes) = open::<J>(rt, alloc, ties);
+    let (third, second, first) = (passes.pop(), passes.pop(), passes.pop());
+    let (Some(third), Some(second), Some(first)) = (third, second, first) else {
+        rt.abort()
+    };
+    let lock = &shared;
+    let (_, (first, second)) = join(
+        rt,
+        move || {
+            join(
+                rt,
+                move || fetch(rt, alloc, lock),
+                move || fetch(rt, alloc, lock),
+            );
+        },
+        move || {
+            let both = join(
+                rt,
+                move || ask(rt, alloc, lock, first),
+                move || ask(rt, alloc, lock, second),
+            );
+            lock.stop(rt);
+            both
+        },
+    );
+    passes.push(third).expect(rt, "memory");
+    passes.push(second).expect(rt, "memory");
+    passes.push(first).expect(rt, "memory");
+    assert!(rt; entries(shared, passes) == Some(6));
+}
+
+#[test]
+fn a_learnt_number_is_awaited(rt: HostRuntime) -> Result<(), Fail> {
+    let ties = Ties::new(rt.alloc(), 3)?;
+    learn::<Brand, HostRuntime>(&rt, rt.alloc(), ties);
+    Ok(())
+}
+
+#[test]
+fn callers_and_fetchers_share(rt: HostRuntime) -> Result<(), Fail> {
+    for _round in 0..200u32 {
+        let ties = Ties::new(rt.alloc(), 3)?;
+        race::<Brand, HostRuntime>(&rt, rt.alloc(), ties);
+    }
+    Ok(())
+}
