@@ -8,7 +8,8 @@ help: ## says what each target does
 	@sed -n 's/^\([a-z]*\): ##/\1:/p' Makefile
 
 run: ## proves and builds mountd, and serves examples/first-run.txt on the sample commit
-	@cd crates/mountd && rt run -- stdio --root $(ROOT) --objects $(CURDIR)/examples/objects < $(CURDIR)/examples/first-run.txt
+	@scripts/build-mountd
+	@crates/mountd/out/mountd stdio --root $(ROOT) --objects examples/objects < examples/first-run.txt
 
 check: ## proves and tests the crates that changed since they last passed, and those above them, for daily work
 	@scripts/check-changed
@@ -40,7 +41,7 @@ bench: ## times the work that grows with its input, at full size
 	@cd crates/eden_bench && folder=$$(mktemp -d) && out/eden_bench large 64 timed $$folder; rm -r $$folder
 	@cd crates/eden_bench && out/eden_bench cache 1000000 timed
 	@cd crates/eden_bench && out/eden_bench lines 100000 timed
-	@$(MAKE) --no-print-directory run > /dev/null
+	@scripts/build-mountd
 	@scripts/bench-mountd
 	@scripts/bench-remote
 

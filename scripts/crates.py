@@ -1,0 +1,55 @@
+"""The crates of this repository: what each stands on, in which order they are proved, and what tells that one changed."""
+
+import hashlib
+import pathlib
+import subprocess
+
+TOP = pathlib.Path(__file__).resolve().parent.parent
+READ = ("src", "specs", "proofs")
+
+
+def dependencies():
+    """Each crate of crates.txt, and the crates of the repository that it stands on."""
+    rows = {}
+    for line in (TOP / "crates.txt").read_text().splitlines():
+        head, colon, below = line.partition("#")[0].partition(":")
+        if colon:
+            rows[head.split()[0]] = below.split()
+    return {name: [other for other in below if other in rows] for name, below in rows.items()}
+
+
+def in_order(below):
+    """The crates, each behind those that it stands on."""
+    order = []
+
+    def visit(name):
+        if name not in order:
+            for other in below[name]:
+                visit(other)
+            order.append(name)
+
+    for name in below:
+        visit(name)
+    return order
+
+
+def with_those_below(below, names):
+    """The named crates and all that they stand on."""
+    met, waiting = set(), list(names)
+    while waiting:
+        name = waiting.pop()
+        if name not in met:
+            met.add(name)
+            waiting.extend(below[name])
+    return met
+
+
+def digest_of(name, digests):
+    """A digest of the toolchain, the crate's files, and the digests of those that it stands on."""
+    digest = hashlib.sha1(subprocess.run(["rt", "version"], capture_output=True, check=True).stdout)
+    crate = TOP / "crates" / name
+    for path in sorted(path for part in READ for path in (crate / part).rglob("*") if path.is_file()):
+        digest.update(str(path.relative_to(crate)).encode() + b"\0" + path.read_bytes())
+    for other in digests:
+        digest.update(other.encode())
+    return digest.hexdigest()
