@@ -118,7 +118,8 @@ impl<W: World, F: Files<W>> Overlay<W, F> {
         ensures sound { W.honest → OnOk result (AreSound (F.stored self.old)) }
         ensures next { W.honest → IfOk result (IsNextOf (F.stored self.old)) }
         ensures range { IfOk result (λ n. (number_least ≤ n) × (n ≤ number_end)) }
-        ensures refused { IfErr result (IsRescanFault W.honest (F.stored self.old) (F.failures self.old) (F.failures self.new)) }
+        ensures refused { IfErr result
+            (IsRescanFault W.honest (F.stored self.old) (F.failures self.old) (F.failures self.new)) }
         ensures unchanged { W.honest → F.stored self.new ≡ F.stored self.old }
         ensures counted { F.failures self.old ≤ F.failures self.new }
     {
@@ -147,7 +148,8 @@ impl<W: World, F: Files<W>> Overlay<W, F> {
         requires begun { W.honest → Walked (F.stored self.old) pending.items (λ _. false) }
         ensures all { W.honest → IfOk result (λ met. Walked (F.stored self.old) [] (contains nat_cmp met)) }
         ensures range { IfOk result (λ met. (k : ℕ) → IsTrue (contains nat_cmp met k) → InRange k) }
-        ensures refused { IfErr result (IsRescanFault W.honest (F.stored self.old) (F.failures self.old) (F.failures self.new)) }
+        ensures refused { IfErr result
+            (IsRescanFault W.honest (F.stored self.old) (F.failures self.old) (F.failures self.new)) }
         ensures unchanged { W.honest → F.stored self.new ≡ F.stored self.old }
         ensures counted { F.failures self.old ≤ F.failures self.new }
     {
@@ -169,13 +171,16 @@ impl<W: World, F: Files<W>> Overlay<W, F> {
         requires range { InRange entry.number }
         requires ranges { AreInRange pending.old.items }
         requires met { (k : ℕ) → IsTrue (contains nat_cmp met.old k) → InRange k }
-        requires walked { W.honest → Walked (F.stored self.old) (pending.old.items ++ entry ∷ []) (contains nat_cmp met.old) }
-        ensures walked { W.honest → OnOk result (Walked (F.stored self.old) pending.new.items (contains nat_cmp met.new)) }
+        requires walked { W.honest
+            → Walked (F.stored self.old) (pending.old.items ++ entry ∷ []) (contains nat_cmp met.old) }
+        ensures walked { W.honest
+            → OnOk result (Walked (F.stored self.old) pending.new.items (contains nat_cmp met.new)) }
         ensures ranges { OnOk result (AreInRange pending.new.items) }
         ensures met { OnOk result ((k : ℕ) → IsTrue (contains nat_cmp met.new k) → InRange k) }
         ensures more { OnOk result (btree_set_len met.new ≡ btree_set_len met.old + 1) }
         ensures few { OnOk result (btree_set_len met.new ≤ number_end) }
-        ensures refused { IfErr result (IsRescanFault W.honest (F.stored self.old) (F.failures self.old) (F.failures self.new)) }
+        ensures refused { IfErr result
+            (IsRescanFault W.honest (F.stored self.old) (F.failures self.old) (F.failures self.new)) }
         ensures unchanged { W.honest → F.stored self.new ≡ F.stored self.old }
         ensures counted { F.failures self.old ≤ F.failures self.new }
     {
@@ -194,7 +199,8 @@ impl<W: World, F: Files<W>> Overlay<W, F> {
         requires owned { W.honest → IsOwned (F.stored self.old) number kind }
         ensures held { W.honest → IfOk result (λ v. HoldsBelow (F.stored self.old) number kind v.items) }
         ensures ranges { IfOk result (λ v. AreInRange v.items) }
-        ensures refused { IfErr result (IsRescanFault W.honest (F.stored self.old) (F.failures self.old) (F.failures self.new)) }
+        ensures refused { IfErr result
+            (IsRescanFault W.honest (F.stored self.old) (F.failures self.old) (F.failures self.new)) }
         ensures unchanged { W.honest → F.stored self.new ≡ F.stored self.old }
         ensures counted { F.failures self.old ≤ F.failures self.new }
     {
