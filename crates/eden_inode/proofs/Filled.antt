@@ -95,7 +95,8 @@ item_same k e = ap (λ (s : Source). record { kind = (item_by e.mode e.id).kind;
 pub find_items : (n : Name) (k : ℕ) (es : List TreeEntry) → option_map item_away (find_row n (numbered k es)) ≡ items_of es n
 find_items n k [] = refl
 find_items n k (e ∷ es) =
-    elim (bytes_eq n e.name) as (λ b. option_map item_away (cond b (Some (row_by k e)) (find_row n (numbered (suc k) es))) ≡ option_map (λ x. item_by x.mode x.id) (cond b (Some e) (entry_named n es))) [
+    elim (bytes_eq n e.name) as (λ b. option_map item_away (cond b (Some (row_by k e)) (find_row n (numbered (suc k) es))) ≡ option_map (λ x. item_by x.mode x.id) (cond b (Some e) (entry_named n es)))
+        [
       | true ↦ ap Some (item_same k e)
       | false ↦ find_items n (suc k) es
     ]
@@ -278,7 +279,8 @@ object_of es fs d k o differ is =
       items = λ n. h.items n ∙ items_moved es fs o.same differ n;
     }
 
-pub storable_of : (es fs : List TreeEntry) (d : Directory) (k : ℕ) → IsInOrder es fs → d.rows ≡ numbered k fs → length d.rows < 2 ^ 32 → number_least ≤ k → k + length es ≤ number_end → AreStorable (listing_of d)
+pub storable_of : (es fs : List TreeEntry) (d : Directory) (k : ℕ) → IsInOrder es fs → d.rows ≡ numbered k fs → length d.rows < 2 ^ 32 → number_least ≤ k → k + length es ≤ number_end
+    → AreStorable (listing_of d)
 storable_of es fs d k o is few least most =
     let size = length_permutation es fs o.same in
     filled_storable d k fs is o.rises few least (omega (arith, size, most)) o.good
