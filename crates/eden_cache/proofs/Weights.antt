@@ -56,7 +56,7 @@ module _ (eq : Key → Key → Bool) (c : LruCache Key Body) (k : Key) (v : Body
       → weight_of (option_map_or (λ e. (e.0, v) ∷ remove_entry (eq k) c.entries) o ((k, v) ∷ take (c.cap - 1) c.entries)) + weight_gone (displaced eq c k v) ≡ weight_of c.entries + length v.bytes
   put_cases None h =
       let out : displaced eq c k v ≡ slice_get c.entries (c.cap - 1) = ap (λ (o : Option Body). option_map_or (λ (old : Body). Some (k, old)) o (slice_get c.entries (c.cap - 1)))
-          (lookup-none (eq k) c.entries h) in
+      (lookup-none (eq k) c.entries h) in
       omega (arith, weight_of-cons (k, v) (take (c.cap - 1) c.entries), weight_of-take c.entries (c.cap - 1) (omega arith), ap weight_gone out)
   put_cases (Some e) h =
       let found = weight_of-remove_entry (eq k) c.entries e h in

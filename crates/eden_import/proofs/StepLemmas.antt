@@ -249,7 +249,7 @@ land_keeps k q h t = record {
       is_wanted-end_wants j k q.wants
       ∙ and_from (is_wanted j q.wants) (not (same_key k j)) (h.wanted j m)
       (not_from_false (same_key k j)
-          (⊎_elim (λ same. absurd (both_ways (has_key k q.queue) absent (ap (λ x. has_key x q.queue) ((same_key-Decides k j).0 same) ∙ m))) (λ other. other) (cases_Bool (same_key k j))));
+      (⊎_elim (λ same. absurd (both_ways (has_key k q.queue) absent (ap (λ x. has_key x q.queue) ((same_key-Decides k j).0 same) ∙ m))) (λ other. other) (cases_Bool (same_key k j))));
   awaited = λ j m.
       let parts = and_parts (is_wanted j q.wants) (not (same_key k j)) (sym (is_wanted-end_wants j k q.wants) ∙ m) in
       ap (λ b. b || has_key j q.queue) (has_key-without j k q.flight)

@@ -62,7 +62,7 @@ others_stored : (name : _) (rows : List (Name × Row)) → filter_map (entry_as 
 others_stored name [] = refl
 others_stored name (e ∷ es) =
     elim (bytes_eq name.now e.0) as
-        (λ b. cons_option (option_map (λ o. record { name = e.0; kind = e.1.kind; origin = o; number = e.1.number }) (cond b None (Some e.1.origin))) (filter_map (entry_as (Without name)) es)
+    (λ b. cons_option (option_map (λ o. record { name = e.0; kind = e.1.kind; origin = o; number = e.1.number }) (cond b None (Some e.1.origin))) (filter_map (entry_as (Without name)) es)
     ≡ map stored_entry (cond b (rows_without name.now es) (e ∷ rows_without name.now es))) [
       | true ↦ others_stored name es
       | false ↦ ap (λ l. stored_entry e ∷ l) (others_stored name es)

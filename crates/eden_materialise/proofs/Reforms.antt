@@ -86,8 +86,8 @@ pub reform_shown : (honest : Type 0) (R : Repository) (p : Path) (n : Name) (k :
 reform_shown honest R p n k w F x old G z new next table h kept a other (Ok u) c =
     let may = may_reform honest R F x next p n k w table a other in
     let same : G w.number ≡ F w.number = entry_elsewhere R F x next table kept p a.row a.directory n w a.at a.holds a.there a.unloaded F p a.row a.directory _ G a.at a.holds
-        (c.stored h a.row a.directory a.at a.holds) in
+    (c.stored h a.row a.directory a.at a.holds) in
     changes_shown honest R p n (Some (of_kind k w)) F x old G z new next table may h kept (Ok u) c
     ∙ ap (λ (T : Tree). graft (p ++ n ∷ []) T (shown_in R F x))
-        (content_shows R G (of_kind k w) other a.unloaded ∙ ap (λ (o : Option (List ℕ)). leaf (node_from k o false)) (same_content R F G w.number w.origin same))
+    (content_shows R G (of_kind k w) other a.unloaded ∙ ap (λ (o : Option (List ℕ)). leaf (node_from k o false)) (same_content R F G w.number w.origin same))
 reform_shown honest R p n k w F x old G z new next table h kept a other (Err e) c = tt

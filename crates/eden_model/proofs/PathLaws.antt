@@ -168,8 +168,8 @@ not_below F from to n (Some (m ∷ s)) e other at fine w =
 not_both : (F : Tree) (from to : Path) (n : Node) → from ≢ to → F from ≡ Some n → Moves F from to n say.Ok → (is_front from to ≡ false) × (is_front to from ≡ false)
 not_both F from to n other at h =
     let rest = subst (λ (b : Bool). Whether b (Says say.Ok)
-        (Unless (is_dir n && is_front from to) EINVAL (Unless (is_front to from) ENOTEMPTY (Meets (reach F to) (Says say.Ok) (Replaces F to (is_dir n))))) say.Ok)
-        (other_by from to (path_eq from to) refl (λ e. other (sym e))) h in
+    (Unless (is_dir n && is_front from to) EINVAL (Unless (is_front to from) ENOTEMPTY (Meets (reach F to) (Says say.Ok) (Replaces F to (is_dir n))))) say.Ok)
+    (other_by from to (path_eq from to) refl (λ e. other (sym e))) h in
     let one = else_of (is_dir n && is_front from to) EINVAL _ say.Ok refl rest in
     let two = else_of (is_front to from) ENOTEMPTY _ say.Ok refl one.1 in
     (not_below F from to n (behind_of from to) refl other at one.0 (lands (reach F to) _ say.Ok (walk F to) (F to) refl refl two.1), two.0)

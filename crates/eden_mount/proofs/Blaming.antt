@@ -137,7 +137,7 @@ module _ {T : Type 0} (A : Table T) (honest : Type 0) (opening : Tree) where
       let is = ap (λ (x : Core T). x.queue) p.1 in
       let next = next_key m.queue in
       same_queue w P m k (ap (λ (q : Queue). q.wants) is ∙ (wants_stay m.queue 0 next).0) (ap (λ (q : Queue). q.marks) is ∙ (marks_stay m.queue some_key 0 next).3)
-          (ap (λ (q : Queue). q.passes) is ∙ taken_passes m.queue next) l
+      (ap (λ (q : Queue). q.passes) is ∙ taken_passes m.queue next) l
   hears w P m k _ _ h l (arrives j bytes Stored p) = key_landed w P m k j l (ap (λ (x : Core T). x.queue) p.2)
   hears w P m k _ _ h l (arrives j bytes (Refused x) p) = key_failed w P m k j x h l (ap (λ (x : Core T). x.queue) p.2)
   hears w P m k _ _ h l (arrives j bytes Stray p) = same_all w P m k (ap (λ (x : Core T). x.queue) p.1) l

@@ -145,7 +145,7 @@ module _ {T : Type 0} (A : Table T) where
       let seats : m'.seats ≡ m.seats = ap (λ (y : Core T). y.seats) is in
       let table : m'.table ≡ m.table = ap (λ (y : Core T). y.table) is in
       let mark : mark_of 1 m'.queue ≡ Some (k, x) = ap (mark_of 1) queue ∙ wanters_are_marked m.queue k x 1 h.kept (first_pass m.queue h.kept) ∙
-          (met k (want_of 1 m.queue) (mark_of 1 m.queue) (k, x) h.wants).1 in
+      (met k (want_of 1 m.queue) (mark_of 1 m.queue) (k, x) h.wants).1 in
       let want : want_of 1 m'.queue ≡ cond (wants_key k (want_of 1 m.queue)) None (want_of 1 m.queue) = ap (want_of 1) queue ∙ (all_are_met m.queue k x 1).1 ∙ (all_are_met m.queue k x 1).0 in
       let needed : (j : Key) (y : Cause) → mark_of 1 m'.queue ≡ Some (j, y) → A.needs m'.table q j = λ j y e.
       (let both : Some (k, x) ≡ Some (j, y) = sym mark ∙ e in
@@ -250,9 +250,9 @@ module _ {T : Type 0} (A : Table T) (honest : Type 0) where
       let wait : WaitsBy A honest m.table q (mark_of 1 m.queue) k m1.table = subst (λ (y : Request). WaitsBy A honest m.table y (mark_of 1 m.queue) k m1.table) asked w in
       let queue1 : m1.queue ≡ record old { queue = k ∷ []; wants = set m.queue.wants 0 (Some k) } = ap (λ (x : Core T). x.queue) is ∙ await_alone k old h.quiet.queue h.quiet.flight h.unwanting in
       let took = took_alone k j m1.queue (ap (λ (x : Queue). x.flight) queue1 ∙ h.quiet.flight) (ap (λ (x : Queue). x.queue) queue1)
-          (subst (λ n. 1 ≤ n) (sym (ap (λ (x : Queue). x.flights) queue1)) h.kept.some_flights.0) next in
+      (subst (λ n. 1 ≤ n) (sym (ap (λ (x : Queue). x.flights) queue1)) h.kept.some_flights.0) next in
       let queue2 : m2.queue ≡ record old { queue = []; flight = k ∷ []; wants = set m.queue.wants 0 (Some k) } = ap (λ (x : Core T). x.queue) is2 ∙ took.1 ∙ ap
-          (λ (x : Queue). record x { queue = []; flight = k ∷ [] }) queue1 in
+      (λ (x : Queue). record x { queue = []; flight = k ∷ [] }) queue1 in
       let table : m2.table ≡ m1.table = ap (λ (x : Core T). x.table) is2 in
       let seats : m2.seats ≡ m.seats = ap (λ (x : Core T). x.seats) is2 ∙ ap (λ (x : Core T). x.seats) is in
       let wide : 0 < length m.queue.wants = (let e = h.kept.each_pass_wants in let low = h.kept.some_passes.0 in omega (arith, e, low)) in

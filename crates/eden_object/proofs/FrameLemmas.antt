@@ -53,7 +53,7 @@ digits_onto_lacks zero n acc p = p
 digits_onto_lacks (suc k) n acc p =
     let d = digit_glyph false (n % 10) in
     either_lacks (n / 10 == 0) (d ∷ acc) (digits_onto k 10 false (n / 10) (d ∷ acc)) (glyph_at (nat_lt (n % 10) 10) (n % 10), p)
-        (digits_onto_lacks k (n / 10) (d ∷ acc) (glyph_at (nat_lt (n % 10) 10) (n % 10), p))
+    (digits_onto_lacks k (n / 10) (d ∷ acc) (glyph_at (nat_lt (n % 10) 10) (n % 10), p))
 
 pub decimal_lacks : (n : ℕ) → Lacks 0 (decimal n)
 unfolding digits

@@ -136,7 +136,7 @@ pub stands_start : (first : TreeEntry) (body rest : List ℕ) → length first.n
 stands_start first body rest short b = λ es h.
     let behind = behind_entry first es body rest b h in
     let own : slice_index_or (set (replicate 256 false) (length first.name) true) (length first.name) false ≡ true = get_or-set_same (replicate 256 false) (length first.name) true false
-        (let size = length-replicate 256 false in omega arith) in (
+    (let size = length-replicate 256 false in omega arith) in (
       behind.0,
       behind.2,
       record {
@@ -242,8 +242,11 @@ step_on old new last next shared s not es gs st = record {
     all : IsOrdered (next ∷ gs) → GoesOn new next gs → (n : ℕ) → slice_index_or old n false ≡ true → (shared < n) ⊎ (n ≤ shared)
         → IsFree (take n last.name) (next ∷ gs)
     all o g n m (inl far) = past_free (take n last.name) next gs o (front_past old new last next shared s n far (s.marks.within n m))
-    all o g n m (inr near) = (front_other old new last next shared s not n near m, subst (λ t. IsFree t gs)
-        (sym (take_same n last.name next.name (let first = s.first in omega arith) (let second = s.second in omega arith) (λ i h. s.same i (omega arith)))) (g.free n (s.kept n near m)))
+    all o g n m (inr near) = (
+      front_other old new last next shared s not n near m,
+      subst (λ t. IsFree t gs)
+          (sym (take_same n last.name next.name (let first = s.first in omega arith) (let second = s.second in omega arith) (λ i h. s.same i (omega arith)))) (g.free n (s.kept n near m)),
+    )
 
 -- a name that is marked and comes again
 pub comes_again : (fronts : List Bool) (last next : TreeEntry) (shared : ℕ) (es gs : List TreeEntry) → StandsFor fronts last es (next ∷ gs)
@@ -317,8 +320,16 @@ shared_of (x ∷ xs) (y ∷ ys) = go (cases_order x y) (shared_of xs ys)
     front n e s (suc i) h = s.same i (omega arith)
 
     go : (x ≡ y) ⊎ ((x < y) ⊎ (y < x)) → (n : ℕ) × Shares xs ys n → (n : ℕ) × Shares (x ∷ xs) (y ∷ ys) n
-    go (inl e) (n, s) = (suc n, record { first = let short = s.first in omega arith; second = let short = s.second in omega arith; same = front n e s; most = λ h k. s.most (omega arith)
-        (omega arith) })
+    go (inl e) (n, s) = (
+      suc n,
+      record {
+        first = let short = s.first in omega arith;
+        second = let short = s.second in omega arith;
+        same = front n e s;
+        most = λ h k. s.most (omega arith)
+            (omega arith);
+      },
+    )
     go (inr (inl less)) r = apart (λ e. omega arith)
     go (inr (inr more)) r = apart (λ e. omega arith)
 

@@ -138,7 +138,7 @@ lacks_entry p above n x split passes none =
       holds = y.1.1.1;
       absent = absent_in n y.1.1.0
           (sym (ap (option_and_then (λ (e : Directory). option_and_then (row_at []) (find_row n e.rows))) y.1.1.1) ∙ sym (ap (option_and_then (row_at (n ∷ []))) y.1.0) ∙ sym
-              (reads_on above (n ∷ []) x)
+          (reads_on above (n ∷ []) x)
           ∙ sym (ap (λ (q : Path). row_at q x) split) ∙ none);
     }
 

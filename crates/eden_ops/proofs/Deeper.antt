@@ -54,7 +54,7 @@ module _ (x z : Row) (grows : Grows x z) where
   deeper_by : (front : Path) (n : Name) (rest : Path) (o : Option Node) → known x front ≡ o → through o (walk_from (known x) (front ++ n ∷ []) rest) ≡ Unlisted
       → IsLoadedAt (cond (is_unlisted o) front (place_from (known x) (front ++ n ∷ []) rest)) z
       → (walk_from (known x) (front ++ n ∷ []) rest ≡ Unlisted → IsLoadedAt (place_from (known x) (front ++ n ∷ []) rest) z
-          → length (place_from (known x) (front ++ n ∷ []) rest) < length (place_from (known z) (front ++ n ∷ []) rest))
+      → length (place_from (known x) (front ++ n ∷ []) rest) < length (place_from (known z) (front ++ n ∷ []) rest))
       → length (cond (is_unlisted o) front (place_from (known x) (front ++ n ∷ []) rest)) < length (cond (is_unlisted (known z front)) front (place_from (known z) (front ++ n ∷ []) rest))
   deeper_by front n rest None at w l on = cc
   deeper_by front n rest (Some (File e c)) at w l on = cc

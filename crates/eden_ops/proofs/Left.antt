@@ -57,7 +57,7 @@ module _ (y v : Row) (stays : Stays (standing y) (standing v)) where
       absurd (none-some (up.0, d.unsaved) (sym (ap (option_map (λ (x : Directory). (x.stamp, x.unsaved))) now) ∙ up.1))
   node_by None (Some e) was now =
       let dir = is_dir y.kind (λ other. none-some (e.stamp, e.unsaved)
-          (sym (stays.leaf other (ap (option_map (λ (x : Directory). (x.stamp, x.unsaved))) was)) ∙ ap (option_map (λ (x : Directory). (x.stamp, x.unsaved))) now)) in
+      (sym (stays.leaf other (ap (option_map (λ (x : Directory). (x.stamp, x.unsaved))) was)) ∙ ap (option_map (λ (x : Directory). (x.stamp, x.unsaved))) now)) in
       inr (known_unloaded y was ∙ dir_node y.kind (content_known y.origin) dir, known_loaded v e now)
   node_by None None was now = inl (known_unloaded v now ∙ bare_node ∙ sym (known_unloaded y was))
 

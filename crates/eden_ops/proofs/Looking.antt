@@ -94,7 +94,7 @@ reads_some offset count k c l b plain some is =
     let n = file_node k c l plain in
     let r : Reply = say.Data (take count (drop offset b)) in
     subst (λ (a : Node). Reads offset count a r) (sym n.1)
-        (reads_as offset count n.0 c r false some (subst (λ (o : Option (List ℕ)). Into o (λ bytes. say.Data (take count (drop offset bytes))) r) (sym is) refl))
+    (reads_as offset count n.0 c r false some (subst (λ (o : Option (List ℕ)). Into o (λ bytes. say.Data (take count (drop offset bytes))) r) (sym is) refl))
 
 pub reads_lost : (offset count : ℕ) (k : Kind) (c : Option (List ℕ)) (l : Bool) (r : Reply) → IsPlain k → (count == 0) ≡ false → c ≡ None → ¬ Reads offset count (node_from k c l) r
 reads_lost offset count k c l r plain some is h =

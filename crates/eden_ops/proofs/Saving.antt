@@ -31,9 +31,11 @@ SavedAt x = (p : Path) (v : Standing) (stamp : ℕ) (unsaved : Bool) → standin
 place_path : (x y : Row) → Place x y → (p : Path) × (row_at p x ≡ Some y)
 place_path x _ top = ([], refl)
 place_path x z (inside y d n _ place holds found) =
-    let h = place_path x y place in
-    (h.0 ++ n ∷ [], reads_on h.0 (n ∷ []) x ∙ ap (option_and_then (row_at (n ∷ []))) h.1 ∙ ap (option_and_then (λ (e : Directory). option_and_then (row_at []) (find_row n e.rows))) holds ∙ ap
-        (option_and_then (row_at [])) found)
+    let h = place_path x y place in (
+      h.0 ++ n ∷ [],
+      reads_on h.0 (n ∷ []) x ∙ ap (option_and_then (row_at (n ∷ []))) h.1 ∙ ap (option_and_then (λ (e : Directory). option_and_then (row_at []) (find_row n e.rows))) holds ∙ ap
+          (option_and_then (row_at [])) found,
+    )
 
 pub by_path : (x : Row) → AreSaved x → SavedAt x
 by_path x all p v stamp unsaved at loaded =
@@ -77,7 +79,7 @@ module _ (p : Path) (x y : Row) (d : Directory) (clock : ℕ) (there : row_at p 
   mark_here [] v stamp unsaved at loaded =
       let same : standing (with_child (Some d) y) ≡ v = same_Some (standing (with_child (Some d) y)) v at in
       let l : Some (d.stamp, d.unsaved) ≡ Some (stamp, unsaved) = sym (ap (option_map (λ (e : Directory). (e.stamp, e.unsaved))) (child_of-with_child (Some d) y)) ∙ ap
-          (λ (s : Standing). s.loaded) same ∙ loaded in
+      (λ (s : Standing). s.loaded) same ∙ loaded in
       sym (ap (λ (m : ℕ × Bool). m.1) (same_Some (d.stamp, d.unsaved) (stamp, unsaved) l)) ∙ fresh.saved
   mark_here (n ∷ r) v stamp unsaved at loaded =
       let none = below_by r n v (find_row n d.rows) (λ z is. none_inside d fresh.unloaded n z is)
@@ -128,8 +130,14 @@ module _ {W F : Type 0} (w : Ghosts W) (f : Files F W) where
   keeps_leaves s t k =
       let n = keeps_counts w f s t k in
       record {
-        everywhere = record { loaded = λ p all. grows_loads s.root t.root (keeps_entries w f s t k) p; root = root_grows s.root t.root
-            (keeps_entries w f s t k); next = n.1.1.0; failures = n.1.1.1; clock = n.0 };
+        everywhere = record {
+          loaded = λ p all. grows_loads s.root t.root (keeps_entries w f s t k) p;
+          root = root_grows s.root t.root
+              (keeps_entries w f s t k);
+          next = n.1.1.0;
+          failures = n.1.1.1;
+          clock = n.0;
+        };
         saved = λ all. by_place t.root (steps_saved s t k (by_path s.root all));
       }
 
@@ -140,8 +148,14 @@ leaves_on f paths s t u a b =
     let m = b.next in
     let c = a.failures in
     let d = b.failures in
-    record { loaded = λ p in_them is. b.loaded p in_them (a.loaded p in_them is); root = comes_on s.root.origin t.root.origin u.root.origin a.root b.root; next = omega (arith, n, m); failures = omega
-        (arith, c, d); clock = b.clock ∙ a.clock }
+    record {
+      loaded = λ p in_them is. b.loaded p in_them (a.loaded p in_them is);
+      root = comes_on s.root.origin t.root.origin u.root.origin a.root b.root;
+      next = omega (arith, n, m);
+      failures = omega
+          (arith, c, d);
+      clock = b.clock ∙ a.clock;
+    }
 
 -- what leaves something on every path leaves it on some
 pub leaves_some : {W F : Type 0} (f : Files F W) (paths : Path → Type 0) (s t : Table F) → Leaves f s t → LeavesOn f paths s t

@@ -80,7 +80,7 @@ module _ (below : ShowsBelow) (missing : ShowsAbsent) (R : Repository) (F : Stor
   seen_below p n y d at holds none =
       missing R F p n [] x y d dirs at holds
       (find_none n d (sym (ap (option_and_then (λ (e : Directory). option_and_then (row_at []) (find_row n e.rows))) holds) ∙ sym (ap (option_and_then (row_at (n ∷ []))) at) ∙ sym
-          (reads_on p (n ∷ []) x) ∙ none))
+      (reads_on p (n ∷ []) x) ∙ none))
 
   -- how the walk goes over what is shown, where it goes so over what is known
   abbrev Same : Walk → Path → Path → Type 0
@@ -110,8 +110,8 @@ module _ (below : ShowsBelow) (missing : ShowsAbsent) (R : Repository) (F : Stor
   shown_dir p y d at holds =
       let h = shown_there p y at in
       h.1.0 ∙ ap (λ (n : Node). Some n)
-          (h.1.1.is ∙ dir_true y.kind (content_with R (own_files F) (source_of y.number y.origin)) h.1.1.listed (dirs y d (place_at p x y at) holds)
-          (h.1.1.loaded (subst (λ (o : Option Directory). IsSome o) (sym holds) refl)).1)
+      (h.1.1.is ∙ dir_true y.kind (content_with R (own_files F) (source_of y.number y.origin)) h.1.1.listed (dirs y d (place_at p x y at) holds)
+      (h.1.1.loaded (subst (λ (o : Option Directory). IsSome o) (sym holds) refl)).1)
 
   by_child : (f : Path) (n : Name) (rest : Path) (w : Walk) (y : Row) (o : Option Directory) → child_of y ≡ o → row_at f x ≡ Some y → (Seen (f ++ n ∷ []) → Same w (f ++ n ∷ []) rest)
       → Same (through (Some (known_node y)) w) f (n ∷ rest)

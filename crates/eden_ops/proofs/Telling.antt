@@ -68,7 +68,7 @@ module _ {W F : Type 0} (w : Ghosts W) (f : Files F W) (p : Path) (s t : Table F
 
       pub content_tells : (r : Reply) → fault_of r ≡ None → ((T : Tree) → after T q r ≡ T)
           → (w.honest → (y : Row) → row_at p t.root ≡ Some y → (listed : Bool) → y.kind ≡ seen.kind → here (shows w f s) (shown_node w.repository (f.stored t.files) y listed) r)
-              → Attempts w f q s u c e (Finished r)
+          → Attempts w f q s u c e (Finished r)
       content_tells r fine leaves says =
           replied w f q p here asks s u c e (λ h. alike h ∙ same h) on (finds_on c d e cache finds) r fine leaves
           (λ h. says_at w.repository (f.stored t.files) p here (shows w f s) (row_at p t.root) at.row at.there (there h) r (λ listed. says h at.row at.there listed (sym at.kind)))
@@ -82,6 +82,6 @@ module _ {W F : Type 0} (w : Ghosts W) (f : Files F W) (p : Path) (s t : Table F
           (λ k wanted.
           let none = need k wanted in
           let lost = known_lost p u.root seen (record { row = at.row; there = row; number = at.number; kind = at.kind; origin = at.origin; loaded = at.loaded }) e k off
-              (subst (λ (y : Stop). Lacks w f p t u e y) wanted h) in
+          (subst (λ (y : Stop). Lacks w f p t u e y) wanted h) in
           (λ r x. none.0 at.row.kind (content_known at.row.origin) r (sym at.kind) lost.1 (subst (λ (a : Node). here (known u.root) a r) lost.0 x), none.1))
           (lacks_since w f p s t u e keeps z h)

@@ -189,7 +189,7 @@ pub record Begins {W F : Type 0} (w : Ghosts W) (f : Files F W) (from to : Path)
 pub begins : {W F : Type 0} (w : Ghosts W) (f : Files F W) (from to : Path) (s t : Table F) (c d : Cache) (o : Option Seen) (seen : Seen) (dir : Bool) → o ≡ Some seen → is_root from ≡ false
     → is_root to ≡ false
     → Meets w f from s t d (Ok o) → (w.honest → MeetsShown w f from s t (Ok o)) → (w.honest → shows w f t ≡ shows w f s) → Keeps w f s t → FindsTheSame c d → IsTold seen dir
-        → Begins w f from to s t c d seen dir
+    → Begins w f from to s t c d seen dir
 begins w f from to s t c d o seen dir is root other meets shown same keeps cache told = record {
   root = root;
   other = other;

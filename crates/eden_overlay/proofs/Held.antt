@@ -27,7 +27,7 @@ pub stored_in-files_of : (es : List (ℕ × Vec ℕ Global)) (k : ℕ) → store
 stored_in-files_of [] k = refl
 stored_in-files_of (e ∷ es) k =
     cond-option_map (λ (v : Vec ℕ Global). v.items) (k == e.0) (is_at (nat_cmp k) e.0) (Some e.1) (lookup (is_at (nat_cmp k)) es) (stored_in (files_of es) k) (sym (is_at-nat_cmp k e.0))
-        (stored_in-files_of es k)
+    (stored_in-files_of es k)
 
 -- a change of the map at a number is a change of what is stored there
 pub stored_in-updates : (m n : BTreeMap ℕ (Vec ℕ Global)) (k : ℕ) (w : Option (Vec ℕ Global)) → Updates nat_cmp m n k w
@@ -35,8 +35,8 @@ pub stored_in-updates : (m n : BTreeMap ℕ (Vec ℕ Global)) (k : ℕ) (w : Opt
 stored_in-updates m n k w h =
     let items : Option (Vec ℕ Global) → Option (List ℕ) = λ o. option_map (λ v. v.items) o in
     fun_ext (λ q. stored_in-files_of n.entries q ∙ ap items (h.0 q) ∙ sym
-        (cond-option_map (λ (v : Vec ℕ Global). v.items) (k == q) (is_at (nat_cmp k) q) w (lookup (is_at (nat_cmp q)) m.entries) (stored_in (files_of m.entries) q) (sym (is_at-nat_cmp k q))
-        (stored_in-files_of m.entries q)))
+    (cond-option_map (λ (v : Vec ℕ Global). v.items) (k == q) (is_at (nat_cmp k) q) w (lookup (is_at (nat_cmp q)) m.entries) (stored_in (files_of m.entries) q) (sym (is_at-nat_cmp k q))
+    (stored_in-files_of m.entries q)))
 
 IsSome-option_map : {A B : Type 0} (f : A → B) (o : Option A) → IsSome o → IsSome (option_map f o)
 IsSome-option_map f None h = h

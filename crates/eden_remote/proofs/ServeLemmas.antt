@@ -93,7 +93,7 @@ module _ {S : Type 0} (fetched : S → Id → Answer → S → Type 0) where
 pub buffer_read : (a k n : ℕ) (xs ys : List ℕ) → a ≤ length xs → n ≤ length ys → take (a + n) (put_mid a k xs ys) ≡ take a xs ++ take n ys
 buffer_read a k n xs ys within fits =
     ap (λ m. take (m + n) (put_mid a k xs ys)) (sym (length-take-le a xs within)) ∙ take-append-add (take a xs) (ys ++ post_of a k xs) n ∙ ap (λ l. take a xs ++ l)
-        (take-append-le n ys (post_of a k xs) fits)
+    (take-append-le n ys (post_of a k xs) fits)
 
 -- it stays as long as it was
 pub buffer_kept : (a k : ℕ) (xs ys : List ℕ) → a + k ≡ length xs → length ys ≡ k → length (put_mid a k xs ys) ≡ length xs

@@ -37,7 +37,7 @@ pub framed_at-objects_of : (es : List (Id × Vec ℕ Global)) (k : Id) → frame
 framed_at-objects_of [] k = refl
 framed_at-objects_of (e ∷ es) k =
     cond-option_map (λ (v : Vec ℕ Global). v.items) (bytes_eq k.bytes e.0.bytes) (is_at (id_cmp k) e.0) e.1 (lookup (is_at (id_cmp k)) es) (framed_at (objects_of es) k) (sym (is_at-id_cmp k e.0))
-        (framed_at-objects_of es k)
+    (framed_at-objects_of es k)
 
 -- an insertion into the map puts the bytes under the id
 pub Puts-objects_of : (m n : BTreeMap Id (Vec ℕ Global)) (id : Id) (v : Vec ℕ Global) → Updates id_cmp m n id (Some v) → Puts (objects_of m.entries) (objects_of n.entries) id v.items

@@ -154,8 +154,11 @@ IsBelow-drop_row m n (e ∷ es) p = elim (bytes_eq n e.0) as (λ b. IsBelow m (c
 pub AreRising-drop_row : (n : Name) (es : List Named) → AreRising (λ r. r.0) es → AreRising (λ r. r.0) (drop_row n es)
 AreRising-drop_row n [] p = none_rise
 AreRising-drop_row n (e ∷ es) p = elim (bytes_eq n e.0) as
-    (λ b. AreRising (λ r. r.0) (cond b es (e ∷ drop_row n es))) [ true ↦ others e es p | false ↦ joined e (drop_row n es) (IsBelow-drop_row e.0 n es (first_below e es p))
-    (AreRising-drop_row n es (others e es p)) ]
+    (λ b. AreRising (λ r. r.0) (cond b es (e ∷ drop_row n es))) [
+      | true ↦ others e es p
+      | false ↦ joined e (drop_row n es) (IsBelow-drop_row e.0 n es (first_below e es p))
+          (AreRising-drop_row n es (others e es p))
+    ]
 
 pub length-drop_row : (n : Name) (es : List Named) → IsSome (find_row n es) → suc (length (drop_row n es)) ≡ length es
 length-drop_row n [] h = absurd (cc)

@@ -64,7 +64,7 @@ spelled_parts (n ∷ done) [] rest cut good all h = absurd cc
 spelled_parts (n ∷ done) (c ∷ path) rest cut good all h =
     let tail : (name_text n ++ parts_text done) ++ rest ≡ name_text c ++ parts_text path = cc in
     let both = first_part 47 (name_text n) (name_text c) (parts_text done ++ rest) (parts_text path) (no_slash n) (no_slash c) (cut_more done rest cut) (cut_parts path)
-        (sym (append_assoc (name_text n) (parts_text done) rest) ∙ tail) in
+    (sym (append_assoc (name_text n) (parts_text done) rest) ∙ tail) in
     let on = spelled_parts done path rest cut good.1 all.1 both.1 in
     (on.0, on.1, on.2, ap (λ v. v ∷ path) (sym (name_same n c good.0.1 all.0.1 both.0)) ∙ ap (λ l. n ∷ l) on.3)
 

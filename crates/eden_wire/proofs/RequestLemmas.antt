@@ -312,7 +312,7 @@ asks_some line first rest w cut is scan = let x = scanned line first rest w None
 request_same : (q r : Request) → IsSpelled q → IsSpelled r → request_line q ≡ request_line r → q ≡ r
 request_same q r h k e =
     let parts = first_part 32 (word_text (word_of q)) (word_text (word_of r)) (fields_text (fields_of q)) (fields_text (fields_of r)) (word_lacks (word_of q)) (word_lacks (word_of r))
-        (fields_cut (fields_of q)) (fields_cut (fields_of r)) e in
+    (fields_cut (fields_of q)) (fields_cut (fields_of r)) e in
     let words_same : word_of q ≡ word_of r = word_same (word_of q) (word_of r) parts.0 in
     let all : fields_of q ≡ fields_of r = fields_same (shape_of (word_of r)) (fields_of q) (fields_of r) (subst (λ v. AreFields (shape_of v) (fields_of q)) words_same h) k parts.1 in
     let both : Some q ≡ Some r = sym (its_request q) ∙ ap (λ v. request_of v (fields_of q)) words_same ∙ ap (request_of (word_of r)) all ∙ its_request r in

@@ -22,8 +22,13 @@ use Rattle.eden_wire.proofs.SessionLemmas.{Lines-append, Lines-more, Serves-appe
 
 -- after a text, a beginning of the next
 front_then : (a b c : Option (List ℕ)) (x y : List ℕ) → Appends a b x → WritesFront b c y → WritesFront a c (x ++ y)
-front_then a b c x y done w = record { front = x ++ w.front; rest = w.rest; whole = ap (λ l. x ++ l) w.whole ∙ sym
-    (append_assoc x w.front w.rest); appends = Appends-trans a b c x w.front done w.appends }
+front_then a b c x y done w = record {
+  front = x ++ w.front;
+  rest = w.rest;
+  whole = ap (λ l. x ++ l) w.whole ∙ sym
+      (append_assoc x w.front w.rest);
+  appends = Appends-trans a b c x w.front done w.appends;
+}
 
 module _ {S : Type 0} (answers : Answering S) where
   -- the lines that were read so far were answered, and the rest is the beginning of one more
@@ -43,8 +48,16 @@ module _ {S : Type 0} (answers : Answering S) where
   -- nothing was read
   pub so_far_kept : (s t : S) (i j k o p : Option (List ℕ)) (rest : List ℕ) → SoFar s t i j o p rest → Keeps j k → SoFar s t i k o p rest
   so_far_kept s t i j k o p rest so
-      kept = record { read = so.read; items = so.items; given = so.given; consumed = Consumes-kept i j k so.read so.consumed kept; lines = so.lines; served = so.served; wrote = so.wrote;
-      one = so.one }
+      kept = record {
+        read = so.read;
+        items = so.items;
+        given = so.given;
+        consumed = Consumes-kept i j k so.read so.consumed kept;
+        lines = so.lines;
+        served = so.served;
+        wrote = so.wrote;
+        one = so.one;
+      }
 
   -- a piece was read, and its lines were answered
   pub so_far_more : (s t u : S) (i j k o p q : Option (List ℕ)) (rest piece after : List ℕ) (out : Output) → SoFar s t i j o p rest → Consumes j k piece
@@ -78,8 +91,11 @@ module _ {S : Type 0} (answers : Answering S) where
         consumed = Consumes-trans i j k so.read piece so.consumed more;
         lines = Lines-append (so.read ++ piece) so.items a.items (rest ++ piece) a.rest (Lines-more so.read so.items rest piece so.lines) a.lines;
         served = subst (λ l. Serves answers s l (so.given ++ a.given) u) all (Serves-append answers s so.items so.given t (a.items ++ a.last) a.given u so.served a.served);
-        said = (subst (Ends a.rest k) (sym a.left.0) (inl a.left.1), subst (λ l. Appends o q (texts l (so.given ++ a.given))) all
-            (subst (Appends o q) (sym (texts-append answers s so.items so.given t (a.items ++ a.last) a.given so.served)) (Appends-trans o p q _ _ so.wrote a.wrote)));
+        said = (
+          subst (Ends a.rest k) (sym a.left.0) (inl a.left.1),
+          subst (λ l. Appends o q (texts l (so.given ++ a.given))) all
+              (subst (Appends o q) (sym (texts-append answers s so.items so.given t (a.items ++ a.last) a.given so.served)) (Appends-trans o p q _ _ so.wrote a.wrote)),
+        );
       }
 
   ended : (rest : List ℕ) (k : Option (List ℕ)) (last : List Item) → (last ≡ []) ⊎ ((last ≡ Bad ∷ []) × IsBadEnd rest) → (last ≡ []) ⊎ Ends rest k last
@@ -99,8 +115,11 @@ module _ {S : Type 0} (answers : Answering S) where
         consumed = Consumes-trans i j k so.read piece so.consumed more;
         lines = Lines-append (so.read ++ piece) so.items a.items (rest ++ piece) a.rest (Lines-more so.read so.items rest piece so.lines) a.lines;
         served = subst (λ l. Serves answers s l (so.given ++ a.given) u) all (Serves-append answers s so.items so.given t (a.items ++ a.last) a.given u so.served a.served);
-        said = (ended a.rest k a.last a.left, subst (λ l. WritesFront o q (texts l (so.given ++ a.given))) all
-            (subst (WritesFront o q) (sym (texts-append answers s so.items so.given t (a.items ++ a.last) a.given so.served)) (front_then o p q _ _ so.wrote a.wrote)));
+        said = (
+          ended a.rest k a.last a.left,
+          subst (λ l. WritesFront o q (texts l (so.given ++ a.given))) all
+              (subst (WritesFront o q) (sym (texts-append answers s so.items so.given t (a.items ++ a.last) a.given so.served)) (front_then o p q _ _ so.wrote a.wrote)),
+        );
       }
 
   pub session_unread : (s t : S) (i j k o p : Option (List ℕ)) (rest : List ℕ) → SoFar s t i j o p rest → Keeps j k → Session answers (s, t) (i, k) (o, p) (Err fault.Read)
@@ -147,8 +166,11 @@ module _ {S : Type 0} (answers : Answering S) where
     consumed = so.consumed;
     lines = so.lines;
     served = Serves-append answers s so.items so.given t (Bad ∷ []) [] t so.served refl;
-    said = (inr (inr record { one = so.one; some = omega arith; at_end = end }), subst (WritesFront o q) (sym (texts-append answers s so.items so.given t (Bad ∷ []) [] so.served))
-        (front_then o p q _ _ so.wrote (subst (WritesFront p q) (sym (append-nil (error_text EPROTO))) h.1)));
+    said = (
+      inr (inr record { one = so.one; some = omega arith; at_end = end }),
+      subst (WritesFront o q) (sym (texts-append answers s so.items so.given t (Bad ∷ []) [] so.served))
+          (front_then o p q _ _ so.wrote (subst (WritesFront p q) (sym (append-nil (error_text EPROTO))) h.1)),
+    );
   }
 
 -- reading nothing leaves a reader as it was

@@ -119,7 +119,7 @@ scans_name text rest len barred no_name refusal some so none found refused =
     let spelled : text ≡ name_text so.done = so.so_far ∙ ap (λ l. name_text so.done ++ l) none ∙ append-nil (name_text so.done) in
     let filled : 0 < length so.done = not_empty so.done (subst (λ t. 0 < length t) spelled some) in
     let test : no_name ≡ is_no_name so.done = found ∙ ap (λ v. v || is_dots text) so.bars ∙ ap
-        (λ t. (list_any (λ b. b == 47) so.done || list_any (λ b. b == 0) so.done) || is_dots t) spelled ∙ no_name_at so.done filled so.small in
+    (λ t. (list_any (λ b. b == 47) so.done || list_any (λ b. b == 0) so.done) || is_dots t) spelled ∙ no_name_at so.done filled so.small in
     record {
       name = so.done;
       good = (filled, so.small);
@@ -148,8 +148,19 @@ pub record PathSoFar (text rest : List ℕ) (refusal : Option Errno) (names byte
   pub not_root : text ≡ 47 ∷ [] → ⊥
 
 pub path_none : (text : List ℕ) → 0 < length text → IsCutAt 47 text → (text ≡ 47 ∷ [] → ⊥) → PathSoFar text text None 0 0
-path_none text some cut not_root = record { done = []; good = tt; so_far = refl; cut = cut; refused = refl; count = refl; size = refl; counted = omega arith; fits = omega arith; some = some;
-    not_root = not_root }
+path_none text some cut not_root = record {
+  done = [];
+  good = tt;
+  so_far = refl;
+  cut = cut;
+  refused = refl;
+  count = refl;
+  size = refl;
+  counted = omega arith;
+  fits = omega arith;
+  some = some;
+  not_root = not_root;
+}
 
 first-assoc : (x y z : Option Errno) → option_or (option_or x y) z ≡ option_or x (option_or y z)
 first-assoc (Some e) y z = refl
@@ -172,7 +183,7 @@ pub path_more : (text rest part more : List ℕ) (first found both : Option Errn
 path_more text rest part more first found both names bytes len count size so cut scan joined counted sized =
     let done = so.done ++ scan.name ∷ [] in
     let spelled : parts_text done ≡ parts_text so.done ++ (47 ∷ part) = flat_map-append component_text so.done (scan.name ∷ []) ∙ ap (λ l. parts_text so.done ++ l)
-        (append-nil (component_text scan.name) ∙ ap (λ l. 47 ∷ l) (sym scan.spelled)) in
+    (append-nil (component_text scan.name) ∙ ap (λ l. 47 ∷ l) (sym scan.spelled)) in
     let whole : text ≡ (parts_text so.done ++ (47 ∷ part)) ++ more = so.so_far ∙ ap (λ l. parts_text so.done ++ l) cut.whole ∙ sym (append_assoc (parts_text so.done) (47 ∷ part) more) in
     let long = part_size rest part more cut in
     let had = so.fits in
@@ -260,7 +271,7 @@ to_go_more text rest part more name names grown so cut good spelled push =
     let named : names_refusal (next.0 ∷ next.1) ≡ None = subst (λ l. names_refusal l ≡ None) next.2 so.named in
     let same : name ≡ next.0 = name_same name next.0 good.1 fine.0.1 (sym spelled ∙ next.3) in
     let whole : names ++ so.later ≡ grown ++ next.1 = ap (λ l. names ++ l) (next.2 ∙ ap (λ n. n ∷ next.1) (sym same)) ∙ sym (append_assoc names (name ∷ []) next.1) ∙ ap (λ l. l ++ next.1)
-        (sym push) in
+    (sym push) in
     record {
       later = next.1;
       good = subst AreComponents (sym push) (parts-append names (name ∷ []) so.good (good, tt));

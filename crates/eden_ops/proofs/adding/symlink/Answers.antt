@@ -32,4 +32,4 @@ returns-then-is_empty-clause-attempts g c =
     let q = ask.Symlink c.args.path.now c.args.target.now in
     let s = c.args.inodes.now in
     answered g.W.World g.F.Files q s s c.args.cache.now c.args.cache.now (λ h. refl) (finds_same c.args.cache.now) (say.Err ENOENT) refl (λ G. refl)
-        (λ h. rw (sym c.is_empty.ensures ∙ c.if-is_empty.true) refl)
+    (λ h. rw (sym c.is_empty.ensures ∙ c.if-is_empty.true) refl)

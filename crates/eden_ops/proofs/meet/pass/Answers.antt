@@ -19,7 +19,7 @@ returns-then-seen-path-clause-meets g c =
 pub returns-then-seen-path-clause-keeps : goal.returns-then-seen-path-clause-keeps
 returns-then-seen-path-clause-keeps g c =
     keeps_on g.W.World g.F.Files c.args.inodes.now c.fronts.inodes c.look-seen.new.self c.fronts.invariant.keeps
-        (looks g.W.World g.F.Files c.fronts.inodes c.look-seen.new.self c.args.path.now c.look-seen.ensures.stamped)
+    (looks g.W.World g.F.Files c.fronts.inodes c.look-seen.new.self c.args.path.now c.look-seen.ensures.stamped)
 
 pub returns-then-seen-path-2-clause-meets : goal.returns-then-seen-path-2-clause-meets
 returns-then-seen-path-2-clause-meets g c =
@@ -29,7 +29,7 @@ returns-then-seen-path-2-clause-meets g c =
 pub returns-then-seen-path-2-clause-keeps : goal.returns-then-seen-path-2-clause-keeps
 returns-then-seen-path-2-clause-keeps g c =
     keeps_on g.W.World g.F.Files c.args.inodes.now c.fronts.inodes c.look-seen.new.self c.fronts.invariant.keeps
-        (looks g.W.World g.F.Files c.fronts.inodes c.look-seen.new.self c.args.path.now c.look-seen.ensures.stamped)
+    (looks g.W.World g.F.Files c.fronts.inodes c.look-seen.new.self c.args.path.now c.look-seen.ensures.stamped)
 
 pub returns-then-seen-clause-meets : goal.returns-then-seen-clause-meets
 returns-then-seen-clause-meets g c =
@@ -42,7 +42,7 @@ returns-then-seen-clause-meets g c =
 pub returns-then-seen-clause-keeps : goal.returns-then-seen-clause-keeps
 returns-then-seen-clause-keeps g c =
     keeps_on g.W.World g.F.Files c.args.inodes.now c.fronts.inodes c.look-seen.new.self c.fronts.invariant.keeps
-        (looks g.W.World g.F.Files c.fronts.inodes c.look-seen.new.self c.args.path.now c.look-seen.ensures.stamped)
+    (looks g.W.World g.F.Files c.fronts.inodes c.look-seen.new.self c.args.path.now c.look-seen.ensures.stamped)
 
 pub returns-in-File : goal.returns-in-File
 returns-in-File g c =
@@ -95,7 +95,7 @@ fronts-smaller g c =
     let a = c.if-seen-path.false in
     let lt : seen.names < length p = omega (arith, le, a) in
     let above = counted_above g.W.World g.F.Files p c.fronts.inodes c.look-seen.new.self seen c.look-seen.ensures.stamped c.look-seen.ensures.last c.if-seen.false lt c.fronts.loaded
-        c.fronts.invariant.last in
+    c.fronts.invariant.last in
     omega (arith, above, lt)
 
 pub fronts-preserved : goal.fronts-preserved

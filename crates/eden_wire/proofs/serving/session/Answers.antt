@@ -50,7 +50,7 @@ reads-preserved g c =
           let found = w.in-Ok-read.ensures in
           let used = w.answer_piece-used.result.0 in
           let answered = answered_as g.S.Service.answers _ _ _ _ _ _ _ used _ _ (w.as_slice-bytes.ensures ∙ found.joined)
-              (w.in-Ok-true.is ∙ ap Ok w.in-Ok-true.field-0-test) w.answer_piece-used.ensures.answered in
+          (w.in-Ok-true.is ∙ ap Ok w.in-Ok-true.field-0-test) w.answer_piece-used.ensures.answered in
           let after = w.drop_front.ensures ∙ ap (drop used) found.joined in
           rw (w.writer-is, w.service-is, w.input-is, w.output-is) record {
             short = subst (λ l. length l ≤ longest_line) (sym after) (answered_short g.S.Service.answers _ _ _ _ _ _ _ answered);

@@ -15,8 +15,11 @@ returns-in-Ok g c =
     let es = c.self.inside.items.items in
     let after = set_here es c.args.name.now c.in-Ok.i c.index_mut.result.now c.self.invariant place c.index_mut.ensures.value in
     let there = found_here es c.args.name.now c.in-Ok.i c.index_mut.result.now c.self.invariant place c.index_mut.ensures.value in (
-      λ k. inl (c.self-in-Ok-1.given, λ w.
-          (ap (directory_from c.self.inside.stamp c.self.inside.unsaved) (after w) ∙ ap (λ (d : Directory). record d { rows = set_row c.args.name.now w d.rows }) c.self.view_is) k),
+      λ k. inl (
+        c.self-in-Ok-1.given,
+        λ w.
+            (ap (directory_from c.self.inside.stamp c.self.inside.unsaved) (after w) ∙ ap (λ (d : Directory). record d { rows = set_row c.args.name.now w d.rows }) c.self.view_is) k,
+      ),
       record { writes_back = tt; value = rw (← c.self.view_is) (sym there) },
     )
 
