@@ -16,6 +16,7 @@ use eden_model::{Kind, Origin, World};
 use eden_overlay_format::{Refusal, StoredEntry};
 use std::alloc::{AllocError, AllocFailed, Global};
 use std::collections::BTreeSet;
+use thiserror::Error;
 
 /// The number of the root's file.
 const ROOT_NUMBER: u64 = 1;
@@ -24,18 +25,23 @@ const ROOT_NUMBER: u64 = 1;
 const LEAST_NUMBER: u64 = 2;
 
 /// Why a pass over the live directories gave no next number: the first that it met. No file has changed then.
-#[derive(Clone, Copy, Debug, PartialEq, Eq)]
+#[derive(Clone, Copy, Debug, PartialEq, Eq, Error)]
 pub enum RescanFault {
     /// A live directory names the file of that number as an entry's own, and it isn't stored.
+    #[error("file {0} is named, and is missing")]
     Dangling(u64),
     /// Live directories name that number twice.
+    #[error("number {0} is named twice")]
     Twice(u64),
     /// The file of that number is stored, and isn't what its entry says, a directory or a content; or it is file 1,
     /// and no directory.
+    #[error("file {0} is damaged: {1}")]
     Damaged(u64, Refusal),
     /// The device failed.
+    #[error("the device failed")]
     Device,
     /// No memory.
+    #[error("out of memory")]
     Memory,
 }
 
