@@ -65,7 +65,8 @@ IsLongestFront-left entries bytes weight all left so_far few done =
 
 pub IsLongestFront-cut : (entries bytes : ℕ) (all kept : List (Key × Body)) → IsLongestFront entries bytes (take entries all) kept → IsLongestFront entries bytes all kept
 IsLongestFront-cut entries bytes all kept front =
-    let cut : length kept ≤ min entries (length all) = subst (λ (n : ℕ). n ≤ min entries (length all)) (sym (ap length front.front ∙ length-take (length kept) (take entries all))) (omega (arith, length-take entries all)) in
+    let cut : length kept ≤ min entries (length all) = subst (λ (n : ℕ). n ≤ min entries (length all)) (sym (ap length front.front ∙ length-take (length kept) (take entries all)))
+    (omega (arith, length-take entries all)) in
     record {
       front = front.front ∙ take-take (length kept) entries all (omega arith);
       some = front.some;

@@ -25,7 +25,8 @@ weight_of-take (x ∷ es) (suc n) h =
 
 module _ (test : Key → Bool) where
   -- the entry that is found weighs what its value does, and the others weigh the rest
-  weight_of-remove_entry : (es : List (Key × Body)) (e : Key × Body) → lookup_entry test es ≡ Some e → (lookup test es ≡ Some e.1) × (weight_of (remove_entry test es) + length e.1.bytes ≡ weight_of es)
+  weight_of-remove_entry : (es : List (Key × Body)) (e : Key × Body) → lookup_entry test es ≡ Some e → (lookup test es ≡ Some e.1)
+      × (weight_of (remove_entry test es) + length e.1.bytes ≡ weight_of es)
   weight_of-remove_entry [] e h = cc
   weight_of-remove_entry (f ∷ es) e h = (elim (test f.0) as (λ y. test f.0 ≡ y → (lookup test (f ∷ es) ≡ Some e.1) × (weight_of (remove_entry test (f ∷ es)) + length e.1.bytes ≡ weight_of (f ∷ es))) [
     | true ↦ λ t. let h' = rw t at h in let same : f ≡ e = cc in rw (t, same) (refl, omega (arith, weight_of-cons e es))
@@ -54,7 +55,8 @@ module _ (eq : Key → Key → Bool) (c : LruCache Key Body) (k : Key) (v : Body
   put_cases : (o : Option (Key × Body)) → lookup_entry (eq k) c.entries ≡ o
       → weight_of (option_map_or (λ e. (e.0, v) ∷ remove_entry (eq k) c.entries) o ((k, v) ∷ take (c.cap - 1) c.entries)) + weight_gone (displaced eq c k v) ≡ weight_of c.entries + length v.bytes
   put_cases None h =
-      let out : displaced eq c k v ≡ slice_get c.entries (c.cap - 1) = ap (λ (o : Option Body). option_map_or (λ (old : Body). Some (k, old)) o (slice_get c.entries (c.cap - 1))) (lookup-none (eq k) c.entries h) in
+      let out : displaced eq c k v ≡ slice_get c.entries (c.cap - 1) = ap (λ (o : Option Body). option_map_or (λ (old : Body). Some (k, old)) o (slice_get c.entries (c.cap - 1)))
+      (lookup-none (eq k) c.entries h) in
       omega (arith, weight_of-cons (k, v) (take (c.cap - 1) c.entries), weight_of-take c.entries (c.cap - 1) (omega arith), ap weight_gone out)
   put_cases (Some e) h =
       let found = weight_of-remove_entry (eq k) c.entries e h in

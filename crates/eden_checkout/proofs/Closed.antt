@@ -79,7 +79,8 @@ on_done (Ok v) f h = f h
 on_done (Err e) f h = h
 
 -- the state shows nothing
-pub stored_alike : (R : Repository) (F G : Stored) (x z : Row) (next : ℕ) (s : State) (r : Result (Unit {0}) FilesFault) → IsTable x next → IsKept R F x next → z ≡ x → OnOk r (G ≡ with_state F s) → OnErr r (G ≡ F)
+pub stored_alike : (R : Repository) (F G : Stored) (x z : Row) (next : ℕ) (s : State) (r : Result (Unit {0}) FilesFault) → IsTable x next → IsKept R F x next → z ≡ x → OnOk r (G ≡ with_state F s)
+    → OnErr r (G ≡ F)
     → shown_in R G z ≡ shown_in R F x
 stored_alike R F G x z next s (Ok v) table kept root ok err =
     ap (shown_in R G) root ∙ ap (λ (H : Stored). shown_in R H x) ok ∙ loose_alike R F x next 0 (Some (written identifier.File (state_body s))) table kept (the_state refl)

@@ -12,7 +12,8 @@ use Rattle.eden_cache.specs.Cache.{Cache, KeepsObject, KeepsSize}
 use Rattle.eden_cache.specs.Laws.{FindsNoOther, FindsNoOtherSize}
 use Rattle.eden_ops.specs.Caches.{IsSize, IsStocked, object_at, size_at}
 
-module _ (R : Repository) (honest : Type 0) (others : FindsNoOther) (other_sizes : FindsNoOtherSize) (c d : Cache) (k : Key) (o : Body) (stocked : IsStocked R honest c) (fetched : IsFetched R honest k o) where
+module _ (R : Repository) (honest : Type 0) (others : FindsNoOther) (other_sizes : FindsNoOtherSize) (c d : Cache) (k : Key) (o : Body) (stocked : IsStocked R honest c)
+    (fetched : IsFetched R honest k o) where
   put_objects : KeepsObject c k o d.objects → (j : Key) (a : Body) → object_at d j ≡ Some a → IsFetched R honest j a
   put_objects kept j a found = by_key (others c.most_entries c.most_bytes k o c.objects d.objects kept j a found) where
     by_key : ((j ≡ k) × (a ≡ o)) ⊎ (object_at c j ≡ Some a) → IsFetched R honest j a

@@ -79,7 +79,8 @@ module _ {W F : Type 0} (w : Ghosts W) (f : Files F W) where
   }
 
   pub stores_by : LeftFalls → (s t : Checkout F) (k : Key) (o : Body) (r : Result (Unit {0}) Body) → t.inodes ≡ s.inodes → t.root ≡ s.root
-      → OnOk r (KeepsObject s.cache k o t.cache.objects) → OnOk r (KeepsSize k.kind s.cache k.id (length o.bytes) t.cache.sizes) → OnOk r (object_at t.cache k ≡ Some o) → OnOk r (Stores (attempted w f) s k o t)
+      → OnOk r (KeepsObject s.cache k o t.cache.objects) → OnOk r (KeepsSize k.kind s.cache k.id (length o.bytes) t.cache.sizes) → OnOk r (object_at t.cache k ≡ Some o)
+      → OnOk r (Stores (attempted w f) s k o t)
   stores_by falls s t k o (Ok v) inodes root kept size found = stores falls s t k o (record { objects = kept; size = size; inodes = inodes; root = root }) found
   stores_by falls s t k o (Err x) inodes root kept size found = kept
 

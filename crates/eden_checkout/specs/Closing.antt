@@ -11,7 +11,8 @@ use Rattle.eden_overlay.specs.Held.{with_state}
 use Rattle.eden_tree.specs.Directory.{Row}
 
 -- the state is stored, or nothing is, and the entry is as it was
-pub record Leaves (honest : Type 0) (state : State) (F : Stored) (x : Row) (old : ℕ) (G : Stored) (z : Row) (new : ℕ) (answer : Result (Unit {0}) FilesFault) : Type 0 where
+pub record Leaves (honest : Type 0) (state : State) (F : Stored) (x : Row) (old : ℕ) (G : Stored) (z : Row) (new : ℕ)
+    (answer : Result (Unit {0}) FilesFault) : Type 0 where
   pub root : z ≡ x
   pub ok : honest → OnOk answer (G ≡ with_state F state)
   pub err : honest → OnErr answer (G ≡ F)

@@ -65,8 +65,10 @@ impl<A: Allocator + Clone, W: World, F: Files<W>> Checkout<A, W, F> {
         ensures shown { W.honest → IfOk result (λ c. shows W.World F.Files c.inodes ≡ W.opening) }
         ensures stored { W.honest → IfOk result (λ c. F.stored c.inodes.files ≡ without (F.stored files) 0) }
         ensures next { W.honest → IfOk result (λ c. StartsAt (F.stored files) root c.inodes.next) }
-        ensures fresh { IfOk result (λ c. (c.inodes.clock ≡ 0) × ((c.inodes.changes ≡ 0) × ((c.cache ≡ cache) × (c.root ≡ root)))) }
-        ensures fault { IfErr result (λ e. IsOpenFault W.honest root (F.stored files) (F.failures files) (F.failures e.1) e.0) }
+        ensures fresh { IfOk result
+            (λ c. (c.inodes.clock ≡ 0) × ((c.inodes.changes ≡ 0) × ((c.cache ≡ cache) × (c.root ≡ root)))) }
+        ensures fault { IfErr result
+            (λ e. IsOpenFault W.honest root (F.stored files) (F.failures files) (F.failures e.1) e.0) }
         ensures unchanged { W.honest → IfErr result (λ e. F.stored e.1 ≡ F.stored files) }
     {
         Self::open_by(alloc, dirs, files, root, cache, Opening::Closed)
@@ -91,8 +93,10 @@ impl<A: Allocator + Clone, W: World, F: Files<W>> Checkout<A, W, F> {
         ensures shown { W.honest → IfOk result (λ c. shows W.World F.Files c.inodes ≡ W.opening) }
         ensures stored { W.honest → IfOk result (λ c. F.stored c.inodes.files ≡ without (F.stored files) 0) }
         ensures next { W.honest → IfOk result (λ c. IsNextOf (F.stored files) c.inodes.next) }
-        ensures fresh { IfOk result (λ c. (c.inodes.clock ≡ 0) × ((c.inodes.changes ≡ 0) × ((c.cache ≡ cache) × (c.root ≡ root)))) }
-        ensures fault { IfErr result (λ e. IsRescanRefusal W.honest (F.stored files) (F.failures files) (F.failures e.1) e.0) }
+        ensures fresh { IfOk result
+            (λ c. (c.inodes.clock ≡ 0) × ((c.inodes.changes ≡ 0) × ((c.cache ≡ cache) × (c.root ≡ root)))) }
+        ensures fault { IfErr result
+            (λ e. IsRescanRefusal W.honest (F.stored files) (F.failures files) (F.failures e.1) e.0) }
         ensures unchanged { W.honest → IfErr result (λ e. F.stored e.1 ≡ F.stored files) }
     {
         Self::open_by(alloc, dirs, files, root, cache, Opening::Rescan)
@@ -112,8 +116,10 @@ impl<A: Allocator + Clone, W: World, F: Files<W>> Checkout<A, W, F> {
         ensures shown { W.honest → IfOk result (λ c. shows W.World F.Files c.inodes ≡ W.opening) }
         ensures stored { W.honest → IfOk result (λ c. F.stored c.inodes.files ≡ without (F.stored files) 0) }
         ensures next { W.honest → IfOk result (λ c. Finds opening root (F.stored files) c.inodes.next) }
-        ensures fresh { IfOk result (λ c. (c.inodes.clock ≡ 0) × ((c.inodes.changes ≡ 0) × ((c.cache ≡ cache) × (c.root ≡ root)))) }
-        ensures fault { IfErr result (λ e. IsRefusal opening W.honest root (F.stored files) (F.failures files) (F.failures e.1) e.0) }
+        ensures fresh { IfOk result
+            (λ c. (c.inodes.clock ≡ 0) × ((c.inodes.changes ≡ 0) × ((c.cache ≡ cache) × (c.root ≡ root)))) }
+        ensures fault { IfErr result
+            (λ e. IsRefusal opening W.honest root (F.stored files) (F.failures files) (F.failures e.1) e.0) }
         ensures unchanged { W.honest → IfErr result (λ e. F.stored e.1 ≡ F.stored files) }
     {
         let mut overlay = Overlay::new(files).keeping(cache.most_bytes());
@@ -131,11 +137,18 @@ impl<A: Allocator + Clone, W: World, F: Files<W>> Checkout<A, W, F> {
     ///
     /// Errors: the device failed, or there was no memory. The checkout comes back then, and shows what it showed.
     pub fn close(mut self, alloc: Global) -> Result<F, (FilesFault, Self)>
-        ensures state { W.honest → IfOk result (λ files. HoldsState (F.stored files) (record { root = self.root; next = self.inodes.next })) }
-        ensures opens { W.honest → IfOk result (λ files. CanOpen W.repository (shows W.World F.Files self.inodes) self.root (F.stored files)) }
-        ensures shown { W.honest → IfErr result (λ e. shows W.World F.Files e.1.inodes ≡ shows W.World F.Files self.inodes) }
-        ensures device { IfErr result (λ e. e.0 ≡ fault.Device → Rose (F.failures self.inodes.files) (F.failures e.1.inodes.files)) }
-        ensures rest { IfErr result (λ e. (e.1.inodes.next ≡ self.inodes.next) × ((e.1.cache ≡ self.cache) × (e.1.root ≡ self.root))) }
+        ensures state { W.honest
+            → IfOk result (λ files. HoldsState (F.stored files)
+            (record { root = self.root; next = self.inodes.next })) }
+        ensures opens { W.honest
+            → IfOk result (λ files. CanOpen W.repository (shows W.World F.Files self.inodes) self.root
+            (F.stored files)) }
+        ensures shown { W.honest
+            → IfErr result (λ e. shows W.World F.Files e.1.inodes ≡ shows W.World F.Files self.inodes) }
+        ensures device { IfErr result
+            (λ e. e.0 ≡ fault.Device → Rose (F.failures self.inodes.files) (F.failures e.1.inodes.files)) }
+        ensures rest { IfErr result
+            (λ e. (e.1.inodes.next ≡ self.inodes.next) × ((e.1.cache ≡ self.cache) × (e.1.root ≡ self.root))) }
     {
         if let Err(fault) = let_go(&mut self.inodes, alloc, &[]) {
             return Err((as_files(fault), self));

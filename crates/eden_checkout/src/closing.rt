@@ -42,8 +42,11 @@ pub(crate) fn store_state<A: Allocator + Clone, W: World, F: Files<W>>(
     root: Id,
 ) -> Result<(), FilesFault>
     ensures root { inodes.new.root ≡ inodes.old.root }
-    ensures ok { W.honest → OnOk result (F.stored inodes.new.files ≡ with_state (F.stored inodes.old.files) (record { root = root; next = inodes.old.next })) }
-    ensures held { W.honest → OnOk result (HoldsState (F.stored inodes.new.files) (record { root = root; next = inodes.old.next })) }
+    ensures ok { W.honest
+        → OnOk result (F.stored inodes.new.files ≡ with_state (F.stored inodes.old.files)
+        (record { root = root; next = inodes.old.next })) }
+    ensures held { W.honest
+        → OnOk result (HoldsState (F.stored inodes.new.files) (record { root = root; next = inodes.old.next })) }
     ensures err { W.honest → OnErr result (F.stored inodes.new.files ≡ F.stored inodes.old.files) }
     ensures same { W.honest → shows W.World F.Files inodes.new ≡ shows W.World F.Files inodes.old }
     ensures counted { Counted (result ≡ Err files.Device) (F.failures inodes.old.files) (F.failures inodes.new.files) }

@@ -6,23 +6,31 @@ ghost use Rattle.eden_checkout.specs.Opening.{of_files, of_rescan};
 use eden_model::Id;
 use eden_overlay::{FilesFault, RescanFault};
 use eden_overlay_format::Refusal;
+use thiserror::Error;
 
 /// Why an overlay isn't opened. Its files are as they were.
-#[derive(Clone, Copy, Debug, PartialEq, Eq)]
+#[derive(Clone, Copy, Debug, PartialEq, Eq, Error)]
 pub enum OpenFault {
     /// There are files but no state: another mount has them open, or was killed.
+    #[error("there are files and no state: the overlay is open, or was left by a run that was killed")]
     NotClean,
     /// The overlay stands on another commit's tree, this one.
+    #[error("the overlay stands on another tree")]
     OtherRoot(Id),
     /// The file of that number isn't what it is to be: file 0 no state, and for a rescan another no inode's own.
+    #[error("file {0} of the overlay is damaged: {1}")]
     Damaged(u64, Refusal),
     /// The device failed.
+    #[error("the device of the overlay failed")]
     Device,
     /// No memory.
+    #[error("out of memory")]
     Memory,
     /// A directory names the file of that number as its own, and it isn't there. Of a rescan alone.
+    #[error("file {0} of the overlay is named, and is missing")]
     Dangling(u64),
     /// That number is named twice. Of a rescan alone.
+    #[error("number {0} is named twice in the overlay")]
     Twice(u64),
 }
 

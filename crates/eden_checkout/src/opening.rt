@@ -48,7 +48,8 @@ fn state_of<W: World, F: Files<W>>(
     ensures ok { W.honest → IfOk result (HoldsState (F.stored overlay.old)) }
     ensures root { IfOk result (λ s. s.root ≡ root) }
     ensures good { IfOk result IsGoodState }
-    ensures refused { IfErr result (IsOpenFault W.honest root (F.stored overlay.old) (F.failures overlay.old) (F.failures overlay.new)) }
+    ensures refused { IfErr result
+        (IsOpenFault W.honest root (F.stored overlay.old) (F.failures overlay.old) (F.failures overlay.new)) }
     ensures unchanged { W.honest → F.stored overlay.new ≡ F.stored overlay.old }
     ensures counted { F.failures overlay.old ≤ F.failures overlay.new }
 {
@@ -75,7 +76,8 @@ fn rescanned<W: World, F: Files<W>>(
     ensures next { W.honest → IfOk result (IsNextOf (F.stored overlay.old)) }
     ensures least { IfOk result (λ next. number_least ≤ next) }
     ensures most { IfOk result (λ next. next ≤ number_end) }
-    ensures refused { IfErr result (IsRescanRefusal W.honest (F.stored overlay.old) (F.failures overlay.old) (F.failures overlay.new)) }
+    ensures refused { IfErr result
+        (IsRescanRefusal W.honest (F.stored overlay.old) (F.failures overlay.old) (F.failures overlay.new)) }
     ensures unchanged { W.honest → F.stored overlay.new ≡ F.stored overlay.old }
     ensures counted { F.failures overlay.old ≤ F.failures overlay.new }
 {
@@ -97,7 +99,8 @@ pub(crate) fn begin<W: World, F: Files<W>>(
     ensures root { IfOk result (λ start. IsRootOf root start.origin) }
     ensures least { IfOk result (λ start. number_least ≤ start.next) }
     ensures most { IfOk result (λ start. start.next ≤ number_end) }
-    ensures refused { IfErr result (IsRefusal opening W.honest root (F.stored overlay.old) (F.failures overlay.old) (F.failures overlay.new)) }
+    ensures refused { IfErr result
+        (IsRefusal opening W.honest root (F.stored overlay.old) (F.failures overlay.old) (F.failures overlay.new)) }
     ensures unchanged { W.honest → OnErr result (F.stored overlay.new ≡ F.stored overlay.old) }
 {
     let numbers = overlay.list(alloc)?;

@@ -5,19 +5,25 @@ ghost use Rattle.eden_files.specs.Faults.{IsFailure};
 
 use std::alloc::{AllocError, AllocFailed};
 use std::io::{self, ErrorKind};
+use thiserror::Error;
 
 /// Why a file of a folder could not be read, replaced or removed.
-#[derive(Clone, Copy, Debug, PartialEq, Eq)]
+#[derive(Clone, Copy, Debug, PartialEq, Eq, Error)]
 pub enum FolderFault {
     /// Nothing has that name.
+    #[error("nothing has that name")]
     Missing,
     /// What has that name is no plain file.
+    #[error("no plain file")]
     NotPlain,
     /// The file is longer than the bound.
+    #[error("the file is too long")]
     TooLong,
     /// The device failed.
+    #[error("the device failed")]
     Device,
     /// No memory.
+    #[error("out of memory")]
     Memory,
 }
 

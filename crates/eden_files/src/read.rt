@@ -98,7 +98,8 @@ fn leads_to_file<R: rt::Files>(files: &R, path: &str) -> Result<bool, FolderFaul
 
 // The length of a plain file that is short enough.
 fn plain_len(metadata: &Metadata, longest: u64) -> Result<u64, FolderFault>
-    ensures short { IsFile (file_type metadata.now) → metadata_len metadata.now ≤ longest → result ≡ Ok (metadata_len metadata.now) }
+    ensures short { IsFile (file_type metadata.now) → metadata_len metadata.now ≤ longest
+        → result ≡ Ok (metadata_len metadata.now) }
     ensures long { IsFile (file_type metadata.now) → longest < metadata_len metadata.now → result ≡ Err fault.TooLong }
     ensures other { ¬ IsFile (file_type metadata.now) → result ≡ Err fault.NotPlain }
     ensures bounded { IfOk result (λ n. n ≤ longest) }

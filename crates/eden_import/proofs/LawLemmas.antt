@@ -28,7 +28,8 @@ place_of_want : (k : Key) (ws : List (Option Key)) → is_wanted k ws ≡ true �
 place_of_want k [] e = cc
 place_of_want k (w ∷ ws) e = at (wants_key k w) refl e (place_of_want k ws)
   where
-    at : (b : Bool) → wants_key k w ≡ b → (b || is_wanted k ws) ≡ true → (is_wanted k ws ≡ true → (i : ℕ) × (i < length ws) × (get_or ws i None ≡ Some k)) → (i : ℕ) × (i < suc (length ws)) × (get_or (w ∷ ws) i None ≡ Some k)
+    at : (b : Bool) → wants_key k w ≡ b → (b || is_wanted k ws) ≡ true → (is_wanted k ws ≡ true → (i : ℕ) × (i < length ws) × (get_or ws i None ≡ Some k)) → (i : ℕ) × (i < suc (length ws))
+        × (get_or (w ∷ ws) i None ≡ Some k)
     at true t e behind = (0, omega arith, wanted_key k w t)
     at false t e behind = let found = behind e in (suc found.0, omega (arith, found.1), found.2)
 
@@ -70,7 +71,8 @@ one_wants q k p r h s t = write_one q.wants q.passes p r (Some k) None h.each_pa
 pub one_leaves : OneLeaves
 one_leaves q k p r h s t = at (wants_key k (want_of p q)) (r == p) (write_one q.wants q.passes p r None None h.each_pass_wants s.0 s.1 t.0)
   where
-    at : (b e : Bool) → get_or (set q.wants (p - 1) None) (r - 1) None ≡ cond e None (want_of r q) → want_of r (cond b (unqueue_unwanted k (set q.wants (p - 1) None) q) q) ≡ cond (e && b) None (want_of r q)
+    at : (b e : Bool) → get_or (set q.wants (p - 1) None) (r - 1) None ≡ cond e None (want_of r q)
+        → want_of r (cond b (unqueue_unwanted k (set q.wants (p - 1) None) q) q) ≡ cond (e && b) None (want_of r q)
     at true true w = w
     at true false w = w
     at false true w = refl
@@ -79,7 +81,8 @@ one_leaves q k p r h s t = at (wants_key k (want_of p q)) (r == p) (write_one q.
 pub all_are_met : AllAreMet
 all_are_met q k c r = (get_or-map (λ w. cond (wants_key k w) None w) q.wants (r - 1) None, refl)
 
-marked_at : (k : Key) (c : Cause) (ws : List (Option Key)) (ms : List (Option Mark)) (i : ℕ) → length ms ≡ length ws → i < length ws → get_or (put_marks k c ws ms) i None ≡ cond (wants_key k (get_or ws i None)) (Some (k, c)) (get_or ms i None)
+marked_at : (k : Key) (c : Cause) (ws : List (Option Key)) (ms : List (Option Mark)) (i : ℕ) → length ms ≡ length ws → i < length ws
+    → get_or (put_marks k c ws ms) i None ≡ cond (wants_key k (get_or ws i None)) (Some (k, c)) (get_or ms i None)
 marked_at k c [] ms i e h = absurd (omega arith)
 marked_at k c (w ∷ ws) [] i e h = absurd (omega arith)
 marked_at k c (w ∷ ws) (m ∷ ms) zero e h = refl

@@ -29,7 +29,8 @@ forgetting_keeps q p h s = record {
 leave_keeps : (k : Key) (p : ℕ) (q : Queue) → IsQueue q → IsQueue (after_leave k p q)
 leave_keeps k p q h = at (wants_key k (want_of p q)) refl
   where
-    left : wants_key k (want_of p q) ≡ true → (b : Bool) → is_wanted k (set q.wants (p - 1) None) ≡ b → IsQueue (record q { queue = cond b q.queue (unqueue_unwanted k [] q).queue; wants = set q.wants (p - 1) None })
+    left : wants_key k (want_of p q) ≡ true → (b : Bool) → is_wanted k (set q.wants (p - 1) None) ≡ b
+        → IsQueue (record q { queue = cond b q.queue (unqueue_unwanted k [] q).queue; wants = set q.wants (p - 1) None })
     left t true e = leave_wanted k p q h t e
     left t false e = leave_dropped k p q (unqueue_unwanted k [] q).queue h t e refl
 

@@ -122,7 +122,8 @@ want_joined k p q h s alone e =
     let P : Bool → Type 0 = λ b. IsQueue (record q { queue = cond b q.queue (q.queue ++ k ∷ []); wants = set q.wants (p - 1) (Some k) }) in
     subst P e (want_keeps k p q h s alone)
 
-pub want_queued : (k : Key) (p : ℕ) (q : Queue) (ks : List Key) → IsQueue q → IsPass p q → WantsNoOther k p q → stands k q ≡ false → ks ≡ q.queue ++ k ∷ [] → IsQueue (record q { queue = ks; wants = set q.wants (p - 1) (Some k) })
+pub want_queued : (k : Key) (p : ℕ) (q : Queue) (ks : List Key) → IsQueue q → IsPass p q → WantsNoOther k p q → stands k q ≡ false → ks ≡ q.queue ++ k ∷ []
+    → IsQueue (record q { queue = ks; wants = set q.wants (p - 1) (Some k) })
 want_queued k p q ks h s alone e is =
     let P : Bool → Type 0 = λ b. IsQueue (record q { queue = cond b q.queue (q.queue ++ k ∷ []); wants = set q.wants (p - 1) (Some k) }) in
     let Q : List Key → Type 0 = λ l. IsQueue (record q { queue = l; wants = set q.wants (p - 1) (Some k) }) in
@@ -192,12 +193,14 @@ unwant_keeps k p q h t = at (is_wanted k (set q.wants (p - 1) None)) refl
         (cases_Bool (same_key k j))))
 
 -- the same, by whether another pass wants the key
-pub leave_wanted : (k : Key) (p : ℕ) (q : Queue) → IsQueue q → wants_key k (want_of p q) ≡ true → is_wanted k (set q.wants (p - 1) None) ≡ true → IsQueue (record q { wants = set q.wants (p - 1) None })
+pub leave_wanted : (k : Key) (p : ℕ) (q : Queue) → IsQueue q → wants_key k (want_of p q) ≡ true → is_wanted k (set q.wants (p - 1) None) ≡ true
+    → IsQueue (record q { wants = set q.wants (p - 1) None })
 leave_wanted k p q h t e =
     let P : Bool → Type 0 = λ b. IsQueue (record q { queue = cond b q.queue (without k q.queue); wants = set q.wants (p - 1) None }) in
     subst P e (unwant_keeps k p q h t)
 
-pub leave_dropped : (k : Key) (p : ℕ) (q : Queue) (ks : List Key) → IsQueue q → wants_key k (want_of p q) ≡ true → is_wanted k (set q.wants (p - 1) None) ≡ false → ks ≡ without k q.queue → IsQueue (record q { queue = ks; wants = set q.wants (p - 1) None })
+pub leave_dropped : (k : Key) (p : ℕ) (q : Queue) (ks : List Key) → IsQueue q → wants_key k (want_of p q) ≡ true → is_wanted k (set q.wants (p - 1) None) ≡ false → ks ≡ without k q.queue
+    → IsQueue (record q { queue = ks; wants = set q.wants (p - 1) None })
 leave_dropped k p q ks h t e is =
     let P : Bool → Type 0 = λ b. IsQueue (record q { queue = cond b q.queue (without k q.queue); wants = set q.wants (p - 1) None }) in
     let Q : List Key → Type 0 = λ l. IsQueue (record q { queue = l; wants = set q.wants (p - 1) None }) in
@@ -210,7 +213,9 @@ moved true b c h = refl
 moved false true c h = refl
 moved false false c h = h
 
-take_fields : (ks fs : List Key) (ws : List (Option Key)) (ms : List (Option Mark)) (n m : ℕ) (b : Bool) → nat_lt (length fs) m ≡ b → IsQueue (record { queue = ks; flight = fs; wants = ws; marks = ms; passes = n; flights = m }) → IsQueue (after_take (cond b (slice_get ks 0) None) (record { queue = ks; flight = fs; wants = ws; marks = ms; passes = n; flights = m }))
+take_fields : (ks fs : List Key) (ws : List (Option Key)) (ms : List (Option Mark)) (n m : ℕ) (b : Bool) → nat_lt (length fs) m ≡ b
+    → IsQueue (record { queue = ks; flight = fs; wants = ws; marks = ms; passes = n; flights = m })
+    → IsQueue (after_take (cond b (slice_get ks 0) None) (record { queue = ks; flight = fs; wants = ws; marks = ms; passes = n; flights = m }))
 take_fields ks fs ws ms n m false e h = h
 take_fields [] fs ws ms n m true e h = h
 take_fields (k ∷ ks) fs ws ms n m true e h = record {
@@ -225,7 +230,8 @@ take_fields (k ∷ ks) fs ws ms n m true e h = record {
 }
 
 -- a key is taken
-pub take_moves : (k : Key) (rest now : List Key) (q : Queue) → IsQueue q → length q.flight < q.flights → q.queue ≡ k ∷ rest → now ≡ q.flight ++ k ∷ [] → IsQueue (record q { queue = rest; flight = now })
+pub take_moves : (k : Key) (rest now : List Key) (q : Queue) → IsQueue q → length q.flight < q.flights → q.queue ≡ k ∷ rest → now ≡ q.flight ++ k ∷ []
+    → IsQueue (record q { queue = rest; flight = now })
 take_moves k rest now q h few is moved =
     let Q : List Key → Type 0 = λ l. IsQueue (record q { queue = l }) in
     let P : List Key → Type 0 = λ l. IsQueue (record q { queue = rest; flight = l }) in
@@ -242,7 +248,8 @@ land_keeps k q h t = record {
   wanted = λ j m.
       is_wanted-end_wants j k q.wants
       ∙ and_from (is_wanted j q.wants) (not (same_key k j)) (h.wanted j m)
-      (not_from_false (same_key k j) (⊎_elim (λ same. absurd (both_ways (has_key k q.queue) absent (ap (λ x. has_key x q.queue) ((same_key-Decides k j).0 same) ∙ m))) (λ other. other) (cases_Bool (same_key k j))));
+      (not_from_false (same_key k j)
+      (⊎_elim (λ same. absurd (both_ways (has_key k q.queue) absent (ap (λ x. has_key x q.queue) ((same_key-Decides k j).0 same) ∙ m))) (λ other. other) (cases_Bool (same_key k j))));
   awaited = λ j m.
       let parts = and_parts (is_wanted j q.wants) (not (same_key k j)) (sym (is_wanted-end_wants j k q.wants) ∙ m) in
       ap (λ b. b || has_key j q.queue) (has_key-without j k q.flight)
@@ -255,7 +262,8 @@ land_keeps k q h t = record {
     absent : has_key k q.queue ≡ false
     absent = apart k q.flight q.queue h.once t
 
-pub land_drops : (k : Key) (q : Queue) (fs : List Key) (ws : List (Option Key)) → IsQueue q → has_key k q.flight ≡ true → fs ≡ without k q.flight → ws ≡ end_wants k q.wants → IsQueue (record q { flight = fs; wants = ws })
+pub land_drops : (k : Key) (q : Queue) (fs : List Key) (ws : List (Option Key)) → IsQueue q → has_key k q.flight ≡ true → fs ≡ without k q.flight → ws ≡ end_wants k q.wants
+    → IsQueue (record q { flight = fs; wants = ws })
 land_drops k q fs ws h t is ends =
     let P : List Key → Type 0 = λ l. IsQueue (record q { flight = l; wants = ws }) in
     let Q : List (Option Key) → Type 0 = λ l. IsQueue (record q { flight = without k q.flight; wants = l }) in

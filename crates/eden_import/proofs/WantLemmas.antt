@@ -12,7 +12,8 @@ use Rattle.eden_model.proofs.CallerLemmas.{same_key-Decides}
 use Rattle.eden_import.proofs.KeyLemmas.{same_key-equiv}
 
 -- a want for the key in the place of one that was for it or for none
-pub is_wanted-set_some : (j k : Key) (ws : List (Option Key)) (i : ℕ) → i < length ws → (wants_key j (get_or ws i None) ≡ true → same_key j k ≡ true) → is_wanted j (set ws i (Some k)) ≡ (is_wanted j ws || same_key j k)
+pub is_wanted-set_some : (j k : Key) (ws : List (Option Key)) (i : ℕ) → i < length ws → (wants_key j (get_or ws i None) ≡ true → same_key j k ≡ true)
+    → is_wanted j (set ws i (Some k)) ≡ (is_wanted j ws || same_key j k)
 is_wanted-set_some j k [] i h old = absurd (omega arith)
 is_wanted-set_some j k (w ∷ ws) zero h old = here (wants_key j w) (same_key j k) (is_wanted j ws) old
   where
@@ -114,7 +115,8 @@ ended_more k ws now i h is =
 abbrev marked : Key → Cause → ℕ → List (Option Key) → List (Option Mark) → List (Option Mark)
 marked k c i ws ms = put_marks k c (take i ws) (take i ms) ++ drop i ms
 
-marked_suc : (k : Key) (c : Cause) (ws : List (Option Key)) (ms : List (Option Mark)) (i : ℕ) → i < length ws → length ms ≡ length ws → cond (wants_key k (get_or ws i None)) (set (marked k c i ws ms) i (Some (k, c))) (marked k c i ws ms) ≡ marked k c (suc i) ws ms
+marked_suc : (k : Key) (c : Cause) (ws : List (Option Key)) (ms : List (Option Mark)) (i : ℕ) → i < length ws → length ms ≡ length ws
+    → cond (wants_key k (get_or ws i None)) (set (marked k c i ws ms) i (Some (k, c))) (marked k c i ws ms) ≡ marked k c (suc i) ws ms
 marked_suc k c [] ms i h e = absurd (omega arith)
 marked_suc k c (w ∷ ws) [] i h e = absurd (omega arith)
 marked_suc k c (w ∷ ws) (m ∷ ms) zero h e = cond-head (wants_key k w) (Some (k, c)) m ms
@@ -123,7 +125,8 @@ marked_suc k c (w ∷ ws) (m ∷ ms) (suc i) h e =
     cond-cons (wants_key k (get_or ws i None)) x (set (marked k c i ws ms) i (Some (k, c))) (marked k c i ws ms)
     ∙ ap (λ (l : List (Option Mark)). x ∷ l) (marked_suc k c ws ms i (omega arith) (omega arith))
 
-pub marked_more : (k : Key) (c : Cause) (ws : List (Option Key)) (ms now : List (Option Mark)) (i : ℕ) → i < length ws → length ms ≡ length ws → now ≡ marked k c i ws ms → cond (wants_key k (get_or ws i None)) (set now i (Some (k, c))) now ≡ marked k c (i + 1) ws ms
+pub marked_more : (k : Key) (c : Cause) (ws : List (Option Key)) (ms now : List (Option Mark)) (i : ℕ) → i < length ws → length ms ≡ length ws → now ≡ marked k c i ws ms
+    → cond (wants_key k (get_or ws i None)) (set now i (Some (k, c))) now ≡ marked k c (i + 1) ws ms
 marked_more k c ws ms now i h e is =
     let P : List (Option Mark) → Type 0 = λ l. cond (wants_key k (get_or ws i None)) (set l i (Some (k, c))) l ≡ marked k c (i + 1) ws ms in
     subst P (sym is) (rw add-one (marked_suc k c ws ms i h e))

@@ -5,19 +5,25 @@ ghost use Rattle.eden_importer.specs.declared.fault.ImportFault.TheVariants as f
 use eden_files::FolderFault;
 use std::alloc::{AllocError, AllocFailed};
 use std::io::{self, ErrorKind};
+use thiserror::Error;
 
 /// Why a folder isn't imported.
-#[derive(Clone, Copy, Debug, PartialEq, Eq)]
+#[derive(Clone, Copy, Debug, PartialEq, Eq, Error)]
 pub enum ImportFault {
     /// The device failed, or something went away while it was read.
+    #[error("the device failed")]
     Device,
     /// No memory.
+    #[error("out of memory")]
     Memory,
     /// There is something that is neither a file nor a folder, as a link.
+    #[error("neither a file nor a folder")]
     Kind,
     /// A name is no UTF-8, or no name of an entry.
+    #[error("a name that no entry can have")]
     Name,
     /// A file has more than 2^30 bytes, a tree would have, or a folder lies too deep.
+    #[error("a file or a folder is too large")]
     TooLarge,
 }
 

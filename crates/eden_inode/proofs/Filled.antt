@@ -278,7 +278,8 @@ object_of es fs d k o differ is =
       items = λ n. h.items n ∙ items_moved es fs o.same differ n;
     }
 
-pub storable_of : (es fs : List TreeEntry) (d : Directory) (k : ℕ) → IsInOrder es fs → d.rows ≡ numbered k fs → length d.rows < 2 ^ 32 → number_least ≤ k → k + length es ≤ number_end → AreStorable (listing_of d)
+pub storable_of : (es fs : List TreeEntry) (d : Directory) (k : ℕ) → IsInOrder es fs → d.rows ≡ numbered k fs → length d.rows < 2 ^ 32 → number_least ≤ k → k + length es ≤ number_end
+    → AreStorable (listing_of d)
 storable_of es fs d k o is few least most =
     let size = length_permutation es fs o.same in
     filled_storable d k fs is o.rises few least (omega (arith, size, most)) o.good

@@ -59,7 +59,8 @@ content_why honest old new F p x y fault.Overlay at h = elim h [
 -- a directory that has no tree object has another origin
 pub not_object : (p : Path) (x y : Row) → HasNoTree p x → row_at p x ≡ Some y → (i : Id) → y.origin ≡ origin.Object i → ⊥
 not_object p x y (inl own) at i is = let row = ap (λ (z : Row). z.origin) (same_some own.row y (sym own.there ∙ at)) in let both : origin.Own ≡ origin.Object i = sym own.origin ∙ row ∙ is in cc
-not_object p x y (inr empty) at i is = let row = ap (λ (z : Row). z.origin) (same_some empty.row y (sym empty.there ∙ at)) in let both : origin.Empty ≡ origin.Object i = sym empty.origin ∙ row ∙ is in cc
+not_object p x y (inr empty) at i is = let row = ap (λ (z : Row). z.origin)
+    (same_some empty.row y (sym empty.there ∙ at)) in let both : origin.Empty ≡ origin.Object i = sym empty.origin ∙ row ∙ is in cc
 
 -- it is a directory that isn't loaded
 pub some_at : (p : Path) (x : Row) → HasNoTree p x → (o : Origin) × IsAt p x o

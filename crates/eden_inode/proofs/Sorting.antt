@@ -124,5 +124,6 @@ module _ {X : Type 0} (entry : X → TreeEntry) (key : X → Name) where
   unfolding IsStrictlySortedBy
   rising [] each up differ = tt
   rising (x ∷ xs) each up differ =
-      let far = recursion_from_All (λ y. below y x ≡ false) xs (All-from_get_or (λ y. below y x ≡ false) xs x (λ i within. sorted_far below (ranks_by nat_list_cmp_total key) (x ∷ xs) up 0 (suc i) x (omega arith) (omega arith))) in
+      let far = recursion_from_All (λ y. below y x ≡ false) xs
+      (All-from_get_or (λ y. below y x ≡ false) xs x (λ i within. sorted_far below (ranks_by nat_list_cmp_total key) (x ∷ xs) up 0 (suc i) x (omega arith) (omega arith))) in
       (above_each x xs each.0 each.1 far differ.0, rising xs each.1 (behind x xs up) differ.1)

@@ -14,7 +14,8 @@ use Rattle.eden_tie.specs.Unloading.{HasNoneInside, Goes, Unloads, none, one_mor
 use Rattle.eden_inode.proofs.Rows.{same_some, none_some, through}
 
 module _ (Honest : Type 0) (clock age : ℕ) where
-  pub joined : (F : Stored) (x : Row) (G : Stored) (y : Row) (b : ℕ) → Unloads Honest clock age F x G y b → (H : Stored) (z : Row) (c : ℕ) → Unloads Honest clock age G y H z c → Unloads Honest clock age F x H z (b + c)
+  pub joined : (F : Stored) (x : Row) (G : Stored) (y : Row) (b : ℕ) → Unloads Honest clock age F x G y b → (H : Stored) (z : Row) (c : ℕ) → Unloads Honest clock age G y H z c
+      → Unloads Honest clock age F x H z (b + c)
   joined F x G y b s H z c none = subst (λ k. Unloads Honest clock age F x G y k) {x = b} (omega arith) s
   joined F x G y b s H z c (one_more I w d K v r g) =
       subst (λ k. Unloads Honest clock age F x H z k) {x = b + d + 1} (omega arith) (one_more I w (b + d) H z (joined F x G y b s I w d r) g)

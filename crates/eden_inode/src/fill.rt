@@ -65,7 +65,8 @@ fn fill<A: Allocator>(
 ) -> Result<Dir<A>, AllocError>
     requires rising { AreRising (λ r. r.1.now.name) rows.now }
     requires fits { next + length rows.now ≤ number_end }
-    ensures ok { IfOk result (λ d. d ≡ record { stamp = clock; unsaved = false; rows = numbered next (map (λ r. r.1.now) rows.now) }) }
+    ensures ok { IfOk result
+        (λ d. d ≡ record { stamp = clock; unsaved = false; rows = numbered next (map (λ r. r.1.now) rows.now) }) }
     ensures few { IfOk result (λ d. length d.rows < 2 ^ 32) }
 {
     let mut dir = Dir::new(dirs, clock);

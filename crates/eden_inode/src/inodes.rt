@@ -147,7 +147,9 @@ impl<A: Allocator + Clone, W: World, F: Files<W>> Inodes<A, W, F> {
     pub fn look(&mut self, path: &[Name]) -> Seen
         ensures last { IsLast path.now self.old.root result }
         ensures stamped { self.new ≡ record self.old { root = stamped_along path.now self.old.clock self.old.root } }
-        ensures shown { W.honest → shown_in W.repository (F.stored self.new.files) self.new.root ≡ shown_in W.repository (F.stored self.old.files) self.old.root }
+        ensures shown { W.honest
+            → shown_in W.repository (F.stored self.new.files) self.new.root ≡ shown_in W.repository
+            (F.stored self.old.files) self.old.root }
     {
         kept_laws();
         shown_laws();
@@ -163,7 +165,8 @@ impl<A: Allocator + Clone, W: World, F: Files<W>> Inodes<A, W, F> {
 
     /// Gives a number, or none where none is left.
     pub fn give_number(&mut self) -> Option<u64>
-        ensures some { IfSome result (λ n. (n ≡ self.old.next) × (self.new ≡ record self.old { next = self.old.next + 1 })) }
+        ensures some { IfSome result
+            (λ n. (n ≡ self.old.next) × (self.new ≡ record self.old { next = self.old.next + 1 })) }
         ensures none { IfNone result ((self.old.next ≡ number_end) × (self.new ≡ self.old)) }
     {
         if self.next >= NUMBER_END {
@@ -195,13 +198,21 @@ impl<A: Allocator + Clone, W: World, F: Files<W>> Inodes<A, W, F> {
     ) -> Result<(), Fault>
         requires object { IfSome entries (λ es. HasTree W.repository W.honest path.now self.old.root es.now) }
         requires own { IfNone entries (HasNoTree path.now self.old.root) }
-        ensures object { IfSome entries.entry (λ es. OnOk result (LoadsObject self.old.clock self.old.next self.old.root path.now es.now self.new.root self.new.next)) }
-        ensures own { IfNone entries.entry (OnOk result (LoadsOwn W.honest self.old.clock (F.stored self.old.files) self.old.root path.now self.new.root × (self.new.next ≡ self.old.next))) }
+        ensures object { IfSome entries.entry
+            (λ es. OnOk result (LoadsObject self.old.clock self.old.next self.old.root path.now es.now self.new.root
+            self.new.next)) }
+        ensures own { IfNone entries.entry
+            (OnOk result (LoadsOwn W.honest self.old.clock
+            (F.stored self.old.files) self.old.root path.now self.new.root × (self.new.next ≡ self.old.next))) }
         ensures err { OnErr result ((self.new.root ≡ self.old.root) × (self.new.next ≡ self.old.next)) }
-        ensures fault { IfErr result (IsLoadFault W.honest self.old.next (F.failures self.old.files) (F.failures self.new.files) (F.stored self.old.files) path.now self.old.root (option_map (λ es. es.now) entries.entry)) }
+        ensures fault { IfErr result
+            (IsLoadFault W.honest self.old.next (F.failures self.old.files) (F.failures self.new.files)
+            (F.stored self.old.files) path.now self.old.root (option_map (λ es. es.now) entries.entry)) }
         ensures files { W.honest → F.stored self.new.files ≡ F.stored self.old.files }
         ensures counted { (F.failures self.old.files) ≤ (F.failures self.new.files) }
-        ensures shown { W.honest → shown_in W.repository (F.stored self.new.files) self.new.root ≡ shown_in W.repository (F.stored self.old.files) self.old.root }
+        ensures shown { W.honest
+            → shown_in W.repository (F.stored self.new.files) self.new.root ≡ shown_in W.repository
+            (F.stored self.old.files) self.old.root }
         ensures rest { (self.new.clock ≡ self.old.clock) × (self.new.changes ≡ self.old.changes) }
     {
         match entries {
@@ -218,11 +229,17 @@ impl<A: Allocator + Clone, W: World, F: Files<W>> Inodes<A, W, F> {
         entries: &[TreeEntry],
     ) -> Result<(), Fault>
         requires { HasTree W.repository W.honest path.now self.old.root entries.now }
-        ensures ok { OnOk result (LoadsObject self.old.clock self.old.next self.old.root path.now entries.now self.new.root self.new.next) }
+        ensures ok { OnOk result
+            (LoadsObject self.old.clock self.old.next self.old.root path.now entries.now self.new.root self.new.next) }
         ensures err { OnErr result ((self.new.root ≡ self.old.root) × (self.new.next ≡ self.old.next)) }
-        ensures fault { IfErr result (IsLoadFault W.honest self.old.next (F.failures self.old.files) (F.failures self.new.files) (F.stored self.old.files) path.now self.old.root (Some entries.now)) }
-        ensures shown { W.honest → shown_in W.repository (F.stored self.new.files) self.new.root ≡ shown_in W.repository (F.stored self.old.files) self.old.root }
-        ensures rest { (self.new.files ≡ self.old.files) × ((self.new.clock ≡ self.old.clock) × (self.new.changes ≡ self.old.changes)) }
+        ensures fault { IfErr result
+            (IsLoadFault W.honest self.old.next (F.failures self.old.files) (F.failures self.new.files)
+            (F.stored self.old.files) path.now self.old.root (Some entries.now)) }
+        ensures shown { W.honest
+            → shown_in W.repository (F.stored self.new.files) self.new.root ≡ shown_in W.repository
+            (F.stored self.old.files) self.old.root }
+        ensures rest { (self.new.files ≡ self.old.files)
+            × ((self.new.clock ≡ self.old.clock) × (self.new.changes ≡ self.old.changes)) }
     {
         let count = entries.len() as u64;
         if count > NUMBER_END - self.next {
@@ -241,13 +258,19 @@ impl<A: Allocator + Clone, W: World, F: Files<W>> Inodes<A, W, F> {
     /// Loads a directory that has no tree object.
     fn load_own(&mut self, alloc: Global, path: &[Name]) -> Result<(), Fault>
         requires { HasNoTree path.now self.old.root }
-        ensures ok { OnOk result (LoadsOwn W.honest self.old.clock (F.stored self.old.files) self.old.root path.now self.new.root) }
+        ensures ok { OnOk result
+            (LoadsOwn W.honest self.old.clock (F.stored self.old.files) self.old.root path.now self.new.root) }
         ensures err { OnErr result (self.new.root ≡ self.old.root) }
-        ensures fault { IfErr result (IsLoadFault W.honest self.old.next (F.failures self.old.files) (F.failures self.new.files) (F.stored self.old.files) path.now self.old.root None) }
+        ensures fault { IfErr result
+            (IsLoadFault W.honest self.old.next (F.failures self.old.files) (F.failures self.new.files)
+            (F.stored self.old.files) path.now self.old.root None) }
         ensures files { W.honest → F.stored self.new.files ≡ F.stored self.old.files }
         ensures counted { (F.failures self.old.files) ≤ (F.failures self.new.files) }
-        ensures shown { W.honest → shown_in W.repository (F.stored self.new.files) self.new.root ≡ shown_in W.repository (F.stored self.old.files) self.old.root }
-        ensures rest { (self.new.next ≡ self.old.next) × ((self.new.clock ≡ self.old.clock) × (self.new.changes ≡ self.old.changes)) }
+        ensures shown { W.honest
+            → shown_in W.repository (F.stored self.new.files) self.new.root ≡ shown_in W.repository
+            (F.stored self.old.files) self.old.root }
+        ensures rest { (self.new.next ≡ self.old.next)
+            × ((self.new.clock ≡ self.old.clock) × (self.new.changes ≡ self.old.changes)) }
     {
         let Some(entry) = self.root.walk(path) else {
             unreachable!()
@@ -264,9 +287,14 @@ impl<A: Allocator + Clone, W: World, F: Files<W>> Inodes<A, W, F> {
     /// The content of an own file or link, as it is stored. Where the overlay keeps it in memory it is handed out without a
     /// read; `keep` gives it back. Errors: `Memory`, and `Overlay` where the device failed or the stored file is none.
     pub fn content(&mut self, alloc: Global, path: &[Name]) -> Result<Content, Fault>
-        requires { (y : Row) × ((row_at path.now self.old.root ≡ Some y) × ((y.origin ≡ origin.Own) × (y.kind ≢ kind.Dir))) }
-        ensures ok { W.honest → IfOk result (λ content. (y : Row) → row_at path.now self.old.root ≡ Some y → HoldsContent (F.stored self.old.files) y.number content) }
-        ensures fault { IfErr result (IsContentFault W.honest (F.failures self.old.files) (F.failures self.new.files) (F.stored self.old.files) path.now self.old.root) }
+        requires { (y : Row)
+            × ((row_at path.now self.old.root ≡ Some y) × ((y.origin ≡ origin.Own) × (y.kind ≢ kind.Dir))) }
+        ensures ok { W.honest
+            → IfOk result (λ content. (y : Row) → row_at path.now self.old.root ≡ Some y
+            → HoldsContent (F.stored self.old.files) y.number content) }
+        ensures fault { IfErr result
+            (IsContentFault W.honest (F.failures self.old.files) (F.failures self.new.files)
+            (F.stored self.old.files) path.now self.old.root) }
         ensures files { W.honest → F.stored self.new.files ≡ F.stored self.old.files }
         ensures counted { (F.failures self.old.files) ≤ (F.failures self.new.files) }
         ensures rest { self.new ≡ record self.old { files = self.new.files } }
@@ -281,7 +309,8 @@ impl<A: Allocator + Clone, W: World, F: Files<W>> Inodes<A, W, F> {
     /// Keeps the content of an own file or link in memory, in place of any other, if the overlay keeps contents of its length:
     /// who asks for it next has it without the files.
     pub fn keep(&mut self, path: &[Name], content: Content)
-        requires { W.honest → (y : Row) → row_at path.now self.old.root ≡ Some y → HoldsContent (F.stored self.old.files) y.number content }
+        requires { W.honest → (y : Row) → row_at path.now self.old.root ≡ Some y
+            → HoldsContent (F.stored self.old.files) y.number content }
         ensures { self.new ≡ self.old }
     {
         if let Some(entry) = self.root.walk(path) {
@@ -295,10 +324,15 @@ impl<A: Allocator + Clone, W: World, F: Files<W>> Inodes<A, W, F> {
     ///
     /// A directory with a loaded one left inside stays, and so does an unsaved one that can't be stored.
     pub fn unload(&mut self, alloc: Global, path: &[Name], older_than: u64) -> u64
-        ensures unloads { (c : ℕ) × ((result ≡ min c u64.MAX) × Unloads W.honest self.old.clock older_than (F.stored self.old.files) self.old.root (F.stored self.new.files) self.new.root c) }
+        ensures unloads { (c : ℕ)
+            × ((result ≡ min c u64.MAX)
+            × Unloads W.honest self.old.clock older_than (F.stored self.old.files) self.old.root
+            (F.stored self.new.files) self.new.root c) }
         ensures settled { (y : Row) → row_at path.now self.new.root ≡ Some y → IsSettled self.old.clock older_than y }
         ensures elsewhere { (f : Row) × (self.new.root ≡ edit_row path.now (λ _. f) self.old.root) }
-        ensures shown { W.honest → shown_in W.repository (F.stored self.new.files) self.new.root ≡ shown_in W.repository (F.stored self.old.files) self.old.root }
+        ensures shown { W.honest
+            → shown_in W.repository (F.stored self.new.files) self.new.root ≡ shown_in W.repository
+            (F.stored self.old.files) self.old.root }
         ensures counted { (F.failures self.old.files) ≤ (F.failures self.new.files) }
         ensures changes { self.new.changes ≡ min (self.old.changes + result) u64.MAX }
         ensures rest { (self.new.next ≡ self.old.next) × (self.new.clock ≡ self.old.clock) }
@@ -324,8 +358,11 @@ impl<A: Allocator + Clone, W: World, F: Files<W>> Inodes<A, W, F> {
     /// one change of names, whatever it does.
     pub fn change<C: Change<A, Overlay<W, F>> + Drop>(&mut self, change: C) -> C::Output
         requires may { C.may change self.old.files self.old.root }
-        requires table { (files : F) → (root : Row) → (answer : C.Output) → C.does change self.old.files self.old.root files root answer → IsTable root self.old.next }
-        requires kept { W.honest → (files : F) → (root : Row) → (answer : C.Output) → C.does change self.old.files self.old.root files root answer → IsKept W.repository (F.stored files) root self.old.next }
+        requires table { (files : F) → (root : Row) → (answer : C.Output)
+            → C.does change self.old.files self.old.root files root answer → IsTable root self.old.next }
+        requires kept { W.honest → (files : F) → (root : Row) → (answer : C.Output)
+            → C.does change self.old.files self.old.root files root answer
+            → IsKept W.repository (F.stored files) root self.old.next }
         ensures does { C.does change self.old.files self.old.root self.new.files self.new.root result }
         ensures changes { self.new.changes ≡ min (self.old.changes + 1) u64.MAX }
         ensures rest { (self.new.next ≡ self.old.next) × (self.new.clock ≡ self.old.clock) }

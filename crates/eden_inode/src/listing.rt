@@ -42,7 +42,8 @@ pub(crate) fn save<A: Allocator, W: World, F: Files<W>>(
 ) -> Result<(), FilesFault>
     requires entries { AreStorable (listing_of dir.now) }
     requires sound { W.honest → AreSound (with_entries (F.stored overlay.old) number (listing_of dir.now)) }
-    ensures ok { W.honest → OnOk result (F.stored overlay.new ≡ with_entries (F.stored overlay.old) number (listing_of dir.now)) }
+    ensures ok { W.honest
+        → OnOk result (F.stored overlay.new ≡ with_entries (F.stored overlay.old) number (listing_of dir.now)) }
     ensures err { W.honest → OnErr result (F.stored overlay.new ≡ F.stored overlay.old) }
     ensures counted { F.failures overlay.old ≤ F.failures overlay.new }
 {

@@ -76,7 +76,9 @@ pub(crate) fn own_directory<A: Allocator, W: World, F: Files<W>>(
     ensures new { IfOk result (IsNew clock) }
     ensures held { W.honest → IfOk result (λ d. HoldsEntries (F.stored overlay.old) number (listing_of d)) }
     ensures storable { IfOk result (λ d. AreStorable (listing_of d)) }
-    ensures fault { IfErr result (IsGetFault W.honest (F.failures overlay.old) (F.failures overlay.new) (entries_at (F.stored overlay.old) number)) }
+    ensures fault { IfErr result
+        (IsGetFault W.honest (F.failures overlay.old) (F.failures overlay.new)
+        (entries_at (F.stored overlay.old) number)) }
     ensures files { W.honest → F.stored overlay.new ≡ F.stored overlay.old }
     ensures counted { F.failures overlay.old ≤ F.failures overlay.new }
 {
@@ -97,10 +99,13 @@ pub(crate) fn unlisted<A: Allocator, W: World, F: Files<W>>(
 ) -> Result<Dir<A>, Fault>
     requires { (i : id.Id) → origin ≢ origins.Object i }
     ensures new { IfOk result (IsNew clock) }
-    ensures own { W.honest → origin ≡ origins.Own → IfOk result (λ d. HoldsEntries (F.stored overlay.old) number (listing_of d)) }
+    ensures own { W.honest → origin ≡ origins.Own
+        → IfOk result (λ d. HoldsEntries (F.stored overlay.old) number (listing_of d)) }
     ensures empty { origin ≡ origins.Empty → IfOk result (λ d. d.rows ≡ []) }
     ensures storable { IfOk result (λ d. AreStorable (listing_of d)) }
-    ensures fault { IfErr result (IsGetFault W.honest (F.failures overlay.old) (F.failures overlay.new) (entries_at (F.stored overlay.old) number)) }
+    ensures fault { IfErr result
+        (IsGetFault W.honest (F.failures overlay.old) (F.failures overlay.new)
+        (entries_at (F.stored overlay.old) number)) }
     ensures files { W.honest → F.stored overlay.new ≡ F.stored overlay.old }
     ensures counted { F.failures overlay.old ≤ F.failures overlay.new }
 {
@@ -118,7 +123,9 @@ pub(crate) fn own_content<W: World, F: Files<W>>(
     number: u64,
 ) -> Result<Content, Fault>
     ensures held { W.honest → IfOk result (λ content. HoldsContent (F.stored overlay.old) number content) }
-    ensures fault { IfErr result (IsGetFault W.honest (F.failures overlay.old) (F.failures overlay.new) (content_at (F.stored overlay.old) number)) }
+    ensures fault { IfErr result
+        (IsGetFault W.honest (F.failures overlay.old) (F.failures overlay.new)
+        (content_at (F.stored overlay.old) number)) }
     ensures files { W.honest → F.stored overlay.new ≡ F.stored overlay.old }
     ensures counted { F.failures overlay.old ≤ F.failures overlay.new }
 {

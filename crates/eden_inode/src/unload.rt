@@ -41,11 +41,13 @@ fn may_go<A: Allocator, W: World, F: Files<W>>(
     age: u64,
 ) -> bool
     requires entries { AreStorable (listing_of dir.now) }
-    requires sound { W.honest → age ≤ clock - dir.now.stamp → HasNoneInside dir.now → dir.now.unsaved ≡ true → AreSound (with_entries (F.stored overlay.old) number (listing_of dir.now)) }
+    requires sound { W.honest → age ≤ clock - dir.now.stamp → HasNoneInside dir.now → dir.now.unsaved ≡ true
+        → AreSound (with_entries (F.stored overlay.old) number (listing_of dir.now)) }
     ensures old { IsTrue result → age ≤ clock - dir.now.stamp }
     ensures inside { IsTrue result → HasNoneInside dir.now }
     ensures saved { W.honest → IsTrue result → dir.now.unsaved ≡ false → F.stored overlay.new ≡ F.stored overlay.old }
-    ensures stored { W.honest → IsTrue result → dir.now.unsaved ≡ true → F.stored overlay.new ≡ with_entries (F.stored overlay.old) number (listing_of dir.now) }
+    ensures stored { W.honest → IsTrue result → dir.now.unsaved ≡ true
+        → F.stored overlay.new ≡ with_entries (F.stored overlay.old) number (listing_of dir.now) }
     ensures stays { IsFalse result → age ≤ clock - dir.now.stamp → HasNoneInside dir.now → dir.now.unsaved ≡ true }
     ensures unchanged { W.honest → IsFalse result → F.stored overlay.new ≡ F.stored overlay.old }
     ensures counted { F.failures overlay.old ≤ F.failures overlay.new }
@@ -72,9 +74,15 @@ fn unload_inside<A: Allocator, W: World, F: Files<W>>(
     clock: u64,
     age: u64,
 ) -> (u64, bool)
-    requires may { (x : Row) × ((x.number ≡ number) × ((child_of x ≡ Some dir.old) × MayUnload W.honest clock age (F.stored overlay.old) x)) }
-    ensures goes { IsTrue result.1 → (x : Row) → x.number ≡ number → child_of x ≡ Some dir.old → (c : ℕ) × ((result.0 ≡ min c u64.MAX) × Unloads W.honest clock age (F.stored overlay.old) x (F.stored overlay.new) (with_child None x) (c + 1)) }
-    ensures stays { IsFalse result.1 → (x : Row) → x.number ≡ number → child_of x ≡ Some dir.old → (c : ℕ) × ((result.0 ≡ min c u64.MAX) × Unloads W.honest clock age (F.stored overlay.old) x (F.stored overlay.new) (with_child (Some dir.new) x) c) }
+    requires may { (x : Row)
+        × ((x.number ≡ number)
+        × ((child_of x ≡ Some dir.old) × MayUnload W.honest clock age (F.stored overlay.old) x)) }
+    ensures goes { IsTrue result.1 → (x : Row) → x.number ≡ number → child_of x ≡ Some dir.old → (c : ℕ)
+        × ((result.0 ≡ min c u64.MAX)
+        × Unloads W.honest clock age (F.stored overlay.old) x (F.stored overlay.new) (with_child None x) (c + 1)) }
+    ensures stays { IsFalse result.1 → (x : Row) → x.number ≡ number → child_of x ≡ Some dir.old → (c : ℕ)
+        × ((result.0 ≡ min c u64.MAX)
+        × Unloads W.honest clock age (F.stored overlay.old) x (F.stored overlay.new) (with_child (Some dir.new) x) c) }
     ensures settled { IsFalse result.1 → (x : Row) → IsSettled clock age (with_child (Some dir.new) x) }
     ensures counted { F.failures overlay.old ≤ F.failures overlay.new }
 {
@@ -102,7 +110,8 @@ fn unload_entry<A: Allocator, W: World, F: Files<W>>(
     age: u64,
 ) -> u64
     requires may { MayUnload W.honest clock age (F.stored overlay.old) entry.old }
-    ensures unloaded { IsUnloaded W.honest clock age (F.stored overlay.old) entry.old (F.stored overlay.new) entry.new result }
+    ensures unloaded { IsUnloaded W.honest clock age (F.stored overlay.old) entry.old
+        (F.stored overlay.new) entry.new result }
     ensures counted { F.failures overlay.old ≤ F.failures overlay.new }
 {
     let number = entry.number;

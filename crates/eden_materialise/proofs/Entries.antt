@@ -61,7 +61,8 @@ each_stored (e ∷ es) = ap (λ l. stored_entry e ∷ l) (each_stored es)
 others_stored : (name : _) (rows : List (Name × Row)) → filter_map (entry_as (Without name)) rows ≡ map stored_entry (rows_without name.now rows)
 others_stored name [] = refl
 others_stored name (e ∷ es) =
-    elim (bytes_eq name.now e.0) as (λ b. cons_option (option_map (λ o. record { name = e.0; kind = e.1.kind; origin = o; number = e.1.number }) (cond b None (Some e.1.origin))) (filter_map (entry_as (Without name)) es)
+    elim (bytes_eq name.now e.0) as
+    (λ b. cons_option (option_map (λ o. record { name = e.0; kind = e.1.kind; origin = o; number = e.1.number }) (cond b None (Some e.1.origin))) (filter_map (entry_as (Without name)) es)
     ≡ map stored_entry (cond b (rows_without name.now es) (e ∷ rows_without name.now es))) [
       | true ↦ others_stored name es
       | false ↦ ap (λ l. stored_entry e ∷ l) (others_stored name es)

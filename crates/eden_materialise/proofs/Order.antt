@@ -40,7 +40,8 @@ module _ (n m : Name) (z : Row) where
   stays_loaded : (r : Path) (v from : Row) (source : Directory) → row_at r v ≡ Some from → child_of from ≡ Some source → child_of (edit_row r leaves v) ≡ None → ⊥
   stays_loaded [] v from source at h none =
       let here : v ≡ from = same_Some v from at in
-      none-some (changed source n None) (sym none ∙ child_of-change_child (λ d. changed d n None) v ∙ ap (λ (c : Row). option_map (λ d. changed d n None) (child_of c)) here ∙ ap (option_map (λ d. changed d n None)) h)
+      none-some (changed source n None)
+      (sym none ∙ child_of-change_child (λ d. changed d n None) v ∙ ap (λ (c : Row). option_map (λ d. changed d n None) (child_of c)) here ∙ ap (option_map (λ d. changed d n None)) h)
   stays_loaded (b ∷ r) v from source at h none =
       let c = and_then_some (λ (d : Directory). option_and_then (row_at r) (find_row b d.rows)) (child_of v) from at in
       let k : Directory → Directory = λ d. record d { rows = change_row b (edit_row r leaves) d.rows } in
@@ -103,7 +104,8 @@ module _ (n m : Name) (z : Row) where
       let off : bytes_eq b m ≡ false = elim (bytes_eq b m) as (λ t. bytes_eq b m ≡ t → t ≡ false) [
         | true ↦ λ t. (let same : bytes_eq m b ≡ true = ap (bytes_eq m) (same-≡ b m t) ∙ same-refl m in
             let found : find_row m target.rows ≡ Some (k v) =
-            ap (λ (a : Directory). find_row m a.rows) is ∙ find_row-change_row m b k d.rows ∙ ap (λ c. cond c (option_map k (find_row b d.rows)) (find_row m d.rows)) same ∙ ap (option_map k) u.1.1.1.0 in
+            ap (λ (a : Directory). find_row m a.rows) is ∙ find_row-change_row m b k d.rows ∙ ap (λ c. cond c (option_map k (find_row b d.rows)) (find_row m d.rows)) same ∙ ap
+            (option_map k) u.1.1.1.0 in
             let P : Option Row → Type 0 = λ o. IfSome o (λ w. child_of w ≡ None) in
             absurd (stays_loaded r v from source u.1.1.1.1 h (subst P found go)))
         | false ↦ λ t. refl

@@ -17,7 +17,8 @@ pub restored : (n : Name) (w : Row) (d e f : Directory) (was : Option Row) (mark
     → IfSome was (λ there. f ≡ record e { rows = set_row n there e.rows }) → IfNone was (f ≡ record e { rows = drop_row n e.rows }) → record f { unsaved = mark } ≡ d
 restored n w d e f was mark put is same some none =
     ap (λ b. record f { unsaved = b }) same
-    ∙ back_to n w d (record e { unsaved = d.unsaved }) (ap (λ (a : Directory). record a { unsaved = false }) put) (record f { unsaved = d.unsaved }) was is refl (set_back was some) (taken_out was none)
+    ∙ back_to n w d (record e { unsaved = d.unsaved }) (ap (λ (a : Directory). record a { unsaved = false }) put) (record f { unsaved = d.unsaved }) was is refl (set_back was some)
+    (taken_out was none)
   where
     set_back : (o : Option Row) → IfSome o (λ there. f ≡ record e { rows = set_row n there e.rows })
         → IfSome o (λ there. record f { unsaved = d.unsaved } ≡ record e { rows = set_row n there e.rows; unsaved = d.unsaved })

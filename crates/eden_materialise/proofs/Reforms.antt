@@ -66,7 +66,8 @@ may_reform honest R F x next p n k w table a other =
       at = a.at;
       holds = a.holds;
       may_go = subst P (sym a.there) a.unloaded;
-      storable = entry_storable d n (of_kind k w) are (record { name = can.name; origin = other_kind w.kind k w.origin a.file can.origin; least = can.least; most = can.most }) (inl (subst Q (sym a.there) refl));
+      storable = entry_storable d n (of_kind k w) are (record { name = can.name; origin = other_kind w.kind k w.origin a.file can.origin; least = can.least; most = can.most })
+          (inl (subst Q (sym a.there) refl));
       unloaded = a.unloaded;
       numbered = kept_number w a.there refl a.file other (inl refl);
     }
@@ -78,12 +79,15 @@ same_content R F G k (origin.Object id) same = refl
 same_content R F G k origin.Own same = ap (option_and_then content_in) same
 same_content R F G k origin.Empty same = refl
 
-pub reform_shown : (honest : Type 0) (R : Repository) (p : Path) (n : Name) (k : Kind) (w : Row) (F : Stored) (x : Row) (old : ℕ) (G : Stored) (z : Row) (new next : ℕ) → IsTable x next → honest → IsKept R F x next
+pub reform_shown : (honest : Type 0) (R : Repository) (p : Path) (n : Name) (k : Kind) (w : Row) (F : Stored) (x : Row) (old : ℕ) (G : Stored) (z : Row) (new next : ℕ) → IsTable x next → honest
+    → IsKept R F x next
     → HasFile x p n w → k ≢ kind.Dir → (answer : Result (Unit {0}) Fault) → ChangesEntry honest p n (Some (of_kind k w)) F x old G z new answer
     → OnOk answer (shown_in R G z ≡ graft (p ++ n ∷ []) (leaf (node_from k (content_shown R F w) false)) (shown_in R F x))
 reform_shown honest R p n k w F x old G z new next table h kept a other (Ok u) c =
     let may = may_reform honest R F x next p n k w table a other in
-    let same : G w.number ≡ F w.number = entry_elsewhere R F x next table kept p a.row a.directory n w a.at a.holds a.there a.unloaded F p a.row a.directory _ G a.at a.holds (c.stored h a.row a.directory a.at a.holds) in
+    let same : G w.number ≡ F w.number = entry_elsewhere R F x next table kept p a.row a.directory n w a.at a.holds a.there a.unloaded F p a.row a.directory _ G a.at a.holds
+    (c.stored h a.row a.directory a.at a.holds) in
     changes_shown honest R p n (Some (of_kind k w)) F x old G z new next table may h kept (Ok u) c
-    ∙ ap (λ (T : Tree). graft (p ++ n ∷ []) T (shown_in R F x)) (content_shows R G (of_kind k w) other a.unloaded ∙ ap (λ (o : Option (List ℕ)). leaf (node_from k o false)) (same_content R F G w.number w.origin same))
+    ∙ ap (λ (T : Tree). graft (p ++ n ∷ []) T (shown_in R F x))
+    (content_shows R G (of_kind k w) other a.unloaded ∙ ap (λ (o : Option (List ℕ)). leaf (node_from k o false)) (same_content R F G w.number w.origin same))
 reform_shown honest R p n k w F x old G z new next table h kept a other (Err e) c = tt

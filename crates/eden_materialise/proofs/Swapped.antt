@@ -28,7 +28,8 @@ module _ (a n : Name) (k j : Row → Row) (off : bytes_eq a n ≡ false) where
   pub changes_swapped : (es : List (Name × Row)) → change_row a k (change_row n j es) ≡ change_row n j (change_row a k es)
   changes_swapped [] = refl
   changes_swapped (e ∷ es) =
-      elim (bytes_eq n e.0) as (λ t. bytes_eq n e.0 ≡ t → change_row a k (cond t ((e.0, j e.1) ∷ es) (e ∷ change_row n j es)) ≡ change_row n j (cond (bytes_eq a e.0) ((e.0, k e.1) ∷ es) (e ∷ change_row a k es))) [
+      elim (bytes_eq n e.0) as (λ t. bytes_eq n e.0 ≡ t
+      → change_row a k (cond t ((e.0, j e.1) ∷ es) (e ∷ change_row n j es)) ≡ change_row n j (cond (bytes_eq a e.0) ((e.0, k e.1) ∷ es) (e ∷ change_row a k es))) [
         | true ↦ λ t. elim (bytes_eq a e.0) as (λ s. bytes_eq a e.0 ≡ s
             → cond s ((e.0, k (j e.1)) ∷ es) ((e.0, j e.1) ∷ change_row a k es) ≡ change_row n j (cond s ((e.0, k e.1) ∷ es) (e ∷ change_row a k es))) [
               | true ↦ λ s. absurd (both_there a n e.0 off s t)
@@ -117,15 +118,17 @@ module _ (b m : Name) (k : Row → Row) (z : Row) (off : bytes_eq b m ≡ false)
   put_swapped : (es : List (Name × Row)) → put_row m z (change_row b k es) ≡ change_row b k (put_row m z es)
   put_swapped [] = sym (ap (λ t. cond t ((m, k z) ∷ []) ((m, z) ∷ [])) off)
   put_swapped (e ∷ es) =
-      elim (bytes_eq b e.0) as (λ s. bytes_eq b e.0 ≡ s → put_row m z (cond s ((e.0, k e.1) ∷ es) (e ∷ change_row b k es)) ≡ change_row b k (cond (name_lt m e.0) ((m, z) ∷ (e ∷ es)) (e ∷ put_row m z es))) [
+      elim (bytes_eq b e.0) as (λ s. bytes_eq b e.0 ≡ s
+      → put_row m z (cond s ((e.0, k e.1) ∷ es) (e ∷ change_row b k es)) ≡ change_row b k (cond (name_lt m e.0) ((m, z) ∷ (e ∷ es)) (e ∷ put_row m z es))) [
         | true ↦ λ s. elim (name_lt m e.0) as (λ l. cond l ((m, z) ∷ ((e.0, k e.1) ∷ es)) ((e.0, k e.1) ∷ put_row m z es) ≡ change_row b k (cond l ((m, z) ∷ (e ∷ es)) (e ∷ put_row m z es))) [
           | true ↦ sym (ap (λ t. cond t ((m, k z) ∷ (e ∷ es)) ((m, z) ∷ change_row b k (e ∷ es))) off ∙ ap (λ t. (m, z) ∷ cond t ((e.0, k e.1) ∷ es) (e ∷ change_row b k es)) s)
           | false ↦ sym (ap (λ t. cond t ((e.0, k e.1) ∷ put_row m z es) (e ∷ change_row b k (put_row m z es))) s)
         ]
-        | false ↦ λ s. elim (name_lt m e.0) as (λ l. cond l ((m, z) ∷ (e ∷ change_row b k es)) (e ∷ put_row m z (change_row b k es)) ≡ change_row b k (cond l ((m, z) ∷ (e ∷ es)) (e ∷ put_row m z es))) [
-          | true ↦ sym (ap (λ t. cond t ((m, k z) ∷ (e ∷ es)) ((m, z) ∷ change_row b k (e ∷ es))) off ∙ ap (λ t. (m, z) ∷ cond t ((e.0, k e.1) ∷ es) (e ∷ change_row b k es)) s)
-          | false ↦ ap (λ l. e ∷ l) (put_swapped es) ∙ sym (ap (λ t. cond t ((e.0, k e.1) ∷ put_row m z es) (e ∷ change_row b k (put_row m z es))) s)
-        ]
+        | false ↦ λ s. elim (name_lt m e.0) as
+            (λ l. cond l ((m, z) ∷ (e ∷ change_row b k es)) (e ∷ put_row m z (change_row b k es)) ≡ change_row b k (cond l ((m, z) ∷ (e ∷ es)) (e ∷ put_row m z es))) [
+              | true ↦ sym (ap (λ t. cond t ((m, k z) ∷ (e ∷ es)) ((m, z) ∷ change_row b k (e ∷ es))) off ∙ ap (λ t. (m, z) ∷ cond t ((e.0, k e.1) ∷ es) (e ∷ change_row b k es)) s)
+              | false ↦ ap (λ l. e ∷ l) (put_swapped es) ∙ sym (ap (λ t. cond t ((e.0, k e.1) ∷ put_row m z es) (e ∷ change_row b k (put_row m z es))) s)
+            ]
       ] refl
 
   -- an entry that comes in, and a change of another

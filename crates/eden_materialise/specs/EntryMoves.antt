@@ -33,7 +33,8 @@ pub record MovesIn (honest : Type 0) (F : Stored) (x : Row) (p : Path) (n : Name
   pub can : CanMove x p n q m
 
 -- it moved, both stores done: but for the file of what it replaced, which goes where it is its own
-pub record IsMoved (honest : Type 0) (p : Path) (n : Name) (q : Path) (m : Name) (F : Stored) (x : Row) (old : ℕ) (G : Stored) (z : Row) (new : ℕ) : Type 0 where
+pub record IsMoved (honest : Type 0) (p : Path) (n : Name) (q : Path) (m : Name) (F : Stored) (x : Row) (old : ℕ) (G : Stored) (z : Row)
+    (new : ℕ) : Type 0 where
   pub may : MayMove x p n q m
   pub root : z ≡ moved_in x p n q m may
   pub files : Clears honest (files_moved x p n q m may F) old G new (own_number (find_row m may.target.rows))

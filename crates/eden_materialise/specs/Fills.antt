@@ -33,4 +33,5 @@ pub record FilesAlone (honest : Type 0) (F M : Stored) (x : Row) (old : ℕ) (G 
 -- .. where the entry w is its own already; else its file is stored first, and then it becomes its own
 abbrev pub FillsFile : Type 0 → Path → Name → Row → Stored → Stored → Row → ℕ → Stored → Row → ℕ → Result (Unit {0}) Fault → Type 0
 FillsFile honest p n w F M x old G z now answer =
-    ((is_own w.origin ≡ true) × FilesAlone honest F M x old G z now answer) ⊎ ((is_own w.origin ≡ false) × FilesEntry honest p n (owned w) F M x old G z now answer)
+    ((is_own w.origin ≡ true) × FilesAlone honest F M x old G z now answer)
+    ⊎ ((is_own w.origin ≡ false) × FilesEntry honest p n (owned w) F M x old G z now answer)

@@ -29,7 +29,8 @@ fn has_room<A: Allocator + Clone, W: World, F: Files<W>>(
     name: &Name,
 ) -> bool
     requires { LacksEntry inodes.now.root path.now name.now }
-    ensures { AtDirectory path.now inodes.now.root (λ y d. MatchBool result (HasRoom d name.now) (¬ HasRoom d name.now)) }
+    ensures { AtDirectory path.now inodes.now.root
+        (λ y d. MatchBool result (HasRoom d name.now) (¬ HasRoom d name.now)) }
 {
     match inodes.directory(path) {
         None => unreachable!(),
@@ -84,21 +85,40 @@ pub fn add_entry<A: Allocator + Clone, W: World, F: Files<W>>(
 ) -> Result<(), Fault>
     requires lacks { LacksEntry inodes.old.root path.now name.now }
     requires short { IsShort new }
-    ensures ok { AtDirectory path.now inodes.old.root (λ y d. OnOk result (inodes.new.root ≡ chained path.now (changed d name.now (Some (own_row inodes.old.next new.entry))) inodes.old.root)) }
-    ensures stored { W.honest → AtDirectory path.now inodes.old.root (λ y d. OnOk result (Above (with_entries (with_own (F.stored inodes.old.files) inodes.old.next new.entry) y.number (listing_of (changed d name.now (Some (own_row inodes.old.next new.entry))))) inodes.old.root path.now (F.stored inodes.new.files))) }
+    ensures ok { AtDirectory path.now inodes.old.root
+        (λ y d. OnOk result (inodes.new.root ≡ chained path.now
+        (changed d name.now (Some (own_row inodes.old.next new.entry))) inodes.old.root)) }
+    ensures stored { W.honest
+        → AtDirectory path.now inodes.old.root
+        (λ y d. OnOk result (Above
+        (with_entries (with_own (F.stored inodes.old.files) inodes.old.next new.entry) y.number
+        (listing_of (changed d name.now (Some (own_row inodes.old.next new.entry))))) inodes.old.root path.now
+        (F.stored inodes.new.files))) }
     ensures err { OnErr result (inodes.new.root ≡ inodes.old.root) }
-    ensures strays { W.honest → OnErr result (RefusedBy (F.stored inodes.old.files) (with_own (F.stored inodes.old.files) inodes.old.next new.entry) inodes.old.root path.now (F.stored inodes.new.files)) }
-    ensures fault { IfErr result (IsAddFault inodes.old.next (F.failures inodes.old.files) (F.failures inodes.new.files)) }
-    ensures numbers { inodes.old.next ≡ number_end → AtDirectory path.now inodes.old.root (λ y d. HasRoom d name.now → result ≡ Err fault.Numbers) }
+    ensures strays { W.honest
+        → OnErr result (RefusedBy (F.stored inodes.old.files)
+        (with_own (F.stored inodes.old.files) inodes.old.next new.entry) inodes.old.root path.now
+        (F.stored inodes.new.files)) }
+    ensures fault { IfErr result
+        (IsAddFault inodes.old.next (F.failures inodes.old.files) (F.failures inodes.new.files)) }
+    ensures numbers { inodes.old.next ≡ number_end
+        → AtDirectory path.now inodes.old.root (λ y d. HasRoom d name.now → result ≡ Err fault.Numbers) }
     ensures unused { result ≡ Err fault.Numbers → inodes.new ≡ inodes.old }
     ensures counted { OnOk result (F.failures inodes.new.files ≡ F.failures inodes.old.files) }
-    ensures shown { W.honest → OnOk result (shown_in W.repository (F.stored inodes.new.files) inodes.new.root ≡ graft (path.now ++ name.now ∷ []) (leaf (node_as new.entry)) (shown_in W.repository (F.stored inodes.old.files) inodes.old.root)) }
-    ensures unseen { W.honest → OnErr result (shown_in W.repository (F.stored inodes.new.files) inodes.new.root ≡ shown_in W.repository (F.stored inodes.old.files) inodes.old.root) }
+    ensures shown { W.honest
+        → OnOk result (shown_in W.repository (F.stored inodes.new.files) inodes.new.root ≡ graft
+        (path.now ++ name.now ∷ []) (leaf (node_as new.entry))
+        (shown_in W.repository (F.stored inodes.old.files) inodes.old.root)) }
+    ensures unseen { W.honest
+        → OnErr result (shown_in W.repository (F.stored inodes.new.files) inodes.new.root ≡ shown_in W.repository
+        (F.stored inodes.old.files) inodes.old.root) }
     ensures saved { AreSaved inodes.old.root → AreSaved inodes.new.root }
     ensures stays { StaysLoaded inodes.old.root inodes.new.root }
     ensures next { OnOk result (inodes.new.next ≡ inodes.old.next + 1) }
     ensures changes { OnOk result (inodes.new.changes ≡ min (inodes.old.changes + 1) u64.MAX) }
-    ensures given { OnErr result (((inodes.new.next ≡ inodes.old.next) × (inodes.new.changes ≡ inodes.old.changes)) ⊎ ((inodes.new.next ≡ inodes.old.next + 1) × (inodes.new.changes ≡ min (inodes.old.changes + 1) u64.MAX))) }
+    ensures given { OnErr result
+        (((inodes.new.next ≡ inodes.old.next) × (inodes.new.changes ≡ inodes.old.changes))
+        ⊎ ((inodes.new.next ≡ inodes.old.next + 1) × (inodes.new.changes ≡ min (inodes.old.changes + 1) u64.MAX))) }
     ensures rest { inodes.new.clock ≡ inodes.old.clock }
 {
     inodes.holds();

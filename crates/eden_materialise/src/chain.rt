@@ -32,7 +32,8 @@ pub(crate) fn is_own(origin: Origin) -> bool
 
 /// Whether both are the mount's own.
 fn are_own(one: Origin, other: Origin) -> bool
-    ensures { MatchBool result ((is_own one ≡ true) × (is_own other ≡ true)) ((is_own one ≡ false) ⊎ (is_own other ≡ false)) }
+    ensures { MatchBool result ((is_own one ≡ true) × (is_own other ≡ true))
+        ((is_own one ≡ false) ⊎ (is_own other ≡ false)) }
 {
     if is_own(one) {
         return is_own(other);
@@ -50,8 +51,13 @@ fn store_lowest<A: Allocator, W: World, F: Files<W>>(
 ) -> Result<(), FilesFault>
     requires loaded { IsLoadedAt path.now root.now }
     requires entries { AtDirectory path.now root.now (λ y d. IfSome (lowest_of lowest y d) AreStorable) }
-    requires sound { W.honest → AtDirectory path.now root.now (λ y d. AreSound (with_lowest (F.stored overlay.old) y.number (lowest_of lowest y d))) }
-    ensures ok { W.honest → AtDirectory path.now root.now (λ y d. OnOk result (F.stored overlay.new ≡ with_lowest (F.stored overlay.old) y.number (lowest_of lowest.entry y d))) }
+    requires sound { W.honest
+        → AtDirectory path.now root.now
+        (λ y d. AreSound (with_lowest (F.stored overlay.old) y.number (lowest_of lowest y d))) }
+    ensures ok { W.honest
+        → AtDirectory path.now root.now
+        (λ y d. OnOk result (F.stored overlay.new ≡ with_lowest (F.stored overlay.old) y.number
+        (lowest_of lowest.entry y d))) }
     ensures err { W.honest → OnErr result (F.stored overlay.new ≡ F.stored overlay.old) }
     ensures counted { Counted (result ≡ Err files.Device) (F.failures overlay.old) (F.failures overlay.new) }
 {
@@ -82,9 +88,12 @@ fn store_again<A: Allocator, W: World, F: Files<W>>(
     below: &Entry<A>,
 ) -> Result<(), FilesFault>
     requires entries { AreStorable (marked_listing dir.now name.now) }
-    requires sound { W.honest → IsAboveOther entry.now below.now → AreSound (with_entries (F.stored overlay.old) entry.now.number (marked_listing dir.now name.now)) }
-    ensures ok { W.honest → OnOk result (StoresAgain (F.stored overlay.old) entry.now dir.now name.now below.now (F.stored overlay.new)) }
-    ensures err { W.honest → OnErr result ((F.stored overlay.new ≡ F.stored overlay.old) × IsAboveOther entry.now below.now) }
+    requires sound { W.honest → IsAboveOther entry.now below.now
+        → AreSound (with_entries (F.stored overlay.old) entry.now.number (marked_listing dir.now name.now)) }
+    ensures ok { W.honest
+        → OnOk result (StoresAgain (F.stored overlay.old) entry.now dir.now name.now below.now (F.stored overlay.new)) }
+    ensures err { W.honest
+        → OnErr result ((F.stored overlay.new ≡ F.stored overlay.old) × IsAboveOther entry.now below.now) }
     ensures counted { Counted (result ≡ Err files.Device) (F.failures overlay.old) (F.failures overlay.new) }
 {
     if are_own(entry.origin, below.origin) {
@@ -138,9 +147,20 @@ pub(crate) fn store_chain<A: Allocator, W: World, F: Files<W>>(
     requires chain { IsChain root.now path.now }
     requires loaded { IsLoadedAt path.now root.now }
     requires entries { AtDirectory path.now root.now (λ y d. IfSome (lowest_of lowest y d) AreStorable) }
-    requires sound { W.honest → AtDirectory path.now root.now (λ y d. StaySound (with_lowest (F.stored overlay.old) y.number (lowest_of lowest y d)) root.now path.now) }
-    ensures ok { W.honest → AtDirectory path.now root.now (λ y d. OnOk result (Above (with_lowest (F.stored overlay.old) y.number (lowest_of lowest.entry y d)) root.now path.now (F.stored overlay.new))) }
-    ensures err { W.honest → AtDirectory path.now root.now (λ y d. OnErr result ((F.stored overlay.new ≡ F.stored overlay.old) ⊎ Unfinished (with_lowest (F.stored overlay.old) y.number (lowest_of lowest.entry y d)) root.now path.now (F.stored overlay.new))) }
+    requires sound { W.honest
+        → AtDirectory path.now root.now
+        (λ y d. StaySound (with_lowest (F.stored overlay.old) y.number (lowest_of lowest y d)) root.now path.now) }
+    ensures ok { W.honest
+        → AtDirectory path.now root.now
+        (λ y d. OnOk result (Above
+        (with_lowest (F.stored overlay.old) y.number (lowest_of lowest.entry y d)) root.now path.now
+        (F.stored overlay.new))) }
+    ensures err { W.honest
+        → AtDirectory path.now root.now
+        (λ y d. OnErr result
+        ((F.stored overlay.new ≡ F.stored overlay.old)
+        ⊎ Unfinished (with_lowest (F.stored overlay.old) y.number (lowest_of lowest.entry y d)) root.now path.now
+        (F.stored overlay.new))) }
     ensures counted { Counted (result ≡ Err files.Device) (F.failures overlay.old) (F.failures overlay.new) }
 {
     store_lowest(alloc, root, overlay, path, lowest)?;

@@ -131,14 +131,31 @@ pub fn store_content<A: Allocator + Clone, W: World, F: Files<W>>(
 ) -> Result<(), Fault>
     requires there { (w : Row) × HasFile inodes.old.root path.now name.now w }
     requires short { length content.now ≤ content_most }
-    ensures ok { (w : Row) → HasFile inodes.old.root path.now name.now w → AtDirectory path.now inodes.old.root (λ y d. OnOk result (inodes.new.root ≡ (if is_own w.origin then inodes.old.root else chained path.now (changed d name.now (Some (owned w))) inodes.old.root))) }
-    ensures stored { W.honest → (w : Row) → HasFile inodes.old.root path.now name.now w → AtDirectory path.now inodes.old.root (λ y d. OnOk result (MatchBool (is_own w.origin) (F.stored inodes.new.files ≡ with_content (F.stored inodes.old.files) w.number content.now) (Above (with_entries (with_content (F.stored inodes.old.files) w.number content.now) y.number (listing_of (changed d name.now (Some (owned w))))) inodes.old.root path.now (F.stored inodes.new.files)))) }
+    ensures ok { (w : Row) → HasFile inodes.old.root path.now name.now w
+        → AtDirectory path.now inodes.old.root
+        (λ y d. OnOk result (inodes.new.root ≡
+        (if is_own w.origin then inodes.old.root else chained path.now
+        (changed d name.now (Some (owned w))) inodes.old.root))) }
+    ensures stored { W.honest → (w : Row) → HasFile inodes.old.root path.now name.now w
+        → AtDirectory path.now inodes.old.root
+        (λ y d. OnOk result (MatchBool (is_own w.origin)
+        (F.stored inodes.new.files ≡ with_content (F.stored inodes.old.files) w.number content.now)
+        (Above (with_entries (with_content (F.stored inodes.old.files) w.number content.now) y.number
+        (listing_of (changed d name.now (Some (owned w))))) inodes.old.root path.now (F.stored inodes.new.files)))) }
     ensures err { OnErr result (inodes.new.root ≡ inodes.old.root) }
-    ensures strays { W.honest → (w : Row) → HasFile inodes.old.root path.now name.now w → OnErr result (RefusedBy (F.stored inodes.old.files) (with_content (F.stored inodes.old.files) w.number content.now) inodes.old.root path.now (F.stored inodes.new.files)) }
+    ensures strays { W.honest → (w : Row) → HasFile inodes.old.root path.now name.now w
+        → OnErr result (RefusedBy (F.stored inodes.old.files)
+        (with_content (F.stored inodes.old.files) w.number content.now) inodes.old.root path.now
+        (F.stored inodes.new.files)) }
     ensures fault { IfErr result (IsStoreFault (F.failures inodes.old.files) (F.failures inodes.new.files)) }
     ensures counted { OnOk result (F.failures inodes.new.files ≡ F.failures inodes.old.files) }
-    ensures shown { W.honest → (w : Row) → HasFile inodes.old.root path.now name.now w → OnOk result (shown_in W.repository (F.stored inodes.new.files) inodes.new.root ≡ graft (path.now ++ name.now ∷ []) (leaf (node_from w.kind (Some content.now) false)) (shown_in W.repository (F.stored inodes.old.files) inodes.old.root)) }
-    ensures unseen { W.honest → OnErr result (shown_in W.repository (F.stored inodes.new.files) inodes.new.root ≡ shown_in W.repository (F.stored inodes.old.files) inodes.old.root) }
+    ensures shown { W.honest → (w : Row) → HasFile inodes.old.root path.now name.now w
+        → OnOk result (shown_in W.repository (F.stored inodes.new.files) inodes.new.root ≡ graft
+        (path.now ++ name.now ∷ []) (leaf (node_from w.kind (Some content.now) false))
+        (shown_in W.repository (F.stored inodes.old.files) inodes.old.root)) }
+    ensures unseen { W.honest
+        → OnErr result (shown_in W.repository (F.stored inodes.new.files) inodes.new.root ≡ shown_in W.repository
+        (F.stored inodes.old.files) inodes.old.root) }
     ensures saved { AreSaved inodes.old.root → AreSaved inodes.new.root }
     ensures stays { StaysLoaded inodes.old.root inodes.new.root }
     ensures changes { inodes.new.changes ≡ min (inodes.old.changes + 1) u64.MAX }

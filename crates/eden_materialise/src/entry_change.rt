@@ -34,8 +34,13 @@ pub(crate) fn take_out<A: Allocator, W: World, F: Files<W>>(
     name: &Name,
 ) -> Result<(), FilesFault>
     requires held { IsHeldFor W.honest W.repository (F.stored overlay.old) root.old path.now name.now None }
-    ensures ok { AtDirectory path.now root.old (λ y d. OnOk result (root.new ≡ chained path.now (changed d name.now None) root.old)) }
-    ensures stored { W.honest → AtDirectory path.now root.old (λ y d. OnOk result (Above (with_entries (F.stored overlay.old) y.number (listing_of (changed d name.now None))) root.old path.now (F.stored overlay.new))) }
+    ensures ok { AtDirectory path.now root.old
+        (λ y d. OnOk result (root.new ≡ chained path.now (changed d name.now None) root.old)) }
+    ensures stored { W.honest
+        → AtDirectory path.now root.old
+        (λ y d. OnOk result (Above
+        (with_entries (F.stored overlay.old) y.number (listing_of (changed d name.now None))) root.old path.now
+        (F.stored overlay.new))) }
     ensures err { OnErr result (root.new ≡ root.old) }
     ensures strays { W.honest → OnErr result (Refused (F.stored overlay.old) root.old path.now (F.stored overlay.new)) }
     ensures counted { Counted (result ≡ Err files.Device) (F.failures overlay.old) (F.failures overlay.new) }
@@ -57,8 +62,13 @@ pub(crate) fn put_in<A: Allocator, W: World, F: Files<W>>(
     entry: Entry<A>,
 ) -> Result<(), FilesFault>
     requires held { IsHeldFor W.honest W.repository (F.stored overlay.old) root.old path.now name.now (Some entry) }
-    ensures ok { AtDirectory path.now root.old (λ y d. OnOk result (root.new ≡ chained path.now (changed d name.now (Some entry)) root.old)) }
-    ensures stored { W.honest → AtDirectory path.now root.old (λ y d. OnOk result (Above (with_entries (F.stored overlay.old) y.number (listing_of (changed d name.now (Some entry)))) root.old path.now (F.stored overlay.new))) }
+    ensures ok { AtDirectory path.now root.old
+        (λ y d. OnOk result (root.new ≡ chained path.now (changed d name.now (Some entry)) root.old)) }
+    ensures stored { W.honest
+        → AtDirectory path.now root.old
+        (λ y d. OnOk result (Above
+        (with_entries (F.stored overlay.old) y.number (listing_of (changed d name.now (Some entry)))) root.old path.now
+        (F.stored overlay.new))) }
     ensures err { OnErr result (root.new ≡ root.old) }
     ensures strays { W.honest → OnErr result (Refused (F.stored overlay.old) root.old path.now (F.stored overlay.new)) }
     ensures counted { Counted (result ≡ Err files.Device) (F.failures overlay.old) (F.failures overlay.new) }
@@ -129,15 +139,27 @@ pub fn change_entry<A: Allocator + Clone, W: World, F: Files<W>>(
     name: &Name,
     entry: Option<Entry<A>>,
 ) -> Result<(), Fault>
-    requires may { MayStand W.honest W.repository (F.stored inodes.old.files) inodes.old.root inodes.old.next path.now name.now entry }
-    ensures ok { AtDirectory path.now inodes.old.root (λ y d. OnOk result (inodes.new.root ≡ chained path.now (changed d name.now entry) inodes.old.root)) }
-    ensures stored { W.honest → AtDirectory path.now inodes.old.root (λ y d. OnOk result (Above (with_entries (F.stored inodes.old.files) y.number (listing_of (changed d name.now entry))) inodes.old.root path.now (F.stored inodes.new.files))) }
+    requires may { MayStand W.honest W.repository
+        (F.stored inodes.old.files) inodes.old.root inodes.old.next path.now name.now entry }
+    ensures ok { AtDirectory path.now inodes.old.root
+        (λ y d. OnOk result (inodes.new.root ≡ chained path.now (changed d name.now entry) inodes.old.root)) }
+    ensures stored { W.honest
+        → AtDirectory path.now inodes.old.root
+        (λ y d. OnOk result (Above
+        (with_entries (F.stored inodes.old.files) y.number
+        (listing_of (changed d name.now entry))) inodes.old.root path.now (F.stored inodes.new.files))) }
     ensures err { OnErr result (inodes.new.root ≡ inodes.old.root) }
-    ensures strays { W.honest → OnErr result (Refused (F.stored inodes.old.files) inodes.old.root path.now (F.stored inodes.new.files)) }
+    ensures strays { W.honest
+        → OnErr result (Refused (F.stored inodes.old.files) inodes.old.root path.now (F.stored inodes.new.files)) }
     ensures fault { IfErr result (IsStoreFault (F.failures inodes.old.files) (F.failures inodes.new.files)) }
     ensures counted { OnOk result (F.failures inodes.new.files ≡ F.failures inodes.old.files) }
-    ensures shown { W.honest → OnOk result (shown_in W.repository (F.stored inodes.new.files) inodes.new.root ≡ graft (path.now ++ name.now ∷ []) (shown_from W.repository (F.stored inodes.new.files) entry) (shown_in W.repository (F.stored inodes.old.files) inodes.old.root)) }
-    ensures unseen { W.honest → OnErr result (shown_in W.repository (F.stored inodes.new.files) inodes.new.root ≡ shown_in W.repository (F.stored inodes.old.files) inodes.old.root) }
+    ensures shown { W.honest
+        → OnOk result (shown_in W.repository (F.stored inodes.new.files) inodes.new.root ≡ graft
+        (path.now ++ name.now ∷ []) (shown_from W.repository (F.stored inodes.new.files) entry)
+        (shown_in W.repository (F.stored inodes.old.files) inodes.old.root)) }
+    ensures unseen { W.honest
+        → OnErr result (shown_in W.repository (F.stored inodes.new.files) inodes.new.root ≡ shown_in W.repository
+        (F.stored inodes.old.files) inodes.old.root) }
     ensures saved { AreSaved inodes.old.root → AreSaved inodes.new.root }
     ensures stays { StaysLoaded inodes.old.root inodes.new.root }
     ensures changes { inodes.new.changes ≡ min (inodes.old.changes + 1) u64.MAX }

@@ -105,9 +105,14 @@ fn store_move<A: Allocator, W: World, F: Files<W>>(
 ) -> Result<(), FilesFault>
     requires can { MovesIn W.honest (F.stored overlay.old) root.old from.now name.now to.now new_name.now }
     requires may { MayMove root.old from.now name.now to.now new_name.now }
-    ensures ok { (m : MayMove root.old from.now name.now to.now new_name.now) → OnOk result (root.new ≡ moved_in root.old from.now name.now to.now new_name.now m) }
-    ensures stored { W.honest → (m : MayMove root.old from.now name.now to.now new_name.now) → OnOk result (F.stored overlay.new ≡ files_moved root.old from.now name.now to.now new_name.now m (F.stored overlay.old)) }
-    ensures err { OnErr result (IsUnmoved W.honest from.now name.now to.now new_name.now (F.stored overlay.old) root.old (F.stored overlay.new) root.new) }
+    ensures ok { (m : MayMove root.old from.now name.now to.now new_name.now)
+        → OnOk result (root.new ≡ moved_in root.old from.now name.now to.now new_name.now m) }
+    ensures stored { W.honest → (m : MayMove root.old from.now name.now to.now new_name.now)
+        → OnOk result (F.stored overlay.new ≡ files_moved root.old from.now name.now to.now new_name.now m
+        (F.stored overlay.old)) }
+    ensures err { OnErr result
+        (IsUnmoved W.honest from.now name.now to.now new_name.now (F.stored overlay.old) root.old
+        (F.stored overlay.new) root.new) }
     ensures counted { Counted (result ≡ Err files.Device) (F.failures overlay.old) (F.failures overlay.new) }
 {
     if is_same(from, to) {
@@ -123,7 +128,8 @@ pub(crate) fn remove_replaced<W: World, F: Files<W>>(
     own: Option<u64>,
 )
     requires { W.honest → IfSome own (λ k. AreSound (without (F.stored overlay.old) k)) }
-    ensures { Clears W.honest (F.stored overlay.old) (F.failures overlay.old) (F.stored overlay.new) (F.failures overlay.new) own }
+    ensures { Clears W.honest (F.stored overlay.old) (F.failures overlay.old) (F.stored overlay.new)
+        (F.failures overlay.new) own }
 {
     match own {
         None => return,
@@ -193,15 +199,27 @@ pub fn move_entry<A: Allocator + Clone, W: World, F: Files<W>>(
     new_name: &Name,
 ) -> Result<(), Fault>
     requires may { CanMove inodes.old.root from.now name.now to.now new_name.now }
-    ensures ok { OnOk result (IsMoved W.honest from.now name.now to.now new_name.now (F.stored inodes.old.files) inodes.old.root (F.failures inodes.old.files) (F.stored inodes.new.files) inodes.new.root (F.failures inodes.new.files)) }
-    ensures err { OnErr result (IsUnmoved W.honest from.now name.now to.now new_name.now (F.stored inodes.old.files) inodes.old.root (F.stored inodes.new.files) inodes.new.root) }
+    ensures ok { OnOk result
+        (IsMoved W.honest from.now name.now to.now new_name.now (F.stored inodes.old.files) inodes.old.root
+        (F.failures inodes.old.files) (F.stored inodes.new.files) inodes.new.root (F.failures inodes.new.files)) }
+    ensures err { OnErr result
+        (IsUnmoved W.honest from.now name.now to.now new_name.now (F.stored inodes.old.files) inodes.old.root
+        (F.stored inodes.new.files) inodes.new.root) }
     ensures fault { IfErr result (IsStoreFault (F.failures inodes.old.files) (F.failures inodes.new.files)) }
     ensures counted { OnOk result (F.failures inodes.old.files ≤ F.failures inodes.new.files) }
     ensures loaded { StaysLoaded inodes.old.root inodes.new.root }
     ensures saved { OnOk result (AreSaved inodes.old.root → AreSaved inodes.new.root) }
-    ensures elsewhere { W.honest → AtDirectory to.now inodes.old.root (λ y d. (k : ℕ) → IsAway inodes.old.root k → own_number (find_row new_name.now d.rows) ≢ Some k → F.stored inodes.new.files k ≡ F.stored inodes.old.files k) }
-    ensures shown { W.honest → OnOk result (shown_in W.repository (F.stored inodes.new.files) inodes.new.root ≡ move (shown_in W.repository (F.stored inodes.old.files) inodes.old.root) (from.now ++ name.now ∷ []) (to.now ++ new_name.now ∷ [])) }
-    ensures unseen { W.honest → OnErr result (shown_in W.repository (F.stored inodes.new.files) inodes.new.root ≡ shown_in W.repository (F.stored inodes.old.files) inodes.old.root) }
+    ensures elsewhere { W.honest
+        → AtDirectory to.now inodes.old.root
+        (λ y d. (k : ℕ) → IsAway inodes.old.root k → own_number (find_row new_name.now d.rows) ≢ Some k
+        → F.stored inodes.new.files k ≡ F.stored inodes.old.files k) }
+    ensures shown { W.honest
+        → OnOk result (shown_in W.repository (F.stored inodes.new.files) inodes.new.root ≡ move
+        (shown_in W.repository (F.stored inodes.old.files) inodes.old.root) (from.now ++ name.now ∷ [])
+        (to.now ++ new_name.now ∷ [])) }
+    ensures unseen { W.honest
+        → OnErr result (shown_in W.repository (F.stored inodes.new.files) inodes.new.root ≡ shown_in W.repository
+        (F.stored inodes.old.files) inodes.old.root) }
     ensures changes { inodes.new.changes ≡ min (inodes.old.changes + 1) u64.MAX }
     ensures rest { (inodes.new.next ≡ inodes.old.next) × (inodes.new.clock ≡ inodes.old.clock) }
 {

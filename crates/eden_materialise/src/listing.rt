@@ -82,7 +82,9 @@ pub(crate) fn save<A: Allocator, W: World, F: Files<W>>(
 ) -> Result<(), FilesFault>
     requires entries { AreStorable (listed_as listed dir.now) }
     requires sound { W.honest → AreSound (with_entries (F.stored overlay.old) number (listed_as listed dir.now)) }
-    ensures ok { W.honest → OnOk result (F.stored overlay.new ≡ with_entries (F.stored overlay.old) number (listed_as listed.entry dir.now)) }
+    ensures ok { W.honest
+        → OnOk result (F.stored overlay.new ≡ with_entries (F.stored overlay.old) number
+        (listed_as listed.entry dir.now)) }
     ensures err { W.honest → OnErr result (F.stored overlay.new ≡ F.stored overlay.old) }
     ensures counted { Counted (result ≡ Err files.Device) (F.failures overlay.old) (F.failures overlay.new) }
 {

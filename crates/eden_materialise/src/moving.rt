@@ -39,7 +39,8 @@ fn ready_at<A: Allocator>(
 ) -> Result<Ready, AllocError>
     requires { IsSomeAnd (row_at path.now root.now) (λ y. IsSome (child_of y)) }
     ensures number { AtDirectory path.now root.now (λ y d. IfOk result (λ ready. ready.number ≡ y.number)) }
-    ensures entries { AtDirectory path.now root.now (λ y d. IfOk result (λ ready. ready.entries.items ≡ listed_as listed.entry d)) }
+    ensures entries { AtDirectory path.now root.now
+        (λ y d. IfOk result (λ ready. ready.entries.items ≡ listed_as listed.entry d)) }
     ensures rising { AtDirectory path.now root.now (λ y d. IfOk result (λ ready. AreRising (λ r. r.0) d.rows)) }
 {
     match root.walk(path) {
@@ -61,8 +62,11 @@ fn ready_at<A: Allocator>(
 
 /// A copy of an entry that isn't loaded, of a name in the directory at a path.
 pub(crate) fn copy_at<A: Allocator>(root: &Entry<A>, path: &[Name], name: &Name) -> Entry<A>
-    requires { (y : Row) × ((d : Directory) × ((row_at path.now root.now ≡ Some y) × ((child_of y ≡ Some d) × IsSome (find_row name.now d.rows)))) }
-    ensures { AtDirectory path.now root.now (λ y d. (z : Row) → find_row name.now d.rows ≡ Some z → child_of z ≡ None → result ≡ z) }
+    requires { (y : Row)
+        × ((d : Directory) ×
+        ((row_at path.now root.now ≡ Some y) × ((child_of y ≡ Some d) × IsSome (find_row name.now d.rows)))) }
+    ensures { AtDirectory path.now root.now
+        (λ y d. (z : Row) → find_row name.now d.rows ≡ Some z → child_of z ≡ None → result ≡ z) }
 {
     match root.walk(path) {
         None => unreachable!(),
@@ -95,10 +99,21 @@ fn store_both<A: Allocator, W: World, F: Files<W>>(
     requires loaded { IsSomeAnd (row_at path.now root.now) (λ y. IsSome (child_of y)) }
     requires first { AreStorable first.now.entries.items }
     requires second { AtDirectory path.now root.now (λ y d. AreStorable (listing_of d)) }
-    requires first_sound { W.honest → AreSound (with_entries (F.stored overlay.old) first.now.number first.now.entries.items) }
-    requires both_sound { W.honest → AtDirectory path.now root.now (λ y d. AreSound (with_entries (with_entries (F.stored overlay.old) first.now.number first.now.entries.items) y.number (listing_of d))) }
-    ensures ok { W.honest → AtDirectory path.now root.now (λ y d. OnOk result.1 (F.stored overlay.new ≡ with_entries (with_entries (F.stored overlay.old) first.now.number first.now.entries.items) y.number (listing_of d))) }
-    ensures err { W.honest → OnErr result.1 (F.stored overlay.new ≡ (if result.0 then with_entries (F.stored overlay.old) first.now.number first.now.entries.items else F.stored overlay.old)) }
+    requires first_sound { W.honest
+        → AreSound (with_entries (F.stored overlay.old) first.now.number first.now.entries.items) }
+    requires both_sound { W.honest
+        → AtDirectory path.now root.now
+        (λ y d. AreSound (with_entries
+        (with_entries (F.stored overlay.old) first.now.number first.now.entries.items) y.number (listing_of d))) }
+    ensures ok { W.honest
+        → AtDirectory path.now root.now
+        (λ y d. OnOk result.1
+        (F.stored overlay.new ≡ with_entries
+        (with_entries (F.stored overlay.old) first.now.number first.now.entries.items) y.number (listing_of d))) }
+    ensures err { W.honest
+        → OnErr result.1 (F.stored overlay.new ≡
+        (if result.0 then with_entries
+        (F.stored overlay.old) first.now.number first.now.entries.items else F.stored overlay.old)) }
     ensures counted { Counted (result.1 ≡ Err files.Device) (F.failures overlay.old) (F.failures overlay.new) }
 {
     let second = match ready_at(alloc, root, path, Listed::Whole) {
@@ -127,11 +142,20 @@ pub(crate) fn move_between<A: Allocator, W: World, F: Files<W>>(
 ) -> Result<(), FilesFault>
     requires may { MayMove root.old from.now name.now to.now new_name.now }
     requires apart { from.now ≢ to.now }
-    requires left_sound { W.honest → (m : MayMove root.old from.now name.now to.now new_name.now) → AreSound (files_left root.old from.now name.now to.now new_name.now m (F.stored overlay.old)) }
-    requires moved_sound { W.honest → (m : MayMove root.old from.now name.now to.now new_name.now) → AreSound (files_moved root.old from.now name.now to.now new_name.now m (F.stored overlay.old)) }
-    ensures ok { (m : MayMove root.old from.now name.now to.now new_name.now) → OnOk result (root.new ≡ moved_in root.old from.now name.now to.now new_name.now m) }
-    ensures stored { W.honest → (m : MayMove root.old from.now name.now to.now new_name.now) → OnOk result (F.stored overlay.new ≡ files_moved root.old from.now name.now to.now new_name.now m (F.stored overlay.old)) }
-    ensures err { (m : MayMove root.old from.now name.now to.now new_name.now) → OnErr result (((root.new ≡ root.old) × (W.honest → F.stored overlay.new ≡ F.stored overlay.old)) ⊎ ((root.new ≡ marked_source root.old from.now name.now to.now new_name.now m) × (W.honest → F.stored overlay.new ≡ files_left root.old from.now name.now to.now new_name.now m (F.stored overlay.old)))) }
+    requires left_sound { W.honest → (m : MayMove root.old from.now name.now to.now new_name.now)
+        → AreSound (files_left root.old from.now name.now to.now new_name.now m (F.stored overlay.old)) }
+    requires moved_sound { W.honest → (m : MayMove root.old from.now name.now to.now new_name.now)
+        → AreSound (files_moved root.old from.now name.now to.now new_name.now m (F.stored overlay.old)) }
+    ensures ok { (m : MayMove root.old from.now name.now to.now new_name.now)
+        → OnOk result (root.new ≡ moved_in root.old from.now name.now to.now new_name.now m) }
+    ensures stored { W.honest → (m : MayMove root.old from.now name.now to.now new_name.now)
+        → OnOk result (F.stored overlay.new ≡ files_moved root.old from.now name.now to.now new_name.now m
+        (F.stored overlay.old)) }
+    ensures err { (m : MayMove root.old from.now name.now to.now new_name.now)
+        → OnErr result (((root.new ≡ root.old) × (W.honest → F.stored overlay.new ≡ F.stored overlay.old))
+        ⊎ ((root.new ≡ marked_source root.old from.now name.now to.now new_name.now m)
+        × (W.honest → F.stored overlay.new ≡ files_left root.old from.now name.now to.now new_name.now m
+        (F.stored overlay.old)))) }
     ensures counted { Counted (result ≡ Err files.Device) (F.failures overlay.old) (F.failures overlay.new) }
 {
     let copy = copy_at(root, from, name);

@@ -50,12 +50,16 @@ pub fn materialise<A: Allocator + Clone, W: World, F: Files<W>>(
 ) -> Result<(), Fault>
     requires loaded { IsLoadedAt path.now inodes.old.root }
     ensures ok { OnOk result (inodes.new.root ≡ owned (owned_along path.now inodes.old.root)) }
-    ensures stored { W.honest → OnOk result (Chain (F.stored inodes.old.files) inodes.old.root path.now (F.stored inodes.new.files)) }
+    ensures stored { W.honest
+        → OnOk result (Chain (F.stored inodes.old.files) inodes.old.root path.now (F.stored inodes.new.files)) }
     ensures err { OnErr result (inodes.new.root ≡ inodes.old.root) }
-    ensures strays { W.honest → OnErr result (Refused (F.stored inodes.old.files) inodes.old.root path.now (F.stored inodes.new.files)) }
+    ensures strays { W.honest
+        → OnErr result (Refused (F.stored inodes.old.files) inodes.old.root path.now (F.stored inodes.new.files)) }
     ensures fault { IfErr result (IsStoreFault (F.failures inodes.old.files) (F.failures inodes.new.files)) }
     ensures counted { OnOk result (F.failures inodes.new.files ≡ F.failures inodes.old.files) }
-    ensures shown { W.honest → shown_in W.repository (F.stored inodes.new.files) inodes.new.root ≡ shown_in W.repository (F.stored inodes.old.files) inodes.old.root }
+    ensures shown { W.honest
+        → shown_in W.repository (F.stored inodes.new.files) inodes.new.root ≡ shown_in W.repository
+        (F.stored inodes.old.files) inodes.old.root }
     ensures saved { AreSaved inodes.old.root → AreSaved inodes.new.root }
     ensures stays { StaysLoaded inodes.old.root inodes.new.root }
     ensures changes { inodes.new.changes ≡ min (inodes.old.changes + 1) u64.MAX }

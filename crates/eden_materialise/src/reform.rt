@@ -85,12 +85,21 @@ pub fn set_kind<A: Allocator + Clone, W: World, F: Files<W>>(
 ) -> Result<(), Fault>
     requires there { (w : Row) × HasFile inodes.old.root path.now name.now w }
     requires file { kind ≢ kinds.Dir }
-    ensures ok { (w : Row) → HasFile inodes.old.root path.now name.now w → AtDirectory path.now inodes.old.root (λ y d. OnOk result (inodes.new.root ≡ chained path.now (changed d name.now (Some (of_kind kind w))) inodes.old.root)) }
+    ensures ok { (w : Row) → HasFile inodes.old.root path.now name.now w
+        → AtDirectory path.now inodes.old.root
+        (λ y d. OnOk result (inodes.new.root ≡ chained path.now
+        (changed d name.now (Some (of_kind kind w))) inodes.old.root)) }
     ensures err { OnErr result (inodes.new.root ≡ inodes.old.root) }
     ensures fault { IfErr result (IsStoreFault (F.failures inodes.old.files) (F.failures inodes.new.files)) }
     ensures counted { OnOk result (F.failures inodes.new.files ≡ F.failures inodes.old.files) }
-    ensures shown { W.honest → (w : Row) → HasFile inodes.old.root path.now name.now w → OnOk result (shown_in W.repository (F.stored inodes.new.files) inodes.new.root ≡ graft (path.now ++ name.now ∷ []) (leaf (node_from kind (content_shown W.repository (F.stored inodes.old.files) w) false)) (shown_in W.repository (F.stored inodes.old.files) inodes.old.root)) }
-    ensures unseen { W.honest → OnErr result (shown_in W.repository (F.stored inodes.new.files) inodes.new.root ≡ shown_in W.repository (F.stored inodes.old.files) inodes.old.root) }
+    ensures shown { W.honest → (w : Row) → HasFile inodes.old.root path.now name.now w
+        → OnOk result (shown_in W.repository (F.stored inodes.new.files) inodes.new.root ≡ graft
+        (path.now ++ name.now ∷ [])
+        (leaf (node_from kind (content_shown W.repository (F.stored inodes.old.files) w) false))
+        (shown_in W.repository (F.stored inodes.old.files) inodes.old.root)) }
+    ensures unseen { W.honest
+        → OnErr result (shown_in W.repository (F.stored inodes.new.files) inodes.new.root ≡ shown_in W.repository
+        (F.stored inodes.old.files) inodes.old.root) }
     ensures saved { AreSaved inodes.old.root → AreSaved inodes.new.root }
     ensures stays { StaysLoaded inodes.old.root inodes.new.root }
     ensures changes { inodes.new.changes ≡ min (inodes.old.changes + 1) u64.MAX }

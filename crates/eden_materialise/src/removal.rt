@@ -59,14 +59,23 @@ pub fn remove_entry<A: Allocator + Clone, W: World, F: Files<W>>(
     name: &Name,
 ) -> Result<(), Fault>
     requires there { HasEntry inodes.old.root path.now name.now }
-    ensures ok { AtDirectory path.now inodes.old.root (λ y d. OnOk result (inodes.new.root ≡ chained path.now (changed d name.now None) inodes.old.root)) }
-    ensures removed { AtDirectory path.now inodes.old.root (λ y d. OnOk result (Removes W.honest path.now name.now (F.stored inodes.old.files) inodes.old.root y d (F.failures inodes.old.files) (F.stored inodes.new.files) (F.failures inodes.new.files))) }
+    ensures ok { AtDirectory path.now inodes.old.root
+        (λ y d. OnOk result (inodes.new.root ≡ chained path.now (changed d name.now None) inodes.old.root)) }
+    ensures removed { AtDirectory path.now inodes.old.root
+        (λ y d. OnOk result (Removes W.honest path.now name.now (F.stored inodes.old.files) inodes.old.root y d
+        (F.failures inodes.old.files) (F.stored inodes.new.files) (F.failures inodes.new.files))) }
     ensures err { OnErr result (inodes.new.root ≡ inodes.old.root) }
-    ensures strays { W.honest → OnErr result (Refused (F.stored inodes.old.files) inodes.old.root path.now (F.stored inodes.new.files)) }
+    ensures strays { W.honest
+        → OnErr result (Refused (F.stored inodes.old.files) inodes.old.root path.now (F.stored inodes.new.files)) }
     ensures fault { IfErr result (IsStoreFault (F.failures inodes.old.files) (F.failures inodes.new.files)) }
     ensures counted { OnOk result (F.failures inodes.old.files ≤ F.failures inodes.new.files) }
-    ensures shown { W.honest → OnOk result (shown_in W.repository (F.stored inodes.new.files) inodes.new.root ≡ graft (path.now ++ name.now ∷ []) (λ below. None) (shown_in W.repository (F.stored inodes.old.files) inodes.old.root)) }
-    ensures unseen { W.honest → OnErr result (shown_in W.repository (F.stored inodes.new.files) inodes.new.root ≡ shown_in W.repository (F.stored inodes.old.files) inodes.old.root) }
+    ensures shown { W.honest
+        → OnOk result (shown_in W.repository (F.stored inodes.new.files) inodes.new.root ≡ graft
+        (path.now ++ name.now ∷ []) (λ below. None)
+        (shown_in W.repository (F.stored inodes.old.files) inodes.old.root)) }
+    ensures unseen { W.honest
+        → OnErr result (shown_in W.repository (F.stored inodes.new.files) inodes.new.root ≡ shown_in W.repository
+        (F.stored inodes.old.files) inodes.old.root) }
     ensures saved { AreSaved inodes.old.root → AreSaved inodes.new.root }
     ensures stays { StaysLoaded inodes.old.root inodes.new.root }
     ensures changes { inodes.new.changes ≡ min (inodes.old.changes + 1) u64.MAX }

@@ -31,8 +31,13 @@ fn store_without<A: Allocator, W: World, F: Files<W>>(
 ) -> Result<(), FilesFault>
     requires loaded { IsSomeAnd (row_at path.now root.now) (λ y. IsSome (child_of y)) }
     requires entries { AtDirectory path.now root.now (λ y d. AreStorable (listing_of (changed d name.now None))) }
-    requires sound { W.honest → AtDirectory path.now root.now (λ y d. AreSound (with_entries (F.stored overlay.old) y.number (listing_of (changed d name.now None)))) }
-    ensures ok { W.honest → AtDirectory path.now root.now (λ y d. OnOk result (F.stored overlay.new ≡ with_entries (F.stored overlay.old) y.number (listing_of (changed d name.now None)))) }
+    requires sound { W.honest
+        → AtDirectory path.now root.now
+        (λ y d. AreSound (with_entries (F.stored overlay.old) y.number (listing_of (changed d name.now None)))) }
+    ensures ok { W.honest
+        → AtDirectory path.now root.now
+        (λ y d. OnOk result (F.stored overlay.new ≡ with_entries (F.stored overlay.old) y.number
+        (listing_of (changed d name.now None)))) }
     ensures err { W.honest → OnErr result (F.stored overlay.new ≡ F.stored overlay.old) }
     ensures counted { Counted (result ≡ Err files.Device) (F.failures overlay.old) (F.failures overlay.new) }
 {
@@ -58,9 +63,13 @@ pub(crate) fn move_within<A: Allocator, W: World, F: Files<W>>(
     requires may { MayMove root.old path.now name.now path.now new_name.now }
     requires rising { AtDirectory path.now root.old (λ y d. AreRising (λ r. r.0) d.rows) }
     requires differ { name.now ≢ new_name.now }
-    requires sound { W.honest → (m : MayMove root.old path.now name.now path.now new_name.now) → AreSound (files_moved root.old path.now name.now path.now new_name.now m (F.stored overlay.old)) }
-    ensures ok { (m : MayMove root.old path.now name.now path.now new_name.now) → OnOk result (root.new ≡ moved_in root.old path.now name.now path.now new_name.now m) }
-    ensures stored { W.honest → (m : MayMove root.old path.now name.now path.now new_name.now) → OnOk result (F.stored overlay.new ≡ files_moved root.old path.now name.now path.now new_name.now m (F.stored overlay.old)) }
+    requires sound { W.honest → (m : MayMove root.old path.now name.now path.now new_name.now)
+        → AreSound (files_moved root.old path.now name.now path.now new_name.now m (F.stored overlay.old)) }
+    ensures ok { (m : MayMove root.old path.now name.now path.now new_name.now)
+        → OnOk result (root.new ≡ moved_in root.old path.now name.now path.now new_name.now m) }
+    ensures stored { W.honest → (m : MayMove root.old path.now name.now path.now new_name.now)
+        → OnOk result (F.stored overlay.new ≡ files_moved root.old path.now name.now path.now new_name.now m
+        (F.stored overlay.old)) }
     ensures err { OnErr result (root.new ≡ root.old) }
     ensures kept { W.honest → OnErr result (F.stored overlay.new ≡ F.stored overlay.old) }
     ensures counted { Counted (result ≡ Err files.Device) (F.failures overlay.old) (F.failures overlay.new) }

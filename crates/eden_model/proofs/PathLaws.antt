@@ -167,7 +167,9 @@ not_below F from to n (Some (m ∷ s)) e other at fine w =
 
 not_both : (F : Tree) (from to : Path) (n : Node) → from ≢ to → F from ≡ Some n → Moves F from to n say.Ok → (is_front from to ≡ false) × (is_front to from ≡ false)
 not_both F from to n other at h =
-    let rest = subst (λ (b : Bool). Whether b (Says say.Ok) (Unless (is_dir n && is_front from to) EINVAL (Unless (is_front to from) ENOTEMPTY (Meets (reach F to) (Says say.Ok) (Replaces F to (is_dir n))))) say.Ok) (other_by from to (path_eq from to) refl (λ e. other (sym e))) h in
+    let rest = subst (λ (b : Bool). Whether b (Says say.Ok)
+    (Unless (is_dir n && is_front from to) EINVAL (Unless (is_front to from) ENOTEMPTY (Meets (reach F to) (Says say.Ok) (Replaces F to (is_dir n))))) say.Ok)
+    (other_by from to (path_eq from to) refl (λ e. other (sym e))) h in
     let one = else_of (is_dir n && is_front from to) EINVAL _ say.Ok refl rest in
     let two = else_of (is_front to from) ENOTEMPTY _ say.Ok refl one.1 in
     (not_below F from to n (behind_of from to) refl other at one.0 (lands (reach F to) _ say.Ok (walk F to) (F to) refl refl two.1), two.0)
@@ -198,7 +200,8 @@ walk_put_from F p o front (n ∷ rest) e =
 walk_put : (F : Tree) (p : Path) (o : Option Node) → walk (put F p o) p ≡ walk F p
 walk_put F p o = walk_put_from F p o [] p refl
 
-reads_file : (from count : ℕ) (x : Bool) (w : List ℕ) (b : Bool) → eqb count 0 ≡ b → Whether b (Says (say.Data [])) (Into (Some w) (λ bytes. say.Data (take count (drop from bytes)))) (say.Data (take count (drop from w)))
+reads_file : (from count : ℕ) (x : Bool) (w : List ℕ) (b : Bool) → eqb count 0 ≡ b
+    → Whether b (Says (say.Data [])) (Into (Some w) (λ bytes. say.Data (take count (drop from bytes)))) (say.Data (take count (drop from w)))
 reads_file from count x w true e = ap (λ (n : ℕ). say.Data (take n (drop from w))) (eqb-true count 0 e)
 reads_file from count x w false e = refl
 

@@ -52,7 +52,8 @@ module _ (offset : ℕ) (bytes old : List ℕ) where
 
 pub data_is_written : DataIsWritten
 data_is_written offset i [] old from to = absurd (omega (arith, from, to))
-data_is_written offset i (b ∷ bytes) old from to = ap (λ (xs : List ℕ). get_or xs i 0) (append_assoc (resized offset old) (b ∷ bytes) (rest offset (b ∷ bytes) old)) ∙ in_data offset (b ∷ bytes) old i from to
+data_is_written offset i (b ∷ bytes) old from to = ap (λ (xs : List ℕ). get_or xs i 0) (append_assoc (resized offset old) (b ∷ bytes) (rest offset (b ∷ bytes) old)) ∙ in_data offset
+    (b ∷ bytes) old i from to
 
 pub old_bytes_stay : OldBytesStay
 old_bytes_stay offset i [] old where_it_is = refl

@@ -64,7 +64,9 @@ module _ {T : Type 0} (A : Table T) (honest : Type 0) (opening : Tree) where
       at c s = (s.0, subst (λ n. c ≤ n) ps s.1)
 
   -- a turn of the pass: its want is written, its mark is gone
-  turned : (w : ℕ → Option Key) (P : Blames) (m k : Core T) (c : ℕ) (o : Option Key) → Hears w P m → k.queue.passes ≡ m.queue.passes → ((i : ℕ) → IsPass i m.queue → want_of i k.queue ≡ cond (i == c) o (want_of i m.queue)) → ((i : ℕ) → IsPass i m.queue → mark_of i k.queue ≡ cond (i == c) None (mark_of i m.queue)) → Hears (with_pass w c o) (but_for P c) k
+  turned : (w : ℕ → Option Key) (P : Blames) (m k : Core T) (c : ℕ) (o : Option Key) → Hears w P m → k.queue.passes ≡ m.queue.passes
+      → ((i : ℕ) → IsPass i m.queue → want_of i k.queue ≡ cond (i == c) o (want_of i m.queue)) → ((i : ℕ) → IsPass i m.queue → mark_of i k.queue ≡ cond (i == c) None (mark_of i m.queue))
+      → Hears (with_pass w c o) (but_for P c) k
   turned w P m k c o h ps want mark = record {
     waits = λ i j s e. waits i j (at i s) (i == c) (sym (want i (at i s)) ∙ e);
     heard = λ i j x s e. heard i j x (at i s) (i == c) refl (sym (mark i (at i s)) ∙ e);
@@ -84,7 +86,8 @@ module _ {T : Type 0} (A : Table T) (honest : Type 0) (opening : Tree) where
   -- the key failed
   key_failed : (w : ℕ → Option Key) (P : Blames) (m k : Core T) (j : Key) (x : Cause) → IsMount A honest opening m → Hears w P m → k.queue ≡ after_failed j x m.queue → Hears w (or_failed w P j x) k
   key_failed w P m k j x mount h is = record {
-    waits = λ i y s e. h.waits i y (at i s) (still_wanted j y (want_of i m.queue) (wants_key j (want_of i m.queue)) (sym ((all_are_met m.queue j x i).1 ∙ (all_are_met m.queue j x i).0) ∙ sym (ap (want_of i) is) ∙ e));
+    waits = λ i y s e. h.waits i y (at i s)
+        (still_wanted j y (want_of i m.queue) (wants_key j (want_of i m.queue)) (sym ((all_are_met m.queue j x i).1 ∙ (all_are_met m.queue j x i).0) ∙ sym (ap (want_of i) is) ∙ e));
     heard = λ i y z s e. heard i y z (at i s) (wants_key j (want_of i m.queue)) refl (sym (wanters_are_marked m.queue j x i mount.queue (at i s)) ∙ sym (ap (mark_of i) is) ∙ e);
   }
     where
@@ -113,7 +116,8 @@ module _ {T : Type 0} (A : Table T) (honest : Type 0) (opening : Tree) where
   same_all : (w : ℕ → Option Key) (P : Blames) (m k : Core T) → k.queue ≡ m.queue → Hears w P m → Hears w P k
   same_all w P m k is h = same_queue w P m k (ap (λ (q : Queue). q.wants) is) (ap (λ (q : Queue). q.marks) is) (ap (λ (q : Queue). q.passes) is) h
 
-  hears : (w : ℕ → Option Key) (P : Blames) (m k : Core T) (e : Event) (o : Outcome) → IsMount A honest opening m → Hears w P m → Steps A honest m k e o → Hears (then_waits w e o) (then_heard w P e o) k
+  hears : (w : ℕ → Option Key) (P : Blames) (m k : Core T) (e : Event) (o : Outcome) → IsMount A honest opening m → Hears w P m → Steps A honest m k e o
+      → Hears (then_waits w e o) (then_heard w P e o) k
   hears w P m k _ _ h l (starts c q (Ok u) p) = same_all w P m k (ap (λ (x : Core T). x.queue) p.2) l
   hears w P m k _ _ h l (starts c q (Err x) p) = same_all w P m k (ap (λ (x : Core T). x.queue) p.1) l
   hears w P m k _ _ h l (turns c (Done n r) p) =
@@ -132,7 +136,8 @@ module _ {T : Type 0} (A : Table T) (honest : Type 0) (opening : Tree) where
   hears w P m k _ _ h l (takes o p) =
       let is = ap (λ (x : Core T). x.queue) p.1 in
       let next = next_key m.queue in
-      same_queue w P m k (ap (λ (q : Queue). q.wants) is ∙ (wants_stay m.queue 0 next).0) (ap (λ (q : Queue). q.marks) is ∙ (marks_stay m.queue some_key 0 next).3) (ap (λ (q : Queue). q.passes) is ∙ taken_passes m.queue next) l
+      same_queue w P m k (ap (λ (q : Queue). q.wants) is ∙ (wants_stay m.queue 0 next).0) (ap (λ (q : Queue). q.marks) is ∙ (marks_stay m.queue some_key 0 next).3)
+      (ap (λ (q : Queue). q.passes) is ∙ taken_passes m.queue next) l
   hears w P m k _ _ h l (arrives j bytes Stored p) = key_landed w P m k j l (ap (λ (x : Core T). x.queue) p.2)
   hears w P m k _ _ h l (arrives j bytes (Refused x) p) = key_failed w P m k j x h l (ap (λ (x : Core T). x.queue) p.2)
   hears w P m k _ _ h l (arrives j bytes Stray p) = same_all w P m k (ap (λ (x : Core T). x.queue) p.1) l
@@ -142,7 +147,8 @@ module _ {T : Type 0} (A : Table T) (honest : Type 0) (opening : Tree) where
 
   -- ---- fetch faults
 
-  only_fetches : (P : Blames) (c n : ℕ) (r : Reply) → ((id : Id) (x : Cause) → r ≡ say.Fault (fault.Fetch id x) → (k : Key) × (k.id ≡ id) × P c k x) → IsBlamed P (event.Turn c) (outcome.Turn (Done n r))
+  only_fetches : (P : Blames) (c n : ℕ) (r : Reply) → ((id : Id) (x : Cause) → r ≡ say.Fault (fault.Fetch id x) → (k : Key) × (k.id ≡ id) × P c k x)
+      → IsBlamed P (event.Turn c) (outcome.Turn (Done n r))
   only_fetches P c n say.Ok f = tt
   only_fetches P c n (say.Kind k) f = tt
   only_fetches P c n (say.Stat k size) f = tt
@@ -155,7 +161,8 @@ module _ {T : Type 0} (A : Table T) (honest : Type 0) (opening : Tree) where
   only_fetches P c n (say.Fault fault.Overlay) f = tt
   only_fetches P c n (say.Fault fault.Numbers) f = tt
 
-  fetch_blamed : (w : ℕ → Option Key) (P : Blames) (m : Core T) (c : ℕ) (t u : T) (q : Request) (r : Reply) → Hears w P m → IsPass c m.queue → Replied A honest t q (mark_of c m.queue) r u → (id : Id) (x : Cause) → r ≡ say.Fault (fault.Fetch id x) → (k : Key) × (k.id ≡ id) × P c k x
+  fetch_blamed : (w : ℕ → Option Key) (P : Blames) (m : Core T) (c : ℕ) (t u : T) (q : Request) (r : Reply) → Hears w P m → IsPass c m.queue → Replied A honest t q (mark_of c m.queue) r u
+      → (id : Id) (x : Cause) → r ≡ say.Fault (fault.Fetch id x) → (k : Key) × (k.id ≡ id) × P c k x
   fetch_blamed w P m c t u q r l pass (attempted done) id x is = absurd (done.unfetched id x is)
   fetch_blamed w P m c t u q r l pass (uncopied found done large memory) id x is = absurd (let both : say.Fault fault.Memory ≡ say.Fault (fault.Fetch id x) = sym memory ∙ is in cc both)
   fetch_blamed w P m c t u q r l pass (failed k y needs marked was) id x is =
@@ -176,12 +183,14 @@ module _ {T : Type 0} (A : Table T) (honest : Type 0) (opening : Tree) where
   blamed w P m k _ _ h l (fails j x b p) = tt
   blamed w P m k _ _ h l (unloads q age gone p) = tt
 
-  all_blamed : (w : ℕ → Option Key) (P : Blames) (m m' : Core T) (es : List Event) (os : List Outcome) → Hears w P m → IsMount A honest opening m → Runs A honest opening m es os m' → AreBlamed w P es os
+  all_blamed : (w : ℕ → Option Key) (P : Blames) (m m' : Core T) (es : List Event) (os : List Outcome) → Hears w P m → IsMount A honest opening m → Runs A honest opening m es os m'
+      → AreBlamed w P es os
   all_blamed w P m m' [] os l h r = tt
   all_blamed w P m m' (e ∷ es) [] l h r = tt
   all_blamed w P m m' (e ∷ es) (o ∷ os) l h (k, step, kept, more) = (blamed w P m k e o h l step, all_blamed (then_waits w e o) (then_heard w P e o) k m' es os (hears w P m k e o h l step) kept more)
 
-  all_hear : (w : ℕ → Option Key) (P : Blames) (m m' : Core T) (es : List Event) (os : List Outcome) → Hears w P m → IsMount A honest opening m → Runs A honest opening m es os m' → (c : ℕ) (k : Key) → IsPass c m'.queue → want_of c m'.queue ≡ Some k → waits_after w es os c ≡ Some k
+  all_hear : (w : ℕ → Option Key) (P : Blames) (m m' : Core T) (es : List Event) (os : List Outcome) → Hears w P m → IsMount A honest opening m → Runs A honest opening m es os m' → (c : ℕ) (k : Key)
+      → IsPass c m'.queue → want_of c m'.queue ≡ Some k → waits_after w es os c ≡ Some k
   all_hear w P m m' [] [] l h r c k s e =
       let now : Hears w P m' = same_all w P m m' (ap (λ (x : Core T). x.queue) r) l in
       now.waits c k s e
@@ -223,7 +232,8 @@ module _ {T : Type 0} (A : Table T) (honest : Type 0) (opening : Tree) where
   left_flight g m k j is l = record { flies = λ i. ap (has_key i) is ∙ (one_lands m.queue j i cause.Memory).0 ∙ ap (λ b. b && not (same_key j i)) (l.flies i) }
 
   -- the key is in flight now
-  joined_flight : (g : Key → Bool) (m k : Core T) (j : Key) → IsQueue m.queue → next_key m.queue ≡ Some j → k.queue.flight ≡ (after_take (Some j) m.queue).flight → Flies g m → Flies (λ i. g i || same_key i j) k
+  joined_flight : (g : Key → Bool) (m k : Core T) (j : Key) → IsQueue m.queue → next_key m.queue ≡ Some j → k.queue.flight ≡ (after_take (Some j) m.queue).flight → Flies g m
+      → Flies (λ i. g i || same_key i j) k
   joined_flight g m k j h next is l = record { flies = λ i. ap (has_key i) is ∙ (one_is_taken m.queue j i h next).1 ∙ ap (λ b. b || same_key i j) (l.flies i) }
 
   flown : (g : Key → Bool) (m k : Core T) (e : Event) (o : Outcome) → IsMount A honest opening m → Flies g m → Steps A honest m k e o → IsFlown g e o × Flies (then_flies g e o) k

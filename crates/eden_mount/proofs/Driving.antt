@@ -107,7 +107,8 @@ module _ {T : Type 0} (A : Table T) where
 
   -- the queue after the caller's key landed, with a mark or without
   module _ (q : Request) (k : Key) (m m' : Core T) (kept : IsQueue m'.queue) (h : IsFlying q k m) (seats : m'.seats ≡ m.seats) where
-    driven_on : m'.queue.queue ≡ m.queue.queue → m'.queue.flight ≡ without k m.queue.flight → want_of 1 m'.queue ≡ cond (wants_key k (want_of 1 m.queue)) None (want_of 1 m.queue) → ((j : Key) (x : Cause) → mark_of 1 m'.queue ≡ Some (j, x) → A.needs m'.table q j) → IsDriven A q m'
+    driven_on : m'.queue.queue ≡ m.queue.queue → m'.queue.flight ≡ without k m.queue.flight → want_of 1 m'.queue ≡ cond (wants_key k (want_of 1 m.queue)) None (want_of 1 m.queue)
+        → ((j : Key) (x : Cause) → mark_of 1 m'.queue ≡ Some (j, x) → A.needs m'.table q j) → IsDriven A q m'
     driven_on queue flight want marked = record {
       kept = kept;
       quiet = record {
@@ -121,7 +122,8 @@ module _ {T : Type 0} (A : Table T) where
       marked = marked;
     }
 
-  lands : (q : Request) (a : Asked) (m m' : Core T) (framed : List ℕ) → IsQueue m'.queue → IsFlying q a.key m → KeepsBytes A m.table a.key framed m'.table → m' ≡ record m { table = m'.table; queue = after_done a.key m.queue } → Goes q a m m'
+  lands : (q : Request) (a : Asked) (m m' : Core T) (framed : List ℕ) → IsQueue m'.queue → IsFlying q a.key m → KeepsBytes A m.table a.key framed m'.table
+      → m' ≡ record m { table = m'.table; queue = after_done a.key m.queue } → Goes q a m m'
   lands q a m m' framed kept h keeps is =
       let k = a.key in
       let queue : m'.queue ≡ after_done k m.queue = ap (λ (x : Core T). x.queue) is in
@@ -142,7 +144,8 @@ module _ {T : Type 0} (A : Table T) where
       let queue : m'.queue ≡ after_failed k x m.queue = ap (λ (y : Core T). y.queue) is in
       let seats : m'.seats ≡ m.seats = ap (λ (y : Core T). y.seats) is in
       let table : m'.table ≡ m.table = ap (λ (y : Core T). y.table) is in
-      let mark : mark_of 1 m'.queue ≡ Some (k, x) = ap (mark_of 1) queue ∙ wanters_are_marked m.queue k x 1 h.kept (first_pass m.queue h.kept) ∙ (met k (want_of 1 m.queue) (mark_of 1 m.queue) (k, x) h.wants).1 in
+      let mark : mark_of 1 m'.queue ≡ Some (k, x) = ap (mark_of 1) queue ∙ wanters_are_marked m.queue k x 1 h.kept (first_pass m.queue h.kept) ∙
+      (met k (want_of 1 m.queue) (mark_of 1 m.queue) (k, x) h.wants).1 in
       let want : want_of 1 m'.queue ≡ cond (wants_key k (want_of 1 m.queue)) None (want_of 1 m.queue) = ap (want_of 1) queue ∙ (all_are_met m.queue k x 1).1 ∙ (all_are_met m.queue k x 1).0 in
       let needed : (j : Key) (y : Cause) → mark_of 1 m'.queue ≡ Some (j, y) → A.needs m'.table q j = λ j y e.
       (let both : Some (k, x) ≡ Some (j, y) = sym mark ∙ e in
@@ -157,7 +160,8 @@ module _ {T : Type 0} (A : Table T) where
         how = inr (x, why, mark, table);
       }
 
-  goes : (q : Request) (k : Key) (answer : Answer) (m m' : Core T) → IsQueue m'.queue → IsFlying q k m → Comes A m (record { key = k; answer = answer }) m' → Goes q (record { key = k; answer = answer }) m m'
+  goes : (q : Request) (k : Key) (answer : Answer) (m m' : Core T) → IsQueue m'.queue → IsFlying q k m → Comes A m (record { key = k; answer = answer }) m'
+      → Goes q (record { key = k; answer = answer }) m m'
   goes q k (Ok framed) m m' kept h (inl (keeps, is)) = lands q (record { key = k; answer = Ok framed }) m m' framed kept h keeps is
   goes q k (Err e) m m' kept h (inl none) = absurd none
   goes q k answer m m' kept h (inr (x, why, is)) = fails q (record { key = k; answer = answer }) m m' x kept h why is
@@ -165,7 +169,8 @@ module _ {T : Type 0} (A : Table T) where
   -- ---- what is left, in numbers
 
   -- after the key landed the turns to come are fewer, and so are the objects
-  fewer_turns : (o : Option Mark) (n b : ℕ) (q : Request) (a : Asked) (m m' : Core T) → b ≡ A.left m.table q → b ≤ budget o n → 1 ≤ b → HasGone q a m m' → turns_left (mark_of 1 m'.queue) (A.left m'.table q) < turns_left o n
+  fewer_turns : (o : Option Mark) (n b : ℕ) (q : Request) (a : Asked) (m m' : Core T) → b ≡ A.left m.table q → b ≤ budget o n → 1 ≤ b → HasGone q a m m'
+      → turns_left (mark_of 1 m'.queue) (A.left m'.table q) < turns_left o n
   fewer_turns o n b q a m m' is within some (inl (none, less)) =
       at o within
     where
@@ -199,7 +204,8 @@ module _ {T : Type 0} (A : Table T) where
       omega (arith, is, within, some, same, w)
 
   -- what failed before the rest was asked for was asked for here
-  failed_here : (q : Request) (a : Asked) (m m' : Core T) (asks : List Asked) (id : Id) (x : Cause) → HasGone q a m m' → HasFailed asks id x ⊎ ((i : Key) × (i.id ≡ id) × (mark_of 1 m'.queue ≡ Some (i, x))) → HasFailed (a ∷ asks) id x
+  failed_here : (q : Request) (a : Asked) (m m' : Core T) (asks : List Asked) (id : Id) (x : Cause) → HasGone q a m m' → HasFailed asks id x
+      ⊎ ((i : Key) × (i.id ≡ id) × (mark_of 1 m'.queue ≡ Some (i, x))) → HasFailed (a ∷ asks) id x
   failed_here q a m m' asks id x how (inl later) = inr later
   failed_here q a m m' asks id x (inl (none, less)) (inr (i, same, marked)) = absurd (let both : None ≡ Some (i, x) = sym none ∙ marked in cc both)
   failed_here q a m m' asks id x (inr (y, why, marks, table)) (inr (i, same, marked)) =
@@ -243,8 +249,10 @@ module _ {T : Type 0} (A : Table T) (honest : Type 0) where
       let asked : s.request ≡ q = ap (λ (x : Pending). x.request) (same_seat A m s h.seat p h.pends) ∙ h.request in
       let wait : WaitsBy A honest m.table q (mark_of 1 m.queue) k m1.table = subst (λ (y : Request). WaitsBy A honest m.table y (mark_of 1 m.queue) k m1.table) asked w in
       let queue1 : m1.queue ≡ record old { queue = k ∷ []; wants = set m.queue.wants 0 (Some k) } = ap (λ (x : Core T). x.queue) is ∙ await_alone k old h.quiet.queue h.quiet.flight h.unwanting in
-      let took = took_alone k j m1.queue (ap (λ (x : Queue). x.flight) queue1 ∙ h.quiet.flight) (ap (λ (x : Queue). x.queue) queue1) (subst (λ n. 1 ≤ n) (sym (ap (λ (x : Queue). x.flights) queue1)) h.kept.some_flights.0) next in
-      let queue2 : m2.queue ≡ record old { queue = []; flight = k ∷ []; wants = set m.queue.wants 0 (Some k) } = ap (λ (x : Core T). x.queue) is2 ∙ took.1 ∙ ap (λ (x : Queue). record x { queue = []; flight = k ∷ [] }) queue1 in
+      let took = took_alone k j m1.queue (ap (λ (x : Queue). x.flight) queue1 ∙ h.quiet.flight) (ap (λ (x : Queue). x.queue) queue1)
+      (subst (λ n. 1 ≤ n) (sym (ap (λ (x : Queue). x.flights) queue1)) h.kept.some_flights.0) next in
+      let queue2 : m2.queue ≡ record old { queue = []; flight = k ∷ []; wants = set m.queue.wants 0 (Some k) } = ap (λ (x : Core T). x.queue) is2 ∙ took.1 ∙ ap
+      (λ (x : Queue). record x { queue = []; flight = k ∷ [] }) queue1 in
       let table : m2.table ≡ m1.table = ap (λ (x : Core T). x.table) is2 in
       let seats : m2.seats ≡ m.seats = ap (λ (x : Core T). x.seats) is2 ∙ ap (λ (x : Core T). x.seats) is in
       let wide : 0 < length m.queue.wants = (let e = h.kept.each_pass_wants in let low = h.kept.some_passes.0 in omega (arith, e, low)) in
@@ -279,7 +287,8 @@ module _ {S : Type 0} (fetched : S → Id → Answer → S → Type 0) {T : Type
   came_of m m2 m3 s t k j same hand = subst (λ (i : Key). Comes A m2 (record { key = i; answer = hand.answer }) m3) same hand.came
 
   -- after one round the caller goes on, with fewer turns to come
-  pub round_goes : (m m1 m2 m3 : Core T) (s t : S) (k j : Key) → IsQueue m2.queue → IsQueue m3.queue → IsDriven A q m → Turns A honest m 1 (Wait k) m1 → Takes m1 (Some j) m2 → Hands fetched A m2 s j m3 t → IsDriven A q m3 × (drive_size A m3 < drive_size A m)
+  pub round_goes : (m m1 m2 m3 : Core T) (s t : S) (k j : Key) → IsQueue m2.queue → IsQueue m3.queue → IsDriven A q m → Turns A honest m 1 (Wait k) m1 → Takes m1 (Some j) m2
+      → Hands fetched A m2 s j m3 t → IsDriven A q m3 × (drive_size A m3 < drive_size A m)
   round_goes m m1 m2 m3 s t k j kept2 kept3 h turn take hand =
       let f = flies A honest q m m1 m2 k j kept2 h turn take in
       let g = goes A q k hand.answer m2 m3 kept3 f.flying (came_of m m2 m3 s t k j f.same hand) in
@@ -326,7 +335,8 @@ module _ {S : Type 0} (fetched : S → Id → Answer → S → Type 0) {T : Type
           (k, ids, marked ∙ ap (λ (c : Cause). Some (k, c)) causes)
 
   -- one more round, and then the rest
-  pub round_drives : (m m1 m2 m3 m' : Core T) (s t u : S) (k j : Key) (r : Reply) → IsQueue m2.queue → IsQueue m3.queue → IsDriven A q m → Turns A honest m 1 (Wait k) m1 → Takes m1 (Some j) m2 → Hands fetched A m2 s j m3 t → (IsDriven A q m3 → Drives fetched A honest q m3 t r m' u) → Drives fetched A honest q m s r m' u
+  pub round_drives : (m m1 m2 m3 m' : Core T) (s t u : S) (k j : Key) (r : Reply) → IsQueue m2.queue → IsQueue m3.queue → IsDriven A q m → Turns A honest m 1 (Wait k) m1 → Takes m1 (Some j) m2
+      → Hands fetched A m2 s j m3 t → (IsDriven A q m3 → Drives fetched A honest q m3 t r m' u) → Drives fetched A honest q m s r m' u
   round_drives m m1 m2 m3 m' s t u k j r kept2 kept3 h turn take hand rest =
       let f = flies A honest q m m1 m2 k j kept2 h turn take in
       let g = goes A q k hand.answer m2 m3 kept3 f.flying (came_of m m2 m3 s t k j f.same hand) in
@@ -351,7 +361,8 @@ emptied : {X : Type 0} (xs : List (Option X)) → slice_index_or (set xs 0 None)
 emptied [] = refl
 emptied (x ∷ xs) = refl
 
-module _ {T : Type 0} (A : Table T) (honest : Type 0) (opening : Tree) (q : Request) (m m1 : Core T) (h : IsMount A honest opening m) (r : IsAtRest m) (free : IsFree 1 m) (is : m1 ≡ after_start 1 q m) where
+module _ {T : Type 0} (A : Table T) (honest : Type 0) (opening : Tree) (q : Request) (m m1 : Core T) (h : IsMount A honest opening m) (r : IsAtRest m) (free : IsFree 1 m)
+    (is : m1 ≡ after_start 1 q m) where
   -- a request that was started at rest is driven
   pub started_driven : IsDriven A q m1
   started_driven =
@@ -372,7 +383,8 @@ module _ {T : Type 0} (A : Table T) (honest : Type 0) (opening : Tree) (q : Requ
         marked = λ k x e. absurd (let both : None ≡ Some (k, x) = sym idle.1 ∙ sym (ap (mark_of 1) queue) ∙ e in cc both);
       }
 
-  pub started_serves : {S : Type 0} (fetched : S → Id → Answer → S → Type 0) (m' : Core T) (s t : S) (reply : Reply) → ((u : T) (p : Request) → A.left u p ≤ most_objects p) → Drives fetched A honest q m1 s reply m' t → Serves fetched A honest q m s reply m' t
+  pub started_serves : {S : Type 0} (fetched : S → Id → Answer → S → Type 0) (m' : Core T) (s t : S) (reply : Reply) → ((u : T) (p : Request) → A.left u p ≤ most_objects p)
+      → Drives fetched A honest q m1 s reply m' t → Serves fetched A honest q m s reply m' t
   started_serves fetched m' s t reply most d =
       let clear : mark_of 1 m1.queue ≡ None = ap (λ (x : Core T). mark_of 1 x.queue) is ∙ (h.rests 1 free).1 in
       let few : length d.asks ≤ A.left m1.table q = subst (λ o. length d.asks ≤ budget o (A.left m1.table q)) clear d.few in

@@ -31,7 +31,8 @@ at_end p n m low high e = omega arith
 
 module _ {T : Type 0} (A : Table T) (honest : Type 0) (opening : Tree) where
   -- another queue, in which nobody at rest wants anything or has a mark
-  pub requeue : (m : Core T) (q : Queue) → IsMount A honest opening m → IsQueue q → q.passes ≡ m.queue.passes → ((c : ℕ) → IsFree c m → want_of c m.queue ≡ None → mark_of c m.queue ≡ None → (want_of c q ≡ None) × (mark_of c q ≡ None)) → IsMount A honest opening (record m { queue = q })
+  pub requeue : (m : Core T) (q : Queue) → IsMount A honest opening m → IsQueue q → q.passes ≡ m.queue.passes
+      → ((c : ℕ) → IsFree c m → want_of c m.queue ≡ None → mark_of c m.queue ≡ None → (want_of c q ≡ None) × (mark_of c q ≡ None)) → IsMount A honest opening (record m { queue = q })
   requeue m q h k same rest = record {
     queue = k;
     seats = h.seats ∙ sym same;
@@ -61,10 +62,13 @@ module _ {T : Type 0} (A : Table T) (honest : Type 0) (opening : Tree) where
   }
 
   -- another table, and a key that landed
-  pub land_keeps : (m : Core T) (k : Key) (t : T) (q : Queue) → IsMount A honest opening m → IsQueue q → q ≡ imports.after_done k m.queue → A.shown t ≡ A.shown m.table → IsMount A honest opening (record m { table = t; queue = q })
-  land_keeps m k t q h i is same = retable (record m { queue = q }) t (requeue m q h i (ap (λ (y : Queue). y.passes) is) (λ c free want mark. (ap (want_of c) is ∙ nobody_met m.queue k c want, ap (mark_of c) is ∙ mark))) (λ honestly. same)
+  pub land_keeps : (m : Core T) (k : Key) (t : T) (q : Queue) → IsMount A honest opening m → IsQueue q → q ≡ imports.after_done k m.queue → A.shown t ≡ A.shown m.table
+      → IsMount A honest opening (record m { table = t; queue = q })
+  land_keeps m k t q h i is same = retable (record m { queue = q }) t
+      (requeue m q h i (ap (λ (y : Queue). y.passes) is) (λ c free want mark. (ap (want_of c) is ∙ nobody_met m.queue k c want, ap (mark_of c) is ∙ mark))) (λ honestly. same)
 
-  pub fail_keeps : (m : Core T) (k : Key) (x : Cause) (q : Queue) → IsMount A honest opening m → IsQueue q → q ≡ cond (has_key k m.queue.flight) (after_failed k x m.queue) m.queue → IsMount A honest opening (record m { queue = q })
+  pub fail_keeps : (m : Core T) (k : Key) (x : Cause) (q : Queue) → IsMount A honest opening m → IsQueue q → q ≡ cond (has_key k m.queue.flight) (after_failed k x m.queue) m.queue
+      → IsMount A honest opening (record m { queue = q })
   fail_keeps m k x q h i is = requeue m q h i (ap (λ (y : Queue). y.passes) is ∙ passes (has_key k m.queue.flight)) (λ c free want mark. rest c free.0 want mark (has_key k m.queue.flight) is)
     where
       passes : (b : Bool) → (cond b (after_failed k x m.queue) m.queue).passes ≡ m.queue.passes
@@ -77,7 +81,8 @@ module _ {T : Type 0} (A : Table T) (honest : Type 0) (opening : Tree) where
 
   -- ---- start
 
-  pub start_keeps : (m : Core T) (c : ℕ) (s : Pending) (es : List Entry) → IsMount A honest opening m → IsFree c m → taken_room m < m.limit → es ≡ m.history → s.since ≡ length m.history → IsMount A honest opening (record m { seats = set m.seats (c - 1) (Some s); history = es })
+  pub start_keeps : (m : Core T) (c : ℕ) (s : Pending) (es : List Entry) → IsMount A honest opening m → IsFree c m → taken_room m < m.limit → es ≡ m.history → s.since ≡ length m.history
+      → IsMount A honest opening (record m { seats = set m.seats (c - 1) (Some s); history = es })
   start_keeps m c s es h free few is since = record {
     queue = h.queue;
     seats = length-set m.seats (c - 1) (Some s) ∙ h.seats;
@@ -138,7 +143,9 @@ module _ {T : Type 0} (A : Table T) (honest : Type 0) (opening : Tree) where
       let inside = within_if_some m.seats (c - 1) s pends.1 in
       (pends.0, omega (arith, inside, seats))
 
-  pub turn_keeps : (m : Core T) (c : ℕ) (s : Pending) (r : Reply) (t : T) (q : Queue) (es : List Entry) → IsMount A honest opening m → Pends c s m → IsQueue q → q ≡ after_quit c (after_failure c m.queue) → es ≡ m.history ++ entry c s.request r ∷ [] → ToldBy A honest m.table s.request (mark_of c m.queue) r t → IsMount A honest opening (core_from t q (set m.seats (c - 1) None) es m.limit)
+  pub turn_keeps : (m : Core T) (c : ℕ) (s : Pending) (r : Reply) (t : T) (q : Queue) (es : List Entry) → IsMount A honest opening m → Pends c s m → IsQueue q
+      → q ≡ after_quit c (after_failure c m.queue) → es ≡ m.history ++ entry c s.request r ∷ [] → ToldBy A honest m.table s.request (mark_of c m.queue) r t
+      → IsMount A honest opening (core_from t q (set m.seats (c - 1) None) es m.limit)
   turn_keeps m c s r t q es h pends i is grown told = record {
     queue = i;
     seats = length-set m.seats (c - 1) None ∙ h.seats ∙ sym passes;
@@ -146,8 +153,10 @@ module _ {T : Type 0} (A : Table T) (honest : Type 0) (opening : Tree) where
     room = omega (arith, h.room, count_freed m.seats (c - 1) s pends.1, long);
     limit = h.limit;
     since = λ x p other. pending x p other (x == c) (written x other.0);
-    legal = λ honestly. subst (Legal opening) (sym grown) ((Legal-append opening m.history (entry c s.request r ∷ [])).1 (h.legal honestly, (λ plain. subst (λ (F : Tree). Replies F s.request r) (h.shown honestly) ((tables honestly).0 plain), tt)));
-    shown = λ honestly. (tables honestly).1 ∙ ap (λ (F : Tree). after F s.request r) (h.shown honestly) ∙ sym (replay-append opening m.history (entry c s.request r ∷ [])) ∙ ap (replay opening) (sym grown);
+    legal = λ honestly. subst (Legal opening) (sym grown)
+        ((Legal-append opening m.history (entry c s.request r ∷ [])).1 (h.legal honestly, (λ plain. subst (λ (F : Tree). Replies F s.request r) (h.shown honestly) ((tables honestly).0 plain), tt)));
+    shown = λ honestly. (tables honestly).1 ∙ ap (λ (F : Tree). after F s.request r) (h.shown honestly) ∙ sym (replay-append opening m.history (entry c s.request r ∷ [])) ∙ ap (replay opening)
+        (sym grown);
   }
     where
       new : Core T
@@ -186,7 +195,8 @@ module _ {T : Type 0} (A : Table T) (honest : Type 0) (opening : Tree) where
           let old : p.since ≤ length m.history = h.since x p (other.0, sym e ∙ other.1) in
           omega (arith, long)
 
-  pub wait_keeps : (m : Core T) (c : ℕ) (s : Pending) (k : Key) (t : T) (q : Queue) → IsMount A honest opening m → Pends c s m → IsQueue q → q ≡ after_await k c (after_failure c m.queue) → WaitsBy A honest m.table s.request (mark_of c m.queue) k t → IsMount A honest opening (record m { table = t; queue = q })
+  pub wait_keeps : (m : Core T) (c : ℕ) (s : Pending) (k : Key) (t : T) (q : Queue) → IsMount A honest opening m → Pends c s m → IsQueue q → q ≡ after_await k c (after_failure c m.queue)
+      → WaitsBy A honest m.table s.request (mark_of c m.queue) k t → IsMount A honest opening (record m { table = t; queue = q })
   wait_keeps m c s k t q h pends i is waits = retable (record m { queue = q }) t (requeue m q h i passes rest) (λ honestly. waits.awaits.needs.tree honestly ∙ waits.ticks.tree)
     where
       passes : q.passes ≡ m.queue.passes

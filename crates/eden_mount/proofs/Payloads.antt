@@ -122,7 +122,8 @@ module _ (F : Tree) where
   payload_keeps (ask.Create p) r h large = changes (ask.Create p) r (adds F p) h large
   payload_keeps (ask.SetExec p exec) r h large = changes (ask.SetExec p exec) r (stands F p _ (on_file _ (λ x c. says_ok))) h large
   payload_keeps (ask.Mkdir p) r h large = changes (ask.Mkdir p) r (adds F p) h large
-  payload_keeps (ask.Symlink p target) r h large = changes (ask.Symlink p target) r (unless (length target == 0) ENOENT _ (unless (nat_lt most_target (length target)) ENAMETOOLONG _ (adds F p))) h large
+  payload_keeps (ask.Symlink p target) r h large = changes (ask.Symlink p target) r
+      (unless (length target == 0) ENOENT _ (unless (nat_lt most_target (length target)) ENAMETOOLONG _ (adds F p))) h large
   payload_keeps (ask.Unlink p) r h large = changes (ask.Unlink p) r (unless (is_root p) EISDIR _ (stands F p _ unlinks)) h large
   payload_keeps (ask.Rmdir p) r h large = changes (ask.Rmdir p) r (unless (is_root p) EBUSY _ (stands F p _ (removes F p))) h large
   payload_keeps (ask.Rename from to) r h large = changes (ask.Rename from to) r (unless (is_root from || is_root to) EBUSY _ (stands F from _ (moves F from to))) h large

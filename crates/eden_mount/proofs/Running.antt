@@ -45,14 +45,17 @@ module _ {T : Type 0} (A : Table T) (honest : Type 0) (opening : Tree) where
   }
 
   -- one seat was written
-  one_link : {X : Type 0} (f : ℕ → Option X) (look : Pending → X) (m k : Core T) (c : ℕ) (o : Option Pending) → IsMount A honest opening m → 1 ≤ c → c ≤ length m.seats → k.seats ≡ set m.seats (c - 1) o → ((i : ℕ) → 1 ≤ i → f i ≡ option_map look (seat_of i m)) → (i : ℕ) → 1 ≤ i → with_pass f c (option_map look o) i ≡ option_map look (seat_of i k)
-  one_link f look m k c o h low high is l i positive = at (i == c) (ap (λ (x : List (Option Pending)). slice_index_or x (i - 1) None) is ∙ write_one m.seats (length m.seats) c i o None refl low high positive)
+  one_link : {X : Type 0} (f : ℕ → Option X) (look : Pending → X) (m k : Core T) (c : ℕ) (o : Option Pending) → IsMount A honest opening m → 1 ≤ c → c ≤ length m.seats
+      → k.seats ≡ set m.seats (c - 1) o → ((i : ℕ) → 1 ≤ i → f i ≡ option_map look (seat_of i m)) → (i : ℕ) → 1 ≤ i → with_pass f c (option_map look o) i ≡ option_map look (seat_of i k)
+  one_link f look m k c o h low high is l i positive = at (i == c)
+      (ap (λ (x : List (Option Pending)). slice_index_or x (i - 1) None) is ∙ write_one m.seats (length m.seats) c i o None refl low high positive)
     where
       at : (b : Bool) → seat_of i k ≡ cond b o (seat_of i m) → cond b (option_map look o) (f i) ≡ option_map look (seat_of i k)
       at true e = ap (option_map look) (sym e)
       at false e = l i positive ∙ ap (option_map look) (sym e)
 
-  quiet : (f : ℕ → Option Request) (b : ℕ → Option ℕ) (m k : Core T) → Links f b m → k.seats ≡ m.seats → k.history ≡ m.history → Links f b k × (k.history ≡ m.history ++ []) × (length k.history ≡ length m.history)
+  quiet : (f : ℕ → Option Request) (b : ℕ → Option ℕ) (m k : Core T) → Links f b m → k.seats ≡ m.seats → k.history ≡ m.history → Links f b k × (k.history ≡ m.history ++ [])
+      × (length k.history ≡ length m.history)
   quiet f b m k l s h = (same_seats f b m k s l, h ∙ sym (append-nil m.history), ap length h)
 
   follows : (f : ℕ → Option Request) (b : ℕ → Option ℕ) (m k : Core T) (e : Event) (o : Outcome) → IsMount A honest opening m → Links f b m → Steps A honest m k e o → Follows f b m k e o
@@ -117,7 +120,8 @@ module _ {T : Type 0} (A : Table T) (honest : Type 0) (opening : Tree) where
       let w = quiet f b m k l (ap (λ (x : Core T). x.seats) p.1) (ap (λ (x : Core T). x.history) p.1) in
       record { links = w.0; history = w.1; grown = w.2; numbered = tt }
 
-  grows : (f : ℕ → Option Request) (b : ℕ → Option ℕ) (m m' : Core T) (es : List Event) (os : List Outcome) → Links f b m → IsMount A honest opening m → Runs A honest opening m es os m' → m'.history ≡ m.history ++ told f es os
+  grows : (f : ℕ → Option Request) (b : ℕ → Option ℕ) (m m' : Core T) (es : List Event) (os : List Outcome) → Links f b m → IsMount A honest opening m → Runs A honest opening m es os m'
+      → m'.history ≡ m.history ++ told f es os
   grows f b m m' [] [] l h r = ap (λ (x : Core T). x.history) r ∙ sym (append-nil m.history)
   grows f b m m' [] (o ∷ os) l h r = absurd r
   grows f b m m' (e ∷ es) [] l h r = absurd r
@@ -127,7 +131,8 @@ module _ {T : Type 0} (A : Table T) (honest : Type 0) (opening : Tree) where
       ∙ ap (λ es'. es' ++ told (then_asked f e o) es os) one.history
       ∙ append_assoc m.history (then_told f e o) (told (then_asked f e o) es os)
 
-  numbers : (f : ℕ → Option Request) (b : ℕ → Option ℕ) (n : ℕ) (m m' : Core T) (es : List Event) (os : List Outcome) → Links f b m → length m.history ≡ n → IsMount A honest opening m → Runs A honest opening m es os m' → AreNumbered b n es os
+  numbers : (f : ℕ → Option Request) (b : ℕ → Option ℕ) (n : ℕ) (m m' : Core T) (es : List Event) (os : List Outcome) → Links f b m → length m.history ≡ n → IsMount A honest opening m
+      → Runs A honest opening m es os m' → AreNumbered b n es os
   numbers f b n m m' [] os l z h r = tt
   numbers f b n m m' (e ∷ es) [] l z h r = tt
   numbers f b n m m' (e ∷ es) (o ∷ os) l z h (k, step, kept, more) =
@@ -135,7 +140,8 @@ module _ {T : Type 0} (A : Table T) (honest : Type 0) (opening : Tree) where
       let P : ℕ → Type 0 = λ i. AreNumbered b i (e ∷ es) (o ∷ os) in
       subst P z (one.numbered, numbers (then_asked f e o) (then_begun b (length m.history) e o) (then_length (length m.history) o) k m' es os one.links one.grown kept more)
 
-  pendings : (f : ℕ → Option Request) (b : ℕ → Option ℕ) (m m' : Core T) (es : List Event) (os : List Outcome) → Links f b m → IsMount A honest opening m → Runs A honest opening m es os m' → (c : ℕ) → 1 ≤ c → request_of m' c ≡ asked_after f es os c
+  pendings : (f : ℕ → Option Request) (b : ℕ → Option ℕ) (m m' : Core T) (es : List Event) (os : List Outcome) → Links f b m → IsMount A honest opening m → Runs A honest opening m es os m' → (c : ℕ)
+      → 1 ≤ c → request_of m' c ≡ asked_after f es os c
   pendings f b m m' [] [] l h r c low = ap (λ (x : Core T). request_of x c) r ∙ sym (l.asked c low)
   pendings f b m m' [] (o ∷ os) l h r c low = absurd r
   pendings f b m m' (e ∷ es) [] l h r c low = absurd r

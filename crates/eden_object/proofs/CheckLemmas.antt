@@ -76,7 +76,10 @@ same_digest framed found id b e is = told (bytes_eq found id) (bytes_eq-Decides 
 
 -- what the comparison of two words says
 pub same_word : (v w : Word) (b : Bool) → b ≡ not (sameb the_type v w) → (b ≡ false → v ≡ w) × (b ≡ true → v ≢ w)
-same_word v w b e = ((λ p. same_true the_type (search rules) v w (positive (sameb the_type v w) (sym e ∙ p))), (λ p q. both (sameb the_type v w) (ap (λ u. sameb the_type u w) q ∙ itself w) (negative (sameb the_type v w) (sym e ∙ p))))
+same_word v w b e = (
+  (λ p. same_true the_type (search rules) v w (positive (sameb the_type v w) (sym e ∙ p))),
+  (λ p q. both (sameb the_type v w) (ap (λ u. sameb the_type u w) q ∙ itself w) (negative (sameb the_type v w) (sym e ∙ p))),
+)
   where
     itself : (u : Word) → sameb the_type u u ≡ true
     itself word.Blob = refl

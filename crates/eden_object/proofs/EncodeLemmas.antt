@@ -67,7 +67,8 @@ pub compare_keys : (d e : TreeEntry) (n : ℕ) → name_refusal d.name ≡ None 
 compare_keys d e n good fine s = elim (stand d e n good fine s) [
   | inl below ↦ sym (nat_cmp_is (slice_index (key_of d) n) (slice_index (key_of e) n) Less below.1) ∙ sym (below_less (key_of d) (key_of e) below.0)
   | inr (inl above) ↦ sym (nat_cmp_is (slice_index (key_of d) n) (slice_index (key_of e) n) Greater above.1) ∙ sym (above_greater (key_of d) (key_of e) above.0)
-  | inr (inr same) ↦ ap (λ k. nat_cmp (slice_index k n) (slice_index (key_of e) n)) same.1 ∙ tied_itself nat_cmp_total (slice_index (key_of e) n) ∙ sym (ap (λ k. slice_cmp nat_cmp k (key_of e)) same.1 ∙ tied_itself nat_list_cmp_total (key_of e))
+  | inr (inr same) ↦ ap (λ k. nat_cmp (slice_index k n) (slice_index (key_of e) n)) same.1 ∙ tied_itself nat_cmp_total (slice_index (key_of e) n) ∙ sym
+      (ap (λ k. slice_cmp nat_cmp k (key_of e)) same.1 ∙ tied_itself nat_list_cmp_total (key_of e))
 ]
 
 -- of two names that differ the first is before the second, where the second isn't before the first

@@ -52,7 +52,8 @@ digits_onto_lacks : (k n : ℕ) (acc : List ℕ) → Lacks 0 acc → Lacks 0 (di
 digits_onto_lacks zero n acc p = p
 digits_onto_lacks (suc k) n acc p =
     let d = digit_glyph false (n % 10) in
-    either_lacks (n / 10 == 0) (d ∷ acc) (digits_onto k 10 false (n / 10) (d ∷ acc)) (glyph_at (nat_lt (n % 10) 10) (n % 10), p) (digits_onto_lacks k (n / 10) (d ∷ acc) (glyph_at (nat_lt (n % 10) 10) (n % 10), p))
+    either_lacks (n / 10 == 0) (d ∷ acc) (digits_onto k 10 false (n / 10) (d ∷ acc)) (glyph_at (nat_lt (n % 10) 10) (n % 10), p)
+    (digits_onto_lacks k (n / 10) (d ∷ acc) (glyph_at (nat_lt (n % 10) 10) (n % 10), p))
 
 pub decimal_lacks : (n : ℕ) → Lacks 0 (decimal n)
 unfolding digits
@@ -78,7 +79,8 @@ drop_frame framed w body e =
     ap (drop n) parts ∙ drop_at header body n (omega arith)
 
 frame_len : (w : Word) (body : List ℕ) → length (frame w body) ≡ length (word_text w) + (length (decimal (length body)) + (length body + 2))
-frame_len w body = ap length (frame_is w body) ∙ length-append (word_text w) (32 ∷ (decimal (length body) ++ 0 ∷ body)) ∙ ap (λ n. length (word_text w) + n) (let tail = length-append (decimal (length body)) (0 ∷ body) in omega arith)
+frame_len w body = ap length (frame_is w body) ∙ length-append (word_text w) (32 ∷ (decimal (length body) ++ 0 ∷ body)) ∙ ap (λ n. length (word_text w) + n)
+    (let tail = length-append (decimal (length body)) (0 ∷ body) in omega arith)
 
 -- the longest header of a blob or a tree has 16 bytes
 pub frame_small : (k : ObjKind) (body : List ℕ) → length body ≤ 2 ^ 30 → length (frame (word_of k) body) ≤ 2 ^ 30 + 16

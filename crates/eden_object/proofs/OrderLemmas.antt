@@ -135,7 +135,8 @@ pub stands_start : (first : TreeEntry) (body rest : List ℕ) → length first.n
     → Stands (set (replicate 256 false) (length first.name) true) first body rest
 stands_start first body rest short b = λ es h.
     let behind = behind_entry first es body rest b h in
-    let own : slice_index_or (set (replicate 256 false) (length first.name) true) (length first.name) false ≡ true = get_or-set_same (replicate 256 false) (length first.name) true false (let size = length-replicate 256 false in omega arith) in (
+    let own : slice_index_or (set (replicate 256 false) (length first.name) true) (length first.name) false ≡ true = get_or-set_same (replicate 256 false) (length first.name) true false
+    (let size = length-replicate 256 false in omega arith) in (
       behind.0,
       behind.2,
       record {
@@ -228,7 +229,9 @@ step_on old new last next shared s not es gs st = record {
 }
   where
     old_free : GoesOn old last (next ∷ gs) → (n : ℕ) → (n ≤ shared) × (slice_index_or old n false ≡ true) → IsFree (take n next.name) gs
-    old_free g n m = subst (λ t. IsFree t gs) (take_same n last.name next.name (let first = s.first in let near = m.0 in omega arith) (let second = s.second in let near = m.0 in omega arith) (λ i h. s.same i (let near = m.0 in omega arith))) (g.free n m.1).1
+    old_free g n m = subst (λ t. IsFree t gs)
+        (take_same n last.name next.name (let first = s.first in let near = m.0 in omega arith) (let second = s.second in let near = m.0 in omega arith)
+        (λ i h. s.same i (let near = m.0 in omega arith))) (g.free n m.1).1
 
     free : GoesOn old last (next ∷ gs) → (n : ℕ) → slice_index_or new n false ≡ true
         → (n ≡ length next.name) ⊎ ((n < length next.name) ⊎ (length next.name < n)) → IsFree (take n next.name) gs
@@ -239,7 +242,11 @@ step_on old new last next shared s not es gs st = record {
     all : IsOrdered (next ∷ gs) → GoesOn new next gs → (n : ℕ) → slice_index_or old n false ≡ true → (shared < n) ⊎ (n ≤ shared)
         → IsFree (take n last.name) (next ∷ gs)
     all o g n m (inl far) = past_free (take n last.name) next gs o (front_past old new last next shared s n far (s.marks.within n m))
-    all o g n m (inr near) = (front_other old new last next shared s not n near m, subst (λ t. IsFree t gs) (sym (take_same n last.name next.name (let first = s.first in omega arith) (let second = s.second in omega arith) (λ i h. s.same i (omega arith)))) (g.free n (s.kept n near m)))
+    all o g n m (inr near) = (
+      front_other old new last next shared s not n near m,
+      subst (λ t. IsFree t gs)
+          (sym (take_same n last.name next.name (let first = s.first in omega arith) (let second = s.second in omega arith) (λ i h. s.same i (omega arith)))) (g.free n (s.kept n near m)),
+    )
 
 -- a name that is marked and comes again
 pub comes_again : (fronts : List Bool) (last next : TreeEntry) (shared : ℕ) (es gs : List TreeEntry) → StandsFor fronts last es (next ∷ gs)
@@ -277,7 +284,8 @@ end_byte e n at = by_mode e.mode
 -- equal names before equal ends are equal keys
 end_same : (d e : TreeEntry) (n : ℕ) → n ≡ length d.name → n ≡ length e.name → d.name ≡ e.name → slice_index (key_of d) n ≡ slice_index (key_of e) n
     → key_of d ≡ key_of e
-end_same d e n p q same at = ap (λ t. t ++ key_end d.mode) same ∙ ap (λ t. e.name ++ t) (alike (key_end d.mode) (key_end e.mode) (ends d.mode) (ends e.mode) (sym (behind_name d.name (key_end d.mode) n p) ∙ at ∙ behind_name e.name (key_end e.mode) n q))
+end_same d e n p q same at = ap (λ t. t ++ key_end d.mode) same ∙ ap (λ t. e.name ++ t)
+    (alike (key_end d.mode) (key_end e.mode) (ends d.mode) (ends e.mode) (sym (behind_name d.name (key_end d.mode) n p) ∙ at ∙ behind_name e.name (key_end e.mode) n q))
   where
     ends : (m : Mode) → (key_end m ≡ []) ⊎ (key_end m ≡ 47 ∷ [])
     ends File = inl refl
@@ -312,7 +320,16 @@ shared_of (x ∷ xs) (y ∷ ys) = go (cases_order x y) (shared_of xs ys)
     front n e s (suc i) h = s.same i (omega arith)
 
     go : (x ≡ y) ⊎ ((x < y) ⊎ (y < x)) → (n : ℕ) × Shares xs ys n → (n : ℕ) × Shares (x ∷ xs) (y ∷ ys) n
-    go (inl e) (n, s) = (suc n, record { first = let short = s.first in omega arith; second = let short = s.second in omega arith; same = front n e s; most = λ h k. s.most (omega arith) (omega arith) })
+    go (inl e) (n, s) = (
+      suc n,
+      record {
+        first = let short = s.first in omega arith;
+        second = let short = s.second in omega arith;
+        same = front n e s;
+        most = λ h k. s.most (omega arith)
+            (omega arith);
+      },
+    )
     go (inr (inl less)) r = apart (λ e. omega arith)
     go (inr (inr more)) r = apart (λ e. omega arith)
 

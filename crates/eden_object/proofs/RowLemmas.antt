@@ -30,8 +30,10 @@ text_lacks t u p h = subst (Lacks 32) (sym ((bytes_eq-Decides t u).0 h)) p
 -- no spelling of a mode has a space
 pub spelled_lacks : (t : List ℕ) (m : Mode) → spelled_mode t ≡ Some m → Lacks 32 t
 spelled_lacks t m h =
-    chosen_lacks _ t Dir m _ (either_lacks _ _ t (text_lacks t (codes "40000") (omega arith, (omega arith, (omega arith, (omega arith, (omega arith, tt)))))) (text_lacks t (codes "040000") (omega arith, (omega arith, (omega arith, (omega arith, (omega arith, (omega arith, tt))))))))
-    (chosen_lacks _ t File m _ (either_lacks _ _ t (text_lacks t (codes "100644") (omega arith, (omega arith, (omega arith, (omega arith, (omega arith, (omega arith, tt))))))) (text_lacks t (codes "100664") (omega arith, (omega arith, (omega arith, (omega arith, (omega arith, (omega arith, tt))))))))
+    chosen_lacks _ t Dir m _ (either_lacks _ _ t (text_lacks t (codes "40000") (omega arith, (omega arith, (omega arith, (omega arith, (omega arith, tt))))))
+    (text_lacks t (codes "040000") (omega arith, (omega arith, (omega arith, (omega arith, (omega arith, (omega arith, tt))))))))
+    (chosen_lacks _ t File m _ (either_lacks _ _ t (text_lacks t (codes "100644") (omega arith, (omega arith, (omega arith, (omega arith, (omega arith, (omega arith, tt)))))))
+    (text_lacks t (codes "100664") (omega arith, (omega arith, (omega arith, (omega arith, (omega arith, (omega arith, tt))))))))
     (chosen_lacks _ t Exec m _ (text_lacks t (codes "100755") (omega arith, (omega arith, (omega arith, (omega arith, (omega arith, (omega arith, tt)))))))
     (chosen_lacks _ t Link m _ (text_lacks t (codes "120000") (omega arith, (omega arith, (omega arith, (omega arith, (omega arith, (omega arith, tt)))))))
     (chosen_lacks _ t Gitlink m _ (text_lacks t (codes "160000") (omega arith, (omega arith, (omega arith, (omega arith, (omega arith, (omega arith, tt)))))))

@@ -46,7 +46,8 @@ pub(crate) fn read_entries(alloc: Global, body: &[u8]) -> Result<Vec<TreeEntry>,
 pub fn decode_tree(alloc: Global, body: &[u8]) -> Result<Option<Vec<TreeEntry>>, AllocError>
     ensures found { IfOk result (λ read. IfSome read (λ entries. IsTreeBody entries.items body.now)) }
     ensures short { IfOk result (λ read. IfSome read (λ entries. length body.now ≤ 2 ^ 30)) }
-    ensures none { IfOk result (λ read. IfNone read ((es : List TreeEntry) → IsTreeBody es body.now → 2 ^ 30 < length body.now)) }
+    ensures none { IfOk result
+        (λ read. IfNone read ((es : List TreeEntry) → IsTreeBody es body.now → 2 ^ 30 < length body.now)) }
 {
     if body.len() > BODY_LIMIT || !is_tree(Some(alloc), body) {
         return Ok(None);

@@ -130,7 +130,8 @@ pub fn encode_tree(alloc: Global, entries: &[TreeEntry]) -> Result<Vec<u8>, Allo
     requires differ { NamesDiffer entries.now }
     requires short { length (tree_text entries.now) ≤ 2 ^ 30 }
     ensures written { IfOk result (λ framed. IsEncoded entries.now framed.items) }
-    ensures kept { IsOrdered entries.now → IfOk result (λ framed. framed.items ≡ frame word.Tree (tree_text entries.now)) }
+    ensures kept { IsOrdered entries.now
+        → IfOk result (λ framed. framed.items ≡ frame word.Tree (tree_text entries.now)) }
 {
     let mut sorted = lent(alloc, entries)?;
     sort(&mut sorted);

@@ -59,7 +59,8 @@ fn spells(text: &[u8], number: usize) -> bool
 
 /// The word and the body of framed bytes.
 pub(crate) fn read_frame(framed: &[u8]) -> Option<(Word, &[u8])>
-    ensures { MatchOption result ((w : Word) (body : List ℕ) → framed.now ≢ frame w body) (λ r. framed.now ≡ frame r.0 r.1.now) }
+    ensures { MatchOption result ((w : Word) (body : List ℕ) → framed.now ≢ frame w body)
+        (λ r. framed.now ≡ frame r.0 r.1.now) }
 {
     let (text, rest) = split_at_byte(framed, b' ')?;
     let (length, body) = split_at_byte(rest, 0)?;

@@ -38,7 +38,9 @@ fn differ_pairwise(body: &[u8]) -> bool
 
 /// The names of the entries, where they lie.
 fn names_of(alloc: Global, body: &[u8]) -> Result<Vec<&[u8]>, AllocError>
-    ensures { IfOk result (λ names. (es : List TreeEntry) → AreEntries es body.now → map (λ n. n.now) names.items ≡ map (λ e. e.name) es) }
+    ensures { IfOk result
+        (λ names. (es : List TreeEntry) → AreEntries es body.now
+        → map (λ n. n.now) names.items ≡ map (λ e. e.name) es) }
 {
     let mut names = Vec::new(alloc);
     let mut rest = body;

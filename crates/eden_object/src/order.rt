@@ -55,9 +55,12 @@ fn mark_fronts(fronts: &mut [bool], shared: usize, last: usize, own: usize)
     requires last { last < length fronts.old }
     requires own { own < length fronts.old }
     ensures own { slice_index_or fronts.new own false ≡ true }
-    ensures kept { (n : ℕ) → n ≤ shared → slice_index_or fronts.old n false ≡ true → slice_index_or fronts.new n false ≡ true }
-    ensures others { (n : ℕ) → n ≤ last → n ≢ own → slice_index_or fronts.new n false ≡ true → (n ≤ shared) × (slice_index_or fronts.old n false ≡ true) }
-    ensures above { (n : ℕ) → last < n → n ≢ own → slice_index_or fronts.new n false ≡ slice_index_or fronts.old n false }
+    ensures kept { (n : ℕ) → n ≤ shared → slice_index_or fronts.old n false ≡ true
+        → slice_index_or fronts.new n false ≡ true }
+    ensures others { (n : ℕ) → n ≤ last → n ≢ own → slice_index_or fronts.new n false ≡ true → (n ≤ shared)
+        × (slice_index_or fronts.old n false ≡ true) }
+    ensures above { (n : ℕ) → last < n → n ≢ own
+        → slice_index_or fronts.new n false ≡ slice_index_or fronts.old n false }
 {
     'above: for n in shared + 1..last + 1 {
         fronts[n] = false;

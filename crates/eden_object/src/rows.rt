@@ -40,7 +40,8 @@ fn is_name(text: &[u8]) -> bool
 
 /// The first 20 bytes as an id, and what is behind them.
 fn read_id(bytes: &[u8]) -> Option<(Id, &[u8])>
-    ensures { MatchOption result ((id rest : List ℕ) → length id ≡ 20 → bytes.now ≢ id ++ rest) (λ r. (length r.0.bytes ≡ 20) × (bytes.now ≡ r.0.bytes ++ r.1.now)) }
+    ensures { MatchOption result ((id rest : List ℕ) → length id ≡ 20 → bytes.now ≢ id ++ rest)
+        (λ r. (length r.0.bytes ≡ 20) × (bytes.now ≡ r.0.bytes ++ r.1.now)) }
 {
     let (id, rest) = bytes.split_first_chunk::<20>()?;
     Some((Id { bytes: *id }, rest))
@@ -48,7 +49,8 @@ fn read_id(bytes: &[u8]) -> Option<(Id, &[u8])>
 
 /// The first entry, and the rest of the body.
 pub(crate) fn first_row(body: &[u8]) -> Option<(Row<'_>, &[u8])>
-    ensures { MatchOption result ((e : TreeEntry) (rest : List ℕ) → BeginsWith e body.now rest → ⊥) (λ r. BeginsWith (entry_of r.0) body.now r.1.now) }
+    ensures { MatchOption result ((e : TreeEntry) (rest : List ℕ) → BeginsWith e body.now rest → ⊥)
+        (λ r. BeginsWith (entry_of r.0) body.now r.1.now) }
 {
     let (text, rest) = split_at_byte(body, b' ')?;
     let mode = read_mode(text)?;

@@ -137,7 +137,8 @@ lacks_entry p above n x split passes none =
       at = y.1.0;
       holds = y.1.1.1;
       absent = absent_in n y.1.1.0
-          (sym (ap (option_and_then (λ (e : Directory). option_and_then (row_at []) (find_row n e.rows))) y.1.1.1) ∙ sym (ap (option_and_then (row_at (n ∷ []))) y.1.0) ∙ sym (reads_on above (n ∷ []) x)
+          (sym (ap (option_and_then (λ (e : Directory). option_and_then (row_at []) (find_row n e.rows))) y.1.1.1) ∙ sym (ap (option_and_then (row_at (n ∷ []))) y.1.0) ∙ sym
+          (reads_on above (n ∷ []) x)
           ∙ sym (ap (λ (q : Path). row_at q x) split) ∙ none);
     }
 
@@ -153,7 +154,8 @@ put_new G p q e adding bare = put_alone G p (leaf (node_as e)) bare (λ n r. ref
 
 -- ---- a refusal
 
-pub root_refused : {W F : Type 0} (w : Ghosts W) (f : Files F W) (p : Path) (q : Request) (e : NewEntry) → IsAdding p q e → (s : Table F) (c : Cache) → is_root p ≡ true → Attempts w f q s s c c (Finished (say.Err EEXIST))
+pub root_refused : {W F : Type 0} (w : Ghosts W) (f : Files F W) (p : Path) (q : Request) (e : NewEntry) → IsAdding p q e → (s : Table F) (c : Cache) → is_root p ≡ true
+    → Attempts w f q s s c c (Finished (say.Err EEXIST))
 root_refused w f p q e adding s c root = record {
   answer = record { reply = λ h x. adds_root p q e (shows w f s) root adding; fault = λ a is. cc; shown = λ h. refl };
   cache = record { objects = λ k. refl; sizes = λ id. refl };
@@ -161,7 +163,8 @@ root_refused w f p q e adding s c root = record {
 
 module _ {W F : Type 0} (w : Ghosts W) (f : Files F W) (p : Path) (q : Request) (e : NewEntry) (adding : IsAdding p q e) (s t u : Table F) (c d : Cache)
     (same : w.honest → shows w f t ≡ shows w f s) (rises : f.failures s.files ≤ f.failures t.files) (cache : FindsTheSame c d) where
-  pub not_added : (a : Fault) → IsAddFault t.next (f.failures t.files) (f.failures u.files) a → (a ≡ fault.Numbers → u ≡ t) → (w.honest → shows w f u ≡ shows w f t) → Attempts w f q s u c d (Finished (say.Fault a))
+  pub not_added : (a : Fault) → IsAddFault t.next (f.failures t.files) (f.failures u.files) a → (a ≡ fault.Numbers → u ≡ t) → (w.honest → shows w f u ≡ shows w f t)
+      → Attempts w f q s u c d (Finished (say.Fault a))
   not_added (fault.Fetch id cause) h unused shown = absurd h
   not_added fault.Memory h unused shown = refused w f q s t u c d same rises cache fault.Memory h (λ x is. no_kind p x q e adding is) shown
   not_added fault.Overlay h unused shown = refused w f q s t u c d same rises cache fault.Overlay h (λ x is. no_kind p x q e adding is) shown

@@ -60,7 +60,8 @@ Asks q p here = Asked q p (Refuses ENOENT) here
 
 -- ---- where the walk is unlisted, the place is an unlisted directory
 
-place_dir_by : (front : Path) (G : Tree) (o : Option Node) (beyond : Walk) (far : Path) → G front ≡ o → through o beyond ≡ Unlisted → (beyond ≡ Unlisted → G far ≡ Some (Dir false)) → G (if is_unlisted o then front else far) ≡ Some (Dir false)
+place_dir_by : (front : Path) (G : Tree) (o : Option Node) (beyond : Walk) (far : Path) → G front ≡ o → through o beyond ≡ Unlisted → (beyond ≡ Unlisted → G far ≡ Some (Dir false))
+    → G (if is_unlisted o then front else far) ≡ Some (Dir false)
 place_dir_by front G None beyond far at is on = cc
 place_dir_by front G (Some (File x c)) beyond far at is on = cc
 place_dir_by front G (Some (Link c)) beyond far at is on = cc
@@ -97,7 +98,8 @@ no_entry _ x (makes_dir p) is = cc
 no_entry _ x (links p target) is = cc
 
 -- the reply by the entry that is met on what is shown
-says_met : (R : Repository) (G : Stored) (p : Path) (absent : Reply → Type 0) (here : Tree → Node → Reply → Type 0) (T : Tree) (o : Option Row) (y : Row) → o ≡ Some y → IsShown R G o (reach T p) → (r : Reply)
+says_met : (R : Repository) (G : Stored) (p : Path) (absent : Reply → Type 0) (here : Tree → Node → Reply → Type 0) (T : Tree) (o : Option Row) (y : Row) → o ≡ Some y → IsShown R G o (reach T p)
+    → (r : Reply)
     → ((listed : Bool) → here T (shown_node R G y listed) r) → Table_Meets (reach T p) absent (here T) r
 says_met R G p absent here T o y at h r says =
     let row = some_inj h.row y (sym h.there ∙ at) in
@@ -128,10 +130,12 @@ module _ {W F : Type 0} (w : Ghosts W) (f : Files F W) (q : Request) (s t : Tabl
     cache = cache;
   }
 
-module _ {W F : Type 0} {absent : Reply → Type 0} (w : Ghosts W) (f : Files F W) (q : Request) (p : Path) (here : Tree → Node → Reply → Type 0) (first : Starts q p absent here) (s t : Table F) (c d : Cache)
+module _ {W F : Type 0} {absent : Reply → Type 0} (w : Ghosts W) (f : Files F W) (q : Request) (p : Path) (here : Tree → Node → Reply → Type 0) (first : Starts q p absent here) (s t : Table F)
+    (c d : Cache)
     (same : w.honest → shows w f t ≡ shows w f s) (keeps : Keeps w f s t) (cache : FindsTheSame c d) where
   -- a reply that leaves the tree
-  pub first_replied : (r : Reply) → fault_of r ≡ None → ((G : Tree) → after G q r ≡ G) → (w.honest → Table_Meets (reach (shows w f s) p) absent (here (shows w f s)) r) → Attempts w f q s t c d (Finished r)
+  pub first_replied : (r : Reply) → fault_of r ≡ None → ((G : Tree) → after G q r ≡ G) → (w.honest → Table_Meets (reach (shows w f s) p) absent (here (shows w f s)) r)
+      → Attempts w f q s t c d (Finished r)
   first_replied r fine still says = answered w f q s t c d same cache r fine still (λ h. first.says (shows w f s) r (says h))
 
   -- ---- the walk ends before the path does
@@ -168,9 +172,11 @@ module _ {W F : Type 0} {absent : Reply → Type 0} (w : Ghosts W) (f : Files F 
   -- by the entry there
   pub first_here : (y : Row) → row_at p t.root ≡ Some y → (w.honest → IsShown w.repository (f.stored t.files) (row_at p t.root) (reach (shows w f s) p)) → (r : Reply) → fault_of r ≡ None
       → ((G : Tree) → after G q r ≡ G) → (w.honest → (listed : Bool) → here (shows w f s) (shown_node w.repository (f.stored t.files) y listed) r) → Attempts w f q s t c d (Finished r)
-  first_here y at shown r fine still says = first_replied r fine still (λ honest. says_met w.repository (f.stored t.files) p absent here (shows w f s) (row_at p t.root) y at (shown honest) r (says honest))
+  first_here y at shown r fine still says = first_replied r fine still
+      (λ honest. says_met w.repository (f.stored t.files) p absent here (shows w f s) (row_at p t.root) y at (shown honest) r (says honest))
 
-module _ {W F : Type 0} {absent : Reply → Type 0} (w : Ghosts W) (f : Files F W) (q : Request) (p : Path) (here : Tree → Node → Reply → Type 0) (asks : Asked q p absent here) (s t : Table F) (c d : Cache)
+module _ {W F : Type 0} {absent : Reply → Type 0} (w : Ghosts W) (f : Files F W) (q : Request) (p : Path) (here : Tree → Node → Reply → Type 0) (asks : Asked q p absent here) (s t : Table F)
+    (c d : Cache)
     (same : w.honest → shows w f t ≡ shows w f s) (keeps : Keeps w f s t) (cache : FindsTheSame c d) where
   pub replied : (r : Reply) → fault_of r ≡ None → ((G : Tree) → after G q r ≡ G) → (w.honest → Table_Meets (reach (shows w f s) p) absent (here (shows w f s)) r) → Attempts w f q s t c d (Finished r)
   replied = first_replied w f q p here (starts asks) s t c d same keeps cache

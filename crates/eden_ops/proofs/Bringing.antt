@@ -55,7 +55,8 @@ module _ {W F : Type 0} (w : Ghosts W) (f : Files F W) (p : Path) (s t : Table F
     pub none_keeps : Keeps w f s t
     none_keeps = loads_none w f s t still.0 still.1 (record { stored = stored; failures = counted; clock = rest.0; changes = rest.1 })
 
-    damaged_at : (o : Origin) (at : IsAt p s.root o) → ((id : Id) → o ≢ origin.Object id) → ((y : Row) → row_at p s.root ≡ Some y → w.honest → entries_at (f.stored s.files) y.number ≡ None) → IsCaused w f p s t fault.Overlay
+    damaged_at : (o : Origin) (at : IsAt p s.root o) → ((id : Id) → o ≢ origin.Object id) → ((y : Row) → row_at p s.root ≡ Some y → w.honest → entries_at (f.stored s.files) y.number ≡ None)
+        → IsCaused w f p s t fault.Overlay
     damaged_at o at from h =
         inr (record {
           row = at.row;

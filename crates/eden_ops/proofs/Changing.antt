@@ -86,7 +86,8 @@ no_entry G i n r other = ap (option_and_then (λ j. shown G j r)) (none_by i.kin
   none_by kind.Link o is = refl
   none_by kind.Dir o is = absurd (is refl)
 
-pub file_alone : ShowsBelow → (R : Repository) (F : Stored) (p : Path) (x y : Row) → AreDirectories x → row_at p x ≡ Some y → y.kind ≢ kind.Dir → (n : Name) (r : Path) → shown_in R F x (p ++ n ∷ r) ≡ None
+pub file_alone : ShowsBelow → (R : Repository) (F : Stored) (p : Path) (x y : Row) → AreDirectories x → row_at p x ≡ Some y → y.kind ≢ kind.Dir → (n : Name) (r : Path)
+    → shown_in R F x (p ++ n ∷ r) ≡ None
 file_alone below R F p x y dirs at other n r = below R F p (n ∷ r) x y dirs at ∙ no_entry (table_ground R (own_files F)) (item_in y) n r other
 
 -- ---- the directory above an entry
@@ -97,7 +98,8 @@ entry_of n y w is = by_child (child_of y) refl is where
   by_row d None found at = cc
   by_row d (Some v) found at = found ∙ at
 
-  by_child : (o : Option Directory) → child_of y ≡ o → option_and_then (λ (d : Directory). option_and_then (row_at []) (find_row n d.rows)) o ≡ Some w → (d : Directory) × ((child_of y ≡ Some d) × (find_row n d.rows ≡ Some w))
+  by_child : (o : Option Directory) → child_of y ≡ o → option_and_then (λ (d : Directory). option_and_then (row_at []) (find_row n d.rows)) o ≡ Some w → (d : Directory)
+      × ((child_of y ≡ Some d) × (find_row n d.rows ≡ Some w))
   by_child None holds at = cc
   by_child (Some d) holds at = (d, (holds, by_row d (find_row n d.rows) refl at))
 

@@ -53,7 +53,8 @@ stays_loaded x z p grows is =
 module _ (x z : Row) (grows : Grows x z) where
   deeper_by : (front : Path) (n : Name) (rest : Path) (o : Option Node) → known x front ≡ o → through o (walk_from (known x) (front ++ n ∷ []) rest) ≡ Unlisted
       → IsLoadedAt (cond (is_unlisted o) front (place_from (known x) (front ++ n ∷ []) rest)) z
-      → (walk_from (known x) (front ++ n ∷ []) rest ≡ Unlisted → IsLoadedAt (place_from (known x) (front ++ n ∷ []) rest) z → length (place_from (known x) (front ++ n ∷ []) rest) < length (place_from (known z) (front ++ n ∷ []) rest))
+      → (walk_from (known x) (front ++ n ∷ []) rest ≡ Unlisted → IsLoadedAt (place_from (known x) (front ++ n ∷ []) rest) z
+      → length (place_from (known x) (front ++ n ∷ []) rest) < length (place_from (known z) (front ++ n ∷ []) rest))
       → length (cond (is_unlisted o) front (place_from (known x) (front ++ n ∷ []) rest)) < length (cond (is_unlisted (known z front)) front (place_from (known z) (front ++ n ∷ []) rest))
   deeper_by front n rest None at w l on = cc
   deeper_by front n rest (Some (File e c)) at w l on = cc
@@ -66,7 +67,8 @@ module _ (x z : Row) (grows : Grows x z) where
       subst (λ (o : Option Node). length front < length (cond (is_unlisted o) front (place_from (known z) (front ++ n ∷ []) rest))) (sym l)
       (omega (arith, long, length-append front (n ∷ [])))
 
-  deeper_from : (front rest : Path) → walk_from (known x) front rest ≡ Unlisted → IsLoadedAt (place_from (known x) front rest) z → length (place_from (known x) front rest) < length (place_from (known z) front rest)
+  deeper_from : (front rest : Path) → walk_from (known x) front rest ≡ Unlisted → IsLoadedAt (place_from (known x) front rest) z
+      → length (place_from (known x) front rest) < length (place_from (known z) front rest)
   deeper_from front [] w l = cc
   deeper_from front (n ∷ rest) w l = deeper_by front n rest (known x front) refl w l (λ a b. deeper_from (front ++ n ∷ []) rest a b)
 

@@ -43,7 +43,8 @@ module _ (p : Path) (x : Row) (seen : Seen) (s : IsSeen p x seen) where
   shown_kind R F met h (inr dir) = sym s.kind ∙ dir
 
   -- what is known of it, where its object is wanted
-  pub known_lost : (d : Cache) (k : Key) → seen.loaded ≡ false → Wants (row_at p x) d k → (known_node s.row ≡ node_from s.row.kind (content_known s.row.origin) false) × (content_known s.row.origin ≡ None)
+  pub known_lost : (d : Cache) (k : Key) → seen.loaded ≡ false → Wants (row_at p x) d k → (known_node s.row ≡ node_from s.row.kind (content_known s.row.origin) false)
+      × (content_known s.row.origin ≡ None)
   known_lost d k off h = (
     known_unloaded s.row (away off),
     ap content_known (ap (λ (z : Row). z.origin) (some_eq s.row h.row (sym s.there ∙ h.there)) ∙ h.from),

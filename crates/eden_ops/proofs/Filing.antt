@@ -87,7 +87,8 @@ module _ {W F : Type 0} (w : Ghosts W) (f : Files F W) (p : Path) (s t : Table F
   plain = subst IsPlain file.entry.kind file.plain
 
   -- by what it is alone
-  pub file_tells : (r : Reply) → fault_of r ≡ None → ((T : Tree) → after T q r ≡ T) → ((k : Kind) (a : Option (List ℕ)) (l : Bool) → IsPlain k → here (shows w f s) (node_from k a l) r) → Attempts w f q s t c d (Finished r)
+  pub file_tells : (r : Reply) → fault_of r ≡ None → ((T : Tree) → after T q r ≡ T) → ((k : Kind) (a : Option (List ℕ)) (l : Bool) → IsPlain k → here (shows w f s) (node_from k a l) r)
+      → Attempts w f q s t c d (Finished r)
   file_tells r fine leaves says =
       met_tells w f p s t d (Some seen) seen refl file.entry q here asks c same keeps cache shown r fine leaves (λ k a l is on. says k a l (subst IsPlain (sym is) file.plain))
 
@@ -114,5 +115,6 @@ module _ {W F : Type 0} (w : Ghosts W) (f : Files F W) (p : Path) (s t : Table F
       file_fills g new r fine edits has says filled =
           fills w f q p here asks s t v u c e together (finds_on c d e cache finds) row file.entry.there shown plain g new r fine edits has (λ h l. says h l plain) (λ h. filled h row is_file)
 
-      pub file_refused : (a : Fault) → IsStoreFault (f.failures v.files) (f.failures u.files) a → ((x : Path) → q ≡ ask.Kind x → ⊥) → (w.honest → shows w f u ≡ shows w f v) → Attempts w f q s u c e (Finished (say.Fault a))
+      pub file_refused : (a : Fault) → IsStoreFault (f.failures v.files) (f.failures u.files) a → ((x : Path) → q ≡ ask.Kind x → ⊥) → (w.honest → shows w f u ≡ shows w f v)
+          → Attempts w f q s u c e (Finished (say.Fault a))
       file_refused a store other unseen = refused w f q s v u c e together ((keeps_counts w f s v (keeps_on w f s t v keeps kept)).1.1.1) (finds_on c d e cache finds) a store other unseen

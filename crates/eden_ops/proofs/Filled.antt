@@ -191,7 +191,8 @@ writes_nothing p offset bytes n none G =
 
 -- ---- a content in the place of another
 
-as_content : (f : Option (List ℕ) → Option (List ℕ)) (new : List ℕ) (k : Kind) (c : Option (List ℕ)) (l : Bool) → IsPlain k → f c ≡ Some new → node_from k (Some new) false ≡ with_content f (node_from k c l)
+as_content : (f : Option (List ℕ) → Option (List ℕ)) (new : List ℕ) (k : Kind) (c : Option (List ℕ)) (l : Bool) → IsPlain k → f c ≡ Some new
+    → node_from k (Some new) false ≡ with_content f (node_from k c l)
 as_content f new kind.File c l plain is = ap (File false) (sym is)
 as_content f new kind.Exec c l plain is = ap (File true) (sym is)
 as_content f new kind.Link c l (inl a) is = cc

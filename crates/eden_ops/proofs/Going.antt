@@ -46,7 +46,8 @@ module _ (path : Path) (x row : Row) (at : row_at path x ≡ Some row) where
       let here : path ≡ q = sym (append-nil path) ∙ sym (behind_sound path q [] front) in
       (standing row, (ap (option_map standing) (ap (λ (p : Path). row_at p x) (sym here) ∙ at), subst (IsLeft (standing row)) (same_Some (standing bare) v is) bare_left))
   was_by q v (Some (n ∷ r)) front is =
-      absurd (none-some v (sym (ap (λ (c : Option Directory). option_map standing (option_and_then (λ (e : Directory). option_and_then (row_at r) (find_row n e.rows)) c)) (child_of-with_child None row)) ∙ is))
+      absurd (none-some v (sym (ap (λ (c : Option Directory). option_map standing (option_and_then (λ (e : Directory). option_and_then (row_at r) (find_row n e.rows)) c))
+      (child_of-with_child None row)) ∙ is))
 
   was_there : (q : Path) (v : Standing) → standing_at q (edit_row path (with_child None) x) ≡ Some v → WasThere x q v
   was_there q v is = was_by q v (behind_of path q) refl (sym (edits_one path (with_child None) x row q at) ∙ is)

@@ -123,8 +123,14 @@ module _ (p : Path) (x y : Row) (d : Directory) (at : row_at p x ≡ Some y) (no
   there_by q v is (inl apart) =
       (v, (edits_one p (with_child (Some d)) x y q at ∙ ap (λ o. grafted o (λ r. standing_at r (with_child (Some d) y)) (standing_at q x)) apart ∙ is, stays_same v))
   there_by q v is (inr ([], (behind, split))) =
-      let same : standing y ≡ v = same_Some (standing y) v (sym (ap (λ (t : Path). standing_at t x) (split ∙ append-nil p) ∙ ap (option_map standing) at) ∙ is) in
-      (here, (edits_one p (with_child (Some d)) x y q at ∙ ap (λ o. grafted o (λ r. standing_at r (with_child (Some d) y)) (standing_at q x)) behind, subst (λ (a : Standing). Stays a here) same stays_here))
+      let same : standing y ≡ v = same_Some (standing y) v (sym (ap (λ (t : Path). standing_at t x) (split ∙ append-nil p) ∙ ap (option_map standing) at) ∙ is) in (
+        here,
+        (
+          edits_one p (with_child (Some d)) x y q at ∙ ap (λ o. grafted o (λ r. standing_at r (with_child (Some d) y)) (standing_at q x)) behind,
+          subst
+              (λ (a : Standing). Stays a here) same stays_here,
+        ),
+      )
   there_by q v is (inr (n ∷ r, (behind, split))) = absurd (nothing_below n r v (ap (λ (t : Path). standing_at t x) (sym split) ∙ is))
 
   -- a loaded directory isn't at or below the path
@@ -153,4 +159,5 @@ module _ (p : Path) (x y : Row) (d : Directory) (at : row_at p x ≡ Some y) (no
   pub loaded_there : (clock : ℕ) → IsLoadedAt p (stamped_along p clock new)
   loaded_there clock =
       stays_loaded new (stamped_along p clock new) p (grows_stamped p clock new)
-      (known_at new p (with_child (Some d) y) (Dir true) (edits_there p (with_child (Some d)) x ∙ ap (option_map (with_child (Some d))) at) (known_loaded (with_child (Some d) y) d (child_of-with_child (Some d) y)))
+      (known_at new p (with_child (Some d) y) (Dir true) (edits_there p (with_child (Some d)) x ∙ ap (option_map (with_child (Some d))) at)
+      (known_loaded (with_child (Some d) y) d (child_of-with_child (Some d) y)))

@@ -75,7 +75,8 @@ module _ {W F : Type 0} (w : Ghosts W) (f : Files F W) (s t : Table F) (keeps : 
     }
 
     -- .. or an entry moved
-    pub leaves_moved : (from to : Path) → StaysBeside from to t.root u.root → StaysOrBecomesOwn t.root.origin u.root.origin → (u.next ≡ t.next) × (u.clock ≡ t.clock) → f.failures t.files ≤ f.failures u.files
+    pub leaves_moved : (from to : Path) → StaysBeside from to t.root u.root → StaysOrBecomesOwn t.root.origin u.root.origin → (u.next ≡ t.next) × (u.clock ≡ t.clock)
+        → f.failures t.files ≤ f.failures u.files
         → (IsNoFault a → AreSaved t.root → AreSaved u.root) → (AreSaved t.root → AreSavedBut from u.root) → LeavesAfter w f (ask.Rename from to) s u a
     leaves_moved from to stays root rest counted saved marked =
         let paths = LetsBe (ask.Rename from to) in

@@ -56,7 +56,8 @@ module _ (y v : Row) (stays : Stays (standing y) (standing v)) where
       let up = stays.loaded d.stamp d.unsaved (ap (option_map (λ (x : Directory). (x.stamp, x.unsaved))) was) in
       absurd (none-some (up.0, d.unsaved) (sym (ap (option_map (λ (x : Directory). (x.stamp, x.unsaved))) now) ∙ up.1))
   node_by None (Some e) was now =
-      let dir = is_dir y.kind (λ other. none-some (e.stamp, e.unsaved) (sym (stays.leaf other (ap (option_map (λ (x : Directory). (x.stamp, x.unsaved))) was)) ∙ ap (option_map (λ (x : Directory). (x.stamp, x.unsaved))) now)) in
+      let dir = is_dir y.kind (λ other. none-some (e.stamp, e.unsaved)
+      (sym (stays.leaf other (ap (option_map (λ (x : Directory). (x.stamp, x.unsaved))) was)) ∙ ap (option_map (λ (x : Directory). (x.stamp, x.unsaved))) now)) in
       inr (known_unloaded y was ∙ dir_node y.kind (content_known y.origin) dir, known_loaded v e now)
   node_by None None was now = inl (known_unloaded v now ∙ bare_node ∙ sym (known_unloaded y was))
 
@@ -79,7 +80,8 @@ grown x z grows p y at =
     (v.0, (v.1.0, subst (λ (a : Standing). Stays (standing y) a) (sym v.1.1) s.1.1))
 
 module _ (x z : Row) (grows : Grows x z) where
-  there_by : (p : Path) (y v : Row) → row_at p x ≡ Some y → row_at p z ≡ Some v → (known_node v ≡ known_node y) ⊎ ((known_node y ≡ Dir false) × (known_node v ≡ Dir true)) → Later (known x p) (known z p)
+  there_by : (p : Path) (y v : Row) → row_at p x ≡ Some y → row_at p z ≡ Some v → (known_node v ≡ known_node y) ⊎ ((known_node y ≡ Dir false) × (known_node v ≡ Dir true))
+      → Later (known x p) (known z p)
   there_by p y v was now (inl same) = inl (ap (option_map known_node) now ∙ ap (λ (n : Node). Some n) same ∙ sym (ap (option_map known_node) was))
   there_by p y v was now (inr h) = inr (ap (option_map known_node) was ∙ ap (λ (n : Node). Some n) h.0, ap (option_map known_node) now ∙ ap (λ (n : Node). Some n) h.1)
 
@@ -194,7 +196,8 @@ module _ (x z : Row) (grows : Grows x z) where
   come : (ps : List Path) → Come ps
   come [] = inr (refl, refl)
   come (p ∷ []) = one (on_path p) where
-    one : (length (place_on (known x) p) < length (place_on (known z) p)) ⊎ ((place_on (known z) p ≡ place_on (known x) p) × (is_silent (walk (known z) p) ≡ is_silent (walk (known x) p))) → Come (p ∷ [])
+    one : (length (place_on (known x) p) < length (place_on (known z) p)) ⊎ ((place_on (known z) p ≡ place_on (known x) p) × (is_silent (walk (known z) p) ≡ is_silent (walk (known x) p)))
+        → Come (p ∷ [])
     one (inl deeper) =
         let a = place_short x p in let b = place_short z p in
         inl (omega (arith, sum_by-cons (places x) p [], sum_by-cons (places z) p [], deeper, a, b))
@@ -268,7 +271,8 @@ module _ (x z : Row) (c d : Cache) (q : Request) (k : Key) (grows : Grows x z) (
         cached_alike m origin.Own = refl
         cached_alike m origin.Empty = refl
 
-  no_more : places_from (known z) (paths_of q) < places_from (known x) (paths_of q) ⊎ ((places_from (known z) (paths_of q) ≡ places_from (known x) (paths_of q)) × (place (known z) q ≡ place (known x) q)) → left z d q ≤ left x c q
+  no_more : places_from (known z) (paths_of q) < places_from (known x) (paths_of q)
+      ⊎ ((places_from (known z) (paths_of q) ≡ places_from (known x) (paths_of q)) × (place (known z) q ≡ place (known x) q)) → left z d q ≤ left x c q
   no_more (inl less) = flagged (has_object c (row_at (place (known x) q) x)) where
     flagged : (b : Bool) → places_from (known z) (paths_of q) - spared (has_object d (row_at (place (known z) q) z)) ≤ places_from (known x) (paths_of q) - spared b
     flagged true = omega (arith, less)
@@ -284,7 +288,8 @@ some_are_left x z c d q k grows finds need =
     let all = all_left z d q k need in
     (omega (arith, some, all), no_more x z c d q k grows finds need (come x z grows (paths_of q)))
 
-same_key : (y v : Row) (j k : Key) → y.kind ≡ v.kind → y.origin ≡ v.origin → y.origin ≡ origin.Object j.id → v.origin ≡ origin.Object k.id → j.kind ≡ object_kind y.kind → k.kind ≡ object_kind v.kind → j ≡ k
+same_key : (y v : Row) (j k : Key) → y.kind ≡ v.kind → y.origin ≡ v.origin → y.origin ≡ origin.Object j.id → v.origin ≡ origin.Object k.id → j.kind ≡ object_kind y.kind → k.kind ≡ object_kind v.kind
+    → j ≡ k
 same_key y v j k kinds origins from to one other =
     let kind : j.kind ≡ k.kind = one ∙ ap object_kind kinds ∙ sym other in
     let both : origin.Object j.id ≡ origin.Object k.id = sym from ∙ origins ∙ to in
@@ -293,7 +298,8 @@ same_key y v j k kinds origins from to one other =
 
 pub needs_stay : NeedsStay
 needs_stay x z c d q j k grows finds before now = by_place (come x z grows (paths_of q)) where
-  by_place : places_from (known z) (paths_of q) < places_from (known x) (paths_of q) ⊎ ((places_from (known z) (paths_of q) ≡ places_from (known x) (paths_of q)) × (place (known z) q ≡ place (known x) q)) → (j ≡ k) ⊎ (left z d q < left x c q)
+  by_place : places_from (known z) (paths_of q) < places_from (known x) (paths_of q)
+      ⊎ ((places_from (known z) (paths_of q) ≡ places_from (known x) (paths_of q)) × (place (known z) q ≡ place (known x) q)) → (j ≡ k) ⊎ (left z d q < left x c q)
   by_place (inl less) =
       let a = all_left x c q j before in
       let b = all_left z d q k now in

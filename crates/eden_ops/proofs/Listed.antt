@@ -124,7 +124,8 @@ all_behind (e ∷ es) = ap (λ l. e ∷ l) (all_behind es)
 behind_mapped : (after : Option Name) (es : List (Name × Row)) → filter (λ e. is_after after e.0) (map kind_in es) ≡ map kind_in (filter (λ r. is_after after r.0) es)
 behind_mapped after [] = refl
 behind_mapped after (e ∷ es) =
-    elim (is_after after e.0) as (λ b. cond b (kind_in e ∷ filter (λ a. is_after after a.0) (map kind_in es)) (filter (λ a. is_after after a.0) (map kind_in es)) ≡ map kind_in (cond b (e ∷ filter (λ r. is_after after r.0) es) (filter (λ r. is_after after r.0) es))) [
+    elim (is_after after e.0) as (λ b. cond b (kind_in e ∷ filter (λ a. is_after after a.0) (map kind_in es)) (filter (λ a. is_after after a.0) (map kind_in es)) ≡ map kind_in
+    (cond b (e ∷ filter (λ r. is_after after r.0) es) (filter (λ r. is_after after r.0) es))) [
       | true ↦ ap (λ l. kind_in e ∷ l) (behind_mapped after es)
       | false ↦ behind_mapped after es
     ]

@@ -75,10 +75,12 @@ file_node kind.Link c l (inr a) = cc
 file_node kind.Dir c l (inl a) = cc
 file_node kind.Dir c l (inr a) = cc
 
-reads_as : (offset count : ℕ) (x : Bool) (c : Option (List ℕ)) (r : Reply) (b : Bool) → (count == 0) ≡ b → Whether b (Says (say.Data [])) (Into c (λ bytes. say.Data (take count (drop offset bytes)))) r → Reads offset count (File x c) r
+reads_as : (offset count : ℕ) (x : Bool) (c : Option (List ℕ)) (r : Reply) (b : Bool) → (count == 0) ≡ b
+    → Whether b (Says (say.Data [])) (Into c (λ bytes. say.Data (take count (drop offset bytes)))) r → Reads offset count (File x c) r
 reads_as offset count x c r b is h = subst (λ (a : Bool). Whether a (Says (say.Data [])) (Into c (λ bytes. say.Data (take count (drop offset bytes)))) r) (sym is) h
 
-reads_of : (offset count : ℕ) (x : Bool) (c : Option (List ℕ)) (r : Reply) (b : Bool) → (count == 0) ≡ b → Reads offset count (File x c) r → Whether b (Says (say.Data [])) (Into c (λ bytes. say.Data (take count (drop offset bytes)))) r
+reads_of : (offset count : ℕ) (x : Bool) (c : Option (List ℕ)) (r : Reply) (b : Bool) → (count == 0) ≡ b → Reads offset count (File x c) r
+    → Whether b (Says (say.Data [])) (Into c (λ bytes. say.Data (take count (drop offset bytes)))) r
 reads_of offset count x c r b is h = subst (λ (a : Bool). Whether a (Says (say.Data [])) (Into c (λ bytes. say.Data (take count (drop offset bytes)))) r) is h
 
 pub reads_none : (offset count : ℕ) (k : Kind) (c : Option (List ℕ)) (l : Bool) → IsPlain k → (count == 0) ≡ true → Reads offset count (node_from k c l) (say.Data [])
@@ -86,11 +88,13 @@ reads_none offset count k c l plain none =
     let n = file_node k c l plain in
     subst (λ (a : Node). Reads offset count a (say.Data [])) (sym n.1) (reads_as offset count n.0 c (say.Data []) true none refl)
 
-pub reads_some : (offset count : ℕ) (k : Kind) (c : Option (List ℕ)) (l : Bool) (b : List ℕ) → IsPlain k → (count == 0) ≡ false → c ≡ Some b → Reads offset count (node_from k c l) (say.Data (take count (drop offset b)))
+pub reads_some : (offset count : ℕ) (k : Kind) (c : Option (List ℕ)) (l : Bool) (b : List ℕ) → IsPlain k → (count == 0) ≡ false → c ≡ Some b
+    → Reads offset count (node_from k c l) (say.Data (take count (drop offset b)))
 reads_some offset count k c l b plain some is =
     let n = file_node k c l plain in
     let r : Reply = say.Data (take count (drop offset b)) in
-    subst (λ (a : Node). Reads offset count a r) (sym n.1) (reads_as offset count n.0 c r false some (subst (λ (o : Option (List ℕ)). Into o (λ bytes. say.Data (take count (drop offset bytes))) r) (sym is) refl))
+    subst (λ (a : Node). Reads offset count a r) (sym n.1)
+    (reads_as offset count n.0 c r false some (subst (λ (o : Option (List ℕ)). Into o (λ bytes. say.Data (take count (drop offset bytes))) r) (sym is) refl))
 
 pub reads_lost : (offset count : ℕ) (k : Kind) (c : Option (List ℕ)) (l : Bool) (r : Reply) → IsPlain k → (count == 0) ≡ false → c ≡ None → ¬ Reads offset count (node_from k c l) r
 reads_lost offset count k c l r plain some is h =

@@ -15,7 +15,8 @@ use Rattle.eden_tie.specs.Kept.{IsTable}
 use Rattle.eden_tie.specs.Listings.{Place, top, inside, stored_entry}
 use Rattle.eden_tie.proofs.CallerLemmas.{place_at}
 
-found_by : (n : Name) (e : Name × Row) (rest : Option Row) (y : Row) (b : Bool) → HasOrigin e.1.kind e.1.origin → (rest ≡ Some y → HasOrigin y.kind y.origin) → cond b (Some e.1) rest ≡ Some y → HasOrigin y.kind y.origin
+found_by : (n : Name) (e : Name × Row) (rest : Option Row) (y : Row) (b : Bool) → HasOrigin e.1.kind e.1.origin → (rest ≡ Some y → HasOrigin y.kind y.origin) → cond b (Some e.1) rest ≡ Some y
+    → HasOrigin y.kind y.origin
 found_by n e rest y true here on is = subst (λ (x : Row). HasOrigin x.kind x.origin) (same_Some e.1 y is) here
 found_by n e rest y false here on is = on is
 

@@ -32,7 +32,8 @@ abbrev step : Name → Path → Directory → Directory
 step n p d = record d { rows = change_row n (λ z. owned (owned_along p z)) d.rows; unsaved = kept_mark (find_row n d.rows) d.unsaved }
 
 -- each entry is as it was, but that the directories of the chain are their own
-pub owned_bare : (p q : Path) (x : Row) → option_map bare (row_at q (owned (owned_along p x))) ≡ grafted (behind_of q p) (λ r. option_map owns (option_map bare (row_at q x))) (option_map bare (row_at q x))
+pub owned_bare : (p q : Path) (x : Row)
+    → option_map bare (row_at q (owned (owned_along p x))) ≡ grafted (behind_of q p) (λ r. option_map owns (option_map bare (row_at q x))) (option_map bare (row_at q x))
 owned_bare [] [] x = refl
 owned_bare (n ∷ p) [] x = ap (λ (l : Bool). Some (record { number = x.number; kind = x.kind; origin = origin.Own; loaded = l }))
     (ap is_some (child_of-change_child (step n p) x) ∙ some_pair (step n p) (child_of x))

@@ -33,7 +33,8 @@ module _ {W F : Type 0} (w : Ghosts W) (f : Files F W) (p : Path) (s t : Table F
           row = h.row;
           there = h.there;
           listed = a.1.1.listed;
-          is = ap (λ (G : Tree). reach G p) (sym same) ∙ meets_here below missing w.repository (f.stored t.files) t.root dirs p _ (walk_here t.root p h.row h.there) (a.1.0 ∙ ap (λ n. Some n) a.1.1.is);
+          is = ap (λ (G : Tree). reach G p) (sym same) ∙ meets_here below missing w.repository (f.stored t.files) t.root dirs p _ (walk_here t.root p h.row h.there)
+              (a.1.0 ∙ ap (λ n. Some n) a.1.1.is);
           loaded = a.1.1.loaded;
         }
     met_shown (Ok None) h = ap (λ (G : Tree). reach G p) (sym same) ∙ meets_absent below missing w.repository (f.stored t.files) t.root dirs p h.0 h.1

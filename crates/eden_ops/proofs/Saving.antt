@@ -31,8 +31,11 @@ SavedAt x = (p : Path) (v : Standing) (stamp : ℕ) (unsaved : Bool) → standin
 place_path : (x y : Row) → Place x y → (p : Path) × (row_at p x ≡ Some y)
 place_path x _ top = ([], refl)
 place_path x z (inside y d n _ place holds found) =
-    let h = place_path x y place in
-    (h.0 ++ n ∷ [], reads_on h.0 (n ∷ []) x ∙ ap (option_and_then (row_at (n ∷ []))) h.1 ∙ ap (option_and_then (λ (e : Directory). option_and_then (row_at []) (find_row n e.rows))) holds ∙ ap (option_and_then (row_at [])) found)
+    let h = place_path x y place in (
+      h.0 ++ n ∷ [],
+      reads_on h.0 (n ∷ []) x ∙ ap (option_and_then (row_at (n ∷ []))) h.1 ∙ ap (option_and_then (λ (e : Directory). option_and_then (row_at []) (find_row n e.rows))) holds ∙ ap
+          (option_and_then (row_at [])) found,
+    )
 
 pub by_path : (x : Row) → AreSaved x → SavedAt x
 by_path x all p v stamp unsaved at loaded =
@@ -47,7 +50,8 @@ by_place x all y d place holds =
 
 -- ---- stamps
 
-mark_by : (s : ℕ) (o : Option Path) (was now : Option Standing) (v : Standing) (stamp : ℕ) (unsaved : Bool) → now ≡ grafted o (λ r. option_map (stamped s) was) was → now ≡ Some v → v.loaded ≡ Some (stamp, unsaved)
+mark_by : (s : ℕ) (o : Option Path) (was now : Option Standing) (v : Standing) (stamp : ℕ) (unsaved : Bool) → now ≡ grafted o (λ r. option_map (stamped s) was) was → now ≡ Some v
+    → v.loaded ≡ Some (stamp, unsaved)
     → (u : Standing) × ((was ≡ Some u) × ((at : ℕ) × (u.loaded ≡ Some (at, unsaved))))
 mark_by s None was now v stamp unsaved is at loaded = (v, (sym is ∙ at, (stamp, loaded)))
 mark_by s (Some r) was now v stamp unsaved is at loaded =
@@ -68,19 +72,22 @@ module _ (p : Path) (x y : Row) (d : Directory) (clock : ℕ) (there : row_at p 
   below_by [] n v (Some z) none at =
       let same : standing z ≡ v = same_Some (standing z) v at in
       sym (ap (λ (s : Standing). s.loaded) same) ∙ ap (option_map (λ (e : Directory). (e.stamp, e.unsaved))) (none z refl)
-  below_by (m ∷ r) n v (Some z) none at = let no : None ≡ Some v = sym (ap (λ (c : Option Directory). option_map standing (option_and_then (λ (e : Directory). option_and_then (row_at r) (find_row m e.rows)) c)) (none z refl)) ∙ at in cc
+  below_by (m ∷ r) n v (Some z) none at = let no : None ≡ Some v = sym
+      (ap (λ (c : Option Directory). option_map standing (option_and_then (λ (e : Directory). option_and_then (row_at r) (find_row m e.rows)) c)) (none z refl)) ∙ at in cc
 
   mark_here : (r : Path) (v : Standing) (stamp : ℕ) (unsaved : Bool) → standing_at r (with_child (Some d) y) ≡ Some v → v.loaded ≡ Some (stamp, unsaved) → unsaved ≡ false
   mark_here [] v stamp unsaved at loaded =
       let same : standing (with_child (Some d) y) ≡ v = same_Some (standing (with_child (Some d) y)) v at in
-      let l : Some (d.stamp, d.unsaved) ≡ Some (stamp, unsaved) = sym (ap (option_map (λ (e : Directory). (e.stamp, e.unsaved))) (child_of-with_child (Some d) y)) ∙ ap (λ (s : Standing). s.loaded) same ∙ loaded in
+      let l : Some (d.stamp, d.unsaved) ≡ Some (stamp, unsaved) = sym (ap (option_map (λ (e : Directory). (e.stamp, e.unsaved))) (child_of-with_child (Some d) y)) ∙ ap
+      (λ (s : Standing). s.loaded) same ∙ loaded in
       sym (ap (λ (m : ℕ × Bool). m.1) (same_Some (d.stamp, d.unsaved) (stamp, unsaved) l)) ∙ fresh.saved
   mark_here (n ∷ r) v stamp unsaved at loaded =
       let none = below_by r n v (find_row n d.rows) (λ z is. none_inside d fresh.unloaded n z is)
       (sym (ap (λ (c : Option Directory). option_map standing (option_and_then (λ (e : Directory). option_and_then (row_at r) (find_row n e.rows)) c)) (child_of-with_child (Some d) y)) ∙ at) in
       absurd (none-some (stamp, unsaved) (sym none ∙ loaded))
 
-  mark_edit : (all : SavedAt x) (q : Path) (o : Option Path) (v : Standing) (stamp : ℕ) (unsaved : Bool) → grafted o (λ r. standing_at r (with_child (Some d) y)) (standing_at q x) ≡ Some v → v.loaded ≡ Some (stamp, unsaved) → unsaved ≡ false
+  mark_edit : (all : SavedAt x) (q : Path) (o : Option Path) (v : Standing) (stamp : ℕ) (unsaved : Bool) → grafted o (λ r. standing_at r (with_child (Some d) y)) (standing_at q x) ≡ Some v
+      → v.loaded ≡ Some (stamp, unsaved) → unsaved ≡ false
   mark_edit all q None v stamp unsaved at loaded = all q v stamp unsaved at loaded
   mark_edit all q (Some r) v stamp unsaved at loaded = mark_here r v stamp unsaved at loaded
 
@@ -92,7 +99,8 @@ module _ (p : Path) (x y : Row) (d : Directory) (clock : ℕ) (there : row_at p 
 -- ---- the steps
 
 module _ {W F : Type 0} (w : Ghosts W) (f : Files F W) where
-  own_saved : (s : Table F) (p : Path) (z : Row) → HasNoTree p s.root → (l : LoadsOwn w.honest s.clock (f.stored s.files) s.root p z) → SavedAt s.root → SavedAt (stamped_along p s.clock (edit_row p (with_child (Some l.directory)) s.root))
+  own_saved : (s : Table F) (p : Path) (z : Row) → HasNoTree p s.root → (l : LoadsOwn w.honest s.clock (f.stored s.files) s.root p z) → SavedAt s.root
+      → SavedAt (stamped_along p s.clock (edit_row p (with_child (Some l.directory)) s.root))
   own_saved s p z (inl at) l = saved_loaded p s.root at.row l.directory s.clock at.there l.new
   own_saved s p z (inr at) l = saved_loaded p s.root at.row l.directory s.clock at.there l.new
 
@@ -122,7 +130,14 @@ module _ {W F : Type 0} (w : Ghosts W) (f : Files F W) where
   keeps_leaves s t k =
       let n = keeps_counts w f s t k in
       record {
-        everywhere = record { loaded = λ p all. grows_loads s.root t.root (keeps_entries w f s t k) p; root = root_grows s.root t.root (keeps_entries w f s t k); next = n.1.1.0; failures = n.1.1.1; clock = n.0 };
+        everywhere = record {
+          loaded = λ p all. grows_loads s.root t.root (keeps_entries w f s t k) p;
+          root = root_grows s.root t.root
+              (keeps_entries w f s t k);
+          next = n.1.1.0;
+          failures = n.1.1.1;
+          clock = n.0;
+        };
         saved = λ all. by_place t.root (steps_saved s t k (by_path s.root all));
       }
 
@@ -133,7 +148,14 @@ leaves_on f paths s t u a b =
     let m = b.next in
     let c = a.failures in
     let d = b.failures in
-    record { loaded = λ p in_them is. b.loaded p in_them (a.loaded p in_them is); root = comes_on s.root.origin t.root.origin u.root.origin a.root b.root; next = omega (arith, n, m); failures = omega (arith, c, d); clock = b.clock ∙ a.clock }
+    record {
+      loaded = λ p in_them is. b.loaded p in_them (a.loaded p in_them is);
+      root = comes_on s.root.origin t.root.origin u.root.origin a.root b.root;
+      next = omega (arith, n, m);
+      failures = omega
+          (arith, c, d);
+      clock = b.clock ∙ a.clock;
+    }
 
 -- what leaves something on every path leaves it on some
 pub leaves_some : {W F : Type 0} (f : Files F W) (paths : Path → Type 0) (s t : Table F) → Leaves f s t → LeavesOn f paths s t
@@ -142,7 +164,8 @@ leaves_some f paths s t l =
     record { loaded = λ p in_them. a.loaded p tt; root = a.root; next = a.next; failures = a.failures; clock = a.clock }
 
 -- a change, by its parts
-pub leaves_by : {W F : Type 0} (f : Files F W) (t u : Table F) → StaysLoaded t.root u.root → StaysOrBecomesOwn t.root.origin u.root.origin → (AreSaved t.root → AreSaved u.root) → t.next ≤ u.next → u.clock ≡ t.clock
+pub leaves_by : {W F : Type 0} (f : Files F W) (t u : Table F) → StaysLoaded t.root u.root → StaysOrBecomesOwn t.root.origin u.root.origin → (AreSaved t.root → AreSaved u.root) → t.next ≤ u.next
+    → u.clock ≡ t.clock
     → f.failures t.files ≤ f.failures u.files → Leaves f t u
 leaves_by f t u stays root saved next clock counted = record { everywhere = record { loaded = λ p all. stays p; root = root; next = next; failures = counted; clock = clock }; saved = saved }
 

@@ -79,7 +79,8 @@ module _ (below : ShowsBelow) (missing : ShowsAbsent) (R : Repository) (F : Stor
   seen_below : (p : Path) (n : Name) (y : Row) (d : Directory) → row_at p x ≡ Some y → child_of y ≡ Some d → Seen (p ++ n ∷ [])
   seen_below p n y d at holds none =
       missing R F p n [] x y d dirs at holds
-      (find_none n d (sym (ap (option_and_then (λ (e : Directory). option_and_then (row_at []) (find_row n e.rows))) holds) ∙ sym (ap (option_and_then (row_at (n ∷ []))) at) ∙ sym (reads_on p (n ∷ []) x) ∙ none))
+      (find_none n d (sym (ap (option_and_then (λ (e : Directory). option_and_then (row_at []) (find_row n e.rows))) holds) ∙ sym (ap (option_and_then (row_at (n ∷ []))) at) ∙ sym
+      (reads_on p (n ∷ []) x) ∙ none))
 
   -- how the walk goes over what is shown, where it goes so over what is known
   abbrev Same : Walk → Path → Path → Type 0
@@ -108,7 +109,9 @@ module _ (below : ShowsBelow) (missing : ShowsAbsent) (R : Repository) (F : Stor
   pub shown_dir : (p : Path) (y : Row) (d : Directory) → row_at p x ≡ Some y → child_of y ≡ Some d → G p ≡ Some (Dir true)
   shown_dir p y d at holds =
       let h = shown_there p y at in
-      h.1.0 ∙ ap (λ (n : Node). Some n) (h.1.1.is ∙ dir_true y.kind (content_with R (own_files F) (source_of y.number y.origin)) h.1.1.listed (dirs y d (place_at p x y at) holds) (h.1.1.loaded (subst (λ (o : Option Directory). IsSome o) (sym holds) refl)).1)
+      h.1.0 ∙ ap (λ (n : Node). Some n)
+      (h.1.1.is ∙ dir_true y.kind (content_with R (own_files F) (source_of y.number y.origin)) h.1.1.listed (dirs y d (place_at p x y at) holds)
+      (h.1.1.loaded (subst (λ (o : Option Directory). IsSome o) (sym holds) refl)).1)
 
   by_child : (f : Path) (n : Name) (rest : Path) (w : Walk) (y : Row) (o : Option Directory) → child_of y ≡ o → row_at f x ≡ Some y → (Seen (f ++ n ∷ []) → Same w (f ++ n ∷ []) rest)
       → Same (through (Some (known_node y)) w) f (n ∷ rest)
@@ -120,7 +123,8 @@ module _ (below : ShowsBelow) (missing : ShowsAbsent) (R : Repository) (F : Stor
       subst (λ (a : Node). Same (through (Some a) w) f (n ∷ rest)) (sym (known_loaded y d holds))
       (lifted f n rest w (shown_dir f y d at holds) (on (seen_below f n y d at holds)))
 
-  by_entry : (f : Path) (n : Name) (rest : Path) (w : Walk) (o : Option Row) → row_at f x ≡ o → Seen f → (Seen (f ++ n ∷ []) → Same w (f ++ n ∷ []) rest) → Same (through (option_map known_node o) w) f (n ∷ rest)
+  by_entry : (f : Path) (n : Name) (rest : Path) (w : Walk) (o : Option Row) → row_at f x ≡ o → Seen f → (Seen (f ++ n ∷ []) → Same w (f ++ n ∷ []) rest)
+      → Same (through (option_map known_node o) w) f (n ∷ rest)
   by_entry f n rest w None at seen on = ap (λ (a : Option Node). through a (walk_from G (f ++ n ∷ []) rest)) (seen at)
   by_entry f n rest w (Some y) at seen on = by_child f n rest w y (child_of y) refl at on
 

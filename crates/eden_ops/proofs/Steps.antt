@@ -26,7 +26,8 @@ module _ {W F : Type 0} (w : Ghosts W) (f : Files F W) where
 
   -- ---- what a step leaves
 
-  own_grows : (s : Table F) (p : Path) (z : Row) → HasNoTree p s.root → (l : LoadsOwn w.honest s.clock (f.stored s.files) s.root p z) → Grows s.root (stamped_along p s.clock (edit_row p (with_child (Some l.directory)) s.root))
+  own_grows : (s : Table F) (p : Path) (z : Row) → HasNoTree p s.root → (l : LoadsOwn w.honest s.clock (f.stored s.files) s.root p z)
+      → Grows s.root (stamped_along p s.clock (edit_row p (with_child (Some l.directory)) s.root))
   own_grows s p z (inl at) l = grows_loaded p s.root at.row l.directory at.there at.unloaded at.kind s.clock
   own_grows s p z (inr at) l = grows_loaded p s.root at.row l.directory at.there at.unloaded at.kind s.clock
 
@@ -92,7 +93,8 @@ module _ {W F : Type 0} (w : Ghosts W) (f : Files F W) where
   pub looks : (s t : Table F) (p : Path) → t ≡ record s { root = stamped_along p s.clock s.root } → Keeps w f s t
   looks s t p is = subst (λ (u : Table F). Keeps w f s u) (sym is) (keeps_step s (record s { root = stamped_along p s.clock s.root }) (stamps p))
 
-  pub loads_object : (s t : Table F) (p : Path) (es : List TreeEntry) → HasTree w.repository w.honest p s.root es → LoadsObject s.clock s.next s.root p es t.root t.next → Beside w f s t → Keeps w f s t
+  pub loads_object : (s t : Table F) (p : Path) (es : List TreeEntry) → HasTree w.repository w.honest p s.root es → LoadsObject s.clock s.next s.root p es t.root t.next → Beside w f s t
+      → Keeps w f s t
   loads_object s t p es has l b = keeps_step s t (loads t p (from_object has.id es has.at has.tree l) b)
 
   pub loads_own : (s t : Table F) (p : Path) → HasNoTree p s.root → LoadsOwn w.honest s.clock (f.stored s.files) s.root p t.root → t.next ≡ s.next → Beside w f s t → Keeps w f s t

@@ -53,7 +53,8 @@ module _ {W F : Type 0} (w : Ghosts W) (f : Files F W) (p : Path) (s t : Table F
     there = shown_at w f p s t d o seen is shown
 
     -- by its kind alone: what is loaded is a directory
-    pub met_tells : (r : Reply) → fault_of r ≡ None → ((T : Tree) → after T q r ≡ T) → ((k : Kind) (a : Option (List ℕ)) (listed : Bool) → k ≡ seen.kind → (seen.loaded ≡ true → k ≡ kind.Dir) → here (shows w f s) (node_from k a listed) r)
+    pub met_tells : (r : Reply) → fault_of r ≡ None → ((T : Tree) → after T q r ≡ T)
+        → ((k : Kind) (a : Option (List ℕ)) (listed : Bool) → k ≡ seen.kind → (seen.loaded ≡ true → k ≡ kind.Dir) → here (shows w f s) (node_from k a listed) r)
         → Attempts w f q s t c d (Finished r)
     met_tells r fine leaves says =
         says_here w f q p here asks s t c d same keeps cache at.row at.there there r fine leaves
@@ -66,7 +67,8 @@ module _ {W F : Type 0} (w : Ghosts W) (f : Files F W) (p : Path) (s t : Table F
       on = keeps_on w f s t u keeps kept
 
       pub content_tells : (r : Reply) → fault_of r ≡ None → ((T : Tree) → after T q r ≡ T)
-          → (w.honest → (y : Row) → row_at p t.root ≡ Some y → (listed : Bool) → y.kind ≡ seen.kind → here (shows w f s) (shown_node w.repository (f.stored t.files) y listed) r) → Attempts w f q s u c e (Finished r)
+          → (w.honest → (y : Row) → row_at p t.root ≡ Some y → (listed : Bool) → y.kind ≡ seen.kind → here (shows w f s) (shown_node w.repository (f.stored t.files) y listed) r)
+          → Attempts w f q s u c e (Finished r)
       content_tells r fine leaves says =
           replied w f q p here asks s u c e (λ h. alike h ∙ same h) on (finds_on c d e cache finds) r fine leaves
           (λ h. says_at w.repository (f.stored t.files) p here (shows w f s) (row_at p t.root) at.row at.there (there h) r (λ listed. says h at.row at.there listed (sym at.kind)))
@@ -79,6 +81,7 @@ module _ {W F : Type 0} (w : Ghosts W) (f : Files F W) (p : Path) (s t : Table F
           lacked w f q p here asks s u c e (λ h. alike h ∙ same h) on (finds_on c d e cache finds) at.row row z other
           (λ k wanted.
           let none = need k wanted in
-          let lost = known_lost p u.root seen (record { row = at.row; there = row; number = at.number; kind = at.kind; origin = at.origin; loaded = at.loaded }) e k off (subst (λ (y : Stop). Lacks w f p t u e y) wanted h) in
+          let lost = known_lost p u.root seen (record { row = at.row; there = row; number = at.number; kind = at.kind; origin = at.origin; loaded = at.loaded }) e k off
+          (subst (λ (y : Stop). Lacks w f p t u e y) wanted h) in
           (λ r x. none.0 at.row.kind (content_known at.row.origin) r (sym at.kind) lost.1 (subst (λ (a : Node). here (known u.root) a r) lost.0 x), none.1))
           (lacks_since w f p s t u e keeps z h)

@@ -74,7 +74,8 @@ known_as_dir unloaded k o is = node_dir k o false is
 known_as_dir (loaded s u r) k o is = refl
 
 -- what was seen, as it is shown
-shown_as : (R : Repository) (F : Stored) (p : Path) (x : Row) (seen : Seen) (at : IsSeen p x seen) (met : Reach) → IsShown R F (row_at p x) met → (b : Bool) → IsTold seen b → (l : Bool) → is_dir (shown_node R F at.row l) ≡ b
+shown_as : (R : Repository) (F : Stored) (p : Path) (x : Row) (seen : Seen) (at : IsSeen p x seen) (met : Reach) → IsShown R F (row_at p x) met → (b : Bool) → IsTold seen b → (l : Bool)
+    → is_dir (shown_node R F at.row l) ≡ b
 shown_as R F p x seen at met h true told l = node_dir at.row.kind (content_with R (own_files F) (source_of at.row.number at.row.origin)) l (shown_kind p x seen at R F met h (told.yes refl))
 shown_as R F p x seen at met h false told l = node_other at.row.kind (content_with R (own_files F) (source_of at.row.number at.row.origin)) l (λ k. (told.otherwise refl).1 (at.kind ∙ k))
 
@@ -85,7 +86,8 @@ record IsStill (p : Path) (z : Row) (dir : Bool) : Type 0 where
   pub is : is_dir (known_node row) ≡ dir
 
 module _ (p : Path) (x z : Row) (seen : Seen) (at : IsSeen p x seen) (grows : Grows x z) where
-  known_as : (y : Row) (v : Standing) → row_at p z ≡ Some y → standing y ≡ v → v.kind ≡ at.row.kind → (at.row.kind ≢ kind.Dir → (standing at.row).loaded ≡ None → v.loaded ≡ None) → (b : Bool) → IsTold seen b → is_dir (known_node y) ≡ b
+  known_as : (y : Row) (v : Standing) → row_at p z ≡ Some y → standing y ≡ v → v.kind ≡ at.row.kind → (at.row.kind ≢ kind.Dir → (standing at.row).loaded ≡ None → v.loaded ≡ None) → (b : Bool)
+      → IsTold seen b → is_dir (known_node y) ≡ b
   known_as y v there is same leaf true told = by (told.yes refl) where
     by : (seen.loaded ≡ true) ⊎ (seen.kind ≡ kind.Dir) → is_dir (known_node y) ≡ true
     by (inl on) =
@@ -184,8 +186,10 @@ pub record Begins {W F : Type 0} (w : Ghosts W) (f : Files F W) (from to : Path)
   pub keeps : Keeps w f s t
   pub cache : FindsTheSame c d
 
-pub begins : {W F : Type 0} (w : Ghosts W) (f : Files F W) (from to : Path) (s t : Table F) (c d : Cache) (o : Option Seen) (seen : Seen) (dir : Bool) → o ≡ Some seen → is_root from ≡ false → is_root to ≡ false
-    → Meets w f from s t d (Ok o) → (w.honest → MeetsShown w f from s t (Ok o)) → (w.honest → shows w f t ≡ shows w f s) → Keeps w f s t → FindsTheSame c d → IsTold seen dir → Begins w f from to s t c d seen dir
+pub begins : {W F : Type 0} (w : Ghosts W) (f : Files F W) (from to : Path) (s t : Table F) (c d : Cache) (o : Option Seen) (seen : Seen) (dir : Bool) → o ≡ Some seen → is_root from ≡ false
+    → is_root to ≡ false
+    → Meets w f from s t d (Ok o) → (w.honest → MeetsShown w f from s t (Ok o)) → (w.honest → shows w f t ≡ shows w f s) → Keeps w f s t → FindsTheSame c d → IsTold seen dir
+    → Begins w f from to s t c d seen dir
 begins w f from to s t c d o seen dir is root other meets shown same keeps cache told = record {
   root = root;
   other = other;

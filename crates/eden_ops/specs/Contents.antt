@@ -43,7 +43,8 @@ Fits (form.Resized size) = size ≤ most_file
 module _ {W F : Type 0} (w : Ghosts W) (f : Files F W) where
   -- the content that the entry at the path shows, where the outside is honest
   pub record IsContent (p : Path) (t : Table F) (content : List ℕ) : Type 0 where
-    pub shown : w.honest → (y : Row) → row_at p t.root ≡ Some y → content_with w.repository (own_files (f.stored t.files)) (source_of y.number y.origin) ≡ Some content
+    pub shown : w.honest → (y : Row) → row_at p t.root ≡ Some y
+        → content_with w.repository (own_files (f.stored t.files)) (source_of y.number y.origin) ≡ Some content
     pub short : length content ≤ most_file
 
   -- what is made of it

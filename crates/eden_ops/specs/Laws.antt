@@ -35,7 +35,8 @@ module _ {W F : Type 0} (w : Ghosts W) (f : Files F W) where
   KeepsEntries = (s t : Table F) → Keeps w f s t → Grows s.root t.root
 
   abbrev pub KeepsCounts : Type 0
-  KeepsCounts = (s t : Table F) → Keeps w f s t → (t.clock ≡ s.clock) × ((t.changes ≡ s.changes) × ((s.next ≤ t.next) × (f.failures s.files ≤ f.failures t.files)))
+  KeepsCounts = (s t : Table F) → Keeps w f s t → (t.clock ≡ s.clock)
+      × ((t.changes ≡ s.changes) × ((s.next ≤ t.next) × (f.failures s.files ≤ f.failures t.files)))
 
   abbrev pub KeepsLeaves : Type 0
   KeepsLeaves = (s t : Table F) → Keeps w f s t → Leaves f s t

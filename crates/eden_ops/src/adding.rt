@@ -28,8 +28,10 @@ fn add<A: Allocator + Clone, W: World, F: Files<W>, C: Allocator + Clone>(
 ) -> Attempt
     requires stocked { IsStocked W.repository W.honest cache.old }
     requires asked { (q : request.Request) × IsAdding path.now q new }
-    ensures attempts { (q : request.Request) → IsAdding path.now q new.entry → Attempts W.World F.Files q inodes.old inodes.new cache.old cache.new result }
-    ensures leaves { (q : request.Request) → IsAdding path.now q new.entry → LeavesAfter W.World F.Files q inodes.old inodes.new result }
+    ensures attempts { (q : request.Request) → IsAdding path.now q new.entry
+        → Attempts W.World F.Files q inodes.old inodes.new cache.old cache.new result }
+    ensures leaves { (q : request.Request) → IsAdding path.now q new.entry
+        → LeavesAfter W.World F.Files q inodes.old inodes.new result }
 {
     let Some((name, above)) = path.as_slice().split_last() else {
         return Attempt::Finished(Reply::Err(Errno::EEXIST));
@@ -85,7 +87,8 @@ pub fn symlink<A: Allocator + Clone, W: World, F: Files<W>, C: Allocator + Clone
     target: &[u8],
 ) -> Attempt
     requires { IsStocked W.repository W.honest cache.old }
-    ensures attempts { Attempts W.World F.Files (ask.Symlink path.now target.now) inodes.old inodes.new cache.old cache.new result }
+    ensures attempts { Attempts W.World F.Files
+        (ask.Symlink path.now target.now) inodes.old inodes.new cache.old cache.new result }
     ensures leaves { LeavesAfter W.World F.Files (ask.Symlink path.now target.now) inodes.old inodes.new result }
 {
     if target.is_empty() {

@@ -23,7 +23,9 @@ fn cached_tree<W: World, C: Allocator + Clone>(
 ) -> Result<Option<Vec<TreeEntry>>, AllocError>
     requires { IsStocked W.repository W.honest cache.old }
     ensures finds { FindsTheSame cache.old cache.new }
-    ensures entries { IfOk result (λ o. MatchOption o (object_at cache.old (record { kind = objects.Tree; id = id }) ≡ None) (λ es. NamesDiffer es.items × (W.honest → W.repository.tree id ≡ Some es.items))) }
+    ensures entries { IfOk result
+        (λ o. MatchOption o (object_at cache.old (record { kind = objects.Tree; id = id }) ≡ None)
+        (λ es. NamesDiffer es.items × (W.honest → W.repository.tree id ≡ Some es.items))) }
 {
     cache_laws();
     let kind = ObjKind::Tree;

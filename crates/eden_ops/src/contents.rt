@@ -91,7 +91,11 @@ fn cached_form<W: World, C: Allocator + Clone>(
     requires fits { Fits form }
     requires stocked { IsStocked W.repository W.honest cache.old }
     ensures finds { FindsTheSame cache.old cache.new }
-    ensures made { IfOk result (λ o. MatchOption o (object_at cache.old (record { kind = objects.Blob; id = id }) ≡ None) (λ b. (content : List ℕ) × ((W.honest → W.repository.blob id ≡ Some content) × ((length content ≤ most_file) × ((b ≡ made form.entry content) × (length b ≤ most_file)))))) }
+    ensures made { IfOk result
+        (λ o. MatchOption o (object_at cache.old (record { kind = objects.Blob; id = id }) ≡ None)
+        (λ b. (content : List ℕ)
+        × ((W.honest → W.repository.blob id ≡ Some content)
+        × ((length content ≤ most_file) × ((b ≡ made form.entry content) × (length b ≤ most_file)))))) }
 {
     cache_laws();
     let kind = ObjKind::Blob;

@@ -29,7 +29,9 @@ pub(crate) fn is_empty<A: Allocator + Clone, W: World, F: Files<W>>(
     path: &Path,
 ) -> bool
     requires { IsLoadedAt path.now inodes.now.root }
-    ensures entries { W.honest → MatchBool result (HasNoEntries (shows W.World F.Files inodes.now) path.now) (HasEntries (shows W.World F.Files inodes.now) path.now) }
+    ensures entries { W.honest
+        → MatchBool result (HasNoEntries (shows W.World F.Files inodes.now) path.now)
+        (HasEntries (shows W.World F.Files inodes.now) path.now) }
     ensures here { W.honest → reach (shows W.World F.Files inodes.now) path.now ≡ Here (Dir true) }
 {
     shown_laws();

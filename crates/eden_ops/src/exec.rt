@@ -34,7 +34,8 @@ pub fn set_exec<A: Allocator + Clone, W: World, F: Files<W>, C: Allocator + Clon
     exec: bool,
 ) -> Attempt
     requires { IsStocked W.repository W.honest cache.old }
-    ensures attempts { Attempts W.World F.Files (ask.SetExec path.now exec) inodes.old inodes.new cache.old cache.new result }
+    ensures attempts { Attempts W.World F.Files
+        (ask.SetExec path.now exec) inodes.old inodes.new cache.old cache.new result }
     ensures leaves { LeavesAfter W.World F.Files (ask.SetExec path.now exec) inodes.old inodes.new result }
 {
     match meet_file(inodes, cache, alloc, path) {

@@ -26,8 +26,11 @@ pub(crate) fn meet_file<A: Allocator + Clone, W: World, F: Files<W>, C: Allocato
 ) -> Result<Seen, Stop>
     requires { IsStocked W.repository W.honest cache.old }
     ensures file { IfOk result (IsFileSeen path.now inodes.new.root) }
-    ensures shown { W.honest → OnOk result (IsShown W.repository (F.stored inodes.new.files) (row_at path.now inodes.new.root) (reach (shows W.World F.Files inodes.old) path.now)) }
-    ensures ends { (q : request.Request) → IsForFile path.now q → IfErr result (λ z. Attempts W.World F.Files q inodes.old inodes.new cache.old cache.new (stopped z)) }
+    ensures shown { W.honest
+        → OnOk result (IsShown W.repository (F.stored inodes.new.files) (row_at path.now inodes.new.root)
+        (reach (shows W.World F.Files inodes.old) path.now)) }
+    ensures ends { (q : request.Request) → IsForFile path.now q
+        → IfErr result (λ z. Attempts W.World F.Files q inodes.old inodes.new cache.old cache.new (stopped z)) }
     ensures same { W.honest → shows W.World F.Files inodes.new ≡ shows W.World F.Files inodes.old }
     ensures keeps { Keeps W.World F.Files inodes.old inodes.new }
     ensures cache { FindsTheSame cache.old cache.new }

@@ -26,7 +26,9 @@ pub(crate) fn fill<A: Allocator + Clone, W: World, F: Files<W>>(
 ) -> Result<(), Fault>
     requires there { (y : Row) × IsFileAt path.now inodes.old.root y }
     requires short { length content.now ≤ most_file }
-    ensures shown { W.honest → (y : Row) → IsFileAt path.now inodes.old.root y → OnOk result (shows W.World F.Files inodes.new ≡ put (shows W.World F.Files inodes.old) path.now (Some (node_from y.kind (Some content.now) false))) }
+    ensures shown { W.honest → (y : Row) → IsFileAt path.now inodes.old.root y
+        → OnOk result (shows W.World F.Files inodes.new ≡ put (shows W.World F.Files inodes.old) path.now
+        (Some (node_from y.kind (Some content.now) false))) }
     ensures unseen { W.honest → OnErr result (shows W.World F.Files inodes.new ≡ shows W.World F.Files inodes.old) }
     ensures fault { IfErr result (IsStoreFault (F.failures inodes.old.files) (F.failures inodes.new.files)) }
     ensures leaves { Leaves F.Files inodes.old inodes.new }

@@ -22,7 +22,8 @@ pub fn readlink<A: Allocator + Clone, W: World, F: Files<W>, C: Allocator + Clon
     path: &Path,
 ) -> Attempt
     requires { IsStocked W.repository W.honest cache.old }
-    ensures attempts { Attempts W.World F.Files (ask.ReadLink path.now) inodes.old inodes.new cache.old cache.new result }
+    ensures attempts { Attempts W.World F.Files
+        (ask.ReadLink path.now) inodes.old inodes.new cache.old cache.new result }
     ensures keeps { Keeps W.World F.Files inodes.old inodes.new }
 {
     let seen = match meet(inodes, cache, alloc, path) {

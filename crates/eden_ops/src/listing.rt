@@ -57,7 +57,8 @@ pub fn list<A: Allocator + Clone, W: World, F: Files<W>, C: Allocator + Clone>(
     limit: u64,
 ) -> Attempt
     requires { IsStocked W.repository W.honest cache.old }
-    ensures attempts { Attempts W.World F.Files (ask.List path.now after.now limit) inodes.old inodes.new cache.old cache.new result }
+    ensures attempts { Attempts W.World F.Files
+        (ask.List path.now after.now limit) inodes.old inodes.new cache.old cache.new result }
     ensures keeps { Keeps W.World F.Files inodes.old inodes.new }
 {
     if limit == 0 || limit > MAX_ENTRIES {

@@ -23,7 +23,8 @@ pub fn read<A: Allocator + Clone, W: World, F: Files<W>, C: Allocator + Clone>(
     count: u64,
 ) -> Attempt
     requires { IsStocked W.repository W.honest cache.old }
-    ensures attempts { Attempts W.World F.Files (ask.Read path.now offset count) inodes.old inodes.new cache.old cache.new result }
+    ensures attempts { Attempts W.World F.Files
+        (ask.Read path.now offset count) inodes.old inodes.new cache.old cache.new result }
     ensures keeps { Keeps W.World F.Files inodes.old inodes.new }
 {
     if count > MAX_DATA {

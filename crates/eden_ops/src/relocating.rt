@@ -59,7 +59,8 @@ pub(crate) fn relocate<A: Allocator + Clone, W: World, F: Files<W>>(
     to: &Path,
 ) -> Result<(), Fault>
     requires may { CanRelocate inodes.old.root from.now to.now }
-    ensures ok { W.honest → OnOk result (shows W.World F.Files inodes.new ≡ move (shows W.World F.Files inodes.old) from.now to.now) }
+    ensures ok { W.honest
+        → OnOk result (shows W.World F.Files inodes.new ≡ move (shows W.World F.Files inodes.old) from.now to.now) }
     ensures err { W.honest → OnErr result (shows W.World F.Files inodes.new ≡ shows W.World F.Files inodes.old) }
     ensures fault { IfErr result (IsStoreFault (F.failures inodes.old.files) (F.failures inodes.new.files)) }
     ensures counted { F.failures inodes.old.files ≤ F.failures inodes.new.files }

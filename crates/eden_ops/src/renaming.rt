@@ -77,7 +77,8 @@ pub fn rename<A: Allocator + Clone, W: World, F: Files<W>, C: Allocator + Clone>
     to: &Path,
 ) -> Attempt
     requires { IsStocked W.repository W.honest cache.old }
-    ensures attempts { Attempts W.World F.Files (ask.Rename from.now to.now) inodes.old inodes.new cache.old cache.new result }
+    ensures attempts { Attempts W.World F.Files
+        (ask.Rename from.now to.now) inodes.old inodes.new cache.old cache.new result }
     ensures leaves { LeavesAfter W.World F.Files (ask.Rename from.now to.now) inodes.old inodes.new result }
 {
     if from.is_root() || to.is_root() {

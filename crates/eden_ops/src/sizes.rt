@@ -24,7 +24,8 @@ use std::alloc::{Allocator, Global};
 fn blob_size<W: World, C: Allocator + Clone>(cache: &mut ObjectCache<C>, id: Id) -> Option<u64>
     requires { IsStocked W.repository W.honest cache.old }
     ensures finds { FindsTheSame cache.old cache.new }
-    ensures size { MatchOption result (object_at cache.old (record { kind = objects.Blob; id = id }) ≡ None) (λ n. W.honest → IsSize W.repository id n) }
+    ensures size { MatchOption result (object_at cache.old (record { kind = objects.Blob; id = id }) ≡ None)
+        (λ n. W.honest → IsSize W.repository id n) }
 {
     cache_laws();
     let kind = ObjKind::Blob;

@@ -24,7 +24,8 @@ pub fn truncate<A: Allocator + Clone, W: World, F: Files<W>, C: Allocator + Clon
     size: u64,
 ) -> Attempt
     requires { IsStocked W.repository W.honest cache.old }
-    ensures attempts { Attempts W.World F.Files (ask.Truncate path.now size) inodes.old inodes.new cache.old cache.new result }
+    ensures attempts { Attempts W.World F.Files
+        (ask.Truncate path.now size) inodes.old inodes.new cache.old cache.new result }
     ensures leaves { LeavesAfter W.World F.Files (ask.Truncate path.now size) inodes.old inodes.new result }
 {
     let seen = match meet_file(inodes, cache, alloc, path) {
@@ -62,7 +63,8 @@ pub fn write<A: Allocator + Clone, W: World, F: Files<W>, C: Allocator + Clone>(
     bytes: &[u8],
 ) -> Attempt
     requires { IsStocked W.repository W.honest cache.old }
-    ensures attempts { Attempts W.World F.Files (ask.Write path.now offset bytes.now) inodes.old inodes.new cache.old cache.new result }
+    ensures attempts { Attempts W.World F.Files
+        (ask.Write path.now offset bytes.now) inodes.old inodes.new cache.old cache.new result }
     ensures leaves { LeavesAfter W.World F.Files (ask.Write path.now offset bytes.now) inodes.old inodes.new result }
 {
     let count = bytes.len() as u64;

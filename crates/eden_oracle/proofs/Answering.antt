@@ -36,7 +36,8 @@ at_node (Err x) F p n H q e h = h
 pub past_test : (P : Reply → Type 0) (F : Tree) (next : Reply → Tree) (o : Answer) (b : Bool) (e : Errno) → b ≡ false → Gives P F next o → Gives (Unless b e P) F next o
 past_test P F next o b e is g = subst (λ (x : Bool). Gives (Unless x e P) F next o) (sym is) g
 
-pub past_test_ok : {E : Type 0} (res : Result Answer E) (P : Reply → Type 0) (F : Tree) (next : Reply → Tree) (b : Bool) (e : Errno) → b ≡ false → IfOk res (Gives P F next) → IfOk res (Gives (Unless b e P) F next)
+pub past_test_ok : {E : Type 0} (res : Result Answer E) (P : Reply → Type 0) (F : Tree) (next : Reply → Tree) (b : Bool) (e : Errno) → b ≡ false → IfOk res (Gives P F next)
+    → IfOk res (Gives (Unless b e P) F next)
 past_test_ok (Ok o) P F next b e is g = past_test P F next o b e is g
 past_test_ok (Err x) P F next b e is g = g
 
@@ -45,7 +46,8 @@ past_test_ok (Err x) P F next b e is g = g
 pub refused_gives : (P : Reply → Type 0) (F : Tree) (q : Request) (e : Errno) (o : Answer) → o ≡ Some (say.Err e, change.Keep) → P (say.Err e) → Gives P F (after F q) o
 refused_gives P F q e o is p = subst (Gives P F (after F q)) (sym is) (p, refl)
 
-pub gives_by : (P : Reply → Type 0) (F : Tree) (next : Reply → Tree) (o : Answer) (r : Option Reply) → option_map (λ a. a.0) o ≡ r → IfSome o (λ a. changed F a.1 ≡ next a.0) → Tells P r → Gives P F next o
+pub gives_by : (P : Reply → Type 0) (F : Tree) (next : Reply → Tree) (o : Answer) (r : Option Reply) → option_map (λ a. a.0) o ≡ r → IfSome o (λ a. changed F a.1 ≡ next a.0) → Tells P r
+    → Gives P F next o
 gives_by P F next None r e c t = subst (Tells P) (sym e) t
 gives_by P F next (Some a) r e c t = (subst (Tells P) (sym e) t, c)
 
@@ -63,7 +65,8 @@ same_content offset None = refl
 same_content offset (Some b) = refl
 
 nothing_written : (F : Tree) (p : Path) (offset : ℕ) (x : Bool) (c : Option (List ℕ)) → F p ≡ Some (File x c) → F ≡ edit F p (with_content (option_map (written offset [])))
-nothing_written F p offset x c at = same_put F p _ (at ∙ ap (λ (d : Option (List ℕ)). Some (File x d)) (same_content offset c) ∙ sym (ap (option_map (with_content (option_map (written offset [])))) at))
+nothing_written F p offset x c at = same_put F p _
+    (at ∙ ap (λ (d : Option (List ℕ)). Some (File x d)) (same_content offset c) ∙ sym (ap (option_map (with_content (option_map (written offset [])))) at))
 
 pub empty_write : (offset : ℕ) (bytes : List ℕ) (n : Node) (p : Path) (x : Bool) (c : Option (List ℕ)) → n ≡ File x c → bytes ≡ [] → (F : Tree) → F p ≡ Some n
     → Writes offset bytes n (say.Count 0) × (F ≡ edit F p (with_content (option_map (written offset bytes))))
@@ -108,6 +111,7 @@ module _ (F : Tree) (from to : Path) (n : Node) (d : Bool) (dir : d ≡ is_dir n
       ap (λ (x : Bool). Meets (reach F to) (Says say.Ok) (Replaces F to x)) dir
       ∙ ap (λ (x : Bool). Unless x ENOTEMPTY last) (sym e) ∙ past_two
 
-pub met_tells : (F : Tree) (to : Path) (n : Node) (d b : Bool) (o : Option Reply) → reach F to ≡ Here n → d ≡ b → Tells (Replaces F to b n) o → Tells (Meets (reach F to) (Says say.Ok) (Replaces F to d)) o
+pub met_tells : (F : Tree) (to : Path) (n : Node) (d b : Bool) (o : Option Reply) → reach F to ≡ Here n → d ≡ b → Tells (Replaces F to b n) o
+    → Tells (Meets (reach F to) (Says say.Ok) (Replaces F to d)) o
 met_tells F to n d b o e dir h =
     subst (λ (x : Reach). Tells (Meets x (Says say.Ok) (Replaces F to d)) o) (sym e) (subst (λ (x : Bool). Tells (Replaces F to x n) o) (sym dir) h)

@@ -62,7 +62,8 @@ pub not_child : (d q : Path) (n : Name) (o : Option Kind) (k : Kind) → None �
 not_child d q n o k e = unseen o (path_eq (d ++ n ∷ []) q) k (child_test d q n ∙ ap (is_named n) (sym e))
 
 -- a row that is a child
-pub a_child : (d q : Path) (n m : Name) (o new : Option Kind) (j k : Kind) → Some m ≡ only_name (behind_of d q) → j ≡ k → new ≡ option_or o (if bytes_eq n m then Some j else None) → new ≡ option_or o (if path_eq (d ++ n ∷ []) q then Some k else None)
+pub a_child : (d q : Path) (n m : Name) (o new : Option Kind) (j k : Kind) → Some m ≡ only_name (behind_of d q) → j ≡ k → new ≡ option_or o (if bytes_eq n m then Some j else None)
+    → new ≡ option_or o (if path_eq (d ++ n ∷ []) q then Some k else None)
 a_child d q n m o new j k e same is =
     is ∙ ap (λ (x : Kind). option_or o (cond (bytes_eq n m) (Some x) None)) same
     ∙ ap (λ (b : Bool). option_or o (cond b (Some k) None)) (sym (child_test d q n ∙ ap (is_named n) (sym e)))
@@ -94,7 +95,8 @@ no_child_more rows d i row lt at none h n =
     ∙ ap (λ (b : Bool). option_or (lookup (path_eq (d ++ n ∷ [])) (take i rows)) (cond b (Some row.1) None)) (child_test d row.0 n ∙ ap (is_named n) none)
     ∙ ap (λ (o : Option Node). option_or o None) (h n)
 
-seen_by : (test : Path → Bool) (rows : List (Path × Node)) (i : ℕ) (row : Path × Node) (o : Option Node) → i < length rows → row ≡ get_or rows i row → test row.0 ≡ true → lookup test rows ≡ o → IsSome o
+seen_by : (test : Path → Bool) (rows : List (Path × Node)) (i : ℕ) (row : Path × Node) (o : Option Node) → i < length rows → row ≡ get_or rows i row → test row.0 ≡ true → lookup test rows ≡ o
+    → IsSome o
 seen_by test rows i row None lt at passes e =
     let not : test (get_or rows i row).0 ≡ false = All-get_or (λ (r : Path × Node). test r.0 ≡ false) rows i row lt (All-from_recursion _ rows (none_passes_from_lookup test rows e)) in
     let x : true ≡ false = sym passes ∙ ap (λ (r : Path × Node). test r.0) at ∙ not in

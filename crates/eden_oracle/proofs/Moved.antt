@@ -93,7 +93,8 @@ absent_front front p e = ap is_some e
 pub found_front : (front p rest : Path) → behind_of front p ≡ Some rest → is_front front p ≡ true
 found_front front p rest e = ap is_some e
 
-pub kept_row : (all rows : Rows) (from to p : Path) (v : Node) → behind_of from p ≡ None → behind_of to p ≡ None → ShowMoved all rows from to → ShowMoved (all ++ (p, v) ∷ []) (rows ++ (p, v) ∷ []) from to
+pub kept_row : (all rows : Rows) (from to p : Path) (v : Node) → behind_of from p ≡ None → behind_of to p ≡ None → ShowMoved all rows from to
+    → ShowMoved (all ++ (p, v) ∷ []) (rows ++ (p, v) ∷ []) from to
 kept_row all rows from to p v no_from no_to h q =
     pushed all p v q ∙ ap (λ (o : Option Node). option_or o (one p v q)) (h q)
     ∙ sym (more_kept (tree_of rows) (tree_of (rows ++ (p, v) ∷ [])) from to p v (pushed rows p v) (absent_front from p no_from) (absent_front to p no_to) q)

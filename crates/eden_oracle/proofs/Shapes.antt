@@ -56,7 +56,8 @@ pub distinct_step : (rows : Rows) (k : ℕ) (row : Path × Node) (p : Path) (fou
     → (IsDistinct path_eq (keys_of (drop k rows)) ↔ IsDistinct path_eq (keys_of rows)) → IsDistinct path_eq (keys_of (drop (k + 1) rows)) ↔ IsDistinct path_eq (keys_of rows)
 distinct_step rows k row p found lt at e absent h =
     let here : drop k rows ≡ get_or rows k row ∷ drop (k + 1) rows = drop_more rows k row lt in
-    let none : lookup (path_eq (get_or rows k row).0) (drop (k + 1) rows) ≡ None = ap (λ (q : Path). lookup (path_eq q) (drop (k + 1) rows)) (sym at) ∙ ap (lookup (path_eq p)) (sym (slice_to_end rows (k + 1))) ∙ sym e ∙ absent_copied found absent in
+    let none : lookup (path_eq (get_or rows k row).0) (drop (k + 1) rows) ≡ None = ap (λ (q : Path). lookup (path_eq q) (drop (k + 1) rows)) (sym at) ∙ ap (lookup (path_eq p))
+    (sym (slice_to_end rows (k + 1))) ∙ sym e ∙ absent_copied found absent in
     let one = rest_distinct (get_or rows k row) (drop (k + 1) rows) none in (
       λ d. h.0 (subst (λ (xs : Rows). IsDistinct path_eq (keys_of xs)) (sym here) (one.0 d)),
       λ d. one.1 (subst (λ (xs : Rows). IsDistinct path_eq (keys_of xs)) here (h.1 d)),
@@ -69,7 +70,8 @@ pub comes_twice : (rows : Rows) (k : ℕ) (row : Path × Node) (p : Path) (found
 comes_twice rows k row p None lt at e there h d = cc
 comes_twice rows k row p (Some node) lt at e there h d =
     let here : drop k rows ≡ get_or rows k row ∷ drop (k + 1) rows = drop_more rows k row lt in
-    let none = not_found (get_or rows k row).0 (drop (k + 1) rows) (IsDistinct-head path_eq (get_or rows k row).0 (keys_of (drop (k + 1) rows)) (subst (λ (xs : Rows). IsDistinct path_eq (keys_of xs)) here (h.1 d))) in
+    let none = not_found (get_or rows k row).0 (drop (k + 1) rows)
+    (IsDistinct-head path_eq (get_or rows k row).0 (keys_of (drop (k + 1) rows)) (subst (λ (xs : Rows). IsDistinct path_eq (keys_of xs)) here (h.1 d))) in
     let wrong : Some node.now ≡ None = e ∙ ap (lookup (path_eq p)) (slice_to_end rows (k + 1)) ∙ ap (λ (q : Path). lookup (path_eq q) (drop (k + 1) rows)) at ∙ none in
     cc
 
@@ -89,7 +91,8 @@ pub row_has_parent : (F : Tree) (rows : Rows) (k : ℕ) (row : Path × Node) (p 
 row_has_parent F rows k row p lt is at all =
     subst (HasParent F) (sym at) (subst (λ (r : Path × Node). HasParent F r.0) (sym is) (All-get_or (λ (r : Path × Node). HasParent F r.0) rows k row lt all))
 
-pub one_more_parent : (F : Tree) (rows : Rows) (k : ℕ) (row : Path × Node) (p : Path) → k < length rows → row ≡ get_or rows k row → p ≡ row.0 → HaveParents F (take k rows) → HasParent F p → HaveParents F (take (k + 1) rows)
+pub one_more_parent : (F : Tree) (rows : Rows) (k : ℕ) (row : Path × Node) (p : Path) → k < length rows → row ≡ get_or rows k row → p ≡ row.0 → HaveParents F (take k rows) → HasParent F p
+    → HaveParents F (take (k + 1) rows)
 one_more_parent F rows k row p lt is at all here =
     All-more (λ (r : Path × Node). HasParent F r.0) rows k row lt all (subst (λ (r : Path × Node). HasParent F r.0) is (subst (HasParent F) at here))
 

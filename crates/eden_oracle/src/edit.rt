@@ -63,7 +63,8 @@ fn write_node<'a>(
     bytes: &[u8],
 ) -> Result<Answer<'a>, AllocError>
     requires { length bytes.now ≤ most_data }
-    ensures { IfOk result (AnswersHere path.now node.now (Writes offset bytes.now) (ask.Write path.now offset bytes.now)) }
+    ensures { IfOk result
+        (AnswersHere path.now node.now (Writes offset bytes.now) (ask.Write path.now offset bytes.now)) }
 {
     match node {
         Node::File(exec, content) => {

@@ -21,7 +21,9 @@ fn note_row(
     row: &Place,
     node: &Node,
 ) -> Result<(), AllocError>
-    ensures { OnOk result ((n : List ℕ) → kind_at all.new n ≡ option_or (kind_at all.old n) (if path_eq (dir.now ++ n ∷ []) row.now then Some (kind_of node.now) else None)) }
+    ensures { OnOk result
+        ((n : List ℕ) → kind_at all.new n ≡ option_or (kind_at all.old n)
+        (if path_eq (dir.now ++ n ∷ []) row.now then Some (kind_of node.now) else None)) }
 {
     match child(dir, row.as_slice()) {
         None => Ok(()),
@@ -34,7 +36,8 @@ fn note_row(
 
 /// All children of a directory.
 fn children(alloc: Global, rows: &[Row], dir: &[Name]) -> Result<Listing, AllocError>
-    ensures { IfOk result (λ all. (n : List ℕ) → kind_at all n ≡ option_map kind_of (tree_of rows.now (dir.now ++ n ∷ []))) }
+    ensures { IfOk result
+        (λ all. (n : List ℕ) → kind_at all n ≡ option_map kind_of (tree_of rows.now (dir.now ++ n ∷ []))) }
 {
     let mut all = Listing::new(alloc);
     for (row, node) in rows {

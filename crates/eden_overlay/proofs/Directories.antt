@@ -78,7 +78,8 @@ module _ (F : Stored) (d : ℕ) (old new : List StoredEntry) (was : HoldsEntries
   }
 
   -- whoever has the number of what was left out is that entry, in that directory
-  unnamed : (e : StoredEntry) → AreSound F → IsLive F d → Contains old e → ¬ Contains new e → (c : ℕ) (f : StoredEntry) → IsLive (with_entries F d new) c → Names (with_entries F d new) c f → f.number ≢ e.number
+  unnamed : (e : StoredEntry) → AreSound F → IsLive F d → Contains old e → ¬ Contains new e → (c : ℕ) (f : StoredEntry) → IsLive (with_entries F d new) c → Names (with_entries F d new) c f
+      → f.number ≢ e.number
   unnamed e s live there gone c f r n is =
       let same = s.once c d f e (was_live c r) live (was_named c f n) (record { entries = old; held = was; there = there }) is in
       let P : StoredEntry → Type 0 = λ x. Contains new x in

@@ -136,7 +136,8 @@ nothing_below F k c f empty here n =
     absurd (omega (arith, within))
 nothing_below F k c f empty (below b e r m leads) n = nothing_below F k b e empty r m
 
-module _ (F : Stored) (d : ℕ) (new : List StoredEntry) (live : IsLive F d) (distinct : (e f : StoredEntry) → Contains new e → Contains new f → e.number ≡ f.number → e ≡ f) (each : (e : StoredEntry) → Contains new e → Names F d e ⊎ IsFresh F d e) (s : AreSound F) where
+module _ (F : Stored) (d : ℕ) (new : List StoredEntry) (live : IsLive F d) (distinct : (e f : StoredEntry) → Contains new e → Contains new f → e.number ≡ f.number → e ≡ f)
+    (each : (e : StoredEntry) → Contains new e → Names F d e ⊎ IsFresh F d e) (s : AreSound F) where
   only_itself : (e : StoredEntry) → IsFresh F d e → (number : ℕ) → Brings F e number → e.number ≡ number
   only_itself e fresh number brings = elim brings [
     | inl is ↦ is

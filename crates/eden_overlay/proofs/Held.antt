@@ -26,13 +26,17 @@ cond-option_map f a false w p o e h = ap (λ c. cond c (option_map f w) o) e ∙
 pub stored_in-files_of : (es : List (ℕ × Vec ℕ Global)) (k : ℕ) → stored_in (files_of es) k ≡ option_map (λ v. v.items) (lookup (is_at (nat_cmp k)) es)
 stored_in-files_of [] k = refl
 stored_in-files_of (e ∷ es) k =
-    cond-option_map (λ (v : Vec ℕ Global). v.items) (k == e.0) (is_at (nat_cmp k) e.0) (Some e.1) (lookup (is_at (nat_cmp k)) es) (stored_in (files_of es) k) (sym (is_at-nat_cmp k e.0)) (stored_in-files_of es k)
+    cond-option_map (λ (v : Vec ℕ Global). v.items) (k == e.0) (is_at (nat_cmp k) e.0) (Some e.1) (lookup (is_at (nat_cmp k)) es) (stored_in (files_of es) k) (sym (is_at-nat_cmp k e.0))
+    (stored_in-files_of es k)
 
 -- a change of the map at a number is a change of what is stored there
-pub stored_in-updates : (m n : BTreeMap ℕ (Vec ℕ Global)) (k : ℕ) (w : Option (Vec ℕ Global)) → Updates nat_cmp m n k w → stored_in (files_of n.entries) ≡ put (stored_in (files_of m.entries)) k (option_map (λ v. v.items) w)
+pub stored_in-updates : (m n : BTreeMap ℕ (Vec ℕ Global)) (k : ℕ) (w : Option (Vec ℕ Global)) → Updates nat_cmp m n k w
+    → stored_in (files_of n.entries) ≡ put (stored_in (files_of m.entries)) k (option_map (λ v. v.items) w)
 stored_in-updates m n k w h =
     let items : Option (Vec ℕ Global) → Option (List ℕ) = λ o. option_map (λ v. v.items) o in
-    fun_ext (λ q. stored_in-files_of n.entries q ∙ ap items (h.0 q) ∙ sym (cond-option_map (λ (v : Vec ℕ Global). v.items) (k == q) (is_at (nat_cmp k) q) w (lookup (is_at (nat_cmp q)) m.entries) (stored_in (files_of m.entries) q) (sym (is_at-nat_cmp k q)) (stored_in-files_of m.entries q)))
+    fun_ext (λ q. stored_in-files_of n.entries q ∙ ap items (h.0 q) ∙ sym
+    (cond-option_map (λ (v : Vec ℕ Global). v.items) (k == q) (is_at (nat_cmp k) q) w (lookup (is_at (nat_cmp q)) m.entries) (stored_in (files_of m.entries) q) (sym (is_at-nat_cmp k q))
+    (stored_in-files_of m.entries q)))
 
 IsSome-option_map : {A B : Type 0} (f : A → B) (o : Option A) → IsSome o → IsSome (option_map f o)
 IsSome-option_map f None h = h
@@ -46,7 +50,8 @@ Decides-eq_by_cmp : (k q : ℕ) → Decides (eq_by_cmp nat_cmp k q) (k ≡ q)
 Decides-eq_by_cmp k q = rw (is_at-nat_cmp k q) (Decides-eqb k q)
 
 -- the map's keys are the numbers of the files
-pub Lists-keys : (m : BTreeMap ℕ (Vec ℕ Global)) → All (ContainsKey nat_cmp m) (keys m) → ((q : ℕ) → is_some (get nat_cmp m q) ≡ is_member (eq_by_cmp nat_cmp) (keys m) q) → Lists (keys m) (stored_in (files_of m.entries))
+pub Lists-keys : (m : BTreeMap ℕ (Vec ℕ Global)) → All (ContainsKey nat_cmp m) (keys m) → ((q : ℕ) → is_some (get nat_cmp m q) ≡ is_member (eq_by_cmp nat_cmp) (keys m) q)
+    → Lists (keys m) (stored_in (files_of m.entries))
 Lists-keys m found has = record {
   there = λ i d within. rw (stored_in-files_of m.entries) (IsSome-option_map _ _ (found i d within));
   all = λ k stored. (is_member-Decides Decides-eq_by_cmp (keys m) k).0 (sym (has k) ∙ option_map-IsSome _ _ (rw (stored_in-files_of m.entries k) at stored));

@@ -26,7 +26,9 @@ itself e = record { kind = refl; origin = refl; number = refl }
 
 -- ---- new names
 
-module _ (F : Stored) (d : ℕ) (old new : List StoredEntry) (was : HoldsEntries F d old) (are : AreStorable new) (distinct : (e f : StoredEntry) → Contains new e → Contains new f → e.number ≡ f.number → e ≡ f) (each : (e : StoredEntry) → Contains new e → (f : StoredEntry) × (Contains old f × IsSameInode e f)) (s : AreSound F) where
+module _ (F : Stored) (d : ℕ) (old new : List StoredEntry) (was : HoldsEntries F d old) (are : AreStorable new)
+    (distinct : (e f : StoredEntry) → Contains new e → Contains new f → e.number ≡ f.number → e ≡ f)
+    (each : (e : StoredEntry) → Contains new e → (f : StoredEntry) × (Contains old f × IsSameInode e f)) (s : AreSound F) where
   -- the inode that c names now was named there before: as itself, or under another name in d
   record Former (c : ℕ) (e : StoredEntry) : Type 0 where
     entry : StoredEntry
@@ -62,7 +64,8 @@ module _ (F : Stored) (d : ℕ) (old new : List StoredEntry) (was : HoldsEntries
     ])
   ]
 
-  once_more : (b c : ℕ) (e f : StoredEntry) → IsLive (with_entries F d new) b → IsLive (with_entries F d new) c → Names (with_entries F d new) b e → Names (with_entries F d new) c f → e.number ≡ f.number → (b ≡ c) × (e ≡ f)
+  once_more : (b c : ℕ) (e f : StoredEntry) → IsLive (with_entries F d new) b → IsLive (with_entries F d new) c → Names (with_entries F d new) b e → Names (with_entries F d new) c f
+      → e.number ≡ f.number → (b ≡ c) × (e ≡ f)
   once_more b c e f r t n m is =
       let g = former b e n in
       let h = former c f m in
@@ -87,7 +90,8 @@ renamed_stay F d old new m s = renamed F d old new m.held m.are m.distinct m.eac
 
 -- ---- another directory
 
-module _ (F : Stored) (a b : ℕ) (old kept new : List StoredEntry) (left moved : StoredEntry) (was : HoldsEntries F a old) (are : AreStorable kept) (fewer : (e : StoredEntry) → Contains kept e → Contains old e) (live : IsLive F a) (there : Contains old left) (gone : ¬ Contains kept left) (same : IsSameInode moved left) (s : AreSound F) where
+module _ (F : Stored) (a b : ℕ) (old kept new : List StoredEntry) (left moved : StoredEntry) (was : HoldsEntries F a old) (are : AreStorable kept)
+    (fewer : (e : StoredEntry) → Contains kept e → Contains old e) (live : IsLive F a) (there : Contains old left) (gone : ¬ Contains kept left) (same : IsSameInode moved left) (s : AreSound F) where
   names_left : Names F a left
   names_left = record { entries = old; held = was; there = there }
 
@@ -148,7 +152,8 @@ module _ (F : Stored) (a b : ℕ) (old kept new : List StoredEntry) (left moved 
       | inr is ↦ sym is
       | inl n ↦ (elim both [
         | inl own ↦ absurd (unbrought number b f brings to n own)
-        | inr under ↦ absurd (unbrought number under.1.directory under.1.entry brings (joined (with_entries F a kept) 1 f.number under.1.directory (below b f to n under.0) under.1.reached) under.1.named under.1.is)
+        | inr under ↦ absurd (unbrought number under.1.directory under.1.entry brings
+            (joined (with_entries F a kept) 1 f.number under.1.directory (below b f to n under.0) under.1.reached) under.1.named under.1.is)
       ])
     ]
 

@@ -41,7 +41,8 @@ pub record Below (F : Stored) (p : Place) (new : List Place) : Type 0 where
 
 -- ---- one place more
 
-module _ (F : Stored) (visited rest new : List Place) (p : Place) (before after : ℕ → Bool) (pass : Pass F visited (p ∷ rest) before) (first : before p.entry.number ≡ false) (more : OneMore p.entry.number before after) (there : HasOwn F p.entry) (lower : Below F p new) where
+module _ (F : Stored) (visited rest new : List Place) (p : Place) (before after : ℕ → Bool) (pass : Pass F visited (p ∷ rest) before) (first : before p.entry.number ≡ false)
+    (more : OneMore p.entry.number before after) (there : HasOwn F p.entry) (lower : Below F p new) where
   was : (q : ℕ) → before q ≡ true → after q ≡ true
   was q h = more q ∙ ap (cond (p.entry.number == q) true) h ∙ elim (p.entry.number == q) as (λ b. cond b true true ≡ true) [ true ↦ refl | false ↦ refl ]
 

@@ -2,17 +2,22 @@
 
 use crate::files::FilesFault;
 use eden_overlay_format::{DecodeFault, Refusal};
+use thiserror::Error;
 
 /// Why a stored file gave no value.
-#[derive(Clone, Copy, Debug, PartialEq, Eq)]
+#[derive(Clone, Copy, Debug, PartialEq, Eq, Error)]
 pub enum GetFault {
     /// No file of that number is stored.
+    #[error("no file of that number is stored")]
     Absent,
     /// A file of that number is stored, and its bytes are no such value.
+    #[error("the file is damaged: {0}")]
     Damaged(Refusal),
     /// The device failed.
+    #[error("the device failed")]
     Device,
     /// No memory.
+    #[error("out of memory")]
     Memory,
 }
 

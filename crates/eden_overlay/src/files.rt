@@ -5,13 +5,16 @@ ghost use Rattle.eden_overlay.specs.declared.files.FilesFault.TheVariants as fau
 
 use eden_model::World;
 use std::alloc::{AllocError, AllocFailed, Global};
+use thiserror::Error;
 
 /// Why stored files could not be read or changed. Nothing has changed then.
-#[derive(Clone, Copy, Debug, PartialEq, Eq)]
+#[derive(Clone, Copy, Debug, PartialEq, Eq, Error)]
 pub enum FilesFault {
     /// The device failed.
+    #[error("the device failed")]
     Device,
     /// No memory.
+    #[error("out of memory")]
     Memory,
 }
 

@@ -155,7 +155,8 @@ impl<W: World, F: Files<W>, G: Gate> Files<W> for GatedFiles<F, G> {
     }
 
     fn replace(&mut self, alloc: Global, number: u64, bytes: &[u8]) -> Result<(), FilesFault>
-        ensures ok { W.honest → OnOk result (F.stored self.new.files ≡ put (F.stored self.old.files) number (Some bytes.now)) }
+        ensures ok { W.honest
+            → OnOk result (F.stored self.new.files ≡ put (F.stored self.old.files) number (Some bytes.now)) }
         ensures err { W.honest → OnErr result (F.stored self.new.files ≡ F.stored self.old.files) }
         ensures counted { Counted (result ≡ Err fault.Device) self.old.failures self.new.failures }
         ensures calls { Calls G.passed self.old result self.new }

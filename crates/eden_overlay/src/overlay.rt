@@ -155,7 +155,8 @@ impl<W: World, F: Files<W>> Overlay<W, F> {
     /// The entries of the directory of that number, or why there are none.
     pub fn get_dir(&mut self, alloc: Global, number: u64) -> Result<Vec<StoredEntry>, GetFault>
         ensures found { W.honest → IfOk result (λ v. HoldsEntries (F.stored self.old) number v.items) }
-        ensures refused { W.honest → IfErr result (Explains identifier.Directory entries_in (F.stored self.old number)) }
+        ensures refused { W.honest
+            → IfErr result (Explains identifier.Directory entries_in (F.stored self.old number)) }
         ensures unchanged { W.honest → F.stored self.new ≡ F.stored self.old }
         ensures storable { IfOk result (λ v. AreStorable v.items) }
         ensures counted { Counted (result ≡ Err get.Device) (F.failures self.old) (F.failures self.new) }

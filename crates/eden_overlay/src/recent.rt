@@ -30,7 +30,8 @@ impl Recent {
 
     /// Takes the content of that file out, if it is the one; another file's is dropped.
     pub(crate) fn take(&mut self, number: u64) -> Option<Content>
-        ensures found { IfSome result (λ content. self.old.kept ≡ Some (record { number = number; content = content })) }
+        ensures found { IfSome result
+            (λ content. self.old.kept ≡ Some (record { number = number; content = content })) }
         ensures missed { IfNone result (IfSome self.old.kept (λ k. k.number ≢ number)) }
         ensures empty { self.new ≡ record self.old { kept = None } }
     {
@@ -42,7 +43,8 @@ impl Recent {
 
     /// Keeps the content of that file, if it isn't too long; what was kept before is dropped.
     pub(crate) fn keep(&mut self, number: u64, content: Content)
-        ensures kept { length content ≤ self.old.most → self.new ≡ record self.old { kept = Some (record { number = number; content = content }) } }
+        ensures kept { length content ≤ self.old.most
+            → self.new ≡ record self.old { kept = Some (record { number = number; content = content }) } }
         ensures too_long { self.old.most < length content → self.new ≡ record self.old { kept = None } }
     {
         self.kept = if content.as_slice().len() as u64 <= self.most {

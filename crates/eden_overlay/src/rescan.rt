@@ -16,6 +16,7 @@ use eden_model::{Kind, Origin, World};
 use eden_overlay_format::{Refusal, StoredEntry};
 use std::alloc::{AllocError, AllocFailed, Global};
 use std::collections::BTreeSet;
+use thiserror::Error;
 
 /// The number of the root's file.
 const ROOT_NUMBER: u64 = 1;
@@ -24,18 +25,23 @@ const ROOT_NUMBER: u64 = 1;
 const LEAST_NUMBER: u64 = 2;
 
 /// Why a pass over the live directories gave no next number: the first that it met. No file has changed then.
-#[derive(Clone, Copy, Debug, PartialEq, Eq)]
+#[derive(Clone, Copy, Debug, PartialEq, Eq, Error)]
 pub enum RescanFault {
     /// A live directory names the file of that number as an entry's own, and it isn't stored.
+    #[error("file {0} is named, and is missing")]
     Dangling(u64),
     /// Live directories name that number twice.
+    #[error("number {0} is named twice")]
     Twice(u64),
     /// The file of that number is stored, and isn't what its entry says, a directory or a content; or it is file 1,
     /// and no directory.
+    #[error("file {0} is damaged: {1}")]
     Damaged(u64, Refusal),
     /// The device failed.
+    #[error("the device failed")]
     Device,
     /// No memory.
+    #[error("out of memory")]
     Memory,
 }
 
@@ -118,7 +124,8 @@ impl<W: World, F: Files<W>> Overlay<W, F> {
         ensures sound { W.honest → OnOk result (AreSound (F.stored self.old)) }
         ensures next { W.honest → IfOk result (IsNextOf (F.stored self.old)) }
         ensures range { IfOk result (λ n. (number_least ≤ n) × (n ≤ number_end)) }
-        ensures refused { IfErr result (IsRescanFault W.honest (F.stored self.old) (F.failures self.old) (F.failures self.new)) }
+        ensures refused { IfErr result
+            (IsRescanFault W.honest (F.stored self.old) (F.failures self.old) (F.failures self.new)) }
         ensures unchanged { W.honest → F.stored self.new ≡ F.stored self.old }
         ensures counted { F.failures self.old ≤ F.failures self.new }
     {
@@ -147,7 +154,8 @@ impl<W: World, F: Files<W>> Overlay<W, F> {
         requires begun { W.honest → Walked (F.stored self.old) pending.items (λ _. false) }
         ensures all { W.honest → IfOk result (λ met. Walked (F.stored self.old) [] (contains nat_cmp met)) }
         ensures range { IfOk result (λ met. (k : ℕ) → IsTrue (contains nat_cmp met k) → InRange k) }
-        ensures refused { IfErr result (IsRescanFault W.honest (F.stored self.old) (F.failures self.old) (F.failures self.new)) }
+        ensures refused { IfErr result
+            (IsRescanFault W.honest (F.stored self.old) (F.failures self.old) (F.failures self.new)) }
         ensures unchanged { W.honest → F.stored self.new ≡ F.stored self.old }
         ensures counted { F.failures self.old ≤ F.failures self.new }
     {
@@ -169,13 +177,16 @@ impl<W: World, F: Files<W>> Overlay<W, F> {
         requires range { InRange entry.number }
         requires ranges { AreInRange pending.old.items }
         requires met { (k : ℕ) → IsTrue (contains nat_cmp met.old k) → InRange k }
-        requires walked { W.honest → Walked (F.stored self.old) (pending.old.items ++ entry ∷ []) (contains nat_cmp met.old) }
-        ensures walked { W.honest → OnOk result (Walked (F.stored self.old) pending.new.items (contains nat_cmp met.new)) }
+        requires walked { W.honest
+            → Walked (F.stored self.old) (pending.old.items ++ entry ∷ []) (contains nat_cmp met.old) }
+        ensures walked { W.honest
+            → OnOk result (Walked (F.stored self.old) pending.new.items (contains nat_cmp met.new)) }
         ensures ranges { OnOk result (AreInRange pending.new.items) }
         ensures met { OnOk result ((k : ℕ) → IsTrue (contains nat_cmp met.new k) → InRange k) }
         ensures more { OnOk result (btree_set_len met.new ≡ btree_set_len met.old + 1) }
         ensures few { OnOk result (btree_set_len met.new ≤ number_end) }
-        ensures refused { IfErr result (IsRescanFault W.honest (F.stored self.old) (F.failures self.old) (F.failures self.new)) }
+        ensures refused { IfErr result
+            (IsRescanFault W.honest (F.stored self.old) (F.failures self.old) (F.failures self.new)) }
         ensures unchanged { W.honest → F.stored self.new ≡ F.stored self.old }
         ensures counted { F.failures self.old ≤ F.failures self.new }
     {
@@ -194,7 +205,8 @@ impl<W: World, F: Files<W>> Overlay<W, F> {
         requires owned { W.honest → IsOwned (F.stored self.old) number kind }
         ensures held { W.honest → IfOk result (λ v. HoldsBelow (F.stored self.old) number kind v.items) }
         ensures ranges { IfOk result (λ v. AreInRange v.items) }
-        ensures refused { IfErr result (IsRescanFault W.honest (F.stored self.old) (F.failures self.old) (F.failures self.new)) }
+        ensures refused { IfErr result
+            (IsRescanFault W.honest (F.stored self.old) (F.failures self.old) (F.failures self.new)) }
         ensures unchanged { W.honest → F.stored self.new ≡ F.stored self.old }
         ensures counted { F.failures self.old ≤ F.failures self.new }
     {

@@ -95,7 +95,8 @@ pub numbers64 : Agrees (number_at w64) (to_be_bytes w64) (λ n. n < 2 ^ 64)
 numbers64 = numbers w64 (2 ^ 64) limit64
 
 -- the digits that stand there tell a number, where they are bytes
-pub digits_told : (w : Width) (bytes digits rest : List ℕ) → bytes_at (byte_len w) bytes ≡ Some (digits, rest) → to_be_bytes w (from_be_bytes w digits) ≡ digits → number_at w bytes ≡ Some (from_be_bytes w digits, rest)
+pub digits_told : (w : Width) (bytes digits rest : List ℕ) → bytes_at (byte_len w) bytes ≡ Some (digits, rest) → to_be_bytes w (from_be_bytes w digits) ≡ digits
+    → number_at w bytes ≡ Some (from_be_bytes w digits, rest)
 unfolding number_at
 digits_told w bytes digits rest e same =
     let passes : bytes_eq (to_be_bytes w (from_be_bytes w digits)) digits ≡ true = (bytes_eq-Decides _ _).1 same in

@@ -22,7 +22,8 @@ written_found identifier.Directory body =
     rw long refl
 
 -- a file that has a body passed the test of its identifier
-passed : (short named known : Bool) (text body : List ℕ) → cond (is_none (cond short (Some Short) (cond named (cond known None (Some BadVersion)) (Some BadIdentifier)))) (Some text) None ≡ Some body → (short ≡ false) × (named ≡ true)
+passed : (short named known : Bool) (text body : List ℕ) → cond (is_none (cond short (Some Short) (cond named (cond known None (Some BadVersion)) (Some BadIdentifier)))) (Some text) None ≡ Some body
+    → (short ≡ false) × (named ≡ true)
 passed true named known text body e = absurd cc
 passed false true known text body e = (refl, refl)
 passed false false known text body e = absurd cc

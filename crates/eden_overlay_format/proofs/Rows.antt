@@ -34,7 +34,8 @@ kind_byte k = kind_code k ∷ []
 kind_only : (bytes : List ℕ) (x : Kind × List ℕ) → kind_at bytes ≡ Some x → IsRead kind_byte (λ k. Unit {0}) bytes x
 unfolding kind_at
 kind_only [] x e = absurd cc
-kind_only (b ∷ rest) x e = option_and_then_some _ (kind_of_code b) x e (λ k told then. is_read kind_byte (λ k. Unit {0}) (b ∷ rest) (k, rest) x (record { front = ap (λ (c : ℕ). c ∷ rest) (code_told b k told); good = tt }) then)
+kind_only (b ∷ rest) x e = option_and_then_some _ (kind_of_code b) x e
+    (λ k told then. is_read kind_byte (λ k. Unit {0}) (b ∷ rest) (k, rest) x (record { front = ap (λ (c : ℕ). c ∷ rest) (code_told b k told); good = tt }) then)
 
 kind_again : (k : Kind) (rest : List ℕ) → kind_at (kind_code k ∷ rest) ≡ Some (k, rest)
 unfolding kind_at

@@ -36,7 +36,8 @@ impl Identifier {
 /// The body of a stored file with that identifier, or what is wrong with its header.
 #[tactic(auto, unfolding(crate::specs::Stored::body_in, crate::specs::Stored::header_refusal))]
 pub(crate) fn body_of(identifier: Identifier, bytes: &[u8]) -> Result<&[u8], Refusal>
-    ensures { MatchResult result (λ body. body_in identifier bytes.now ≡ Some body.now) (λ e. header_refusal identifier bytes.now ≡ Some e) }
+    ensures { MatchResult result (λ body. body_in identifier bytes.now ≡ Some body.now)
+        (λ e. header_refusal identifier bytes.now ≡ Some e) }
 {
     if bytes.len() < HEADER_LEN {
         return Err(Refusal::Short);

@@ -5,17 +5,22 @@ ghost use Rattle.eden_overlay_format.specs.Stored.{refusal_number};
 ghost use Rattle.eden_overlay_format.specs.declared.refusal.DecodeFault.TheVariants as fault;
 
 use std::alloc::{AllocError, AllocFailed};
+use thiserror::Error;
 
 /// What is wrong with a stored file: the first that holds, in this order.
-#[derive(Clone, Copy, Debug, PartialEq, Eq)]
+#[derive(Clone, Copy, Debug, PartialEq, Eq, Error)]
 pub enum Refusal {
     /// Under 64 bytes: no header.
+    #[error("too short for a header")]
     Short,
     /// The first four bytes aren't those that were asked for.
+    #[error("another kind of file")]
     BadIdentifier,
     /// The version isn't 1.
+    #[error("an unknown version")]
     BadVersion,
     /// The body isn't in its grammar.
+    #[error("the body is not in its grammar")]
     BadBody,
 }
 
@@ -34,11 +39,13 @@ impl Refusal {
 }
 
 /// Why a decoder that takes memory gave no value.
-#[derive(Clone, Copy, Debug, PartialEq, Eq)]
+#[derive(Clone, Copy, Debug, PartialEq, Eq, Error)]
 pub enum DecodeFault {
     /// The bytes are no such file.
+    #[error("{0}")]
     Refused(Refusal),
     /// No memory for the value.
+    #[error("out of memory")]
     Memory,
 }
 

@@ -7,7 +7,8 @@ use Rattle.std.specs.Io.KnownBytes.{Appends}
 use Rattle.eden_remote.specs.Protocol.{SendsUpTo}
 
 -- so many bytes more were written
-pub sent_more : (a b c : Option (List ℕ)) (bytes : List ℕ) (sent n : ℕ) → Appends a b (take sent bytes) → Appends b c (take n (take (length bytes - sent) (drop sent bytes))) → Appends a c (take (sent + n) bytes)
+pub sent_more : (a b c : Option (List ℕ)) (bytes : List ℕ) (sent n : ℕ) → Appends a b (take sent bytes) → Appends b c (take n (take (length bytes - sent) (drop sent bytes)))
+    → Appends a c (take (sent + n) bytes)
 sent_more a b c bytes sent n so more =
     let size = length-drop sent bytes in
     let rest : take (length bytes - sent) (drop sent bytes) ≡ drop sent bytes = take_all (length bytes - sent) (drop sent bytes) (omega arith) in

@@ -53,7 +53,8 @@ module _ {S : Type 0} (fetched : S → Id → Answer → S → Type 0) where
   lines_then read asks ask rest lines e = lines ∙ ap (λ l. lines_of asks ++ l) e ∙ sym (line_more asks ask) ∙ sym (append-nil (lines_of (asks ++ ask ∷ [])))
 
   -- the line was answered
-  pub so_far_answered : (s t u : S) (i j o p q : Known) (rest : List ℕ) (id : Id) (answer : Answer) → SoFar s t i j o p rest → rest ≡ get_line (encode_lower id.bytes) → fetched t id answer u → Appends p q (answer_text answer) → SoFar s u i j o q []
+  pub so_far_answered : (s t u : S) (i j o p q : Known) (rest : List ℕ) (id : Id) (answer : Answer) → SoFar s t i j o p rest → rest ≡ get_line (encode_lower id.bytes) → fetched t id answer u
+      → Appends p q (answer_text answer) → SoFar s u i j o q []
   so_far_answered s t u i j o p q rest id answer so e told sent =
       let ask : Ask = record { id = id; answer = answer } in
       record {
@@ -74,7 +75,8 @@ module _ {S : Type 0} (fetched : S → Id → Answer → S → Type 0) where
   served_unread s t i j o p rest so one = record { read = so.read; asks = so.asks; rest = rest; consumed = so.consumed; lines = so.lines; told = so.told; said = (one, so.sent) }
 
   -- a write failed
-  pub served_unwritten : (s t u : S) (i j o p q : Known) (rest : List ℕ) (id : Id) (answer : Answer) (n : ℕ) → SoFar s t i j o p rest → rest ≡ get_line (encode_lower id.bytes) → fetched t id answer u → Appends p q (take n (answer_text answer)) → Served fetched (s, u) (i, j) (o, q) (Err fault.Write)
+  pub served_unwritten : (s t u : S) (i j o p q : Known) (rest : List ℕ) (id : Id) (answer : Answer) (n : ℕ) → SoFar s t i j o p rest → rest ≡ get_line (encode_lower id.bytes) → fetched t id answer u
+      → Appends p q (take n (answer_text answer)) → Served fetched (s, u) (i, j) (o, q) (Err fault.Write)
   served_unwritten s t u i j o p q rest id answer n so e told sent =
       let ask : Ask = record { id = id; answer = answer } in
       record {
@@ -90,7 +92,8 @@ module _ {S : Type 0} (fetched : S → Id → Answer → S → Type 0) where
 -- what is in a buffer after a read behind its first bytes
 pub buffer_read : (a k n : ℕ) (xs ys : List ℕ) → a ≤ length xs → n ≤ length ys → take (a + n) (put_mid a k xs ys) ≡ take a xs ++ take n ys
 buffer_read a k n xs ys within fits =
-    ap (λ m. take (m + n) (put_mid a k xs ys)) (sym (length-take-le a xs within)) ∙ take-append-add (take a xs) (ys ++ post_of a k xs) n ∙ ap (λ l. take a xs ++ l) (take-append-le n ys (post_of a k xs) fits)
+    ap (λ m. take (m + n) (put_mid a k xs ys)) (sym (length-take-le a xs within)) ∙ take-append-add (take a xs) (ys ++ post_of a k xs) n ∙ ap (λ l. take a xs ++ l)
+    (take-append-le n ys (post_of a k xs) fits)
 
 -- it stays as long as it was
 pub buffer_kept : (a k : ℕ) (xs ys : List ℕ) → a + k ≡ length xs → length ys ≡ k → length (put_mid a k xs ys) ≡ length xs
@@ -101,5 +104,6 @@ buffer_kept a k xs ys whole size =
 
 module _ {S : Type 0} (fetched : S → Id → Answer → S → Type 0) where
   -- a piece was read behind the first bytes of a buffer
-  pub so_far_buffer : (s t : S) (i j l o p : Known) (a k n : ℕ) (xs ys : List ℕ) → SoFar fetched s t i j o p (take a xs) → a ≤ length xs → n ≤ length ys → Consumes j l (take n ys) → SoFar fetched s t i l o p (take (a + n) (put_mid a k xs ys))
+  pub so_far_buffer : (s t : S) (i j l o p : Known) (a k n : ℕ) (xs ys : List ℕ) → SoFar fetched s t i j o p (take a xs) → a ≤ length xs → n ≤ length ys → Consumes j l (take n ys)
+      → SoFar fetched s t i l o p (take (a + n) (put_mid a k xs ys))
   so_far_buffer s t i j l o p a k n xs ys so within fits more = so_far_read fetched s t i j l o p (take a xs) (take n ys) _ so more (buffer_read a k n xs ys within fits)

@@ -1,12 +1,16 @@
 ghost use Rattle.std.specs.Prelude.{◌≡◌};
 ghost use Rattle.eden_remote.specs.Faults.{answer_fault_name, answer_fault_number};
 
+use thiserror::Error;
+
 /// Why a server stopped answering a connection early.
-#[derive(Clone, Copy, Debug, PartialEq, Eq)]
+#[derive(Clone, Copy, Debug, PartialEq, Eq, Error)]
 pub enum AnswerFault {
     /// A read failed, or 2^64 - 1 reads brought no end.
+    #[error("a read failed")]
     Read = 1,
     /// A write failed.
+    #[error("a write failed")]
     Write = 2,
 }
 

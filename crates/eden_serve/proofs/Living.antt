@@ -21,7 +21,8 @@ use Rattle.eden_serve.specs.Lives.{Closes, IsLived, LivesBy, first_fault}
 
 module _ {W F : Type 0} (w : Ghosts W) (f : Files F W) where
   -- a close says the same of the tree after the history, which the checkout shows
-  pub closes_after : (root : Id) (t u : Checkout F) (tree : Tree) → t ≡ u → u.root ≡ root → (w.honest → shows w f u.inodes ≡ tree) → (o : Option FilesFault) (files : F) → Closes w f t.root t (shows w f t.inodes) o files → Closes w f root u tree o files
+  pub closes_after : (root : Id) (t u : Checkout F) (tree : Tree) → t ≡ u → u.root ≡ root → (w.honest → shows w f u.inodes ≡ tree) → (o : Option FilesFault) (files : F)
+      → Closes w f t.root t (shows w f t.inodes) o files → Closes w f root u tree o files
   closes_after root t u tree is of shown None files c = record {
     state = λ h. subst (λ (id : Id). HoldsState (f.stored files) (record { root = id; next = u.inodes.next })) of
         (subst (λ (v : Checkout F). HoldsState (f.stored files) (record { root = v.root; next = v.inodes.next })) is (c.state h));
@@ -40,7 +41,8 @@ module _ {W F : Type 0} (w : Ghosts W) (f : Files F W) where
 
   -- the first fault of a served caller is none of the opening
   module _ {S : Type 0} (fetched : S → Id → Answer → S → Type 0) (base : Base) (settings : Settings) (backing : Backing F S) (input output : Known × Known) (left : Ending F S) where
-    pub lived : (said : Result (Unit {0}) SessionFault) (o : Option FilesFault) → IsLived w f fetched base settings backing input output left → LivesBy w f fetched (first_fault said o) base settings backing input output left
+    pub lived : (said : Result (Unit {0}) SessionFault) (o : Option FilesFault) → IsLived w f fetched base settings backing input output left
+        → LivesBy w f fetched (first_fault said o) base settings backing input output left
     lived (Err e) o h = h
     lived (Ok v) (Some e) h = h
     lived (Ok v) None h = h

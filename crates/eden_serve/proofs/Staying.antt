@@ -61,7 +61,8 @@ module _ {S : Type 0} (fetched : S → Id → Answer → S → Type 0) {T : Type
   told_by limit d e q (Ok reply) h called = tt
   told_by limit d e q (Err fault) h called = refused_for limit d fault called.0 h called.1 called.2.0
 
-  pub all_told : (limit : ℕ) (items : List Item) (given : List (Option (Result Reply CallFault))) (d e : Desk T S) → Stands limit d → Serves (CallAnswers fetched A honest) d items given e → AllByRecursion (MayBeTold limit) given
+  pub all_told : (limit : ℕ) (items : List Item) (given : List (Option (Result Reply CallFault))) (d e : Desk T S) → Stands limit d → Serves (CallAnswers fetched A honest) d items given e
+      → AllByRecursion (MayBeTold limit) given
   all_told limit [] [] d e h served = tt
   all_told limit [] (a ∷ given) d e h served = absurd served
   all_told limit (Asks q ∷ items) [] d e h served = absurd served

@@ -55,7 +55,8 @@ fn end<W: World, S: Drop, A: Allocator + Clone, F: Files<W>>(
     alloc: Global,
     served: Served<Checkout<A, W, F>, S>,
 ) -> Ending<F, S>
-    ensures { Ends W.World F.Files served.table.root served.table (shows W.World F.Files served.table.inodes) served.source served.said result }
+    ensures { Ends W.World F.Files served.table.root served.table
+        (shows W.World F.Files served.table.inodes) served.source served.said result }
 {
     let Served {
         table,
@@ -98,7 +99,8 @@ pub fn live<W: World, S: Source<W> + Drop, A: Allocator + Clone, F: Files<W>, R:
     writer: &mut O,
 ) -> Ending<F, S>
     requires files { W.honest → MayOpen base.opening W.repository W.opening base.root (F.stored backing.files) }
-    ensures { Lives W.World F.Files S.fetched base config.now backing (R.remaining reader.old, R.remaining reader.new) (O.contents writer.old, O.contents writer.new) result }
+    ensures { Lives W.World F.Files S.fetched base config.now backing (R.remaining reader.old, R.remaining reader.new)
+        (O.contents writer.old, O.contents writer.new) result }
 {
     let Backing { files, source } = backing;
     match open::<W, A, F>(alloc, memory, files, base, config) {

@@ -22,7 +22,8 @@ pub fn serve<W: World, S: Source<W> + Drop, T: Attempts<W> + Drop, A: Allocator,
     writer: &mut O,
     caller: &mut Caller<W, S, T, A>,
 ) -> Result<(), SessionFault>
-    ensures { Session (CallAnswers S.fetched T.table W.honest) (caller.old, caller.new) (R.remaining reader.old, R.remaining reader.new) (O.contents writer.old, O.contents writer.new) result }
+    ensures { Session (CallAnswers S.fetched T.table W.honest) (caller.old, caller.new)
+        (R.remaining reader.old, R.remaining reader.new) (O.contents writer.old, O.contents writer.new) result }
 {
     session(alloc, reader, writer, caller)
 }
@@ -45,7 +46,8 @@ pub fn serve_table<
     O: Write,
 >(alloc: Global, room: Room<A>, table: T, source: S, reader: &mut R, writer: &mut O) -> Served<T, S>
     requires shown { W.honest → T.table.shown table ≡ W.opening }
-    ensures { ServesCaller S.fetched T.table W.honest W.opening room table source (R.remaining reader.old, R.remaining reader.new) (O.contents writer.old, O.contents writer.new) result }
+    ensures { ServesCaller S.fetched T.table W.honest W.opening room table source
+        (R.remaining reader.old, R.remaining reader.new) (O.contents writer.old, O.contents writer.new) result }
 {
     let mount: Mount<W, T, A> = Mount::new(room, table);
     let mut caller = Caller::new(Local::new(alloc, mount, source));

@@ -54,7 +54,8 @@ told_last c n (e ∷ h) some =
 -- ---- all passes
 
 -- the account at a place: its seat, and what was told
-pub accounts_at : (c : ℕ) (seats : List (Option Pending)) (h : List Entry) (k p : ℕ) (v : Account) → p ≡ c + k → slice_get (accounts c seats h) k ≡ Some v → (slice_get seats k ≡ Some v.pending) × (v.told ≡ told_by p 1 h)
+pub accounts_at : (c : ℕ) (seats : List (Option Pending)) (h : List Entry) (k p : ℕ) (v : Account) → p ≡ c + k → slice_get (accounts c seats h) k ≡ Some v → (slice_get seats k ≡ Some v.pending)
+    × (v.told ≡ told_by p 1 h)
 accounts_at c [] h k p v is at = absurd (cc at)
 accounts_at c (s ∷ seats) h zero p v is at =
     let same : account s (told_by c 1 h) ≡ v = cc at in
@@ -63,7 +64,8 @@ accounts_at c (s ∷ seats) h zero p v is at =
 accounts_at c (s ∷ seats) h (suc k) p v is at = accounts_at (suc c) seats h k p v (omega arith) at
 
 -- a seat is taken
-pub accounts_set : (c : ℕ) (seats : List (Option Pending)) (h : List Entry) (k p : ℕ) (s : Option Pending) → p ≡ c + k → accounts c (slice_set seats k s) h ≡ slice_set (accounts c seats h) k (account s (told_by p 1 h))
+pub accounts_set : (c : ℕ) (seats : List (Option Pending)) (h : List Entry) (k p : ℕ) (s : Option Pending) → p ≡ c + k
+    → accounts c (slice_set seats k s) h ≡ slice_set (accounts c seats h) k (account s (told_by p 1 h))
 accounts_set c [] h k p s is = refl
 accounts_set c (x ∷ seats) h zero p s is = ap (λ n. account s (told_by n 1 h) ∷ accounts (suc c) seats h) (omega arith)
 accounts_set c (x ∷ seats) h (suc k) p s is = ap (λ vs. account x (told_by c 1 h) ∷ vs) (accounts_set (suc c) seats h k p s (omega arith))

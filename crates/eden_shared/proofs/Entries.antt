@@ -22,7 +22,8 @@ told_stands c n (e ∷ es) t k at = by_pass (λ j there. told_stands c (suc n) e
         let place : suc (t.number - suc n) ≡ t.number - n = (let far = r.0 in omega arith) in
         (let far = r.0 in omega arith, subst (λ (j : ℕ). slice_get (e ∷ es) j ≡ Some (entry c t.request t.reply)) place r.1)
 
-    by_pass : ((j : ℕ) → slice_get (told_by c (suc n) es) j ≡ Some t → Stands c (suc n) es t) → (b : Bool) → (e.pass == c) ≡ b → (j : ℕ) → slice_get (if b then told n e.request e.reply ∷ told_by c (suc n) es else told_by c (suc n) es) j ≡ Some t → Stands c n (e ∷ es) t
+    by_pass : ((j : ℕ) → slice_get (told_by c (suc n) es) j ≡ Some t → Stands c (suc n) es t) → (b : Bool) → (e.pass == c) ≡ b → (j : ℕ)
+        → slice_get (if b then told n e.request e.reply ∷ told_by c (suc n) es else told_by c (suc n) es) j ≡ Some t → Stands c n (e ∷ es) t
     by_pass rest true own zero here =
         let same : told n e.request e.reply ≡ t = cc here in
         let number : n ≡ t.number = ap (λ (u : Told). u.number) same in
@@ -37,11 +38,13 @@ stands_told : (c n : ℕ) (h : List Entry) (t : Told) → Stands c n h t → (k 
 stands_told c n [] t is = absurd (cc is.1)
 stands_told c n (e ∷ es) t is = by_place (λ stands. stands_told c (suc n) es t stands) (t.number - n) refl is.1
   where
-    later : (b : Bool) → (k : ℕ) × (slice_get (told_by c (suc n) es) k ≡ Some t) → (k : ℕ) × (slice_get (if b then told n e.request e.reply ∷ told_by c (suc n) es else told_by c (suc n) es) k ≡ Some t)
+    later : (b : Bool) → (k : ℕ) × (slice_get (told_by c (suc n) es) k ≡ Some t) → (k : ℕ)
+        × (slice_get (if b then told n e.request e.reply ∷ told_by c (suc n) es else told_by c (suc n) es) k ≡ Some t)
     later true r = (suc r.0, r.1)
     later false r = r
 
-    by_place : (Stands c (suc n) es t → (k : ℕ) × (slice_get (told_by c (suc n) es) k ≡ Some t)) → (d : ℕ) → t.number - n ≡ d → slice_get (e ∷ es) d ≡ Some (entry c t.request t.reply) → (k : ℕ) × (slice_get (told_by c n (e ∷ es)) k ≡ Some t)
+    by_place : (Stands c (suc n) es t → (k : ℕ) × (slice_get (told_by c (suc n) es) k ≡ Some t)) → (d : ℕ) → t.number - n ≡ d → slice_get (e ∷ es) d ≡ Some (entry c t.request t.reply) → (k : ℕ)
+        × (slice_get (told_by c n (e ∷ es)) k ≡ Some t)
     by_place rest zero first here =
         let same : e ≡ entry c t.request t.reply = cc here in
         let number : n ≡ t.number = (let low = is.0 in omega arith) in

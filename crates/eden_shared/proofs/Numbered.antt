@@ -21,7 +21,8 @@ seat_within [] k s at = absurd (cc at)
 seat_within (x ∷ seats) zero s at = omega arith
 seat_within (x ∷ seats) (suc k) s at = (let r = seat_within seats k s at in omega arith)
 
-pub as_many : {T : Type 0} (m : Core T) (lanes : List Lane) (names : List ℕ) → names_of lanes ≡ names → values_of lanes ≡ accounts 1 m.seats m.history → length m.seats ≡ m.queue.passes → length names ≡ m.queue.passes
+pub as_many : {T : Type 0} (m : Core T) (lanes : List Lane) (names : List ℕ) → names_of lanes ≡ names → values_of lanes ≡ accounts 1 m.seats m.history → length m.seats ≡ m.queue.passes
+    → length names ≡ m.queue.passes
 as_many m lanes names named valued seats =
     ap length (sym named) ∙ length-map lanes (λ (l : Lane). l.near.name) ∙ sym (length-map lanes (λ (l : Lane). l.near.value)) ∙ ap length valued ∙ length_accounts 1 m.seats m.history ∙ seats
 

@@ -67,7 +67,8 @@ pub(crate) fn change<X, M: Turns<X, Account>>(
     requires { slice_get (names_of lanes.old.items) at ≡ Some end.old.name }
     ensures lane { slice_get (values_of lanes.old.items) at ≡ Some end.old.value }
     ensures names { names_of lanes.new.items ≡ names_of lanes.old.items }
-    ensures values { values_of lanes.new.items ≡ slice_set (values_of lanes.old.items) at (M.after about.now end.old.value) }
+    ensures values { values_of lanes.new.items ≡ slice_set (values_of lanes.old.items) at
+        (M.after about.now end.old.value) }
     ensures end { (end.new.name ≡ end.old.name) × (end.new.value ≡ M.after about.now end.old.value) }
 {
     let lane = &mut lanes[at];

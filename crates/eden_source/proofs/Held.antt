@@ -36,7 +36,8 @@ cond-option_map f a false x p o e h = ap (λ c. cond c (Some (f x)) o) e ∙ h
 pub framed_at-objects_of : (es : List (Id × Vec ℕ Global)) (k : Id) → framed_at (objects_of es) k ≡ option_map (λ v. v.items) (lookup (is_at (id_cmp k)) es)
 framed_at-objects_of [] k = refl
 framed_at-objects_of (e ∷ es) k =
-    cond-option_map (λ (v : Vec ℕ Global). v.items) (bytes_eq k.bytes e.0.bytes) (is_at (id_cmp k) e.0) e.1 (lookup (is_at (id_cmp k)) es) (framed_at (objects_of es) k) (sym (is_at-id_cmp k e.0)) (framed_at-objects_of es k)
+    cond-option_map (λ (v : Vec ℕ Global). v.items) (bytes_eq k.bytes e.0.bytes) (is_at (id_cmp k) e.0) e.1 (lookup (is_at (id_cmp k)) es) (framed_at (objects_of es) k) (sym (is_at-id_cmp k e.0))
+    (framed_at-objects_of es k)
 
 -- an insertion into the map puts the bytes under the id
 pub Puts-objects_of : (m n : BTreeMap Id (Vec ℕ Global)) (id : Id) (v : Vec ℕ Global) → Updates id_cmp m n id (Some v) → Puts (objects_of m.entries) (objects_of n.entries) id v.items
@@ -49,7 +50,8 @@ Puts-objects_of m n id v h =
           framed_at-objects_of n.entries k ∙ ap items (h.2 k differs) ∙ sym (framed_at-objects_of m.entries k);
     }
 
-honest_under : (R : Repository) (old new : Objects) (id k : Id) (framed : List ℕ) (b : Bool) → bytes_eq id.bytes k.bytes ≡ b → HoldsHonest R old → Puts old new id framed → IsHonest R id framed → IfSome (framed_at new k) (IsHonest R k)
+honest_under : (R : Repository) (old new : Objects) (id k : Id) (framed : List ℕ) (b : Bool) → bytes_eq id.bytes k.bytes ≡ b → HoldsHonest R old → Puts old new id framed → IsHonest R id framed
+    → IfSome (framed_at new k) (IsHonest R k)
 honest_under R old new id k framed true e held puts honest =
     let P : Id → Type 0 = λ q. IfSome (framed_at new q) (IsHonest R q) in
     let Q : Option (List ℕ) → Type 0 = λ o. IfSome o (IsHonest R id) in
@@ -64,7 +66,8 @@ pub HoldsHonest-puts : (R : Repository) (old new : Objects) (id : Id) (framed : 
 HoldsHonest-puts R old new id framed held puts honest k = honest_under R old new id k framed (bytes_eq id.bytes k.bytes) refl held puts honest
 
 -- what was found in the map is the answer
-pub FetchedFromMemory-found : (s : Objects) (es : List (Id × Vec ℕ Global)) (id : Id) (found : Option (Vec ℕ Global)) (answer : Answer) → objects_of es ≡ s → found ≡ lookup (is_at (id_cmp id)) es → AnswersWith (option_map (λ v. v.items) found) answer → FetchedFromMemory s id answer s
+pub FetchedFromMemory-found : (s : Objects) (es : List (Id × Vec ℕ Global)) (id : Id) (found : Option (Vec ℕ Global)) (answer : Answer) → objects_of es ≡ s → found ≡ lookup (is_at (id_cmp id)) es
+    → AnswersWith (option_map (λ v. v.items) found) answer → FetchedFromMemory s id answer s
 FetchedFromMemory-found s es id found answer shown is h =
     let items : Option (Vec ℕ Global) → Option (List ℕ) = λ o. option_map (λ v. v.items) o in
     let at : Objects → Option (List ℕ) = λ o. framed_at o id in

@@ -104,7 +104,8 @@ module _ (x : Row) (next : ℕ) (table : IsTable x next) (p : Path) (y : Row) (d
         let loaded = loaded_above (with_listing p e x) (with_child (Some e) y) e now_place (child_of-with_child (Some e) y) in
         ap (λ (s : Kind). record { kind = s; source = source_of now.number (own_if_loaded now.child now.origin) }) (chained_kind e p x ∙ sym (edited_kind p (Some e) x))
         ∙ ap (λ (j : ℕ). record { kind = (with_listing p e x).kind; source = source_of j (own_if_loaded now.child now.origin) }) (chained_number e p x ∙ sym (edited_number p (Some e) x))
-        ∙ ap (λ (o : Origin). record { kind = (with_listing p e x).kind; source = source_of (with_listing p e x).number o }) (own_full now refl ∙ sym (own_loaded (with_listing p e x) loaded.0 loaded.1))
+        ∙ ap (λ (o : Origin). record { kind = (with_listing p e x).kind; source = source_of (with_listing p e x).number o })
+        (own_full now refl ∙ sym (own_loaded (with_listing p e x) loaded.0 loaded.1))
 
     pub shown_full : shown_in R G now ≡ shown (ground_with R (own_files full)) (full_item (with_listing p e x))
     unfolding kept_now

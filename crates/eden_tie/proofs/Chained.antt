@@ -92,7 +92,8 @@ module _ (e : Directory) where
   own_still : (b : Bool) (p : Path) (z : Row) → is_own z.origin ≡ b → is_own (with_listing p e z).origin ≡ b
   own_still b p z h = ap is_own (edited_origin p (Some e) z) ∙ h
 
-  other_still : (n : Name) (p : Path) (x z : Row) (a : Row) → a.origin ≡ x.origin → (is_own x.origin ≡ false) ⊎ (is_own z.origin ≡ false) → (is_own a.origin ≡ false) ⊎ (is_own (with_listing p e z).origin ≡ false)
+  other_still : (n : Name) (p : Path) (x z : Row) (a : Row) → a.origin ≡ x.origin → (is_own x.origin ≡ false) ⊎ (is_own z.origin ≡ false) → (is_own a.origin ≡ false)
+      ⊎ (is_own (with_listing p e z).origin ≡ false)
   other_still n p x z a same (inl h) = inl (ap is_own same ∙ h)
   other_still n p x z a same (inr h) = inr (own_still false p z h)
 

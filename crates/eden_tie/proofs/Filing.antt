@@ -24,7 +24,8 @@ use Rattle.eden_tie.proofs.Places.{away_row}
 
 module _ (R : Repository) (F : Stored) where
   -- a file or a link that isn't loaded
-  shows_leaf : (k : Kind) (from : Source) → k ≢ kind.Dir → (p : Path) → shown (table_ground R (own_files F)) (record { kind = k; source = Away from }) p ≡ leaf (node_from k (content_with R (own_files F) from) false) p
+  shows_leaf : (k : Kind) (from : Source) → k ≢ kind.Dir → (p : Path)
+      → shown (table_ground R (own_files F)) (record { kind = k; source = Away from }) p ≡ leaf (node_from k (content_with R (own_files F) from) false) p
   shows_leaf kind.Dir from file p = absurd (file refl)
   shows_leaf kind.File from file [] = refl
   shows_leaf kind.Exec from file [] = refl

@@ -145,7 +145,8 @@ module _ (F full : Stored) (root : Row) (next : ℕ) (t : Ties F full root next)
     listing_is =
         marked_is d n z (rising_of full root next t.fits x d place h) there
         ∙ sym (map_set stored_entry n (owned z) (owned below) (set_row n (owned z) d.rows) (find_set n z (owned z) d.rows there)
-        (ap (λ k. record { name = n; kind = k; origin = origin.Own; number = below.number }) (kind_along p z) ∙ ap (λ k. record { name = n; kind = z.kind; origin = origin.Own; number = k }) (number_along p z)))
+        (ap (λ k. record { name = n; kind = k; origin = origin.Own; number = below.number }) (kind_along p z) ∙ ap (λ k. record { name = n; kind = z.kind; origin = origin.Own; number = k })
+        (number_along p z)))
         ∙ ap (map stored_entry) (change_row-twice n (λ _. owned below) (λ _. owned z) d.rows ∙ sym twice)
 
     filed_then : IsStoredAs G below.number up.directory
@@ -207,7 +208,8 @@ module _ (F full : Stored) (root : Row) (next : ℕ) (t : Ties F full root next)
       record {
         directory = last u x d n z p G at h there up;
         holds = last_held u x d n z p G at h there up;
-        filed = ties.stored (owned_along (n ∷ p) x) (last u x d n z p G at h there up) (place_at u (edit_row u (owned_along (n ∷ p)) root) (owned_along (n ∷ p) x) (at_changed u (owned_along (n ∷ p)) root x at))
+        filed = ties.stored (owned_along (n ∷ p) x) (last u x d n z p G at h there up)
+            (place_at u (edit_row u (owned_along (n ∷ p)) root) (owned_along (n ∷ p) x) (at_changed u (owned_along (n ∷ p)) root x at))
             (last_held u x d n z p G at h there up) (own_is x.origin own);
         ties = ties;
       }
@@ -238,7 +240,8 @@ module _ (F full : Stored) (root : Row) (next : ℕ) (t : Ties F full root next)
       (root_tied F full root next t d h off (not_marked F full root next t root d top h off) (chain_last root d h c))
   root_chain (n ∷ p) G c (both_own v d m z q H h there k own own_z) =
       let up = up_chain p (n ∷ []) z G (at_below [] root d n z refl h there) (not_root [] root d n z refl h there) (chain_rest root d n z p h there c) k in
-      subst (λ (r : Row). Ties G full r next) (same_is [] root d n z p G refl h there up (own_is root.origin own) (own_is z.origin own_z) ∙ sym (owned_same (owned_along (n ∷ p) root) (own_is root.origin own))) up.ties
+      subst (λ (r : Row). Ties G full r next)
+      (same_is [] root d n z p G refl h there up (own_is root.origin own) (own_is z.origin own_z) ∙ sym (owned_same (owned_along (n ∷ p) root) (own_is root.origin own))) up.ties
   root_chain (n ∷ p) G c (above v d m z q H h there k other) =
       let up = up_chain p (n ∷ []) z H (at_below [] root d n z refl h there) (not_root [] root d n z refl h there) (chain_rest root d n z p h there c) k in
       let are = chain_marked root d n p h c in
@@ -261,7 +264,8 @@ module _ (F full : Stored) (root : Row) (next : ℕ) (t : Ties F full root next)
           (below [] root d n z p H refl h there up) up.directory (at_then [] root d n z p H refl h there up) (child_of-with_child (Some (directory_then [] root d n z p H refl h there up)) root)
           (there_then [] root d n z p H refl h there up) up.holds (filed_then [] root d n z p H refl h there up)
           (λ k ne. refl) (λ own. absurd (off own)) (λ other one. up.ties.rootless off)) in
-          let made = root_tied H full (owned_along (n ∷ p) root) next marked new (last_held [] root d n z p H refl h there up) off (ap (λ o. kept_mark o d.unsaved) there ∙ gone) (subst AreStorable listing are) in
+          let made = root_tied H full (owned_along (n ∷ p) root) next marked new (last_held [] root d n z p H refl h there up) off (ap (λ o. kept_mark o d.unsaved) there ∙ gone)
+          (subst AreStorable listing are) in
           subst (λ k. Ties (with_entries H k (marked_listing d n)) full (owned (owned_along (n ∷ p) root)) next) (sym t.fits.root)
           (subst (λ (l : List StoredEntry). Ties (with_entries H 1 l) full (owned (owned_along (n ∷ p) root)) next) (sym listing) made)
 

@@ -224,7 +224,8 @@ pub stands_grafts : StandsGrafts
 stands_grafts honest R F x next p n o h table k a G up =
     let b = below honest R F x next p n o table a h k in
     grafted_now x next table p a.row a.directory (changed a.directory n o) a.at a.holds a.storable (each honest R F x next p n o table a) (saved honest R F x next p n o table a)
-    R F k b.files (full_below honest R F x next p n o table a h k) b.ties G (chain honest R F x next p n o table a h k G up) n o (others honest R F x next p n o table a) (here_new honest R F x next p n o table a)
+    R F k b.files (full_below honest R F x next p n o table a h k) b.ties G (chain honest R F x next p n o table a h k G up) n o (others honest R F x next p n o table a)
+    (here_new honest R F x next p n o table a)
     (stays honest R F x next p n o table a) b.beside (with_entries F a.row.number (listing_of (changed a.directory n o))) b.low up
 
 -- ---- the file of what went

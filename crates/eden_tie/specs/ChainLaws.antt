@@ -31,7 +31,8 @@ OwnedAlike = (R : Repository) (F : Stored) (x : Row) (next : ℕ) (p : Path) (G 
 
 -- .. and as it was, where one of the stores was refused: what was stored is strays
 abbrev pub RefusedKept : Type 0
-RefusedKept = (R : Repository) (F : Stored) (x : Row) (next : ℕ) (p : Path) (G : Stored) → IsTable x next → IsKept R F x next → Refused F x p G → IsKept R G x next
+RefusedKept = (R : Repository) (F : Stored) (x : Row) (next : ℕ) (p : Path) (G : Stored) → IsTable x next → IsKept R F x next → Refused F x p G
+    → IsKept R G x next
 
 abbrev pub RefusedAlike : Type 0
 RefusedAlike = (R : Repository) (F : Stored) (x : Row) (next : ℕ) (p : Path) (G : Stored) → IsTable x next → IsKept R F x next → Refused F x p G

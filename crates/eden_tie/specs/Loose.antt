@@ -20,10 +20,12 @@ pub data IsLoose (x : Row) (next k : ℕ) : Type 0 where
 
 -- such a file may be stored, changed or taken out: the files stay sound, the table kept, and the same is shown
 abbrev pub LooseSound : Type 0
-LooseSound = (R : Repository) (F : Stored) (x : Row) (next k : ℕ) (w : Option (List ℕ)) → IsTable x next → IsKept R F x next → IsLoose x next k → AreSound (put F k w)
+LooseSound = (R : Repository) (F : Stored) (x : Row) (next k : ℕ) (w : Option (List ℕ)) → IsTable x next → IsKept R F x next → IsLoose x next k
+    → AreSound (put F k w)
 
 abbrev pub LooseKept : Type 0
-LooseKept = (R : Repository) (F : Stored) (x : Row) (next k : ℕ) (w : Option (List ℕ)) → IsTable x next → IsKept R F x next → IsLoose x next k → IsKept R (put F k w) x next
+LooseKept = (R : Repository) (F : Stored) (x : Row) (next k : ℕ) (w : Option (List ℕ)) → IsTable x next → IsKept R F x next → IsLoose x next k
+    → IsKept R (put F k w) x next
 
 abbrev pub LooseAlike : Type 0
 LooseAlike = (R : Repository) (F : Stored) (x : Row) (next k : ℕ) (w : Option (List ℕ)) → IsTable x next → IsKept R F x next → IsLoose x next k

@@ -75,4 +75,5 @@ ChainSound = (F full : Stored) (x : Row) (next : ℕ) → Ties F full x next →
 
 -- once it is stored, its directories may become their own, the root among them
 abbrev pub ChainTied : Type 0
-ChainTied = (F full : Stored) (x : Row) (next : ℕ) → Ties F full x next → (p : Path) (G : Stored) → IsChain x p → Chain F x p G → Ties G full (owned (owned_along p x)) next
+ChainTied = (F full : Stored) (x : Row) (next : ℕ) → Ties F full x next → (p : Path) (G : Stored) → IsChain x p → Chain F x p G
+    → Ties G full (owned (owned_along p x)) next

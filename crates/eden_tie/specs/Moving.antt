@@ -49,7 +49,8 @@ ReplacesThere = (x : Row) (next : ℕ) (p : Path) (n : Name) (q : Path) (m : Nam
 
 -- whatever the outside: a table stays one
 abbrev pub MovedTable : Type 0
-MovedTable = (x : Row) (next : ℕ) (p : Path) (n : Name) (q : Path) (m : Name) → IsTable x next → (may : MayMove x p n q m) → IsTable (moved_in x p n q m may) next
+MovedTable = (x : Row) (next : ℕ) (p : Path) (n : Name) (q : Path) (m : Name) → IsTable x next → (may : MayMove x p n q m)
+    → IsTable (moved_in x p n q m may) next
 
 -- where it is honest: a table is kept, and shows at the new path what stood below the old one, and nothing there
 abbrev pub MovedKept : Type 0
@@ -63,7 +64,8 @@ MovedShown = (R : Repository) (F : Stored) (x : Row) (next : ℕ) (p : Path) (n 
 -- ---- the first store alone: the directory is marked
 
 abbrev pub MarkedTable : Type 0
-MarkedTable = (x : Row) (next : ℕ) (p : Path) (n : Name) (q : Path) (m : Name) → IsTable x next → (may : MayMove x p n q m) → IsTable (marked_source x p n q m may) next
+MarkedTable = (x : Row) (next : ℕ) (p : Path) (n : Name) (q : Path) (m : Name) → IsTable x next → (may : MayMove x p n q m)
+    → IsTable (marked_source x p n q m may) next
 
 abbrev pub MarkedKept : Type 0
 MarkedKept = (R : Repository) (F : Stored) (x : Row) (next : ℕ) (p : Path) (n : Name) (q : Path) (m : Name) → IsKept R F x next
@@ -92,14 +94,16 @@ ReplacedShown = (R : Repository) (F : Stored) (x : Row) (next : ℕ) (p : Path) 
 -- ---- what is loaded, what is saved, and the other files
 
 abbrev pub MovedStays : Type 0
-MovedStays = (x : Row) (next : ℕ) (p : Path) (n : Name) (q : Path) (m : Name) → IsTable x next → (may : MayMove x p n q m) → StaysLoaded x (moved_in x p n q m may)
+MovedStays = (x : Row) (next : ℕ) (p : Path) (n : Name) (q : Path) (m : Name) → IsTable x next → (may : MayMove x p n q m)
+    → StaysLoaded x (moved_in x p n q m may)
 
 abbrev pub MarkedStays : Type 0
 MarkedStays = (x : Row) (p : Path) (n : Name) (q : Path) (m : Name) → (may : MayMove x p n q m) → StaysLoaded x (marked_source x p n q m may)
 
 -- a move that is done marks nothing
 abbrev pub MovedSaved : Type 0
-MovedSaved = (x : Row) (next : ℕ) (p : Path) (n : Name) (q : Path) (m : Name) → IsTable x next → (may : MayMove x p n q m) → AreSaved x → AreSaved (moved_in x p n q m may)
+MovedSaved = (x : Row) (next : ℕ) (p : Path) (n : Name) (q : Path) (m : Name) → IsTable x next → (may : MayMove x p n q m) → AreSaved x
+    → AreSaved (moved_in x p n q m may)
 
 -- it stores files of loaded directories alone
 abbrev pub LeftElsewhere : Type 0

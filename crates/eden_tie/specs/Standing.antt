@@ -61,13 +61,15 @@ StandsStays = (honest : Type 0) (R : Repository) (F : Stored) (x : Row) (next : 
     → (may : MayStand honest R F x next p n o) → StaysLoaded x (chained p (changed may.directory n o) x)
 
 abbrev pub StandsKept : Type 1
-StandsKept = (honest : Type 0) (R : Repository) (F : Stored) (x : Row) (next : ℕ) (p : Path) (n : Name) (o : Option Row) → honest → IsTable x next → IsKept R F x next
+StandsKept = (honest : Type 0) (R : Repository) (F : Stored) (x : Row) (next : ℕ) (p : Path) (n : Name) (o : Option Row) → honest → IsTable x next
+    → IsKept R F x next
     → (may : MayStand honest R F x next p n o) → (G : Stored) → Above (with_entries F may.row.number (listing_of (changed may.directory n o))) x p G
     → IsKept R G (chained p (changed may.directory n o) x) next
 
 -- what comes then shows at and below the name, and all else is as before
 abbrev pub StandsGrafts : Type 1
-StandsGrafts = (honest : Type 0) (R : Repository) (F : Stored) (x : Row) (next : ℕ) (p : Path) (n : Name) (o : Option Row) → honest → IsTable x next → IsKept R F x next
+StandsGrafts = (honest : Type 0) (R : Repository) (F : Stored) (x : Row) (next : ℕ) (p : Path) (n : Name) (o : Option Row) → honest → IsTable x next
+    → IsKept R F x next
     → (may : MayStand honest R F x next p n o) → (G : Stored) → Above (with_entries F may.row.number (listing_of (changed may.directory n o))) x p G
     → shown_in R G (chained p (changed may.directory n o) x) ≡ graft (p ++ n ∷ []) (shown_from R G o) (shown_in R F x)
 

@@ -28,7 +28,8 @@ module _ (es : List (Name × Row)) (n : Name) (i : ℕ) where
   Cut k = drop k es ≡ filter (λ r. name_lt n r.0) es
 
   pub behind_gap : IsGap es n i → Cut i
-  behind_gap h = cut_filter (λ (r : Name × Row). name_lt n r.0) es i (λ j d lt within. lt-less (get_or es j d).0 n (h.less_before j d lt)) (λ j d le within. lt-greater (get_or es j d).0 n (h.greater_from j d le within))
+  behind_gap h = cut_filter (λ (r : Name × Row). name_lt n r.0) es i (λ j d lt within. lt-less (get_or es j d).0 n (h.less_before j d lt))
+      (λ j d le within. lt-greater (get_or es j d).0 n (h.greater_from j d le within))
 
   pub behind_at : AreRising (λ r. r.0) es → IsAt es n i → Cut (i + 1)
   behind_at rising h = cut_filter (λ (r : Name × Row). name_lt n r.0) es (i + 1) fails passes

@@ -105,43 +105,52 @@ same_change n f g (e ∷ es) h = elim (bytes_eq n e.0) as (λ b. cond b ((e.0, f
 ]
 
 same_rows : (f g : List (Name × Row) → List (Name × Row)) (x : Row) → ((es : List (Name × Row)) → f es ≡ g es) → change_rows f x ≡ change_rows g x
-same_rows f g x h = elim (child_of x) as (λ o. with_child (option_map (λ (d : Directory). record d { rows = f d.rows }) o) x ≡ with_child (option_map (λ (d : Directory). record d { rows = g d.rows }) o) x) [
-  | None ↦ refl
-  | Some d ↦ ap (λ rows. with_child (Some (record d { rows = rows })) x) (h d.rows)
-]
+same_rows f g x h = elim (child_of x) as
+    (λ o. with_child (option_map (λ (d : Directory). record d { rows = f d.rows }) o) x ≡ with_child (option_map (λ (d : Directory). record d { rows = g d.rows }) o) x) [
+      | None ↦ refl
+      | Some d ↦ ap (λ rows. with_child (Some (record d { rows = rows })) x) (h d.rows)
+    ]
 
 pub edits_on : EditsOn
 edits_on [] r f x = refl
-edits_on (n ∷ p) r f x = same_rows (change_row n (edit_row (p ++ r) f)) (change_row n (edit_row p (edit_row r f))) x (λ es. same_change n (edit_row (p ++ r) f) (edit_row p (edit_row r f)) es (edits_on p r f))
+edits_on (n ∷ p) r f x = same_rows (change_row n (edit_row (p ++ r) f)) (change_row n (edit_row p (edit_row r f))) x
+    (λ es. same_change n (edit_row (p ++ r) f) (edit_row p (edit_row r f)) es (edits_on p r f))
 
 pub edits_twice : EditsTwice
 edits_twice [] f g x = refl
 edits_twice (n ∷ p) f g x =
-    ap (λ (o : Option Directory). with_child (option_map (λ (d : Directory). record d { rows = change_row n (edit_row p f) d.rows }) o) (change_rows (change_row n (edit_row p g)) x)) (child_of-change_child (λ d. record d { rows = change_row n (edit_row p g) d.rows }) x)
-    ∙ elim (child_of x) as (λ o. with_child (option_map (λ (d : Directory). record d { rows = change_row n (edit_row p f) d.rows }) (option_map (λ (d : Directory). record d { rows = change_row n (edit_row p g) d.rows }) o)) x
+    ap (λ (o : Option Directory). with_child (option_map (λ (d : Directory). record d { rows = change_row n (edit_row p f) d.rows }) o) (change_rows (change_row n (edit_row p g)) x))
+    (child_of-change_child (λ d. record d { rows = change_row n (edit_row p g) d.rows }) x)
+    ∙ elim (child_of x) as (λ o. with_child
+    (option_map (λ (d : Directory). record d { rows = change_row n (edit_row p f) d.rows }) (option_map (λ (d : Directory). record d { rows = change_row n (edit_row p g) d.rows }) o)) x
     ≡ with_child (option_map (λ (d : Directory). record d { rows = change_row n (edit_row p (λ y. f (g y))) d.rows }) o) x) [
       | None ↦ refl
-      | Some d ↦ ap (λ rows. with_child (Some (record d { rows = rows })) x) (change_row-twice n (edit_row p f) (edit_row p g) d.rows ∙ same_change n (λ y. edit_row p f (edit_row p g y)) (edit_row p (λ y. f (g y))) d.rows (edits_twice p f g))
+      | Some d ↦ ap (λ rows. with_child (Some (record d { rows = rows })) x)
+          (change_row-twice n (edit_row p f) (edit_row p g) d.rows ∙ same_change n (λ y. edit_row p f (edit_row p g y)) (edit_row p (λ y. f (g y))) d.rows (edits_twice p f g))
     ]
 
 pub edits_nothing : EditsNothing
 edits_nothing [] f x h = absurd (cc)
 edits_nothing (n ∷ p) f x h = elim (child_of x) as (λ o. child_of x ≡ o → option_and_then (inside n p) o ≡ None → change_rows (change_row n (edit_row p f)) x ≡ x) [
   | None ↦ λ e k. change_rows-unloaded (change_row n (edit_row p f)) x e
-  | Some d ↦ λ e k. change_rows-held (change_row n (edit_row p f)) x d e ∙ elim (find_row n d.rows) as (λ o. find_row n d.rows ≡ o → option_and_then (row_at p) o ≡ None → with_child (Some (record d { rows = change_row n (edit_row p f) d.rows })) x ≡ x) [
-    | None ↦ λ a l. ap (λ rows. with_child (Some (record d { rows = rows })) x) (change_row-absent n (edit_row p f) d.rows a) ∙ with_child-same x d e
-    | Some y ↦ λ a l. ap (λ rows. with_child (Some (record d { rows = rows })) x) (change_row-found n (edit_row p f) y d.rows a ∙ ap (λ z. set_row n z d.rows) (edits_nothing p f y l)) ∙ put_back n x y d e a
-  ] refl k
+  | Some d ↦ λ e k. change_rows-held (change_row n (edit_row p f)) x d e ∙ elim (find_row n d.rows) as
+      (λ o. find_row n d.rows ≡ o → option_and_then (row_at p) o ≡ None → with_child (Some (record d { rows = change_row n (edit_row p f) d.rows })) x ≡ x) [
+        | None ↦ λ a l. ap (λ rows. with_child (Some (record d { rows = rows })) x) (change_row-absent n (edit_row p f) d.rows a) ∙ with_child-same x d e
+        | Some y ↦ λ a l. ap (λ rows. with_child (Some (record d { rows = rows })) x)
+            (change_row-found n (edit_row p f) y d.rows a ∙ ap (λ z. set_row n z d.rows) (edits_nothing p f y l)) ∙ put_back n x y d e a
+      ] refl k
 ] refl h
 
 pub edits_same : EditsSame
 edits_same [] f x y h s = let is : x ≡ y = cc in subst (λ (z : Row). f z ≡ z) (sym is) s
 edits_same (n ∷ p) f x y h s = elim (child_of x) as (λ o. child_of x ≡ o → option_and_then (inside n p) o ≡ Some y → change_rows (change_row n (edit_row p f)) x ≡ x) [
   | None ↦ λ e k. absurd (cc)
-  | Some d ↦ λ e k. change_rows-held (change_row n (edit_row p f)) x d e ∙ elim (find_row n d.rows) as (λ o. find_row n d.rows ≡ o → option_and_then (row_at p) o ≡ Some y → with_child (Some (record d { rows = change_row n (edit_row p f) d.rows })) x ≡ x) [
-    | None ↦ λ a l. absurd (cc)
-    | Some z ↦ λ a l. ap (λ rows. with_child (Some (record d { rows = rows })) x) (change_row-found n (edit_row p f) z d.rows a ∙ ap (λ w. set_row n w d.rows) (edits_same p f z y l s)) ∙ put_back n x z d e a
-  ] refl k
+  | Some d ↦ λ e k. change_rows-held (change_row n (edit_row p f)) x d e ∙ elim (find_row n d.rows) as
+      (λ o. find_row n d.rows ≡ o → option_and_then (row_at p) o ≡ Some y → with_child (Some (record d { rows = change_row n (edit_row p f) d.rows })) x ≡ x) [
+        | None ↦ λ a l. absurd (cc)
+        | Some z ↦ λ a l. ap (λ rows. with_child (Some (record d { rows = rows })) x)
+            (change_row-found n (edit_row p f) z d.rows a ∙ ap (λ w. set_row n w d.rows) (edits_same p f z y l s)) ∙ put_back n x z d e a
+      ] refl k
 ] refl h
 
 pub edits_alike : EditsAlike
@@ -161,7 +170,8 @@ changed_at : (m n : Name) (q : Path) (f : Row → Row) (g : Directory → Direct
     → row_at (m ∷ q) (change_child g x) ≡ option_and_then (λ d. option_and_then (row_at q) (cond (bytes_eq m n) (option_map f (find_row n d.rows)) (find_row m d.rows))) (child_of x)
 changed_at m n q f g x is =
     ap (option_and_then (inside m q)) (child_of-change_child g x)
-    ∙ elim (child_of x) as (λ o. option_and_then (inside m q) (option_map g o) ≡ option_and_then (λ d. option_and_then (row_at q) (cond (bytes_eq m n) (option_map f (find_row n d.rows)) (find_row m d.rows))) o) [
+    ∙ elim (child_of x) as (λ o. option_and_then (inside m q) (option_map g o) ≡ option_and_then
+    (λ d. option_and_then (row_at q) (cond (bytes_eq m n) (option_map f (find_row n d.rows)) (find_row m d.rows))) o) [
       | None ↦ refl
       | Some d ↦ ap (λ rows. option_and_then (row_at q) (find_row m rows)) (is d) ∙ ap (option_and_then (row_at q)) (find_row-change_row m n f d.rows)
     ]
@@ -174,7 +184,8 @@ pub edits_there : EditsThere
 edits_there [] f x = refl
 edits_there (n ∷ p) f x =
     edited_at n n p p f x
-    ∙ elim (child_of x) as (λ o. option_and_then (λ d. option_and_then (row_at p) (cond (bytes_eq n n) (option_map (edit_row p f) (find_row n d.rows)) (find_row n d.rows))) o ≡ option_map f (option_and_then (inside n p) o)) [
+    ∙ elim (child_of x) as (λ o. option_and_then (λ d. option_and_then (row_at p) (cond (bytes_eq n n) (option_map (edit_row p f) (find_row n d.rows)) (find_row n d.rows))) o ≡ option_map f
+    (option_and_then (inside n p) o)) [
       | None ↦ refl
       | Some d ↦ ap (λ b. option_and_then (row_at p) (cond b (option_map (edit_row p f) (find_row n d.rows)) (find_row n d.rows))) (same-refl n)
           ∙ elim (find_row n d.rows) as (λ o. option_and_then (row_at p) (option_map (edit_row p f) o) ≡ option_map f (option_and_then (row_at p) o)) [ None ↦ refl | Some y ↦ edits_there p f y ]
@@ -185,16 +196,18 @@ edits_not_beside [] q f x h k = absurd (cc)
 edits_not_beside (n ∷ p) [] f x h k = absurd (cc)
 edits_not_beside (n ∷ p) (m ∷ q) f x h k =
     edited_at m n p q f x
-    ∙ elim (child_of x) as (λ o. option_and_then (λ d. option_and_then (row_at q) (cond (bytes_eq m n) (option_map (edit_row p f) (find_row n d.rows)) (find_row m d.rows))) o ≡ option_and_then (inside m q) o) [
+    ∙ elim (child_of x) as (λ o. option_and_then (λ d. option_and_then (row_at q) (cond (bytes_eq m n) (option_map (edit_row p f) (find_row n d.rows)) (find_row m d.rows))) o ≡ option_and_then
+    (inside m q) o) [
       | None ↦ refl
-      | Some d ↦ elim (bytes_eq m n) as (λ b. bytes_eq m n ≡ b → option_and_then (row_at q) (cond b (option_map (edit_row p f) (find_row n d.rows)) (find_row m d.rows)) ≡ option_and_then (row_at q) (find_row m d.rows)) [
-        | true ↦ λ s.
-            let front : behind_of p q ≡ None = ap (λ b. cond b (behind_of p q) None) (sym (sym (same-both m n) ∙ s)) ∙ h in
-            let back : behind_of q p ≡ None = ap (λ b. cond b (behind_of q p) None) (sym s) ∙ k in
-            ap (λ (i : Name). option_and_then (row_at q) (option_map (edit_row p f) (find_row i d.rows))) (sym (same-≡ m n s))
-            ∙ elim (find_row m d.rows) as (λ o. option_and_then (row_at q) (option_map (edit_row p f) o) ≡ option_and_then (row_at q) o) [ None ↦ refl | Some y ↦ edits_not_beside p q f y front back ]
-        | false ↦ λ s. refl
-      ] refl
+      | Some d ↦ elim (bytes_eq m n) as
+          (λ b. bytes_eq m n ≡ b → option_and_then (row_at q) (cond b (option_map (edit_row p f) (find_row n d.rows)) (find_row m d.rows)) ≡ option_and_then (row_at q) (find_row m d.rows)) [
+            | true ↦ λ s.
+                let front : behind_of p q ≡ None = ap (λ b. cond b (behind_of p q) None) (sym (sym (same-both m n) ∙ s)) ∙ h in
+                let back : behind_of q p ≡ None = ap (λ b. cond b (behind_of q p) None) (sym s) ∙ k in
+                ap (λ (i : Name). option_and_then (row_at q) (option_map (edit_row p f) (find_row i d.rows))) (sym (same-≡ m n s))
+                ∙ elim (find_row m d.rows) as (λ o. option_and_then (row_at q) (option_map (edit_row p f) o) ≡ option_and_then (row_at q) o) [ None ↦ refl | Some y ↦ edits_not_beside p q f y front back ]
+            | false ↦ λ s. refl
+          ] refl
     ]
 
 -- ---- what stands at each path
@@ -214,15 +227,18 @@ edits_one [] f x y q h = let is : x ≡ y = cc in ap (λ (z : Row). standing_at 
 edits_one (n ∷ p) f x y [] h = ap Some (standing_kept (change_row n (edit_row p f)) x)
 edits_one (n ∷ p) f x y (m ∷ q) h =
     ap (option_map standing) (edited_at m n p q f x)
-    ∙ elim (child_of x) as (λ o. option_and_then (inside n p) o ≡ Some y → option_map standing (option_and_then (λ d. option_and_then (row_at q) (cond (bytes_eq m n) (option_map (edit_row p f) (find_row n d.rows)) (find_row m d.rows))) o)
+    ∙ elim (child_of x) as (λ o. option_and_then (inside n p) o ≡ Some y
+    → option_map standing (option_and_then (λ d. option_and_then (row_at q) (cond (bytes_eq m n) (option_map (edit_row p f) (find_row n d.rows)) (find_row m d.rows))) o)
     ≡ grafted (cond (bytes_eq n m) (behind_of p q) None) (λ r. standing_at r (f y)) (option_map standing (option_and_then (inside m q) o))) [
       | None ↦ λ k. absurd (cc)
       | Some d ↦ λ k. ap (λ b. below q (cond b (option_map (edit_row p f) (find_row n d.rows)) (find_row m d.rows))) (same-both m n)
-          ∙ elim (bytes_eq n m) as (λ b. bytes_eq n m ≡ b → below q (cond b (option_map (edit_row p f) (find_row n d.rows)) (find_row m d.rows)) ≡ grafted (cond b (behind_of p q) None) (λ r. standing_at r (f y)) (below q (find_row m d.rows))) [
-            | true ↦ λ s. elim (find_row n d.rows) as (λ o. option_and_then (row_at p) o ≡ Some y → below q (option_map (edit_row p f) o) ≡ grafted (behind_of p q) (λ r. standing_at r (f y)) (below q o)) [
-              | None ↦ λ l. absurd (cc)
-              | Some z ↦ λ l. edits_one p f z y q l
-            ] k ∙ ap (λ (i : Name). grafted (behind_of p q) (λ r. standing_at r (f y)) (below q (find_row i d.rows))) (same-≡ n m s)
+          ∙ elim (bytes_eq n m) as (λ b. bytes_eq n m ≡ b
+          → below q (cond b (option_map (edit_row p f) (find_row n d.rows)) (find_row m d.rows)) ≡ grafted (cond b (behind_of p q) None) (λ r. standing_at r (f y)) (below q (find_row m d.rows))) [
+            | true ↦ λ s. elim (find_row n d.rows) as
+                (λ o. option_and_then (row_at p) o ≡ Some y → below q (option_map (edit_row p f) o) ≡ grafted (behind_of p q) (λ r. standing_at r (f y)) (below q o)) [
+                  | None ↦ λ l. absurd (cc)
+                  | Some z ↦ λ l. edits_one p f z y q l
+                ] k ∙ ap (λ (i : Name). grafted (behind_of p q) (λ r. standing_at r (f y)) (below q (find_row i d.rows))) (same-≡ n m s)
             | false ↦ λ s. refl
           ] refl
     ] h
@@ -250,7 +266,8 @@ one_at p n f new x y q h one =
     edits_one p (change_rows f) x y q h
     ∙ elim (behind_of p q) as (λ o. behind_of p q ≡ o → grafted o (λ r. standing_at r (change_rows f y)) (standing_at q x) ≡ grafted (option_and_then (behind_of (n ∷ [])) o) new (standing_at q x)) [
       | None ↦ λ b. refl
-      | Some r ↦ λ b. one r ∙ ap (grafted (behind_of (n ∷ []) r) new) (sym (ap (option_map standing) (ap (λ (s : Path). row_at s x) (behind_is p q r b) ∙ reads_on p r x ∙ ap (option_and_then (row_at r)) h)))
+      | Some r ↦ λ b. one r ∙ ap (grafted (behind_of (n ∷ []) r) new)
+          (sym (ap (option_map standing) (ap (λ (s : Path). row_at s x) (behind_is p q r b) ∙ reads_on p r x ∙ ap (option_and_then (row_at r)) h)))
     ] refl
     ∙ ap (λ o. grafted o new (standing_at q x)) (sym (behind_on p (n ∷ []) q))
 
@@ -260,7 +277,8 @@ one_in : (n : Name) (f : List (Name × Row) → List (Name × Row)) (o : Option 
     → (r : Path) → standing_at r (change_rows f y) ≡ grafted (behind_of (n ∷ []) r) (λ s. below s o) (standing_at r y)
 one_in n f o y d h is [] = ap Some (standing_kept f y)
 one_in n f o y d h is (m ∷ r) =
-    ap (λ (c : Option Directory). option_map standing (option_and_then (inside m r) c)) (child_of-change_child (λ d. record d { rows = f d.rows }) y ∙ ap (option_map (λ (d : Directory). record d { rows = f d.rows })) h)
+    ap (λ (c : Option Directory). option_map standing (option_and_then (inside m r) c))
+    (child_of-change_child (λ d. record d { rows = f d.rows }) y ∙ ap (option_map (λ (d : Directory). record d { rows = f d.rows })) h)
     ∙ ap (below r) (is m) ∙ by_name n m r o (find_row m d.rows)
     ∙ ap (λ (c : Option Directory). grafted (behind_of (n ∷ []) (m ∷ r)) (λ s. below s o) (option_map standing (option_and_then (inside m r) c))) (sym h)
 
@@ -287,20 +305,24 @@ stamps_along [] s x [] = ap Some (marks_stamped s (λ es. es) x)
 stamps_along (n ∷ p) s x [] = ap Some (marks_stamped s (change_row n (stamped_along p s)) x)
 stamps_along [] s x (m ∷ q) =
     ap (λ (c : Option Directory). option_map standing (option_and_then (inside m q) c)) (child_of-change_child (λ d. record d { stamp = s }) x)
-    ∙ elim (child_of x) as (λ o. option_map standing (option_and_then (inside m q) (option_map (λ (d : Directory). record d { stamp = s }) o)) ≡ option_map standing (option_and_then (inside m q) o)) [ None ↦ refl | Some d ↦ refl ]
+    ∙ elim (child_of x) as (λ o. option_map standing (option_and_then (inside m q) (option_map (λ (d : Directory). record d { stamp = s }) o)) ≡ option_map standing (option_and_then (inside m q) o))
+    [ None ↦ refl | Some d ↦ refl ]
 stamps_along (n ∷ p) s x (m ∷ q) =
     ap (option_map standing) (changed_at m n q (stamped_along p s) (λ d. record d { stamp = s; rows = change_row n (stamped_along p s) d.rows }) x (λ d. refl))
-    ∙ elim (child_of x) as (λ o. option_map standing (option_and_then (λ d. option_and_then (row_at q) (cond (bytes_eq m n) (option_map (stamped_along p s) (find_row n d.rows)) (find_row m d.rows))) o)
+    ∙ elim (child_of x) as (λ o. option_map standing
+    (option_and_then (λ d. option_and_then (row_at q) (cond (bytes_eq m n) (option_map (stamped_along p s) (find_row n d.rows)) (find_row m d.rows))) o)
     ≡ grafted (cond (bytes_eq m n) (behind_of q p) None) (λ r. option_map (stamped s) (option_map standing (option_and_then (inside m q) o))) (option_map standing (option_and_then (inside m q) o))) [
       | None ↦ sym (nothing_grafted (cond (bytes_eq m n) (behind_of q p) None))
-      | Some d ↦ elim (bytes_eq m n) as (λ b. bytes_eq m n ≡ b → below q (cond b (option_map (stamped_along p s) (find_row n d.rows)) (find_row m d.rows)) ≡ grafted (cond b (behind_of q p) None) (λ r. option_map (stamped s) (below q (find_row m d.rows))) (below q (find_row m d.rows))) [
-        | true ↦ λ t. ap (λ (i : Name). below q (option_map (stamped_along p s) (find_row i d.rows))) (sym (same-≡ m n t))
-            ∙ elim (find_row m d.rows) as (λ o. below q (option_map (stamped_along p s) o) ≡ grafted (behind_of q p) (λ r. option_map (stamped s) (below q o)) (below q o)) [
-              | None ↦ sym (nothing_grafted (behind_of q p))
-              | Some y ↦ stamps_along p s y q
-            ]
-        | false ↦ λ t. refl
-      ] refl
+      | Some d ↦ elim (bytes_eq m n) as
+          (λ b. bytes_eq m n ≡ b → below q (cond b (option_map (stamped_along p s) (find_row n d.rows)) (find_row m d.rows)) ≡ grafted (cond b (behind_of q p) None)
+          (λ r. option_map (stamped s) (below q (find_row m d.rows))) (below q (find_row m d.rows))) [
+            | true ↦ λ t. ap (λ (i : Name). below q (option_map (stamped_along p s) (find_row i d.rows))) (sym (same-≡ m n t))
+                ∙ elim (find_row m d.rows) as (λ o. below q (option_map (stamped_along p s) o) ≡ grafted (behind_of q p) (λ r. option_map (stamped s) (below q o)) (below q o)) [
+                  | None ↦ sym (nothing_grafted (behind_of q p))
+                  | Some y ↦ stamps_along p s y q
+                ]
+            | false ↦ λ t. refl
+          ] refl
     ]
 
 -- one step of stamping a path: no directory is loaded, the path ends, its first name isn't there, or it is

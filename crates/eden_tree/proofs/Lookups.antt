@@ -50,7 +50,8 @@ find_row-drop_row m n (e ∷ es) p =
 pub find_row-change_row : (m n : Name) (f : Row → Row) (es : List (Name × Row)) → find_row m (change_row n f es) ≡ cond (bytes_eq m n) (option_map f (find_row n es)) (find_row m es)
 find_row-change_row m n f [] = elim (bytes_eq m n) as (λ b. ◌≡◌ {A = Option Row} None (cond b None None)) [ true ↦ refl | false ↦ refl ]
 find_row-change_row m n f (e ∷ es) =
-    elim (bytes_eq n e.0) as (λ b. bytes_eq n e.0 ≡ b → find_row m (cond b ((e.0, f e.1) ∷ es) (e ∷ change_row n f es)) ≡ cond (bytes_eq m n) (option_map f (cond b (Some e.1) (find_row n es))) (find_row m (e ∷ es))) [
+    elim (bytes_eq n e.0) as (λ b. bytes_eq n e.0 ≡ b
+    → find_row m (cond b ((e.0, f e.1) ∷ es) (e ∷ change_row n f es)) ≡ cond (bytes_eq m n) (option_map f (cond b (Some e.1) (find_row n es))) (find_row m (e ∷ es))) [
       | true ↦ λ s. subst (λ k. find_row m ((e.0, f e.1) ∷ es) ≡ cond (bytes_eq m k) (Some (f e.1)) (find_row m (e ∷ es))) (sym (same-≡ n e.0 s))
           (elim (bytes_eq m e.0) as (λ b. cond b (Some (f e.1)) (find_row m es) ≡ cond b (Some (f e.1)) (cond b (Some e.1) (find_row m es))) [ true ↦ refl | false ↦ refl ])
       | false ↦ λ s. ap (cond (bytes_eq m e.0) (Some e.1)) (find_row-change_row m n f es) ∙ swapped m e.0 n (Some e.1) (option_map f (find_row n es)) (find_row m es) s

@@ -139,4 +139,5 @@ directory_size-child_of x d h = held x.child d h
   where
     held : (c : Child) (d : Directory) → directory_in c ≡ Some d → rows_size (rows_of d.rows) < row_size (record x { child = c })
     held unloaded d h = absurd (cc)
-    held (loaded s u r) d h = let is : record { stamp = s; unsaved = u; rows = listed r } ≡ d = cc in let same = ap (λ (e : Directory). rows_size (rows_of e.rows)) is in let back = ap rows_size (rows_of-listed r) in omega (arith, same, back)
+    held (loaded s u r) d h = let is : record { stamp = s; unsaved = u; rows = listed r } ≡ d = cc in let same = ap (λ (e : Directory). rows_size (rows_of e.rows)) is in let back = ap rows_size
+        (rows_of-listed r) in omega (arith, same, back)

@@ -24,9 +24,11 @@ others e es p = sorted_tail order e.0 (keys_of es) p
 pub none_rise : AreRising (λ (r : Name × Row). r.0) []
 none_rise = sorted_from_all_adjacent nat_list_cmp_total [] [] (λ k l. absurd (omega arith))
 
-adjacent : (n m d : Name) (ks : List Name) → order n m ≡ Less → IsStrictlySortedBy order (m ∷ ks) → (k : ℕ) → k + 1 < length (n ∷ m ∷ ks) → order (get_or (n ∷ m ∷ ks) k d) (get_or (n ∷ m ∷ ks) (k + 1) d) ≡ Less
+adjacent : (n m d : Name) (ks : List Name) → order n m ≡ Less → IsStrictlySortedBy order (m ∷ ks) → (k : ℕ) → k + 1 < length (n ∷ m ∷ ks)
+    → order (get_or (n ∷ m ∷ ks) k d) (get_or (n ∷ m ∷ ks) (k + 1) d) ≡ Less
 adjacent n m d ks h p zero l = h
-adjacent n m d ks h p (suc k) l = subst (λ i. order (get_or (m ∷ ks) k d) (get_or (n ∷ m ∷ ks) i d) ≡ Less) {x = suc (k + 1)} {y = suc k + 1} (omega arith) (Less-from_sorted order (m ∷ ks) k (k + 1) d p (omega arith) (omega arith))
+adjacent n m d ks h p (suc k) l = subst (λ i. order (get_or (m ∷ ks) k d) (get_or (n ∷ m ∷ ks) i d) ≡ Less) {x = suc (k + 1)} {y = suc k + 1} (omega arith)
+    (Less-from_sorted order (m ∷ ks) k (k + 1) d p (omega arith) (omega arith))
 
 pub joined : (e : Name × Row) (es : List (Name × Row)) → IsBelow e.0 es → AreRising (λ r. r.0) es → AreRising (λ r. r.0) (e ∷ es)
 joined e [] h p = sorted_from_all_adjacent nat_list_cmp_total (e.0 ∷ []) e.0 (λ k l. absurd (omega arith))

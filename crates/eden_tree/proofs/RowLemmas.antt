@@ -153,7 +153,12 @@ IsBelow-drop_row m n (e ∷ es) p = elim (bytes_eq n e.0) as (λ b. IsBelow m (c
 
 pub AreRising-drop_row : (n : Name) (es : List Named) → AreRising (λ r. r.0) es → AreRising (λ r. r.0) (drop_row n es)
 AreRising-drop_row n [] p = none_rise
-AreRising-drop_row n (e ∷ es) p = elim (bytes_eq n e.0) as (λ b. AreRising (λ r. r.0) (cond b es (e ∷ drop_row n es))) [ true ↦ others e es p | false ↦ joined e (drop_row n es) (IsBelow-drop_row e.0 n es (first_below e es p)) (AreRising-drop_row n es (others e es p)) ]
+AreRising-drop_row n (e ∷ es) p = elim (bytes_eq n e.0) as
+    (λ b. AreRising (λ r. r.0) (cond b es (e ∷ drop_row n es))) [
+      | true ↦ others e es p
+      | false ↦ joined e (drop_row n es) (IsBelow-drop_row e.0 n es (first_below e es p))
+          (AreRising-drop_row n es (others e es p))
+    ]
 
 pub length-drop_row : (n : Name) (es : List Named) → IsSome (find_row n es) → suc (length (drop_row n es)) ≡ length es
 length-drop_row n [] h = absurd (cc)
@@ -178,7 +183,8 @@ set-set_at (e ∷ es) (suc i) d x = ap (λ l. e ∷ l) (set-set_at es i d x)
 -- a change keeps the names
 pub keys_of-change_row : (n : Name) (f : Row → Row) (es : List Named) → keys_of (change_row n f es) ≡ keys_of es
 keys_of-change_row n f [] = refl
-keys_of-change_row n f (e ∷ es) = elim (bytes_eq n e.0) as (λ b. keys_of (cond b ((e.0, f e.1) ∷ es) (e ∷ change_row n f es)) ≡ e.0 ∷ keys_of es) [ true ↦ refl | false ↦ ap (λ l. e.0 ∷ l) (keys_of-change_row n f es) ]
+keys_of-change_row n f (e ∷ es) = elim (bytes_eq n e.0) as
+    (λ b. keys_of (cond b ((e.0, f e.1) ∷ es) (e ∷ change_row n f es)) ≡ e.0 ∷ keys_of es) [ true ↦ refl | false ↦ ap (λ l. e.0 ∷ l) (keys_of-change_row n f es) ]
 
 pub keys_of-set_at : (i : ℕ) (x : Row) (es : List Named) → keys_of (set_at i x es) ≡ keys_of es
 keys_of-set_at i x [] = refl

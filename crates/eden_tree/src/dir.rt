@@ -324,7 +324,10 @@ impl<A: Allocator> Dir<A> {
     /// Puts a loaded directory under the entry of that name, which is a directory's and holds none.
     pub fn attach(&mut self, name: &Name, child: Box<Dir<A>, A>)
         requires { IsSomeAnd (find_row name.now self.old.rows) (λ x. (x.kind ≡ Kind.Dir) × (child_of x ≡ None)) }
-        ensures { self.new ≡ record self.old { rows = change_row name.now (with_child (Some child.value)) self.old.rows } }
+        ensures { self.new ≡ record self.old {
+          rows = change_row name.now
+              (with_child (Some child.value)) self.old.rows;
+        } }
     {
         match self.get_mut(name) {
             Some(there) => there.child = Some(child),

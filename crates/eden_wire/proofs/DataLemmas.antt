@@ -22,7 +22,8 @@ digits_agree zero = true
 digits_agree (suc d) = (slice_index lower_digits d == cond (nat_lt d 10) (48 + d) (87 + d)) && digits_agree d
 
 digit_is : (d : ℕ) → d < 16 → slice_index lower_digits d ≡ cond (nat_lt d 10) (48 + d) (87 + d)
-digit_is = (Decides-below_and (λ d. slice_index lower_digits d == cond (nat_lt d 10) (48 + d) (87 + d)) (λ d. slice_index lower_digits d ≡ cond (nat_lt d 10) (48 + d) (87 + d)) digits_agree (λ d. Decides-eqb _ _) refl (λ _. refl) 16).0 refl
+digit_is = (Decides-below_and (λ d. slice_index lower_digits d == cond (nat_lt d 10) (48 + d) (87 + d)) (λ d. slice_index lower_digits d ≡ cond (nat_lt d 10) (48 + d) (87 + d)) digits_agree
+    (λ d. Decides-eqb _ _) refl (λ _. refl) 16).0 refl
 
 abbrev all_digits : ℕ → Bool
 all_digits zero = true

@@ -108,7 +108,8 @@ record First (s : Sort) (sorts : List Sort) (fields : List Field) (part more : L
   spelled : part ≡ field_text field
   rest : more ≡ fields_text later
 
-first_field : (s : Sort) (sorts : List Sort) (fields : List Field) (text part more : List ℕ) → IsPart 32 text part more → AreFields (s ∷ sorts) fields → text ≡ fields_text fields → First s sorts fields part more
+first_field : (s : Sort) (sorts : List Sort) (fields : List Field) (text part more : List ℕ) → IsPart 32 text part more → AreFields (s ∷ sorts) fields → text ≡ fields_text fields
+    → First s sorts fields part more
 first_field s sorts [] text part more cut h e = absurd h
 first_field s sorts (f ∷ fields) text part more cut h e =
     let whole = cut.whole in
@@ -122,7 +123,8 @@ pub scans_none : (text : List ℕ) → length text ≡ 0 → ScansFields [] text
 scans_none [] e = record { fields = []; good = tt; spelled = refl; refused = refl }
 scans_none (b ∷ text) e = absurd (omega arith)
 
-pub scans_more : (s : Sort) (sorts : List Sort) (text part more : List ℕ) (one two both : Option Errno) → IsPart 32 text part more → Scans s part one → ScansFields sorts more two → both ≡ option_or one two → ScansFields (s ∷ sorts) text both
+pub scans_more : (s : Sort) (sorts : List Sort) (text part more : List ℕ) (one two both : Option Errno) → IsPart 32 text part more → Scans s part one → ScansFields sorts more two
+    → both ≡ option_or one two → ScansFields (s ∷ sorts) text both
 scans_more s sorts text part more one two both cut first later joined = record {
   fields = first.spelt ∷ later.fields;
   good = (first.is_sort, first.good, later.good);

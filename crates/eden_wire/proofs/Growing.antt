@@ -73,7 +73,8 @@ passed w v text failed (Ok d) wrote e = record { sent = text; rest = []; whole =
 passed w v text failed (Err d) wrote e = record { sent = wrote.front; rest = wrote.rest; whole = wrote.whole; appends = wrote.appends; all = λ works. absurd (false≢true (sym works ∙ e)) }
 
 -- what was held was sent
-pub grows_sent : (w v : Option (List ℕ)) (o p : Output) (r : Result (Unit {0}) WriteFailed) → o.failed ≡ false → Writes w v r o.pending.items → p.failed ≡ is_err r → p.pending.items ≡ [] → Grows w v o p []
+pub grows_sent : (w v : Option (List ℕ)) (o p : Output) (r : Result (Unit {0}) WriteFailed) → o.failed ≡ false → Writes w v r o.pending.items → p.failed ≡ is_err r → p.pending.items ≡ []
+    → Grows w v o p []
 grows_sent w v o p r works wrote failed empty =
     let part = passed w v o.pending.items p.failed r wrote failed in
     record {
@@ -87,14 +88,16 @@ grows_sent w v o p r works wrote failed empty =
     }
 
 -- bytes were sent where none were held
-pub grows_passed : (w v : Option (List ℕ)) (o p : Output) (text : List ℕ) (r : Result (Unit {0}) WriteFailed) → o.failed ≡ false → o.pending.items ≡ [] → Writes w v r text → p.failed ≡ is_err r → p.pending.items ≡ [] → Grows w v o p text
+pub grows_passed : (w v : Option (List ℕ)) (o p : Output) (text : List ℕ) (r : Result (Unit {0}) WriteFailed) → o.failed ≡ false → o.pending.items ≡ [] → Writes w v r text → p.failed ≡ is_err r
+    → p.pending.items ≡ [] → Grows w v o p text
 grows_passed w v o p text r works none wrote failed empty =
     let part = passed w v text p.failed r wrote failed in
     record {
       after = λ start before held. record {
         sent = held.sent ++ part.sent;
         rest = part.rest;
-        whole = ap (λ l. l ++ text) (held.whole ∙ ap (λ l. held.sent ++ l) (held.waits works ∙ none) ∙ append-nil held.sent) ∙ ap (λ l. held.sent ++ l) part.whole ∙ sym (append_assoc held.sent part.sent part.rest);
+        whole = ap (λ l. l ++ text) (held.whole ∙ ap (λ l. held.sent ++ l) (held.waits works ∙ none) ∙ append-nil held.sent) ∙ ap (λ l. held.sent ++ l) part.whole ∙ sym
+            (append_assoc held.sent part.sent part.rest);
         appends = Appends-trans start w v held.sent part.sent held.appends part.appends;
         waits = λ still. part.all still ∙ sym empty;
       };

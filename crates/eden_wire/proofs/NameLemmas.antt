@@ -26,7 +26,8 @@ byte_same b c small little high low =
     let l : b % 16 ≡ c % 16 = digit_same (b % 16) (c % 16) (omega arith) (omega arith) low in
     omega arith
 
-heads_at : (p q : Bool) (b c d e f g : ℕ) (x y : List ℕ) → (p ≡ true → b ≢ 37) → (q ≡ true → c ≢ 37) → (d ≡ f → e ≡ g → b ≡ c) → cond p (b ∷ []) (37 ∷ d ∷ e ∷ []) ++ x ≡ cond q (c ∷ []) (37 ∷ f ∷ g ∷ []) ++ y → (b ≡ c) × (x ≡ y)
+heads_at : (p q : Bool) (b c d e f g : ℕ) (x y : List ℕ) → (p ≡ true → b ≢ 37) → (q ≡ true → c ≢ 37) → (d ≡ f → e ≡ g → b ≡ c)
+    → cond p (b ∷ []) (37 ∷ d ∷ e ∷ []) ++ x ≡ cond q (c ∷ []) (37 ∷ f ∷ g ∷ []) ++ y → (b ≡ c) × (x ≡ y)
 heads_at true true b c d e f g x y not_b not_c same h =
     let head : b ≡ c = cc in
     let rest : x ≡ y = cc in
@@ -41,16 +42,19 @@ heads_at false false b c d e f g x y not_b not_c same h =
 
 -- no byte's text begins another's
 pub heads : (b c : ℕ) (x y : List ℕ) → b < 256 → c < 256 → byte_text b ++ x ≡ byte_text c ++ y → (b ≡ c) × (x ≡ y)
-heads b c x y small little h = heads_at (is_plain b) (is_plain c) b c (upper_digit (b / 16)) (upper_digit (b % 16)) (upper_digit (c / 16)) (upper_digit (c % 16)) x y (plain_not_percent b) (plain_not_percent c) (byte_same b c small little) h
+heads b c x y small little h = heads_at (is_plain b) (is_plain c) b c (upper_digit (b / 16)) (upper_digit (b % 16)) (upper_digit (c / 16)) (upper_digit (c % 16)) x y (plain_not_percent b)
+    (plain_not_percent c) (byte_same b c small little) h
 
 some_at : (p : Bool) (b d e : ℕ) (x : List ℕ) → cond p (b ∷ []) (37 ∷ d ∷ e ∷ []) ++ x ≡ [] → ⊥
 some_at true b d e x h = cc
 some_at false b d e x h = cc
 
 -- what is left of a name's text after the text of some bytes is the text of the bytes after them
-pub spelled_rest : (done name rest : List ℕ) → AreBytes done → AreBytes name → name_text done ++ rest ≡ name_text name → (more : List ℕ) × AreBytes more × (rest ≡ name_text more) × (name ≡ done ++ more)
+pub spelled_rest : (done name rest : List ℕ) → AreBytes done → AreBytes name → name_text done ++ rest ≡ name_text name → (more : List ℕ) × AreBytes more × (rest ≡ name_text more)
+    × (name ≡ done ++ more)
 spelled_rest [] name rest bytes small h = (name, small, h, refl)
-spelled_rest (b ∷ done) [] rest bytes small h = absurd (some_at (is_plain b) b (upper_digit (b / 16)) (upper_digit (b % 16)) (name_text done ++ rest) (sym (append_assoc (byte_text b) (name_text done) rest) ∙ h))
+spelled_rest (b ∷ done) [] rest bytes small h = absurd
+    (some_at (is_plain b) b (upper_digit (b / 16)) (upper_digit (b % 16)) (name_text done ++ rest) (sym (append_assoc (byte_text b) (name_text done) rest) ∙ h))
 spelled_rest (b ∷ done) (c ∷ name) rest bytes small h =
     let both = heads b c (name_text done ++ rest) (name_text name) bytes.0 small.0 (sym (append_assoc (byte_text b) (name_text done) rest) ∙ h) in
     let on = spelled_rest done name rest bytes.1 small.1 both.1 in
@@ -67,8 +71,10 @@ name_same m n small little h =
     sym (on.3 ∙ ap (λ l. m ++ l) (none_left on.0 on.2) ∙ append-nil m)
 
 -- a text that goes on with what begins no byte's text spells no name
-pub spells_nothing : (done name rest : List ℕ) → AreBytes done → AreBytes name → name_text done ++ rest ≡ name_text name → 0 < length rest → ((b : ℕ) (more : List ℕ) → b < 256 → rest ≡ byte_text b ++ more → ⊥) → ⊥
-spells_nothing done name rest bytes small h some none = nothing (spelled_rest done name rest bytes small h).0 (spelled_rest done name rest bytes small h).1 (spelled_rest done name rest bytes small h).2
+pub spells_nothing : (done name rest : List ℕ) → AreBytes done → AreBytes name → name_text done ++ rest ≡ name_text name → 0 < length rest
+    → ((b : ℕ) (more : List ℕ) → b < 256 → rest ≡ byte_text b ++ more → ⊥) → ⊥
+spells_nothing done name rest bytes small h some none = nothing (spelled_rest done name rest bytes small h).0 (spelled_rest done name rest bytes small h).1
+    (spelled_rest done name rest bytes small h).2
   where
     nothing : (more : List ℕ) → AreBytes more → rest ≡ name_text more → ⊥
     nothing [] bytes e = let size = ap length e in omega arith

@@ -57,17 +57,20 @@ cut_more [] rest h = h
 cut_more (name ∷ names) rest h = refl
 
 -- what is left of a path's text after some parts is the text of the parts after them
-pub spelled_parts : (done path : List (List ℕ)) (rest : List ℕ) → IsCutAt 47 rest → AreComponents done → AreComponents path → parts_text done ++ rest ≡ parts_text path → (more : List (List ℕ)) × AreComponents more × (rest ≡ parts_text more) × (path ≡ done ++ more)
+pub spelled_parts : (done path : List (List ℕ)) (rest : List ℕ) → IsCutAt 47 rest → AreComponents done → AreComponents path → parts_text done ++ rest ≡ parts_text path → (more : List (List ℕ))
+    × AreComponents more × (rest ≡ parts_text more) × (path ≡ done ++ more)
 spelled_parts [] path rest cut good all h = (path, all, h, refl)
 spelled_parts (n ∷ done) [] rest cut good all h = absurd cc
 spelled_parts (n ∷ done) (c ∷ path) rest cut good all h =
     let tail : (name_text n ++ parts_text done) ++ rest ≡ name_text c ++ parts_text path = cc in
-    let both = first_part 47 (name_text n) (name_text c) (parts_text done ++ rest) (parts_text path) (no_slash n) (no_slash c) (cut_more done rest cut) (cut_parts path) (sym (append_assoc (name_text n) (parts_text done) rest) ∙ tail) in
+    let both = first_part 47 (name_text n) (name_text c) (parts_text done ++ rest) (parts_text path) (no_slash n) (no_slash c) (cut_more done rest cut) (cut_parts path)
+    (sym (append_assoc (name_text n) (parts_text done) rest) ∙ tail) in
     let on = spelled_parts done path rest cut good.1 all.1 both.1 in
     (on.0, on.1, on.2, ap (λ v. v ∷ path) (sym (name_same n c good.0.1 all.0.1 both.0)) ∙ ap (λ l. n ∷ l) on.3)
 
 -- the next part of a text of parts is the text of the next name
-pub next_at : (more : List (List ℕ)) (rest part tail : List ℕ) → IsPart 47 rest part tail → AreComponents more → rest ≡ parts_text more → (name : List ℕ) × (later : List (List ℕ)) × (more ≡ name ∷ later) × (part ≡ name_text name) × (tail ≡ parts_text later)
+pub next_at : (more : List (List ℕ)) (rest part tail : List ℕ) → IsPart 47 rest part tail → AreComponents more → rest ≡ parts_text more → (name : List ℕ) × (later : List (List ℕ))
+    × (more ≡ name ∷ later) × (part ≡ name_text name) × (tail ≡ parts_text later)
 next_at [] rest part tail cut all e = absurd (let f = cut.whole in cc)
 next_at (c ∷ more) rest part tail cut all e =
     let whole = cut.whole in
@@ -80,7 +83,8 @@ parts-append [] ys h k = k
 parts-append (x ∷ xs) ys h k = (h.0, parts-append xs ys h.1 k)
 
 -- a part that spells no name, behind parts that do: the text spells no path
-pub no_part : (text rest part tail : List ℕ) (done path : List (List ℕ)) → (text ≡ 47 ∷ [] → ⊥) → AreComponents done → text ≡ parts_text done ++ rest → IsPart 47 rest part tail → AreComponents path → text ≡ path_text path → SpellsNoName part → ⊥
+pub no_part : (text rest part tail : List ℕ) (done path : List (List ℕ)) → (text ≡ 47 ∷ [] → ⊥) → AreComponents done → text ≡ parts_text done ++ rest → IsPart 47 rest part tail → AreComponents path
+    → text ≡ path_text path → SpellsNoName part → ⊥
 no_part text rest part tail done [] not_root good so_far cut all spelled none = not_root spelled
 no_part text rest part tail done (c ∷ path) not_root good so_far cut all spelled none =
     let begins : IsCutAt 47 rest = subst (IsCutAt 47) (sym cut.whole) refl in

@@ -116,14 +116,16 @@ two s (f ∷ []) h = absurd h.2
 two s (f ∷ g ∷ []) h = let x = path_of f h.0 in (x.0, g, h.2.0, ap (λ v. v ∷ g ∷ []) x.1)
 two s (f ∷ g ∷ k ∷ fields) h = absurd h.2.2
 
-three : (s t : Sort) (fields : List Field) → AreFields (sort.Path ∷ s ∷ t ∷ []) fields → (path : List (List ℕ)) × (g : Field) × (k : Field) × (sort_of g ≡ s) × (sort_of k ≡ t) × (of_path path ∷ g ∷ k ∷ [] ≡ fields)
+three : (s t : Sort) (fields : List Field) → AreFields (sort.Path ∷ s ∷ t ∷ []) fields → (path : List (List ℕ)) × (g : Field) × (k : Field) × (sort_of g ≡ s) × (sort_of k ≡ t)
+    × (of_path path ∷ g ∷ k ∷ [] ≡ fields)
 three s t [] h = absurd h
 three s t (f ∷ []) h = absurd h.2
 three s t (f ∷ g ∷ []) h = absurd h.2.2
 three s t (f ∷ g ∷ k ∷ []) h = let x = path_of f h.0 in (x.0, g, k, h.2.0, h.2.2.0, ap (λ v. v ∷ g ∷ k ∷ []) x.1)
 three s t (f ∷ g ∷ k ∷ l ∷ fields) h = absurd h.2.2.2
 
-by_path : (w : Word) (make : List (List ℕ) → Request) → ((path : List (List ℕ)) → word_of (make path) ≡ w) → ((path : List (List ℕ)) → fields_of (make path) ≡ of_path path ∷ []) → (fields : List Field) → AreFields (sort.Path ∷ []) fields → Made w fields
+by_path : (w : Word) (make : List (List ℕ) → Request) → ((path : List (List ℕ)) → word_of (make path) ≡ w) → ((path : List (List ℕ)) → fields_of (make path) ≡ of_path path ∷ [])
+    → (fields : List Field) → AreFields (sort.Path ∷ []) fields → Made w fields
 by_path w make its_word its_fields fields h = let x = one fields h in record { value = make x.0; its_word = its_word x.0; its_fields = its_fields x.0 ∙ x.1 }
 
 -- each word has a request for fields of its sorts
@@ -238,8 +240,10 @@ one_field f text a scan took = whole_more f [] [] text a took (whole_none a (too
 pub two_fields : (f g : Field) (text a b : List ℕ) → ScansFields (sort_of f ∷ sort_of g ∷ []) text None → Takes f text a → Takes g a b → SpellsFields (sort_of f ∷ sort_of g ∷ []) text (f ∷ g ∷ [])
 two_fields f g text a b scan first second = whole_more f (sort_of g ∷ []) (g ∷ []) text a first (one_field g a b (first.on (sort_of g ∷ []) scan) second)
 
-pub three_fields : (f g k : Field) (text a b d : List ℕ) → ScansFields (sort_of f ∷ sort_of g ∷ sort_of k ∷ []) text None → Takes f text a → Takes g a b → Takes k b d → SpellsFields (sort_of f ∷ sort_of g ∷ sort_of k ∷ []) text (f ∷ g ∷ k ∷ [])
-three_fields f g k text a b d scan first second third = whole_more f (sort_of g ∷ sort_of k ∷ []) (g ∷ k ∷ []) text a first (two_fields g k a b d (first.on (sort_of g ∷ sort_of k ∷ []) scan) second third)
+pub three_fields : (f g k : Field) (text a b d : List ℕ) → ScansFields (sort_of f ∷ sort_of g ∷ sort_of k ∷ []) text None → Takes f text a → Takes g a b → Takes k b d
+    → SpellsFields (sort_of f ∷ sort_of g ∷ sort_of k ∷ []) text (f ∷ g ∷ k ∷ [])
+three_fields f g k text a b d scan first second third = whole_more f (sort_of g ∷ sort_of k ∷ []) (g ∷ k ∷ []) text a first
+    (two_fields g k a b d (first.on (sort_of g ∷ sort_of k ∷ []) scan) second third)
 
 -- ---- what a line is
 
@@ -275,14 +279,16 @@ no_fields line first rest w cut is none q e spelled =
     none (fields_of q) (subst (λ v. AreFields (shape_of v) (fields_of q)) same spelled) parts.1
 
 -- a request of a line's word and fields
-asks : (line first rest : List ℕ) (w : Word) (refusal : Option Errno) (q : Request) → Cut line first rest → first ≡ word_text w → ScansFields (shape_of w) rest refusal → word_of q ≡ w → AreFields (shape_of w) (fields_of q) → rest ≡ fields_text (fields_of q) → (line ≡ request_line q) × IsSpelled q × (request_refusal q ≡ refusal)
+asks : (line first rest : List ℕ) (w : Word) (refusal : Option Errno) (q : Request) → Cut line first rest → first ≡ word_text w → ScansFields (shape_of w) rest refusal → word_of q ≡ w
+    → AreFields (shape_of w) (fields_of q) → rest ≡ fields_text (fields_of q) → (line ≡ request_line q) × IsSpelled q × (request_refusal q ≡ refusal)
 asks line first rest w refusal q cut is scan same good spelled = (
   cut.whole ∙ ap (λ l. l ++ rest) (is ∙ ap word_text (sym same)) ∙ ap (λ l. word_text (word_of q) ++ l) spelled,
   subst (λ v. AreFields (shape_of v) (fields_of q)) (sym same) good,
   ap first_refusal (fields_same (shape_of w) (fields_of q) scan.fields good scan.good (sym spelled ∙ scan.spelled)) ∙ sym scan.refused,
 )
 
-scanned : (line first rest : List ℕ) (w : Word) (refusal : Option Errno) → Cut line first rest → first ≡ word_text w → ScansFields (shape_of w) rest refusal → (q : Request) × (line ≡ request_line q) × IsSpelled q × (request_refusal q ≡ refusal)
+scanned : (line first rest : List ℕ) (w : Word) (refusal : Option Errno) → Cut line first rest → first ≡ word_text w → ScansFields (shape_of w) rest refusal → (q : Request) × (line ≡ request_line q)
+    × IsSpelled q × (request_refusal q ≡ refusal)
 scanned line first rest w refusal cut is scan =
     let m = made w scan.fields scan.good in
     let all = asks line first rest w refusal m.value cut is scan m.its_word (subst (AreFields (shape_of w)) (sym m.its_fields) scan.good) (scan.spelled ∙ ap fields_text (sym m.its_fields)) in
@@ -292,7 +298,8 @@ pub refused : (line first rest : List ℕ) (w : Word) (e : Errno) → Cut line f
 unfolding Reads
 refused line first rest w e cut is scan = scanned line first rest w (Some e) cut is scan
 
-pub asked : (line first rest : List ℕ) (w : Word) (q : Request) → Cut line first rest → first ≡ word_text w → ScansFields (shape_of w) rest None → word_of q ≡ w → SpellsFields (shape_of w) rest (fields_of q) → Reads line (Asks q)
+pub asked : (line first rest : List ℕ) (w : Word) (q : Request) → Cut line first rest → first ≡ word_text w → ScansFields (shape_of w) rest None → word_of q ≡ w
+    → SpellsFields (shape_of w) rest (fields_of q) → Reads line (Asks q)
 unfolding Reads
 asked line first rest w q cut is scan same whole = asks line first rest w None q cut is scan same whole.good whole.whole
 
@@ -304,7 +311,8 @@ asks_some line first rest w cut is scan = let x = scanned line first rest w None
 
 request_same : (q r : Request) → IsSpelled q → IsSpelled r → request_line q ≡ request_line r → q ≡ r
 request_same q r h k e =
-    let parts = first_part 32 (word_text (word_of q)) (word_text (word_of r)) (fields_text (fields_of q)) (fields_text (fields_of r)) (word_lacks (word_of q)) (word_lacks (word_of r)) (fields_cut (fields_of q)) (fields_cut (fields_of r)) e in
+    let parts = first_part 32 (word_text (word_of q)) (word_text (word_of r)) (fields_text (fields_of q)) (fields_text (fields_of r)) (word_lacks (word_of q)) (word_lacks (word_of r))
+    (fields_cut (fields_of q)) (fields_cut (fields_of r)) e in
     let words_same : word_of q ≡ word_of r = word_same (word_of q) (word_of r) parts.0 in
     let all : fields_of q ≡ fields_of r = fields_same (shape_of (word_of r)) (fields_of q) (fields_of r) (subst (λ v. AreFields (shape_of v) (fields_of q)) words_same h) k parts.1 in
     let both : Some q ≡ Some r = sym (its_request q) ∙ ap (λ v. request_of v (fields_of q)) words_same ∙ ap (request_of (word_of r)) all ∙ its_request r in

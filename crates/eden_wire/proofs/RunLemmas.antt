@@ -22,7 +22,13 @@ use Rattle.eden_wire.proofs.SessionLemmas.{Lines-append, Lines-more, Serves-appe
 
 -- after a text, a beginning of the next
 front_then : (a b c : Option (List ℕ)) (x y : List ℕ) → Appends a b x → WritesFront b c y → WritesFront a c (x ++ y)
-front_then a b c x y done w = record { front = x ++ w.front; rest = w.rest; whole = ap (λ l. x ++ l) w.whole ∙ sym (append_assoc x w.front w.rest); appends = Appends-trans a b c x w.front done w.appends }
+front_then a b c x y done w = record {
+  front = x ++ w.front;
+  rest = w.rest;
+  whole = ap (λ l. x ++ l) w.whole ∙ sym
+      (append_assoc x w.front w.rest);
+  appends = Appends-trans a b c x w.front done w.appends;
+}
 
 module _ {S : Type 0} (answers : Answering S) where
   -- the lines that were read so far were answered, and the rest is the beginning of one more
@@ -41,10 +47,21 @@ module _ {S : Type 0} (answers : Answering S) where
 
   -- nothing was read
   pub so_far_kept : (s t : S) (i j k o p : Option (List ℕ)) (rest : List ℕ) → SoFar s t i j o p rest → Keeps j k → SoFar s t i k o p rest
-  so_far_kept s t i j k o p rest so kept = record { read = so.read; items = so.items; given = so.given; consumed = Consumes-kept i j k so.read so.consumed kept; lines = so.lines; served = so.served; wrote = so.wrote; one = so.one }
+  so_far_kept s t i j k o p rest so
+      kept = record {
+        read = so.read;
+        items = so.items;
+        given = so.given;
+        consumed = Consumes-kept i j k so.read so.consumed kept;
+        lines = so.lines;
+        served = so.served;
+        wrote = so.wrote;
+        one = so.one;
+      }
 
   -- a piece was read, and its lines were answered
-  pub so_far_more : (s t u : S) (i j k o p q : Option (List ℕ)) (rest piece after : List ℕ) (out : Output) → SoFar s t i j o p rest → Consumes j k piece → Answered answers t u p q out (rest ++ piece) after (Ok true) → SoFar s u i k o q after
+  pub so_far_more : (s t u : S) (i j k o p q : Option (List ℕ)) (rest piece after : List ℕ) (out : Output) → SoFar s t i j o p rest → Consumes j k piece
+      → Answered answers t u p q out (rest ++ piece) after (Ok true) → SoFar s u i k o q after
   so_far_more s t u i j k o p q rest piece after out so more a =
       let all : a.items ++ a.last ≡ a.items = ap (λ l. a.items ++ l) a.left.0 ∙ append-nil a.items in
       let served : Serves answers t a.items a.given u = subst (λ l. Serves answers t l a.given u) all a.served in
@@ -54,13 +71,15 @@ module _ {S : Type 0} (answers : Answering S) where
         items = so.items ++ a.items;
         given = so.given ++ a.given;
         consumed = Consumes-trans i j k so.read piece so.consumed more;
-        lines = subst (Lines (so.read ++ piece) (so.items ++ a.items)) a.left.1 (Lines-append (so.read ++ piece) so.items a.items (rest ++ piece) a.rest (Lines-more so.read so.items rest piece so.lines) a.lines);
+        lines = subst (Lines (so.read ++ piece) (so.items ++ a.items)) a.left.1
+            (Lines-append (so.read ++ piece) so.items a.items (rest ++ piece) a.rest (Lines-more so.read so.items rest piece so.lines) a.lines);
         served = Serves-append answers s so.items so.given t a.items a.given u so.served served;
         wrote = subst (Appends o q) (sym (texts-append answers s so.items so.given t a.items a.given so.served)) (Appends-trans o p q _ _ so.wrote wrote);
         one = subst IsOneLine a.left.1 a.left.2;
       }
 
-  pub session_bad : (s t u : S) (i j k o p q : Option (List ℕ)) (rest piece after : List ℕ) (out : Output) → SoFar s t i j o p rest → Consumes j k piece → Answered answers t u p q out (rest ++ piece) after (Ok false) → Session answers (s, u) (i, k) (o, q) (Ok tt)
+  pub session_bad : (s t u : S) (i j k o p q : Option (List ℕ)) (rest piece after : List ℕ) (out : Output) → SoFar s t i j o p rest → Consumes j k piece
+      → Answered answers t u p q out (rest ++ piece) after (Ok false) → Session answers (s, u) (i, k) (o, q) (Ok tt)
   session_bad s t u i j k o p q rest piece after out so more a =
       let all = sym (append_assoc so.items a.items a.last) in
       record {
@@ -72,14 +91,19 @@ module _ {S : Type 0} (answers : Answering S) where
         consumed = Consumes-trans i j k so.read piece so.consumed more;
         lines = Lines-append (so.read ++ piece) so.items a.items (rest ++ piece) a.rest (Lines-more so.read so.items rest piece so.lines) a.lines;
         served = subst (λ l. Serves answers s l (so.given ++ a.given) u) all (Serves-append answers s so.items so.given t (a.items ++ a.last) a.given u so.served a.served);
-        said = (subst (Ends a.rest k) (sym a.left.0) (inl a.left.1), subst (λ l. Appends o q (texts l (so.given ++ a.given))) all (subst (Appends o q) (sym (texts-append answers s so.items so.given t (a.items ++ a.last) a.given so.served)) (Appends-trans o p q _ _ so.wrote a.wrote)));
+        said = (
+          subst (Ends a.rest k) (sym a.left.0) (inl a.left.1),
+          subst (λ l. Appends o q (texts l (so.given ++ a.given))) all
+              (subst (Appends o q) (sym (texts-append answers s so.items so.given t (a.items ++ a.last) a.given so.served)) (Appends-trans o p q _ _ so.wrote a.wrote)),
+        );
       }
 
   ended : (rest : List ℕ) (k : Option (List ℕ)) (last : List Item) → (last ≡ []) ⊎ ((last ≡ Bad ∷ []) × IsBadEnd rest) → (last ≡ []) ⊎ Ends rest k last
   ended rest k last (inl e) = inl e
   ended rest k last (inr e) = inr (subst (Ends rest k) (sym e.0) (inl e.1))
 
-  pub session_unwritten : (s t u : S) (i j k o p q : Option (List ℕ)) (rest piece after : List ℕ) (out : Output) (d : WriteFailed) → SoFar s t i j o p rest → Consumes j k piece → Answered answers t u p q out (rest ++ piece) after (Err d) → Session answers (s, u) (i, k) (o, q) (Err fault.Write)
+  pub session_unwritten : (s t u : S) (i j k o p q : Option (List ℕ)) (rest piece after : List ℕ) (out : Output) (d : WriteFailed) → SoFar s t i j o p rest → Consumes j k piece
+      → Answered answers t u p q out (rest ++ piece) after (Err d) → Session answers (s, u) (i, k) (o, q) (Err fault.Write)
   session_unwritten s t u i j k o p q rest piece after out d so more a =
       let all = sym (append_assoc so.items a.items a.last) in
       record {
@@ -91,7 +115,11 @@ module _ {S : Type 0} (answers : Answering S) where
         consumed = Consumes-trans i j k so.read piece so.consumed more;
         lines = Lines-append (so.read ++ piece) so.items a.items (rest ++ piece) a.rest (Lines-more so.read so.items rest piece so.lines) a.lines;
         served = subst (λ l. Serves answers s l (so.given ++ a.given) u) all (Serves-append answers s so.items so.given t (a.items ++ a.last) a.given u so.served a.served);
-        said = (ended a.rest k a.last a.left, subst (λ l. WritesFront o q (texts l (so.given ++ a.given))) all (subst (WritesFront o q) (sym (texts-append answers s so.items so.given t (a.items ++ a.last) a.given so.served)) (front_then o p q _ _ so.wrote a.wrote)));
+        said = (
+          ended a.rest k a.last a.left,
+          subst (λ l. WritesFront o q (texts l (so.given ++ a.given))) all
+              (subst (WritesFront o q) (sym (texts-append answers s so.items so.given t (a.items ++ a.last) a.given so.served)) (front_then o p q _ _ so.wrote a.wrote)),
+        );
       }
 
   pub session_unread : (s t : S) (i j k o p : Option (List ℕ)) (rest : List ℕ) → SoFar s t i j o p rest → Keeps j k → Session answers (s, t) (i, k) (o, p) (Err fault.Read)
@@ -110,7 +138,8 @@ module _ {S : Type 0} (answers : Answering S) where
   pub session_none : (s : S) (i o : Option (List ℕ)) → Session answers (s, s) (i, i) (o, o) (Err fault.Memory)
   session_none s i o = record { read = []; items = []; last = []; given = []; rest = []; consumed = Consumes-nil i; lines = refl; served = refl; said = (refl, refl, Keeps-refl o) }
 
-  session_closed : (r : Result ⊤ SessionFault) (s t : S) (i j o p q : Option (List ℕ)) (rest : List ℕ) (last : List Item) → SoFar s t i j o p rest → Serves answers t last [] t → Ends rest j last → r ≡ Ok tt → Appends p q (texts last []) → Session answers (s, t) (i, j) (o, q) r
+  session_closed : (r : Result ⊤ SessionFault) (s t : S) (i j o p q : Option (List ℕ)) (rest : List ℕ) (last : List Item) → SoFar s t i j o p rest → Serves answers t last [] t → Ends rest j last
+      → r ≡ Ok tt → Appends p q (texts last []) → Session answers (s, t) (i, j) (o, q) r
   session_closed r s t i j o p q rest last so served ends e wrote = subst (Session answers (s, t) (i, j) (o, q)) (sym e) record {
     read = so.read;
     items = so.items;
@@ -126,7 +155,8 @@ module _ {S : Type 0} (answers : Answering S) where
   -- the input has ended
   pub session_end : (r : Result ⊤ SessionFault) (rest : List ℕ) (s t : S) (i j o p q : Option (List ℕ)) → SoFar s t i j o p rest → IsAtEnd j → Ended rest p q r → Session answers (s, t) (i, j) (o, q) r
   session_end r [] s t i j o p q so end h = session_closed r s t i j o p q [] [] so refl (refl, end) h.0 (Appends-kept p p q [] (Appends-nil p) h.1)
-  session_end (Ok v) (b ∷ rest) s t i j o p q so end h = session_closed (Ok v) s t i j o p q (b ∷ rest) (Bad ∷ []) so refl (inr record { one = so.one; some = omega arith; at_end = end }) refl (subst (Appends p q) (sym (append-nil (error_text EPROTO))) h)
+  session_end (Ok v) (b ∷ rest) s t i j o p q so end h = session_closed (Ok v) s t i j o p q (b ∷ rest) (Bad ∷ []) so refl (inr record { one = so.one; some = omega arith; at_end = end }) refl
+      (subst (Appends p q) (sym (append-nil (error_text EPROTO))) h)
   session_end (Err e) (b ∷ rest) s t i j o p q so end h = subst (λ f. Session answers (s, t) (i, j) (o, q) (Err f)) (sym h.0) record {
     read = so.read;
     items = so.items;
@@ -136,7 +166,11 @@ module _ {S : Type 0} (answers : Answering S) where
     consumed = so.consumed;
     lines = so.lines;
     served = Serves-append answers s so.items so.given t (Bad ∷ []) [] t so.served refl;
-    said = (inr (inr record { one = so.one; some = omega arith; at_end = end }), subst (WritesFront o q) (sym (texts-append answers s so.items so.given t (Bad ∷ []) [] so.served)) (front_then o p q _ _ so.wrote (subst (WritesFront p q) (sym (append-nil (error_text EPROTO))) h.1)));
+    said = (
+      inr (inr record { one = so.one; some = omega arith; at_end = end }),
+      subst (WritesFront o q) (sym (texts-append answers s so.items so.given t (Bad ∷ []) [] so.served))
+          (front_then o p q _ _ so.wrote (subst (WritesFront p q) (sym (append-nil (error_text EPROTO))) h.1)),
+    );
   }
 
 -- reading nothing leaves a reader as it was
@@ -147,7 +181,8 @@ keeps_from_none (Some x) (Some y) [] e h = sym h
 keeps_from_none (Some x) (Some y) (b ∷ piece) e h = absurd (omega arith)
 
 module _ {S : Type 0} (answers : Answering S) where
-  pub answered_as : (s t : S) (o p : Option (List ℕ)) (out : Output) (bytes joined : List ℕ) (used : ℕ) (r q : Result Bool WriteFailed) → bytes ≡ joined → r ≡ q → Answered answers s t o p out bytes (drop used bytes) r → Answered answers s t o p out joined (drop used joined) q
+  pub answered_as : (s t : S) (o p : Option (List ℕ)) (out : Output) (bytes joined : List ℕ) (used : ℕ) (r q : Result Bool WriteFailed) → bytes ≡ joined → r ≡ q
+      → Answered answers s t o p out bytes (drop used bytes) r → Answered answers s t o p out joined (drop used joined) q
   answered_as s t o p out bytes joined used r q e f a = subst (λ b. Answered answers s t o p out b (drop used b) q) e (subst (Answered answers s t o p out bytes (drop used bytes)) f a)
 
   pub answered_short : (s t : S) (o p : Option (List ℕ)) (out : Output) (bytes after : List ℕ) → Answered answers s t o p out bytes after (Ok true) → length after ≤ longest_line

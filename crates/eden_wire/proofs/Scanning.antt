@@ -54,7 +54,8 @@ byte_some b more = at (is_plain b) b _ _ more
     at false b c d more = omega arith
 
 -- one byte more
-pub name_more : (text rest more : List ℕ) (len n b : ℕ) (barred bars : Bool) → NameSoFar text rest len barred → b < 256 → rest ≡ byte_text b ++ more → n ≡ len + 1 → bars ≡ ((barred || b == 47) || b == 0) → NameSoFar text more n bars
+pub name_more : (text rest more : List ℕ) (len n b : ℕ) (barred bars : Bool) → NameSoFar text rest len barred → b < 256 → rest ≡ byte_text b ++ more → n ≡ len + 1
+    → bars ≡ ((barred || b == 47) || b == 0) → NameSoFar text more n bars
 name_more text rest more len n b barred bars so small e count found =
     let done = so.done ++ b ∷ [] in
     let spelled : name_text done ≡ name_text so.done ++ byte_text b = flat_map-append byte_text so.done (b ∷ []) ∙ ap (λ l. name_text so.done ++ l) (append-nil (byte_text b)) in
@@ -71,7 +72,8 @@ name_more text rest more len n b barred bars so small e count found =
     }
 
 -- what begins no byte's text: the text spells no name
-pub name_bad : (text rest : List ℕ) (len : ℕ) (barred : Bool) → NameSoFar text rest len barred → 0 < length rest → ((b : ℕ) (more : List ℕ) → b < 256 → rest ≡ byte_text b ++ more → ⊥) → SpellsNoName text
+pub name_bad : (text rest : List ℕ) (len : ℕ) (barred : Bool) → NameSoFar text rest len barred → 0 < length rest → ((b : ℕ) (more : List ℕ) → b < 256 → rest ≡ byte_text b ++ more → ⊥)
+    → SpellsNoName text
 name_bad text rest len barred so some none = λ name good e. spells_nothing so.done name rest so.small good.1 (sym so.so_far ∙ e) some none
 
 or_last : (p q r s : Bool) → ((r || s) || (p || q)) ≡ (((p || q) || r) || s)
@@ -111,11 +113,13 @@ no_name_at (c ∷ name) some small =
     ∙ ap (λ v. (((v || bytes_eq n (46 ∷ [])) || bytes_eq n (46 ∷ 46 ∷ [])) || list_any (λ b. b == 47) n) || list_any (λ b. b == 0) n) (not_zero (length n) some)
 
 -- the whole text was looked through
-pub scans_name : (text rest : List ℕ) (len : ℕ) (barred no_name : Bool) (refusal : Option Errno) → 0 < length text → NameSoFar text rest len barred → rest ≡ [] → no_name ≡ (barred || is_dots text) → refusal ≡ refusal_by no_name len → ScansName text len refusal
+pub scans_name : (text rest : List ℕ) (len : ℕ) (barred no_name : Bool) (refusal : Option Errno) → 0 < length text → NameSoFar text rest len barred → rest ≡ [] → no_name ≡ (barred || is_dots text)
+    → refusal ≡ refusal_by no_name len → ScansName text len refusal
 scans_name text rest len barred no_name refusal some so none found refused =
     let spelled : text ≡ name_text so.done = so.so_far ∙ ap (λ l. name_text so.done ++ l) none ∙ append-nil (name_text so.done) in
     let filled : 0 < length so.done = not_empty so.done (subst (λ t. 0 < length t) spelled some) in
-    let test : no_name ≡ is_no_name so.done = found ∙ ap (λ v. v || is_dots text) so.bars ∙ ap (λ t. (list_any (λ b. b == 47) so.done || list_any (λ b. b == 0) so.done) || is_dots t) spelled ∙ no_name_at so.done filled so.small in
+    let test : no_name ≡ is_no_name so.done = found ∙ ap (λ v. v || is_dots text) so.bars ∙ ap
+    (λ t. (list_any (λ b. b == 47) so.done || list_any (λ b. b == 0) so.done) || is_dots t) spelled ∙ no_name_at so.done filled so.small in
     record {
       name = so.done;
       good = (filled, so.small);
@@ -144,7 +148,19 @@ pub record PathSoFar (text rest : List ℕ) (refusal : Option Errno) (names byte
   pub not_root : text ≡ 47 ∷ [] → ⊥
 
 pub path_none : (text : List ℕ) → 0 < length text → IsCutAt 47 text → (text ≡ 47 ∷ [] → ⊥) → PathSoFar text text None 0 0
-path_none text some cut not_root = record { done = []; good = tt; so_far = refl; cut = cut; refused = refl; count = refl; size = refl; counted = omega arith; fits = omega arith; some = some; not_root = not_root }
+path_none text some cut not_root = record {
+  done = [];
+  good = tt;
+  so_far = refl;
+  cut = cut;
+  refused = refl;
+  count = refl;
+  size = refl;
+  counted = omega arith;
+  fits = omega arith;
+  some = some;
+  not_root = not_root;
+}
 
 first-assoc : (x y z : Option Errno) → option_or (option_or x y) z ≡ option_or x (option_or y z)
 first-assoc (Some e) y z = refl
@@ -162,10 +178,12 @@ part_size : (rest part more : List ℕ) → IsPart 47 rest part more → length 
 part_size rest part more cut = let long = ap length cut.whole in let both = length-append part more in omega arith
 
 -- one part more
-pub path_more : (text rest part more : List ℕ) (first found both : Option Errno) (names bytes len count size : ℕ) → PathSoFar text rest first names bytes → IsPart 47 rest part more → ScansName part len found → both ≡ option_or first found → count ≡ names + 1 → size ≡ bytes + (len + 1) → PathSoFar text more both count size
+pub path_more : (text rest part more : List ℕ) (first found both : Option Errno) (names bytes len count size : ℕ) → PathSoFar text rest first names bytes → IsPart 47 rest part more
+    → ScansName part len found → both ≡ option_or first found → count ≡ names + 1 → size ≡ bytes + (len + 1) → PathSoFar text more both count size
 path_more text rest part more first found both names bytes len count size so cut scan joined counted sized =
     let done = so.done ++ scan.name ∷ [] in
-    let spelled : parts_text done ≡ parts_text so.done ++ (47 ∷ part) = flat_map-append component_text so.done (scan.name ∷ []) ∙ ap (λ l. parts_text so.done ++ l) (append-nil (component_text scan.name) ∙ ap (λ l. 47 ∷ l) (sym scan.spelled)) in
+    let spelled : parts_text done ≡ parts_text so.done ++ (47 ∷ part) = flat_map-append component_text so.done (scan.name ∷ []) ∙ ap (λ l. parts_text so.done ++ l)
+    (append-nil (component_text scan.name) ∙ ap (λ l. 47 ∷ l) (sym scan.spelled)) in
     let whole : text ≡ (parts_text so.done ++ (47 ∷ part)) ++ more = so.so_far ∙ ap (λ l. parts_text so.done ++ l) cut.whole ∙ sym (append_assoc (parts_text so.done) (47 ∷ part) more) in
     let long = part_size rest part more cut in
     let had = so.fits in
@@ -179,7 +197,8 @@ path_more text rest part more first found both names bytes len count size so cut
       good = parts-append so.done (scan.name ∷ []) so.good (scan.good, tt);
       so_far = whole ∙ ap (λ l. l ++ more) (sym spelled);
       cut = cut.cut;
-      refused = joined ∙ ap (λ v. option_or v found) so.refused ∙ ap (option_or (names_refusal so.done)) (scan.refused ∙ sym (first-none (name_refusal scan.name))) ∙ sym (names-append so.done (scan.name ∷ []));
+      refused = joined ∙ ap (λ v. option_or v found) so.refused ∙ ap (option_or (names_refusal so.done)) (scan.refused ∙ sym (first-none (name_refusal scan.name))) ∙ sym
+          (names-append so.done (scan.name ∷ []));
       count = (let more_long = length-append so.done (scan.name ∷ []) in omega arith);
       size = (let sum = sum_by-append (λ n. length n + 1) so.done (scan.name ∷ []) in omega arith);
       counted = omega arith;
@@ -189,18 +208,21 @@ path_more text rest part more first found both names bytes len count size so cut
     }
 
 -- a part that spells no name
-pub path_bad : (text rest part more : List ℕ) (first : Option Errno) (names bytes : ℕ) → PathSoFar text rest first names bytes → IsPart 47 rest part more → SpellsNoName part → (path : List (List ℕ)) → AreComponents path → text ≡ path_text path → ⊥
+pub path_bad : (text rest part more : List ℕ) (first : Option Errno) (names bytes : ℕ) → PathSoFar text rest first names bytes → IsPart 47 rest part more → SpellsNoName part → (path : List (List ℕ))
+    → AreComponents path → text ≡ path_text path → ⊥
 path_bad text rest part more first names bytes so cut none path all spelled = no_part text rest part more so.done path so.not_root so.good so.so_far cut all spelled none
 
 -- the whole text was looked through
-pub scans_path : (text rest : List ℕ) (first refusal : Option Errno) (names bytes : ℕ) → PathSoFar text rest first names bytes → rest ≡ [] → refusal ≡ too_long_by first names bytes → ScansPath text refusal
+pub scans_path : (text rest : List ℕ) (first refusal : Option Errno) (names bytes : ℕ) → PathSoFar text rest first names bytes → rest ≡ [] → refusal ≡ too_long_by first names bytes
+    → ScansPath text refusal
 scans_path text rest first refusal names bytes so none refused =
     let spelled : text ≡ parts_text so.done = so.so_far ∙ ap (λ l. parts_text so.done ++ l) none ∙ append-nil (parts_text so.done) in
     record {
       path = so.done;
       good = so.good;
       spelled = path_is text so.done so.some spelled;
-      refused = refused ∙ ap (λ v. too_long_by v names bytes) so.refused ∙ ap (λ v. too_long_by (names_refusal so.done) v bytes) so.count ∙ ap (too_long_by (names_refusal so.done) (length so.done)) so.size;
+      refused = refused ∙ ap (λ v. too_long_by v names bytes) so.refused ∙ ap (λ v. too_long_by (names_refusal so.done) v bytes) so.count ∙ ap
+          (too_long_by (names_refusal so.done) (length so.done)) so.size;
     }
 
 pub scans_root : (text : List ℕ) → text ≡ 47 ∷ [] → ScansPath text None
@@ -241,13 +263,15 @@ to_go_next text rest part more names so cut =
     let named : names_refusal (next.0 ∷ next.1) ≡ None = subst (λ l. names_refusal l ≡ None) next.2 so.named in
     (next.0, fine.0, next.3, (first_none (name_refusal next.0) (names_refusal next.1) named).0)
 
-pub to_go_more : (text rest part more name : List ℕ) (names grown : List (List ℕ)) → PathToGo text rest names → IsPart 47 rest part more → IsComponent name → part ≡ name_text name → grown ≡ names ++ name ∷ [] → PathToGo text more grown
+pub to_go_more : (text rest part more name : List ℕ) (names grown : List (List ℕ)) → PathToGo text rest names → IsPart 47 rest part more → IsComponent name → part ≡ name_text name
+    → grown ≡ names ++ name ∷ [] → PathToGo text more grown
 to_go_more text rest part more name names grown so cut good spelled push =
     let next = next_at so.later rest part more cut so.fine so.rest_is in
     let fine : AreComponents (next.0 ∷ next.1) = subst AreComponents next.2 so.fine in
     let named : names_refusal (next.0 ∷ next.1) ≡ None = subst (λ l. names_refusal l ≡ None) next.2 so.named in
     let same : name ≡ next.0 = name_same name next.0 good.1 fine.0.1 (sym spelled ∙ next.3) in
-    let whole : names ++ so.later ≡ grown ++ next.1 = ap (λ l. names ++ l) (next.2 ∙ ap (λ n. n ∷ next.1) (sym same)) ∙ sym (append_assoc names (name ∷ []) next.1) ∙ ap (λ l. l ++ next.1) (sym push) in
+    let whole : names ++ so.later ≡ grown ++ next.1 = ap (λ l. names ++ l) (next.2 ∙ ap (λ n. n ∷ next.1) (sym same)) ∙ sym (append_assoc names (name ∷ []) next.1) ∙ ap (λ l. l ++ next.1)
+    (sym push) in
     record {
       later = next.1;
       good = subst AreComponents (sym push) (parts-append names (name ∷ []) so.good (good, tt));

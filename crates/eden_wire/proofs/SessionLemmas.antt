@@ -31,7 +31,8 @@ Lines-more bytes [] rest more h = ap (λ b. b ++ more) h
 Lines-more bytes (item ∷ items) rest more h = (h.0, h.1 ++ more, ap (λ b. b ++ more) h.2 ∙ append_assoc h.0 (10 ∷ h.1) more, h.3, h.4, Lines-more h.1 items rest more h.5)
 
 module _ {S : Type 0} (answers : Answering S) where
-  pub Serves-append : (s : S) (items : List Item) (given : Given) (u : S) (others : List Item) (later : Given) (t : S) → Serves answers s items given u → Serves answers u others later t → Serves answers s (items ++ others) (given ++ later) t
+  pub Serves-append : (s : S) (items : List Item) (given : Given) (u : S) (others : List Item) (later : Given) (t : S) → Serves answers s items given u → Serves answers u others later t
+      → Serves answers s (items ++ others) (given ++ later) t
   Serves-append s [] [] u others later t h k = subst (λ v. Serves answers v others later t) (sym h) k
   Serves-append s [] (a ∷ given) u others later t h k = absurd h
   Serves-append s (Asks q ∷ items) [] u others later t h k = absurd h
@@ -40,14 +41,19 @@ module _ {S : Type 0} (answers : Answering S) where
   Serves-append s (Refuses e ∷ items) given u others later t h k = Serves-append s items given u others later t h k
   Serves-append s (Bad ∷ items) given u others later t h k = Serves-append s items given u others later t h k
 
-  pub texts-append : (s : S) (items : List Item) (given : Given) (u : S) (others : List Item) (later : Given) → Serves answers s items given u → texts (items ++ others) (given ++ later) ≡ texts items given ++ texts others later
+  pub texts-append : (s : S) (items : List Item) (given : Given) (u : S) (others : List Item) (later : Given) → Serves answers s items given u
+      → texts (items ++ others) (given ++ later) ≡ texts items given ++ texts others later
   texts-append s [] [] u others later h = refl
   texts-append s [] (a ∷ given) u others later h = absurd h
   texts-append s (Asks q ∷ items) [] u others later h = absurd h
-  texts-append s (Asks q ∷ items) (None ∷ given) u others later h = ap (λ l. answer_text None ++ l) (texts-append s items given u others later h) ∙ sym (append_assoc (answer_text None) (texts items given) (texts others later))
-  texts-append s (Asks q ∷ items) (Some a ∷ given) u others later h = ap (λ l. answer_text (Some a) ++ l) (texts-append h.0 items given u others later h.2) ∙ sym (append_assoc (answer_text (Some a)) (texts items given) (texts others later))
-  texts-append s (Refuses e ∷ items) given u others later h = ap (λ l. error_text e ++ l) (texts-append s items given u others later h) ∙ sym (append_assoc (error_text e) (texts items given) (texts others later))
-  texts-append s (Bad ∷ items) given u others later h = ap (λ l. error_text EPROTO ++ l) (texts-append s items given u others later h) ∙ sym (append_assoc (error_text EPROTO) (texts items given) (texts others later))
+  texts-append s (Asks q ∷ items) (None ∷ given) u others later h = ap (λ l. answer_text None ++ l) (texts-append s items given u others later h) ∙ sym
+      (append_assoc (answer_text None) (texts items given) (texts others later))
+  texts-append s (Asks q ∷ items) (Some a ∷ given) u others later h = ap (λ l. answer_text (Some a) ++ l) (texts-append h.0 items given u others later h.2) ∙ sym
+      (append_assoc (answer_text (Some a)) (texts items given) (texts others later))
+  texts-append s (Refuses e ∷ items) given u others later h = ap (λ l. error_text e ++ l) (texts-append s items given u others later h) ∙ sym
+      (append_assoc (error_text e) (texts items given) (texts others later))
+  texts-append s (Bad ∷ items) given u others later h = ap (λ l. error_text EPROTO ++ l) (texts-append s items given u others later h) ∙ sym
+      (append_assoc (error_text EPROTO) (texts items given) (texts others later))
 
   -- one line and its text
   pub turn_of : (on : Bool) (s t : S) (w v : Option (List ℕ)) (o p : Output) (line : List ℕ) (item : Item) (given : Given) (text : List ℕ)
@@ -67,7 +73,8 @@ module _ {S : Type 0} (answers : Answering S) where
   lined_none s w o bytes = record { items = []; given = []; lines = refl; served = refl; grew = grows_none w o }
 
   -- one more line
-  pub lined_more : (s t u : S) (w v x : Option (List ℕ)) (o p q : Output) (bytes line more : List ℕ) → Lined s t w v o p bytes (line ++ 10 ∷ more) → Turn answers t u v x p q line true → Lined s u w x o q bytes more
+  pub lined_more : (s t u : S) (w v x : Option (List ℕ)) (o p q : Output) (bytes line more : List ℕ) → Lined s t w v o p bytes (line ++ 10 ∷ more) → Turn answers t u v x p q line true
+      → Lined s u w x o q bytes more
   lined_more s t u w v x o p q bytes line more so turn =
       record {
         items = so.items ++ turn.item ∷ [];
@@ -78,7 +85,8 @@ module _ {S : Type 0} (answers : Answering S) where
       }
 
   -- a last line that ends the session
-  pub run_last : (s t u : S) (w v x : Option (List ℕ)) (o p q : Output) (bytes rest after : List ℕ) (later : Given) → Lined s t w v o p bytes rest → IsBadEnd rest → Serves answers t (Bad ∷ []) later u → Grows v x p q (texts (Bad ∷ []) later) → Run answers s u w x o q bytes after false
+  pub run_last : (s t u : S) (w v x : Option (List ℕ)) (o p q : Output) (bytes rest after : List ℕ) (later : Given) → Lined s t w v o p bytes rest → IsBadEnd rest → Serves answers t (Bad ∷ []) later u
+      → Grows v x p q (texts (Bad ∷ []) later) → Run answers s u w x o q bytes after false
   run_last s t u w v x o p q bytes rest after later so bad served grew =
       record {
         items = so.items;
@@ -92,17 +100,20 @@ module _ {S : Type 0} (answers : Answering S) where
       }
 
   -- a line that is too long
-  pub run_badly : (s t : S) (w v x : Option (List ℕ)) (o p q : Output) (bytes rest after : List ℕ) → Lined s t w v o p bytes rest → IsBadEnd rest → Grows v x p q (error_text EPROTO) → Run answers s t w x o q bytes after false
+  pub run_badly : (s t : S) (w v x : Option (List ℕ)) (o p q : Output) (bytes rest after : List ℕ) → Lined s t w v o p bytes rest → IsBadEnd rest → Grows v x p q (error_text EPROTO)
+      → Run answers s t w x o q bytes after false
   run_badly s t w v x o p q bytes rest after so bad grew = run_last s t t w v x o p q bytes rest after [] so bad refl (grows_as (sym (append-nil (error_text EPROTO))) grew)
 
   -- a line that is no request
-  pub run_false : (s t u : S) (w v x : Option (List ℕ)) (o p q : Output) (bytes line more after : List ℕ) → Lined s t w v o p bytes (line ++ 10 ∷ more) → Turn answers t u v x p q line false → Run answers s u w x o q bytes after false
+  pub run_false : (s t u : S) (w v x : Option (List ℕ)) (o p q : Output) (bytes line more after : List ℕ) → Lined s t w v o p bytes (line ++ 10 ∷ more) → Turn answers t u v x p q line false
+      → Run answers s u w x o q bytes after false
   run_false s t u w v x o p q bytes line more after so turn =
       run_last s t u w v x o p q bytes (line ++ 10 ∷ more) after turn.given so (unreadable line more (subst (IsLine line) turn.goes turn.is_line))
       (subst (λ i. Serves answers t (i ∷ []) turn.given u) turn.goes turn.served) (subst (λ i. Grows v x p q (texts (i ∷ []) turn.given)) turn.goes turn.grew)
 
   -- lines up to here
-  pub run_on : (s t : S) (w v : Option (List ℕ)) (o p : Output) (bytes rest : List ℕ) → Lined s t w v o p bytes rest → (p.failed ≡ false → IsOneLine rest × (length rest ≤ 150000)) → Run answers s t w v o p bytes rest true
+  pub run_on : (s t : S) (w v : Option (List ℕ)) (o p : Output) (bytes rest : List ℕ) → Lined s t w v o p bytes rest → (p.failed ≡ false → IsOneLine rest × (length rest ≤ 150000))
+      → Run answers s t w v o p bytes rest true
   run_on s t w v o p bytes rest so left = record {
     items = so.items;
     last = [];
@@ -126,7 +137,8 @@ module _ {S : Type 0} (answers : Answering S) where
   left_err false p d last rest after left = inr left
 
   -- what was answered is written out
-  pub piece_ok : (on : Bool) (s t : S) (w v u : Option (List ℕ)) (o p q : Output) (bytes after : List ℕ) → IsIdle o → Run answers s t w v o p bytes after on → Flushed v u p q (Ok tt) → Answered answers s t w u q bytes after (Ok on)
+  pub piece_ok : (on : Bool) (s t : S) (w v u : Option (List ℕ)) (o p q : Output) (bytes after : List ℕ) → IsIdle o → Run answers s t w v o p bytes after on → Flushed v u p q (Ok tt)
+      → Answered answers s t w u q bytes after (Ok on)
   piece_ok on s t w v u o p q bytes after idle run flushed = record {
     items = run.items;
     last = run.last;
@@ -139,7 +151,8 @@ module _ {S : Type 0} (answers : Answering S) where
     idle = flushed.idle;
   }
 
-  pub piece_err : (on : Bool) (d : WriteFailed) (s t : S) (w v u : Option (List ℕ)) (o p q : Output) (bytes after : List ℕ) → IsIdle o → Run answers s t w v o p bytes after on → Flushed v u p q (Err d) → Answered answers s t w u q bytes after (Err d)
+  pub piece_err : (on : Bool) (d : WriteFailed) (s t : S) (w v u : Option (List ℕ)) (o p q : Output) (bytes after : List ℕ) → IsIdle o → Run answers s t w v o p bytes after on
+      → Flushed v u p q (Err d) → Answered answers s t w u q bytes after (Err d)
   piece_err on d s t w v u o p q bytes after idle run flushed = record {
     items = run.items;
     last = run.last;

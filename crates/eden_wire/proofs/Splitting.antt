@@ -42,7 +42,8 @@ whole_part mark bytes none = record {
 pub line_none : (bytes slice : List ℕ) (s : ℕ) → slice ≡ drop s bytes → IsOneLine (take s bytes) → Nowhere (Passes (is_byte 10) slice) 0 (length slice) → IsOneLine bytes
 line_none bytes slice s e before none = subst IsOneLine (take-append-drop s bytes) (lacks-append 10 (take s bytes) (drop s bytes) before (subst IsOneLine e (none_found 10 slice none)))
 
-pub line_found : (bytes slice : List ℕ) (s n : ℕ) → slice ≡ drop s bytes → s ≤ length bytes → IsOneLine (take s bytes) → NoneBefore (Passes (is_byte 10) slice) 0 (length slice) n → Passes (is_byte 10) slice n → IsLineOf bytes (s + n)
+pub line_found : (bytes slice : List ℕ) (s n : ℕ) → slice ≡ drop s bytes → s ≤ length bytes → IsOneLine (take s bytes) → NoneBefore (Passes (is_byte 10) slice) 0 (length slice) n
+    → Passes (is_byte 10) slice n → IsLineOf bytes (s + n)
 line_found bytes slice s n e within before first here =
     let inside = first.high in
     let size = ap length e in
@@ -54,6 +55,7 @@ line_found bytes slice s n e within before first here =
     drop-cons slice n 0 inside ∙ ap (λ b. b ∷ drop (suc n) slice) byte ∙ ap (λ l. 10 ∷ drop (suc n) l) e ∙ ap (λ l. 10 ∷ l) (drop-drop (suc n) s bytes ∙ ap (λ k. drop k bytes) (omega arith)) in
     record {
       inside = omega arith;
-      split = sym (take-append-drop s bytes) ∙ ap (λ l. take s bytes ++ l) (sym e ∙ sym (take-append-drop n slice) ∙ ap (λ l. take n slice ++ l) behind) ∙ sym (append_assoc (take s bytes) (take n slice) (10 ∷ drop (s + n + 1) bytes)) ∙ ap (λ l. l ++ 10 ∷ drop (s + n + 1) bytes) (sym front);
+      split = sym (take-append-drop s bytes) ∙ ap (λ l. take s bytes ++ l) (sym e ∙ sym (take-append-drop n slice) ∙ ap (λ l. take n slice ++ l) behind) ∙ sym
+          (append_assoc (take s bytes) (take n slice) (10 ∷ drop (s + n + 1) bytes)) ∙ ap (λ l. l ++ 10 ∷ drop (s + n + 1) bytes) (sym front);
       one = subst IsOneLine (sym front) (lacks-append 10 (take s bytes) (take n slice) before part.plain);
     }

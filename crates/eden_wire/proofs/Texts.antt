@@ -17,7 +17,8 @@ some_field [] e = absurd (false≢true e)
 some_field (b ∷ bytes) e = refl
 
 -- one more entry
-pub more_rows : (rows : List (List ℕ × Kind)) (n : ℕ) (e : List ℕ × Kind) → n < length rows → e ≡ slice_index_or rows n e → flat_map entry_text (take n rows) ++ entry_text e ≡ flat_map entry_text (take (n + 1) rows)
+pub more_rows : (rows : List (List ℕ × Kind)) (n : ℕ) (e : List ℕ × Kind) → n < length rows → e ≡ slice_index_or rows n e
+    → flat_map entry_text (take n rows) ++ entry_text e ≡ flat_map entry_text (take (n + 1) rows)
 more_rows rows n e below is = flat_map_more entry_text [] (take n rows) e ∙ ap (flat_map entry_text) (ap (λ (x : List ℕ × Kind). take n rows ++ x ∷ []) is ∙ sym (take_more rows n e below))
 
 pub all_rows : (rows : List (List ℕ × Kind)) (n : ℕ) → length rows ≤ n → flat_map entry_text (take n rows) ≡ flat_map entry_text rows

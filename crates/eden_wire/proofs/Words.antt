@@ -17,7 +17,8 @@ pub is_other : (text spelled : List ℕ) (w : Word) → spelled ≡ word_text w 
 is_other text spelled w is differ = λ e. false≢true (differ ∙ (bytes_eq-Decides text spelled).1 (e ∙ sym is))
 
 abbrev pub words : List Word
-words = word.Kind ∷ word.Stat ∷ word.Read ∷ word.ReadLink ∷ word.List ∷ word.Write ∷ word.Truncate ∷ word.Create ∷ word.SetExec ∷ word.Mkdir ∷ word.Symlink ∷ word.Unlink ∷ word.Rmdir ∷ word.Rename ∷ []
+words = word.Kind ∷ word.Stat ∷ word.Read ∷ word.ReadLink ∷ word.List ∷ word.Write ∷ word.Truncate ∷ word.Create ∷ word.SetExec ∷ word.Mkdir ∷ word.Symlink ∷ word.Unlink ∷ word.Rmdir ∷ word.Rename ∷
+    []
 
 in_words : (text : List ℕ) → All (IsOther text) words → (w : Word) → text ≢ word_text w
 in_words text h word.Kind = h 0 word.Kind (omega arith)

@@ -21,7 +21,8 @@ fn digit(c: u8) -> Option<u8>
 
 /// The byte that `%` and two digits spell, if it doesn't stand for itself.
 fn escaped(high: u8, low: u8) -> Option<u8>
-    ensures { MatchOption result ((b : ℕ) → b < 256 → 37 ∷ high ∷ low ∷ [] ≡ byte_text b → ⊥) (λ b. (37 ∷ high ∷ low ∷ [] ≡ byte_text b) × (b < 256)) }
+    ensures { MatchOption result ((b : ℕ) → b < 256 → 37 ∷ high ∷ low ∷ [] ≡ byte_text b → ⊥)
+        (λ b. (37 ∷ high ∷ low ∷ [] ≡ byte_text b) × (b < 256)) }
 {
     let b = 16 * digit(high)? + digit(low)?;
     if is_plain(b) { None } else { Some(b) }
@@ -29,7 +30,8 @@ fn escaped(high: u8, low: u8) -> Option<u8>
 
 /// The byte that the front of the text spells, and the text after it.
 pub(crate) fn first_byte(text: &[u8]) -> Option<(u8, &[u8])>
-    ensures { MatchOption result ((b : ℕ) (rest : List ℕ) → b < 256 → text.now ≡ byte_text b ++ rest → ⊥) (λ x. (text.now ≡ byte_text x.0 ++ x.1.now) × (x.0 < 256)) }
+    ensures { MatchOption result ((b : ℕ) (rest : List ℕ) → b < 256 → text.now ≡ byte_text b ++ rest → ⊥)
+        (λ x. (text.now ≡ byte_text x.0 ++ x.1.now) × (x.0 < 256)) }
 {
     let (first, rest) = text.split_first()?;
     if is_plain(*first) {

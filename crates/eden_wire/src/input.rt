@@ -41,7 +41,8 @@ impl Input {
     /// Reads a piece behind the bytes, and returns how long it is: 0 at the input's end.
     pub(crate) fn read<R: Read>(&mut self, reader: &mut R) -> io::Result<usize>
         requires { length self.old.pending.items ≤ longest_line }
-        ensures { ReadsPiece (R.remaining reader.old) (R.remaining reader.new) self.old.pending.items self.new.pending.items result }
+        ensures { ReadsPiece (R.remaining reader.old)
+            (R.remaining reader.new) self.old.pending.items self.new.pending.items result }
     {
         let n = reader.read(self.piece.as_mut_slice())?;
         self.pending.extend_from_slice(&self.piece[..n]).unwrap();

@@ -137,7 +137,8 @@ fn put_entry<W: Write>(output: &mut Output, writer: &mut W, entry: &(Name, Kind)
 }
 
 fn put_rows<W: Write>(output: &mut Output, writer: &mut W, rows: &[(Name, Kind)])
-    ensures { Grows (W.contents writer.old) (W.contents writer.new) output.old output.new (flat_map entry_text rows.now) }
+    ensures { Grows (W.contents writer.old) (W.contents writer.new) output.old output.new
+        (flat_map entry_text rows.now) }
 {
     'rows: for entry in rows {
         put_entry(output, writer, entry);
@@ -155,7 +156,8 @@ fn put_more<W: Write>(output: &mut Output, writer: &mut W, more: bool)
 }
 
 fn put_entries<W: Write>(output: &mut Output, writer: &mut W, entries: &Entries, more: bool)
-    ensures { Grows (W.contents writer.old) (W.contents writer.new) output.old output.new (entries_text entries.now more) }
+    ensures { Grows (W.contents writer.old) (W.contents writer.new) output.old output.new
+        (entries_text entries.now more) }
 {
     output.put(writer, b"entries ");
     put_number(output, writer, entries.len() as u64);

@@ -28,7 +28,8 @@ fn answer<W: Write, S: Service>(
 ) -> bool
     requires one { IsOneLine line.now }
     requires short { length line.now ≤ longest_line }
-    ensures { Turn S.answers service.old service.new (W.contents writer.old) (W.contents writer.new) output.old output.new line.now result }
+    ensures { Turn S.answers service.old service.new (W.contents writer.old)
+        (W.contents writer.new) output.old output.new line.now result }
 {
     match read_request(alloc, line) {
         Err(_) => {
@@ -79,7 +80,8 @@ fn answer_lines<W: Write, S: Service>(
     requires within { searched ≤ length bytes.now }
     requires none { IsOneLine (take searched bytes.now) }
     ensures within { result.0 ≤ length bytes.now }
-    ensures answered { Run S.answers service.old service.new (W.contents writer.old) (W.contents writer.new) output.old output.new bytes.now (drop result.0 bytes.now) result.1 }
+    ensures answered { Run S.answers service.old service.new (W.contents writer.old)
+        (W.contents writer.new) output.old output.new bytes.now (drop result.0 bytes.now) result.1 }
 {
     let mut used = 0;
     let mut skip = searched;
@@ -121,7 +123,8 @@ fn answer_piece<W: Write, S: Service>(
     requires none { IsOneLine (take searched bytes.now) }
     requires idle { IsIdle output.old }
     ensures within { result.0 ≤ length bytes.now }
-    ensures answered { Answered S.answers service.old service.new (W.contents writer.old) (W.contents writer.new) output.new bytes.now (drop result.0 bytes.now) result.1 }
+    ensures answered { Answered S.answers service.old service.new (W.contents writer.old)
+        (W.contents writer.new) output.new bytes.now (drop result.0 bytes.now) result.1 }
 {
     let (used, goes_on) = answer_lines(alloc, bytes, searched, output, writer, service);
     match output.flush(writer) {
@@ -141,7 +144,8 @@ pub fn session<R: Read, W: Write, S: Service>(
     writer: &mut W,
     service: &mut S,
 ) -> Result<(), SessionFault>
-    ensures { Session S.answers (service.old, service.new) (R.remaining reader.old, R.remaining reader.new) (W.contents writer.old, W.contents writer.new) result }
+    ensures { Session S.answers (service.old, service.new) (R.remaining reader.old, R.remaining reader.new)
+        (W.contents writer.old, W.contents writer.new) result }
 {
     let Ok(mut input) = Input::new(alloc) else {
         return Err(SessionFault::Memory);

@@ -21,5 +21,6 @@ pub returns-clause-same : goal.returns-clause-same
 returns-clause-same g c h =
     let d = c.change.ensures.does in
     let t = c.args.inodes.now in
-    stored_alike g.W.World.repository (g.F.Files.stored t.files) (g.F.Files.stored c.change.new.self.files) t.root c.change.new.self.root t.next (record { root = c.args.root; next = c.next_number.result }) c.change.result
+    stored_alike g.W.World.repository (g.F.Files.stored t.files) (g.F.Files.stored c.change.new.self.files) t.root c.change.new.self.root t.next
+    (record { root = c.args.root; next = c.next_number.result }) c.change.result
     c.holds.ensures.table (c.holds.ensures.kept h) d.root (d.ok h) (d.err h)

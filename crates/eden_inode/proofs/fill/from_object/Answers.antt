@@ -23,7 +23,8 @@ if_both (Err e) P Q R f p q = tt
 sorted : (g : _) (c : goal.After-deref g) → IsInOrder c.args.entries.now (map entry c.deref.result.now)
 sorted g c =
     subst (λ (l : List Named). IsInOrder c.args.entries.now (map entry l)) (sym c.deref.ensures.value)
-    (in_order entry (λ (r : Named). r.0.now) c.args.entries.now c.in_ok-rows.rows.items c.sort.new.rows.items c.in_ok-rows.ensures.all c.in_ok-rows.ensures.named c.sort.ensures.same c.sort.ensures.ordered c.requires.differ)
+    (in_order entry (λ (r : Named). r.0.now) c.args.entries.now c.in_ok-rows.rows.items c.sort.new.rows.items c.in_ok-rows.ensures.all c.in_ok-rows.ensures.named c.sort.ensures.same
+    c.sort.ensures.ordered c.requires.differ)
 
 pub fill-requires-clause-rising : goal.fill-requires-clause-rising
 fill-requires-clause-rising g c = subst (IsStrictlySortedBy order) (map_both entry (λ e. e.name) c.deref.result.now) (sorted g c).rises
@@ -38,7 +39,8 @@ fill-requires-clause-fits g c =
 ordered : (g : _) (c : goal.After-drop-rows g) → IsInOrder c.args.entries.now (map entry c.deref.result.now)
 ordered g c =
     subst (λ (l : List Named). IsInOrder c.args.entries.now (map entry l)) (sym c.deref.ensures.value)
-    (in_order entry (λ (r : Named). r.0.now) c.args.entries.now c.in_ok-rows.rows.items c.sort.new.rows.items c.in_ok-rows.ensures.all c.in_ok-rows.ensures.named c.sort.ensures.same c.sort.ensures.ordered c.requires.differ)
+    (in_order entry (λ (r : Named). r.0.now) c.args.entries.now c.in_ok-rows.rows.items c.sort.new.rows.items c.in_ok-rows.ensures.all c.in_ok-rows.ensures.named c.sort.ensures.same
+    c.sort.ensures.ordered c.requires.differ)
 
 pub returns-clause-new : goal.returns-clause-new
 returns-clause-new g c = IfOk-weaker c.fill.result _ _

@@ -12,7 +12,8 @@ loop-i-preserved g c =
     let next : suc c.loop-i.i ≡ c.loop-i.i + 1 = omega arith in
     let more = take_one_more stored_entry rows c.loop-i.i e (sym c.in-Some.ensures) in
     let row : c.in_ok-copy-in-Some.field-0 ≡ c.in-Some.name.now = c.in_ok-copy-in-Some.ensures in
-    let pushed : c.push.new.self.items ≡ c.loop-i.entries.items ++ (record { name = c.in_ok-copy-in-Some.field-0; kind = c.entry.inside.kind; origin = c.entry.inside.origin; number = c.entry.inside.number } ∷ []) = c.in_ok-push-in-Some.ensures.items in
+    let pushed : c.push.new.self.items ≡ c.loop-i.entries.items ++
+    (record { name = c.in_ok-copy-in-Some.field-0; kind = c.entry.inside.kind; origin = c.entry.inside.origin; number = c.entry.inside.number } ∷ []) = c.in_ok-push-in-Some.ensures.items in
     pushed
     ∙ ap (λ (n : Name). c.loop-i.entries.items ++ (record { name = n; kind = c.entry.inside.kind; origin = c.entry.inside.origin; number = c.entry.inside.number } ∷ [])) row
     ∙ ap (λ (x : Row). c.loop-i.entries.items ++ (stored_entry (c.in-Some.name.now, x) ∷ [])) c.entry.view_is

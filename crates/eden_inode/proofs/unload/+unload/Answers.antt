@@ -90,7 +90,8 @@ unload_inside-unload_entry-more-requires g t c κs within =
     let G = g.F.Files.stored c.loop-i.overlay in
     let w = with_child (Some c.loop-i.dir) x in
     let there : find_row at.0.0 rows ≡ Some c.in-Some.entry.now = find_row-slice_get rows i at.0 rising at.1.0 ∙ ap Some at.1.1 in
-    let may = may_below g.W.World.honest c.args.clock c.args.age w c.loop-i.dir at.0.0 c.in-Some.entry.now (child_of-with_child (Some c.loop-i.dir) x) there G (may_still g.W.World.honest c.args.clock c.args.age F G x w u.0 u.1.1 c.requires.may.1.1.1) in
+    let may = may_below g.W.World.honest c.args.clock c.args.age w c.loop-i.dir at.0.0 c.in-Some.entry.now (child_of-with_child (Some c.loop-i.dir) x) there G
+    (may_still g.W.World.honest c.args.clock c.args.age F G x w u.0 u.1.1 c.requires.may.1.1.1) in
     search rules
 
 pub unload_inside-loop-i-preserved : goal.unload_inside-loop-i-preserved
@@ -115,7 +116,8 @@ unload_inside-loop-i-preserved g t c =
             u.0 + v.count,
             (
               omega (arith, one, two, c.saturating_add-gone.ensures),
-              subst (λ (l : _). Unloads g.W.World.honest c.args.clock c.args.age F x H (with_child (Some (record c.loop-i.dir { rows = l })) x) (u.0 + v.count)) (sym (set_at-set_row rows i at.0 z rising at.1.0))
+              subst (λ (l : _). Unloads g.W.World.honest c.args.clock c.args.age F x H (with_child (Some (record c.loop-i.dir { rows = l })) x) (u.0 + v.count))
+                  (sym (set_at-set_row rows i at.0 z rising at.1.0))
                   (joined g.W.World.honest c.args.clock c.args.age F x G w u.0 u.1.1 H _ v.count up),
             ),
           );
@@ -152,7 +154,8 @@ unload_inside-returns-clause-goes g t c goes x number holds =
     let G = g.F.Files.stored c.loop-i.overlay in
     let H = g.F.Files.stored c.may_go-goes.new.overlay in
     let told = c.may_go-goes.ensures in
-    let stored : g.W.World.honest → c.loop-i.dir.unsaved ≡ true → H ≡ with_entries G x.number (listing_of c.loop-i.dir) = λ h w. told.stored h goes w ∙ ap (λ k. with_entries G k (listing_of c.loop-i.dir)) (sym number) in
+    let stored : g.W.World.honest → c.loop-i.dir.unsaved ≡ true
+    → H ≡ with_entries G x.number (listing_of c.loop-i.dir) = λ h w. told.stored h goes w ∙ ap (λ k. with_entries G k (listing_of c.loop-i.dir)) (sym number) in
     (u.0, (u.1.0, goes_too g.W.World.honest c.args.clock c.args.age F G H x c.loop-i.dir u.0 u.1.1 (told.old goes) (told.inside goes) (λ h w. told.saved h goes w) stored))
 
 pub unload_inside-returns-clause-stays : goal.unload_inside-returns-clause-stays

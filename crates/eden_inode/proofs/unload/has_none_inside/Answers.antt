@@ -23,7 +23,8 @@ returns-then-is_some g c = (
       let e : trees.Name × Row = (c.in-Some.field-0-0.now, c.in-Some.entry.now) in
       let here : slice_get c.args.dir.now.rows c.loop-i.i ≡ Some e = sym c.in-Some.ensures in
       let shut = h e.0 e.1 (find_row-slice_get c.args.dir.now.rows c.loop-i.i e c.count-i-end.ensures.rising here) in
-      absurd (none_held c.entry.inside.child (sym (held c.entry.inside.number c.entry.inside.kind c.entry.inside.origin c.entry.inside.child c.in-Some.entry.now c.entry.view_is) ∙ shut) (sym c.is_some.ensures ∙ c.if-is_some.true))),
+      absurd (none_held c.entry.inside.child (sym (held c.entry.inside.number c.entry.inside.kind c.entry.inside.origin c.entry.inside.child c.in-Some.entry.now c.entry.view_is) ∙ shut)
+      (sym c.is_some.ensures ∙ c.if-is_some.true))),
 )
 
 pub loop-i-preserved : goal.loop-i-preserved
@@ -33,4 +34,5 @@ loop-i-preserved g c j e lt at =
     (λ is.
     let here : Some (c.in-Some.field-0-0.now, c.in-Some.entry.now) ≡ Some e = c.in-Some.ensures ∙ ap (slice_get c.args.dir.now.rows) (sym is) ∙ at in
     let row : c.in-Some.entry.now ≡ e.1 = ap (λ (x : trees.Name × Row). x.1) (same_some (c.in-Some.field-0-0.now, c.in-Some.entry.now) e here) in
-    sym (ap child_of row) ∙ held c.entry.inside.number c.entry.inside.kind c.entry.inside.origin c.entry.inside.child c.in-Some.entry.now c.entry.view_is ∙ not_held c.entry.inside.child (sym c.is_some.ensures ∙ c.if-is_some.false))
+    sym (ap child_of row) ∙ held c.entry.inside.number c.entry.inside.kind c.entry.inside.origin c.entry.inside.child c.in-Some.entry.now c.entry.view_is ∙ not_held c.entry.inside.child
+    (sym c.is_some.ensures ∙ c.if-is_some.false))

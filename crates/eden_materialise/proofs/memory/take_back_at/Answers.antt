@@ -11,7 +11,8 @@ change_at-requires g c =
     let x = c.requires.0 in
     let w = c.requires.1.0 in
     let p = c.requires.1.1 in
-    subst (λ (o : Option Row). IfSome o (λ z. (a : Row) × ((b : Row) × IsPut n b was.entry was.unsaved a z))) (sym (put_there c.args.path.now n w was.entry was.unsaved x c.args.root.now p)) (p.before, (w, p.put))
+    subst (λ (o : Option Row). IfSome o (λ z. (a : Row) × ((b : Row) × IsPut n b was.entry was.unsaved a z))) (sym (put_there c.args.path.now n w was.entry was.unsaved x c.args.root.now p))
+    (p.before, (w, p.put))
 
 pub returns : goal.returns
 returns g c x w p =

@@ -17,7 +17,8 @@ change-requires-clause-may g c =
         next = t.next;
         table = c.holds.ensures.table;
         kept = c.holds.ensures.kept;
-        may = may_reform g.W.World.honest g.W.World.repository (g.F.Files.stored t.files) t.root t.next c.args.path.now c.args.name.now c.args.kind w c.holds.ensures.table c.requires.there.1 c.requires.file;
+        may = may_reform g.W.World.honest g.W.World.repository
+            (g.F.Files.stored t.files) t.root t.next c.args.path.now c.args.name.now c.args.kind w c.holds.ensures.table c.requires.there.1 c.requires.file;
       };
     }
 

@@ -50,7 +50,8 @@ returns-in-Ok-store_without-clause-stored g c honest m =
     let put = c.in-Ok.ensures.ok in
     let d = changed put.put.directory c.args.new_name.now (Some c.copy_at-copy.result) in
     let at = put_there c.args.path.now c.args.new_name.now c.copy_at-copy.result c.in-Ok.was.entry c.in-Ok.was.unsaved c.args.root.now c.put_at.new.root put in
-    let h = holds_both c.args.root.now c.args.path.now c.args.name.now c.args.new_name.now m rising c.requires.differ c.copy_at-copy.result same c.in-Ok.was.entry c.in-Ok.was.unsaved c.put_at.new.root put in
+    let h = holds_both c.args.root.now c.args.path.now c.args.name.now c.args.new_name.now m rising c.requires.differ c.copy_at-copy.result same c.in-Ok.was.entry c.in-Ok.was.unsaved c.put_at.new.root
+    put in
     c.in-Ok-store_without.ensures.ok honest put.after d at h
     ∙ stored_files c.args.root.now c.args.path.now c.args.name.now c.args.new_name.now m rising c.requires.differ c.copy_at-copy.result same
     c.in-Ok.was.entry c.in-Ok.was.unsaved c.put_at.new.root put (g.F.Files.stored c.args.overlay.now) put.after d at h

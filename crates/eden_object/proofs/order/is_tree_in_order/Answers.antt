@@ -87,6 +87,7 @@ returns-then-key_byte-clause-none c = λ es h o.
     let lens = c.shared_len-shared.ensures in
     let at = stands_next c.rows.fronts last next c.args.body.now _ _ c.rows.invariant.stands c.in-Some-first_row.ensures es h in
     let n = c.shared_len-shared.result in
-    let above : slice_index (key_of next) n ≤ slice_index (key_of last) n = let before = c.key_byte.ensures in let after = c.key_byte-in-Some-first_row.ensures in let less = c.if-key_byte.true in omega arith in
+    let above : slice_index (key_of next) n ≤ slice_index
+    (key_of last) n = let before = c.key_byte.ensures in let after = c.key_byte-in-Some-first_row.ensures in let less = c.if-key_byte.true in omega arith in
     let shares : Shares last.name next.name c.shared_len-shared.result = record { first = lens.first; second = lens.second; same = lens.same; most = lens.most } in
     not_below last next c.shared_len-shared.result c.rows.invariant.good c.in-Some-first_row.ensures.entry.name shares above (at.2.order o).0

@@ -30,4 +30,5 @@ returns-in_err-id c = rw c.from_residual-in_err-id.ensures (λ e rest b.
     c.in_err-id.ensures e.id.bytes rest b.entry.id names.1)
 
 pub returns : goal.returns
-returns c = begin_from c.in_ok-mode.mode c.in_ok-text.text.now c.in_ok-name.name.now c.in_ok-id.id.bytes c.args.body.now c.in_ok-text.rest.now c.in_ok-name.rest.now c.in_ok-id.rest.now (sym c.in_ok-mode.ensures) (c.if-not-is_name.ensures.0 refl) c.in_ok-id.ensures.0 c.in_ok-text.ensures.1 c.in_ok-name.ensures.1 c.in_ok-id.ensures.1
+returns c = begin_from c.in_ok-mode.mode c.in_ok-text.text.now c.in_ok-name.name.now c.in_ok-id.id.bytes c.args.body.now c.in_ok-text.rest.now c.in_ok-name.rest.now c.in_ok-id.rest.now
+    (sym c.in_ok-mode.ensures) (c.if-not-is_name.ensures.0 refl) c.in_ok-id.ensures.0 c.in_ok-text.ensures.1 c.in_ok-name.ensures.1 c.in_ok-id.ensures.1

@@ -96,7 +96,8 @@ returns-in-Err-add_entry-clause-attempts g c q adding =
     let u = c.add_entry.new.inodes in
     let e = c.in-Ok-None.ensures in
     let x = c.in-Err-add_entry.ensures in
-    not_added g.W.World g.F.Files c.args.path.now q c.args.new adding s t u c.args.cache.now c.meet.new.cache e.same ((c.keeps_laws.ensures.counts s t e.keeps).1.1.1) e.cache c.in-Err-add_entry.fault x.fault
+    not_added g.W.World g.F.Files c.args.path.now q c.args.new adding s t u c.args.cache.now c.meet.new.cache e.same
+    ((c.keeps_laws.ensures.counts s t e.keeps).1.1.1) e.cache c.in-Err-add_entry.fault x.fault
     (λ is. x.unused (ap Err is)) x.unseen
 
 pub returns-in-Err-add_entry-clause-leaves : goal.returns-in-Err-add_entry-clause-leaves
@@ -123,8 +124,10 @@ returns-in-Ok-Some-clause-attempts g c q adding =
     let e = c.in-Ok-Some.ensures in
     let root = not_root p c.in-Some.above.now c.in-Some.name.now (sym c.as_slice.ensures ∙ c.in-Some.ensures.cases.0) in
     let seen = subst (λ (o : Option Seen). Meets g.W.World g.F.Files p s t c.meet.new.cache (Ok o)) c.in-Ok-Some.field-0-is e.meets in
-    let shown : g.W.World.honest → IsShown g.W.World.repository (g.F.Files.stored t.files) (row_at p t.root) (reach (shows g.W.World g.F.Files s) p) = λ h. subst (λ (o : Option Seen). MeetsShown g.W.World g.F.Files p s t (Ok o)) c.in-Ok-Some.field-0-is (e.shown h) in
-    says_here g.W.World g.F.Files q p adds (asked_add p root q c.args.new adding) s t c.args.cache.now c.meet.new.cache e.same e.keeps e.cache seen.row seen.there shown (say.Err EEXIST) refl (λ T. refl) (λ h listed. refl)
+    let shown : g.W.World.honest → IsShown g.W.World.repository (g.F.Files.stored t.files) (row_at p t.root) (reach (shows g.W.World g.F.Files s) p) = λ h. subst
+    (λ (o : Option Seen). MeetsShown g.W.World g.F.Files p s t (Ok o)) c.in-Ok-Some.field-0-is (e.shown h) in
+    says_here g.W.World g.F.Files q p adds (asked_add p root q c.args.new adding) s t c.args.cache.now c.meet.new.cache e.same e.keeps e.cache seen.row seen.there shown (say.Err EEXIST) refl
+    (λ T. refl) (λ h listed. refl)
 
 pub returns-in_default-clause-leaves : goal.returns-in_default-clause-leaves
 returns-in_default-clause-leaves g c q adding = leaves_kept g.W.World g.F.Files c.args.inodes.now c.args.inodes.now same q _

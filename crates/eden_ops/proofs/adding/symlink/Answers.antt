@@ -14,10 +14,12 @@ pub add-requires-clause-asked : goal.add-requires-clause-asked
 add-requires-clause-asked g c = (ask.Symlink c.args.path.now c.args.target.now, link c.args.target (eqb-false (length c.args.target.now) 0 (sym c.if-is_empty.ensures)) c.if-target-gt-MAX_TARGET.false)
 
 pub returns-clause-attempts : goal.returns-clause-attempts
-returns-clause-attempts g c = c.add.ensures.attempts (ask.Symlink c.args.path.now c.args.target.now) (link c.args.target (eqb-false (length c.args.target.now) 0 (sym c.if-is_empty.ensures)) c.if-target-gt-MAX_TARGET.false)
+returns-clause-attempts g c = c.add.ensures.attempts (ask.Symlink c.args.path.now c.args.target.now)
+    (link c.args.target (eqb-false (length c.args.target.now) 0 (sym c.if-is_empty.ensures)) c.if-target-gt-MAX_TARGET.false)
 
 pub returns-clause-leaves : goal.returns-clause-leaves
-returns-clause-leaves g c = c.add.ensures.leaves (ask.Symlink c.args.path.now c.args.target.now) (link c.args.target (eqb-false (length c.args.target.now) 0 (sym c.if-is_empty.ensures)) c.if-target-gt-MAX_TARGET.false)
+returns-clause-leaves g c = c.add.ensures.leaves (ask.Symlink c.args.path.now c.args.target.now)
+    (link c.args.target (eqb-false (length c.args.target.now) 0 (sym c.if-is_empty.ensures)) c.if-target-gt-MAX_TARGET.false)
 
 pub returns-then-is_empty-clause-leaves : goal.returns-then-is_empty-clause-leaves
 returns-then-is_empty-clause-leaves g c = leaves_kept g.W.World g.F.Files c.args.inodes.now c.args.inodes.now same (ask.Symlink c.args.path.now c.args.target.now) _
@@ -29,4 +31,5 @@ pub returns-then-is_empty-clause-attempts : goal.returns-then-is_empty-clause-at
 returns-then-is_empty-clause-attempts g c =
     let q = ask.Symlink c.args.path.now c.args.target.now in
     let s = c.args.inodes.now in
-    answered g.W.World g.F.Files q s s c.args.cache.now c.args.cache.now (λ h. refl) (finds_same c.args.cache.now) (say.Err ENOENT) refl (λ G. refl) (λ h. rw (sym c.is_empty.ensures ∙ c.if-is_empty.true) refl)
+    answered g.W.World g.F.Files q s s c.args.cache.now c.args.cache.now (λ h. refl) (finds_same c.args.cache.now) (say.Err ENOENT) refl (λ G. refl)
+    (λ h. rw (sym c.is_empty.ensures ∙ c.if-is_empty.true) refl)

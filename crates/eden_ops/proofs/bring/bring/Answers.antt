@@ -64,7 +64,8 @@ returns-in_err-load-in-Some-clause-keeps g c =
     none_keeps g.W.World g.F.Files c.args.path.now c.args.inodes.now c.load-in-Some.new.self e.files e.counted e.rest e.err
 
 -- the tree object that was cached
-tree : (R : Repository) (honest : Type 0) (p : Path) (x : Row) (o : Origin) (id : Id) (es : List TreeEntry) → IsAt p x o → o ≡ origin.Object id → NamesDiffer es × (honest → R.tree id ≡ Some es) → HasTree R honest p x es
+tree : (R : Repository) (honest : Type 0) (p : Path) (x : Row) (o : Origin) (id : Id) (es : List TreeEntry) → IsAt p x o → o ≡ origin.Object id → NamesDiffer es × (honest → R.tree id ≡ Some es)
+    → HasTree R honest p x es
 tree R honest p x o id es at is h = record { id = id; at = subst (λ (u : Origin). IsAt p x u) is at; differ = h.0; tree = h.1 }
 
 pub returns-in_ok-load-in-Some-clause-ok : goal.returns-in_ok-load-in-Some-clause-ok

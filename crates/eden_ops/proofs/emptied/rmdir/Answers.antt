@@ -44,7 +44,8 @@ returns-in-Err-clause-attempts g c =
     let e = c.in-Err.ensures in
     let split = sym c.as_slice.ensures ∙ c.in-Some.ensures.cases.0 in
     subst (λ (a : Attempt). Attempts g.W.World g.F.Files (ask.Rmdir p) s t c.args.cache.now c.meet.new.cache a) (sym c.ended.ensures)
-    (walk_ended g.W.World g.F.Files (ask.Rmdir p) p (removes p) (asks_rmdir p (not_root p c.in-Some.above.now c.in-Some.name.now split)) s t c.args.cache.now c.meet.new.cache e.same e.keeps e.cache c.in-Err.stop e.meets e.shown)
+    (walk_ended g.W.World g.F.Files (ask.Rmdir p) p (removes p)
+    (asks_rmdir p (not_root p c.in-Some.above.now c.in-Some.name.now split)) s t c.args.cache.now c.meet.new.cache e.same e.keeps e.cache c.in-Err.stop e.meets e.shown)
 
 pub returns-in-Err-clause-leaves : goal.returns-in-Err-clause-leaves
 returns-in-Err-clause-leaves g c = leaves_kept g.W.World g.F.Files c.args.inodes.now c.meet.new.inodes c.meet.ensures.keeps (ask.Rmdir c.args.path.now) _
@@ -73,7 +74,8 @@ returns-in-File g c =
     let split = sym c.as_slice.ensures ∙ c.in-Some.ensures.cases.0 in
     let other = c.what.ensures.other (no_dir c.what.result c.in-File.is) in
     record {
-      attempts = met_tells g.W.World g.F.Files p s t c.meet.new.cache _ c.in-Ok-Some.seen c.in-Ok-Some.field-0-is e.meets (ask.Rmdir p) (removes p) (asks_rmdir p (not_root p c.in-Some.above.now c.in-Some.name.now split)) c.args.cache.now e.same e.keeps e.cache e.shown (say.Err ENOTDIR) refl (λ T. refl)
+      attempts = met_tells g.W.World g.F.Files p s t c.meet.new.cache _ c.in-Ok-Some.seen c.in-Ok-Some.field-0-is e.meets (ask.Rmdir p) (removes p)
+          (asks_rmdir p (not_root p c.in-Some.above.now c.in-Some.name.now split)) c.args.cache.now e.same e.keeps e.cache e.shown (say.Err ENOTDIR) refl (λ T. refl)
           (λ k a listed is on. lists_other (IfEmpty (shows g.W.World g.F.Files s) p) k a listed (λ dir. no_dir c.what.result c.in-File.is (sym other.1 ∙ sym is ∙ dir)));
       leaves = leaves_kept g.W.World g.F.Files s t e.keeps (ask.Rmdir p) _;
     }
@@ -92,7 +94,8 @@ returns-in-Err-bring_seen-clause-attempts g c =
     let seen = seen_at g.W.World g.F.Files p s t c.meet.new.cache _ c.in-Ok-Some.seen c.in-Ok-Some.field-0-is e.meets in
     let at : row_at p u.root ≡ Some seen.row = ap (row_at p) z.still ∙ seen.there in
     subst (λ (a : Attempt). Attempts g.W.World g.F.Files q s u c.args.cache.now c.bring_seen.new.cache a) (sym c.ended-in-Err-bring_seen.ensures)
-    (lacked g.W.World g.F.Files q p (removes p) (asks_rmdir p (not_root p c.in-Some.above.now c.in-Some.name.now split)) s u c.args.cache.now c.bring_seen.new.cache (λ h. b.same h ∙ e.same h) (keeps_on g.W.World g.F.Files s t u e.keeps b.keeps)
+    (lacked g.W.World g.F.Files q p (removes p) (asks_rmdir p (not_root p c.in-Some.above.now c.in-Some.name.now split)) s u c.args.cache.now c.bring_seen.new.cache (λ h. b.same h ∙ e.same h)
+    (keeps_on g.W.World g.F.Files s t u e.keeps b.keeps)
     (finds_on c.args.cache.now c.meet.new.cache c.bring_seen.new.cache e.cache b.cache) seen.row at c.in-Err-bring_seen.stop (λ x is. cc)
     (λ k is. (
       λ r h. lists_away (IfEmpty (known u.root) p) seen.row.kind (content_known seen.row.origin) r (dir_kind p t.root c.in-Ok-Some.seen seen z.away (c.what.ensures.dir c.in-Dir.is))
@@ -102,7 +105,8 @@ returns-in-Err-bring_seen-clause-attempts g c =
 
 pub returns-in-Err-bring_seen-clause-leaves : goal.returns-in-Err-bring_seen-clause-leaves
 returns-in-Err-bring_seen-clause-leaves g c =
-    leaves_kept g.W.World g.F.Files c.args.inodes.now c.bring_seen.new.inodes (keeps_on g.W.World g.F.Files c.args.inodes.now c.meet.new.inodes c.bring_seen.new.inodes c.meet.ensures.keeps c.bring_seen.ensures.keeps) (ask.Rmdir c.args.path.now) _
+    leaves_kept g.W.World g.F.Files c.args.inodes.now c.bring_seen.new.inodes
+    (keeps_on g.W.World g.F.Files c.args.inodes.now c.meet.new.inodes c.bring_seen.new.inodes c.meet.ensures.keeps c.bring_seen.ensures.keeps) (ask.Rmdir c.args.path.now) _
 
 -- ---- it has entries
 
@@ -116,13 +120,16 @@ returns-then-not-is_empty-clause-attempts g c =
     let b = c.bring_seen.ensures in
     let split = sym c.as_slice.ensures ∙ c.in-Some.ensures.cases.0 in
     let alike : g.W.World.honest → shows g.W.World g.F.Files u ≡ shows g.W.World g.F.Files s = λ h. b.same h ∙ e.same h in
-    replied g.W.World g.F.Files (ask.Rmdir p) p (removes p) (asks_rmdir p (not_root p c.in-Some.above.now c.in-Some.name.now split)) s u c.args.cache.now c.bring_seen.new.cache alike (keeps_on g.W.World g.F.Files s t u e.keeps b.keeps)
+    replied g.W.World g.F.Files (ask.Rmdir p) p (removes p) (asks_rmdir p (not_root p c.in-Some.above.now c.in-Some.name.now split)) s u c.args.cache.now c.bring_seen.new.cache alike
+    (keeps_on g.W.World g.F.Files s t u e.keeps b.keeps)
     (finds_on c.args.cache.now c.meet.new.cache c.bring_seen.new.cache e.cache b.cache) (say.Err ENOTEMPTY) refl (λ T. refl)
-    (λ h. removes_full (shows g.W.World g.F.Files s) p (sym (ap (λ (G : Tree). reach G p) (alike h)) ∙ c.is_empty.ensures.here h) (subst (λ (G : Tree). HasEntries G p) (alike h) (c.if-not-is_empty.ensures.entries h)))
+    (λ h. removes_full (shows g.W.World g.F.Files s) p (sym (ap (λ (G : Tree). reach G p) (alike h)) ∙ c.is_empty.ensures.here h)
+    (subst (λ (G : Tree). HasEntries G p) (alike h) (c.if-not-is_empty.ensures.entries h)))
 
 pub returns-then-not-is_empty-clause-leaves : goal.returns-then-not-is_empty-clause-leaves
 returns-then-not-is_empty-clause-leaves g c =
-    leaves_kept g.W.World g.F.Files c.args.inodes.now c.bring_seen.new.inodes (keeps_on g.W.World g.F.Files c.args.inodes.now c.meet.new.inodes c.bring_seen.new.inodes c.meet.ensures.keeps c.bring_seen.ensures.keeps) (ask.Rmdir c.args.path.now) _
+    leaves_kept g.W.World g.F.Files c.args.inodes.now c.bring_seen.new.inodes
+    (keeps_on g.W.World g.F.Files c.args.inodes.now c.meet.new.inodes c.bring_seen.new.inodes c.meet.ensures.keeps c.bring_seen.ensures.keeps) (ask.Rmdir c.args.path.now) _
 
 -- ---- it is let go of
 
@@ -160,7 +167,10 @@ remove_entry-requires g c =
     let goes = subst (λ (q : Path). LetsGo q u.root v.root) c.as_slice-2.ensures c.let_go.ensures.goes in
     let y = map_some known_node (row_at p u.root) (Dir true) (sym c.in_default-bring_seen.ensures.ok) in
     let z = stays_there p u.root v.root goes y.0 y.1.0 in
-    record { there = has_entry p c.in-Some.above.now c.in-Some.name.now v.root z.0 split z.1.0 (c.in_default-let_go.ensures.away z.0 (ap (λ (q : Path). row_at q v.root) c.as_slice-2.ensures ∙ z.1.0)) }
+    record {
+      there = has_entry p c.in-Some.above.now c.in-Some.name.now v.root z.0 split z.1.0
+          (c.in_default-let_go.ensures.away z.0 (ap (λ (q : Path). row_at q v.root) c.as_slice-2.ensures ∙ z.1.0));
+    }
 
 pub returns-in-Ok-clause-attempts : goal.returns-in-Ok-clause-attempts
 returns-in-Ok-clause-attempts g c =

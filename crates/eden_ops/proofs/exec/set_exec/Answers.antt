@@ -31,7 +31,8 @@ use Rattle.eden_ops.proofs.exec.set_exec.Goals as goal
 
 pub returns-in-Err-clause-attempts : goal.returns-in-Err-clause-attempts
 returns-in-Err-clause-attempts g c =
-    subst (λ (a : Attempt). Attempts g.W.World g.F.Files (ask.SetExec c.args.path.now c.args.exec) c.args.inodes.now c.meet_file.new.inodes c.args.cache.now c.meet_file.new.cache a) (sym c.ended.ensures)
+    subst (λ (a : Attempt). Attempts g.W.World g.F.Files (ask.SetExec c.args.path.now c.args.exec) c.args.inodes.now c.meet_file.new.inodes c.args.cache.now c.meet_file.new.cache a)
+    (sym c.ended.ensures)
     (c.in-Err.ensures.ends (ask.SetExec c.args.path.now c.args.exec) (for_exec c.args.exec))
 
 pub set_kind-requires-clause-there : goal.set_kind-requires-clause-there
@@ -41,8 +42,11 @@ set_kind-requires-clause-there g c =
     let t = c.meet_file.new.inodes in
     let e = c.in-Ok.ensures in
     let seen = e.file.entry in
-    let plain = subst IsPlain seen.kind e.file.plain in
-    (seen.row, has_file p c.in-Some.above.now c.in-Some.name.now t.root seen.row (sym c.as_slice.ensures ∙ c.in-Some.ensures.cases.0) seen.there (away p t.root c.in-Ok.field-0 seen e.file.away) (plain_other seen.row.kind plain))
+    let plain = subst IsPlain seen.kind e.file.plain in (
+      seen.row,
+      has_file p c.in-Some.above.now c.in-Some.name.now t.root seen.row (sym c.as_slice.ensures ∙ c.in-Some.ensures.cases.0) seen.there (away p t.root c.in-Ok.field-0 seen e.file.away)
+          (plain_other seen.row.kind plain),
+    )
 
 pub returns-in-Ok-set_kind-clause-attempts : goal.returns-in-Ok-set_kind-clause-attempts
 returns-in-Ok-set_kind-clause-attempts g c =
@@ -60,7 +64,8 @@ returns-in-Ok-set_kind-clause-attempts g c =
     let file : seen.row.kind ≢ kind.Dir = plain_other seen.row.kind plain in
     let has = has_file p c.in-Some.above.now c.in-Some.name.now t.root seen.row split seen.there (away p t.root c.in-Ok.field-0 seen e.file.away) file in
     changed g.W.World g.F.Files (ask.SetExec p c.args.exec) s t u c.args.cache.now c.meet_file.new.cache e.same ((c.keeps_laws.ensures.counts s t e.keeps).1.1.1) e.cache
-    (λ h. says_at R F p sets_exec G (row_at p t.root) seen.row seen.there (e.shown h) say.Ok (λ listed. sets_file seen.row.kind (content_with R (own_files F) (source_of seen.row.number seen.row.origin)) listed plain))
+    (λ h. says_at R F p sets_exec G (row_at p t.root) seen.row seen.there (e.shown h) say.Ok
+    (λ listed. sets_file seen.row.kind (content_with R (own_files F) (source_of seen.row.number seen.row.origin)) listed plain))
     (λ h.
     let dirs = kept_dirs R F t.root t.next (c.holds.ensures.kept h) in
     let there = shown_there c.shown_laws.ensures.below c.shown_laws.ensures.absent R F t.root dirs p seen.row seen.there in
@@ -80,7 +85,8 @@ returns-in-Err-set_kind-clause-attempts g c =
     let u = c.set_kind.new.inodes in
     let e = c.in-Ok.ensures in
     let x = c.in-Err-set_kind.ensures in
-    refused g.W.World g.F.Files (ask.SetExec p c.args.exec) s t u c.args.cache.now c.meet_file.new.cache e.same ((c.keeps_laws.ensures.counts s t e.keeps).1.1.1) e.cache c.in-Err-set_kind.fault x.fault (λ y is. cc) x.unseen
+    refused g.W.World g.F.Files (ask.SetExec p c.args.exec) s t u c.args.cache.now c.meet_file.new.cache e.same
+    ((c.keeps_laws.ensures.counts s t e.keeps).1.1.1) e.cache c.in-Err-set_kind.fault x.fault (λ y is. cc) x.unseen
 
 pub returns-in-Err-clause-leaves : goal.returns-in-Err-clause-leaves
 returns-in-Err-clause-leaves g c = leaves_kept g.W.World g.F.Files c.args.inodes.now c.meet_file.new.inodes c.meet_file.ensures.keeps (ask.SetExec c.args.path.now c.args.exec) _
@@ -94,8 +100,10 @@ returns-in-Ok-set_kind-clause-leaves g c =
     let name = c.in-Some.name.now in
     let seen = e.file.entry in
     let plain = subst IsPlain seen.kind e.file.plain in
-    let has = has_file c.args.path.now above name t.root seen.row (sym c.as_slice.ensures ∙ c.in-Some.ensures.cases.0) seen.there (away c.args.path.now t.root c.in-Ok.field-0 seen e.file.away) (plain_other seen.row.kind plain) in
-    let root = root_chained above t.root c.set_kind.new.inodes.root (λ d. changed_listing d name (Some (of_kind c.exec_kind.result seen.row))) (loaded_there above t.root has.row has.directory has.at has.holds) (x.ok seen.row has) in
+    let has = has_file c.args.path.now above name t.root seen.row (sym c.as_slice.ensures ∙ c.in-Some.ensures.cases.0) seen.there (away c.args.path.now t.root c.in-Ok.field-0 seen e.file.away)
+    (plain_other seen.row.kind plain) in
+    let root = root_chained above t.root c.set_kind.new.inodes.root (λ d. changed_listing d name (Some (of_kind c.exec_kind.result seen.row)))
+    (loaded_there above t.root has.row has.directory has.at has.holds) (x.ok seen.row has) in
     let u = c.set_kind.new.inodes in
     let l = leaves_by g.F.Files t u x.stays root x.saved (no_less t.next u.next x.rest.0) x.rest.1 (no_less (g.F.Files.failures t.files) (g.F.Files.failures u.files) x.counted) in
     leaves_changed g.W.World g.F.Files c.args.inodes.now t c.meet_file.ensures.keeps u (Finished say.Ok) (λ e is. cc) (ask.SetExec c.args.path.now c.args.exec) l (none_given t.next u.next 0 x.rest.0)
@@ -107,4 +115,5 @@ returns-in-Err-set_kind-clause-leaves g c =
     let u = c.set_kind.new.inodes in
     let counted = fault_count (g.F.Files.failures t.files) (g.F.Files.failures u.files) c.in-Err-set_kind.fault x.fault in
     let l = leaves_by g.F.Files t u x.stays (root_same t.root u.root x.err) x.saved (no_less t.next u.next x.rest.0) x.rest.1 counted in
-    leaves_changed g.W.World g.F.Files c.args.inodes.now t c.meet_file.ensures.keeps u (Finished (say.Fault c.in-Err-set_kind.fault)) (λ e is. cc) (ask.SetExec c.args.path.now c.args.exec) l (none_given t.next u.next 0 x.rest.0)
+    leaves_changed g.W.World g.F.Files c.args.inodes.now t c.meet_file.ensures.keeps u (Finished (say.Fault c.in-Err-set_kind.fault)) (λ e is. cc) (ask.SetExec c.args.path.now c.args.exec) l
+    (none_given t.next u.next 0 x.rest.0)

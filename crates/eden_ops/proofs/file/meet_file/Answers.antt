@@ -27,11 +27,13 @@ returns-in-Ok-None-clause-ends g c q asked =
 pub returns-in-Link-clause-ends : goal.returns-in-Link-clause-ends
 returns-in-Link-clause-ends g c q asked =
     let e = c.in-Ok-Some.ensures in
-    file_link g.W.World g.F.Files c.args.path.now q asked c.args.inodes.now c.meet.new.inodes c.args.cache.now c.meet.new.cache e.same e.keeps e.cache _ c.in-Ok-Some.seen c.in-Ok-Some.field-0-is e.meets e.shown
+    file_link g.W.World g.F.Files c.args.path.now q asked c.args.inodes.now c.meet.new.inodes c.args.cache.now c.meet.new.cache e.same e.keeps e.cache _ c.in-Ok-Some.seen c.in-Ok-Some.field-0-is
+    e.meets e.shown
     ((c.what.ensures.other (link_not_dir c.what.result c.in-Link.is)).1 ∙ c.in-Link.is)
 
 pub returns-in-Dir-clause-ends : goal.returns-in-Dir-clause-ends
 returns-in-Dir-clause-ends g c q asked =
     let e = c.in-Ok-Some.ensures in
-    file_dir g.W.World g.F.Files c.args.path.now q asked c.args.inodes.now c.meet.new.inodes c.args.cache.now c.meet.new.cache e.same e.keeps e.cache _ c.in-Ok-Some.seen c.in-Ok-Some.field-0-is e.meets e.shown
+    file_dir g.W.World g.F.Files c.args.path.now q asked c.args.inodes.now c.meet.new.inodes c.args.cache.now c.meet.new.cache e.same e.keeps e.cache _ c.in-Ok-Some.seen c.in-Ok-Some.field-0-is
+    e.meets e.shown
     (λ k is on. as_dir k c.in-Ok-Some.seen is on (c.what.ensures.dir c.in-Dir.is))

@@ -30,7 +30,8 @@ returns-clause-shown g c h y at =
     (λ shown.
     shown
     ∙ ap (λ (q : Path). graft q there (shows g.W.World g.F.Files s)) (sym split)
-    ∙ put_alone (shows g.W.World g.F.Files s) p there (λ n r. file_alone c.shown_laws.ensures.below R F p s.root y (kept_dirs R F s.root s.next (c.holds.ensures.kept h)) at.there at.file n r) (λ n r. refl))
+    ∙ put_alone (shows g.W.World g.F.Files s) p there (λ n r. file_alone c.shown_laws.ensures.below R F p s.root y (kept_dirs R F s.root s.next (c.holds.ensures.kept h)) at.there at.file n r)
+    (λ n r. refl))
     (c.store_content.ensures.shown h y (has_file p c.in-Some.above.now c.in-Some.name.now s.root y split at.there at.unloaded at.file))
 
 pub returns-clause-leaves : goal.returns-clause-leaves
@@ -42,6 +43,7 @@ returns-clause-leaves g c =
     let name = c.in-Some.name.now in
     let h = c.requires.there in
     let file = has_file c.args.path.now above name s.root h.0 (sym c.as_slice.ensures ∙ c.in-Some.ensures.cases.0) h.1.there h.1.unloaded h.1.file in
-    let root = root_filled c.store_content.result (is_own h.0.origin) above s.root t.root (changed file.directory name (Some (owned h.0))) (x.ok h.0 file file.row file.directory file.at file.holds) x.err in
+    let root = root_filled c.store_content.result (is_own h.0.origin) above s.root t.root (changed file.directory name (Some (owned h.0)))
+    (x.ok h.0 file file.row file.directory file.at file.holds) x.err in
     let counted = stored_count c.store_content.result (g.F.Files.failures s.files) (g.F.Files.failures t.files) x.fault x.counted in
     leaves_by g.F.Files s t x.stays root x.saved (no_less s.next t.next x.rest.0) x.rest.1 counted

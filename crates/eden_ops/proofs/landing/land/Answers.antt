@@ -25,12 +25,14 @@ returns-in-File g c =
     let t = c.meet.new.inodes in
     let e = c.in-Ok-Some.ensures in
     let seen = seen_at g.W.World g.F.Files p s t c.meet.new.cache _ c.in-Ok-Some.seen c.in-Ok-Some.field-0-is e.meets in
-    let shown : g.W.World.honest → IsShown g.W.World.repository (g.F.Files.stored t.files) (row_at p t.root) (reach (shows g.W.World g.F.Files s) p) = shown_at g.W.World g.F.Files p s t c.meet.new.cache _ c.in-Ok-Some.seen c.in-Ok-Some.field-0-is e.shown in
+    let shown : g.W.World.honest → IsShown g.W.World.repository (g.F.Files.stored t.files) (row_at p t.root)
+    (reach (shows g.W.World g.F.Files s) p) = shown_at g.W.World g.F.Files p s t c.meet.new.cache _ c.in-Ok-Some.seen c.in-Ok-Some.field-0-is e.shown in
     let other = no_dir c.what.result c.in-File.is in
     let file = c.what.ensures.other other in
     record {
       lands = met_passes g.W.World g.F.Files p s t c.meet.new.cache _ e.meets;
-      shown = λ h. land_over_file g.W.World.repository (g.F.Files.stored t.files) (shows g.W.World g.F.Files s) p t.root c.in-Ok-Some.seen seen (shown h) c.args.dir c.if-dir.false (λ dir. other (sym file.1 ∙ dir));
+      shown = λ h. land_over_file g.W.World.repository (g.F.Files.stored t.files) (shows g.W.World g.F.Files s) p t.root c.in-Ok-Some.seen seen (shown h) c.args.dir c.if-dir.false
+          (λ dir. other (sym file.1 ∙ dir));
       same = e.same;
       keeps = e.keeps;
       cache = e.cache;
@@ -44,7 +46,8 @@ returns-in-Err-bring_seen-clause-lands g c =
     let e = c.in-Ok-Some.ensures in
     let z = c.in-Err-bring_seen.ensures in
     let seen = seen_at g.W.World g.F.Files p s t c.meet.new.cache _ c.in-Ok-Some.seen c.in-Ok-Some.field-0-is e.meets in
-    land_lacks g.W.World g.F.Files p s t c.bring_seen.new.inodes c.bring_seen.new.cache c.in-Ok-Some.seen seen z.still z.away (c.what.ensures.dir c.in-Dir.is) c.args.dir c.if-not-dir.false e.keeps c.in-Err-bring_seen.stop z.lacks
+    land_lacks g.W.World g.F.Files p s t c.bring_seen.new.inodes c.bring_seen.new.cache c.in-Ok-Some.seen seen z.still z.away
+    (c.what.ensures.dir c.in-Dir.is) c.args.dir c.if-not-dir.false e.keeps c.in-Err-bring_seen.stop z.lacks
 
 pub returns-in-Err-bring_seen-clause-same : goal.returns-in-Err-bring_seen-clause-same
 returns-in-Err-bring_seen-clause-same g c h = c.bring_seen.ensures.same h ∙ c.in-Ok-Some.ensures.same h
@@ -59,7 +62,8 @@ pub returns-then-is_empty-clause-shown : goal.returns-then-is_empty-clause-shown
 returns-then-is_empty-clause-shown g c h =
     let p = c.args.path.now in
     let same = c.bring_seen.ensures.same h ∙ c.in-Ok-Some.ensures.same h in
-    subst (λ (G : Tree). MayLand G p c.args.dir say.Ok) same (land_over_none (shows g.W.World g.F.Files c.bring_seen.new.inodes) p (c.is_empty.ensures.here h) c.args.dir c.if-not-dir.false (c.if-is_empty.ensures.entries h))
+    subst (λ (G : Tree). MayLand G p c.args.dir say.Ok) same
+    (land_over_none (shows g.W.World g.F.Files c.bring_seen.new.inodes) p (c.is_empty.ensures.here h) c.args.dir c.if-not-dir.false (c.if-is_empty.ensures.entries h))
 
 pub returns-then-is_empty-clause-same : goal.returns-then-is_empty-clause-same
 returns-then-is_empty-clause-same g c h = c.bring_seen.ensures.same h ∙ c.in-Ok-Some.ensures.same h
@@ -71,7 +75,8 @@ pub returns-clause-shown : goal.returns-clause-shown
 returns-clause-shown g c h =
     let p = c.args.path.now in
     let same = c.bring_seen.ensures.same h ∙ c.in-Ok-Some.ensures.same h in
-    subst (λ (G : Tree). MayLand G p c.args.dir (say.Err ENOTEMPTY)) same (land_over_some (shows g.W.World g.F.Files c.bring_seen.new.inodes) p (c.is_empty.ensures.here h) c.args.dir c.if-not-dir.false (c.if-is_empty.ensures.entries h))
+    subst (λ (G : Tree). MayLand G p c.args.dir (say.Err ENOTEMPTY)) same
+    (land_over_some (shows g.W.World g.F.Files c.bring_seen.new.inodes) p (c.is_empty.ensures.here h) c.args.dir c.if-not-dir.false (c.if-is_empty.ensures.entries h))
 
 pub returns-clause-same : goal.returns-clause-same
 returns-clause-same g c h = c.bring_seen.ensures.same h ∙ c.in-Ok-Some.ensures.same h

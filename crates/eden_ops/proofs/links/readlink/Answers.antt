@@ -39,7 +39,8 @@ returns-in-Err-clause-attempts g c =
     let t = c.meet.new.inodes in
     let e = c.in-Err.ensures in
     subst (λ (a : Attempt). Attempts g.W.World g.F.Files (ask.ReadLink c.args.path.now) s t c.args.cache.now c.meet.new.cache a) (sym c.ended.ensures)
-    (walk_ended g.W.World g.F.Files (ask.ReadLink c.args.path.now) p reads_target (asks_target c.args.path.now) s t c.args.cache.now c.meet.new.cache e.same e.keeps e.cache c.in-Err.stop e.meets e.shown)
+    (walk_ended g.W.World g.F.Files (ask.ReadLink c.args.path.now) p reads_target
+    (asks_target c.args.path.now) s t c.args.cache.now c.meet.new.cache e.same e.keeps e.cache c.in-Err.stop e.meets e.shown)
 
 pub returns-in-Ok-None-clause-attempts : goal.returns-in-Ok-None-clause-attempts
 returns-in-Ok-None-clause-attempts g c =
@@ -53,13 +54,15 @@ returns-in-Ok-None-clause-attempts g c =
 pub returns-in-File-clause-attempts : goal.returns-in-File-clause-attempts
 returns-in-File-clause-attempts g c =
     let e = c.in-Ok-Some.ensures in
-    met_tells g.W.World g.F.Files c.args.path.now c.args.inodes.now c.meet.new.inodes c.meet.new.cache _ c.in-Ok-Some.seen c.in-Ok-Some.field-0-is e.meets (ask.ReadLink c.args.path.now) reads_target (asks_target c.args.path.now) c.args.cache.now e.same e.keeps e.cache e.shown (say.Err EINVAL) refl (λ T. refl)
+    met_tells g.W.World g.F.Files c.args.path.now c.args.inodes.now c.meet.new.inodes c.meet.new.cache _ c.in-Ok-Some.seen c.in-Ok-Some.field-0-is e.meets (ask.ReadLink c.args.path.now) reads_target
+    (asks_target c.args.path.now) c.args.cache.now e.same e.keeps e.cache e.shown (say.Err EINVAL) refl (λ T. refl)
     (λ k a listed is on. target_other k a listed (not_link k c.what.result (is ∙ (c.what.ensures.other (not_dir c.what.result c.in-File.is)).1) c.in-File.is))
 
 pub returns-in-Dir-clause-attempts : goal.returns-in-Dir-clause-attempts
 returns-in-Dir-clause-attempts g c =
     let e = c.in-Ok-Some.ensures in
-    met_tells g.W.World g.F.Files c.args.path.now c.args.inodes.now c.meet.new.inodes c.meet.new.cache _ c.in-Ok-Some.seen c.in-Ok-Some.field-0-is e.meets (ask.ReadLink c.args.path.now) reads_target (asks_target c.args.path.now) c.args.cache.now e.same e.keeps e.cache e.shown (say.Err EINVAL) refl (λ T. refl)
+    met_tells g.W.World g.F.Files c.args.path.now c.args.inodes.now c.meet.new.inodes c.meet.new.cache _ c.in-Ok-Some.seen c.in-Ok-Some.field-0-is e.meets (ask.ReadLink c.args.path.now) reads_target
+    (asks_target c.args.path.now) c.args.cache.now e.same e.keeps e.cache e.shown (say.Err EINVAL) refl (λ T. refl)
     (λ k a listed is on. target_other k a listed (dir_not_link k (as_dir k c.in-Ok-Some.seen is on (c.what.ensures.dir c.in-Dir.is))))
 
 pub returns-in-Err-make-clause-attempts : goal.returns-in-Err-make-clause-attempts
@@ -68,7 +71,9 @@ returns-in-Err-make-clause-attempts g c =
     let b = c.make.ensures in
     let other = c.what.ensures.other (link_not_dir c.what.result c.in-Link.is) in
     subst (λ (a : Attempt). Attempts g.W.World g.F.Files (ask.ReadLink c.args.path.now) c.args.inodes.now c.make.new.inodes c.args.cache.now c.make.new.cache a) (sym c.ended-in-Err-make.ensures)
-    (content_lacks g.W.World g.F.Files c.args.path.now c.args.inodes.now c.meet.new.inodes c.meet.new.cache _ c.in-Ok-Some.seen c.in-Ok-Some.field-0-is e.meets (ask.ReadLink c.args.path.now) reads_target (asks_target c.args.path.now) c.args.cache.now e.same e.keeps e.cache e.shown c.make.new.inodes c.make.new.cache b.same b.keeps b.still b.cache other.0 (λ x is. cc) c.in-Err-make.stop
+    (content_lacks g.W.World g.F.Files c.args.path.now c.args.inodes.now c.meet.new.inodes c.meet.new.cache _ c.in-Ok-Some.seen c.in-Ok-Some.field-0-is e.meets
+    (ask.ReadLink c.args.path.now) reads_target
+    (asks_target c.args.path.now) c.args.cache.now e.same e.keeps e.cache e.shown c.make.new.inodes c.make.new.cache b.same b.keeps b.still b.cache other.0 (λ x is. cc) c.in-Err-make.stop
     (λ k is. (λ n a r same lost. target_lost n a false r (same ∙ other.1 ∙ c.in-Link.is) lost, λ x y. cc)) c.in-Err-make.ensures.lacks)
 
 pub returns-in-Err-make-clause-keeps : goal.returns-in-Err-make-clause-keeps
@@ -85,7 +90,9 @@ returns-in-Ok-clause-attempts g c =
     let had = c.in-Ok.ensures.ok in
     let R = g.W.World.repository in
     let F = g.F.Files.stored c.meet.new.inodes.files in
-    content_tells g.W.World g.F.Files c.args.path.now c.args.inodes.now c.meet.new.inodes c.meet.new.cache _ c.in-Ok-Some.seen c.in-Ok-Some.field-0-is e.meets (ask.ReadLink c.args.path.now) reads_target (asks_target c.args.path.now) c.args.cache.now e.same e.keeps e.cache e.shown c.make.new.inodes c.make.new.cache b.same b.keeps b.still b.cache (say.Data c.in-Ok.bytes) refl (λ T. refl)
+    content_tells g.W.World g.F.Files c.args.path.now c.args.inodes.now c.meet.new.inodes c.meet.new.cache _ c.in-Ok-Some.seen c.in-Ok-Some.field-0-is e.meets
+    (ask.ReadLink c.args.path.now) reads_target (asks_target c.args.path.now) c.args.cache.now e.same e.keeps e.cache e.shown c.make.new.inodes c.make.new.cache b.same b.keeps b.still b.cache
+    (say.Data c.in-Ok.bytes) refl (λ T. refl)
     (λ h y at listed is. subst (λ a. ReadsLink (shown_node R F y listed) (say.Data a)) (sym (had.made ∙ take_all 1073741824 had.content had.is.short))
     (target_some y.kind (content_with R (own_files F) (source_of y.number y.origin)) listed had.content (is ∙ other.1 ∙ c.in-Link.is) (had.is.shown h y at)))
 
@@ -93,7 +100,8 @@ pub make-requires-clause-content : goal.make-requires-clause-content
 make-requires-clause-content g c =
     let e = c.in-Ok-Some.ensures in
     let other = c.what.ensures.other (link_not_dir c.what.result c.in-Link.is) in
-    met_content g.W.World g.F.Files c.args.path.now c.args.inodes.now c.meet.new.inodes c.meet.new.cache _ c.in-Ok-Some.seen c.in-Ok-Some.field-0-is e.meets (λ dir. link_not_dir c.what.result c.in-Link.is (sym other.1 ∙ dir))
+    met_content g.W.World g.F.Files c.args.path.now c.args.inodes.now c.meet.new.inodes c.meet.new.cache _ c.in-Ok-Some.seen c.in-Ok-Some.field-0-is e.meets
+    (λ dir. link_not_dir c.what.result c.in-Link.is (sym other.1 ∙ dir))
 
 pub make-requires-clause-stocked : goal.make-requires-clause-stocked
 make-requires-clause-stocked g c = still_stocked g.W.World.repository g.W.World.honest c.args.cache.now c.meet.new.cache c.meet.ensures.cache c.requires

@@ -38,7 +38,9 @@ returns-in-Err-clause-attempts g c =
     let t = c.meet.new.inodes in
     let e = c.in-Err.ensures in
     subst (λ (a : Attempt). Attempts g.W.World g.F.Files q s t c.args.cache.now c.meet.new.cache a) (sym c.ended.ensures)
-    (walk_ended g.W.World g.F.Files q p (lists p c.args.after.now c.args.limit) (asks_list p c.args.after.now c.args.limit (ne_eqb c.args.limit 0 c.if-limit-eq0.false) (le-ltb 1000 c.args.limit c.if-limit-gt-MAX_ENTRIES.false)) s t c.args.cache.now c.meet.new.cache e.same e.keeps e.cache c.in-Err.stop e.meets e.shown)
+    (walk_ended g.W.World g.F.Files q p (lists p c.args.after.now c.args.limit)
+    (asks_list p c.args.after.now c.args.limit (ne_eqb c.args.limit 0 c.if-limit-eq0.false) (le-ltb 1000 c.args.limit c.if-limit-gt-MAX_ENTRIES.false)) s t c.args.cache.now c.meet.new.cache e.same
+    e.keeps e.cache c.in-Err.stop e.meets e.shown)
 
 pub returns-in-Ok-None-clause-attempts : goal.returns-in-Ok-None-clause-attempts
 returns-in-Ok-None-clause-attempts g c =
@@ -46,7 +48,9 @@ returns-in-Ok-None-clause-attempts g c =
     let s = c.args.inodes.now in
     let t = c.meet.new.inodes in
     let e = c.in-Ok-None.ensures in
-    says_absent g.W.World g.F.Files (ask.List p c.args.after.now c.args.limit) p (lists p c.args.after.now c.args.limit) (asks_list p c.args.after.now c.args.limit (ne_eqb c.args.limit 0 c.if-limit-eq0.false) (le-ltb 1000 c.args.limit c.if-limit-gt-MAX_ENTRIES.false)) s t c.args.cache.now c.meet.new.cache e.same e.keeps e.cache
+    says_absent g.W.World g.F.Files (ask.List p c.args.after.now c.args.limit) p (lists p c.args.after.now c.args.limit)
+    (asks_list p c.args.after.now c.args.limit (ne_eqb c.args.limit 0 c.if-limit-eq0.false) (le-ltb 1000 c.args.limit c.if-limit-gt-MAX_ENTRIES.false)) s t c.args.cache.now c.meet.new.cache e.same
+    e.keeps e.cache
     (λ h. subst (λ (o : Option Seen). MeetsShown g.W.World g.F.Files p s t (Ok o)) c.in-Ok-None.field-0-is (e.shown h))
 
 pub returns-in-File : goal.returns-in-File
@@ -54,8 +58,12 @@ returns-in-File g c =
     let e = c.in-Ok-Some.ensures in
     let other = c.what.ensures.other (no_dir c.what.result c.in-File.is) in
     record {
-      attempts = met_tells g.W.World g.F.Files c.args.path.now c.args.inodes.now c.meet.new.inodes c.meet.new.cache _ c.in-Ok-Some.seen c.in-Ok-Some.field-0-is e.meets (ask.List c.args.path.now c.args.after.now c.args.limit) (lists c.args.path.now c.args.after.now c.args.limit) (asks_list c.args.path.now c.args.after.now c.args.limit (ne_eqb c.args.limit 0 c.if-limit-eq0.false) (le-ltb 1000 c.args.limit c.if-limit-gt-MAX_ENTRIES.false)) c.args.cache.now e.same e.keeps e.cache e.shown (say.Err ENOTDIR) refl (λ T. refl)
-          (λ k a listed is on. lists_other (ListsSome (shows g.W.World g.F.Files c.args.inodes.now) c.args.path.now c.args.after.now c.args.limit) k a listed (λ dir. no_dir c.what.result c.in-File.is (sym other.1 ∙ sym is ∙ dir)));
+      attempts = met_tells g.W.World g.F.Files c.args.path.now c.args.inodes.now c.meet.new.inodes c.meet.new.cache _ c.in-Ok-Some.seen c.in-Ok-Some.field-0-is e.meets
+          (ask.List c.args.path.now c.args.after.now c.args.limit) (lists c.args.path.now c.args.after.now c.args.limit)
+          (asks_list c.args.path.now c.args.after.now c.args.limit (ne_eqb c.args.limit 0 c.if-limit-eq0.false) (le-ltb 1000 c.args.limit c.if-limit-gt-MAX_ENTRIES.false)) c.args.cache.now e.same
+          e.keeps e.cache e.shown (say.Err ENOTDIR) refl (λ T. refl)
+          (λ k a listed is on. lists_other (ListsSome (shows g.W.World g.F.Files c.args.inodes.now) c.args.path.now c.args.after.now c.args.limit) k a listed
+          (λ dir. no_dir c.what.result c.in-File.is (sym other.1 ∙ sym is ∙ dir)));
       keeps = e.keeps;
     }
 
@@ -72,10 +80,13 @@ returns-in-Err-bring_seen-clause-attempts g c =
     let seen = seen_at g.W.World g.F.Files p s t c.meet.new.cache _ c.in-Ok-Some.seen c.in-Ok-Some.field-0-is e.meets in
     let at : row_at p u.root ≡ Some seen.row = ap (row_at p) z.still ∙ seen.there in
     subst (λ (a : Attempt). Attempts g.W.World g.F.Files q s u c.args.cache.now c.bring_seen.new.cache a) (sym c.ended-in-Err-bring_seen.ensures)
-    (lacked g.W.World g.F.Files q p (lists p c.args.after.now c.args.limit) (asks_list p c.args.after.now c.args.limit (ne_eqb c.args.limit 0 c.if-limit-eq0.false) (le-ltb 1000 c.args.limit c.if-limit-gt-MAX_ENTRIES.false)) s u c.args.cache.now c.bring_seen.new.cache (λ h. b.same h ∙ e.same h) (keeps_on g.W.World g.F.Files s t u e.keeps b.keeps)
+    (lacked g.W.World g.F.Files q p (lists p c.args.after.now c.args.limit)
+    (asks_list p c.args.after.now c.args.limit (ne_eqb c.args.limit 0 c.if-limit-eq0.false) (le-ltb 1000 c.args.limit c.if-limit-gt-MAX_ENTRIES.false)) s u c.args.cache.now c.bring_seen.new.cache
+    (λ h. b.same h ∙ e.same h) (keeps_on g.W.World g.F.Files s t u e.keeps b.keeps)
     (finds_on c.args.cache.now c.meet.new.cache c.bring_seen.new.cache e.cache b.cache) seen.row at c.in-Err-bring_seen.stop (λ x is. cc)
     (λ k is. (
-      λ r h. lists_away (ListsSome (known u.root) p c.args.after.now c.args.limit) seen.row.kind (content_known seen.row.origin) r (dir_kind p t.root c.in-Ok-Some.seen seen z.away (c.what.ensures.dir c.in-Dir.is))
+      λ r h. lists_away (ListsSome (known u.root) p c.args.after.now c.args.limit) seen.row.kind (content_known seen.row.origin) r
+          (dir_kind p t.root c.in-Ok-Some.seen seen z.away (c.what.ensures.dir c.in-Dir.is))
           (subst (λ (n : Node). Lists (known u.root) p c.args.after.now c.args.limit n r) (known_unloaded seen.row (away p t.root c.in-Ok-Some.seen seen z.away)) h),
       λ x y. cc,
     )) (lacks_since g.W.World g.F.Files p s t u c.bring_seen.new.cache e.keeps c.in-Err-bring_seen.stop z.lacks))
@@ -91,7 +102,9 @@ returns-in-Err-page_at-clause-attempts g c =
     let u = c.bring_seen.new.inodes in
     let e = c.in-Ok-Some.ensures in
     let b = c.bring_seen.ensures in
-    faulted g.W.World g.F.Files (ask.List p c.args.after.now c.args.limit) p (lists p c.args.after.now c.args.limit) (asks_list p c.args.after.now c.args.limit (ne_eqb c.args.limit 0 c.if-limit-eq0.false) (le-ltb 1000 c.args.limit c.if-limit-gt-MAX_ENTRIES.false)) s u c.args.cache.now c.bring_seen.new.cache (λ h. b.same h ∙ e.same h) (keeps_on g.W.World g.F.Files s t u e.keeps b.keeps)
+    faulted g.W.World g.F.Files (ask.List p c.args.after.now c.args.limit) p (lists p c.args.after.now c.args.limit)
+    (asks_list p c.args.after.now c.args.limit (ne_eqb c.args.limit 0 c.if-limit-eq0.false) (le-ltb 1000 c.args.limit c.if-limit-gt-MAX_ENTRIES.false)) s u c.args.cache.now c.bring_seen.new.cache
+    (λ h. b.same h ∙ e.same h) (keeps_on g.W.World g.F.Files s t u e.keeps b.keeps)
     (finds_on c.args.cache.now c.meet.new.cache c.bring_seen.new.cache e.cache b.cache) fault.Memory (λ x is. cc)
 
 pub returns-in-Err-page_at-clause-keeps : goal.returns-in-Err-page_at-clause-keeps
@@ -107,9 +120,13 @@ returns-in-Ok-clause-attempts g c =
     let b = c.bring_seen.ensures in
     let had = c.in-Ok.ensures in
     let alike : g.W.World.honest → shows g.W.World g.F.Files u ≡ shows g.W.World g.F.Files s = λ h. b.same h ∙ e.same h in
-    replied g.W.World g.F.Files (ask.List p c.args.after.now c.args.limit) p (lists p c.args.after.now c.args.limit) (asks_list p c.args.after.now c.args.limit (ne_eqb c.args.limit 0 c.if-limit-eq0.false) (le-ltb 1000 c.args.limit c.if-limit-gt-MAX_ENTRIES.false)) s u c.args.cache.now c.bring_seen.new.cache alike (keeps_on g.W.World g.F.Files s t u e.keeps b.keeps)
-    (finds_on c.args.cache.now c.meet.new.cache c.bring_seen.new.cache e.cache b.cache) c.in-Ok.reply (ap fault_of had.is) (λ T. ap (after T (ask.List c.args.path.now c.args.after.now c.args.limit)) had.is)
-    (λ h. page_told (shows g.W.World g.F.Files s) p c.args.after.now c.args.limit c.in-Ok.reply had.all had.is (subst (λ (G : Tree). IsListing G p had.all) (alike h) (had.listing h)) (subst (λ (G : Tree). reach G p ≡ Here (Dir true)) (alike h) (had.here h)))
+    replied g.W.World g.F.Files (ask.List p c.args.after.now c.args.limit) p (lists p c.args.after.now c.args.limit)
+    (asks_list p c.args.after.now c.args.limit (ne_eqb c.args.limit 0 c.if-limit-eq0.false) (le-ltb 1000 c.args.limit c.if-limit-gt-MAX_ENTRIES.false)) s u c.args.cache.now c.bring_seen.new.cache
+    alike (keeps_on g.W.World g.F.Files s t u e.keeps b.keeps)
+    (finds_on c.args.cache.now c.meet.new.cache c.bring_seen.new.cache e.cache b.cache) c.in-Ok.reply (ap fault_of had.is)
+    (λ T. ap (after T (ask.List c.args.path.now c.args.after.now c.args.limit)) had.is)
+    (λ h. page_told (shows g.W.World g.F.Files s) p c.args.after.now c.args.limit c.in-Ok.reply had.all had.is (subst (λ (G : Tree). IsListing G p had.all) (alike h) (had.listing h))
+    (subst (λ (G : Tree). reach G p ≡ Here (Dir true)) (alike h) (had.here h)))
 
 pub returns-in-Ok-clause-keeps : goal.returns-in-Ok-clause-keeps
 returns-in-Ok-clause-keeps g c = keeps_on g.W.World g.F.Files c.args.inodes.now c.meet.new.inodes c.bring_seen.new.inodes c.meet.ensures.keeps c.bring_seen.ensures.keeps

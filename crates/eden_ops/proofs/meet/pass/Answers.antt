@@ -18,7 +18,8 @@ returns-then-seen-path-clause-meets g c =
 
 pub returns-then-seen-path-clause-keeps : goal.returns-then-seen-path-clause-keeps
 returns-then-seen-path-clause-keeps g c =
-    keeps_on g.W.World g.F.Files c.args.inodes.now c.fronts.inodes c.look-seen.new.self c.fronts.invariant.keeps (looks g.W.World g.F.Files c.fronts.inodes c.look-seen.new.self c.args.path.now c.look-seen.ensures.stamped)
+    keeps_on g.W.World g.F.Files c.args.inodes.now c.fronts.inodes c.look-seen.new.self c.fronts.invariant.keeps
+    (looks g.W.World g.F.Files c.fronts.inodes c.look-seen.new.self c.args.path.now c.look-seen.ensures.stamped)
 
 pub returns-then-seen-path-2-clause-meets : goal.returns-then-seen-path-2-clause-meets
 returns-then-seen-path-2-clause-meets g c =
@@ -27,7 +28,8 @@ returns-then-seen-path-2-clause-meets g c =
 
 pub returns-then-seen-path-2-clause-keeps : goal.returns-then-seen-path-2-clause-keeps
 returns-then-seen-path-2-clause-keeps g c =
-    keeps_on g.W.World g.F.Files c.args.inodes.now c.fronts.inodes c.look-seen.new.self c.fronts.invariant.keeps (looks g.W.World g.F.Files c.fronts.inodes c.look-seen.new.self c.args.path.now c.look-seen.ensures.stamped)
+    keeps_on g.W.World g.F.Files c.args.inodes.now c.fronts.inodes c.look-seen.new.self c.fronts.invariant.keeps
+    (looks g.W.World g.F.Files c.fronts.inodes c.look-seen.new.self c.args.path.now c.look-seen.ensures.stamped)
 
 pub returns-then-seen-clause-meets : goal.returns-then-seen-clause-meets
 returns-then-seen-clause-meets g c =
@@ -39,7 +41,8 @@ returns-then-seen-clause-meets g c =
 
 pub returns-then-seen-clause-keeps : goal.returns-then-seen-clause-keeps
 returns-then-seen-clause-keeps g c =
-    keeps_on g.W.World g.F.Files c.args.inodes.now c.fronts.inodes c.look-seen.new.self c.fronts.invariant.keeps (looks g.W.World g.F.Files c.fronts.inodes c.look-seen.new.self c.args.path.now c.look-seen.ensures.stamped)
+    keeps_on g.W.World g.F.Files c.args.inodes.now c.fronts.inodes c.look-seen.new.self c.fronts.invariant.keeps
+    (looks g.W.World g.F.Files c.fronts.inodes c.look-seen.new.self c.args.path.now c.look-seen.ensures.stamped)
 
 pub returns-in-File : goal.returns-in-File
 returns-in-File g c =
@@ -48,7 +51,8 @@ returns-in-File g c =
     let a = c.if-seen-path.false in
     record {
       meets = ends_file c.args.path.now c.look-seen.new.self.root c.look-seen.result last c.if-seen.false (omega (arith, le, a)) (no_dir c.look-seen.result.kind c.in-File.is);
-      keeps = keeps_on g.W.World g.F.Files c.args.inodes.now c.fronts.inodes c.look-seen.new.self c.fronts.invariant.keeps (looks g.W.World g.F.Files c.fronts.inodes c.look-seen.new.self c.args.path.now c.look-seen.ensures.stamped);
+      keeps = keeps_on g.W.World g.F.Files c.args.inodes.now c.fronts.inodes c.look-seen.new.self c.fronts.invariant.keeps
+          (looks g.W.World g.F.Files c.fronts.inodes c.look-seen.new.self c.args.path.now c.look-seen.ensures.stamped);
       cache = c.fronts.invariant.cache;
     }
 
@@ -90,7 +94,8 @@ fronts-smaller g c =
     let le = c.look-seen.ensures.last.names in
     let a = c.if-seen-path.false in
     let lt : seen.names < length p = omega (arith, le, a) in
-    let above = counted_above g.W.World g.F.Files p c.fronts.inodes c.look-seen.new.self seen c.look-seen.ensures.stamped c.look-seen.ensures.last c.if-seen.false lt c.fronts.loaded c.fronts.invariant.last in
+    let above = counted_above g.W.World g.F.Files p c.fronts.inodes c.look-seen.new.self seen c.look-seen.ensures.stamped c.look-seen.ensures.last c.if-seen.false lt c.fronts.loaded
+    c.fronts.invariant.last in
     omega (arith, above, lt)
 
 pub fronts-preserved : goal.fronts-preserved

@@ -23,16 +23,19 @@ returns-then-count-gt-MAX_DATA-clause-keeps g c = same
 
 pub returns-in-Err-clause-attempts : goal.returns-in-Err-clause-attempts
 returns-in-Err-clause-attempts g c =
-    subst (λ (a : Attempt). Attempts g.W.World g.F.Files (ask.Read c.args.path.now c.args.offset c.args.count) c.args.inodes.now c.meet_file.new.inodes c.args.cache.now c.meet_file.new.cache a) (sym c.ended.ensures)
+    subst (λ (a : Attempt). Attempts g.W.World g.F.Files (ask.Read c.args.path.now c.args.offset c.args.count) c.args.inodes.now c.meet_file.new.inodes c.args.cache.now c.meet_file.new.cache a)
+    (sym c.ended.ensures)
     (c.in-Err.ensures.ends (ask.Read c.args.path.now c.args.offset c.args.count) (for_read c.args.offset c.args.count c.if-count-gt-MAX_DATA.false))
 
 pub returns-then-count-eq0-clause-attempts : goal.returns-then-count-eq0-clause-attempts
 returns-then-count-eq0-clause-attempts g c =
     let e = c.in-Ok.ensures in
     let none : c.new-then-count-eq0.result ≡ [] = c.new-then-count-eq0.ensures ∙ c.new.ensures.items in
-    file_tells g.W.World g.F.Files c.args.path.now c.args.inodes.now c.meet_file.new.inodes c.args.cache.now c.meet_file.new.cache c.in-Ok.seen e.file e.shown e.same e.keeps e.cache (ask.Read c.args.path.now c.args.offset c.args.count) (reads c.args.offset c.args.count)
+    file_tells g.W.World g.F.Files c.args.path.now c.args.inodes.now c.meet_file.new.inodes c.args.cache.now c.meet_file.new.cache c.in-Ok.seen e.file e.shown e.same e.keeps e.cache
+    (ask.Read c.args.path.now c.args.offset c.args.count) (reads c.args.offset c.args.count)
     (asks_read c.args.path.now c.args.offset c.args.count (le-ltb 65536 c.args.count c.if-count-gt-MAX_DATA.false)) (say.Data c.new-then-count-eq0.result) refl (λ T. refl)
-    (λ k a l plain. subst (λ b. Reads c.args.offset c.args.count (node_from k a l) (say.Data b)) (sym none) (reads_none c.args.offset c.args.count k a l plain (ap (λ (n : ℕ). n == 0) c.if-count-eq0.true)))
+    (λ k a l plain. subst (λ b. Reads c.args.offset c.args.count (node_from k a l) (say.Data b)) (sym none)
+    (reads_none c.args.offset c.args.count k a l plain (ap (λ (n : ℕ). n == 0) c.if-count-eq0.true)))
 
 pub make-requires-clause-content : goal.make-requires-clause-content
 make-requires-clause-content g c =
@@ -46,9 +49,12 @@ pub returns-in-Err-make-clause-attempts : goal.returns-in-Err-make-clause-attemp
 returns-in-Err-make-clause-attempts g c =
     let e = c.in-Ok.ensures in
     let b = c.make.ensures in
-    subst (λ (a : Attempt). Attempts g.W.World g.F.Files (ask.Read c.args.path.now c.args.offset c.args.count) c.args.inodes.now c.make.new.inodes c.args.cache.now c.make.new.cache a) (sym c.ended-in-Err-make.ensures)
-    (file_lacks g.W.World g.F.Files c.args.path.now c.args.inodes.now c.meet_file.new.inodes c.args.cache.now c.meet_file.new.cache c.in-Ok.seen e.file e.shown e.same e.keeps e.cache (ask.Read c.args.path.now c.args.offset c.args.count) (reads c.args.offset c.args.count)
-    (asks_read c.args.path.now c.args.offset c.args.count (le-ltb 65536 c.args.count c.if-count-gt-MAX_DATA.false)) c.make.new.inodes c.make.new.cache b.same b.keeps b.still b.cache (λ x is. cc) (λ k x is. cc) c.in-Err-make.stop
+    subst (λ (a : Attempt). Attempts g.W.World g.F.Files (ask.Read c.args.path.now c.args.offset c.args.count) c.args.inodes.now c.make.new.inodes c.args.cache.now c.make.new.cache a)
+    (sym c.ended-in-Err-make.ensures)
+    (file_lacks g.W.World g.F.Files c.args.path.now c.args.inodes.now c.meet_file.new.inodes c.args.cache.now c.meet_file.new.cache c.in-Ok.seen e.file e.shown e.same e.keeps e.cache
+    (ask.Read c.args.path.now c.args.offset c.args.count) (reads c.args.offset c.args.count)
+    (asks_read c.args.path.now c.args.offset c.args.count (le-ltb 65536 c.args.count c.if-count-gt-MAX_DATA.false)) c.make.new.inodes c.make.new.cache b.same b.keeps b.still b.cache (λ x is. cc)
+    (λ k x is. cc) c.in-Err-make.stop
     (λ k a r plain none. reads_lost c.args.offset c.args.count k a false r plain (ne_eqb c.args.count 0 c.if-count-eq0.false) none) c.in-Err-make.ensures.lacks)
 
 pub returns-in-Ok-make-clause-attempts : goal.returns-in-Ok-make-clause-attempts
@@ -58,10 +64,13 @@ returns-in-Ok-make-clause-attempts g c =
     let had = c.in-Ok-make.ensures.ok in
     let R = g.W.World.repository in
     let F = g.F.Files.stored c.meet_file.new.inodes.files in
-    content_tells g.W.World g.F.Files c.args.path.now c.args.inodes.now c.meet_file.new.inodes c.meet_file.new.cache (Some c.in-Ok.seen) c.in-Ok.seen refl e.file.entry (ask.Read c.args.path.now c.args.offset c.args.count) (reads c.args.offset c.args.count)
-    (asks_read c.args.path.now c.args.offset c.args.count (le-ltb 65536 c.args.count c.if-count-gt-MAX_DATA.false)) c.args.cache.now e.same e.keeps e.cache e.shown c.make.new.inodes c.make.new.cache b.same b.keeps b.still b.cache (say.Data c.in-Ok-make.bytes) refl (λ T. refl)
+    content_tells g.W.World g.F.Files c.args.path.now c.args.inodes.now c.meet_file.new.inodes c.meet_file.new.cache (Some c.in-Ok.seen) c.in-Ok.seen refl e.file.entry
+    (ask.Read c.args.path.now c.args.offset c.args.count) (reads c.args.offset c.args.count)
+    (asks_read c.args.path.now c.args.offset c.args.count (le-ltb 65536 c.args.count c.if-count-gt-MAX_DATA.false)) c.args.cache.now e.same e.keeps e.cache e.shown c.make.new.inodes c.make.new.cache
+    b.same b.keeps b.still b.cache (say.Data c.in-Ok-make.bytes) refl (λ T. refl)
     (λ h y at l is. subst (λ a. Reads c.args.offset c.args.count (shown_node R F y l) (say.Data a)) (sym had.made)
-    (reads_some c.args.offset c.args.count y.kind (content_with R (own_files F) (source_of y.number y.origin)) l had.content (subst IsPlain (sym is) e.file.plain) (ne_eqb c.args.count 0 c.if-count-eq0.false) (had.is.shown h y at)))
+    (reads_some c.args.offset c.args.count y.kind (content_with R (own_files F) (source_of y.number y.origin)) l had.content (subst IsPlain (sym is) e.file.plain)
+    (ne_eqb c.args.count 0 c.if-count-eq0.false) (had.is.shown h y at)))
 
 pub returns-in-Err-make-clause-keeps : goal.returns-in-Err-make-clause-keeps
 returns-in-Err-make-clause-keeps g c = keeps_on g.W.World g.F.Files c.args.inodes.now c.meet_file.new.inodes c.make.new.inodes c.meet_file.ensures.keeps c.make.ensures.keeps

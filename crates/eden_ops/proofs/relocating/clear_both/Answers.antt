@@ -10,7 +10,15 @@ pub returns-in_err-let_go-clause-readies : goal.returns-in_err-let_go-clause-rea
 returns-in_err-let_go-clause-readies g c =
     let e = c.in_err-let_go.ensures in
     readies_err g.W.World g.F.Files c.args.inodes.now c.let_go.new.inodes c.from_residual.result c.in_err-let_go.field-0.0 c.from_residual.ensures.0 c.from_residual.ensures.1
-    (record { shown = e.same; saved = e.saved; root = root_left c.args.from.now c.args.inodes.now.root c.let_go.new.inodes.root e.goes; fault = e.fault; counted = tt; next = e.rest.0; clock = e.rest.1 })
+    (record {
+      shown = e.same;
+      saved = e.saved;
+      root = root_left c.args.from.now c.args.inodes.now.root c.let_go.new.inodes.root e.goes;
+      fault = e.fault;
+      counted = tt;
+      next = e.rest.0;
+      clock = e.rest.1;
+    })
 
 pub returns-clause-cleared : goal.returns-clause-cleared
 returns-clause-cleared g c =
@@ -29,5 +37,21 @@ returns-clause-readies g c =
     let a = c.in_ok-let_go.ensures in
     let b = c.let_go-2.ensures in
     readies_on g.W.World g.F.Files c.args.inodes.now c.let_go.new.inodes c.let_go-2.new.inodes c.let_go-2.result
-    (record { shown = a.same; saved = a.saved; root = root_left c.args.from.now c.args.inodes.now.root c.let_go.new.inodes.root a.goes; fault = tt; counted = a.unfailed; next = a.rest.0; clock = a.rest.1 })
-    (record { shown = b.same; saved = b.saved; root = root_left c.args.to.now c.let_go.new.inodes.root c.let_go-2.new.inodes.root b.goes; fault = b.fault; counted = b.unfailed; next = b.rest.0; clock = b.rest.1 })
+    (record {
+      shown = a.same;
+      saved = a.saved;
+      root = root_left c.args.from.now c.args.inodes.now.root c.let_go.new.inodes.root a.goes;
+      fault = tt;
+      counted = a.unfailed;
+      next = a.rest.0;
+      clock = a.rest.1;
+    })
+    (record {
+      shown = b.same;
+      saved = b.saved;
+      root = root_left c.args.to.now c.let_go.new.inodes.root c.let_go-2.new.inodes.root b.goes;
+      fault = b.fault;
+      counted = b.unfailed;
+      next = b.rest.0;
+      clock = b.rest.1;
+    })

@@ -17,4 +17,13 @@ returns-clause-readies g c =
     let b = c.materialise-2.ensures in
     readies_on g.W.World g.F.Files c.args.inodes.now c.materialise.new.inodes c.materialise-2.new.inodes c.materialise-2.result
     (record { shown = a.shown; saved = a.saved; root = inr (ap (λ (r : Row). r.origin) a.ok); fault = tt; counted = a.counted; next = a.rest.0; clock = a.rest.1 })
-    (record { shown = b.shown; saved = b.saved; root = root_owned c.materialise-2.result c.materialise.new.inodes.root (owned_along c.args.other.now c.materialise.new.inodes.root) c.materialise-2.new.inodes.root b.ok b.err; fault = b.fault; counted = b.counted; next = b.rest.0; clock = b.rest.1 })
+    (record {
+      shown = b.shown;
+      saved = b.saved;
+      root = root_owned c.materialise-2.result c.materialise.new.inodes.root
+          (owned_along c.args.other.now c.materialise.new.inodes.root) c.materialise-2.new.inodes.root b.ok b.err;
+      fault = b.fault;
+      counted = b.counted;
+      next = b.rest.0;
+      clock = b.rest.1;
+    })

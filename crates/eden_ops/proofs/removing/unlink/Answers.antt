@@ -39,7 +39,8 @@ returns-in-Err-clause-attempts g c =
     let e = c.in-Err.ensures in
     let split = sym c.as_slice.ensures ∙ c.in-Some.ensures.cases.0 in
     subst (λ (a : Attempt). Attempts g.W.World g.F.Files (ask.Unlink p) s t c.args.cache.now c.meet.new.cache a) (sym c.ended.ensures)
-    (walk_ended g.W.World g.F.Files (ask.Unlink p) p unlinks (asks_unlink p (not_root p c.in-Some.above.now c.in-Some.name.now split)) s t c.args.cache.now c.meet.new.cache e.same e.keeps e.cache c.in-Err.stop e.meets e.shown)
+    (walk_ended g.W.World g.F.Files (ask.Unlink p) p unlinks
+    (asks_unlink p (not_root p c.in-Some.above.now c.in-Some.name.now split)) s t c.args.cache.now c.meet.new.cache e.same e.keeps e.cache c.in-Err.stop e.meets e.shown)
 
 pub returns-in-Ok-None-clause-attempts : goal.returns-in-Ok-None-clause-attempts
 returns-in-Ok-None-clause-attempts g c =
@@ -55,7 +56,9 @@ pub returns-in-Dir-clause-attempts : goal.returns-in-Dir-clause-attempts
 returns-in-Dir-clause-attempts g c =
     let p = c.args.path.now in
     let e = c.in-Ok-Some.ensures in
-    met_tells g.W.World g.F.Files p c.args.inodes.now c.meet.new.inodes c.meet.new.cache _ c.in-Ok-Some.seen c.in-Ok-Some.field-0-is e.meets (ask.Unlink p) unlinks (asks_unlink p (not_root p c.in-Some.above.now c.in-Some.name.now (sym c.as_slice.ensures ∙ c.in-Some.ensures.cases.0))) c.args.cache.now e.same e.keeps e.cache e.shown (say.Err EISDIR) refl (λ T. refl)
+    met_tells g.W.World g.F.Files p c.args.inodes.now c.meet.new.inodes c.meet.new.cache _ c.in-Ok-Some.seen c.in-Ok-Some.field-0-is e.meets (ask.Unlink p) unlinks
+    (asks_unlink p (not_root p c.in-Some.above.now c.in-Some.name.now (sym c.as_slice.ensures ∙ c.in-Some.ensures.cases.0))) c.args.cache.now e.same e.keeps e.cache e.shown (say.Err EISDIR) refl
+    (λ T. refl)
     (λ k a listed is on. unlinks_dir k a listed (as_dir k c.in-Ok-Some.seen is on (c.what.ensures.dir c.in-Dir.is)))
 
 pub remove_entry-requires : goal.remove_entry-requires
@@ -86,12 +89,15 @@ returns-in-Ok-clause-attempts g c =
     let file : seen.row.kind ≢ kind.Dir = λ dir. file_not_dir c.what.result c.in-File.is (sym other.1 ∙ seen.kind ∙ dir) in
     changed g.W.World g.F.Files (ask.Unlink p) s t u c.args.cache.now c.meet.new.cache e.same ((c.keeps_laws.ensures.counts s t e.keeps).1.1.1) e.cache
     (λ h. (asks_unlink p (not_root p c.in-Some.above.now c.in-Some.name.now split)).says G say.Ok
-    (says_at R F p unlinks G (row_at p t.root) seen.row seen.there (shown h) say.Ok (λ listed. unlinks_file seen.row.kind (content_with R (own_files F) (source_of seen.row.number seen.row.origin)) listed file)))
+    (says_at R F p unlinks G (row_at p t.root) seen.row seen.there (shown h) say.Ok
+    (λ listed. unlinks_file seen.row.kind (content_with R (own_files F) (source_of seen.row.number seen.row.origin)) listed file)))
     (λ h.
     c.in-Ok.ensures.shown h
     ∙ ap (λ (q : Path). graft q (λ below. None) (shows g.W.World g.F.Files t)) (sym split)
     ∙ ap (graft p (λ below. None)) (e.same h)
-    ∙ put_alone G p (λ below. None) (λ n r. sym (ap (λ (T : Tree). T (p ++ n ∷ r)) (e.same h)) ∙ file_alone c.shown_laws.ensures.below R F p t.root seen.row (kept_dirs R F t.root t.next (c.holds.ensures.kept h)) seen.there file n r) (λ n r. refl))
+    ∙ put_alone G p (λ below. None)
+    (λ n r. sym (ap (λ (T : Tree). T (p ++ n ∷ r)) (e.same h)) ∙ file_alone c.shown_laws.ensures.below R F p t.root seen.row
+    (kept_dirs R F t.root t.next (c.holds.ensures.kept h)) seen.there file n r) (λ n r. refl))
 
 pub returns-in-Err-remove_entry-clause-attempts : goal.returns-in-Err-remove_entry-clause-attempts
 returns-in-Err-remove_entry-clause-attempts g c =
@@ -101,7 +107,8 @@ returns-in-Err-remove_entry-clause-attempts g c =
     let u = c.remove_entry.new.inodes in
     let e = c.in-Ok-Some.ensures in
     let x = c.in-Err-remove_entry.ensures in
-    refused g.W.World g.F.Files (ask.Unlink p) s t u c.args.cache.now c.meet.new.cache e.same ((c.keeps_laws.ensures.counts s t e.keeps).1.1.1) e.cache c.in-Err-remove_entry.fault x.fault (λ y is. cc) x.unseen
+    refused g.W.World g.F.Files (ask.Unlink p) s t u c.args.cache.now c.meet.new.cache e.same ((c.keeps_laws.ensures.counts s t e.keeps).1.1.1) e.cache c.in-Err-remove_entry.fault x.fault
+    (λ y is. cc) x.unseen
 
 pub returns-in-Err-clause-leaves : goal.returns-in-Err-clause-leaves
 returns-in-Err-clause-leaves g c = leaves_kept g.W.World g.F.Files c.args.inodes.now c.meet.new.inodes c.meet.ensures.keeps (ask.Unlink c.args.path.now) _
@@ -133,7 +140,8 @@ returns-in-Err-remove_entry-clause-leaves g c =
     let u = c.remove_entry.new.inodes in
     let counted = fault_count (g.F.Files.failures t.files) (g.F.Files.failures u.files) c.in-Err-remove_entry.fault x.fault in
     let l = leaves_by g.F.Files t u x.stays (root_same t.root u.root x.err) x.saved (no_less t.next u.next x.rest.0) x.rest.1 counted in
-    leaves_changed g.W.World g.F.Files c.args.inodes.now t c.meet.ensures.keeps u (Finished (say.Fault c.in-Err-remove_entry.fault)) (λ e is. cc) (ask.Unlink c.args.path.now) l (none_given t.next u.next 0 x.rest.0)
+    leaves_changed g.W.World g.F.Files c.args.inodes.now t c.meet.ensures.keeps u (Finished (say.Fault c.in-Err-remove_entry.fault)) (λ e is. cc) (ask.Unlink c.args.path.now) l
+    (none_given t.next u.next 0 x.rest.0)
 
 pub returns-in_default-clause-leaves : goal.returns-in_default-clause-leaves
 returns-in_default-clause-leaves g c = leaves_kept g.W.World g.F.Files c.args.inodes.now c.args.inodes.now same (ask.Unlink c.args.path.now) _

@@ -23,7 +23,8 @@ returns-in-Err-clause-attempts g c =
     let root : is_root from ≡ false = sym c.is_root.ensures ∙ c.if-is_root.false in
     let other : is_root to ≡ false = sym c.is_root-else-is_root.ensures ∙ c.if-is_root-2.false in
     subst (λ (a : Attempt). Attempts g.W.World g.F.Files (ask.Rename from to) s t c.args.cache.now c.meet.new.cache a) (sym c.ended.ensures)
-    (first_ended g.W.World g.F.Files (ask.Rename from to) from (moves from to) (starts_rename from to root other) s t c.args.cache.now c.meet.new.cache e.same e.keeps e.cache c.in-Err.stop e.meets e.shown)
+    (first_ended g.W.World g.F.Files (ask.Rename from to) from (moves from to)
+    (starts_rename from to root other) s t c.args.cache.now c.meet.new.cache e.same e.keeps e.cache c.in-Err.stop e.meets e.shown)
 
 pub returns-in-Ok-None-clause-attempts : goal.returns-in-Ok-None-clause-attempts
 returns-in-Ok-None-clause-attempts g c =
@@ -42,7 +43,8 @@ returns-in-Some-clause-attempts g c =
     let s = c.args.inodes.now in
     let t = c.meet.new.inodes in
     let e = c.in-Ok-Some.ensures in
-    let began = begins g.W.World g.F.Files c.args.from.now c.args.to.now s t c.args.cache.now c.meet.new.cache _ c.in-Ok-Some.seen c.is_dir-dir.result c.in-Ok-Some.field-0-is (sym c.is_root.ensures ∙ c.if-is_root.false)
+    let began = begins g.W.World g.F.Files c.args.from.now c.args.to.now s t c.args.cache.now c.meet.new.cache _ c.in-Ok-Some.seen c.is_dir-dir.result c.in-Ok-Some.field-0-is
+    (sym c.is_root.ensures ∙ c.if-is_root.false)
     (sym c.is_root-else-is_root.ensures ∙ c.if-is_root-2.false) e.meets e.shown e.same e.keeps e.cache c.is_dir-dir.ensures in
     plain_told g.W.World g.F.Files c.args.from.now c.args.to.now s t c.args.cache.now c.meet.new.cache c.in-Ok-Some.seen c.is_dir-dir.result began c.in-Some.reply c.in-Some.ensures
 
@@ -51,42 +53,52 @@ returns-in-Err-land-clause-attempts g c =
     let s = c.args.inodes.now in
     let t = c.meet.new.inodes in
     let e = c.in-Ok-Some.ensures in
-    let began = begins g.W.World g.F.Files c.args.from.now c.args.to.now s t c.args.cache.now c.meet.new.cache _ c.in-Ok-Some.seen c.is_dir-dir.result c.in-Ok-Some.field-0-is (sym c.is_root.ensures ∙ c.if-is_root.false)
+    let began = begins g.W.World g.F.Files c.args.from.now c.args.to.now s t c.args.cache.now c.meet.new.cache _ c.in-Ok-Some.seen c.is_dir-dir.result c.in-Ok-Some.field-0-is
+    (sym c.is_root.ensures ∙ c.if-is_root.false)
     (sym c.is_root-else-is_root.ensures ∙ c.if-is_root-2.false) e.meets e.shown e.same e.keeps e.cache c.is_dir-dir.ensures in
     let l = c.in-Err-land.ensures in
     subst (λ (a : Attempt). Attempts g.W.World g.F.Files (ask.Rename c.args.from.now c.args.to.now) s c.land.new.inodes c.args.cache.now c.land.new.cache a) (sym c.ended-in-Err-land.ensures)
-    (land_stopped g.W.World g.F.Files c.args.from.now c.args.to.now s t c.args.cache.now c.meet.new.cache c.in-Ok-Some.seen c.is_dir-dir.result began c.in-None.ensures c.land.new.inodes c.land.new.cache l.same l.keeps l.cache c.in-Err-land.stop l.lands l.shown)
+    (land_stopped g.W.World g.F.Files c.args.from.now c.args.to.now s t c.args.cache.now c.meet.new.cache c.in-Ok-Some.seen c.is_dir-dir.result began c.in-None.ensures c.land.new.inodes
+    c.land.new.cache l.same l.keeps l.cache c.in-Err-land.stop l.lands l.shown)
 
 pub relocate-requires : goal.relocate-requires
 relocate-requires g c =
     let s = c.args.inodes.now in
     let t = c.meet.new.inodes in
     let e = c.in-Ok-Some.ensures in
-    let began = begins g.W.World g.F.Files c.args.from.now c.args.to.now s t c.args.cache.now c.meet.new.cache _ c.in-Ok-Some.seen c.is_dir-dir.result c.in-Ok-Some.field-0-is (sym c.is_root.ensures ∙ c.if-is_root.false)
+    let began = begins g.W.World g.F.Files c.args.from.now c.args.to.now s t c.args.cache.now c.meet.new.cache _ c.in-Ok-Some.seen c.is_dir-dir.result c.in-Ok-Some.field-0-is
+    (sym c.is_root.ensures ∙ c.if-is_root.false)
     (sym c.is_root-else-is_root.ensures ∙ c.if-is_root-2.false) e.meets e.shown e.same e.keeps e.cache c.is_dir-dir.ensures in
     let l = c.in-Ok.ensures in
-    record { may = can_go g.W.World g.F.Files c.args.from.now c.args.to.now s t c.args.cache.now c.meet.new.cache c.in-Ok-Some.seen c.is_dir-dir.result began c.in-None.ensures c.land.new.inodes c.land.new.cache l.same l.keeps l.cache l.lands }
+    record {
+      may = can_go g.W.World g.F.Files c.args.from.now c.args.to.now s t c.args.cache.now c.meet.new.cache c.in-Ok-Some.seen c.is_dir-dir.result began c.in-None.ensures c.land.new.inodes
+          c.land.new.cache l.same l.keeps l.cache l.lands;
+    }
 
 pub returns-in-Ok-relocate-clause-attempts : goal.returns-in-Ok-relocate-clause-attempts
 returns-in-Ok-relocate-clause-attempts g c =
     let s = c.args.inodes.now in
     let t = c.meet.new.inodes in
     let e = c.in-Ok-Some.ensures in
-    let began = begins g.W.World g.F.Files c.args.from.now c.args.to.now s t c.args.cache.now c.meet.new.cache _ c.in-Ok-Some.seen c.is_dir-dir.result c.in-Ok-Some.field-0-is (sym c.is_root.ensures ∙ c.if-is_root.false)
+    let began = begins g.W.World g.F.Files c.args.from.now c.args.to.now s t c.args.cache.now c.meet.new.cache _ c.in-Ok-Some.seen c.is_dir-dir.result c.in-Ok-Some.field-0-is
+    (sym c.is_root.ensures ∙ c.if-is_root.false)
     (sym c.is_root-else-is_root.ensures ∙ c.if-is_root-2.false) e.meets e.shown e.same e.keeps e.cache c.is_dir-dir.ensures in
     let l = c.in-Ok.ensures in
-    went g.W.World g.F.Files c.args.from.now c.args.to.now s t c.args.cache.now c.meet.new.cache c.in-Ok-Some.seen c.is_dir-dir.result began c.in-None.ensures c.land.new.inodes c.land.new.cache l.same l.keeps l.cache c.relocate.new.inodes l.shown c.in-Ok-relocate.ensures.ok
+    went g.W.World g.F.Files c.args.from.now c.args.to.now s t c.args.cache.now c.meet.new.cache c.in-Ok-Some.seen c.is_dir-dir.result began c.in-None.ensures c.land.new.inodes c.land.new.cache l.same
+    l.keeps l.cache c.relocate.new.inodes l.shown c.in-Ok-relocate.ensures.ok
 
 pub returns-in-Err-relocate-clause-attempts : goal.returns-in-Err-relocate-clause-attempts
 returns-in-Err-relocate-clause-attempts g c =
     let s = c.args.inodes.now in
     let t = c.meet.new.inodes in
     let e = c.in-Ok-Some.ensures in
-    let began = begins g.W.World g.F.Files c.args.from.now c.args.to.now s t c.args.cache.now c.meet.new.cache _ c.in-Ok-Some.seen c.is_dir-dir.result c.in-Ok-Some.field-0-is (sym c.is_root.ensures ∙ c.if-is_root.false)
+    let began = begins g.W.World g.F.Files c.args.from.now c.args.to.now s t c.args.cache.now c.meet.new.cache _ c.in-Ok-Some.seen c.is_dir-dir.result c.in-Ok-Some.field-0-is
+    (sym c.is_root.ensures ∙ c.if-is_root.false)
     (sym c.is_root-else-is_root.ensures ∙ c.if-is_root-2.false) e.meets e.shown e.same e.keeps e.cache c.is_dir-dir.ensures in
     let l = c.in-Ok.ensures in
     let x = c.in-Err-relocate.ensures in
-    stayed g.W.World g.F.Files c.args.from.now c.args.to.now s t c.args.cache.now c.meet.new.cache c.in-Ok-Some.seen c.is_dir-dir.result began c.in-None.ensures c.land.new.inodes c.land.new.cache l.same l.keeps l.cache c.relocate.new.inodes c.in-Err-relocate.fault x.fault x.err
+    stayed g.W.World g.F.Files c.args.from.now c.args.to.now s t c.args.cache.now c.meet.new.cache c.in-Ok-Some.seen c.is_dir-dir.result began c.in-None.ensures c.land.new.inodes c.land.new.cache
+    l.same l.keeps l.cache c.relocate.new.inodes c.in-Err-relocate.fault x.fault x.err
 
 pub returns-then-is_root-clause-leaves : goal.returns-then-is_root-clause-leaves
 returns-then-is_root-clause-leaves g c = leaves_kept g.W.World g.F.Files c.args.inodes.now c.args.inodes.now same (ask.Rename c.args.from.now c.args.to.now) _
@@ -102,7 +114,8 @@ returns-in-Some-clause-leaves g c = leaves_kept g.W.World g.F.Files c.args.inode
 
 pub returns-in-Err-land-clause-leaves : goal.returns-in-Err-land-clause-leaves
 returns-in-Err-land-clause-leaves g c =
-    leaves_kept g.W.World g.F.Files c.args.inodes.now c.land.new.inodes (keeps_on g.W.World g.F.Files c.args.inodes.now c.meet.new.inodes c.land.new.inodes c.meet.ensures.keeps c.land.ensures.keeps) (ask.Rename c.args.from.now c.args.to.now) _
+    leaves_kept g.W.World g.F.Files c.args.inodes.now c.land.new.inodes (keeps_on g.W.World g.F.Files c.args.inodes.now c.meet.new.inodes c.land.new.inodes c.meet.ensures.keeps c.land.ensures.keeps)
+    (ask.Rename c.args.from.now c.args.to.now) _
 
 pub returns-in-Ok-relocate-clause-leaves : goal.returns-in-Ok-relocate-clause-leaves
 returns-in-Ok-relocate-clause-leaves g c =
@@ -114,4 +127,5 @@ pub returns-in-Err-relocate-clause-leaves : goal.returns-in-Err-relocate-clause-
 returns-in-Err-relocate-clause-leaves g c =
     let x = c.in-Err-relocate.ensures in
     leaves_moved g.W.World g.F.Files c.args.inodes.now c.land.new.inodes (keeps_on g.W.World g.F.Files c.args.inodes.now c.meet.new.inodes c.land.new.inodes c.meet.ensures.keeps c.land.ensures.keeps)
-    c.relocate.new.inodes (Finished (say.Fault c.in-Err-relocate.fault)) (λ e is. cc) c.args.from.now c.args.to.now x.loaded x.root x.rest x.counted (λ fine. absurd (fine c.in-Err-relocate.fault refl)) x.marked
+    c.relocate.new.inodes (Finished (say.Fault c.in-Err-relocate.fault)) (λ e is. cc) c.args.from.now c.args.to.now x.loaded x.root x.rest x.counted
+    (λ fine. absurd (fine c.in-Err-relocate.fault refl)) x.marked

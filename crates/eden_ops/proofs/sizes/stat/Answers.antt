@@ -38,7 +38,8 @@ returns-in-Ok-None-clause-attempts g c =
 pub returns-in-Dir-clause-attempts : goal.returns-in-Dir-clause-attempts
 returns-in-Dir-clause-attempts g c =
     let e = c.in-Ok-Some.ensures in
-    met_tells g.W.World g.F.Files c.args.path.now c.args.inodes.now c.meet.new.inodes c.meet.new.cache _ c.in-Ok-Some.seen c.in-Ok-Some.field-0-is e.meets (ask.Stat c.args.path.now) stats (asks_stat c.args.path.now) c.args.cache.now e.same e.keeps e.cache e.shown (say.Stat kind.Dir 0) refl (λ T. refl)
+    met_tells g.W.World g.F.Files c.args.path.now c.args.inodes.now c.meet.new.inodes c.meet.new.cache _ c.in-Ok-Some.seen c.in-Ok-Some.field-0-is e.meets (ask.Stat c.args.path.now) stats
+    (asks_stat c.args.path.now) c.args.cache.now e.same e.keeps e.cache e.shown (say.Stat kind.Dir 0) refl (λ T. refl)
     (λ k a listed is on. stats_dir k a listed (as_dir k c.in-Ok-Some.seen is on (c.what-kind.ensures.dir c.in-Dir.is)))
 
 pub returns-in-Err-size-clause-attempts : goal.returns-in-Err-size-clause-attempts
@@ -47,7 +48,8 @@ returns-in-Err-size-clause-attempts g c =
     let b = c.size.ensures in
     let other = c.what-kind.ensures.other (no_dir c.what-kind.result c.in-File.is) in
     subst (λ (a : Attempt). Attempts g.W.World g.F.Files (ask.Stat c.args.path.now) c.args.inodes.now c.size.new.inodes c.args.cache.now c.size.new.cache a) (sym c.ended-in-Err-size.ensures)
-    (content_lacks g.W.World g.F.Files c.args.path.now c.args.inodes.now c.meet.new.inodes c.meet.new.cache _ c.in-Ok-Some.seen c.in-Ok-Some.field-0-is e.meets (ask.Stat c.args.path.now) stats (asks_stat c.args.path.now) c.args.cache.now e.same e.keeps e.cache e.shown c.size.new.inodes c.size.new.cache b.same b.keeps b.still b.cache other.0 (λ x is. cc) c.in-Err-size.stop
+    (content_lacks g.W.World g.F.Files c.args.path.now c.args.inodes.now c.meet.new.inodes c.meet.new.cache _ c.in-Ok-Some.seen c.in-Ok-Some.field-0-is e.meets (ask.Stat c.args.path.now) stats
+    (asks_stat c.args.path.now) c.args.cache.now e.same e.keeps e.cache e.shown c.size.new.inodes c.size.new.cache b.same b.keeps b.still b.cache other.0 (λ x is. cc) c.in-Err-size.stop
     (λ k is. (
       λ n a r same lost. stats_lost n a false r (λ dir. no_dir c.what-kind.result c.in-File.is (sym other.1 ∙ sym same ∙ dir)) lost,
       λ x y blob. b.unkept k (c.in-Err-size.is ∙ ap Err is),
@@ -67,7 +69,9 @@ returns-in-Ok-clause-attempts g c =
     let had = c.in-Ok.ensures.ok in
     let R = g.W.World.repository in
     let F = g.F.Files.stored c.meet.new.inodes.files in
-    content_tells g.W.World g.F.Files c.args.path.now c.args.inodes.now c.meet.new.inodes c.meet.new.cache _ c.in-Ok-Some.seen c.in-Ok-Some.field-0-is e.meets (ask.Stat c.args.path.now) stats (asks_stat c.args.path.now) c.args.cache.now e.same e.keeps e.cache e.shown c.size.new.inodes c.size.new.cache b.same b.keeps b.still b.cache (say.Stat c.what-kind.result c.in-Ok.length) refl (λ T. refl)
+    content_tells g.W.World g.F.Files c.args.path.now c.args.inodes.now c.meet.new.inodes c.meet.new.cache _ c.in-Ok-Some.seen c.in-Ok-Some.field-0-is e.meets (ask.Stat c.args.path.now) stats
+    (asks_stat c.args.path.now) c.args.cache.now e.same e.keeps e.cache e.shown c.size.new.inodes c.size.new.cache b.same b.keeps b.still b.cache (say.Stat c.what-kind.result c.in-Ok.length) refl
+    (λ T. refl)
     (λ h y at listed is.
     let has = had h y at in
     let told : c.what-kind.result ≡ y.kind = sym other.1 ∙ sym is in
@@ -78,7 +82,8 @@ pub size-requires-clause-content : goal.size-requires-clause-content
 size-requires-clause-content g c =
     let e = c.in-Ok-Some.ensures in
     let other = c.what-kind.ensures.other (no_dir c.what-kind.result c.in-File.is) in
-    met_content g.W.World g.F.Files c.args.path.now c.args.inodes.now c.meet.new.inodes c.meet.new.cache _ c.in-Ok-Some.seen c.in-Ok-Some.field-0-is e.meets (λ dir. no_dir c.what-kind.result c.in-File.is (sym other.1 ∙ dir))
+    met_content g.W.World g.F.Files c.args.path.now c.args.inodes.now c.meet.new.inodes c.meet.new.cache _ c.in-Ok-Some.seen c.in-Ok-Some.field-0-is e.meets
+    (λ dir. no_dir c.what-kind.result c.in-File.is (sym other.1 ∙ dir))
 
 pub size-requires-clause-stocked : goal.size-requires-clause-stocked
 size-requires-clause-stocked g c = still_stocked g.W.World.repository g.W.World.honest c.args.cache.now c.meet.new.cache c.meet.ensures.cache c.requires

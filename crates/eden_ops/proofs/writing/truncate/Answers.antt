@@ -21,7 +21,8 @@ use Rattle.eden_ops.proofs.writing.truncate.Goals as goal
 
 pub returns-in-Err-clause-attempts : goal.returns-in-Err-clause-attempts
 returns-in-Err-clause-attempts g c =
-    subst (λ (a : Attempt). Attempts g.W.World g.F.Files (ask.Truncate c.args.path.now c.args.size) c.args.inodes.now c.meet_file.new.inodes c.args.cache.now c.meet_file.new.cache a) (sym c.ended.ensures)
+    subst (λ (a : Attempt). Attempts g.W.World g.F.Files (ask.Truncate c.args.path.now c.args.size) c.args.inodes.now c.meet_file.new.inodes c.args.cache.now c.meet_file.new.cache a)
+    (sym c.ended.ensures)
     (c.in-Err.ensures.ends (ask.Truncate c.args.path.now c.args.size) (for_truncate c.args.size))
 
 pub returns-then-size-gt-MAX_FILE-clause-attempts : goal.returns-then-size-gt-MAX_FILE-clause-attempts
@@ -31,7 +32,8 @@ returns-then-size-gt-MAX_FILE-clause-attempts g c =
     let t = c.meet_file.new.inodes in
     let d = c.meet_file.new.cache in
     let e = c.in-Ok.ensures in
-    file_tells g.W.World g.F.Files p s t c.args.cache.now d c.in-Ok.seen e.file e.shown e.same e.keeps e.cache (ask.Truncate c.args.path.now c.args.size) (truncates c.args.size) (asks_truncate c.args.size c.args.path.now) (say.Err EFBIG) refl (λ T. refl)
+    file_tells g.W.World g.F.Files p s t c.args.cache.now d c.in-Ok.seen e.file e.shown e.same e.keeps e.cache (ask.Truncate c.args.path.now c.args.size) (truncates c.args.size)
+    (asks_truncate c.args.size c.args.path.now) (say.Err EFBIG) refl (λ T. refl)
     (λ k a l plain. truncates_far c.args.size k a l plain (lt-ltb 1073741824 c.args.size c.if-size-gt-MAX_FILE.true))
 
 pub fill-requires-clause-there : goal.fill-requires-clause-there
@@ -40,8 +42,11 @@ fill-requires-clause-there g c =
     let s = c.args.inodes.now in
     let t = c.meet_file.new.inodes in
     let d = c.meet_file.new.cache in
-    let e = c.in-Ok.ensures in
-    (e.file.entry.row, is_file g.W.World g.F.Files p s t c.args.cache.now d c.in-Ok.seen e.file e.shown e.same e.keeps e.cache (ask.Truncate c.args.path.now c.args.size) (truncates c.args.size) (asks_truncate c.args.size c.args.path.now) t d (λ h. refl) same refl (finds_same d))
+    let e = c.in-Ok.ensures in (
+      e.file.entry.row,
+      is_file g.W.World g.F.Files p s t c.args.cache.now d c.in-Ok.seen e.file e.shown e.same e.keeps e.cache (ask.Truncate c.args.path.now c.args.size) (truncates c.args.size)
+          (asks_truncate c.args.size c.args.path.now) t d (λ h. refl) same refl (finds_same d),
+    )
 
 pub returns-in-Ok-fill-clause-attempts : goal.returns-in-Ok-fill-clause-attempts
 returns-in-Ok-fill-clause-attempts g c =
@@ -50,9 +55,11 @@ returns-in-Ok-fill-clause-attempts g c =
     let t = c.meet_file.new.inodes in
     let d = c.meet_file.new.cache in
     let e = c.in-Ok.ensures in
-    file_fills g.W.World g.F.Files p s t c.args.cache.now d c.in-Ok.seen e.file e.shown e.same e.keeps e.cache (ask.Truncate c.args.path.now c.args.size) (truncates c.args.size) (asks_truncate c.args.size c.args.path.now) t d (λ h. refl) same refl (finds_same d) c.fill.new.inodes (truncated c.args.size) [] (say.Ok) refl (λ T. refl)
+    file_fills g.W.World g.F.Files p s t c.args.cache.now d c.in-Ok.seen e.file e.shown e.same e.keeps e.cache (ask.Truncate c.args.path.now c.args.size) (truncates c.args.size)
+    (asks_truncate c.args.size c.args.path.now) t d (λ h. refl) same refl (finds_same d) c.fill.new.inodes (truncated c.args.size) [] (say.Ok) refl (λ T. refl)
     (λ h. truncated_none c.args.size (content_shown g.W.World.repository (g.F.Files.stored t.files) e.file.entry.row) (ap (λ (n : ℕ). n == 0) c.if-size-eq0.true))
-    (λ h l plain. truncates_none c.args.size e.file.entry.row.kind (content_shown g.W.World.repository (g.F.Files.stored t.files) e.file.entry.row) l plain (le-ltb 1073741824 c.args.size c.if-size-gt-MAX_FILE.false) (ap (λ (n : ℕ). n == 0) c.if-size-eq0.true)) c.in-Ok-fill.ensures.shown
+    (λ h l plain. truncates_none c.args.size e.file.entry.row.kind (content_shown g.W.World.repository (g.F.Files.stored t.files) e.file.entry.row) l plain
+    (le-ltb 1073741824 c.args.size c.if-size-gt-MAX_FILE.false) (ap (λ (n : ℕ). n == 0) c.if-size-eq0.true)) c.in-Ok-fill.ensures.shown
 
 pub returns-in-Err-fill-clause-attempts : goal.returns-in-Err-fill-clause-attempts
 returns-in-Err-fill-clause-attempts g c =
@@ -62,7 +69,8 @@ returns-in-Err-fill-clause-attempts g c =
     let d = c.meet_file.new.cache in
     let e = c.in-Ok.ensures in
     let x = c.in-Err-fill.ensures in
-    file_refused g.W.World g.F.Files p s t c.args.cache.now d c.in-Ok.seen e.file e.shown e.same e.keeps e.cache (ask.Truncate c.args.path.now c.args.size) (truncates c.args.size) (asks_truncate c.args.size c.args.path.now) t d (λ h. refl) same refl (finds_same d) c.fill.new.inodes c.in-Err-fill.fault x.fault (λ y is. cc) x.unseen
+    file_refused g.W.World g.F.Files p s t c.args.cache.now d c.in-Ok.seen e.file e.shown e.same e.keeps e.cache (ask.Truncate c.args.path.now c.args.size) (truncates c.args.size)
+    (asks_truncate c.args.size c.args.path.now) t d (λ h. refl) same refl (finds_same d) c.fill.new.inodes c.in-Err-fill.fault x.fault (λ y is. cc) x.unseen
 
 pub make-requires-clause-content : goal.make-requires-clause-content
 make-requires-clause-content g c =
@@ -81,11 +89,15 @@ returns-in-Err-make-clause-attempts g c =
     let e = c.in-Ok.ensures in
     let b = c.make.ensures in
     subst (λ (a : Attempt). Attempts g.W.World g.F.Files (ask.Truncate c.args.path.now c.args.size) s c.make.new.inodes c.args.cache.now c.make.new.cache a) (sym c.ended-in-Err-make.ensures)
-    (file_lacks g.W.World g.F.Files p s t c.args.cache.now d c.in-Ok.seen e.file e.shown e.same e.keeps e.cache (ask.Truncate c.args.path.now c.args.size) (truncates c.args.size) (asks_truncate c.args.size c.args.path.now) c.make.new.inodes c.make.new.cache b.same b.keeps b.still b.cache (λ x is. cc) (λ k x is. cc) c.in-Err-make.stop (λ k a r plain none. truncates_lost c.args.size k a false plain (le-ltb 1073741824 c.args.size c.if-size-gt-MAX_FILE.false) (ne_eqb c.args.size 0 c.if-size-eq0.false) r none) c.in-Err-make.ensures.lacks)
+    (file_lacks g.W.World g.F.Files p s t c.args.cache.now d c.in-Ok.seen e.file e.shown e.same e.keeps e.cache (ask.Truncate c.args.path.now c.args.size) (truncates c.args.size)
+    (asks_truncate c.args.size c.args.path.now) c.make.new.inodes c.make.new.cache b.same b.keeps b.still b.cache (λ x is. cc) (λ k x is. cc) c.in-Err-make.stop
+    (λ k a r plain none. truncates_lost c.args.size k a false plain (le-ltb 1073741824 c.args.size c.if-size-gt-MAX_FILE.false) (ne_eqb c.args.size 0 c.if-size-eq0.false) r none)
+    c.in-Err-make.ensures.lacks)
 
 pub returns-in-Err-make-clause-leaves : goal.returns-in-Err-make-clause-leaves
 returns-in-Err-make-clause-leaves g c =
-    leaves_kept g.W.World g.F.Files c.args.inodes.now c.make.new.inodes (keeps_on g.W.World g.F.Files c.args.inodes.now c.meet_file.new.inodes c.make.new.inodes c.meet_file.ensures.keeps c.make.ensures.keeps) (ask.Truncate c.args.path.now c.args.size) _
+    leaves_kept g.W.World g.F.Files c.args.inodes.now c.make.new.inodes
+    (keeps_on g.W.World g.F.Files c.args.inodes.now c.meet_file.new.inodes c.make.new.inodes c.meet_file.ensures.keeps c.make.ensures.keeps) (ask.Truncate c.args.path.now c.args.size) _
 
 pub returns-in-Ok-fill-2-clause-attempts : goal.returns-in-Ok-fill-2-clause-attempts
 returns-in-Ok-fill-2-clause-attempts g c =
@@ -96,9 +108,14 @@ returns-in-Ok-fill-2-clause-attempts g c =
     let e = c.in-Ok.ensures in
     let b = c.make.ensures in
     let had = c.in-Ok-make.ensures.ok in
-    file_fills g.W.World g.F.Files p s t c.args.cache.now d c.in-Ok.seen e.file e.shown e.same e.keeps e.cache (ask.Truncate c.args.path.now c.args.size) (truncates c.args.size) (asks_truncate c.args.size c.args.path.now) c.make.new.inodes c.make.new.cache b.same b.keeps b.still b.cache c.fill-2.new.inodes (truncated c.args.size) c.as_slice.result.now (say.Ok) refl (λ T. refl)
-    (λ h. truncated_some c.args.size (content_shown g.W.World.repository (g.F.Files.stored t.files) e.file.entry.row) had.content (ne_eqb c.args.size 0 c.if-size-eq0.false) (had.is.shown h e.file.entry.row e.file.entry.there) ∙ ap (λ (x : List ℕ). Some x) (sym (c.as_slice.ensures ∙ had.made)))
-    (λ h l plain. truncates_some c.args.size e.file.entry.row.kind (content_shown g.W.World.repository (g.F.Files.stored t.files) e.file.entry.row) l plain (le-ltb 1073741824 c.args.size c.if-size-gt-MAX_FILE.false) (ne_eqb c.args.size 0 c.if-size-eq0.false) had.content (had.is.shown h e.file.entry.row e.file.entry.there)) c.in-Ok-fill-2.ensures.shown
+    file_fills g.W.World g.F.Files p s t c.args.cache.now d c.in-Ok.seen e.file e.shown e.same e.keeps e.cache (ask.Truncate c.args.path.now c.args.size) (truncates c.args.size)
+    (asks_truncate c.args.size c.args.path.now) c.make.new.inodes c.make.new.cache b.same b.keeps b.still b.cache c.fill-2.new.inodes (truncated c.args.size) c.as_slice.result.now (say.Ok) refl
+    (λ T. refl)
+    (λ h. truncated_some c.args.size (content_shown g.W.World.repository (g.F.Files.stored t.files) e.file.entry.row) had.content (ne_eqb c.args.size 0 c.if-size-eq0.false)
+    (had.is.shown h e.file.entry.row e.file.entry.there) ∙ ap (λ (x : List ℕ). Some x) (sym (c.as_slice.ensures ∙ had.made)))
+    (λ h l plain. truncates_some c.args.size e.file.entry.row.kind (content_shown g.W.World.repository (g.F.Files.stored t.files) e.file.entry.row) l plain
+    (le-ltb 1073741824 c.args.size c.if-size-gt-MAX_FILE.false) (ne_eqb c.args.size 0 c.if-size-eq0.false) had.content (had.is.shown h e.file.entry.row e.file.entry.there))
+    c.in-Ok-fill-2.ensures.shown
 
 pub returns-clause-attempts : goal.returns-clause-attempts
 returns-clause-attempts g c =
@@ -109,7 +126,8 @@ returns-clause-attempts g c =
     let e = c.in-Ok.ensures in
     let b = c.make.ensures in
     let x = c.in-Err-fill-2.ensures in
-    file_refused g.W.World g.F.Files p s t c.args.cache.now d c.in-Ok.seen e.file e.shown e.same e.keeps e.cache (ask.Truncate c.args.path.now c.args.size) (truncates c.args.size) (asks_truncate c.args.size c.args.path.now) c.make.new.inodes c.make.new.cache b.same b.keeps b.still b.cache c.fill-2.new.inodes c.in-Err-fill-2.fault x.fault (λ y is. cc) x.unseen
+    file_refused g.W.World g.F.Files p s t c.args.cache.now d c.in-Ok.seen e.file e.shown e.same e.keeps e.cache (ask.Truncate c.args.path.now c.args.size) (truncates c.args.size)
+    (asks_truncate c.args.size c.args.path.now) c.make.new.inodes c.make.new.cache b.same b.keeps b.still b.cache c.fill-2.new.inodes c.in-Err-fill-2.fault x.fault (λ y is. cc) x.unseen
 
 pub returns-in-Err-clause-leaves : goal.returns-in-Err-clause-leaves
 returns-in-Err-clause-leaves g c = leaves_kept g.W.World g.F.Files c.args.inodes.now c.meet_file.new.inodes c.meet_file.ensures.keeps (ask.Truncate c.args.path.now c.args.size) _
@@ -120,19 +138,25 @@ returns-then-size-gt-MAX_FILE-clause-leaves g c = leaves_kept g.W.World g.F.File
 pub returns-in-Ok-fill-clause-leaves : goal.returns-in-Ok-fill-clause-leaves
 returns-in-Ok-fill-clause-leaves g c =
     leaves_changed g.W.World g.F.Files c.args.inodes.now c.meet_file.new.inodes c.meet_file.ensures.keeps
-    c.fill.new.inodes (Finished say.Ok) (λ e is. cc) (ask.Truncate c.args.path.now c.args.size) c.fill.ensures.leaves (none_given c.meet_file.new.inodes.next c.fill.new.inodes.next 0 c.fill.ensures.next)
+    c.fill.new.inodes (Finished say.Ok) (λ e is. cc) (ask.Truncate c.args.path.now c.args.size) c.fill.ensures.leaves
+    (none_given c.meet_file.new.inodes.next c.fill.new.inodes.next 0 c.fill.ensures.next)
 
 pub returns-in-Err-fill-clause-leaves : goal.returns-in-Err-fill-clause-leaves
 returns-in-Err-fill-clause-leaves g c =
     leaves_changed g.W.World g.F.Files c.args.inodes.now c.meet_file.new.inodes c.meet_file.ensures.keeps
-    c.fill.new.inodes (Finished (say.Fault c.in-Err-fill.fault)) (λ e is. cc) (ask.Truncate c.args.path.now c.args.size) c.fill.ensures.leaves (none_given c.meet_file.new.inodes.next c.fill.new.inodes.next 0 c.fill.ensures.next)
+    c.fill.new.inodes (Finished (say.Fault c.in-Err-fill.fault)) (λ e is. cc) (ask.Truncate c.args.path.now c.args.size) c.fill.ensures.leaves
+    (none_given c.meet_file.new.inodes.next c.fill.new.inodes.next 0 c.fill.ensures.next)
 
 pub returns-in-Ok-fill-2-clause-leaves : goal.returns-in-Ok-fill-2-clause-leaves
 returns-in-Ok-fill-2-clause-leaves g c =
-    leaves_changed g.W.World g.F.Files c.args.inodes.now c.make.new.inodes (keeps_on g.W.World g.F.Files c.args.inodes.now c.meet_file.new.inodes c.make.new.inodes c.meet_file.ensures.keeps c.make.ensures.keeps)
-    c.fill-2.new.inodes (Finished say.Ok) (λ e is. cc) (ask.Truncate c.args.path.now c.args.size) c.fill-2.ensures.leaves (none_given c.make.new.inodes.next c.fill-2.new.inodes.next 0 c.fill-2.ensures.next)
+    leaves_changed g.W.World g.F.Files c.args.inodes.now c.make.new.inodes
+    (keeps_on g.W.World g.F.Files c.args.inodes.now c.meet_file.new.inodes c.make.new.inodes c.meet_file.ensures.keeps c.make.ensures.keeps)
+    c.fill-2.new.inodes (Finished say.Ok) (λ e is. cc) (ask.Truncate c.args.path.now c.args.size) c.fill-2.ensures.leaves
+    (none_given c.make.new.inodes.next c.fill-2.new.inodes.next 0 c.fill-2.ensures.next)
 
 pub returns-clause-leaves : goal.returns-clause-leaves
 returns-clause-leaves g c =
-    leaves_changed g.W.World g.F.Files c.args.inodes.now c.make.new.inodes (keeps_on g.W.World g.F.Files c.args.inodes.now c.meet_file.new.inodes c.make.new.inodes c.meet_file.ensures.keeps c.make.ensures.keeps)
-    c.fill-2.new.inodes (Finished (say.Fault c.in-Err-fill-2.fault)) (λ e is. cc) (ask.Truncate c.args.path.now c.args.size) c.fill-2.ensures.leaves (none_given c.make.new.inodes.next c.fill-2.new.inodes.next 0 c.fill-2.ensures.next)
+    leaves_changed g.W.World g.F.Files c.args.inodes.now c.make.new.inodes
+    (keeps_on g.W.World g.F.Files c.args.inodes.now c.meet_file.new.inodes c.make.new.inodes c.meet_file.ensures.keeps c.make.ensures.keeps)
+    c.fill-2.new.inodes (Finished (say.Fault c.in-Err-fill-2.fault)) (λ e is. cc) (ask.Truncate c.args.path.now c.args.size) c.fill-2.ensures.leaves
+    (none_given c.make.new.inodes.next c.fill-2.new.inodes.next 0 c.fill-2.ensures.next)

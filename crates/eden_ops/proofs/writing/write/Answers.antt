@@ -28,7 +28,8 @@ past offset count few far = omega (arith, few, far)
 
 pub returns-in-Err-clause-attempts : goal.returns-in-Err-clause-attempts
 returns-in-Err-clause-attempts g c =
-    subst (λ (a : Attempt). Attempts g.W.World g.F.Files (ask.Write c.args.path.now c.args.offset c.args.bytes.now) c.args.inodes.now c.meet_file.new.inodes c.args.cache.now c.meet_file.new.cache a) (sym c.ended.ensures)
+    subst (λ (a : Attempt). Attempts g.W.World g.F.Files (ask.Write c.args.path.now c.args.offset c.args.bytes.now) c.args.inodes.now c.meet_file.new.inodes c.args.cache.now c.meet_file.new.cache a)
+    (sym c.ended.ensures)
     (c.in-Err.ensures.ends (ask.Write c.args.path.now c.args.offset c.args.bytes.now) (for_write c.args.offset c.args.bytes.now c.if-count-gt-MAX_DATA.false))
 
 pub returns-then-count-eq0-clause-attempts : goal.returns-then-count-eq0-clause-attempts
@@ -38,7 +39,9 @@ returns-then-count-eq0-clause-attempts g c =
     let t = c.meet_file.new.inodes in
     let d = c.meet_file.new.cache in
     let e = c.in-Ok.ensures in
-    file_tells g.W.World g.F.Files p s t c.args.cache.now d c.in-Ok.seen e.file e.shown e.same e.keeps e.cache (ask.Write c.args.path.now c.args.offset c.args.bytes.now) (writes c.args.offset c.args.bytes.now) (asks_write c.args.offset c.args.bytes.now c.args.path.now (le-ltb 65536 (length c.args.bytes.now) c.if-count-gt-MAX_DATA.false)) (say.Count 0) refl (writes_nothing p c.args.offset c.args.bytes.now 0 (ap (λ (n : ℕ). n == 0) c.if-count-eq0.true))
+    file_tells g.W.World g.F.Files p s t c.args.cache.now d c.in-Ok.seen e.file e.shown e.same e.keeps e.cache (ask.Write c.args.path.now c.args.offset c.args.bytes.now)
+    (writes c.args.offset c.args.bytes.now) (asks_write c.args.offset c.args.bytes.now c.args.path.now (le-ltb 65536 (length c.args.bytes.now) c.if-count-gt-MAX_DATA.false)) (say.Count 0) refl
+    (writes_nothing p c.args.offset c.args.bytes.now 0 (ap (λ (n : ℕ). n == 0) c.if-count-eq0.true))
     (λ k a l plain. writes_none c.args.offset c.args.bytes.now k a l plain (ap (λ (n : ℕ). n == 0) c.if-count-eq0.true))
 
 pub returns-then-offset-count-clause-attempts : goal.returns-then-offset-count-clause-attempts
@@ -48,8 +51,11 @@ returns-then-offset-count-clause-attempts g c =
     let t = c.meet_file.new.inodes in
     let d = c.meet_file.new.cache in
     let e = c.in-Ok.ensures in
-    file_tells g.W.World g.F.Files p s t c.args.cache.now d c.in-Ok.seen e.file e.shown e.same e.keeps e.cache (ask.Write c.args.path.now c.args.offset c.args.bytes.now) (writes c.args.offset c.args.bytes.now) (asks_write c.args.offset c.args.bytes.now c.args.path.now (le-ltb 65536 (length c.args.bytes.now) c.if-count-gt-MAX_DATA.false)) (say.Err EFBIG) refl (λ T. refl)
-    (λ k a l plain. writes_far c.args.offset c.args.bytes.now k a l plain (ne_eqb (length c.args.bytes.now) 0 c.if-count-eq0.false) (lt-ltb 1073741824 (c.args.offset + length c.args.bytes.now) (past c.args.offset (length c.args.bytes.now) c.if-count-gt-MAX_DATA.false c.if-offset-count.true)))
+    file_tells g.W.World g.F.Files p s t c.args.cache.now d c.in-Ok.seen e.file e.shown e.same e.keeps e.cache (ask.Write c.args.path.now c.args.offset c.args.bytes.now)
+    (writes c.args.offset c.args.bytes.now) (asks_write c.args.offset c.args.bytes.now c.args.path.now (le-ltb 65536 (length c.args.bytes.now) c.if-count-gt-MAX_DATA.false)) (say.Err EFBIG) refl
+    (λ T. refl)
+    (λ k a l plain. writes_far c.args.offset c.args.bytes.now k a l plain (ne_eqb (length c.args.bytes.now) 0 c.if-count-eq0.false)
+    (lt-ltb 1073741824 (c.args.offset + length c.args.bytes.now) (past c.args.offset (length c.args.bytes.now) c.if-count-gt-MAX_DATA.false c.if-offset-count.true)))
 
 pub make-requires-clause-content : goal.make-requires-clause-content
 make-requires-clause-content g c =
@@ -67,12 +73,21 @@ returns-in-Err-make-clause-attempts g c =
     let d = c.meet_file.new.cache in
     let e = c.in-Ok.ensures in
     let b = c.make.ensures in
-    subst (λ (a : Attempt). Attempts g.W.World g.F.Files (ask.Write c.args.path.now c.args.offset c.args.bytes.now) s c.make.new.inodes c.args.cache.now c.make.new.cache a) (sym c.ended-in-Err-make.ensures)
-    (file_lacks g.W.World g.F.Files p s t c.args.cache.now d c.in-Ok.seen e.file e.shown e.same e.keeps e.cache (ask.Write c.args.path.now c.args.offset c.args.bytes.now) (writes c.args.offset c.args.bytes.now) (asks_write c.args.offset c.args.bytes.now c.args.path.now (le-ltb 65536 (length c.args.bytes.now) c.if-count-gt-MAX_DATA.false)) c.make.new.inodes c.make.new.cache b.same b.keeps b.still b.cache (λ x is. cc) (λ k x is. cc) c.in-Err-make.stop (λ k a r plain none. writes_lost c.args.offset c.args.bytes.now k a false plain (ne_eqb (length c.args.bytes.now) 0 c.if-count-eq0.false) (le-ltb 1073741824 (c.args.offset + length c.args.bytes.now) (within c.args.offset (length c.args.bytes.now) c.if-count-gt-MAX_DATA.false c.if-offset-count.false)) r none) c.in-Err-make.ensures.lacks)
+    subst (λ (a : Attempt). Attempts g.W.World g.F.Files (ask.Write c.args.path.now c.args.offset c.args.bytes.now) s c.make.new.inodes c.args.cache.now c.make.new.cache a)
+    (sym c.ended-in-Err-make.ensures)
+    (file_lacks g.W.World g.F.Files p s t c.args.cache.now d c.in-Ok.seen e.file e.shown e.same e.keeps e.cache (ask.Write c.args.path.now c.args.offset c.args.bytes.now)
+    (writes c.args.offset c.args.bytes.now)
+    (asks_write c.args.offset c.args.bytes.now c.args.path.now (le-ltb 65536 (length c.args.bytes.now) c.if-count-gt-MAX_DATA.false)) c.make.new.inodes c.make.new.cache b.same b.keeps b.still
+    b.cache (λ x is. cc) (λ k x is. cc) c.in-Err-make.stop
+    (λ k a r plain none. writes_lost c.args.offset c.args.bytes.now k a false plain (ne_eqb (length c.args.bytes.now) 0 c.if-count-eq0.false)
+    (le-ltb 1073741824 (c.args.offset + length c.args.bytes.now) (within c.args.offset (length c.args.bytes.now) c.if-count-gt-MAX_DATA.false c.if-offset-count.false)) r none)
+    c.in-Err-make.ensures.lacks)
 
 pub returns-in-Err-make-clause-leaves : goal.returns-in-Err-make-clause-leaves
 returns-in-Err-make-clause-leaves g c =
-    leaves_kept g.W.World g.F.Files c.args.inodes.now c.make.new.inodes (keeps_on g.W.World g.F.Files c.args.inodes.now c.meet_file.new.inodes c.make.new.inodes c.meet_file.ensures.keeps c.make.ensures.keeps) (ask.Write c.args.path.now c.args.offset c.args.bytes.now) _
+    leaves_kept g.W.World g.F.Files c.args.inodes.now c.make.new.inodes
+    (keeps_on g.W.World g.F.Files c.args.inodes.now c.meet_file.new.inodes c.make.new.inodes c.meet_file.ensures.keeps c.make.ensures.keeps)
+    (ask.Write c.args.path.now c.args.offset c.args.bytes.now) _
 
 pub fill-requires-clause-there : goal.fill-requires-clause-there
 fill-requires-clause-there g c =
@@ -81,8 +96,13 @@ fill-requires-clause-there g c =
     let t = c.meet_file.new.inodes in
     let d = c.meet_file.new.cache in
     let e = c.in-Ok.ensures in
-    let b = c.make.ensures in
-    (e.file.entry.row, is_file g.W.World g.F.Files p s t c.args.cache.now d c.in-Ok.seen e.file e.shown e.same e.keeps e.cache (ask.Write c.args.path.now c.args.offset c.args.bytes.now) (writes c.args.offset c.args.bytes.now) (asks_write c.args.offset c.args.bytes.now c.args.path.now (le-ltb 65536 (length c.args.bytes.now) c.if-count-gt-MAX_DATA.false)) c.make.new.inodes c.make.new.cache b.same b.keeps b.still b.cache)
+    let b = c.make.ensures in (
+      e.file.entry.row,
+      is_file g.W.World g.F.Files p s t c.args.cache.now d c.in-Ok.seen e.file e.shown e.same e.keeps e.cache (ask.Write c.args.path.now c.args.offset c.args.bytes.now)
+          (writes c.args.offset c.args.bytes.now)
+          (asks_write c.args.offset c.args.bytes.now c.args.path.now (le-ltb 65536 (length c.args.bytes.now) c.if-count-gt-MAX_DATA.false)) c.make.new.inodes c.make.new.cache b.same b.keeps b.still
+          b.cache,
+    )
 
 pub returns-in-Ok-fill-clause-attempts : goal.returns-in-Ok-fill-clause-attempts
 returns-in-Ok-fill-clause-attempts g c =
@@ -93,9 +113,15 @@ returns-in-Ok-fill-clause-attempts g c =
     let e = c.in-Ok.ensures in
     let b = c.make.ensures in
     let had = c.in-Ok-make.ensures.ok in
-    file_fills g.W.World g.F.Files p s t c.args.cache.now d c.in-Ok.seen e.file e.shown e.same e.keeps e.cache (ask.Write c.args.path.now c.args.offset c.args.bytes.now) (writes c.args.offset c.args.bytes.now) (asks_write c.args.offset c.args.bytes.now c.args.path.now (le-ltb 65536 (length c.args.bytes.now) c.if-count-gt-MAX_DATA.false)) c.make.new.inodes c.make.new.cache b.same b.keeps b.still b.cache c.fill.new.inodes (option_map (written c.args.offset c.args.bytes.now)) c.as_slice.result.now (say.Count (length c.args.bytes.now)) refl (λ T. refl)
+    file_fills g.W.World g.F.Files p s t c.args.cache.now d c.in-Ok.seen e.file e.shown e.same e.keeps e.cache (ask.Write c.args.path.now c.args.offset c.args.bytes.now)
+    (writes c.args.offset c.args.bytes.now)
+    (asks_write c.args.offset c.args.bytes.now c.args.path.now (le-ltb 65536 (length c.args.bytes.now) c.if-count-gt-MAX_DATA.false)) c.make.new.inodes c.make.new.cache b.same b.keeps b.still
+    b.cache c.fill.new.inodes (option_map (written c.args.offset c.args.bytes.now)) c.as_slice.result.now (say.Count (length c.args.bytes.now)) refl (λ T. refl)
     (λ h. ap (option_map (written c.args.offset c.args.bytes.now)) (had.is.shown h e.file.entry.row e.file.entry.there) ∙ ap (λ (x : List ℕ). Some x) (sym (c.as_slice.ensures ∙ had.made)))
-    (λ h l plain. writes_some c.args.offset c.args.bytes.now e.file.entry.row.kind (content_shown g.W.World.repository (g.F.Files.stored t.files) e.file.entry.row) l plain (ne_eqb (length c.args.bytes.now) 0 c.if-count-eq0.false) (le-ltb 1073741824 (c.args.offset + length c.args.bytes.now) (within c.args.offset (length c.args.bytes.now) c.if-count-gt-MAX_DATA.false c.if-offset-count.false)) had.content (had.is.shown h e.file.entry.row e.file.entry.there)) c.in-Ok-fill.ensures.shown
+    (λ h l plain. writes_some c.args.offset c.args.bytes.now e.file.entry.row.kind (content_shown g.W.World.repository (g.F.Files.stored t.files) e.file.entry.row) l plain
+    (ne_eqb (length c.args.bytes.now) 0 c.if-count-eq0.false)
+    (le-ltb 1073741824 (c.args.offset + length c.args.bytes.now) (within c.args.offset (length c.args.bytes.now) c.if-count-gt-MAX_DATA.false c.if-offset-count.false)) had.content
+    (had.is.shown h e.file.entry.row e.file.entry.there)) c.in-Ok-fill.ensures.shown
 
 pub returns-clause-attempts : goal.returns-clause-attempts
 returns-clause-attempts g c =
@@ -106,26 +132,35 @@ returns-clause-attempts g c =
     let e = c.in-Ok.ensures in
     let b = c.make.ensures in
     let x = c.in-Err-fill.ensures in
-    file_refused g.W.World g.F.Files p s t c.args.cache.now d c.in-Ok.seen e.file e.shown e.same e.keeps e.cache (ask.Write c.args.path.now c.args.offset c.args.bytes.now) (writes c.args.offset c.args.bytes.now) (asks_write c.args.offset c.args.bytes.now c.args.path.now (le-ltb 65536 (length c.args.bytes.now) c.if-count-gt-MAX_DATA.false)) c.make.new.inodes c.make.new.cache b.same b.keeps b.still b.cache c.fill.new.inodes c.in-Err-fill.fault x.fault (λ y is. cc) x.unseen
+    file_refused g.W.World g.F.Files p s t c.args.cache.now d c.in-Ok.seen e.file e.shown e.same e.keeps e.cache (ask.Write c.args.path.now c.args.offset c.args.bytes.now)
+    (writes c.args.offset c.args.bytes.now)
+    (asks_write c.args.offset c.args.bytes.now c.args.path.now (le-ltb 65536 (length c.args.bytes.now) c.if-count-gt-MAX_DATA.false)) c.make.new.inodes c.make.new.cache b.same b.keeps b.still
+    b.cache c.fill.new.inodes c.in-Err-fill.fault x.fault (λ y is. cc) x.unseen
 
 pub returns-in-Err-clause-leaves : goal.returns-in-Err-clause-leaves
 returns-in-Err-clause-leaves g c = leaves_kept g.W.World g.F.Files c.args.inodes.now c.meet_file.new.inodes c.meet_file.ensures.keeps (ask.Write c.args.path.now c.args.offset c.args.bytes.now) _
 
 pub returns-then-count-eq0-clause-leaves : goal.returns-then-count-eq0-clause-leaves
-returns-then-count-eq0-clause-leaves g c = leaves_kept g.W.World g.F.Files c.args.inodes.now c.meet_file.new.inodes c.meet_file.ensures.keeps (ask.Write c.args.path.now c.args.offset c.args.bytes.now) _
+returns-then-count-eq0-clause-leaves g c = leaves_kept g.W.World g.F.Files c.args.inodes.now c.meet_file.new.inodes c.meet_file.ensures.keeps
+    (ask.Write c.args.path.now c.args.offset c.args.bytes.now) _
 
 pub returns-then-offset-count-clause-leaves : goal.returns-then-offset-count-clause-leaves
-returns-then-offset-count-clause-leaves g c = leaves_kept g.W.World g.F.Files c.args.inodes.now c.meet_file.new.inodes c.meet_file.ensures.keeps (ask.Write c.args.path.now c.args.offset c.args.bytes.now) _
+returns-then-offset-count-clause-leaves g c = leaves_kept g.W.World g.F.Files c.args.inodes.now c.meet_file.new.inodes c.meet_file.ensures.keeps
+    (ask.Write c.args.path.now c.args.offset c.args.bytes.now) _
 
 pub returns-in-Ok-fill-clause-leaves : goal.returns-in-Ok-fill-clause-leaves
 returns-in-Ok-fill-clause-leaves g c =
-    leaves_changed g.W.World g.F.Files c.args.inodes.now c.make.new.inodes (keeps_on g.W.World g.F.Files c.args.inodes.now c.meet_file.new.inodes c.make.new.inodes c.meet_file.ensures.keeps c.make.ensures.keeps)
-    c.fill.new.inodes (Finished (say.Count (length c.args.bytes.now))) (λ e is. cc) (ask.Write c.args.path.now c.args.offset c.args.bytes.now) c.fill.ensures.leaves (none_given c.make.new.inodes.next c.fill.new.inodes.next 0 c.fill.ensures.next)
+    leaves_changed g.W.World g.F.Files c.args.inodes.now c.make.new.inodes
+    (keeps_on g.W.World g.F.Files c.args.inodes.now c.meet_file.new.inodes c.make.new.inodes c.meet_file.ensures.keeps c.make.ensures.keeps)
+    c.fill.new.inodes (Finished (say.Count (length c.args.bytes.now))) (λ e is. cc) (ask.Write c.args.path.now c.args.offset c.args.bytes.now) c.fill.ensures.leaves
+    (none_given c.make.new.inodes.next c.fill.new.inodes.next 0 c.fill.ensures.next)
 
 pub returns-clause-leaves : goal.returns-clause-leaves
 returns-clause-leaves g c =
-    leaves_changed g.W.World g.F.Files c.args.inodes.now c.make.new.inodes (keeps_on g.W.World g.F.Files c.args.inodes.now c.meet_file.new.inodes c.make.new.inodes c.meet_file.ensures.keeps c.make.ensures.keeps)
-    c.fill.new.inodes (Finished (say.Fault c.in-Err-fill.fault)) (λ e is. cc) (ask.Write c.args.path.now c.args.offset c.args.bytes.now) c.fill.ensures.leaves (none_given c.make.new.inodes.next c.fill.new.inodes.next 0 c.fill.ensures.next)
+    leaves_changed g.W.World g.F.Files c.args.inodes.now c.make.new.inodes
+    (keeps_on g.W.World g.F.Files c.args.inodes.now c.meet_file.new.inodes c.make.new.inodes c.meet_file.ensures.keeps c.make.ensures.keeps)
+    c.fill.new.inodes (Finished (say.Fault c.in-Err-fill.fault)) (λ e is. cc) (ask.Write c.args.path.now c.args.offset c.args.bytes.now) c.fill.ensures.leaves
+    (none_given c.make.new.inodes.next c.fill.new.inodes.next 0 c.fill.ensures.next)
 
 pub returns-then-count-gt-MAX_DATA-clause-leaves : goal.returns-then-count-gt-MAX_DATA-clause-leaves
 returns-then-count-gt-MAX_DATA-clause-leaves g c = leaves_kept g.W.World g.F.Files c.args.inodes.now c.args.inodes.now same (ask.Write c.args.path.now c.args.offset c.args.bytes.now) _

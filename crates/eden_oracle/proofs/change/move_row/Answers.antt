@@ -15,7 +15,8 @@ returns-in-Some-behind c rows h =
 pub returns : goal.returns
 returns c rows h =
     let all = c.args.all.now.items in
-    let pushed : c.push.new.self.items ≡ all ++ (c.match-behind.place, c.args.node.now) ∷ [] = c.in_ok-push.ensures.items ∙ ap (λ (n : Node). all ++ (c.match-behind.place, n) ∷ []) c.in_ok-copied_node.ensures in
+    let pushed : c.push.new.self.items ≡ all ++ (c.match-behind.place, c.args.node.now) ∷ [] = c.in_ok-push.ensures.items ∙ ap
+    (λ (n : Node). all ++ (c.match-behind.place, n) ∷ []) c.in_ok-copied_node.ensures in
     elim c.match-behind.branch [
       | in-Some+in_ok-place-in-Some w ↦ λ q.
           ap (λ (items : List (Path × Node)). tree_of items q) (pushed ∙ ap (λ (p : Path). all ++ (p, c.args.node.now) ∷ []) (w.place-is ∙ w.in_ok-place-in-Some.ensures))

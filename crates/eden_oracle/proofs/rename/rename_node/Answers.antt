@@ -35,5 +35,6 @@ returns-in-Silent c r h =
     let to = c.args.to.now in
     c.in-Silent.ensures r
     (subst (λ (P : Reply → Type 0). P r)
-    (sym (moves_is F from to c.args.node.now c.is_dir.result c.is_dir.ensures (sym c.eq.ensures ∙ c.if-eq.false) (sym c.goes_inside.ensures ∙ c.if-goes_inside.false) (sym c.is_front.ensures ∙ c.if-is_front.false)))
+    (sym (moves_is F from to c.args.node.now c.is_dir.result c.is_dir.ensures (sym c.eq.ensures ∙ c.if-eq.false) (sym c.goes_inside.ensures ∙ c.if-goes_inside.false)
+    (sym c.is_front.ensures ∙ c.if-is_front.false)))
     h)

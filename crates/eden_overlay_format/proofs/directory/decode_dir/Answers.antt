@@ -16,7 +16,8 @@ returns-in_err-entries-clause-refused c =
 
 pub returns-then-not-is_rising-clause-refused : goal.returns-then-not-is_rising-clause-refused
 returns-then-not-is_rising-clause-refused c =
-    unrisen c.args.bytes.now c.in_ok-body.body.now c.in_ok-body.ensures c.in_ok-entries.entries.items c.in_ok-entries.ensures.rows (λ rising. let found = c.is_rising.ensures.1 (subst IsRising (sym c.deref.ensures.value) rising) in absurd cc)
+    unrisen c.args.bytes.now c.in_ok-body.body.now c.in_ok-body.ensures c.in_ok-entries.entries.items c.in_ok-entries.ensures.rows
+    (λ rising. let found = c.is_rising.ensures.1 (subst IsRising (sym c.deref.ensures.value) rising) in absurd cc)
 
 pub returns-clause-found : goal.returns-clause-found
 returns-clause-found c =

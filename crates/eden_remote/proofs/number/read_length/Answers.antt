@@ -16,6 +16,7 @@ digits-preserved c =
     record {
       some = c.digits.invariant.some;
       first = c.digits.invariant.first;
-      value = c.min-length.ensures ∙ ap (λ d. min (c.digits.length * 10 + d) 1073741841) c.from.ensures ∙ capped_more c.args.digits.now i c.digits.length 1073741841 c.digits-test.true range c.digits.invariant.value;
+      value = c.min-length.ensures ∙ ap
+          (λ d. min (c.digits.length * 10 + d) 1073741841) c.from.ensures ∙ capped_more c.args.digits.now i c.digits.length 1073741841 c.digits-test.true range c.digits.invariant.value;
       digits = digits_on c.args.digits.now i c.digits-test.true range c.digits.invariant.digits;
     }

@@ -9,7 +9,8 @@ pub returns-then-byte-eq10 : goal.returns-then-byte-eq10
 returns-then-byte-eq10 g c =
     let so = c.bytes.invariant in
     line_heard _ _ (take c.bytes.i c.bytes.line) c.length_said.result so.one
-    (Consumes-trans _ _ _ (take c.bytes.i c.bytes.line) (10 ∷ []) so.read (subst (λ b. Consumes (g.R.Read.remaining c.bytes.reader) (g.R.Read.remaining c.read_byte.new.reader) (b ∷ [])) c.if-byte-eq10.true c.in_ok-byte.ensures))
+    (Consumes-trans _ _ _ (take c.bytes.i c.bytes.line) (10 ∷ []) so.read
+    (subst (λ b. Consumes (g.R.Read.remaining c.bytes.reader) (g.R.Read.remaining c.read_byte.new.reader) (b ∷ [])) c.if-byte-eq10.true c.in_ok-byte.ensures))
     c.length_said.ensures
 
 pub returns : goal.returns

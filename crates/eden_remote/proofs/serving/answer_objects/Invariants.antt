@@ -8,5 +8,6 @@ invariant-reads g l = record {
   room : length l.line ≡ 45;
   short : l.len < 45;
   one : IsOneLine (take l.len l.line);
-  so_far : SoFar g.S.Source.fetched l.fn.source l.source (g.R.Read.remaining l.fn.reader) (g.R.Read.remaining l.reader) (g.O.Write.contents l.fn.writer) (g.O.Write.contents l.writer) (take l.len l.line);
+  so_far : SoFar g.S.Source.fetched l.fn.source l.source (g.R.Read.remaining l.fn.reader) (g.R.Read.remaining l.reader) (g.O.Write.contents l.fn.writer) (g.O.Write.contents l.writer)
+      (take l.len l.line);
 }

@@ -71,7 +71,8 @@ tie_spec 𝓤 𝓛 𝓜 𝓡 wired X V N _ _ _ g d _ =
     -- [`near`; `far`; the tokens]
     nothing ! $ move ! (1 ∷ 2 ∷ 0 ∷ []) $ group ! 3 $ use1 𝓛 (‵ (owns (A ∷ B ∷ []) (near, (far, tt)) (empty_end ∷ [], (empty_end ∷ [], tt)))) (id⊢ 𝓤 _) $
     feq_i ! (List Val) (both ∷ []) (both ∷ []) refl $ fjoin ! $
-    fpack ! (Valss (A ∷ B ∷ [])) (λ vss. fsep (feq (List Val) (both ∷ []) (vstruct (of_list (vss.0 ++ (vss.1.0 ++ []))) ∷ [])) (owns (A ∷ B ∷ []) (near, (far, tt)) vss)) (empty_end ∷ [], (empty_end ∷ [], tt)) $
+    fpack ! (Valss (A ∷ B ∷ [])) (λ vss. fsep (feq (List Val) (both ∷ []) (vstruct (of_list (vss.0 ++ (vss.1.0 ++ []))) ∷ [])) (owns (A ∷ B ∷ []) (near, (far, tt)) vss))
+    (empty_end ∷ [], (empty_end ∷ [], tt)) $
     -- [what is returned; the tokens]
     nothing ! $ nothing ! $ join ! $ move ! (2 ∷ 0 ∷ 1 ∷ []) $ group ! 3 $
     use0 𝓛 (raw (fact 𝓤 _)) (fact_i 𝓤 (value ≡ value) (emp 𝓤) refl) $ use0 𝓛 (raw (fact 𝓤 _)) (fact_i 𝓤 (value ≡ value) (emp 𝓤) refl) $

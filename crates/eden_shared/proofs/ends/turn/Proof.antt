@@ -43,7 +43,8 @@ turn_spec 𝓤 𝓛 𝓜 𝓡 wired X V N _ _ _ g d _ =
     let u = mut_vals a.0 in let v = mut_vals a.1.0 in let w = shr_vals a.1.1.0 in
     let y : (walk_of 𝓛 En stays c).Ghost = ((κs, qs, bounds, a, (u, (v, (w, tt)))), gh) in
     let others : Fml = fsep (flft κs.1.1.0 qs.1.1.0) (fsep (flft κs.1.1.1.0 qs.1.1.1.0) (fsep (flft κs.1.1.1.1.0 qs.1.1.1.1.0) (fsep (flft κs.1.1.1.1.1.0 qs.1.1.1.1.1.0) ftrue))) in
-    qed 𝓛 (((‵ (flft κs.0 qs.0) ⊛ ‵ (flft κs.1.0 qs.1.0) ⊛ ‵ others) ⊛ ‵ (owns (types_at En.signature.params κs) a y.0.4)) ∷ raw (fact 𝓤 _) ∷ raw (fact 𝓤 _) ∷ raw (fact 𝓤 _) ∷ given _ (‵ ftrue) ∷ []) ∵
+    qed 𝓛 (((‵ (flft κs.0 qs.0) ⊛ ‵ (flft κs.1.0 qs.1.0) ⊛ ‵ others) ⊛ ‵ (owns (types_at En.signature.params κs) a y.0.4)) ∷ raw (fact 𝓤 _) ∷ raw (fact 𝓤 _) ∷ raw (fact 𝓤 _) ∷ given _ (‵ ftrue) ∷ [])
+    ∵
     keep ! (4 ∷ 0 ∷ []) $ learn ! (λ named_alike. drop ! $ split ! $ split ! $ move ! (1 ∷ []) $ split ! $
     -- [the token of `far`; the other tokens; the token of `near`; the parameters]
     move ! (3 ∷ []) $ fsplit ! $ fsplit3 ! $ move ! (3 ∷ []) $ fsplit ! $ fsplit3 ! $

@@ -14,7 +14,8 @@ invariant_of-push g c =
     let at = c.loop-end in let e = c.in-Some.end in let rest = into_iter_items c.next.new.self in
     let all : c.args.ends.items ≡ at.yielded ++ e ∷ rest = at.invariant.2 ∙ ap (λ l. at.yielded ++ l) c.in-Some.ensures.steps.0 in
     let place : c.len.result + 1 - 1 ≡ length at.yielded = (let n = c.len.ensures in let m = at.invariant.1 in omega arith) in
-    let name = ap (slice_get g.J.Naming.names) place ∙ ap (λ l. slice_get l (length at.yielded)) (sym c.requires.names ∙ ap far_names all) ∙ mapped_between (λ (x : End). x.far.name) at.yielded rest e in
+    let name = ap (slice_get g.J.Naming.names) place ∙ ap (λ l. slice_get l (length at.yielded)) (sym c.requires.names ∙ ap far_names all) ∙ mapped_between
+    (λ (x : End). x.far.name) at.yielded rest e in
     let value = ap (λ l. slice_get l (length at.yielded)) (sym c.requires.values ∙ ap far_values all) ∙ mapped_between (λ (x : End). x.far.value) at.yielded rest e in
     let fresh = all_alike (length g.J.Naming.names) (length at.yielded) (account None []) e.far.value value in
     ((omega arith, name), fresh ∙ ap (account None) (sym c.new.ensures.items), subst (λ l. Rises 1 l 1) (sym c.new.ensures.items) (omega arith))

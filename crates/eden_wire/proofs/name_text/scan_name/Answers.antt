@@ -18,4 +18,5 @@ bytes-preserved c = record {
 }
 
 pub returns : goal.returns
-returns c = scans_name _ c.bytes.rest.now _ _ c.is_no_name.result _ c.bytes.invariant.some c.bytes.invariant.so_far (empty_is c.bytes.rest.now c.bytes-test.ensures) c.is_no_name.ensures c.refusal_by-refusal.ensures
+returns c = scans_name _ c.bytes.rest.now _ _ c.is_no_name.result _ c.bytes.invariant.some c.bytes.invariant.so_far
+    (empty_is c.bytes.rest.now c.bytes-test.ensures) c.is_no_name.ensures c.refusal_by-refusal.ensures

@@ -14,5 +14,9 @@ pieces-init g c =
 pub pieces-preserved : goal.pieces-preserved
 pieces-preserved g c =
     let so = c.pieces.invariant in
-    let piece = c.in-Some.piece.now in
-    (so.0 ++ piece, so.1 ∙ ap (λ l. so.0 ++ l) c.in-Some.ensures.steps ∙ sym (append_assoc so.0 piece (encoded_text c.next.new.self)), grows_then so.2 (grows_as c.as_bytes.ensures.value c.put.ensures))
+    let piece = c.in-Some.piece.now in (
+      so.0 ++ piece,
+      so.1 ∙ ap (λ l. so.0 ++ l) c.in-Some.ensures.steps ∙ sym (append_assoc so.0 piece (encoded_text c.next.new.self)),
+      grows_then so.2
+          (grows_as c.as_bytes.ensures.value c.put.ensures),
+    )

@@ -18,14 +18,16 @@ pub returns-then-not-answer-clause-answered : goal.returns-then-not-answer-claus
 returns-then-not-answer-clause-answered g c =
     let bytes = c.args.bytes.now in
     run_false g.S.Service.answers _ _ _ _ _ _ _ _ _ bytes _ _ _
-    (subst (Lined g.S.Service.answers _ _ _ _ _ _ bytes) (after_line bytes _ c.lines.used c.in-Some.len (slice-end bytes c.lines.used) c.in-Some.ensures) c.lines.invariant.so_far) c.if-not-answer.ensures
+    (subst (Lined g.S.Service.answers _ _ _ _ _ _ bytes) (after_line bytes _ c.lines.used c.in-Some.len (slice-end bytes c.lines.used) c.in-Some.ensures) c.lines.invariant.so_far)
+    c.if-not-answer.ensures
 
 pub returns-then-has_failed-clause-answered : goal.returns-then-has_failed-clause-answered
 returns-then-has_failed-clause-answered g c =
     let bytes = c.args.bytes.now in
     run_failed g.S.Service.answers _ _ _ _ _ _ bytes _
     (lined_more g.S.Service.answers _ _ _ _ _ _ _ _ _ bytes _ _
-    (subst (Lined g.S.Service.answers _ _ _ _ _ _ bytes) (after_line bytes _ c.lines.used c.in-Some.len (slice-end bytes c.lines.used) c.in-Some.ensures) c.lines.invariant.so_far) c.if-not-answer.ensures)
+    (subst (Lined g.S.Service.answers _ _ _ _ _ _ bytes) (after_line bytes _ c.lines.used c.in-Some.len (slice-end bytes c.lines.used) c.in-Some.ensures) c.lines.invariant.so_far)
+    c.if-not-answer.ensures)
     (sym c.if-has_failed.ensures)
 
 pub lines-preserved : goal.lines-preserved

@@ -49,12 +49,14 @@ reads-preserved g c =
       | in-Ok-read+in-Ok-true w ↦
           let found = w.in-Ok-read.ensures in
           let used = w.answer_piece-used.result.0 in
-          let answered = answered_as g.S.Service.answers _ _ _ _ _ _ _ used _ _ (w.as_slice-bytes.ensures ∙ found.joined) (w.in-Ok-true.is ∙ ap Ok w.in-Ok-true.field-0-test) w.answer_piece-used.ensures.answered in
+          let answered = answered_as g.S.Service.answers _ _ _ _ _ _ _ used _ _ (w.as_slice-bytes.ensures ∙ found.joined)
+          (w.in-Ok-true.is ∙ ap Ok w.in-Ok-true.field-0-test) w.answer_piece-used.ensures.answered in
           let after = w.drop_front.ensures ∙ ap (drop used) found.joined in
           rw (w.writer-is, w.service-is, w.input-is, w.output-is) record {
             short = subst (λ l. length l ≤ longest_line) (sym after) (answered_short g.S.Service.answers _ _ _ _ _ _ _ answered);
             idle = answered.idle;
-            so_far = subst (SoFar g.S.Service.answers _ _ _ _ _ _) (sym after) (so_far_more g.S.Service.answers _ _ _ _ _ _ _ _ _ c.reads.input.pending.items found.piece _ _ so.so_far found.consumed answered);
+            so_far = subst (SoFar g.S.Service.answers _ _ _ _ _ _) (sym after)
+                (so_far_more g.S.Service.answers _ _ _ _ _ _ _ _ _ c.reads.input.pending.items found.piece _ _ so.so_far found.consumed answered);
           }
       | in-Err+else-ne w ↦
           let same = w.in-Err.ensures.1 in

@@ -8,5 +8,6 @@ abbrev pub invariant-reads : goal.invariant-reads
 invariant-reads g l = record {
   short : length l.input.pending.items ≤ longest_line;
   idle : IsIdle l.output;
-  so_far : SoFar g.S.Service.answers l.fn.service l.service (g.R.Read.remaining l.fn.reader) (g.R.Read.remaining l.reader) (g.W.Write.contents l.fn.writer) (g.W.Write.contents l.writer) l.input.pending.items;
+  so_far : SoFar g.S.Service.answers l.fn.service l.service (g.R.Read.remaining l.fn.reader) (g.R.Read.remaining l.reader) (g.W.Write.contents l.fn.writer)
+      (g.W.Write.contents l.writer) l.input.pending.items;
 }

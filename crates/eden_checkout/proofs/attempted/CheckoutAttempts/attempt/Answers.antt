@@ -11,8 +11,11 @@ use Rattle.eden_checkout.proofs.attempted.CheckoutAttempts.attempt.Goals as goal
 pub invariant_of-self : goal.invariant_of-self
 invariant_of-self g c =
     let x = c.self.inside in
-    let e = c.attempt.ensures in
-    (still_stocked g.W.World.repository g.W.World.honest x.cache c.attempt.new.cache e.attempts.cache c.self.invariant.0, comes_from x.root x.inodes.root.origin c.attempt.new.inodes.root.origin c.self.invariant.1 e.leaves.on.root)
+    let e = c.attempt.ensures in (
+      still_stocked g.W.World.repository g.W.World.honest x.cache c.attempt.new.cache e.attempts.cache c.self.invariant.0,
+      comes_from x.root x.inodes.root.origin c.attempt.new.inodes.root.origin
+          c.self.invariant.1 e.leaves.on.root,
+    )
 
 pub returns : goal.returns
 returns g c =

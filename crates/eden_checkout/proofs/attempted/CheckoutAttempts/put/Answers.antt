@@ -9,7 +9,8 @@ use Rattle.eden_checkout.proofs.attempted.CheckoutAttempts.put.Goals as goal
 pub invariant_of-self : goal.invariant_of-self
 invariant_of-self g c =
     let e = c.put.ensures in (
-      stocked_by g.W.World.repository g.W.World.honest c.cache_laws.ensures.others c.cache_laws.ensures.other_sizes c.self.inside.cache c.put.new.self c.args.key c.args.object c.self.invariant.0 c.requires c.put.result e.objects e.size e.err,
+      stocked_by g.W.World.repository g.W.World.honest c.cache_laws.ensures.others c.cache_laws.ensures.other_sizes c.self.inside.cache c.put.new.self c.args.key c.args.object c.self.invariant.0
+          c.requires c.put.result e.objects e.size e.err,
       c.self.invariant.1,
     )
 

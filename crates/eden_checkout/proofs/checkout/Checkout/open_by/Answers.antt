@@ -12,14 +12,16 @@ use Rattle.eden_checkout.proofs.checkout.Checkout.open_by.Goals as goal
 pub new-requires-in-Ok-clause-starts : goal.new-requires-in-Ok-clause-starts
 new-requires-in-Ok-clause-starts g c h =
     let given = ap g.F.Files.stored (c.keeping-overlay.ensures ∙ c.new.ensures) in
-    let starts : Starts c.args.opening c.args.root (g.F.Files.stored c.args.files) c.in-Ok.field-0 = subst (λ (F : Stored). Starts c.args.opening c.args.root F c.in-Ok.field-0) given (c.in-Ok.ensures.ok h) in
+    let starts : Starts c.args.opening c.args.root (g.F.Files.stored c.args.files) c.in-Ok.field-0 = subst (λ (F : Stored). Starts c.args.opening c.args.root F c.in-Ok.field-0) given
+    (c.in-Ok.ensures.ok h) in
     subst (λ (F : Stored). CanStart F c.in-Ok.field-0.origin c.in-Ok.field-0.next) (sym (c.in-Ok.ensures.stored h ∙ ap (λ (F : Stored). without F 0) given))
     (can_start g.W.World.repository g.W.World.opening c.args.root (g.F.Files.stored c.args.files) c.args.opening (c.requires.files h) c.in-Ok.field-0 starts)
 
 pub returns-in-Ok-clause-shown : goal.returns-in-Ok-clause-shown
 returns-in-Ok-clause-shown g c h =
     let given = ap g.F.Files.stored (c.keeping-overlay.ensures ∙ c.new.ensures) in
-    let starts : Starts c.args.opening c.args.root (g.F.Files.stored c.args.files) c.in-Ok.field-0 = subst (λ (F : Stored). Starts c.args.opening c.args.root F c.in-Ok.field-0) given (c.in-Ok.ensures.ok h) in
+    let starts : Starts c.args.opening c.args.root (g.F.Files.stored c.args.files) c.in-Ok.field-0 = subst (λ (F : Stored). Starts c.args.opening c.args.root F c.in-Ok.field-0) given
+    (c.in-Ok.ensures.ok h) in
     ap (shows g.W.World g.F.Files) c.new-in-Ok.ensures
     ∙ ap (λ (F : Stored). shown_in g.W.World.repository F (fresh_root c.in-Ok.field-0.origin)) (c.in-Ok.ensures.stored h ∙ ap (λ (F : Stored). without F 0) given)
     ∙ ap (λ (o : Origin). shown_in g.W.World.repository (without (g.F.Files.stored c.args.files) 0) (fresh_root o)) starts.origin
@@ -28,5 +30,6 @@ returns-in-Ok-clause-shown g c h =
 pub returns-in-Ok-clause-next : goal.returns-in-Ok-clause-next
 returns-in-Ok-clause-next g c h =
     let given = ap g.F.Files.stored (c.keeping-overlay.ensures ∙ c.new.ensures) in
-    let starts : Starts c.args.opening c.args.root (g.F.Files.stored c.args.files) c.in-Ok.field-0 = subst (λ (F : Stored). Starts c.args.opening c.args.root F c.in-Ok.field-0) given (c.in-Ok.ensures.ok h) in
+    let starts : Starts c.args.opening c.args.root (g.F.Files.stored c.args.files) c.in-Ok.field-0 = subst (λ (F : Stored). Starts c.args.opening c.args.root F c.in-Ok.field-0) given
+    (c.in-Ok.ensures.ok h) in
     subst (λ n. Finds c.args.opening c.args.root (g.F.Files.stored c.args.files) n) (sym (ap (λ (t : Table _). t.next) c.new-in-Ok.ensures)) starts.next

@@ -33,8 +33,12 @@ invariant_of-self-2 g c =
     let q = queue_from a.queue.items a.flight.items a.wants.items a.marks.items a.passes a.flights in
     let seat = subst (IsPass c.args.pass) (sym c.self.view_is) c.requires.seat in
     let alone = subst (WantsNoOther c.args.key c.args.pass) (sym c.self.view_is) c.requires.alone in
-    let found : stands c.args.key q ≡ false = ap (stands c.args.key) c.self.view_is ∙ sym c.stands-joined.ensures ∙ c.if-joined.false in
-    (want_queued c.args.key c.args.pass q c.push_back.new.self.items c.self.invariant.0 seat alone found (grind (arith, common_steps)), omega (arith, c.push_back.ensures.capacity, c.self.invariant.1), c.self.invariant.2)
+    let found : stands c.args.key q ≡ false = ap (stands c.args.key) c.self.view_is ∙ sym c.stands-joined.ensures ∙ c.if-joined.false in (
+      want_queued c.args.key c.args.pass q c.push_back.new.self.items c.self.invariant.0 seat alone found (grind (arith, common_steps)),
+      omega
+          (arith, c.push_back.ensures.capacity, c.self.invariant.1),
+      c.self.invariant.2,
+    )
 
 pub returns-clause-kept : goal.returns-clause-kept
 returns-clause-kept g c = (invariant_of-self-2 g c).0

@@ -44,7 +44,8 @@ invariant_of-self-2 g c =
     let R = g.W.World.repository in
     let F = g.F.Files.stored t.overlay in
     let at = subst (λ (v : Table _). IsAt p v.root (origin.Object c.requires.id)) (sym c.self.view_is) c.requires.at in
-    let loads : LoadsObject t.clock t.next t.root p es z after = record { directory = c.in_ok-dir.dir; new = c.in_ok-dir.ensures.new; has = c.in_ok-dir.ensures.has; gives = refl; is = c.in_ok-put_loaded.ensures.ok } in
+    let loads : LoadsObject t.clock t.next t.root p es z
+    after = record { directory = c.in_ok-dir.dir; new = c.in_ok-dir.ensures.new; has = c.in_ok-dir.ensures.has; gives = refl; is = c.in_ok-put_loaded.ensures.ok } in
     let most : after ≤ number_end = omega (arith, c.if-count-self.false, c.self.invariant.0.most) in (
       c.kept_laws.ensures.object_table t.clock t.next t.root p es z after c.self.invariant.0 loads c.in_ok-dir.ensures.storable most,
       λ h. c.kept_laws.ensures.object R F t.clock t.next t.root p c.requires.id es z after c.self.invariant.0 (c.self.invariant.1 h) at (c.requires.tree h) loads c.in_ok-dir.ensures.storable,
@@ -60,6 +61,7 @@ returns-clause-shown g c h =
     let R = g.W.World.repository in
     let F = g.F.Files.stored t.overlay in
     let at = subst (λ (v : Table _). IsAt p v.root (origin.Object c.requires.id)) (sym c.self.view_is) c.requires.at in
-    let loads : LoadsObject t.clock t.next t.root p es z after = record { directory = c.in_ok-dir.dir; new = c.in_ok-dir.ensures.new; has = c.in_ok-dir.ensures.has; gives = refl; is = c.in_ok-put_loaded.ensures.ok } in
+    let loads : LoadsObject t.clock t.next t.root p es z
+    after = record { directory = c.in_ok-dir.dir; new = c.in_ok-dir.ensures.new; has = c.in_ok-dir.ensures.has; gives = refl; is = c.in_ok-put_loaded.ensures.ok } in
     c.shown_laws.ensures.object_loads R F t.clock t.next t.root p c.requires.id es z after at (c.requires.tree h) loads
     ∙ ap (λ (v : Table _). shown_in R (g.F.Files.stored v.files) v.root) c.self.view_is

@@ -20,10 +20,14 @@ change_at-requires g c =
     let t = c.self.inside in
     let honest = g.W.World.honest in
     let F = g.F.Files.stored t.overlay in
-    if_some (row_at c.args.path.now t.root) _ (λ y at. may_at honest t.clock c.args.older_than c.args.path.now t.root y at F (tables_unload honest g.W.World.repository t.clock c.args.older_than t.next F t.root c.self.invariant.0 c.self.invariant.1))
+    if_some (row_at c.args.path.now t.root) _
+    (λ y at. may_at honest t.clock c.args.older_than c.args.path.now t.root y at F
+    (tables_unload honest g.W.World.repository t.clock c.args.older_than t.next F t.root c.self.invariant.0 c.self.invariant.1))
 
 -- so many went from the root's entry
-went : (g : _) (c : goal.After-self-1 g) → Unloads g.W.World.honest c.self.inside.clock c.args.older_than (g.F.Files.stored c.self.inside.overlay) c.self.inside.root (g.F.Files.stored c.change_at.new.state) c.change_at.new.self c.in-Some.ensures.some.done.0.count
+went : (g : _) (c : goal.After-self-1 g)
+    → Unloads g.W.World.honest c.self.inside.clock c.args.older_than (g.F.Files.stored c.self.inside.overlay) c.self.inside.root
+    (g.F.Files.stored c.change_at.new.state) c.change_at.new.self c.in-Some.ensures.some.done.0.count
 went g c =
     let t = c.self.inside in
     let u = c.in-Some.ensures.some in
@@ -49,8 +53,14 @@ returns-in-None-clause-unloads g c =
     let clock = c.args.self.now.clock in
     let F = g.F.Files.stored c.args.self.now.files in
     let root = c.in-None.ensures.kept ∙ ap (λ (v : Table _). v.root) c.self.view_is in
-    let files = ap (λ o. g.F.Files.stored o) c.in-None.ensures.state ∙ ap (λ (v : Table _). g.F.Files.stored v.files) c.self.view_is in
-    (0, (refl, subst (λ (z : Row). Unloads g.W.World.honest clock c.args.older_than F x (g.F.Files.stored c.change_at.new.state) z 0) (sym root) (subst (λ G. Unloads g.W.World.honest clock c.args.older_than F x G x 0) (sym files) none)))
+    let files = ap (λ o. g.F.Files.stored o) c.in-None.ensures.state ∙ ap (λ (v : Table _). g.F.Files.stored v.files) c.self.view_is in (
+      0,
+      (
+        refl,
+        subst (λ (z : Row). Unloads g.W.World.honest clock c.args.older_than F x (g.F.Files.stored c.change_at.new.state) z 0) (sym root)
+            (subst (λ G. Unloads g.W.World.honest clock c.args.older_than F x G x 0) (sym files) none),
+      ),
+    )
 
 pub returns-in-None-clause-elsewhere : goal.returns-in-None-clause-elsewhere
 returns-in-None-clause-elsewhere g c =
@@ -68,8 +78,14 @@ returns-in-None-clause-shown g c h =
 
 pub returns-in-Some-clause-unloads : goal.returns-in-Some-clause-unloads
 returns-in-Some-clause-unloads g c =
-    let u = c.in-Some.ensures.some.done.0 in
-    (u.count, (u.counted, subst (λ (v : Table _). Unloads g.W.World.honest v.clock c.args.older_than (g.F.Files.stored v.files) v.root (g.F.Files.stored c.change_at.new.state) c.change_at.new.self u.count) c.self.view_is (went g c)))
+    let u = c.in-Some.ensures.some.done.0 in (
+      u.count,
+      (
+        u.counted,
+        subst (λ (v : Table _). Unloads g.W.World.honest v.clock c.args.older_than (g.F.Files.stored v.files) v.root
+            (g.F.Files.stored c.change_at.new.state) c.change_at.new.self u.count) c.self.view_is (went g c),
+      ),
+    )
 
 pub returns-in-Some-clause-settled : goal.returns-in-Some-clause-settled
 returns-in-Some-clause-settled g c y at =
@@ -84,5 +100,6 @@ pub returns-in-Some-clause-shown : goal.returns-in-Some-clause-shown
 returns-in-Some-clause-shown g c h =
     let t = c.self.inside in
     let R = g.W.World.repository in
-    unloads_alike g.W.World.honest R t.clock c.args.older_than t.next (g.F.Files.stored t.overlay) t.root (g.F.Files.stored c.change_at.new.state) c.change_at.new.self c.in-Some.ensures.some.done.0.count h c.self.invariant.0 (c.self.invariant.1 h) (went g c)
+    unloads_alike g.W.World.honest R t.clock c.args.older_than t.next (g.F.Files.stored t.overlay) t.root
+    (g.F.Files.stored c.change_at.new.state) c.change_at.new.self c.in-Some.ensures.some.done.0.count h c.self.invariant.0 (c.self.invariant.1 h) (went g c)
     ∙ ap (λ (v : Table _). shown_in R (g.F.Files.stored v.files) v.root) c.self.view_is

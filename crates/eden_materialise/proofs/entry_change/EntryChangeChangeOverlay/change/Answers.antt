@@ -17,6 +17,7 @@ returns-in-Err-put_in g c = record {
   stored = λ honest y d at h. tt;
   err = c.in-Err-put_in.ensures.err;
   strays = c.in-Err-put_in.ensures.strays;
-  fault = told_fault (g.F.Files.failures c.args.overlay.now) (g.F.Files.failures c.put_in.new.overlay) c.in-Err-put_in.fault c.told-in-Err-put_in.result c.told-in-Err-put_in.ensures c.in-Err-put_in.ensures.counted;
+  fault = told_fault (g.F.Files.failures c.args.overlay.now)
+      (g.F.Files.failures c.put_in.new.overlay) c.in-Err-put_in.fault c.told-in-Err-put_in.result c.told-in-Err-put_in.ensures c.in-Err-put_in.ensures.counted;
   counted = tt;
 }

@@ -22,7 +22,11 @@ invariant_of-self-in-Waits g c =
     let m = core_from a.table a.imports a.seats.items a.history.items a.limit in
     let seats : length a.seats.items ≡ a.imports.passes = c.self.invariant.0.seats in
     let within : pass - 1 < length a.seats.items = omega (arith, seats, c.passes.ensures.value) in
-    let pends : Pends pass s m = (omega arith, seat_read a.seats.items (pass - 1) (Some s) within (let Q : Option Pending → Type 0 = λ o. o ≡ get_or a.seats.items (pass - 1) o in subst Q c.in-Some.is c.index.ensures)) in
+    let pends : Pends pass s m = (
+      omega arith,
+      seat_read a.seats.items (pass - 1) (Some s) within
+          (let Q : Option Pending → Type 0 = λ o. o ≡ get_or a.seats.items (pass - 1) o in subst Q c.in-Some.is c.index.ensures),
+    ) in
     let queue : c.await_key.new.self ≡ after_await c.in-Waits.key pass (after_failure pass a.imports) = c.await_key.ensures.step ∙ ap (after_await c.in-Waits.key pass) c.failure-mark.ensures.step in
     let waits : WaitsBy A honest a.table s.request (mark_of pass a.imports) c.in-Waits.key c.settle.new.table = record {
       begun = c.tick.new.self;
@@ -42,12 +46,18 @@ invariant_of-self-in-Told g c =
     let m = core_from a.table a.imports a.seats.items a.history.items a.limit in
     let seats : length a.seats.items ≡ a.imports.passes = c.self.invariant.0.seats in
     let within : pass - 1 < length a.seats.items = omega (arith, seats, c.passes.ensures.value) in
-    let pends : Pends pass s m = (omega arith, seat_read a.seats.items (pass - 1) (Some s) within (let Q : Option Pending → Type 0 = λ o. o ≡ get_or a.seats.items (pass - 1) o in subst Q c.in-Some.is c.index.ensures)) in
+    let pends : Pends pass s m = (
+      omega arith,
+      seat_read a.seats.items (pass - 1) (Some s) within
+          (let Q : Option Pending → Type 0 = λ o. o ≡ get_or a.seats.items (pass - 1) o in subst Q c.in-Some.is c.index.ensures),
+    ) in
     let queue : c.quit.new.self ≡ after_quit pass (after_failure pass a.imports) = c.quit.ensures.step ∙ ap (after_quit pass) c.failure-mark.ensures.step in
     let told : ToldBy A honest a.table s.request (mark_of pass a.imports) r c.settle.new.table = record {
       begun = c.tick.new.self;
       ticks = c.tick.ensures;
-      replied = (let P : Option Mark → Type 0 = λ k. Replied A honest c.tick.new.self s.request k c.in-Told.told c.settle.new.table in let R : Reply → Type 0 = λ x. Replied A honest c.tick.new.self s.request (mark_of pass a.imports) x c.settle.new.table in subst R (sym c.in-Told.ensures.0) (subst P c.failure-mark.ensures.answer c.in-Told.ensures.1));
+      replied = (let P : Option Mark → Type 0 = λ k. Replied A honest c.tick.new.self s.request k c.in-Told.told c.settle.new.table in let R : Reply
+          → Type 0 = λ x. Replied A honest c.tick.new.self s.request (mark_of pass a.imports) x c.settle.new.table in subst R (sym c.in-Told.ensures.0)
+          (subst P c.failure-mark.ensures.answer c.in-Told.ensures.1));
     } in
     let seat : c.index_mut.result.now ≡ get_or a.seats.items (pass - 1) c.index_mut.result.now = c.index_mut.ensures.value in
     let taken : c.take.result ≡ c.index_mut.result.now = c.take.ensures.value in

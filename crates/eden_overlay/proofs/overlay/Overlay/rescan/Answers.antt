@@ -50,7 +50,8 @@ returns-in_err-met-clause-refused g c =
     let stored = g.F.Files.stored in
     let failures = g.F.Files.failures in
     let at = c.get_dir.new.self in
-    handed_on c.from_residual-in_err-met.result c.in_err-met.field-0.0 (IsRescanFault g.W.World.honest (stored c.args.self.now) (failures c.args.self.now) (failures c.walk.new.self)) c.from_residual-in_err-met.ensures.1
+    handed_on c.from_residual-in_err-met.result c.in_err-met.field-0.0
+    (IsRescanFault g.W.World.honest (stored c.args.self.now) (failures c.args.self.now) (failures c.walk.new.self)) c.from_residual-in_err-met.ensures.1
     (earlier g.W.World.honest (stored c.args.self.now) (stored at) (failures c.args.self.now) (failures at) (failures c.walk.new.self) c.in_err-met.field-0.0
     c.get_dir.ensures.unchanged (let same = c.in-Ok.ensures.counted.same (λ is. absurd (cc)) in omega (arith, same)) c.in_err-met.ensures.refused)
 

@@ -4,7 +4,8 @@ use Rattle.eden_shared.proofs.Numbered.{as_many, all_agree}
 use Rattle.eden_shared.proofs.locked.Locked.agrees.Goals as goal
 
 pub returns-then-len-count-clause-count : goal.returns-then-len-count-clause-count
-returns-then-len-count-clause-count g c = as_many c.self.inside.mount c.self.inside.lanes.items g.J.Naming.names c.self.invariant.0 c.self.invariant.1 c.holds.ensures.seats ∙ ap (λ m. m.queue.passes) c.self.view_is
+returns-then-len-count-clause-count g c = as_many c.self.inside.mount c.self.inside.lanes.items g.J.Naming.names c.self.invariant.0 c.self.invariant.1 c.holds.ensures.seats ∙ ap
+    (λ m. m.queue.passes) c.self.view_is
 
 pub returns-clause-count : goal.returns-clause-count
 returns-clause-count g c = as_many c.self.inside.mount c.self.inside.lanes.items g.J.Naming.names c.self.invariant.0 c.self.invariant.1 c.holds.ensures.seats ∙ ap (λ m. m.queue.passes) c.self.view_is

@@ -12,7 +12,8 @@ invariant_of-locked g c =
     let m = c.args.mount in
     let free = all_free m.seats (λ k s at. c.requires.unused.rest (suc k) s (omega arith, subst (λ (i : ℕ). slice_index_or m.seats i None ≡ Some s) (omega arith) at)) in (
       c.requires.names,
-      c.requires.ties.near ∙ sym (accounts_fresh 1 m.queue.passes) ∙ (λ i. accounts 1 (replicate (sym c.holds.ensures.seats i) None) (sym c.requires.unused.history i)) ∙ ap (λ s. accounts 1 s m.history) (sym free),
+      c.requires.ties.near ∙ sym (accounts_fresh 1 m.queue.passes) ∙ (λ i. accounts 1 (replicate (sym c.holds.ensures.seats i) None) (sym c.requires.unused.history i)) ∙ ap
+          (λ s. accounts 1 s m.history) (sym free),
     )
 
 -- as many names as the mount has passes

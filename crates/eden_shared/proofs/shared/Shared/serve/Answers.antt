@@ -11,12 +11,15 @@ use Rattle.eden_shared.proofs.shared.Shared.serve.Goals as goal
 pub invariant_of-pass-2 : goal.invariant_of-pass-2
 invariant_of-pass-2 g c =
     let here = c.pass.inside in let p = c.in_ok-pending.pending in let a = c.wait_for-answer.result in let began = c.in_ok-pending.ensures in
-    let items : c.push_reserved.new.self.items ≡ here.told.items ++ told a.number p.request a.reply ∷ [] = c.push_reserved.ensures.items ∙ ap (λ l. l ++ told a.number p.request a.reply ∷ []) c.reserve.ensures.items in
+    let items : c.push_reserved.new.self.items ≡ here.told.items ++ told a.number p.request a.reply ∷ [] = c.push_reserved.ensures.items ∙ ap
+    (λ l. l ++ told a.number p.request a.reply ∷ []) c.reserve.ensures.items in
     let known = ap (λ (x : Account). x.told) c.pass.invariant.1 in
     let says = c.wait_for-answer.ensures.account ∙ ap (after_answer a) began.pending ∙ ap (λ l. account None (l ++ told a.number p.request a.reply ∷ [])) known ∙ ap (account None) (sym items) in
-    let answers : AnswersTo g.W.World.honest g.W.World.opening here.number a p = subst (λ (x : Account). IfSome x.pending (AnswersTo g.W.World.honest g.W.World.opening here.number a)) began.pending c.wait_for-answer.ensures.answers in
+    let answers : AnswersTo g.W.World.honest g.W.World.opening here.number a p = subst
+    (λ (x : Account). IfSome x.pending (AnswersTo g.W.World.honest g.W.World.opening here.number a)) began.pending c.wait_for-answer.ensures.answers in
     let later : here.floor ≤ a.number = (let from = began.floor in let behind = answers.1 in omega arith) in
-    let rises : Rises 1 c.push_reserved.new.self.items (a.number + 1) = subst (λ l. Rises 1 l (a.number + 1)) (sym items) (rises_push 1 here.told.items here.floor a.number p.request a.reply later c.pass.invariant.2) in (
+    let rises : Rises 1 c.push_reserved.new.self.items (a.number + 1) = subst (λ l. Rises 1 l (a.number + 1)) (sym items)
+    (rises_push 1 here.told.items here.floor a.number p.request a.reply later c.pass.invariant.2) in (
       (c.pass.invariant.0.0, c.pass.invariant.0.1 ∙ ap Some (sym (c.wait_for-answer.ensures.name ∙ began.name))),
       says,
       subst (λ n. Rises 1 c.push_reserved.new.self.items (n + 1)) (sym c.from.ensures) rises,
@@ -25,8 +28,10 @@ invariant_of-pass-2 g c =
 pub returns-clause-ok : goal.returns-clause-ok
 returns-clause-ok g c =
     let here = c.pass.inside in let p = c.in_ok-pending.pending in let a = c.wait_for-answer.result in let began = c.in_ok-pending.ensures in
-    let items : c.push_reserved.new.self.items ≡ here.told.items ++ told a.number p.request a.reply ∷ [] = c.push_reserved.ensures.items ∙ ap (λ l. l ++ told a.number p.request a.reply ∷ []) c.reserve.ensures.items in
-    let answers : AnswersTo g.W.World.honest g.W.World.opening here.number a p = subst (λ (x : Account). IfSome x.pending (AnswersTo g.W.World.honest g.W.World.opening here.number a)) began.pending c.wait_for-answer.ensures.answers in
+    let items : c.push_reserved.new.self.items ≡ here.told.items ++ told a.number p.request a.reply ∷ [] = c.push_reserved.ensures.items ∙ ap
+    (λ l. l ++ told a.number p.request a.reply ∷ []) c.reserve.ensures.items in
+    let answers : AnswersTo g.W.World.honest g.W.World.opening here.number a p = subst
+    (λ (x : Account). IfSome x.pending (AnswersTo g.W.World.honest g.W.World.opening here.number a)) began.pending c.wait_for-answer.ensures.answers in
     let after : Carried = carried here.number (c.from.result + 1) c.push_reserved.new.self.items in
     let grows : Grows g.W.World.honest g.W.World.opening (carried here.number here.floor here.told.items) p.request after = record {
       number = a.number;

@@ -18,11 +18,22 @@ returns-in-Some g c =
     let within : c.in-Some.i < length es = rw c.deref.ensures.value at c.in-Some.ensures.found.1 in
     let after = set_there es c.in-Some.i c.index_mut.result.now c.index_mut.ensures.value in
     let there = found_there es c.in-Some.i c.index_mut.result.now c.index_mut.ensures.value within in (
-      λ k. inl (c.self-in-Some-1.given, λ w. (ap (directory_from c.self.inside.stamp c.self.inside.unsaved) (after w ∙ ap (λ i. set_at i w es) place) ∙ ap (λ (d : Directory). record d { rows = set_at c.args.position w d.rows }) c.self.view_is) k),
+      λ k. inl (
+        c.self-in-Some-1.given,
+        λ w.
+            (ap (directory_from c.self.inside.stamp c.self.inside.unsaved) (after w ∙ ap (λ i. set_at i w es) place) ∙ ap
+            (λ (d : Directory). record d { rows = set_at c.args.position w d.rows }) c.self.view_is) k,
+      ),
       record { writes_back = tt; value = rw (← c.self.view_is) (sym (ap (option_map (λ (r : Name × Row). r.1)) (ap (slice_get es) (sym place) ∙ there))) },
     )
 
 pub returns-in-None : goal.returns-in-None
 returns-in-None g c =
-    let beyond : length c.self.inside.items.items ≤ c.args.position = rw c.deref.ensures.value at c.in-None.ensures.beyond in
-    (ap inr c.self.view_is, record { writes_back = tt; value = rw (← c.self.view_is) (sym (ap (option_map (λ (r : Name × Row). r.1)) (slice_get-beyond c.self.inside.items.items c.args.position beyond))) })
+    let beyond : length c.self.inside.items.items ≤ c.args.position = rw c.deref.ensures.value at c.in-None.ensures.beyond in (
+      ap inr c.self.view_is,
+      record {
+        writes_back = tt;
+        value = rw (← c.self.view_is)
+            (sym (ap (option_map (λ (r : Name × Row). r.1)) (slice_get-beyond c.self.inside.items.items c.args.position beyond)));
+      },
+    )

@@ -22,4 +22,5 @@ returns-in-Some-clause-left g c =
     ∙ sym (change_row-found name (with_child None) c.in-Some.there.now rows (sym c.in-Some.ensures.value)))
 
 pub returns-in-None-clause-left : goal.returns-in-None-clause-left
-returns-in-None-clause-left g c = ap (directory_from c.args.self.now.stamp c.args.self.now.unsaved) (sym (change_row-absent c.args.name.now (with_child None) c.args.self.now.rows (sym c.in-None.ensures.value)))
+returns-in-None-clause-left g c = ap (directory_from c.args.self.now.stamp c.args.self.now.unsaved)
+    (sym (change_row-absent c.args.name.now (with_child None) c.args.self.now.rows (sym c.in-None.ensures.value)))

@@ -10,7 +10,8 @@ invariant_of-self g c =
     let gap = rw c.deref.ensures.value at c.in-Err.ensures.absent in
     let room : length es < 4294967295 = omega (arith, c.self.inside.items.ok.0) in
     elim c.match-insert.branch [
-      | in-Ok-insert w ↦ rw (c.insert.ensures.items, w.in-Ok-insert.is, insert-gap es c.args.name c.args.entry _ gap) (AreRows-put_row c.args.name c.args.entry es (find_row-gap es _ _ c.self.invariant.rising gap) room c.self.invariant)
+      | in-Ok-insert w ↦ rw (c.insert.ensures.items, w.in-Ok-insert.is, insert-gap es c.args.name c.args.entry _ gap)
+          (AreRows-put_row c.args.name c.args.entry es (find_row-gap es _ _ c.self.invariant.rising gap) room c.self.invariant)
       | in-Err-insert w ↦ rw (c.insert.ensures.items, w.in-Err-insert.is) c.self.invariant
     ]
 
@@ -26,6 +27,7 @@ pub returns-after-insert-clause-ok : goal.returns-after-insert-clause-ok
 returns-after-insert-clause-ok g c =
     let gap = rw c.deref.ensures.value at c.in-Err.ensures.absent in
     elim c.match-insert.branch [
-      | in-Ok-insert w ↦ rw (w.result-is, c.insert.ensures.items, w.in-Ok-insert.is, ← c.self.view_is) (ap (directory_from c.self.inside.stamp c.self.inside.unsaved) (insert-gap c.self.inside.items.items c.args.name c.args.entry _ gap))
+      | in-Ok-insert w ↦ rw (w.result-is, c.insert.ensures.items, w.in-Ok-insert.is, ← c.self.view_is)
+          (ap (directory_from c.self.inside.stamp c.self.inside.unsaved) (insert-gap c.self.inside.items.items c.args.name c.args.entry _ gap))
       | in-Err-insert w ↦ rw w.result-is tt
     ]

@@ -47,7 +47,8 @@ returns-in-Some-get_mut-clause-none g t c =
     let y = c.in-Some-get_mut.entry.now in
     let holds : child_of x ≡ Some d = held_some _ _ _ _ _ c.self.view_is c.in-Some-child.child c.in-Some-child.is ∙ ap Some (sym c.deref_mut.ensures.value) in
     let there : find_row n d.rows ≡ Some y = sym c.in-Some-get_mut.ensures.value in
-    if_none c.change_at.result (row_at p y ≡ None) (row_at c.args.path.now x ≡ None) (λ h. ap (λ (q : Path). row_at q x) c.in-Some.ensures.cases.0 ∙ steps_down n p x y d holds there ∙ h) c.change_at.ensures.none
+    if_none c.change_at.result (row_at p y ≡ None) (row_at c.args.path.now x ≡ None)
+    (λ h. ap (λ (q : Path). row_at q x) c.in-Some.ensures.cases.0 ∙ steps_down n p x y d holds there ∙ h) c.change_at.ensures.none
 
 pub returns-in-Some-get_mut-clause-kept : goal.returns-in-Some-get_mut-clause-kept
 returns-in-Some-get_mut-clause-kept g t c =
