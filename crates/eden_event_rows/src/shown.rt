@@ -3,7 +3,7 @@
 use crate::grounds::Ground;
 use crate::mounts::{Mounted, Settings, Stored, close, open_again};
 use eden_checkout::Opening;
-use eden_model::{Fault, Reply, Request};
+use eden_model::{Cause, Fault, Reply, Request};
 use eden_mount::Turned;
 use eden_random::{all_looks, is_same};
 use std::process::Abort;
@@ -17,11 +17,11 @@ const LONG: u32 = 1_000_000;
 /// What is wanted is fetched, as the repository has it.
 fn fetch(rt: &impl Abort, ground: &Ground, mount: &mut Mounted) {
     let key = mount.take_want().expect(rt, "a key");
-    match ground.commit.framed(key) {
-        Err(cause) => {
-            mount.fail(key, cause);
+    match ground.commit.framed(key.id) {
+        None => {
+            mount.fail(key, Cause::Missing);
         }
-        Ok(framed) => {
+        Some(framed) => {
             let framed = framed.to_vec(ground.alloc).expect(rt, "memory");
             mount.arrive(key, framed);
         }
@@ -63,7 +63,7 @@ pub(crate) fn mounted(
     files: Stored,
 ) -> Mounted {
     let settings = Settings {
-        root: ground.commit.root(rt),
+        root: ground.commit.root(),
         opening,
         objects: 2,
         history: LONG,

@@ -91,7 +91,7 @@ fn replay(rt: &impl Abort, ground: &Ground, life: &Life, tree: &mut WholeTree) {
 fn abandoned(rt: &impl Abort, ground: &Ground, mut files: Stored) {
     let numbers = files.list(ground.alloc).expect(rt, "numbers");
     let settings = Settings {
-        root: ground.commit.root(rt),
+        root: ground.commit.root(),
         opening: Opening::Closed,
         objects: 1,
         history: 1,
@@ -142,7 +142,7 @@ fn live_once(
 /// A random commit, and a few mounts of it, one after another over the same files.
 fn run(rt: &impl Abort, alloc: Global, seed: &mut u64, tally: &mut Tally) {
     let mut ground = Ground::new(rt, alloc, seed);
-    let mut replayed = ground.commit.whole(rt, alloc);
+    let mut replayed = ground.commit.whole(alloc).expect(rt, "a tree");
     let mut left = Some(MemoryFiles::new(alloc));
     for _ in 0..MOST_LIVES {
         if let Some(files) = left.take() {
