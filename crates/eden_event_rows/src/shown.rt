@@ -3,9 +3,9 @@
 use crate::grounds::Ground;
 use crate::mounts::{Mounted, Settings, Stored, close, open_again};
 use eden_checkout::Opening;
-use eden_model::{Cause, Fault, Reply, Request};
+use eden_model::{Cause, Reply, Request};
 use eden_mount::Turned;
-use eden_random::{all_looks, is_same};
+use eden_random::{all_looks, is_seen};
 use std::process::Abort;
 
 /// The most turns of one request.
@@ -45,14 +45,10 @@ pub(crate) fn answer(
     None.expect(rt, "a reply")
 }
 
-/// Whether a look is answered as by the oracle: where that has no reply, an object can't be had.
+/// Whether a look is answered as by the oracle.
 fn agree(rt: &impl Abort, ground: &mut Ground, mount: &mut Mounted, look: Request) -> bool {
     let want = ground.tree.step(ground.alloc, &look).expect(rt, "memory");
-    let reply = answer(rt, ground, mount, look);
-    match want {
-        Some(want) => is_same(&reply, &want),
-        None => matches!(reply, Reply::Fault(Fault::Fetch(_, _))),
-    }
+    is_seen(&answer(rt, ground, mount, look), &want)
 }
 
 /// A mount over files whose device works, opened so.

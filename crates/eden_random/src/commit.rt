@@ -47,8 +47,8 @@ impl Tree {
     }
 }
 
-/// A commit of a few trees, which may stand in several places. The repository lacks some of its objects, and some are no
-/// objects of their kind.
+/// A commit of a few trees, which may stand in several places. The repository lacks some of its objects, and some are
+/// no objects of their kind.
 #[derive(Drop)]
 pub struct Commit {
     /// Those below before those above.

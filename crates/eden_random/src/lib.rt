@@ -1,5 +1,5 @@
-//! Random commits, and random requests of what stands in a slow oracle's tree, for tests of several crates. They have few
-//! names, so that they meet.
+//! Random commits, and random requests of what stands in a slow oracle's tree, for tests of several crates. They have
+//! few names, so that they meet.
 #![tactic(auto)]
 
 mod blobs;
@@ -14,6 +14,6 @@ mod whole;
 pub use commit::Commit;
 pub use looks::{all_looks, kind_at};
 pub use names::{Places, bytes, name, name_at, path, path_of};
-pub use replies::is_same;
+pub use replies::{is_same, is_seen, replays};
 pub use requests::{request, some_look};
 pub use unmade::Unmade;
