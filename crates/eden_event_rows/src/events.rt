@@ -207,7 +207,7 @@ fn some_key(rt: &impl Abort, ground: &Ground, life: &Life, seed: &mut u64) -> Ke
     let word = random(seed);
     let flight = life.waits.flight.as_slice();
     if word % 8 == 0 || flight.is_empty() {
-        return ground.commit.some_key(rt, seed);
+        return ground.commit.some_key(seed);
     }
     flight[(word / 8) as usize % flight.len()]
 }
@@ -257,9 +257,9 @@ fn come(rt: &impl Abort, ground: &Ground, life: &mut Life, seed: &mut u64) -> Me
     if random(seed) % 8 == 0 {
         return arrive(rt, ground, life, key, OTHER_BYTES, Some(Cause::BadDigest));
     }
-    match ground.commit.framed(key) {
-        Ok(framed) => arrive(rt, ground, life, key, framed, ground.commit.flaw(key)),
-        Err(cause) => fail_key(rt, life, key, cause),
+    match ground.commit.framed(key.id) {
+        Some(framed) => arrive(rt, ground, life, key, framed, ground.commit.flaw(key)),
+        None => fail_key(rt, life, key, Cause::Missing),
     }
 }
 

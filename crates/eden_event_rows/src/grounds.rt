@@ -1,11 +1,11 @@
 //! What outlives a mount: the commit, the tree after all that was done, and the device.
 
-use crate::commits::Commit;
 use crate::mounts::{FLIGHTS, Mounted, Settings, Stored, open_again};
 use crate::waits::{PASSES, Waits, seat};
 use eden_checkout::Opening;
 use eden_model::{Key, Request, StartFault};
 use eden_oracle::WholeTree;
+use eden_random::Commit;
 use eden_samples::random;
 use std::alloc::Global;
 use std::cell::Cell;
@@ -24,12 +24,13 @@ pub(crate) struct Ground {
 impl Ground {
     /// A random commit, to which nothing was done.
     pub(crate) fn new(rt: &impl Abort, alloc: Global, seed: &mut u64) -> Ground {
-        Ground::over(rt, alloc, Commit::new(rt, alloc, seed))
+        let commit = Commit::new(alloc, seed).expect(rt, "a commit");
+        Ground::over(rt, alloc, commit)
     }
 
     /// A commit, to which nothing was done.
     pub(crate) fn over(rt: &impl Abort, alloc: Global, commit: Commit) -> Ground {
-        let tree = commit.whole(rt, alloc);
+        let tree = commit.whole(alloc).expect(rt, "a tree");
         let calls = Rc::new(alloc, Cell::new(u64::MAX)).expect(rt, "memory");
         Ground {
             alloc,
@@ -57,7 +58,7 @@ impl Life {
     pub(crate) fn new(rt: &impl Abort, ground: &Ground, files: Stored, seed: &mut u64) -> Life {
         let limit = 10 + random(seed) % 40;
         let settings = Settings {
-            root: ground.commit.root(rt),
+            root: ground.commit.root(),
             opening: Opening::Closed,
             objects: 1 + (random(seed) % 3) as usize,
             history: limit,

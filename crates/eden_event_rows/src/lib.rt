@@ -2,8 +2,6 @@
 #![tactic(auto)]
 
 #[cfg(test)]
-mod commits;
-#[cfg(test)]
 mod events;
 #[cfg(test)]
 mod grounds;

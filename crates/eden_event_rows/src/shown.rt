@@ -3,9 +3,9 @@
 use crate::grounds::Ground;
 use crate::mounts::{Mounted, Settings, Stored, close, open_again};
 use eden_checkout::Opening;
-use eden_model::{Fault, Reply, Request};
+use eden_model::{Cause, Reply, Request};
 use eden_mount::Turned;
-use eden_random::{all_looks, is_same};
+use eden_random::{all_looks, is_seen};
 use std::process::Abort;
 
 /// The most turns of one request.
@@ -17,11 +17,11 @@ const LONG: u32 = 1_000_000;
 /// What is wanted is fetched, as the repository has it.
 fn fetch(rt: &impl Abort, ground: &Ground, mount: &mut Mounted) {
     let key = mount.take_want().expect(rt, "a key");
-    match ground.commit.framed(key) {
-        Err(cause) => {
-            mount.fail(key, cause);
+    match ground.commit.framed(key.id) {
+        None => {
+            mount.fail(key, Cause::Missing);
         }
-        Ok(framed) => {
+        Some(framed) => {
             let framed = framed.to_vec(ground.alloc).expect(rt, "memory");
             mount.arrive(key, framed);
         }
@@ -45,14 +45,10 @@ pub(crate) fn answer(
     None.expect(rt, "a reply")
 }
 
-/// Whether a look is answered as by the oracle: where that has no reply, an object can't be had.
+/// Whether a look is answered as by the oracle.
 fn agree(rt: &impl Abort, ground: &mut Ground, mount: &mut Mounted, look: Request) -> bool {
     let want = ground.tree.step(ground.alloc, &look).expect(rt, "memory");
-    let reply = answer(rt, ground, mount, look);
-    match want {
-        Some(want) => is_same(&reply, &want),
-        None => matches!(reply, Reply::Fault(Fault::Fetch(_, _))),
-    }
+    is_seen(&answer(rt, ground, mount, look), &want)
 }
 
 /// A mount over files whose device works, opened so.
@@ -63,7 +59,7 @@ pub(crate) fn mounted(
     files: Stored,
 ) -> Mounted {
     let settings = Settings {
-        root: ground.commit.root(rt),
+        root: ground.commit.root(),
         opening,
         objects: 2,
         history: LONG,

@@ -1,7 +1,6 @@
 //! All changes on a mount whose device stops at each call in turn: it works again for the next request, or never, and then
 //! what is left is opened by a rescan.
 
-use crate::commits::Commit;
 use crate::grounds::Ground;
 use crate::mounts::{Mounted, Settings, Stored, close, open};
 use crate::shown::{answer, mounted, show_same};
@@ -9,7 +8,7 @@ use crate::worked::request;
 use eden_checkout::{OpenFault, Opening};
 use eden_model::{Errno, Fault, Path, Reply, Request};
 use eden_overlay::MemoryFiles;
-use eden_random::is_same;
+use eden_random::{Commit, is_same};
 use std::alloc::Global;
 use std::process::Abort;
 
@@ -78,7 +77,7 @@ fn change(
 /// A mount of the commit over no files, of which so many calls pass; or the files that weren't opened.
 fn fresh(rt: &impl Abort, ground: &Ground, calls: u64) -> Result<Mounted, Stored> {
     let settings = Settings {
-        root: ground.commit.root(rt),
+        root: ground.commit.root(),
         opening: Opening::Closed,
         objects: 4,
         history: 100,
@@ -114,6 +113,12 @@ fn forget(rt: &impl Abort, ground: &mut Ground, from: &Path, files: Stored) -> S
     mount.into_table().abandon().into_files()
 }
 
+/// The commit of two files, to which nothing was done.
+fn two_files(rt: &impl Abort, alloc: Global) -> Ground {
+    let commit = Commit::two_files(alloc).expect(rt, "a commit");
+    Ground::over(rt, alloc, commit)
+}
+
 /// The files that are left where the device stops once so many calls passed.
 fn stopped(rt: &impl Abort, ground: &mut Ground, calls: u64) -> Stored {
     let mut mount = match fresh(rt, ground, calls) {
@@ -129,14 +134,14 @@ fn stopped(rt: &impl Abort, ground: &mut Ground, calls: u64) -> Stored {
 }
 
 fn check_stop(rt: &impl Abort, alloc: Global, calls: u64) {
-    let mut ground = Ground::over(rt, alloc, Commit::two_files(rt, alloc));
+    let mut ground = two_files(rt, alloc);
     let files = stopped(rt, &mut ground, calls);
     show_same(rt, &mut ground, Opening::Rescan, files);
 }
 
 /// The device stops once so many calls passed, and works again for the next request.
 fn check_mend(rt: &impl Abort, alloc: Global, calls: u64) {
-    let mut ground = Ground::over(rt, alloc, Commit::two_files(rt, alloc));
+    let mut ground = two_files(rt, alloc);
     if let Ok(mut mount) = fresh(rt, &ground, calls) {
         change(rt, &mut ground, &mut mount, Device::Mended);
         let files = close(rt, alloc, mount.into_table(), &ground.calls);
@@ -146,7 +151,7 @@ fn check_mend(rt: &impl Abort, alloc: Global, calls: u64) {
 
 /// How many calls all changes take.
 fn all_calls(rt: &impl Abort, alloc: Global) -> u64 {
-    let mut ground = Ground::over(rt, alloc, Commit::two_files(rt, alloc));
+    let mut ground = two_files(rt, alloc);
     let mount = fresh(rt, &ground, u64::MAX);
     let mut mount = mount.ok().expect(rt, "a mount");
     assert!(rt; change(rt, &mut ground, &mut mount, Device::Stopped).is_none());

@@ -6,10 +6,10 @@ use crate::mounts::{Settings, Stored, allow, close, open};
 use crate::shown::show_same;
 use crate::waits::PASSES;
 use eden_checkout::{OpenFault, Opening};
-use eden_model::{Entry, Reply};
+use eden_model::Entry;
 use eden_oracle::WholeTree;
 use eden_overlay::{Files, MemoryFiles};
-use eden_random::is_same;
+use eden_random::replays;
 use eden_samples::random;
 use std::alloc::Global;
 use std::process::Abort;
@@ -69,12 +69,8 @@ fn live(rt: &impl Abort, ground: &mut Ground, life: &mut Life, seed: &mut u64, t
 /// One entry: its reply is the oracle's, or a fault, which changes nothing.
 fn replay_one(rt: &impl Abort, alloc: Global, tree: &mut WholeTree, entry: &Entry) {
     assert!(rt; 1 <= entry.pass && entry.pass <= PASSES);
-    if matches!(entry.reply, Reply::Fault(_)) {
-        return;
-    }
-    let step = tree.step(alloc, &entry.request);
-    let want = step.expect(rt, "memory").expect(rt, "a reply");
-    assert!(rt; is_same(&entry.reply, &want), "{entry:?}: not {want:?}");
+    let is_replayed = replays(alloc, tree, entry).expect(rt, "memory");
+    assert!(rt; is_replayed, "{entry:?}");
 }
 
 /// The whole history, from the tree that the mount opened with.
@@ -91,7 +87,7 @@ fn replay(rt: &impl Abort, ground: &Ground, life: &Life, tree: &mut WholeTree) {
 fn abandoned(rt: &impl Abort, ground: &Ground, mut files: Stored) {
     let numbers = files.list(ground.alloc).expect(rt, "numbers");
     let settings = Settings {
-        root: ground.commit.root(rt),
+        root: ground.commit.root(),
         opening: Opening::Closed,
         objects: 1,
         history: 1,
@@ -142,7 +138,7 @@ fn live_once(
 /// A random commit, and a few mounts of it, one after another over the same files.
 fn run(rt: &impl Abort, alloc: Global, seed: &mut u64, tally: &mut Tally) {
     let mut ground = Ground::new(rt, alloc, seed);
-    let mut replayed = ground.commit.whole(rt, alloc);
+    let mut replayed = ground.commit.whole(alloc).expect(rt, "a tree");
     let mut left = Some(MemoryFiles::new(alloc));
     for _ in 0..MOST_LIVES {
         if let Some(files) = left.take() {

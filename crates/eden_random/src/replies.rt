@@ -1,4 +1,6 @@
-use eden_model::{Kind, Name, Reply};
+use eden_model::{Entry, Fault, Kind, Name, Reply};
+use eden_oracle::WholeTree;
+use std::alloc::{AllocError, Global};
 
 fn are_same(one: &[(Name, Kind)], other: &[(Name, Kind)]) -> bool {
     for ((name, kind), (there, wanted)) in one.iter().zip(other) {
@@ -23,5 +25,24 @@ pub fn is_same(one: &Reply, other: &Reply) -> bool {
         (Reply::Err(errno), Reply::Err(wanted)) => errno == wanted,
         (Reply::Fault(fault), Reply::Fault(wanted)) => fault == wanted,
         _ => false,
+    }
+}
+
+/// Whether a look's reply is what the oracle says. Where it says nothing, an object can't be had.
+pub fn is_seen(reply: &Reply, want: &Option<Reply>) -> bool {
+    match want {
+        Some(want) => is_same(reply, want),
+        None => matches!(reply, Reply::Fault(Fault::Fetch(_, _))),
+    }
+}
+
+/// Whether an entry's reply is the oracle's, whose tree goes on by it; or a fault, which changes nothing.
+pub fn replays(alloc: Global, tree: &mut WholeTree, entry: &Entry) -> Result<bool, AllocError> {
+    if matches!(entry.reply, Reply::Fault(_)) {
+        return Ok(true);
+    }
+    match tree.step(alloc, &entry.request)? {
+        Some(want) => Ok(is_same(&entry.reply, &want)),
+        None => Ok(false),
     }
 }

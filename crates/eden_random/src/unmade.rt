@@ -8,6 +8,8 @@ pub enum Unmade {
     NoMemory,
     /// These bytes are no name, or these names no path.
     NoName(Errno),
+    /// These entries are no tree.
+    NoTree,
 }
 
 impl From<AllocError> for Unmade {

@@ -6,7 +6,7 @@ ghost use Rattle.eden_shared.specs.Opening.{AreTied};
 use crate::mounts::shelf::Shelf;
 use crate::mounts::{bytes, key, mount, read, root};
 use eden_model::{CallFault, Outside, Reply, Request};
-use eden_shared::{Naming, Pass, Shared, Ties};
+use eden_shared::{Fetched, Naming, Pass, Shared, Ties};
 use eden_source::MemorySource;
 use std::alloc::Global;
 use std::marker::Brand;
@@ -39,8 +39,13 @@ fn ask_root<J: Naming, R: Wait + Abort>(
     Ok(told.number)
 }
 
-/// A pass that learnt a number of which the history knows nothing is told so; another is served until the mount is
-/// stopped.
+/// The sixth entry is awaited of a history of that length.
+fn awaits_more(length: u32) -> Result<u32, CallFault> {
+    Err(CallFault::Foreign { floor: 6, length })
+}
+
+/// A pass that learnt a number of which the history knows nothing is told so, as long as it is so short; another is
+/// served until the mount is stopped.
 fn learn<J: Naming, R: Wait + Abort>(rt: &R, alloc: Global, ties: Ties)
     requires ties { AreTied ties.lanes.items ties.ends.items 3 }
     requires names { names_of ties.lanes.items ≡ J.names }
@@ -52,15 +57,9 @@ fn learn<J: Naming, R: Wait + Abort>(rt: &R, alloc: Global, ties: Ties)
     };
     second.learn(5);
     assert!(rt; second.floor() == 6);
-    let foreign = ask_root(rt, alloc, &shared, &mut second);
-    assert!(rt;
-        foreign
-            == Err(CallFault::Foreign {
-                floor: 6,
-                length: 0
-            })
-    );
+    assert!(rt; ask_root(rt, alloc, &shared, &mut second) == awaits_more(0));
     assert!(rt; ask_root(rt, alloc, &shared, &mut first) == Ok(1));
+    assert!(rt; ask_root(rt, alloc, &shared, &mut second) == awaits_more(1));
     shared.stop(rt);
     assert!(rt; ask_root(rt, alloc, &shared, &mut first) == Err(CallFault::Stopped));
     assert!(rt; first.told().len() == 1 && first.floor() == 2);
@@ -75,6 +74,33 @@ fn entries<J: Naming>(shared: Held<J>, passes: Vec<Pass<J>>) -> Option<usize> {
     match shared.finish(passes) {
         Ok(mount) => Some(mount.history().len()),
         Err(_) => None,
+    }
+}
+
+/// Nothing is fetched that nobody waits for. Where one pass was dropped and another is kept, mount and pass come back
+/// as they were.
+fn tear<J: Naming, R: Wait + Abort>(rt: &R, alloc: Global, ties: Ties)
+    requires ties { AreTied ties.lanes.items ties.ends.items 3 }
+    requires names { names_of ties.lanes.items ≡ J.names }
+{
+    let (shared, mut passes) = open::<J>(rt, alloc, ties);
+    let kept = passes.pop().expect(rt, "a pass");
+    drop(passes.pop());
+    let mut first = passes.pop().expect(rt, "a pass");
+    assert!(rt; ask_root(rt, alloc, &shared, &mut first) == Ok(1));
+    let fetched = shared.fetch_one(rt, &mut MemorySource::<Outside>::new(alloc));
+    assert!(rt; fetched == Fetched::Nothing);
+    passes.push(first).expect(rt, "memory");
+    let torn = shared.finish(passes).err().expect(rt, "no whole mount");
+    assert!(rt; torn.mount.history().len() == 1 && torn.passes.len() == 1);
+    assert!(rt; is_told(torn.passes.first(), 1) && is_told(Some(&kept), 0));
+}
+
+/// Whether there is the pass, and it was told of so many calls.
+fn is_told<J: Naming>(pass: Option<&Pass<J>>, count: usize) -> bool {
+    match pass {
+        Some(pass) => pass.told().len() == count,
+        None => false,
     }
 }
 
@@ -147,6 +173,13 @@ fn race<J: Naming + Send + Sync, R: Threads + Wait + Abort + Sync>(
 fn a_learnt_number_is_awaited(rt: HostRuntime) -> Result<(), Fail> {
     let ties = Ties::new(rt.alloc(), 3)?;
     learn::<Brand, HostRuntime>(&rt, rt.alloc(), ties);
+    Ok(())
+}
+
+#[test]
+fn a_missing_pass_tears_the_end(rt: HostRuntime) -> Result<(), Fail> {
+    let ties = Ties::new(rt.alloc(), 3)?;
+    tear::<Brand, HostRuntime>(&rt, rt.alloc(), ties);
     Ok(())
 }
 
