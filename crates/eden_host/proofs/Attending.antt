@@ -1,0 +1,44 @@
+-- What stays of a pass through its session.
+use Rattle.std.proofs.Common.{◌≡◌, ◌<◌, List, [], ◌∷◌, ◌++◌, length, Option, Some, None, Result, Ok, Err, inl, inr, refl, sym, ap, ◌∙◌, arith}
+use Rattle.std.specs.Prelude.{⊤}
+use Rattle.eden_model.specs.declared.fault.CallFault.{CallFault}
+use Rattle.eden_model.specs.declared.request.Request.{Request}
+use Rattle.eden_model.specs.declared.reply.Reply.{Reply}
+use Rattle.eden_model.specs.Trees.{Tree}
+use Rattle.eden_shared.specs.Passes.{Carried}
+use Rattle.eden_wire.specs.declared.request.Item.{Item}
+use Rattle.eden_wire.specs.declared.request.Item.TheVariants.{Asks, Refuses, Bad}
+use Rattle.eden_wire.specs.declared.session_fault.SessionFault.{SessionFault}
+use Rattle.eden_wire.specs.Serving.{Known, Session, Serves}
+use Rattle.eden_host.specs.Guests.{GuestAnswers}
+use Rattle.eden_host.specs.Sessions.{AreAttended, IsAttended, first_fault}
+use Rattle.eden_host.specs.declared.fault.HostFault.{HostFault}
+use Rattle.eden_host.specs.declared.fault.HostFault.TheVariants.{Listen}
+
+module _ (honest : Type 0) (opening : Tree) where
+  number_stays : (p p' : Carried) (q : Request) (a : Result Reply CallFault) → GuestAnswers honest opening p q a p' → p'.number ≡ p.number
+  number_stays p p' q (Ok reply) answers = ap (λ (x : Carried). x.number) answers.0.is
+  number_stays p p' q (Err fault) answers = ap (λ (x : Carried). x.number) answers.1
+
+  numbers_stay : (items : List Item) (given : List (Option (Result Reply CallFault))) (p p' : Carried) → Serves (GuestAnswers honest opening) p items given p' → p'.number ≡ p.number
+  numbers_stay [] [] p p' h = ap (λ (x : Carried). x.number) (sym h)
+  numbers_stay [] (a ∷ given) p p' h = absurd h
+  numbers_stay (Asks q ∷ items) [] p p' h = absurd h
+  numbers_stay (Asks q ∷ items) (None ∷ given) p p' h = numbers_stay items given p p' h
+  numbers_stay (Asks q ∷ items) (Some a ∷ given) p p' h = numbers_stay items given h.0 p' h.2 ∙ number_stays p h.0 q a h.1
+  numbers_stay (Refuses r ∷ items) given p p' h = numbers_stay items given p p' h
+  numbers_stay (Bad ∷ items) given p p' h = numbers_stay items given p p' h
+
+  -- a session over a guest was its pass's
+  pub attended : (p p' : Carried) (input output : Known × Known) (said : Result ⊤ SessionFault) → Session (GuestAnswers honest opening) (p, p') input output said → IsAttended honest opening p p' said
+  attended p p' input output said s =
+      record { number = numbers_stay (s.items ++ s.last) s.given p p' s.served; input = input; output = output; session = s }
+
+  -- nobody could connect any more
+  pub unattended : (ps : List Carried) → 0 < length ps → AreAttended honest opening ps ps (Err Listen)
+  unattended [] some = absurd (omega (arith, some))
+  unattended (p ∷ ps) some = inr (refl, refl, refl)
+
+  -- one session, and those after it
+  pub attended_more : (p p' : Carried) (ps ps' : List Carried) (said : Result ⊤ SessionFault) (later : Result ⊤ HostFault) → IsAttended honest opening p p' said → AreAttended honest opening ps ps' later → AreAttended honest opening (p ∷ ps) (p' ∷ ps') (first_fault said later)
+  attended_more p p' ps ps' said later first rest = inl (said, later, first, rest, refl)

@@ -1,0 +1,4 @@
+pub mod Learning
+pub mod Attending
+pub mod Gathering
+pub mod Beginning

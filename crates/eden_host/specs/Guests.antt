@@ -1,0 +1,35 @@
+-- What a session is told of a guest's requests.
+use Rattle.std.specs.Prelude.{◌≡◌, ◌+◌, ◌-◌, List, length, slice_get, Some, Result, Ok, Err}
+use Rattle.std.specs.List.{AllByRecursion}
+use Rattle.eden_model.specs.declared.fault.CallFault.{CallFault}
+use Rattle.eden_model.specs.declared.fault.CallFault.TheVariants.{Start, Foreign, Stopped}
+use Rattle.eden_model.specs.declared.request.Request.{Request}
+use Rattle.eden_model.specs.declared.reply.Reply.{Reply}
+use Rattle.eden_model.specs.Trees.{Tree}
+use Rattle.eden_shared.specs.declared.account.Told.{Told}
+use Rattle.eden_shared.specs.Calls.{Grows, IsRefusal, last_told}
+use Rattle.eden_shared.specs.Passes.{Carried}
+
+-- the pass waits for no number but those that it was told
+abbrev pub HasLearntNothing : Carried → Type 0
+HasLearntNothing p = p.floor ≡ last_told p.told + 1
+
+-- .. and so each of these
+pub record HaveLearntNothing (passes : List Carried) : Type 0 where
+  pub each : AllByRecursion HasLearntNothing passes
+
+-- why a request isn't taken: the history is full, there is no memory, or the mount was stopped; the guest is never foreign
+abbrev pub IsTurnedAway : CallFault → Type 0
+IsTurnedAway (Start why) = IsRefusal why
+IsTurnedAway (Foreign floor length) = ⊥
+IsTurnedAway Stopped = Unit {0}
+
+-- the reply that was told last
+abbrev pub last_reply : List Told → Reply → Type 0
+last_reply ts r = (t : Told) × (slice_get ts (length ts - 1) ≡ Some t) × (r ≡ t.reply)
+
+module _ (honest : Type 0) (opening : Tree) where
+  -- the pass was told of one call more, and its reply is the answer; or the request wasn't taken, and nothing changed
+  abbrev pub GuestAnswers : Carried → Request → Result Reply CallFault → Carried → Type 0
+  GuestAnswers old q (Ok reply) new = Grows honest opening old q new × last_reply new.told reply
+  GuestAnswers old q (Err fault) new = IsTurnedAway fault × (new ≡ old)

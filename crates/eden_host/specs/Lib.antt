@@ -1,0 +1,3 @@
+pub mod Guests
+pub mod Sessions
+pub mod Sharing

@@ -1,0 +1,39 @@
+-- What guests' sessions make of their passes.
+use Rattle.std.specs.Prelude.{◌≡◌, ◌⊎◌, List, [], ◌∷◌, Result, Ok, Err, ⊤}
+use Rattle.eden_model.specs.Trees.{Tree}
+use Rattle.eden_shared.specs.Passes.{Carried}
+use Rattle.eden_wire.specs.declared.session_fault.SessionFault.{SessionFault}
+use Rattle.eden_wire.specs.declared.session_fault.SessionFault.TheVariants.{Memory}
+use Rattle.eden_wire.specs.Serving.{Known, Session}
+use Rattle.eden_host.specs.declared.fault.HostFault.{HostFault}
+use Rattle.eden_host.specs.declared.fault.HostFault.TheVariants as host
+use Rattle.eden_host.specs.Guests.{GuestAnswers}
+
+-- the fault of listening is told before that of a session, and that of a session before those of later ones
+abbrev pub first_fault : Result ⊤ SessionFault → Result ⊤ HostFault → Result ⊤ HostFault
+first_fault said (Err host.Listen) = Err host.Listen
+first_fault (Err fault) (Err (host.Session later)) = Err (host.Session fault)
+first_fault (Ok _) (Err (host.Session later)) = Err (host.Session later)
+first_fault (Err fault) (Ok _) = Err (host.Session fault)
+first_fault (Ok _) (Ok _) = Ok tt
+
+module _ (honest : Type 0) (opening : Tree) where
+  -- a session was served with the pass, over some input and output, and ended so
+  pub record IsAttended (p p' : Carried) (said : Result ⊤ SessionFault) : Type 0 where
+    pub number : p'.number ≡ p.number
+    pub input : Known × Known
+    pub output : Known × Known
+    pub session : Session (GuestAnswers honest opening) (p, p') input output said
+
+  -- each pass in turn had a session, and the first fault is told; or from one on they stayed as they were, since
+  -- listening failed
+  abbrev pub AreAttended : List Carried → List Carried → Result ⊤ HostFault → Type 0
+  AreAttended [] [] outcome = outcome ≡ Ok tt
+  AreAttended [] (p' ∷ ps') outcome = ⊥
+  AreAttended (p ∷ ps) [] outcome = ⊥
+  AreAttended (p ∷ ps) (p' ∷ ps') outcome =
+      ((said : Result ⊤ SessionFault) × (later : Result ⊤ HostFault) × IsAttended p p' said × AreAttended ps ps' later × (outcome ≡ first_fault said later)) ⊎ ((p' ≡ p) × (ps' ≡ ps) × (outcome ≡ Err host.Listen))
+
+  -- .. or no session began, for want of memory
+  abbrev pub AreHosted : List Carried → List Carried → Result ⊤ HostFault → Type 0
+  AreHosted ps ps' outcome = AreAttended ps ps' outcome ⊎ ((ps' ≡ ps) × (outcome ≡ Err (host.Session Memory)))

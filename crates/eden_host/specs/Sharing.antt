@@ -1,0 +1,27 @@
+-- What is left of a mount that was shared.
+use Rattle.std.specs.Prelude.{◌≡◌, ℕ, List, Result, ⊤}
+use Rattle.eden_model.specs.Histories.{Legal, replay}
+use Rattle.eden_model.specs.Trees.{Tree}
+use Rattle.eden_mount.specs.Core.{Core}
+use Rattle.eden_mount.specs.Tables.{Table}
+use Rattle.eden_shared.specs.Passes.{Agrees, Carried, newcomers}
+use Rattle.eden_host.specs.declared.fault.HostFault.{HostFault}
+use Rattle.eden_host.specs.declared.sharing.HostedTable.{HostedTable}
+use Rattle.eden_host.specs.Sessions.{AreHosted}
+
+module _ {T : Type 0} (A : Table T) (honest : Type 0) (opening : Tree) where
+  -- What is left of a mount that was shared: guests were hosted with these passes, and the mount's history is what they were
+  -- told. Nothing is pending. Where the outside is honest, the history is one of the opening tree, and the table shows the
+  -- tree after it.
+  pub record IsLeft (passes : List Carried) (outcome : Result ⊤ HostFault) (ended : Core T) : Type 0 where
+    pub left : List Carried
+    pub hosted : AreHosted honest opening passes left outcome
+    pub agrees : Agrees ended left
+    pub legal : honest → Legal opening ended.history
+    pub shown : honest → A.shown ended.table ≡ replay opening ended.history
+
+  -- the guests of a mount of so many passes were hosted
+  pub record HostsTable (passes : ℕ) (x : HostedTable T) : Type 0 where
+    pub ended : Core T
+    pub is : IsLeft (newcomers 1 passes) x.outcome ended
+    pub table : x.table ≡ ended.table

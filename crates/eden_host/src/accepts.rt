@@ -1,0 +1,7 @@
+use std::io::{Read, Write};
+
+/// Where connections come from.
+pub trait Accepts<I: Read, O: Write> {
+    /// Waits for the next connection: what its client says, and where it is answered. None where listening failed.
+    fn accept(&mut self) -> Option<(I, O)>;
+}

@@ -1,0 +1,127 @@
+//! One of the callers of a shared mount.
+ghost use Rattle.std.specs.Prelude.{◌≡◌, ◌<◌, length, MatchResult};
+ghost use Rattle.eden_host.specs.Guests.{HasLearntNothing, IsTurnedAway, last_reply};
+ghost use Rattle.eden_shared.specs.Calls.{Grows};
+
+use crate::unloading::Unloading;
+use eden_model::{CallFault, Path, Reply, Request, World};
+use eden_mount::Attempts;
+use eden_shared::{Naming, Pass, Shared};
+use eden_wire::Service;
+use std::alloc::{Allocator, Global};
+use std::marker::Model;
+use std::sync::Wait;
+
+/// A caller of a shared mount, whose requests a session answers. Its pass learns no numbers of other callers.
+///
+/// Contracts see what the pass carries.
+#[derive(Drop)]
+pub struct Guest<'a, W: World, T: Attempts<W> + Drop, A: Allocator, J: Naming, R: Wait> {
+    rt: &'a R,
+    shared: &'a Shared<W, T, A, J>,
+    pass: Pass<J>,
+    unloading: Unloading,
+    root: Path,
+    // how many requests were served since directories were last let go
+    served: u32,
+}
+
+impl<'a, W: World, T: Attempts<W> + Drop, A: Allocator, J: Naming, R: Wait> Model
+    for Guest<'a, W, T, A, J, R> {
+    ghost use Rattle.eden_host.specs.Guests.{HasLearntNothing};
+    ghost use Rattle.eden_shared.specs.Passes.{Carried};
+
+    ghost Value = { Carried };
+
+    ghost view = { λ g. g.pass };
+
+    ghost invariant = { λ g. HasLearntNothing g.pass };
+}
+
+impl<'a, W: World, T: Attempts<W> + Drop, A: Allocator, J: Naming, R: Wait> Guest<
+    'a,
+    W,
+    T,
+    A,
+    J,
+    R,
+> {
+    /// Over a shared mount, with one of its passes. It takes no memory.
+    pub fn new(
+        rt: &'a R,
+        alloc: Global,
+        shared: &'a Shared<W, T, A, J>,
+        pass: Pass<J>,
+        unloading: Unloading,
+    ) -> Self
+        requires { HasLearntNothing pass }
+        ensures { result ≡ pass }
+    {
+        Guest {
+            rt,
+            shared,
+            pass,
+            unloading,
+            root: Path::new(Vec::new(alloc)).unwrap(),
+            served: 0,
+        }
+    }
+
+    /// Gives the pass back.
+    pub fn into_pass(self) -> Pass<J>
+        ensures same { result ≡ self.entry }
+        ensures learnt { HasLearntNothing result }
+    {
+        let Guest { pass, .. } = self;
+        pass
+    }
+
+    /// Asks a request, and waits for its reply; or the pass stays as it was.
+    fn ask(&mut self, request: Request) -> Result<(), CallFault>
+        ensures { MatchResult result (λ _. Grows W.honest W.opening self.old request self.new)
+            (λ fault. IsTurnedAway fault × (self.new ≡ self.old)) }
+    {
+        match self.pass.call(self.shared, self.rt, request) {
+            Ok(_) => Ok(()),
+            Err(fault) => Err(fault),
+        }
+    }
+
+    /// Counts a request that was served, and lets go of directories where it is time to.
+    fn unload(&mut self)
+        ensures { self.new ≡ self.old }
+    {
+        self.served = self.served.saturating_add(1);
+        if self.served < self.unloading.every {
+            return;
+        }
+        self.served = 0;
+        self.shared.unload(self.rt, &self.root, self.unloading.age);
+    }
+
+    /// What the pass was told last.
+    fn reply(&self) -> &Reply
+        requires { 0 < length self.now.told }
+        ensures { last_reply self.now.told result.now }
+    {
+        let told = self.pass.told();
+        &told[told.len() - 1].reply
+    }
+}
+
+impl<'a, W: World, T: Attempts<W> + Drop, A: Allocator, J: Naming, R: Wait> Service
+    for Guest<'a, W, T, A, J, R> {
+    ghost use Rattle.eden_host.specs.Guests.{GuestAnswers};
+
+    ghost answers = { GuestAnswers W.honest W.opening };
+
+    fn call(&mut self, request: Request) -> Result<&Reply, CallFault> {
+        match self.ask(request) {
+            Err(fault) => Err(fault),
+            Ok(()) => {
+                self.unload();
+                Ok(self.reply())
+            }
+        }
+    }
+}

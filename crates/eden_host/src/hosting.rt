@@ -1,0 +1,185 @@
+//! A shared mount served to as many connections as it has passes.
+ghost use Rattle.std.specs.Prelude.{◌≡◌, Bool, List, length, IfOk, IsOk, MatchResult};
+ghost use Rattle.std.specs.Thread.{IsSync};
+ghost use denote.Param.Send.{Frees, IsSend};
+ghost use Rattle.eden_model.specs.Histories.{Legal};
+ghost use Rattle.eden_shared.specs.Passes.{Agrees, AreEach, Carried, newcomers};
+ghost use Rattle.eden_host.specs.Guests.{HaveLearntNothing};
+ghost use Rattle.eden_host.specs.Sessions.{AreHosted};
+
+use crate::accepts::Accepts;
+use crate::attend::attend_all;
+use crate::fault::HostFault;
+use crate::unloading::Unloading;
+use eden_model::World;
+use eden_mount::{Attempts, Mount};
+use eden_shared::{Naming, Pass, Shared, Torn};
+use eden_source::Source;
+use eden_wire::SessionFault;
+use std::alloc::{Allocator, Global};
+use std::io::{Read, Write};
+use std::marker::{Send, Sync};
+use std::sync::Wait;
+use std::thread::{self, Threads};
+
+/// What is left of a mount that was served to many.
+#[derive(Drop)]
+pub struct Hosted<W: World, T: Attempts<W> + Drop, A: Allocator, J: Naming> {
+    /// The mount, with nothing pending, where the passes were those of the shared mount.
+    pub mount: Result<Mount<W, T, A>, Torn<W, T, A, J>>,
+    /// The first fault of listening or of a session.
+    pub outcome: Result<(), HostFault>,
+}
+
+/// Fetches from each source in a thread of its own, where one can be made, until nothing will be wanted any more.
+fn fetch_from_all<
+    W: World + Send,
+    T: Attempts<W> + Send + Drop,
+    A: Allocator + Send,
+    J: Naming + Send,
+    S: Source<W> + Send + Drop,
+    R: Threads + Wait + Sync,
+>(rt: &R, shared: &Shared<W, T, A, J>, sources: Vec<S>) {
+    let mut sources = sources;
+    let threads = sources.len().max(1);
+    thread::for_each_mut(
+        rt,
+        sources.as_mut_slice(),
+        threads,
+        &|_, source: &mut S| shared.fetch_all(rt, source),
+    );
+}
+
+/// Passes that were told nothing learnt nothing.
+fn begin<J: Naming>(passes: &Vec<Pass<J>>)
+    requires { passes.now.items ≡ newcomers 1 (length J.names) }
+    ensures learnt { HaveLearntNothing passes.now.items }
+    ensures each { AreEach passes.now.items (length J.names) }
+{}
+
+/// Serves a shared mount: a connection and a thread for each pass, and a fetcher for each source.
+///
+/// A client that sends nothing, never reads or goes away costs its own session alone. After the last session the mount is
+/// stopped, the fetchers end, and the mount comes back, as its passes were told. Where no thread can be made for the
+/// fetchers, no session begins, and the outcome is want of memory.
+pub fn host<
+    W: World + Send,
+    T: Attempts<W> + Send + Drop,
+    A: Allocator + Send,
+    J: Naming + Send,
+    S: Source<W> + Send + Drop,
+    I: Read + Send + Drop,
+    O: Write + Send + Drop,
+    L: Accepts<I, O> + Drop,
+    R: Threads + Wait + Sync,
+>(
+    rt: &R,
+    alloc: Global,
+    listener: L,
+    shared: Shared<W, T, A, J>,
+    passes: Vec<Pass<J>>,
+    sources: Vec<S>,
+    unloading: Unloading,
+) -> Hosted<W, T, A, J>
+    requires passes { passes.items ≡ newcomers 1 (length J.names) }
+    ensures told { (left : List Carried) × AreHosted W.honest W.opening passes.items left result.outcome × IfOk result.mount (λ m. Agrees m left) }
+    ensures whole { IsOk result.mount }
+    ensures legal { W.honest → MatchResult result.mount (λ m. Legal W.opening m.history) (λ t. Legal W.opening t.mount.history) }
+{
+    begin(&passes);
+    let served = serve_all(rt, alloc, listener, &shared, passes, sources, unloading);
+    let (passes, outcome) = served;
+    Hosted {
+        mount: shared.finish(passes),
+        outcome,
+    }
+}
+
+/// Serves the sessions, where somebody fetches for them; else none begins.
+fn attend_fetched<
+    W: World + Send,
+    T: Attempts<W> + Send + Drop,
+    A: Allocator + Send,
+    J: Naming + Send,
+    I: Read + Send + Drop,
+    O: Write + Send + Drop,
+    L: Accepts<I, O> + Drop,
+    R: Threads + Wait + Sync,
+>(
+    rt: &R,
+    alloc: Global,
+    shared: &Shared<W, T, A, J>,
+    listener: L,
+    passes: Vec<Pass<J>>,
+    unloading: Unloading,
+    fetched: bool,
+) -> (Vec<Pass<J>>, Result<(), HostFault>)
+    requires learnt { HaveLearntNothing passes.items }
+    ensures { AreHosted W.honest W.opening passes.items result.0.items result.1 }
+{
+    if !fetched {
+        return (passes, Err(HostFault::Session(SessionFault::Memory)));
+    }
+    attend_all(rt, alloc, shared, listener, passes, unloading)
+}
+
+/// Serves the sessions beside the fetchers, and then stops these. The sessions are told whether somebody fetches.
+fn beside_fetchers<
+    W: World + Send,
+    T: Attempts<W> + Send + Drop,
+    A: Allocator + Send,
+    J: Naming + Send,
+    S: Source<W> + Send + Drop,
+    R: Threads + Wait + Sync,
+    X,
+    G: FnOnce(bool) -> X,
+>(rt: &R, shared: &Shared<W, T, A, J>, sources: Vec<S>, sessions: G) -> X
+    requires { (b : Bool) → G.pre sessions b }
+    ensures { (b : Bool) × G.post sessions b result }
+{
+    thread::scope(
+        thread::scope_env(),
+        rt,
+        move |scope| -> X
+            requires { IsSync R.row × IsSend W.row × IsSend T.row × IsSend A.row × IsSend J.row × IsSend S.row × Frees A.Allocator A.dealloc_token × ((b : Bool) → G.pre sessions b) }
+            ensures { (b : Bool) × G.post sessions b result }
+        {
+            let fetched = scope
+                .spawn(move || fetch_from_all(rt, shared, sources))
+                .is_ok();
+            let served = sessions(fetched);
+            shared.stop(rt);
+            served
+        },
+    )
+}
+
+/// Serves the sessions of all guests.
+fn serve_all<
+    W: World + Send,
+    T: Attempts<W> + Send + Drop,
+    A: Allocator + Send,
+    J: Naming + Send,
+    S: Source<W> + Send + Drop,
+    I: Read + Send + Drop,
+    O: Write + Send + Drop,
+    L: Accepts<I, O> + Drop,
+    R: Threads + Wait + Sync,
+>(
+    rt: &R,
+    alloc: Global,
+    listener: L,
+    shared: &Shared<W, T, A, J>,
+    passes: Vec<Pass<J>>,
+    sources: Vec<S>,
+    unloading: Unloading,
+) -> (Vec<Pass<J>>, Result<(), HostFault>)
+    requires learnt { HaveLearntNothing passes.items }
+    ensures passes { AreHosted W.honest W.opening passes.items result.0.items result.1 }
+{
+    let sessions = move |fetched: bool| -> (Vec<Pass<J>>, Result<(), HostFault>)
+        requires { IsSync R.row × IsSend W.row × IsSend T.row × IsSend A.row × IsSend J.row × IsSend I.row × IsSend O.row × Frees A.Allocator A.dealloc_token × HaveLearntNothing passes.items }
+        ensures { AreHosted W.honest W.opening passes.items result.0.items result.1 }
+    { attend_fetched(rt, alloc, shared, listener, passes, unloading, fetched) };
+    beside_fetchers(rt, shared, sources, sessions)
+}

@@ -1,0 +1,73 @@
+//! Connections on a port of this machine.
+use crate::accepts::Accepts;
+use std::io::{self, ErrorKind, Print};
+use std::net::{Ipv4Addr, Net, OpenListener, OpenStream, SocketAddr, TcpListener};
+
+/// A port of 127.0.0.1, which is bound at the first `accept`: until then nobody can connect.
+///
+/// Each connection is answered as two handles of one stream, and is closed once both are dropped.
+#[derive(Drop)]
+pub struct Port<R: Net + Print + Drop> {
+    rt: R,
+    number: u16,
+    listener: Option<R::Listener>,
+}
+
+impl<R: Net + Print + Drop> Port<R> {
+    /// The port of this number, or for 0 one that the machine chooses.
+    pub fn new(rt: R, number: u16) -> Port<R> {
+        Port {
+            rt,
+            number,
+            listener: None,
+        }
+    }
+
+    /// Binds the port, and tells on standard output which it is.
+    fn bind(&self) -> io::Result<R::Listener> {
+        let address = SocketAddr::from((Ipv4Addr::LOCALHOST, self.number));
+        let listener = TcpListener::bind(&self.rt, address)?;
+        let number = listener.local_addr()?.port();
+        println!(self.rt; "listening 127.0.0.1:{number}")?;
+        Ok(listener)
+    }
+}
+
+/// The next connection. One that its client gave up before it was taken is passed over.
+fn next_stream<L: OpenListener>(listener: &L) -> io::Result<L::Stream> {
+    for stream in listener.incoming() {
+        match stream {
+            Err(error) if is_passing(error.kind()) => {}
+            other => return other,
+        }
+    }
+    Err(io::Error::from(ErrorKind::TimedOut))
+}
+
+/// Whether an `accept` that failed so says nothing of the next.
+fn is_passing(kind: ErrorKind) -> bool {
+    matches!(kind, ErrorKind::ConnectionAborted | ErrorKind::Interrupted)
+}
+
+/// Two handles of the next connection.
+fn connect<L: OpenListener>(listener: &L) -> io::Result<(L::Stream, L::Stream)>
+where
+    L::Stream: OpenStream,
+{
+    let stream = next_stream(listener)?;
+    // An answer isn't to wait for the peer's word on the one before.
+    let _ = stream.set_nodelay(true);
+    let again = stream.try_clone()?;
+    Ok((stream, again))
+}
+
+impl<R: Net + Print + Drop> Accepts<R::Stream, R::Stream> for Port<R> {
+    /// None where the port can't be bound or told, or no connection can be taken.
+    fn accept(&mut self) -> Option<(R::Stream, R::Stream)> {
+        if self.listener.is_none() {
+            self.listener = Some(self.bind().ok()?);
+        }
+        let listener = self.listener.as_ref()?;
+        connect(listener).ok()
+    }
+}
