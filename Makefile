@@ -20,6 +20,7 @@ test: ## proves everything from nothing, and runs every test; its last line coun
 	tests/exporter
 	tests/overlay-life
 	tests/remote
+	tests/theorem
 	tests/end-to-end
 
 soak: ## a million random requests: the slow oracle beside the second table of operations, attempts beside the slow oracle, and events on mounts
