@@ -32,7 +32,9 @@ module _ (honest : Type 0) (opening : Tree) where
   AreAttended [] (p' ∷ ps') outcome = ⊥
   AreAttended (p ∷ ps) [] outcome = ⊥
   AreAttended (p ∷ ps) (p' ∷ ps') outcome =
-      ((said : Result ⊤ SessionFault) × (later : Result ⊤ HostFault) × IsAttended p p' said × AreAttended ps ps' later × (outcome ≡ first_fault said later)) ⊎ ((p' ≡ p) × (ps' ≡ ps) × (outcome ≡ Err host.Listen))
+      ((said : Result ⊤ SessionFault) × (later : Result ⊤ HostFault) × IsAttended p p' said × AreAttended ps ps' later
+      × (outcome ≡ first_fault said later))
+      ⊎ ((p' ≡ p) × (ps' ≡ ps) × (outcome ≡ Err host.Listen))
 
   -- .. or no session began, for want of memory
   abbrev pub AreHosted : List Carried → List Carried → Result ⊤ HostFault → Type 0
