@@ -20,10 +20,12 @@ test: ## proves everything from nothing, and runs every test; its last line coun
 	tests/exporter
 	tests/overlay-life
 	tests/remote
+	tests/serving
+	tests/mounted
 	tests/theorem
 	tests/end-to-end
 
-soak: ## a million random requests: the slow oracle beside the second table of operations, attempts beside the slow oracle, and events on mounts
+soak: ## a million random requests: the slow oracle beside the second table of operations, attempts beside the slow oracle, and events on mounts; and ten minutes of many clients
 	tests/oracle 1000000
 	scripts/soak-rows
 
@@ -45,6 +47,8 @@ bench: ## times the work that grows with its input, at full size
 	@scripts/build-mountd
 	@scripts/bench-mountd
 	@scripts/bench-remote
+	@scripts/bench-mounted
+	@scripts/bench-serve
 
 fmt: ## lays out every source and proof file
 	@for crate in crates/*/; do (cd $$crate && rt fmt) || exit 1; done

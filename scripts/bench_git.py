@@ -1,10 +1,14 @@
-"""Git for measurements, free of the user's own settings."""
+"""Git for measurements, free of the user's own settings, and a large repository."""
 
 import os
 import subprocess
 
 SETTINGS = ["-c", "user.name=Bench", "-c", "user.email=bench@example.org", "-c", "init.defaultBranch=main",
             "-c", "protocol.file.allow=always", "-c", "advice.detachedHead=false"]
+FILES = 50_000
+FOLDERS = 100
+FOLDERS_IN_A_FOLDER = 25
+DEEP = "d17/e17/f/g/h/deep"
 
 
 def git(repository, *words, data=None):
@@ -12,3 +16,27 @@ def git(repository, *words, data=None):
     done = subprocess.run(["git", *SETTINGS, "-C", str(repository), *words], input=data, capture_output=True, check=True,
                           env=environment)
     return done.stdout.decode().strip()
+
+
+def content_of(path):
+    """What the large repository has at a path."""
+    return f"{path}\n" * 20
+
+
+def make_large_repository(folder):
+    """A repository of FILES files in one pack, 500 below each of FOLDERS folders, and one of them deeper.
+
+    They come by an import stream, so that the working tree is never written.
+    """
+    repository = folder / "large"
+    repository.mkdir()
+    git(repository, "init", "-q")
+    git(repository, "config", "uploadpack.allowFilter", "true")
+    numbers = ((i, *divmod(i // FOLDERS, FOLDERS_IN_A_FOLDER)) for i in range(FILES - 1))
+    paths = [f"d{i % FOLDERS}/e{inner}/{name}" for i, name, inner in numbers] + [DEEP]
+    stream = ["commit refs/heads/main\ncommitter Bench <bench@example.org> 0 +0000\ndata 0\n"]
+    for path in paths:
+        content = content_of(path)
+        stream.append(f"M 100644 inline {path}\ndata {len(content)}\n{content}\n")
+    git(repository, "fast-import", "--quiet", data="".join(stream).encode())
+    return repository

@@ -5,6 +5,7 @@ import subprocess
 
 passed = 0
 failed = 0
+skipped = 0
 
 
 def check(name, got, wanted):
@@ -14,6 +15,13 @@ def check(name, got, wanted):
     else:
         failed += 1
         print(f"FAILED {name}: got {got!r:.300}, wanted {wanted!r:.300}")
+
+
+def skip(name, why):
+    """Says plainly what isn't checked on this machine, and counts it."""
+    global skipped
+    skipped += 1
+    print(f"SKIPPED {name}: {why}")
 
 
 # ---- Git
@@ -80,7 +88,7 @@ def whole_tree(repository):
     return rows
 
 
-def closing_line():
-    """Prints 'N passed, M failed', and gives the status."""
-    print(f"{passed} passed, {failed} failed")
+def closing_line(*more):
+    """Prints 'N passed, M failed' and what else is counted, and gives the status."""
+    print(", ".join([f"{passed} passed", f"{failed} failed", *more]))
     return 1 if failed else 0

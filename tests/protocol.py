@@ -1,16 +1,11 @@
-"""The line protocol, as a client writes it: names, paths and data as fields of a line."""
+"""The fields of a line, spelled by the client library; importing this also lets a test import that whole.
 
-PLAIN = frozenset(b"ABCDEFGHIJKLMNOPQRSTUVWXYZabcdefghijklmnopqrstuvwxyz0123456789._")
+The texts of replies are the tests' own, so that what the program tells is compared with what nobody else reads.
+"""
 
+import pathlib
+import sys
 
-def name_text(name):
-    return b"".join(bytes([b]) if b in PLAIN else b"%%%02X" % b for b in name)
+sys.path.append(str(pathlib.Path(__file__).resolve().parent.parent / "scripts"))
 
-
-def path_text(names):
-    """The text of a path, which is given as its names."""
-    return b"".join(b"/" + name_text(name) for name in names) or b"/"
-
-
-def data_text(data):
-    return data.hex().encode() or b"-"
+from eden_client import data_text, name_text, path_text

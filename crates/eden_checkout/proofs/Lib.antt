@@ -1,3 +1,4 @@
+pub mod CallerLemmas
 pub mod Opened
 pub mod Fresh
 pub mod Stocking

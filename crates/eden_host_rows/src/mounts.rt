@@ -1,6 +1,6 @@
 //! Mounts of checkouts over files in memory, as they are shared, and what their objects come from.
 
-ghost use Rattle.std.specs.Prelude.{◌≡◌, []};
+ghost use Rattle.std.specs.Prelude.{◌≡◌, [], length};
 ghost use Rattle.eden_mount.specs.Serving.{IsAtRest};
 ghost use Rattle.eden_shared.specs.Lanes.{names_of};
 ghost use Rattle.eden_shared.specs.Opening.{AreTied, IsUnused};
@@ -8,15 +8,18 @@ ghost use Rattle.eden_shared.specs.Passes.{newcomers};
 
 use eden_cache::ObjectCache;
 use eden_checkout::Checkout;
+use eden_host::{Accepts, Hosted, Unloading, host};
 use eden_model::{Cause, Id, Outside};
-use eden_mount::{Config, Mount, Room};
+use eden_mount::{Attempts, Config, Mount, Room};
 use eden_overlay::MemoryFiles;
 use eden_random::Commit;
 use eden_shared::{Naming, Pass, Shared, Ties};
 use eden_source::Source;
 use std::alloc::Global;
+use std::io::{Read, Write};
 use std::process::Abort;
 use std::sync::Wait;
+use std::thread::Threads;
 
 pub(crate) type Stored = MemoryFiles<Outside>;
 
@@ -79,11 +82,47 @@ pub(crate) fn open<J: Naming>(
 ) -> (Held<J>, Vec<Pass<J>>)
     requires ties { AreTied ties.lanes.items ties.ends.items size.passes }
     requires names { names_of ties.lanes.items ≡ J.names }
-    ensures { result.1.items ≡ newcomers 1 size.passes }
+    ensures { result.1.items ≡ newcomers 1 (length J.names) }
 {
     let mount = mount(rt, alloc, MemoryFiles::new(alloc), root, size);
     match Held::<J>::open(alloc, mount, ties) {
         Ok(opened) => opened,
+        Err(_) => rt.abort(),
+    }
+}
+
+/// Serves a guest for each pass, whose sessions all end well. The mount then.
+pub(crate) fn serve<
+    J: Naming + Send,
+    S: Source<Outside> + Send + Drop,
+    I: Read + Send + Drop,
+    O: Write + Send + Drop,
+    L: Accepts<I, O> + Drop,
+    R: Threads + Wait + Abort + Sync,
+>(
+    rt: &R,
+    alloc: Global,
+    listener: L,
+    shared: Held<J>,
+    passes: Vec<Pass<J>>,
+    sources: Vec<S>,
+    unloading: Unloading,
+) -> Mounted
+    requires { passes.items ≡ newcomers 1 (length J.names) }
+{
+    let hosted = host(rt, alloc, listener, shared, passes, sources, unloading);
+    let Hosted { mount, outcome } = hosted;
+    assert!(rt; outcome.is_ok());
+    match mount {
+        Ok(mount) => mount,
+        Err(_) => rt.abort(),
+    }
+}
+
+/// The files of a mount whose table is closed.
+pub(crate) fn close(rt: &impl Abort, alloc: Global, mount: Mounted) -> Stored {
+    match mount.into_table().close(alloc) {
+        Ok(files) => files,
         Err(_) => rt.abort(),
     }
 }
@@ -110,6 +149,10 @@ impl<'a> Source<Outside> for Objects<'a> {
 }
 
 /// Fetches the commit's objects until the mount is stopped and nothing is pending.
-pub(crate) fn fetch<J: Naming>(rt: &impl Wait, shared: &Held<J>, commit: &Commit) {
+pub(crate) fn fetch<T: Attempts<Outside> + Drop, J: Naming>(
+    rt: &impl Wait,
+    shared: &Shared<Outside, T, Global, J>,
+    commit: &Commit,
+) {
     shared.fetch_all(rt, &mut Objects { commit });
 }

@@ -1,180 +1,180 @@
 -- Entries under new names, and in other directories.
-use Rattle.std.proofs.Common.{◌≡◌, ◌≢◌, ◌⊎◌, ◌∙◌, ℕ, List, Contains, refl, sym, subst, inl, inr}
-use Rattle.eden_model.specs.declared.kind.Kind.{Kind}
+use Rattle.std.proofs.Common.{◌≡◌, ◌≢◌, ◌⊎◌, ◌∙◌, ℕ, List, Contains, refl, sym, inl, inr}
 use Rattle.eden_overlay_format.specs.declared.stored_entry.StoredEntry.{StoredEntry}
-use Rattle.eden_overlay_format.specs.Directory.{AreStorable}
 use Rattle.eden_overlay.specs.Files.{Stored}
-use Rattle.eden_overlay.specs.Held.{HoldsEntries, with_entries}
-use Rattle.eden_overlay.specs.Soundness.{Names, LeadsOn, Reached, here, below, IsLive, HasOwn, HoldsKind, AreSound}
-use Rattle.eden_overlay.specs.Laws.{NamedFrom, Brings, MayEnter, IsSameInode, RenamedStay, MovedStay}
+use Rattle.eden_overlay.specs.Held.{with_entries}
+use Rattle.eden_overlay.specs.Soundness.{Names, LeadsOn, Reached, here, below, IsLive, HasOwn, AreSound}
+use Rattle.eden_overlay.specs.Laws.{NamedFrom, Brings, MayEnter, IsSameInode, Renames, RenamedStay, Moves, MovedStay}
 use Rattle.eden_overlay.proofs.Directories.{named, kind_kept, top_kept, was_named, was_live, dropped_stay, dropped_unnamed}
 use Rattle.eden_overlay.proofs.Strays.{numbers_from_two}
 use Rattle.eden_overlay.proofs.Cycles.{joined, last, not_to_root, no_cycle}
 use Rattle.eden_overlay.proofs.Entering.{entered_stay}
 
-leads_too : (e f : StoredEntry) → IsSameInode e f → LeadsOn e → LeadsOn f
-leads_too e f same leads = (sym same.kind ∙ leads.0, sym same.origin ∙ leads.1)
+-- ---- one inode under two names
 
-own_too : (F : Stored) (e f : StoredEntry) → IsSameInode e f → HasOwn F f → HasOwn F e
-own_too F e f same has own =
-    let P : ℕ → Type 0 = λ k. HoldsKind F k f.kind in
-    let Q : Kind → Type 0 = λ t. HoldsKind F e.number t in
-    subst Q (sym same.kind) (subst P (sym same.number) (has (sym same.origin ∙ own)))
+-- it leads on under both, and has its own file under both
+leads_too : {e f : StoredEntry} → IsSameInode e f → LeadsOn e → LeadsOn f
+leads_too same leads = (sym same.kind ∙ leads.0, sym same.origin ∙ leads.1)
 
-itself : (e : StoredEntry) → IsSameInode e e
-itself e = record { kind = refl; origin = refl; number = refl }
+own_too : (F : Stored) {e f : StoredEntry} → IsSameInode e f → HasOwn F f → HasOwn F e
+own_too F same has = λ own. rw (same.kind, same.number) (has (sym same.origin ∙ own))
 
 -- ---- new names
 
-module _ (F : Stored) (d : ℕ) (old new : List StoredEntry) (was : HoldsEntries F d old) (are : AreStorable new)
-    (distinct : (e f : StoredEntry) → Contains new e → Contains new f → e.number ≡ f.number → e ≡ f)
-    (each : (e : StoredEntry) → Contains new e → (f : StoredEntry) × (Contains old f × IsSameInode e f)) (s : AreSound F) where
-  -- the inode that c names now was named there before: as itself, or under another name in d
-  record Former (c : ℕ) (e : StoredEntry) : Type 0 where
-    entry : StoredEntry
-    names : Names F c entry
-    same : IsSameInode e entry
-    place : ((d ≡ c) × Contains new e) ⊎ ((d ≢ c) × (e ≡ entry))
+module _ (F : Stored) (d : ℕ) (old new : List StoredEntry) where
+  -- the files afterwards
+  abbrev renamed_files : Stored
+  renamed_files = with_entries F d new
 
-  former : (c : ℕ) (e : StoredEntry) → Names (with_entries F d new) c e → Former c e
-  former c e n = elim (named F d new are c e n) [
-    | inl h ↦
-        (let f = each e h.1 in
-        let P : ℕ → Type 0 = λ q. HoldsEntries F q old in
-        record { entry = f.0; names = record { entries = old; held = subst P h.0 was; there = f.1.0 }; same = f.1.1; place = inl h })
-    | inr h ↦ record { entry = e; names = h.1; same = itself e; place = inr (h.0, refl) }
-  ]
+  module _ (renames : Renames F d old new) (s : AreSound F) where
+    -- the inode that c names now was named there before: as itself, or under another name in d
+    record Former (c : ℕ) (e : StoredEntry) : Type 0 where
+      entry : StoredEntry
+      names : Names F c entry
+      same : IsSameInode e entry
+      place : ((d ≡ c) × Contains new e) ⊎ ((d ≢ c) × (e ≡ entry))
 
-  live_before : (c : ℕ) → IsLive (with_entries F d new) c → IsLive F c
-  live_before c here = here
-  live_before c (below b e r n leads) =
-      let f = former b e n in
-      let P : ℕ → Type 0 = λ q. IsLive F q in
-      subst P (sym f.same.number) (below b f.entry (live_before b r) f.names (leads_too e f.entry f.same leads))
+    former : {c : ℕ} {e : StoredEntry} → Names renamed_files c e → Former c e
+    former {c} {e} n = elim (named F d new renames.are c e n) [
+      | inl changed ↦
+          (let (entry, (there, same)) = renames.each e changed.1 in
+          let names : Names F d entry = record { entries = old; held = renames.held; there = there } in
+          record { entry = entry; names = rw changed.0 at names; same = same; place = inl changed })
+      | inr kept ↦
+          (let itself : IsSameInode e e = record { kind = refl; origin = refl; number = refl } in
+          record { entry = e; names = kept.1; same = itself; place = inr (kept.0, refl) })
+    ]
 
-  one_entry : (c : ℕ) (e f : StoredEntry) (g : Former c e) (h : Former c f) → g.entry ≡ h.entry → e.number ≡ f.number → e ≡ f
-  one_entry c e f g h same is = elim g.place [
-    | inl x ↦ (elim h.place [
-      | inl y ↦ distinct e f x.1 y.1 is
-      | inr y ↦ absurd (y.0 x.0)
-    ])
-    | inr x ↦ (elim h.place [
-      | inl y ↦ absurd (x.0 y.0)
-      | inr y ↦ x.1 ∙ same ∙ sym y.1
-    ])
-  ]
+    live_before : {c : ℕ} → IsLive renamed_files c → IsLive F c
+    live_before here = here
+    live_before (below b e r n leads) =
+        let f = former n in
+        rw f.same.number (below b f.entry (live_before r) f.names (leads_too f.same leads))
 
-  once_more : (b c : ℕ) (e f : StoredEntry) → IsLive (with_entries F d new) b → IsLive (with_entries F d new) c → Names (with_entries F d new) b e → Names (with_entries F d new) c f
-      → e.number ≡ f.number → (b ≡ c) × (e ≡ f)
-  once_more b c e f r t n m is =
-      let g = former b e n in
-      let h = former c f m in
-      let same = s.once b c g.entry h.entry (live_before b r) (live_before c t) g.names h.names (sym g.same.number ∙ is ∙ h.same.number) in
-      let P : ℕ → Type 0 = λ q. Names (with_entries F d new) q f in
-      let m' = subst P (sym same.0) m in
-      let h' = former b f m' in
-      let again = s.once b b g.entry h'.entry (live_before b r) (live_before b r) g.names h'.names (sym g.same.number ∙ is ∙ h'.same.number) in
-      (same.0, one_entry b e f g h' again.1 is)
+    -- two that were one entry are one, in d by their numbers
+    one_entry : {b c : ℕ} {e f : StoredEntry} (g : Former b e) (h : Former c f) → b ≡ c → g.entry ≡ h.entry → e.number ≡ f.number → e ≡ f
+    one_entry {b} {c} {e} {f} g h at same is = go g.place h.place
+      where
+        go : ((d ≡ b) × Contains new e) ⊎ ((d ≢ b) × (e ≡ g.entry)) → ((d ≡ c) × Contains new f) ⊎ ((d ≢ c) × (f ≡ h.entry)) → e ≡ f
+        go (inl x) (inl y) = renames.distinct e f x.1 y.1 is
+        go (inl x) (inr y) = absurd (y.0 (x.0 ∙ at))
+        go (inr x) (inl y) = absurd (x.0 (y.0 ∙ sym at))
+        go (inr x) (inr y) = x.1 ∙ same ∙ sym y.1
 
-  renamed : AreSound (with_entries F d new)
-  renamed = record {
-    top = top_kept F d new are s;
-    owned = λ c e r n. (λ own.
-        let f = former c e n in
-        kind_kept F d new are old was e.number e.kind (own_too F e f.entry f.same (s.owned c f.entry (live_before c r) f.names) own));
-    once = once_more;
-  }
+    -- no number is named twice
+    once_more : (b c : ℕ) (e f : StoredEntry) → IsLive renamed_files b → IsLive renamed_files c → Names renamed_files b e → Names renamed_files c f
+        → e.number ≡ f.number → (b ≡ c) × (e ≡ f)
+    once_more b c e f r t n m is =
+        let g = former n in
+        let h = former m in
+        let number : g.entry.number ≡ h.entry.number = sym g.same.number ∙ is ∙ h.same.number in
+        let (at, same) = s.once b c g.entry h.entry (live_before r) (live_before t) g.names h.names number in
+        (at, one_entry g h at same is)
+
+    -- what is named as its own is stored
+    owned_still : (c : ℕ) (e : StoredEntry) → IsLive renamed_files c → Names renamed_files c e → HasOwn renamed_files e
+    owned_still c e r n = λ own.
+        let f = former n in
+        kind_kept F d new renames.are old renames.held e.number e.kind (own_too F f.same (s.owned c f.entry (live_before r) f.names) own)
 
 pub renamed_stay : RenamedStay
-renamed_stay F d old new m s = renamed F d old new m.held m.are m.distinct m.each s
+renamed_stay F d old new renames s = record {
+  top = top_kept F d new renames.are s;
+  owned = owned_still F d old new renames s;
+  once = once_more F d old new renames s;
+}
 
 -- ---- another directory
 
-module _ (F : Stored) (a b : ℕ) (old kept new : List StoredEntry) (left moved : StoredEntry) (was : HoldsEntries F a old) (are : AreStorable kept)
-    (fewer : (e : StoredEntry) → Contains kept e → Contains old e) (live : IsLive F a) (there : Contains old left) (gone : ¬ Contains kept left) (same : IsSameInode moved left) (s : AreSound F) where
-  names_left : Names F a left
-  names_left = record { entries = old; held = was; there = there }
+module _ (F : Stored) (a b : ℕ) (old kept new : List StoredEntry) (left moved : StoredEntry) where
+  -- the files once the entry is left out, before it stands elsewhere
+  abbrev between : Stored
+  between = with_entries F a kept
 
-  named_then : (c : ℕ) (e : StoredEntry) → Names (with_entries F a kept) c e → Names F c e
-  named_then c e n = was_named F a old kept was are fewer c e n
+  module _ (moves : Moves F a b old kept new left moved) (s : AreSound F) where
+    names_left : Names F a left
+    names_left = record { entries = old; held = moves.drops.held; there = moves.there }
 
-  live_then : (c : ℕ) → IsLive (with_entries F a kept) c → IsLive F c
-  live_then c r = was_live F a old kept was are fewer c r
+    named_then : {c : ℕ} {e : StoredEntry} → Names between c e → Names F c e
+    named_then n = was_named F a old kept moves.drops.held moves.drops.are moves.drops.fewer _ _ n
 
-  reached_then : (k c : ℕ) → Reached (with_entries F a kept) k c → Reached F k c
-  reached_then k c here = here
-  reached_then k c (below q e r n leads) = below q e (reached_then k q r) (named_then q e n) leads
+    live_then : {c : ℕ} → IsLive between c → IsLive F c
+    live_then r = was_live F a old kept moves.drops.held moves.drops.are moves.drops.fewer _ r
 
-  -- what is below the moved entry was below the one that was left out, and so was live
-  below_left : (c : ℕ) → Reached (with_entries F a kept) moved.number c → Reached F left.number c
-  below_left c r = let P : ℕ → Type 0 = λ k. Reached F k c in subst P same.number (reached_then moved.number c r)
+    -- what is still named is named once
+    once_then : {c q : ℕ} {e f : StoredEntry} → IsLive F c → IsLive F q → Names between c e → Names between q f → e.number ≡ f.number → (c ≡ q) × (e ≡ f)
+    once_then r t n m is = s.once _ _ _ _ r t (named_then n) (named_then m) is
 
-  live_below : LeadsOn moved → (c : ℕ) → Reached (with_entries F a kept) moved.number c → IsLive F c
-  live_below leads c r = joined F 1 left.number c (below a left live names_left (leads_too moved left same leads)) (below_left c r)
+    owned_now : {c : ℕ} {e : StoredEntry} → IsLive F c → Names F c e → HasOwn between e
+    owned_now {c} {e} r n = λ own. kind_kept F a kept moves.drops.are old moves.drops.held e.number e.kind (s.owned c e r n own)
 
-  unnamed_now : (c : ℕ) (f : StoredEntry) → IsLive (with_entries F a kept) c → Names (with_entries F a kept) c f → f.number ≢ left.number
-  unnamed_now c f r n = dropped_unnamed F a old kept left (record { held = was; are = are; fewer = fewer }) live there gone s c f r n
+    unnamed_now : {c : ℕ} {e : StoredEntry} → IsLive between c → Names between c e → e.number ≢ left.number
+    unnamed_now r n = dropped_unnamed F a old kept left moves.drops moves.live moves.there moves.gone s _ _ r n
 
-  -- it isn't live now
-  detached : LeadsOn left → (c : ℕ) → IsLive (with_entries F a kept) c → Reached F left.number c → ⊥
-  detached leads c here reach = not_to_root F left.number (numbers_from_two F a left names_left) reach
-  detached leads c (below p e r n goes) reach = elim (last F left.number e.number reach) [
-    | inl is ↦ unnamed_now p e r n is
-    | inr m ↦
-        (let P : ℕ → Type 0 = λ q. Reached F left.number q in
-        let one = s.once p m.directory e m.entry (live_then p r) (joined F 1 left.number m.directory (below a left live names_left leads) m.reached) (named_then p e n) m.named (sym m.is) in
-        detached leads p r (subst P (sym one.0) m.reached))
-  ]
+    -- what is below the moved entry was below the one that was left out, and so was live
+    reached_then : {k c : ℕ} → Reached between k c → Reached F k c
+    reached_then here = here
+    reached_then (below q e r n leads) = below q e (reached_then r) (named_then n) leads
 
-  unbrought : (number c : ℕ) (f : StoredEntry) → Brings (with_entries F a kept) moved number → IsLive (with_entries F a kept) c → Names (with_entries F a kept) c f → f.number ≡ number → ⊥
-  unbrought number c f brings r n is = elim brings [
-    | inl own ↦ unnamed_now c f r n (is ∙ sym own ∙ same.number)
-    | inr under ↦
-        (let q = under.1.directory in
-        let P : ℕ → Type 0 = λ x. Reached F left.number x in
-        let one = s.once c q f under.1.entry (live_then c r) (live_below under.0 q under.1.reached) (named_then c f n) (named_then q under.1.entry under.1.named) (is ∙ sym under.1.is) in
-        detached (leads_too moved left same under.0) c r (subst P (sym one.0) (below_left q under.1.reached)))
-  ]
+    below_left : {c : ℕ} → Reached between moved.number c → Reached F left.number c
+    below_left r = rw (← moves.same.number) (reached_then r)
 
-  not_itself : LeadsOn moved → ¬ NamedFrom (with_entries F a kept) moved.number moved.number
-  not_itself leads n =
-      let q = n.directory in
-      let P : ℕ → Type 0 = λ x. Reached F left.number x in
-      let one = s.once q a n.entry left (live_below leads q n.reached) live (named_then q n.entry n.named) names_left (n.is ∙ same.number) in
-      no_cycle F s a left live names_left (leads_too moved left same leads) (subst P one.0 (below_left q n.reached))
+    live_below : LeadsOn left → {c : ℕ} → Reached F left.number c → IsLive F c
+    live_below leads r = joined F 1 left.number _ (below a left moves.live names_left leads) r
 
-  owned_now : (e : StoredEntry) → HasOwn F e → HasOwn (with_entries F a kept) e
-  owned_now e has own = kind_kept F a kept are old was e.number e.kind (has own)
-
-  module _ (to : IsLive (with_entries F a kept) b) (each : (e : StoredEntry) → Contains new e → Names (with_entries F a kept) b e ⊎ (e ≡ moved)) where
-    apart_now : (number : ℕ) (f : StoredEntry) → Contains new f → Brings (with_entries F a kept) moved number → Brings (with_entries F a kept) f number → moved ≡ f
-    apart_now number f other brings both = elim (each f other) [
-      | inr is ↦ sym is
-      | inl n ↦ (elim both [
-        | inl own ↦ absurd (unbrought number b f brings to n own)
-        | inr under ↦ absurd (unbrought number under.1.directory under.1.entry brings
-            (joined (with_entries F a kept) 1 f.number under.1.directory (below b f to n under.0) under.1.reached) under.1.named under.1.is)
-      ])
+    -- it isn't live now
+    detached : LeadsOn left → (c : ℕ) → IsLive between c → Reached F left.number c → ⊥
+    detached leads c here reach = not_to_root F left.number (numbers_from_two F a left names_left) reach
+    detached leads c (below p e r n goes) reach = elim (last F left.number e.number reach) [
+      | inl is ↦ unnamed_now r n is
+      | inr m ↦
+          (let one = s.once p m.directory e m.entry (live_then r) (live_below leads m.reached) (named_then n) m.named (sym m.is) in
+          detached leads p r (rw one.0 m.reached))
     ]
 
-    enters : MayEnter (with_entries F a kept) b new moved
-    enters = record {
-      own = owned_now moved (own_too F moved left same (s.owned a left live names_left));
-      owned = λ leads c f r n. owned_now f (s.owned c f (live_below leads c r) (named_then c f n));
-      once = λ leads c q f g r t n m is. s.once c q f g (live_below leads c r) (live_below leads q t) (named_then c f n) (named_then q g m) is;
-      not_below = not_itself;
-      free = λ number c f brings r n is. absurd (unbrought number c f brings r n is);
-      apart = apart_now;
-    }
+    -- what the moved entry brings is named in no live directory
+    unbrought : {number c : ℕ} {f : StoredEntry} → Brings between moved number → IsLive between c → Names between c f → f.number ≢ number
+    unbrought (inl own) r n is = unnamed_now r n (is ∙ sym own ∙ moves.same.number)
+    unbrought {c = c} (inr (leads, under)) r n is =
+        let led = leads_too moves.same leads in
+        let reach = below_left under.reached in
+        let one = once_then (live_then r) (live_below led reach) n under.named (is ∙ sym under.is) in
+        detached led c r (rw one.0 reach)
 
-    either : (e : StoredEntry) → Contains new e → Names (with_entries F a kept) b e ⊎ MayEnter (with_entries F a kept) b new e
-    either e other = elim (each e other) [
-      | inl n ↦ inl n
-      | inr is ↦ (let P : StoredEntry → Type 0 = λ x. MayEnter (with_entries F a kept) b new x in inr (subst P (sym is) enters))
-    ]
+    not_itself : LeadsOn moved → ¬ NamedFrom between moved.number moved.number
+    not_itself leads n =
+        let led = leads_too moves.same leads in
+        let reach = below_left n.reached in
+        let one = s.once n.directory a n.entry left (live_below led reach) moves.live (named_then n.named) names_left (n.is ∙ moves.same.number) in
+        no_cycle F s a left moves.live names_left led (rw one.0 at reach)
+
+    -- no other entry of the new ones has a number that the moved one brings
+    apart_now : (number : ℕ) (f : StoredEntry) → Contains new f → Brings between moved number → Brings between f number → moved ≡ f
+    apart_now number f other brings both = go (moves.each f other) both
+      where
+        go : Names between b f ⊎ (f ≡ moved) → Brings between f number → moved ≡ f
+        go (inr is) both = sym is
+        go (inl n) (inl own) = absurd (unbrought brings moves.live_still n own)
+        go (inl n) (inr (leads, under)) =
+            let live = joined between 1 f.number under.directory (below b f moves.live_still n leads) under.reached in
+            absurd (unbrought brings live under.named under.is)
+
+    enters : MayEnter between b new moved
+    enters =
+        let live = λ (leads : LeadsOn moved) (c : ℕ) (r : Reached between moved.number c). live_below (leads_too moves.same leads) (below_left r) in
+        record {
+          own = own_too between moves.same (owned_now moves.live names_left);
+          owned = λ leads c f r n. owned_now (live leads c r) (named_then n);
+          once = λ leads c q f g r t n m is. once_then (live leads c r) (live leads q t) n m is;
+          not_below = not_itself;
+          free = λ number c f brings r n is. absurd (unbrought brings r n is);
+          apart = apart_now;
+        }
+
+    either : (e : StoredEntry) → Contains new e → Names between b e ⊎ MayEnter between b new e
+    either e other = elim (moves.each e other) [ inl n ↦ inl n | inr is ↦ inr (rw is enters) ]
 
 pub moved_stay : MovedStay
-moved_stay F a b old kept new left moved m s =
-    entered_stay (with_entries F a kept) b new m.live_still m.are
-    (either F a b old kept new left moved m.drops.held m.drops.are m.drops.fewer m.live m.there m.gone m.same s m.live_still m.each)
-    (dropped_stay F a old kept m.drops s)
+moved_stay F a b old kept new left moved moves s =
+    let either_way = either F a b old kept new left moved moves s in
+    entered_stay (with_entries F a kept) b new moves.live_still moves.are either_way (dropped_stay F a old kept moves.drops s)

@@ -21,7 +21,7 @@ use Rattle.eden_serve.specs.declared.life.Backing.{Backing}
 use Rattle.eden_serve.specs.declared.life.Ending.{Ending}
 use Rattle.eden_serve.specs.declared.opening.Base.{Base}
 use Rattle.eden_serve.specs.Calls.{CallAnswers, MayBeTold}
-use Rattle.eden_serve.specs.Opening.{IsOpened, IsRefused, IsClosed, StaysOpen}
+use Rattle.eden_serve.specs.Opening.{Closes, IsOpened, IsRefused}
 use Rattle.eden_serve.specs.Serving.{Begins}
 
 -- the session's fault is told before that of the close
@@ -31,14 +31,9 @@ first_fault (Ok _) (Some fault) = Err (life.Close fault)
 first_fault (Ok _) None = Ok tt
 
 module _ {W F : Type 0} (w : Ghosts W) (f : Files F W) where
-  -- the commit's checkout, which shows this tree, was closed to the files, or it wasn't
-  abbrev pub Closes : Id → Checkout F → Tree → Option FilesFault → F → Type 0
-  Closes root t tree None files = IsClosed w f root t tree files
-  Closes root t tree (Some why) files = StaysOpen w f root t tree why files
-
   -- a served caller's checkout was closed, and the first fault told
   pub record Ends {S : Type 0} (root : Id) (t : Checkout F) (tree : Tree) (source : S) (said : Result ⊤ SessionFault) (left : Ending F S) : Type 0 where
-    pub files : Closes root t tree left.unclosed left.backing.files
+    pub files : Closes w f root t tree left.unclosed left.backing.files
     pub source_left : left.backing.source ≡ source
     pub told : left.outcome ≡ first_fault said left.unclosed
 

@@ -1,5 +1,5 @@
 -- How a checkout is opened over an overlay with a mount's settings, and closed to it.
-use Rattle.std.specs.Prelude.{◌≡◌}
+use Rattle.std.specs.Prelude.{◌≡◌, Option, Some, None}
 use Rattle.eden_model.specs.declared.id.Id.{Id}
 use Rattle.eden_model.specs.declared.world.World.{Ghosts}
 use Rattle.eden_model.specs.Failures.{Rose}
@@ -45,3 +45,8 @@ module _ {W F : Type 0} (w : Ghosts W) (f : Files F W) where
     pub commit : left.root ≡ root
     pub next : left.inodes.next ≡ t.inodes.next
     pub device : why ≡ fault.Device → Rose (f.failures t.inodes.files) (f.failures files)
+
+  -- the commit's checkout, which shows this tree, was closed to the files, or it wasn't
+  abbrev pub Closes : Id → Checkout F → Tree → Option FilesFault → F → Type 0
+  Closes root t tree None files = IsClosed root t tree files
+  Closes root t tree (Some why) files = StaysOpen root t tree why files

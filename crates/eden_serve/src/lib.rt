@@ -11,5 +11,5 @@ mod serving;
 pub use caller::Caller;
 pub use fault::LifeFault;
 pub use life::{Backing, Ending, live};
-pub use opening::{Base, open};
+pub use opening::{Base, Closed, close, open};
 pub use serving::{Served, serve, serve_table};

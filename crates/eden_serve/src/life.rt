@@ -5,7 +5,7 @@ ghost use Rattle.eden_ops.specs.Keeping.{shows};
 ghost use Rattle.eden_serve.specs.Lives.{Lives, Ends, first_fault};
 
 use crate::fault::LifeFault;
-use crate::opening::{Base, open};
+use crate::opening::{Base, Closed, close, open};
 use crate::serving::{Served, serve_table};
 use eden_checkout::Checkout;
 use eden_model::World;
@@ -63,20 +63,11 @@ fn end<W: World, S: Drop, A: Allocator + Clone, F: Files<W>>(
         source,
         said,
     } = served;
-    match table.close(alloc) {
-        Ok(files) => Ending {
-            backing: Backing { files, source },
-            unclosed: None,
-            outcome: first_fault(said, None),
-        },
-        Err((fault, table)) => Ending {
-            backing: Backing {
-                files: table.abandon(),
-                source,
-            },
-            unclosed: Some(fault),
-            outcome: first_fault(said, Some(fault)),
-        },
+    let Closed { files, unclosed } = close(alloc, table);
+    Ending {
+        backing: Backing { files, source },
+        unclosed,
+        outcome: first_fault(said, unclosed),
     }
 }
 

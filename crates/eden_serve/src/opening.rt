@@ -1,15 +1,16 @@
-//! A commit's checkout opened over an overlay, with the room of a mount.
+//! A commit's checkout opened over an overlay, with the room of a mount, and closed to it.
 ghost use Rattle.std.specs.Prelude.{◌≡◌, IfOk, IfErr};
 ghost use Rattle.eden_cache.specs.Cache.{empty};
 ghost use Rattle.eden_mount.specs.Settings.{room_for};
 ghost use Rattle.eden_checkout.specs.Opening.{MayOpen};
-ghost use Rattle.eden_serve.specs.Opening.{IsOpened, IsRefused};
+ghost use Rattle.eden_ops.specs.Keeping.{shows};
+ghost use Rattle.eden_serve.specs.Opening.{Closes, IsOpened, IsRefused};
 
 use eden_cache::ObjectCache;
 use eden_checkout::{Checkout, OpenFault, Opening};
 use eden_model::{Id, World};
 use eden_mount::{Config, Room};
-use eden_overlay::Files;
+use eden_overlay::{Files, FilesFault};
 use std::alloc::{AllocError, Allocator, Global};
 
 /// What an overlay is opened over, and how.
@@ -64,5 +65,33 @@ pub fn open<W: World, A: Allocator + Clone, F: Files<W>>(
     match Checkout::open_by(alloc, memory, files, base.root, cache, base.opening) {
         Err(refused) => Err(refused),
         Ok(checkout) => Ok((room, checkout)),
+    }
+}
+
+/// The files of a checkout that was to be closed.
+#[derive(Drop)]
+pub struct Closed<F> {
+    /// The files as they stand.
+    pub files: F,
+    /// Why the checkout wasn't closed to them, if it wasn't.
+    pub unclosed: Option<FilesFault>,
+}
+
+/// Closes a checkout. Where that fails, the files are left as they stand.
+pub fn close<W: World, A: Allocator + Clone, F: Files<W>>(
+    alloc: Global,
+    table: Checkout<A, W, F>,
+) -> Closed<F>
+    ensures { Closes W.World F.Files table.root table (shows W.World F.Files table.inodes) result.unclosed result.files }
+{
+    match table.close(alloc) {
+        Ok(files) => Closed {
+            files,
+            unclosed: None,
+        },
+        Err((fault, table)) => Closed {
+            files: table.abandon(),
+            unclosed: Some(fault),
+        },
     }
 }

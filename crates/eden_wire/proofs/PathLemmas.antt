@@ -1,8 +1,7 @@
 -- Lemmas on the text of a path: it spells one path.
-use Rattle.std.proofs.Common.{eqb-true, ◌==◌, ◌≡◌, ◌≢◌, ℕ, ◌+◌, ◌<◌, List, [], ◌∷◌, ◌++◌, length, Bool, true, false, cond, sym, ap, ◌∙◌, subst, refl, append_assoc, append-nil, get_or, arith}
+use Rattle.std.proofs.Common.{eqb-true, ◌==◌, ◌≡◌, ◌≢◌, ℕ, ◌+◌, ◌<◌, List, [], ◌∷◌, ◌++◌, length, Bool, true, false, cond, sym, ap, ◌∙◌, subst, refl, append_assoc, append-nil, arith}
 use Rattle.std.proofs.lemmas.Bool.{false≢true}
 use Rattle.std.specs.List.{AllByRecursion, flat_map}
-use Rattle.std.specs.Str.{bytes_eq}
 use Rattle.eden_wire.specs.Names.{is_plain, byte_text, name_text, component_text, path_text, IsComponent}
 use Rattle.eden_wire.specs.Splits.{Lacks, IsCutAt, IsPart, BeginsWith}
 use Rattle.eden_wire.specs.Scans.{SpellsNoName}
@@ -102,18 +101,6 @@ text_some (b ∷ name) h e = some_at (is_plain b) b _ _ _ e
     some_at true b c d x e = cc
     some_at false b c d x e = cc
 
-pub path_some : (path : List (List ℕ)) → [] ≡ path_text path → ⊥
-path_some [] e = cc
-path_some (c ∷ path) e = cc
-
-pub begins_with_slash : (path : List (List ℕ)) → (b : ℕ) (bytes : List ℕ) → b ∷ bytes ≡ path_text path → b ≡ 47
-begins_with_slash [] b bytes e = cc
-begins_with_slash (c ∷ path) b bytes e = cc
-
-pub path_is : (text : List ℕ) (names : List (List ℕ)) → 0 < length text → text ≡ parts_text names → text ≡ path_text names
-path_is text [] some e = let size = ap length e in absurd (omega arith)
-path_is text (n ∷ names) some e = e
-
 parts_root : (c : List ℕ) (path : List (List ℕ)) → IsComponent c → 47 ∷ [] ≡ parts_text (c ∷ path) → ⊥
 parts_root [] path h e = let none = h.0 in omega arith
 parts_root (b ∷ c) path h e =
@@ -139,13 +126,6 @@ path_same (c ∷ p) (d ∷ q) h k e = parts_same (c ∷ p) (d ∷ q) h k e
     parts_same p q h k e =
         let on = spelled_parts p q [] tt h k (append-nil (parts_text p) ∙ e) in
         sym (on.3 ∙ ap (λ l. p ++ l) (none_left on.0 on.2) ∙ append-nil p)
-
-pub root_is : (text : List ℕ) → false ≡ bytes_eq text (47 ∷ []) → text ≡ 47 ∷ [] → ⊥
-root_is text e h = false≢true (e ∙ ap (λ t. bytes_eq t (47 ∷ [])) h)
-
-pub first_cut : (text : List ℕ) → get_or text 0 0 ≡ 47 → IsCutAt 47 text
-first_cut [] h = tt
-first_cut (b ∷ text) h = h
 
 pub empty_is : (bytes : List ℕ) → true ≡ (length bytes == 0) → bytes ≡ []
 empty_is [] e = refl

@@ -1,16 +1,17 @@
--- Lemmas on a session that reads in pieces.
-use Rattle.std.proofs.Common.{◌≡◌, ℕ, ◌≤◌, List, [], ◌∷◌, ◌++◌, drop, length, Bool, true, false, Option, None, Some, Result, Ok, Err, sym, ap, ◌∙◌, subst, refl, inl, inr, ◌⊎◌, append_assoc, append-nil, ◌==◌, arith}
+-- Lemmas on a session that reads in pieces: it is as if all that it read had been answered at once.
+use Rattle.std.proofs.Common.{◌≡◌, ℕ, ◌<◌, ◌≤◌, List, [], ◌∷◌, ◌++◌, length, Bool, true, false, ◌==◌, Result, Ok, Err, inl, inr, ◌⊎◌}
+use Rattle.std.proofs.Common.{◌∙◌, refl, append_assoc, append-nil, arith}
 use Rattle.std.proofs.lemmas.Bool.{false≢true}
+use Rattle.std.proofs.lemmas.List.{nil_from_length}
 use Rattle.std.proofs.KnownBytes.{Appends-nil, Appends-kept, Appends-trans, Consumes-nil, Consumes-kept, Consumes-trans, Keeps-refl}
 use Rattle.std.specs.Prelude.{⊤}
 use Rattle.std.specs.Io.KnownBytes.{Appends, Consumes, IsAtEnd, Keeps}
 use Rattle.eden_model.specs.declared.errno.Errno.TheVariants.{EPROTO}
-use Rattle.eden_model.specs.declared.reply.Reply.{Reply}
-use Rattle.eden_model.specs.declared.fault.CallFault.{CallFault}
 use Rattle.eden_wire.specs.Replies.{error_text}
-use Rattle.eden_wire.specs.Lines.{longest_line, Lines, IsOneLine, IsBadEnd, Ends}
-use Rattle.eden_wire.specs.Writing.{WritesFront}
-use Rattle.eden_wire.specs.Serving.{Answering, texts, Serves, Session}
+use Rattle.eden_wire.specs.Lines.{longest_line, Lines, IsBadEnd, IsCut, Ends}
+use Rattle.eden_wire.specs.Reading.{ReadSome}
+use Rattle.eden_wire.specs.Writing.{WritesFront, Writes, IsIdle}
+use Rattle.eden_wire.specs.Serving.{Answering, Known, texts, Serves, Said, Session}
 use Rattle.eden_wire.specs.Turns.{Answered, Ended}
 use Rattle.eden_wire.specs.declared.request.Item.{Item}
 use Rattle.eden_wire.specs.declared.request.Item.TheVariants.{Bad}
@@ -20,184 +21,202 @@ use Rattle.eden_wire.specs.declared.session_fault.SessionFault.{SessionFault}
 use Rattle.eden_wire.specs.declared.session_fault.SessionFault.TheVariants as fault
 use Rattle.eden_wire.proofs.SessionLemmas.{Lines-append, Lines-more, Serves-append, texts-append}
 
--- after a text, a beginning of the next
-front_then : (a b c : Option (List ℕ)) (x y : List ℕ) → Appends a b x → WritesFront b c y → WritesFront a c (x ++ y)
-front_then a b c x y done w = record {
+-- a text was written, and then a beginning of another
+front_then : (o p q : Known) (x y : List ℕ) → Appends o p x → WritesFront p q y → WritesFront o q (x ++ y)
+front_then o p q x y done w = record {
   front = x ++ w.front;
   rest = w.rest;
-  whole = ap (λ l. x ++ l) w.whole ∙ sym
-      (append_assoc x w.front w.rest);
-  appends = Appends-trans a b c x w.front done w.appends;
+  whole = simp (w.whole, append_assoc);
+  appends = Appends-trans o p q x w.front done w.appends;
 }
 
+-- a text was written, and then another, or at an error a beginning of it
+writes_then : {T E : Type 0} (r : Result T E) (o p q : Known) (x y : List ℕ) → Appends o p x → Writes p q r y → Writes o q r (x ++ y)
+writes_then (Ok v) o p q x y done wrote = Appends-trans o p q x y done wrote
+writes_then (Err e) o p q x y done wrote = front_then o p q x y done wrote
+
+-- the input ends with a line that is no request or too long
+bad_end : (rest : List ℕ) (known : Known) (last : List Item) → (last ≡ Bad ∷ []) × IsBadEnd rest → Ends rest known last
+bad_end rest known last bad = rw bad.0 (inl bad.1)
+
 module _ {S : Type 0} (answers : Answering S) where
-  -- the lines that were read so far were answered, and the rest is the beginning of one more
-  pub record SoFar (s t : S) (in_old in_new out_old out_new : Option (List ℕ)) (rest : List ℕ) : Type 0 where
+  -- all that a session has read was answered like one piece
+  pub record Through (service : S × S) (input written : Known × Known) (output : Output) (after : List ℕ) (r : Result Bool WriteFailed) : Type 0 where
     pub read : List ℕ
-    pub items : List Item
-    pub given : List (Option (Result Reply CallFault))
-    pub consumed : Consumes in_old in_new read
-    pub lines : Lines read items rest
-    pub served : Serves answers s items given t
-    pub wrote : Appends out_old out_new (texts items given)
-    pub one : IsOneLine rest
+    pub consumed : Consumes input.0 input.1 read
+    pub answered : Answered answers service.0 service.1 written.0 written.1 output read after r
 
-  pub so_far_none : (s : S) (a b : Option (List ℕ)) (rest : List ℕ) → rest ≡ [] → SoFar s s a a b b rest
-  so_far_none s a b rest e = record { read = []; items = []; given = []; consumed = Consumes-nil a; lines = sym e; served = refl; wrote = Appends-nil b; one = subst IsOneLine (sym e) tt }
+module _ {S : Type 0} {answers : Answering S} where
+  -- where the session goes on no line was bad
+  no_last : {s t : S} {o p : Known} {output : Output} {bytes after : List ℕ} (a : Answered answers s t o p output bytes after (Ok true))
+      → Serves answers s a.items a.given t × Appends o p (texts a.items a.given)
+  no_last a = let all : a.items ++ a.last ≡ a.items = simp (a.left.0, append-nil) in (rw all at a.served, rw all at a.wrote)
 
-  -- nothing was read
-  pub so_far_kept : (s t : S) (i j k o p : Option (List ℕ)) (rest : List ℕ) → SoFar s t i j o p rest → Keeps j k → SoFar s t i k o p rest
-  so_far_kept s t i j k o p rest so
-      kept = record {
-        read = so.read;
-        items = so.items;
-        given = so.given;
-        consumed = Consumes-kept i j k so.read so.consumed kept;
-        lines = so.lines;
-        served = so.served;
-        wrote = so.wrote;
-        one = so.one;
+  -- a piece was answered, and then what was left of it with one more piece
+  answered_more : {s t u : S} {o p q : Known} {before output : Output} {bytes rest after : List ℕ} {r : Result Bool WriteFailed} (piece : List ℕ)
+      → Answered answers s t o p before bytes rest (Ok true) → Answered answers t u p q output (rest ++ piece) after r
+      → Answered answers s u o q output (bytes ++ piece) after r
+  answered_more {s = s} {t} {u} {o} {p} {q} {bytes = bytes} {rest} {r = r} piece a b =
+      let (served, wrote) = no_last a in
+      let lines : Lines (bytes ++ piece) a.items (rest ++ piece) = Lines-more bytes a.items rest piece (rw a.left.1 at a.lines) in
+      let others = b.items ++ b.last in
+      record {
+        items = a.items ++ b.items;
+        last = b.last;
+        given = a.given ++ b.given;
+        rest = b.rest;
+        lines = Lines-append (bytes ++ piece) a.items b.items (rest ++ piece) b.rest lines b.lines;
+        left = b.left;
+        served = rw append_assoc (Serves-append answers s a.items a.given t others b.given u served b.served);
+        wrote = rw (append_assoc, texts-append answers s a.items a.given t others b.given served) (writes_then r o p q _ _ wrote b.wrote);
+        idle = b.idle;
       }
 
   -- a piece was read, and its lines were answered
-  pub so_far_more : (s t u : S) (i j k o p q : Option (List ℕ)) (rest piece after : List ℕ) (out : Output) → SoFar s t i j o p rest → Consumes j k piece
-      → Answered answers t u p q out (rest ++ piece) after (Ok true) → SoFar s u i k o q after
-  so_far_more s t u i j k o p q rest piece after out so more a =
-      let all : a.items ++ a.last ≡ a.items = ap (λ l. a.items ++ l) a.left.0 ∙ append-nil a.items in
-      let served : Serves answers t a.items a.given u = subst (λ l. Serves answers t l a.given u) all a.served in
-      let wrote : Appends p q (texts a.items a.given) = subst (λ l. Appends p q (texts l a.given)) all a.wrote in
-      record {
-        read = so.read ++ piece;
-        items = so.items ++ a.items;
-        given = so.given ++ a.given;
-        consumed = Consumes-trans i j k so.read piece so.consumed more;
-        lines = subst (Lines (so.read ++ piece) (so.items ++ a.items)) a.left.1
-            (Lines-append (so.read ++ piece) so.items a.items (rest ++ piece) a.rest (Lines-more so.read so.items rest piece so.lines) a.lines);
-        served = Serves-append answers s so.items so.given t a.items a.given u so.served served;
-        wrote = subst (Appends o q) (sym (texts-append answers s so.items so.given t a.items a.given so.served)) (Appends-trans o p q _ _ so.wrote wrote);
-        one = subst IsOneLine a.left.1 a.left.2;
-      }
+  pub through_more : {s t u : S} {i j k o p q : Known} {before output : Output} {rest now after : List ℕ} {n : ℕ} {r : Result Bool WriteFailed}
+      → Through answers (s, t) (i, j) (o, p) before rest (Ok true) → ReadSome j k rest now n → Answered answers t u p q output now after r
+      → Through answers (s, u) (i, k) (o, q) output after r
+  through_more {i = i} {j} {k} so found a = record {
+    read = so.read ++ found.piece;
+    consumed = Consumes-trans i j k so.read found.piece so.consumed found.consumed;
+    answered = answered_more found.piece so.answered (rw found.joined at a);
+  }
 
-  pub session_bad : (s t u : S) (i j k o p q : Option (List ℕ)) (rest piece after : List ℕ) (out : Output) → SoFar s t i j o p rest → Consumes j k piece
-      → Answered answers t u p q out (rest ++ piece) after (Ok false) → Session answers (s, u) (i, k) (o, q) (Ok tt)
-  session_bad s t u i j k o p q rest piece after out so more a =
-      let all = sym (append_assoc so.items a.items a.last) in
-      record {
-        read = so.read ++ piece;
-        items = so.items ++ a.items;
-        last = a.last;
-        given = so.given ++ a.given;
-        rest = a.rest;
-        consumed = Consumes-trans i j k so.read piece so.consumed more;
-        lines = Lines-append (so.read ++ piece) so.items a.items (rest ++ piece) a.rest (Lines-more so.read so.items rest piece so.lines) a.lines;
-        served = subst (λ l. Serves answers s l (so.given ++ a.given) u) all (Serves-append answers s so.items so.given t (a.items ++ a.last) a.given u so.served a.served);
-        said = (
-          subst (Ends a.rest k) (sym a.left.0) (inl a.left.1),
-          subst (λ l. Appends o q (texts l (so.given ++ a.given))) all
-              (subst (Appends o q) (sym (texts-append answers s so.items so.given t (a.items ++ a.last) a.given so.served)) (Appends-trans o p q _ _ so.wrote a.wrote)),
-        );
-      }
+  -- before the first read
+  pub through_none : {s : S} {i o : Known} {output : Output} {rest : List ℕ} → IsIdle output → rest ≡ []
+      → Through answers (s, s) (i, i) (o, o) output rest (Ok true)
+  through_none {i = i} {o} idle none = rw none record {
+    read = [];
+    consumed = Consumes-nil i;
+    answered = record {
+      items = [];
+      last = [];
+      given = [];
+      rest = [];
+      lines = refl;
+      left = (refl, refl, tt, omega arith);
+      served = refl;
+      wrote = Appends-nil o;
+      idle = idle;
+    };
+  }
 
-  ended : (rest : List ℕ) (k : Option (List ℕ)) (last : List Item) → (last ≡ []) ⊎ ((last ≡ Bad ∷ []) × IsBadEnd rest) → (last ≡ []) ⊎ Ends rest k last
-  ended rest k last (inl e) = inl e
-  ended rest k last (inr e) = inr (subst (Ends rest k) (sym e.0) (inl e.1))
-
-  pub session_unwritten : (s t u : S) (i j k o p q : Option (List ℕ)) (rest piece after : List ℕ) (out : Output) (d : WriteFailed) → SoFar s t i j o p rest → Consumes j k piece
-      → Answered answers t u p q out (rest ++ piece) after (Err d) → Session answers (s, u) (i, k) (o, q) (Err fault.Write)
-  session_unwritten s t u i j k o p q rest piece after out d so more a =
-      let all = sym (append_assoc so.items a.items a.last) in
-      record {
-        read = so.read ++ piece;
-        items = so.items ++ a.items;
-        last = a.last;
-        given = so.given ++ a.given;
-        rest = a.rest;
-        consumed = Consumes-trans i j k so.read piece so.consumed more;
-        lines = Lines-append (so.read ++ piece) so.items a.items (rest ++ piece) a.rest (Lines-more so.read so.items rest piece so.lines) a.lines;
-        served = subst (λ l. Serves answers s l (so.given ++ a.given) u) all (Serves-append answers s so.items so.given t (a.items ++ a.last) a.given u so.served a.served);
-        said = (
-          ended a.rest k a.last a.left,
-          subst (λ l. WritesFront o q (texts l (so.given ++ a.given))) all
-              (subst (WritesFront o q) (sym (texts-append answers s so.items so.given t (a.items ++ a.last) a.given so.served)) (front_then o p q _ _ so.wrote a.wrote)),
-        );
-      }
-
-  pub session_unread : (s t : S) (i j k o p : Option (List ℕ)) (rest : List ℕ) → SoFar s t i j o p rest → Keeps j k → Session answers (s, t) (i, k) (o, p) (Err fault.Read)
-  session_unread s t i j k o p rest so kept = record {
-    read = so.read;
-    items = so.items;
+  -- there was no memory to read into
+  pub session_none : {s : S} {i o : Known} → Session answers (s, s) (i, i) (o, o) (Err fault.Memory)
+  session_none {i = i} {o} = record {
+    read = [];
+    items = [];
     last = [];
-    given = so.given;
-    rest = rest;
-    consumed = Consumes-kept i j k so.read so.consumed kept;
-    lines = so.lines;
-    served = subst (λ l. Serves answers s l so.given t) (sym (append-nil so.items)) so.served;
-    said = (refl, so.one, subst (λ l. Appends o p (texts l so.given)) (sym (append-nil so.items)) so.wrote);
+    given = [];
+    rest = [];
+    consumed = Consumes-nil i;
+    lines = refl;
+    served = refl;
+    said = (refl, refl, Keeps-refl o);
   }
 
-  pub session_none : (s : S) (i o : Option (List ℕ)) → Session answers (s, s) (i, i) (o, o) (Err fault.Memory)
-  session_none s i o = record { read = []; items = []; last = []; given = []; rest = []; consumed = Consumes-nil i; lines = refl; served = refl; said = (refl, refl, Keeps-refl o) }
+module _ {S : Type 0} {answers : Answering S} {service : S × S} {i j k : Known} {written : Known × Known} {output : Output} {rest : List ℕ} where
+  -- nothing was read
+  pub through_kept : Through answers service (i, j) written output rest (Ok true) → Keeps j k → Through answers service (i, k) written output rest (Ok true)
+  through_kept so kept = record { read = so.read; consumed = Consumes-kept i j k so.read so.consumed kept; answered = so.answered }
 
-  session_closed : (r : Result ⊤ SessionFault) (s t : S) (i j o p q : Option (List ℕ)) (rest : List ℕ) (last : List Item) → SoFar s t i j o p rest → Serves answers t last [] t → Ends rest j last
-      → r ≡ Ok tt → Appends p q (texts last []) → Session answers (s, t) (i, j) (o, q) r
-  session_closed r s t i j o p q rest last so served ends e wrote = subst (Session answers (s, t) (i, j) (o, q)) (sym e) record {
-    read = so.read;
-    items = so.items;
-    last = last;
-    given = so.given ++ [];
-    rest = rest;
-    consumed = so.consumed;
-    lines = so.lines;
-    served = Serves-append answers s so.items so.given t last [] t so.served served;
-    said = (ends, subst (Appends o q) (sym (texts-append answers s so.items so.given t last [] so.served)) (Appends-trans o p q _ _ so.wrote wrote));
-  }
+  -- the input has ended, and nothing more was read
+  through_end : {now : List ℕ} {n : ℕ} → Through answers service (i, j) written output rest (Ok true) → ReadSome j k rest now n → n ≡ 0
+      → Through answers service (i, k) written output now (Ok true)
+  through_end so found none =
+      let empty = nil_from_length found.piece (found.size ∙ none) in
+      rw (found.joined, empty, append-nil) record {
+        read = so.read;
+        consumed = simp (empty, append-nil) at (Consumes-trans i j k so.read found.piece so.consumed found.consumed);
+        answered = so.answered;
+      }
 
-  -- the input has ended
-  pub session_end : (r : Result ⊤ SessionFault) (rest : List ℕ) (s t : S) (i j o p q : Option (List ℕ)) → SoFar s t i j o p rest → IsAtEnd j → Ended rest p q r → Session answers (s, t) (i, j) (o, q) r
-  session_end r [] s t i j o p q so end h = session_closed r s t i j o p q [] [] so refl (refl, end) h.0 (Appends-kept p p q [] (Appends-nil p) h.1)
-  session_end (Ok v) (b ∷ rest) s t i j o p q so end h = session_closed (Ok v) s t i j o p q (b ∷ rest) (Bad ∷ []) so refl (inr record { one = so.one; some = omega arith; at_end = end }) refl
-      (subst (Appends p q) (sym (append-nil (error_text EPROTO))) h)
-  session_end (Err e) (b ∷ rest) s t i j o p q so end h = subst (λ f. Session answers (s, t) (i, j) (o, q) (Err f)) (sym h.0) record {
-    read = so.read;
-    items = so.items;
-    last = Bad ∷ [];
-    given = so.given ++ [];
-    rest = b ∷ rest;
-    consumed = so.consumed;
-    lines = so.lines;
-    served = Serves-append answers s so.items so.given t (Bad ∷ []) [] t so.served refl;
-    said = (
-      inr (inr record { one = so.one; some = omega arith; at_end = end }),
-      subst (WritesFront o q) (sym (texts-append answers s so.items so.given t (Bad ∷ []) [] so.served))
-          (front_then o p q _ _ so.wrote (subst (WritesFront p q) (sym (append-nil (error_text EPROTO))) h.1)),
-    );
-  }
+module _ {S : Type 0} {answers : Answering S} {service : S × S} {input written : Known × Known} {output : Output} {rest : List ℕ} where
+  pub through_short : Through answers service input written output rest (Ok true) → length rest ≤ longest_line
+  through_short so = rw (← so.answered.left.1) so.answered.left.3
 
--- reading nothing leaves a reader as it was
-pub keeps_from_none : (j k : Option (List ℕ)) (piece : List ℕ) → length piece ≡ 0 → Consumes j k piece → Keeps j k
-keeps_from_none None k piece e h = tt
-keeps_from_none (Some x) None piece e h = absurd h
-keeps_from_none (Some x) (Some y) [] e h = sym h
-keeps_from_none (Some x) (Some y) (b ∷ piece) e h = absurd (omega arith)
+  -- the session ends, and no more is said than what was answered
+  session_of : {r : Result Bool WriteFailed} (so : Through answers service input written output rest r) (ends : Result ⊤ SessionFault)
+      → (let a = so.answered in Said ends so.read a.last a.rest input.1 written (texts (a.items ++ a.last) a.given))
+      → Session answers service input written ends
+  session_of so ends said =
+      let a = so.answered in
+      record {
+        read = so.read;
+        items = a.items;
+        last = a.last;
+        given = a.given;
+        rest = a.rest;
+        consumed = so.consumed;
+        lines = a.lines;
+        served = a.served;
+        said = said;
+      }
 
-module _ {S : Type 0} (answers : Answering S) where
-  pub answered_as : (s t : S) (o p : Option (List ℕ)) (out : Output) (bytes joined : List ℕ) (used : ℕ) (r q : Result Bool WriteFailed) → bytes ≡ joined → r ≡ q
-      → Answered answers s t o p out bytes (drop used bytes) r → Answered answers s t o p out joined (drop used joined) q
-  answered_as s t o p out bytes joined used r q e f a = subst (λ b. Answered answers s t o p out b (drop used b) q) e (subst (Answered answers s t o p out bytes (drop used bytes)) f a)
+  -- a line was bad
+  pub session_bad : Through answers service input written output rest (Ok false) → Session answers service input written (Ok tt)
+  session_bad so = session_of so (Ok tt) (bad_end _ _ _ so.answered.left, so.answered.wrote)
 
-  pub answered_short : (s t : S) (o p : Option (List ℕ)) (out : Output) (bytes after : List ℕ) → Answered answers s t o p out bytes after (Ok true) → length after ≤ longest_line
-  answered_short s t o p out bytes after a = subst (λ l. length l ≤ longest_line) a.left.1 a.left.3
+  -- a write failed
+  pub session_unwritten : {e : WriteFailed} → Through answers service input written output rest (Err e)
+      → Session answers service input written (Err fault.Write)
+  session_unwritten so = session_of so (Err fault.Write) (ends so.answered.left, so.answered.wrote)
+    where
+      ends : (so.answered.last ≡ []) ⊎ ((so.answered.last ≡ Bad ∷ []) × IsBadEnd so.answered.rest)
+          → (so.answered.last ≡ []) ⊎ Ends so.answered.rest input.1 so.answered.last
+      ends (inl none) = inl none
+      ends (inr bad) = inr (bad_end _ _ _ bad)
+
+  -- a read failed
+  pub session_unread : Through answers service input written output rest (Ok true) → Session answers service input written (Err fault.Read)
+  session_unread so = session_of so (Err fault.Read) (so.answered.left.0, so.answered.left.2, so.answered.wrote)
+
+  -- the input ended within a line
+  cut_end : Through answers service input written output rest (Ok true) → 0 < length rest → IsAtEnd input.1 → IsCut rest input.1
+  cut_end so some end = record { one = rw so.answered.left.1 at so.answered.left.2; some = some; at_end = end }
+
+module _ {S : Type 0} {answers : Answering S} {service : S × S} {input : Known × Known} {o p q : Known} {output : Output} where
+  -- the session ends with the input, and something more may be said
+  session_last : {rest : List ℕ} (so : Through answers service input (o, p) output rest (Ok true)) (last : List Item)
+      → Serves answers service.1 last [] service.1 → (ends : Result ⊤ SessionFault) → Writes p q ends (texts last [])
+      → ((text : List ℕ) → Writes o q ends text → Said ends so.read last rest input.1 (o, q) text) → Session answers service input (o, q) ends
+  session_last {rest} so last serves ends more says =
+      let a = so.answered in
+      let (served, wrote) = no_last a in
+      record {
+        read = so.read;
+        items = a.items;
+        last = last;
+        given = a.given ++ [];
+        rest = rest;
+        consumed = so.consumed;
+        lines = rw a.left.1 at a.lines;
+        served = Serves-append answers service.0 a.items a.given service.1 last [] service.1 served serves;
+        said = says _ (rw (texts-append answers service.0 a.items a.given service.1 last [] served) (writes_then ends o p q _ _ wrote more));
+      }
+
+  -- the input has ended, after a line feed or within a line, which is bad
+  session_ended : (r : Result ⊤ SessionFault) (rest : List ℕ) → Through answers service input (o, p) output rest (Ok true) → IsAtEnd input.1
+      → Ended rest p q r → Session answers service input (o, q) r
+  session_ended r [] so end ended =
+      let nothing : Appends p q [] = Appends-kept p p q [] (Appends-nil p) ended.1 in
+      rw ended.0 (session_last so [] refl (Ok tt) nothing (λ text wrote. ((refl, end), wrote)))
+  session_ended (Ok v) (b ∷ rest) so end ended =
+      session_last so (Bad ∷ []) refl (Ok v) (rw append-nil ended) (λ text wrote. (inr (cut_end so (omega arith) end), wrote))
+  session_ended (Err e) (b ∷ rest) so end ended =
+      let cut = cut_end so (omega arith) end in
+      rw ended.0 (session_last so (Bad ∷ []) refl (Err fault.Write) (rw append-nil ended.1) (λ text wrote. (inr (inr cut), wrote)))
+
+pub session_end : {S : Type 0} {answers : Answering S} {service : S × S} {i j k o p q : Known} {output : Output} {rest now : List ℕ} {n : ℕ}
+    {r : Result ⊤ SessionFault} → Through answers service (i, j) (o, p) output rest (Ok true) → ReadSome j k rest now n → n ≡ 0 → Ended now p q r
+    → Session answers service (i, k) (o, q) r
+session_end {now = now} {r = r} so found none ended = session_ended r now (through_end so found none) (found.at_end none) ended
 
 -- what is said to a last line that isn't ended
-pub ended_ok : (rest : List ℕ) (old new : Option (List ℕ)) → false ≡ (length rest == 0) → Appends old new (error_text EPROTO) → Ended rest old new (Ok tt)
-ended_ok [] old new some h = absurd (false≢true some)
-ended_ok (b ∷ rest) old new some h = h
+pub ended_ok : (rest : List ℕ) (old new : Known) → false ≡ (length rest == 0) → Appends old new (error_text EPROTO) → Ended rest old new (Ok tt)
+ended_ok [] old new some wrote = absurd (false≢true some)
+ended_ok (b ∷ rest) old new some wrote = wrote
 
-pub ended_err : (rest : List ℕ) (old new : Option (List ℕ)) → false ≡ (length rest == 0) → WritesFront old new (error_text EPROTO) → Ended rest old new (Err fault.Write)
-ended_err [] old new some h = absurd (false≢true some)
-ended_err (b ∷ rest) old new some h = (refl, h)
-
--- what is there after nothing was read
-pub nothing_read : (rest slice joined piece : List ℕ) → slice ≡ joined → joined ≡ rest ++ piece → length piece ≡ 0 → slice ≡ rest
-nothing_read rest slice joined [] e f none = e ∙ f ∙ append-nil rest
-nothing_read rest slice joined (b ∷ piece) e f none = absurd (omega arith)
+pub ended_err : (rest : List ℕ) (old new : Known) → false ≡ (length rest == 0) → WritesFront old new (error_text EPROTO) → Ended rest old new (Err fault.Write)
+ended_err [] old new some wrote = absurd (false≢true some)
+ended_err (b ∷ rest) old new some wrote = (refl, wrote)

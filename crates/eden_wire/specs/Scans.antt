@@ -3,11 +3,13 @@ use Rattle.std.specs.Prelude.{ℕ, ◌≡◌, ◌≤◌, Bool, ◌||◌, ◌&&�
 use Rattle.std.specs.List.{AllByRecursion}
 use Rattle.std.specs.Str.{bytes_eq}
 use Rattle.std.specs.Option.{option_or}
-use Rattle.eden_model.specs.Names.{name_refusal}
+use Rattle.eden_model.specs.Names.{most_name, name_refusal}
+use Rattle.eden_model.specs.Paths.{most_names, most_path}
 use Rattle.eden_model.specs.declared.errno.Errno.{Errno}
 use Rattle.eden_model.specs.declared.errno.Errno.TheVariants.{EINVAL, ENAMETOOLONG}
 use Rattle.eden_wire.specs.Names.{name_text, path_text, IsComponent, AreBytes}
-use Rattle.eden_wire.specs.Fields.{Field, sort_of, hex_text, after_text, field_text, fields_text, IsAfter, IsField, AreFields, spelled_refusal, after_refusal, field_refusal, first_refusal}
+use Rattle.eden_wire.specs.Fields.{Field, sort_of, hex_text, after_text, field_text, fields_text, IsAfter, IsField, AreFields}
+use Rattle.eden_wire.specs.Fields.{spelled_refusal, after_refusal, field_refusal, first_refusal}
 use Rattle.eden_wire.specs.declared.word.Sort.{Sort}
 
 abbrev pub is_dots : List ℕ → Bool
@@ -15,11 +17,11 @@ is_dots text = bytes_eq text (46 ∷ []) || bytes_eq text (46 ∷ 46 ∷ [])
 
 -- why a component is refused, of which it is known whether it is no name and how long it is
 abbrev pub refusal_by : Bool → ℕ → Option Errno
-refusal_by no_name len = if no_name then Some EINVAL else (if nat_lt 255 len then Some ENAMETOOLONG else None)
+refusal_by no_name len = if no_name then Some EINVAL else (if nat_lt most_name len then Some ENAMETOOLONG else None)
 
 -- why a path is refused: the first refusal of its components, or too many names or bytes
 abbrev pub too_long_by : Option Errno → ℕ → ℕ → Option Errno
-too_long_by first names bytes = option_or first (if nat_lt 256 names || nat_lt 4095 bytes then Some ENAMETOOLONG else None)
+too_long_by first names bytes = option_or first (if nat_lt most_names names || nat_lt most_path bytes then Some ENAMETOOLONG else None)
 
 abbrev pub SpellsNoName : List ℕ → Type 0
 SpellsNoName text = (name : List ℕ) → IsComponent name → text ≡ name_text name → ⊥

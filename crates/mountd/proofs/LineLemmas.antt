@@ -18,8 +18,11 @@ use Rattle.clap.specs.Faults.{fault_of}
 use Rattle.clap.specs.Values.{kind_of}
 use Rattle.clap.specs.declared.error.Error.{Error}
 use Rattle.clap.specs.declared.error.kind.ErrorKind.TheVariants.{OutOfMemory}
-use Rattle.mountd.specs.CommandLine.{IsTaken, Refuses, RefusesNumbers, RefusesValues, import, mountd_line, named, objects, stdio, subcommands, value_of}
-use Rattle.mountd.specs.Grammar.{HasRequired, value_in}
+use Rattle.mountd.specs.CommandLine.{IsTaken, Refuses, RefusesNumber, RefusesNumbers, RefusesValues, command_name, import, mountd_line, named, objects, serve, stdio, subcommands, value_of}
+use Rattle.mountd.specs.Grammar.{HasRequired, Meets, Subcommand, value_in}
+use Rattle.mountd.specs.Numbers.{IsNoNumber, number_name}
+use Rattle.mountd.specs.declared.numbers.NumberOption.{NumberOption}
+use Rattle.mountd.specs.declared.options.MountCommand.{MountCommand}
 use Rattle.mountd.specs.declared.options.OptionsError.{OptionsError}
 use Rattle.mountd.specs.declared.options.OptionsError.TheVariants as error
 use Rattle.mountd.proofs.MetLines.{Meets-taken}
@@ -55,65 +58,70 @@ abbrev rows_or : Option (Text × List Row) → List Row
 rows_or None = []
 rows_or (Some p) = p.1
 
-other_name : (a b : Text) (o : Option (Text × List Row)) (rows more : List Row) → bytes_eq a b ≡ false → o ≡ Some (a, rows) → o ≡ Some (b, more) → ⊥
-other_name a b o rows more differ e f =
-    let both : Some (a, rows) ≡ Some (b, more) = sym e ∙ f in
-    let same : a ≡ b = ap name_or both in
-    let bad : bytes_eq a b ≡ true = (bytes_eq-Decides a b).1 same in
-    true≢false (sym bad ∙ differ)
-
-same_rows : (a : Text) (o : Option (Text × List Row)) (rows more : List Row) → o ≡ Some (a, rows) → o ≡ Some (a, more) → rows ≡ more
-same_rows a o rows more e f =
-    let both : Some (a, rows) ≡ Some (a, more) = sym e ∙ f in
-    ap rows_or both
-
 named_by : (m : ArgMatches) (words : List Text) (name : Text) (found : List Row) → subcommand_rows_of m ≡ subcommand_of mountd_line words
     → subcommand_of mountd_line words ≡ Some (name, found) → subcommand_name_of m ≡ Some name
 named_by m words name found rows met = name_of_rows m ∙ ap (option_map (λ p. p.0)) (rows ∙ met)
 
--- what `stdio` requires is there, where it was met
-pub stdio-required : (words : List Text) (f : Found) → IsTaken words → subcommand_of mountd_line words ≡ Some (stdio.0, rows_of f)
-    → HasRequired stdio.1 (rows_of f)
-stdio-required words f taken met =
-    elim (Meets-taken (codes "mountd") subcommands words taken) [
-      | inl is ↦ subst (HasRequired stdio.1) (same_rows stdio.0 (subcommand_of mountd_line words) is.0 (rows_of f) is.1 met) is.2
-      | inr (inl is) ↦ absurd (other_name stdio.0 objects.0 (subcommand_of mountd_line words) (rows_of f) is.0 refl met is.1)
-      | inr (inr (inl is)) ↦ absurd (other_name stdio.0 import.0 (subcommand_of mountd_line words) (rows_of f) is.0 refl met is.1)
-      | inr (inr (inr none)) ↦ absurd none
-    ]
+-- ---- one of several subcommands, of which no two have one name
 
--- .. and `objects`
-pub objects-required : (words : List Text) (f : Found) → IsTaken words → subcommand_of mountd_line words ≡ Some (objects.0, rows_of f)
-    → HasRequired objects.1 (rows_of f)
-objects-required words f taken met =
-    elim (Meets-taken (codes "mountd") subcommands words taken) [
-      | inl is ↦ absurd (other_name objects.0 stdio.0 (subcommand_of mountd_line words) (rows_of f) is.0 refl met is.1)
-      | inr (inl is) ↦ subst (HasRequired objects.1) (same_rows objects.0 (subcommand_of mountd_line words) is.0 (rows_of f) is.1 met) is.2
-      | inr (inr (inl is)) ↦ absurd (other_name objects.0 import.0 (subcommand_of mountd_line words) (rows_of f) is.0 refl met is.1)
-      | inr (inr (inr none)) ↦ absurd none
-    ]
+abbrev Includes : List Subcommand → Subcommand → Type 0
+Includes [] one = ⊥
+Includes (subcommand ∷ rest) one = (one ≡ subcommand) ⊎ Includes rest one
 
--- .. and `import`
-pub import-required : (words : List Text) (f : Found) → IsTaken words → subcommand_of mountd_line words ≡ Some (import.0, rows_of f)
-    → HasRequired import.1 (rows_of f)
-import-required words f taken met =
-    elim (Meets-taken (codes "mountd") subcommands words taken) [
-      | inl is ↦ absurd (other_name import.0 stdio.0 (subcommand_of mountd_line words) (rows_of f) is.0 refl met is.1)
-      | inr (inl is) ↦ absurd (other_name import.0 objects.0 (subcommand_of mountd_line words) (rows_of f) is.0 refl met is.1)
-      | inr (inr (inl is)) ↦ subst (HasRequired import.1) (same_rows import.0 (subcommand_of mountd_line words) is.0 (rows_of f) is.1 met) is.2
-      | inr (inr (inr none)) ↦ absurd none
-    ]
+-- none of them has this name
+abbrev Lack : Text → List Subcommand → Type 0
+Lack name [] = Unit {0}
+Lack name (subcommand ∷ rest) = (bytes_eq name subcommand.0 ≡ false) × Lack name rest
 
--- what is neither `stdio` nor `objects` is `import`
+abbrev AreApart : List Subcommand → Type 0
+AreApart [] = Unit {0}
+AreApart (subcommand ∷ rest) = Lack subcommand.0 rest × AreApart rest
+
+differ : (a b : Text) → bytes_eq a b ≡ false → a ≡ b → ⊥
+differ a b unlike same = true≢false (sym ((bytes_eq-Decides a b).1 same) ∙ unlike)
+
+none_met : (name : Text) (subcommands : List Subcommand) (rows : List Row) → Lack name subcommands → Meets subcommands (Some (name, rows)) → ⊥
+none_met name [] rows lack met = met
+none_met name (subcommand ∷ rest) rows lack (inl is) = differ name subcommand.0 lack.0 (ap name_or is.1)
+none_met name (subcommand ∷ rest) rows lack (inr later) = none_met name rest rows lack.1 later
+
+none_among : (name : Text) (subcommands : List Subcommand) (one : Subcommand) → Lack name subcommands → Includes subcommands one → name ≡ one.0 → ⊥
+none_among name [] one lack among same = among
+none_among name (subcommand ∷ rest) one lack (inl is) same = differ name subcommand.0 lack.0 (same ∙ ap (λ (s : Subcommand). s.0) is)
+none_among name (subcommand ∷ rest) one lack (inr among) same = none_among name rest one lack.1 among same
+
+required_met : (subcommands : List Subcommand) (one : Subcommand) (rows : List Row) → AreApart subcommands → Includes subcommands one
+    → Meets subcommands (Some (one.0, rows)) → HasRequired one.1 rows
+required_met [] one rows apart among met = absurd met
+required_met (subcommand ∷ rest) one rows apart (inl same) (inl is) =
+    let here : HasRequired subcommand.1 rows = subst (HasRequired subcommand.1) (sym (ap rows_or is.1)) is.2 in
+    subst (λ (s : Subcommand). HasRequired s.1 rows) (sym same) here
+required_met (subcommand ∷ rest) one rows apart (inl same) (inr later) =
+    absurd (none_met subcommand.0 rest rows apart.0 (subst (λ (s : Subcommand). Meets rest (Some (s.0, rows))) same later))
+required_met (subcommand ∷ rest) one rows apart (inr among) (inl is) =
+    absurd (none_among subcommand.0 rest one apart.0 among (sym (ap name_or is.1)))
+required_met (subcommand ∷ rest) one rows apart (inr among) (inr later) = required_met rest one rows apart.1 among later
+
+apart : AreApart subcommands
+apart = ((refl, (refl, (refl, tt))), ((refl, (refl, tt)), ((refl, tt), (tt, tt))))
+
+-- what a subcommand requires is there, where it was met
+pub required-taken : (one : Subcommand) (words : List Text) (f : Found) → Includes subcommands one → IsTaken words
+    → subcommand_of mountd_line words ≡ Some (one.0, rows_of f) → HasRequired one.1 (rows_of f)
+required-taken one words f among taken met =
+    required_met subcommands one (rows_of f) apart among (subst (Meets subcommands) met (Meets-taken (codes "mountd") subcommands words taken))
+
+-- what is neither `stdio` nor `serve` nor `objects` is `import`
 pub import-named : (words : List Text) (m : ArgMatches) → IsTaken words → subcommand_rows_of m ≡ subcommand_of mountd_line words
-    → (subcommand_name_of m ≡ Some stdio.0 → false ≡ true) → (subcommand_name_of m ≡ Some objects.0 → false ≡ true)
-    → subcommand_name_of m ≡ Some import.0
-import-named words m taken rows no_stdio no_objects =
+    → (subcommand_name_of m ≡ Some stdio.0 → false ≡ true) → (subcommand_name_of m ≡ Some serve.0 → false ≡ true)
+    → (subcommand_name_of m ≡ Some objects.0 → false ≡ true) → subcommand_name_of m ≡ Some import.0
+import-named words m taken rows no_stdio no_serve no_objects =
     elim (Meets-taken (codes "mountd") subcommands words taken) [
       | inl is ↦ absurd (true≢false (sym (no_stdio (named_by m words stdio.0 is.0 rows is.1))))
-      | inr (inl is) ↦ absurd (true≢false (sym (no_objects (named_by m words objects.0 is.0 rows is.1))))
-      | inr (inr (inl is)) ↦ named_by m words import.0 is.0 rows is.1
-      | inr (inr (inr none)) ↦ absurd none
+      | inr (inl is) ↦ absurd (true≢false (sym (no_serve (named_by m words serve.0 is.0 rows is.1))))
+      | inr (inr (inl is)) ↦ absurd (true≢false (sym (no_objects (named_by m words objects.0 is.0 rows is.1))))
+      | inr (inr (inr (inl is))) ↦ named_by m words import.0 is.0 rows is.1
+      | inr (inr (inr (inr none))) ↦ absurd none
     ]
 
 pub named-met : (words : List Text) (f : Found) (name : Text) → subcommand_of mountd_line words ≡ Some (name, rows_of f) → named words ≡ Some name
@@ -127,16 +135,18 @@ by_words P words f name met h =
     first_value-rows f option ∙ sym (ap (λ (o : Option (Text × List Row)). value_in o option) met)) in
     subst P same h
 
--- values that `stdio` refuses
-pub values_refuse : (words : List Text) (f : Found) (why : OptionsError) → IsTaken words
-    → subcommand_of mountd_line words ≡ Some (stdio.0, rows_of f) → RefusesValues (first_value f) why → Refuses words why
-values_refuse words f why taken met refused =
-    by_fault why (by_words (λ value. RefusesValues value why) words f stdio.0 met refused)
+-- values that a command refuses which opens a mount
+pub values_refuse : (command : MountCommand) (words : List Text) (f : Found) (why : OptionsError) → IsTaken words
+    → subcommand_of mountd_line words ≡ Some (command_name command, rows_of f) → RefusesValues command (first_value f) why → Refuses words why
+values_refuse command words f why taken met refused =
+    by_fault why (by_words (λ value. RefusesValues command value why) words f (command_name command) met refused)
   where
-    by_fault : (e : OptionsError) → RefusesValues (value_of words) e → Refuses words e
+    by_fault : (e : OptionsError) → RefusesValues command (value_of words) e → Refuses words e
     by_fault (error.Refused reason) why = absurd why
     by_fault error.Root why = (taken, why)
-    by_fault error.Source why = (taken, named-met words f stdio.0 met, why)
+    by_fault (error.Source refusing) why =
+        let named_so : named words ≡ Some (command_name refusing) = named-met words f (command_name command) met ∙ ap (λ c. Some (command_name c)) (sym why.0) in
+        (taken, named_so, why.1)
     by_fault (error.Number option) why = (taken, why)
     by_fault error.Memory why = tt
 
@@ -149,9 +159,16 @@ numbers_refuse words f why taken met refused =
     by_fault : (e : OptionsError) → RefusesNumbers (value_of words) e → Refuses words e
     by_fault (error.Refused reason) why = absurd why
     by_fault error.Root why = absurd why
-    by_fault error.Source why = absurd why
+    by_fault (error.Source command) why = absurd why
     by_fault (error.Number option) why = (taken, why)
     by_fault error.Memory why = tt
+
+-- a value that an option was to read as its number
+pub refused_number : (value : Text → Option Text) (option refused : NumberOption) (text : Text) → refused ≡ option
+    → value (number_name option) ≡ Some text → IsNoNumber option text → RefusesNumber value refused
+refused_number value option refused text is given none =
+    let own : RefusesNumber value option = (text, given, none) in
+    subst (RefusesNumber value) (sym is) own
 
 -- an error of `clap`
 pub clap_refuses : (words : List Text) (reason : Error) (e : OptionsError) → HasKind (fault_of mountd_line words) reason

@@ -1,5 +1,5 @@
 -- What the program's command line says.
-use Rattle.std.specs.Prelude.{◌≡◌, ◌↔◌, ◌^◌, ⊤, List, [], ◌∷◌, Option, Some, None, is_some, codes, option_map, string_bytes}
+use Rattle.std.specs.Prelude.{◌≡◌, ◌↔◌, ◌^◌, ℕ, ⊤, List, [], ◌∷◌, ◌++◌, Option, Some, None, is_some, codes, option_map, string_bytes}
 use Rattle.clap.specs.Kinds.{IsAmong}
 use Rattle.clap.specs.Words.{App, Text, fault_of, kind_of, subcommand_of}
 use Rattle.hex.specs.Hex.{encode_lower}
@@ -9,28 +9,44 @@ use Rattle.eden_mount.specs.Settings.{Settings}
 use Rattle.mountd.specs.Grammar.{LineOption, Subcommand, flag, optional, program, required, value_in}
 use Rattle.mountd.specs.Numbers.{GivesNumber, IsNoNumber, SaysNumber, number_name}
 use Rattle.mountd.specs.declared.numbers.NumberOption.{NumberOption}
-use Rattle.mountd.specs.declared.numbers.NumberOption.TheVariants.{History, CacheEntries, CacheBytes, Remote, Port, Sessions}
+use Rattle.mountd.specs.declared.numbers.NumberOption.TheVariants.{History, CacheEntries, CacheBytes, Remote, Port, Sessions, Fetchers}
 use Rattle.mountd.specs.declared.options.Command.{Command}
 use Rattle.mountd.specs.declared.options.Command.TheVariants as command
 use Rattle.mountd.specs.declared.options.ImportOptions.{ImportOptions}
+use Rattle.mountd.specs.declared.options.MountCommand.{MountCommand}
+use Rattle.mountd.specs.declared.options.MountCommand.TheVariants as by
+use Rattle.mountd.specs.declared.options.MountOptions.{MountOptions}
 use Rattle.mountd.specs.declared.options.Objects.{Objects}
 use Rattle.mountd.specs.declared.options.Objects.TheVariants as place
 use Rattle.mountd.specs.declared.options.ObjectsOptions.{ObjectsOptions}
 use Rattle.mountd.specs.declared.options.OptionsError.{OptionsError}
 use Rattle.mountd.specs.declared.options.OptionsError.TheVariants as error
-use Rattle.mountd.specs.declared.options.StdioOptions.{StdioOptions}
+use Rattle.mountd.specs.declared.options.ServeOptions.{ServeOptions}
 
--- `[--overlay DIR] [--rescan] [--history N] [--cache-entries N] [--cache-bytes N]`, of whatever opens a mount
-abbrev pub mount_options : List LineOption
-mount_options = optional (codes "overlay") ∷ flag (codes "rescan") ∷ optional (number_name History)
+-- the name of a command that opens a mount
+abbrev pub command_name : MountCommand → Text
+command_name by.Stdio = codes "stdio"
+command_name by.Serve = codes "serve"
+
+-- `[--overlay DIR] [--rescan] [--history N] [--cache-entries N] [--cache-bytes N]`, of what a mount keeps
+abbrev pub kept_options : List LineOption
+kept_options = optional (codes "overlay") ∷ flag (codes "rescan") ∷ optional (number_name History)
     ∷ optional (number_name CacheEntries) ∷ optional (number_name CacheBytes) ∷ []
 
-abbrev pub stdio_options : List LineOption
-stdio_options = required (codes "root") ∷ optional (codes "objects") ∷ optional (number_name Remote) ∷ mount_options
+-- `--root ID [--objects DIR] [--remote PORT]` with these, of whatever opens a mount
+abbrev pub mount_options : List LineOption
+mount_options = required (codes "root") ∷ optional (codes "objects") ∷ optional (number_name Remote) ∷ kept_options
 
--- `stdio --root ID [--objects DIR] [--remote PORT]` with the options of a mount
+-- `stdio` with the options of a mount
 abbrev pub stdio : Subcommand
-stdio = (codes "stdio", stdio_options)
+stdio = (command_name by.Stdio, mount_options)
+
+abbrev pub serve_options : List LineOption
+serve_options = mount_options ++ required (number_name Port) ∷ optional (number_name Sessions) ∷ optional (number_name Fetchers) ∷ []
+
+-- `serve` with the options of a mount, and `--port P [--sessions N] [--fetchers N]`
+abbrev pub serve : Subcommand
+serve = (command_name by.Serve, serve_options)
 
 abbrev pub objects_options : List LineOption
 objects_options = required (codes "dir") ∷ required (number_name Port) ∷ optional (number_name Sessions) ∷ []
@@ -47,7 +63,7 @@ abbrev pub import : Subcommand
 import = (codes "import", import_options)
 
 abbrev pub subcommands : List Subcommand
-subcommands = stdio ∷ objects ∷ import ∷ []
+subcommands = stdio ∷ serve ∷ objects ∷ import ∷ []
 
 abbrev pub mountd_line : App
 mountd_line = program (codes "mountd") subcommands
@@ -64,9 +80,14 @@ value_of words = value_in (subcommand_of mountd_line words)
 abbrev pub IsGiven : (Text → Option Text) → Text → Type 0
 IsGiven value name = value name ≡ Some (codes "true")
 
--- the limits of a mount with one caller are what these values say
-pub record SaysLimits (value : Text → Option Text) (limits : Settings) : Type 0 where
-  pub passes : limits.passes ≡ 1
+-- how many callers there are of the mount that a command opens
+abbrev pub SaysPasses : MountCommand → (Text → Option Text) → ℕ → Type 0
+SaysPasses by.Stdio value n = n ≡ 1
+SaysPasses by.Serve value n = SaysNumber Sessions 1 (value (number_name Sessions)) n
+
+-- the limits of the mount that a command opens are what these values say
+pub record SaysLimits (command : MountCommand) (value : Text → Option Text) (limits : Settings) : Type 0 where
+  pub passes : SaysPasses command value limits.passes
   pub flights : limits.flights ≡ 16
   pub history : SaysNumber History 1000000 (value (number_name History)) limits.history
   pub entries : SaysNumber CacheEntries 1024 (value (number_name CacheEntries)) limits.entries
@@ -83,13 +104,23 @@ SaysObjects value (place.Port port) = (value (codes "objects") ≡ None) × Give
 abbrev pub NamesNotOne : (Text → Option Text) → Type 0
 NamesNotOne value = is_some (value (codes "objects")) ≡ is_some (value (number_name Remote))
 
--- what is to be served is what these values say
-pub record IsAsked (value : Text → Option Text) (options : StdioOptions) : Type 0 where
+-- the root is no id
+abbrev pub NamesNoRoot : (Text → Option Text) → Type 0
+NamesNoRoot value = (root : Text) × (value (codes "root") ≡ Some root) × ¬ IsIdText root
+
+-- the mount that a command is to open is what these values say
+pub record IsMount (command : MountCommand) (value : Text → Option Text) (options : MountOptions) : Type 0 where
   pub root : value (codes "root") ≡ Some (encode_lower options.root.bytes)
   pub objects : SaysObjects value options.objects
   pub overlay : value (codes "overlay") ≡ option_map string_bytes options.overlay
   pub opening : (options.opening ≡ opening.Rescan) ↔ IsGiven value (codes "rescan")
-  pub limits : SaysLimits value options.limits
+  pub limits : SaysLimits command value options.limits
+
+-- what is to be served, where, and with how many fetchers is what these values say
+pub record IsServed (value : Text → Option Text) (options : ServeOptions) : Type 0 where
+  pub mount : IsMount by.Serve value options.mount
+  pub port : GivesNumber Port (value (number_name Port)) options.port
+  pub fetchers : SaysNumber Fetchers 2 (value (number_name Fetchers)) options.fetchers
 
 -- whose objects are to be served, and where, is what these values say
 pub record AreServed (value : Text → Option Text) (options : ObjectsOptions) : Type 0 where
@@ -104,7 +135,8 @@ pub record IsImport (value : Text → Option Text) (options : ImportOptions) : T
 
 -- the words ask for this
 abbrev pub AsksFor : List Text → Command → Type 0
-AsksFor words (command.Stdio options) = (named words ≡ Some stdio.0) × IsAsked (value_of words) options
+AsksFor words (command.Stdio options) = (named words ≡ Some stdio.0) × IsMount by.Stdio (value_of words) options
+AsksFor words (command.Serve options) = (named words ≡ Some serve.0) × IsServed (value_of words) options
 AsksFor words (command.Objects options) = (named words ≡ Some objects.0) × AreServed (value_of words) options
 AsksFor words (command.Import options) = (named words ≡ Some import.0) × IsImport (value_of words) options
 
@@ -120,22 +152,22 @@ RefusesNumber value option = (text : Text) × (value (number_name option) ≡ So
 abbrev pub RefusesNumbers : (Text → Option Text) → OptionsError → Type 0
 RefusesNumbers value (error.Refused why) = ⊥
 RefusesNumbers value error.Root = ⊥
-RefusesNumbers value error.Source = ⊥
+RefusesNumbers value (error.Source command) = ⊥
 RefusesNumbers value (error.Number option) = RefusesNumber value option
 RefusesNumbers value error.Memory = ⊤
 
--- .. and `stdio`
-abbrev pub RefusesValues : (Text → Option Text) → OptionsError → Type 0
-RefusesValues value (error.Refused why) = ⊥
-RefusesValues value error.Root = (root : Text) × (value (codes "root") ≡ Some root) × ¬ IsIdText root
-RefusesValues value error.Source = NamesNotOne value
-RefusesValues value (error.Number option) = RefusesNumber value option
-RefusesValues value error.Memory = ⊤
+-- .. and a command that opens a mount
+abbrev pub RefusesValues : MountCommand → (Text → Option Text) → OptionsError → Type 0
+RefusesValues command value (error.Refused why) = ⊥
+RefusesValues command value error.Root = NamesNoRoot value
+RefusesValues command value (error.Source refusing) = (refusing ≡ command) × NamesNotOne value
+RefusesValues command value (error.Number option) = RefusesNumber value option
+RefusesValues command value error.Memory = ⊤
 
 -- why the words are refused
 abbrev pub Refuses : List Text → OptionsError → Type 0
 Refuses words (error.Refused why) = IsAmong (kind_of why) (fault_of mountd_line words)
-Refuses words error.Root = IsTaken words × RefusesValues (value_of words) error.Root
-Refuses words error.Source = IsTaken words × (named words ≡ Some stdio.0) × NamesNotOne (value_of words)
+Refuses words error.Root = IsTaken words × NamesNoRoot (value_of words)
+Refuses words (error.Source command) = IsTaken words × (named words ≡ Some (command_name command)) × NamesNotOne (value_of words)
 Refuses words (error.Number option) = IsTaken words × RefusesNumber (value_of words) option
 Refuses words error.Memory = ⊤

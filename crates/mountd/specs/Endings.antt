@@ -6,6 +6,8 @@ use Rattle.eden_checkout.specs.declared.fault.OpenFault.{OpenFault}
 use Rattle.eden_checkout.specs.declared.fault.OpenFault.TheVariants as opens
 use Rattle.eden_serve.specs.declared.fault.LifeFault.{LifeFault}
 use Rattle.eden_serve.specs.declared.fault.LifeFault.TheVariants as life
+use Rattle.eden_life.specs.declared.fault.SharedLifeFault.{SharedLifeFault}
+use Rattle.eden_life.specs.declared.fault.SharedLifeFault.TheVariants as shared
 use Rattle.eden_importer.specs.declared.fault.ImportFault.{ImportFault}
 use Rattle.eden_remote.specs.declared.fault.AnswerFault.{AnswerFault}
 use Rattle.mountd.specs.declared.hold.HoldFault.{HoldFault}
@@ -47,6 +49,14 @@ status_of (Ok _) = 0
 status_of (Err (life.Open fault)) = 3
 status_of (Err (life.Session fault)) = 4
 status_of (Err (life.Close fault)) = 4
+
+-- .. of a shared one
+abbrev pub shared_status : Result ⊤ SharedLifeFault → ℕ
+shared_status (Ok _) = 0
+shared_status (Err (shared.Open fault)) = 3
+shared_status (Err shared.Listen) = 4
+shared_status (Err (shared.Session fault)) = 4
+shared_status (Err (shared.Close fault)) = 4
 
 -- .. and of a server of objects; how it ended, by how its connections were taken and served
 abbrev pub server_status : Result ⊤ ServerFault → ℕ

@@ -2,7 +2,7 @@
 use Rattle.std.specs.Prelude.{◌≡◌, ◌≤◌, ◌^◌, ◌-◌, ℕ, Option, Some, None, codes, decimal}
 use Rattle.clap.specs.Words.{Text}
 use Rattle.mountd.specs.declared.numbers.NumberOption.{NumberOption}
-use Rattle.mountd.specs.declared.numbers.NumberOption.TheVariants.{History, CacheEntries, CacheBytes, Remote, Port, Sessions}
+use Rattle.mountd.specs.declared.numbers.NumberOption.TheVariants.{History, CacheEntries, CacheBytes, Remote, Port, Sessions, Fetchers}
 
 abbrev pub number_name : NumberOption → Text
 number_name History = codes "history"
@@ -11,6 +11,7 @@ number_name CacheBytes = codes "cache-bytes"
 number_name Remote = codes "remote"
 number_name Port = codes "port"
 number_name Sessions = codes "sessions"
+number_name Fetchers = codes "fetchers"
 
 -- the least that each takes
 abbrev pub least_of : NumberOption → ℕ
@@ -20,6 +21,7 @@ least_of CacheBytes = 1
 least_of Remote = 1
 least_of Port = 0
 least_of Sessions = 1
+least_of Fetchers = 1
 
 -- .. and the greatest
 abbrev pub most_of : NumberOption → ℕ
@@ -29,6 +31,7 @@ most_of CacheBytes = 2 ^ 40
 most_of Remote = 65535
 most_of Port = 65535
 most_of Sessions = 64
+most_of Fetchers = 16
 
 -- the text is this number, which the option takes
 abbrev pub IsNumber : NumberOption → Text → ℕ → Type 0

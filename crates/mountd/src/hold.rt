@@ -68,7 +68,7 @@ impl From<TryLockError> for HoldFault {
 ///
 /// `Locked`, where another program holds it; `Device` and `Memory`, where those failed, or the folder or its lock can't
 /// be made.
-pub fn hold<R: Files<File = File>>(
+fn hold<R: Files<File = File>>(
     files: &R,
     alloc: Global,
     folder: &PathBuf,
@@ -83,4 +83,20 @@ pub fn hold<R: Files<File = File>>(
         .open(files, path.as_path())?;
     lock.try_lock()?;
     Ok(lock)
+}
+
+/// Holds the folder, where there is one. It comes back with its lock.
+///
+/// Errors: those of `hold`.
+pub fn hold_overlay<R: Files<File = File>>(
+    files: &R,
+    alloc: Global,
+    folder: Option<String>,
+) -> Result<Option<(PathBuf, File)>, HoldFault> {
+    let Some(folder) = folder else {
+        return Ok(None);
+    };
+    let folder = PathBuf::from(folder);
+    let lock = hold(files, alloc, &folder)?;
+    Ok(Some((folder, lock)))
 }

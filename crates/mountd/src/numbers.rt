@@ -16,10 +16,12 @@ pub enum NumberOption {
     CacheBytes,
     /// The port of the server that objects are asked of.
     Remote,
-    /// The port of a server of objects; 0 lets the machine choose one.
+    /// The port of a server; 0 lets the machine choose one.
     Port,
-    /// How many connections a server of objects takes.
+    /// How many connections a server takes.
     Sessions,
+    /// How many objects a served mount asks for at once.
+    Fetchers,
 }
 
 impl NumberOption {
@@ -34,6 +36,7 @@ impl NumberOption {
             NumberOption::Remote => "remote",
             NumberOption::Port => "port",
             NumberOption::Sessions => "sessions",
+            NumberOption::Fetchers => "fetchers",
         }
     }
 
@@ -47,7 +50,8 @@ impl NumberOption {
             | NumberOption::CacheEntries
             | NumberOption::CacheBytes
             | NumberOption::Remote
-            | NumberOption::Sessions => 1,
+            | NumberOption::Sessions
+            | NumberOption::Fetchers => 1,
         }
     }
 
@@ -61,6 +65,7 @@ impl NumberOption {
             NumberOption::CacheBytes => 1 << 40,
             NumberOption::Remote | NumberOption::Port => u16::MAX as u64,
             NumberOption::Sessions => 64,
+            NumberOption::Fetchers => 16,
         }
     }
 

@@ -3,9 +3,11 @@ ghost use Rattle.std.specs.Prelude.{◌≡◌, ◌≤◌, ◌⊎◌, ◌↔◌, 
 ghost use Rattle.clap.specs.declared.builder.command.Command.TheViews.{out-Command as fields_of};
 ghost use Rattle.clap.specs.declared.error.kind.ErrorKind.TheVariants.{OutOfMemory};
 ghost use Rattle.clap.specs.Words.{app_of, first_value, found_of, kind_of, rows_of, rule_of, shape_of, subcommand_of, subcommand_rows_of};
-ghost use Rattle.mountd.specs.CommandLine.{AreServed, AsksFor, IsAsked, IsGiven, IsImport, IsTaken, Refuses, RefusesNumber, RefusesNumbers, RefusesValues, SaysLimits, SaysObjects, import, import_options, mount_options, mountd_line, objects, objects_options, stdio, stdio_options};
+ghost use Rattle.mountd.specs.CommandLine.{AreServed, AsksFor, IsGiven, IsImport, IsMount, IsServed, IsTaken, Refuses, RefusesNumber, RefusesNumbers, RefusesValues, SaysLimits, SaysObjects, SaysPasses, command_name, import, import_options, kept_options, mount_options, mountd_line, objects, objects_options, serve, serve_options, stdio};
 ghost use Rattle.mountd.specs.Grammar.{HasRequired, flag, option_rule, optional, required, subcommand_shape, with_options};
 ghost use Rattle.mountd.specs.Numbers.{IsNoNumber, IsNumber, SaysNumber, least_of, most_of, number_name};
+ghost use Rattle.mountd.specs.declared.numbers.NumberOption.TheVariants.{Sessions};
+ghost use Rattle.mountd.specs.declared.options.MountCommand.TheVariants as by;
 ghost use Rattle.mountd.specs.declared.options.OptionsError.TheVariants as error;
 
 use crate::numbers::NumberOption;
@@ -17,6 +19,7 @@ use eden_mount::Config;
 use eden_object::parse_id;
 use std::alloc::{AllocError, Global};
 use std::convert::AsStr;
+use std::fmt::{self, Display, Formatter, Write};
 use thiserror::Error;
 
 /// How many objects may be asked for at once.
@@ -32,7 +35,13 @@ const CACHE_ENTRIES: u64 = 1_024;
 const CACHE_BYTES: u64 = 1 << 28;
 
 /// How many connections a server of objects takes, where it isn't said.
-const SESSIONS: u64 = 2;
+const OBJECTS_SESSIONS: u64 = 2;
+
+/// How many connections a mount is served to, where it isn't said.
+const MOUNT_SESSIONS: u64 = 1;
+
+/// How many fetchers a served mount has, where it isn't said.
+const FETCHERS: u64 = 2;
 
 /// How many lengths of contents are kept.
 const SIZES: usize = 65_536;
@@ -46,9 +55,36 @@ pub enum Objects {
     Port(u16),
 }
 
-/// What `mountd stdio` is asked to serve.
+/// A command that opens a mount.
+#[derive(Clone, Copy, Debug, PartialEq, Eq)]
+pub enum MountCommand {
+    /// One caller, over standard input and output.
+    Stdio,
+    /// A caller for each connection to a port.
+    Serve,
+}
+
+impl MountCommand {
+    /// Its name.
+    pub fn name(self) -> &'static str
+        ensures { result.now ≡ command_name self }
+    {
+        match self {
+            MountCommand::Stdio => "stdio",
+            MountCommand::Serve => "serve",
+        }
+    }
+}
+
+impl Display for MountCommand {
+    fn fmt<W: Write>(&self, f: &mut Formatter<W>) -> fmt::Result {
+        f.write_str(self.name())
+    }
+}
+
+/// What mount `mountd stdio` or `mountd serve` is asked to open.
 #[derive(Debug, Drop)]
-pub struct StdioOptions {
+pub struct MountOptions {
     /// The root directory's tree.
     pub root: Id,
     /// Where the objects come from.
@@ -57,8 +93,19 @@ pub struct StdioOptions {
     pub overlay: Option<String>,
     /// How the changes are opened.
     pub opening: Opening,
-    /// The limits of the mount, which has one caller.
+    /// The limits of the mount, which has a pass for each caller: one of `stdio`, and one a connection of `serve`.
     pub limits: Config,
+}
+
+/// What `mountd serve` is asked to serve, and where.
+#[derive(Debug, Drop)]
+pub struct ServeOptions {
+    /// The mount, which has as many passes as connections are served.
+    pub mount: MountOptions,
+    /// The port, or 0 for one that the machine chooses.
+    pub port: u16,
+    /// How many objects are asked for at once.
+    pub fetchers: u32,
 }
 
 /// Whose objects `mountd objects` is asked to serve, and where.
@@ -84,7 +131,8 @@ pub struct ImportOptions {
 /// What the program is asked for.
 #[derive(Debug, Drop)]
 pub enum Command {
-    Stdio(StdioOptions),
+    Stdio(MountOptions),
+    Serve(ServeOptions),
     Objects(ObjectsOptions),
     Import(ImportOptions),
 }
@@ -98,9 +146,9 @@ pub enum OptionsError {
     /// The value of `--root` is no id.
     #[error("mountd: --root takes 40 lower-case hexadecimal digits")]
     Root,
-    /// `stdio` is given neither or both of what objects may come from.
-    #[error("mountd: stdio takes one of --objects and --remote")]
-    Source,
+    /// This command is given neither or both of what objects may come from.
+    #[error("mountd: {0} takes one of --objects and --remote")]
+    Source(MountCommand),
     /// The value of this option is no number that it takes.
     #[error("mountd: {0}")]
     Number(NumberOption),
@@ -134,7 +182,10 @@ pub fn options<S: AsStr>(alloc: Global, words: &[S]) -> Result<Command, OptionsE
 {
     let matches = matches_of(alloc, words)?;
     if let Some(given) = matches.subcommand_matches("stdio") {
-        return Ok(Command::Stdio(stdio_options(alloc, given)?));
+        return Ok(Command::Stdio(mount_options(alloc, given, MountCommand::Stdio)?));
+    }
+    if let Some(given) = matches.subcommand_matches("serve") {
+        return Ok(Command::Serve(serve_options(alloc, given)?));
     }
     if let Some(given) = matches.subcommand_matches("objects") {
         return Ok(Command::Objects(objects_options(alloc, given)?));
@@ -144,18 +195,25 @@ pub fn options<S: AsStr>(alloc: Global, words: &[S]) -> Result<Command, OptionsE
     Ok(Command::Import(import_options(alloc, given)?))
 }
 
-fn stdio_options(alloc: Global, given: &ArgMatches) -> Result<StdioOptions, OptionsError>
-    requires { HasRequired stdio_options (rows_of (found_of given.now)) }
-    ensures ok { IfOk result (IsAsked (first_value (found_of given.now))) }
-    ensures err { IfErr result (RefusesValues (first_value (found_of given.now))) }
+/// The mount that the command is to open.
+///
+/// Of several errors the root's is told, then that of where the objects come from, then a number's.
+fn mount_options(
+    alloc: Global,
+    given: &ArgMatches,
+    command: MountCommand,
+) -> Result<MountOptions, OptionsError>
+    requires { HasRequired mount_options (rows_of (found_of given.now)) }
+    ensures ok { IfOk result (IsMount command (first_value (found_of given.now))) }
+    ensures err { IfErr result (RefusesValues command (first_value (found_of given.now))) }
 {
     let root = given.get_str("root").unwrap();
     let root = parse_id(root).ok_or(OptionsError::Root)?;
-    let objects = objects_of(alloc, given)?;
+    let objects = objects_of(alloc, given, command)?;
     let overlay = overlay(alloc, given)?;
     let opening = opening(given);
-    let limits = limits(given)?;
-    Ok(StdioOptions {
+    let limits = limits(given, command)?;
+    Ok(MountOptions {
         root,
         objects,
         overlay,
@@ -165,21 +223,41 @@ fn stdio_options(alloc: Global, given: &ArgMatches) -> Result<StdioOptions, Opti
 }
 
 /// Where the objects come from.
-fn objects_of(alloc: Global, given: &ArgMatches) -> Result<Objects, OptionsError>
+fn objects_of(
+    alloc: Global,
+    given: &ArgMatches,
+    command: MountCommand,
+) -> Result<Objects, OptionsError>
     ensures ok { IfOk result (SaysObjects (first_value (found_of given.now))) }
-    ensures err { IfErr result (RefusesValues (first_value (found_of given.now))) }
+    ensures err { IfErr result (RefusesValues command (first_value (found_of given.now))) }
 {
     let port = given.get_str("remote");
     match given.get_str("objects") {
         Some(folder) => match port {
-            Some(_) => Err(OptionsError::Source),
+            Some(_) => Err(OptionsError::Source(command)),
             None => Ok(Objects::Folder(String::from_str(alloc, folder)?)),
         },
         None => match port {
             Some(text) => Ok(Objects::Port(read(text, NumberOption::Remote)? as u16)),
-            None => Err(OptionsError::Source),
+            None => Err(OptionsError::Source(command)),
         },
     }
+}
+
+fn serve_options(alloc: Global, given: &ArgMatches) -> Result<ServeOptions, OptionsError>
+    requires { HasRequired serve_options (rows_of (found_of given.now)) }
+    ensures ok { IfOk result (IsServed (first_value (found_of given.now))) }
+    ensures err { IfErr result (RefusesValues by.Serve (first_value (found_of given.now))) }
+{
+    let mount = mount_options(alloc, given, MountCommand::Serve)?;
+    let port = given.get_str("port").unwrap();
+    let port = read(port, NumberOption::Port)? as u16;
+    let fetchers = number(given, NumberOption::Fetchers, FETCHERS)? as u32;
+    Ok(ServeOptions {
+        mount,
+        port,
+        fetchers,
+    })
 }
 
 fn objects_options(alloc: Global, given: &ArgMatches) -> Result<ObjectsOptions, OptionsError>
@@ -191,7 +269,7 @@ fn objects_options(alloc: Global, given: &ArgMatches) -> Result<ObjectsOptions, 
     let port = given.get_str("port").unwrap();
     let folder = String::from_str(alloc, folder)?;
     let port = read(port, NumberOption::Port)? as u16;
-    let sessions = number(given, NumberOption::Sessions, SESSIONS)? as u32;
+    let sessions = number(given, NumberOption::Sessions, OBJECTS_SESSIONS)? as u32;
     Ok(ObjectsOptions {
         folder,
         port,
@@ -239,16 +317,29 @@ fn is_given(given: &ArgMatches, name: &str) -> bool
     given.get_str(name) == Some("true")
 }
 
-/// The limits of a mount with one caller.
-fn limits(given: &ArgMatches) -> Result<Config, NumberOption>
-    ensures ok { IfOk result (SaysLimits (first_value (found_of given.now))) }
+/// The limits of the mount that the command opens.
+fn limits(given: &ArgMatches, command: MountCommand) -> Result<Config, NumberOption>
+    ensures ok { IfOk result (SaysLimits command (first_value (found_of given.now))) }
     ensures err { IfErr result (RefusesNumber (first_value (found_of given.now))) }
 {
+    let passes = passes(given, command)?;
     let history = number(given, NumberOption::History, HISTORY)? as u32;
     let entries = number(given, NumberOption::CacheEntries, CACHE_ENTRIES)? as usize;
     let bytes = number(given, NumberOption::CacheBytes, CACHE_BYTES)?;
     // What an option takes, a mount takes.
-    Ok(Config::new(1, FLIGHTS, history, entries, bytes, SIZES).unwrap())
+    Ok(Config::new(passes, FLIGHTS, history, entries, bytes, SIZES).unwrap())
+}
+
+/// How many callers there are of the mount that the command opens.
+fn passes(given: &ArgMatches, command: MountCommand) -> Result<u32, NumberOption>
+    ensures ok { IfOk result (SaysPasses command (first_value (found_of given.now))) }
+    ensures range { IfOk result (λ n. (1 ≤ n) × (n ≤ most_of Sessions)) }
+    ensures err { IfErr result (RefusesNumber (first_value (found_of given.now))) }
+{
+    match command {
+        MountCommand::Stdio => Ok(1),
+        MountCommand::Serve => Ok(number(given, NumberOption::Sessions, MOUNT_SESSIONS)? as u32),
+    }
 }
 
 /// The number that an option has: the one that is given, or its default.
@@ -305,17 +396,21 @@ fn refusal(reason: clap::Error) -> OptionsError
     }
 }
 
+const PORT_HELP: &str = "The port of 127.0.0.1; 0 lets the machine choose";
+
 /// The program's grammar.
 fn command_line<'a>(alloc: Global) -> Result<clap::Command<'a>, AllocError>
     ensures { IfOk result (λ command. app_of command ≡ mountd_line) }
 {
     let stdio = stdio_line(alloc)?;
+    let serve = serve_line(alloc)?;
     let objects = objects_line(alloc)?;
     let import = import_line(alloc)?;
     let line = clap::Command::new(alloc, "mountd")
         .about("Answers requests on the files of a Git commit")
         .subcommand_required(true)
         .subcommand(stdio)?;
+    let line = line.subcommand(serve)?;
     let line = line.subcommand(objects)?;
     let line = line.subcommand(import)?;
     Ok(line)
@@ -325,9 +420,47 @@ fn stdio_line<'a>(alloc: Global) -> Result<clap::Command<'a>, AllocError>
     ensures shape { IfOk result (λ line. shape_of line ≡ subcommand_shape stdio) }
     ensures local { IfOk result (λ line. (fields_of line).has_globals ≡ false) }
 {
-    let line = clap::Command::new(alloc, "stdio").about(
+    mount_line(
+        alloc,
+        "stdio",
         "Serves one session over standard input and output",
-    );
+    )
+}
+
+fn serve_line<'a>(alloc: Global) -> Result<clap::Command<'a>, AllocError>
+    ensures shape { IfOk result (λ line. shape_of line ≡ subcommand_shape serve) }
+    ensures local { IfOk result (λ line. (fields_of line).has_globals ≡ false) }
+{
+    let line = mount_line(
+        alloc,
+        "serve",
+        "Serves a session to each connection to a port",
+    )?;
+    let line = with_required(alloc, line, ("port", "P"), PORT_HELP)?;
+    let line = with_optional(
+        alloc,
+        line,
+        ("sessions", "N"),
+        "How many connections are served [default: 1]",
+    )?;
+    with_optional(
+        alloc,
+        line,
+        ("fetchers", "N"),
+        "How many objects are asked for at once [default: 2]",
+    )
+}
+
+/// The line of a command that opens a mount, with the options of whatever does.
+fn mount_line<'a>(
+    alloc: Global,
+    name: &'a str,
+    about: &'a str,
+) -> Result<clap::Command<'a>, AllocError>
+    ensures shape { IfOk result (λ line. shape_of line ≡ subcommand_shape (name.entry.now, mount_options)) }
+    ensures local { IfOk result (λ line. (fields_of line).has_globals ≡ false) }
+{
+    let line = clap::Command::new(alloc, name).about(about);
     let line = with_required(
         alloc,
         line,
@@ -341,7 +474,7 @@ fn stdio_line<'a>(alloc: Global) -> Result<clap::Command<'a>, AllocError>
         ("remote", "PORT"),
         "The port of a server of Git objects, in the place of --objects",
     )?;
-    with_mount_options(alloc, line)
+    with_kept_options(alloc, line)
 }
 
 fn objects_line<'a>(alloc: Global) -> Result<clap::Command<'a>, AllocError>
@@ -350,12 +483,7 @@ fn objects_line<'a>(alloc: Global) -> Result<clap::Command<'a>, AllocError>
 {
     let line = clap::Command::new(alloc, "objects").about("Serves a folder of Git objects");
     let line = with_required(alloc, line, ("dir", "DIR"), "The folder of Git objects")?;
-    let line = with_required(
-        alloc,
-        line,
-        ("port", "P"),
-        "The port of 127.0.0.1; 0 lets the machine choose",
-    )?;
+    let line = with_required(alloc, line, ("port", "P"), PORT_HELP)?;
     with_optional(
         alloc,
         line,
@@ -378,13 +506,13 @@ fn import_line<'a>(alloc: Global) -> Result<clap::Command<'a>, AllocError>
     )
 }
 
-/// The line with the options of whatever opens a mount.
-fn with_mount_options<'a>(
+/// The line with the options of what a mount keeps.
+fn with_kept_options<'a>(
     alloc: Global,
     line: clap::Command<'a>,
 ) -> Result<clap::Command<'a>, AllocError>
     requires { (fields_of line).has_globals ≡ false }
-    ensures shape { IfOk result (λ more. shape_of more ≡ with_options (shape_of line.entry) mount_options) }
+    ensures shape { IfOk result (λ more. shape_of more ≡ with_options (shape_of line.entry) kept_options) }
     ensures local { IfOk result (λ more. (fields_of more).has_globals ≡ false) }
 {
     let line = with_optional(

@@ -3,12 +3,13 @@
 //! Where standard error can't be written, the status alone tells.
 ghost use Rattle.std.specs.Prelude.{◌≡◌};
 ghost use Rattle.std.specs.Process.{exit_status};
-ghost use Rattle.mountd.specs.Endings.{close_name, import_status, open_name, server_status, status_of};
+ghost use Rattle.mountd.specs.Endings.{close_name, import_status, open_name, server_status, shared_status, status_of};
 
 use crate::options::OptionsError;
 use crate::server::ServerFault;
 use eden_checkout::OpenFault;
 use eden_importer::ImportFault;
+use eden_life::SharedLifeFault;
 use eden_overlay::FilesFault;
 use eden_serve::LifeFault;
 use std::io;
@@ -61,6 +62,21 @@ pub fn ending<R: Eprint>(rt: &R, outcome: Result<(), LifeFault>) -> ExitCode
         Err(LifeFault::Open(fault)) => unopened(rt, open_name(fault)),
         Err(LifeFault::Session(fault)) => ended(rt, "session", fault.name()),
         Err(LifeFault::Close(fault)) => ended(rt, "close", close_name(fault)),
+    }
+}
+
+/// Tells how a shared mount's life ended, where it didn't end well: by which fault, without the fault's values.
+///
+/// Status 0; 3, where the overlay wasn't opened; 4, where listening, a session or the close ended in a fault.
+pub fn shared_ending<R: Eprint>(rt: &R, outcome: Result<(), SharedLifeFault>) -> ExitCode
+    ensures { exit_status result ≡ shared_status outcome }
+{
+    match outcome {
+        Ok(()) => ExitCode::SUCCESS,
+        Err(SharedLifeFault::Open(fault)) => unopened(rt, open_name(fault)),
+        Err(SharedLifeFault::Listen) => ended(rt, "listen", "Device"),
+        Err(SharedLifeFault::Session(fault)) => ended(rt, "session", fault.name()),
+        Err(SharedLifeFault::Close(fault)) => ended(rt, "close", close_name(fault)),
     }
 }
 

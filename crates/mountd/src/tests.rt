@@ -1,5 +1,5 @@
 //! What no clause says: that a good line is taken, and the texts of refusals.
-use crate::options::{Command, Objects, StdioOptions, options};
+use crate::options::{Command, MountOptions, Objects, ServeOptions, options};
 use eden_checkout::Opening;
 use std::alloc::{AllocError, Global};
 use std::process::Abort;
@@ -33,11 +33,50 @@ const FULL: &[&str] = &[
     FOLDER,
 ];
 
+/// A line of `serve` without options that may be left out.
+const SERVED: &[&str] = &[
+    "mountd",
+    "serve",
+    "--root",
+    ROOT,
+    "--objects",
+    FOLDER,
+    "--port",
+    "0",
+];
+
+const SERVED_FULL: &[&str] = &[
+    "mountd",
+    "serve",
+    "--fetchers=16",
+    "--sessions",
+    "64",
+    "--port=65535",
+    "--history",
+    "1",
+    "--remote",
+    "1",
+    "--root",
+    ROOT,
+];
+
 /// What the words ask `stdio` for.
-fn asked(alloc: Global, words: &[&str]) -> Result<StdioOptions, Fail> {
+fn asked(alloc: Global, words: &[&str]) -> Result<MountOptions, Fail> {
     match options(alloc, words)? {
         Command::Stdio(given) => Ok(given),
-        Command::Objects(_) | Command::Import(_) => Err(Fail::from("another command")),
+        Command::Serve(_) | Command::Objects(_) | Command::Import(_) => {
+            Err(Fail::from("another command"))
+        }
+    }
+}
+
+/// What the words ask `serve` for.
+fn served(alloc: Global, words: &[&str]) -> Result<ServeOptions, Fail> {
+    match options(alloc, words)? {
+        Command::Serve(given) => Ok(given),
+        Command::Stdio(_) | Command::Objects(_) | Command::Import(_) => {
+            Err(Fail::from("another command"))
+        }
     }
 }
 
@@ -65,6 +104,28 @@ fn takes_a_line_with_all_options(rt: HostRuntime) -> Result<(), Fail> {
     assert!(rt; given.limits.history() == 1);
     assert!(rt; given.limits.entries() == 65_536);
     assert!(rt; given.limits.bytes() == 1 << 40);
+    Ok(())
+}
+
+#[test]
+fn takes_a_line_that_serves(rt: HostRuntime) -> Result<(), Fail> {
+    let given = served(rt.alloc(), SERVED)?;
+    assert!(rt; given.mount.root.bytes == ROOT_BYTES);
+    assert!(rt; given.port == 0);
+    assert!(rt; given.fetchers == 2);
+    assert!(rt; given.mount.limits.passes() == 1);
+    assert!(rt; given.mount.limits.history() == 1_000_000);
+    Ok(())
+}
+
+#[test]
+fn takes_a_full_line_that_serves(rt: HostRuntime) -> Result<(), Fail> {
+    let given = served(rt.alloc(), SERVED_FULL)?;
+    assert!(rt; matches!(given.mount.objects, Objects::Port(1)));
+    assert!(rt; given.port == 65_535);
+    assert!(rt; given.fetchers == 16);
+    assert!(rt; given.mount.limits.passes() == 64);
+    assert!(rt; given.mount.limits.history() == 1);
     Ok(())
 }
 
@@ -126,6 +187,22 @@ const NO_LINES: &[Refused] = &[
         "error: the following required arguments were not provided:\n  --root <ID>",
     ),
     (
+        &["mountd", "serve", "--root", ROOT, "--port", "0"],
+        "mountd: serve takes one of --objects and --remote",
+    ),
+    (
+        &["mountd", "serve", "--root", ROOT, "--objects", FOLDER],
+        "error: the following required arguments were not provided:\n  --port <P>",
+    ),
+    (
+        &["mountd", "serve", "--port", "65536", "--root", "0"],
+        "mountd: --root takes 40 lower-case hexadecimal digits",
+    ),
+    (
+        &["mountd", "serve", "--port", "65536", "--root", ROOT],
+        "mountd: serve takes one of --objects and --remote",
+    ),
+    (
         &["mountd", "mount"],
         "error: unrecognized subcommand 'mount'",
     ),
@@ -154,11 +231,15 @@ const TOP_HELP: &str = "Answers requests on the files of a Git commit\n\nUsage: 
 const STDIO_HELP: &str =
     "Serves one session over standard input and output\n\nUsage: mountd stdio [OPTIONS] --root <ID>\n";
 
+const SERVE_HELP: &str =
+    "Serves a session to each connection to a port\n\nUsage: mountd serve [OPTIONS] --root <ID> --port <P>\n";
+
 const HELP: &[Refused] = &[
     (&["mountd", "--help"], TOP_HELP),
     (&["mountd", "help"], TOP_HELP),
     (&["mountd", "stdio", "--help"], STDIO_HELP),
     (&["mountd", "help", "stdio"], STDIO_HELP),
+    (&["mountd", "serve", "--help"], SERVE_HELP),
 ];
 
 #[test]
@@ -184,7 +265,7 @@ fn refuses_what_is_no_root(rt: HostRuntime) -> Result<(), Fail> {
     Ok(())
 }
 
-/// What follows a good line, and how the text begins that refuses it.
+/// What follows a good line of `stdio`, and how the text begins that refuses it.
 const NO_NUMBERS: &[Refused] = &[
     (
         &["--history", "0"],
@@ -228,13 +309,69 @@ const NO_NUMBERS: &[Refused] = &[
     ),
 ];
 
-#[test]
-fn refuses_what_is_no_number(rt: HostRuntime) -> Result<(), Fail> {
-    for (words, refused) in NO_NUMBERS {
-        let mut line = Vec::from_slice(rt.alloc(), GOOD)?;
+/// .. and a good line of `serve`.
+const NO_SERVED_NUMBERS: &[Refused] = &[
+    (
+        &["--sessions", "0"],
+        "mountd: --sessions takes a number from 1 to 64",
+    ),
+    (
+        &["--sessions", "65"],
+        "mountd: --sessions takes a number from 1 to 64",
+    ),
+    (
+        &["--fetchers", "0"],
+        "mountd: --fetchers takes a number from 1 to 16",
+    ),
+    (
+        &["--fetchers", "17"],
+        "mountd: --fetchers takes a number from 1 to 16",
+    ),
+    (
+        &["--fetchers=+2"],
+        "mountd: --fetchers takes a number from 1 to 16",
+    ),
+    (
+        &["--port", "1"],
+        "error: the argument '--port <P>' cannot be used multiple times",
+    ),
+];
+
+const NO_PORTS: &[Refused] = &[
+    (
+        &["--port", "65536"],
+        "mountd: --port takes a number from 0 to 65535",
+    ),
+    (
+        &["--port", "00"],
+        "mountd: --port takes a number from 0 to 65535",
+    ),
+];
+
+/// Tries each of the rows behind a line.
+fn check_behind(
+    rt: &impl Abort,
+    alloc: Global,
+    line: &[&'static str],
+    rows: &[Refused],
+) -> Result<(), Fail> {
+    for (words, refused) in rows {
+        let mut line = Vec::from_slice(alloc, line)?;
         line.extend_from_slice(words)?;
-        let text = refusal(rt.alloc(), line.as_slice())?;
+        let text = refusal(alloc, line.as_slice())?;
         assert!(rt; text.as_str().starts_with(*refused), "{text}");
     }
     Ok(())
+}
+
+#[test]
+fn refuses_what_is_no_number(rt: HostRuntime) -> Result<(), Fail> {
+    check_behind(&rt, rt.alloc(), GOOD, NO_NUMBERS)
+}
+
+#[test]
+fn refuses_what_is_no_number_of_a_server(rt: HostRuntime) -> Result<(), Fail> {
+    check_behind(&rt, rt.alloc(), SERVED, NO_SERVED_NUMBERS)?;
+    // All of the line but the last two words, which are the port.
+    check_behind(&rt, rt.alloc(), &SERVED[..6], NO_PORTS)
 }

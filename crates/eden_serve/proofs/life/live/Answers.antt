@@ -10,7 +10,8 @@ use Rattle.eden_serve.specs.Calls.{MayBeTold}
 use Rattle.eden_serve.specs.Lives.{LivesBy, IsLived}
 use Rattle.eden_serve.specs.Opening.{IsOpened}
 use Rattle.eden_serve.specs.Serving.{Begins}
-use Rattle.eden_serve.proofs.Living.{closes_after, lived}
+use Rattle.eden_serve.proofs.CallerLemmas.{closes_after}
+use Rattle.eden_serve.proofs.Living.{lived}
 use Rattle.eden_serve.proofs.life.live.Goals as goal
 
 pub returns-in-Ok : goal.returns-in-Ok

@@ -1,4 +1,4 @@
-use Rattle.std.proofs.Common.{◌<◌, length, sym, ◌∙◌, refl, rules}
+use Rattle.std.proofs.Common.{◌<◌, length, sym, ◌∙◌, rules}
 use Rattle.eden_wire.proofs.PathLemmas.{text_some, empty_is}
 use Rattle.eden_wire.proofs.Scanning.{name_more, name_bad, scans_name}
 use Rattle.eden_wire.proofs.name_text.scan_name.Goals as goal
@@ -9,14 +9,15 @@ returns-then-is_empty c = λ name good e. text_some name good (sym e ∙ empty_i
 pub returns-in_err-b : goal.returns-in_err-b
 returns-in_err-b c =
     let some : 0 < length c.bytes.rest.now = search rules in
-    rw c.from_residual.ensures (name_bad _ _ _ _ c.bytes.invariant.so_far some c.in_err-b.ensures)
+    rw c.from_residual.ensures (name_bad c.bytes.invariant.so_far some c.in_err-b.ensures)
 
 pub bytes-preserved : goal.bytes-preserved
 bytes-preserved c = record {
   some = c.bytes.invariant.some;
-  so_far = name_more _ _ _ _ _ c.in_ok-b.b _ _ c.bytes.invariant.so_far c.in_ok-b.ensures.1 c.in_ok-b.ensures.0 refl c.is_barred-barred.ensures;
+  so_far = name_more c.in_ok-b.b c.bytes.invariant.so_far c.in_ok-b.ensures.1 c.in_ok-b.ensures.0 c.is_barred-barred.ensures;
 }
 
 pub returns : goal.returns
-returns c = scans_name _ c.bytes.rest.now _ _ c.is_no_name.result _ c.bytes.invariant.some c.bytes.invariant.so_far
-    (empty_is c.bytes.rest.now c.bytes-test.ensures) c.is_no_name.ensures c.refusal_by-refusal.ensures
+returns c =
+    let at_end = empty_is c.bytes.rest.now c.bytes-test.ensures in
+    scans_name c.bytes.invariant.some c.bytes.invariant.so_far at_end c.is_no_name.ensures c.refusal_by-refusal.ensures

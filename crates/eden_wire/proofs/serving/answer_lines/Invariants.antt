@@ -9,5 +9,6 @@ invariant-lines g l = record {
   within : l.used ≤ length l.bytes;
   skips : l.skip ≤ length (drop l.used l.bytes);
   none : IsOneLine (take l.skip (drop l.used l.bytes));
-  so_far : Lined g.S.Service.answers l.fn.service l.service (g.W.Write.contents l.fn.writer) (g.W.Write.contents l.writer) l.fn.output l.output l.bytes (drop l.used l.bytes);
+  so_far : Lined g.S.Service.answers (l.fn.service, l.service) (g.W.Write.contents l.fn.writer, g.W.Write.contents l.writer)
+      (l.fn.output, l.output) l.bytes l.used;
 }

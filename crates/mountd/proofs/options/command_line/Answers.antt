@@ -1,6 +1,6 @@
 use Rattle.std.proofs.Common.{◌≡◌, ◌∙◌, ap, true, [], ◌∷◌, codes}
 use Rattle.clap.specs.Simple.{App, Shape, app_of, app_of_fields, new_app, on_top, shape_of, with_subcommand}
-use Rattle.mountd.specs.CommandLine.{import, objects, stdio}
+use Rattle.mountd.specs.CommandLine.{import, objects, serve, stdio}
 use Rattle.mountd.specs.Grammar.{program}
 use Rattle.mountd.proofs.options.command_line.Goals as goal
 
@@ -18,10 +18,14 @@ returns c =
     c.in_ok-line.ensures.shape c.in_ok-stdio.ensures.local
     ∙ (ap (λ (a : App). with_subcommand a (shape_of c.in_ok-stdio.stdio)) none
     ∙ ap (λ (s : Shape). with_subcommand (on_top wants_one (new_app name)) s) c.in_ok-stdio.ensures.shape) in
-    let two : app_of c.in_ok-line-2.line ≡ program name (stdio ∷ objects ∷ []) =
-    c.in_ok-line-2.ensures.shape c.in_ok-objects.ensures.local
-    ∙ (ap (λ (a : App). with_subcommand a (shape_of c.in_ok-objects.objects)) one
-    ∙ ap (λ (s : Shape). with_subcommand (program name (stdio ∷ [])) s) c.in_ok-objects.ensures.shape) in
-    c.in_ok-line-3.ensures.shape c.in_ok-import.ensures.local
-    ∙ (ap (λ (a : App). with_subcommand a (shape_of c.in_ok-import.import)) two
-    ∙ ap (λ (s : Shape). with_subcommand (program name (stdio ∷ objects ∷ [])) s) c.in_ok-import.ensures.shape)
+    let two : app_of c.in_ok-line-2.line ≡ program name (stdio ∷ serve ∷ []) =
+    c.in_ok-line-2.ensures.shape c.in_ok-serve.ensures.local
+    ∙ (ap (λ (a : App). with_subcommand a (shape_of c.in_ok-serve.serve)) one
+    ∙ ap (λ (s : Shape). with_subcommand (program name (stdio ∷ [])) s) c.in_ok-serve.ensures.shape) in
+    let three : app_of c.in_ok-line-3.line ≡ program name (stdio ∷ serve ∷ objects ∷ []) =
+    c.in_ok-line-3.ensures.shape c.in_ok-objects.ensures.local
+    ∙ (ap (λ (a : App). with_subcommand a (shape_of c.in_ok-objects.objects)) two
+    ∙ ap (λ (s : Shape). with_subcommand (program name (stdio ∷ serve ∷ [])) s) c.in_ok-objects.ensures.shape) in
+    c.in_ok-line-4.ensures.shape c.in_ok-import.ensures.local
+    ∙ (ap (λ (a : App). with_subcommand a (shape_of c.in_ok-import.import)) three
+    ∙ ap (λ (s : Shape). with_subcommand (program name (stdio ∷ serve ∷ objects ∷ [])) s) c.in_ok-import.ensures.shape)

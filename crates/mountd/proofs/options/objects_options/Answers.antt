@@ -1,9 +1,9 @@
-use Rattle.std.proofs.Common.{rules, ◌≡◌, ◌∙◌, Some, ap, codes, is_some, subst, sym}
+use Rattle.std.proofs.Common.{rules, ◌≡◌, ◌∙◌, Some, ap, codes, is_some}
 use Rattle.clap.specs.Matches.{first_value, found_of}
 use Rattle.clap.proofs.CallerLemmas.{some_of_text}
 use Rattle.clap.proofs.WalkLemmas.{first_value-rows}
-use Rattle.mountd.specs.CommandLine.{RefusesNumber}
 use Rattle.mountd.specs.declared.numbers.NumberOption.TheVariants.{Port}
+use Rattle.mountd.proofs.LineLemmas.{refused_number}
 use Rattle.mountd.proofs.options.objects_options.Goals as goal
 
 pub unwrap-folder-requires : goal.unwrap-folder-requires
@@ -19,10 +19,6 @@ unwrap-port-requires c =
 pub returns-in_err-port-clause-err : goal.returns-in_err-port-clause-err
 returns-in_err-port-clause-err c =
     let value = first_value (found_of c.args.given.now) in
-    let text = c.unwrap-port.result.now in
-    let refused = c.in_err-port.field-0.0 in
-    let is : refused ≡ Port = c.in_err-port.ensures.err.0 in
-    let given : value (codes "port") ≡ Some text = search rules in
-    let port : RefusesNumber value Port = (text, given, c.in_err-port.ensures.err.1) in
-    let why : RefusesNumber value refused = subst (RefusesNumber value) (sym is) port in
+    let given : value (codes "port") ≡ Some c.unwrap-port.result.now = search rules in
+    let why = refused_number value Port c.in_err-port.field-0.0 c.unwrap-port.result.now c.in_err-port.ensures.err.0 given c.in_err-port.ensures.err.1 in
     search rules

@@ -3,7 +3,7 @@ use Rattle.std.proofs.lemmas.Fmt.{decimal_injective}
 use Rattle.clap.specs.Words.{Text}
 use Rattle.mountd.specs.Numbers.{IsNumber, least_of, most_of}
 use Rattle.mountd.specs.declared.numbers.NumberOption.{NumberOption}
-use Rattle.mountd.specs.declared.numbers.NumberOption.TheVariants.{History, CacheEntries, CacheBytes, Remote, Port, Sessions}
+use Rattle.mountd.specs.declared.numbers.NumberOption.TheVariants.{History, CacheEntries, CacheBytes, Remote, Port, Sessions, Fetchers}
 use Rattle.mountd.proofs.numbers.NumberOption.read.Goals as goal
 use Rattle.mountd.proofs.numbers.NumberOption.read.Goals.{then-number-least-via-then-number-least, then-number-least-via-else-number-least+then-number-most}
 
@@ -14,6 +14,7 @@ most_fits CacheBytes = omega arith
 most_fits Remote = omega arith
 most_fits Port = omega arith
 most_fits Sessions = omega arith
+most_fits Fetchers = omega arith
 
 -- a number outside the range spells none within
 outside : (option : NumberOption) (text : Text) (m : ℕ) → m < 2 ^ 64 → text ≡ decimal m → (m < least_of option) ⊎ (most_of option < m)

@@ -3,7 +3,7 @@ use Rattle.clap.specs.Words.{Shape, shape_of}
 use Rattle.mountd.specs.Grammar.{flag, optional, with_options}
 use Rattle.mountd.specs.Numbers.{number_name}
 use Rattle.mountd.specs.declared.numbers.NumberOption.TheVariants.{History, CacheEntries, CacheBytes}
-use Rattle.mountd.proofs.options.with_mount_options.Goals as goal
+use Rattle.mountd.proofs.options.with_kept_options.Goals as goal
 
 pub returns-clause-shape : goal.returns-clause-shape
 returns-clause-shape c =

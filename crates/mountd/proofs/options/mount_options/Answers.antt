@@ -2,7 +2,7 @@ use Rattle.std.proofs.Common.{◌∙◌, ap, codes, is_some}
 use Rattle.clap.specs.Matches.{found_of}
 use Rattle.clap.proofs.CallerLemmas.{some_of_text}
 use Rattle.clap.proofs.WalkLemmas.{first_value-rows}
-use Rattle.mountd.proofs.options.stdio_options.Goals as goal
+use Rattle.mountd.proofs.options.mount_options.Goals as goal
 
 pub unwrap-root-requires : goal.unwrap-root-requires
 unwrap-root-requires c =

@@ -1,0 +1,15 @@
+use Rattle.std.proofs.Common.{sym, subst}
+use Rattle.eden_model.specs.Failures.{Rose}
+use Rattle.eden_serve.proofs.opening.close.Goals as goal
+
+pub returns-in-Err : goal.returns-in-Err
+returns-in-Err g c =
+    let e = c.in-Err.ensures in
+    record {
+      left = c.in-Err.table;
+      over = c.abandon.ensures;
+      shown = e.shown;
+      commit = e.rest.1.1;
+      next = e.rest.0;
+      device = λ is. subst (λ x. Rose (g.F.Files.failures c.args.table.inodes.files) (g.F.Files.failures x)) (sym c.abandon.ensures) (e.device is);
+    }

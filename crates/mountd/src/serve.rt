@@ -1,0 +1,97 @@
+//! Many callers of a mount, over connections to a port.
+use crate::hold::hold_overlay;
+use crate::options::{MountOptions, Objects, ServeOptions};
+use crate::report;
+use crate::sources::{folder_sources, socket_sources};
+use eden_host::{Port, Unloading};
+use eden_life::live_shared;
+use eden_model::Outside;
+use eden_mount::Config;
+use eden_overlay::{Files, FolderFiles, MemoryFiles};
+use eden_serve::{Backing, Base};
+use eden_source::Source;
+use std::alloc::AllocError;
+use std::marker::{Send, Sync};
+use std::process::ExitCode;
+use std::sync::Wait;
+use std::thread::Threads;
+
+/// Serves a session to each connection to a port of 127.0.0.1, which is told on standard output, until as many as are
+/// asked for have ended.
+pub fn serve<R: Threads + Wait + Sync>(
+    threads: &R,
+    rt: &HostRuntime,
+    mut options: ServeOptions,
+) -> ExitCode {
+    match hold_overlay(rt, rt.alloc(), options.mount.overlay.take()) {
+        Err(fault) => report::unopened(rt, fault.name()),
+        Ok(None) => serve_files(threads, rt, options, MemoryFiles::new(rt.alloc())),
+        Ok(Some((folder, lock))) => {
+            let status = serve_files(threads, rt, options, FolderFiles::new(*rt, folder));
+            drop(lock);
+            status
+        }
+    }
+}
+
+/// Serves sessions over these files, with the objects that are asked for. No source is no memory for it.
+fn serve_files<R: Threads + Wait + Sync, F: Files<Outside> + Send>(
+    threads: &R,
+    rt: &HostRuntime,
+    options: ServeOptions,
+    files: F,
+) -> ExitCode {
+    let ServeOptions {
+        mount,
+        port,
+        fetchers,
+    } = options;
+    let MountOptions {
+        root,
+        objects,
+        opening,
+        limits,
+        ..
+    } = mount;
+    let base = Base { root, opening };
+    let port = Port::new(*rt, port);
+    match objects {
+        Objects::Folder(folder) => {
+            let sources = folder_sources(rt, folder.as_str(), fetchers);
+            serve_fetched(threads, rt, base, &limits, files, sources, port)
+        }
+        Objects::Port(server) => {
+            let sources = socket_sources(rt, server, fetchers);
+            serve_fetched(threads, rt, base, &limits, files, sources, port)
+        }
+    }
+}
+
+/// Serves sessions on a mount over these files, with a fetcher for each source, where there was memory for them.
+fn serve_fetched<
+    R: Threads + Wait + Sync,
+    F: Files<Outside> + Send,
+    S: Source<Outside> + Send + Drop,
+>(
+    threads: &R,
+    rt: &HostRuntime,
+    base: Base,
+    limits: &Config,
+    files: F,
+    sources: Result<Vec<S>, AllocError>,
+    port: Port<HostRuntime>,
+) -> ExitCode {
+    let Ok(source) = sources else {
+        return report::unopened(rt, "Memory");
+    };
+    let ending = live_shared::<Outside, _, _, _, _, _, _>(
+        threads,
+        rt.alloc(),
+        Backing { files, source },
+        base,
+        limits,
+        port,
+        Unloading::usual(),
+    );
+    report::shared_ending(rt, ending.outcome)
+}

@@ -1,0 +1,46 @@
+//! Where the objects of a mount come from: a folder, or a server of this machine.
+use eden_remote::SocketSource;
+use eden_source::FolderSource;
+use std::alloc::AllocError;
+use std::path::PathBuf;
+use std::time::Duration;
+
+/// How long a server of objects may keep an answer, in seconds.
+const PATIENCE: u64 = 30;
+
+/// A source over a folder.
+pub fn folder_source(rt: &HostRuntime, folder: String) -> FolderSource<HostRuntime> {
+    FolderSource::new(*rt, PathBuf::from(folder))
+}
+
+/// A source over the server at this port.
+pub fn socket_source(rt: &HostRuntime, port: u16) -> SocketSource<HostRuntime> {
+    SocketSource::new(rt.alloc(), *rt, port, Duration::from_secs(PATIENCE))
+}
+
+/// So many sources over a folder. The only error is want of memory.
+pub fn folder_sources(
+    rt: &HostRuntime,
+    folder: &str,
+    count: u32,
+) -> Result<Vec<FolderSource<HostRuntime>>, AllocError> {
+    let mut sources = Vec::new(rt.alloc());
+    for _ in 0..count {
+        let folder = String::from_str(rt.alloc(), folder)?;
+        sources.push(folder_source(rt, folder))?;
+    }
+    Ok(sources)
+}
+
+/// So many sources over the server at this port, each with a connection of its own. The only error is want of memory.
+pub fn socket_sources(
+    rt: &HostRuntime,
+    port: u16,
+    count: u32,
+) -> Result<Vec<SocketSource<HostRuntime>>, AllocError> {
+    let mut sources = Vec::new(rt.alloc());
+    for _ in 0..count {
+        sources.push(socket_source(rt, port))?;
+    }
+    Ok(sources)
+}

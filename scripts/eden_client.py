@@ -1,0 +1,271 @@
+"""The line protocol of `mountd`, as a program speaks it that uses a mount.
+
+    import eden_client
+
+    with eden_client.connect(4711) as session:        # the port that `mountd serve` told
+        session.write(b"/src/new.txt", 0, b"text")
+        for name, kind in session.entries(b"/src"):
+            print(name, kind)
+
+`start` does the same over a child's pipes, as `start(["mountd", "stdio", "--root", ..])`.
+
+A path is bytes: `/`, or a `/` before each name, and a name is any bytes without `/` and NUL but `.` and `..`, 255 at
+most. What the mount refuses is an `OSError` with Linux's number, so that a path that isn't there is a
+`FileNotFoundError`. What can't be spelled (EINVAL) or is too long (ENAMETOOLONG) is refused here, and never sent. A
+`Fault` says that the mount couldn't answer, and that nothing changed. `SessionEnded` says that the other side went away
+or told what is no reply: then nobody knows whether a change that was asked for was made, and the session is of no more
+use.
+"""
+
+import collections
+import errno
+import os
+import re
+import socket
+import subprocess
+from urllib.parse import unquote_to_bytes
+
+LONGEST_NAME = 255
+MOST_NAMES = 256
+LONGEST_PATH = 4_095
+LONGEST_TARGET = 4_095
+LONGEST_DATA = 65_536
+LONGEST_FILE = 1 << 30
+MOST_ENTRIES = 1_000
+GREATEST_NUMBER = (1 << 64) - 1
+
+# What stands at a path: a plain file, an executable one, a link, a directory.
+FILE, EXEC, LINK, DIR = "file", "exec", "link", "dir"
+
+Stat = collections.namedtuple("Stat", "kind size")
+Page = collections.namedtuple("Page", "entries more")
+
+
+class Fault(Exception):
+    """What the mount couldn't do, in its own words: `fetch ID CAUSE`, `memory`, `overlay`, `numbers`, `history N`."""
+
+    def __init__(self, words):
+        super().__init__(" ".join(words))
+        self.words = words
+
+
+class SessionEnded(Exception):
+    """The session is over, though its user hadn't closed it."""
+
+
+def refusal(number):
+    return OSError(number, os.strerror(number))
+
+
+# ---- fields of a line
+
+ESCAPED = re.compile(rb"[^A-Za-z0-9._]")
+
+
+def name_text(name):
+    return ESCAPED.sub(lambda byte: b"%%%02X" % ord(byte.group()), name)
+
+
+def path_text(names):
+    """The text of a path, which is given as its names."""
+    return b"".join(b"/" + name_text(name) for name in names) or b"/"
+
+
+def data_text(data):
+    return data.hex().encode() or b"-"
+
+
+def checked_name(name):
+    """The name, or the refusal that the mount would give."""
+    if name in (b"", b".", b"..") or b"/" in name or b"\0" in name:
+        raise refusal(errno.EINVAL)
+    if len(name) > LONGEST_NAME:
+        raise refusal(errno.ENAMETOOLONG)
+    return name
+
+
+def names_of(path):
+    """The names of a path, or its refusal."""
+    if path == b"/":
+        return ()
+    if not path.startswith(b"/"):
+        raise refusal(errno.EINVAL)
+    names = tuple(checked_name(name) for name in path[1:].split(b"/"))
+    if len(names) > MOST_NAMES or len(path) > LONGEST_PATH:
+        raise refusal(errno.ENAMETOOLONG)
+    return names
+
+
+def path_field(path):
+    return path_text(names_of(path))
+
+
+def number_field(number):
+    if not 0 <= number <= GREATEST_NUMBER:
+        raise refusal(errno.EINVAL)
+    return b"%d" % number
+
+
+# ---- requests
+
+
+class Requests:
+    """The fourteen requests, over an `ask` that sends the fields of one line.
+
+    The reply to it begins with the word `head`; `ask` gives the fields behind that, or raises what else was told.
+    """
+
+    def ask(self, head, *fields):
+        raise NotImplementedError
+
+    def kind(self, path):
+        """FILE, EXEC, LINK or DIR."""
+        return self.ask(b"kind", b"kind", path_field(path))[0].decode()
+
+    def stat(self, path):
+        """The kind, and the length of a file or of a link's target; 0 for a directory."""
+        kind, size = self.ask(b"stat", b"stat", path_field(path))
+        return Stat(kind.decode(), int(size))
+
+    def data(self, *fields):
+        return bytes.fromhex(b"".join(self.ask(b"data", *fields)[1:]).decode())
+
+    def read(self, path, offset, length):
+        """At most `length` bytes from the offset on, in requests of at most LONGEST_DATA bytes."""
+        content = bytearray()
+        while True:
+            wanted = min(length - len(content), LONGEST_DATA)
+            piece = self.data(b"read", path_field(path), number_field(offset + len(content)), number_field(wanted))
+            content += piece
+            if len(content) == length or len(piece) < wanted:
+                return bytes(content)
+
+    def readlink(self, path):
+        return self.data(b"readlink", path_field(path))
+
+    def list(self, path, after=None, limit=MOST_ENTRIES):
+        """A page of a directory, rows of name and kind in byte order, and whether more come behind it."""
+        last = b"-" if after is None else name_text(checked_name(after))
+        fields = self.ask(b"entries", b"list", path_field(path), last, number_field(limit))
+        rows = [(unquote_to_bytes(name), kind.decode()) for kind, name in zip(fields[1:-1:2], fields[2:-1:2])]
+        return Page(rows, fields[-1] == b"more")
+
+    def entries(self, path):
+        """All rows of a directory, a page after another."""
+        after, more = None, True
+        while more:
+            rows, more = self.list(path, after)
+            yield from rows
+            after = rows[-1][0] if rows else None
+
+    def write(self, path, offset, data):
+        """Writes at the offset, in requests of at most LONGEST_DATA bytes; those before one that is refused stay."""
+        written = 0
+        while True:
+            piece = data[written : written + LONGEST_DATA]
+            fields = path_field(path), number_field(offset + written), data_text(piece)
+            written += int(self.ask(b"count", b"write", *fields)[0])
+            if written >= len(data):
+                return written
+
+    def change(self, *fields):
+        self.ask(b"ok", *fields)
+
+    def truncate(self, path, size):
+        self.change(b"truncate", path_field(path), number_field(size))
+
+    def create(self, path):
+        self.change(b"create", path_field(path))
+
+    def setexec(self, path, executable):
+        self.change(b"setexec", path_field(path), b"1" if executable else b"0")
+
+    def mkdir(self, path):
+        self.change(b"mkdir", path_field(path))
+
+    def symlink(self, path, target):
+        """Makes a link at the path, whose target is 1 to LONGEST_TARGET bytes."""
+        field = path_field(path)
+        if len(target) > LONGEST_TARGET:
+            raise refusal(errno.ENAMETOOLONG)
+        self.change(b"symlink", field, data_text(target))
+
+    def unlink(self, path):
+        self.change(b"unlink", path_field(path))
+
+    def rmdir(self, path):
+        self.change(b"rmdir", path_field(path))
+
+    def rename(self, source, target):
+        self.change(b"rename", path_field(source), path_field(target))
+
+
+# ---- sessions
+
+
+class Session(Requests):
+    """One session, for one user at a time. `moved` counts the bytes of its lines and replies."""
+
+    def __init__(self, reader, writer, end):
+        self.reader = reader
+        self.writer = writer
+        self.end = end
+        self.usable = True
+        self.moved = 0
+
+    def __enter__(self):
+        return self
+
+    def __exit__(self, *_):
+        self.close()
+
+    def ask(self, head, *fields):
+        word, *rest = self.exchange(b" ".join(fields) + b"\n").split(b" ")
+        if word == b"err":
+            raise refusal(int(rest[0]))
+        if word == b"fault":
+            raise Fault([part.decode(errors="replace") for part in rest])
+        if word != head:
+            self.usable = False
+            raise SessionEnded(f"{word!r:.60} was told, which is no reply to {fields[0].decode()}")
+        return rest
+
+    def exchange(self, line):
+        """Sends a line, and gives its reply. Whatever stops it in between, an interrupt too, ends the session."""
+        if not self.usable:
+            raise SessionEnded("the session had ended before")
+        self.usable = False
+        try:
+            self.writer.write(line)
+            self.writer.flush()
+            reply = self.reader.readline()
+        except OSError as problem:
+            raise SessionEnded(f"the session ended: {problem.strerror or problem}") from None
+        if not reply.endswith(b"\n"):
+            raise SessionEnded("the session ended before its reply")
+        self.usable = True
+        self.moved += len(line) + len(reply)
+        return reply[:-1]
+
+    def close(self):
+        """Ends the session; the status of a child that stood behind it."""
+        self.usable = False
+        for stream in (self.writer, self.reader):
+            try:
+                stream.close()
+            except OSError:
+                pass
+        return self.end()
+
+
+def connect(port):
+    """A session with the `mountd serve` that listens on this port."""
+    connection = socket.create_connection(("127.0.0.1", port))
+    connection.setsockopt(socket.IPPROTO_TCP, socket.TCP_NODELAY, 1)
+    return Session(connection.makefile("rb"), connection.makefile("wb"), connection.close)
+
+
+def start(words, **more):
+    """A session with a child, as `mountd stdio`; `more` goes to `subprocess.Popen`. `close` waits for its end."""
+    child = subprocess.Popen(words, stdin=subprocess.PIPE, stdout=subprocess.PIPE, **more)
+    return Session(child.stdout, child.stdin, child.wait)

@@ -1,0 +1,180 @@
+"""A pool of sessions with one `mountd`, which many threads share.
+
+`mountd` keeps a history of all that it served, in memory and up to a limit. So the pool closes it before that is full,
+and opens it again on the same overlay; requests wait meanwhile, and nobody sees it.
+"""
+
+import os
+import subprocess
+import threading
+
+import eden_client
+from eden_client import SessionEnded
+
+SESSIONS = 8
+FETCHERS = 4
+CACHE_ENTRIES = 65_536
+MOST_REQUESTS = 1_000_000
+MOST_BYTES = 512 << 20
+# The statuses of mountd that come with a line on standard error.
+WITH_A_LINE = (2, 3, 4)
+# How long a mountd whose sessions are closed may take to close its overlay.
+SECONDS_TO_CLOSE = 120
+
+
+class Unopened(Exception):
+    """mountd's own word for why it didn't open the overlay, as `Locked`, or the line that it ended with."""
+
+
+class Running:
+    """One `mountd` that runs, and its sessions."""
+
+    def __init__(self, child, sessions):
+        self.child = child
+        self.sessions = sessions
+
+    def close(self):
+        """Ends the sessions, and with the last of them mountd; what it said, where that wasn't its good end."""
+        for session in self.sessions:
+            session.close()
+        try:
+            self.child.wait(SECONDS_TO_CLOSE)
+        except subprocess.TimeoutExpired:
+            self.child.kill()
+        said = last_words(self.child)
+        return None if self.child.returncode == 0 else said
+
+    def kill(self):
+        """Ends mountd where it stands; requests under way are told so."""
+        self.child.kill()
+
+
+def last_words(child):
+    """Waits for a child, and tells its last line of standard error."""
+    lines = child.stderr.read().decode(errors="replace").splitlines()
+    for stream in (child.stdout, child.stderr):
+        stream.close()
+    return lines[-1] if child.wait() in WITH_A_LINE and lines else f"mountd ended with status {child.returncode}"
+
+
+class Serving:
+    """How `mountd serve` is started over an overlay, so that it can be ended and started again."""
+
+    def __init__(self, mountd, root, source, overlay, more=(), sessions=SESSIONS, fetchers=FETCHERS):
+        """`source` is `["--remote", PORT]` or `["--objects", FOLDER]`, `more` are further options of mountd."""
+        self.mountd = os.fspath(mountd)
+        self.sessions = sessions
+        words = ["--root", root, *source, "--overlay", os.fspath(overlay), "--port", 0, "--sessions", sessions,
+                 "--fetchers", fetchers, *more]
+        self.words = [str(word) for word in words]
+
+    def start(self, history):
+        """A mountd that runs, and takes so many requests. What a killed one left is rescanned."""
+        limit = ["--history", str(history)]
+        try:
+            return self.run(limit)
+        except Unopened as refusal:
+            if str(refusal) != "NotClean":
+                raise
+            return self.run([*limit, "--rescan"])
+
+    def run(self, more):
+        """In a session of its own, so that a terminal's Ctrl-C doesn't reach it."""
+        child = subprocess.Popen([self.mountd, "serve", *self.words, *more], stdin=subprocess.DEVNULL,
+                                 stdout=subprocess.PIPE, stderr=subprocess.PIPE, start_new_session=True)
+        listening = child.stdout.readline().decode()
+        if not listening:
+            raise Unopened(last_words(child).removeprefix("mountd: open "))
+        port = int(listening.rsplit(":", 1)[1])
+        try:
+            return Running(child, [eden_client.connect(port) for _ in range(self.sessions)])
+        except OSError as problem:
+            child.kill()
+            raise Unopened(f"its port {port} can't be reached: {problem.strerror}; {last_words(child)}") from None
+
+
+class Pool(eden_client.Requests):
+    """The requests of many threads, each on whichever session is free.
+
+    A session that ends unexpectedly is a `SessionEnded` for the request on it. Then mountd is ended and started again,
+    once: where not a single request is served after that, all are refused by `SessionEnded` from then on.
+    """
+
+    def __init__(self, program, most_requests=MOST_REQUESTS, most_bytes=MOST_BYTES):
+        self.program = program
+        self.most_requests = most_requests
+        self.most_bytes = most_bytes
+        self.changed = threading.Condition()
+        self.busy = 0
+        self.gone = False
+        self.open()
+
+    def open(self):
+        self.running = self.program.start(self.most_requests)
+        self.idle = list(self.running.sessions)
+        self.requests = 0
+        self.bytes = 0
+        self.served = 0
+        self.ended = False
+
+    def ask(self, head, *fields):
+        session = self.take()
+        before = session.moved
+        try:
+            return session.ask(head, *fields)
+        finally:
+            self.give(session, session.moved - before)
+
+    def take(self):
+        """A free session, for one request."""
+        with self.changed:
+            while True:
+                if self.gone:
+                    raise SessionEnded("mountd is gone")
+                if self.is_over():
+                    if self.busy == 0:
+                        self.open_again()
+                        continue
+                elif self.idle:
+                    self.busy += 1
+                    self.requests += 1
+                    return self.idle.pop()
+                self.changed.wait()
+
+    def give(self, session, moved):
+        with self.changed:
+            self.busy -= 1
+            self.bytes += moved
+            if session.usable:
+                self.served += 1
+                self.idle.append(session)
+            else:
+                self.ended = True
+            self.changed.notify_all()
+
+    def is_over(self):
+        """Whether this mountd takes no more requests."""
+        return self.ended or self.requests >= self.most_requests or self.bytes >= self.most_bytes
+
+    def open_again(self):
+        """Ends mountd and starts it again on the same overlay, while all who have a request wait."""
+        self.gone = True
+        self.changed.notify_all()
+        problem = self.running.close()
+        if self.ended and self.served == 0:
+            raise SessionEnded(problem or "mountd ends each session before its first reply")
+        try:
+            self.open()
+        except (Unopened, OSError) as refusal:
+            raise SessionEnded(f"mountd wasn't opened again: {refusal}") from None
+        self.gone = False
+
+    def close(self):
+        """Waits for requests under way, and ends mountd; what it said, where that wasn't its good end."""
+        with self.changed:
+            while self.busy:
+                self.changed.wait()
+            if self.gone:
+                return "mountd is gone"
+            self.gone = True
+            return self.running.close()

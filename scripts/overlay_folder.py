@@ -1,0 +1,105 @@
+"""An overlay's folder, as a mount of a Git commit finds and leaves it: whose it is, on which tree it stands, what was
+changed when.
+
+The files whose names are numbers are mountd's, and so is `lock`. The file `mount-git` beside them is ours: who holds
+its lock has the overlay, also while mountd is closed and opened again, and its line tells the tree and the commit's
+time.
+"""
+
+import fcntl
+import os
+import re
+import struct
+
+NOTE = "mount-git"
+NOTE_LINE = re.compile(r"([0-9a-f]{40}) ([0-9]+)\n")
+NUMBERED = re.compile("0|[1-9][0-9]*")
+
+# Of mountd's files: a header and a body; a directory's body is a count and entries, file 0 begins with the tree's id.
+HEADER = 64
+FILE_HEAD = b"OVFL\0\0\0\1"
+DIRECTORY_HEAD = b"OVDR\0\0\0\1"
+STATE, ROOT = "0", 1
+ENTRY = struct.Struct(">BBQ")
+ID = 20
+OBJECT, OWN = 0, 1
+FOLDER = 3
+
+
+class InUse(Exception):
+    """Another mount has the overlay."""
+
+
+class OverlayFolder:
+    """The folder, made where it isn't there, and held until `close`."""
+
+    def __init__(self, path):
+        os.makedirs(path, exist_ok=True)
+        self.path = os.path.abspath(path)
+        self.note = open(os.path.join(self.path, NOTE), "a+")
+        try:
+            fcntl.flock(self.note, fcntl.LOCK_EX | fcntl.LOCK_NB)
+        except OSError:
+            self.note.close()
+            raise InUse from None
+
+    def close(self):
+        self.note.close()
+
+    def is_fresh(self):
+        return not any(NUMBERED.fullmatch(name) for name in os.listdir(self.path))
+
+    def noted(self):
+        """The tree that the overlay stands on and its commit's time, as we wrote them down; None where we didn't."""
+        self.note.seek(0)
+        line = NOTE_LINE.fullmatch(self.note.read())
+        return line and (line[1], int(line[2]))
+
+    def write_note(self, root, seconds):
+        self.note.truncate(0)
+        self.note.write(f"{root} {seconds}\n")
+        self.note.flush()
+
+    def state_root(self):
+        """The tree that file 0 names, which a clean close leaves; None where there is none."""
+        data = self.file(STATE)
+        return data[HEADER : HEADER + ID].hex() if len(data) > HEADER + ID and data.startswith(FILE_HEAD) else None
+
+    def file(self, name):
+        """A file's bytes; none where it can't be read, since it is mountd that tells what is wrong with an overlay."""
+        try:
+            with open(os.path.join(self.path, str(name)), "rb") as file:
+                return file.read()
+        except OSError:
+            return b""
+
+    def changed(self):
+        """Rows of path and time, in nanoseconds, of what was changed: when its file was last stored."""
+        folders = [(b"/", ROOT)]
+        while folders:
+            path, number = folders.pop()
+            for name, kind, own in entries(self.file(number)):
+                below = path + name
+                yield below, self.stored(own)
+                if kind == FOLDER:
+                    folders.append((below + b"/", own))
+
+    def stored(self, number):
+        try:
+            return os.stat(os.path.join(self.path, str(number))).st_mtime_ns
+        except OSError:
+            return 0
+
+
+def entries(data):
+    """Name, kind and number of each own entry of a directory's file, up to what is cut or damaged."""
+    if not data.startswith(DIRECTORY_HEAD):
+        return
+    at = HEADER + 4
+    while at + ENTRY.size < len(data):
+        kind, origin, number = ENTRY.unpack_from(data, at)
+        at += ENTRY.size + (ID if origin == OBJECT else 0)
+        end = at + 1 + data[at] if at < len(data) else at
+        if origin == OWN:
+            yield data[at + 1 : end], kind, number
+        at = end

@@ -1,0 +1,359 @@
+"""What stands between FUSE and `mountd`, without FUSE: the file system's operations, the pool of sessions under
+them, and the client library."""
+
+import contextlib
+import errno
+import os
+import random
+import re
+import signal
+import subprocess
+import sys
+import threading
+
+from checks import check, git, make_repository, whole_tree
+from folder_operations import FileSystem, Folder, compare, shown
+from mount_folder import checkout
+from programs import GIT_OBJECTS, MOUNTD, SAMPLE_OBJECTS, SAMPLE_ROOT, TOP, listening
+
+sys.path.append(str(TOP / "scripts"))
+
+import eden_client
+from bench_git import DEEP, content_of, make_large_repository
+from mount_operations import Mount, MountOperations, Times
+from mount_pool import Pool, Serving
+
+PATIENCE = 20
+USERS = 8
+TURNS = 25
+ALL_KEPT = ["--cache-entries", 65_536]
+
+
+# ---- a mount without FUSE
+
+
+class Starts(Serving):
+    """A program that counts how often it is started, and keeps what runs."""
+
+    count = 0
+
+    def start(self, history):
+        self.count += 1
+        self.last = super().start(history)
+        return self.last
+
+
+class Shown:
+    """A commit behind a class of operations. `said` are the lines that its user sees."""
+
+    def __init__(self, root, source, overlay, *options, **limits):
+        self.said = []
+        self.program = Starts(MOUNTD, root, source, overlay, options)
+        self.pool = Pool(self.program, **limits)
+        self.operations = MountOperations(Mount(self.pool, self.said.append), Times(0))
+
+    def __enter__(self):
+        return self
+
+    def __exit__(self, *_):
+        self.program.last.kill()
+
+    def close(self):
+        return self.pool.close()
+
+
+@contextlib.contextmanager
+def over_git(repository, overlay, *options, **limits):
+    """A commit of a Git repository, whose objects are fetched as they are touched."""
+    with listening([GIT_OBJECTS, repository], stderr=subprocess.DEVNULL) as (_, port):
+        root = git(repository, "rev-parse", "HEAD^{tree}")
+        with Shown(root, ["--remote", port], overlay, *options, **limits) as mount:
+            yield mount
+
+
+def sample(overlay, *options, **limits):
+    return Shown(SAMPLE_ROOT, ["--objects", SAMPLE_OBJECTS], overlay, *options, **limits)
+
+
+def refused(call, *words):
+    """The name of the error with which a call is refused; None where it isn't."""
+    try:
+        call(*words)
+    except OSError as refusal:
+        return errno.errorcode[refusal.errno]
+    return None
+
+
+# ---- random operations
+
+
+def looks_too_late(tree, word, fields, got, wanted):
+    return got == "ENAMETOOLONG" and wanted in ("ENOENT", "ENOTDIR", "EBUSY")
+
+
+def ends_before_parents(tree, word, fields, got, wanted):
+    if word != "rename" or not (isinstance(got, str) and wanted in ("ENOENT", "ENOTDIR", "ENAMETOOLONG")):
+        return False
+    return any(tree.nodes.get(path[:-1], ("",))[0] != "dir" for path in fields)
+
+
+def opens_a_link(tree, word, fields, got, wanted):
+    return wanted == "ELOOP" and tree.nodes[fields[0]][0] == "link" and got in (None, "EINVAL")
+
+
+# Linux asks the class for none of these, so that nobody sees the difference through FUSE.
+LEFT_OPEN = [
+    ("Linux looks up a path's names one by one, so that a parent that isn't there, or a top that is to be moved, is "
+     "told before a later name that is too long, which the client refuses before it asks", looks_too_late),
+    ("Linux looks up the parents of both paths of a rename before it looks at what is moved", ends_before_parents),
+    ("Linux changes no link: it goes where the link leads, or refuses by ELOOP", opens_a_link),
+]
+
+
+def check_random_operations(folder, seed):
+    repository = make_repository(folder)
+    plain = checkout(repository, folder / "plain")
+    with over_git(repository, folder / "overlay") as mount:
+        compare("operations", random.Random(seed), FileSystem(mount.operations), Folder(plain), LEFT_OPEN)
+        check("operations: the root stays", refused(mount.operations.rmdir, "/"), "EBUSY")
+        check("operations: the end", (mount.close(), mount.said), (None, []))
+    with over_git(repository, folder / "overlay") as mount:
+        check("operations: opened again", shown(FileSystem(mount.operations)), shown(Folder(plain)))
+        check("operations: the second end", (mount.close(), mount.said), (None, []))
+
+
+# ---- the client library
+
+UNSPOKEN = [
+    ("no path", "kind", (b"",), "EINVAL"),
+    ("a path that isn't from the root", "kind", (b"test.txt",), "EINVAL"),
+    ("an empty name", "kind", (b"/a//b",), "EINVAL"),
+    ("an empty name at the end", "kind", (b"/a/",), "EINVAL"),
+    ("the folder itself", "read", (b"/.", 0, 1), "EINVAL"),
+    ("the folder above", "list", (b"/a/..",), "EINVAL"),
+    ("a NUL", "create", (b"/a\0b",), "EINVAL"),
+    ("a name of 256 bytes", "mkdir", (b"/" + b"n" * 256,), "ENAMETOOLONG"),
+    ("257 names", "unlink", (b"/n" * 257,), "ENAMETOOLONG"),
+    ("a path of 4,096 bytes", "rmdir", (b"/" + b"n" * 254 + (b"/" + b"n" * 255) * 15 + b"/",), "EINVAL"),
+    ("a path of 4,097 bytes", "stat", ((b"/" + b"n" * 240) * 17,), "ENAMETOOLONG"),
+    ("the first of two bad names", "kind", (b"/" + b"n" * 256 + b"/..",), "ENAMETOOLONG"),
+    ("a rename from a bad name", "rename", (b"/..", b"/a"), "EINVAL"),
+    ("a rename to a long name", "rename", (b"/a", b"/" + b"n" * 256), "ENAMETOOLONG"),
+    ("a target of 4,096 bytes", "symlink", (b"/a", b"t" * 4_096), "ENAMETOOLONG"),
+    ("an offset below 0", "read", (b"/test.txt", -1, 1), "EINVAL"),
+    ("a size below 0", "truncate", (b"/test.txt", -1), "EINVAL"),
+    ("an offset over 64 bits", "write", (b"/test.txt", 1 << 64, b"x"), "EINVAL"),
+    ("a bad name to go on from", "list", (b"/", b".."), "EINVAL"),
+]
+
+REFUSED = [
+    ("nothing there", "kind", (b"/no",), "ENOENT"),
+    ("a file as a folder", "kind", (b"/test.txt/a",), "ENOTDIR"),
+    ("a folder's listing of no entries", "list", (b"/", None, 0), "EINVAL"),
+    ("a link to nothing", "symlink", (b"/a", b""), "ENOENT"),
+    ("a file over 2^30 bytes", "truncate", (b"/test.txt", (1 << 30) + 1), "EFBIG"),
+    ("a write beyond 2^30", "write", (b"/test.txt", 1 << 30, b"x"), "EFBIG"),
+    ("something over a file", "create", (b"/test.txt",), "EEXIST"),
+    ("the root away", "rmdir", (b"/",), "EBUSY"),
+    ("the root as a file", "unlink", (b"/",), "EISDIR"),
+    ("a file as a link", "readlink", (b"/test.txt",), "EINVAL"),
+]
+
+
+def check_client(folder):
+    """What can't be spelled is never sent, what is refused has its number, and long reads and listings come whole."""
+    words = [MOUNTD, "stdio", "--root", SAMPLE_ROOT, "--objects", SAMPLE_OBJECTS]
+    with eden_client.start([str(word) for word in words]) as session:
+        for name, word, fields, error in UNSPOKEN:
+            moved = session.moved
+            told = refused(getattr(session, word), *fields)
+            check(f"client: {name}, unsent", (told, session.moved), (error, moved))
+        for name, word, fields, error in REFUSED:
+            check(f"client: {name}", refused(getattr(session, word), *fields), error)
+        check_client_data(session)
+        session.exchange(b"no request\n")
+        with contextlib.suppress(eden_client.SessionEnded):
+            check("client: a session that is over", session.kind(b"/"), "no answer")
+        check("client: the child's end", session.close(), 0)
+
+
+def check_client_data(session):
+    data = random.Random(1).randbytes(200_001)
+    session.create(b"/\xff\n %41")
+    check("client: a long write", session.write(b"/\xff\n %41", 70_000, data), len(data))
+    check("client: a long read", session.read(b"/\xff\n %41", 69_998, 1 << 20), b"\0\0" + data)
+    check("client: its length", session.stat(b"/\xff\n %41"), ("file", 270_001))
+    check("client: a read of nothing", session.read(b"/\xff\n %41", 0, 0), b"")
+    check("client: a write of nothing", session.write(b"/\xff\n %41", 5, b""), 0)
+    session.mkdir(b"/many")
+    names = sorted(b"%d" % number for number in range(2_001))
+    for name in names[:-1]:
+        session.create(b"/many/" + name)
+    check("client: two full pages", [name for name, _ in session.entries(b"/many")], names[:-1])
+    session.symlink(b"/many/" + names[-1], b"t" * 4_095)
+    check("client: a page of one", list(session.entries(b"/many"))[-1], (names[-1], "link"))
+    check("client: a long target", session.readlink(b"/many/" + names[-1]), b"t" * 4_095)
+    session.setexec(b"/test.txt", True)
+    rows = [(b"many", "dir"), (b"test.txt", "exec"), (b"\xff\n %41", "file")]
+    check("client: kinds", list(session.entries(b"/")), rows)
+
+
+# ---- faults, and sessions that end
+
+
+def check_lost_object(folder):
+    """A repository that lacks a file's object: EIO and a line that names it, and all else goes on."""
+    repository = folder / "lost"
+    repository.mkdir()
+    git(repository, "init", "-q")
+    for name in ["here", "lost"]:
+        (repository / name).write_text(f"{name}\n")
+    git(repository, "add", ".")
+    git(repository, "commit", "-qm", "lost")
+    object_id = git(repository, "rev-parse", "HEAD:lost")
+    (repository / ".git/objects" / object_id[:2] / object_id[2:]).unlink()
+    with over_git(repository, folder / "overlay of the lost") as mount:
+        for call, words in [(mount.operations.getattr, ("/lost",)), (mount.operations.read, ("/lost", 10, 0))]:
+            mount.said.clear()
+            check("lost: a fault is EIO", refused(call, *words), "EIO")
+            check("lost: one line", len(mount.said), 1)
+            check("lost: it names the object and the cause", [word in mount.said[0] for word in (object_id, "Missing")],
+                  [True, True])
+        check("lost: the rest goes on", mount.operations.read("/here", 10, 0), b"here\n")
+        check("lost: the end", mount.close(), None)
+
+
+def check_killed_mountd(folder):
+    """A request that finds its session ended is EIO; then mountd is there again, with all that was answered."""
+    with sample(folder / "overlay of the killed") as mount:
+        operations = mount.operations
+        operations.create("/new", 0o644)
+        operations.write("/new", b"kept", 0)
+        os.kill(mount.program.last.child.pid, signal.SIGKILL)
+        mount.program.last.child.wait(PATIENCE)
+        check("killed: EIO", refused(operations.read, "/new", 10, 0), "EIO")
+        check("killed: one line", len(mount.said), 1)
+        check("killed: opened again", operations.read("/new", 10, 0), b"kept")
+        check("killed: by one more mountd", mount.program.count, 2)
+        mount.program.mountd = "/bin/false"
+        os.kill(mount.program.last.child.pid, signal.SIGKILL)
+        mount.program.last.child.wait(PATIENCE)
+        for time_of_it in ["first", "second", "third"]:
+            check(f"killed for good: EIO, the {time_of_it}", refused(operations.read, "/new", 10, 0), "EIO")
+
+
+def check_ended_session(folder):
+    """One session of eight that has ended costs the request on it, and then all goes on."""
+    with sample(folder / "overlay") as mount:
+        mount.operations.create("/new", 0o644)
+        told = mount.program.last.sessions[-1].exchange(b"no request\n")
+        check("ended session: it ends", told, b"err 71 EPROTO")
+        told = [refused(mount.operations.write, "/new", b"%d" % turn, turn) for turn in range(4)]
+        check("ended session: one request", (told, len(mount.said)), (["EIO", None, None, None], 1))
+        check("ended session: opened again", mount.program.count, 2)
+        check("ended session: what was answered", mount.operations.read("/new", 9, 0), b"\x00123")
+        check("ended session: the end", mount.close(), None)
+
+
+# ---- opened again, unseen
+
+
+def check_limits(folder):
+    """A mount that is closed and opened again behind so many requests, or bytes, answers as one that never was."""
+    check_unseen(folder / "overlay of few requests", 10, most_requests=60)
+    check_unseen(folder / "overlay of few bytes", 5, most_bytes=4_000)
+
+
+def check_unseen(overlay, least_starts, **limits):
+    with sample(overlay, **limits) as mount:
+        users = [User(mount.operations, number) for number in range(USERS)]
+        for user in users:
+            user.join(PATIENCE)
+        wanted = [b"%d" % turn for turn in range(TURNS)]
+        check("limits: what each user reads back", [user.seen for user in users], [wanted] * USERS)
+        names = sorted(name for name, *_ in mount.operations.readdir("/"))
+        check("limits: each user's folder", names, sorted([".", "..", "test.txt", *map(str, range(USERS))]))
+        check(f"limits: opened again ({mount.program.count})", mount.program.count >= least_starts, True)
+        check("limits: nobody saw it", (mount.close(), mount.said), (None, []))
+
+
+class User(threading.Thread):
+    """Makes, changes and moves files in a folder of its own. `seen` are the contents that it read."""
+
+    def __init__(self, operations, number):
+        super().__init__(daemon=True)
+        self.operations = operations
+        self.folder = f"/{number}"
+        self.seen = []
+        self.start()
+
+    def run(self):
+        self.operations.mkdir(self.folder, 0o755)
+        for turn in range(TURNS):
+            path = f"{self.folder}/{turn}"
+            self.operations.create(path, 0o644)
+            self.operations.write(path, b"%d" % turn, 0)
+            self.operations.rename(path, f"{self.folder}/moved")
+            self.seen.append(self.operations.read(f"{self.folder}/moved", 10, 0))
+
+
+# ---- slow fetches
+
+
+def check_slow_fetch(folder):
+    """While a server of objects stands still, whoever needs none of it is answered, and then the others are."""
+    repository = make_repository(folder)
+    root = git(repository, "rev-parse", "HEAD^{tree}")
+    with listening([GIT_OBJECTS, repository], stderr=subprocess.DEVNULL) as (server, port):
+        with Shown(root, ["--remote", port], folder / "overlay") as mount:
+            place, seen = FileSystem(mount.operations), []
+            check("slow: before", place.read((b"plain.txt",), 0, 100), b"plain\n")
+            server.send_signal(signal.SIGSTOP)
+            goes_on = threading.Timer(PATIENCE, server.send_signal, [signal.SIGCONT])
+            goes_on.start()
+            waiting = threading.Thread(target=lambda: seen.append(place.read((b"empty",), 0, 1)), daemon=True)
+            waiting.start()
+            place.create((b"new",))
+            told = [(place.write((b"new",), turn, b"x"), place.read((b"plain.txt",), 0, 100)) for turn in range(100)]
+            check("slow: who needs nothing is answered", (told, seen), ([(1, b"plain\n")] * 100, []))
+            server.send_signal(signal.SIGCONT)
+            waiting.join(PATIENCE)
+            check("slow: then the others are", seen, [b""])
+            goes_on.cancel()
+
+
+# ---- laziness
+
+
+class Large:
+    """The repository of 50,000 files, and the objects that one deep file (`deep`) and a folder (`beside`) may cost."""
+
+    path = tuple(DEEP.encode().split(b"/"))
+    content = content_of(DEEP).encode()
+    folder = b"d18"
+
+    def __init__(self, folder):
+        self.repository = make_large_repository(folder)
+        self.root = git(self.repository, "rev-parse", "HEAD^{tree}")
+        rows = whole_tree(self.repository)
+        self.deep = {self.root, *(rows[b"/".join(self.path[:count])][1] for count in range(1, len(self.path) + 1))}
+        self.beside = {row[1] for path, row in rows.items() if (path + b"/").startswith(self.folder + b"/")}
+
+
+def check_laziness(folder, large):
+    """Of 50,000 files one file costs the objects on its path, and a look through a folder that folder's."""
+    log = folder / "log of the large"
+    with open(log, "wb") as errors, listening([GIT_OBJECTS, large.repository, "--log"], stderr=errors) as (_, port):
+        with Shown(large.root, ["--remote", port], folder / "overlay of the large", *ALL_KEPT) as mount:
+            place = FileSystem(mount.operations)
+            check("lazy: a deep file", place.read(large.path, 0, 1_000), large.content)
+            check("lazy: what one file costs", asked_for(log), sorted(large.deep))
+            seen = shown(place, (large.folder,))
+            check("lazy: a folder of files", sum(node[0] == "file" for node in seen.values()), 500)
+            check("lazy: what it costs", asked_for(log), sorted([*large.deep, *large.beside]))
+            check("lazy: the end", (mount.close(), mount.said), (None, []))
+
+
+def asked_for(log):
+    """The ids that an object server was asked for, as often as it was."""
+    return sorted(re.findall("get ([0-9a-f]{40})", log.read_text()))

@@ -1,0 +1,295 @@
+"""A commit that `mount-git` shows at a folder, a plain checkout beside it, and commands that are run in both."""
+
+import contextlib
+import itertools
+import os
+import pathlib
+import shutil
+import signal
+import socket
+import subprocess
+import sys
+import tempfile
+import threading
+import time
+
+from checks import check, git, make_repository, skip
+from programs import MOUNTD, TOP
+
+MOUNT_GIT = TOP / "scripts/mount-git"
+PATIENCE = 20
+LONGEST_MOUNT = 280
+UNMOUNT = shutil.which("fusermount3") or shutil.which("fusermount")
+NUMBERS = itertools.count()
+HELLO = {
+    "Makefile": "hello: main.o greet.o\n\t$(CC) -o $@ main.o greet.o\n\nmain.o greet.o: greet.h\n",
+    "main.c": '#include "greet.h"\n\nint main(void)\n{\n    return greet("needle");\n}\n',
+    "greet.h": "int greet(const char *name);\n",
+    "greet.c": '#include <stdio.h>\n#include "greet.h"\n\nint greet(const char *name)\n{\n'
+               '    return printf("hello, %s\\n", name) < 0;\n}\n',
+}
+
+
+def missing():
+    """What this machine lacks for a mount through FUSE, in words; None where nothing is."""
+    try:
+        os.close(os.open("/dev/fuse", os.O_RDWR))
+    except OSError as problem:
+        return f"/dev/fuse can't be opened: {problem.strerror}"
+    if UNMOUNT is None:
+        return "fusermount3, of Debian's fuse3, isn't there"
+    programs = filter(None, (sys.executable, shutil.which("python3", path="/usr/bin")))
+    if all(subprocess.run([program, "-c", "import fusepy"], capture_output=True).returncode for program in programs):
+        return "no Python here has Debian's python3-fusepy"
+    return mount_refused()
+
+
+def mount_refused():
+    """Why nothing may be mounted here, as in some containers; None where it may. A mount that nobody serves tells."""
+    ours, theirs = socket.socketpair()
+    with ours, theirs, tempfile.TemporaryDirectory() as folder:
+        environment = {**os.environ, "_FUSE_COMMFD": str(theirs.fileno())}
+        done = subprocess.run([UNMOUNT, "--", folder], env=environment, pass_fds=[theirs.fileno()], capture_output=True)
+        if done.returncode != 0:
+            return f"nothing may be mounted: {done.stderr.decode().strip()}"
+        unmount("-z", folder)
+    return None
+
+
+# ---- a repository, and its checkout
+
+
+def make_project(folder):
+    """A repository of a few hundred files: one of everything, notes, a program in C, and links to files and folders."""
+    repository = make_repository(folder)
+    for number in range(160):
+        place = repository / f"notes/{number % 8}/{number}.txt"
+        place.parent.mkdir(parents=True, exist_ok=True)
+        place.write_text(f"note {number}\n" + "needle\n" * (number % 10 == 0) + "old words\n" * (number % 7))
+    hello = repository / "hello"
+    hello.mkdir()
+    for name, text in HELLO.items():
+        (hello / name).write_text(text)
+    (repository / "run.sh").write_text('#!/bin/sh\necho "run with $*"; ls\n')
+    for place, target in [("first", "notes/0/0.txt"), ("notes/above", ".."), ("notes/1/other", "../2")]:
+        (repository / place).symlink_to(target)
+    git(repository, "add", "-A")
+    git(repository, "commit", "-qm", "project")
+    return repository
+
+
+def checkout(repository, folder, revision="HEAD"):
+    """Writes the commit's files into a folder, as Git does."""
+    folder.mkdir()
+    git(repository, f"--work-tree={folder}", "checkout", "-qf", revision, "--", ".")
+    return folder
+
+
+# ---- mount-git
+
+
+class Mount:
+    """A run of `mount-git`, all of whose lines are kept in a file. It is killed where it takes too long."""
+
+    def __init__(self, repository, revision, folder, *options):
+        self.folder = folder
+        self.log = folder.parent / f"{folder.name}.{next(NUMBERS)}.log"
+        words = [MOUNT_GIT, "--mountd", MOUNTD, *options, repository, revision, folder]
+        with contextlib.suppress(FileExistsError):
+            os.mkdir(folder)
+        with open(self.log, "wb") as log:
+            self.process = subprocess.Popen([str(word) for word in words], stdin=subprocess.DEVNULL, stdout=log,
+                                            stderr=log, start_new_session=True)
+
+    def wait_until_shown(self):
+        end = time.monotonic() + PATIENCE
+        while f"mounted {self.folder}" not in self.lines():
+            if self.process.poll() is not None or time.monotonic() > end:
+                raise RuntimeError(f"mount-git shows nothing: {self.lines()}")
+            time.sleep(0.01)
+
+    def lines(self):
+        return self.log.read_text(errors="replace").splitlines()
+
+    def said(self):
+        """The lines that tell of something that went wrong."""
+        return [line for line in self.lines() if line.startswith("mount-git: ")]
+
+    def is_mounted(self):
+        """Whether the folder is a mount, be it one that nobody serves any more."""
+        return f" {self.folder} " in pathlib.Path("/proc/self/mountinfo").read_text()
+
+    def status(self):
+        """The status with which it ends by itself; None where it doesn't."""
+        try:
+            return self.process.wait(PATIENCE)
+        except subprocess.TimeoutExpired:
+            return None
+
+    def end(self, how):
+        """Ends it in one of the ways that `ENDINGS` names, and gives its status."""
+        ENDINGS[how](self)
+        return self.status()
+
+    def kill(self):
+        """Kills it and all that it started, at once, and leaves the dead mount."""
+        if self.process.poll() is not None:
+            return
+        for process in [self.process.pid, *children(self.process.pid)]:
+            with contextlib.suppress(ProcessLookupError):
+                os.kill(process, signal.SIGKILL)
+        self.process.wait()
+
+    def __enter__(self):
+        self.watch = threading.Timer(LONGEST_MOUNT, self.kill)
+        self.watch.daemon = True
+        self.watch.start()
+        try:
+            self.wait_until_shown()
+        except BaseException:
+            self.__exit__()
+            raise
+        return self
+
+    def __exit__(self, *_):
+        """Leaves nothing mounted, whatever happened."""
+        self.watch.cancel()
+        self.kill()
+        if self.is_mounted():
+            unmount("-z", self.folder)
+
+
+def unmount(*words):
+    subprocess.run([UNMOUNT, "-u", *map(str, words)], capture_output=True, timeout=PATIENCE)
+
+
+ENDINGS = {
+    "Ctrl-C": lambda mount: os.killpg(mount.process.pid, signal.SIGINT),
+    "SIGTERM": lambda mount: mount.process.terminate(),
+    "fusermount3 -u": lambda mount: unmount(mount.folder),
+}
+
+
+def children(process):
+    """The processes that it started and that are there, and theirs."""
+    found = []
+    for task in pathlib.Path(f"/proc/{process}/task").glob("*/children"):
+        with contextlib.suppress(OSError):
+            for child in map(int, task.read_text().split()):
+                found += [child, *children(child)]
+    return found
+
+
+# ---- programs
+
+
+def said_by(*words):
+    """The status and the lines of a program."""
+    done = subprocess.run([str(word) for word in words], stdin=subprocess.DEVNULL, stdout=subprocess.PIPE,
+                          stderr=subprocess.STDOUT, timeout=PATIENCE)
+    return done.returncode, done.stdout.decode(errors="replace").splitlines()
+
+
+# ---- commands in both folders
+
+
+class Both:
+    """The mounted folder and the plain one. A command finds what it takes at $IN and leaves what it makes at $OUT."""
+
+    def __init__(self, repository, mounted, plain, place):
+        self.folders = [mounted, plain]
+        self.environment = {**os.environ, "LC_ALL": "C", "REPOSITORY": str(repository), "IN": str(place / "in"),
+                            "GIT_CONFIG_GLOBAL": os.devnull, "GIT_CONFIG_SYSTEM": os.devnull}
+        self.outs = [place / "out of the mounted", place / "out of the plain"]
+        for out in self.outs:
+            out.mkdir()
+
+    def run(self, command):
+        """What each run of the command says: its status, its output and its errors."""
+        return [told(command, folder, {**self.environment, "OUT": str(out)})
+                for folder, out in zip(self.folders, self.outs)]
+
+    def check(self, name, command, program=None):
+        """It succeeds in both, and says the same."""
+        if program is not None and shutil.which(program) is None:
+            skip(name, f"{program} isn't there")
+            return
+        mounted, plain = self.run(command)
+        check(f"{name}, on the plain folder", plain[0], 0)
+        check(name, mounted, plain)
+
+
+def told(command, folder, environment):
+    try:
+        done = subprocess.run(["sh", "-euc", command], cwd=folder, env=environment, stdin=subprocess.DEVNULL,
+                              capture_output=True, timeout=PATIENCE)
+    except subprocess.TimeoutExpired:
+        return "no end", b"", b""
+    return done.returncode, done.stdout, done.stderr
+
+
+LOOKS = [
+    ("every name", "find . -print0 | sort -z"),
+    ("every kind, mode, length and target", r"find . ! -type d -printf '%y %m %s %p %l\0' | sort -z"),
+    ("find by kind and mode", "find . -type l | sort; find . -type f -perm -u+x | sort; find . -type d -empty | sort"),
+    ("grep -r", "grep -rn needle . | sort"),
+    ("a sum of each file", "find . -type f -print0 | sort -z | xargs -0 sha1sum"),
+    ("tar out", 'tar -cf - . | tar -xf - -C "$OUT"'),
+    ("cp -r out", 'cp -r notes "$OUT/notes by cp -r"'),
+    ("cp -a out", 'cp -a . "$OUT/all by cp -a"'),
+    ("a program of the commit", "./run.sh one two"),
+    ("git status", 'cp "$REPOSITORY/.git/index" "$OUT.index" && GIT_INDEX_FILE="$OUT.index" '
+                   'git --git-dir="$REPOSITORY/.git" --work-tree=. status --porcelain'),
+]
+
+CHANGES = [
+    ("tar in", 'mkdir untarred && tar -xf "$IN/notes.tar" -C untarred'),
+    ("cp -r in", 'cp -r "$IN/notes" copied'),
+    ("cp -a in", 'cp -a "$IN/notes" "copied with all"'),
+    ("sed -i", "sed -i s/old/new/ notes/*/*.txt && cat notes/*/*.txt"),
+    ("sed -i with a backup", "sed -i.bak s/new/newer/ notes/3/*.txt && cat notes/3/*"),
+    ("mv of a file over another", "mv notes/3/3.txt notes/3/11.txt && ls -A notes/3 && cat notes/3/11.txt"),
+    ("mv of a folder", "mv notes/4 moved && mv moved dir/ && ls -A dir/moved && cat dir/moved/*"),
+    ("mv of a folder over an empty one", "mkdir empty-now && mv -T copied/5 empty-now && ls -A empty-now copied"),
+    ("mv of a folder over a full one", "! mv -T copied/6 copied/7 2>&1"),
+    ("a save by rename", "cp notes/0/8.txt notes/0/.8.txt.new && echo saved >> notes/0/.8.txt.new && "
+                         "mv notes/0/.8.txt.new notes/0/8.txt && cat notes/0/8.txt"),
+    ("a save with a backup by link, or by copy", "{ ln notes/0/16.txt notes/0/16.txt~ 2> \"$OUT.said\" || "
+     "cp notes/0/16.txt notes/0/16.txt~; } && echo saved > notes/0/new && mv notes/0/new notes/0/16.txt && "
+     "cat notes/0/16.txt notes/0/16.txt~"),
+    ("dd in pieces", 'dd if="$IN/notes.tar" of=pieces bs=3000 status=none && '
+                     'dd if="$IN/notes.tar" of=pieces bs=777 seek=5 count=20 conv=notrunc status=none && '
+                     'dd if="$IN/notes.tar" of=pieces bs=10k count=2 oflag=append conv=notrunc status=none && '
+                     'sha1sum pieces'),
+    ("ln -s", "ln -s notes/0/0.txt here && ln -sfn notes/1 there && cat here && ls there/ && readlink here there"),
+    ("ln -sf over a link", "ln -sfn notes/2 there && readlink there && ls there/"),
+    ("chmod +x", "printf '#!/bin/sh\\necho new program\\n' > program && ! ./program 2>&1 && "
+                 "chmod +x program && ./program"),
+    ("chmod -x", "chmod -x run.sh && ! ./run.sh 2>&1 && stat -c %a run.sh"),
+    ("truncate", "truncate -s 5 notes/0/24.txt && truncate -s +7 notes/0/24.txt && od -c notes/0/24.txt"),
+    ("appending", "echo one >> notes/0/32.txt; echo two >> notes/0/32.txt; cat notes/0/32.txt; "
+                  "echo first > fresh; cat fresh"),
+    ("a large file", 'cp "$IN/bytes" large && cmp large "$IN/bytes"'),
+    ("small writes", 'head -c 300000 "$IN/bytes" > small && sha1sum small'),
+    ("sort into itself", "sort -r -o notes/0/40.txt notes/0/40.txt && cat notes/0/40.txt"),
+    ("folders in folders", "mkdir -p a/b/c/d && rmdir -p a/b/c/d && mkdir -p a/b && ls -R a"),
+    ("odd names", "printf 1 > \"$(printf 'tab\\there')\" && printf 2 > '*' && printf 3 > ./-r && mkdir '%41 %' && "
+                  "ls -A | od -c"),
+    ("find and remove", "find notes -name '*9.txt' -delete && find notes | sort"),
+    ("rm -r", "rm -r many && ! ls many 2>&1"),
+    ("a link where a folder was", "ln -s notes many && ls many/"),
+]
+
+BUILDS = [
+    ("make", "make -s -C hello && hello/hello"),
+    ("make, with nothing to do", "make --no-print-directory -C hello"),
+    ("make after a change", "sed -i s/needle/haystack/ hello/main.c && make --no-print-directory -C hello && "
+                            "hello/hello"),
+]
+
+COPIES = [
+    ("rsync out", 'rsync -a notes "$OUT/by rsync"'),
+    ("rsync in", 'rsync -a "$IN/notes" rsynced && find rsynced | sort'),
+    ("rsync in again", 'echo more >> rsynced/notes/1/1.txt && rsync -a --checksum "$IN/notes" rsynced && '
+                       'cat rsynced/notes/1/1.txt'),
+]

@@ -1,0 +1,286 @@
+"""A commit that `mount-git` shows through FUSE: the world's tools in it, and how it begins and ends."""
+
+import contextlib
+import mmap
+import os
+import pathlib
+import random
+import signal
+import subprocess
+import sys
+import time
+import zlib
+
+from checks import check, git, make_repository
+from folder_operations import Folder, compare, outcome, shown
+from mount_class import asked_for, refused
+from mount_folder import (BUILDS, CHANGES, COPIES, ENDINGS, LOOKS, MOUNT_GIT, PATIENCE, Both, Mount, checkout,
+                          children, said_by)
+from programs import MOUNTD
+
+
+# ---- tools
+
+
+def check_tools(folder, repository):
+    """Tools say and make in the mounted folder what they do in a plain one, and the next mount shows it all."""
+    plain, given = checkout(repository, folder / "plain"), checkout(repository, folder / "in")
+    subprocess.run(["tar", "-cf", given / "notes.tar", "-C", given, "notes"], check=True)
+    (given / "bytes").write_bytes(random.Random(1).randbytes(1_000_000))
+    with Mount(repository, "HEAD", folder / "mounted", "--overlay", folder / "overlay") as mount:
+        both = Both(repository, mount.folder, plain, folder)
+        check("diff -r beside a checkout", said_by("diff", "-r", "--no-dereference", mount.folder, plain), (0, []))
+        run_tools(both)
+        check("tools: what stands at the end", shown(Folder(mount.folder)), shown(Folder(plain)))
+        check("tools: what was copied out", shown(Folder(both.outs[0])), shown(Folder(both.outs[1])))
+        check("tools: the end, with nothing said", (mount.end("SIGTERM"), mount.said()), (0, []))
+    with Mount(repository, "HEAD", folder / "mounted", "--overlay", folder / "overlay") as mount:
+        check("tools: mounted again", shown(Folder(mount.folder)), shown(Folder(plain)))
+        both.check("tools: a build goes on", "make --no-print-directory -C hello && hello/hello", "cc")
+        check("tools: the second end, with nothing said", (mount.end("SIGTERM"), mount.said()), (0, []))
+
+
+def run_tools(both):
+    for name, command in LOOKS + CHANGES:
+        both.check(name, command)
+    for name, command in BUILDS:
+        both.check(name, command, "cc")
+    for name, command in COPIES:
+        both.check(name, command, "rsync")
+
+
+def check_random_operations(folder, seed):
+    """Random operations through FUSE and on a plain folder have the same outcomes, and leave the same."""
+    repository = make_repository(folder)
+    plain = checkout(repository, folder / "plain")
+    with Mount(repository, "HEAD", folder / "mounted") as mount:
+        compare("mounted", random.Random(seed), Folder(mount.folder), Folder(plain))
+        check("mounted: the end, with nothing said", (mount.end("SIGTERM"), mount.said()), (0, []))
+
+
+# ---- beginnings and ends
+
+
+def check_endings(folder, repository):
+    """Each way to end it, in use or not, leaves an overlay that was closed, nothing mounted and nothing running."""
+    overlay = folder / "overlay"
+    for number, how in enumerate(ENDINGS):
+        with Mount(repository, "HEAD", folder / "mounted", "--overlay", overlay) as mount:
+            names = sorted(path.name for path in mount.folder.glob("made *"))
+            check(f"{how}: what was made before", names, [f"made {before}" for before in range(number)])
+            (mount.folder / f"made {number}").write_text(how)
+            check_ended(how, mount, overlay)
+    with Mount(repository, "HEAD", folder / "mounted", "--overlay", overlay) as mount:
+        with contextlib.suppress(OSError), open(mount.folder / "made 0", "rb"):
+            check_ended("Ctrl-C", mount, overlay)
+    with Mount(repository, "HEAD", folder / "mounted", "--overlay", overlay) as mount:
+        copy = subprocess.Popen(["cp", "-r", mount.folder / "notes", mount.folder / "copy"], stderr=subprocess.DEVNULL)
+        wait_for(mount.folder / "copy")
+        check_ended("SIGTERM", mount, overlay)
+        check("ended in a copy: it fails", copy.wait(PATIENCE) != 0, True)
+    with Mount(repository, "HEAD", folder / "mounted", "--overlay", overlay) as mount:
+        made = [(mount.folder / f"made {number}").read_text() for number in range(len(ENDINGS))]
+        check("ended: all is there", made, list(ENDINGS))
+        check("ended: the last end", mount.end("SIGTERM"), 0)
+
+
+def check_ended(how, mount, overlay):
+    running = children(mount.process.pid)
+    check(f"{how}: what runs below", len(running) >= 2, True)
+    check(f"{how}: the end, with nothing said", (mount.end(how), mount.said()), (0, []))
+    check(f"{how}: nothing is mounted", mount.is_mounted(), False)
+    check(f"{how}: nothing runs", left_of(running), [])
+    check(f"{how}: the overlay is closed", (overlay / "0").exists(), True)
+
+
+def left_of(running):
+    """The processes that run on: one whose parent is gone ends with its input, which takes it a moment."""
+    end = time.monotonic() + PATIENCE
+    while (left := [process for process in running if os.path.exists(f"/proc/{process}")]) and time.monotonic() < end:
+        time.sleep(0.01)
+    return left
+
+
+def wait_for(path):
+    end = time.monotonic() + PATIENCE
+    while not path.exists() and time.monotonic() < end:
+        time.sleep(0.001)
+
+
+def check_kills(folder, repository):
+    """A mount that was killed goes on where it was, at the same folder, with all that was answered."""
+    overlay = folder / "overlay of the killed"
+    with Mount(repository, "HEAD", folder / "killed", "--overlay", overlay) as mount:
+        (mount.folder / "kept").write_text("kept")
+        mount.kill()
+        check("killed with all below: the overlay isn't closed", (overlay / "0").exists(), False)
+        check("killed with all below: its folder", outcome(Folder(mount.folder), "readdir", ()), "ENOTCONN")
+        with Mount(repository, "HEAD", mount.folder, "--overlay", overlay) as again:
+            check("killed with all below: what is there", (again.folder / "kept").read_text(), "kept")
+            (again.folder / "kept too").write_text("kept too")
+            again.process.kill()
+            again.process.wait(PATIENCE)
+            with Mount(repository, "HEAD", mount.folder, "--overlay", overlay) as last:
+                kept = [(last.folder / name).read_text() for name in ("kept", "kept too")]
+                check("killed alone: what is there", kept, ["kept", "kept too"])
+                check("killed alone: the end", last.end("SIGTERM"), 0)
+        line = f"mount-git: {mount.folder} was left by a mount that was killed, and is unmounted"
+        check("killed: what is said", [mount.said(), again.said(), last.said()], [[], [line], [line]])
+
+
+def check_killed_mountd(folder, repository):
+    """A mountd that is killed below costs the requests that find it so, which are EIO, and a line each."""
+    with Mount(repository, "HEAD", folder / "mounted", "--overlay", folder / "overlay of a killed mountd") as mount:
+        (mount.folder / "made").write_text("kept")
+        below = [process for process in children(mount.process.pid) if b"--sessions" in command_of(process)]
+        os.kill(below[0], signal.SIGKILL)
+        place = Folder(mount.folder)
+        check("mountd killed: EIO", outcome(place, "truncate", (b"made",), 3), "EIO")
+        check("mountd killed: one line", len(mount.said()), 1)
+        check("mountd killed: it is there again", outcome(place, "truncate", (b"made",), 2), None)
+        check("mountd killed: with all that was answered", outcome(place, "read", (b"made",), 0, 10), b"ke")
+        check("mountd killed: the end", mount.end("SIGTERM"), 0)
+
+
+def command_of(process):
+    return pathlib.Path(f"/proc/{process}/cmdline").read_bytes().split(b"\0")
+
+
+def check_second_mount(folder, repository):
+    """An overlay that is mounted is refused to another, in one line."""
+    overlay = folder / "overlay of two"
+    with Mount(repository, "HEAD", folder / "mounted", "--overlay", overlay) as mount:
+        line = f"mount-git: the overlay {overlay} is in use by another mount"
+        told = said_by(MOUNT_GIT, repository, "HEAD", folder / "second", "--overlay", overlay)
+        check("a second mount", told, (1, [line]))
+        (mount.folder / "made").write_text("made")
+        check("a second mount: the first goes on", (mount.folder / "made").read_text(), "made")
+        check("a second mount: the end of the first", mount.end("SIGTERM"), 0)
+
+
+def check_missing_package(folder):
+    """A Python without fusepy, and no other to go to: one line names the packages."""
+    words = ["env", "MOUNT_GIT_HANDED_ON=1", sys.executable, "-S", MOUNT_GIT, folder, "HEAD", folder / "mounted"]
+    line = "mount-git: python3-fusepy is missing: apt install python3-fusepy fuse3"
+    check("a missing package", said_by(*words), (1, [line]))
+
+
+def check_refusals(folder, repository):
+    """What can't be mounted is refused in one line."""
+    full = folder / "full"
+    full.mkdir()
+    (full / "file").write_text("")
+    empty = folder / "empty"
+    empty.mkdir()
+    for name, words in [
+        ("a folder that isn't empty", (repository, "HEAD", full)),
+        ("a file as the folder", (repository, "HEAD", full / "file")),
+        ("no such revision", (repository, "no-such", empty)),
+        ("a file's revision", (repository, "HEAD:plain.txt", empty)),
+        ("no repository", (folder / "nothing", "HEAD", empty)),
+        ("a file as the overlay", (repository, "HEAD", empty, "--overlay", full / "file")),
+        ("an overlay in the folder", (repository, "HEAD", empty, "--overlay", empty / "overlay")),
+        ("an overlay that is the folder", (repository, "HEAD", empty, "--overlay", empty)),
+        ("no mountd", (repository, "HEAD", empty, "--mountd", folder / "nothing")),
+        ("a mountd that says nothing", (repository, "HEAD", empty, "--mountd", "/bin/false")),
+    ]:
+        status, lines = said_by(MOUNT_GIT, "--mountd", MOUNTD, *words)
+        check(f"refused: {name}", (status, len(lines), lines[0].startswith("mount-git: ")), (1, 1, True))
+    check("refused: the folder is as it was", list(empty.iterdir()), [])
+
+
+def check_moved_revision(folder):
+    """An overlay stays on the commit that it was made on, and the next mount says so."""
+    repository = make_repository(folder)
+    before = git(repository, "rev-parse", "HEAD^{tree}")
+    with Mount(repository, "HEAD", folder / "mounted", "--overlay", folder / "overlay") as mount:
+        (mount.folder / "made").write_text("made")
+        seen = shown(Folder(mount.folder))
+        check("moved: the first end", (mount.end("SIGTERM"), mount.said()), (0, []))
+    (repository / "plain.txt").write_text("moved on\n")
+    git(repository, "commit", "-qam", "moved on")
+    after = git(repository, "rev-parse", "HEAD^{tree}")
+    with Mount(repository, "HEAD", folder / "mounted", "--overlay", folder / "overlay") as mount:
+        check("moved: what is shown", shown(Folder(mount.folder)), seen)
+        check("moved: the end", mount.end("SIGTERM"), 0)
+        told = [before in line and after in line for line in mount.said()]
+        check("moved: one line, with both trees", told, [True])
+
+
+def check_damaged_repository(folder):
+    """A file whose object is lost, or damaged, is EIO and a line that names it; all else goes on."""
+    repository = make_repository(folder)
+    with Mount(repository, "HEAD", folder / "mounted") as mount:
+        for name, content, cause in [("plain.txt", None, "Missing"), ("run.sh", b"blob 6\0other\n", "BadDigest")]:
+            object_id = git(repository, "rev-parse", f"HEAD:{name}")
+            place = repository / ".git/objects" / object_id[:2] / object_id[2:]
+            place.unlink()
+            if content is not None:
+                place.write_bytes(zlib.compress(content))
+            before = len(mount.said())
+            check(f"damaged: {name} is EIO", outcome(Folder(mount.folder), "getattr", (name.encode(),)), "EIO")
+            told = [object_id in line and cause in line for line in mount.said()[before:]]
+            check(f"damaged: a line for {name}", told, [True])
+        check("damaged: the rest goes on", (mount.folder / "dir/a").read_text(), "1")
+        check("damaged: the end", mount.end("SIGTERM"), 0)
+
+
+def check_laziness(folder, large):
+    """Of 50,000 files one file costs the objects on its path, and `grep -r` in a folder that folder's."""
+    with Mount(large.repository, "HEAD", folder / "mounted", "--log") as mount:
+        deep = mount.folder.joinpath(*map(os.fsdecode, large.path))
+        check("lazily mounted: a deep file", deep.read_bytes(), large.content)
+        check("lazily mounted: what one file costs", asked_for(mount.log), sorted(large.deep))
+        status, found = said_by("grep", "-rl", "d18", mount.folder / os.fsdecode(large.folder))
+        check("lazily mounted: grep -r", (status, len(found)), (0, 500))
+        check("lazily mounted: what it costs", asked_for(mount.log), sorted([*large.deep, *large.beside]))
+        check("lazily mounted: the end", mount.end("SIGTERM"), 0)
+
+
+def check_open_files(folder, repository):
+    """What programs do with open files and attributes is as the README says."""
+    with Mount(repository, "HEAD", folder / "mounted") as mount:
+        top = mount.folder
+        (top / "gone").write_text("abc")
+        with open(top / "gone", "r+b", buffering=0) as file:
+            (top / "gone").unlink()
+            check("open: a removed file is there", (file.read(), file.write(b"def"), os.pread(file.fileno(), 9, 0)),
+                  (b"abc", 3, b"abcdef"))
+        (top / "new").write_text("new")
+        with open(top / "plain.txt", "rb") as file:
+            (top / "new").rename(top / "plain.txt")
+            check("open: a replaced file is there", (file.read(), (top / "plain.txt").read_text()), (b"plain\n", "new"))
+        with open(top / "mapped", "w+b") as file:
+            file.truncate(10_000)
+            with mmap.mmap(file.fileno(), 10_000) as view:
+                view[5_000:5_003] = b"xyz"
+        wanted = bytes(5_000) + b"xyz" + bytes(4_997)
+        check("open: written through memory", (top / "mapped").read_bytes(), wanted)
+        command = "for i in 1 2 3 4 5; do echo line >> log; done"
+        writers = [subprocess.Popen(["sh", "-c", command], cwd=top) for _ in range(4)]
+        check("open: four append", [writer.wait(PATIENCE) for writer in writers], [0] * 4)
+        check("open: each line is there", (top / "log").read_text(), "line\n" * 20)
+        check_attributes(top, repository)
+        check("open: the end, with nothing said", (mount.end("SIGTERM"), mount.said()), (0, []))
+
+
+def check_attributes(top, repository):
+    place = Folder(top)
+    committed = int(git(repository, "log", "-1", "--format=%ct"))
+    check("attributes: a file's time is the commit's", (top / "run.sh").stat().st_mtime, committed)
+    before = (top / "log").stat().st_mtime_ns
+    (top / "log").write_text("again")
+    check("attributes: a change's time rises", before < (top / "log").stat().st_mtime_ns, True)
+    os.utime(top / "log", (1, 2))
+    check("attributes: a time that is set", (top / "log").stat().st_mtime, 2)
+    os.chmod(top / "log", 0o600)
+    check("attributes: of a mode the executable bit", outcome(place, "getattr", (b"log",))[1], 0o644)
+    os.chmod(top / "log", 0o700)
+    check("attributes: where it is set", outcome(place, "getattr", (b"log",))[1], 0o755)
+    check("attributes: a name's length", os.statvfs(top).f_namemax, 255)
+    for name, call, words in [("a hard link", os.link, (top / "log", top / "other")),
+                              ("a pipe", os.mkfifo, (top / "pipe",)),
+                              ("another owner", os.chown, (top / "log", 12_345, -1))]:
+        check(f"attributes: {name} is EPERM", refused(call, *words), "EPERM")
+    with open(top / "log", "rb") as file:
+        check("attributes: fsync", os.fsync(file.fileno()), None)

@@ -1,0 +1,109 @@
+"""A commit as Git has it, runs of the program over an overlay's folder, and what the files of a closed one show."""
+
+import subprocess
+
+from checks import check, git, whole_tree
+from overlay_files import Damaged, Shown, state_of, stored
+from programs import MOUNTD
+from random_requests import line_of
+
+CLOSED = (0, b"")
+
+
+# ---- the commit, as Git has it
+
+
+class Commit:
+    """A commit's whole tree, and what each of its objects is."""
+
+    def __init__(self, repository):
+        self.root = git(repository, "rev-parse", "HEAD^{tree}")
+        rows = whole_tree(repository)
+        self.contents = contents_of(repository, {row[1] for row in rows.values() if row[0] in LEAVES})
+        self.nodes = {(): ("dir", True)}
+        self.places = {self.root: ()}
+        for path, (mode, object_id) in rows.items():
+            names = tuple(path.split(b"/"))
+            self.nodes[names] = LEAVES[mode](self.contents[object_id]) if mode in LEAVES else ("dir", True)
+            self.places.setdefault(object_id, names)
+
+    def below(self, tree_id):
+        """What stands below a directory of that tree object, by the paths from there."""
+        at = self.places[tree_id]
+        return {path[len(at):]: node for path, node in self.nodes.items() if path[: len(at)] == at and path != at}
+
+
+LEAVES = {b"100644": lambda content: ("file", False, content), b"100755": lambda content: ("file", True, content),
+          b"120000": lambda content: ("link", content)}
+
+
+def contents_of(repository, ids):
+    return {object_id: git(repository, "cat-file", "blob", object_id, text=False) for object_id in sorted(ids)}
+
+
+# ---- runs of the program
+
+
+class Place:
+    """A commit with its objects, and the folder of an overlay."""
+
+    def __init__(self, root, objects, overlay):
+        self.root = root
+        self.objects = objects
+        self.overlay = overlay
+
+    def words(self, *more):
+        return [str(MOUNTD), "stdio", "--root", self.root, "--objects", str(self.objects),
+                "--overlay", str(self.overlay), *more]
+
+    def run(self, lines, *more):
+        """Status, output and errors of a session on these lines."""
+        data = b"".join(line + b"\n" for line in lines)
+        done = subprocess.run(self.words(*more), input=data, capture_output=True)
+        return done.returncode, done.stdout, done.stderr
+
+    def start(self):
+        return subprocess.Popen(self.words(), stdin=subprocess.PIPE, stdout=subprocess.PIPE, stderr=subprocess.PIPE,
+                                bufsize=0)
+
+    def files(self):
+        return stored(self.overlay)
+
+
+def check_session(name, place, rows, *more):
+    """One session: each line has the reply beside it, and the overlay is closed."""
+    status, output, errors = place.run([line for line, _ in rows], *more)
+    check(f"{name} ends well", (status, errors), CLOSED)
+    replies = output.split(b"\n")
+    check(f"{name}: a reply to each line", (len(replies) - 1, replies[-1]), (len(rows), b""))
+    for (line, wanted), reply in zip(rows, replies):
+        check(f"{name}: {line!r:.200}", reply, wanted)
+
+
+def replied(tree, requests):
+    """The lines of requests and what the dictionary replies."""
+    return [(line_of(word, fields), tree.reply(word, *fields)) for word, fields in requests]
+
+
+def as_described(name, read, *words):
+    """What is read of files; None where one isn't as described."""
+    try:
+        return read(*words)
+    except Damaged as damage:
+        check(f"{name}: a file", damage.args, "as described")
+        return None
+
+
+def check_closed(name, place, commit, tree):
+    """The files of a closed overlay show that tree, and no number that they name is given again."""
+    files = place.files()
+    shown = as_described(name, Shown, commit, files)
+    state = as_described(name, state_of, files.get(0, b""))
+    if shown is None or state is None:
+        return 0
+    root, following = state
+    check(f"{name}: the commit", root, commit.root)
+    check(f"{name}: the next number is above all", max(shown.numbers, default=1) < following, True)
+    check(f"{name}: what the files show", shown.nodes, tree.nodes)
+    check(f"{name}: files that were not put in place", list(place.overlay.glob("*.new")), [])
+    return following
