@@ -94,8 +94,11 @@ def as_described(name, read, *words):
         return None
 
 
-def check_closed(name, place, commit, tree):
-    """The files of a closed overlay show that tree, and no number that they name is given again."""
+def check_closed(name, place, commit, tree, kills=0):
+    """The files of a closed overlay show that tree, and no number that they name is given again.
+
+    Each kill may have left one file beside them that was not put in its place yet.
+    """
     files = place.files()
     shown = as_described(name, Shown, commit, files)
     state = as_described(name, state_of, files.get(0, b""))
@@ -105,5 +108,6 @@ def check_closed(name, place, commit, tree):
     check(f"{name}: the commit", root, commit.root)
     check(f"{name}: the next number is above all", max(shown.numbers, default=1) < following, True)
     check(f"{name}: what the files show", shown.nodes, tree.nodes)
-    check(f"{name}: files that were not put in place", list(place.overlay.glob("*.new")), [])
+    left = [path.name for path in place.overlay.glob("*.new")]
+    check(f"{name}: files that were not put in place: {left}", len(left) <= kills, True)
     return following
