@@ -3,6 +3,10 @@
 import os
 import subprocess
 
+# How many seconds anything that is waited for may take: what hangs is found, and a machine whose disk stands still for a
+# while passes.
+PATIENCE = 60
+
 passed = 0
 failed = 0
 skipped = 0

@@ -8,13 +8,13 @@ import threading
 import time
 import urllib.parse
 
+from checks import PATIENCE
 from programs import MOUNTD
 from protocol import path_text
 from random_requests import MOST_ENTRIES
 from tree_model import LONGEST_DATA
 
-# How long a reply or an end may take, and how long a whole run, in seconds.
-PATIENCE = 20
+# How long a whole run may take, in seconds.
 LONGEST_RUN = 300
 NO_REPLY = b"(no reply)"
 ENDED = b"(the session ended)"

@@ -11,7 +11,7 @@ import subprocess
 import sys
 import threading
 
-from checks import check, git, make_repository, whole_tree
+from checks import PATIENCE, check, git, make_repository, whole_tree
 from folder_operations import FileSystem, Folder, compare, shown
 from mount_folder import checkout
 from programs import GIT_OBJECTS, MOUNTD, SAMPLE_OBJECTS, SAMPLE_ROOT, TOP, listening
@@ -23,7 +23,6 @@ from bench_git import DEEP, content_of, make_large_repository
 from mount_operations import Mount, MountOperations, Times
 from mount_pool import Pool, Serving
 
-PATIENCE = 20
 USERS = 8
 TURNS = 25
 ALL_KEPT = ["--cache-entries", 65_536]

@@ -13,11 +13,10 @@ import tempfile
 import threading
 import time
 
-from checks import check, git, make_repository, skip
+from checks import PATIENCE, check, git, make_repository, skip
 from programs import MOUNTD, TOP
 
 MOUNT_GIT = TOP / "scripts/mount-git"
-PATIENCE = 20
 LONGEST_MOUNT = 280
 UNMOUNT = shutil.which("fusermount3") or shutil.which("fusermount")
 NUMBERS = itertools.count()

@@ -11,10 +11,10 @@ import sys
 import time
 import zlib
 
-from checks import check, git, make_repository
+from checks import PATIENCE, check, git, make_repository
 from folder_operations import Folder, compare, outcome, shown
 from mount_class import asked_for, refused
-from mount_folder import (BUILDS, CHANGES, COPIES, ENDINGS, LOOKS, MOUNT_GIT, PATIENCE, Both, Mount, checkout,
+from mount_folder import (BUILDS, CHANGES, COPIES, ENDINGS, LOOKS, MOUNT_GIT, Both, Mount, checkout,
                           children, said_by)
 from programs import MOUNTD
 

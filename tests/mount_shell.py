@@ -4,11 +4,10 @@ import contextlib
 import os
 import subprocess
 
-from checks import check, git, make_repository
+from checks import PATIENCE, check, git, make_repository
 from programs import GIT_OBJECTS, MOUNTD, TOP, listening
 
 SHELL = TOP / "scripts/eden-shell"
-PATIENCE = 20
 MARKS = {b"100644": b"", b"100755": b"*", b"120000": b"@", b"040000": b"/", b"160000": b"/"}
 
 
