@@ -17,7 +17,7 @@ use std::sync::Wait;
 use std::thread::Threads;
 
 /// How many rounds there are.
-const ALL: u32 = 600;
+const ALL: u32 = 2_800;
 
 /// As many keys may be in flight.
 const FLIGHTS: u32 = 3;
