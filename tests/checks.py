@@ -5,7 +5,7 @@ import subprocess
 
 # How many seconds anything that is waited for may take: what hangs is found, and a machine whose disk stands still for a
 # while passes.
-PATIENCE = 60
+PATIENCE = 120
 
 passed = 0
 failed = 0
