@@ -1,4 +1,1 @@
-pub mod CommandLine
 pub mod Endings
-pub mod Grammar
-pub mod Numbers

@@ -1,10 +1,11 @@
 //! The folder that keeps the changes, which one program has open at a time.
-ghost use Rattle.std.specs.Prelude.{◌≡◌, ◌≢◌};
+ghost use Rattle.std.specs.Prelude.{◌≡◌, ◌≢◌, ◌↔◌, IsTrue};
 ghost use Rattle.std.specs.IoError.{error_kind};
 ghost use Rattle.std.specs.declared.io.ErrorKind.TheVariants as error;
 ghost use Rattle.mountd.specs.Endings.{hold_name};
 ghost use Rattle.mountd.specs.declared.hold.HoldFault.TheVariants as fault;
 
+use eden_checkout::Opening;
 use std::alloc::{AllocError, Global};
 use std::fs::{self, File, OpenOptions, TryLockError};
 use std::io::{self, ErrorKind};
@@ -99,4 +100,15 @@ pub fn hold_overlay<R: Files<File = File>>(
     let folder = PathBuf::from(folder);
     let lock = hold(files, alloc, &folder)?;
     Ok(Some((folder, lock)))
+}
+
+/// How what a folder keeps is opened.
+pub fn opening(rescan: bool) -> Opening
+    ensures { (result ≡ Opening.Rescan) ↔ IsTrue rescan }
+{
+    if rescan {
+        Opening::Rescan
+    } else {
+        Opening::Closed
+    }
 }

@@ -2,18 +2,14 @@
 #![tactic(auto)]
 
 mod hold;
-mod numbers;
-mod options;
 mod report;
 mod serve;
 mod server;
 mod sources;
 mod stdio;
-#[cfg(test)]
-mod tests;
 
+use eden_command_line::{Command, ImportOptions, options};
 use eden_importer::{ImportFault, Progress, Store};
-use options::{Command, ImportOptions, options};
 use serve::serve;
 use server::serve_objects;
 use std::alloc::Global;

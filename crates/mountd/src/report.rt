@@ -5,9 +5,9 @@ ghost use Rattle.std.specs.Prelude.{◌≡◌};
 ghost use Rattle.std.specs.Process.{exit_status};
 ghost use Rattle.mountd.specs.Endings.{close_name, import_status, open_name, server_status, shared_status, status_of};
 
-use crate::options::OptionsError;
 use crate::server::ServerFault;
 use eden_checkout::OpenFault;
+use eden_command_line::OptionsError;
 use eden_importer::ImportFault;
 use eden_life::SharedLifeFault;
 use eden_overlay::FilesFault;

@@ -1,8 +1,8 @@
 //! Many callers of a mount, over connections to a port.
-use crate::hold::hold_overlay;
-use crate::options::{MountOptions, Objects, ServeOptions};
+use crate::hold::{hold_overlay, opening};
 use crate::report;
 use crate::sources::{folder_sources, socket_sources};
+use eden_command_line::{MountOptions, Objects, ServeOptions};
 use eden_host::{Port, Unloading};
 use eden_life::live_shared;
 use eden_model::Outside;
@@ -49,11 +49,14 @@ fn serve_files<R: Threads + Wait + Sync, F: Files<Outside> + Send>(
     let MountOptions {
         root,
         objects,
-        opening,
+        rescan,
         limits,
         ..
     } = mount;
-    let base = Base { root, opening };
+    let base = Base {
+        root,
+        opening: opening(rescan),
+    };
     let port = Port::new(*rt, port);
     match objects {
         Objects::Folder(folder) => {

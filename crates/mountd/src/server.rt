@@ -5,7 +5,7 @@ ghost use Rattle.std.specs.declared.io.ErrorKind.TheVariants as error;
 ghost use Rattle.mountd.specs.Endings.{first_fault, listen_name};
 ghost use Rattle.mountd.specs.declared.server.ListenFault.TheVariants as fault;
 
-use crate::options::ObjectsOptions;
+use eden_command_line::ObjectsOptions;
 use eden_model::Outside;
 use eden_remote::{AnswerFault, answer_objects};
 use eden_source::FolderSource;

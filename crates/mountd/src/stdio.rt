@@ -1,8 +1,8 @@
 //! One caller of a mount, over standard input and output.
-use crate::hold::hold_overlay;
-use crate::options::{MountOptions, Objects};
+use crate::hold::{hold_overlay, opening};
 use crate::report;
 use crate::sources::{folder_source, socket_source};
+use eden_command_line::{MountOptions, Objects};
 use eden_model::Outside;
 use eden_mount::Config;
 use eden_overlay::{Files, FolderFiles, MemoryFiles};
@@ -28,11 +28,14 @@ fn serve_files<F: Files<Outside>>(rt: &HostRuntime, options: MountOptions, files
     let MountOptions {
         root,
         objects,
-        opening,
+        rescan,
         limits,
         ..
     } = options;
-    let base = Base { root, opening };
+    let base = Base {
+        root,
+        opening: opening(rescan),
+    };
     match objects {
         Objects::Folder(folder) => {
             let source = folder_source(rt, folder);

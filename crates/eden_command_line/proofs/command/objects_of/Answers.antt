@@ -1,0 +1,14 @@
+use Rattle.std.proofs.Common.{rules, ◌≡◌, Some, codes}
+use Rattle.clap.specs.Matches.{first_value, found_of}
+use Rattle.eden_command_line.specs.declared.numbers.NumberOption.TheVariants.{Remote}
+use Rattle.eden_command_line.proofs.LineLemmas.{refused_number}
+use Rattle.eden_command_line.proofs.command.objects_of.Goals as goal
+
+pub returns-in_err-read-in-Some-port-2-clause-err : goal.returns-in_err-read-in-Some-port-2-clause-err
+returns-in_err-read-in-Some-port-2-clause-err c =
+    let value = first_value (found_of c.args.given.now) in
+    let text = c.in-Some-port-2.text.now in
+    let given : value (codes "remote") ≡ Some text = search rules in
+    let read = c.in_err-read-in-Some-port-2 in
+    let why = refused_number value Remote read.field-0.0 text read.ensures.err.0 given read.ensures.err.1 in
+    search rules

@@ -1,0 +1,17 @@
+//! The command line of `mountd`: what the program is asked for, and why words are refused.
+//!
+//! The words are read by `clap` after a grammar that stands in `specs/`: a list of subcommands, each with its options.
+//! Nothing here opens anything. The values are those of the options, or their defaults, within the ranges that a mount
+//! and a server take.
+#![tactic(auto)]
+
+mod command;
+mod numbers;
+#[cfg(test)]
+mod tests;
+
+pub use command::{
+    Command, ImportOptions, MountCommand, MountOptions, Objects, ObjectsOptions, OptionsError,
+    ServeOptions, options,
+};
+pub use numbers::NumberOption;
