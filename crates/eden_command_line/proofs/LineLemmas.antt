@@ -1,5 +1,5 @@
 -- What the matches of the program's command line say.
-use Rattle.std.proofs.Common.{◌≡◌, ◌∙◌, ap, sym, subst, inl, inr, ◌⊎◌, refl, Bool, true, false, true≢false, List, [], ◌∷◌, Option, Some, None, codes, option_map}
+use Rattle.std.proofs.Common.{◌≡◌, ◌∙◌, ap, sym, subst, inl, inr, ◌⊎◌, refl, true, false, true≢false, List, [], ◌∷◌, Option, Some, None, codes, option_map}
 use Rattle.std.proofs.Math.Path.{fun_ext}
 use Rattle.std.specs.Prelude.{Box}
 use Rattle.std.specs.Box.{box_value}

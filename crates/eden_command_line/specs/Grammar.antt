@@ -1,5 +1,5 @@
 -- Command lines of a program with subcommands, whose options each take one value or none, in the words of `clap`'s grammar.
-use Rattle.std.specs.Prelude.{◌≡◌, ◌⊎◌, ⊤, Bool, true, false, List, [], ◌∷◌, ◌++◌, map, Option, Some, None, is_some}
+use Rattle.std.specs.Prelude.{◌≡◌, ◌⊎◌, ⊤, true, false, List, [], ◌∷◌, ◌++◌, map, Option, Some, None, is_some}
 use Rattle.clap.specs.Words.{App, Row, Rule, Shape, Text, first_of, new_rule}
 use Rattle.clap.specs.Simple.{new_shape}
 use Rattle.clap.specs.declared.builder.action.ArgAction.TheVariants.{SetTrue}

@@ -1,6 +1,6 @@
 use Rattle.std.proofs.Common.{◌≡◌, ◌∙◌, ap, true, [], ◌∷◌, codes}
 use Rattle.clap.specs.Simple.{App, Shape, app_of, app_of_fields, new_app, on_top, shape_of, with_subcommand}
-use Rattle.eden_command_line.specs.CommandLine.{import, objects, serve, stdio}
+use Rattle.eden_command_line.specs.CommandLine.{objects, serve, stdio}
 use Rattle.eden_command_line.specs.Grammar.{program}
 use Rattle.eden_command_line.proofs.command.command_line.Goals as goal
 

@@ -17,3 +17,6 @@ returns-in_err-port-clause-err c =
     let given : value (codes "port") ≡ Some c.unwrap-port.result.now = search rules in
     let why = refused_number value Port c.in_err-port.field-0.0 c.unwrap-port.result.now c.in_err-port.ensures.err.0 given c.in_err-port.ensures.err.1 in
     search rules
+
+pub returns-clause-ok : goal.returns-clause-ok
+returns-clause-ok c = search rules
