@@ -12,6 +12,3 @@ returns-in_err-read-in-Some-port-2-clause-err c =
     let read = c.in_err-read-in-Some-port-2 in
     let why = refused_number value Remote read.field-0.0 text read.ensures.err.0 given read.ensures.err.1 in
     search rules
-
-pub returns-in-Some-port-clause-ok : goal.returns-in-Some-port-clause-ok
-returns-in-Some-port-clause-ok c = search rules
