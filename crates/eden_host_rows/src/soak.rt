@@ -15,9 +15,13 @@ use std::marker::Brand;
 use std::process::Abort;
 use std::sync::Wait;
 use std::thread::Threads;
+use std::time::{Duration, Instant};
 
-/// How many rounds there are.
-const ALL: u32 = 2_800;
+/// For how many seconds rounds begin.
+const SECONDS: u64 = 20;
+
+/// How many rounds there are at most, so that they can be counted.
+const ALL: u32 = 1_000_000;
 
 /// As many keys may be in flight.
 const FLIGHTS: u32 = 3;
@@ -78,15 +82,15 @@ fn play<R: Threads + Wait + Abort + Sync>(
     check(rt, alloc, round, mount.history(), tally)
 }
 
-/// Each kind of answer was met often enough.
-fn check_tally(rt: &impl Abort, tally: &Tally) {
-    assert_eq!(rt; tally.entries, ALL * REQUESTS);
-    assert!(rt;
-        tally.replies > ALL * 50 && tally.errors > ALL * 50,
-        "{tally:?}"
-    );
-    assert!(rt; tally.failures > ALL / 5 && tally.flaws > ALL, "{tally:?}");
-    assert!(rt; tally.overtakes > ALL * 5, "{tally:?}");
+/// Each kind of answer was met often enough in so many rounds.
+fn check_tally(rt: &impl Abort, rounds: u32, tally: &Tally) {
+    let rounds = u64::from(rounds);
+    assert_eq!(rt; u64::from(tally.entries), rounds * u64::from(REQUESTS));
+    let replies = u64::from(tally.replies.min(tally.errors));
+    assert!(rt; replies > rounds * 50, "{tally:?}");
+    assert!(rt; u64::from(tally.failures) > rounds / 5, "{tally:?}");
+    assert!(rt; u64::from(tally.flaws) > rounds, "{tally:?}");
+    assert!(rt; u64::from(tally.overtakes) > rounds * 5, "{tally:?}");
 }
 
 #[test]
@@ -101,8 +105,15 @@ fn clients_are_answered_as_one_after_another(rt: HostRuntime) {
         flaws: 0,
         overtakes: 0,
     };
-    for _ in 0..ALL {
+    let start = Instant::now(&rt).expect(&rt, "a clock");
+    let mut rounds = 0;
+    for round in 0..ALL {
+        let passed = start.elapsed(&rt).expect(&rt, "a clock");
+        if passed >= Duration::from_secs(SECONDS) {
+            break;
+        }
         tally = play(&rt, alloc, &mut seed, tally);
+        rounds = round + 1;
     }
-    check_tally(&rt, &tally);
+    check_tally(&rt, rounds, &tally);
 }
