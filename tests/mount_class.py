@@ -8,15 +8,12 @@ import random
 import re
 import signal
 import subprocess
-import sys
 import threading
 
 from checks import PATIENCE, check, git, make_repository, whole_tree
 from folder_operations import FileSystem, Folder, compare, shown
 from mount_folder import checkout
-from programs import GIT_OBJECTS, MOUNTD, SAMPLE_OBJECTS, SAMPLE_ROOT, TOP, listening
-
-sys.path.append(str(TOP / "scripts"))
+from programs import GIT_OBJECTS, MOUNTD, SAMPLE_OBJECTS, SAMPLE_ROOT, listening
 
 import eden_client
 from bench_git import DEEP, content_of, make_large_repository
