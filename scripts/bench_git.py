@@ -1,7 +1,9 @@
-"""Git for measurements, free of the user's own settings, and a large repository."""
+"""Git for measurements and tests, free of the user's own settings, and a large repository."""
 
 import os
 import subprocess
+
+import git_source
 
 SETTINGS = ["-c", "user.name=Bench", "-c", "user.email=bench@example.org", "-c", "init.defaultBranch=main",
             "-c", "protocol.file.allow=always", "-c", "advice.detachedHead=false"]
@@ -11,11 +13,16 @@ FOLDERS_IN_A_FOLDER = 25
 DEEP = "d17/e17/f/g/h/deep"
 
 
-def git(repository, *words, data=None):
-    environment = {**os.environ, "GIT_CONFIG_GLOBAL": os.devnull, "GIT_CONFIG_SYSTEM": os.devnull}
+def environment():
+    """Without the caller's GIT_*, which in a hook name the repository that is worked in, and without settings."""
+    return {**git_source.environment(), "GIT_CONFIG_GLOBAL": os.devnull, "GIT_CONFIG_SYSTEM": os.devnull}
+
+
+def git(repository, *words, data=None, text=True):
+    """What Git prints, as text without the line feed at its end, or as bytes."""
     done = subprocess.run(["git", *SETTINGS, "-C", str(repository), *words], input=data, capture_output=True, check=True,
-                          env=environment)
-    return done.stdout.decode().strip()
+                          env=environment())
+    return done.stdout.decode().strip() if text else done.stdout
 
 
 def content_of(path):

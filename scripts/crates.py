@@ -8,14 +8,20 @@ TOP = pathlib.Path(__file__).resolve().parent.parent
 READ = ("src", "specs", "proofs")
 
 
-def dependencies():
-    """Each crate of crates.txt, and the crates of the repository that it stands on."""
-    rows = {}
+def rows():
+    """Each crate of crates.txt, and its row: the words before the colon, and the libraries behind it."""
+    found = {}
     for line in (TOP / "crates.txt").read_text().splitlines():
         head, colon, below = line.partition("#")[0].partition(":")
         if colon:
-            rows[head.split()[0]] = below.split()
-    return {name: [other for other in below if other in rows] for name, below in rows.items()}
+            found[head.split()[0]] = head.split(), below.split()
+    return found
+
+
+def dependencies():
+    """Each crate, and the crates of the repository that it stands on."""
+    found = rows()
+    return {name: [other for other in below if other in found] for name, (_, below) in found.items()}
 
 
 def in_order(below):
@@ -45,8 +51,9 @@ def with_those_below(below, names):
 
 
 def digest_of(name, digests):
-    """A digest of the toolchain, the crate's files, and the digests of those that it stands on."""
+    """A digest of the toolchain, the crate's row and its files, and the digests of those that it stands on."""
     digest = hashlib.sha1(subprocess.run(["rt", "version"], capture_output=True, check=True).stdout)
+    digest.update(repr(rows()[name]).encode())
     crate = TOP / "crates" / name
     for path in sorted(path for part in READ for path in (crate / part).rglob("*") if path.is_file()):
         digest.update(str(path.relative_to(crate)).encode() + b"\0" + path.read_bytes())

@@ -20,6 +20,9 @@ from eden_client import DIR, EXEC, FILE, LINK, Fault, Requests, SessionEnded, re
 TYPES = {FILE: stat.S_IFREG, EXEC: stat.S_IFREG, LINK: stat.S_IFLNK, DIR: stat.S_IFDIR}
 MODES = {FILE: stat.S_IFREG | 0o644, EXEC: stat.S_IFREG | 0o755, LINK: stat.S_IFLNK | 0o777, DIR: stat.S_IFDIR | 0o755}
 BLOCK = 512
+# What stands in the place of a time that is set to the clock's, or that stays. With seconds of 0, as they come, they are
+# times of 1970 too, which nobody can tell from them.
+UTIME_NOW, UTIME_OMIT = (1 << 30) - 1, (1 << 30) - 2
 CAUSES = {
     "Missing": "the repository lacks it",
     "Device": "it couldn't be read from the server of objects",
@@ -162,6 +165,8 @@ class MountOperations:
     """
 
     use_ns = True
+    # Without it libfuse answers a request that sets one of the two times, and does nothing.
+    flag_utime_omit_ok = 1
 
     def __init__(self, mount, times, place="/"):
         self.mount = mount
@@ -247,10 +252,11 @@ class MountOperations:
     def utimens(self, path, times=None):
         """The time of the content is kept as long as the mount stands, that of the last read never."""
         self.mount.kind(raw(path))
-        if times is None:
+        content = UTIME_NOW if times is None else times[1]
+        if content == UTIME_NOW:
             self.times.change(path)
         else:
-            self.times.set(path, times[1])
+            self.times.set(path, None if content == UTIME_OMIT else content)
         return 0
 
     def flush(self, path, fh=None):

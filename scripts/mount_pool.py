@@ -107,6 +107,8 @@ class Pool(eden_client.Requests):
         self.changed = threading.Condition()
         self.busy = 0
         self.gone = False
+        # Whether the mountd that runs was started because the one before it failed.
+        self.is_retry = False
         self.open()
 
     def open(self):
@@ -161,8 +163,9 @@ class Pool(eden_client.Requests):
         self.gone = True
         self.changed.notify_all()
         problem = self.running.close()
-        if self.ended and self.served == 0:
+        if self.is_retry and self.ended and self.served == 0:
             raise SessionEnded(problem or "mountd ends each session before its first reply")
+        self.is_retry = self.ended
         try:
             self.open()
         except (Unopened, OSError) as refusal:

@@ -74,7 +74,12 @@ class OverlayFolder:
             return b""
 
     def changed(self):
-        """Rows of path and time, in nanoseconds, of what was changed: when its file was last stored."""
+        """Rows of path and time, in nanoseconds, of what was changed: when its file was last stored.
+
+        A folder is stored too when something in it is changed first; the rows don't tell that from a change of its own.
+        """
+        if when := self.stored(ROOT):
+            yield b"/", when
         folders = [(b"/", ROOT)]
         while folders:
             path, number = folders.pop()
@@ -85,6 +90,7 @@ class OverlayFolder:
                     folders.append((below + b"/", own))
 
     def stored(self, number):
+        """When a file was last stored; 0 where it isn't there."""
         try:
             return os.stat(os.path.join(self.path, str(number))).st_mtime_ns
         except OSError:

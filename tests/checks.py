@@ -1,7 +1,9 @@
 """What the end-to-end scripts share: counted checks, Git without the user's settings, and a repository with everything."""
 
 import os
-import subprocess
+
+import protocol  # so that what scripts share can be imported
+from bench_git import git
 
 # How many seconds anything that is waited for may take: what hangs is found, and a machine whose disk stands still for a
 # while passes.
@@ -29,16 +31,6 @@ def skip(name, why):
 
 
 # ---- Git
-
-
-def git(repository, *words, data=None, text=True):
-    """Runs git, free of the user's own settings."""
-    settings = ["-c", "user.name=Test", "-c", "user.email=test@example.org", "-c", "protocol.file.allow=always",
-                "-c", "commit.gpgsign=false", "-c", "init.defaultBranch=main"]
-    environment = {**os.environ, "GIT_CONFIG_GLOBAL": os.devnull, "GIT_CONFIG_SYSTEM": os.devnull}
-    done = subprocess.run(["git", *settings, "-C", str(repository), *words], input=data, capture_output=True,
-                          check=True, env=environment)
-    return done.stdout.decode().strip() if text else done.stdout
 
 
 def make_repository(folder):

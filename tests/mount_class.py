@@ -8,20 +8,18 @@ import random
 import re
 import signal
 import subprocess
-import sys
 import threading
 
 from checks import PATIENCE, check, git, make_repository, whole_tree
 from folder_operations import FileSystem, Folder, compare, shown
 from mount_folder import checkout
-from programs import GIT_OBJECTS, MOUNTD, SAMPLE_OBJECTS, SAMPLE_ROOT, TOP, listening
-
-sys.path.append(str(TOP / "scripts"))
+from programs import GIT_OBJECTS, MOUNTD, SAMPLE_OBJECTS, SAMPLE_ROOT, listening
 
 import eden_client
 from bench_git import DEEP, content_of, make_large_repository
-from mount_operations import Mount, MountOperations, Times
+from mount_operations import UTIME_NOW, UTIME_OMIT, Mount, MountOperations, Times
 from mount_pool import Pool, Serving
+from overlay_folder import OverlayFolder
 
 USERS = 8
 TURNS = 25
@@ -32,13 +30,17 @@ ALL_KEPT = ["--cache-entries", 65_536]
 
 
 class Starts(Serving):
-    """A program that counts how often it is started, and keeps what runs."""
+    """A program that counts how often it is started, and keeps what runs. Of the starts those in `doomed` are killed."""
 
     count = 0
+    doomed = ()
 
     def start(self, history):
         self.count += 1
         self.last = super().start(history)
+        if self.count in self.doomed:
+            self.last.kill()
+            self.last.child.wait(PATIENCE)
         return self.last
 
 
@@ -241,6 +243,17 @@ def check_killed_mountd(folder):
             check(f"killed for good: EIO, the {time_of_it}", refused(operations.read, "/new", 10, 0), "EIO")
 
 
+def check_killed_after_limit(folder):
+    """A mountd that is killed before its first reply is followed by one more, and only if that is killed too by none."""
+    for name, doomed, wanted in [("once", {2}, ["EIO", None, None]), ("twice", {2, 3}, ["EIO", "EIO", "EIO"])]:
+        with sample(folder / f"overlay of the killed {name}", most_requests=2) as mount:
+            mount.program.doomed = doomed
+            mount.operations.create("/new", 0o644)
+            mount.operations.write("/new", b"kept", 0)
+            told = [refused(mount.operations.read, "/new", 10, 0) for _ in wanted]
+            check(f"killed after a limit, {name}", (told, mount.program.count), (wanted, 3))
+
+
 def check_ended_session(folder):
     """One session of eight that has ended costs the request on it, and then all goes on."""
     with sample(folder / "overlay") as mount:
@@ -294,6 +307,36 @@ class User(threading.Thread):
             self.operations.write(path, b"%d" % turn, 0)
             self.operations.rename(path, f"{self.folder}/moved")
             self.seen.append(self.operations.read(f"{self.folder}/moved", 10, 0))
+
+
+# ---- times
+
+
+def check_times(folder):
+    """A time may be set alone, and the next mount finds in the overlay when what was changed."""
+    overlay = folder / "overlay of times"
+    with sample(overlay) as mount:
+        operations = mount.operations
+        for name, times, wanted in [("both", (5, 5), 5), ("the content's", (UTIME_OMIT, 6), 6),
+                                    ("the last read's", (7, UTIME_OMIT), 6), ("both of them again", (8, 8), 8)]:
+            operations.utimens("/test.txt", times)
+            check(f"times: {name}", operations.getattr("/test.txt")["st_mtime"], wanted)
+        for name, times in [("the clock's", (UTIME_OMIT, UTIME_NOW)), ("the clock's, later", None)]:
+            before = operations.times.latest
+            operations.utimens("/test.txt", times)
+            check(f"times: {name}", before < operations.getattr("/test.txt")["st_mtime"], True)
+        check("times: without a change", found_in(overlay), [])
+        operations.mkdir("/folder", 0o755)
+        operations.create("/folder/file", 0o644)
+        check("times: the end", mount.close(), None)
+    check("times: what is found", found_in(overlay), ["/", "/folder", "/folder/file"])
+
+
+def found_in(overlay):
+    """The paths that have the time of a change in the next mount on an overlay."""
+    with contextlib.closing(OverlayFolder(overlay)) as folder:
+        times = Times(0, folder.changed())
+    return [path for path in ("/", "/folder", "/folder/file", "/test.txt") if times.of(path) > (0, 0)]
 
 
 # ---- slow fetches

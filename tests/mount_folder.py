@@ -16,6 +16,8 @@ import time
 from checks import PATIENCE, check, git, make_repository, skip
 from programs import MOUNTD, TOP
 
+from bench_git import environment
+
 MOUNT_GIT = TOP / "scripts/mount-git"
 LONGEST_MOUNT = 280
 UNMOUNT = shutil.which("fusermount3") or shutil.which("fusermount")
@@ -197,8 +199,7 @@ class Both:
 
     def __init__(self, repository, mounted, plain, place):
         self.folders = [mounted, plain]
-        self.environment = {**os.environ, "LC_ALL": "C", "REPOSITORY": str(repository), "IN": str(place / "in"),
-                            "GIT_CONFIG_GLOBAL": os.devnull, "GIT_CONFIG_SYSTEM": os.devnull}
+        self.environment = {**environment(), "LC_ALL": "C", "REPOSITORY": str(repository), "IN": str(place / "in")}
         self.outs = [place / "out of the mounted", place / "out of the plain"]
         for out in self.outs:
             out.mkdir()

@@ -207,6 +207,22 @@ def check_moved_revision(folder):
         check("moved: one line, with both trees", told, [True])
 
 
+def check_signed_commit(folder):
+    """A signed commit's time is its own, also where Git's settings have it tell of signatures."""
+    repository = make_repository(folder)
+    tree = git(repository, "rev-parse", "HEAD^{tree}")
+    who = "Test <test@example.org> 1000000000 +0000"
+    signed = (f"tree {tree}\nauthor {who}\ncommitter {who}\ngpgsig -----BEGIN SSH SIGNATURE-----\n none\n"
+              " -----END SSH SIGNATURE-----\n\nsigned\n")
+    commit = git(repository, "hash-object", "-t", "commit", "-w", "--stdin", data=signed.encode())
+    git(repository, "config", "log.showSignature", "true")
+    told = git(repository, "show", "-s", "--format=%ct", commit)
+    check("signed: Git tells of the signature", told != "1000000000", True)
+    with Mount(repository, commit, folder / "mounted") as mount:
+        check("signed: the commit's time", (mount.folder / "plain.txt").stat().st_mtime, 1_000_000_000)
+        check("signed: the end, with nothing said", (mount.end("SIGTERM"), mount.said()), (0, []))
+
+
 def check_damaged_repository(folder):
     """A file whose object is lost, or damaged, is EIO and a line that names it; all else goes on."""
     repository = make_repository(folder)
@@ -273,6 +289,11 @@ def check_attributes(top, repository):
     check("attributes: a change's time rises", before < (top / "log").stat().st_mtime_ns, True)
     os.utime(top / "log", (1, 2))
     check("attributes: a time that is set", (top / "log").stat().st_mtime, 2)
+    for words, wanted in [("-m -d @5", 5), ("-a -d @7", 5), ("-d @9", 9)]:
+        check(f"attributes: touch {words}", said_by("touch", *words.split(), top / "log"), (0, []))
+        check(f"attributes: the time after touch {words}", (top / "log").stat().st_mtime, wanted)
+    check("attributes: touch -m", said_by("touch", "-m", top / "log"), (0, []))
+    check("attributes: the clock's time", before < (top / "log").stat().st_mtime_ns, True)
     os.chmod(top / "log", 0o600)
     check("attributes: of a mode the executable bit", outcome(place, "getattr", (b"log",))[1], 0o644)
     os.chmod(top / "log", 0o700)

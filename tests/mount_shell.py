@@ -1,13 +1,15 @@
-"""The small shell on a mount, with its commands on standard input."""
+"""The small shell on a mount, with its commands on standard input, or typed."""
 
 import contextlib
 import os
+import pty
 import subprocess
 
 from checks import PATIENCE, check, git, make_repository
-from programs import GIT_OBJECTS, MOUNTD, TOP, listening
+from programs import GIT_OBJECTS, MOUNTD, SAMPLE_OBJECTS, SAMPLE_ROOT, TOP, listening
 
 SHELL = TOP / "scripts/eden-shell"
+STRICT = {**os.environ, "PYTHONIOENCODING": "utf-8:strict"}
 MARKS = {b"100644": b"", b"100755": b"*", b"120000": b"@", b"040000": b"/", b"160000": b"/"}
 
 
@@ -15,9 +17,24 @@ def shell(mount, *lines):
     """Status, output and the lines of errors of a shell on these commands, where texts are strict about their bytes."""
     words = [str(word) for word in [SHELL, *mount]]
     data = b"".join(line + b"\n" for line in lines)
-    environment = {**os.environ, "PYTHONIOENCODING": "utf-8:strict"}
-    done = subprocess.run(words, input=data, env=environment, capture_output=True, timeout=PATIENCE)
+    done = subprocess.run(words, input=data, env=STRICT, capture_output=True, timeout=PATIENCE)
     return done.returncode, done.stdout, done.stderr.splitlines()
+
+
+def typed(mount, *lines):
+    """The status of such a shell whose commands are typed, and all that its terminal shows."""
+    words = [str(word) for word in [SHELL, *mount]]
+    ours, theirs = pty.openpty()
+    process = subprocess.Popen(words, stdin=theirs, stdout=theirs, stderr=theirs, env=STRICT, start_new_session=True)
+    os.close(theirs)
+    os.write(ours, b"".join(line + b"\n" for line in lines))
+    shown = b""
+    # Once nobody has the other end a terminal can't be read.
+    with contextlib.suppress(OSError):
+        while piece := os.read(ours, 65_536):
+            shown += piece
+    os.close(ours)
+    return process.wait(PATIENCE), shown
 
 
 def listing(repository, folder, sizes=False):
@@ -60,6 +77,13 @@ def check_shell(folder):
         check_refusals([port])
     check("shell: no such port", shell([1], b"ls")[0], 1)
     check("shell: no such program", shell([folder / "nothing"], b"ls")[0], 1)
+
+
+def check_prompt(folder):
+    """The prompt tells the folder, also one whose name is no text."""
+    words = [MOUNTD, "stdio", "--root", SAMPLE_ROOT, "--objects", SAMPLE_OBJECTS]
+    status, shown = typed(words, b"mkdir \xff", b"cd \xff", b"exit")
+    check("shell: a prompt that is no text", (status, b"\n/\xff> " in shown), (0, True))
 
 
 def check_looks(name, mount, repository):

@@ -6,7 +6,6 @@ reader, so that the two can be compared. A file that isn't as described raises `
 
 import collections
 import re
-import struct
 
 FILE = b"OVFL"
 DIRECTORY = b"OVDR"
