@@ -21,6 +21,7 @@ test: ## proves everything from nothing, and runs every test; its last line coun
 	tests/overlay-life
 	tests/remote
 	tests/serving
+	tests/refused-memory
 	tests/mounted
 	tests/theorem
 	tests/end-to-end

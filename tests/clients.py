@@ -82,10 +82,10 @@ def ending_of(process):
     return process.returncode, output, errors
 
 
-def start_serve(*words):
+def start_serve(*words, **more):
     """The program with these options."""
     return subprocess.Popen([str(word) for word in [MOUNTD, "serve", *words]], stdin=subprocess.DEVNULL,
-                            stdout=subprocess.PIPE, stderr=subprocess.PIPE)
+                            stdout=subprocess.PIPE, stderr=subprocess.PIPE, **more)
 
 
 class Service:

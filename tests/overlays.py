@@ -4,7 +4,7 @@ import subprocess
 
 from checks import check, git, whole_tree
 from overlay_files import Damaged, Shown, state_of, stored
-from programs import MOUNTD
+from programs import EXPORTER, MOUNTD
 from random_requests import line_of
 
 CLOSED = (0, b"")
@@ -35,6 +35,22 @@ class Commit:
 
 LEAVES = {b"100644": lambda content: ("file", False, content), b"100755": lambda content: ("file", True, content),
           b"120000": lambda content: ("link", content)}
+
+
+def make_commit(folder, files):
+    """A commit of these files, the last of which is executable, and of a link; and its objects in a folder."""
+    repository = folder / "repository"
+    for path, content in files.items():
+        (repository / path).parent.mkdir(parents=True, exist_ok=True)
+        (repository / path).write_bytes(content)
+    (repository / path).chmod(0o755)
+    (repository / "link").symlink_to("d/e")
+    git(repository, "init", "-q")
+    git(repository, "add", "-A")
+    git(repository, "commit", "-qm", "files")
+    objects = folder / "objects"
+    subprocess.run([str(EXPORTER), str(repository), "HEAD", str(objects)], capture_output=True, check=True)
+    return Commit(repository), objects
 
 
 def contents_of(repository, ids):
