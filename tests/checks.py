@@ -1,6 +1,10 @@
 """What the end-to-end scripts share: counted checks, Git without the user's settings, and a repository with everything."""
 
+import contextlib
 import os
+import subprocess
+import sys
+import threading
 
 import protocol  # so that what scripts share can be imported
 from bench_git import git
@@ -8,19 +12,25 @@ from bench_git import git
 # How many seconds anything that is waited for may take: what hangs is found, and a machine whose disk stands still for a
 # while passes.
 PATIENCE = 120
+STILL_RUNNING = "still running"
+# After so many programs that hang a script ends: there may be thousands of runs left.
+MOST_HUNG = 3
 
 passed = 0
 failed = 0
 skipped = 0
+hung = 0
 
 
 def check(name, got, wanted):
     global passed, failed
     if got == wanted:
         passed += 1
-    else:
-        failed += 1
-        print(f"FAILED {name}: got {got!r:.300}, wanted {wanted!r:.300}")
+        return
+    failed += 1
+    print(f"FAILED {name}: got {got!r:.300}, wanted {wanted!r:.300}", flush=True)
+    if hung >= MOST_HUNG:
+        sys.exit(closing_line(f"given up, since {hung} programs hung"))
 
 
 def skip(name, why):
@@ -28,6 +38,58 @@ def skip(name, why):
     global skipped
     skipped += 1
     print(f"SKIPPED {name}: {why}")
+
+
+# ---- programs, which may hang
+
+
+def finished(words, **more):
+    """A program's run to its end. One that has none is killed, and its status says so; `more` is `subprocess.run`'s."""
+    global hung
+    words = [str(word) for word in words]
+    try:
+        return subprocess.run(words, **more, timeout=PATIENCE)
+    except subprocess.TimeoutExpired as late:
+        hung += 1
+        return subprocess.CompletedProcess(words, STILL_RUNNING, late.stdout or b"", late.stderr or b"")
+
+
+def kill_hung(process):
+    global hung
+    hung += 1
+    process.kill()
+
+
+def status_of(process):
+    """The status of a process that is to end by itself, whose output nobody wants."""
+    try:
+        return process.wait(PATIENCE)
+    except subprocess.TimeoutExpired:
+        kill_hung(process)
+        process.wait()
+        return STILL_RUNNING
+
+
+def ending_of(process):
+    """Status, output and errors of a process that is to end by itself."""
+    try:
+        output, errors = process.communicate(timeout=PATIENCE)
+    except subprocess.TimeoutExpired:
+        kill_hung(process)
+        return STILL_RUNNING, *process.communicate()
+    return process.returncode, output, errors
+
+
+@contextlib.contextmanager
+def watched(process):
+    """A process that is killed where the block takes too long, so that who waits for a line of it is told its end."""
+    alarm = threading.Timer(PATIENCE, kill_hung, [process])
+    alarm.daemon = True
+    alarm.start()
+    try:
+        yield process
+    finally:
+        alarm.cancel()
 
 
 # ---- Git

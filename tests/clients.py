@@ -8,7 +8,7 @@ import threading
 import time
 import urllib.parse
 
-from checks import PATIENCE
+from checks import PATIENCE, ending_of
 from programs import MOUNTD
 from protocol import path_text
 from random_requests import MOST_ENTRIES
@@ -70,16 +70,6 @@ class Client:
 
     def close(self):
         self.socket.close()
-
-
-def ending_of(process):
-    """Status, output and errors of a process that is to end by itself."""
-    try:
-        output, errors = process.communicate(timeout=PATIENCE)
-    except subprocess.TimeoutExpired:
-        process.kill()
-        return "still running", *process.communicate()
-    return process.returncode, output, errors
 
 
 def start_serve(*words, **more):

@@ -30,7 +30,7 @@ ALL_KEPT = ["--cache-entries", 65_536]
 
 
 class Starts(Serving):
-    """A program that counts how often it is started, and keeps what runs. Of the starts those in `doomed` are killed."""
+    """A program that counts how often it is started, and keeps what runs. Those of its runs in `doomed` are killed."""
 
     count = 0
     doomed = ()
@@ -244,7 +244,7 @@ def check_killed_mountd(folder):
 
 
 def check_killed_after_limit(folder):
-    """A mountd that is killed before its first reply is followed by one more, and only if that is killed too by none."""
+    """A mountd that is killed before its first reply is followed by one more, and if that is killed too by none."""
     for name, doomed, wanted in [("once", {2}, ["EIO", None, None]), ("twice", {2, 3}, ["EIO", "EIO", "EIO"])]:
         with sample(folder / f"overlay of the killed {name}", most_requests=2) as mount:
             mount.program.doomed = doomed

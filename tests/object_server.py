@@ -6,8 +6,8 @@ import socketserver
 import threading
 import time
 
-# How long an object is held back at most, in seconds.
-LONGEST_HELD = 20
+# How long an object is held back at most, in seconds: mountd takes 30 of silence for a failure.
+LONGEST_HELD = 25
 
 
 def blob_id(content):

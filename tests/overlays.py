@@ -2,7 +2,7 @@
 
 import subprocess
 
-from checks import check, git, whole_tree
+from checks import check, finished, git, whole_tree
 from overlay_files import Damaged, Shown, state_of, stored
 from programs import EXPORTER, MOUNTD
 from random_requests import line_of
@@ -49,7 +49,7 @@ def make_commit(folder, files):
     git(repository, "add", "-A")
     git(repository, "commit", "-qm", "files")
     objects = folder / "objects"
-    subprocess.run([str(EXPORTER), str(repository), "HEAD", str(objects)], capture_output=True, check=True)
+    finished([EXPORTER, repository, "HEAD", objects], capture_output=True).check_returncode()
     return Commit(repository), objects
 
 
@@ -75,7 +75,7 @@ class Place:
     def run(self, lines, *more):
         """Status, output and errors of a session on these lines."""
         data = b"".join(line + b"\n" for line in lines)
-        done = subprocess.run(self.words(*more), input=data, capture_output=True)
+        done = finished(self.words(*more), input=data, capture_output=True)
         return done.returncode, done.stdout, done.stderr
 
     def start(self):

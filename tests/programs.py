@@ -8,6 +8,8 @@ import pathlib
 import subprocess
 import sys
 
+from checks import watched
+
 TOP = pathlib.Path(__file__).resolve().parent.parent
 MOUNTD = pathlib.Path(sys.argv[1] if len(sys.argv) > 1 else TOP / "crates/mountd/out/mountd").resolve()
 EXPORTER = TOP / "scripts/objects-from-git"
@@ -21,7 +23,9 @@ def listening(words, **more):
     """A program that serves a port which it prints, and the port."""
     process = subprocess.Popen([str(word) for word in words], stdout=subprocess.PIPE, **more)
     try:
-        yield process, int(process.stdout.readline().decode().rsplit(":", 1)[1])
+        with watched(process):
+            line = process.stdout.readline().decode()
+        yield process, int(line.rsplit(":", 1)[1])
     finally:
         process.kill()
         process.communicate()
