@@ -27,7 +27,8 @@ impl<A: Allocator, W: World, F: Files<W>> Change<A, Overlay<W, F>> for StateStor
 
     ghost may = { λ stored overlay x. (number_least ≤ stored.state.next) × (stored.state.next ≤ number_end) };
 
-    ghost does = { λ stored old x new z answer. Leaves W.honest stored.state (F.stored old) x (F.failures old) (F.stored new) z (F.failures new) answer };
+    ghost does = { λ stored old x new z answer.
+        Leaves W.honest stored.state (F.stored old) x (F.failures old) (F.stored new) z (F.failures new) answer };
 
     fn change(self, overlay: &mut Overlay<W, F>, _entry: &mut Entry<A>) -> Result<(), FilesFault> {
         overlay.put_state(self.alloc, self.state)

@@ -1,5 +1,5 @@
 -- What the matches of the program's command line say.
-use Rattle.std.proofs.Common.{◌≡◌, ◌∙◌, ap, sym, subst, inl, inr, ◌⊎◌, refl, true, false, true≢false, List, [], ◌∷◌, Option, Some, None, codes, option_map}
+use Rattle.std.proofs.Common.{◌≡◌, ◌∙◌, ap, sym, subst, inl, inr, ◌⊎◌, refl, true, false, true≢false, List, [], ◌∷◌, Option, Some, None, Result, Ok, Err, IfErr, ℕ, codes, option_map}
 use Rattle.std.proofs.Math.Path.{fun_ext}
 use Rattle.std.specs.Prelude.{Box}
 use Rattle.std.specs.Box.{box_value}
@@ -169,6 +169,12 @@ pub refused_number : (value : Text → Option Text) (option refused : NumberOpti
 refused_number value option refused text is given none =
     let own : RefusesNumber value option = (text, given, none) in
     subst (RefusesNumber value) (sym is) own
+
+pub refused_if_none : (value : Text → Option Text) (option : NumberOption) (text : Text) (r : Result ℕ NumberOption)
+    → value (number_name option) ≡ Some text → IfErr r (λ refused. (refused ≡ option) × IsNoNumber option text)
+    → IfErr r (RefusesNumber value)
+refused_if_none value option text (Ok number) given none = tt
+refused_if_none value option text (Err refused) given (is, none) = refused_number value option refused text is given none
 
 -- an error of `clap`
 pub clap_refuses : (words : List Text) (reason : Error) (e : OptionsError) → HasKind (fault_of mountd_line words) reason

@@ -21,7 +21,7 @@ use std::convert::AsStr;
 use std::fmt::{self, Display, Formatter, Write};
 use thiserror::Error;
 
-/// How many objects may be asked for at once.
+/// How many objects may be asked for and not yet there: as many as the most fetchers.
 const FLIGHTS: u32 = 16;
 
 /// How many entries the history holds, where it isn't said.
@@ -340,10 +340,7 @@ fn number(given: &ArgMatches, option: NumberOption, default: u64) -> Result<u64,
     ensures err { IfErr result (RefusesNumber (first_value (found_of given.now))) }
 {
     match given.get_str(option.name()) {
-        Some(text) => match option.read(text) {
-            Some(number) => Ok(number),
-            None => Err(option),
-        },
+        Some(text) => read(text, option),
         None => Ok(default),
     }
 }
@@ -543,7 +540,8 @@ fn with_required<'a>(
     help: &'a str,
 ) -> Result<clap::Command<'a>, AllocError>
     requires { (fields_of line).has_globals ≡ false }
-    ensures shape { IfOk result (λ more. shape_of more ≡ with_options (shape_of line.entry) (required name.entry.0.now ∷ [])) }
+    ensures shape { IfOk result (λ more.
+        shape_of more ≡ with_options (shape_of line.entry) (required name.entry.0.now ∷ [])) }
     ensures local { IfOk result (λ more. (fields_of more).has_globals ≡ false) }
 {
     line.arg(option(alloc, name).required(true).help(help))
@@ -557,7 +555,8 @@ fn with_optional<'a>(
     help: &'a str,
 ) -> Result<clap::Command<'a>, AllocError>
     requires { (fields_of line).has_globals ≡ false }
-    ensures shape { IfOk result (λ more. shape_of more ≡ with_options (shape_of line.entry) (optional name.entry.0.now ∷ [])) }
+    ensures shape { IfOk result (λ more.
+        shape_of more ≡ with_options (shape_of line.entry) (optional name.entry.0.now ∷ [])) }
     ensures local { IfOk result (λ more. (fields_of more).has_globals ≡ false) }
 {
     line.arg(option(alloc, name).help(help))
@@ -571,7 +570,8 @@ fn with_flag<'a>(
     help: &'a str,
 ) -> Result<clap::Command<'a>, AllocError>
     requires { (fields_of line).has_globals ≡ false }
-    ensures shape { IfOk result (λ more. shape_of more ≡ with_options (shape_of line.entry) (flag name.entry.now ∷ [])) }
+    ensures shape { IfOk result (λ more.
+        shape_of more ≡ with_options (shape_of line.entry) (flag name.entry.now ∷ [])) }
     ensures local { IfOk result (λ more. (fields_of more).has_globals ≡ false) }
 {
     let flag = Arg::new(alloc, name).long(name).action(ArgAction::SetTrue);

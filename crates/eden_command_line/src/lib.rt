@@ -7,8 +7,6 @@
 
 mod command;
 mod numbers;
-#[cfg(test)]
-mod tests;
 
 pub use command::{
     Command, ImportOptions, MountCommand, MountOptions, Objects, ObjectsOptions, OptionsError,

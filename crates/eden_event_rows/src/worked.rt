@@ -6,7 +6,7 @@ use eden_model::{Bytes, Cause, Key, Path, Reply, Request, StartFault};
 use eden_mount::{Arrived, Event, Outcome, Turned};
 use eden_overlay::{Files, MemoryFiles};
 use eden_overlay_format::{State, encode_state};
-use eden_samples::{ONE_FILE, Sample, TWO_FILES, VERSION_1};
+use eden_samples::{NEW_FILE, ONE_FILE, Sample, TWO_FILES, VERSION_1, VERSION_2};
 use eden_wire::{Item, Scratch, read_request, write_reply};
 use std::alloc::Global;
 use std::cell::Cell;
@@ -28,12 +28,14 @@ enum Row {
     Takes(Sample),
     TakesNone,
     Arrives(Sample, Arrived),
+    /// These bytes come for the object, which are another.
+    Lies(Sample, &'static [u8]),
     Fails(Sample, Cause, bool),
     /// Everything may go, and so many directories do.
     Unloads(u64),
 }
 
-use Row::{Arrives, Declines, Done, Fails, Idle, Start, Takes, TakesNone, Unloads, Waits};
+use Row::{Arrives, Declines, Done, Fails, Idle, Lies, Start, Takes, TakesNone, Unloads, Waits};
 
 fn key_of(object: Sample) -> Key {
     Key {
@@ -61,8 +63,8 @@ fn start_of(rt: &impl Abort, alloc: Global, pass: u32, line: &str) -> Event {
     Event::Start(pass, request(rt, alloc, line))
 }
 
-fn arrival(rt: &impl Abort, alloc: Global, object: Sample) -> Event {
-    let framed = object.framed.to_vec(alloc).expect(rt, "memory");
+fn arrival(rt: &impl Abort, alloc: Global, object: Sample, framed: &[u8]) -> Event {
+    let framed = framed.to_vec(alloc).expect(rt, "memory");
     Event::Arrive(key_of(object), Bytes::new(framed))
 }
 
@@ -76,7 +78,8 @@ fn event(rt: &impl Abort, alloc: Global, row: Row) -> Event {
         Start(pass, line) | Declines(pass, line, _) => start_of(rt, alloc, pass, line),
         Waits(pass, _) | Done(pass, _, _) | Idle(pass) => Event::Turn(pass),
         Takes(_) | TakesNone => Event::Take,
-        Arrives(object, _) => arrival(rt, alloc, object),
+        Arrives(object, _) => arrival(rt, alloc, object, object.framed),
+        Lies(object, framed) => arrival(rt, alloc, object, framed),
         Fails(object, cause, _) => Event::Fail(key_of(object), cause),
         Unloads(_) => unloading(rt, alloc),
     }
@@ -108,6 +111,7 @@ fn is_answer(rt: &impl Abort, alloc: Global, row: Row, outcome: &Outcome) -> boo
         (Takes(object), Outcome::Take(taken)) => *taken == Some(key_of(object)),
         (TakesNone, Outcome::Take(taken)) => taken.is_none(),
         (Arrives(_, want), Outcome::Arrive(arrived)) => *arrived == want,
+        (Lies(_, _), Outcome::Arrive(arrived)) => *arrived == Arrived::Refused(Cause::BadDigest),
         (Fails(_, _, want), Outcome::Fail(failed)) => *failed == want,
         (Unloads(want), Outcome::Unload(gone)) => *gone == want,
         _ => false,
@@ -239,6 +243,55 @@ const COMES_AFTER_ALL: Worked = (
     ],
 );
 
+/// Bytes of another object are a failure, after which the object is asked for again and read.
+const LIED_TO: Worked = (
+    ONE_FILE,
+    4,
+    &[
+        Start(1, "read /test.txt 0 1"),
+        Waits(1, ONE_FILE),
+        Takes(ONE_FILE),
+        Arrives(ONE_FILE, Arrived::Stored),
+        Waits(1, VERSION_1),
+        Takes(VERSION_1),
+        Lies(VERSION_1, b"blob 6\0hello\n"),
+        Done(
+            1,
+            1,
+            "fault fetch 83baae61804e65cc73a7201a7252750c76066a30 BadDigest\n",
+        ),
+        Start(1, "read /test.txt 0 1"),
+        Waits(1, VERSION_1),
+        Takes(VERSION_1),
+        Arrives(VERSION_1, Arrived::Stored),
+        Done(1, 2, "data 1 76\n"),
+    ],
+);
+
+/// With one object cached, the second arrival drives out what the first request waited for, which waits again.
+const DRIVEN_OUT: Worked = (
+    TWO_FILES,
+    1,
+    &[
+        Start(1, "read /new.txt 0 1"),
+        Waits(1, TWO_FILES),
+        Takes(TWO_FILES),
+        Arrives(TWO_FILES, Arrived::Stored),
+        Waits(1, NEW_FILE),
+        Start(2, "read /test.txt 0 1"),
+        Waits(2, VERSION_2),
+        Takes(NEW_FILE),
+        Takes(VERSION_2),
+        Arrives(NEW_FILE, Arrived::Stored),
+        Arrives(VERSION_2, Arrived::Stored),
+        Waits(1, NEW_FILE),
+        Done(2, 1, "data 1 76\n"),
+        Takes(NEW_FILE),
+        Arrives(NEW_FILE, Arrived::Stored),
+        Done(1, 2, "data 1 6e\n"),
+    ],
+);
+
 /// What was unloaded is asked for again where its object has left the cache.
 const UNLOADED: Worked = (
     ONE_FILE,
@@ -293,6 +346,12 @@ fn a_waiting_request_looks_again(rt: HostRuntime) {
 fn a_failure_is_told_to_who_waits(rt: HostRuntime) {
     check(&rt, rt.alloc(), ONE_FAILURE, 3);
     check(&rt, rt.alloc(), COMES_AFTER_ALL, 2);
+    check(&rt, rt.alloc(), LIED_TO, 2);
+}
+
+#[test]
+fn what_is_driven_out_is_waited_for_again(rt: HostRuntime) {
+    check(&rt, rt.alloc(), DRIVEN_OUT, 2);
 }
 
 #[test]

@@ -49,7 +49,9 @@ impl<A: Allocator> Model for Imports<A> {
 
     ghost view = { λ a. queue_from a.queue.items a.flight.items a.wants.items a.marks.items a.passes a.flights };
 
-    ghost invariant = { λ a. IsQueue (queue_from a.queue.items a.flight.items a.wants.items a.marks.items a.passes a.flights) × (a.passes ≤ deque_capacity a.queue) × (a.flights ≤ vec_capacity a.flight) };
+    ghost invariant = { λ a.
+        IsQueue (queue_from a.queue.items a.flight.items a.wants.items a.marks.items a.passes a.flights)
+        × (a.passes ≤ deque_capacity a.queue) × (a.flights ≤ vec_capacity a.flight) };
 }
 
 impl<A: Allocator> Imports<A> {

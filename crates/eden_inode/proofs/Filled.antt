@@ -95,7 +95,8 @@ item_same k e = ap (λ (s : Source). record { kind = (item_by e.mode e.id).kind;
 pub find_items : (n : Name) (k : ℕ) (es : List TreeEntry) → option_map item_away (find_row n (numbered k es)) ≡ items_of es n
 find_items n k [] = refl
 find_items n k (e ∷ es) =
-    elim (bytes_eq n e.name) as (λ b. option_map item_away (cond b (Some (row_by k e)) (find_row n (numbered (suc k) es))) ≡ option_map (λ x. item_by x.mode x.id) (cond b (Some e) (entry_named n es))) [
+    elim (bytes_eq n e.name) as (λ b. option_map item_away (cond b (Some (row_by k e)) (find_row n (numbered (suc k) es)))
+    ≡ option_map (λ x. item_by x.mode x.id) (cond b (Some e) (entry_named n es))) [
       | true ↦ ap Some (item_same k e)
       | false ↦ find_items n (suc k) es
     ]

@@ -54,9 +54,11 @@ impl<A: Allocator, W: World, F: Files<W>> Model for Inodes<A, W, F> {
 
     ghost coded = { Prim.hlevel (codes, child_code) };
 
-    ghost view = { λ t. record { root = t.root; files = t.overlay; next = t.next; clock = t.clock; changes = t.changes } };
+    ghost view = { λ t.
+        record { root = t.root; files = t.overlay; next = t.next; clock = t.clock; changes = t.changes } };
 
-    ghost invariant = { λ t. IsTable t.root t.next × (W.honest → IsKept W.repository (F.stored t.overlay) t.root t.next) };
+    ghost invariant = { λ t.
+        IsTable t.root t.next × (W.honest → IsKept W.repository (F.stored t.overlay) t.root t.next) };
 }
 
 impl<A: Allocator + Clone, W: World, F: Files<W>> Inodes<A, W, F> {

@@ -140,7 +140,8 @@ impl<A: Allocator, W: World, F: Files<W>> Change<A, Overlay<W, F>> for Unloading
 
     ghost may = { λ u o x. MayUnload W.honest u.clock u.older_than (F.stored o) x };
 
-    ghost does = { λ u o x p z gone. IsUnloaded W.honest u.clock u.older_than (F.stored o) x (F.stored p) z gone × (F.failures o ≤ F.failures p) };
+    ghost does = { λ u o x p z gone.
+        IsUnloaded W.honest u.clock u.older_than (F.stored o) x (F.stored p) z gone × (F.failures o ≤ F.failures p) };
 
     fn change(self, overlay: &mut Overlay<W, F>, entry: &mut Entry<A>) -> u64 {
         unload_entry(entry, overlay, self.alloc, self.clock, self.older_than)

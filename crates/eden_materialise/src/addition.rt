@@ -51,9 +51,14 @@ struct Addition<'a> {
 impl<A: Allocator, W: World, F: Files<W>> Change<A, Overlay<W, F>> for Addition<'_> {
     type Output = Result<(), Fault>;
 
-    ghost may = { λ addition overlay x. MayAdd W.honest W.repository (F.stored overlay) x addition.path.now addition.name.now addition.number addition.new };
+    ghost may = { λ addition overlay x.
+        MayAdd W.honest W.repository (F.stored overlay) x addition.path.now addition.name.now addition.number
+        addition.new };
 
-    ghost does = { λ addition old x new z answer. FilesEntry W.honest addition.path.now addition.name.now (own_row addition.number addition.new) (F.stored old) (with_own (F.stored old) addition.number addition.new) x (F.failures old) (F.stored new) z (F.failures new) answer };
+    ghost does = { λ addition old x new z answer.
+        FilesEntry W.honest addition.path.now addition.name.now (own_row addition.number addition.new)
+        (F.stored old) (with_own (F.stored old) addition.number addition.new) x (F.failures old) (F.stored new)
+        z (F.failures new) answer };
 
     fn change(self, overlay: &mut Overlay<W, F>, entry: &mut Entry<A>) -> Result<(), Fault> {
         match store_own(self.alloc, overlay, self.number, self.new) {

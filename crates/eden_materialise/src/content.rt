@@ -93,9 +93,14 @@ struct Filling<'a> {
 impl<A: Allocator, W: World, F: Files<W>> Change<A, Overlay<W, F>> for Filling<'_> {
     type Output = Result<(), Fault>;
 
-    ghost may = { λ filling overlay x. MayFill W.honest W.repository (F.stored overlay) x filling.path.now filling.name.now filling.content.now };
+    ghost may = { λ filling overlay x.
+        MayFill W.honest W.repository (F.stored overlay) x filling.path.now filling.name.now filling.content.now };
 
-    ghost does = { λ filling old x new z answer. (w : Row) → HasFile x filling.path.now filling.name.now w → FillsFile W.honest filling.path.now filling.name.now w (F.stored old) (with_content (F.stored old) w.number filling.content.now) x (F.failures old) (F.stored new) z (F.failures new) answer };
+    ghost does = { λ filling old x new z answer.
+        (w : Row) → HasFile x filling.path.now filling.name.now w
+        → FillsFile W.honest filling.path.now filling.name.now w (F.stored old)
+        (with_content (F.stored old) w.number filling.content.now) x (F.failures old) (F.stored new) z
+        (F.failures new) answer };
 
     fn change(self, overlay: &mut Overlay<W, F>, entry: &mut Entry<A>) -> Result<(), Fault> {
         let place = place_of(entry, self.path, self.name);

@@ -101,9 +101,12 @@ struct EntryChange<'a, A: Allocator> {
 impl<A: Allocator, W: World, F: Files<W>> Change<A, Overlay<W, F>> for EntryChange<'_, A> {
     type Output = Result<(), Fault>;
 
-    ghost may = { λ change overlay x. IsHeldFor W.honest W.repository (F.stored overlay) x change.path.now change.name.now change.entry };
+    ghost may = { λ change overlay x.
+        IsHeldFor W.honest W.repository (F.stored overlay) x change.path.now change.name.now change.entry };
 
-    ghost does = { λ change old x new z answer. ChangesEntry W.honest change.path.now change.name.now change.entry (F.stored old) x (F.failures old) (F.stored new) z (F.failures new) answer };
+    ghost does = { λ change old x new z answer.
+        ChangesEntry W.honest change.path.now change.name.now change.entry (F.stored old) x (F.failures old)
+        (F.stored new) z (F.failures new) answer };
 
     fn change(self, overlay: &mut Overlay<W, F>, entry: &mut Entry<A>) -> Result<(), Fault> {
         let EntryChange {

@@ -153,9 +153,13 @@ struct EntryMove<'a> {
 impl<A: Allocator, W: World, F: Files<W>> Change<A, Overlay<W, F>> for EntryMove<'_> {
     type Output = Result<(), Fault>;
 
-    ghost may = { λ entry_move overlay x. MovesIn W.honest (F.stored overlay) x entry_move.from.now entry_move.name.now entry_move.to.now entry_move.new_name.now };
+    ghost may = { λ entry_move overlay x.
+        MovesIn W.honest (F.stored overlay) x entry_move.from.now entry_move.name.now entry_move.to.now
+        entry_move.new_name.now };
 
-    ghost does = { λ entry_move old x new z answer. MovesEntry W.honest entry_move.from.now entry_move.name.now entry_move.to.now entry_move.new_name.now (F.stored old) x (F.failures old) (F.stored new) z (F.failures new) answer };
+    ghost does = { λ entry_move old x new z answer.
+        MovesEntry W.honest entry_move.from.now entry_move.name.now entry_move.to.now entry_move.new_name.now
+        (F.stored old) x (F.failures old) (F.stored new) z (F.failures new) answer };
 
     fn change(self, overlay: &mut Overlay<W, F>, entry: &mut Entry<A>) -> Result<(), Fault> {
         let spot = spot_at(entry, self.to, self.new_name);

@@ -30,7 +30,8 @@ impl<A: Allocator> Change<A, ()> for Insertion<'_, A> {
 
     ghost may = { λ put s x. IsSome (child_of x) };
 
-    ghost does = { λ put s x t z answer. IfOk answer (λ was. IsPut put.name.now put.entry was.entry was.unsaved x z) × OnErr answer (z ≡ x) };
+    ghost does = { λ put s x t z answer.
+        IfOk answer (λ was. IsPut put.name.now put.entry was.entry was.unsaved x z) × OnErr answer (z ≡ x) };
 
     fn change(self, state: &mut (), entry: &mut Entry<A>) -> Result<Was<A>, AllocError> {
         match entry.directory_mut() {
@@ -79,7 +80,8 @@ impl<A: Allocator> Change<A, ()> for Restoration<'_, A> {
 
     ghost may = { λ back s z. (x : Row) × ((w : Row) × IsPut back.name.now w back.was.entry back.was.unsaved x z) };
 
-    ghost does = { λ back s z t r answer. (x : Row) → (w : Row) → IsPut back.name.now w back.was.entry back.was.unsaved x z → r ≡ x };
+    ghost does = { λ back s z t r answer.
+        (x : Row) → (w : Row) → IsPut back.name.now w back.was.entry back.was.unsaved x z → r ≡ x };
 
     fn change(self, state: &mut (), entry: &mut Entry<A>) {
         match entry.directory_mut() {

@@ -26,9 +26,11 @@ struct Owning<'a> {
 impl<A: Allocator, W: World, F: Files<W>> Change<A, Overlay<W, F>> for Owning<'_> {
     type Output = Result<(), Fault>;
 
-    ghost may = { λ owning overlay x. IsLoadedAt owning.path.now x × IsHeld W.honest W.repository (F.stored overlay) x };
+    ghost may = { λ owning overlay x.
+        IsLoadedAt owning.path.now x × IsHeld W.honest W.repository (F.stored overlay) x };
 
-    ghost does = { λ owning old x new z answer. Owns W.honest owning.path.now (F.stored old) x (F.failures old) (F.stored new) z (F.failures new) answer };
+    ghost does = { λ owning old x new z answer.
+        Owns W.honest owning.path.now (F.stored old) x (F.failures old) (F.stored new) z (F.failures new) answer };
 
     fn change(self, overlay: &mut Overlay<W, F>, entry: &mut Entry<A>) -> Result<(), Fault> {
         match own_chain(self.alloc, entry, overlay, self.path) {

@@ -58,9 +58,13 @@ struct KindChange<'a> {
 impl<A: Allocator, W: World, F: Files<W>> Change<A, Overlay<W, F>> for KindChange<'_> {
     type Output = Result<(), Fault>;
 
-    ghost may = { λ change overlay x. IsHeldFile W.honest W.repository (F.stored overlay) x change.path.now change.name.now change.kind };
+    ghost may = { λ change overlay x.
+        IsHeldFile W.honest W.repository (F.stored overlay) x change.path.now change.name.now change.kind };
 
-    ghost does = { λ change old x new z answer. (w : Row) → HasFile x change.path.now change.name.now w → ChangesEntry W.honest change.path.now change.name.now (Some (of_kind change.kind w)) (F.stored old) x (F.failures old) (F.stored new) z (F.failures new) answer };
+    ghost does = { λ change old x new z answer.
+        (w : Row) → HasFile x change.path.now change.name.now w
+        → ChangesEntry W.honest change.path.now change.name.now (Some (of_kind change.kind w)) (F.stored old) x
+        (F.failures old) (F.stored new) z (F.failures new) answer };
 
     fn change(self, overlay: &mut Overlay<W, F>, entry: &mut Entry<A>) -> Result<(), Fault> {
         let new = with_kind(entry, self.path, self.name, self.kind);

@@ -30,9 +30,12 @@ struct Removal<'a> {
 impl<A: Allocator, W: World, F: Files<W>> Change<A, Overlay<W, F>> for Removal<'_> {
     type Output = Result<(), Fault>;
 
-    ghost may = { λ removal overlay x. IsHeldFor W.honest W.repository (F.stored overlay) x removal.path.now removal.name.now None };
+    ghost may = { λ removal overlay x.
+        IsHeldFor W.honest W.repository (F.stored overlay) x removal.path.now removal.name.now None };
 
-    ghost does = { λ removal old x new z answer. RemovesEntry W.honest removal.path.now removal.name.now (F.stored old) x (F.failures old) (F.stored new) z (F.failures new) answer };
+    ghost does = { λ removal old x new z answer.
+        RemovesEntry W.honest removal.path.now removal.name.now (F.stored old) x (F.failures old) (F.stored new) z
+        (F.failures new) answer };
 
     fn change(self, overlay: &mut Overlay<W, F>, entry: &mut Entry<A>) -> Result<(), Fault> {
         let spot = spot_at(entry, self.path, self.name);

@@ -156,7 +156,8 @@ impl<W: World, S: Source<W> + Drop, T: Attempts<W> + Drop, A: Allocator> Local<W
     pub fn call(&mut self, request: Request) -> Result<&Reply, StartFault>
         ensures* after { sem 𝓛
             (Rests (the_row W.row S.row T.row A.row W.World S.Source T.Attempts A.Allocator) self.entry
-            (λ new. MatchResult result (λ r. Lends S.fetched T.table W.honest request self.old r.now new) (λ fault. Declines self.old fault new))) }
+            (λ new. MatchResult result (λ r. Lends S.fetched T.table W.honest request self.old r.now new)
+            (λ fault. Declines self.old fault new))) }
     {
         match self.serve(request) {
             Err(fault) => Err(fault),

@@ -21,7 +21,9 @@ impl Model for Object {
 
     ghost view = { λ o. record { kind = o.kind; bytes = drop o.header o.framed.items } };
 
-    ghost invariant = { λ o. (o.header ≤ length o.framed.items) × IsSound (record { kind = o.kind; bytes = drop o.header o.framed.items }) };
+    ghost invariant = { λ o.
+        (o.header ≤ length o.framed.items)
+        × IsSound (record { kind = o.kind; bytes = drop o.header o.framed.items }) };
 }
 
 impl Object {

@@ -1,8 +1,7 @@
 //! One caller over a mount.
 ghost use Rattle.std.specs.Prelude.{◌≡◌};
-ghost use Rattle.eden_model.specs.Histories.{Legal};
 
-use eden_model::{CallFault, Entry, Reply, Request, World};
+use eden_model::{CallFault, Reply, Request, World};
 use eden_mount::{Attempts, Local};
 use eden_source::Source;
 use eden_wire::Service;
@@ -41,14 +40,6 @@ impl<W: World, S: Source<W> + Drop, T: Attempts<W> + Drop, A: Allocator> Caller<
         let Caller { local } = self;
         local
     }
-
-    /// The entries so far.
-    pub fn history(&self) -> &[Entry]
-        ensures entries { result.now ≡ self.now.core.history }
-        ensures legal { W.honest → Legal W.opening self.now.core.history }
-    {
-        self.local.history()
-    }
 }
 
 impl<W: World, S: Source<W> + Drop, T: Attempts<W> + Drop, A: Allocator> Service
@@ -58,9 +49,9 @@ impl<W: World, S: Source<W> + Drop, T: Attempts<W> + Drop, A: Allocator> Service
     ghost answers = { CallAnswers S.fetched T.table W.honest };
 
     fn call(&mut self, request: Request) -> Result<&Reply, CallFault> {
-        match self.local.serve(request) {
+        match self.local.call(request) {
             Err(fault) => Err(CallFault::Start(fault)),
-            Ok(()) => Ok(self.local.reply()),
+            Ok(reply) => Ok(reply),
         }
     }
 }

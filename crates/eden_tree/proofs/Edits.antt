@@ -205,7 +205,8 @@ edits_not_beside (n ∷ p) (m ∷ q) f x h k =
                 let front : behind_of p q ≡ None = ap (λ b. cond b (behind_of p q) None) (sym (sym (same-both m n) ∙ s)) ∙ h in
                 let back : behind_of q p ≡ None = ap (λ b. cond b (behind_of q p) None) (sym s) ∙ k in
                 ap (λ (i : Name). option_and_then (row_at q) (option_map (edit_row p f) (find_row i d.rows))) (sym (same-≡ m n s))
-                ∙ elim (find_row m d.rows) as (λ o. option_and_then (row_at q) (option_map (edit_row p f) o) ≡ option_and_then (row_at q) o) [ None ↦ refl | Some y ↦ edits_not_beside p q f y front back ]
+                ∙ elim (find_row m d.rows) as (λ o. option_and_then (row_at q) (option_map (edit_row p f) o) ≡ option_and_then (row_at q) o)
+                [ None ↦ refl | Some y ↦ edits_not_beside p q f y front back ]
             | false ↦ λ s. refl
           ] refl
     ]

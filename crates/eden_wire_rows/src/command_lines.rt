@@ -1,5 +1,5 @@
 //! What no clause says: that a good line is taken, and the texts of refusals.
-use crate::command::{Command, MountOptions, Objects, ServeOptions, options};
+use eden_command_line::{Command, MountOptions, Objects, ServeOptions, options};
 use std::alloc::{AllocError, Global};
 use std::process::Abort;
 use std::test::Fail;
