@@ -33,7 +33,7 @@ some_pair g (Some x) = refl
 bare_standing : (x : Row) → without_stamp (standing x) ≡ bare x
 bare_standing x = ap (λ (l : Bool). record { number = x.number; kind = x.kind; origin = x.origin; loaded = l }) (some_pair (λ d. (d.stamp, d.unsaved)) (child_of x))
 
-bare_at : (o : Option Row) → option_map without_stamp (option_map standing o) ≡ option_map bare o
+pub bare_at : (o : Option Row) → option_map without_stamp (option_map standing o) ≡ option_map bare o
 bare_at None = refl
 bare_at (Some x) = ap (λ (b : Bare). Some b) (bare_standing x)
 

@@ -1,20 +1,23 @@
 -- What is left once directories went.
-use Rattle.std.proofs.Common.{◌≡◌, ◌⊎◌, ℕ, false, [], ◌∷◌, Option, Some, None, sym, refl, ◌∙◌, ap, subst, inl, inr}
+use Rattle.std.proofs.Common.{◌≡◌, ◌⊎◌, ℕ, false, [], ◌∷◌, ◌++◌, Option, Some, None, sym, refl, ◌∙◌, ap, subst, inl, inr}
 use Rattle.std.proofs.lemmas.List.{append-nil}
 use Rattle.std.proofs.lemmas.Option.{same_Some, none-some}
 use Rattle.std.specs.Option.{option_map, option_and_then}
 use Rattle.eden_model.specs.Paths.{behind_of}
-use Rattle.eden_model.specs.Trees.{Path, grafted}
+use Rattle.eden_model.specs.Trees.{Name, Path, grafted}
 use Rattle.eden_model.proofs.CallerLemmas.{behind_sound}
 use Rattle.eden_overlay.specs.Files.{Stored}
 use Rattle.eden_tree.specs.Directory.{Row, Directory, child_of, with_child}
 use Rattle.eden_tree.specs.Rows.{find_row}
 use Rattle.eden_tree.specs.Paths.{row_at, edit_row, Standing, standing, standing_at}
-use Rattle.eden_tree.proofs.CallerLemmas.{edits_one, edits_there, edits_not_beside, edits_nothing, child_of-with_child}
-use Rattle.eden_tie.specs.Chains.{AreSaved, IsLoadedAt}
+use Rattle.eden_tree.proofs.CallerLemmas.{reads_on, edits_one, edits_there, edits_not_beside, edits_nothing, child_of-with_child, row_at-unloaded}
+use Rattle.eden_tie.specs.Chains.{AreSaved, IsLoadedAt, StaysLoaded}
 use Rattle.eden_tie.specs.Unloading.{Unloads, none, one_more, same_files}
-use Rattle.eden_tie.proofs.CallerLemmas.{map_some, loaded_there, loaded_found}
+use Rattle.eden_tie.proofs.CallerLemmas.{map_some, loaded_there, Loaded, loaded_found}
+use Rattle.eden_ops.specs.Changes.{SameNames}
 use Rattle.eden_ops.specs.Letting.{IsLeft, LetsGo}
+use Rattle.eden_ops.proofs.Growing.{front_of}
+use Rattle.eden_ops.proofs.Names.{names_same, names_on, numbered, numbered_standing}
 use Rattle.eden_ops.proofs.Saving.{SavedAt, by_path, by_place}
 
 -- the entry v of what is left was there before
@@ -52,6 +55,53 @@ module _ (path : Path) (x row : Row) (at : row_at path x ≡ Some row) where
   was_there : (q : Path) (v : Standing) → standing_at q (edit_row path (with_child None) x) ≡ Some v → WasThere x q v
   was_there q v is = was_by q v (behind_of path q) refl (sym (edits_one path (with_child None) x row q at) ∙ is)
 
+  -- a directory that is still loaded is neither this one nor below it
+  abbrev without : Row
+  without = edit_row path (with_child None) x
+
+  not_held : (r : Path) (v : Row) (d : Directory) → row_at r bare ≡ Some v → child_of v ≡ Some d → ⊥
+  not_held [] v d there holds = none-some d (sym (child_of-with_child None row) ∙ ap child_of (same_Some bare v there) ∙ holds)
+  not_held (n ∷ r) v d there holds = none-some v (sym (row_at-unloaded n r bare (child_of-with_child None row)) ∙ there)
+
+  not_loaded : (q r : Path) → q ≡ path ++ r → IsLoadedAt q without → ⊥
+  not_loaded q r split now =
+      let l = loaded_found q without now in
+      let here : row_at path without ≡ Some bare = edits_there path (with_child None) x ∙ ap (option_map (with_child None)) at in
+      not_held r l.row l.directory
+      (sym (ap (λ (p : Path). row_at p without) split ∙ reads_on path r without ∙ ap (option_and_then (row_at r)) here) ∙ l.at) l.holds
+
+  names_by : (q : Path) (n : Name) (o : Option Path) → behind_of path (q ++ n ∷ []) ≡ o → IsLoadedAt q without
+      → option_map numbered (grafted o (λ r. standing_at r bare) (standing_at (q ++ n ∷ []) x)) ≡ option_map numbered (standing_at (q ++ n ∷ []) x)
+  names_by q n None front now = refl
+  names_by q n (Some []) front now =
+      let here : path ≡ q ++ n ∷ [] = sym (append-nil path) ∙ sym (behind_sound path (q ++ n ∷ []) [] front) in
+      sym (ap (λ (o : Option Row). option_map numbered (option_map standing o)) (ap (λ (p : Path). row_at p x) (sym here) ∙ at))
+  names_by q n (Some (m ∷ r)) front now =
+      let h = front_of q path n m r (behind_sound path (q ++ n ∷ []) (m ∷ r) front) in
+      absurd (not_loaded q h.0 h.1 now)
+
+  names_without : SameNames x without
+  names_without q n was now =
+      numbered_standing (q ++ n ∷ []) without
+      ∙ ap (option_map numbered) (edits_one path (with_child None) x row (q ++ n ∷ []) at)
+      ∙ names_by q n (behind_of path (q ++ n ∷ [])) refl now
+      ∙ sym (numbered_standing (q ++ n ∷ []) x)
+
+-- what is loaded of what is left was so before
+fewer_left : (x z : Row) → ((q : Path) (v : Standing) → standing_at q z ≡ Some v → WasThere x q v) → StaysLoaded z x
+fewer_left x z left q now =
+    let l = loaded_found q z now in
+    let was = left q (standing l.row) (ap (option_map standing) l.at) in
+    let y = map_some standing (row_at q x) was.0 (sym was.1.0) in
+    by l was.0 y.0 y.1.0 y.1.1 was.1.1.loaded
+  where
+    by : (l : Loaded q z) (s : Standing) (y : Row) → row_at q x ≡ Some y → standing y ≡ s → ((standing l.row).loaded ≡ s.loaded) ⊎ ((standing l.row).loaded ≡ None) → IsLoadedAt q x
+    by l s y there is (inl same) =
+        let d = map_some (λ (e : Directory). (e.stamp, e.unsaved)) (child_of y) (l.directory.stamp, l.directory.unsaved)
+        (sym (ap (λ (v : Standing). v.loaded) is ∙ sym same ∙ ap (option_map (λ (e : Directory). (e.stamp, e.unsaved))) l.holds)) in
+        loaded_there q x y d.0 there d.1.0
+    by l s y there is (inr gone) = absurd (none-some (l.directory.stamp, l.directory.unsaved) (sym gone ∙ ap (option_map (λ (e : Directory). (e.stamp, e.unsaved))) l.holds))
+
 -- any number of them
 unloads_left : (honest : Type 0) (clock age : ℕ) (F : Stored) (x : Row) (G : Stored) (z : Row) (c : ℕ) → Unloads honest clock age F x G z c
     → (q : Path) (v : Standing) → standing_at q z ≡ Some v → WasThere x q v
@@ -62,10 +112,17 @@ unloads_left honest clock age F x _ _ _ (one_more G y c H z u g) q v is =
     (b.0, (b.1.0, left_on b.0 a.0 v b.1.1 a.1.1))
 unloads_left honest clock age F x _ _ _ (same_files G y c H u same) q v is = unloads_left honest clock age F x G y c u q v is
 
+unloads_names : (honest : Type 0) (clock age : ℕ) (F : Stored) (x : Row) (G : Stored) (z : Row) (c : ℕ) → Unloads honest clock age F x G z c → SameNames x z
+unloads_names honest clock age F x _ _ _ none = names_same x x refl
+unloads_names honest clock age F x _ _ _ (one_more G y c H z u g) =
+    let back = fewer_left y z (λ q v is. was_there g.path y g.row g.at q v (sym (ap (standing_at q) g.gone) ∙ is)) in
+    names_on x y z (λ p was now. back p now) (unloads_names honest clock age F x G y c u) (subst (SameNames y) (sym g.gone) (names_without g.path y g.row g.at))
+unloads_names honest clock age F x _ _ _ (same_files G y c H u same) = unloads_names honest clock age F x G y c u
+
 -- .. at and below a path alone
 pub lets_go : (honest : Type 0) (clock age : ℕ) (F : Stored) (x : Row) (G : Stored) (z : Row) (c : ℕ) → Unloads honest clock age F x G z c
     → (p : Path) → (y : Row) × (z ≡ edit_row p (λ w. y) x) → LetsGo p x z
-lets_go honest clock age F x G z c u p one = record { elsewhere = one; left = unloads_left honest clock age F x G z c u }
+lets_go honest clock age F x G z c u p one = record { elsewhere = one; left = unloads_left honest clock age F x G z c u; names = unloads_names honest clock age F x G z c u }
 
 module _ (p : Path) (x z : Row) (g : LetsGo p x z) where
   -- none of them was marked unsaved where none is now
@@ -80,6 +137,10 @@ module _ (p : Path) (x z : Row) (g : LetsGo p x z) where
 
   pub goes_saved : AreSaved x → AreSaved z
   goes_saved all = by_place z (left_saved (by_path x all))
+
+  -- what is loaded was so
+  pub goes_fewer : StaysLoaded z x
+  goes_fewer = fewer_left x z g.left
 
   -- what doesn't stand at or below the path is as it was
   pub kept_elsewhere : (q : Path) → behind_of p q ≡ None → standing_at q z ≡ standing_at q x

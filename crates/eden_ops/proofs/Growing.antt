@@ -87,7 +87,7 @@ never : (q : Path) (m : Name) (r : Path) → [] ≡ q ++ m ∷ r → ⊥
 never [] m r is = cc
 never (a ∷ q) m r is = cc
 
-front_of : (p q : Path) (n m : Name) (r : Path) → p ++ n ∷ [] ≡ q ++ m ∷ r → (s : Path) × (p ≡ q ++ s)
+pub front_of : (p q : Path) (n m : Name) (r : Path) → p ++ n ∷ [] ≡ q ++ m ∷ r → (s : Path) × (p ≡ q ++ s)
 front_of p [] n m r is = (p, refl)
 front_of [] (a ∷ q) n m r is = let rest : [] ≡ q ++ m ∷ r = cc in absurd (never q m r rest)
 front_of (b ∷ p) (a ∷ q) n m r is =

@@ -1,8 +1,9 @@
 -- What an attempt leaves, by its request.
-use Rattle.std.proofs.Common.{◌≡◌, ◌≢◌, ◌≤◌, ◌+◌, ℕ, refl, ◌∙◌, arith}
+use Rattle.std.proofs.Common.{◌≡◌, ◌≢◌, ◌≤◌, ◌+◌, ℕ, refl, ◌∙◌, subst, sym, arith}
 use Rattle.eden_model.specs.declared.attempt.Attempt.{Attempt}
 use Rattle.eden_model.specs.declared.attempt.Attempt.TheVariants.{Finished}
 use Rattle.eden_model.specs.declared.errno.Errno.{Errno}
+use Rattle.eden_model.specs.declared.fault.Fault.{Fault}
 use Rattle.eden_model.specs.declared.request.Request.{Request}
 use Rattle.eden_model.specs.declared.request.Request.TheVariants as ask
 use Rattle.eden_model.specs.declared.reply.Reply.TheVariants as say
@@ -12,16 +13,18 @@ use Rattle.eden_overlay.specs.declared.files.Files.{Ghosts as Files}
 use Rattle.eden_tree.specs.Directory.{Row}
 use Rattle.eden_tie.specs.Chains.{AreSaved}
 use Rattle.eden_inode.specs.Tables.{Table}
-use Rattle.eden_ops.specs.Changes.{IsOutside, StaysOrBecomesOwn, LeavesOn, Leaves}
+use Rattle.eden_ops.specs.Changes.{IsOutside, StaysOrBecomesOwn, SameNames, LeavesOn, Leaves}
 use Rattle.eden_ops.specs.Keeping.{Keeps}
 use Rattle.eden_ops.specs.Leaving.{LetsBe, given, SavedAfter, Gives, LeavesAfter}
 use Rattle.eden_ops.specs.Letting.{LetsGo}
 use Rattle.eden_ops.specs.Relocating.{StaysBeside, AreSavedBut}
 use Rattle.eden_ops.specs.Renames.{IsNoFault}
 use Rattle.eden_ops.proofs.Going.{goes_saved, loaded_elsewhere}
+use Rattle.eden_ops.proofs.Names.{names_on, names_grown}
 use Rattle.eden_ops.proofs.Relocation.{saved_but}
 use Rattle.eden_ops.proofs.Roots.{root_left}
 use Rattle.eden_ops.proofs.Saving.{keeps_leaves, leaves_on, leaves_some, no_less}
+use Rattle.eden_ops.proofs.Steps.{keeps_entries}
 
 saved_after : (q : Request) (x : Row) → AreSaved x → SavedAfter q x
 saved_after (ask.Rename from to) x all = saved_but from x all
@@ -42,6 +45,10 @@ saved_after (ask.Rmdir p) x all = all
 pub none_given : (a b n : ℕ) → b ≡ a → b ≤ a + n
 none_given a b n is = omega (arith, is)
 
+-- where the answer is a fault the names are the same
+abbrev pub NamesAfter : Attempt → Row → Row → Type 0
+NamesAfter a x z = (e : Fault) → a ≡ Finished (say.Fault e) → SameNames x z
+
 -- the answer is no error
 abbrev pub IsNoError : Attempt → Type 0
 IsNoError a = (e : Errno) → a ≢ Finished (say.Err e)
@@ -53,23 +60,29 @@ module _ {W F : Type 0} (w : Ghosts W) (f : Files F W) (s t : Table F) (keeps : 
   gives_then : (paths : Path → Type 0) (most : ℕ) (u : Table F) → LeavesOn f paths t u → u.next ≤ t.next + most → Gives w f paths most s u
   gives_then paths most u l more = record { reached = t; walked = keeps; stays = l.loaded; no_less = l.next; no_more = more }
 
+  pub names_then : (a : Attempt) (u : Table F) → NamesAfter a t.root u.root → NamesAfter a s.root u.root
+  names_then a u names e is =
+      names_on s.root t.root u.root (λ p was now. before.everywhere.loaded p tt was) (names_grown s.root t.root (keeps_entries w f s t keeps)) (names e is)
+
   -- directories were loaded, and no more
   pub leaves_kept : (q : Request) (a : Attempt) → LeavesAfter w f q s t a
   leaves_kept q a = record {
     on = leaves_some f (LetsBe q) s t before;
     gives = record { reached = t; walked = keeps; stays = λ p in_them is. is; no_less = omega arith; no_more = none_given t.next t.next (given q) refl };
     errs = λ e is. keeps;
+    faults = λ e is. names_grown s.root t.root (keeps_entries w f s t keeps);
     saved = λ fine. before.saved;
     marked = λ all. saved_after q t.root (before.saved all);
   }
 
-  module _ (u : Table F) (a : Attempt) (fine : IsNoError a) where
+  module _ (u : Table F) (a : Attempt) (fine : IsNoError a) (names : NamesAfter a t.root u.root) where
     -- .. and then a change that lets loaded directories be
     pub leaves_changed : (q : Request) → Leaves f t u → u.next ≤ t.next + given q → LeavesAfter w f q s u a
     leaves_changed q l more = record {
       on = leaves_on f (LetsBe q) s t u (leaves_some f (LetsBe q) s t before) (leaves_some f (LetsBe q) t u l);
       gives = gives_then (LetsBe q) (given q) u (leaves_some f (LetsBe q) t u l) more;
       errs = λ e is. absurd (fine e is);
+      faults = names_then a u names;
       saved = λ no all. l.saved (before.saved all);
       marked = λ all. saved_after q u.root (l.saved (before.saved all));
     }
@@ -85,6 +98,7 @@ module _ {W F : Type 0} (w : Ghosts W) (f : Files F W) (s t : Table F) (keeps : 
           on = leaves_on f paths s t u (leaves_some f paths s t before) l;
           gives = gives_then paths 0 u l (none_given t.next u.next 0 rest.0);
           errs = λ e is. absurd (fine e is);
+          faults = names_then a u names;
           saved = λ no all. saved no (before.saved all);
           marked = λ all. marked (before.saved all);
         }
@@ -95,20 +109,22 @@ module _ {W F : Type 0} (w : Ghosts W) (f : Files F W) (p : Path) (s t u : Table
   gone : LeavesOn f (IsOutside p) t u
   gone = record { loaded = λ q off is. loaded_elsewhere p t.root u.root g q off is; root = root_left p t.root u.root g; next = no_less t.next u.next rest.0; failures = counted; clock = rest.1 }
 
-  leaves_went : (v : Table F) → LeavesOn f (IsOutside p) t v → v.next ≡ t.next → (AreSaved u.root → AreSaved v.root) → LeavesAfter w f (ask.Rmdir p) s v a
-  leaves_went v l next saved =
+  leaves_went : (v : Table F) → LeavesOn f (IsOutside p) t v → v.next ≡ t.next → (AreSaved u.root → AreSaved v.root) → NamesAfter a t.root v.root → LeavesAfter w f (ask.Rmdir p) s v a
+  leaves_went v l next saved names =
       let all_saved : AreSaved s.root → AreSaved v.root = λ all. saved (goes_saved p t.root u.root g ((keeps_leaves w f s t keeps).saved all)) in
       record {
         on = leaves_on f (IsOutside p) s t v (leaves_some f (IsOutside p) s t (keeps_leaves w f s t keeps)) l;
         gives = gives_then w f s t keeps (IsOutside p) 0 v l (none_given t.next v.next 0 next);
         errs = λ e is. absurd (fine e is);
+        faults = names_then w f s t keeps a v names;
         saved = λ no. all_saved;
         marked = all_saved;
       }
 
   pub leaves_gone : LeavesAfter w f (ask.Rmdir p) s u a
-  leaves_gone = leaves_went u gone rest.0 (λ all. all)
+  leaves_gone = leaves_went u gone rest.0 (λ all. all) (λ e is. g.names)
 
-  -- .. and then the entry there was removed
-  pub leaves_removed : (v : Table F) → Leaves f u v → v.next ≡ u.next → LeavesAfter w f (ask.Rmdir p) s v a
-  leaves_removed v l next = leaves_went v (leaves_on f (IsOutside p) t u v gone (leaves_some f (IsOutside p) u v l)) (next ∙ rest.0) l.saved
+  -- .. and then the entry there was removed, or in a fault nothing was
+  pub leaves_removed : (v : Table F) → Leaves f u v → v.next ≡ u.next → ((e : Fault) → a ≡ Finished (say.Fault e) → v.root ≡ u.root) → LeavesAfter w f (ask.Rmdir p) s v a
+  leaves_removed v l next same = leaves_went v (leaves_on f (IsOutside p) t u v gone (leaves_some f (IsOutside p) u v l)) (next ∙ rest.0) l.saved
+      (λ e is. subst (SameNames t.root) (sym (same e is)) g.names)

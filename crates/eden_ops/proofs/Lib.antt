@@ -2,6 +2,7 @@ pub mod Walking
 pub mod Deeper
 pub mod Left
 pub mod Growing
+pub mod Names
 pub mod Steps
 pub mod Bringing
 pub mod Bare

@@ -1,8 +1,9 @@
 -- Directories along a path that became the mount's own: which entries are there.
-use Rattle.std.proofs.Common.{◌≡◌, Bool, true, false, cond, [], ◌∷◌, Option, Some, None, sym, refl, ◌∙◌, ap}
+use Rattle.std.proofs.Common.{◌≡◌, Bool, true, false, cond, [], ◌∷◌, Option, Some, None, Result, Ok, Err, OnOk, OnErr, sym, refl, ◌∙◌, ap, subst}
 use Rattle.std.proofs.lemmas.List.{append-nil}
 use Rattle.std.specs.Option.{option_map, option_and_then, is_some}
 use Rattle.std.specs.Str.{bytes_eq}
+use Rattle.eden_model.specs.declared.fault.Fault.{Fault}
 use Rattle.eden_model.specs.declared.kind.Origin.TheVariants as origin
 use Rattle.eden_model.specs.Paths.{behind_of}
 use Rattle.eden_model.specs.Trees.{Name, Path, grafted}
@@ -11,10 +12,13 @@ use Rattle.eden_tree.specs.Directory.{Row, Directory, child_of}
 use Rattle.eden_tree.specs.Rows.{find_row, change_row}
 use Rattle.eden_tree.specs.Paths.{row_at}
 use Rattle.eden_tree.proofs.CallerLemmas.{same-≡, child_of-change_child, find_row-change_row}
+use Rattle.eden_tie.specs.Chains.{StaysLoaded}
 use Rattle.eden_tie.specs.Laws.{owned}
 use Rattle.eden_tie.specs.Materialising.{kept_mark, owned_along}
 use Rattle.eden_tie.proofs.CallerLemmas.{map_some}
+use Rattle.eden_ops.specs.Changes.{SameNames}
 use Rattle.eden_ops.proofs.Bare.{Bare, some_pair, bare}
+use Rattle.eden_ops.proofs.Names.{names_same, fewer_same, face, face_at, names_alike, fewer_alike}
 
 -- an entry of the chain
 abbrev owns : Bare → Bare
@@ -78,6 +82,24 @@ owned_held p q x =
     ∙ ap (option_map (λ (b : Bare). b.loaded)) (owned_bare p q x)
     ∙ held_owned (behind_of q p) (option_map bare (row_at q x))
     ∙ sym (held_bare (row_at q x))
+
+face_owned : (g : Option Path) (o : Option Bare) → option_map face (grafted g (λ r. option_map owns o) o) ≡ option_map face o
+face_owned None o = refl
+face_owned (Some r) None = refl
+face_owned (Some r) (Some b) = refl
+
+-- .. with the same numbers and kinds
+owned_face : (p q : Path) (x : Row) → face_at q (owned (owned_along p x)) ≡ face_at q x
+owned_face p q x = ap (option_map face) (owned_bare p q x) ∙ face_owned (behind_of q p) (option_map bare (row_at q x))
+
+-- .. so names are the same, also where nothing changed
+pub own_names : (a : Result (Unit {0}) Fault) (p : Path) (x z : Row) → OnOk a (z ≡ owned (owned_along p x)) → OnErr a (z ≡ x) → SameNames x z
+own_names (Ok u) p x z ok err = subst (SameNames x) (sym ok) (names_alike x (owned (owned_along p x)) (λ q. owned_face p q x))
+own_names (Err e) p x z ok err = names_same x z err
+
+pub own_fewer : (a : Result (Unit {0}) Fault) (p : Path) (x z : Row) → OnOk a (z ≡ owned (owned_along p x)) → OnErr a (z ≡ x) → StaysLoaded z x
+own_fewer (Ok u) p x z ok err = subst (λ (y : Row). StaysLoaded y x) (sym ok) (fewer_alike x (owned (owned_along p x)) (λ q. owned_face p q x))
+own_fewer (Err e) p x z ok err = fewer_same x z err
 
 -- the entry at a path is its own
 abbrev pub IsOwnAt : Path → Row → Type 0

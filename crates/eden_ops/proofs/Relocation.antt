@@ -18,7 +18,7 @@ use Rattle.eden_tree.specs.Directory.{Row, Directory, child_of, with_child}
 use Rattle.eden_tree.specs.Rows.{find_row}
 use Rattle.eden_tree.specs.Paths.{row_at, Standing, standing, standing_at}
 use Rattle.eden_tree.proofs.CallerLemmas.{reads_on, edits_one, steps_down, child_of-with_child}
-use Rattle.eden_tie.specs.Chains.{IsLoadedAt, AreSaved}
+use Rattle.eden_tie.specs.Chains.{IsLoadedAt, AreSaved, StaysLoaded}
 use Rattle.eden_tie.specs.Changing.{MayMove, marked_source}
 use Rattle.eden_tie.specs.Laws.{owned}
 use Rattle.eden_tie.specs.Materialising.{owned_along}
@@ -27,10 +27,13 @@ use Rattle.eden_tie.proofs.CallerLemmas.{map_some, loaded_there, loaded_found}
 use Rattle.eden_inode.specs.Tables.{Table}
 use Rattle.eden_materialise.specs.EntryMoves.{IsUnmoved}
 use Rattle.eden_materialise.specs.Faults.{IsStoreFault}
+use Rattle.eden_ops.specs.Changes.{SameNames}
 use Rattle.eden_ops.specs.Letting.{LetsGo}
 use Rattle.eden_ops.specs.Relocating.{CanRelocate, IsUnloadedAt, IsCleared, StaysBeside, AreSavedBut, both_owned, Readies}
+use Rattle.eden_ops.proofs.Bare.{bare_at, without_stamp, some_pair}
 use Rattle.eden_ops.proofs.Changing.{none_held, is_in}
 use Rattle.eden_ops.proofs.Going.{kept_elsewhere, loaded_elsewhere, stays_there}
+use Rattle.eden_ops.proofs.Names.{names_same, fewer_same, names_on, face, face_at, names_alike, fewer_alike}
 use Rattle.eden_ops.proofs.Owned.{is_held, owned_held, behind_itself, owned_own, owned_still}
 use Rattle.eden_ops.proofs.Roots.{comes_on}
 use Rattle.eden_ops.proofs.Saving.{by_path}
@@ -42,6 +45,8 @@ module _ {W F : Type 0} (w : Ghosts W) (f : Files F W) where
   pub readies_on : (s t u : Table F) (a : Result (Unit {0}) Fault) → Readies w f s t (Ok tt) → Readies w f t u a → Readies w f s u a
   readies_on s t u a one two = record {
     shown = λ h. two.shown h ∙ one.shown h;
+    names = names_on s.root t.root u.root (λ p was now. two.fewer p now) one.names two.names;
+    fewer = λ p now. one.fewer p (two.fewer p now);
     saved = λ all. two.saved (one.saved all);
     root = comes_on s.root.origin t.root.origin u.root.origin one.root two.root;
     fault = subst (λ (k : ℕ). IfErr a (IsStoreFault k (f.failures u.files))) one.counted two.fault;
@@ -196,7 +201,7 @@ pub saved_but : (from : Path) (x : Row) → AreSaved x → AreSavedBut from x
 saved_but from x saved r y d at holds unsaved = absurd (is_saved x saved r y d (ap (option_map standing) at) holds unsaved)
 
 module _ (x : Row) (p : Path) (n : Name) (q : Path) (m : Name) where
-  module _ (may : MayMove x p n q m) (saved : AreSaved x) where
+  module _ (may : MayMove x p n q m) where
     abbrev marked : Directory
     marked = record may.source { unsaved = true }
 
@@ -211,16 +216,47 @@ module _ (x : Row) (p : Path) (n : Name) (q : Path) (m : Name) where
         ∙ ap (λ (o : Option Row). option_map standing (option_and_then (row_at (k ∷ s)) o)) (sym may.at_from)
         ∙ ap (option_map standing) (sym (reads_on p (k ∷ s) x))
 
+    -- each entry has its number and its kind, and is loaded where it was
+    marked_face : (r : Path) → face_at r (marked_source x p n q m may) ≡ face_at r x
+    marked_face r =
+        ap (option_map face) (sym (bare_at (row_at r (marked_source x p n q m may))) ∙ ap (option_map without_stamp) (edits_one p (with_child (Some marked)) x may.from r may.at_from))
+        ∙ by (behind_of p r) refl ∙ ap (option_map face) (bare_at (row_at r x))
+      where
+        by : (o : Option Path) → behind_of p r ≡ o
+            → option_map face (option_map without_stamp (grafted o (λ s. standing_at s then) (standing_at r x))) ≡ option_map face (option_map without_stamp (standing_at r x))
+        by None front = refl
+        by (Some []) front =
+            let here : row_at r x ≡ Some may.from = ap (λ (t : Path). row_at t x) (behind_sound p r [] front ∙ append-nil p) ∙ may.at_from in
+            ap (λ (o : Option Directory). Some ((may.from.number, may.from.kind), is_some (option_map mark_of o))) (child_of-with_child (Some marked) may.from)
+            ∙ ap (λ (b : Bool). Some ((may.from.number, may.from.kind), b)) (sym (some_pair mark_of (child_of may.from) ∙ ap is_some may.holds_source))
+            ∙ sym (ap (λ (o : Option Row). option_map face (option_map without_stamp (option_map standing o))) here)
+        by (Some (k ∷ s)) front =
+            ap (λ (o : Option Standing). option_map face (option_map without_stamp o)) (below_marked k s ∙ ap (λ (t : Path). standing_at t x) (sym (behind_sound p r (k ∷ s) front)))
+
+  module _ (may : MayMove x p n q m) (saved : AreSaved x) where
     marked_by : (r : Path) (y : Row) (d : Directory) → child_of y ≡ Some d → d.unsaved ≡ true → (o : Option Path) → behind_of p r ≡ o
-        → grafted o (λ s. standing_at s then) (standing_at r x) ≡ Some (standing y) → (k : Name) × (p ++ n ∷ [] ≡ r ++ k ∷ [])
+        → grafted o (λ s. standing_at s (then may)) (standing_at r x) ≡ Some (standing y) → (k : Name) × (p ++ n ∷ [] ≡ r ++ k ∷ [])
     marked_by r y d holds unsaved None front is = absurd (is_saved x saved r y d is holds unsaved)
     marked_by r y d holds unsaved (Some []) front is = (n, ap (λ (s : Path). s ++ n ∷ []) (sym (append-nil p) ∙ sym (behind_sound p r [] front)))
     marked_by r y d holds unsaved (Some (k ∷ s)) front is =
-        absurd (is_saved x saved r y d (ap (λ (t : Path). standing_at t x) (behind_sound p r (k ∷ s) front) ∙ sym (below_marked k s) ∙ is) holds unsaved)
+        absurd (is_saved x saved r y d (ap (λ (t : Path). standing_at t x) (behind_sound p r (k ∷ s) front) ∙ sym (below_marked may k s) ∙ is) holds unsaved)
 
     marked_but : AreSavedBut (p ++ n ∷ []) (marked_source x p n q m may)
     marked_but r y d at holds unsaved =
-        marked_by r y d holds unsaved (behind_of p r) refl (sym (edits_one p (with_child (Some marked)) x may.from r may.at_from) ∙ ap (option_map standing) at)
+        marked_by r y d holds unsaved (behind_of p r) refl (sym (edits_one p (with_child (Some (marked may))) x may.from r may.at_from) ∙ ap (option_map standing) at)
+
+  -- a move that failed
+  pub unmoved_names : (honest : Type 0) (F G : Stored) (z : Row) → IsUnmoved honest p n q m F x G z → SameNames x z
+  unmoved_names honest F G z (inl same) = names_same x z same.0
+  unmoved_names honest F G z (inr left) =
+      let may = left.1.0 in
+      subst (SameNames x) (sym left.1.1.0) (names_alike x (marked_source x p n q m may) (marked_face may))
+
+  pub unmoved_fewer : (honest : Type 0) (F G : Stored) (z : Row) → IsUnmoved honest p n q m F x G z → StaysLoaded z x
+  unmoved_fewer honest F G z (inl same) = fewer_same x z same.0
+  unmoved_fewer honest F G z (inr left) =
+      let may = left.1.0 in
+      subst (λ (y : Row). StaysLoaded y x) (sym left.1.1.0) (fewer_alike x (marked_source x p n q m may) (marked_face may))
 
   pub unmoved_but : (honest : Type 0) (F G : Stored) (z : Row) → IsUnmoved honest p n q m F x G z → AreSaved x → AreSavedBut (p ++ n ∷ []) z
   unmoved_but honest F G z (inl same) saved = subst (AreSavedBut (p ++ n ∷ [])) (sym same.0) (saved_but (p ++ n ∷ []) x saved)

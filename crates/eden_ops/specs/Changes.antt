@@ -1,6 +1,7 @@
 -- What a change makes of an entry, and what it leaves of a table.
-use Rattle.std.specs.Prelude.{◌≡◌, ◌≢◌, ◌≤◌, ◌⊎◌, ℕ, Bool, true, false, List, [], length, None}
+use Rattle.std.specs.Prelude.{◌≡◌, ◌≢◌, ◌≤◌, ◌⊎◌, ◌++◌, ◌∷◌, ℕ, Bool, true, false, List, [], length, Option, None}
 use Rattle.std.specs.Borrow.{Bor}
+use Rattle.std.specs.Option.{option_map}
 use Rattle.eden_model.specs.declared.kind.Kind.{Kind}
 use Rattle.eden_model.specs.declared.kind.Kind.TheVariants as kind
 use Rattle.eden_model.specs.declared.kind.Origin.{Origin}
@@ -9,8 +10,10 @@ use Rattle.eden_model.specs.declared.request.Request.{Request}
 use Rattle.eden_model.specs.declared.request.Request.TheVariants as ask
 use Rattle.eden_model.specs.Limits.{most_target}
 use Rattle.eden_model.specs.Paths.{behind_of}
-use Rattle.eden_model.specs.Trees.{Path}
+use Rattle.eden_model.specs.Trees.{Name, Path}
 use Rattle.eden_overlay.specs.declared.files.Files.{Ghosts as Files}
+use Rattle.eden_tree.specs.Directory.{Row}
+use Rattle.eden_tree.specs.Paths.{row_at}
 use Rattle.eden_tie.specs.Chains.{IsLoadedAt, AreSaved}
 use Rattle.eden_inode.specs.Tables.{Table}
 use Rattle.eden_materialise.specs.declared.new_entry.NewEntry.{NewEntry}
@@ -34,6 +37,14 @@ IsOutside p q = behind_of p q ≡ None
 -- what came from there does so still, or became the mount's own
 abbrev pub StaysOrBecomesOwn : Origin → Origin → Type 0
 StaysOrBecomesOwn was now = (now ≡ was) ⊎ (now ≡ origin.Own)
+
+-- the number and the kind of the entry at a path
+abbrev pub numbered_at : Path → Row → Option (ℕ × Kind)
+numbered_at p x = option_map (λ y. (y.number, y.kind)) (row_at p x)
+
+-- a directory that is loaded before and after has the same names, each with its number and its kind
+abbrev pub SameNames : Row → Row → Type 0
+SameNames x z = (p : Path) (n : Name) → IsLoadedAt p x → IsLoadedAt p z → numbered_at (p ++ n ∷ []) z ≡ numbered_at (p ++ n ∷ []) x
 
 module _ {W F : Type 0} (f : Files F W) where
   -- Whatever was answered: what was loaded on these paths is, the root comes from where it came or is the mount's own, numbers

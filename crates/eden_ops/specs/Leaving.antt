@@ -3,6 +3,7 @@ use Rattle.std.specs.Prelude.{◌≡◌, ◌≤◌, ◌+◌, ℕ}
 use Rattle.eden_model.specs.declared.attempt.Attempt.{Attempt}
 use Rattle.eden_model.specs.declared.attempt.Attempt.TheVariants.{Finished}
 use Rattle.eden_model.specs.declared.errno.Errno.{Errno}
+use Rattle.eden_model.specs.declared.fault.Fault.{Fault}
 use Rattle.eden_model.specs.declared.request.Request.{Request}
 use Rattle.eden_model.specs.declared.request.Request.TheVariants as ask
 use Rattle.eden_model.specs.declared.reply.Reply.TheVariants as say
@@ -12,7 +13,7 @@ use Rattle.eden_overlay.specs.declared.files.Files.{Ghosts as Files}
 use Rattle.eden_tree.specs.Directory.{Row}
 use Rattle.eden_tie.specs.Chains.{IsLoadedAt, AreSaved}
 use Rattle.eden_inode.specs.Tables.{Table}
-use Rattle.eden_ops.specs.Changes.{IsOutside, LeavesOn}
+use Rattle.eden_ops.specs.Changes.{IsOutside, SameNames, LeavesOn}
 use Rattle.eden_ops.specs.Keeping.{Keeps}
 use Rattle.eden_ops.specs.Relocating.{AreSavedBut}
 use Rattle.eden_ops.specs.Renames.{IsBeside, IsNoFault}
@@ -45,10 +46,12 @@ module _ {W F : Type 0} (w : Ghosts W) (f : Files F W) where
     pub no_less : reached.next ≤ t.next
     pub no_more : t.next ≤ reached.next + most
 
-  -- An error changes nothing, but that directories are loaded on the way.
+  -- An error changes nothing, but that directories are loaded on the way. A fault changes no name and no kind in a directory
+  -- that stays loaded.
   pub record LeavesAfter (q : Request) (s t : Table F) (a : Attempt) : Type 0 where
     pub on : LeavesOn f (LetsBe q) s t
     pub gives : Gives (LetsBe q) (given q) s t
     pub errs : (e : Errno) → a ≡ Finished (say.Err e) → Keeps w f s t
+    pub faults : (e : Fault) → a ≡ Finished (say.Fault e) → SameNames s.root t.root
     pub saved : IsNoFault a → AreSaved s.root → AreSaved t.root
     pub marked : AreSaved s.root → SavedAfter q t.root

@@ -7,12 +7,12 @@ use Rattle.eden_model.specs.Trees.{Name, Path}
 use Rattle.eden_overlay.specs.declared.files.Files.{Ghosts as Files}
 use Rattle.eden_tree.specs.Directory.{Row, Directory, child_of}
 use Rattle.eden_tree.specs.Paths.{row_at}
-use Rattle.eden_tie.specs.Chains.{IsLoadedAt, AreSaved}
+use Rattle.eden_tie.specs.Chains.{IsLoadedAt, AreSaved, StaysLoaded}
 use Rattle.eden_tie.specs.Laws.{owned}
 use Rattle.eden_tie.specs.Materialising.{owned_along}
 use Rattle.eden_inode.specs.Tables.{Table}
 use Rattle.eden_materialise.specs.Faults.{IsStoreFault}
-use Rattle.eden_ops.specs.Changes.{StaysOrBecomesOwn}
+use Rattle.eden_ops.specs.Changes.{StaysOrBecomesOwn, SameNames}
 use Rattle.eden_ops.specs.Keeping.{shows}
 
 -- The entry at the one path is there, and the directory above the other is loaded; neither path is a front of the other.
@@ -46,10 +46,12 @@ abbrev pub both_owned : Path → Path → Row → Row
 both_owned p q x = owned (owned_along q (owned (owned_along p x)))
 
 module _ {W F : Type 0} (w : Ghosts W) (f : Files F W) where
-  -- A step before a change: what is shown is as before, and no directory is unsaved where none was. Where it is done, the device
-  -- did not fail.
+  -- A step before a change: what is shown is as before, what is loaded was so, with the same names, and no directory is unsaved
+  -- where none was. Where it is done, the device did not fail.
   pub record Readies (s t : Table F) (answer : Result (Unit {0}) Fault) : Type 0 where
     pub shown : w.honest → shows w f t ≡ shows w f s
+    pub names : SameNames s.root t.root
+    pub fewer : StaysLoaded t.root s.root
     pub saved : AreSaved s.root → AreSaved t.root
     pub root : StaysOrBecomesOwn s.root.origin t.root.origin
     pub fault : IfErr answer (IsStoreFault (f.failures s.files) (f.failures t.files))

@@ -30,6 +30,7 @@ pub(crate) fn fill<A: Allocator + Clone, W: World, F: Files<W>>(
         → OnOk result (shows W.World F.Files inodes.new ≡ put (shows W.World F.Files inodes.old) path.now
         (Some (node_from y.kind (Some content.now) false))) }
     ensures unseen { W.honest → OnErr result (shows W.World F.Files inodes.new ≡ shows W.World F.Files inodes.old) }
+    ensures err { OnErr result (inodes.new.root ≡ inodes.old.root) }
     ensures fault { IfErr result (IsStoreFault (F.failures inodes.old.files) (F.failures inodes.new.files)) }
     ensures leaves { Leaves F.Files inodes.old inodes.new }
     ensures next { inodes.new.next ≡ inodes.old.next }

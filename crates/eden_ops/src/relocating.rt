@@ -3,7 +3,7 @@ ghost use Rattle.std.specs.Prelude.{◌≡◌, ◌≤◌, OnOk, OnErr, IfErr};
 ghost use Rattle.eden_model.specs.Operations.{move};
 ghost use Rattle.eden_tie.specs.Chains.{AreSaved, IsLoadedAt, StaysLoaded};
 ghost use Rattle.eden_materialise.specs.Faults.{IsStoreFault};
-ghost use Rattle.eden_ops.specs.Changes.{StaysOrBecomesOwn};
+ghost use Rattle.eden_ops.specs.Changes.{StaysOrBecomesOwn, SameNames};
 ghost use Rattle.eden_ops.specs.Keeping.{shows};
 ghost use Rattle.eden_ops.specs.Relocating.{CanRelocate, IsCleared, StaysBeside, AreSavedBut, both_owned, Readies};
 
@@ -62,6 +62,7 @@ pub(crate) fn relocate<A: Allocator + Clone, W: World, F: Files<W>>(
     ensures ok { W.honest
         → OnOk result (shows W.World F.Files inodes.new ≡ move (shows W.World F.Files inodes.old) from.now to.now) }
     ensures err { W.honest → OnErr result (shows W.World F.Files inodes.new ≡ shows W.World F.Files inodes.old) }
+    ensures names { OnErr result (SameNames inodes.old.root inodes.new.root) }
     ensures fault { IfErr result (IsStoreFault (F.failures inodes.old.files) (F.failures inodes.new.files)) }
     ensures counted { F.failures inodes.old.files ≤ F.failures inodes.new.files }
     ensures loaded { StaysBeside from.now to.now inodes.old.root inodes.new.root }

@@ -15,7 +15,7 @@ pub enum Fetched {
     Nothing,
     /// The object is cached.
     Stored(Key),
-    /// The source has no such object, or its bytes are no use: whoever waits for the key is told so.
+    /// The source couldn't give the object, or its bytes are no use: whoever waits for the key is told so.
     Failed(Key, Cause),
     /// Nobody has the key in flight. No fetcher meets this.
     Stray(Key),

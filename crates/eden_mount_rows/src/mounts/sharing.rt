@@ -5,7 +5,7 @@ ghost use Rattle.eden_shared.specs.Opening.{AreTied};
 
 use crate::mounts::shelf::Shelf;
 use crate::mounts::{bytes, key, mount, read, root};
-use eden_model::{CallFault, Outside, Reply, Request};
+use eden_model::{CallFault, Cause, Outside, Reply, Request};
 use eden_shared::{Fetched, Naming, Pass, Shared, Ties};
 use eden_source::MemorySource;
 use std::alloc::Global;
@@ -13,7 +13,7 @@ use std::marker::Brand;
 use std::process::Abort;
 use std::sync::Wait;
 use std::test::Fail;
-use std::thread::{Threads, join};
+use std::thread::{Threads, join, yield_now};
 
 /// A mount of three passes over a shelf, as it is shared.
 type Held<J> = Shared<Outside, Shelf, Global, J>;
@@ -104,6 +104,19 @@ fn is_told<J: Naming>(pass: Option<&Pass<J>>, count: usize) -> bool {
     }
 }
 
+/// Whether the pass is told the object's bytes.
+fn reads<J: Naming, R: Wait + Abort>(
+    rt: &R,
+    alloc: Global,
+    shared: &Held<J>,
+    pass: &mut Pass<J>,
+) -> bool {
+    match pass.call(shared, rt, read(rt, alloc)) {
+        Ok(told) => matches!(told.reply, Reply::Data(_)),
+        Err(_) => false,
+    }
+}
+
 /// Asks three times for the object, and looks at each reply.
 fn ask<J: Naming, R: Wait + Abort>(
     rt: &R,
@@ -112,21 +125,44 @@ fn ask<J: Naming, R: Wait + Abort>(
     mut pass: Pass<J>,
 ) -> Pass<J> {
     for count in 1..4usize {
-        let reads = match pass.call(shared, rt, read(rt, alloc)) {
-            Ok(told) => matches!(told.reply, Reply::Data(_)),
-            Err(_) => false,
-        };
-        assert!(rt; reads && pass.told().len() == count);
+        assert!(rt; reads(rt, alloc, shared, &mut pass) && pass.told().len() == count);
     }
     pass
 }
 
+/// A source that has the object, or lacks it.
+fn source(rt: &impl Abort, alloc: Global, has: bool) -> MemorySource<Outside> {
+    let mut source = MemorySource::new(alloc);
+    if has {
+        let framed = bytes(rt, alloc, b"blob 0\0").into_vec();
+        source.insert(key().id, framed).expect(rt, "memory");
+    }
+    source
+}
+
 /// Fetches until the mount is stopped, from a source that has the object.
 fn fetch<J: Naming, R: Wait + Abort>(rt: &R, alloc: Global, shared: &Held<J>) {
-    let mut source = MemorySource::<Outside>::new(alloc);
-    let framed = bytes(rt, alloc, b"blob 0\0").into_vec();
-    source.insert(key().id, framed).expect(rt, "memory");
-    shared.fetch_all(rt, &mut source);
+    shared.fetch_all(rt, &mut source(rt, alloc, true));
+}
+
+/// Fetches once a key is queued, and then finds none: what came of it is that.
+fn fetch_next<J: Naming, R: Wait + Abort>(
+    rt: &R,
+    alloc: Global,
+    shared: &Held<J>,
+    has: bool,
+    comes: Fetched,
+) {
+    let mut source = source(rt, alloc, has);
+    for _ in rt.forever() {
+        let fetched = shared.fetch_one(rt, &mut source);
+        if fetched != Fetched::Nothing {
+            assert!(rt; fetched == comes);
+            assert!(rt; shared.fetch_one(rt, &mut source) == Fetched::Nothing);
+            return;
+        }
+        yield_now();
+    }
 }
 
 /// Two callers and two fetchers on threads of their own, until both callers were told three times.
@@ -169,6 +205,32 @@ fn race<J: Naming + Send + Sync, R: Threads + Wait + Abort + Sync>(
     assert!(rt; entries(shared, passes) == Some(6));
 }
 
+/// A caller waits while one key is fetched: first no source has it, and then one has.
+fn meet<J: Naming + Send + Sync, R: Threads + Wait + Abort + Sync>(
+    rt: &R,
+    alloc: Global,
+    ties: Ties,
+)
+    requires ties { AreTied ties.lanes.items ties.ends.items 3 }
+    requires names { names_of ties.lanes.items ≡ J.names }
+{
+    let (shared, mut passes) = open::<J>(rt, alloc, ties);
+    let mut pass = passes.pop().expect(rt, "a pass");
+    let lock = &shared;
+    let rows = [
+        (false, Fetched::Failed(key(), Cause::Missing)),
+        (true, Fetched::Stored(key())),
+    ];
+    for (has, comes) in rows {
+        let (read, ()) = join(
+            rt,
+            || reads(rt, alloc, lock, &mut pass),
+            || fetch_next(rt, alloc, lock, has, comes),
+        );
+        assert!(rt; read == has);
+    }
+}
+
 #[test]
 fn a_learnt_number_is_awaited(rt: HostRuntime) -> Result<(), Fail> {
     let ties = Ties::new(rt.alloc(), 3)?;
@@ -180,6 +242,13 @@ fn a_learnt_number_is_awaited(rt: HostRuntime) -> Result<(), Fail> {
 fn a_missing_pass_tears_the_end(rt: HostRuntime) -> Result<(), Fail> {
     let ties = Ties::new(rt.alloc(), 3)?;
     tear::<Brand, HostRuntime>(&rt, rt.alloc(), ties);
+    Ok(())
+}
+
+#[test]
+fn a_queued_key_is_fetched_once(rt: HostRuntime) -> Result<(), Fail> {
+    let ties = Ties::new(rt.alloc(), 3)?;
+    meet::<Brand, HostRuntime>(&rt, rt.alloc(), ties);
     Ok(())
 }
 

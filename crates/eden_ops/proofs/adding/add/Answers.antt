@@ -19,6 +19,7 @@ use Rattle.eden_ops.proofs.Additions.{adds, asked_add, short_new, lacks_entry, a
 use Rattle.eden_ops.proofs.Answering.{walk_ended, says_here}
 use Rattle.eden_ops.proofs.Changing.{not_root, changed}
 use Rattle.eden_ops.proofs.Roots.{root_same, root_chained}
+use Rattle.eden_ops.proofs.Names.{names_same}
 use Rattle.eden_ops.proofs.Leaving.{leaves_kept, leaves_changed}
 use Rattle.eden_ops.proofs.Saving.{leaves_by, no_less}
 use Rattle.eden_ops.proofs.Seeing.{kept_dirs}
@@ -87,7 +88,8 @@ returns-in-Ok-clause-leaves g c q adding =
     let lacks = lacks_entry p above name t.root (sym c.as_slice.ensures ∙ c.in-Some.ensures.cases.0) met.0 met.1 in
     let root = root_chained above t.root u.root (λ d. changed_listing d name (Some (own_row t.next c.args.new))) (loaded_there above t.root lacks.row lacks.directory lacks.at lacks.holds) x.ok in
     let l = leaves_by g.F.Files t u x.stays root x.saved (one_given t.next u.next x.next) x.rest (no_less (g.F.Files.failures t.files) (g.F.Files.failures u.files) x.counted) in
-    leaves_changed g.W.World g.F.Files c.args.inodes.now t c.meet.ensures.keeps u (Finished say.Ok) (λ e is. cc) q l (one_more t.next u.next (given q) x.next (adds_one p q c.args.new adding))
+    leaves_changed g.W.World g.F.Files c.args.inodes.now t c.meet.ensures.keeps u (Finished say.Ok) (λ e is. cc) (λ e is. cc) q l
+    (one_more t.next u.next (given q) x.next (adds_one p q c.args.new adding))
 
 pub returns-in-Err-add_entry-clause-attempts : goal.returns-in-Err-add_entry-clause-attempts
 returns-in-Err-add_entry-clause-attempts g c q adding =
@@ -107,7 +109,8 @@ returns-in-Err-add_entry-clause-leaves g c q adding =
     let u = c.add_entry.new.inodes in
     let counted = add_count t.next (g.F.Files.failures t.files) (g.F.Files.failures u.files) c.in-Err-add_entry.fault x.fault in
     let l = leaves_by g.F.Files t u x.stays (root_same t.root u.root x.err) x.saved (given_more t.next u.next _ _ x.given) x.rest counted in
-    leaves_changed g.W.World g.F.Files c.args.inodes.now t c.meet.ensures.keeps u (Finished (say.Fault c.in-Err-add_entry.fault)) (λ e is. cc) q l
+    leaves_changed g.W.World g.F.Files c.args.inodes.now t c.meet.ensures.keeps u (Finished (say.Fault c.in-Err-add_entry.fault)) (λ e is. cc)
+    (λ e is. names_same t.root u.root x.err) q l
     (one_at_most t.next u.next (given q) _ _ x.given (adds_one c.args.path.now q c.args.new adding))
 
 pub returns-in_default-clause-attempts : goal.returns-in_default-clause-attempts

@@ -215,7 +215,7 @@ returns-in-Ok-clause-leaves g c =
     let z = c.remove_entry.new.inodes in
     let l = leaves_by g.F.Files v z x.stays root c.remove_entry.ensures.saved (no_less v.next z.next x.rest.0) x.rest.1 x.counted in
     leaves_removed g.W.World g.F.Files p s u v (keeps_on g.W.World g.F.Files s c.meet.new.inodes u c.meet.ensures.keeps c.bring_seen.ensures.keeps) goes c.let_go.ensures.rest c.let_go.ensures.counted
-    (Finished say.Ok) (λ e is. cc) z l x.rest.0
+    (Finished say.Ok) (λ e is. cc) z l x.rest.0 (λ e is. cc)
 
 pub returns-in-Err-remove_entry-clause-attempts : goal.returns-in-Err-remove_entry-clause-attempts
 returns-in-Err-remove_entry-clause-attempts g c =
@@ -244,7 +244,7 @@ returns-in-Err-remove_entry-clause-leaves g c =
     let counted = fault_count (g.F.Files.failures v.files) (g.F.Files.failures z.files) c.in-Err-remove_entry.fault x.fault in
     let l = leaves_by g.F.Files v z x.stays (root_same v.root z.root x.err) c.remove_entry.ensures.saved (no_less v.next z.next x.rest.0) x.rest.1 counted in
     leaves_removed g.W.World g.F.Files p s u v (keeps_on g.W.World g.F.Files s c.meet.new.inodes u c.meet.ensures.keeps c.bring_seen.ensures.keeps) goes c.let_go.ensures.rest c.let_go.ensures.counted
-    (Finished (say.Fault c.in-Err-remove_entry.fault)) (λ e is. cc) z l x.rest.0
+    (Finished (say.Fault c.in-Err-remove_entry.fault)) (λ e is. cc) z l x.rest.0 (λ e is. x.err)
 
 pub returns-in_default-clause-leaves : goal.returns-in_default-clause-leaves
 returns-in_default-clause-leaves g c = leaves_kept g.W.World g.F.Files c.args.inodes.now c.args.inodes.now same (ask.Rmdir c.args.path.now) _

@@ -24,6 +24,7 @@ use Rattle.eden_ops.proofs.Changing.{has_file, file_alone, changed, refused, set
 use Rattle.eden_ops.proofs.Fetching.{away}
 use Rattle.eden_ops.proofs.Looking.{IsPlain, plain_other}
 use Rattle.eden_ops.proofs.Roots.{root_same, root_chained}
+use Rattle.eden_ops.proofs.Names.{names_same}
 use Rattle.eden_ops.proofs.Leaving.{none_given, leaves_kept, leaves_changed}
 use Rattle.eden_ops.proofs.Saving.{leaves_by, fault_count, no_less}
 use Rattle.eden_ops.proofs.Seeing.{kept_dirs, shown_there}
@@ -106,7 +107,8 @@ returns-in-Ok-set_kind-clause-leaves g c =
     (loaded_there above t.root has.row has.directory has.at has.holds) (x.ok seen.row has) in
     let u = c.set_kind.new.inodes in
     let l = leaves_by g.F.Files t u x.stays root x.saved (no_less t.next u.next x.rest.0) x.rest.1 (no_less (g.F.Files.failures t.files) (g.F.Files.failures u.files) x.counted) in
-    leaves_changed g.W.World g.F.Files c.args.inodes.now t c.meet_file.ensures.keeps u (Finished say.Ok) (λ e is. cc) (ask.SetExec c.args.path.now c.args.exec) l (none_given t.next u.next 0 x.rest.0)
+    leaves_changed g.W.World g.F.Files c.args.inodes.now t c.meet_file.ensures.keeps u (Finished say.Ok) (λ e is. cc) (λ e is. cc) (ask.SetExec c.args.path.now c.args.exec) l
+    (none_given t.next u.next 0 x.rest.0)
 
 pub returns-in-Err-set_kind-clause-leaves : goal.returns-in-Err-set_kind-clause-leaves
 returns-in-Err-set_kind-clause-leaves g c =
@@ -115,5 +117,6 @@ returns-in-Err-set_kind-clause-leaves g c =
     let u = c.set_kind.new.inodes in
     let counted = fault_count (g.F.Files.failures t.files) (g.F.Files.failures u.files) c.in-Err-set_kind.fault x.fault in
     let l = leaves_by g.F.Files t u x.stays (root_same t.root u.root x.err) x.saved (no_less t.next u.next x.rest.0) x.rest.1 counted in
-    leaves_changed g.W.World g.F.Files c.args.inodes.now t c.meet_file.ensures.keeps u (Finished (say.Fault c.in-Err-set_kind.fault)) (λ e is. cc) (ask.SetExec c.args.path.now c.args.exec) l
+    leaves_changed g.W.World g.F.Files c.args.inodes.now t c.meet_file.ensures.keeps u (Finished (say.Fault c.in-Err-set_kind.fault)) (λ e is. cc)
+    (λ e is. names_same t.root u.root x.err) (ask.SetExec c.args.path.now c.args.exec) l
     (none_given t.next u.next 0 x.rest.0)

@@ -1,4 +1,5 @@
 use Rattle.std.proofs.lemmas.Result.{on_ok_weaker}
+use Rattle.eden_ops.proofs.Going.{goes_fewer}
 use Rattle.eden_ops.proofs.Relocation.{readies_on, readies_err, first_cleared, second_cleared, first_stays, second_stays}
 use Rattle.eden_ops.proofs.Roots.{root_left}
 use Rattle.eden_ops.proofs.relocating.clear_both.Goals as goal
@@ -12,6 +13,8 @@ returns-in_err-let_go-clause-readies g c =
     readies_err g.W.World g.F.Files c.args.inodes.now c.let_go.new.inodes c.from_residual.result c.in_err-let_go.field-0.0 c.from_residual.ensures.0 c.from_residual.ensures.1
     (record {
       shown = e.same;
+      names = e.goes.names;
+      fewer = goes_fewer c.args.from.now c.args.inodes.now.root c.let_go.new.inodes.root e.goes;
       saved = e.saved;
       root = root_left c.args.from.now c.args.inodes.now.root c.let_go.new.inodes.root e.goes;
       fault = e.fault;
@@ -39,6 +42,8 @@ returns-clause-readies g c =
     readies_on g.W.World g.F.Files c.args.inodes.now c.let_go.new.inodes c.let_go-2.new.inodes c.let_go-2.result
     (record {
       shown = a.same;
+      names = a.goes.names;
+      fewer = goes_fewer c.args.from.now c.args.inodes.now.root c.let_go.new.inodes.root a.goes;
       saved = a.saved;
       root = root_left c.args.from.now c.args.inodes.now.root c.let_go.new.inodes.root a.goes;
       fault = tt;
@@ -48,6 +53,8 @@ returns-clause-readies g c =
     })
     (record {
       shown = b.same;
+      names = b.goes.names;
+      fewer = goes_fewer c.args.to.now c.let_go.new.inodes.root c.let_go-2.new.inodes.root b.goes;
       saved = b.saved;
       root = root_left c.args.to.now c.let_go.new.inodes.root c.let_go-2.new.inodes.root b.goes;
       fault = b.fault;

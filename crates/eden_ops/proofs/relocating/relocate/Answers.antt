@@ -3,7 +3,8 @@ use Rattle.eden_model.specs.Trees.{Path}
 use Rattle.eden_ops.specs.Keeping.{shows}
 use Rattle.eden_ops.specs.Relocating.{AreSavedBut}
 use Rattle.eden_ops.proofs.Bringing.{on_err}
-use Rattle.eden_ops.proofs.Relocation.{above_loaded, can_move, moves_shown, saved_but, unmoved_but}
+use Rattle.eden_ops.proofs.Names.{names_on}
+use Rattle.eden_ops.proofs.Relocation.{above_loaded, can_move, moves_shown, saved_but, unmoved_names, unmoved_fewer, unmoved_but}
 use Rattle.eden_ops.proofs.Roots.{comes_on, root_moved, root_unmoved}
 use Rattle.eden_ops.proofs.relocating.relocate.Goals as goal
 
@@ -16,6 +17,9 @@ returns-in_err-clear_both-clause-marked g c = λ all. saved_but c.args.from.now 
 pub returns-in_err-clear_both-clause-root : goal.returns-in_err-clear_both-clause-root
 returns-in_err-clear_both-clause-root g c = c.in_err-clear_both.ensures.readies.root
 
+pub returns-in_err-clear_both-clause-names : goal.returns-in_err-clear_both-clause-names
+returns-in_err-clear_both-clause-names g c = on_err c.from_residual.result _ c.in_err-clear_both.ensures.readies.names
+
 pub own_both-requires-clause-one : goal.own_both-requires-clause-one
 own_both-requires-clause-one g c =
     let can = c.in_ok-clear_both.ensures.cleared.can in
@@ -23,6 +27,13 @@ own_both-requires-clause-one g c =
 
 pub returns-in_err-own_both-clause-err : goal.returns-in_err-own_both-clause-err
 returns-in_err-own_both-clause-err g c = λ h. on_err c.from_residual-in_err-own_both.result _ (c.in_err-own_both.ensures.readies.shown h ∙ c.in_ok-clear_both.ensures.readies.shown h)
+
+pub returns-in_err-own_both-clause-names : goal.returns-in_err-own_both-clause-names
+returns-in_err-own_both-clause-names g c =
+    let one = c.in_ok-clear_both.ensures.readies in
+    let two = c.in_err-own_both.ensures.readies in
+    on_err c.from_residual-in_err-own_both.result _
+    (names_on c.args.inodes.now.root c.clear_both.new.inodes.root c.own_both.new.inodes.root (λ p was now. two.fewer p now) one.names two.names)
 
 pub returns-in_err-own_both-clause-marked : goal.returns-in_err-own_both-clause-marked
 returns-in_err-own_both-clause-marked g c = λ all. saved_but c.args.from.now c.own_both.new.inodes.root (c.in_err-own_both.ensures.readies.saved (c.in_ok-clear_both.ensures.readies.saved all))
@@ -45,6 +56,23 @@ move_entry-requires g c =
 pub returns-in_err-move_entry-clause-err : goal.returns-in_err-move_entry-clause-err
 returns-in_err-move_entry-clause-err g c = λ h.
     on_err c.from_residual-in_err-move_entry.result _ (c.in_err-move_entry.ensures.unseen h ∙ c.in_ok-own_both.ensures.readies.shown h ∙ c.in_ok-clear_both.ensures.readies.shown h)
+
+pub returns-in_err-move_entry-clause-names : goal.returns-in_err-move_entry-clause-names
+returns-in_err-move_entry-clause-names g c =
+    let one = c.in_ok-clear_both.ensures.readies in
+    let two = c.in_ok-own_both.ensures.readies in
+    let x = c.args.inodes.now.root in
+    let y = c.clear_both.new.inodes.root in
+    let u = c.own_both.new.inodes in
+    let v = c.move_entry.new.inodes in
+    let name = c.in-Some.name.now in
+    let to = c.in-Some-split_last.new_above.now in
+    let new_name = c.in-Some-split_last.new_name.now in
+    let err = c.in_err-move_entry.ensures.err in
+    let same = unmoved_names u.root c.in-Some.above.now name to new_name g.W.World.honest (g.F.Files.stored u.files) (g.F.Files.stored v.files) v.root err in
+    let fewer = unmoved_fewer u.root c.in-Some.above.now name to new_name g.W.World.honest (g.F.Files.stored u.files) (g.F.Files.stored v.files) v.root err in
+    on_err c.from_residual-in_err-move_entry.result _
+    (names_on x u.root v.root (λ p was now. fewer p now) (names_on x y u.root (λ p was now. two.fewer p now) one.names two.names) same)
 
 pub returns-in_err-move_entry-clause-marked : goal.returns-in_err-move_entry-clause-marked
 returns-in_err-move_entry-clause-marked g c = λ all.

@@ -20,6 +20,7 @@ use Rattle.eden_ops.proofs.Changing.{not_root, none_held, has_entry, put_alone, 
 use Rattle.eden_ops.proofs.Reached.{seen_at, shown_at}
 use Rattle.eden_ops.proofs.Relocation.{above_loaded}
 use Rattle.eden_ops.proofs.Roots.{root_same, root_chained}
+use Rattle.eden_ops.proofs.Names.{names_same}
 use Rattle.eden_ops.proofs.Leaving.{none_given, leaves_kept, leaves_changed}
 use Rattle.eden_ops.proofs.Saving.{leaves_by, fault_count, no_less}
 use Rattle.eden_ops.proofs.Seeing.{kept_dirs}
@@ -131,7 +132,7 @@ returns-in-Ok-clause-leaves g c =
     let root = root_chained above t.root c.remove_entry.new.inodes.root (λ d. changed_listing d name None) loaded x.ok in
     let u = c.remove_entry.new.inodes in
     let l = leaves_by g.F.Files t u x.stays root x.saved (no_less t.next u.next x.rest.0) x.rest.1 x.counted in
-    leaves_changed g.W.World g.F.Files c.args.inodes.now t c.meet.ensures.keeps u (Finished say.Ok) (λ e is. cc) (ask.Unlink p) l (none_given t.next u.next 0 x.rest.0)
+    leaves_changed g.W.World g.F.Files c.args.inodes.now t c.meet.ensures.keeps u (Finished say.Ok) (λ e is. cc) (λ e is. cc) (ask.Unlink p) l (none_given t.next u.next 0 x.rest.0)
 
 pub returns-in-Err-remove_entry-clause-leaves : goal.returns-in-Err-remove_entry-clause-leaves
 returns-in-Err-remove_entry-clause-leaves g c =
@@ -140,7 +141,8 @@ returns-in-Err-remove_entry-clause-leaves g c =
     let u = c.remove_entry.new.inodes in
     let counted = fault_count (g.F.Files.failures t.files) (g.F.Files.failures u.files) c.in-Err-remove_entry.fault x.fault in
     let l = leaves_by g.F.Files t u x.stays (root_same t.root u.root x.err) x.saved (no_less t.next u.next x.rest.0) x.rest.1 counted in
-    leaves_changed g.W.World g.F.Files c.args.inodes.now t c.meet.ensures.keeps u (Finished (say.Fault c.in-Err-remove_entry.fault)) (λ e is. cc) (ask.Unlink c.args.path.now) l
+    leaves_changed g.W.World g.F.Files c.args.inodes.now t c.meet.ensures.keeps u (Finished (say.Fault c.in-Err-remove_entry.fault)) (λ e is. cc)
+    (λ e is. names_same t.root u.root x.err) (ask.Unlink c.args.path.now) l
     (none_given t.next u.next 0 x.rest.0)
 
 pub returns-in_default-clause-leaves : goal.returns-in_default-clause-leaves

@@ -121,11 +121,11 @@ pub returns-in-Ok-relocate-clause-leaves : goal.returns-in-Ok-relocate-clause-le
 returns-in-Ok-relocate-clause-leaves g c =
     let x = c.in-Ok-relocate.ensures in
     leaves_moved g.W.World g.F.Files c.args.inodes.now c.land.new.inodes (keeps_on g.W.World g.F.Files c.args.inodes.now c.meet.new.inodes c.land.new.inodes c.meet.ensures.keeps c.land.ensures.keeps)
-    c.relocate.new.inodes (Finished say.Ok) (λ e is. cc) c.args.from.now c.args.to.now x.loaded x.root x.rest x.counted (λ fine. x.saved) x.marked
+    c.relocate.new.inodes (Finished say.Ok) (λ e is. cc) (λ e is. cc) c.args.from.now c.args.to.now x.loaded x.root x.rest x.counted (λ fine. x.saved) x.marked
 
 pub returns-in-Err-relocate-clause-leaves : goal.returns-in-Err-relocate-clause-leaves
 returns-in-Err-relocate-clause-leaves g c =
     let x = c.in-Err-relocate.ensures in
     leaves_moved g.W.World g.F.Files c.args.inodes.now c.land.new.inodes (keeps_on g.W.World g.F.Files c.args.inodes.now c.meet.new.inodes c.land.new.inodes c.meet.ensures.keeps c.land.ensures.keeps)
-    c.relocate.new.inodes (Finished (say.Fault c.in-Err-relocate.fault)) (λ e is. cc) c.args.from.now c.args.to.now x.loaded x.root x.rest x.counted
+    c.relocate.new.inodes (Finished (say.Fault c.in-Err-relocate.fault)) (λ e is. cc) (λ e is. x.names) c.args.from.now c.args.to.now x.loaded x.root x.rest x.counted
     (λ fine. absurd (fine c.in-Err-relocate.fault refl)) x.marked
