@@ -1,5 +1,5 @@
 -- What a mount knows of a checkout.
-use Rattle.std.specs.Prelude.{◌≡◌, ◌≤◌, ◌+◌, ◌-◌, ◌^◌, ℕ, min, length}
+use Rattle.std.specs.Prelude.{◌≡◌, ◌≤◌, ◌+◌, ◌-◌, ◌^◌, ℕ, Some, min, length}
 use Rattle.std.specs.Option.{is_some}
 use Rattle.eden_model.specs.declared.attempt.Attempt.{Attempt}
 use Rattle.eden_model.specs.declared.id.Key.{Key}
@@ -9,7 +9,9 @@ use Rattle.eden_model.specs.Trees.{Path}
 use Rattle.eden_object.specs.Objects.{Body}
 use Rattle.eden_overlay.specs.declared.files.Files.{Ghosts as Files}
 use Rattle.eden_cache.specs.Cache.{KeepsObject, KeepsSize}
-use Rattle.eden_tie.specs.Unloading.{Unloads}
+use Rattle.eden_tree.specs.Directory.{Row}
+use Rattle.eden_tree.specs.Paths.{row_at, edit_row}
+use Rattle.eden_tie.specs.Unloading.{Unloads, IsSettled}
 use Rattle.eden_mount.specs.Tables.{Table}
 use Rattle.eden_ops.specs.Attempts.{IsRealNeed, Attempts}
 use Rattle.eden_ops.specs.Caches.{object_at}
@@ -38,11 +40,14 @@ module _ {W F : Type 0} (w : Ghosts W) (f : Files F W) where
     pub inodes : t.inodes ≡ s.inodes
     pub root : t.root ≡ s.root
 
-  -- so many directories went, and the cache stays as it is
+  -- so many directories went, all of them at and below the path, what is loaded there still is settled, and the cache stays
+  -- as it is
   pub record IsUnloaded (s : Checkout F) (p : Path) (age gone : ℕ) (t : Checkout F) : Type 0 where
     pub count : ℕ
     pub counted : gone ≡ min count (2 ^ 64 - 1)
     pub unloads : Unloads w.honest s.inodes.clock age (f.stored s.inodes.files) s.inodes.root (f.stored t.inodes.files) t.inodes.root count
+    pub settled : (y : Row) → row_at p t.inodes.root ≡ Some y → IsSettled s.inodes.clock age y
+    pub elsewhere : (y : Row) × (t.inodes.root ≡ edit_row p (λ _. y) s.inodes.root)
     pub failures : f.failures s.inodes.files ≤ f.failures t.inodes.files
     pub rest : (t.inodes.next ≡ s.inodes.next) × (t.inodes.clock ≡ s.inodes.clock)
     pub cache : t.cache ≡ s.cache

@@ -1,6 +1,6 @@
-use Rattle.std.proofs.Common.{◌≡◌, ◌∙◌, sym, refl, ap, subst}
-use Rattle.eden_inode.specs.Tables.{Table}
-use Rattle.eden_mount.specs.Tables.{Tries, Ticks, Stores, Unloads}
+use Rattle.std.proofs.Common.{refl, subst}
+use Rattle.eden_model.specs.Trees.{Path}
+use Rattle.eden_mount.specs.Tables.{Unloads}
 use Rattle.eden_checkout.specs.Attempted.{attempted}
 use Rattle.eden_checkout.specs.Checkouts.{Checkout}
 use Rattle.eden_ops.proofs.CallerLemmas.{lets_go, root_left}
@@ -23,6 +23,16 @@ returns g c =
     let e = c.unload.ensures in
     let s : Checkout _ = record { inodes = x.inodes; cache = x.cache; root = x.root } in
     let t : Checkout _ = record { inodes = c.unload.new.self; cache = x.cache; root = x.root } in
+    let here = unloads g.W.World g.F.Files s t c.as_slice.result.now c.args.older_than c.unload.result (record {
+      count = e.unloads.0;
+      counted = e.unloads.1.0;
+      unloads = e.unloads.1.1;
+      settled = e.settled;
+      elsewhere = e.elsewhere;
+      failures = e.counted;
+      rest = e.rest;
+      cache = refl;
+      root = refl;
+    }) e.shown in
     subst (λ (u : Checkout _). Unloads (attempted g.W.World g.F.Files) g.W.World.honest u c.args.path.now c.args.older_than c.unload.result t) c.self.view_is
-    (unloads g.W.World g.F.Files s t c.args.path.now c.args.older_than c.unload.result
-    (record { count = e.unloads.0; counted = e.unloads.1.0; unloads = e.unloads.1.1; failures = e.counted; rest = e.rest; cache = refl; root = refl }) e.shown)
+    (subst (λ (p : Path). Unloads (attempted g.W.World g.F.Files) g.W.World.honest s p c.args.older_than c.unload.result t) c.as_slice.ensures here)
