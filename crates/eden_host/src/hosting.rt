@@ -82,9 +82,12 @@ pub fn host<
     unloading: Unloading,
 ) -> Hosted<W, T, A, J>
     requires passes { passes.items ≡ newcomers 1 (length J.names) }
-    ensures told { (left : List Carried) × AreHosted W.honest W.opening passes.items left result.outcome × IfOk result.mount (λ m. Agrees m left) }
+    ensures told { (left : List Carried)
+        × AreHosted I.Read O.Write W.honest W.opening passes.items left result.outcome
+        × IfOk result.mount (λ m. Agrees m left) }
     ensures whole { IsOk result.mount }
-    ensures legal { W.honest → MatchResult result.mount (λ m. Legal W.opening m.history) (λ t. Legal W.opening t.mount.history) }
+    ensures legal { W.honest → MatchResult result.mount (λ m. Legal W.opening m.history)
+        (λ t. Legal W.opening t.mount.history) }
 {
     begin(&passes);
     let served = serve_all(rt, alloc, listener, &shared, passes, sources, unloading);
@@ -115,7 +118,7 @@ fn attend_fetched<
     fetched: bool,
 ) -> (Vec<Pass<J>>, Result<(), HostFault>)
     requires learnt { HaveLearntNothing passes.items }
-    ensures { AreHosted W.honest W.opening passes.items result.0.items result.1 }
+    ensures { AreHosted I.Read O.Write W.honest W.opening passes.items result.0.items result.1 }
 {
     if !fetched {
         return (passes, Err(HostFault::Session(SessionFault::Memory)));
@@ -141,7 +144,8 @@ fn beside_fetchers<
         thread::scope_env(),
         rt,
         move |scope| -> X
-            requires { IsSync R.row × IsSend W.row × IsSend T.row × IsSend A.row × IsSend J.row × IsSend S.row × Frees A.Allocator A.dealloc_token × ((b : Bool) → G.pre sessions b) }
+            requires { IsSync R.row × IsSend W.row × IsSend T.row × IsSend A.row × IsSend J.row × IsSend S.row
+                × Frees A.Allocator A.dealloc_token × ((b : Bool) → G.pre sessions b) }
             ensures { (b : Bool) × G.post sessions b result }
         {
             let fetched = scope
@@ -175,11 +179,12 @@ fn serve_all<
     unloading: Unloading,
 ) -> (Vec<Pass<J>>, Result<(), HostFault>)
     requires learnt { HaveLearntNothing passes.items }
-    ensures passes { AreHosted W.honest W.opening passes.items result.0.items result.1 }
+    ensures passes { AreHosted I.Read O.Write W.honest W.opening passes.items result.0.items result.1 }
 {
     let sessions = move |fetched: bool| -> (Vec<Pass<J>>, Result<(), HostFault>)
-        requires { IsSync R.row × IsSend W.row × IsSend T.row × IsSend A.row × IsSend J.row × IsSend I.row × IsSend O.row × Frees A.Allocator A.dealloc_token × HaveLearntNothing passes.items }
-        ensures { AreHosted W.honest W.opening passes.items result.0.items result.1 }
+        requires { IsSync R.row × IsSend W.row × IsSend T.row × IsSend A.row × IsSend J.row × IsSend I.row
+            × IsSend O.row × Frees A.Allocator A.dealloc_token × HaveLearntNothing passes.items }
+        ensures { AreHosted I.Read O.Write W.honest W.opening passes.items result.0.items result.1 }
     { attend_fetched(rt, alloc, shared, listener, passes, unloading, fetched) };
     beside_fetchers(rt, shared, sources, sessions)
 }

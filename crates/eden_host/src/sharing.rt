@@ -72,7 +72,7 @@ fn host_passes<
     unloading: Unloading,
 ) -> HostedTable<T>
     requires passes { passes.items ≡ newcomers 1 (length J.names) }
-    ensures { HostsTable T.table W.honest W.opening (length J.names) result }
+    ensures { HostsTable T.table I.Read O.Write W.honest W.opening (length J.names) result }
 {
     let hosted = host(rt, alloc, listener, shared, passes, sources, unloading);
     let Hosted { mount, outcome } = hosted;
@@ -112,7 +112,7 @@ pub fn host_table<
     requires room { IsRoom room }
     requires ties { AreTied ties.lanes.items ties.ends.items room.queue.passes }
     requires names { names_of ties.lanes.items ≡ J.names }
-    ensures hosted { IfOk result (HostsTable T.table W.honest W.opening room.queue.passes) }
+    ensures hosted { IfOk result (HostsTable T.table I.Read O.Write W.honest W.opening room.queue.passes) }
     ensures err { IfErr result (λ t. t ≡ table) }
 {
     match share::<W, T, A, J>(alloc, room, table, ties) {

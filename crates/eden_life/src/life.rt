@@ -108,7 +108,7 @@ fn live_tied<
     requires files { W.honest → MayOpen base.opening W.repository W.opening base.root (F.stored backing.files) }
     requires ties { AreTied ties.lanes.items ties.ends.items config.now.passes }
     requires names { names_of ties.lanes.items ≡ J.names }
-    ensures { LivesShared W.World F.Files base config.now backing.files result }
+    ensures { LivesShared W.World F.Files I.Read O.Write base config.now backing.files result }
 {
     let Backing {
         files,
@@ -154,7 +154,7 @@ pub fn live_shared<
     unloading: Unloading,
 ) -> SharedEnding<F>
     requires files { W.honest → MayOpen base.opening W.repository W.opening base.root (F.stored backing.files) }
-    ensures { LivesShared W.World F.Files base config.now backing.files result }
+    ensures { LivesShared W.World F.Files I.Read O.Write base config.now backing.files result }
 {
     let Ok(ties) = Ties::new(alloc, config.passes()) else {
         return unopened(OpenFault::Memory, backing.files);
