@@ -10,6 +10,7 @@ ghost use Rattle.eden_host.specs.Sessions.{AreHosted};
 use crate::accepts::Accepts;
 use crate::attend::attend_all;
 use crate::fault::HostFault;
+use crate::fetchers::Fetchers;
 use crate::unloading::Unloading;
 use eden_model::World;
 use eden_mount::{Attempts, Mount};
@@ -39,9 +40,9 @@ fn fetch_from_all<
     J: Naming + Send,
     S: Source<W> + Send + Drop,
     R: Threads + Wait + Sync,
->(rt: &R, shared: &Shared<W, T, A, J>, sources: Vec<S>) {
-    let mut sources = sources;
-    let threads = sources.len().max(1);
+>(rt: &R, shared: &Shared<W, T, A, J>, fetchers: Fetchers<S>) {
+    let mut sources = fetchers.into_sources();
+    let threads = sources.len();
     thread::for_each_mut(
         rt,
         sources.as_mut_slice(),
@@ -78,7 +79,7 @@ pub fn host<
     listener: L,
     shared: Shared<W, T, A, J>,
     passes: Vec<Pass<J>>,
-    sources: Vec<S>,
+    fetchers: Fetchers<S>,
     unloading: Unloading,
 ) -> Hosted<W, T, A, J>
     requires passes { passes.items ≡ newcomers 1 (length J.names) }
@@ -90,7 +91,7 @@ pub fn host<
         (λ t. Legal W.opening t.mount.history) }
 {
     begin(&passes);
-    let served = serve_all(rt, alloc, listener, &shared, passes, sources, unloading);
+    let served = serve_all(rt, alloc, listener, &shared, passes, fetchers, unloading);
     let (passes, outcome) = served;
     Hosted {
         mount: shared.finish(passes),
@@ -136,7 +137,7 @@ fn beside_fetchers<
     R: Threads + Wait + Sync,
     X,
     G: FnOnce(bool) -> X,
->(rt: &R, shared: &Shared<W, T, A, J>, sources: Vec<S>, sessions: G) -> X
+>(rt: &R, shared: &Shared<W, T, A, J>, fetchers: Fetchers<S>, sessions: G) -> X
     requires { (b : Bool) → G.pre sessions b }
     ensures { (b : Bool) × G.post sessions b result }
 {
@@ -149,7 +150,7 @@ fn beside_fetchers<
             ensures { (b : Bool) × G.post sessions b result }
         {
             let fetched = scope
-                .spawn(move || fetch_from_all(rt, shared, sources))
+                .spawn(move || fetch_from_all(rt, shared, fetchers))
                 .is_ok();
             let served = sessions(fetched);
             shared.stop(rt);
@@ -175,7 +176,7 @@ fn serve_all<
     listener: L,
     shared: &Shared<W, T, A, J>,
     passes: Vec<Pass<J>>,
-    sources: Vec<S>,
+    fetchers: Fetchers<S>,
     unloading: Unloading,
 ) -> (Vec<Pass<J>>, Result<(), HostFault>)
     requires learnt { HaveLearntNothing passes.items }
@@ -186,5 +187,5 @@ fn serve_all<
             × IsSend O.row × Frees A.Allocator A.dealloc_token × HaveLearntNothing passes.items }
         ensures { AreHosted I.Read O.Write W.honest W.opening passes.items result.0.items result.1 }
     { attend_fetched(rt, alloc, shared, listener, passes, unloading, fetched) };
-    beside_fetchers(rt, shared, sources, sessions)
+    beside_fetchers(rt, shared, fetchers, sessions)
 }

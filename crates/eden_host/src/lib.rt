@@ -9,6 +9,7 @@
 mod accepts;
 mod attend;
 mod fault;
+mod fetchers;
 mod guest;
 mod hosting;
 mod port;
@@ -17,6 +18,7 @@ mod unloading;
 
 pub use accepts::Accepts;
 pub use fault::HostFault;
+pub use fetchers::Fetchers;
 pub use guest::Guest;
 pub use hosting::{Hosted, host};
 pub use port::Port;

@@ -8,6 +8,7 @@ ghost use Rattle.eden_host.specs.Sharing.{HostsTable};
 
 use crate::accepts::Accepts;
 use crate::fault::HostFault;
+use crate::fetchers::Fetchers;
 use crate::hosting::{Hosted, host};
 use crate::unloading::Unloading;
 use eden_model::World;
@@ -68,13 +69,13 @@ fn host_passes<
     listener: L,
     shared: Shared<W, T, A, J>,
     passes: Vec<Pass<J>>,
-    sources: Vec<S>,
+    fetchers: Fetchers<S>,
     unloading: Unloading,
 ) -> HostedTable<T>
     requires passes { passes.items ≡ newcomers 1 (length J.names) }
     ensures { HostsTable T.table I.Read O.Write W.honest W.opening (length J.names) result }
 {
-    let hosted = host(rt, alloc, listener, shared, passes, sources, unloading);
+    let hosted = host(rt, alloc, listener, shared, passes, fetchers, unloading);
     let Hosted { mount, outcome } = hosted;
     match mount {
         Err(_) => unreachable!(),
@@ -105,7 +106,7 @@ pub fn host_table<
     table: T,
     ties: Ties,
     listener: L,
-    sources: Vec<S>,
+    fetchers: Fetchers<S>,
     unloading: Unloading,
 ) -> Result<HostedTable<T>, T>
     requires shown { W.honest → T.table.shown table ≡ W.opening }
@@ -119,7 +120,7 @@ pub fn host_table<
         Err(table) => Err(table),
         Ok(opened) => {
             let (shared, passes) = opened;
-            Ok(host_passes(rt, alloc, listener, shared, passes, sources, unloading))
+            Ok(host_passes(rt, alloc, listener, shared, passes, fetchers, unloading))
         }
     }
 }

@@ -8,7 +8,7 @@ ghost use Rattle.eden_life.specs.Lives.{Ends, LivesShared, first_told};
 
 use crate::fault::SharedLifeFault;
 use eden_checkout::{Checkout, OpenFault};
-use eden_host::{Accepts, HostFault, HostedTable, Unloading, host_table};
+use eden_host::{Accepts, Fetchers, HostFault, HostedTable, Unloading, host_table};
 use eden_model::World;
 use eden_mount::Config;
 use eden_overlay::{Files, FilesFault};
@@ -98,7 +98,7 @@ fn live_tied<
 >(
     rt: &R,
     alloc: Global,
-    backing: Backing<F, Vec<S>>,
+    backing: Backing<F, Fetchers<S>>,
     base: Base,
     config: &Config,
     ties: Ties,
@@ -112,14 +112,14 @@ fn live_tied<
 {
     let Backing {
         files,
-        source: sources,
+        source: fetchers,
     } = backing;
     config.holds();
     match open::<W, Global, F>(alloc, alloc, files, base, config) {
         Err((fault, files)) => unopened(fault, files),
         Ok((room, table)) => {
             let hosted = host_table::<W, Checkout<Global, W, F>, Global, J, S, I, O, L, R>(
-                rt, alloc, room, table, ties, listener, sources, unloading,
+                rt, alloc, room, table, ties, listener, fetchers, unloading,
             );
             end::<W, F>(alloc, hosted)
         }
@@ -147,7 +147,7 @@ pub fn live_shared<
 >(
     rt: &R,
     alloc: Global,
-    backing: Backing<F, Vec<S>>,
+    backing: Backing<F, Fetchers<S>>,
     base: Base,
     config: &Config,
     listener: L,
