@@ -60,8 +60,8 @@ fn begin<J: Naming>(passes: &Vec<Pass<J>>)
 
 /// Serves a shared mount: a connection and a thread for each pass, and a fetcher for each source.
 ///
-/// A client that sends nothing, never reads or goes away costs its own session alone. After the last session the mount is
-/// stopped, the fetchers end, and the mount comes back, as its passes were told. Where no thread can be made for the
+/// A client that sends nothing, never reads or goes away costs its own session alone. After the last session the mount
+/// is stopped, the fetchers end, and the mount comes back, as its passes were told. Where no thread can be made for the
 /// fetchers, no session begins, and the outcome is want of memory.
 pub fn host<
     W: World + Send,

@@ -1,9 +1,10 @@
 //! Many callers served over one shared mount: a guest for each connection, in a thread of its own, and fetchers beside
 //! them.
 //!
-//! What a guest is told is what its pass was told, and no pass is lost: so the mount comes back, and its history is what
-//! the guests were told. That a session begins as soon as its client comes, that threads run, and that directories go, is
-//! shown by tests.
+//! What a guest is told is what its pass was told, over a reader and a writer of the listener's kinds, and no pass is
+//! lost: so the mount comes back, and its history is what the guests were told. That these are the connection of one
+//! client, that a session begins as soon as its client comes, that threads run, and that directories go, is shown by
+//! tests.
 #![tactic(auto)]
 
 mod accepts;

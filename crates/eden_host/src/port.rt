@@ -32,7 +32,8 @@ impl<R: Net + Print + Drop> Port<R> {
         Ok(listener)
     }
 
-    /// The next connection, whose writes go out at once. One that its client gave up before it was taken is passed over.
+    /// The next connection, whose writes go out at once. One that its client gave up before it was taken is passed
+    /// over.
     pub fn next_stream(&mut self) -> io::Result<R::Stream> {
         if self.listener.is_none() {
             self.listener = Some(self.bind()?);

@@ -29,8 +29,8 @@ pub struct HostedTable<T> {
     pub outcome: Result<(), HostFault>,
 }
 
-/// Shares a mount of that room over a table that shows the opening tree. The only error is want of memory, and the table
-/// comes back.
+/// Shares a mount of that room over a table that shows the opening tree. The only error is want of memory, and the
+/// table comes back.
 fn share<W: World, T: Attempts<W> + Drop, A: Allocator, J: Naming>(
     alloc: Global,
     room: Room<A>,
@@ -87,8 +87,8 @@ fn host_passes<
     }
 }
 
-/// Hosts a guest for each pass of a mount of that room over a table that shows the opening tree. The only error is want of
-/// memory to share it, before a client is listened for: the table comes back.
+/// Hosts a guest for each pass of a mount of that room over a table that shows the opening tree. The only error is want
+/// of memory to share it, before a client is listened for: the table comes back.
 pub fn host_table<
     W: World + Send,
     T: Attempts<W> + Send + Drop,
