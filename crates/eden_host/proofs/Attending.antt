@@ -1,6 +1,8 @@
 -- What stays of a pass through its session.
 use Rattle.std.proofs.Common.{◌≡◌, ◌<◌, List, [], ◌∷◌, ◌++◌, length, Option, Some, None, Result, Ok, Err, inl, inr, refl, sym, ap, ◌∙◌, arith}
 use Rattle.std.specs.Prelude.{⊤}
+use Rattle.std.specs.declared.io.Read.{Ghosts as Read}
+use Rattle.std.specs.declared.io.Write.{Ghosts as Write}
 use Rattle.eden_model.specs.declared.fault.CallFault.{CallFault}
 use Rattle.eden_model.specs.declared.request.Request.{Request}
 use Rattle.eden_model.specs.declared.reply.Reply.{Reply}
@@ -9,7 +11,7 @@ use Rattle.eden_shared.specs.Passes.{Carried}
 use Rattle.eden_wire.specs.declared.request.Item.{Item}
 use Rattle.eden_wire.specs.declared.request.Item.TheVariants.{Asks, Refuses, Bad}
 use Rattle.eden_wire.specs.declared.session_fault.SessionFault.{SessionFault}
-use Rattle.eden_wire.specs.Serving.{Known, Session, Serves}
+use Rattle.eden_wire.specs.Serving.{Session, Serves}
 use Rattle.eden_host.specs.Guests.{GuestAnswers}
 use Rattle.eden_host.specs.Sessions.{AreAttended, IsAttended, first_fault}
 use Rattle.eden_host.specs.declared.fault.HostFault.{HostFault}
@@ -29,16 +31,21 @@ module _ (honest : Type 0) (opening : Tree) where
   numbers_stay (Refuses r ∷ items) given p p' h = numbers_stay items given p p' h
   numbers_stay (Bad ∷ items) given p p' h = numbers_stay items given p p' h
 
-  -- a session over a guest was its pass's
-  pub attended : (p p' : Carried) (input output : Known × Known) (said : Result ⊤ SessionFault) → Session (GuestAnswers honest opening) (p, p') input output said → IsAttended honest opening p p' said
-  attended p p' input output said s =
-      record { number = numbers_stay (s.items ++ s.last) s.given p p' s.served; input = input; output = output; session = s }
+  module _ {I O : Type 0} (i : Read I) (o : Write O) where
+    -- a session over a guest was its pass's
+    pub attended : (p p' : Carried) (reader unread : I) (writer written : O) (said : Result ⊤ SessionFault)
+        → Session (GuestAnswers honest opening) (p, p') (i.remaining reader, i.remaining unread) (o.contents writer, o.contents written) said
+        → IsAttended i o honest opening p p' reader writer said
+    attended p p' reader unread writer written said s =
+        record { number = numbers_stay (s.items ++ s.last) s.given p p' s.served; unread = unread; written = written; session = s }
 
-  -- nobody could connect any more
-  pub unattended : (ps : List Carried) → 0 < length ps → AreAttended honest opening ps ps (Err Listen)
-  unattended [] some = absurd (omega (arith, some))
-  unattended (p ∷ ps) some = inr (refl, refl, refl)
+    -- nobody could connect any more
+    pub unattended : (ps : List Carried) → 0 < length ps → AreAttended i o honest opening ps ps (Err Listen)
+    unattended [] some = absurd (omega (arith, some))
+    unattended (p ∷ ps) some = inr (refl, refl, refl)
 
-  -- one session, and those after it
-  pub attended_more : (p p' : Carried) (ps ps' : List Carried) (said : Result ⊤ SessionFault) (later : Result ⊤ HostFault) → IsAttended honest opening p p' said → AreAttended honest opening ps ps' later → AreAttended honest opening (p ∷ ps) (p' ∷ ps') (first_fault said later)
-  attended_more p p' ps ps' said later first rest = inl (said, later, first, rest, refl)
+    -- one session, and those after it
+    pub attended_more : (p p' : Carried) (ps ps' : List Carried) (reader : I) (writer : O) (said : Result ⊤ SessionFault) (later : Result ⊤ HostFault)
+        → IsAttended i o honest opening p p' reader writer said → AreAttended i o honest opening ps ps' later
+        → AreAttended i o honest opening (p ∷ ps) (p' ∷ ps') (first_fault said later)
+    attended_more p p' ps ps' reader writer said later first rest = inl (reader, writer, said, later, first, rest, refl)

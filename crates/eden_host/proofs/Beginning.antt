@@ -1,14 +1,14 @@
 -- A mount in which nothing has happened, and its passes.
-use Rattle.std.proofs.Common.{◌≡◌, ◌+◌, ◌-◌, ◌<◌, ◌≤◌, ℕ, zero, suc, List, [], ◌∷◌, length, replicate, Option, Some, None, refl, sym, ap, ◌∙◌, subst, arith}
+use Rattle.std.proofs.Common.{◌≡◌, ◌+◌, ◌-◌, ◌<◌, ℕ, zero, suc, List, [], length, replicate, Option, Some, None, refl, ap, ◌∙◌, subst, arith}
 use Rattle.std.specs.Prelude.{slice_get, slice_index_or}
 use Rattle.std.specs.List.{AllByRecursion}
 use Rattle.eden_mount.specs.declared.seats.Pending.{Pending}
-use Rattle.eden_mount.specs.Core.{Core, Pends}
+use Rattle.eden_mount.specs.Core.{Core}
 use Rattle.eden_mount.specs.Kept.{core_from}
 use Rattle.eden_mount.specs.Serving.{IsAtRest}
 use Rattle.eden_mount.specs.Settings.{IsRoom, Room}
 use Rattle.eden_shared.specs.Opening.{IsUnused}
-use Rattle.eden_shared.specs.Passes.{AreEach, Carried, HasNumber, carried, newcomers}
+use Rattle.eden_shared.specs.Passes.{AreEach, carried, newcomers}
 use Rattle.eden_host.specs.Guests.{HasLearntNothing}
 
 -- new passes learnt nothing

@@ -1,38 +1,44 @@
 -- The passes of a shared mount after their sessions: there is one of each number still.
-use Rattle.std.proofs.Common.{◌≡◌, ◌≤◌, ℕ, zero, suc, List, [], ◌∷◌, Option, Some, None, Result, length, slice_get, inl, inr, refl, sym, ap, ◌∙◌, subst}
-use Rattle.std.specs.Prelude.{◌⊎◌, ⊤}
+use Rattle.std.proofs.Common.{◌≡◌, ℕ, zero, suc, List, [], ◌∷◌, Some, None, Result, length, slice_get, inl, inr, refl, sym, ap, ◌∙◌, subst}
+use Rattle.std.specs.Prelude.{⊤}
+use Rattle.std.specs.declared.io.Read.{Ghosts as Read}
+use Rattle.std.specs.declared.io.Write.{Ghosts as Write}
 use Rattle.eden_model.specs.Trees.{Tree}
 use Rattle.eden_shared.specs.Passes.{AreEach, Carried, HasNumber}
 use Rattle.eden_host.specs.declared.fault.HostFault.{HostFault}
 use Rattle.eden_host.specs.Sessions.{AreAttended, AreHosted}
 
+-- a pass of the same number is at this place
+abbrev HasAt : List Carried → ℕ → Carried → Type 0
+HasAt ps k p = (p' : Carried) × (slice_get ps k ≡ Some p') × (p'.number ≡ p.number)
+
 -- the same pass is at the same place of an equal list
-at_same : (ps ps' : List Carried) (k : ℕ) (p : Carried) → ps' ≡ ps → slice_get ps k ≡ Some p → (p' : Carried) × (slice_get ps' k ≡ Some p') × (p'.number ≡ p.number)
+at_same : (ps ps' : List Carried) (k : ℕ) (p : Carried) → ps' ≡ ps → slice_get ps k ≡ Some p → HasAt ps' k p
 at_same ps ps' k p same at = (p, subst (λ (l : List Carried). slice_get l k ≡ Some p) (sym same) at, refl)
 
-module _ (honest : Type 0) (opening : Tree) where
-  count_stays : (ps ps' : List Carried) (o : Result ⊤ HostFault) → AreAttended honest opening ps ps' o → length ps' ≡ length ps
+module _ {I O : Type 0} (i : Read I) (w : Write O) (honest : Type 0) (opening : Tree) where
+  count_stays : (ps ps' : List Carried) (o : Result ⊤ HostFault) → AreAttended i w honest opening ps ps' o → length ps' ≡ length ps
   count_stays [] [] o h = refl
   count_stays [] (p' ∷ ps') o h = absurd h
   count_stays (p ∷ ps) [] o h = absurd h
-  count_stays (p ∷ ps) (p' ∷ ps') o (inl h) = ap (λ n. suc n) (count_stays ps ps' h.1 h.3)
+  count_stays (p ∷ ps) (p' ∷ ps') o (inl h) = ap (λ n. suc n) (count_stays ps ps' h.3 h.5)
   count_stays (p ∷ ps) (p' ∷ ps') o (inr h) = ap (λ (l : List Carried). suc (length l)) h.1
 
-  has_after : (ps ps' : List Carried) (o : Result ⊤ HostFault) (k : ℕ) (p : Carried) → AreAttended honest opening ps ps' o → slice_get ps k ≡ Some p → (p' : Carried) × (slice_get ps' k ≡ Some p') × (p'.number ≡ p.number)
+  has_after : (ps ps' : List Carried) (o : Result ⊤ HostFault) (k : ℕ) (p : Carried) → AreAttended i w honest opening ps ps' o → slice_get ps k ≡ Some p → HasAt ps' k p
   has_after [] [] o k p h at = absurd (let e : None ≡ Some p = at in cc e)
   has_after [] (p' ∷ ps') o k p h at = absurd h
   has_after (x ∷ ps) [] o k p h at = absurd h
   has_after (x ∷ ps) (y ∷ ps') o zero p (inl h) at =
-      let e : Some x ≡ Some p = at in let same : x ≡ p = cc e in (y, refl, h.2.number ∙ ap (λ (q : Carried). q.number) same)
-  has_after (x ∷ ps) (y ∷ ps') o (suc k) p (inl h) at = has_after ps ps' h.1 k p h.3 at
+      let e : Some x ≡ Some p = at in let same : x ≡ p = cc e in (y, refl, h.4.number ∙ ap (λ (q : Carried). q.number) same)
+  has_after (x ∷ ps) (y ∷ ps') o (suc k) p (inl h) at = has_after ps ps' h.3 k p h.5 at
   has_after (x ∷ ps) (y ∷ ps') o zero p (inr h) at = at_same (x ∷ ps) (y ∷ ps') zero p (cc (h.0, h.1)) at
   has_after (x ∷ ps) (y ∷ ps') o (suc k) p (inr h) at = at_same (x ∷ ps) (y ∷ ps') (suc k) p (cc (h.0, h.1)) at
 
-  number_after : (ps ps' : List Carried) (o : Result ⊤ HostFault) (c : ℕ) → AreAttended honest opening ps ps' o → HasNumber ps c → HasNumber ps' c
+  number_after : (ps ps' : List Carried) (o : Result ⊤ HostFault) (c : ℕ) → AreAttended i w honest opening ps ps' o → HasNumber ps c → HasNumber ps' c
   number_after ps ps' o c h found =
       let there = has_after ps ps' o found.1.0 found.0 h found.1.1 in (there.0, (found.1.0, there.1), there.2 ∙ found.2)
 
-  pub each_stays : (ps ps' : List Carried) (o : Result ⊤ HostFault) (n : ℕ) → AreHosted honest opening ps ps' o → AreEach ps n → AreEach ps' n
+  pub each_stays : (ps ps' : List Carried) (o : Result ⊤ HostFault) (n : ℕ) → AreHosted i w honest opening ps ps' o → AreEach ps n → AreEach ps' n
   each_stays ps ps' o n (inl h) each =
       record { count = count_stays ps ps' o h ∙ each.count; each = λ c least most. number_after ps ps' o c h (each.each c least most) }
   each_stays ps ps' o n (inr h) each = subst (λ (l : List Carried). AreEach l n) (sym h.0) each

@@ -1,10 +1,12 @@
 -- What guests' sessions make of their passes.
 use Rattle.std.specs.Prelude.{◌≡◌, ◌⊎◌, List, [], ◌∷◌, Result, Ok, Err, ⊤}
+use Rattle.std.specs.declared.io.Read.{Ghosts as Read}
+use Rattle.std.specs.declared.io.Write.{Ghosts as Write}
 use Rattle.eden_model.specs.Trees.{Tree}
 use Rattle.eden_shared.specs.Passes.{Carried}
 use Rattle.eden_wire.specs.declared.session_fault.SessionFault.{SessionFault}
 use Rattle.eden_wire.specs.declared.session_fault.SessionFault.TheVariants.{Memory}
-use Rattle.eden_wire.specs.Serving.{Known, Session}
+use Rattle.eden_wire.specs.Serving.{Session}
 use Rattle.eden_host.specs.declared.fault.HostFault.{HostFault}
 use Rattle.eden_host.specs.declared.fault.HostFault.TheVariants as host
 use Rattle.eden_host.specs.Guests.{GuestAnswers}
@@ -17,23 +19,23 @@ first_fault (Ok _) (Err (host.Session later)) = Err (host.Session later)
 first_fault (Err fault) (Ok _) = Err (host.Session fault)
 first_fault (Ok _) (Ok _) = Ok tt
 
-module _ (honest : Type 0) (opening : Tree) where
-  -- a session was served with the pass, over some input and output, and ended so
-  pub record IsAttended (p p' : Carried) (said : Result ⊤ SessionFault) : Type 0 where
+module _ {I O : Type 0} (i : Read I) (o : Write O) (honest : Type 0) (opening : Tree) where
+  -- a session was served with the pass, over what this reader gave and what this writer took, and ended so
+  pub record IsAttended (p p' : Carried) (reader : I) (writer : O) (said : Result ⊤ SessionFault) : Type 0 where
     pub number : p'.number ≡ p.number
-    pub input : Known × Known
-    pub output : Known × Known
-    pub session : Session (GuestAnswers honest opening) (p, p') input output said
+    pub unread : I
+    pub written : O
+    pub session : Session (GuestAnswers honest opening) (p, p') (i.remaining reader, i.remaining unread) (o.contents writer, o.contents written) said
 
-  -- each pass in turn had a session, and the first fault is told; or from one on they stayed as they were, since
-  -- listening failed
+  -- each pass in turn had a session over a connection, and the first fault is told; or from one on they stayed as they
+  -- were, since listening failed
   abbrev pub AreAttended : List Carried → List Carried → Result ⊤ HostFault → Type 0
   AreAttended [] [] outcome = outcome ≡ Ok tt
   AreAttended [] (p' ∷ ps') outcome = ⊥
   AreAttended (p ∷ ps) [] outcome = ⊥
   AreAttended (p ∷ ps) (p' ∷ ps') outcome =
-      ((said : Result ⊤ SessionFault) × (later : Result ⊤ HostFault) × IsAttended p p' said × AreAttended ps ps' later
-      × (outcome ≡ first_fault said later))
+      ((reader : I) × (writer : O) × (said : Result ⊤ SessionFault) × (later : Result ⊤ HostFault) × IsAttended p p' reader writer said
+      × AreAttended ps ps' later × (outcome ≡ first_fault said later))
       ⊎ ((p' ≡ p) × (ps' ≡ ps) × (outcome ≡ Err host.Listen))
 
   -- .. or no session began, for want of memory

@@ -1,5 +1,7 @@
 -- What is left of a mount that was shared.
 use Rattle.std.specs.Prelude.{◌≡◌, ℕ, List, Result, ⊤}
+use Rattle.std.specs.declared.io.Read.{Ghosts as Read}
+use Rattle.std.specs.declared.io.Write.{Ghosts as Write}
 use Rattle.eden_model.specs.Histories.{Legal, replay}
 use Rattle.eden_model.specs.Trees.{Tree}
 use Rattle.eden_mount.specs.Core.{Core}
@@ -9,13 +11,13 @@ use Rattle.eden_host.specs.declared.fault.HostFault.{HostFault}
 use Rattle.eden_host.specs.declared.sharing.HostedTable.{HostedTable}
 use Rattle.eden_host.specs.Sessions.{AreHosted}
 
-module _ {T : Type 0} (A : Table T) (honest : Type 0) (opening : Tree) where
+module _ {T I O : Type 0} (A : Table T) (i : Read I) (o : Write O) (honest : Type 0) (opening : Tree) where
   -- What is left of a mount that was shared: guests were hosted with these passes, and the mount's history is what they were
   -- told. Nothing is pending. Where the outside is honest, the history is one of the opening tree, and the table shows the
   -- tree after it.
   pub record IsLeft (passes : List Carried) (outcome : Result ⊤ HostFault) (ended : Core T) : Type 0 where
     pub left : List Carried
-    pub hosted : AreHosted honest opening passes left outcome
+    pub hosted : AreHosted i o honest opening passes left outcome
     pub agrees : Agrees ended left
     pub legal : honest → Legal opening ended.history
     pub shown : honest → A.shown ended.table ≡ replay opening ended.history

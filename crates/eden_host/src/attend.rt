@@ -45,7 +45,7 @@ pub(crate) fn attend<
     writer: O,
 ) -> Attended<J>
     requires { HasLearntNothing pass }
-    ensures { IsAttended W.honest W.opening pass result.pass result.said }
+    ensures { IsAttended I.Read O.Write W.honest W.opening pass result.pass reader writer result.said }
 {
     let (mut reader, mut writer) = (reader, writer);
     let mut guest = Guest::new(rt, alloc, shared, pass, unloading);
@@ -91,7 +91,7 @@ pub(crate) fn attend_all<
     unloading: Unloading,
 ) -> (Vec<Pass<J>>, Result<(), HostFault>)
     requires learnt { HaveLearntNothing passes.items }
-    ensures passes { AreAttended W.honest W.opening passes.items result.0.items result.1 }
+    ensures passes { AreAttended I.Read O.Write W.honest W.opening passes.items result.0.items result.1 }
     ensures len { vec_len result.0 ≡ vec_len passes }
     ensures room { vec_capacity passes ≤ vec_capacity result.0 }
 {
@@ -105,11 +105,12 @@ pub(crate) fn attend_all<
     let pass = passes.remove(0);
     let front = move || -> Attended<J>
         requires { HasLearntNothing pass }
-        ensures { IsAttended W.honest W.opening pass result.pass result.said }
+        ensures { IsAttended I.Read O.Write W.honest W.opening pass result.pass reader writer result.said }
     { attend(rt, alloc, shared, pass, unloading, reader, writer) };
     let back = move || -> (Vec<Pass<J>>, Result<(), HostFault>)
-        requires { IsSync R.row × IsSend W.row × IsSend T.row × IsSend A.row × IsSend J.row × IsSend I.row × IsSend O.row × Frees A.Allocator A.dealloc_token × HaveLearntNothing passes.items }
-        ensures passes { AreAttended W.honest W.opening passes.items result.0.items result.1 }
+        requires { IsSync R.row × IsSend W.row × IsSend T.row × IsSend A.row × IsSend J.row × IsSend I.row
+            × IsSend O.row × Frees A.Allocator A.dealloc_token × HaveLearntNothing passes.items }
+        ensures passes { AreAttended I.Read O.Write W.honest W.opening passes.items result.0.items result.1 }
         ensures len { vec_len result.0 ≡ vec_len passes }
         ensures room { vec_capacity passes ≤ vec_capacity result.0 }
     { attend_all(rt, alloc, shared, listener, passes, unloading) };

@@ -10,6 +10,7 @@ ghost use Rattle.eden_host.specs.Sessions.{AreHosted};
 use crate::accepts::Accepts;
 use crate::attend::attend_all;
 use crate::fault::HostFault;
+use crate::fetchers::Fetchers;
 use crate::unloading::Unloading;
 use eden_model::World;
 use eden_mount::{Attempts, Mount};
@@ -39,9 +40,9 @@ fn fetch_from_all<
     J: Naming + Send,
     S: Source<W> + Send + Drop,
     R: Threads + Wait + Sync,
->(rt: &R, shared: &Shared<W, T, A, J>, sources: Vec<S>) {
-    let mut sources = sources;
-    let threads = sources.len().max(1);
+>(rt: &R, shared: &Shared<W, T, A, J>, fetchers: Fetchers<S>) {
+    let mut sources = fetchers.into_sources();
+    let threads = sources.len();
     thread::for_each_mut(
         rt,
         sources.as_mut_slice(),
@@ -59,8 +60,8 @@ fn begin<J: Naming>(passes: &Vec<Pass<J>>)
 
 /// Serves a shared mount: a connection and a thread for each pass, and a fetcher for each source.
 ///
-/// A client that sends nothing, never reads or goes away costs its own session alone. After the last session the mount is
-/// stopped, the fetchers end, and the mount comes back, as its passes were told. Where no thread can be made for the
+/// A client that sends nothing, never reads or goes away costs its own session alone. After the last session the mount
+/// is stopped, the fetchers end, and the mount comes back, as its passes were told. Where no thread can be made for the
 /// fetchers, no session begins, and the outcome is want of memory.
 pub fn host<
     W: World + Send,
@@ -78,16 +79,19 @@ pub fn host<
     listener: L,
     shared: Shared<W, T, A, J>,
     passes: Vec<Pass<J>>,
-    sources: Vec<S>,
+    fetchers: Fetchers<S>,
     unloading: Unloading,
 ) -> Hosted<W, T, A, J>
     requires passes { passes.items ≡ newcomers 1 (length J.names) }
-    ensures told { (left : List Carried) × AreHosted W.honest W.opening passes.items left result.outcome × IfOk result.mount (λ m. Agrees m left) }
+    ensures told { (left : List Carried)
+        × AreHosted I.Read O.Write W.honest W.opening passes.items left result.outcome
+        × IfOk result.mount (λ m. Agrees m left) }
     ensures whole { IsOk result.mount }
-    ensures legal { W.honest → MatchResult result.mount (λ m. Legal W.opening m.history) (λ t. Legal W.opening t.mount.history) }
+    ensures legal { W.honest → MatchResult result.mount (λ m. Legal W.opening m.history)
+        (λ t. Legal W.opening t.mount.history) }
 {
     begin(&passes);
-    let served = serve_all(rt, alloc, listener, &shared, passes, sources, unloading);
+    let served = serve_all(rt, alloc, listener, &shared, passes, fetchers, unloading);
     let (passes, outcome) = served;
     Hosted {
         mount: shared.finish(passes),
@@ -115,7 +119,7 @@ fn attend_fetched<
     fetched: bool,
 ) -> (Vec<Pass<J>>, Result<(), HostFault>)
     requires learnt { HaveLearntNothing passes.items }
-    ensures { AreHosted W.honest W.opening passes.items result.0.items result.1 }
+    ensures { AreHosted I.Read O.Write W.honest W.opening passes.items result.0.items result.1 }
 {
     if !fetched {
         return (passes, Err(HostFault::Session(SessionFault::Memory)));
@@ -133,7 +137,7 @@ fn beside_fetchers<
     R: Threads + Wait + Sync,
     X,
     G: FnOnce(bool) -> X,
->(rt: &R, shared: &Shared<W, T, A, J>, sources: Vec<S>, sessions: G) -> X
+>(rt: &R, shared: &Shared<W, T, A, J>, fetchers: Fetchers<S>, sessions: G) -> X
     requires { (b : Bool) → G.pre sessions b }
     ensures { (b : Bool) × G.post sessions b result }
 {
@@ -141,11 +145,12 @@ fn beside_fetchers<
         thread::scope_env(),
         rt,
         move |scope| -> X
-            requires { IsSync R.row × IsSend W.row × IsSend T.row × IsSend A.row × IsSend J.row × IsSend S.row × Frees A.Allocator A.dealloc_token × ((b : Bool) → G.pre sessions b) }
+            requires { IsSync R.row × IsSend W.row × IsSend T.row × IsSend A.row × IsSend J.row × IsSend S.row
+                × Frees A.Allocator A.dealloc_token × ((b : Bool) → G.pre sessions b) }
             ensures { (b : Bool) × G.post sessions b result }
         {
             let fetched = scope
-                .spawn(move || fetch_from_all(rt, shared, sources))
+                .spawn(move || fetch_from_all(rt, shared, fetchers))
                 .is_ok();
             let served = sessions(fetched);
             shared.stop(rt);
@@ -171,15 +176,16 @@ fn serve_all<
     listener: L,
     shared: &Shared<W, T, A, J>,
     passes: Vec<Pass<J>>,
-    sources: Vec<S>,
+    fetchers: Fetchers<S>,
     unloading: Unloading,
 ) -> (Vec<Pass<J>>, Result<(), HostFault>)
     requires learnt { HaveLearntNothing passes.items }
-    ensures passes { AreHosted W.honest W.opening passes.items result.0.items result.1 }
+    ensures passes { AreHosted I.Read O.Write W.honest W.opening passes.items result.0.items result.1 }
 {
     let sessions = move |fetched: bool| -> (Vec<Pass<J>>, Result<(), HostFault>)
-        requires { IsSync R.row × IsSend W.row × IsSend T.row × IsSend A.row × IsSend J.row × IsSend I.row × IsSend O.row × Frees A.Allocator A.dealloc_token × HaveLearntNothing passes.items }
-        ensures { AreHosted W.honest W.opening passes.items result.0.items result.1 }
+        requires { IsSync R.row × IsSend W.row × IsSend T.row × IsSend A.row × IsSend J.row × IsSend I.row
+            × IsSend O.row × Frees A.Allocator A.dealloc_token × HaveLearntNothing passes.items }
+        ensures { AreHosted I.Read O.Write W.honest W.opening passes.items result.0.items result.1 }
     { attend_fetched(rt, alloc, shared, listener, passes, unloading, fetched) };
-    beside_fetchers(rt, shared, sources, sessions)
+    beside_fetchers(rt, shared, fetchers, sessions)
 }

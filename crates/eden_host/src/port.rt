@@ -3,9 +3,9 @@ use crate::accepts::Accepts;
 use std::io::{self, ErrorKind, Print};
 use std::net::{Ipv4Addr, Net, OpenListener, OpenStream, SocketAddr, TcpListener};
 
-/// A port of 127.0.0.1, which is bound at the first `accept`: until then nobody can connect.
+/// A port of 127.0.0.1, which is bound at the first `accept` or `next_stream`: until then nobody can connect.
 ///
-/// Each connection is answered as two handles of one stream, and is closed once both are dropped.
+/// `accept` answers a connection as two handles of one stream, and it is closed once both are dropped.
 #[derive(Drop)]
 pub struct Port<R: Net + Print + Drop> {
     rt: R,
@@ -31,10 +31,25 @@ impl<R: Net + Print + Drop> Port<R> {
         println!(self.rt; "listening 127.0.0.1:{number}")?;
         Ok(listener)
     }
+
+    /// The next connection, whose writes go out at once. One that its client gave up before it was taken is passed
+    /// over.
+    pub fn next_stream(&mut self) -> io::Result<R::Stream> {
+        if self.listener.is_none() {
+            self.listener = Some(self.bind()?);
+        }
+        let Some(listener) = &self.listener else {
+            unreachable!()
+        };
+        let stream = next_of(listener)?;
+        // An answer isn't to wait for the peer's word on the one before.
+        let _ = stream.set_nodelay(true);
+        Ok(stream)
+    }
 }
 
-/// The next connection. One that its client gave up before it was taken is passed over.
-fn next_stream<L: OpenListener>(listener: &L) -> io::Result<L::Stream> {
+/// The next connection that its client didn't give up before it was taken.
+fn next_of<L: OpenListener>(listener: &L) -> io::Result<L::Stream> {
     for stream in listener.incoming() {
         match stream {
             Err(error) if is_passing(error.kind()) => {}
@@ -49,25 +64,11 @@ fn is_passing(kind: ErrorKind) -> bool {
     matches!(kind, ErrorKind::ConnectionAborted | ErrorKind::Interrupted)
 }
 
-/// Two handles of the next connection.
-fn connect<L: OpenListener>(listener: &L) -> io::Result<(L::Stream, L::Stream)>
-where
-    L::Stream: OpenStream,
-{
-    let stream = next_stream(listener)?;
-    // An answer isn't to wait for the peer's word on the one before.
-    let _ = stream.set_nodelay(true);
-    let again = stream.try_clone()?;
-    Ok((stream, again))
-}
-
 impl<R: Net + Print + Drop> Accepts<R::Stream, R::Stream> for Port<R> {
     /// None where the port can't be bound or told, or no connection can be taken.
     fn accept(&mut self) -> Option<(R::Stream, R::Stream)> {
-        if self.listener.is_none() {
-            self.listener = Some(self.bind().ok()?);
-        }
-        let listener = self.listener.as_ref()?;
-        connect(listener).ok()
+        let stream = self.next_stream().ok()?;
+        let again = stream.try_clone().ok()?;
+        Some((stream, again))
     }
 }

@@ -8,6 +8,7 @@ ghost use Rattle.eden_host.specs.Sharing.{HostsTable};
 
 use crate::accepts::Accepts;
 use crate::fault::HostFault;
+use crate::fetchers::Fetchers;
 use crate::hosting::{Hosted, host};
 use crate::unloading::Unloading;
 use eden_model::World;
@@ -28,8 +29,8 @@ pub struct HostedTable<T> {
     pub outcome: Result<(), HostFault>,
 }
 
-/// Shares a mount of that room over a table that shows the opening tree. The only error is want of memory, and the table
-/// comes back.
+/// Shares a mount of that room over a table that shows the opening tree. The only error is want of memory, and the
+/// table comes back.
 fn share<W: World, T: Attempts<W> + Drop, A: Allocator, J: Naming>(
     alloc: Global,
     room: Room<A>,
@@ -68,13 +69,13 @@ fn host_passes<
     listener: L,
     shared: Shared<W, T, A, J>,
     passes: Vec<Pass<J>>,
-    sources: Vec<S>,
+    fetchers: Fetchers<S>,
     unloading: Unloading,
 ) -> HostedTable<T>
     requires passes { passes.items ≡ newcomers 1 (length J.names) }
-    ensures { HostsTable T.table W.honest W.opening (length J.names) result }
+    ensures { HostsTable T.table I.Read O.Write W.honest W.opening (length J.names) result }
 {
-    let hosted = host(rt, alloc, listener, shared, passes, sources, unloading);
+    let hosted = host(rt, alloc, listener, shared, passes, fetchers, unloading);
     let Hosted { mount, outcome } = hosted;
     match mount {
         Err(_) => unreachable!(),
@@ -86,8 +87,8 @@ fn host_passes<
     }
 }
 
-/// Hosts a guest for each pass of a mount of that room over a table that shows the opening tree. The only error is want of
-/// memory to share it, before a client is listened for: the table comes back.
+/// Hosts a guest for each pass of a mount of that room over a table that shows the opening tree. The only error is want
+/// of memory to share it, before a client is listened for: the table comes back.
 pub fn host_table<
     W: World + Send,
     T: Attempts<W> + Send + Drop,
@@ -105,21 +106,21 @@ pub fn host_table<
     table: T,
     ties: Ties,
     listener: L,
-    sources: Vec<S>,
+    fetchers: Fetchers<S>,
     unloading: Unloading,
 ) -> Result<HostedTable<T>, T>
     requires shown { W.honest → T.table.shown table ≡ W.opening }
     requires room { IsRoom room }
     requires ties { AreTied ties.lanes.items ties.ends.items room.queue.passes }
     requires names { names_of ties.lanes.items ≡ J.names }
-    ensures hosted { IfOk result (HostsTable T.table W.honest W.opening room.queue.passes) }
+    ensures hosted { IfOk result (HostsTable T.table I.Read O.Write W.honest W.opening room.queue.passes) }
     ensures err { IfErr result (λ t. t ≡ table) }
 {
     match share::<W, T, A, J>(alloc, room, table, ties) {
         Err(table) => Err(table),
         Ok(opened) => {
             let (shared, passes) = opened;
-            Ok(host_passes(rt, alloc, listener, shared, passes, sources, unloading))
+            Ok(host_passes(rt, alloc, listener, shared, passes, fetchers, unloading))
         }
     }
 }

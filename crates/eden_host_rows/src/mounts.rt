@@ -8,7 +8,7 @@ ghost use Rattle.eden_shared.specs.Passes.{newcomers};
 
 use eden_cache::ObjectCache;
 use eden_checkout::Checkout;
-use eden_host::{Accepts, Hosted, Unloading, host};
+use eden_host::{Accepts, Fetchers, Hosted, Unloading, host};
 use eden_model::{Cause, Id, Outside};
 use eden_mount::{Attempts, Config, Mount, Room};
 use eden_overlay::MemoryFiles;
@@ -110,7 +110,9 @@ pub(crate) fn serve<
 ) -> Mounted
     requires { passes.items ≡ newcomers 1 (length J.names) }
 {
-    let hosted = host(rt, alloc, listener, shared, passes, sources, unloading);
+    assert!(rt; !sources.is_empty());
+    let fetchers = Fetchers::new(sources);
+    let hosted = host(rt, alloc, listener, shared, passes, fetchers, unloading);
     let Hosted { mount, outcome } = hosted;
     assert!(rt; outcome.is_ok());
     match mount {

@@ -1,6 +1,8 @@
 -- A whole life, from its parts.
 use Rattle.std.proofs.Common.{◌≡◌, ℕ, Option, Some, None, Result, Ok, Err, inr, refl, sym, subst}
 use Rattle.std.specs.Prelude.{⊤, IfOk, IfErr}
+use Rattle.std.specs.declared.io.Read.{Ghosts as Read}
+use Rattle.std.specs.declared.io.Write.{Ghosts as Write}
 use Rattle.eden_model.specs.declared.world.World.{Ghosts}
 use Rattle.eden_model.specs.Histories.{replay}
 use Rattle.eden_overlay.specs.declared.files.Files.{Ghosts as Files}
@@ -20,30 +22,32 @@ use Rattle.eden_host.specs.declared.sharing.HostedTable.{HostedTable}
 use Rattle.eden_life.specs.Lives.{Ends, IsHosted, LivesShared, LivesSharedBy, first_told}
 use Rattle.eden_host.specs.Sharing.{HostsTable, IsLeft}
 
-module _ {W F : Type 0} (w : Ghosts W) (f : Files F W) (base : Base) (settings : Settings) (files : F) (left : SharedEnding F) where
+module _ {W F I O : Type 0} (w : Ghosts W) (f : Files F W) (r : Read I) (v : Write O)
+    (base : Base) (settings : Settings) (files : F) (left : SharedEnding F) where
   -- the first fault of hosting guests is none of the opening
-  lived : (hosted : Result ⊤ HostFault) (o : Option FilesFault) → IsHosted w f base settings files left → LivesSharedBy w f (first_told hosted o) base settings files left
+  lived : (hosted : Result ⊤ HostFault) (o : Option FilesFault) → IsHosted w f r v base settings files left → LivesSharedBy w f r v (first_told hosted o) base settings files left
   lived (Err host.Listen) o h = h
   lived (Err (host.Session fault)) o h = h
-  lived (Ok v) (Some why) h = h
-  lived (Ok v) None h = h
+  lived (Ok _) (Some why) h = h
+  lived (Ok _) None h = h
 
   -- what was opened was hosted and closed, or closed at once
   pub ended : (t : Checkout F) (passes : ℕ) (hosted : Result (HostedTable (Checkout F)) (Checkout F)) → IsOpened w f base settings files t → passes ≡ settings.passes
-      → IfOk hosted (HostsTable (attempted w f) w.honest w.opening passes) → IfErr hosted (λ (u : Checkout F). u ≡ t) → Ends w f hosted left → LivesShared w f base settings files left
+      → IfOk hosted (HostsTable (attempted w f) r v w.honest w.opening passes) → IfErr hosted (λ (u : Checkout F). u ≡ t) → Ends w f hosted left
+      → LivesShared w f r v base settings files left
   ended t n (Ok x) opened passes ok err ends =
-      let whole : IsHosted w f base settings files left = record {
+      let whole : IsHosted w f r v base settings files left = record {
         begun = t;
         opened = opened;
         hosted = x.outcome;
         ended = ok.ended;
-        is = subst (λ (n : ℕ). IsLeft (attempted w f) w.honest w.opening (newcomers 1 n) x.outcome ok.ended) passes ok.is;
+        is = subst (λ (n : ℕ). IsLeft (attempted w f) r v w.honest w.opening (newcomers 1 n) x.outcome ok.ended) passes ok.is;
         closed = closes_after w f ok.ended.table.root x.table ok.ended.table (replay w.opening ok.ended.history) ok.table refl ok.is.shown left.unclosed left.files ends.0;
         told = ends.1;
       } in
-      subst (λ (o : Result ⊤ SharedLifeFault). LivesSharedBy w f o base settings files left) (sym ends.1) (lived x.outcome left.unclosed whole)
+      subst (λ (o : Result ⊤ SharedLifeFault). LivesSharedBy w f r v o base settings files left) (sym ends.1) (lived x.outcome left.unclosed whole)
   ended t n (Err u) opened passes ok err ends =
-      subst (λ (o : Result ⊤ SharedLifeFault). LivesSharedBy w f o base settings files left) (sym ends.1) (inr (record {
+      subst (λ (o : Result ⊤ SharedLifeFault). LivesSharedBy w f r v o base settings files left) (sym ends.1) (inr (record {
         memory = refl;
         begun = t;
         opened = opened;

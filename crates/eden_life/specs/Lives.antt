@@ -1,5 +1,7 @@
 -- A shared mount's life: the overlay is opened over a commit's tree, its guests are hosted, and the overlay is closed.
 use Rattle.std.specs.Prelude.{◌≡◌, ◌⊎◌, Option, Some, None, Result, Ok, Err, ⊤}
+use Rattle.std.specs.declared.io.Read.{Ghosts as Read}
+use Rattle.std.specs.declared.io.Write.{Ghosts as Write}
 use Rattle.eden_model.specs.declared.world.World.{Ghosts}
 use Rattle.eden_model.specs.Histories.{replay}
 use Rattle.eden_overlay.specs.declared.files.Files.{Ghosts as Files}
@@ -52,21 +54,22 @@ module _ {W F : Type 0} (w : Ghosts W) (f : Files F W) where
     pub opened : IsOpened w f base settings files begun
     pub closed : Closes w f base.root begun w.opening left.unclosed left.files
 
-  -- The overlay was opened, its guests hosted, and the overlay closed, however the sessions ended. Where the outside is
-  -- honest, what the files show is the tree after what the guests were told.
-  pub record IsHosted (base : Base) (settings : Settings) (files : F) (left : SharedEnding F) : Type 0 where
-    pub begun : Checkout F
-    pub opened : IsOpened w f base settings files begun
-    pub hosted : Result ⊤ HostFault
-    pub ended : Core (Checkout F)
-    pub is : IsLeft (attempted w f) w.honest w.opening (newcomers 1 settings.passes) hosted ended
-    pub closed : Closes w f ended.table.root ended.table (replay w.opening ended.history) left.unclosed left.files
-    pub told : left.outcome ≡ first_told hosted left.unclosed
+  module _ {I O : Type 0} (i : Read I) (o : Write O) where
+    -- The overlay was opened, its guests hosted, and the overlay closed, however the sessions ended. Where the outside is
+    -- honest, what the files show is the tree after what the guests were told.
+    pub record IsHosted (base : Base) (settings : Settings) (files : F) (left : SharedEnding F) : Type 0 where
+      pub begun : Checkout F
+      pub opened : IsOpened w f base settings files begun
+      pub hosted : Result ⊤ HostFault
+      pub ended : Core (Checkout F)
+      pub is : IsLeft (attempted w f) i o w.honest w.opening (newcomers 1 settings.passes) hosted ended
+      pub closed : Closes w f ended.table.root ended.table (replay w.opening ended.history) left.unclosed left.files
+      pub told : left.outcome ≡ first_told hosted left.unclosed
 
-  abbrev pub LivesSharedBy : Result ⊤ SharedLifeFault → Base → Settings → F → SharedEnding F → Type 0
-  LivesSharedBy (Err (life.Open why)) base settings files left = IsUnopened base files why left ⊎ IsUnshared base settings files why left
-  LivesSharedBy outcome base settings files left = IsHosted base settings files left
+    abbrev pub LivesSharedBy : Result ⊤ SharedLifeFault → Base → Settings → F → SharedEnding F → Type 0
+    LivesSharedBy (Err (life.Open why)) base settings files left = IsUnopened base files why left ⊎ IsUnshared base settings files why left
+    LivesSharedBy outcome base settings files left = IsHosted base settings files left
 
-  -- a whole life, with the files that the overlay was opened over
-  abbrev pub LivesShared : Base → Settings → F → SharedEnding F → Type 0
-  LivesShared base settings files left = LivesSharedBy left.outcome base settings files left
+    -- a whole life, with the files that the overlay was opened over
+    abbrev pub LivesShared : Base → Settings → F → SharedEnding F → Type 0
+    LivesShared base settings files left = LivesSharedBy left.outcome base settings files left

@@ -4,7 +4,8 @@ use eden_overlay::FilesFault;
 use eden_wire::SessionFault;
 use thiserror::Error;
 
-/// Why a shared mount wasn't opened, its guests hosted, and closed: the first of these that happened.
+/// Why a shared mount wasn't opened, its guests hosted, and closed: the first in the order opening, listening, session,
+/// close, whichever came first in time.
 #[derive(Clone, Copy, Debug, PartialEq, Eq, Error)]
 pub enum SharedLifeFault {
     /// The overlay wasn't opened, or it was closed again since there was no memory to share it.

@@ -8,7 +8,7 @@ ghost use Rattle.eden_life.specs.Lives.{Ends, LivesShared, first_told};
 
 use crate::fault::SharedLifeFault;
 use eden_checkout::{Checkout, OpenFault};
-use eden_host::{Accepts, HostFault, HostedTable, Unloading, host_table};
+use eden_host::{Accepts, Fetchers, HostFault, HostedTable, Unloading, host_table};
 use eden_model::World;
 use eden_mount::Config;
 use eden_overlay::{Files, FilesFault};
@@ -98,7 +98,7 @@ fn live_tied<
 >(
     rt: &R,
     alloc: Global,
-    backing: Backing<F, Vec<S>>,
+    backing: Backing<F, Fetchers<S>>,
     base: Base,
     config: &Config,
     ties: Ties,
@@ -108,18 +108,18 @@ fn live_tied<
     requires files { W.honest → MayOpen base.opening W.repository W.opening base.root (F.stored backing.files) }
     requires ties { AreTied ties.lanes.items ties.ends.items config.now.passes }
     requires names { names_of ties.lanes.items ≡ J.names }
-    ensures { LivesShared W.World F.Files base config.now backing.files result }
+    ensures { LivesShared W.World F.Files I.Read O.Write base config.now backing.files result }
 {
     let Backing {
         files,
-        source: sources,
+        source: fetchers,
     } = backing;
     config.holds();
     match open::<W, Global, F>(alloc, alloc, files, base, config) {
         Err((fault, files)) => unopened(fault, files),
         Ok((room, table)) => {
             let hosted = host_table::<W, Checkout<Global, W, F>, Global, J, S, I, O, L, R>(
-                rt, alloc, room, table, ties, listener, sources, unloading,
+                rt, alloc, room, table, ties, listener, fetchers, unloading,
             );
             end::<W, F>(alloc, hosted)
         }
@@ -131,8 +131,8 @@ fn live_tied<
 ///
 /// The clients come in the order in which the listener takes them, each with its own thread and its own session, which
 /// ends where its input does or at a line that is no request. What they were told is one history: the replies of the
-/// commit's whole tree, changed by one request after another. The overlay is closed once the last session has ended, and
-/// after a fault too; only where the close fails are the files left without their state.
+/// commit's whole tree, changed by one request after another. The overlay is closed once the last session has ended,
+/// and after a fault too; only where the close fails are the files left without their state.
 ///
 /// Errors are told in `outcome`, the first in the order opening, listening, session, close. Where the overlay isn't
 /// opened, or there is no memory to share it, nobody is listened for.
@@ -147,14 +147,14 @@ pub fn live_shared<
 >(
     rt: &R,
     alloc: Global,
-    backing: Backing<F, Vec<S>>,
+    backing: Backing<F, Fetchers<S>>,
     base: Base,
     config: &Config,
     listener: L,
     unloading: Unloading,
 ) -> SharedEnding<F>
     requires files { W.honest → MayOpen base.opening W.repository W.opening base.root (F.stored backing.files) }
-    ensures { LivesShared W.World F.Files base config.now backing.files result }
+    ensures { LivesShared W.World F.Files I.Read O.Write base config.now backing.files result }
 {
     let Ok(ties) = Ties::new(alloc, config.passes()) else {
         return unopened(OpenFault::Memory, backing.files);

@@ -27,6 +27,11 @@ open_name opens.Memory = codes "Memory"
 open_name (opens.Dangling number) = codes "Dangling"
 open_name (opens.Twice number) = codes "Twice"
 
+-- .. of why it wasn't closed
+abbrev pub close_name : FilesFault → List ℕ
+close_name files.Device = codes "Device"
+close_name files.Memory = codes "Memory"
+
 -- .. of why the folder isn't held
 abbrev pub hold_name : HoldFault → List ℕ
 hold_name hold.Locked = codes "Locked"
@@ -37,11 +42,6 @@ hold_name hold.Memory = codes "Memory"
 abbrev pub listen_name : ListenFault → List ℕ
 listen_name listen.Device = codes "Device"
 listen_name listen.Memory = codes "Memory"
-
--- .. of why it wasn't closed
-abbrev pub close_name : FilesFault → List ℕ
-close_name files.Device = codes "Device"
-close_name files.Memory = codes "Memory"
 
 -- the status of a life that ended so
 abbrev pub status_of : Result ⊤ LifeFault → ℕ

@@ -1,8 +1,8 @@
 //! The folder that keeps the changes, which one program has open at a time.
-ghost use Rattle.std.specs.Prelude.{◌≡◌, ◌≢◌, ◌↔◌, IsTrue};
-ghost use Rattle.std.specs.IoError.{error_kind};
-ghost use Rattle.std.specs.declared.io.ErrorKind.TheVariants as error;
+ghost use Rattle.std.specs.Prelude.{◌≡◌, ◌↔◌, IfOk, IsTrue, option_map, string_bytes};
+ghost use Rattle.std.specs.Path.{path_buf_bytes};
 ghost use Rattle.mountd.specs.Endings.{hold_name};
+ghost use Rattle.mountd.specs.Holding.{IsDeviceFault, IsLockFault};
 ghost use Rattle.mountd.specs.declared.hold.HoldFault.TheVariants as fault;
 
 use eden_checkout::Opening;
@@ -45,7 +45,7 @@ impl From<AllocError> for HoldFault {
 }
 
 impl From<io::Error> for HoldFault {
-    ghost from_gives = { λ e f. (error_kind e ≡ error.OutOfMemory → f ≡ fault.Memory) × (error_kind e ≢ error.OutOfMemory → f ≡ fault.Device) };
+    ghost from_gives = { IsDeviceFault };
 
     fn from(error: io::Error) -> HoldFault {
         match error.kind() {
@@ -56,6 +56,8 @@ impl From<io::Error> for HoldFault {
 }
 
 impl From<TryLockError> for HoldFault {
+    ghost from_gives = { IsLockFault };
+
     fn from(error: TryLockError) -> HoldFault {
         match error {
             TryLockError::WouldBlock => HoldFault::Locked,
@@ -93,7 +95,9 @@ pub fn hold_overlay<R: Files<File = File>>(
     files: &R,
     alloc: Global,
     folder: Option<String>,
-) -> Result<Option<(PathBuf, File)>, HoldFault> {
+) -> Result<Option<(PathBuf, File)>, HoldFault>
+    ensures { IfOk result (λ held. option_map (λ h. path_buf_bytes h.0) held ≡ option_map string_bytes folder) }
+{
     let Some(folder) = folder else {
         return Ok(None);
     };

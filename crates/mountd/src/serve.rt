@@ -1,9 +1,11 @@
 //! Many callers of a mount, over connections to a port.
+ghost use Rattle.std.specs.Prelude.{◌≤◌};
+
 use crate::hold::{hold_overlay, opening};
 use crate::report;
-use crate::sources::{folder_sources, socket_sources};
+use crate::sources::{folder_fetchers, socket_fetchers};
 use eden_command_line::{MountOptions, Objects, ServeOptions};
-use eden_host::{Port, Unloading};
+use eden_host::{Fetchers, Port, Unloading};
 use eden_life::live_shared;
 use eden_model::Outside;
 use eden_mount::Config;
@@ -22,7 +24,9 @@ pub fn serve<R: Threads + Wait + Sync>(
     threads: &R,
     rt: &HostRuntime,
     mut options: ServeOptions,
-) -> ExitCode {
+) -> ExitCode
+    requires fetchers { 1 ≤ options.fetchers }
+{
     match hold_overlay(rt, rt.alloc(), options.mount.overlay.take()) {
         Err(fault) => report::unopened(rt, fault.name()),
         Ok(None) => serve_files(threads, rt, options, MemoryFiles::new(rt.alloc())),
@@ -34,13 +38,15 @@ pub fn serve<R: Threads + Wait + Sync>(
     }
 }
 
-/// Serves sessions over these files, with the objects that are asked for. No source is no memory for it.
+/// Serves sessions over these files, with the objects that are asked for.
 fn serve_files<R: Threads + Wait + Sync, F: Files<Outside> + Send>(
     threads: &R,
     rt: &HostRuntime,
     options: ServeOptions,
     files: F,
-) -> ExitCode {
+) -> ExitCode
+    requires fetchers { 1 ≤ options.fetchers }
+{
     let ServeOptions {
         mount,
         port,
@@ -60,17 +66,17 @@ fn serve_files<R: Threads + Wait + Sync, F: Files<Outside> + Send>(
     let port = Port::new(*rt, port);
     match objects {
         Objects::Folder(folder) => {
-            let sources = folder_sources(rt, folder.as_str(), fetchers);
-            serve_fetched(threads, rt, base, &limits, files, sources, port)
+            let fetchers = folder_fetchers(rt, folder.as_str(), fetchers);
+            serve_fetched(threads, rt, base, &limits, files, fetchers, port)
         }
         Objects::Port(server) => {
-            let sources = socket_sources(rt, server, fetchers);
-            serve_fetched(threads, rt, base, &limits, files, sources, port)
+            let fetchers = socket_fetchers(rt, server, fetchers);
+            serve_fetched(threads, rt, base, &limits, files, fetchers, port)
         }
     }
 }
 
-/// Serves sessions on a mount over these files, with a fetcher for each source, where there was memory for them.
+/// Serves sessions on a mount over these files, where there was memory for its fetchers.
 fn serve_fetched<
     R: Threads + Wait + Sync,
     F: Files<Outside> + Send,
@@ -81,10 +87,10 @@ fn serve_fetched<
     base: Base,
     limits: &Config,
     files: F,
-    sources: Result<Vec<S>, AllocError>,
+    fetchers: Result<Fetchers<S>, AllocError>,
     port: Port<HostRuntime>,
 ) -> ExitCode {
-    let Ok(source) = sources else {
+    let Ok(source) = fetchers else {
         return report::unopened(rt, "Memory");
     };
     let ending = live_shared::<Outside, _, _, _, _, _, _>(

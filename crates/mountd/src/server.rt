@@ -6,12 +6,13 @@ ghost use Rattle.mountd.specs.Endings.{first_fault, listen_name};
 ghost use Rattle.mountd.specs.declared.server.ListenFault.TheVariants as fault;
 
 use eden_command_line::ObjectsOptions;
+use eden_host::Port;
 use eden_model::Outside;
 use eden_remote::{AnswerFault, answer_objects};
 use eden_source::FolderSource;
 use std::alloc::{Alloc, AllocError, AllocFailed, Global};
 use std::io::{self, ErrorKind};
-use std::net::{Ipv4Addr, SocketAddr, TcpListener, TcpStream};
+use std::net::TcpStream;
 use std::path::PathBuf;
 use std::rt::Files;
 use std::thread::{self, JoinHandle, Threads};
@@ -54,7 +55,8 @@ impl<T: Drop> From<AllocFailed<T>> for ListenFault {
 }
 
 impl From<io::Error> for ListenFault {
-    ghost from_gives = { λ e f. (error_kind e ≡ error.OutOfMemory → f ≡ fault.Memory) × (error_kind e ≢ error.OutOfMemory → f ≡ fault.Device) };
+    ghost from_gives = { λ e f. (error_kind e ≡ error.OutOfMemory → f ≡ fault.Memory)
+        × (error_kind e ≢ error.OutOfMemory → f ≡ fault.Device) };
 
     fn from(error: io::Error) -> ListenFault {
         match error.kind() {
@@ -64,7 +66,7 @@ impl From<io::Error> for ListenFault {
     }
 }
 
-/// Why a server of objects ended badly: the first of these that happened.
+/// Why a server of objects ended badly: a fault of listening before one of a session, whichever came first in time.
 #[derive(Clone, Copy, Debug, PartialEq, Eq)]
 pub enum ServerFault {
     /// Not all connections were taken. Those that were are served all the same.
@@ -96,11 +98,9 @@ fn take_all<R: Threads>(
     options: &ObjectsOptions,
     workers: &mut Vec<JoinHandle<Result<(), AnswerFault>>>,
 ) -> Result<(), ListenFault> {
-    let listener = TcpListener::bind(rt, SocketAddr::from((Ipv4Addr::LOCALHOST, options.port)))?;
-    let port = listener.local_addr()?.port();
-    println!(rt; "listening 127.0.0.1:{port}")?;
+    let mut port = Port::new(*rt, options.port);
     for _ in 0..options.sessions {
-        let (stream, _) = listener.accept()?;
+        let stream = port.next_stream()?;
         let folder = PathBuf::from(String::from_str(rt.alloc(), options.folder.as_str())?);
         let files = *rt;
         let worker = thread::spawn(threads, move || answer(files, &stream, folder)).map_err(
@@ -117,8 +117,6 @@ fn answer<R: Files + Alloc<A = Global> + Drop>(
     stream: &TcpStream,
     folder: PathBuf,
 ) -> Result<(), AnswerFault> {
-    // A long object goes out by two writes, of which the second isn't to wait for the peer.
-    let _ = stream.set_nodelay(true);
     let alloc = rt.alloc();
     let mut source = FolderSource::new(rt, folder);
     let (mut reader, mut writer) = (stream, stream);

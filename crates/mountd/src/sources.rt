@@ -1,4 +1,7 @@
 //! Where the objects of a mount come from: a folder, or a server of this machine.
+ghost use Rattle.std.specs.Prelude.{◌≡◌, ◌≤◌, IfOk, length};
+
+use eden_host::Fetchers;
 use eden_remote::SocketSource;
 use eden_source::FolderSource;
 use std::alloc::AllocError;
@@ -18,29 +21,35 @@ pub fn socket_source(rt: &HostRuntime, port: u16) -> SocketSource<HostRuntime> {
     SocketSource::new(rt.alloc(), *rt, port, Duration::from_secs(PATIENCE))
 }
 
-/// So many sources over a folder. The only error is want of memory.
-pub fn folder_sources(
+/// Fetchers from a folder, so many. The only error is want of memory.
+pub fn folder_fetchers(
     rt: &HostRuntime,
     folder: &str,
     count: u32,
-) -> Result<Vec<FolderSource<HostRuntime>>, AllocError> {
+) -> Result<Fetchers<FolderSource<HostRuntime>>, AllocError>
+    requires some { 1 ≤ count }
+    ensures count { IfOk result (λ fetchers. length fetchers ≡ count) }
+{
     let mut sources = Vec::new(rt.alloc());
-    for _ in 0..count {
+    for _made in 0..count {
         let folder = String::from_str(rt.alloc(), folder)?;
         sources.push(folder_source(rt, folder))?;
     }
-    Ok(sources)
+    Ok(Fetchers::new(sources))
 }
 
-/// So many sources over the server at this port, each with a connection of its own. The only error is want of memory.
-pub fn socket_sources(
+/// Fetchers from the server at this port, so many, each with a connection of its own. The only error is want of memory.
+pub fn socket_fetchers(
     rt: &HostRuntime,
     port: u16,
     count: u32,
-) -> Result<Vec<SocketSource<HostRuntime>>, AllocError> {
+) -> Result<Fetchers<SocketSource<HostRuntime>>, AllocError>
+    requires some { 1 ≤ count }
+    ensures count { IfOk result (λ fetchers. length fetchers ≡ count) }
+{
     let mut sources = Vec::new(rt.alloc());
-    for _ in 0..count {
+    for _made in 0..count {
         sources.push(socket_source(rt, port))?;
     }
-    Ok(sources)
+    Ok(Fetchers::new(sources))
 }

@@ -5,7 +5,7 @@ use Rattle.eden_host.proofs.Attending.{unattended}
 use Rattle.eden_host.proofs.attend.+attend.Goals as goal
 
 pub returns-in_default-clause-passes : goal.returns-in_default-clause-passes
-returns-in_default-clause-passes g t c = unattended g.W.World.honest g.W.World.opening c.args.passes.items (grind (arith, nat_tests))
+returns-in_default-clause-passes g t c = unattended g.W.World.honest g.W.World.opening g.I.Read g.O.Write c.args.passes.items (grind (arith, nat_tests))
 
 -- The call asks for what the closure was made with, at the lifetimes of the call.
 pub fn::attend_all::back+FnOnce::call_once-back-requires : goal.fn::attend_all::back+FnOnce::call_once-back-requires
