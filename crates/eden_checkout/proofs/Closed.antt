@@ -1,28 +1,30 @@
 -- Files as they are when a checkout is closed.
-use Rattle.std.proofs.Common.{◌≡◌, ◌≢◌, ◌<◌, ◌⊎◌, ◌≤◌, ℕ, List, Option, Some, None, Result, Ok, Err, OnOk, OnErr, sym, refl, ◌∙◌, ap, subst, inl, inr}
+use Rattle.std.proofs.Common.{◌≡◌, ◌≢◌, ◌<◌, ℕ, List, Option, Some, None, Result, Ok, Err, OnOk, OnErr, sym, refl, ◌∙◌, ap, subst, inl, inr}
 use Rattle.std.proofs.lemmas.Option.{same_Some}
 use Rattle.eden_model.specs.declared.id.Id.{Id}
 use Rattle.eden_model.specs.declared.kind.Kind.TheVariants as kind
 use Rattle.eden_model.specs.declared.kind.Origin.{Origin}
 use Rattle.eden_model.specs.declared.kind.Origin.TheVariants as origin
-use Rattle.eden_model.specs.Repository.{Repository}
+use Rattle.eden_model.specs.Repository.{Repository, source_of, ground_with}
+use Rattle.eden_model.specs.Shown.{shown}
 use Rattle.eden_overlay_format.specs.declared.state.State.{State}
-use Rattle.eden_overlay_format.specs.declared.stored_entry.StoredEntry.{StoredEntry}
 use Rattle.eden_overlay_format.specs.declared.header.Identifier.TheVariants as identifier
 use Rattle.eden_overlay_format.specs.Stored.{written}
 use Rattle.eden_overlay_format.specs.State.{IsGoodState, state_body}
 use Rattle.eden_overlay_format.proofs.CallerLemmas.{state_written}
 use Rattle.eden_overlay.specs.declared.files.FilesFault.{FilesFault}
 use Rattle.eden_overlay.specs.Files.{Stored}
-use Rattle.eden_overlay.specs.Held.{HoldsState, with_state, without}
-use Rattle.eden_overlay.specs.Soundness.{HoldsKind, IsLive, Names}
+use Rattle.eden_overlay.specs.Held.{HoldsState, with_state, without, own_files}
+use Rattle.eden_overlay.specs.Soundness.{HoldsKind}
 use Rattle.eden_overlay.proofs.CallerLemmas.{nothing_there}
 use Rattle.eden_tree.specs.Directory.{Child, unloaded, loaded, Row, directory_in, child_of}
+use Rattle.eden_tie.specs.Chains.{AreSaved}
 use Rattle.eden_tie.specs.Kept.{IsTable, IsKept}
 use Rattle.eden_tie.specs.Laws.{TiesSound, NumbersBelow}
 use Rattle.eden_tie.specs.Loose.{the_state}
-use Rattle.eden_tie.specs.Shown.{shown_in}
-use Rattle.eden_tie.proofs.CallerLemmas.{loose_alike}
+use Rattle.eden_tie.specs.Shown.{shown_in, shown_away}
+use Rattle.eden_tie.specs.ShownLaws.{ShowsFiles, ShowsAway}
+use Rattle.eden_tie.proofs.CallerLemmas.{loose_kept, loose_alike}
 use Rattle.eden_inode.specs.Tables.{fresh_root}
 use Rattle.eden_ops.specs.Changes.{StaysOrBecomesOwn}
 use Rattle.eden_checkout.specs.Opening.{root_from, files_show, IsRootOf, CanOpen}
@@ -52,6 +54,22 @@ root_stands root F o None is (inl object) rootless rooted = sym object
 root_stands root F o None is (inr own) rootless rooted = absurd (nothing_there F 1 kind.Dir is (rooted own))
 root_stands root F o (Some b) is (inr own) rootless rooted = sym own
 root_stands root F o (Some b) is (inl object) rootless rooted = let none : Some b ≡ None = sym is ∙ rootless (λ own. cc) in cc
+
+-- a root shows of the files what a fresh one does
+away_shown : (R : Repository) (F : Stored) (x : Row) (next : ℕ) → IsTable x next → shown_away R F (fresh_root x.origin) ≡ shown_away R F x
+away_shown R F x next table =
+    ap (λ n. shown (ground_with R (own_files F)) (record { kind = kind.Dir; source = source_of n x.origin })) (sym table.root)
+    ∙ ap (λ k. shown (ground_with R (own_files F)) (record { kind = k; source = source_of x.number x.origin })) (sym table.kind)
+
+-- where no loaded directory is unsaved, the files show what memory and files show together
+pub saved_shown : (R : Repository) (F : Stored) (x : Row) (next : ℕ) (root : Id) → IsTable x next → IsKept R F x next → IsRootOf root x.origin → ShowsFiles → ShowsAway
+    → AreSaved x → files_show R root F ≡ shown_in R F x
+saved_shown R F x next root table kept of files away saved =
+    ap (λ (o : Origin). shown_in R (without F 0) (fresh_root o)) (root_stands root F x.origin (F 1) refl of kept.ties.rootless kept.ties.rooted)
+    ∙ away R (without F 0) (fresh_root x.origin) refl
+    ∙ away_shown R (without F 0) x next table
+    ∙ sym (files R (without F 0) x next table (loose_kept R F x next 0 None table kept (the_state refl)) saved)
+    ∙ loose_alike R F x next 0 None table kept (the_state refl)
 
 module _ (R : Repository) (F : Stored) (x : Row) (next : ℕ) (root : Id) (table : IsTable x next) (kept : IsKept R F x next) (none : child_of x ≡ None) (of : IsRootOf root x.origin)
     (sound : TiesSound) (below : NumbersBelow) where

@@ -1,9 +1,11 @@
 -- A table over files as they are opened.
 use Rattle.std.proofs.Common.{◌≡◌, ◌≢◌, ◌<◌, ◌⊎◌, ℕ, List, Option, Some, None, Result, Ok, Err, IfErr, sym, refl, ◌∙◌, ap, subst, inl, inr, arith}
+use Rattle.std.proofs.lemmas.Option.{none-some}
 use Rattle.std.specs.Option.{option_and_then}
 use Rattle.std.specs.Result.{IsErrAnd}
 use Rattle.eden_model.specs.declared.id.Id.{Id}
 use Rattle.eden_model.specs.declared.kind.Kind.TheVariants as kind
+use Rattle.eden_model.specs.declared.kind.Origin.{Origin}
 use Rattle.eden_model.specs.declared.kind.Origin.TheVariants as origin
 use Rattle.eden_model.specs.Failures.{Rose}
 use Rattle.eden_model.specs.Repository.{Repository}
@@ -18,7 +20,10 @@ use Rattle.eden_overlay.specs.declared.rescan.RescanFault.TheVariants as rescan
 use Rattle.eden_overlay.specs.Rescanning.{IsRescanFault}
 use Rattle.eden_overlay.specs.Soundness.{Names, IsLive, HoldsKind, AreSound}
 use Rattle.eden_overlay.proofs.CallerLemmas.{put_here, put_apart, names_moved, same_or_apart, numbers_from_two, live_stay, state_stays, accused_unsound}
-use Rattle.eden_inode.specs.Tables.{CanStart}
+use Rattle.eden_tree.specs.Directory.{child_of}
+use Rattle.eden_tie.specs.Chains.{AreSaved}
+use Rattle.eden_tie.proofs.CallerLemmas.{place_cases}
+use Rattle.eden_inode.specs.Tables.{CanStart, fresh_root}
 use Rattle.eden_checkout.specs.declared.fault.OpenFault.{OpenFault}
 use Rattle.eden_checkout.specs.declared.fault.OpenFault.TheVariants as opens
 use Rattle.eden_checkout.specs.declared.opening.Opening.{Opening}
@@ -49,6 +54,13 @@ still_named F c e n = by_number (same_or_apart 0 c) where
   by_number : (0 ≡ c) ⊎ (0 ≢ c) → Names F c e
   by_number (inl is) = let h : None ≡ Some n.entries = sym (ap (option_and_then entries_in) (put_here F 0 c None is)) ∙ n.held in cc
   by_number (inr other) = names_moved (without F 0) F c e (put_apart F 0 c None other) n
+
+-- of a fresh root nothing is loaded, and so nothing unsaved
+pub fresh_saved : (o : Origin) → AreSaved (fresh_root o)
+fresh_saved o y d place holds = elim (place_cases (fresh_root o) y place) [
+  | inl is ↦ absurd (none-some d (sym (ap child_of is) ∙ holds))
+  | inr b ↦ absurd (none-some b.directory b.holds)
+]
 
 module _ (root : Id) (F : Stored) (sound : AreSound F) (start : Start) (from : start.origin ≡ root_from root (F 1)) where
   rooted_by : (F 1 ≡ None) ⊎ HoldsKind F 1 kind.Dir → start.origin ≡ origin.Own → HoldsKind F 1 kind.Dir

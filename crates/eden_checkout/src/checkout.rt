@@ -1,6 +1,7 @@
 ghost use Rattle.std.specs.Prelude.{◌≡◌, [], OnOk, IfOk, IfErr};
 ghost use Rattle.eden_ops.specs.Keeping.{shows};
 ghost use Rattle.eden_inode.specs.Tables.{fresh_root};
+ghost use Rattle.eden_tie.specs.Chains.{AreSaved};
 ghost use Rattle.eden_model.specs.Failures.{Rose};
 ghost use Rattle.eden_overlay.specs.declared.files.FilesFault.TheVariants as fault;
 ghost use Rattle.eden_overlay.specs.Held.{HoldsState, without};
@@ -16,7 +17,7 @@ use eden_inode::Inodes;
 use eden_model::{Id, World};
 use eden_ops::let_go;
 use eden_overlay::{Files, FilesFault, Overlay};
-use eden_tie::tie_laws;
+use eden_tie::{shown_laws, tie_laws};
 use std::alloc::{Allocator, Global};
 use std::marker::Model;
 
@@ -67,6 +68,7 @@ impl<A: Allocator + Clone, W: World, F: Files<W>> Checkout<A, W, F> {
         ensures next { W.honest → IfOk result (λ c. StartsAt (F.stored files) root c.inodes.next) }
         ensures fresh { IfOk result
             (λ c. (c.inodes.clock ≡ 0) × ((c.inodes.changes ≡ 0) × ((c.cache ≡ cache) × (c.root ≡ root)))) }
+        ensures saved { IfOk result (λ c. AreSaved c.inodes.root) }
         ensures fault { IfErr result
             (λ e. IsOpenFault W.honest root (F.stored files) (F.failures files) (F.failures e.1) e.0) }
         ensures unchanged { W.honest → IfErr result (λ e. F.stored e.1 ≡ F.stored files) }
@@ -95,6 +97,7 @@ impl<A: Allocator + Clone, W: World, F: Files<W>> Checkout<A, W, F> {
         ensures next { W.honest → IfOk result (λ c. IsNextOf (F.stored files) c.inodes.next) }
         ensures fresh { IfOk result
             (λ c. (c.inodes.clock ≡ 0) × ((c.inodes.changes ≡ 0) × ((c.cache ≡ cache) × (c.root ≡ root)))) }
+        ensures saved { IfOk result (λ c. AreSaved c.inodes.root) }
         ensures fault { IfErr result
             (λ e. IsRescanRefusal W.honest (F.stored files) (F.failures files) (F.failures e.1) e.0) }
         ensures unchanged { W.honest → IfErr result (λ e. F.stored e.1 ≡ F.stored files) }
@@ -118,6 +121,7 @@ impl<A: Allocator + Clone, W: World, F: Files<W>> Checkout<A, W, F> {
         ensures next { W.honest → IfOk result (λ c. Finds opening root (F.stored files) c.inodes.next) }
         ensures fresh { IfOk result
             (λ c. (c.inodes.clock ≡ 0) × ((c.inodes.changes ≡ 0) × ((c.cache ≡ cache) × (c.root ≡ root)))) }
+        ensures saved { IfOk result (λ c. AreSaved c.inodes.root) }
         ensures fault { IfErr result
             (λ e. IsRefusal opening W.honest root (F.stored files) (F.failures files) (F.failures e.1) e.0) }
         ensures unchanged { W.honest → IfErr result (λ e. F.stored e.1 ≡ F.stored files) }
@@ -162,10 +166,28 @@ impl<A: Allocator + Clone, W: World, F: Files<W>> Checkout<A, W, F> {
         Ok(inodes.into_overlay().into_files())
     }
 
-    /// Gives up the checkout: the files as they stand.
-    pub fn abandon(self) -> F
-        ensures { result ≡ self.inodes.files }
+    /// What holds of every checkout's files, so also of those that a run leaves without a close: no name in them dangles,
+    /// and where no loaded directory is unsaved they show what the checkout shows, from file 1 down, or the commit's tree
+    /// where there is no file 1.
+    pub fn holds(&self)
+        ensures sound { W.honest → AreSound (F.stored self.now.inodes.files) }
+        ensures shown { W.honest → AreSaved self.now.inodes.root
+            → files_show W.repository self.now.root (F.stored self.now.inodes.files)
+            ≡ shows W.World F.Files self.now.inodes }
     {
+        tie_laws();
+        shown_laws();
+        self.inodes.holds();
+    }
+
+    /// Gives up the checkout: the files as they stand. What `holds` says of them is so.
+    pub fn abandon(self) -> F
+        ensures files { result ≡ self.inodes.files }
+        ensures sound { W.honest → AreSound (F.stored result) }
+        ensures shown { W.honest → AreSaved self.inodes.root
+            → files_show W.repository self.root (F.stored result) ≡ shows W.World F.Files self.inodes }
+    {
+        self.holds();
         let Checkout { inodes, .. } = self;
         inodes.into_overlay().into_files()
     }

@@ -9,11 +9,13 @@ use Rattle.eden_overlay.specs.declared.files.Files.{Ghosts as Files}
 use Rattle.eden_overlay.specs.declared.files.FilesFault.{FilesFault}
 use Rattle.eden_overlay.specs.declared.files.FilesFault.TheVariants as fault
 use Rattle.eden_overlay.specs.Held.{HoldsState}
+use Rattle.eden_overlay.specs.Soundness.{AreSound}
+use Rattle.eden_tie.specs.Chains.{AreSaved}
 use Rattle.eden_ops.specs.Keeping.{shows}
 use Rattle.eden_mount.specs.Settings.{Settings}
 use Rattle.eden_checkout.specs.declared.fault.OpenFault.{OpenFault}
 use Rattle.eden_checkout.specs.Checkouts.{Checkout}
-use Rattle.eden_checkout.specs.Opening.{CanOpen, Finds, IsRefusal}
+use Rattle.eden_checkout.specs.Opening.{CanOpen, Finds, files_show, IsRefusal}
 use Rattle.eden_serve.specs.declared.opening.Base.{Base}
 
 module _ {W F : Type 0} (w : Ghosts W) (f : Files F W) where
@@ -37,7 +39,8 @@ module _ {W F : Type 0} (w : Ghosts W) (f : Files F W) where
     pub opens : w.honest → CanOpen w.repository tree root (f.stored files)
 
   -- The checkout of that commit wasn't closed, for that fault. It is then another, over these files, which shows this tree
-  -- still.
+  -- still. Where the outside is honest no name in the files dangles, and where no loaded directory is unsaved they show the
+  -- tree themselves.
   pub record StaysOpen (root : Id) (t : Checkout F) (tree : Tree) (why : FilesFault) (files : F) : Type 0 where
     pub left : Checkout F
     pub over : files ≡ left.inodes.files
@@ -45,6 +48,8 @@ module _ {W F : Type 0} (w : Ghosts W) (f : Files F W) where
     pub commit : left.root ≡ root
     pub next : left.inodes.next ≡ t.inodes.next
     pub device : why ≡ fault.Device → Rose (f.failures t.inodes.files) (f.failures files)
+    pub sound : w.honest → AreSound (f.stored files)
+    pub saved : w.honest → AreSaved left.inodes.root → files_show w.repository root (f.stored files) ≡ tree
 
   -- the commit's checkout, which shows this tree, was closed to the files, or it wasn't
   abbrev pub Closes : Id → Checkout F → Tree → Option FilesFault → F → Type 0

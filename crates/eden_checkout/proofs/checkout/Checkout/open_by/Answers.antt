@@ -2,11 +2,12 @@ use Rattle.std.proofs.Common.{◌∙◌, sym, ap, subst}
 use Rattle.eden_model.specs.declared.kind.Origin.{Origin}
 use Rattle.eden_overlay.specs.Files.{Stored}
 use Rattle.eden_overlay.specs.Held.{without}
+use Rattle.eden_tie.specs.Chains.{AreSaved}
 use Rattle.eden_tie.specs.Shown.{shown_in}
 use Rattle.eden_inode.specs.Tables.{CanStart, Table, fresh_root}
 use Rattle.eden_ops.specs.Keeping.{shows}
 use Rattle.eden_checkout.specs.Opening.{Starts, Finds}
-use Rattle.eden_checkout.proofs.Opened.{can_start, shown_by}
+use Rattle.eden_checkout.proofs.Opened.{can_start, shown_by, fresh_saved}
 use Rattle.eden_checkout.proofs.checkout.Checkout.open_by.Goals as goal
 
 pub new-requires-in-Ok-clause-starts : goal.new-requires-in-Ok-clause-starts
@@ -33,3 +34,6 @@ returns-in-Ok-clause-next g c h =
     let starts : Starts c.args.opening c.args.root (g.F.Files.stored c.args.files) c.in-Ok.field-0 = subst (λ (F : Stored). Starts c.args.opening c.args.root F c.in-Ok.field-0) given
     (c.in-Ok.ensures.ok h) in
     subst (λ n. Finds c.args.opening c.args.root (g.F.Files.stored c.args.files) n) (sym (ap (λ (t : Table _). t.next) c.new-in-Ok.ensures)) starts.next
+
+pub returns-in-Ok-clause-saved : goal.returns-in-Ok-clause-saved
+returns-in-Ok-clause-saved g c = subst AreSaved (sym (ap (λ (t : Table _). t.root) c.new-in-Ok.ensures)) (fresh_saved c.in-Ok.field-0.origin)
