@@ -75,6 +75,15 @@ pub record Starts (how : Opening) (root : Id) (F : Stored) (start : Start) : Typ
 
 -- ---- why an overlay isn't opened
 
+abbrev pub open_fault_number : OpenFault → ℕ
+open_fault_number opens.NotClean = 1
+open_fault_number (opens.OtherRoot stored) = 2
+open_fault_number (opens.Damaged k refusal) = 3
+open_fault_number opens.Device = 4
+open_fault_number opens.Memory = 5
+open_fault_number (opens.Dangling k) = 6
+open_fault_number (opens.Twice k) = 7
+
 abbrev pub of_files : FilesFault → OpenFault
 of_files files.Device = opens.Device
 of_files files.Memory = opens.Memory

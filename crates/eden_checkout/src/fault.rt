@@ -1,7 +1,7 @@
 //! Why a checkout can't be opened.
 ghost use Rattle.std.specs.Prelude.{◌≡◌};
 ghost use Rattle.eden_checkout.specs.declared.fault.OpenFault.TheVariants as opens;
-ghost use Rattle.eden_checkout.specs.Opening.{of_files, of_rescan};
+ghost use Rattle.eden_checkout.specs.Opening.{open_fault_number, of_files, of_rescan};
 
 use eden_model::Id;
 use eden_overlay::{FilesFault, RescanFault};
@@ -32,6 +32,23 @@ pub enum OpenFault {
     /// That number is named twice. Of a rescan alone.
     #[error("number {0} is named twice in the overlay")]
     Twice(u64),
+}
+
+impl OpenFault {
+    /// The fault's number: 1 `NotClean`, 2 `OtherRoot`, 3 `Damaged`, 4 `Device`, 5 `Memory`, 6 `Dangling`, 7 `Twice`.
+    pub fn number(self) -> u8
+        ensures { result ≡ open_fault_number self }
+    {
+        match self {
+            OpenFault::NotClean => 1,
+            OpenFault::OtherRoot(_) => 2,
+            OpenFault::Damaged(_, _) => 3,
+            OpenFault::Device => 4,
+            OpenFault::Memory => 5,
+            OpenFault::Dangling(_) => 6,
+            OpenFault::Twice(_) => 7,
+        }
+    }
 }
 
 impl From<FilesFault> for OpenFault {
