@@ -1,5 +1,5 @@
 -- What proofs of other crates cite.
-use Rattle.std.proofs.Common.{◌≡◌, Option, Some, None, ap, subst, ◌∙◌}
+use Rattle.std.proofs.Common.{◌≡◌, Option, Some, None, sym, ap, subst, ◌∙◌}
 use Rattle.eden_model.specs.declared.id.Id.{Id}
 use Rattle.eden_model.specs.declared.world.World.{Ghosts}
 use Rattle.eden_model.specs.Failures.{Rose}
@@ -9,7 +9,7 @@ use Rattle.eden_overlay.specs.declared.files.FilesFault.{FilesFault}
 use Rattle.eden_overlay.specs.Held.{HoldsState}
 use Rattle.eden_ops.specs.Keeping.{shows}
 use Rattle.eden_checkout.specs.Checkouts.{Checkout}
-use Rattle.eden_checkout.specs.Opening.{CanOpen}
+use Rattle.eden_checkout.specs.Opening.{CanOpen, files_show}
 use Rattle.eden_serve.specs.Opening.{Closes}
 
 module _ {W F : Type 0} (w : Ghosts W) (f : Files F W) where
@@ -30,4 +30,7 @@ module _ {W F : Type 0} (w : Ghosts W) (f : Files F W) where
     commit = c.commit ∙ ap (λ (v : Checkout F). v.root) is ∙ of;
     next = c.next ∙ ap (λ (v : Checkout F). v.inodes.next) is;
     device = λ e. subst (λ (v : Checkout F). Rose (f.failures v.inodes.files) (f.failures files)) is (c.device e);
+    sound = c.sound;
+    saved = λ h all. ap (λ (id : Id). files_show w.repository id (f.stored files)) (sym (ap (λ (v : Checkout F). v.root) is ∙ of))
+        ∙ c.saved h all ∙ ap (λ (v : Checkout F). shows w f v.inodes) is ∙ shown h;
   }

@@ -16,6 +16,6 @@ returns-in-Err g c =
       device = λ is. subst (λ x. Rose (g.F.Files.failures c.args.table.inodes.files) (g.F.Files.failures x)) (sym c.abandon.ensures.files) (e.device is);
       sound = c.abandon.ensures.sound;
       saved = λ h all.
-        ap (λ (root : Id). files_show g.W.World.repository root (g.F.Files.stored c.abandon.result)) (sym e.rest.1.1)
-        ∙ c.abandon.ensures.shown h all ∙ e.shown h;
+          ap (λ (root : Id). files_show g.W.World.repository root (g.F.Files.stored c.abandon.result)) (sym e.rest.1.1)
+          ∙ c.abandon.ensures.shown h all ∙ e.shown h;
     }
