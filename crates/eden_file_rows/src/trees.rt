@@ -2,7 +2,7 @@
 use eden_model::{Kind, Name, Origin};
 use eden_tree::{Change, Dir, Entry};
 use linked_list_allocator::LocalHeap;
-use std::alloc::{Allocator, Global};
+use std::alloc::{AllocError, Allocator, Global};
 use std::collections::BTreeMap;
 use std::process::Abort;
 
@@ -92,7 +92,9 @@ fn are_those<A: Allocator>(back: &Name, handed: &Entry<A>, key: &Name, number: u
 /// Puts a number under a name that the map doesn't have.
 fn put_new(rt: &impl Abort, map: &mut BTreeMap<Name, u64>, key: Name, number: u64) {
     assert!(rt; map.get(&key).is_none());
-    assert!(rt; map.insert(key, number).is_ok());
+    map.insert(key, number)
+        .map_err(AllocError::from)
+        .expect(rt, "memory");
 }
 
 /// Takes out of both, and compares what they answer.
@@ -183,15 +185,27 @@ fn lacks<A: Allocator>(dir: &Dir<A>, key: &Name) -> bool {
     dir.get(key).is_none()
 }
 
+/// Whether what came back is what was given under that number, which the directory lacks.
+fn is_handed_back<A: Allocator>(
+    rt: &impl Abort,
+    alloc: Global,
+    dir: &Dir<A>,
+    back: &Name,
+    handed: &Entry<A>,
+    number: u32,
+) -> bool {
+    let key = name(rt, alloc, number);
+    are_those(back, handed, &key, u64::from(number)) && lacks(dir, &key)
+}
+
 /// Whether an insert found room. A refused one hands name and entry back, and changes nothing.
 fn finds_room<A: Allocator>(rt: &impl Abort, alloc: Global, dir: &mut Dir<A>, number: u32) -> bool {
     let before = dir.count();
-    let key = name(rt, alloc, number);
     match dir.insert(name(rt, alloc, number), entry(u64::from(number), None)) {
         Ok(()) => true,
         Err((back, handed)) => {
-            assert!(rt; are_those(&back, &handed, &key, u64::from(number)));
-            assert!(rt; dir.count() == before && lacks(dir, &key));
+            assert!(rt; is_handed_back(rt, alloc, dir, &back, &handed, number));
+            assert!(rt; dir.count() == before);
             false
         }
     }
