@@ -1,12 +1,13 @@
 //! What the system does, which no clause can say: on real files, and on a file system that fails.
+use crate::folders::{Made, folder_of, make};
 use eden_files::{FolderFault, Links, entry_in, read_file, read_within, remove_file, replace_file};
-use eden_samples::{Call, FaultySystem, empty_folder};
+use eden_samples::{Call, FaultySystem};
+use std::alloc::AllocError;
 use std::fs;
-use std::io::{self, ErrorKind, Read, Write};
+use std::io::{self, ErrorKind, PipeReader, Read, Write};
 use std::os::fd::AsRawFd;
 use std::os::unix::fs::symlink;
 use std::path::PathBuf;
-use std::test::Fail;
 
 fn system<'a>(
     rt: &'a HostRuntime,
@@ -36,6 +37,8 @@ const TOO_LONG: Outcome = Err(FolderFault::TooLong);
 
 const DEVICE: Outcome = Err(FolderFault::Device);
 
+const MEMORY: Outcome = Err(FolderFault::Memory);
+
 // The most bytes that are wanted of a file, and what a read gives where links are refused and where they are followed.
 const READS: &[(&str, u32, Outcome, Outcome)] = &[
     ("file", 5, HELLO, HELLO),
@@ -49,104 +52,116 @@ const READS: &[(&str, u32, Outcome, Outcome)] = &[
     ("file/below", 5, DEVICE, DEVICE),
 ];
 
-fn make_files(rt: &HostRuntime, folder: &PathBuf) -> Result<(), Fail> {
-    fs::write(rt, folder.join(rt.alloc(), "file")?, b"hello")?;
-    fs::write(rt, folder.join(rt.alloc(), "empty")?, b"")?;
-    fs::create_dir(rt, folder.join(rt.alloc(), "folder")?)?;
-    symlink(rt, "file", folder.join(rt.alloc(), "link")?)?;
-    symlink(rt, "nothing", folder.join(rt.alloc(), "lost")?)?;
-    symlink(rt, "folder", folder.join(rt.alloc(), "leads to folder")?)?;
-    Ok(())
+// What those are.
+const FILES: &[(&str, Made)] = &[
+    ("file", Made::File(b"hello")),
+    ("empty", Made::File(b"")),
+    ("folder", Made::Folder),
+    ("link", Made::Link("file")),
+    ("lost", Made::Link("nothing")),
+    ("leads to folder", Made::Link("folder")),
+];
+
+fn is_outcome(answer: &Result<Vec<u8>, FolderFault>, want: Outcome) -> bool {
+    match (answer, want) {
+        (Ok(bytes), Ok(want)) => bytes.as_slice() == want,
+        (Err(fault), Err(want)) => *fault == want,
+        _ => false,
+    }
 }
 
 // Whether a read gives that.
 fn gives(rt: &HostRuntime, path: &str, links: Links, longest: u32, want: Outcome) -> bool {
-    match read_file(rt, rt.alloc(), path, links, u64::from(longest)) {
-        Ok(bytes) => want == Ok(bytes.as_slice()),
-        Err(fault) => want == Err(fault),
-    }
+    let answer = read_file(rt, rt.alloc(), path, links, u64::from(longest));
+    is_outcome(&answer, want)
+}
+
+// Whether reads give the one where links are refused, and the other where they are followed.
+fn give(
+    rt: &HostRuntime,
+    path: &PathBuf,
+    longest: u32,
+    refused: Outcome,
+    followed: Outcome,
+) -> bool {
+    gives(rt, path.as_str(), Links::Refused, longest, refused)
+        && gives(rt, path.as_str(), Links::Followed, longest, followed)
 }
 
 #[test]
-fn plain_files_are_read_whole(rt: HostRuntime) -> Result<(), Fail> {
-    let folder = empty_folder(&rt, "read")?;
-    make_files(&rt, &folder)?;
+fn plain_files_are_read_whole(rt: HostRuntime) {
+    let folder = folder_of(&rt, "read", FILES).expect(&rt, "files");
     for (name, longest, refused, followed) in READS {
-        let path = folder.join(rt.alloc(), name)?;
-        assert!(rt;
-            gives(&rt, path.as_str(), Links::Refused, *longest, *refused),
-            "{name}"
-        );
-        assert!(rt;
-            gives(&rt, path.as_str(), Links::Followed, *longest, *followed),
-            "{name}"
-        );
+        let path = folder.join(rt.alloc(), name).expect(&rt, "memory");
+        assert!(rt; give(&rt, &path, *longest, *refused, *followed), "{name}");
     }
-    fs::remove_dir_all(&rt, folder.as_path())?;
-    Ok(())
+    fs::remove_dir_all(&rt, folder.as_path()).expect(&rt, "a folder");
+}
+
+// Whether a read within 5 bytes gives that in such a system.
+fn gives_in(system: FaultySystem<&HostRuntime>, path: &str, links: Links, want: Outcome) -> bool {
+    let answer = read_file(&system, system.files.alloc(), path, links, 5);
+    is_outcome(&answer, want)
+}
+
+// Whether a pipe is no plain file where it stands in the place of a file that was looked at.
+fn is_told_swapped(rt: &HostRuntime, file: &str, pipe: &str, links: Links) -> bool {
+    let swapped = system(rt, Call::None, ErrorKind::Other, Some(pipe));
+    gives_in(swapped, file, links, NOT_PLAIN)
+}
+
+// The path of an open pipe.
+fn path_of(rt: &HostRuntime, pipe: &PipeReader) -> Result<String, AllocError> {
+    format!(in rt.alloc(); "/proc/self/fd/{}", pipe.as_raw_fd())
+}
+
+// A folder with a file of these bytes.
+fn folder_with(
+    rt: &HostRuntime,
+    folder: &str,
+    name: &str,
+    bytes: &'static [u8],
+) -> io::Result<PathBuf> {
+    folder_of(rt, folder, &[(name, Made::File(bytes))])
 }
 
 // A plain file is looked at, and by the time that it is opened a pipe stands there.
 #[test]
-fn a_pipe_is_no_file(rt: HostRuntime) -> Result<(), Fail> {
-    let alloc = rt.alloc();
-    let folder = empty_folder(&rt, "pipe")?;
-    let file = folder.join(alloc, "file")?;
-    fs::write(&rt, file.as_path(), b"hello")?;
-    let (reader, mut writer) = io::pipe(&rt)?;
-    writer.write_all(b"piped")?;
-    let pipe = format!(in alloc; "/proc/self/fd/{}", reader.as_raw_fd())?;
-    let answer = read_file(&rt, alloc, pipe.as_str(), Links::Followed, 5);
-    assert!(rt; answer == Err(FolderFault::NotPlain));
-    let swapped = system(&rt, Call::None, ErrorKind::Other, Some(pipe.as_str()));
+fn a_pipe_is_no_file(rt: HostRuntime) {
+    let (reader, mut writer) = io::pipe(&rt).expect(&rt, "a pipe");
+    writer.write_all(b"piped").expect(&rt, "room in the pipe");
+    let pipe = path_of(&rt, &reader).expect(&rt, "memory");
+    assert!(rt; gives(&rt, pipe.as_str(), Links::Followed, 5, NOT_PLAIN));
+    let folder = folder_with(&rt, "pipe", "file", b"hello").expect(&rt, "a file");
+    let file = folder.join(rt.alloc(), "file").expect(&rt, "memory");
     for links in [Links::Refused, Links::Followed] {
-        let answer = read_file(&swapped, alloc, file.as_str(), links, 5);
-        assert!(rt; answer == Err(FolderFault::NotPlain), "{links:?}");
+        assert!(rt; is_told_swapped(&rt, file.as_str(), pipe.as_str(), links));
     }
-    fs::remove_dir_all(&rt, folder.as_path())?;
-    Ok(())
+    fs::remove_dir_all(&rt, folder.as_path()).expect(&rt, "a folder");
 }
 
-// What a read answers where those calls fail.
-fn read_with(
-    rt: &HostRuntime,
-    path: &str,
-    call: Call,
-    kind: ErrorKind,
-) -> Result<Vec<u8>, FolderFault> {
-    read_file(
-        &system(rt, call, kind, None),
-        rt.alloc(),
-        path,
-        Links::Refused,
-        5,
-    )
+// Whether a read gives that where those calls fail.
+fn gives_with(rt: &HostRuntime, path: &str, call: Call, kind: ErrorKind, want: Outcome) -> bool {
+    gives_in(system(rt, call, kind, None), path, Links::Refused, want)
 }
 
 // Whether that call's failure is told as the device's, or as want of memory.
 fn is_failed_read(rt: &HostRuntime, path: &str, call: Call) -> bool {
-    read_with(rt, path, call, ErrorKind::ConnectionReset) == Err(FolderFault::Device)
-        && read_with(rt, path, call, ErrorKind::OutOfMemory) == Err(FolderFault::Memory)
+    gives_with(rt, path, call, ErrorKind::ConnectionReset, DEVICE)
+        && gives_with(rt, path, call, ErrorKind::OutOfMemory, MEMORY)
 }
 
 #[test]
-fn failed_reads_are_told(rt: HostRuntime) -> Result<(), Fail> {
-    let folder = empty_folder(&rt, "failed-reads")?;
-    let file = folder.join(rt.alloc(), "file")?;
-    fs::write(&rt, file.as_path(), b"hello")?;
+fn failed_reads_are_told(rt: HostRuntime) {
+    let folder = folder_with(&rt, "failed-reads", "file", b"hello").expect(&rt, "a file");
+    let file = folder.join(rt.alloc(), "file").expect(&rt, "memory");
     for call in [Call::Look, Call::Open, Call::LookAtOpen, Call::Read] {
         assert!(rt; is_failed_read(&rt, file.as_str(), call));
     }
     // A file that may not be written is read all the same.
-    let answer = read_with(
-        &rt,
-        file.as_str(),
-        Call::OpenToWrite,
-        ErrorKind::PermissionDenied,
-    );
-    assert!(rt; answer?.as_slice() == b"hello".as_slice());
-    fs::remove_dir_all(&rt, folder.as_path())?;
-    Ok(())
+    let kind = ErrorKind::PermissionDenied;
+    assert!(rt; gives_with(&rt, file.as_str(), Call::OpenToWrite, kind, HELLO));
+    fs::remove_dir_all(&rt, folder.as_path()).expect(&rt, "a folder");
 }
 
 // Gives some bytes, and then fails.
@@ -170,12 +185,12 @@ impl Read for Breaking {
 #[test]
 fn a_cut_read_is_no_file(rt: HostRuntime) {
     for (kind, want) in [
-        (ErrorKind::ConnectionReset, FolderFault::Device),
-        (ErrorKind::NotFound, FolderFault::Device),
-        (ErrorKind::OutOfMemory, FolderFault::Memory),
+        (ErrorKind::ConnectionReset, DEVICE),
+        (ErrorKind::NotFound, DEVICE),
+        (ErrorKind::OutOfMemory, MEMORY),
     ] {
         let answer = read_within(rt.alloc(), Breaking { left: 3, kind }, 10, 10);
-        assert!(rt; answer == Err(want), "{kind:?}");
+        assert!(rt; is_outcome(&answer, want));
     }
 }
 
@@ -191,28 +206,38 @@ fn replaces_over_link(rt: &HostRuntime, file: &str, new: &PathBuf, target: &str)
         && holds(rt, file, target.as_bytes())
 }
 
+// The first of the links that is in the way of the file's replacement.
+fn first_in_the_way(
+    rt: &HostRuntime,
+    folder: &PathBuf,
+) -> Result<Option<&'static str>, AllocError> {
+    let file = folder.join(rt.alloc(), "file")?;
+    let new = folder.join(rt.alloc(), "file.new")?;
+    for target in ["other", "nothing", "/dev/full", "/proc/self/fd/0"] {
+        if !replaces_over_link(rt, file.as_str(), &new, target) {
+            return Ok(Some(target));
+        }
+    }
+    Ok(None)
+}
+
+// Whether the file stays as it is where it can't be replaced.
+fn stays(rt: &HostRuntime, file: &str, bytes: &[u8]) -> bool {
+    replace_file(rt, rt.alloc(), file, b"new") == Err(FolderFault::Device) && holds(rt, file, bytes)
+}
+
 // What stands in the way of a replacement goes, and what it leads to stays.
 #[test]
-fn a_replacement_is_a_new_file(rt: HostRuntime) -> Result<(), Fail> {
-    let alloc = rt.alloc();
-    let folder = empty_folder(&rt, "replaced")?;
-    let other = folder.join(alloc, "other")?;
-    fs::write(&rt, other.as_path(), b"other")?;
-    let file = folder.join(alloc, "file")?;
-    let new = folder.join(alloc, "file.new")?;
-    for target in ["other", "nothing", "/dev/full", "/proc/self/fd/0"] {
-        assert!(rt;
-            replaces_over_link(&rt, file.as_str(), &new, target),
-            "{target}"
-        );
-    }
+fn a_replacement_is_a_new_file(rt: HostRuntime) {
+    let folder = folder_with(&rt, "replaced", "other", b"other").expect(&rt, "a file");
+    let in_the_way = first_in_the_way(&rt, &folder).expect(&rt, "memory");
+    assert_eq!(rt; in_the_way, None);
+    let other = folder.join(rt.alloc(), "other").expect(&rt, "memory");
     assert!(rt; holds(&rt, other.as_str(), b"other"));
-    fs::create_dir(&rt, new.as_path())?;
-    let answer = replace_file(&rt, alloc, file.as_str(), b"new");
-    assert!(rt; answer == Err(FolderFault::Device));
-    assert!(rt; holds(&rt, file.as_str(), b"/proc/self/fd/0"));
-    fs::remove_dir_all(&rt, folder.as_path())?;
-    Ok(())
+    make(&rt, &folder, "file.new", Made::Folder).expect(&rt, "a folder");
+    let file = folder.join(rt.alloc(), "file").expect(&rt, "memory");
+    assert!(rt; stays(&rt, file.as_str(), b"/proc/self/fd/0"));
+    fs::remove_dir_all(&rt, folder.as_path()).expect(&rt, "a folder");
 }
 
 const KINDS: &[(ErrorKind, FolderFault)] = &[
@@ -243,58 +268,82 @@ fn changes_fail(rt: &HostRuntime, path: &str, kind: ErrorKind, fault: FolderFaul
 }
 
 // Whether the file goes, or is gone already.
-fn is_removed(rt: &HostRuntime, file: &PathBuf) -> bool {
-    remove_file(rt, file.as_str()) == Ok(()) && !fs::exists(rt, file.as_path()).unwrap_or(true)
+fn is_removed(rt: &HostRuntime, path: &str) -> bool {
+    remove_file(rt, path) == Ok(()) && !fs::exists(rt, path).unwrap_or(true)
 }
 
 #[test]
-fn failed_changes_are_told(rt: HostRuntime) -> Result<(), Fail> {
-    let folder = empty_folder(&rt, "failed-changes")?;
-    let file = folder.join(rt.alloc(), "file")?;
-    replace_file(&rt, rt.alloc(), file.as_str(), b"old")?;
+fn failed_changes_are_told(rt: HostRuntime) {
+    let folder = folder_of(&rt, "failed-changes", &[]).expect(&rt, "a folder");
+    let file = folder.join(rt.alloc(), "file").expect(&rt, "memory");
+    assert!(rt; replace_file(&rt, rt.alloc(), file.as_str(), b"old") == Ok(()));
     for (kind, fault) in KINDS {
         assert!(rt; changes_fail(&rt, file.as_str(), *kind, *fault), "{kind:?}");
     }
-    assert!(rt; is_removed(&rt, &file));
-    assert!(rt; is_removed(&rt, &file));
-    fs::remove_dir_all(&rt, folder.as_path())?;
-    Ok(())
+    assert!(rt; is_removed(&rt, file.as_str()));
+    assert!(rt; is_removed(&rt, file.as_str()));
+    fs::remove_dir_all(&rt, folder.as_path()).expect(&rt, "a folder");
+}
+
+// What an item of a listing is.
+#[derive(Clone, Copy)]
+enum Item {
+    /// The file `a`.
+    Entry,
+    /// A name that isn't UTF-8.
+    Odd,
+    Other,
+    Failed(FolderFault),
+}
+
+type Listed<'a> = fs::DirEntry<FaultySystem<'a, &'a HostRuntime>>;
+
+fn item_of(item: io::Result<Listed<'_>>) -> Item {
+    match entry_in(item) {
+        Ok(Some(entry)) => {
+            if entry.file_name() == "a" {
+                Item::Entry
+            } else {
+                Item::Other
+            }
+        }
+        Ok(None) => Item::Odd,
+        Err(fault) => Item::Failed(fault),
+    }
 }
 
 // The file `a` is found beside a name that isn't UTF-8, and the listing fails where the folder does.
 fn lists_one(rt: &HostRuntime, folder: &PathBuf, call: Call) -> Result<bool, FolderFault> {
     let system = system(rt, call, ErrorKind::Other, None);
+    let mut items = fs::read_dir(&system, folder.as_path())?;
     let mut entries = 0;
     let mut odd = 0;
-    let mut items = fs::read_dir(&system, folder.as_path())?;
     for _ in 0..10 {
         let Some(item) = items.next() else { break };
-        match entry_in(item)? {
-            Some(entry) if entry.file_name() == "a" => entries = 1,
-            Some(_) => return Ok(false),
-            None => odd = 1,
+        match item_of(item) {
+            Item::Entry => entries = 1,
+            Item::Odd => odd = 1,
+            Item::Other => return Ok(false),
+            Item::Failed(fault) => return Err(fault),
         }
     }
     Ok(entries == 1 && odd == 1)
 }
 
 #[test]
-fn names_are_listed(rt: HostRuntime) -> Result<(), Fail> {
-    let folder = empty_folder(&rt, "names")?;
-    fs::write(&rt, folder.join(rt.alloc(), "a")?, b"")?;
+fn names_are_listed(rt: HostRuntime) {
+    let folder = folder_with(&rt, "names", "a", b"").expect(&rt, "a file");
     assert!(rt; lists_one(&rt, &folder, Call::None) == Ok(true));
     assert!(rt; lists_one(&rt, &folder, Call::List) == Err(FolderFault::Device));
-    fs::remove_dir_all(&rt, folder.as_path())?;
-    Ok(())
+    fs::remove_dir_all(&rt, folder.as_path()).expect(&rt, "a folder");
 }
 
 // A file longer than the room that its length asked for, as one that grew: ten times 64 KiB.
 #[test]
-fn grown_files_are_read(rt: HostRuntime) -> Result<(), Fail> {
-    let long = [7; 65536].repeat(rt.alloc(), 10)?;
-    let answer = read_within(rt.alloc(), long.as_slice(), 100, 655_360)?;
-    assert!(rt; answer == long);
+fn grown_files_are_read(rt: HostRuntime) {
+    let long = [7; 65536].repeat(rt.alloc(), 10).expect(&rt, "memory");
+    let answer = read_within(rt.alloc(), long.as_slice(), 100, 655_360);
+    assert!(rt; is_outcome(&answer, Ok(long.as_slice())));
     let answer = read_within(rt.alloc(), long.as_slice(), 100, 655_359);
-    assert!(rt; answer == Err(FolderFault::TooLong));
-    Ok(())
+    assert!(rt; is_outcome(&answer, TOO_LONG));
 }

@@ -1,15 +1,15 @@
 //! The kinds of files that an overlay stands on: in memory, in a folder, and failing ones.
+use crate::folders::{Made, folder_of};
 use eden_model::{Outside, World};
 use eden_overlay::{FailingFiles, Files, FilesFault, FolderFiles, MemoryFiles, StopFiles};
-use eden_samples::{Call as SystemCall, FaultySystem, empty_folder};
-use std::alloc::Global;
+use eden_samples::{Call as SystemCall, FaultySystem};
+use std::alloc::{AllocError, Global};
 use std::cell::Cell;
 use std::fs;
 use std::io::ErrorKind;
-use std::os::unix::fs::symlink;
 use std::path::PathBuf;
+use std::process::Abort;
 use std::rc::Rc;
-use std::test::Fail;
 
 #[derive(Clone, Copy)]
 enum Call {
@@ -30,20 +30,27 @@ enum Answer {
 // Whether the files give that answer to the call.
 fn gives<W: World, F: Files<W>>(files: &mut F, alloc: Global, call: Call, want: Answer) -> bool {
     match call {
-        Call::Read(number) => match (files.read(alloc, number), want) {
-            (Ok(bytes), Answer::Bytes(want)) => {
-                bytes.as_ref().map(|bytes| bytes.as_slice()) == want
-            }
-            (Err(FilesFault::Device), Answer::Device) => true,
-            _ => false,
-        },
+        Call::Read(number) => is_read(&files.read(alloc, number), want),
         Call::Replace(number, bytes) => is_done(files.replace(alloc, number, bytes), want),
         Call::Remove(number) => is_done(files.remove(alloc, number), want),
-        Call::List => match (files.list(alloc), want) {
-            (Ok(numbers), Answer::Numbers(want)) => numbers.as_slice() == want,
-            (Err(FilesFault::Device), Answer::Device) => true,
-            _ => false,
-        },
+        Call::List => is_listed(&files.list(alloc), want),
+    }
+}
+
+fn is_read(answer: &Result<Option<Vec<u8>>, FilesFault>, want: Answer) -> bool {
+    match (answer, want) {
+        (Ok(None), Answer::Bytes(want)) => want.is_none(),
+        (Ok(Some(bytes)), Answer::Bytes(want)) => want == Some(bytes.as_slice()),
+        (Err(FilesFault::Device), Answer::Device) => true,
+        _ => false,
+    }
+}
+
+fn is_listed(answer: &Result<Vec<u64>, FilesFault>, want: Answer) -> bool {
+    match (answer, want) {
+        (Ok(numbers), Answer::Numbers(want)) => numbers.as_slice() == want,
+        (Err(FilesFault::Device), Answer::Device) => true,
+        _ => false,
     }
 }
 
@@ -89,56 +96,70 @@ const BEHAVIOUR: &[(Call, Answer)] = &[
     (Call::Read(0), Answer::Bytes(Some(b"zero"))),
 ];
 
+// Ten thousand files, of which the last has these bytes.
+fn many(rt: &impl Abort, alloc: Global, last: &[u8]) -> MemoryFiles<Outside> {
+    let mut files = MemoryFiles::new(alloc);
+    for number in 0..10_000 {
+        files
+            .replace(alloc, number, &number.to_be_bytes())
+            .expect(rt, "memory");
+    }
+    files.replace(alloc, 9_999, last).expect(rt, "memory");
+    files
+}
+
 // Ten thousand files, one of them of 100,000 bytes.
 #[test]
-fn memory_keeps_many_files(rt: HostRuntime) -> Result<(), Fail> {
+fn memory_keeps_many_files(rt: HostRuntime) {
     let alloc = rt.alloc();
-    let mut files = MemoryFiles::<Outside>::new(alloc);
-    for number in 0..10_000 {
-        files.replace(alloc, number, &number.to_be_bytes())?;
-    }
-    let long = [7; 1000].repeat(alloc, 100)?;
-    files.replace(alloc, 9_999, long.as_slice())?;
-    assert!(rt; files.read(alloc, 9_999)? == Some(long));
-    assert_eq!(rt; files.list(alloc)?.len(), 10_000);
-    Ok(())
+    let long = [7; 1000].repeat(alloc, 100).expect(&rt, "memory");
+    let mut files = many(&rt, alloc, long.as_slice());
+    let last = files.read(alloc, 9_999).expect(&rt, "an answer");
+    assert!(rt; last.expect(&rt, "a file") == long);
+    assert!(rt; files.list(alloc).expect(&rt, "numbers").len() == 10_000);
 }
 
 #[test]
 fn memory_behaves(rt: HostRuntime) {
     let mut files = MemoryFiles::<Outside>::new(rt.alloc());
-    assert_eq!(rt;
-        first_wrong::<Outside, _>(&mut files, rt.alloc(), BEHAVIOUR),
-        None
-    );
+    let wrong = first_wrong::<Outside, _>(&mut files, rt.alloc(), BEHAVIOUR);
+    assert_eq!(rt; wrong, None);
+}
+
+// The first of the calls to which files in the folder give another answer, and how many failures they count.
+fn asked_in_folder(
+    rt: &HostRuntime,
+    folder: &PathBuf,
+    calls: &[(Call, Answer)],
+) -> Result<(Option<usize>, u64), AllocError> {
+    let mut files = FolderFiles::new(rt, folder.clone()?);
+    let wrong = first_wrong::<Outside, _>(&mut files, rt.alloc(), calls);
+    Ok((wrong, files.failures()))
 }
 
 #[test]
-fn folder_behaves(rt: HostRuntime) -> Result<(), Fail> {
-    let folder = empty_folder(&rt, "overlay-behaves")?;
-    let mut files = FolderFiles::new(&rt, folder.clone()?);
-    assert_eq!(rt;
-        first_wrong::<Outside, _>(&mut files, rt.alloc(), BEHAVIOUR),
-        None
-    );
-    assert_eq!(rt; files.failures(), 0);
-    fs::remove_dir_all(&rt, folder.as_path())?;
-    Ok(())
+fn folder_behaves(rt: HostRuntime) {
+    let folder = folder_of(&rt, "overlay-behaves", &[]).expect(&rt, "a folder");
+    let (wrong, failures) = asked_in_folder(&rt, &folder, BEHAVIOUR).expect(&rt, "memory");
+    assert_eq!(rt; wrong, None);
+    assert_eq!(rt; failures, 0);
+    fs::remove_dir_all(&rt, folder.as_path()).expect(&rt, "a folder");
 }
 
-// Makes plain files of some names that are numbers and some that aren't, a directory 4, the links 6 and 7, of which one
-// leads nowhere, and a file 8 that is too long.
-fn make_odd(rt: &HostRuntime, folder: &PathBuf) -> Result<(), Fail> {
-    let path = |name: &str| folder.join(rt.alloc(), name);
-    for name in ["3.new", "5", "02", "x", "+9", "18446744073709551616"] {
-        fs::write(rt, path(name)?, name.as_bytes())?;
-    }
-    fs::create_dir(rt, path("4")?)?;
-    symlink(rt, "5", path("6")?)?;
-    symlink(rt, "nothing", path("7")?)?;
-    fs::File::create(rt, path("8")?)?.set_len(1_073_741_889)?;
-    Ok(())
-}
+// Plain files of some names that are numbers and some that aren't, a directory 4, the links 6 and 7, of which one leads
+// nowhere, and a file 8 that is too long.
+const ODD_FILES: &[(&str, Made)] = &[
+    ("3.new", Made::File(b"3.new")),
+    ("5", Made::File(b"5")),
+    ("02", Made::File(b"02")),
+    ("x", Made::File(b"x")),
+    ("+9", Made::File(b"+9")),
+    ("18446744073709551616", Made::File(b"18446744073709551616")),
+    ("4", Made::Folder),
+    ("6", Made::Link("5")),
+    ("7", Made::Link("nothing")),
+    ("8", Made::Long(1_073_741_889)),
+];
 
 const ODD: &[(Call, Answer)] = &[
     (Call::List, Answer::Numbers(&[4, 5, 6, 7, 8])),
@@ -154,17 +175,12 @@ const ODD: &[(Call, Answer)] = &[
 ];
 
 #[test]
-fn folder_reads_plain_files_alone(rt: HostRuntime) -> Result<(), Fail> {
-    let folder = empty_folder(&rt, "overlay-odd")?;
-    make_odd(&rt, &folder)?;
-    let mut files = FolderFiles::new(&rt, folder.clone()?);
-    assert_eq!(rt;
-        first_wrong::<Outside, _>(&mut files, rt.alloc(), ODD),
-        None
-    );
-    assert_eq!(rt; files.failures(), 5);
-    fs::remove_dir_all(&rt, folder.as_path())?;
-    Ok(())
+fn folder_reads_plain_files_alone(rt: HostRuntime) {
+    let folder = folder_of(&rt, "overlay-odd", ODD_FILES).expect(&rt, "files");
+    let (wrong, failures) = asked_in_folder(&rt, &folder, ODD).expect(&rt, "memory");
+    assert_eq!(rt; wrong, None);
+    assert_eq!(rt; failures, 5);
+    fs::remove_dir_all(&rt, folder.as_path()).expect(&rt, "a folder");
 }
 
 const LEFT_OVER: &[(Call, Answer)] = &[
@@ -176,18 +192,14 @@ const LEFT_OVER: &[(Call, Answer)] = &[
 ];
 
 #[test]
-fn what_a_failure_left_is_no_file(rt: HostRuntime) -> Result<(), Fail> {
-    let folder = empty_folder(&rt, "overlay-left")?;
-    let new = folder.join(rt.alloc(), "5.new")?;
-    fs::write(&rt, new.as_path(), b"left over")?;
-    let mut files = FolderFiles::new(&rt, folder.clone()?);
-    assert_eq!(rt;
-        first_wrong::<Outside, _>(&mut files, rt.alloc(), LEFT_OVER),
-        None
-    );
-    assert!(rt; !fs::exists(&rt, new.as_path())?);
-    fs::remove_dir_all(&rt, folder.as_path())?;
-    Ok(())
+fn what_a_failure_left_is_no_file(rt: HostRuntime) {
+    let table = [("5.new", Made::File(b"left over"))];
+    let folder = folder_of(&rt, "overlay-left", &table).expect(&rt, "a file");
+    let (wrong, _) = asked_in_folder(&rt, &folder, LEFT_OVER).expect(&rt, "memory");
+    assert_eq!(rt; wrong, None);
+    let new = folder.join(rt.alloc(), "5.new").expect(&rt, "memory");
+    assert!(rt; !fs::exists(&rt, new.as_path()).expect(&rt, "an answer"));
+    fs::remove_dir_all(&rt, folder.as_path()).expect(&rt, "a folder");
 }
 
 const GONE: &[(Call, Answer)] = &[
@@ -198,16 +210,12 @@ const GONE: &[(Call, Answer)] = &[
 ];
 
 #[test]
-fn a_missing_folder_fails(rt: HostRuntime) -> Result<(), Fail> {
-    let folder = empty_folder(&rt, "overlay-gone")?;
-    fs::remove_dir(&rt, folder.as_path())?;
-    let mut files = FolderFiles::new(&rt, folder);
-    assert_eq!(rt;
-        first_wrong::<Outside, _>(&mut files, rt.alloc(), GONE),
-        None
-    );
-    assert_eq!(rt; files.failures(), 2);
-    Ok(())
+fn a_missing_folder_fails(rt: HostRuntime) {
+    let folder = folder_of(&rt, "overlay-gone", &[]).expect(&rt, "a folder");
+    fs::remove_dir(&rt, folder.as_path()).expect(&rt, "no folder");
+    let (wrong, failures) = asked_in_folder(&rt, &folder, GONE).expect(&rt, "memory");
+    assert_eq!(rt; wrong, None);
+    assert_eq!(rt; failures, 2);
 }
 
 #[derive(Clone, Copy)]
@@ -252,19 +260,21 @@ fn is_told(rt: &HostRuntime, folder: PathBuf, call: SystemCall, ask: Ask) -> boo
     fault_of(&mut files, rt.alloc(), ask) == Some(FilesFault::Device) && files.failures() == 1
 }
 
+// Whether file 5 has these bytes.
+fn holds(files: &mut FolderFiles<&HostRuntime>, alloc: Global, bytes: &'static [u8]) -> bool {
+    gives::<Outside, _>(files, alloc, Call::Read(5), Answer::Bytes(Some(bytes)))
+}
+
 #[test]
-fn a_failing_device_is_told_and_counted(rt: HostRuntime) -> Result<(), Fail> {
-    let alloc = rt.alloc();
-    let folder = empty_folder(&rt, "overlay-failing")?;
-    let mut sound = FolderFiles::new(&rt, folder.clone()?);
-    sound.replace(alloc, 5, b"old")?;
+fn a_failing_device_is_told_and_counted(rt: HostRuntime) {
+    let folder = folder_of(&rt, "overlay-failing", &[]).expect(&rt, "a folder");
+    let mut sound = FolderFiles::new(&rt, folder.clone().expect(&rt, "memory"));
+    assert!(rt; sound.replace(rt.alloc(), 5, b"old") == Ok(()));
     for (call, ask) in FAILED {
-        assert!(rt; is_told(&rt, folder.clone()?, call, ask));
-        let kept = sound.read(alloc, 5)?.ok_or("the file")?;
-        assert!(rt; kept.as_slice() == b"old".as_slice());
+        assert!(rt; is_told(&rt, folder.clone().expect(&rt, "memory"), call, ask));
+        assert!(rt; holds(&mut sound, rt.alloc(), b"old"));
     }
-    fs::remove_dir_all(&rt, folder.as_path())?;
-    Ok(())
+    fs::remove_dir_all(&rt, folder.as_path()).expect(&rt, "a folder");
 }
 
 // Stores a file, reads it, removes it, and lists what is left. Which of the four calls fail?
@@ -297,14 +307,25 @@ fn one_fails(
     failing::<Outside, _>(files, alloc) == want && (files.failures() == 1) == want.contains(&true)
 }
 
+// Whether those calls fail where that one does, and that is left.
+fn one_fails_and_leaves(alloc: Global, call: u64, want: [bool; 4], left: &'static [u64]) -> bool {
+    let mut files = FailingFiles::new(MemoryFiles::<Outside>::new(alloc), call);
+    one_fails(&mut files, alloc, want)
+        && gives::<Outside, _>(
+            &mut files.into_files(),
+            alloc,
+            Call::List,
+            Answer::Numbers(left),
+        )
+}
+
 #[test]
 fn one_call_fails(rt: HostRuntime) {
     for (call, want, left) in ONE_FAILS {
-        let mut files = FailingFiles::new(MemoryFiles::<Outside>::new(rt.alloc()), *call);
-        assert!(rt; one_fails(&mut files, rt.alloc(), *want), "at call {call}");
-        let mut files = files.into_files();
-        let listed = gives::<Outside, _>(&mut files, rt.alloc(), Call::List, Answer::Numbers(left));
-        assert!(rt; listed, "at call {call}");
+        assert!(rt;
+            one_fails_and_leaves(rt.alloc(), *call, *want, left),
+            "at call {call}"
+        );
     }
 }
 
@@ -316,18 +337,28 @@ const STOPS: &[(u64, [bool; 4], u64)] = &[
     (4, [false, false, false, false], 8),
 ];
 
+// Whether those calls fail where so many are allowed, all of which are used up then.
+fn stops(
+    files: &mut StopFiles<MemoryFiles<Outside>>,
+    alloc: Global,
+    allowed: &Cell<u64>,
+    calls: u64,
+    want: [bool; 4],
+) -> bool {
+    allowed.set(calls);
+    failing::<Outside, _>(files, alloc) == want && allowed.get() == 0
+}
+
 #[test]
-fn files_stop_and_are_mended(rt: HostRuntime) -> Result<(), Fail> {
-    let allowed = Rc::new(rt.alloc(), Cell::new(0))?;
-    let files = MemoryFiles::<Outside>::new(rt.alloc());
-    let mut files = StopFiles::new(files, allowed.clone()?);
+fn files_stop_and_are_mended(rt: HostRuntime) {
+    let alloc = rt.alloc();
+    let allowed = Rc::new(alloc, Cell::new(0)).expect(&rt, "memory");
+    let counted = allowed.clone().expect(&rt, "memory");
+    let mut files = StopFiles::new(MemoryFiles::<Outside>::new(alloc), counted);
     for (calls, want, failures) in STOPS {
-        allowed.set(*calls);
-        assert!(rt; failing::<Outside, _>(&mut files, rt.alloc()) == *want);
-        assert!(rt; allowed.get() == 0);
+        assert!(rt; stops(&mut files, alloc, &allowed, *calls, *want));
         assert!(rt; files.failures() == *failures);
     }
     let mut files = files.into_files();
-    assert!(rt; gives::<Outside, _>(&mut files, rt.alloc(), Call::List, Answer::Numbers(&[])));
-    Ok(())
+    assert!(rt; gives::<Outside, _>(&mut files, alloc, Call::List, Answer::Numbers(&[])));
 }

@@ -1,9 +1,12 @@
 //! What an overlay over files in memory stores, gets, removes and refuses.
+ghost use Rattle.eden_overlay_format.specs.Directory.{AreStorable};
+
 use crate::formats::{DIRECTORY, FILE, OWN_BODY, cut, one_file, stored};
 use eden_model::{Id, Origin, Outside};
 use eden_overlay::{Files, GetFault, MemoryFiles, Overlay};
-use eden_overlay_format::{Refusal, State};
+use eden_overlay_format::{Refusal, State, StoredEntry};
 use std::alloc::Global;
+use std::process::Abort;
 use std::test::Fail;
 
 type InMemory = Overlay<Outside, MemoryFiles<Outside>>;
@@ -17,13 +20,21 @@ const STATE_BODY: &[u8] =
     b"\x11\x11\x11\x11\x11\x11\x11\x11\x11\x11\x11\x11\x11\x11\x11\x11\x11\x11\x11\x11\0\0\0\0\0\0\0\x03";
 
 // An overlay that holds a file, which was stored twice, the root's directory and the state.
-fn filled(alloc: Global) -> Result<InMemory, Fail> {
+fn filled_with(rt: &impl Abort, alloc: Global, entries: &[StoredEntry]) -> InMemory
+    requires { AreStorable entries.now }
+{
     let mut overlay = Overlay::<Outside, _>::new(MemoryFiles::<Outside>::new(alloc));
-    overlay.put_file(alloc, 2, b"hello")?;
-    overlay.put_file(alloc, 2, b"hi")?;
-    overlay.put_dir(alloc, 1, &one_file(alloc, Origin::Own)?)?;
-    overlay.put_state(alloc, STATE)?;
-    Ok(overlay)
+    overlay.put_file(alloc, 2, b"hello").expect(rt, "memory");
+    overlay.put_file(alloc, 2, b"hi").expect(rt, "memory");
+    overlay.put_dir(alloc, 1, entries).expect(rt, "memory");
+    overlay.put_state(alloc, STATE).expect(rt, "memory");
+    overlay
+}
+
+// The same, where the directory has the file `test.txt` alone.
+fn filled(rt: &impl Abort, alloc: Global) -> Result<InMemory, Fail> {
+    let entries = one_file(alloc, Origin::Own)?;
+    Ok(filled_with(rt, alloc, entries.as_slice()))
 }
 
 // Whether file 2 has that content.
@@ -42,14 +53,21 @@ fn has_one_file(overlay: &mut InMemory, alloc: Global) -> bool {
     }
 }
 
+// Whether these are the numbers of the stored files.
+fn lists(overlay: &mut InMemory, alloc: Global, want: &[u64]) -> bool {
+    match overlay.list(alloc) {
+        Ok(numbers) => numbers.as_slice() == want,
+        Err(_) => false,
+    }
+}
+
 #[test]
 fn files_are_got(rt: HostRuntime) -> Result<(), Fail> {
-    let mut overlay = filled(rt.alloc())?;
+    let mut overlay = filled(&rt, rt.alloc())?;
     assert!(rt; has_content(&mut overlay, rt.alloc(), b"hi"));
     assert!(rt; has_one_file(&mut overlay, rt.alloc()));
     assert!(rt; overlay.get_state(rt.alloc()) == Ok(STATE));
-    let numbers = overlay.list(rt.alloc())?;
-    assert!(rt; numbers.as_slice() == [0, 1, 2].as_slice());
+    assert!(rt; lists(&mut overlay, rt.alloc(), &[0, 1, 2]));
     Ok(())
 }
 
@@ -60,23 +78,36 @@ const STORED: &[(u64, [u8; 8], &[u8], usize)] = &[
     (2, FILE, b"hi", 66),
 ];
 
+// Whether a file has exactly these bytes.
+fn has(files: &mut MemoryFiles<Outside>, alloc: Global, number: u64, want: &[u8]) -> bool {
+    match files.read(alloc, number) {
+        Ok(Some(bytes)) => bytes.as_slice() == want,
+        _ => false,
+    }
+}
+
 #[test]
 fn files_are_stored(rt: HostRuntime) -> Result<(), Fail> {
-    let mut files = filled(rt.alloc())?.into_files();
+    let mut files = filled(&rt, rt.alloc())?.into_files();
     for (number, front, body, len) in STORED {
-        let bytes = stored(rt.alloc(), front, 0, body)?;
+        let bytes = stored(rt.alloc(), front, 0, body).expect(&rt, "memory");
         assert!(rt; bytes.len() == *len);
-        assert!(rt; files.read(rt.alloc(), *number)? == Some(bytes));
+        assert!(rt; has(&mut files, rt.alloc(), *number, bytes.as_slice()));
     }
     Ok(())
 }
 
+// Takes the root's directory, the state and a file that isn't there out.
+fn remove_some(rt: &impl Abort, alloc: Global, overlay: &mut InMemory) {
+    overlay.remove(alloc, 1).expect(rt, "memory");
+    overlay.remove_state(alloc).expect(rt, "memory");
+    overlay.remove(alloc, 7).expect(rt, "memory");
+}
+
 #[test]
 fn files_are_removed(rt: HostRuntime) -> Result<(), Fail> {
-    let mut overlay = filled(rt.alloc())?;
-    overlay.remove(rt.alloc(), 1)?;
-    overlay.remove_state(rt.alloc())?;
-    overlay.remove(rt.alloc(), 7)?;
+    let mut overlay = filled(&rt, rt.alloc())?;
+    remove_some(&rt, rt.alloc(), &mut overlay);
     assert!(rt; overlay.get_state(rt.alloc()) == Err(GetFault::Absent));
     assert!(rt; overlay.get_dir(rt.alloc(), 1).err() == Some(GetFault::Absent));
     assert!(rt; overlay.get_file(rt.alloc(), 1).err() == Some(GetFault::Absent));
@@ -100,33 +131,41 @@ fn is_told(
         && overlay.get_file(alloc, 3).err() == as_file.map(GetFault::Damaged)
 }
 
+// The front of a directory's file of a later version.
+const LATER: [u8; 8] = [0x4f, 0x56, 0x44, 0x52, 0, 0, 0, 2];
+
+// The front and the body of a stored file, how many bytes of it there are, and how it is told.
+const DAMAGES: &[(&[u8; 8], &[u8], usize, Option<Refusal>, Option<Refusal>)] = &[
+    (
+        &DIRECTORY,
+        OWN_BODY,
+        63,
+        Some(Refusal::Short),
+        Some(Refusal::Short),
+    ),
+    (&DIRECTORY, OWN_BODY, 87, None, Some(Refusal::BadIdentifier)),
+    (&FILE, b"hi", 66, Some(Refusal::BadIdentifier), None),
+    (
+        &LATER,
+        OWN_BODY,
+        87,
+        Some(Refusal::BadVersion),
+        Some(Refusal::BadIdentifier),
+    ),
+    (
+        &DIRECTORY,
+        OWN_BODY,
+        86,
+        Some(Refusal::BadBody),
+        Some(Refusal::BadIdentifier),
+    ),
+];
+
 #[test]
-fn damage_is_told(rt: HostRuntime) -> Result<(), Fail> {
-    let alloc = rt.alloc();
-    let directory = stored(alloc, &DIRECTORY, 0, OWN_BODY)?;
-    let file = stored(alloc, &FILE, 0, b"hi")?;
-    let later = stored(alloc, &[0x4f, 0x56, 0x44, 0x52, 0, 0, 0, 2], 0, OWN_BODY)?;
-    let shorter = stored(alloc, &DIRECTORY, 0, cut(&rt, OWN_BODY, 22))?;
-    for (bytes, as_directory, as_file) in [
-        (
-            cut(&rt, &directory, 63),
-            Some(Refusal::Short),
-            Some(Refusal::Short),
-        ),
-        (directory.as_slice(), None, Some(Refusal::BadIdentifier)),
-        (file.as_slice(), Some(Refusal::BadIdentifier), None),
-        (
-            later.as_slice(),
-            Some(Refusal::BadVersion),
-            Some(Refusal::BadIdentifier),
-        ),
-        (
-            shorter.as_slice(),
-            Some(Refusal::BadBody),
-            Some(Refusal::BadIdentifier),
-        ),
-    ] {
-        assert!(rt; is_told(alloc, bytes, as_directory, as_file));
+fn damage_is_told(rt: HostRuntime) {
+    for (front, body, len, as_directory, as_file) in DAMAGES {
+        let bytes = stored(rt.alloc(), front.as_slice(), 0, body).expect(&rt, "memory");
+        let bytes = cut(&rt, bytes.as_slice(), *len);
+        assert!(rt; is_told(rt.alloc(), bytes, *as_directory, *as_file));
     }
-    Ok(())
 }

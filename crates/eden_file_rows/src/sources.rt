@@ -1,13 +1,13 @@
 //! The answers of sources in memory and in folders.
+use crate::folders::{Made, folder_of};
 use eden_model::{Cause, Id, Outside, World};
-use eden_samples::{Call, FaultySystem, VERSION_1, VERSION_2, empty_folder};
+use eden_samples::{Call, FaultySystem, VERSION_1, VERSION_2};
 use eden_source::{FolderSource, MemorySource, Source};
 use std::alloc::{AllocError, Global};
 use std::fs;
 use std::io::ErrorKind;
-use std::os::unix::fs::symlink;
 use std::path::PathBuf;
-use std::test::Fail;
+use std::process::Abort;
 
 // The id of `VERSION_1` with another first byte.
 fn id_starting(first: u8) -> Id {
@@ -24,8 +24,14 @@ fn is_answer(answer: &Result<Vec<u8>, Cause>, want: Result<&[u8], Cause>) -> boo
     }
 }
 
-fn ask<W: World, S: Source<W>>(source: &mut S, alloc: Global, id: Id) -> Result<Vec<u8>, Cause> {
-    source.fetch(alloc, id)
+// Whether the source gives that answer.
+fn gives<W: World, S: Source<W>>(
+    source: &mut S,
+    alloc: Global,
+    id: Id,
+    want: Result<&[u8], Cause>,
+) -> bool {
+    is_answer(&source.fetch(alloc, id), want)
 }
 
 // An id of that number.
@@ -35,77 +41,76 @@ fn numbered(number: u32) -> Id {
     id
 }
 
-#[test]
-fn memory_gives_what_was_put(rt: HostRuntime) -> Result<(), Fail> {
-    let alloc = rt.alloc();
-    let mut source = MemorySource::<Outside>::new(alloc);
-    let version_1 = VERSION_1.framed;
+fn put(rt: &impl Abort, alloc: Global, source: &mut MemorySource<Outside>, id: Id, framed: &[u8]) {
+    let framed = Vec::from_slice(alloc, framed).expect(rt, "memory");
+    source.insert(id, framed).expect(rt, "memory")
+}
+
+// Ten thousand objects of the same bytes, and then others in the second one's place.
+fn many(rt: &impl Abort, alloc: Global, second: &[u8]) -> MemorySource<Outside> {
+    let mut source = MemorySource::new(alloc);
     for number in 0..10_000 {
-        let framed = Vec::from_slice(alloc, version_1)?;
-        source.insert(numbered(number), framed)?;
+        put(rt, alloc, &mut source, numbered(number), VERSION_1.framed);
     }
-    let long = [7; 1000].repeat(alloc, 100)?;
-    let long_too = long.clone()?;
-    source.insert(numbered(1), long_too)?;
-    for number in [0, 9_999] {
-        let found = ask(&mut source, alloc, numbered(number))?;
-        assert!(rt; found.as_slice() == version_1, "{number}");
-    }
-    assert!(rt; ask(&mut source, alloc, numbered(1))? == long);
-    assert!(rt; ask(&mut source, alloc, numbered(10_000)) == Err(Cause::Missing));
-    Ok(())
+    put(rt, alloc, &mut source, numbered(1), second);
+    source
 }
 
 #[test]
-fn memory_may_lie(rt: HostRuntime) -> Result<(), Fail> {
+fn memory_gives_what_was_put(rt: HostRuntime) {
+    let alloc = rt.alloc();
+    let long = [7; 1000].repeat(alloc, 100).expect(&rt, "memory");
+    let mut source = many(&rt, alloc, long.as_slice());
+    let version_1 = Ok(VERSION_1.framed);
+    assert!(rt; gives(&mut source, alloc, numbered(0), version_1));
+    assert!(rt; gives(&mut source, alloc, numbered(9_999), version_1));
+    assert!(rt; gives(&mut source, alloc, numbered(1), Ok(long.as_slice())));
+    assert!(rt; gives(&mut source, alloc, numbered(10_000), Err(Cause::Missing)));
+}
+
+#[test]
+fn memory_may_lie(rt: HostRuntime) {
     let alloc = rt.alloc();
     let mut source = MemorySource::<Outside>::new(alloc);
-    source.insert(VERSION_1.id, Vec::from_slice(alloc, VERSION_1.framed)?)?;
-    source.insert(VERSION_1.id, Vec::from_slice(alloc, VERSION_2.framed)?)?;
-    assert!(rt; ask(&mut source, alloc, VERSION_1.id)?.as_slice() == VERSION_2.framed);
-    Ok(())
+    put(&rt, alloc, &mut source, VERSION_1.id, VERSION_1.framed);
+    put(&rt, alloc, &mut source, VERSION_1.id, VERSION_2.framed);
+    assert!(rt; gives(&mut source, alloc, VERSION_1.id, Ok(VERSION_2.framed)));
 }
 
-// The path of the object whose id starts with that byte.
-fn object(rt: &HostRuntime, at: &PathBuf, first: &str) -> Result<PathBuf, AllocError> {
-    let folder = at.join(rt.alloc(), first)?;
-    folder.join(rt.alloc(), "baae61804e65cc73a7201a7252750c76066a30")
-}
+// The framed bytes of `VERSION_1`.
+const FRAMED: &[u8] = b"blob 10\0version 1\n";
 
-fn write_at(rt: &HostRuntime, at: &PathBuf, name: &str, bytes: &[u8]) -> Result<(), Fail> {
-    fs::write(rt, at.join(rt.alloc(), name)?, bytes)?;
-    Ok(())
-}
-
-fn write_object(rt: &HostRuntime, at: &PathBuf, first: &str, bytes: &[u8]) -> Result<(), Fail> {
-    fs::write(rt, object(rt, at, first)?, bytes)?;
-    Ok(())
-}
-
-// Makes objects in an empty folder. By an id's first byte: 83 has an object, 84 has an empty file, 85 a directory in
-// the file's place, 86 a link to nothing, 87 a plain file in the folder's place, 88 a file that is too large, and 89
-// another object alone.
-fn make_objects(rt: &HostRuntime, at: &PathBuf) -> Result<(), Fail> {
-    for first in ["83", "84", "85", "86", "88", "89"] {
-        fs::create_dir(rt, at.join(rt.alloc(), first)?)?;
-    }
-    write_object(rt, at, "83", VERSION_1.framed)?;
-    write_object(rt, at, "84", b"")?;
-    write_at(rt, at, "87", VERSION_1.framed)?;
-    write_at(rt, at, "89/other", VERSION_1.framed)?;
-    make_odd(rt, at)
-}
-
-fn make_odd(rt: &HostRuntime, at: &PathBuf) -> Result<(), Fail> {
-    fs::create_dir(rt, object(rt, at, "85")?)?;
-    symlink(rt, "nothing", object(rt, at, "86")?)?;
-    fs::File::create(rt, object(rt, at, "88")?)?.set_len(1_073_741_841)?;
-    Ok(())
-}
+// What is in a folder of objects. By an id's first byte: 83 has an object, 84 has an empty file, 85 a directory in the
+// file's place, 86 a link to nothing, 87 a plain file in the folder's place, 88 a file that is too large, and 89 another
+// object alone.
+const OBJECTS: &[(&str, Made)] = &[
+    ("83", Made::Folder),
+    ("84", Made::Folder),
+    ("85", Made::Folder),
+    ("86", Made::Folder),
+    ("88", Made::Folder),
+    ("89", Made::Folder),
+    (
+        "83/baae61804e65cc73a7201a7252750c76066a30",
+        Made::File(FRAMED),
+    ),
+    ("84/baae61804e65cc73a7201a7252750c76066a30", Made::File(b"")),
+    ("87", Made::File(FRAMED)),
+    ("89/other", Made::File(FRAMED)),
+    ("85/baae61804e65cc73a7201a7252750c76066a30", Made::Folder),
+    (
+        "86/baae61804e65cc73a7201a7252750c76066a30",
+        Made::Link("nothing"),
+    ),
+    (
+        "88/baae61804e65cc73a7201a7252750c76066a30",
+        Made::Long(1_073_741_841),
+    ),
+];
 
 // The first byte of an id, the answer, and how many failures there are then.
 const ANSWERS: &[(u8, Result<&[u8], Cause>, u64)] = &[
-    (0x83, Ok(b"blob 10\0version 1\n"), 0),
+    (0x83, Ok(FRAMED), 0),
     (0x84, Ok(b""), 0),
     (0x85, Err(Cause::Device), 1),
     (0x86, Err(Cause::Device), 2),
@@ -115,20 +120,26 @@ const ANSWERS: &[(u8, Result<&[u8], Cause>, u64)] = &[
     (0x8a, Err(Cause::Missing), 3),
 ];
 
-#[test]
-fn folder_gives_its_files(rt: HostRuntime) -> Result<(), Fail> {
-    let folder = empty_folder(&rt, "source")?;
-    make_objects(&rt, &folder)?;
-    let mut source = FolderSource::new(&rt, folder.clone()?);
+// The first byte of the first id that has another answer in that folder, or after which other failures are counted.
+fn first_wrong(rt: &HostRuntime, folder: PathBuf) -> Option<u8> {
+    let mut source = FolderSource::new(rt, folder);
     for (first, want, failures) in ANSWERS {
-        let answer = ask(&mut source, rt.alloc(), id_starting(*first));
-        assert!(rt; is_answer(&answer, *want), "at {first:02x}");
-        assert!(rt; source.failures() == *failures, "at {first:02x}");
+        let is_answered = gives(&mut source, rt.alloc(), id_starting(*first), *want);
+        if !is_answered || source.failures() != *failures {
+            return Some(*first);
+        }
     }
-    fs::remove_dir_all(&rt, folder.as_path())?;
+    None
+}
+
+#[test]
+fn folder_gives_its_files(rt: HostRuntime) {
+    let folder = folder_of(&rt, "source", OBJECTS).expect(&rt, "objects");
+    let wrong = first_wrong(&rt, folder.clone().expect(&rt, "memory"));
+    assert_eq!(rt; wrong, None);
+    fs::remove_dir_all(&rt, folder.as_path()).expect(&rt, "a folder");
     let mut gone = FolderSource::new(&rt, folder);
-    assert!(rt; ask(&mut gone, rt.alloc(), VERSION_1.id) == Err(Cause::Missing));
-    Ok(())
+    assert!(rt; gives(&mut gone, rt.alloc(), VERSION_1.id, Err(Cause::Missing)));
 }
 
 const KINDS: &[(ErrorKind, Cause, u64)] = &[
@@ -145,31 +156,40 @@ fn fails(
     failures: u64,
 ) -> bool {
     let mut source = FolderSource::new(system, folder);
-    for _ in 0..2 {
-        if ask(&mut source, alloc, VERSION_1.id) != Err(want) {
-            return false;
+    gives(&mut source, alloc, VERSION_1.id, Err(want))
+        && gives(&mut source, alloc, VERSION_1.id, Err(want))
+        && source.failures() == failures
+}
+
+// Whether each call's failure of that kind is told so.
+fn all_fail(
+    rt: &HostRuntime,
+    folder: &PathBuf,
+    kind: ErrorKind,
+    want: Cause,
+    failures: u64,
+) -> Result<bool, AllocError> {
+    for call in [Call::Look, Call::Open, Call::Read] {
+        let system = FaultySystem {
+            files: rt,
+            call,
+            kind,
+            instead: None,
+        };
+        if !fails(system, rt.alloc(), folder.clone()?, want, failures) {
+            return Ok(false);
         }
     }
-    source.failures() == failures
+    Ok(true)
 }
 
 // A device that fails is no missing object, and is counted; want of memory is neither.
 #[test]
-fn failures_are_counted(rt: HostRuntime) -> Result<(), Fail> {
-    let folder = empty_folder(&rt, "source-failures")?;
-    make_objects(&rt, &folder)?;
+fn failures_are_counted(rt: HostRuntime) {
+    let folder = folder_of(&rt, "source-failures", OBJECTS).expect(&rt, "objects");
     for (kind, want, failures) in KINDS {
-        for call in [Call::Look, Call::Open, Call::Read] {
-            let system = FaultySystem {
-                files: &rt,
-                call,
-                kind: *kind,
-                instead: None,
-            };
-            let told = fails(system, rt.alloc(), folder.clone()?, *want, *failures);
-            assert!(rt; told, "{kind:?}");
-        }
+        let told = all_fail(&rt, &folder, *kind, *want, *failures);
+        assert!(rt; told == Ok(true), "{kind:?}");
     }
-    fs::remove_dir_all(&rt, folder.as_path())?;
-    Ok(())
+    fs::remove_dir_all(&rt, folder.as_path()).expect(&rt, "a folder");
 }

@@ -5,7 +5,6 @@ use linked_list_allocator::LocalHeap;
 use std::alloc::{AllocError, Allocator, Global};
 use std::collections::BTreeMap;
 use std::process::Abort;
-use std::test::Fail;
 
 /// Knuth's linear congruential generator, its upper half.
 fn random(state: &mut u64) -> u32 {
@@ -16,17 +15,15 @@ fn random(state: &mut u64) -> u32 {
 }
 
 /// A letter for each base-16 digit: names of one length, in the order of their numbers.
-fn name(alloc: Global, number: u32) -> Result<Name, AllocError> {
+fn name(rt: &impl Abort, alloc: Global, number: u32) -> Name {
     let mut letters = [b'a'; 8];
     let mut rest = number;
     for letter in letters.iter_mut().rev() {
         *letter = b'a' + (rest % 16) as u8;
         rest /= 16;
     }
-    match Name::new(Vec::from_slice(alloc, letters.as_slice())?) {
-        Ok(name) => Ok(name),
-        Err(_) => Err(AllocError),
-    }
+    let letters = Vec::from_slice(alloc, letters.as_slice()).expect(rt, "memory");
+    Name::new(letters).expect(rt, "a name")
 }
 
 fn entry<A: Allocator>(number: u64, child: Option<Box<Dir<A>, A>>) -> Entry<A> {
@@ -38,54 +35,45 @@ fn entry<A: Allocator>(number: u64, child: Option<Box<Dir<A>, A>>) -> Entry<A> {
     }
 }
 
-fn put<A: Allocator>(dir: &mut Dir<A>, name: Name, entry: Entry<A>) -> Result<(), AllocError> {
-    match dir.insert(name, entry) {
-        Ok(()) => Ok(()),
-        Err(_) => Err(AllocError),
-    }
+fn put<A: Allocator>(rt: &impl Abort, dir: &mut Dir<A>, name: Name, entry: Entry<A>) {
+    assert!(rt; dir.insert(name, entry).is_ok());
 }
 
-fn again<A: Allocator + Clone>(tree: &A) -> Result<A, AllocError> {
-    tree.clone()
+fn again<A: Allocator + Clone>(rt: &impl Abort, tree: &A) -> A {
+    tree.clone().expect(rt, "memory")
 }
 
 /// A directory of the names of the first numbers.
-fn wide<A: Allocator>(alloc: Global, tree: A, count: u32) -> Result<Dir<A>, AllocError> {
+fn wide<A: Allocator>(rt: &impl Abort, alloc: Global, tree: A, count: u32) -> Dir<A> {
     let mut dir = Dir::new(tree, 0);
     for number in 0..count {
-        put(
-            &mut dir,
-            name(alloc, number)?,
-            entry(u64::from(number), None),
-        )?;
+        let name = name(rt, alloc, number);
+        put(rt, &mut dir, name, entry(u64::from(number), None));
     }
-    Ok(dir)
+    dir
 }
 
 /// A directory of one entry, which holds that directory.
-fn above<A: Allocator + Clone>(
-    alloc: Global,
-    tree: &A,
-    below: Dir<A>,
-) -> Result<Dir<A>, AllocError> {
+fn above<A: Allocator + Clone>(rt: &impl Abort, alloc: Global, tree: &A, below: Dir<A>) -> Dir<A> {
     let stamp = below.stamp().wrapping_add(1);
-    let child = Box::new(again(tree)?, below).map_err(AllocError::from)?;
-    let mut dir = Dir::new(again(tree)?, stamp);
-    put(&mut dir, name(alloc, 7)?, entry(stamp, Some(child)))?;
-    Ok(dir)
+    let child = boxed(rt, tree, below);
+    let mut dir = Dir::new(again(rt, tree), stamp);
+    let name = name(rt, alloc, 7);
+    put(rt, &mut dir, name, entry(stamp, Some(child)));
+    dir
+}
+
+fn boxed<A: Allocator + Clone>(rt: &impl Abort, tree: &A, dir: Dir<A>) -> Box<Dir<A>, A> {
+    Box::new(again(rt, tree), dir).ok().expect(rt, "memory")
 }
 
 /// Loaded directories of one entry each, one inside another; the stamp is how many are below.
-fn nested<A: Allocator + Clone>(
-    alloc: Global,
-    tree: &A,
-    levels: u64,
-) -> Result<Dir<A>, AllocError> {
-    let mut dir = Dir::new(again(tree)?, 0);
+fn nested<A: Allocator + Clone>(rt: &impl Abort, alloc: Global, tree: &A, levels: u64) -> Dir<A> {
+    let mut dir = Dir::new(again(rt, tree), 0);
     for _ in 1..levels {
-        dir = above(alloc, tree, dir)?;
+        dir = above(rt, alloc, tree, dir);
     }
-    Ok(dir)
+    dir
 }
 
 /// The number of what was taken out.
@@ -102,15 +90,40 @@ fn are_those<A: Allocator>(back: &Name, handed: &Entry<A>, key: &Name, number: u
 }
 
 /// Puts a number under a name that the map doesn't have.
-fn put_new(
+fn put_new(rt: &impl Abort, map: &mut BTreeMap<Name, u64>, key: Name, number: u64) {
+    assert!(rt; map.get(&key).is_none());
+    map.insert(key, number)
+        .map_err(AllocError::from)
+        .expect(rt, "memory");
+}
+
+/// Takes out of both, and compares what they answer.
+fn take_of_both<A: Allocator>(
     rt: &impl Abort,
+    dir: &mut Dir<A>,
+    map: &mut BTreeMap<Name, u64>,
+    key: &Name,
+) {
+    assert!(rt; take_number(dir, key) == map.remove(key));
+}
+
+/// Puts into both, where the name isn't there yet, and compares what they answer.
+fn put_into_both<A: Allocator>(
+    rt: &impl Abort,
+    alloc: Global,
+    dir: &mut Dir<A>,
     map: &mut BTreeMap<Name, u64>,
     key: Name,
     number: u64,
-) -> Result<(), AllocError> {
-    assert!(rt; map.get(&key).is_none());
-    map.insert(key, number).map_err(AllocError::from)?;
-    Ok(())
+) {
+    let copy = key.copy(alloc).expect(rt, "memory");
+    match dir.insert(copy, entry(number, None)) {
+        Ok(()) => put_new(rt, map, key, number),
+        Err((back, handed)) => {
+            assert!(rt; map.get(&key).is_some());
+            assert!(rt; are_those(&back, &handed, &key, number));
+        }
+    }
 }
 
 /// Puts into both, or takes out of both, and compares what they answer.
@@ -120,20 +133,12 @@ fn change_both<A: Allocator>(
     dir: &mut Dir<A>,
     map: &mut BTreeMap<Name, u64>,
     word: u32,
-) -> Result<(), AllocError> {
-    let key = name(alloc, word % 3000)?;
-    let number = u64::from(word);
+) {
+    let key = name(rt, alloc, word % 3000);
     if word / 3000 % 2 == 0 {
-        assert!(rt; take_number(dir, &key) == map.remove(&key));
-        return Ok(());
-    }
-    match dir.insert(key.copy(alloc)?, entry(number, None)) {
-        Ok(()) => put_new(rt, map, key, number),
-        Err((back, handed)) => {
-            assert!(rt; map.get(&key).is_some());
-            assert!(rt; are_those(&back, &handed, &key, number));
-            Ok(())
-        }
+        take_of_both(rt, dir, map, &key);
+    } else {
+        put_into_both(rt, alloc, dir, map, key, u64::from(word));
     }
 }
 
@@ -154,80 +159,87 @@ fn change_often<A: Allocator>(
     alloc: Global,
     dir: &mut Dir<A>,
     map: &mut BTreeMap<Name, u64>,
-) -> Result<(), AllocError> {
+) {
     let mut state = 1;
     for _ in 0..10 {
         for _ in 0..1000 {
             let word = random(&mut state);
-            change_both(rt, alloc, dir, map, word)?;
+            change_both(rt, alloc, dir, map, word);
         }
         assert_alike(rt, dir, map);
     }
-    Ok(())
 }
 
-fn change_at_random<A: Allocator>(
-    rt: &impl Abort,
-    alloc: Global,
-    tree: A,
-) -> Result<(), AllocError> {
+fn change_at_random<A: Allocator>(rt: &impl Abort, alloc: Global, tree: A) {
     let mut dir = Dir::new(tree, 0);
     let mut map = BTreeMap::new(alloc);
-    change_often(rt, alloc, &mut dir, &mut map)
+    change_often(rt, alloc, &mut dir, &mut map);
 }
 
 #[test]
-fn random_changes_agree_with_an_ordered_map(rt: HostRuntime) -> Result<(), Fail> {
-    Ok(change_at_random(&rt, rt.alloc(), rt.alloc())?)
+fn random_changes_agree_with_an_ordered_map(rt: HostRuntime) {
+    change_at_random(&rt, rt.alloc(), rt.alloc());
 }
 
 fn lacks<A: Allocator>(dir: &Dir<A>, key: &Name) -> bool {
     dir.get(key).is_none()
 }
 
-/// Whether an insert found room. A refused one hands name and entry back, and changes nothing.
-fn finds_room<A: Allocator>(
+/// Whether what came back is what was given under that number, which the directory lacks.
+fn is_handed_back<A: Allocator>(
     rt: &impl Abort,
     alloc: Global,
-    dir: &mut Dir<A>,
+    dir: &Dir<A>,
+    back: &Name,
+    handed: &Entry<A>,
     number: u32,
-) -> Result<bool, AllocError> {
-    let key = name(alloc, number)?;
+) -> bool {
+    let key = name(rt, alloc, number);
+    are_those(back, handed, &key, u64::from(number)) && lacks(dir, &key)
+}
+
+/// Whether an insert found room. A refused one hands name and entry back, and changes nothing.
+fn finds_room<A: Allocator>(rt: &impl Abort, alloc: Global, dir: &mut Dir<A>, number: u32) -> bool {
     let before = dir.count();
-    match dir.insert(key.copy(alloc)?, entry(u64::from(number), None)) {
-        Ok(()) => Ok(true),
+    match dir.insert(name(rt, alloc, number), entry(u64::from(number), None)) {
+        Ok(()) => true,
         Err((back, handed)) => {
-            assert!(rt; are_those(&back, &handed, &key, u64::from(number)));
-            assert!(rt; dir.count() == before && lacks(dir, &key));
-            Ok(false)
+            assert!(rt; is_handed_back(rt, alloc, dir, &back, &handed, number));
+            assert!(rt; dir.count() == before);
+            false
         }
     }
 }
 
 /// Inserts until one is refused, and answers how many went in.
-fn fill<A: Allocator>(rt: &impl Abort, alloc: Global, dir: &mut Dir<A>) -> Result<u32, AllocError> {
+fn fill<A: Allocator>(rt: &impl Abort, alloc: Global, dir: &mut Dir<A>) -> u32 {
     for number in 0..100_000u32 {
-        if !finds_room(rt, alloc, dir, number)? {
-            return Ok(number);
+        if !finds_room(rt, alloc, dir, number) {
+            return number;
         }
     }
-    Ok(100_000)
+    100_000
 }
 
-fn fill_from<A: Allocator>(rt: &impl Abort, alloc: Global, tree: A) -> Result<u32, AllocError> {
+fn fill_from<A: Allocator>(rt: &impl Abort, alloc: Global, tree: A) -> u32 {
     let mut dir = Dir::new(tree, 0);
     fill(rt, alloc, &mut dir)
 }
 
+/// How many entries find room in so many bytes, which are all given back.
+fn room_in(rt: &impl Abort, alloc: Global, bytes: usize) -> u32 {
+    let heap = LocalHeap::new(alloc, bytes).expect(rt, "memory");
+    let count = fill_from(rt, alloc, &heap);
+    assert!(rt; heap.used() == 0);
+    count
+}
+
 #[test]
-fn each_refused_growth_hands_name_and_entry_back(rt: HostRuntime) -> Result<(), Fail> {
-    let alloc = rt.alloc();
+fn each_refused_growth_hands_name_and_entry_back(rt: HostRuntime) {
     let mut most = 0u32;
     let mut size = 64usize;
     for _ in 0..16 {
-        let heap = LocalHeap::new(alloc, size)?;
-        let count = fill_from(&rt, alloc, &heap)?;
-        assert!(rt; heap.used() == 0);
+        let count = room_in(&rt, rt.alloc(), size);
         assert!(rt;
             count / 2 <= most.saturating_add(2),
             "no growth at {most} was refused"
@@ -236,7 +248,6 @@ fn each_refused_growth_hands_name_and_entry_back(rt: HostRuntime) -> Result<(), 
         size = size.saturating_mul(2);
     }
     assert!(rt; most > 1000);
-    Ok(())
 }
 
 /// Attaches where the entry is a directory's and holds none.
@@ -259,21 +270,30 @@ fn remove_loaded<A: Allocator>(rt: &impl Abort, dir: &mut Dir<A>, name: &Name) {
     assert!(rt; child.stamp() == 2 && !child.unsaved());
 }
 
-/// Moves what is below one directory's entry to another's, and takes that entry out.
-fn move_subtree<A: Allocator>(
+/// Takes the only loaded directory out.
+fn detach_loaded<A: Allocator>(rt: &impl Abort, dir: &mut Dir<A>, name: &Name) -> Box<Dir<A>, A> {
+    let loaded = dir.detach(name).expect(rt, "a loaded directory");
+    assert!(rt; dir.depth() == 1 && dir.detach(name).is_none());
+    loaded
+}
+
+/// Attaches a directory of three levels, and takes its entry out of nine.
+fn attach_and_remove<A: Allocator>(
     rt: &impl Abort,
-    alloc: Global,
-    from: &mut Dir<A>,
     to: &mut Dir<A>,
-) -> Result<(), AllocError> {
-    let (first, second) = (name(alloc, 7)?, name(alloc, 8)?);
-    let moved = from.detach(&first).expect(rt, "a loaded directory");
-    assert!(rt; from.depth() == 1 && from.detach(&first).is_none());
-    attach_where_free(rt, to, &second, moved);
+    name: &Name,
+    moved: Box<Dir<A>, A>,
+) {
+    attach_where_free(rt, to, name, moved);
     assert!(rt; to.depth() == 4);
-    remove_loaded(rt, to, &second);
+    remove_loaded(rt, to, name);
     assert!(rt; to.depth() == 1 && to.count() == 8);
-    Ok(())
+}
+
+/// Moves what is below one directory's entry to another's, and takes that entry out.
+fn move_subtree<A: Allocator>(rt: &impl Abort, alloc: Global, from: &mut Dir<A>, to: &mut Dir<A>) {
+    let moved = detach_loaded(rt, from, &name(rt, alloc, 7));
+    attach_and_remove(rt, to, &name(rt, alloc, 8), moved);
 }
 
 fn move_into_wide<A: Allocator + Clone>(
@@ -281,37 +301,32 @@ fn move_into_wide<A: Allocator + Clone>(
     alloc: Global,
     tree: &A,
     from: &mut Dir<A>,
-) -> Result<(), AllocError> {
-    let mut to = wide(alloc, again(tree)?, 9)?;
-    move_subtree(rt, alloc, from, &mut to)
+) {
+    let mut to = wide(rt, alloc, again(rt, tree), 9);
+    move_subtree(rt, alloc, from, &mut to);
 }
 
-fn move_from_nested<A: Allocator + Clone>(
-    rt: &impl Abort,
-    alloc: Global,
-    tree: &A,
-) -> Result<(), AllocError> {
-    let mut from = nested(alloc, tree, 4)?;
-    move_into_wide(rt, alloc, tree, &mut from)
+fn move_from_nested<A: Allocator + Clone>(rt: &impl Abort, alloc: Global, tree: &A) {
+    let mut from = nested(rt, alloc, tree, 4);
+    move_into_wide(rt, alloc, tree, &mut from);
 }
 
 #[test]
-fn a_subtree_moves_without_a_copy(rt: HostRuntime) -> Result<(), Fail> {
-    Ok(move_from_nested(&rt, rt.alloc(), &rt.alloc())?)
+fn a_subtree_moves_without_a_copy(rt: HostRuntime) {
+    move_from_nested(&rt, rt.alloc(), &rt.alloc());
 }
 
 /// Makes a directory of depth 256 and one of a million entries, and drops them.
-fn drops<A: Allocator + Clone>(alloc: Global, tree: &A) -> Result<bool, AllocError> {
-    let depth = nested(alloc, tree, 256)?.depth();
-    let count = wide(alloc, again(tree)?, 1_000_000)?.count();
-    Ok(depth == 256 && count == 1_000_000)
+fn drops<A: Allocator + Clone>(rt: &impl Abort, alloc: Global, tree: &A) -> bool {
+    let depth = nested(rt, alloc, tree, 256).depth();
+    let count = wide(rt, alloc, again(rt, tree), 1_000_000).count();
+    depth == 256 && count == 1_000_000
 }
 
 #[test]
-fn deep_and_wide_directories_are_dropped(rt: HostRuntime) -> Result<(), Fail> {
+fn deep_and_wide_directories_are_dropped(rt: HostRuntime) {
     let alloc = rt.alloc();
-    assert!(rt; drops(alloc, &alloc)?);
-    Ok(())
+    assert!(rt; drops(&rt, alloc, &alloc));
 }
 
 /// Marks a loaded directory as unsaved, and counts it: whether one is loaded.
@@ -354,34 +369,25 @@ fn state_at<A: Allocator>(root: &Entry<A>, path: &[Name]) -> Option<(u64, bool)>
     }
 }
 
-fn sevens(alloc: Global) -> Result<[Name; 3], AllocError> {
-    Ok([name(alloc, 7)?, name(alloc, 7)?, name(alloc, 7)?])
+fn sevens(rt: &impl Abort, alloc: Global) -> [Name; 3] {
+    [name(rt, alloc, 7), name(rt, alloc, 7), name(rt, alloc, 7)]
 }
 
 /// Goes down the only entries, each under the name of 7: stamps two levels, and marks the one below them.
-fn change_below<A: Allocator>(
-    rt: &impl Abort,
-    alloc: Global,
-    root: &mut Entry<A>,
-) -> Result<(), AllocError> {
-    let path = sevens(alloc)?;
+fn change_below<A: Allocator>(rt: &impl Abort, alloc: Global, root: &mut Entry<A>) {
+    let path = sevens(rt, alloc);
     stamp_and_mark(rt, root, &path);
     assert!(rt; state_at(root, &path[..0]) == Some((77, false)));
     assert!(rt; state_at(root, &path[..1]) == Some((77, false)));
     assert!(rt; state_at(root, &path[..2]) == Some((0, true)));
-    Ok(())
 }
 
-fn change_in_nested<A: Allocator + Clone>(
-    rt: &impl Abort,
-    alloc: Global,
-    tree: &A,
-) -> Result<(), AllocError> {
-    let dir = Box::new(again(tree)?, nested(alloc, tree, 3)?).map_err(AllocError::from)?;
-    change_below(rt, alloc, &mut entry(1, Some(dir)))
+fn change_in_nested<A: Allocator + Clone>(rt: &impl Abort, alloc: Global, tree: &A) {
+    let dir = nested(rt, alloc, tree, 3);
+    change_below(rt, alloc, &mut entry(1, Some(boxed(rt, tree, dir))));
 }
 
 #[test]
-fn a_path_is_stamped_and_its_end_changed(rt: HostRuntime) -> Result<(), Fail> {
-    Ok(change_in_nested(&rt, rt.alloc(), &rt.alloc())?)
+fn a_path_is_stamped_and_its_end_changed(rt: HostRuntime) {
+    change_in_nested(&rt, rt.alloc(), &rt.alloc());
 }
