@@ -1,42 +1,53 @@
 // Attempts of requests on a warm checkout: each kind of request again and again, nothing fetched.
-use crate::checkout::{Place, Tree, directory, file, is_done, opened};
-use crate::name::name;
-use crate::timing::Timing;
-use eden_model::{Bytes, Outside, Path, Request};
-use eden_overlay::{Files, FolderFiles, MemoryFiles};
+use crate::bench::Bench;
+use crate::checkout::{Place, Tree, Use, is_done, is_used, opened, path_in, request};
+use crate::keeps::Keeps;
+use crate::name::{deep, name};
+use eden_model::{Outside, Request};
+use eden_overlay::Files;
 use std::alloc::{AllocError, Global};
 use std::io;
-use std::path::PathBuf;
-use std::rt::{self, Clock};
-use std::time::Instant;
+use std::slice::from_ref;
 
-/// How deep the directories stand that are looked at.
-const DEPTHS: [usize; 3] = [1, 8, 64];
+/// How deep the directories stand, one inside the other.
+const DEEPEST: u32 = 64;
 
-/// The sizes in bytes of the files that are read and written.
-const SIZES: [u64; 2] = [4_096, 1 << 20];
+/// The depths of those that are looked at, and what is told of each.
+const DEPTHS: &[(u32, &str)] = &[
+    (1, "kind at depth 1"),
+    (8, "kind at depth 8"),
+    (64, "kind at depth 64"),
+];
 
-/// How many bytes are read.
-const READS: [u64; 2] = [4_096, 65_536];
+/// The sizes in bytes of the files that are read and written; each file's number is its size.
+const SIZES: &[u64] = &[4_096, 1 << 20];
 
-/// How many bytes are written.
-const WRITTEN: usize = 4_096;
+/// What is asked of the files again and again, and what is told of it.
+const USES: &[(u64, Use, &str)] = &[
+    (4_096, Use::Read(0, 4_096), "read of 4096 bytes of 4096"),
+    (4_096, Use::Read(0, 65_536), "read of 65536 bytes of 4096"),
+    (4_096, Use::Write(0, 4_096), "write of 4096 bytes into 4096"),
+    (
+        1 << 20,
+        Use::Read(0, 4_096),
+        "read of 4096 bytes of 1048576",
+    ),
+    (
+        1 << 20,
+        Use::Read(0, 65_536),
+        "read of 65536 bytes of 1048576",
+    ),
+    (
+        1 << 20,
+        Use::Write(0, 4_096),
+        "write of 4096 bytes into 1048576",
+    ),
+];
 
 /// How often a look in memory is repeated, and how often a request on contents.
 const LOOKS: u32 = 100_000;
 
 const ROUNDS: u32 = 1_000;
-
-/// The path of so many first names. None where it is none.
-fn deep(alloc: Global, depth: usize) -> Result<Option<Path>, AllocError> {
-    let mut names = Vec::new(alloc);
-    for _ in 0..depth {
-        if let Some(name) = name(alloc, 0)? {
-            names.push(name)?;
-        }
-    }
-    Ok(Path::new(names).ok())
-}
 
 /// Makes the requests in turn, so many times, and answers how many were done.
 fn repeat<F: Files<Outside>>(
@@ -58,162 +69,114 @@ fn repeat<F: Files<Outside>>(
 
 /// Makes the requests in turn, so many times, and tells how many were done, and how long each took. They were made once
 /// before, so that what they look at is loaded.
-fn measure<R: Print + Clock + AllocGlobal, F: Files<Outside>>(
-    rt: &R,
+fn measure<F: Files<Outside>>(
+    bench: Bench,
     tree: &mut Tree<F>,
     what: &str,
     requests: &[Request],
     rounds: u32,
-    timing: Timing,
 ) -> io::Result<()> {
-    repeat(rt.alloc(), tree, requests, 1);
-    let start = Instant::now(rt)?;
-    let done = repeat(rt.alloc(), tree, requests, rounds);
-    println!(rt; "  {what}: {done}")?;
-    timing.tell_each(rt, what, &start, done)
+    repeat(bench.alloc(), tree, requests, 1);
+    let start = bench.start();
+    let done = repeat(bench.alloc(), tree, requests, rounds);
+    println!(bench.rt; "  {what}: {done}")?;
+    bench.time_each(what, start, done)
 }
 
-/// The kinds of directories that stand so deep, one inside the other.
-fn measure_kinds<R: Print + Clock + AllocGlobal, F: Files<Outside>>(
-    rt: &R,
-    tree: &mut Tree<F>,
-    timing: Timing,
-) -> io::Result<()> {
-    let alloc = rt.alloc();
-    for depth in 1..65 {
+/// Makes directories, one inside the other.
+fn make_chain<F: Files<Outside>>(alloc: Global, tree: &mut Tree<F>) -> Result<(), AllocError> {
+    for depth in 1..=DEEPEST {
         if let Some(path) = deep(alloc, depth)? {
             is_done(alloc, tree, &Request::Mkdir(path));
         }
     }
-    for depth in DEPTHS {
-        if let Some(path) = deep(alloc, depth)? {
-            let what = format!(in alloc; "kind at depth {depth}")?;
+    Ok(())
+}
+
+/// The kinds of directories that stand so deep.
+fn measure_kinds<F: Files<Outside>>(bench: Bench, tree: &mut Tree<F>) -> io::Result<()> {
+    for (depth, what) in DEPTHS {
+        if let Some(path) = deep(bench.alloc(), *depth)? {
             let request = Request::Kind(path);
-            measure(rt, tree, what.as_str(), &[request], LOOKS, timing)?;
+            measure(bench, tree, what, from_ref(&request), LOOKS)?;
         }
     }
     Ok(())
 }
 
-/// Makes a file of that size, of zeros. False where it can't be made.
+/// Makes a file of that size, of zeros.
 fn make_file<F: Files<Outside>>(
     alloc: Global,
     tree: &mut Tree<F>,
     size: u64,
-) -> Result<bool, AllocError> {
-    let made = match file(alloc, Place::Root, size)? {
-        None => false,
-        Some(path) => is_done(alloc, tree, &Request::Create(path)),
-    };
-    let resized = match file(alloc, Place::Root, size)? {
-        None => false,
-        Some(path) => is_done(alloc, tree, &Request::Truncate(path, size)),
-    };
-    Ok(made && resized)
-}
-
-/// Reads of a file of that size.
-fn measure_reads<R: Print + Clock + AllocGlobal, F: Files<Outside>>(
-    rt: &R,
-    tree: &mut Tree<F>,
-    size: u64,
-    timing: Timing,
-) -> io::Result<()> {
-    let alloc = rt.alloc();
-    for count in READS {
-        if let Some(path) = file(alloc, Place::Root, size)? {
-            let what = format!(in alloc; "read of {count} bytes of {size}")?;
-            let request = Request::Read(path, 0, count);
-            measure(rt, tree, what.as_str(), &[request], ROUNDS, timing)?;
-        }
-    }
+) -> Result<(), AllocError> {
+    is_used(alloc, tree, size, Use::Create)?;
+    is_used(alloc, tree, size, Use::Truncate(size))?;
     Ok(())
 }
 
-/// Writes into a file of that size, which is stored whole each time.
-fn measure_writes<R: Print + Clock + AllocGlobal, F: Files<Outside>>(
-    rt: &R,
-    tree: &mut Tree<F>,
-    size: u64,
-    timing: Timing,
-) -> io::Result<()> {
-    let alloc = rt.alloc();
-    if let Some(path) = file(alloc, Place::Root, size)? {
-        let what = format!(in alloc; "write of {WRITTEN} bytes into {size}")?;
-        let bytes = Bytes::new(Vec::from_elem(alloc, 0x2a, WRITTEN)?);
-        let request = Request::Write(path, 0, bytes);
-        measure(rt, tree, what.as_str(), &[request], ROUNDS, timing)?;
+/// Reads of the files, and writes, after each of which the whole file is stored.
+fn measure_uses<F: Files<Outside>>(bench: Bench, tree: &mut Tree<F>) -> io::Result<()> {
+    for (number, used, what) in USES {
+        if let Some(request) = request(bench.alloc(), Place::Root, *number, *used)? {
+            measure(bench, tree, what, from_ref(&request), ROUNDS)?;
+        }
     }
     Ok(())
 }
 
 /// A page of the commit's directory, from its middle on.
-fn measure_pages<R: Print + Clock + AllocGlobal, F: Files<Outside>>(
-    rt: &R,
+fn measure_pages<F: Files<Outside>>(
+    bench: Bench,
     tree: &mut Tree<F>,
     count: u32,
-    timing: Timing,
 ) -> io::Result<()> {
-    let alloc = rt.alloc();
-    if let Some(path) = directory(alloc)? {
-        let after = name(alloc, u64::from(count / 2))?;
-        let request = Request::List(path, after, 100);
-        measure(rt, tree, "list of 100", &[request], ROUNDS, timing)?;
-    }
-    Ok(())
-}
-
-/// A file made in the commit's directory, and removed.
-fn measure_adding<R: Print + Clock + AllocGlobal, F: Files<Outside>>(
-    rt: &R,
-    tree: &mut Tree<F>,
-    count: u32,
-    timing: Timing,
-) -> io::Result<()> {
-    let alloc = rt.alloc();
-    let number = u64::from(count).saturating_add(1);
-    if let Some(path) = file(alloc, Place::Directory, number)?
-        && let Some(again) = file(alloc, Place::Directory, number)?
-    {
-        let requests = [Request::Create(path), Request::Unlink(again)];
-        measure(rt, tree, "create and unlink", &requests, ROUNDS, timing)?;
-    }
-    Ok(())
-}
-
-/// Attempts over these files, on a commit with a directory of so many files.
-fn run_over<R: Print + Clock + AllocGlobal, F: Files<Outside>>(
-    rt: &R,
-    files: F,
-    count: u32,
-    timing: Timing,
-) -> io::Result<()> {
-    let Some(mut tree) = opened(rt.alloc(), files, count)? else {
-        return println!(rt; "not opened");
-    };
-    println!(rt; "attempts, a directory of {count} files among them")?;
-    measure_kinds(rt, &mut tree, timing)?;
-    for size in SIZES {
-        if make_file(rt.alloc(), &mut tree, size)? {
-            measure_reads(rt, &mut tree, size, timing)?;
-            measure_writes(rt, &mut tree, size, timing)?;
+    let after = name(bench.alloc(), u64::from(count / 2))?;
+    match path_in(bench.alloc(), Place::Directory, None)? {
+        None => Ok(()),
+        Some(path) => {
+            let request = Request::List(path, after, 100);
+            measure(bench, tree, "list of 100", from_ref(&request), ROUNDS)
         }
     }
-    measure_pages(rt, &mut tree, count, timing)?;
-    measure_adding(rt, &mut tree, count, timing)
 }
 
-/// Attempts over files in memory.
-pub fn run<R: Print + Clock + AllocGlobal>(rt: &R, count: u32, timing: Timing) -> io::Result<()> {
-    run_over(rt, MemoryFiles::new(rt.alloc()), count, timing)
+/// A file that is made in the commit's directory, and removed.
+fn coming_and_going(alloc: Global, number: u64) -> Result<Vec<Request>, AllocError> {
+    let mut requests = Vec::new(alloc);
+    for used in &[Use::Create, Use::Unlink] {
+        if let Some(request) = request(alloc, Place::Directory, number, *used)? {
+            requests.push(request)?;
+        }
+    }
+    Ok(requests)
 }
 
-/// .. and over files in a folder, which has to be there and empty.
-pub fn run_on<R: Print + Clock + AllocGlobal + rt::Files>(
-    rt: &R,
-    folder: &PathBuf,
-    count: u32,
-    timing: Timing,
-) -> io::Result<()> {
-    run_over(rt, FolderFiles::new(rt, folder.clone()?), count, timing)
+/// Attempts over files, on a commit with a directory of so many files.
+fn run_on<F: Files<Outside>>(bench: Bench, tree: &mut Tree<F>, count: u32) -> io::Result<()> {
+    println!(bench.rt; "attempts, a directory of {count} files among them")?;
+    make_chain(bench.alloc(), tree)?;
+    measure_kinds(bench, tree)?;
+    for size in SIZES {
+        make_file(bench.alloc(), tree, *size)?;
+    }
+    measure_uses(bench, tree)?;
+    measure_pages(bench, tree, count)?;
+    let requests = coming_and_going(bench.alloc(), u64::from(count).saturating_add(1))?;
+    measure(
+        bench,
+        tree,
+        "create and unlink",
+        requests.as_slice(),
+        ROUNDS,
+    )
+}
+
+/// Attempts over the files that are kept there.
+pub fn run<F: Files<Outside>, K: Keeps<F>>(bench: Bench, keeps: &K, count: u32) -> io::Result<()> {
+    let files = keeps.files(bench.alloc())?;
+    match opened(bench.alloc(), files, count)? {
+        None => println!(bench.rt; "not opened"),
+        Some(mut tree) => run_on(bench, &mut tree, count),
+    }
 }

@@ -5,73 +5,34 @@ ghost use Rattle.eden_object.specs.Trees.{NamesDiffer};
 ghost use Rattle.eden_tree.specs.Directory.{Row};
 ghost use Rattle.eden_tie.specs.Filing.{HasFile};
 
-use crate::inodes::{entries_of, load, table};
-use crate::name::name;
-use crate::timing::Timing;
-use eden_inode::Inodes;
+use crate::bench::{Bench, Part};
+use crate::inodes::{Table, entries_of, nest, rounds, tables};
+use crate::keeps::Keeps;
+use crate::name::{chain, name};
+use crate::tree::{Order, tree_body};
 use eden_materialise::set_kind;
 use eden_model::{Kind, Name, Outside, TreeEntry};
-use eden_overlay::{Files, FolderFiles, MemoryFiles};
-use std::alloc::{Alloc, AllocError, Global};
+use eden_overlay::Files;
+use std::alloc::{AllocError, Global};
 use std::io;
-use std::path::PathBuf;
-use std::rt::{self, Clock};
-use std::time::Instant;
 
 /// How many names the changed paths have.
-const DEPTHS: [u32; 3] = [1, 8, 64];
+const DEPTHS: &[u32] = &[1, 8, 64];
 
-/// About how many entries are loaded for each depth, in memory and on a folder, where a store waits for the device.
-const IN_MEMORY: u32 = 1_000_000;
+const FIRST: Part = Part {
+    before: "  first changes: ",
+    after: "",
+    time: "the first change",
+};
 
-const ON_FOLDER: u32 = 10_000;
-
-/// The body of a tree of so many entries in Git's order, of which the first is a directory and the others are files.
-fn chain_body(alloc: Global, count: u32) -> Result<Vec<u8>, AllocError> {
-    let mut body = Vec::new(alloc);
-    for number in 0..count {
-        let mode = if number == 0 { "40000" } else { "100644" };
-        let entry = format!(in alloc; "{mode} file{number:010}\0")?;
-        body.extend_from_slice(entry.as_bytes())?;
-        body.extend_from_slice(&[0x2a; 20])?;
-    }
-    Ok(body)
-}
-
-/// The path of so many first entries. None where a text is no name.
-fn path(alloc: Global, depth: u32) -> Result<Option<Vec<Name>>, AllocError> {
-    let mut path = Vec::new(alloc);
-    for _ in 0..depth {
-        match name(alloc, 0)? {
-            None => return Ok(None),
-            Some(name) => path.push(name)?,
-        }
-    }
-    Ok(Some(path))
-}
-
-/// A table of the chain's directories, all loaded as objects.
-fn loaded<F: Files<Outside>>(
-    alloc: Global,
-    files: F,
-    path: &[Name],
-    entries: &[TreeEntry],
-) -> Inodes<Global, Outside, F>
-    requires { NamesDiffer entries.now }
-{
-    let mut table = table(alloc, files);
-    for depth in 0..=path.len() {
-        load(alloc, &mut table, &path[..depth], entries);
-    }
-    table
-}
+const SECOND: Part = Part {
+    before: "  second changes: ",
+    after: "",
+    time: "the second change",
+};
 
 /// Whether the loaded directory at a path has a file of that name.
-fn has_file<F: Files<Outside>>(
-    table: &Inodes<Global, Outside, F>,
-    path: &[Name],
-    name: &Name,
-) -> bool
+fn has_file<F: Files<Outside>>(table: &Table<F>, path: &[Name], name: &Name) -> bool
     ensures { IsTrue result → (w : Row) × HasFile table.now.root path.now name.now w }
 {
     match table.directory(path) {
@@ -86,7 +47,7 @@ fn has_file<F: Files<Outside>>(
 /// Gives the file of each table that kind, and answers of how many it was given.
 fn change_all<F: Files<Outside>>(
     alloc: Global,
-    tables: &mut [Inodes<Global, Outside, F>],
+    tables: &mut [Table<F>],
     path: &[Name],
     name: &Name,
     kind: Kind,
@@ -102,108 +63,94 @@ fn change_all<F: Files<Outside>>(
     changed
 }
 
-/// Changes the file of each table for the first time, and again.
-fn measure<R: Print + Clock + AllocGlobal, F: Files<Outside>>(
-    rt: &R,
-    tables: &mut [Inodes<Global, Outside, F>],
+/// Gives the file of each table that kind.
+fn measure<F: Files<Outside>>(
+    bench: Bench,
+    tables: &mut [Table<F>],
     path: &[Name],
     name: &Name,
-    timing: Timing,
-) -> io::Result<()> {
-    let start = Instant::now(rt)?;
-    let changed = change_all(rt.alloc(), tables, path, name, Kind::Exec);
-    println!(rt; "  first changes: {changed}")?;
-    timing.tell_each(rt, "the first change", &start, changed)?;
-    let start = Instant::now(rt)?;
-    let changed = change_all(rt.alloc(), tables, path, name, Kind::File);
-    println!(rt; "  second changes: {changed}")?;
-    timing.tell_each(rt, "the second change", &start, changed)
+    kind: Kind,
+    part: Part,
+) -> io::Result<()>
+    requires { kind ≢ kinds.Dir }
+{
+    let start = bench.start();
+    let changed = change_all(bench.alloc(), tables, path, name, kind);
+    bench.tell(part, u64::from(changed), start, changed)
 }
 
-/// A table over each of the files, the chain of directories along the path loaded.
-fn tables<F: Files<Outside>>(
-    alloc: Global,
-    all: Vec<F>,
+/// Changes the file of each table for the first time, and again.
+fn measure_both<F: Files<Outside>>(
+    bench: Bench,
+    tables: &mut [Table<F>],
     path: &[Name],
+) -> io::Result<()> {
+    match name(bench.alloc(), 1)? {
+        None => println!(bench.rt; "  no name"),
+        Some(name) => {
+            measure(bench, tables, path, &name, Kind::Exec, FIRST)?;
+            measure(bench, tables, path, &name, Kind::File, SECOND)
+        }
+    }
+}
+
+/// Loads a chain of directories along the names into each table.
+fn nest_all<F: Files<Outside>>(
+    alloc: Global,
+    tables: &mut [Table<F>],
+    names: &[Name],
     entries: &[TreeEntry],
-) -> Result<Vec<Inodes<Global, Outside, F>>, AllocError>
+)
     requires { NamesDiffer entries.now }
 {
-    let mut tables = Vec::new(alloc);
-    for files in all {
-        tables.push(loaded(alloc, files, path, entries))?;
+    for table in tables {
+        nest(alloc, table, names, entries);
     }
-    Ok(tables)
 }
 
-/// Changes a file below so many names, in directories of so many entries, over each of the files.
-fn measure_depth<R: Print + Clock + AllocGlobal, F: Files<Outside>>(
-    rt: &R,
-    all: Vec<F>,
+/// Loads a chain of directories along the names into each table, each of so many entries. How many those are.
+fn load_chains<F: Files<Outside>>(
+    alloc: Global,
+    tables: &mut [Table<F>],
+    names: &[Name],
+    count: u32,
+) -> Result<usize, AllocError> {
+    let body = tree_body(alloc, Order::Chain, count)?;
+    let entries = entries_of(alloc, body.as_slice())?;
+    nest_all(alloc, tables, names, entries.as_slice());
+    Ok(entries.len())
+}
+
+/// Changes a file of each table below the names, in directories of so many entries.
+fn measure_tables<F: Files<Outside>>(
+    bench: Bench,
+    tables: &mut [Table<F>],
+    names: &[Name],
+    count: u32,
+) -> io::Result<()> {
+    let entries = load_chains(bench.alloc(), tables, names, count)?;
+    let depth = names.len();
+    println!(bench.rt; "changes at depth {depth}, directories of {entries} entries")?;
+    measure_both(bench, tables, &names[..depth.saturating_sub(1)])
+}
+
+/// Changes a file below so many names, in directories of so many entries.
+fn measure_depth<F: Files<Outside>, K: Keeps<F>>(
+    bench: Bench,
+    keeps: &K,
     depth: u32,
     count: u32,
-    timing: Timing,
 ) -> io::Result<()> {
-    let alloc = rt.alloc();
-    let (Some(path), Some(file)) = (path(alloc, depth.saturating_sub(1))?, name(alloc, 1)?) else {
-        return println!(rt; "  no path");
-    };
-    let body = chain_body(alloc, count)?;
-    let entries = entries_of(alloc, body.as_slice())?;
-    let mut tables = tables(alloc, all, path.as_slice(), entries.as_slice())?;
-    println!(rt;
-        "changes at depth {depth}, directories of {} entries",
-        entries.len()
-    )?;
-    measure(rt, tables.as_mut_slice(), path.as_slice(), &file, timing)
+    let rounds = rounds(keeps.entries(), depth.saturating_mul(count));
+    let names = chain(bench.alloc(), depth)?;
+    let mut tables = tables(bench.alloc(), keeps, rounds)?;
+    measure_tables(bench, tables.as_mut_slice(), names.as_slice(), count)
 }
 
-/// How many tables are changed at a depth, for about so many entries.
-fn rounds(entries: u32, depth: u32, count: u32) -> u32 {
-    (entries / depth.saturating_mul(count).max(1)).max(1)
-}
-
-fn in_memory(alloc: Global, rounds: u32) -> Result<Vec<MemoryFiles<Outside>>, AllocError> {
-    let mut all = Vec::new(alloc);
-    for _ in 0..rounds {
-        all.push(MemoryFiles::new(alloc))?;
-    }
-    Ok(all)
-}
-
-/// Files in one folder, once for each round.
-fn on_folder<'a, R: rt::Files + Alloc>(
-    rt: &'a R,
-    alloc: Global,
-    folder: &PathBuf,
-    rounds: u32,
-) -> Result<Vec<FolderFiles<&'a R>>, AllocError> {
-    let mut all = Vec::new(alloc);
-    for _ in 0..rounds {
-        all.push(FolderFiles::new(rt, folder.clone()?))?;
-    }
-    Ok(all)
-}
-
-/// The first change and the second one, at several depths in directories of so many entries, over files in memory.
-pub fn run<R: Print + Clock + AllocGlobal>(rt: &R, count: u32, timing: Timing) -> io::Result<()> {
+/// The first change and the second one, at several depths in directories of so many entries.
+pub fn run<F: Files<Outside>, K: Keeps<F>>(bench: Bench, keeps: &K, count: u32) -> io::Result<()> {
     for depth in DEPTHS {
-        let all = in_memory(rt.alloc(), rounds(IN_MEMORY, depth, count))?;
-        measure_depth(rt, all, depth, count, timing)?;
-    }
-    Ok(())
-}
-
-/// .. and over files in a folder, which has to be there.
-pub fn run_on<R: Print + Clock + AllocGlobal + rt::Files>(
-    rt: &R,
-    folder: &PathBuf,
-    count: u32,
-    timing: Timing,
-) -> io::Result<()> {
-    for depth in DEPTHS {
-        let all = on_folder(rt, rt.alloc(), folder, rounds(ON_FOLDER, depth, count))?;
-        measure_depth(rt, all, depth, count, timing)?;
+        measure_depth(bench, keeps, *depth, count)?;
     }
     Ok(())
 }

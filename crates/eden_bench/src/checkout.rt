@@ -1,9 +1,9 @@
-// A checkout of a commit whose objects are at hand.
+// A checkout of a commit whose objects are at hand, and requests on its files.
 use crate::name::name;
 use crate::tree::{Order, framed_tree};
 use eden_cache::ObjectCache;
 use eden_checkout::Checkout;
-use eden_model::{Attempt, Id, Key, Name, ObjKind, Outside, Path, Reply, Request};
+use eden_model::{Attempt, Bytes, Id, Key, Name, ObjKind, Outside, Path, Reply, Request};
 use eden_mount::Attempts;
 use eden_object::{Object, id_of};
 use eden_overlay::Files;
@@ -12,64 +12,52 @@ use std::alloc::{AllocError, Global};
 /// How many bytes the objects that are at hand have at most.
 const CACHE_BYTES: u64 = 1 << 30;
 
+/// The name of the commit's one directory.
+const DIRECTORY: &[u8] = b"d";
+
 pub type Tree<F> = Checkout<Global, Outside, F>;
 
-/// A commit with one directory `d`: the framed trees, and the root's id.
-#[derive(Drop)]
-struct Commit {
-    root: Id,
-    trees: Vec<(Key, Vec<u8>)>,
-}
-
 /// Where a file stands.
-#[derive(Clone, Copy, Debug, PartialEq, Eq)]
+#[derive(Clone, Copy)]
 pub enum Place {
     Root,
     /// In the commit's directory.
     Directory,
 }
 
-fn key(framed: &[u8]) -> Key {
-    Key {
-        kind: ObjKind::Tree,
-        id: id_of(framed),
-    }
+/// What is asked of a file: an offset stands before a length.
+#[derive(Clone, Copy)]
+pub enum Use {
+    Create,
+    Unlink,
+    Truncate(u64),
+    Read(u64, u64),
+    Write(u64, usize),
 }
 
 /// The tree whose one entry is that directory.
 fn framed_root(alloc: Global, directory: Id) -> Result<Vec<u8>, AllocError> {
-    let mut framed = Vec::from_slice(alloc, b"tree 28\0".as_slice())?;
-    framed.extend_from_slice(b"40000 d\0".as_slice())?;
+    let mut framed = Vec::from_slice(alloc, b"tree 28\x0040000 d\0".as_slice())?;
     framed.extend_from_slice(directory.bytes.as_slice())?;
     Ok(framed)
 }
 
-/// A commit whose directory has so many files.
-fn make_commit(alloc: Global, count: u32) -> Result<Commit, AllocError> {
-    let directory = framed_tree(alloc, Order::Git, count)?;
-    let inner = key(directory.as_slice());
-    let root = framed_root(alloc, inner.id)?;
-    let outer = key(root.as_slice());
-    let mut trees = Vec::new(alloc);
-    trees.push((inner, directory))?;
-    trees.push((outer, root))?;
-    Ok(Commit {
-        root: outer.id,
-        trees,
-    })
+/// Puts a tree in. False where it is none, or where memory is refused.
+fn bring<F: Files<Outside>>(alloc: Global, tree: &mut Tree<F>, framed: Vec<u8>) -> bool {
+    let key = Key {
+        kind: ObjKind::Tree,
+        id: id_of(framed.as_slice()),
+    };
+    match Object::checked(alloc, key, framed) {
+        Err(_) => false,
+        Ok(object) => tree.put(key, object).is_ok(),
+    }
 }
 
-/// Puts the trees in. False where one is none.
-fn bring<F: Files<Outside>>(alloc: Global, tree: &mut Tree<F>, trees: Vec<(Key, Vec<u8>)>) -> bool {
-    for (key, framed) in trees {
-        let Ok(object) = Object::checked(alloc, key, framed) else {
-            return false;
-        };
-        if tree.put(key, object).is_err() {
-            return false;
-        }
-    }
-    true
+/// A checkout over these files of the commit with that root. None where it isn't opened.
+fn open<F: Files<Outside>>(alloc: Global, files: F, root: Id) -> Option<Tree<F>> {
+    let cache = ObjectCache::new(alloc, 8, CACHE_BYTES, 8).ok()?;
+    Checkout::open(alloc, alloc, files, root, cache).ok()
 }
 
 /// A checkout over these files of a commit whose directory has so many files. None where it isn't opened.
@@ -78,38 +66,61 @@ pub fn opened<F: Files<Outside>>(
     files: F,
     count: u32,
 ) -> Result<Option<Tree<F>>, AllocError> {
-    let cache = ObjectCache::new(alloc, 8, CACHE_BYTES, 8)?;
-    let Commit { root, trees } = make_commit(alloc, count)?;
-    let Ok(mut tree) = Checkout::open(alloc, alloc, files, root, cache) else {
-        return Ok(None);
-    };
-    if bring(alloc, &mut tree, trees) {
-        return Ok(Some(tree));
+    let directory = framed_tree(alloc, Order::Git, count)?;
+    let root = framed_root(alloc, id_of(directory.as_slice()))?;
+    match open(alloc, files, id_of(root.as_slice())) {
+        None => Ok(None),
+        Some(mut tree) => {
+            let is_whole = bring(alloc, &mut tree, directory) && bring(alloc, &mut tree, root);
+            Ok(if is_whole { Some(tree) } else { None })
+        }
     }
-    Ok(None)
 }
 
-/// The path of the commit's directory. None where it is none.
-pub fn directory(alloc: Global) -> Result<Option<Path>, AllocError> {
+/// The path of these names in a directory. None where it is none.
+pub fn path_in(
+    alloc: Global,
+    place: Place,
+    name: Option<Name>,
+) -> Result<Option<Path>, AllocError> {
     let mut names = Vec::new(alloc);
-    if let Ok(name) = Name::new(Vec::from_slice(alloc, b"d".as_slice())?) {
-        names.push(name)?;
-    }
-    Ok(Path::new(names).ok())
-}
-
-/// The path of the file of that number. None where it is none.
-pub fn file(alloc: Global, place: Place, number: u64) -> Result<Option<Path>, AllocError> {
-    let mut names = Vec::new(alloc);
-    if place == Place::Directory
-        && let Ok(name) = Name::new(Vec::from_slice(alloc, b"d".as_slice())?)
+    if matches!(place, Place::Directory)
+        && let Ok(directory) = Name::new(Vec::from_slice(alloc, DIRECTORY)?)
     {
-        names.push(name)?;
+        names.push(directory)?;
     }
-    if let Some(name) = name(alloc, number)? {
+    if let Some(name) = name {
         names.push(name)?;
     }
     Ok(Path::new(names).ok())
+}
+
+/// The request on the file at a path.
+fn request_at(alloc: Global, path: Path, what: Use) -> Result<Request, AllocError> {
+    Ok(match what {
+        Use::Create => Request::Create(path),
+        Use::Unlink => Request::Unlink(path),
+        Use::Truncate(size) => Request::Truncate(path, size),
+        Use::Read(offset, length) => Request::Read(path, offset, length),
+        Use::Write(offset, length) => {
+            let bytes = Bytes::new(Vec::from_elem(alloc, 0x2a, length)?);
+            Request::Write(path, offset, bytes)
+        }
+    })
+}
+
+/// The request on the file of that number. None where its path is none.
+pub fn request(
+    alloc: Global,
+    place: Place,
+    number: u64,
+    what: Use,
+) -> Result<Option<Request>, AllocError> {
+    let name = name(alloc, number)?;
+    match path_in(alloc, place, name)? {
+        None => Ok(None),
+        Some(path) => Ok(Some(request_at(alloc, path, what)?)),
+    }
 }
 
 /// Whether an attempt ends with a reply that is no error and no fault.
@@ -118,5 +129,18 @@ pub fn is_done<F: Files<Outside>>(alloc: Global, tree: &mut Tree<F>, request: &R
         Attempt::Need(_) => false,
         Attempt::Finished(Reply::Err(_) | Reply::Fault(_)) => false,
         Attempt::Finished(_) => true,
+    }
+}
+
+/// Whether the root's file of that number is so used.
+pub fn is_used<F: Files<Outside>>(
+    alloc: Global,
+    tree: &mut Tree<F>,
+    number: u64,
+    what: Use,
+) -> Result<bool, AllocError> {
+    match request(alloc, Place::Root, number, what)? {
+        None => Ok(false),
+        Some(request) => Ok(is_done(alloc, tree, &request)),
     }
 }

@@ -2,19 +2,18 @@
 ghost use Rattle.std.specs.Prelude.{IfOk};
 ghost use Rattle.eden_object.specs.Trees.{NamesDiffer};
 
-use crate::name::name;
-use crate::timing::Timing;
+use crate::bench::{Bench, Part};
+use crate::keeps::{InMemory, Keeps};
+use crate::name::chain;
 use crate::tree::{Order, tree_body};
 use eden_inode::Inodes;
-use eden_model::{Id, Mode, Name, Origin, Outside, TreeEntry};
+use eden_model::{Id, Name, Origin, Outside, TreeEntry};
 use eden_object::decode_tree;
 use eden_overlay::{Files, MemoryFiles, Overlay};
 use eden_tree::Entry;
 use std::alloc::{AllocError, Global};
 use std::io;
 use std::mem::size_of;
-use std::rt::Clock;
-use std::time::Instant;
 
 /// How many entries are read, loaded and unloaded in all.
 const ENTRIES: u32 = 1_000_000;
@@ -23,7 +22,14 @@ const ENTRIES: u32 = 1_000_000;
 const LOOKS: u32 = 1_000_000;
 
 /// How many directories are loaded one inside the other.
-const DEPTH: u64 = 64;
+const DEPTH: u32 = 64;
+
+/// How many names the paths have that are looked along, and what is told of it.
+const PATHS: &[(usize, &str)] = &[
+    (1, " looks at depth 1 found their entry"),
+    (8, " looks at depth 8 found their entry"),
+    (64, " looks at depth 64 found their entry"),
+];
 
 /// The id of every directory: what it has is given.
 const ID: Id = Id { bytes: [0x2a; 20] };
@@ -31,18 +37,40 @@ const ID: Id = Id { bytes: [0x2a; 20] };
 /// The first number that is given.
 const FIRST: u64 = 2;
 
+const READ: Part = Part {
+    before: "  entries read: ",
+    after: "",
+    time: "decode_tree, an entry",
+};
+
+const LOADED: Part = Part {
+    before: "  entries loaded: ",
+    after: "",
+    time: "load, an entry",
+};
+
+const UNLOADED: Part = Part {
+    before: "  directories unloaded: ",
+    after: "",
+    time: "unload, an entry",
+};
+
+/// A table of inodes over such files.
+pub type Table<F> = Inodes<Global, Outside, F>;
+
 /// A table over files in memory.
-type Table = Inodes<Global, Outside, MemoryFiles<Outside>>;
+type Kept = Table<MemoryFiles<Outside>>;
 
-/// A table over these files whose root is an object and isn't loaded.
-pub fn table<F: Files<Outside>>(alloc: Global, files: F) -> Inodes<Global, Outside, F> {
-    Inodes::new(alloc, Overlay::new(files), Origin::Object(ID), FIRST)
-}
-
-fn tables(alloc: Global, count: u32) -> Result<Vec<Table>, AllocError> {
+/// So many tables whose roots are objects and aren't loaded.
+pub fn tables<F: Files<Outside>, K: Keeps<F>>(
+    alloc: Global,
+    keeps: &K,
+    count: u32,
+) -> Result<Vec<Table<F>>, AllocError> {
     let mut tables = Vec::new(alloc);
     for _ in 0..count {
-        tables.push(table(alloc, MemoryFiles::new(alloc)))?;
+        let overlay = Overlay::new(keeps.files(alloc)?);
+        tables.push(Inodes::new(alloc, overlay, Origin::Object(ID), FIRST))?;
     }
     Ok(tables)
 }
@@ -58,20 +86,21 @@ pub fn entries_of(alloc: Global, body: &[u8]) -> Result<Vec<TreeEntry>, AllocErr
 }
 
 /// How many entries the readings found.
-fn read_again(alloc: Global, body: &[u8], rounds: u32) -> Result<usize, AllocError> {
+fn read_again(alloc: Global, body: &[u8], rounds: u32) -> usize {
     let mut found = 0usize;
     for _ in 0..rounds {
-        let entries = entries_of(alloc, body)?;
-        found = found.saturating_add(entries.len());
+        if let Ok(entries) = entries_of(alloc, body) {
+            found = found.saturating_add(entries.len());
+        }
     }
-    Ok(found)
+    found
 }
 
 /// Loads the directory at a path from those entries. False where none is there that a tree object has, or where memory
 /// is refused.
-pub fn load<F: Files<Outside>>(
+fn load<F: Files<Outside>>(
     alloc: Global,
-    table: &mut Inodes<Global, Outside, F>,
+    table: &mut Table<F>,
     path: &[Name],
     entries: &[TreeEntry],
 ) -> bool
@@ -83,8 +112,26 @@ pub fn load<F: Files<Outside>>(
     }
 }
 
+/// Loads a directory of those entries for each of the names, where those before it lead, and answers how many were.
+pub fn nest<F: Files<Outside>>(
+    alloc: Global,
+    table: &mut Table<F>,
+    names: &[Name],
+    entries: &[TreeEntry],
+) -> u32
+    requires { NamesDiffer entries.now }
+{
+    let mut loaded = 0u32;
+    for depth in 0..names.len() {
+        if load(alloc, table, &names[..depth], entries) {
+            loaded = loaded.saturating_add(1);
+        }
+    }
+    loaded
+}
+
 /// Loads the root of each table from those entries, and answers how many numbers were given.
-fn load_all(alloc: Global, tables: &mut [Table], entries: &[TreeEntry]) -> u64
+fn load_all(alloc: Global, tables: &mut [Kept], entries: &[TreeEntry]) -> u64
     requires { NamesDiffer entries.now }
 {
     let mut given = 0u64;
@@ -97,7 +144,7 @@ fn load_all(alloc: Global, tables: &mut [Table], entries: &[TreeEntry]) -> u64
 }
 
 /// Unloads all of each table, and answers how many directories went.
-fn unload_all(alloc: Global, tables: &mut [Table]) -> u64 {
+fn unload_all(alloc: Global, tables: &mut [Kept]) -> u64 {
     let mut gone = 0u64;
     for table in tables {
         gone = gone.saturating_add(table.unload(alloc, &[], 0));
@@ -105,98 +152,45 @@ fn unload_all(alloc: Global, tables: &mut [Table]) -> u64 {
     gone
 }
 
-/// Reads the entries of a tree's body, so many in all.
-fn measure_reads<R: Print + Clock + AllocGlobal>(
-    rt: &R,
-    body: &[u8],
-    rounds: u32,
-    all: u32,
-    timing: Timing,
-) -> io::Result<()> {
-    let start = Instant::now(rt)?;
-    let found = read_again(rt.alloc(), body, rounds)?;
-    println!(rt; "  entries read: {found}")?;
-    timing.tell_each(rt, "decode_tree, an entry", &start, all)
+/// How often so many have to be taken, at least once, to be about as many in all.
+pub fn rounds(all: u32, count: u32) -> u32 {
+    all.checked_div(count).unwrap_or(all).max(1)
 }
 
-/// Loads the root of each table from those entries, so many in all, and unloads it.
-fn measure_loads<R: Print + Clock + AllocGlobal>(
-    rt: &R,
-    tables: &mut [Table],
-    entries: &[TreeEntry],
-    all: u32,
-    timing: Timing,
-) -> io::Result<()>
+/// Reads the entries of a tree's body, so many in all.
+fn measure_reads(bench: Bench, body: &[u8], rounds: u32, all: u32) -> io::Result<()> {
+    let start = bench.start();
+    let found = read_again(bench.alloc(), body, rounds);
+    bench.tell(READ, found as u64, start, all)
+}
+
+/// Loads the root of so many tables from those entries, so many in all, and unloads it.
+fn measure_loads(bench: Bench, entries: &[TreeEntry], rounds: u32, all: u32) -> io::Result<()>
     requires { NamesDiffer entries.now }
 {
-    let start = Instant::now(rt)?;
-    let given = load_all(rt.alloc(), tables, entries);
-    println!(rt; "  entries loaded: {given}")?;
-    timing.tell_each(rt, "load, an entry", &start, all)?;
-    let start = Instant::now(rt)?;
-    let gone = unload_all(rt.alloc(), tables);
-    println!(rt; "  directories unloaded: {gone}")?;
-    timing.tell_each(rt, "unload, an entry", &start, all)
+    let mut tables = tables(bench.alloc(), &InMemory, rounds)?;
+    let start = bench.start();
+    let given = load_all(bench.alloc(), tables.as_mut_slice(), entries);
+    bench.tell(LOADED, given, start, all)?;
+    let start = bench.start();
+    let gone = unload_all(bench.alloc(), tables.as_mut_slice());
+    bench.tell(UNLOADED, gone, start, all)
 }
 
 /// Directories of so many entries, which stand in that order.
-fn measure_directory<R: Print + Clock + AllocGlobal>(
-    rt: &R,
-    order: Order,
-    count: u32,
-    timing: Timing,
-) -> io::Result<()> {
-    let alloc = rt.alloc();
-    let rounds = (ENTRIES / count.max(1)).max(1);
+fn measure_directory(bench: Bench, order: Order, count: u32) -> io::Result<()> {
+    let rounds = rounds(ENTRIES, count);
     let all = rounds.saturating_mul(count);
-    println!(rt;
-        "directories of {count} entries in {}, {rounds} of them",
-        order.text()
-    )?;
-    let body = tree_body(alloc, order, count)?;
-    measure_reads(rt, body.as_slice(), rounds, all, timing)?;
-    let entries = entries_of(alloc, body.as_slice())?;
-    let mut tables = tables(alloc, rounds)?;
-    measure_loads(rt, tables.as_mut_slice(), entries.as_slice(), all, timing)
-}
-
-/// The names of the nested directories.
-fn names(alloc: Global) -> Result<Vec<Name>, AllocError> {
-    let mut names = Vec::new(alloc);
-    for number in 0..DEPTH {
-        if let Some(name) = name(alloc, number)? {
-            names.push(name)?;
-        }
-    }
-    Ok(names)
-}
-
-/// The entries of a directory that has one, a directory of that name.
-fn one_entry(alloc: Global, name: &Name) -> Result<Vec<TreeEntry>, AllocError>
-    ensures { IfOk result (λ v. NamesDiffer v.items) }
-{
-    let entry = TreeEntry {
-        mode: Mode::Dir,
-        name: name.copy(alloc)?,
-        id: ID,
-    };
-    Ok(Vec::from_array(alloc, [entry])?)
-}
-
-/// Loads a directory for each of the names, where those before it lead, and answers how many were.
-fn nest(alloc: Global, table: &mut Table, names: &[Name]) -> Result<u32, AllocError> {
-    let mut loaded = 0u32;
-    for (depth, name) in names.iter().enumerate() {
-        let entries = one_entry(alloc, name)?;
-        if load(alloc, table, &names[..depth], entries.as_slice()) {
-            loaded = loaded.saturating_add(1);
-        }
-    }
-    Ok(loaded)
+    let text = order.text();
+    println!(bench.rt; "directories of {count} entries in {text}, {rounds} of them")?;
+    let body = tree_body(bench.alloc(), order, count)?;
+    measure_reads(bench, body.as_slice(), rounds, all)?;
+    let entries = entries_of(bench.alloc(), body.as_slice())?;
+    measure_loads(bench, entries.as_slice(), rounds, all)
 }
 
 /// How many of the looks found an entry under the last name.
-fn look_again(table: &mut Table, path: &[Name]) -> u32 {
+fn look_again(table: &mut Kept, path: &[Name]) -> u32 {
     let mut found = 0u32;
     for _ in 0..LOOKS {
         if table.look(path).names == path.len() {
@@ -206,38 +200,48 @@ fn look_again(table: &mut Table, path: &[Name]) -> u32 {
     found
 }
 
-/// Looks along the first so many of the names, all of them where they are fewer.
-fn measure_looks<R: Print + Clock>(
-    rt: &R,
-    table: &mut Table,
-    names: &[Name],
-    depth: usize,
-    timing: Timing,
-) -> io::Result<()> {
-    let path = &names[..depth.min(names.len())];
-    let start = Instant::now(rt)?;
-    let found = look_again(table, path);
-    println!(rt; "{found} looks at depth {} found their entry", path.len())?;
-    timing.tell_each(rt, "a look", &start, LOOKS)
-}
-
-/// Looks along paths of several lengths, through directories of one entry each.
-fn measure_paths<R: Print + Clock + AllocGlobal>(rt: &R, timing: Timing) -> io::Result<()> {
-    let names = names(rt.alloc())?;
-    let mut table: Table = table(rt.alloc(), MemoryFiles::new(rt.alloc()));
-    let loaded = nest(rt.alloc(), &mut table, names.as_slice())?;
-    println!(rt; "{loaded} directories nested")?;
-    for depth in [1, 8, 64] {
-        measure_looks(rt, &mut table, names.as_slice(), depth, timing)?;
+/// Looks along the first names of several numbers.
+fn measure_looks(bench: Bench, table: &mut Kept, names: &[Name]) -> io::Result<()> {
+    for (depth, after) in PATHS {
+        let looks = Part {
+            before: "",
+            after,
+            time: "a look",
+        };
+        let path = &names[..names.len().min(*depth)];
+        let start = bench.start();
+        let found = look_again(table, path);
+        bench.tell(looks, u64::from(found), start, LOOKS)?;
     }
     Ok(())
 }
 
+/// Looks along paths of several lengths, through directories of these entries.
+fn measure_nested(bench: Bench, table: &mut Kept, entries: &[TreeEntry]) -> io::Result<()>
+    requires { NamesDiffer entries.now }
+{
+    let names = chain(bench.alloc(), DEPTH)?;
+    let loaded = nest(bench.alloc(), table, names.as_slice(), entries);
+    println!(bench.rt; "{loaded} directories nested")?;
+    measure_looks(bench, table, names.as_slice())
+}
+
+/// Looks along paths of several lengths, through directories of one entry each.
+fn measure_paths(bench: Bench) -> io::Result<()> {
+    let body = tree_body(bench.alloc(), Order::Chain, 1)?;
+    let entries = entries_of(bench.alloc(), body.as_slice())?;
+    let mut tables = tables(bench.alloc(), &InMemory, 1)?;
+    match tables.first_mut() {
+        None => Ok(()),
+        Some(table) => measure_nested(bench, table, entries.as_slice()),
+    }
+}
+
 /// Reads, loads and unloads directories of so many entries, in Git's order and in a random one, and looks along paths.
-pub fn run<R: Print + Clock + AllocGlobal>(rt: &R, count: u32, timing: Timing) -> io::Result<()> {
-    measure_directory(rt, Order::Git, count, timing)?;
-    measure_directory(rt, Order::Random, count, timing)?;
-    measure_paths(rt, timing)?;
+pub fn run(bench: Bench, count: u32) -> io::Result<()> {
+    measure_directory(bench, Order::Git, count)?;
+    measure_directory(bench, Order::Random, count)?;
+    measure_paths(bench)?;
     let bytes = size_of::<(Name, Entry<Global>)>();
-    println!(rt; "a loaded entry takes {bytes} bytes and its name's")
+    println!(bench.rt; "a loaded entry takes {bytes} bytes and its name's")
 }

@@ -1,13 +1,11 @@
 // An own file that is written in pieces from nothing, and read in pages.
-use crate::checkout::{Place, Tree, file, is_done, opened};
-use crate::timing::Timing;
-use eden_model::{Bytes, Outside, Request};
-use eden_overlay::{Files, FolderFiles, MemoryFiles};
+use crate::bench::Bench;
+use crate::checkout::{Tree, Use, is_used, opened};
+use crate::keeps::Keeps;
+use eden_model::Outside;
+use eden_overlay::Files;
 use std::alloc::{AllocError, Global};
 use std::io;
-use std::path::PathBuf;
-use std::rt::{self, Clock};
-use std::time::Instant;
 
 /// How many bytes a page and a piece have: the most that a request reads or writes.
 const PIECE: u32 = 65_536;
@@ -19,112 +17,83 @@ const LARGE: u64 = 1;
 
 const SMALL: u64 = 2;
 
-/// The requests on the file, each from the piece's offset on.
-#[derive(Clone, Copy, Debug, PartialEq, Eq)]
-enum Use {
-    Write,
+/// What is done with the pieces of the file.
+#[derive(Clone, Copy)]
+enum Way {
+    Written,
     Read,
 }
 
-fn request(alloc: Global, what: Use, piece: u32) -> Result<Option<Request>, AllocError> {
-    let Some(path) = file(alloc, Place::Root, LARGE)? else {
-        return Ok(None);
-    };
+/// The use of one piece of the file.
+fn used(way: Way, piece: u32) -> Use {
     let offset = u64::from(piece) * u64::from(PIECE);
-    let request = match what {
-        Use::Read => Request::Read(path, offset, u64::from(PIECE)),
-        Use::Write => {
-            let bytes = Vec::from_elem(alloc, 0x2a, PIECE as usize)?;
-            Request::Write(path, offset, Bytes::new(bytes))
-        }
-    };
-    Ok(Some(request))
+    match way {
+        Way::Written => Use::Write(offset, PIECE as usize),
+        Way::Read => Use::Read(offset, u64::from(PIECE)),
+    }
 }
 
 /// Uses the first pieces of the file in their order, and answers of how many it was done.
 fn use_pieces<F: Files<Outside>>(
     alloc: Global,
     tree: &mut Tree<F>,
-    what: Use,
+    way: Way,
     pieces: u32,
 ) -> Result<u32, AllocError> {
     let mut done = 0u32;
     for piece in 0..pieces {
-        if let Some(request) = request(alloc, what, piece)?
-            && is_done(alloc, tree, &request)
-        {
+        if is_used(alloc, tree, LARGE, used(way, piece))? {
             done = done.saturating_add(1);
         }
     }
     Ok(done)
 }
 
-/// Makes an empty file.
-fn create<F: Files<Outside>>(
-    alloc: Global,
-    tree: &mut Tree<F>,
-    number: u64,
-) -> Result<bool, AllocError> {
-    match file(alloc, Place::Root, number)? {
-        None => Ok(false),
-        Some(path) => Ok(is_done(alloc, tree, &Request::Create(path))),
-    }
-}
-
-fn measure<R: Print + Clock + AllocGlobal, F: Files<Outside>>(
-    rt: &R,
+fn measure<F: Files<Outside>>(
+    bench: Bench,
     tree: &mut Tree<F>,
     part: &str,
-    what: Use,
+    way: Way,
     pieces: u32,
-    timing: Timing,
 ) -> io::Result<()> {
-    let start = Instant::now(rt)?;
-    let done = use_pieces(rt.alloc(), tree, what, pieces)?;
-    println!(rt; "  {part}: {done}")?;
-    timing.tell(rt, part, &start)
+    let start = bench.start();
+    let done = use_pieces(bench.alloc(), tree, way, pieces)?;
+    println!(bench.rt; "  {part}: {done}")?;
+    bench.time(part, start)
 }
 
-/// Writes and reads a file of so many MiB over these files. The first page is read after another file's turn.
-fn run_over<R: Print + Clock + AllocGlobal, F: Files<Outside>>(
-    rt: &R,
-    files: F,
-    count: u32,
-    timing: Timing,
-) -> io::Result<()> {
-    let Some(mut tree) = opened(rt.alloc(), files, 1)? else {
-        return println!(rt; "not opened");
-    };
+/// Writes the file, so many pieces.
+fn write<F: Files<Outside>>(bench: Bench, tree: &mut Tree<F>, pieces: u32) -> io::Result<()> {
+    if is_used(bench.alloc(), tree, LARGE, Use::Create)? {
+        measure(bench, tree, "written in pieces", Way::Written, pieces)
+    } else {
+        Ok(())
+    }
+}
+
+/// Reads the file, so many pieces, the first of them after another file's turn.
+fn read<F: Files<Outside>>(bench: Bench, tree: &mut Tree<F>, pieces: u32) -> io::Result<()> {
+    if is_used(bench.alloc(), tree, SMALL, Use::Create)? {
+        measure(bench, tree, "the first page", Way::Read, 1)?;
+        measure(bench, tree, "all pages", Way::Read, pieces)
+    } else {
+        Ok(())
+    }
+}
+
+/// Writes and reads a file of so many MiB.
+fn run_on<F: Files<Outside>>(bench: Bench, tree: &mut Tree<F>, count: u32) -> io::Result<()> {
     let pieces = count.saturating_mul(PIECES);
-    println!(rt; "an own file of {count} MiB")?;
-    if create(rt.alloc(), &mut tree, LARGE)? {
-        measure(
-            rt,
-            &mut tree,
-            "written in pieces",
-            Use::Write,
-            pieces,
-            timing,
-        )?;
-    }
-    if create(rt.alloc(), &mut tree, SMALL)? {
-        measure(rt, &mut tree, "the first page", Use::Read, 1, timing)?;
-        measure(rt, &mut tree, "all pages", Use::Read, pieces, timing)?;
-    }
-    Ok(())
+    println!(bench.rt; "an own file of {count} MiB")?;
+    write(bench, tree, pieces)?;
+    read(bench, tree, pieces)
 }
 
-/// A file over files in memory.
-pub fn run<R: Print + Clock + AllocGlobal>(rt: &R, count: u32, timing: Timing) -> io::Result<()> {
-    run_over(rt, MemoryFiles::new(rt.alloc()), count, timing)
-}
-
-/// .. and over files in a folder, which has to be there and empty.
-pub fn run_on<R: Print + Clock + AllocGlobal + rt::Files>(
-    rt: &R,
-    folder: &PathBuf,
-    count: u32,
-    timing: Timing,
-) -> io::Result<()> {
-    run_over(rt, FolderFiles::new(rt, folder.clone()?), count, timing)
+/// A file over the files that are kept there.
+pub fn run<F: Files<Outside>, K: Keeps<F>>(bench: Bench, keeps: &K, count: u32) -> io::Result<()> {
+    let files = keeps.files(bench.alloc())?;
+    match opened(bench.alloc(), files, 1)? {
+        None => println!(bench.rt; "not opened"),
+        Some(mut tree) => run_on(bench, &mut tree, count),
+    }
 }

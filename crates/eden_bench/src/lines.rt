@@ -1,12 +1,10 @@
 // The line protocol: lines that are read into requests, and replies whose texts are written.
-use crate::timing::Timing;
+use crate::bench::{Bench, Part};
 use eden_model::{Bytes, Kind, Reply};
 use eden_wire::{Item, Scratch, read_request, write_reply};
 use std::alloc::{AllocError, Global};
 use std::io;
 use std::io::Write;
-use std::rt::Clock;
-use std::time::Instant;
 
 /// The bytes that a request reads or writes.
 const PAGE: usize = 4_096;
@@ -28,15 +26,20 @@ impl Write for Counter {
     }
 }
 
+/// Whether the line is a request's.
+fn asks(alloc: Global, line: &[u8]) -> bool {
+    matches!(read_request(alloc, line), Ok(Item::Asks(_)))
+}
+
 /// How many of the readings found a request.
-fn read_again(alloc: Global, line: &[u8], rounds: u32) -> Result<u32, AllocError> {
+fn read_again(alloc: Global, line: &[u8], rounds: u32) -> u32 {
     let mut found = 0u32;
     for _ in 0..rounds {
-        if let Item::Asks(_) = read_request(alloc, line)? {
+        if asks(alloc, line) {
             found = found.saturating_add(1);
         }
     }
-    Ok(found)
+    found
 }
 
 /// How many bytes the texts took.
@@ -51,50 +54,52 @@ fn write_again(alloc: Global, reply: &Reply, rounds: u32) -> Result<u64, AllocEr
 }
 
 /// A request's line is read so often, and its reply's text written.
-fn exchange<R: Print + Clock + AllocGlobal>(
-    rt: &R,
-    name: &str,
-    line: &[u8],
-    reply: &Reply,
-    rounds: u32,
-    timing: Timing,
-) -> io::Result<()> {
-    let start = Instant::now(rt)?;
-    let found = read_again(rt.alloc(), line, rounds)?;
-    println!(rt; "{name}: {found} lines read")?;
-    timing.tell_each(rt, "a line", &start, rounds)?;
-    let start = Instant::now(rt)?;
-    let bytes = write_again(rt.alloc(), reply, rounds)?;
-    println!(rt; "{name}: {bytes} bytes of texts written")?;
-    timing.tell_each(rt, "a text", &start, rounds)
+fn exchange(bench: Bench, name: &str, line: &[u8], reply: &Reply, rounds: u32) -> io::Result<()> {
+    let lines = Part {
+        before: name,
+        after: " lines read",
+        time: "a line",
+    };
+    let texts = Part {
+        before: name,
+        after: " bytes of texts written",
+        time: "a text",
+    };
+    let start = bench.start();
+    let found = read_again(bench.alloc(), line, rounds);
+    bench.tell(lines, u64::from(found), start, rounds)?;
+    let start = bench.start();
+    let bytes = write_again(bench.alloc(), reply, rounds)?;
+    bench.tell(texts, bytes, start, rounds)
 }
 
 /// The line that writes a page.
-fn writing(alloc: Global) -> Result<String, AllocError> {
-    let mut line = String::new(alloc);
-    line.push_str("write /folder/file.txt 0 ")?;
+fn writing(alloc: Global) -> Result<Vec<u8>, AllocError> {
+    let mut line = Vec::from_slice(alloc, b"write /folder/file.txt 0 ".as_slice())?;
     for _ in 0..PAGE {
-        line.push_str("2a")?;
+        line.extend_from_slice(b"2a")?;
     }
     Ok(line)
 }
 
-/// Reads and writes so many of each of three requests: a kind, a page that is read, and a page that is written.
-pub fn run<R: Print + Clock + AllocGlobal>(rt: &R, count: u32, timing: Timing) -> io::Result<()> {
-    let page = Vec::from_elem(rt.alloc(), 0x2a, PAGE)?;
-    let data = Reply::Data(Bytes::new(page));
-    let line = writing(rt.alloc())?;
-    let kind = Reply::Kind(Kind::File);
+/// A page that is read.
+fn measure_reading(bench: Bench, count: u32) -> io::Result<()> {
+    let page = Reply::Data(Bytes::new(Vec::from_elem(bench.alloc(), 0x2a, PAGE)?));
+    let line = b"read /folder/file.txt 0 4096";
+    exchange(bench, "read of 4 KB: ", line, &page, count)
+}
+
+/// A page that is written.
+fn measure_writing(bench: Bench, count: u32) -> io::Result<()> {
+    let line = writing(bench.alloc())?;
     let written = Reply::Count(PAGE as u64);
-    exchange(rt, "kind", b"kind /folder/file.txt", &kind, count, timing)?;
-    let reading = b"read /folder/file.txt 0 4096";
-    exchange(rt, "read of 4 KB", reading, &data, count, timing)?;
-    exchange(
-        rt,
-        "write of 4 KB",
-        line.as_bytes(),
-        &written,
-        count,
-        timing,
-    )
+    exchange(bench, "write of 4 KB: ", line.as_slice(), &written, count)
+}
+
+/// Reads and writes so many of each of three requests: a kind, a page that is read, and a page that is written.
+pub fn run(bench: Bench, count: u32) -> io::Result<()> {
+    let kind = Reply::Kind(Kind::File);
+    exchange(bench, "kind: ", b"kind /folder/file.txt", &kind, count)?;
+    measure_reading(bench, count)?;
+    measure_writing(bench, count)
 }

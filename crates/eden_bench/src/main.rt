@@ -3,68 +3,84 @@
 #![tactic(auto)]
 
 mod attempts;
+mod bench;
 mod cache;
 mod changes;
 mod checkout;
 mod directory;
 mod inodes;
+mod keeps;
 mod large;
 mod lines;
 mod name;
 mod oracle;
 mod overlay;
-mod timing;
 mod tree;
 
+use bench::Bench;
+use eden_model::Outside;
+use eden_overlay::Files;
+use keeps::{InFolder, InMemory, Keeps};
 use std::alloc::Global;
 use std::path::PathBuf;
 use std::process::ExitCode;
-use std::rt::{Clock, Env};
+use std::rt::Env;
 use std::{env, io};
-use timing::Timing;
 
 const USAGE: &str =
     "usage: eden_bench attempts|cache|changes|directory|inodes|large|lines|overlay|tree COUNT [timed], \
      or eden_bench attempts|changes|large COUNT timed FOLDER, or eden_bench oracle";
 
-/// Runs the workload that the words name. False where they name none.
-fn run<R: Print + Clock + AllocGlobal>(rt: &R, words: &[String]) -> io::Result<bool> {
-    let (name, count, timing) = match words {
-        [_, name, count] => (name, count, Timing::Untimed),
-        [_, name, count, last] if last.as_str() == "timed" => (name, count, Timing::Timed),
-        _ => return Ok(false),
-    };
-    let Ok(count) = count.as_str().parse::<u32>() else {
-        return Ok(false);
-    };
-    match name.as_str() {
-        "attempts" => attempts::run(rt, count, timing)?,
-        "cache" => cache::run(rt, count, timing)?,
-        "changes" => changes::run(rt, count, timing)?,
-        "directory" => directory::run(rt, count, timing)?,
-        "inodes" => inodes::run(rt, count, timing)?,
-        "large" => large::run(rt, count, timing)?,
-        "lines" => lines::run(rt, count, timing)?,
-        "overlay" => overlay::run(rt, count, timing)?,
-        "tree" => tree::run(rt, count, timing)?,
-        _ => return Ok(false),
+/// Runs a workload over the files that are kept there. None where the name is of no such workload.
+fn run_over<F: Files<Outside>, K: Keeps<F>>(
+    bench: Bench,
+    keeps: &K,
+    name: &str,
+    count: u32,
+) -> Option<io::Result<()>> {
+    match name {
+        "attempts" => Some(attempts::run(bench, keeps, count)),
+        "changes" => Some(changes::run(bench, keeps, count)),
+        "large" => Some(large::run(bench, keeps, count)),
+        _ => None,
     }
-    Ok(true)
 }
 
-/// Runs a workload over files in a folder. False where the words name none.
-fn run_on(rt: &HostRuntime, name: &str, count: &str, folder: &str) -> io::Result<bool> {
-    let Ok(count) = count.parse::<u32>() else {
-        return Ok(false);
-    };
-    let folder = PathBuf::from(String::from_str(rt.alloc(), folder)?);
+/// Runs a workload in memory. None where the name is of none.
+fn run(bench: Bench, name: &str, count: u32) -> Option<io::Result<()>> {
     match name {
-        "attempts" => attempts::run_on(rt, &folder, count, Timing::Timed)?,
-        "changes" => changes::run_on(rt, &folder, count, Timing::Timed)?,
-        "large" => large::run_on(rt, &folder, count, Timing::Timed)?,
-        _ => return Ok(false),
+        "cache" => Some(cache::run(bench, count)),
+        "directory" => Some(directory::run(bench, count)),
+        "inodes" => Some(inodes::run(bench, count)),
+        "lines" => Some(lines::run(bench, count)),
+        "overlay" => Some(overlay::run(bench, count)),
+        "tree" => Some(tree::run(bench, count)),
+        _ => run_over(bench, &InMemory, name, count),
     }
-    Ok(true)
+}
+
+/// Runs a workload over files in a folder. None where the name is of no such workload.
+fn run_on(bench: Bench, name: &str, count: u32, folder: &str) -> Option<io::Result<()>> {
+    let folder = PathBuf::from(String::from_str(bench.alloc(), folder).ok()?);
+    let keeps = InFolder {
+        rt: bench.rt,
+        folder: &folder,
+    };
+    run_over(bench, &keeps, name, count)
+}
+
+/// Runs the workload that the words name. None where they name none.
+fn run_words(rt: &HostRuntime, words: &[String]) -> Option<io::Result<()>> {
+    let name = words.get(1)?.as_str();
+    let count = words.get(2)?.as_str().parse::<u32>().ok()?;
+    let is_timed = words.get(3).is_some_and(|word| word.as_str() == "timed");
+    let bench = Bench { rt, is_timed };
+    match words {
+        [_, _, _] => run(bench, name, count),
+        [_, _, _, _] if is_timed => run(bench, name, count),
+        [_, _, _, _, folder] if is_timed => run_on(bench, name, count, folder.as_str()),
+        _ => None,
+    }
 }
 
 fn words(rt: &(impl Env + Alloc<A = Global>)) -> io::Result<Vec<String>> {
@@ -87,16 +103,17 @@ fn answer(rt: &HostRuntime) -> io::Result<ExitCode> {
 
 fn main(rt: HostRuntime) -> io::Result<ExitCode> {
     let words = words(&rt)?;
-    let is_done = match words.as_slice() {
-        [_, name] if name.as_str() == "oracle" => return answer(&rt),
-        [_, name, count, timed, folder] if timed.as_str() == "timed" => {
-            run_on(&rt, name.as_str(), count.as_str(), folder.as_str())?
-        }
-        words => run(&rt, words)?,
-    };
-    if is_done {
-        return Ok(ExitCode::SUCCESS);
+    if let [_, name] = words.as_slice()
+        && name.as_str() == "oracle"
+    {
+        return answer(&rt);
     }
-    eprintln!(rt; "{USAGE}")?;
-    Ok(ExitCode::from(2))
+    match run_words(&rt, words.as_slice()) {
+        Some(Ok(())) => Ok(ExitCode::SUCCESS),
+        Some(Err(fault)) => Err(fault),
+        None => {
+            eprintln!(rt; "{USAGE}")?;
+            Ok(ExitCode::from(2))
+        }
+    }
 }

@@ -4,7 +4,7 @@
 use eden_model::{CallFault, Kind, Name, Node, Path, Reply, Request, StartFault};
 use eden_oracle::WholeTree;
 use eden_wire::{Service, SessionFault, session};
-use std::alloc::{AllocError, Global};
+use std::alloc::Global;
 use std::io::{Read, Write};
 
 /// A whole tree, and what it last answered.
@@ -15,33 +15,67 @@ pub struct Oracle {
     reply: Reply,
 }
 
-/// The path of one name, where the bytes are a name.
-fn top(alloc: Global, name: &[u8]) -> Result<Option<Path>, AllocError> {
-    let Ok(name) = Name::new(Vec::from_slice(alloc, name)?) else {
-        return Ok(None);
-    };
-    let mut names = Vec::new(alloc);
-    names.push(name)?;
-    Ok(Path::new(names).ok())
+/// What the tree begins with beside the root: a file, a link and a directory that a repository lacks.
+#[derive(Clone, Copy)]
+enum Lost {
+    File,
+    Link,
+    Directory,
 }
 
-/// What the tree begins with: beside the root a file, a link and a directory that a repository lacks.
-fn rows(alloc: Global) -> Result<Vec<(Path, Node)>, AllocError> {
-    let mut rows = Vec::new(alloc);
-    if let Ok(root) = Path::new(Vec::new(alloc)) {
-        rows.push((root, Node::Dir(true)))?;
-    }
-    let lost = [
-        (top(alloc, b"lost")?, Node::File(true, None)),
-        (top(alloc, b"lost_link")?, Node::Link(None)),
-        (top(alloc, b"unlisted")?, Node::Dir(false)),
-    ];
-    for (path, node) in lost {
-        if let Some(path) = path {
-            rows.push((path, node))?;
+impl Lost {
+    fn name(self) -> &'static [u8] {
+        match self {
+            Lost::File => b"lost",
+            Lost::Link => b"lost_link",
+            Lost::Directory => b"unlisted",
         }
     }
-    Ok(rows)
+
+    fn node(self) -> Node {
+        match self {
+            Lost::File => Node::File(true, None),
+            Lost::Link => Node::Link(None),
+            Lost::Directory => Node::Dir(false),
+        }
+    }
+}
+
+/// The path of one name. None where it is none, or where memory is refused.
+fn top(alloc: Global, name: &[u8]) -> Option<Path> {
+    let bytes = Vec::from_slice(alloc, name).ok()?;
+    let name = Name::new(bytes).ok()?;
+    let mut names = Vec::new(alloc);
+    names.push(name).ok()?;
+    Path::new(names).ok()
+}
+
+/// Adds a row. False where there is no path or no memory.
+fn add(rows: &mut Vec<(Path, Node)>, path: Option<Path>, node: Node) -> bool {
+    match path {
+        None => false,
+        Some(path) => match rows.push((path, node)) {
+            Ok(()) => true,
+            Err(failed) => {
+                let (_path, _node) = failed.value;
+                false
+            }
+        },
+    }
+}
+
+/// The tree that requests are answered on. None where memory is refused.
+fn tree(alloc: Global) -> Option<WholeTree> {
+    let mut rows = Vec::new(alloc);
+    let root = Path::new(Vec::new(alloc)).ok();
+    let mut is_whole = add(&mut rows, root, Node::Dir(true));
+    for lost in &[Lost::File, Lost::Link, Lost::Directory] {
+        is_whole &= add(&mut rows, top(alloc, lost.name()), lost.node());
+    }
+    match WholeTree::new(alloc, rows) {
+        Ok(tree) if is_whole => tree,
+        _ => None,
+    }
 }
 
 impl Service for Oracle {
@@ -67,11 +101,7 @@ pub fn run<R: Read, W: Write>(
     reader: &mut R,
     writer: &mut W,
 ) -> Result<(), SessionFault> {
-    let tree = match rows(alloc) {
-        Err(_) => return Err(SessionFault::Memory),
-        Ok(rows) => WholeTree::new(alloc, rows),
-    };
-    let Ok(Some(tree)) = tree else {
+    let Some(tree) = tree(alloc) else {
         return Err(SessionFault::Memory);
     };
     let reply = Reply::Kind(Kind::Dir);

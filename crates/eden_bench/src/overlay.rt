@@ -3,30 +3,31 @@ ghost use Rattle.std.specs.Prelude.{IfOk, IfSome};
 ghost use Rattle.std.specs.List.{AllByRecursion};
 ghost use Rattle.eden_overlay_format.specs.Directory.{IsStorable};
 
+use crate::bench::{Bench, Part};
 use crate::name::name;
-use crate::timing::Timing;
-use eden_model::{Kind, Origin};
+use eden_model::{Kind, Name, Origin};
 use eden_overlay_format::{StoredEntry, decode_dir, encode_dir, is_rising};
 use std::alloc::{AllocError, Global};
 use std::io;
-use std::rt::Clock;
-use std::time::Instant;
 
 /// How many entries are encoded and decoded in all.
 const ENTRIES: u32 = 1_000_000;
 
-/// The plain file of that number and its name, or none where it has none.
-fn entry(alloc: Global, number: u32) -> Result<Option<StoredEntry>, AllocError>
-    ensures { IfOk result (λ e. IfSome e IsStorable) }
+const DECODED: Part = Part {
+    before: "decoded to ",
+    after: " entries",
+    time: "decode_dir, an entry",
+};
+
+/// The plain file of that name and number.
+fn entry(name: Name, number: u32) -> StoredEntry
+    ensures { IsStorable result }
 {
-    match name(alloc, u64::from(number))? {
-        None => Ok(None),
-        Some(name) => Ok(Some(StoredEntry {
-            name,
-            kind: Kind::File,
-            origin: Origin::Own,
-            number: u64::from(number) + 2,
-        })),
+    StoredEntry {
+        name,
+        kind: Kind::File,
+        origin: Origin::Own,
+        number: u64::from(number) + 2,
     }
 }
 
@@ -36,34 +37,34 @@ fn entries(alloc: Global, count: u32) -> Result<Vec<StoredEntry>, AllocError>
 {
     let mut entries = Vec::new(alloc);
     for number in 0..count {
-        if let Some(entry) = entry(alloc, number)? {
-            entries.push(entry)?;
+        if let Some(name) = name(alloc, u64::from(number))? {
+            entries.push(entry(name, number))?;
         }
     }
     Ok(entries)
 }
 
-/// The stored file, or none where the entries can't be stored.
-fn encoded(alloc: Global, entries: &[StoredEntry]) -> Result<Option<Vec<u8>>, AllocError>
+/// The stored file, or none where the entries can't be stored or memory is refused.
+fn encoded(alloc: Global, entries: &[StoredEntry]) -> Option<Vec<u8>>
     requires { AllByRecursion IsStorable entries.now }
 {
     if entries.len() > u32::MAX as usize || !is_rising(entries) {
-        return Ok(None);
+        return None;
     }
-    Ok(Some(encode_dir(alloc, entries)?))
+    encode_dir(alloc, entries).ok()
 }
 
 /// How many bytes the encodings took.
-fn encode_again(alloc: Global, entries: &[StoredEntry], rounds: u32) -> Result<usize, AllocError>
+fn encode_again(alloc: Global, entries: &[StoredEntry], rounds: u32) -> usize
     requires { AllByRecursion IsStorable entries.now }
 {
     let mut bytes = 0usize;
     for _ in 0..rounds {
-        if let Some(file) = encoded(alloc, entries)? {
+        if let Some(file) = encoded(alloc, entries) {
             bytes = bytes.saturating_add(file.len());
         }
     }
-    Ok(bytes)
+    bytes
 }
 
 /// How many entries the decodings found.
@@ -77,30 +78,38 @@ fn decode_again(alloc: Global, file: &[u8], rounds: u32) -> usize {
     found
 }
 
+/// Encodes the stored file of a directory again and again.
+fn measure_encoding(
+    bench: Bench,
+    entries: &[StoredEntry],
+    count: u32,
+    rounds: u32,
+) -> io::Result<()>
+    requires { AllByRecursion IsStorable entries.now }
+{
+    let start = bench.start();
+    let bytes = encode_again(bench.alloc(), entries, rounds);
+    println!(bench.rt; "a stored directory of {count} entries, {rounds} times: {bytes} bytes")?;
+    bench.time_each("encode_dir, an entry", start, rounds.saturating_mul(count))
+}
+
+/// Decodes the stored file of a directory again and again.
+fn measure_decoding(bench: Bench, file: &[u8], rounds: u32, all: u32) -> io::Result<()> {
+    let start = bench.start();
+    let found = decode_again(bench.alloc(), file, rounds);
+    bench.tell(DECODED, found as u64, start, all)
+}
+
 /// Encodes and decodes the stored file of a directory of so many entries, again and again.
-pub fn run<R: Print + Clock + AllocGlobal>(rt: &R, count: u32, timing: Timing) -> io::Result<()> {
-    let alloc = rt.alloc();
-    let entries = entries(alloc, count)?;
-    let rounds = ENTRIES / count.max(1);
-    let start = Instant::now(rt)?;
-    let bytes = encode_again(alloc, entries.as_slice(), rounds)?;
-    println!(rt; "a stored directory of {count} entries, {rounds} times: {bytes} bytes")?;
-    timing.tell_each(
-        rt,
-        "encode_dir, an entry",
-        &start,
-        rounds.saturating_mul(count),
-    )?;
-    let Some(file) = encoded(alloc, entries.as_slice())? else {
-        return println!(rt; "not encoded");
-    };
-    let start = Instant::now(rt)?;
-    let found = decode_again(alloc, file.as_slice(), rounds);
-    println!(rt; "decoded to {found} entries")?;
-    timing.tell_each(
-        rt,
-        "decode_dir, an entry",
-        &start,
-        rounds.saturating_mul(count),
-    )
+pub fn run(bench: Bench, count: u32) -> io::Result<()> {
+    let rounds = ENTRIES.checked_div(count).unwrap_or(ENTRIES);
+    let entries = entries(bench.alloc(), count)?;
+    measure_encoding(bench, entries.as_slice(), count, rounds)?;
+    match encoded(bench.alloc(), entries.as_slice()) {
+        None => println!(bench.rt; "not encoded"),
+        Some(file) => {
+            let all = rounds.saturating_mul(count);
+            measure_decoding(bench, file.as_slice(), rounds, all)
+        }
+    }
 }

@@ -2,15 +2,16 @@
 
 use crate::grounds::{Ground, Life};
 use crate::mounts::allow;
+use crate::shown::follow;
 use crate::waits::seat;
 use eden_model::{Cause, Fault, Key, Kind, Path, Reply, Request};
 use eden_mount::{Arrived, Turned};
-use eden_random::{is_same, kind_at, path_of, request, some_look};
+use eden_random::{kind_at, path_of, request, some_look};
 use eden_samples::random;
 use std::process::Abort;
 
 /// What an event met.
-#[derive(Clone, Copy, Debug, PartialEq, Eq)]
+#[derive(Clone, Copy)]
 pub(crate) enum Met {
     Began,
     NotBegan,
@@ -57,7 +58,7 @@ fn looked_at(request: &Request) -> Option<&Path> {
 /// A request after which what a pending look is about is gone or empty, so that it needs nothing any more.
 fn taking_away(rt: &impl Abort, ground: &Ground, life: &Life, seed: &mut u64) -> Option<Request> {
     let word = random(seed);
-    let pending = life.asked[seat(word)].as_ref()?;
+    let pending = life.asked_at(seat(word))?;
     let at = looked_at(pending)?.copy(ground.alloc).expect(rt, "memory");
     let to = path_of(ground.alloc, &[(word / 8 % 4) as u8]).expect(rt, "a path");
     Some(match word / 32 % 3 {
@@ -93,11 +94,11 @@ fn start(rt: &impl Abort, ground: &mut Ground, life: &mut Life, seed: &mut u64) 
     let request = next_request(rt, ground, life, seed);
     let copy = request.copy(ground.alloc).expect(rt, "memory");
     let admits = life.admits(pass);
-    assert_eq!(rt; life.mount.start(pass, request), admits);
+    assert!(rt; life.mount.start(pass, request) == admits);
     if admits.is_err() {
         return Met::NotBegan;
     }
-    life.asked[seat(pass)] = Some(copy);
+    life.ask(rt, pass, copy);
     Met::Began
 }
 
@@ -119,7 +120,7 @@ fn fault(rt: &impl Abort, ground: &Ground, life: &mut Life, pass: u32, fault: Fa
             Met::FetchFault
         }
         Fault::Overlay => {
-            assert_eq!(rt; ground.calls.get(), 0);
+            assert!(rt; ground.calls.get() == 0);
             Met::OverlayFault
         }
         Fault::Memory | Fault::Numbers => None.expect(rt, "a fault with a cause"),
@@ -128,32 +129,25 @@ fn fault(rt: &impl Abort, ground: &Ground, life: &mut Life, pass: u32, fault: Fa
 
 /// A reply is the oracle's, which goes on by it.
 fn reply(rt: &impl Abort, ground: &mut Ground, request: &Request, reply: &Reply) -> Met {
-    let step = ground.tree.step(ground.alloc, request);
-    let want = step.expect(rt, "memory").expect(rt, "a reply");
-    assert!(rt;
-        is_same(reply, &want),
-        "{request:?}: {reply:?}, not {want:?}"
-    );
+    follow(rt, ground, request, reply);
     match reply {
         Reply::Err(_) => Met::Errs,
         _ => Met::Replies,
     }
 }
 
-/// The request is finished, with the next number.
+/// The request is finished.
 fn finish(
     rt: &impl Abort,
     ground: &mut Ground,
     life: &mut Life,
     pass: u32,
     request: &Request,
-    told: (u32, Reply),
+    told: &Reply,
 ) -> Met {
-    life.done = life.done.saturating_add(1);
-    assert_eq!(rt; told.0, life.done);
-    let met = match told.1 {
-        Reply::Fault(cause) => fault(rt, ground, life, pass, cause),
-        told => reply(rt, ground, request, &told),
+    let met = match told {
+        Reply::Fault(cause) => fault(rt, ground, life, pass, *cause),
+        told => reply(rt, ground, request, told),
     };
     life.waits.quit(pass);
     met
@@ -170,9 +164,12 @@ fn went_on(
 ) -> Met {
     match turned {
         Turned::Idle => None.expect(rt, "a turn of what is pending"),
-        Turned::Done(number, told) => finish(rt, ground, life, pass, &request, (number, told)),
+        Turned::Done(number, told) => {
+            life.count(rt, number);
+            finish(rt, ground, life, pass, &request, &told)
+        }
         Turned::Wait(key) => {
-            life.asked[seat(pass)] = Some(request);
+            life.ask(rt, pass, request);
             wait(rt, life, pass, key)
         }
     }
@@ -183,7 +180,7 @@ fn turn(rt: &impl Abort, ground: &mut Ground, life: &mut Life, seed: &mut u64) -
     let pass = some_pass(life, seed, true);
     allow(&ground.calls, seed);
     let turned = life.mount.turn(pass);
-    match life.take(pass) {
+    match life.take(rt, pass) {
         Some(request) => went_on(rt, ground, life, pass, request, turned),
         None => {
             assert!(rt; matches!(turned, Turned::Idle));
@@ -194,7 +191,7 @@ fn turn(rt: &impl Abort, ground: &mut Ground, life: &mut Life, seed: &mut u64) -
 
 fn take(rt: &impl Abort, life: &mut Life) -> Met {
     let want = life.take_want(rt);
-    assert_eq!(rt; life.mount.take_want(), want);
+    assert!(rt; life.mount.take_want() == want);
     if want.is_some() {
         Met::Taken
     } else {
@@ -215,7 +212,7 @@ fn some_key(rt: &impl Abort, ground: &Ground, life: &Life, seed: &mut u64) -> Ke
 /// The key can't be had.
 fn fail_key(rt: &impl Abort, life: &mut Life, key: Key, cause: Cause) -> Met {
     let flies = life.waits.is_in_flight(key);
-    assert_eq!(rt; life.mount.fail(key, cause), flies);
+    assert!(rt; life.mount.fail(key, cause) == flies);
     if !flies {
         return Met::Stray;
     }
@@ -235,15 +232,15 @@ fn arrive(
     let framed = framed.to_vec(ground.alloc).expect(rt, "memory");
     let arrived = life.mount.arrive(key, framed);
     if !life.waits.is_in_flight(key) {
-        assert_eq!(rt; arrived, Arrived::Stray);
+        assert!(rt; arrived == Arrived::Stray);
         return Met::Stray;
     }
     if let Some(cause) = flaw {
-        assert_eq!(rt; arrived, Arrived::Refused(cause));
+        assert!(rt; arrived == Arrived::Refused(cause));
         life.waits.failed(key, cause);
         return Met::Unusable;
     }
-    assert_eq!(rt; arrived, Arrived::Stored);
+    assert!(rt; arrived == Arrived::Stored);
     life.waits.done(key);
     Met::Stored
 }
@@ -279,7 +276,7 @@ fn unload(rt: &impl Abort, ground: &mut Ground, life: &mut Life, seed: &mut u64)
         return Met::NoneGoes;
     }
     let kind = kind_at(ground.alloc, &mut ground.tree, places).expect(rt, "memory");
-    assert_eq!(rt; kind, Some(Kind::Dir));
+    assert!(rt; kind == Some(Kind::Dir));
     Met::Goes
 }
 

@@ -41,13 +41,20 @@ impl Ground {
     }
 }
 
+/// What a pass was asked and hasn't answered.
+#[derive(Drop)]
+struct Asked {
+    pass: u32,
+    request: Request,
+}
+
 /// A mount from its opening on, and what it must answer.
 #[derive(Drop)]
 pub(crate) struct Life {
     pub(crate) mount: Mounted,
     pub(crate) limit: u32,
-    /// What each pass was asked and hasn't answered.
-    pub(crate) asked: [Option<Request>; 8],
+    /// The pending requests, at most one of a pass.
+    asked: Vec<Asked>,
     pub(crate) waits: Waits,
     /// How many requests are finished.
     pub(crate) done: u32,
@@ -66,25 +73,46 @@ impl Life {
         Life {
             mount: open_again(rt, ground.alloc, files, &ground.calls, settings),
             limit,
-            asked: [None, None, None, None, None, None, None, None],
+            asked: Vec::new(ground.alloc),
             waits: Waits::new(ground.alloc),
             done: 0,
         }
     }
 
-    pub(crate) fn is_busy(&self, pass: u32) -> bool {
-        1 <= pass && pass <= PASSES && self.asked[seat(pass)].is_some()
-    }
-
-    /// How many requests are pending.
-    fn pending(&self) -> u32 {
-        let mut count = 0u32;
-        for pass in 1..=PASSES {
-            if self.is_busy(pass) {
-                count = count.saturating_add(1);
+    /// Where the pass's request stands, if one is pending.
+    fn place(&self, pass: u32) -> Option<usize> {
+        for (place, asked) in self.asked.iter().enumerate() {
+            if asked.pass == pass {
+                return Some(place);
             }
         }
-        count
+        None
+    }
+
+    pub(crate) fn is_busy(&self, pass: u32) -> bool {
+        self.place(pass).is_some()
+    }
+
+    /// The pending request of the pass that has this seat.
+    pub(crate) fn asked_at(&self, place: usize) -> Option<&Request> {
+        for asked in self.asked.as_slice() {
+            if seat(asked.pass) == place {
+                return Some(&asked.request);
+            }
+        }
+        None
+    }
+
+    /// The pass's request is pending.
+    pub(crate) fn ask(&mut self, rt: &impl Abort, pass: u32, request: Request) {
+        let asked = Asked { pass, request };
+        self.asked.push(asked).expect(rt, "memory");
+    }
+
+    /// A request is finished, as the entry of that number.
+    pub(crate) fn count(&mut self, rt: &impl Abort, number: u32) {
+        self.done = self.done.saturating_add(1);
+        assert!(rt; number == self.done);
     }
 
     /// The least pass whose request is pending.
@@ -105,18 +133,18 @@ impl Life {
         if self.is_busy(pass) {
             return Err(StartFault::Busy);
         }
-        if self.done.saturating_add(self.pending()) == self.limit {
+        if (self.done as usize).saturating_add(self.asked.len()) == self.limit as usize {
             return Err(StartFault::HistoryFull(self.limit));
         }
         Ok(())
     }
 
     /// The request of that pass, if it has one, which isn't pending any more.
-    pub(crate) fn take(&mut self, pass: u32) -> Option<Request> {
-        if pass == 0 || pass > PASSES {
-            return None;
-        }
-        self.asked[seat(pass)].take()
+    pub(crate) fn take(&mut self, rt: &impl Abort, pass: u32) -> Option<Request> {
+        let place = self.place(pass)?;
+        assert!(rt; place < self.asked.len());
+        let Asked { request, .. } = self.asked.remove(place);
+        Some(request)
     }
 
     /// What a taken want must answer.

@@ -56,6 +56,32 @@ pub(crate) fn allow(calls: &Rc<Cell<u64>>, seed: &mut u64) {
     calls.set(if few < 8 { few } else { u64::MAX });
 }
 
+/// Files that weren't opened, and why.
+#[derive(Drop)]
+pub(crate) struct Unopened {
+    pub(crate) fault: OpenFault,
+    pub(crate) files: Stored,
+}
+
+/// A table over these files, of which as many calls pass as the number allows.
+fn open_tree(
+    rt: &impl Abort,
+    alloc: Global,
+    files: Stored,
+    calls: &Rc<Cell<u64>>,
+    settings: Settings,
+) -> Result<Tree, Unopened> {
+    let files = StopFiles::new(files, calls.clone().expect(rt, "memory"));
+    let cache = cache(rt, alloc, settings.objects);
+    match Checkout::open_by(alloc, alloc, files, settings.root, cache, settings.opening) {
+        Ok(tree) => Ok(tree),
+        Err((fault, files)) => {
+            let files = files.into_files();
+            Err(Unopened { fault, files })
+        }
+    }
+}
+
 /// A mount over these files, of which as many calls pass as the number allows.
 pub(crate) fn open(
     rt: &impl Abort,
@@ -63,14 +89,29 @@ pub(crate) fn open(
     files: Stored,
     calls: &Rc<Cell<u64>>,
     settings: Settings,
-) -> Result<Mounted, (OpenFault, Stored)> {
-    let shared = calls.clone().expect(rt, "memory");
-    let files = StopFiles::new(files, shared);
-    let cache = cache(rt, alloc, settings.objects);
-    match Checkout::open_by(alloc, alloc, files, settings.root, cache, settings.opening) {
-        Ok(tree) => Ok(Mount::new(room(rt, alloc, settings.history), tree)),
-        Err((fault, files)) => Err((fault, files.into_files())),
+) -> Result<Mounted, Unopened> {
+    let tree = open_tree(rt, alloc, files, calls, settings)?;
+    Ok(Mount::new(room(rt, alloc, settings.history), tree))
+}
+
+/// A mount over files that can be opened.
+pub(crate) fn opened(
+    rt: &impl Abort,
+    alloc: Global,
+    files: Stored,
+    calls: &Rc<Cell<u64>>,
+    settings: Settings,
+) -> Mounted {
+    match open(rt, alloc, files, calls, settings) {
+        Ok(mount) => mount,
+        Err(_) => rt.abort(),
     }
+}
+
+/// A device that stopped works again.
+fn mend(rt: &impl Abort, calls: &Rc<Cell<u64>>) {
+    assert!(rt; calls.get() == 0);
+    calls.set(u64::MAX);
 }
 
 /// A mount over files that may stop once while it is opened.
@@ -83,12 +124,19 @@ pub(crate) fn open_again(
 ) -> Mounted {
     match open(rt, alloc, files, calls, settings) {
         Ok(mount) => mount,
-        Err((fault, files)) => {
-            assert!(rt; fault == OpenFault::Device && calls.get() == 0);
-            calls.set(u64::MAX);
-            let mount = open(rt, alloc, files, calls, settings);
-            mount.ok().expect(rt, "a mount")
+        Err(Unopened { fault, files }) => {
+            assert!(rt; fault == OpenFault::Device);
+            mend(rt, calls);
+            opened(rt, alloc, files, calls, settings)
         }
+    }
+}
+
+/// The files of a table that can be closed.
+fn closed(rt: &impl Abort, alloc: Global, tree: Tree) -> Stored {
+    match tree.close(alloc) {
+        Ok(files) => files.into_files(),
+        Err(_) => rt.abort(),
     }
 }
 
@@ -97,10 +145,9 @@ pub(crate) fn close(rt: &impl Abort, alloc: Global, tree: Tree, calls: &Rc<Cell<
     match tree.close(alloc) {
         Ok(files) => files.into_files(),
         Err((fault, tree)) => {
-            assert!(rt; fault == FilesFault::Device && calls.get() == 0);
-            calls.set(u64::MAX);
-            let files = tree.close(alloc).ok().expect(rt, "closed files");
-            files.into_files()
+            assert!(rt; fault == FilesFault::Device);
+            mend(rt, calls);
+            closed(rt, alloc, tree)
         }
     }
 }

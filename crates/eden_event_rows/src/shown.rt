@@ -5,7 +5,7 @@ use crate::mounts::{Mounted, Settings, Stored, close, open_again};
 use eden_checkout::Opening;
 use eden_model::{Cause, Reply, Request};
 use eden_mount::Turned;
-use eden_random::{all_looks, is_seen};
+use eden_random::{all_looks, is_same, is_seen};
 use std::process::Abort;
 
 /// The most turns of one request.
@@ -45,10 +45,22 @@ pub(crate) fn answer(
     None.expect(rt, "a reply")
 }
 
+/// A reply is the oracle's, which goes on by it.
+pub(crate) fn follow(rt: &impl Abort, ground: &mut Ground, request: &Request, reply: &Reply) {
+    let step = ground.tree.step(ground.alloc, request);
+    let want = step.expect(rt, "memory").expect(rt, "a reply");
+    assert!(rt;
+        is_same(reply, &want),
+        "{request:?}: {reply:?}, not {want:?}"
+    );
+}
+
 /// Whether a look is answered as by the oracle.
-fn agree(rt: &impl Abort, ground: &mut Ground, mount: &mut Mounted, look: Request) -> bool {
-    let want = ground.tree.step(ground.alloc, &look).expect(rt, "memory");
-    is_seen(&answer(rt, ground, mount, look), &want)
+fn agree(rt: &impl Abort, ground: &mut Ground, mount: &mut Mounted, look: &Request) -> bool {
+    let copy = look.copy(ground.alloc).expect(rt, "memory");
+    let reply = answer(rt, ground, mount, copy);
+    let want = ground.tree.step(ground.alloc, look).expect(rt, "memory");
+    is_seen(&reply, &want)
 }
 
 /// A mount over files whose device works, opened so.
@@ -77,7 +89,7 @@ pub(crate) fn show_same(
 ) -> Stored {
     let mut mount = mounted(rt, ground, opening, files);
     let looks = all_looks(ground.alloc, &mut ground.tree).expect(rt, "memory");
-    for look in looks {
+    for look in &looks {
         assert!(rt; agree(rt, ground, &mut mount, look));
     }
     close(rt, ground.alloc, mount.into_table(), &ground.calls)

@@ -2,13 +2,13 @@
 //! what is left is opened by a rescan.
 
 use crate::grounds::Ground;
-use crate::mounts::{Mounted, Settings, Stored, close, open};
-use crate::shown::{answer, mounted, show_same};
+use crate::mounts::{Mounted, Settings, Stored, Unopened, close, open};
+use crate::shown::{answer, follow, mounted, show_same};
 use crate::worked::request;
 use eden_checkout::{OpenFault, Opening};
 use eden_model::{Errno, Fault, Path, Reply, Request};
 use eden_overlay::MemoryFiles;
-use eden_random::{Commit, is_same};
+use eden_random::Commit;
 use std::alloc::Global;
 use std::process::Abort;
 
@@ -31,7 +31,7 @@ const CHANGES: &[&str] = &[
 ];
 
 /// Whether a device that stopped works again for the next request.
-#[derive(Clone, Copy, PartialEq, Eq)]
+#[derive(Clone, Copy)]
 enum Device {
     Mended,
     Stopped,
@@ -42,15 +42,10 @@ fn is_made(rt: &impl Abort, ground: &mut Ground, mount: &mut Mounted, change: &R
     let copy = change.copy(ground.alloc).expect(rt, "memory");
     let reply = answer(rt, ground, mount, copy);
     if matches!(reply, Reply::Fault(Fault::Overlay)) {
-        assert_eq!(rt; ground.calls.get(), 0);
+        assert!(rt; ground.calls.get() == 0);
         return false;
     }
-    let step = ground.tree.step(ground.alloc, change);
-    let want = step.expect(rt, "memory").expect(rt, "a reply");
-    assert!(rt;
-        is_same(&reply, &want),
-        "{change:?}: {reply:?}, not {want:?}"
-    );
+    follow(rt, ground, change, &reply);
     true
 }
 
@@ -67,7 +62,7 @@ fn change(
         if !is_made(rt, ground, mount, &change) && stopped.is_none() {
             stopped = Some(change);
         }
-        if device == Device::Mended && ground.calls.get() == 0 {
+        if matches!(device, Device::Mended) && ground.calls.get() == 0 {
             ground.calls.set(u64::MAX);
         }
     }
@@ -86,20 +81,24 @@ fn fresh(rt: &impl Abort, ground: &Ground, calls: u64) -> Result<Mounted, Stored
     let files = MemoryFiles::new(ground.alloc);
     match open(rt, ground.alloc, files, &ground.calls, settings) {
         Ok(mount) => Ok(mount),
-        Err((fault, files)) => {
+        Err(Unopened { fault, files }) => {
             assert!(rt; fault == OpenFault::Device && calls == 0);
             Err(files)
         }
     }
 }
 
+/// The oracle answers something.
+fn step(rt: &impl Abort, ground: &mut Ground, request: &Request) {
+    assert!(rt; ground.tree.step(ground.alloc, request).is_ok());
+}
+
 /// A file, a link or an empty directory is gone from the oracle's tree.
 fn take_away(rt: &impl Abort, ground: &mut Ground, at: &Path) {
-    let file = Request::Unlink(at.copy(ground.alloc).expect(rt, "memory"));
-    let directory = Request::Rmdir(at.copy(ground.alloc).expect(rt, "memory"));
-    for request in [file, directory] {
-        assert!(rt; ground.tree.step(ground.alloc, &request).is_ok());
-    }
+    let file = at.copy(ground.alloc).expect(rt, "memory");
+    step(rt, ground, &Request::Unlink(file));
+    let directory = at.copy(ground.alloc).expect(rt, "memory");
+    step(rt, ground, &Request::Rmdir(directory));
 }
 
 /// The entry that a stopped rename was to move stands in neither directory where the first was stored without it.
@@ -127,8 +126,8 @@ fn stopped(rt: &impl Abort, ground: &mut Ground, calls: u64) -> Stored {
     };
     let stopped = change(rt, ground, &mut mount, Device::Stopped);
     let files = mount.into_table().abandon().into_files();
-    match stopped {
-        Some(Request::Rename(from, _)) => forget(rt, ground, &from, files),
+    match &stopped {
+        Some(Request::Rename(from, _)) => forget(rt, ground, from, files),
         _ => files,
     }
 }
@@ -152,8 +151,9 @@ fn check_mend(rt: &impl Abort, alloc: Global, calls: u64) {
 /// How many calls all changes take.
 fn all_calls(rt: &impl Abort, alloc: Global) -> u64 {
     let mut ground = two_files(rt, alloc);
-    let mount = fresh(rt, &ground, u64::MAX);
-    let mut mount = mount.ok().expect(rt, "a mount");
+    let Ok(mut mount) = fresh(rt, &ground, u64::MAX) else {
+        rt.abort()
+    };
     assert!(rt; change(rt, &mut ground, &mut mount, Device::Stopped).is_none());
     u64::MAX - ground.calls.get()
 }

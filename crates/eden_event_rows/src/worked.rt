@@ -1,6 +1,6 @@
 //! Worked rows of events on mounts of the sample commits.
 
-use crate::mounts::{Mounted, Settings, Stored, close, open};
+use crate::mounts::{Mounted, Settings, Stored, close, opened};
 use eden_checkout::Opening;
 use eden_model::{Bytes, Cause, Key, Path, Reply, Request, StartFault};
 use eden_mount::{Arrived, Event, Outcome, Turned};
@@ -85,14 +85,25 @@ fn event(rt: &impl Abort, alloc: Global, row: Row) -> Event {
     }
 }
 
-fn is_turn(rt: &impl Abort, alloc: Global, row: Row, turned: &Turned) -> bool {
-    match (row, turned) {
-        (Waits(_, object), Turned::Wait(key)) => *key == key_of(object),
-        (Done(_, number, line), Turned::Done(told, reply)) => {
-            *told == number && is_reply(rt, alloc, reply, line)
-        }
-        (Idle(_), Turned::Idle) => true,
+fn is_done(rt: &impl Abort, alloc: Global, row: Row, told: u32, reply: &Reply) -> bool {
+    match row {
+        Done(_, number, line) => told == number && is_reply(rt, alloc, reply, line),
         _ => false,
+    }
+}
+
+fn is_wait(row: Row, key: Key) -> bool {
+    match row {
+        Waits(_, object) => key == key_of(object),
+        _ => false,
+    }
+}
+
+fn is_turn(rt: &impl Abort, alloc: Global, row: Row, turned: &Turned) -> bool {
+    match turned {
+        Turned::Wait(key) => is_wait(row, *key),
+        Turned::Done(told, reply) => is_done(rt, alloc, row, *told, reply),
+        Turned::Idle => matches!(row, Idle(_)),
     }
 }
 
@@ -104,17 +115,30 @@ fn is_start(row: Row, started: &Result<(), StartFault>) -> bool {
     }
 }
 
-fn is_answer(rt: &impl Abort, alloc: Global, row: Row, outcome: &Outcome) -> bool {
-    match (row, outcome) {
-        (_, Outcome::Start(started)) => is_start(row, started),
-        (_, Outcome::Turn(turned)) => is_turn(rt, alloc, row, turned),
-        (Takes(object), Outcome::Take(taken)) => *taken == Some(key_of(object)),
-        (TakesNone, Outcome::Take(taken)) => taken.is_none(),
-        (Arrives(_, want), Outcome::Arrive(arrived)) => *arrived == want,
-        (Lies(_, _), Outcome::Arrive(arrived)) => *arrived == Arrived::Refused(Cause::BadDigest),
-        (Fails(_, _, want), Outcome::Fail(failed)) => *failed == want,
-        (Unloads(want), Outcome::Unload(gone)) => *gone == want,
+fn is_take(row: Row, taken: Option<Key>) -> bool {
+    match row {
+        Takes(object) => taken == Some(key_of(object)),
+        TakesNone => taken.is_none(),
         _ => false,
+    }
+}
+
+fn is_arrival(row: Row, arrived: Arrived) -> bool {
+    match row {
+        Arrives(_, want) => arrived == want,
+        Lies(_, _) => arrived == Arrived::Refused(Cause::BadDigest),
+        _ => false,
+    }
+}
+
+fn is_answer(rt: &impl Abort, alloc: Global, row: Row, outcome: &Outcome) -> bool {
+    match outcome {
+        Outcome::Start(started) => is_start(row, started),
+        Outcome::Turn(turned) => is_turn(rt, alloc, row, turned),
+        Outcome::Take(taken) => is_take(row, *taken),
+        Outcome::Arrive(arrived) => is_arrival(row, *arrived),
+        Outcome::Fail(failed) => matches!(row, Fails(_, _, want) if want == *failed),
+        Outcome::Unload(gone) => matches!(row, Unloads(want) if want == *gone),
     }
 }
 
@@ -125,7 +149,7 @@ fn run(rt: &impl Abort, alloc: Global, mount: &mut Mounted, rows: &[Row]) {
         events.push(event(rt, alloc, *row)).expect(rt, "memory");
     }
     let outcomes = mount.run(events).expect(rt, "memory");
-    assert_eq!(rt; outcomes.len(), rows.len());
+    assert!(rt; outcomes.len() == rows.len());
     for (index, outcome) in outcomes.iter().enumerate() {
         assert!(rt; is_answer(rt, alloc, rows[index], outcome), "at {index}");
     }
@@ -140,9 +164,7 @@ struct Ground {
 
 fn over(rt: &impl Abort, alloc: Global, files: Stored, settings: Settings) -> Ground {
     let calls = Rc::new(alloc, Cell::new(u64::MAX)).expect(rt, "memory");
-    let mount = open(rt, alloc, files, &calls, settings)
-        .ok()
-        .expect(rt, "a mount");
+    let mount = opened(rt, alloc, files, &calls, settings);
     Ground { mount, calls }
 }
 
@@ -333,7 +355,7 @@ fn check(rt: &impl Abort, alloc: Global, worked: Worked, entries: usize) {
     let (root, objects, rows) = worked;
     let mut ground = fresh(rt, alloc, root, objects, 9);
     run(rt, alloc, &mut ground.mount, rows);
-    assert_eq!(rt; ground.mount.history().len(), entries);
+    assert!(rt; ground.mount.history().len() == entries);
 }
 
 #[test]
