@@ -5,13 +5,16 @@ use std::alloc::Global;
 use std::process::Abort;
 use std::test::*;
 
+fn owned(rt: &impl Abort, alloc: Global, text: &str) -> Vec<u8> {
+    Vec::from_slice(alloc, text.as_bytes()).expect(rt, "memory")
+}
+
 fn bytes(rt: &impl Abort, alloc: Global, text: &str) -> Bytes {
-    Bytes::new(Vec::from_slice(alloc, text.as_bytes()).expect(rt, "memory"))
+    Bytes::new(owned(rt, alloc, text))
 }
 
 fn name(rt: &impl Abort, alloc: Global, text: &str) -> Name {
-    let bytes = Vec::from_slice(alloc, text.as_bytes()).expect(rt, "memory");
-    Name::new(bytes).expect(rt, "a name")
+    Name::new(owned(rt, alloc, text)).expect(rt, "a name")
 }
 
 /// The path of that text, as `/bak/test.txt`.
@@ -52,13 +55,16 @@ fn whole(rt: &impl Abort, alloc: Global, rows: &[Row]) -> WholeTree {
 }
 
 /// What is asked of a path.
-#[derive(Clone, Copy, Debug)]
+#[derive(Clone, Copy)]
 enum Ask {
     Kind,
     Stat,
     Read(u64, u64),
     ReadLink,
-    List(Option<&'static str>, u64),
+    /// So many entries from the first on.
+    List(u64),
+    /// So many entries behind that name.
+    ListAfter(&'static str, u64),
     Write(u64, &'static str),
     Truncate(u64),
     Create,
@@ -70,20 +76,14 @@ enum Ask {
     Rename(&'static str),
 }
 
-fn after(rt: &impl Abort, alloc: Global, text: Option<&str>) -> Option<Name> {
-    match text {
-        None => None,
-        Some(text) => Some(name(rt, alloc, text)),
-    }
-}
-
 fn request(rt: &impl Abort, alloc: Global, at: Path, ask: Ask) -> Request {
     match ask {
         Ask::Kind => Request::Kind(at),
         Ask::Stat => Request::Stat(at),
         Ask::Read(offset, count) => Request::Read(at, offset, count),
         Ask::ReadLink => Request::ReadLink(at),
-        Ask::List(text, limit) => Request::List(at, after(rt, alloc, text), limit),
+        Ask::List(limit) => Request::List(at, None, limit),
+        Ask::ListAfter(text, limit) => Request::List(at, Some(name(rt, alloc, text)), limit),
         Ask::Write(offset, new) => Request::Write(at, offset, bytes(rt, alloc, new)),
         Ask::Truncate(size) => Request::Truncate(at, size),
         Ask::Create => Request::Create(at),
@@ -166,50 +166,60 @@ fn is_reply(reply: &Reply, want: Say) -> bool {
     }
 }
 
-fn is_said(reply: &Option<Reply>, want: Say) -> bool {
+/// Whether the reply is the wanted one. A copy of it does for itself.
+fn is_said(rt: &impl Abort, alloc: Global, reply: &Option<Reply>, want: Say) -> bool {
     match reply {
         None => matches!(want, Say::Nothing),
-        Some(reply) => is_reply(reply, want),
+        Some(reply) => {
+            let copy = reply.copy(alloc).expect(rt, "memory");
+            let is_wanted = is_reply(&copy, want);
+            drop(copy);
+            is_wanted
+        }
     }
 }
 
-/// A copy of the reply, which does for itself.
-fn copied(rt: &impl Abort, alloc: Global, reply: Option<Reply>) -> Option<Reply> {
-    match reply {
-        None => None,
-        Some(reply) => Some(reply.copy(alloc).expect(rt, "memory")),
-    }
-}
-
-/// What the tree answers a request. Copies of the request and of the reply do for themselves.
+/// What the tree answers a request. A copy of the request does for itself.
 fn answer(
     rt: &impl Abort,
     alloc: Global,
     tree: &mut WholeTree,
     request: &Request,
 ) -> Option<Reply> {
-    let request = request.copy(alloc).expect(rt, "memory");
-    let reply = tree.step(alloc, &request).expect(rt, "memory");
-    copied(rt, alloc, reply)
+    let copy = request.copy(alloc).expect(rt, "memory");
+    let reply = tree.step(alloc, &copy).expect(rt, "memory");
+    drop(copy);
+    reply
+}
+
+/// Whether the tree answers so what is asked of a path. Here and above the owned values go by a call, so that what drops
+/// each variant of a request or a reply is proved once, and not in each body.
+fn answers_so(
+    rt: &impl Abort,
+    alloc: Global,
+    tree: &mut WholeTree,
+    at: &str,
+    ask: Ask,
+    want: Say,
+) -> bool {
+    let request = request(rt, alloc, path(rt, alloc, at), ask);
+    let reply = answer(rt, alloc, tree, &request);
+    drop(request);
+    let is_wanted = is_said(rt, alloc, &reply, want);
+    drop(reply);
+    is_wanted
 }
 
 /// A path, what is asked of it, and what the tree must answer.
 type Line = (&'static str, Ask, Say);
 
-/// Whether the tree answers as the line says.
-fn answers_so(rt: &impl Abort, alloc: Global, tree: &mut WholeTree, line: &Line) -> bool {
-    let request = request(rt, alloc, path(rt, alloc, line.0), line.1);
-    is_said(&answer(rt, alloc, tree, &request), line.2)
-}
-
 /// Asks the tree each line, and compares what it answers.
 fn compare(rt: &impl Abort, alloc: Global, tree: &mut WholeTree, lines: &[Line]) {
-    for line in lines {
+    for k in 0..lines.len() {
+        let (at, ask, want) = lines[k];
         assert!(rt;
-            answers_so(rt, alloc, tree, line),
-            "{:?} {}",
-            line.1,
-            line.0
+            answers_so(rt, alloc, tree, at, ask, want),
+            "line {k}, {at}"
         );
     }
 }
@@ -220,12 +230,12 @@ fn answers(rt: &impl Abort, alloc: Global, rows: &[Row], lines: &[Line]) {
 }
 
 /// The root, and `test.txt` in it.
-const ONE_FILE: [Row; 2] = [
+static ONE_FILE: [Row; 2] = [
     ("/", Kind::Dir, Some("")),
     ("/test.txt", Kind::File, Some("version 1\n")),
 ];
 
-const READ_AND_WRITTEN: &[Line] = &[
+static READ_AND_WRITTEN: [Line; 23] = [
     ("/", Ask::Kind, Say::Kind(Kind::Dir)),
     ("/test.txt", Ask::Read(0, 100), Say::Data("version 1\n")),
     ("/test.txt", Ask::Read(10, 5), Say::Data("")),
@@ -265,10 +275,10 @@ const READ_AND_WRITTEN: &[Line] = &[
 
 #[test]
 fn a_file_is_read_and_written(rt: HostRuntime) {
-    answers(&rt, rt.alloc(), &ONE_FILE, READ_AND_WRITTEN);
+    answers(&rt, rt.alloc(), &ONE_FILE, &READ_AND_WRITTEN);
 }
 
-const MOVED: &[Line] = &[
+static MOVED: [Line; 16] = [
     ("/d", Ask::Mkdir, Say::Ok),
     ("/test.txt", Ask::Rename("/d/t"), Say::Ok),
     ("/test.txt", Ask::Kind, Say::Err(Errno::ENOENT)),
@@ -280,19 +290,19 @@ const MOVED: &[Line] = &[
     ("/d", Ask::Rename("/d"), Say::Ok),
     ("/d", Ask::Unlink, Say::Err(Errno::EISDIR)),
     ("/d", Ask::Rename("/e"), Say::Ok),
-    ("/", Ask::List(None, 9), Say::All(&[(Kind::Dir, "e")])),
-    ("/e", Ask::List(None, 9), Say::All(&[(Kind::File, "t")])),
+    ("/", Ask::List(9), Say::All(&[(Kind::Dir, "e")])),
+    ("/e", Ask::List(9), Say::All(&[(Kind::File, "t")])),
     ("/e/t", Ask::Unlink, Say::Ok),
     ("/e", Ask::Rmdir, Say::Ok),
-    ("/", Ask::List(None, 9), Say::All(&[])),
+    ("/", Ask::List(9), Say::All(&[])),
 ];
 
 #[test]
 fn a_file_is_moved_into_a_directory(rt: HostRuntime) {
-    answers(&rt, rt.alloc(), &ONE_FILE, MOVED);
+    answers(&rt, rt.alloc(), &ONE_FILE, &MOVED);
 }
 
-const REPLACED: &[Line] = &[
+static REPLACED: [Line; 13] = [
     ("/d", Ask::Mkdir, Say::Ok),
     ("/e", Ask::Mkdir, Say::Ok),
     ("/d/a", Ask::Create, Say::Ok),
@@ -304,20 +314,20 @@ const REPLACED: &[Line] = &[
     ("/test.txt", Ask::Rename("/test.txt"), Say::Ok),
     ("/test.txt", Ask::Rename("/d/a"), Say::Ok),
     ("/d", Ask::Rename("/e"), Say::Ok),
-    ("/", Ask::List(None, 9), Say::All(&[(Kind::Dir, "e")])),
+    ("/", Ask::List(9), Say::All(&[(Kind::Dir, "e")])),
     ("/e/a", Ask::Read(0, 7), Say::Data("version")),
 ];
 
 #[test]
 fn what_stands_at_the_target_is_replaced(rt: HostRuntime) {
-    answers(&rt, rt.alloc(), &ONE_FILE, REPLACED);
+    answers(&rt, rt.alloc(), &ONE_FILE, &REPLACED);
 }
 
 const ADDED: &[Line] = &[
     ("/a-b", Ask::Create, Say::Ok),
     (
         "/",
-        Ask::List(None, 9),
+        Ask::List(9),
         Say::All(&[(Kind::File, "a-b"), (Kind::File, "test.txt")]),
     ),
     ("/a-b", Ask::Create, Say::Err(Errno::EEXIST)),
@@ -329,9 +339,9 @@ const ADDED: &[Line] = &[
     ("/l", Ask::Write(0, "x"), Say::Err(Errno::EINVAL)),
     ("/m", Ask::Symlink(""), Say::Err(Errno::ENOENT)),
     ("/sub", Ask::Mkdir, Say::Ok),
-    ("/sub", Ask::List(None, 10), Say::All(&[])),
+    ("/sub", Ask::List(10), Say::All(&[])),
     ("/sub/a", Ask::Create, Say::Ok),
-    ("/sub", Ask::List(None, 10), Say::All(&[(Kind::File, "a")])),
+    ("/sub", Ask::List(10), Say::All(&[(Kind::File, "a")])),
     ("/l", Ask::Rmdir, Say::Err(Errno::ENOTDIR)),
     ("/l", Ask::Unlink, Say::Ok),
     ("/l", Ask::Unlink, Say::Err(Errno::ENOENT)),
@@ -371,12 +381,12 @@ const LISTED: &[Line] = &[
     ("/bak/test.txt", Ask::Kind, Say::Kind(Kind::File)),
     (
         "/",
-        Ask::List(None, 2),
+        Ask::List(2),
         Say::First(&[(Kind::Dir, "bak"), (Kind::File, "new.txt")]),
     ),
     (
         "/",
-        Ask::List(None, 3),
+        Ask::List(3),
         Say::All(&[
             (Kind::Dir, "bak"),
             (Kind::File, "new.txt"),
@@ -385,12 +395,12 @@ const LISTED: &[Line] = &[
     ),
     (
         "/",
-        Ask::List(Some("new.txt"), 10),
+        Ask::ListAfter("new.txt", 10),
         Say::All(&[(Kind::File, "test.txt")]),
     ),
-    ("/", Ask::List(None, 0), Say::Err(Errno::EINVAL)),
-    ("/", Ask::List(None, 1001), Say::Err(Errno::EINVAL)),
-    ("/new.txt", Ask::List(None, 1), Say::Err(Errno::ENOTDIR)),
+    ("/", Ask::List(0), Say::Err(Errno::EINVAL)),
+    ("/", Ask::List(1001), Say::Err(Errno::EINVAL)),
+    ("/new.txt", Ask::List(1), Say::Err(Errno::ENOTDIR)),
     ("/bak", Ask::Stat, Say::Stat(Kind::Dir, 0)),
     ("/new.txt", Ask::Stat, Say::Stat(Kind::File, 9)),
     ("/bak", Ask::Rename("/old"), Say::Ok),
@@ -429,12 +439,12 @@ const LOST: &[Line] = &[
     ("/dir", Ask::Kind, Say::Kind(Kind::Dir)),
     ("/dir/x", Ask::Kind, Say::Nothing),
     ("/dir/x", Ask::Create, Say::Nothing),
-    ("/dir", Ask::List(None, 1), Say::Nothing),
+    ("/dir", Ask::List(1), Say::Nothing),
     ("/dir", Ask::Rmdir, Say::Nothing),
     ("/new", Ask::Rename("/dir"), Say::Nothing),
     (
         "/",
-        Ask::List(None, 1000),
+        Ask::List(1000),
         Say::All(&[
             (Kind::Dir, "dir"),
             (Kind::Link, "link"),
@@ -457,26 +467,29 @@ fn what_is_lost_has_no_reply(rt: HostRuntime) {
 }
 
 /// The path of so many names `a`.
-fn deep(rt: &impl Abort, alloc: Global, count: usize) -> Path {
-    let mut names = Vec::new(alloc);
-    for _ in 0..count {
-        names.push(name(rt, alloc, "a")).expect(rt, "memory");
-    }
-    Path::new(names).expect(rt, "a path")
+fn deep(rt: &impl Abort, alloc: Global, count: usize) -> String {
+    "/a".repeat(alloc, count).expect(rt, "memory")
 }
 
 /// Makes directories of so many levels, each in the one before.
 fn deepen(rt: &impl Abort, alloc: Global, tree: &mut WholeTree, levels: usize) {
     for count in 1..=levels {
-        let request = Request::Mkdir(deep(rt, alloc, count));
-        assert!(rt; is_said(&answer(rt, alloc, tree, &request), Say::Ok));
+        let at = deep(rt, alloc, count);
+        assert!(rt; answers_so(rt, alloc, tree, at.as_str(), Ask::Mkdir, Say::Ok));
     }
 }
 
 /// Whether a directory stands so many levels deep.
 fn is_deep(rt: &impl Abort, alloc: Global, tree: &mut WholeTree, levels: usize) -> bool {
-    let request = Request::Kind(deep(rt, alloc, levels));
-    is_said(&answer(rt, alloc, tree, &request), Say::Kind(Kind::Dir))
+    let at = deep(rt, alloc, levels);
+    answers_so(
+        rt,
+        alloc,
+        tree,
+        at.as_str(),
+        Ask::Kind,
+        Say::Kind(Kind::Dir),
+    )
 }
 
 const LONGER: &[Line] = &[

@@ -2,6 +2,7 @@
 use eden_model::{CallFault, Cause, Errno, Fault, Id, StartFault};
 use std::alloc::{AllocFailed, Global};
 use std::fmt::Display;
+use std::process::Abort;
 use std::test::*;
 
 /// A vector of one byte, or what want of memory is to the caller.
@@ -16,36 +17,41 @@ const FOREIGN: CallFault = CallFault::Foreign {
     length: 4,
 };
 
-fn said<T: Display>(alloc: Global, value: &T) -> Result<String, Fail> {
-    Ok(format!(in alloc; "{value}")?)
+const LOST: Fault = Fault::Fetch(Id { bytes: [7; 20] }, Cause::Missing);
+
+const FULL: CallFault = CallFault::Start(StartFault::HistoryFull(3));
+
+/// Whether that is what the value says.
+fn says<T: Display>(rt: &impl Abort, alloc: Global, value: &T, want: &str) -> bool {
+    let text = format!(in alloc; "{value}").expect(rt, "memory");
+    text.as_str() == want
 }
 
 #[test]
-fn refusals_are_told_in_words(rt: HostRuntime) -> Result<(), Fail> {
-    let empty = said(rt.alloc(), &Errno::ENOTEMPTY)?;
-    assert!(rt; empty.as_str() == "directory not empty");
-    let lost = said(
-        rt.alloc(),
-        &Fault::Fetch(Id { bytes: [7; 20] }, Cause::Missing),
-    )?;
-    assert!(rt; lost.as_str() == "an object could not be had: no such object");
-    Ok(())
+fn refusals_are_told_in_words(rt: HostRuntime) {
+    let alloc = rt.alloc();
+    assert!(rt; says(&rt, alloc, &Errno::ENOTEMPTY, "directory not empty"));
+    assert!(rt;
+        says(
+            &rt,
+            alloc,
+            &LOST,
+            "an object could not be had: no such object"
+        )
+    );
 }
 
 #[test]
-fn faults_of_calls_are_told_in_words(rt: HostRuntime) -> Result<(), Fail> {
-    let full = said(rt.alloc(), &CallFault::Start(StartFault::HistoryFull(3)))?;
-    assert!(rt; full.as_str() == "the history is full at 3 entries");
-    let foreign = said(rt.alloc(), &FOREIGN)?;
-    assert!(rt; foreign.as_str() == "entry 9 is awaited of a history of 4");
-    Ok(())
+fn faults_of_calls_are_told_in_words(rt: HostRuntime) {
+    let alloc = rt.alloc();
+    assert!(rt; says(&rt, alloc, &FULL, "the history is full at 3 entries"));
+    assert!(rt; says(&rt, alloc, &FOREIGN, "entry 9 is awaited of a history of 4"));
 }
 
 #[test]
-fn want_of_memory_is_a_fault_and_a_cause(rt: HostRuntime) -> Result<(), Fail> {
-    let byte = one_byte::<Fault>(rt.alloc())?;
+fn want_of_memory_is_a_fault_and_a_cause(rt: HostRuntime) {
+    let byte = one_byte::<Fault>(rt.alloc()).expect(&rt, "memory");
     assert!(rt; byte.len() == 1);
-    let byte = one_byte::<Cause>(rt.alloc())?;
+    let byte = one_byte::<Cause>(rt.alloc()).expect(&rt, "memory");
     assert!(rt; byte.len() == 1);
-    Ok(())
 }

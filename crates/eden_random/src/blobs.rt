@@ -21,14 +21,13 @@ const LOST: Sample = Sample {
 };
 
 /// What stands in a blob's place: its object, and its content, or why it has none.
-#[derive(Clone, Copy)]
 pub(crate) struct Blob {
     pub(crate) object: Sample,
     pub(crate) content: Result<&'static [u8], Cause>,
 }
 
 /// What the files and links of a random commit are. Three have no content.
-pub(crate) const BLOBS: [Blob; 8] = [
+static BLOBS: [Blob; 8] = [
     Blob {
         object: EMPTY_BLOB,
         content: Ok(b""),
@@ -63,7 +62,27 @@ pub(crate) const BLOBS: [Blob; 8] = [
     },
 ];
 
+impl Blob {
+    /// Its framed bytes. None where the repository lacks it.
+    pub(crate) fn framed(&self) -> Option<&'static [u8]> {
+        match self.content {
+            Err(Cause::Missing) => None,
+            _ => Some(self.object.framed),
+        }
+    }
+}
+
 /// The blob of that index modulo their number.
-pub(crate) fn blob_at(index: usize) -> Blob {
-    BLOBS[index % 8]
+pub(crate) fn blob_at(index: usize) -> &'static Blob {
+    &BLOBS[index % 8]
+}
+
+/// The blob of that id. None where no file and no link of a random commit has it.
+pub(crate) fn blob_of(id: Id) -> Option<&'static Blob> {
+    for blob in &BLOBS {
+        if blob.object.id == id {
+            return Some(blob);
+        }
+    }
+    None
 }

@@ -1,4 +1,4 @@
-use crate::blobs::{BLOBS, blob_at};
+use crate::blobs::{blob_at, blob_of};
 use crate::names::{name, name_at};
 use crate::unmade::Unmade;
 use crate::whole::rows_of;
@@ -21,15 +21,16 @@ pub(crate) enum Member {
     Module,
 }
 
-/// `test.txt` is `VERSION_1`.
-const ONE_FILE: [Option<Member>; 4] = [None, None, None, Some(Member::File(1))];
-
-/// `bak` is the tree with the one file, and `new.txt` and `test.txt` are `NEW_FILE` and `VERSION_2`.
-const TWO_FILES: [Option<Member>; 4] = [
-    Some(Member::Dir(0)),
-    Some(Member::File(3)),
-    None,
-    Some(Member::File(2)),
+/// The trees of the sample commit. In the first `test.txt` is `VERSION_1`. In the second `bak` is the first, and
+/// `new.txt` and `test.txt` are `NEW_FILE` and `VERSION_2`.
+static TWO_FILES: [[Option<Member>; 4]; 2] = [
+    [None, None, None, Some(Member::File(1))],
+    [
+        Some(Member::Dir(0)),
+        Some(Member::File(3)),
+        None,
+        Some(Member::File(2)),
+    ],
 ];
 
 /// A tree: what stands at each of the four names.
@@ -172,11 +173,11 @@ impl Commit {
         commit_of(trees, root)
     }
 
-    /// The sample commit whose tree is `TWO_FILES`.
+    /// The sample commit of two trees.
     pub fn two_files(alloc: Global) -> Result<Commit, Unmade> {
         let mut trees = Vec::new(alloc);
-        for members in [ONE_FILE, TWO_FILES] {
-            let next = tree_of(alloc, trees.as_slice(), members)?;
+        for members in &TWO_FILES {
+            let next = tree_of(alloc, trees.as_slice(), *members)?;
             trees.push(next)?;
         }
         commit_of(trees, 1)
@@ -205,35 +206,44 @@ impl Commit {
                 id: blob_at((word / 2 % 8) as usize).object.id,
             };
         }
-        let tree = self.trees.get((word / 2 % TREES) as usize);
         Key {
             kind: ObjKind::Tree,
-            id: tree.map_or(self.id, |tree| tree.id),
+            id: self.tree_id((word / 2 % TREES) as usize),
         }
     }
 
-    /// The framed bytes that the repository has under an id. None where the object is missing.
-    pub fn framed(&self, id: Id) -> Option<&[u8]> {
+    /// The id of the tree of that index, or that of the root where there is none.
+    fn tree_id(&self, index: usize) -> Id {
+        match self.trees.get(index) {
+            Some(tree) => tree.id,
+            None => self.id,
+        }
+    }
+
+    /// The framed bytes of a tree that the repository has.
+    fn framed_tree(&self, id: Id) -> Option<&[u8]> {
         for tree in &self.trees {
             if tree.id == id && tree.is_there() {
                 return Some(tree.framed.as_slice());
             }
         }
-        for blob in &BLOBS {
-            if blob.object.id == id && blob.content != Err(Cause::Missing) {
-                return Some(blob.object.framed);
-            }
-        }
         None
+    }
+
+    /// The framed bytes that the repository has under an id. None where the object is missing.
+    pub fn framed(&self, id: Id) -> Option<&[u8]> {
+        match (self.framed_tree(id), blob_of(id)) {
+            (Some(framed), _) => Some(framed),
+            (None, Some(blob)) => blob.framed(),
+            (None, None) => None,
+        }
     }
 
     /// What is wrong with what the repository gives for a key, if something is.
     pub fn flaw(&self, key: Key) -> Option<Cause> {
-        for blob in &BLOBS {
-            if key.kind == ObjKind::Blob && blob.object.id == key.id {
-                return blob.content.err();
-            }
+        match blob_of(key.id) {
+            Some(blob) if key.kind == ObjKind::Blob => blob.content.err(),
+            _ => None,
         }
-        None
     }
 }

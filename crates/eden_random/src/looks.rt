@@ -1,16 +1,26 @@
-use crate::names::{Places, path_of};
+use crate::names::{Places, below, path_of};
 use crate::unmade::Unmade;
 use eden_model::{Kind, Path, Reply, Request};
 use eden_oracle::WholeTree;
 use std::alloc::{AllocError, Global};
 
-/// What stands at a path. None where nothing does that the oracle knows.
+fn kind_in(reply: &Option<Reply>) -> Option<Kind> {
+    match reply {
+        Some(Reply::Kind(kind)) => Some(*kind),
+        _ => None,
+    }
+}
+
+/// What stands at a path. None where nothing does that the oracle knows. The request and the reply go by a call, so that
+/// what drops each variant of them is not written out here.
 pub fn kind_at(alloc: Global, tree: &mut WholeTree, places: &[u8]) -> Result<Option<Kind>, Unmade> {
     let request = Request::Kind(path_of(alloc, places)?);
-    match tree.step(alloc, &request)? {
-        Some(Reply::Kind(kind)) => Ok(Some(kind)),
-        _ => Ok(None),
-    }
+    let reply = tree.step(alloc, &request);
+    drop(request);
+    let reply = reply?;
+    let kind = kind_in(&reply);
+    drop(reply);
+    Ok(kind)
 }
 
 /// What is asked of an entry to see all of it.
@@ -26,9 +36,7 @@ pub(crate) fn look_at(kind: Option<Kind>, at: Path) -> Request {
 /// Notes the four paths that go on with one name more.
 fn push_below(alloc: Global, paths: &mut Vec<Places>, places: &[u8]) -> Result<(), AllocError> {
     for place in 0..4 {
-        let mut below = places.to_vec(alloc)?;
-        below.push(place)?;
-        paths.push(below)?;
+        paths.push(below(alloc, places, place)?)?;
     }
     Ok(())
 }

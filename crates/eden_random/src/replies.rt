@@ -2,9 +2,13 @@ use eden_model::{Entry, Fault, Kind, Name, Reply};
 use eden_oracle::WholeTree;
 use std::alloc::{AllocError, Global};
 
+fn is_same_row(one: &(Name, Kind), other: &(Name, Kind)) -> bool {
+    one.0 == other.0 && one.1 == other.1
+}
+
 fn are_same(one: &[(Name, Kind)], other: &[(Name, Kind)]) -> bool {
-    for ((name, kind), (there, wanted)) in one.iter().zip(other) {
-        if name != there || kind != wanted {
+    for k in 0..one.len() {
+        if k >= other.len() || !is_same_row(&one[k], &other[k]) {
             return false;
         }
     }
@@ -41,8 +45,11 @@ pub fn replays(alloc: Global, tree: &mut WholeTree, entry: &Entry) -> Result<boo
     if matches!(entry.reply, Reply::Fault(_)) {
         return Ok(true);
     }
-    match tree.step(alloc, &entry.request)? {
-        Some(want) => Ok(is_same(&entry.reply, &want)),
-        None => Ok(false),
-    }
+    let want = tree.step(alloc, &entry.request)?;
+    let is_wanted = match &want {
+        Some(want) => is_same(&entry.reply, want),
+        None => false,
+    };
+    drop(want);
+    Ok(is_wanted)
 }

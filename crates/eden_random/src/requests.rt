@@ -1,5 +1,5 @@
 use crate::looks::{kind_at, look_at};
-use crate::names::{Places, bytes, name, name_at, path_of};
+use crate::names::{Places, bytes, name, name_at, path_of, some_place};
 use crate::unmade::Unmade;
 use eden_model::{Bytes, Kind, Name, Path, Request};
 use eden_oracle::WholeTree;
@@ -12,17 +12,40 @@ const DEEPEST: u32 = 4;
 /// The most bytes of a write.
 const MOST: u32 = 12;
 
+fn is_dir(alloc: Global, tree: &mut WholeTree, places: &[u8]) -> Result<bool, Unmade> {
+    Ok(matches!(kind_at(alloc, tree, places)?, Some(Kind::Dir)))
+}
+
+/// Whether a path gets one more name.
+fn goes_on(is_dir: bool, seed: &mut u64) -> bool {
+    random(seed) % 6 != 0 && (is_dir || random(seed) % 12 == 0)
+}
+
 /// A path that goes on below directories, and now and then below what is none.
 fn some_places(alloc: Global, tree: &mut WholeTree, seed: &mut u64) -> Result<Places, Unmade> {
     let mut places = Vec::new(alloc);
     for _ in 0..DEEPEST {
-        let is_dir = kind_at(alloc, tree, &places)? == Some(Kind::Dir);
-        if random(seed) % 6 == 0 || !(is_dir || random(seed) % 12 == 0) {
-            return Ok(places);
+        if !goes_on(is_dir(alloc, tree, &places)?, seed) {
+            break;
         }
-        places.push((random(seed) % 4) as u8)?;
+        places.push(some_place(random(seed)))?;
     }
     Ok(places)
+}
+
+/// A random path, and what stands there.
+#[derive(Drop)]
+struct Spot {
+    at: Path,
+    kind: Option<Kind>,
+}
+
+fn some_spot(alloc: Global, tree: &mut WholeTree, seed: &mut u64) -> Result<Spot, Unmade> {
+    let places = some_places(alloc, tree, seed)?;
+    Ok(Spot {
+        kind: kind_at(alloc, tree, &places)?,
+        at: path_of(alloc, &places)?,
+    })
 }
 
 fn some_bytes(alloc: Global, seed: &mut u64) -> Result<Bytes, AllocError> {
@@ -35,7 +58,7 @@ fn after(alloc: Global, word: u32) -> Result<Option<Name>, Unmade> {
     if word % 2 == 0 {
         return Ok(None);
     }
-    Ok(Some(name(alloc, name_at((word / 2 % 4) as u8))?))
+    Ok(Some(name(alloc, name_at(some_place(word / 2)))?))
 }
 
 fn look(alloc: Global, at: Path, seed: &mut u64) -> Result<Request, Unmade> {
@@ -70,13 +93,17 @@ fn add(alloc: Global, at: Path, seed: &mut u64) -> Result<Request, Unmade> {
     })
 }
 
+fn rename(alloc: Global, at: Path, to: &[u8]) -> Result<Request, Unmade> {
+    Ok(Request::Rename(at, path_of(alloc, to)?))
+}
+
 /// Any request.
-fn any(alloc: Global, at: Path, to: Path, seed: &mut u64) -> Result<Request, Unmade> {
+fn any(alloc: Global, at: Path, to: &[u8], seed: &mut u64) -> Result<Request, Unmade> {
     match random(seed) % 12 {
         0..=3 => look(alloc, at, seed),
         4 => Ok(Request::Unlink(at)),
         5 => Ok(Request::Rmdir(at)),
-        6..=7 => Ok(Request::Rename(at, to)),
+        6..=7 => rename(alloc, at, to),
         8 => add(alloc, at, seed),
         _ => edit(alloc, at, seed),
     }
@@ -87,14 +114,14 @@ fn fitting(
     alloc: Global,
     kind: Option<Kind>,
     at: Path,
-    to: Path,
+    to: &[u8],
     seed: &mut u64,
 ) -> Result<Request, Unmade> {
     let word = random(seed);
     match (word % 8, kind) {
         (0..=2, _) => any(alloc, at, to, seed),
         (_, None) => add(alloc, at, seed),
-        (3..=4, Some(_)) => Ok(Request::Rename(at, to)),
+        (3..=4, Some(_)) => rename(alloc, at, to),
         (5, Some(Kind::Dir)) => Ok(Request::Rmdir(at)),
         (_, Some(Kind::Dir)) => Ok(Request::List(at, after(alloc, word / 8)?, 3)),
         (5, Some(Kind::Link)) => Ok(Request::Unlink(at)),
@@ -106,16 +133,13 @@ fn fitting(
 
 /// A random request, most often of what stands there. The oracle's tree says what stands where, and stays as it is.
 pub fn request(alloc: Global, tree: &mut WholeTree, seed: &mut u64) -> Result<Request, Unmade> {
-    let places = some_places(alloc, tree, seed)?;
-    let kind = kind_at(alloc, tree, &places)?;
+    let spot = some_spot(alloc, tree, seed)?;
     let to = some_places(alloc, tree, seed)?;
-    let at = path_of(alloc, &places)?;
-    fitting(alloc, kind, at, path_of(alloc, &to)?, seed)
+    fitting(alloc, spot.kind, spot.at, &to, seed)
 }
 
 /// A random look at all that stands at its path.
 pub fn some_look(alloc: Global, tree: &mut WholeTree, seed: &mut u64) -> Result<Request, Unmade> {
-    let places = some_places(alloc, tree, seed)?;
-    let kind = kind_at(alloc, tree, &places)?;
-    Ok(look_at(kind, path_of(alloc, &places)?))
+    let spot = some_spot(alloc, tree, seed)?;
+    Ok(look_at(spot.kind, spot.at))
 }

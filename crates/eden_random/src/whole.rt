@@ -1,6 +1,6 @@
 use crate::blobs::blob_at;
 use crate::commit::{Member, Tree};
-use crate::names::{Places, bytes, path_of};
+use crate::names::{Places, below, bytes, path_of};
 use crate::unmade::Unmade;
 use eden_model::{Bytes, Node, Path};
 use std::alloc::{AllocError, Global};
@@ -8,19 +8,29 @@ use std::alloc::{AllocError, Global};
 /// The most directories of a commit that are looked into.
 const MOST_PLACES: u32 = 1_000;
 
-fn content(alloc: Global, index: usize) -> Result<Option<Bytes>, AllocError> {
+fn blob_content(alloc: Global, index: usize) -> Result<Option<Bytes>, AllocError> {
     match blob_at(index).content {
         Ok(content) => Ok(Some(bytes(alloc, content)?)),
         Err(_) => Ok(None),
     }
 }
 
+fn content(alloc: Global, member: Member) -> Result<Option<Bytes>, AllocError> {
+    match member {
+        Member::File(index) | Member::Exec(index) | Member::Link(index) => {
+            blob_content(alloc, index)
+        }
+        Member::Dir(_) | Member::Module => Ok(None),
+    }
+}
+
 /// What an entry that is no directory of a tree shows.
 fn node(alloc: Global, member: Member) -> Result<Node, AllocError> {
+    let content = content(alloc, member)?;
     Ok(match member {
-        Member::File(index) => Node::File(false, content(alloc, index)?),
-        Member::Exec(index) => Node::File(true, content(alloc, index)?),
-        Member::Link(index) => Node::Link(content(alloc, index)?),
+        Member::File(_) => Node::File(false, content),
+        Member::Exec(_) => Node::File(true, content),
+        Member::Link(_) => Node::Link(content),
         Member::Dir(_) | Member::Module => Node::Dir(true),
     })
 }
@@ -49,17 +59,38 @@ impl Rows {
         self.push(alloc, &places, node)
     }
 
-    fn push_tree(&mut self, alloc: Global, places: &[u8], tree: &Tree) -> Result<(), Unmade> {
-        let is_there = tree.is_there();
-        self.push(alloc, places, Node::Dir(is_there))?;
+    fn push_members(
+        &mut self,
+        alloc: Global,
+        places: &[u8],
+        members: &[Option<Member>; 4],
+    ) -> Result<(), Unmade> {
         for place in 0..4u8 {
-            if let (true, Some(member)) = (is_there, tree.members[place as usize]) {
-                let mut below = places.to_vec(alloc)?;
-                below.push(place)?;
-                self.push_member(alloc, below, member)?;
+            if let Some(member) = members[place as usize] {
+                self.push_member(alloc, below(alloc, places, place)?, member)?;
             }
         }
         Ok(())
+    }
+
+    fn push_tree(&mut self, alloc: Global, places: &[u8], tree: &Tree) -> Result<(), Unmade> {
+        let is_there = tree.is_there();
+        self.push(alloc, places, Node::Dir(is_there))?;
+        if is_there {
+            self.push_members(alloc, places, &tree.members)?;
+        }
+        Ok(())
+    }
+
+    /// The next of the directories that are left, if one is.
+    fn push_next(&mut self, alloc: Global, trees: &[Tree]) -> Result<(), Unmade> {
+        let Some((places, index)) = self.left.pop() else {
+            return Ok(());
+        };
+        match trees.get(index) {
+            Some(tree) => self.push_tree(alloc, &places, tree),
+            None => Err(Unmade::NoTree),
+        }
     }
 }
 
@@ -75,12 +106,7 @@ pub(crate) fn rows_of(
     };
     rows.left.push((Vec::<u8>::new(alloc), root))?;
     for _ in 0..MOST_PLACES {
-        if let Some((places, index)) = rows.left.pop() {
-            let Some(tree) = trees.get(index) else {
-                return Err(Unmade::NoTree);
-            };
-            rows.push_tree(alloc, &places, tree)?;
-        }
+        rows.push_next(alloc, trees)?;
     }
     Ok(rows.all)
 }

@@ -1,6 +1,9 @@
 use std::alloc::{Alloc, Allocator};
-use std::fs::{Metadata, OpenFile, OpenOptions};
-use std::io::{self, ErrorKind, Read, Seek, SeekFrom, Write};
+use std::fs::{Metadata, OpenFile, OpenOptions, Permissions};
+use std::io::{self, ErrorKind, PipeReader, PipeWriter, Read, Seek, SeekFrom, Write};
+use std::os::fd::BorrowedFd;
+use std::os::unix::net::SocketAddr;
+use std::path::PathBuf;
 use std::rt::Files;
 
 /// Which calls of a file system fail.
@@ -121,6 +124,47 @@ impl<'a, R: Files> Files for FaultySystem<'a, R> {
 
     fn remove_dir_all<B: Allocator>(&self, alloc: B, path: &str) -> io::Result<()> {
         self.files.remove_dir_all(alloc, path)
+    }
+
+    // No test calls what follows. It is passed on, since the trait's own bodies, which refuse, take longer to prove here.
+    fn canonicalize<B: Allocator>(&self, alloc: B, path: &str) -> io::Result<PathBuf<B>> {
+        self.files.canonicalize(alloc, path)
+    }
+
+    fn read_link<B: Allocator>(&self, alloc: B, path: &str) -> io::Result<PathBuf<B>> {
+        self.files.read_link(alloc, path)
+    }
+
+    fn hard_link(&self, original: &str, link: &str) -> io::Result<()> {
+        self.files.hard_link(original, link)
+    }
+
+    fn set_permissions(&self, path: &str, perm: Permissions) -> io::Result<()> {
+        self.files.set_permissions(path, perm)
+    }
+
+    fn symlink(&self, original: &str, link: &str) -> io::Result<()> {
+        self.files.symlink(original, link)
+    }
+
+    fn pipe(&self) -> io::Result<(PipeReader, PipeWriter)> {
+        self.files.pipe()
+    }
+
+    fn chown(&self, path: &str, uid: Option<u32>, gid: Option<u32>) -> io::Result<()> {
+        self.files.chown(path, uid, gid)
+    }
+
+    fn lchown(&self, path: &str, uid: Option<u32>, gid: Option<u32>) -> io::Result<()> {
+        self.files.lchown(path, uid, gid)
+    }
+
+    fn create_dir_with_mode(&self, path: &str, mode: u32) -> io::Result<()> {
+        self.files.create_dir_with_mode(path, mode)
+    }
+
+    fn bind_unix(&self, socket: BorrowedFd<'_>, addr: &SocketAddr) -> io::Result<()> {
+        self.files.bind_unix(socket, addr)
     }
 }
 
