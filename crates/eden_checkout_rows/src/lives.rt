@@ -1,5 +1,5 @@
 //! A checkout over files in memory, from its opening to its close.
-ghost use Rattle.std.specs.Prelude.{◌≡◌, [], IfOk};
+ghost use Rattle.std.specs.Prelude.{◌≡◌, []};
 
 use eden_cache::ObjectCache;
 use eden_checkout::{Checkout, OpenFault};
@@ -11,7 +11,6 @@ use eden_overlay_format::Refusal;
 use eden_samples::{ONE_FILE, Sample, TWO_FILES, VERSION_1};
 use std::alloc::Global;
 use std::process::Abort;
-use std::test::Fail;
 
 type Stored = MemoryFiles<Outside>;
 
@@ -76,69 +75,76 @@ fn open(
     Checkout::open(alloc, alloc, files, root.id, cache)
 }
 
-fn test_file(alloc: Global) -> Result<Path, Fail> {
-    let Ok(name) = Name::new(b"test.txt".to_vec(alloc)?) else {
-        return Err(Fail::from("no name"));
-    };
+/// A checkout of the commit with one file.
+fn opened(rt: &impl Abort, alloc: Global, files: Stored) -> Tree {
+    let tree = open(rt, alloc, files, ONE_FILE).ok();
+    tree.expect(rt, "files that are opened")
+}
+
+/// The path of the one file.
+fn test_file(rt: &impl Abort, alloc: Global) -> Path {
+    let bytes = b"test.txt".to_vec(alloc).expect(rt, "memory");
+    let name = Name::new(bytes).expect(rt, "a name");
     let mut names = Vec::new(alloc);
-    names.push(name)?;
-    match Path::new(names) {
-        Ok(path) => Ok(path),
-        Err(_) => Err(Fail::from("no path")),
-    }
+    names.push(name).expect(rt, "memory");
+    Path::new(names).expect(rt, "a path")
 }
 
-fn is_answer(attempt: &Attempt, want: Want) -> bool {
-    match (attempt, want) {
-        (Attempt::Need(key), Want::Need(object)) => *key == key_of(object),
-        (Attempt::Finished(Reply::Count(count)), Want::Count(wanted)) => *count == wanted,
-        (Attempt::Finished(Reply::Data(bytes)), Want::Data(wanted)) => bytes.as_slice() == wanted,
-        _ => false,
-    }
+fn write(rt: &impl Abort, alloc: Global, offset: u64, bytes: &[u8]) -> Request {
+    let bytes = bytes.to_vec(alloc).expect(rt, "memory");
+    Request::Write(test_file(rt, alloc), offset, Bytes::new(bytes))
 }
 
-fn request(alloc: Global, step: Step) -> Result<Request, Fail> {
-    let path = test_file(alloc)?;
-    match step {
-        Step::Write(offset, bytes, _) => {
-            let bytes = Bytes::new(bytes.to_vec(alloc)?);
-            Ok(Request::Write(path, offset, bytes))
+fn read(rt: &impl Abort, alloc: Global) -> Request {
+    Request::Read(test_file(rt, alloc), 0, 100)
+}
+
+fn is_wanted(attempt: &Attempt, want: Want) -> bool {
+    match want {
+        Want::Need(object) => matches!(attempt, Attempt::Need(key) if *key == key_of(object)),
+        Want::Count(wanted) => {
+            matches!(attempt, Attempt::Finished(Reply::Count(count)) if *count == wanted)
         }
-        Step::Read(_) | Step::Put(_) => Ok(Request::Read(path, 0, 100)),
+        Want::Data(wanted) => {
+            matches!(attempt, Attempt::Finished(Reply::Data(bytes)) if bytes.as_slice() == wanted)
+        }
     }
 }
 
-fn put(alloc: Global, tree: &mut Tree, object: Sample) -> Result<bool, Fail> {
+/// Whether a request is answered so.
+fn answers(alloc: Global, tree: &mut Tree, request: &Request, want: Want) -> bool {
+    is_wanted(&tree.attempt(alloc, request), want)
+}
+
+fn put(rt: &impl Abort, alloc: Global, tree: &mut Tree, object: Sample) -> bool {
     let key = key_of(object);
-    match Object::checked(alloc, key, object.framed.to_vec(alloc)?) {
-        Ok(object) => Ok(tree.put(key, object).is_ok()),
-        Err(_) => Ok(false),
-    }
+    let framed = object.framed.to_vec(alloc).expect(rt, "memory");
+    let object = Object::checked(alloc, key, framed).expect(rt, "an object");
+    tree.put(key, object).is_ok()
 }
 
-fn is_done(alloc: Global, tree: &mut Tree, step: Step) -> Result<bool, Fail> {
-    let request = request(alloc, step)?;
+fn is_done(rt: &impl Abort, alloc: Global, tree: &mut Tree, step: Step) -> bool {
     match step {
-        Step::Put(object) => put(alloc, tree, object),
-        Step::Write(_, _, want) | Step::Read(want) => {
-            let attempt = tree.attempt(alloc, &request);
-            Ok(is_answer(&attempt, want))
+        Step::Put(object) => put(rt, alloc, tree, object),
+        Step::Read(want) => answers(alloc, tree, &read(rt, alloc), want),
+        Step::Write(offset, bytes, want) => {
+            answers(alloc, tree, &write(rt, alloc, offset, bytes), want)
         }
     }
 }
 
-/// Opens the files on a commit, takes the steps, and closes.
-fn live(rt: &impl Abort, alloc: Global, files: Stored, steps: &[Step]) -> Result<Stored, Fail> {
-    let Ok(mut tree) = open(rt, alloc, files, ONE_FILE) else {
-        return Err(Fail::from("not opened"));
-    };
+/// Opens the files on the commit, takes the steps, and closes.
+fn live(rt: &impl Abort, alloc: Global, files: Stored, steps: &[Step]) -> Stored {
+    let mut tree = opened(rt, alloc, files);
     for step in steps {
-        assert!(rt; is_done(alloc, &mut tree, *step)?);
+        assert!(rt; is_done(rt, alloc, &mut tree, *step));
     }
-    match tree.close(alloc) {
-        Ok(files) => Ok(files),
-        Err(_) => Err(Fail::from("not closed")),
-    }
+    tree.close(alloc).ok().expect(rt, "a close")
+}
+
+/// What a life over no files leaves.
+fn changed(rt: &impl Abort, alloc: Global) -> Stored {
+    live(rt, alloc, MemoryFiles::new(alloc), CHANGED)
 }
 
 /// The size of a file.
@@ -149,15 +155,16 @@ fn size(alloc: Global, files: &mut Stored, number: u64) -> usize {
     }
 }
 
+/// The files that it leaves, by their numbers, each with its size.
+const SIZES: &[(u64, usize)] = &[(0, 92), (1, 87), (2, 77)];
+
 #[test]
-fn changes_stay_over_a_close(rt: HostRuntime) -> Result<(), Fail> {
-    let alloc = rt.alloc();
-    let mut files = live(&rt, alloc, MemoryFiles::new(alloc), CHANGED)?;
-    assert_eq!(rt; size(alloc, &mut files, 0), 92);
-    assert_eq!(rt; size(alloc, &mut files, 1), 87);
-    assert_eq!(rt; size(alloc, &mut files, 2), 77);
-    live(&rt, alloc, files, OPENED_AGAIN)?;
-    Ok(())
+fn changes_stay_over_a_close(rt: HostRuntime) {
+    let mut files = changed(&rt, rt.alloc());
+    for (number, wanted) in SIZES {
+        assert!(rt; size(rt.alloc(), &mut files, *number) == *wanted);
+    }
+    live(&rt, rt.alloc(), files, OPENED_AGAIN);
 }
 
 /// Why the files aren't opened on that commit.
@@ -169,32 +176,22 @@ fn refusal(rt: &impl Abort, alloc: Global, files: Stored, root: Sample) -> Optio
 }
 
 #[test]
-fn files_of_an_open_mount_are_refused(rt: HostRuntime) -> Result<(), Fail> {
-    let alloc = rt.alloc();
-    let closed = live(&rt, alloc, MemoryFiles::new(alloc), CHANGED)?;
-    let Ok(tree) = open(&rt, alloc, closed, ONE_FILE) else {
-        return Err(Fail::from("not opened"));
-    };
-    let fault = refusal(&rt, alloc, tree.abandon(), ONE_FILE);
-    assert_eq!(rt; fault, Some(OpenFault::NotClean));
-    Ok(())
+fn files_of_an_open_mount_are_refused(rt: HostRuntime) {
+    let tree = opened(&rt, rt.alloc(), changed(&rt, rt.alloc()));
+    let fault = refusal(&rt, rt.alloc(), tree.abandon(), ONE_FILE);
+    assert!(rt; fault == Some(OpenFault::NotClean));
 }
 
 #[test]
-fn files_of_another_commit_are_refused(rt: HostRuntime) -> Result<(), Fail> {
-    let alloc = rt.alloc();
-    let closed = live(&rt, alloc, MemoryFiles::new(alloc), CHANGED)?;
-    let fault = refusal(&rt, alloc, closed, TWO_FILES);
-    assert_eq!(rt; fault, Some(OpenFault::OtherRoot(ONE_FILE.id)));
-    Ok(())
+fn files_of_another_commit_are_refused(rt: HostRuntime) {
+    let fault = refusal(&rt, rt.alloc(), changed(&rt, rt.alloc()), TWO_FILES);
+    assert!(rt; fault == Some(OpenFault::OtherRoot(ONE_FILE.id)));
 }
 
 #[test]
-fn files_with_a_damaged_state_are_refused(rt: HostRuntime) -> Result<(), Fail> {
-    let alloc = rt.alloc();
-    let mut closed = live(&rt, alloc, MemoryFiles::new(alloc), CHANGED)?;
-    assert!(rt; closed.replace(alloc, 0, b"OVFL").is_ok());
-    let fault = refusal(&rt, alloc, closed, ONE_FILE);
-    assert_eq!(rt; fault, Some(OpenFault::Damaged(0, Refusal::Short)));
-    Ok(())
+fn files_with_a_damaged_state_are_refused(rt: HostRuntime) {
+    let mut files = changed(&rt, rt.alloc());
+    assert!(rt; files.replace(rt.alloc(), 0, b"OVFL").is_ok());
+    let fault = refusal(&rt, rt.alloc(), files, ONE_FILE);
+    assert!(rt; fault == Some(OpenFault::Damaged(0, Refusal::Short)));
 }

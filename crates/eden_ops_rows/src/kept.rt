@@ -4,7 +4,6 @@ use crate::mount::KEPT;
 use crate::steps::{Ask, Names, Row, Step, Want, check};
 use eden_model::{Fault, Kind};
 use eden_samples::ONE_FILE;
-use std::test::Fail;
 
 const A: Names = &[b"a"];
 
@@ -94,10 +93,9 @@ const TOO_LONG: Row = Row {
 };
 
 #[test]
-fn a_content_that_was_read_or_stored_is_not_read_again(rt: HostRuntime) -> Result<(), Fail> {
+fn a_content_that_was_read_or_stored_is_not_read_again(rt: HostRuntime) {
     for row in [IN_PAGES, WRITTEN_IN_PIECES, UNLOADED_BETWEEN] {
         check(&rt, rt.alloc(), row, KEPT);
     }
     check(&rt, rt.alloc(), TOO_LONG, 4);
-    Ok(())
 }

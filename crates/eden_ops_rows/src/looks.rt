@@ -3,12 +3,11 @@
 use crate::mount::{Mount, is_stocked, key_of};
 use crate::paths::path;
 use crate::steps::{Ask, D, Names, ROOT, Row, Step, TEST, Want, check_all};
-use eden_model::{Errno, Kind};
+use eden_model::{Errno, Kind, Path};
 use eden_ops::{Walked, reach};
 use eden_samples::{
     ALL_KINDS, EMPTY_TREE, NEW_FILE, ONE_FILE, ONE_MODULE, TARGET, TWO_FILES, VERSION_1,
 };
-use std::test::Fail;
 
 const BAK: Names = &[b"bak"];
 
@@ -149,22 +148,21 @@ const MODULE: Row = Row {
 const ROWS: &[Row] = &[TOLD, MEASURED, READ, LOST, LINKED, LISTED, EMPTY, MODULE];
 
 #[test]
-fn looks_need_objects_and_are_answered(rt: HostRuntime) -> Result<(), Fail> {
+fn looks_need_objects_and_are_answered(rt: HostRuntime) {
     check_all(&rt, rt.alloc(), ROWS);
-    Ok(())
+}
+
+/// How far a walk to a path comes.
+fn walk(mount: &mut Mount, at: &Path) -> Walked {
+    is_stocked(&mount.cache);
+    reach(&mut mount.table, &mut mount.cache, mount.alloc, at)
 }
 
 #[test]
-fn a_walk_needs_the_directories_above(rt: HostRuntime) -> Result<(), Fail> {
-    let alloc = rt.alloc();
-    let mut mount = Mount::open(&rt, alloc, ONE_FILE, 8);
-    let at = path(&rt, alloc, TEST);
-    is_stocked(&mount.cache);
-    let walked = reach(&mut mount.table, &mut mount.cache, alloc, &at);
-    assert_eq!(rt; walked, Walked::Needs(key_of(ONE_FILE)));
+fn a_walk_needs_the_directories_above(rt: HostRuntime) {
+    let mut mount = Mount::open(&rt, rt.alloc(), ONE_FILE, 8);
+    let at = path(&rt, rt.alloc(), TEST);
+    assert!(rt; walk(&mut mount, &at) == Walked::Needs(key_of(ONE_FILE)));
     mount.put(&rt, ONE_FILE);
-    is_stocked(&mount.cache);
-    let walked = reach(&mut mount.table, &mut mount.cache, alloc, &at);
-    assert_eq!(rt; walked, Walked::Through);
-    Ok(())
+    assert!(rt; walk(&mut mount, &at) == Walked::Through);
 }

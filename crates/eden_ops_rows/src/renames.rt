@@ -2,13 +2,11 @@
 
 use crate::mount::Mount;
 use crate::paths::path;
-use crate::steps::{Ask, D, D_T, E, Names, ROOT, Row, Step, TEST, Want, check_all};
-use eden_model::{Errno, Fault, Kind, Path, Reply, Request};
-use eden_random::is_same;
+use crate::steps::{Ask, D, D_T, E, Names, ROOT, Row, Step, TEST, Want, check_all, is_wanted};
+use eden_model::{Errno, Fault, Kind, Path, Request};
 use eden_samples::{ONE_FILE, TWO_FILES, VERSION_1};
 use std::alloc::Global;
 use std::process::Abort;
-use std::test::Fail;
 
 const A: Names = &[b"a"];
 
@@ -191,9 +189,8 @@ const ROWS: &[Row] = &[
 ];
 
 #[test]
-fn renames_are_answered_and_leave_these_files(rt: HostRuntime) -> Result<(), Fail> {
+fn renames_are_answered_and_leave_these_files(rt: HostRuntime) {
     check_all(&rt, rt.alloc(), ROWS);
-    Ok(())
 }
 
 /// The path of a first name, and then so many times `a`.
@@ -207,13 +204,13 @@ fn deep(rt: &impl Abort, alloc: Global, first: &'static [u8], count: usize) -> P
 }
 
 fn is_ok(rt: &impl Abort, mount: &mut Mount, request: &Request) -> bool {
-    is_same(&mount.answer(rt, request), &Reply::Ok)
+    is_wanted(&mount.answer(rt, request), Want::Ok)
 }
 
 /// Whether a directory is there.
 fn is_dir(rt: &impl Abort, mount: &mut Mount, at: Path) -> bool {
-    let reply = mount.answer(rt, &Request::Kind(at));
-    is_same(&reply, &Reply::Kind(Kind::Dir))
+    let request = Request::Kind(at);
+    is_wanted(&mount.answer(rt, &request), Want::Kind(Kind::Dir))
 }
 
 /// Directories to the greatest depth.
@@ -232,7 +229,7 @@ fn move_deep(rt: &impl Abort, mount: &mut Mount, count: usize) -> bool {
 }
 
 #[test]
-fn what_is_deep_moves(rt: HostRuntime) -> Result<(), Fail> {
+fn what_is_deep_moves(rt: HostRuntime) {
     let alloc = rt.alloc();
     let mut mount = Mount::open(&rt, alloc, ONE_FILE, 1);
     dig(&rt, &mut mount);
@@ -240,5 +237,4 @@ fn what_is_deep_moves(rt: HostRuntime) -> Result<(), Fail> {
     assert!(rt; move_deep(&rt, &mut mount, 0));
     assert!(rt; is_dir(&rt, &mut mount, deep(&rt, alloc, b"e", 254)));
     assert!(rt; !is_dir(&rt, &mut mount, deep(&rt, alloc, b"e", 255)));
-    Ok(())
 }

@@ -5,7 +5,6 @@ use crate::paths::{name, path};
 use crate::whole::bytes;
 use eden_model::{Attempt, Entries, Errno, Fault, Kind, Name, Outside, Path, Reply, Request};
 use eden_overlay::{Files, MemoryFiles};
-use eden_random::is_same;
 use eden_samples::Sample;
 use std::alloc::Global;
 use std::process::Abort;
@@ -67,13 +66,16 @@ pub(crate) enum Step {
     Pass(u64),
 }
 
-/// Steps on a mount of that tree whose cache holds so many objects, and then its files, each with its size in bytes.
+/// Files by their numbers, each with its size in bytes.
+pub(crate) type Sizes = &'static [(u64, usize)];
+
+/// Steps on a mount of that tree whose cache holds so many objects, and then its files.
 #[derive(Clone, Copy)]
 pub(crate) struct Row {
     pub(crate) root: Sample,
     pub(crate) objects: usize,
     pub(crate) steps: &'static [Step],
-    pub(crate) files: &'static [(u64, usize)],
+    pub(crate) files: Sizes,
 }
 
 fn behind(rt: &impl Abort, alloc: Global, after: Option<&[u8]>) -> Option<Name> {
@@ -110,54 +112,60 @@ fn request(rt: &impl Abort, alloc: Global, names: Names, ask: Ask) -> Request {
     }
 }
 
-fn entries(rt: &impl Abort, alloc: Global, rows: &[(&'static [u8], Kind)]) -> Entries {
-    let mut entries = Vec::new(alloc);
-    for (bytes, kind) in rows {
-        entries
-            .push((name(rt, alloc, bytes), *kind))
-            .expect(rt, "memory");
+/// Whether these entries are listed, in order.
+fn are_listed(entries: &Entries, rows: &[(&'static [u8], Kind)]) -> bool {
+    for ((name, kind), (bytes, wanted)) in entries.as_slice().iter().zip(rows) {
+        if name.as_slice() != *bytes || kind != wanted {
+            return false;
+        }
     }
-    Entries::new(entries)
+    entries.len() == rows.len()
 }
 
-fn reply(rt: &impl Abort, alloc: Global, want: Want) -> Reply {
+/// Whether a reply is the one that is wanted.
+pub(crate) fn is_wanted(reply: &Reply, want: Want) -> bool {
     match want {
-        Want::Ok => Reply::Ok,
-        Want::Kind(kind) => Reply::Kind(kind),
-        Want::Stat(kind, size) => Reply::Stat(kind, size),
-        Want::Data(content) => Reply::Data(bytes(rt, alloc, content)),
-        Want::Count(count) => Reply::Count(count),
-        Want::Entries(rows, more) => Reply::Entries(entries(rt, alloc, rows), more),
-        Want::Err(errno) => Reply::Err(errno),
-        Want::Fault(fault) => Reply::Fault(fault),
+        Want::Ok => matches!(reply, Reply::Ok),
+        Want::Kind(kind) => matches!(reply, Reply::Kind(there) if *there == kind),
+        Want::Stat(kind, size) => {
+            matches!(reply, Reply::Stat(there, length) if *there == kind && *length == size)
+        }
+        Want::Data(bytes) => matches!(reply, Reply::Data(data) if data.as_slice() == bytes),
+        Want::Count(count) => matches!(reply, Reply::Count(there) if *there == count),
+        Want::Entries(rows, more) => {
+            matches!(reply, Reply::Entries(entries, left) if *left == more && are_listed(entries, rows))
+        }
+        Want::Err(errno) => matches!(reply, Reply::Err(there) if *there == errno),
+        Want::Fault(fault) => matches!(reply, Reply::Fault(there) if *there == fault),
     }
 }
 
-fn replies(rt: &impl Abort, mount: &mut Mount, request: &Request, want: Want) -> bool {
+fn replies(mount: &mut Mount, request: &Request, want: Want) -> bool {
     match mount.attempt(request) {
-        Attempt::Finished(reply_now) => is_same(&reply_now, &reply(rt, mount.alloc, want)),
+        Attempt::Finished(reply) => is_wanted(&reply, want),
         Attempt::Need(_) => false,
     }
 }
 
-fn needs(mount: &mut Mount, request: &Request, object: Sample) -> bool {
-    match mount.attempt(request) {
+/// Whether that object is needed, which is cached then.
+fn needs(rt: &impl Abort, mount: &mut Mount, request: &Request, object: Sample) -> bool {
+    let is_so = match mount.attempt(request) {
         Attempt::Finished(_) => false,
         Attempt::Need(key) => key == key_of(object),
-    }
+    };
+    mount.put(rt, object);
+    is_so
 }
 
 fn take(rt: &impl Abort, mount: &mut Mount, step: Step) -> bool {
     match step {
         Step::Ask(names, ask, want) => {
             let request = request(rt, mount.alloc, names, ask);
-            replies(rt, mount, &request, want)
+            replies(mount, &request, want)
         }
         Step::Need(names, ask, object) => {
             let request = request(rt, mount.alloc, names, ask);
-            let is_so = needs(mount, &request, object);
-            mount.put(rt, object);
-            is_so
+            needs(rt, mount, &request, object)
         }
         Step::Unload(count) => mount.table.unload(mount.alloc, &[], 0) == count,
         Step::Pass(count) => {
@@ -167,23 +175,36 @@ fn take(rt: &impl Abort, mount: &mut Mount, step: Step) -> bool {
     }
 }
 
-/// The files of a mount, each with its size.
-fn sizes(rt: &impl Abort, mount: Mount) -> Vec<(u64, usize)> {
-    let Mount {
-        alloc,
-        table,
-        calls,
-        ..
-    } = mount;
-    calls.set(u64::MAX);
-    let mut files: MemoryFiles<Outside> = table.into_overlay().into_files().into_files();
-    let mut sizes = Vec::new(alloc);
-    for number in files.list(alloc).expect(rt, "a list") {
-        if let Some(bytes) = files.read(alloc, number).expect(rt, "a file") {
-            sizes.push((number, bytes.len())).expect(rt, "memory");
+fn has_size(alloc: Global, files: &mut MemoryFiles<Outside>, number: u64, size: usize) -> bool {
+    match files.read(alloc, number) {
+        Ok(Some(bytes)) => bytes.len() == size,
+        _ => false,
+    }
+}
+
+/// Whether files of these numbers are those, in order, each of its size.
+fn have_sizes(
+    alloc: Global,
+    files: &mut MemoryFiles<Outside>,
+    numbers: &[u64],
+    want: Sizes,
+) -> bool {
+    for (number, (wanted, size)) in numbers.iter().zip(want) {
+        if number != wanted || !has_size(alloc, files, *number, *size) {
+            return false;
         }
     }
-    sizes
+    numbers.len() == want.len()
+}
+
+/// Whether just these files are under a mount, once all calls pass.
+fn leaves(rt: &impl Abort, mount: Mount, want: Sizes) -> bool {
+    mount.calls.set(u64::MAX);
+    let alloc = mount.alloc;
+    let files = mount.table.into_overlay().into_files();
+    let mut files: MemoryFiles<Outside> = files.into_files();
+    let numbers = files.list(alloc).expect(rt, "a list");
+    have_sizes(alloc, &mut files, numbers.as_slice(), want)
 }
 
 /// Takes the steps of a row, where contents of at most so many bytes stay in memory, and looks at its files.
@@ -192,7 +213,7 @@ pub(crate) fn check(rt: &impl Abort, alloc: Global, row: Row, kept: u64) {
     for (count, step) in row.steps.iter().enumerate() {
         assert!(rt; take(rt, &mut mount, *step), "step {count}");
     }
-    assert_eq!(rt; sizes(rt, mount).as_slice(), row.files);
+    assert!(rt; leaves(rt, mount, row.files));
 }
 
 pub(crate) fn check_all(rt: &impl Abort, alloc: Global, rows: &[Row]) {

@@ -8,7 +8,6 @@ use eden_random::{all_looks, is_same, path_of, request};
 use eden_samples::{ALL_KINDS, random};
 use std::alloc::Global;
 use std::process::Abort;
-use std::test::Fail;
 
 /// How often the commit is begun with, and how many requests follow each time.
 const RUNS: &[(u32, u32)] = &[(600, 50), (20, 500)];
@@ -105,23 +104,23 @@ fn count(tally: &mut Tally, reply: &Reply) {
     }
 }
 
-/// One request: where the mount replies no fault, the oracle replies the same; and it replies one only where the device has
-/// stopped.
+/// Where the mount replies no fault, the oracle replies the same; and it replies one only where the device has stopped.
+fn is_right(rt: &impl Abort, pair: &mut Pair, request: &Request, reply: &Reply) -> bool {
+    match reply {
+        Reply::Fault(_) => pair.mount.calls.get() == 0,
+        _ => is_same(reply, &told(rt, pair.mount.alloc, &mut pair.tree, request)),
+    }
+}
+
+/// One request, with the reply that it must have.
 fn step(rt: &impl Abort, pair: &mut Pair, seed: &mut u64, tally: &mut Tally) {
-    let alloc = pair.mount.alloc;
-    let request = request(alloc, &mut pair.tree, seed).expect(rt, "a request");
+    let request = request(pair.mount.alloc, &mut pair.tree, seed).expect(rt, "a request");
     let reply = reply(rt, &mut pair.mount, &request, seed, tally);
     count(tally, &reply);
-    match reply {
-        Reply::Fault(_) => assert_eq!(rt; pair.mount.calls.get(), 0),
-        reply => {
-            let want = told(rt, alloc, &mut pair.tree, &request);
-            assert!(rt;
-                is_same(&reply, &want),
-                "{request:?}: {reply:?}, not {want:?}"
-            );
-        }
-    }
+    assert!(rt;
+        is_right(rt, pair, &request, &reply),
+        "{request:?}: {reply:?}"
+    );
 }
 
 /// So many requests on the commit, with room for so many objects.
@@ -160,7 +159,7 @@ fn run_all(
 }
 
 #[test]
-fn random_requests_are_answered_as_by_the_oracle(rt: HostRuntime) -> Result<(), Fail> {
+fn random_requests_are_answered_as_by_the_oracle(rt: HostRuntime) {
     let mut seed = 1;
     let mut tally = Tally {
         changed: 0,
@@ -182,5 +181,4 @@ fn random_requests_are_answered_as_by_the_oracle(rt: HostRuntime) -> Result<(), 
         "{changed} {refused} {needs} {faults}"
     );
     assert!(rt; needs > ALL / 16 && faults > ALL / 40, "{needs} {faults}");
-    Ok(())
 }

@@ -9,7 +9,6 @@ use eden_samples::{NEW_FILE, ONE_FILE, Sample, TWO_FILES, VERSION_1, VERSION_2, 
 use linked_list_allocator::LocalHeap;
 use std::alloc::{Allocator, Global};
 use std::process::Abort;
-use std::test::Fail;
 
 /// How many steps begin with an own root without entries, and after how many of them all is compared.
 const STEPS: u32 = 20_000;
@@ -51,141 +50,158 @@ fn letter(seed: &mut u64) -> u8 {
 }
 
 /// The path of a directory that must be shown.
-fn path(alloc: Global, tree: &Tree, seed: &mut u64) -> Result<Vec<u8>, Fail> {
+fn path(rt: &impl Abort, alloc: Global, tree: &Tree, seed: &mut u64) -> Vec<u8> {
     let mut path = Vec::new(alloc);
     for _ in 0..random(seed) % (DEEPEST + 1) {
-        path.push(letter(seed))?;
+        path.push(letter(seed)).expect(rt, "memory");
         if !tree.is_dir(&path) {
             path.pop();
         }
     }
-    Ok(path)
+    path
+}
+
+/// The path of a place's entry.
+fn path_of(rt: &impl Abort, alloc: Global, place: Place<'_>) -> Vec<u8> {
+    below(rt, alloc, place.path, place.letter)
 }
 
 /// Puts a node under a name, in both: whether that was done.
 fn insert<A: Allocator + Clone>(
+    rt: &impl Abort,
     mount: &mut Mount<A>,
     tree: &mut Tree,
     place: Place<'_>,
     kind: Kind,
     content: u64,
-) -> Result<bool, Fail> {
-    match mount.insert(place, kind, content)? {
-        None => Ok(false),
+) -> bool {
+    match mount.insert(rt, place, kind, content) {
+        None => false,
         Some(node) => {
-            let there = below(mount.alloc, place.path, place.letter)?;
-            tree.put(mount.alloc, &there, node)?;
-            Ok(true)
+            let there = path_of(rt, mount.alloc, place);
+            tree.put(rt, mount.alloc, &there, node);
+            true
         }
     }
 }
 
 /// Takes out what is under a name, in both, with its file or without: whether that was done.
 fn remove<A: Allocator + Clone>(
+    rt: &impl Abort,
     mount: &mut Mount<A>,
     tree: &mut Tree,
     place: Place<'_>,
     has_file: bool,
-) -> Result<bool, Fail> {
+) -> bool {
     let gone = if has_file {
-        mount.remove(place)?
+        mount.remove(rt, place)
     } else {
-        mount.change(place, None)?
+        mount.change(rt, place, None)
     };
     if gone {
-        let there = below(mount.alloc, place.path, place.letter)?;
+        let there = path_of(rt, mount.alloc, place);
         tree.take(&there);
     }
-    Ok(gone)
+    gone
 }
 
 /// Gives a file another kind, in both: whether that was done.
 fn turn_into<A: Allocator + Clone>(
+    rt: &impl Abort,
     mount: &mut Mount<A>,
     tree: &mut Tree,
     place: Place<'_>,
     kind: Kind,
-) -> Result<bool, Fail> {
-    let there = below(mount.alloc, place.path, place.letter)?;
-    let turned = mount.turn_into(place, kind)?;
+) -> bool {
+    let turned = mount.turn_into(rt, place, kind);
+    let there = path_of(rt, mount.alloc, place);
     match tree.get(&there) {
-        Some(node) if turned => tree.put(mount.alloc, &there, Node { kind, ..node })?,
+        Some(node) if turned => tree.put(rt, mount.alloc, &there, Node { kind, ..node }),
         _ => {}
     }
-    Ok(turned)
+    turned
 }
 
-/// Moves what is under a name to a random other place, in both: whether that was done. Both directories become the
-/// mount's own before, and what is below the entry is unloaded.
+/// Moves what is under a name to another place, in both: whether that was done. Both directories become the mount's own
+/// before, and what is below the entry is unloaded.
+fn move_to<A: Allocator + Clone>(
+    rt: &impl Abort,
+    mount: &mut Mount<A>,
+    tree: &mut Tree,
+    from: Place<'_>,
+    to: Place<'_>,
+) -> bool {
+    let source = path_of(rt, mount.alloc, from);
+    let target = path_of(rt, mount.alloc, to);
+    mount.unload(rt, &source, 0);
+    mount.unload(rt, &target, 0);
+    let moved = mount.own(rt, from.path) && mount.own(rt, to.path) && mount.rename(rt, from, to);
+    if moved {
+        tree.rename(rt, mount.alloc, &source, &target);
+    }
+    moved
+}
+
+/// Moves what is under a name to a random other place.
 fn rename<A: Allocator + Clone>(
+    rt: &impl Abort,
     mount: &mut Mount<A>,
     tree: &mut Tree,
     from: Place<'_>,
     seed: &mut u64,
-) -> Result<bool, Fail> {
-    let alloc = mount.alloc;
-    let path = path(alloc, tree, seed)?;
-    let to = Place {
-        path: &path,
-        letter: letter(seed),
-    };
-    let source = below(alloc, from.path, from.letter)?;
-    let target = below(alloc, to.path, to.letter)?;
-    mount.unload(&source, 0)?;
-    mount.unload(&target, 0)?;
-    let moved = mount.own(from.path)? && mount.own(to.path)? && mount.rename(from, to)?;
-    if moved {
-        tree.rename(alloc, &source, &target)?;
-    }
-    Ok(moved)
+) -> bool {
+    let path = path(rt, mount.alloc, tree, seed);
+    let letter = letter(seed);
+    let path = path.as_slice();
+    move_to(rt, mount, tree, from, Place { path, letter })
 }
 
 /// Loads or unloads the directory at a path, or lets the clock go on: nothing comes or goes.
-fn turn<A: Allocator + Clone>(mount: &mut Mount<A>, path: &[u8], word: u32) -> Result<bool, Fail> {
+fn turn<A: Allocator + Clone>(rt: &impl Abort, mount: &mut Mount<A>, path: &[u8], word: u32) {
     match word % 4 {
         0 => {
-            mount.load_all(path)?;
+            mount.load_all(rt, path);
         }
         1 => {
-            mount.unload(path, u64::from(word / 4 % 4))?;
+            mount.unload(rt, path, u64::from(word / 4 % 4));
         }
         2 => {
-            mount.own(path)?;
+            mount.own(rt, path);
         }
         _ => mount.table.tick(),
     }
-    Ok(false)
 }
 
 /// A random step at a path: whether something came, went or moved.
 fn change<A: Allocator + Clone>(
+    rt: &impl Abort,
     mount: &mut Mount<A>,
     tree: &mut Tree,
     path: &[u8],
     seed: &mut u64,
-) -> Result<bool, Fail> {
-    let place = Place {
-        path,
-        letter: letter(seed),
-    };
+) -> bool {
+    let letter = letter(seed);
+    let place = Place { path, letter };
     let word = random(seed);
     match random(seed) % 16 {
-        0..=2 => insert(mount, tree, place, Kind::File, u64::from(word)),
-        3..=6 => insert(mount, tree, place, Kind::Dir, 0),
-        7 => remove(mount, tree, place, true),
-        8 => remove(mount, tree, place, false),
-        9 => turn_into(mount, tree, place, Kind::Exec),
-        10 => turn_into(mount, tree, place, Kind::Link),
-        11..=13 => rename(mount, tree, place, seed),
-        _ => turn(mount, path, word),
+        0..=2 => insert(rt, mount, tree, place, Kind::File, u64::from(word)),
+        3..=6 => insert(rt, mount, tree, place, Kind::Dir, 0),
+        7 => remove(rt, mount, tree, place, true),
+        8 => remove(rt, mount, tree, place, false),
+        9 => turn_into(rt, mount, tree, place, Kind::Exec),
+        10 => turn_into(rt, mount, tree, place, Kind::Link),
+        11..=13 => rename(rt, mount, tree, place, seed),
+        _ => {
+            turn(rt, mount, path, word);
+            false
+        }
     }
 }
 
 /// Unloads all.
-fn unload_all<A: Allocator + Clone>(rt: &impl Abort, mount: &mut Mount<A>) -> Result<(), Fail> {
-    assert!(rt; mount.unload(&[], 0)? > 0);
+fn unload_all<A: Allocator + Clone>(rt: &impl Abort, mount: &mut Mount<A>) {
+    assert!(rt; mount.unload(rt, &[], 0) > 0);
     assert!(rt; !mount.table.look(&[]).loaded);
-    Ok(())
 }
 
 /// The files under a new table, which shows what they say. An entry that failed to move is stored again before, by its
@@ -195,34 +211,33 @@ fn reopen<A: Allocator + Clone>(
     mount: Mount<A>,
     tree: &Tree,
     dirs: &A,
-    tally: &mut Tally,
-) -> Result<Mount<A>, Fail> {
+) -> Mount<A> {
     let mut mount = mount;
-    if mount.has_unsaved(tree)? {
-        unload_all(rt, &mut mount)?;
+    if mount.has_unsaved(rt, tree) {
+        unload_all(rt, &mut mount);
     }
-    let (mut again, failures) = mount.open_again(rt, dirs.clone()?)?;
-    assert!(rt; again.shows_all(tree)?);
-    tally.failures = tally.failures.saturating_add(failures);
-    Ok(again)
+    let mut again = mount.open_again(rt, dirs.clone().expect(rt, "a heap"));
+    assert!(rt; again.shows_all(rt, tree));
+    again
 }
 
 /// Changes something at a path, over files that stop at a random call, and lets them go on. Whether they stopped.
 fn stopping_change<A: Allocator + Clone>(
+    rt: &impl Abort,
     mount: &mut Mount<A>,
     tree: &mut Tree,
     path: &[u8],
     seed: &mut u64,
-    tally: &mut Tally,
-) -> Result<bool, Fail> {
+    changed: &mut u32,
+) -> bool {
     let calls = u64::from(random(seed) % 16);
     mount.calls.set(if calls < 4 { calls } else { u64::MAX });
-    if change(mount, tree, path, seed)? {
-        tally.changed = tally.changed.saturating_add(1);
+    if change(rt, mount, tree, path, seed) {
+        *changed = changed.saturating_add(1);
     }
     let stopped = mount.calls.get() == 0;
     mount.calls.set(u64::MAX);
-    Ok(stopped)
+    stopped
 }
 
 /// One change at a random path. Whether the files stopped meanwhile.
@@ -231,18 +246,18 @@ fn change_somewhere<A: Allocator + Clone>(
     mount: &mut Mount<A>,
     tree: &mut Tree,
     seed: &mut u64,
-    tally: &mut Tally,
-) -> Result<bool, Fail> {
-    let path = path(mount.alloc, tree, seed)?;
-    let stopped = stopping_change(mount, tree, &path, seed, tally)?;
+    changed: &mut u32,
+) -> bool {
+    let path = path(rt, mount.alloc, tree, seed);
+    let stopped = stopping_change(rt, mount, tree, &path, seed, changed);
     assert!(rt;
         if stopped {
-            mount.shows_all(tree)?
+            mount.shows_all(rt, tree)
         } else {
-            mount.shows_dir(tree, &path)?
+            mount.shows_dir(rt, tree, &path)
         }
     );
-    Ok(stopped)
+    stopped
 }
 
 /// A random step, at every fourth of which the device stops after a few calls, and is mended. What it touched shows what
@@ -253,14 +268,14 @@ fn step<A: Allocator + Clone>(
     tree: &mut Tree,
     dirs: &A,
     seed: &mut u64,
-    tally: &mut Tally,
-) -> Result<Mount<A>, Fail> {
+    changed: &mut u32,
+) -> Mount<A> {
     let mut mount = mount;
-    let stopped = change_somewhere(rt, &mut mount, tree, seed, tally)?;
+    let stopped = change_somewhere(rt, &mut mount, tree, seed, changed);
     if !stopped || random(seed) % 2 == 0 {
-        return Ok(mount);
+        return mount;
     }
-    reopen(rt, mount, tree, dirs, tally)
+    reopen(rt, mount, tree, dirs)
 }
 
 /// All steps, and then the files alone show what they must.
@@ -272,38 +287,49 @@ fn run<A: Allocator + Clone>(
     steps: u32,
     seed: &mut u64,
     tally: &mut Tally,
-) -> Result<(), Fail> {
+) {
     let mut mount = mount;
     let mut tree = tree;
     for count in 0..steps {
-        mount = step(rt, mount, &mut tree, dirs, seed, tally)?;
+        mount = step(rt, mount, &mut tree, dirs, seed, &mut tally.changed);
         if count % BETWEEN == 0 {
-            assert!(rt; mount.shows_all(&tree)?, "after {count} steps");
+            assert!(rt; mount.shows_all(rt, &tree), "after {count} steps");
         }
     }
-    unload_all(rt, &mut mount)?;
-    reopen(rt, mount, &tree, dirs, tally)?;
-    Ok(())
+    unload_all(rt, &mut mount);
+    let mount = reopen(rt, mount, &tree, dirs);
+    tally.failures = tally.failures.saturating_add(mount.failures);
 }
 
-/// A root without entries, and in memory what it shows.
-fn run_empty<A: Allocator + Clone>(
+/// A mount over these files, with a root from there.
+fn over<A: Allocator + Clone>(
     rt: &impl Abort,
     alloc: Global,
     dirs: &A,
-    tally: &mut Tally,
-) -> Result<(), Fail> {
+    files: MemoryFiles<Outside>,
+    root: Origin,
+) -> Mount<A> {
+    let dirs = dirs.clone().expect(rt, "a heap");
+    Mount::open(rt, alloc, dirs, files, root, 2)
+}
+
+/// What a root without entries shows.
+fn empty(rt: &impl Abort, alloc: Global) -> Tree {
     let mut tree = Tree::new(alloc);
-    tree.put(alloc, &[], ROOT)?;
-    let files = first_files(alloc)?;
-    let mount = Mount::open(alloc, dirs.clone()?, files, Origin::Own, 2)?;
-    run(rt, mount, tree, dirs, STEPS, &mut 1, tally)
+    tree.put(rt, alloc, &[], ROOT);
+    tree
+}
+
+/// A root without entries, and in memory what it shows.
+fn run_empty<A: Allocator + Clone>(rt: &impl Abort, alloc: Global, dirs: &A, tally: &mut Tally) {
+    let files = first_files(alloc).expect(rt, "files");
+    let mount = over(rt, alloc, dirs, files, Origin::Own);
+    run(rt, mount, empty(rt, alloc), dirs, STEPS, &mut 1, tally);
 }
 
 /// What the commit shows.
-fn commit(alloc: Global) -> Result<Tree, Fail> {
-    let mut tree = Tree::new(alloc);
-    tree.put(alloc, &[], ROOT)?;
+fn commit(rt: &impl Abort, alloc: Global) -> Tree {
+    let mut tree = empty(rt, alloc);
     for (path, kind, object) in COMMIT {
         let node = Node {
             kind: *kind,
@@ -311,9 +337,9 @@ fn commit(alloc: Global) -> Result<Tree, Fail> {
             number: 0,
             content: 0,
         };
-        tree.put(alloc, path, node)?;
+        tree.put(rt, alloc, path, node);
     }
-    Ok(tree)
+    tree
 }
 
 /// The commit's root, with no files.
@@ -323,37 +349,35 @@ fn run_commit<A: Allocator + Clone>(
     dirs: &A,
     seed: &mut u64,
     tally: &mut Tally,
-) -> Result<(), Fail> {
-    let files = MemoryFiles::<Outside>::new(alloc);
-    let mount = Mount::open(alloc, dirs.clone()?, files, Origin::Object(TWO_FILES.id), 2)?;
-    run(rt, mount, commit(alloc)?, dirs, SHORT, seed, tally)
+) {
+    let files = MemoryFiles::new(alloc);
+    let mount = over(rt, alloc, dirs, files, Origin::Object(TWO_FILES.id));
+    run(rt, mount, commit(rt, alloc), dirs, SHORT, seed, tally);
 }
 
 #[test]
-fn random_changes_show_as_in_a_map(rt: HostRuntime) -> Result<(), Fail> {
-    let heap = LocalHeap::new(rt.alloc(), 1 << 20)?;
+fn random_changes_show_as_in_a_map(rt: HostRuntime) {
+    let heap = LocalHeap::new(rt.alloc(), 1 << 20).expect(&rt, "a heap");
     let mut tally = Tally {
         changed: 0,
         failures: 0,
     };
-    run_empty(&rt, rt.alloc(), &&heap, &mut tally)?;
+    run_empty(&rt, rt.alloc(), &&heap, &mut tally);
     assert!(rt; tally.changed > STEPS / 4 && tally.failures > u64::from(STEPS / 20));
     assert!(rt; heap.used() == 0);
-    Ok(())
 }
 
 #[test]
-fn random_changes_of_the_commit_show_as_in_a_map(rt: HostRuntime) -> Result<(), Fail> {
-    let heap = LocalHeap::new(rt.alloc(), 1 << 20)?;
+fn random_changes_of_the_commit_show_as_in_a_map(rt: HostRuntime) {
+    let heap = LocalHeap::new(rt.alloc(), 1 << 20).expect(&rt, "a heap");
     let mut seed = 2;
     let mut tally = Tally {
         changed: 0,
         failures: 0,
     };
     for _ in 0..RUNS {
-        run_commit(&rt, rt.alloc(), &&heap, &mut seed, &mut tally)?;
+        run_commit(&rt, rt.alloc(), &&heap, &mut seed, &mut tally);
     }
     assert!(rt; tally.changed > RUNS * SHORT / 4 && tally.failures > u64::from(RUNS * SHORT / 20));
     assert!(rt; heap.used() == 0);
-    Ok(())
 }

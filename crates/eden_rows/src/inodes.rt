@@ -1,9 +1,9 @@
 //! The calls of a table over files in memory, and over files that fail: rows of the sample commit's trees.
-ghost use Rattle.std.specs.Prelude.{◌≤◌, IfOk};
+ghost use Rattle.std.specs.Prelude.{◌≤◌};
 ghost use Rattle.eden_object.specs.Trees.{NamesDiffer};
 ghost use Rattle.eden_overlay_format.specs.Directory.{number_least, number_end, AreStorable};
 
-use crate::names::name;
+use crate::names::{name, names};
 use eden_inode::Inodes;
 use eden_model::{Fault, Key, Kind, Name, ObjKind, Origin, Outside, TreeEntry};
 use eden_object::Object;
@@ -12,7 +12,6 @@ use eden_overlay_format::StoredEntry;
 use eden_samples::{NEW_FILE, ONE_FILE, Sample, TWO_FILES, VERSION_1, VERSION_2};
 use std::alloc::Global;
 use std::process::Abort;
-use std::test::Fail;
 
 /// A table whose root is an object.
 pub(crate) type Table = Inodes<Global, Outside, MemoryFiles<Outside>>;
@@ -71,26 +70,17 @@ const AGED: &[Step] = &[
     Step::Unload(ROOT, 2, 1),
 ];
 
-pub(crate) fn names(alloc: Global, path: Names) -> Result<Vec<Name>, Fail> {
-    let mut names = Vec::new(alloc);
-    for bytes in path {
-        names.push(name(alloc, bytes)?)?;
-    }
-    Ok(names)
-}
-
 /// The entries of a tree among the samples.
-pub(crate) fn entries(alloc: Global, tree: Sample) -> Result<Vec<TreeEntry>, Fail>
-    ensures { IfOk result (λ v. NamesDiffer v.items) }
+pub(crate) fn entries(rt: &impl Abort, alloc: Global, tree: Sample) -> Vec<TreeEntry>
+    ensures { NamesDiffer result.items }
 {
     let key = Key {
         kind: ObjKind::Tree,
         id: tree.id,
     };
-    match Object::checked(alloc, key, tree.framed.to_vec(alloc)?) {
-        Ok(object) => Ok(object.entries(alloc)?),
-        Err(_) => Err(Fail::from("no tree")),
-    }
+    let framed = tree.framed.to_vec(alloc).expect(rt, "memory");
+    let object = Object::checked(alloc, key, framed).expect(rt, "a tree");
+    object.entries(alloc).expect(rt, "memory")
 }
 
 /// A table of that tree, with nothing loaded.
@@ -109,120 +99,154 @@ pub(crate) fn load(
     table: &mut Table,
     path: &[Name],
     tree: Sample,
-) -> Result<Result<(), Fault>, Fail> {
-    let entries = entries(alloc, tree)?;
+) -> Result<(), Fault> {
+    let entries = entries(rt, alloc, tree);
     let key = table
         .missing(path)
         .expect(rt, "a directory that isn't loaded");
     assert!(rt; key.id == tree.id);
-    Ok(table.load(alloc, path, Some(&entries)))
+    table.load(alloc, path, Some(&entries))
 }
 
-/// What stands at a path.
-pub(crate) fn seen<F: Files<Outside>>(
-    rt: &impl Abort,
+/// Whether this stands at a path: an entry of that kind, with that number, whose contents come from there.
+pub(crate) fn shows<F: Files<Outside>>(
     table: &mut Inodes<Global, Outside, F>,
     path: &[Name],
-) -> (u64, Kind, Origin) {
+    number: u64,
+    kind: Kind,
+    origin: Origin,
+) -> bool {
     let seen = table.look(path);
-    assert_eq!(rt; seen.names, path.len());
-    (seen.number, seen.kind, seen.origin)
+    seen.names == path.len() && seen.number == number && seen.kind == kind && seen.origin == origin
 }
 
-fn take(rt: &impl Abort, alloc: Global, table: &mut Table, step: Step) -> Result<(), Fail> {
+/// Whether a directory could be loaded, and what number is the next one then.
+fn loads(
+    rt: &impl Abort,
+    alloc: Global,
+    table: &mut Table,
+    path: &[Name],
+    tree: Sample,
+    next: u64,
+) -> bool {
+    load(rt, alloc, table, path, tree).is_ok() && table.next_number() == next
+}
+
+/// Takes a step: whether it answers so.
+fn take(rt: &impl Abort, alloc: Global, table: &mut Table, step: Step) -> bool {
     match step {
         Step::Load(path, tree, next) => {
-            let path = names(alloc, path)?;
-            assert_eq!(rt; load(rt, alloc, table, &path, tree)?, Ok(()));
-            assert_eq!(rt; table.next_number(), next);
+            let path = names(rt, alloc, path);
+            loads(rt, alloc, table, &path, tree, next)
         }
         Step::Look(path, number, kind, object) => {
-            let path = names(alloc, path)?;
-            let origin = Origin::Object(object.id);
-            assert_eq!(rt; seen(rt, table, &path), (number, kind, origin));
+            let path = names(rt, alloc, path);
+            shows(table, &path, number, kind, Origin::Object(object.id))
         }
-        Step::Tick => table.tick(),
+        Step::Tick => {
+            table.tick();
+            true
+        }
         Step::Unload(path, age, went) => {
-            let path = names(alloc, path)?;
-            assert_eq!(rt; table.unload(alloc, &path, age), went);
+            let path = names(rt, alloc, path);
+            table.unload(alloc, &path, age) == went
         }
     }
-    Ok(())
+}
+
+fn take_each(rt: &impl Abort, alloc: Global, table: &mut Table, steps: &[Step]) {
+    for (count, step) in steps.iter().enumerate() {
+        assert!(rt; take(rt, alloc, table, *step), "step {count}");
+    }
 }
 
 /// Takes the steps on a table of the commit's tree, with nothing loaded.
-fn take_all(rt: &impl Abort, alloc: Global, steps: &[Step]) -> Result<(), Fail> {
+fn take_all(rt: &impl Abort, alloc: Global, steps: &[Step]) {
     let mut table = table(alloc, TWO_FILES, 2);
-    for step in steps {
-        take(rt, alloc, &mut table, *step)?;
-    }
-    Ok(())
+    take_each(rt, alloc, &mut table, steps);
 }
 
 #[test]
-fn rows_of_the_sample_commit(rt: HostRuntime) -> Result<(), Fail> {
-    take_all(&rt, rt.alloc(), NUMBERED)?;
-    take_all(&rt, rt.alloc(), AGED)
+fn rows_of_the_sample_commit(rt: HostRuntime) {
+    take_all(&rt, rt.alloc(), NUMBERED);
+    take_all(&rt, rt.alloc(), AGED);
+}
+
+/// Whether there are no numbers for the entries of the commit, of which none is given then.
+fn runs_out(rt: &impl Abort, alloc: Global, table: &mut Table) -> bool {
+    load(rt, alloc, table, &[], TWO_FILES) == Err(Fault::Numbers) && table.next_number() == END - 2
 }
 
 #[test]
-fn numbers_run_out(rt: HostRuntime) -> Result<(), Fail> {
-    let alloc = rt.alloc();
-    let mut two = table(alloc, TWO_FILES, END - 2);
-    let answer = load(&rt, alloc, &mut two, &[], TWO_FILES)?;
-    assert!(rt; answer == Err(Fault::Numbers));
-    assert!(rt; two.next_number() == END - 2);
-    Ok(())
+fn numbers_run_out(rt: HostRuntime) {
+    let mut two = table(rt.alloc(), TWO_FILES, END - 2);
+    assert!(rt; runs_out(&rt, rt.alloc(), &mut two));
+}
+
+/// Whether there are numbers for the one file of the commit and one entry more.
+fn gives_one(rt: &impl Abort, alloc: Global, table: &mut Table) -> bool {
+    loads(rt, alloc, table, &[], ONE_FILE, END - 1)
+        && table.give_number() == Some(END - 1)
+        && table.give_number().is_none()
 }
 
 #[test]
-fn the_last_number_is_given_once(rt: HostRuntime) -> Result<(), Fail> {
-    let alloc = rt.alloc();
-    let mut one = table(alloc, ONE_FILE, END - 2);
-    take(&rt, alloc, &mut one, Step::Load(ROOT, ONE_FILE, END - 1))?;
-    assert!(rt; one.give_number() == Some(END - 1));
-    assert!(rt; one.give_number().is_none());
-    Ok(())
+fn the_last_number_is_given_once(rt: HostRuntime) {
+    let mut one = table(rt.alloc(), ONE_FILE, END - 2);
+    assert!(rt; gives_one(&rt, rt.alloc(), &mut one));
 }
 
 // A stored directory's one entry: the file `a`, number 2, whose content is its own.
-fn one(alloc: Global) -> Result<Vec<StoredEntry>, Fail>
-    ensures { IfOk result (λ v. AreStorable v.items) }
+fn one(rt: &impl Abort, alloc: Global) -> Vec<StoredEntry>
+    ensures { AreStorable result.items }
 {
-    match Name::new(b"a".to_vec(alloc)?) {
-        Ok(name) => {
-            let entry = StoredEntry {
-                name,
-                kind: Kind::File,
-                origin: Origin::Own,
-                number: 2,
-            };
-            Ok(Vec::from_array(alloc, [entry])?)
-        }
-        Err(_) => Err(Fail::from("no name")),
-    }
+    let entry = StoredEntry {
+        name: name(rt, alloc, b"a"),
+        kind: Kind::File,
+        origin: Origin::Own,
+        number: 2,
+    };
+    Vec::from_array(alloc, [entry]).expect(rt, "memory")
+}
+
+/// Files that fail.
+type Failing = FailingFiles<MemoryFiles<Outside>>;
+
+// The mount's own root, stored; the call of that number on the files fails.
+fn own_files(rt: &impl Abort, alloc: Global, call: u64) -> Overlay<Outside, Failing> {
+    let files = FailingFiles::new(MemoryFiles::<Outside>::new(alloc), call);
+    let mut overlay = Overlay::<Outside, _>::new(files);
+    let entries = one(rt, alloc);
+    assert!(rt; overlay.put_dir(alloc, 1, &entries).is_ok());
+    overlay
+}
+
+// Whether the entry is there.
+fn has_one(rt: &impl Abort, alloc: Global, table: &mut Inodes<Global, Outside, Failing>) -> bool {
+    let path = names(rt, alloc, &[b"a"]);
+    shows(table, &path, 2, Kind::File, Origin::Own)
+}
+
+// Whether the root is loaded, and then has the entry, or isn't.
+fn is_so(
+    rt: &impl Abort,
+    alloc: Global,
+    table: &mut Inodes<Global, Outside, Failing>,
+    is_loaded: bool,
+) -> bool {
+    table.look(&[]).loaded == is_loaded && (!is_loaded || has_one(rt, alloc, table))
 }
 
 // Loads the mount's own root from its file, the call of that number on the files failing.
-fn load_own(rt: &impl Abort, alloc: Global, call: u64) -> Result<Result<(), Fault>, Fail> {
-    let files = FailingFiles::new(MemoryFiles::<Outside>::new(alloc), call);
-    let mut overlay = Overlay::<Outside, _>::new(files);
-    let entries = one(alloc)?;
-    assert!(rt; overlay.put_dir(alloc, 1, &entries).is_ok());
-    let mut inodes = Inodes::new(alloc, overlay, Origin::Own, 3);
+fn load_own(rt: &impl Abort, alloc: Global, call: u64) -> Result<(), Fault> {
+    let mut inodes = Inodes::new(alloc, own_files(rt, alloc, call), Origin::Own, 3);
     let answer = inodes.load(alloc, &[], None);
-    assert_eq!(rt; inodes.look(&[]).loaded, answer.is_ok());
-    if answer.is_ok() {
-        let path = [name(alloc, b"a")?];
-        assert_eq!(rt; seen(rt, &mut inodes, &path), (2, Kind::File, Origin::Own));
-    }
-    Ok(answer)
+    assert!(rt; is_so(rt, alloc, &mut inodes, answer.is_ok()));
+    answer
 }
 
 #[test]
-fn an_own_directory_is_loaded(rt: HostRuntime) -> Result<(), Fail> {
-    let alloc = rt.alloc();
-    assert_eq!(rt; load_own(&rt, alloc, 0)?, Ok(()));
-    assert_eq!(rt; load_own(&rt, alloc, 2)?, Err(Fault::Overlay));
-    Ok(())
+fn an_own_directory_is_loaded(rt: HostRuntime) {
+    assert!(rt; load_own(&rt, rt.alloc(), 0) == Ok(()));
+    assert!(rt; load_own(&rt, rt.alloc(), 2) == Err(Fault::Overlay));
 }

@@ -9,7 +9,7 @@ ghost use Rattle.eden_rows.specs.Listings.{IsOpen, IsOpenAt, IsNewOwn, IsOwnFile
 use eden_inode::Inodes;
 use eden_materialise::change_entry;
 use eden_model::{Fault, Kind, Name, Origin, Outside};
-use eden_overlay::{Content, Files, FilesFault, MemoryFiles, Overlay};
+use eden_overlay::{Files, FilesFault, MemoryFiles, Overlay};
 use eden_tree::{Change, Dir, Entry};
 use std::alloc::{Allocator, Global};
 
@@ -188,16 +188,20 @@ impl<A: Allocator> Question<A> for HoldsContent<'_> {
     }
 }
 
-/// The content of the own file at a path. None where there is none.
-pub(crate) fn content_at<A: Allocator + Clone, F: Files<Outside>>(
+/// Whether an own file with that content is at a path.
+pub(crate) fn has_content<A: Allocator + Clone, F: Files<Outside>>(
     alloc: Global,
     table: &mut Inodes<A, Outside, F>,
     path: &[Name],
-) -> Option<Result<Content, Fault>> {
+    want: &[u8],
+) -> bool {
     if !ask(table, &HoldsContent { path }) {
-        return None;
+        return false;
     }
-    Some(table.content(alloc, path))
+    match table.content(alloc, path) {
+        Ok(content) => content.as_slice() == want,
+        Err(_) => false,
+    }
 }
 
 /// Stores a directory without entries.

@@ -7,11 +7,11 @@ ghost use Rattle.eden_tie.specs.Loading.{IsAt};
 
 use crate::calls::{Move, own, remove, rename, turn_into};
 use crate::inodes::entries;
-use crate::listing::{Own, Question, ask, content_at, put, store, take};
+use crate::listing::{Own, Question, ask, has_content, put, store, take};
 use crate::names::name;
 use crate::tree::{Node, Tree};
 use eden_inode::Inodes;
-use eden_model::{Id, Kind, Name, Origin, Outside};
+use eden_model::{Fault, Id, Kind, Name, Origin, Outside};
 use eden_overlay::{MemoryFiles, Overlay, StopFiles};
 use eden_samples::{ONE_FILE, Sample, TWO_FILES};
 use eden_tree::{Dir, Entry};
@@ -19,7 +19,6 @@ use std::alloc::{Allocator, Global};
 use std::cell::Cell;
 use std::process::Abort;
 use std::rc::Rc;
-use std::test::Fail;
 
 /// The letters that stand for names: those of the sample commit.
 pub(crate) const LETTERS: [u8; 3] = *b"abc";
@@ -32,19 +31,20 @@ fn named(letter: u8) -> &'static [u8] {
     }
 }
 
-fn names(alloc: Global, letters: &[u8]) -> Result<Vec<Name>, Fail> {
+fn names(rt: &impl Abort, alloc: Global, letters: &[u8]) -> Vec<Name> {
     let mut names = Vec::new(alloc);
     for letter in letters {
-        names.push(name(alloc, named(*letter))?)?;
+        let name = name(rt, alloc, named(*letter));
+        names.push(name).expect(rt, "memory");
     }
-    Ok(names)
+    names
 }
 
 /// A path with one name more.
-pub(crate) fn below(alloc: Global, path: &[u8], letter: u8) -> Result<Vec<u8>, Fail> {
-    let mut below = Vec::from_slice(alloc, path)?;
-    below.push(letter)?;
-    Ok(below)
+pub(crate) fn below(rt: &impl Abort, alloc: Global, path: &[u8], letter: u8) -> Vec<u8> {
+    let mut below = Vec::from_slice(alloc, path).expect(rt, "memory");
+    below.push(letter).expect(rt, "memory");
+    below
 }
 
 /// A name in a directory.
@@ -61,11 +61,11 @@ struct Spot {
     name: Name,
 }
 
-fn spot_of(alloc: Global, place: Place<'_>) -> Result<Spot, Fail> {
-    Ok(Spot {
-        path: names(alloc, place.path)?,
-        name: name(alloc, named(place.letter))?,
-    })
+fn spot_of(rt: &impl Abort, alloc: Global, place: Place<'_>) -> Spot {
+    Spot {
+        path: names(rt, alloc, place.path),
+        name: name(rt, alloc, named(place.letter)),
+    }
 }
 
 /// The tree of that id, one of the sample commit's.
@@ -76,11 +76,23 @@ fn tree_of(id: Id) -> Sample {
     ONE_FILE
 }
 
+/// Whether a call was tried, and did what it should.
+fn is_done(answer: Option<Result<(), Fault>>) -> bool {
+    matches!(answer, Some(Ok(())))
+}
+
+/// What must stand under a name.
+#[derive(Drop)]
+struct Wanted {
+    name: Name,
+    node: Option<Node>,
+}
+
 /// Whether the loaded directory at a path lists these nodes under these names, and no others.
 #[derive(Drop)]
 struct Lists<'a> {
     path: &'a [Name],
-    want: &'a [(Name, Option<Node>)],
+    want: &'a [Wanted],
 }
 
 /// Whether an entry is that node. A directory of an object may have become the mount's own.
@@ -102,13 +114,13 @@ fn is_wanted<A: Allocator>(entry: Option<&Entry<A>>, want: Option<Node>) -> bool
     }
 }
 
-fn has_all<A: Allocator>(dir: &Dir<A>, want: &[(Name, Option<Node>)]) -> bool {
+fn has_all<A: Allocator>(dir: &Dir<A>, want: &[Wanted]) -> bool {
     let mut count = 0u32;
-    for (name, node) in want {
-        if !is_wanted(dir.get(name), *node) {
+    for wanted in want {
+        if !is_wanted(dir.get(&wanted.name), wanted.node) {
             return false;
         }
-        count = count.saturating_add(u32::from(node.is_some()));
+        count = count.saturating_add(u32::from(wanted.node.is_some()));
     }
     dir.count() == count
 }
@@ -127,14 +139,22 @@ impl<A: Allocator> Question<A> for Lists<'_> {
     }
 }
 
+fn wanted_at(rt: &impl Abort, alloc: Global, tree: &Tree, path: &[u8], letter: u8) -> Wanted {
+    let below = below(rt, alloc, path, letter);
+    Wanted {
+        name: name(rt, alloc, named(letter)),
+        node: tree.get(&below),
+    }
+}
+
 /// What must stand under each name of the directory at a path.
-fn wanted(alloc: Global, tree: &Tree, path: &[u8]) -> Result<Vec<(Name, Option<Node>)>, Fail> {
+fn all_wanted(rt: &impl Abort, alloc: Global, tree: &Tree, path: &[u8]) -> Vec<Wanted> {
     let mut want = Vec::new(alloc);
     for letter in LETTERS {
-        let below = below(alloc, path, letter)?;
-        want.push((name(alloc, named(letter))?, tree.get(&below)))?;
+        let wanted = wanted_at(rt, alloc, tree, path, letter);
+        want.push(wanted).expect(rt, "memory");
     }
-    Ok(want)
+    want
 }
 
 /// A table over files that stop.
@@ -144,217 +164,227 @@ pub(crate) struct Mount<A: Allocator> {
     pub(crate) table: Inodes<A, Outside, StopFiles<MemoryFiles<Outside>>>,
     /// How many calls on the files still pass.
     pub(crate) calls: Rc<Cell<u64>>,
+    /// How often the device had failed under the tables before.
+    pub(crate) failures: u64,
 }
 
 impl<A: Allocator + Clone> Mount<A> {
     /// Over these files, with a root from there. All calls pass.
     pub(crate) fn open(
+        rt: &impl Abort,
         alloc: Global,
         dirs: A,
         files: MemoryFiles<Outside>,
         root: Origin,
         next: u64,
-    ) -> Result<Mount<A>, Fail>
+    ) -> Mount<A>
         requires least { number_least ≤ next }
         requires most { next ≤ number_end }
     {
-        let calls = Rc::new(alloc, Cell::new(u64::MAX))?;
-        let overlay = Overlay::new(StopFiles::new(files, calls.clone()?));
-        Ok(Mount {
+        let calls = Rc::new(alloc, Cell::new(u64::MAX)).expect(rt, "memory");
+        let shared = calls.clone().expect(rt, "memory");
+        let overlay = Overlay::new(StopFiles::new(files, shared));
+        Mount {
             alloc,
             table: Inodes::new(dirs, overlay, root, next),
             calls,
-        })
+            failures: 0,
+        }
     }
 
-    /// The same files under a new table, and how often the device had failed.
-    pub(crate) fn open_again(self, rt: &impl Abort, dirs: A) -> Result<(Mount<A>, u64), Fail> {
+    /// The same files under a new table.
+    pub(crate) fn open_again(self, rt: &impl Abort, dirs: A) -> Mount<A> {
         let Mount {
             alloc,
             mut table,
+            failures,
             ..
         } = self;
         let root = table.look(&[]).origin;
         let next = table.next_number();
         assert!(rt; 2 <= next && next <= 1 << 63);
         let files = table.into_overlay().into_files();
-        let failures = files.failures();
-        let mount = Mount::open(alloc, dirs, files.into_files(), root, next)?;
-        Ok((mount, failures))
+        let failures = failures.saturating_add(files.failures());
+        let mut mount = Mount::open(rt, alloc, dirs, files.into_files(), root, next);
+        mount.failures = failures;
+        mount
     }
 
     /// Loads what isn't loaded of the directories on a path: whether no load failed.
-    pub(crate) fn load(&mut self, path: &[Name]) -> Result<bool, Fail> {
+    fn load(&mut self, rt: &impl Abort, path: &[Name]) -> bool {
         for count in 0..=path.len() {
-            if !self.load_one(&path[..count])? {
-                return Ok(false);
+            if !self.load_one(rt, &path[..count]) {
+                return false;
             }
         }
-        Ok(true)
+        true
     }
 
-    fn load_one(&mut self, path: &[Name]) -> Result<bool, Fail> {
+    fn load_one(&mut self, rt: &impl Abort, path: &[Name]) -> bool {
         match self.table.unloaded(path) {
-            None => Ok(true),
-            Some(Origin::Object(id)) => self.load_object(path, id),
-            Some(Origin::Own | Origin::Empty) => {
-                Ok(self.table.load(self.alloc, path, None).is_ok())
-            }
+            None => true,
+            Some(Origin::Object(id)) => self.load_object(rt, path, id),
+            Some(Origin::Own | Origin::Empty) => self.table.load(self.alloc, path, None).is_ok(),
         }
     }
 
     /// Loads the directory of an object from the commit's tree.
-    fn load_object(&mut self, path: &[Name], id: Id) -> Result<bool, Fail>
+    fn load_object(&mut self, rt: &impl Abort, path: &[Name], id: Id) -> bool
         requires { IsAt path.now self.old.table.root (origin.Object id) }
     {
-        let entries = entries(self.alloc, tree_of(id))?;
-        Ok(self.table.load(self.alloc, path, Some(&entries)).is_ok())
+        let entries = entries(rt, self.alloc, tree_of(id));
+        self.table.load(self.alloc, path, Some(&entries)).is_ok()
     }
 
     /// Whether the directory at a path shows what it must.
-    pub(crate) fn shows_dir(&mut self, tree: &Tree, path: &[u8]) -> Result<bool, Fail> {
-        let want = wanted(self.alloc, tree, path)?;
-        let path = names(self.alloc, path)?;
-        let loaded = self.load(&path)?;
+    pub(crate) fn shows_dir(&mut self, rt: &impl Abort, tree: &Tree, path: &[u8]) -> bool {
+        let want = all_wanted(rt, self.alloc, tree, path);
+        let path = names(rt, self.alloc, path);
+        let loaded = self.load(rt, &path);
         let lists = Lists {
             path: &path,
             want: &want,
         };
-        Ok(loaded && ask(&mut self.table, &lists))
+        loaded && ask(&mut self.table, &lists)
     }
 
     /// Whether the own file at a path shows that content.
-    fn shows_file(&mut self, path: &[u8], content: u64) -> Result<bool, Fail> {
-        let path = names(self.alloc, path)?;
-        let loaded = self.load(&path)?;
-        match content_at(self.alloc, &mut self.table, &path) {
-            Some(Ok(there)) => Ok(loaded && there.as_slice() == content.to_be_bytes().as_slice()),
-            _ => Ok(false),
-        }
+    fn shows_file(&mut self, rt: &impl Abort, path: &[u8], content: u64) -> bool {
+        let path = names(rt, self.alloc, path);
+        let loaded = self.load(rt, &path);
+        loaded && has_content(self.alloc, &mut self.table, &path, &content.to_be_bytes())
     }
 
-    fn shows(&mut self, tree: &Tree, path: &[u8], node: Node) -> Result<bool, Fail> {
+    fn shows(&mut self, rt: &impl Abort, tree: &Tree, path: &[u8], node: Node) -> bool {
         match (node.kind, node.origin) {
-            (Kind::Dir, _) => self.shows_dir(tree, path),
-            (_, Origin::Own) => self.shows_file(path, node.content),
-            _ => Ok(true),
+            (Kind::Dir, _) => self.shows_dir(rt, tree, path),
+            (_, Origin::Own) => self.shows_file(rt, path, node.content),
+            _ => true,
         }
     }
 
-    pub(crate) fn shows_all(&mut self, tree: &Tree) -> Result<bool, Fail> {
-        for (path, node) in tree.rows() {
-            if !self.shows(tree, path, *node)? {
-                return Ok(false);
+    pub(crate) fn shows_all(&mut self, rt: &impl Abort, tree: &Tree) -> bool {
+        for row in tree.rows() {
+            if !self.shows(rt, tree, &row.path, row.node) {
+                return false;
             }
         }
-        Ok(true)
+        true
     }
 
     /// Whether the directory at a path is loaded and marked unsaved.
-    pub(crate) fn is_unsaved(&self, path: &[u8]) -> Result<bool, Fail> {
-        let path = names(self.alloc, path)?;
+    pub(crate) fn is_unsaved(&self, rt: &impl Abort, path: &[u8]) -> bool {
+        let path = names(rt, self.alloc, path);
         match self.table.directory(&path) {
-            None => Ok(false),
-            Some(dir) => Ok(dir.unsaved()),
+            None => false,
+            Some(dir) => dir.unsaved(),
         }
     }
 
     /// Whether any is.
-    pub(crate) fn has_unsaved(&self, tree: &Tree) -> Result<bool, Fail> {
-        for (path, _) in tree.rows() {
-            if self.is_unsaved(path)? {
-                return Ok(true);
+    pub(crate) fn has_unsaved(&self, rt: &impl Abort, tree: &Tree) -> bool {
+        for row in tree.rows() {
+            if self.is_unsaved(rt, &row.path) {
+                return true;
             }
         }
-        Ok(false)
+        false
     }
 
     /// Unloads what is that old at and below a path: how many directories went.
-    pub(crate) fn unload(&mut self, path: &[u8], age: u64) -> Result<u64, Fail> {
-        let path = names(self.alloc, path)?;
-        Ok(self.table.unload(self.alloc, &path, age))
+    pub(crate) fn unload(&mut self, rt: &impl Abort, path: &[u8], age: u64) -> u64 {
+        let path = names(rt, self.alloc, path);
+        self.table.unload(self.alloc, &path, age)
     }
 
     /// Loads the directories on a path.
-    pub(crate) fn load_all(&mut self, path: &[u8]) -> Result<bool, Fail> {
-        let path = names(self.alloc, path)?;
-        self.load(&path)
+    pub(crate) fn load_all(&mut self, rt: &impl Abort, path: &[u8]) -> bool {
+        let path = names(rt, self.alloc, path);
+        self.load(rt, &path)
     }
 
     /// Makes the directories along a path the mount's own: whether that was done.
-    pub(crate) fn own(&mut self, path: &[u8]) -> Result<bool, Fail> {
-        let path = names(self.alloc, path)?;
-        Ok(self.load(&path)? && own(self.alloc, &mut self.table, &path) == Some(Ok(())))
+    pub(crate) fn own(&mut self, rt: &impl Abort, path: &[u8]) -> bool {
+        let path = names(rt, self.alloc, path);
+        self.load(rt, &path) && is_done(own(self.alloc, &mut self.table, &path))
+    }
+
+    /// Puts an entry under the name of a spot, or takes it out: whether that was done.
+    fn put_or_take(&mut self, spot: &Spot, own: Option<Own>) -> bool {
+        match own {
+            Some(own) => is_done(put(self.alloc, &mut self.table, &spot.path, &spot.name, own)),
+            None => is_done(take(self.alloc, &mut self.table, &spot.path, &spot.name)),
+        }
     }
 
     /// Puts an entry under a name, or takes it out: whether that was done.
-    pub(crate) fn change(&mut self, place: Place<'_>, own: Option<Own>) -> Result<bool, Fail> {
-        let Spot { path, name } = spot_of(self.alloc, place)?;
-        if !self.load(&path)? {
-            return Ok(false);
-        }
-        let done = match own {
-            Some(own) => put(self.alloc, &mut self.table, &path, &name, own),
-            None => take(self.alloc, &mut self.table, &path, &name),
+    pub(crate) fn change(&mut self, rt: &impl Abort, place: Place<'_>, own: Option<Own>) -> bool {
+        let spot = spot_of(rt, self.alloc, place);
+        self.load(rt, &spot.path) && self.put_or_take(&spot, own)
+    }
+
+    /// Stores a file, or a directory without entries: whether that was done.
+    fn store(&mut self, own: Own, content: u64) -> bool {
+        let bytes = content.to_be_bytes();
+        let file = match own.kind {
+            Kind::Dir => None,
+            _ => Some(bytes.as_slice()),
         };
-        Ok(done == Some(Ok(())))
+        store(self.alloc, &mut self.table, own.number, file).is_ok()
     }
 
     /// Puts a file, or a directory without entries, under a name: what stands there then.
     pub(crate) fn insert(
         &mut self,
+        rt: &impl Abort,
         place: Place<'_>,
         kind: Kind,
         content: u64,
-    ) -> Result<Option<Node>, Fail> {
-        let Some(number) = self.table.give_number() else {
-            return Ok(None);
-        };
-        let bytes = content.to_be_bytes();
-        let file = match kind {
-            Kind::Dir => None,
-            _ => Some(bytes.as_slice()),
-        };
-        if store(self.alloc, &mut self.table, number, file).is_err() {
-            return Ok(None);
+    ) -> Option<Node> {
+        let number = self.table.give_number()?;
+        let own = Own { kind, number };
+        if !self.store(own, content) || !self.change(rt, place, Some(own)) {
+            return None;
         }
-        if !self.change(place, Some(Own { kind, number }))? {
-            return Ok(None);
-        }
-        Ok(Some(Node {
+        Some(Node {
             kind,
             origin: Origin::Own,
             number,
             content,
-        }))
+        })
+    }
+
+    /// Unloads what is below a name.
+    pub(crate) fn unload_below(&mut self, rt: &impl Abort, place: Place<'_>) {
+        let below = below(rt, self.alloc, place.path, place.letter);
+        self.unload(rt, &below, 0);
     }
 
     /// Removes the entry of a name with what is below it: whether that was done.
-    pub(crate) fn remove(&mut self, place: Place<'_>) -> Result<bool, Fail> {
-        let Spot { path, name } = spot_of(self.alloc, place)?;
-        let loaded = self.load(&path)?;
-        let below = below(self.alloc, place.path, place.letter)?;
-        self.unload(&below, 0)?;
-        Ok(loaded && remove(self.alloc, &mut self.table, &path, &name) == Some(Ok(())))
+    pub(crate) fn remove(&mut self, rt: &impl Abort, place: Place<'_>) -> bool {
+        let spot = spot_of(rt, self.alloc, place);
+        let loaded = self.load(rt, &spot.path);
+        self.unload_below(rt, place);
+        loaded && is_done(remove(self.alloc, &mut self.table, &spot.path, &spot.name))
     }
 
     /// Gives a file another kind: whether that was done.
-    pub(crate) fn turn_into(&mut self, place: Place<'_>, kind: Kind) -> Result<bool, Fail> {
-        let Spot { path, name } = spot_of(self.alloc, place)?;
-        let loaded = self.load(&path)?;
-        Ok(loaded && turn_into(self.alloc, &mut self.table, &path, &name, kind) == Some(Ok(())))
+    pub(crate) fn turn_into(&mut self, rt: &impl Abort, place: Place<'_>, kind: Kind) -> bool {
+        let spot = spot_of(rt, self.alloc, place);
+        let loaded = self.load(rt, &spot.path);
+        loaded && is_done(turn_into(self.alloc, &mut self.table, &spot.path, &spot.name, kind))
     }
 
     /// Moves an entry between directories that are the mount's own and loaded: whether that was done.
-    pub(crate) fn rename(&mut self, from: Place<'_>, to: Place<'_>) -> Result<bool, Fail> {
-        let from = spot_of(self.alloc, from)?;
-        let to = spot_of(self.alloc, to)?;
+    pub(crate) fn rename(&mut self, rt: &impl Abort, from: Place<'_>, to: Place<'_>) -> bool {
+        let from = spot_of(rt, self.alloc, from);
+        let to = spot_of(rt, self.alloc, to);
         let entry = Move {
             from: &from.path,
             name: &from.name,
             to: &to.path,
             new_name: &to.name,
         };
-        Ok(rename(self.alloc, &mut self.table, &entry) == Some(Ok(())))
+        is_done(rename(self.alloc, &mut self.table, &entry))
     }
 }

@@ -1,16 +1,24 @@
-//! Names of bytes that are one.
+//! Names of bytes that are some; a test ends where they are none.
 
-ghost use Rattle.std.specs.Prelude.{◌≡◌, IfOk};
+ghost use Rattle.std.specs.Prelude.{◌≡◌};
 
 use eden_model::Name;
 use std::alloc::Global;
-use std::test::Fail;
+use std::process::Abort;
 
-pub(crate) fn name(alloc: Global, bytes: &[u8]) -> Result<Name, Fail>
-    ensures { IfOk result (λ n. n ≡ bytes.now) }
+pub(crate) fn name(rt: &impl Abort, alloc: Global, bytes: &[u8]) -> Name
+    ensures { result ≡ bytes.now }
 {
-    match Name::new(bytes.to_vec(alloc)?) {
-        Ok(name) => Ok(name),
-        Err(_) => Err(Fail::from("no name")),
+    let bytes = bytes.to_vec(alloc).expect(rt, "memory");
+    Name::new(bytes).expect(rt, "a name")
+}
+
+/// A path, name by name.
+pub(crate) fn names(rt: &impl Abort, alloc: Global, path: &[&[u8]]) -> Vec<Name> {
+    let mut names = Vec::new(alloc);
+    for bytes in path {
+        let name = name(rt, alloc, bytes);
+        names.push(name).expect(rt, "memory");
     }
+    names
 }

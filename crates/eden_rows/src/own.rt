@@ -1,13 +1,13 @@
 //! Own files put into an own root and taken out, over files in memory: what is read, and what is stored.
 
-use crate::listing::{Own, content_at, first_files, put, store, take};
-use crate::names::name;
+use crate::listing::{Own, first_files, has_content, put, store, take};
+use crate::names::{name, names};
 use eden_inode::Inodes;
 use eden_model::{Kind, Name, Origin, Outside};
 use eden_overlay::{MemoryFiles, Overlay};
+use eden_overlay_format::StoredEntry;
 use std::alloc::Global;
 use std::process::Abort;
-use std::test::Fail;
 
 type Table = Inodes<Global, Outside, MemoryFiles<Outside>>;
 
@@ -19,70 +19,61 @@ const FILES: &[(&[u8], &[u8])] = &[
 ];
 
 /// A table whose root is its own, loaded and without entries.
-fn table(rt: &impl Abort, alloc: Global) -> Result<Table, Fail> {
-    let overlay = Overlay::new(first_files(alloc)?);
+fn table(rt: &impl Abort, alloc: Global) -> Table {
+    let overlay = Overlay::new(first_files(alloc).expect(rt, "files"));
     let mut table = Inodes::new(alloc, overlay, Origin::Own, 2);
     assert!(rt; table.load(alloc, &[], None).is_ok());
-    Ok(table)
+    table
 }
 
 /// Puts a file into the root.
-fn add(
-    rt: &impl Abort,
-    alloc: Global,
-    table: &mut Table,
-    name: &Name,
-    content: &[u8],
-) -> Result<(), Fail> {
+fn add(rt: &impl Abort, alloc: Global, table: &mut Table, name: &Name, content: &[u8]) {
     assert!(rt; content.len() <= 1 << 30);
     let number = table.give_number().expect(rt, "a number");
-    store(alloc, table, number, Some(content))?;
+    store(alloc, table, number, Some(content)).expect(rt, "a device");
     let kind = Kind::File;
-    assert_eq!(rt;
-        put(alloc, table, &[], name, Own { kind, number }),
-        Some(Ok(()))
-    );
-    Ok(())
+    assert!(rt; put(alloc, table, &[], name, Own { kind, number }) == Some(Ok(())));
+}
+
+/// Whether a file of the root has that content.
+fn reads(rt: &impl Abort, alloc: Global, table: &mut Table, bytes: &[u8], content: &[u8]) -> bool {
+    let path = names(rt, alloc, &[bytes]);
+    has_content(alloc, table, &path, content)
 }
 
 /// Puts a file into the root, and reads it again.
-fn add_and_read(
-    rt: &impl Abort,
-    alloc: Global,
-    table: &mut Table,
-    bytes: &[u8],
-    content: &[u8],
-) -> Result<(), Fail> {
-    let path = [name(alloc, bytes)?];
-    add(rt, alloc, table, &path[0], content)?;
-    let there = content_at(alloc, table, &path).expect(rt, "an own file")?;
-    assert_eq!(rt; there.as_slice(), content);
-    Ok(())
+fn add_and_read(rt: &impl Abort, alloc: Global, table: &mut Table, bytes: &[u8], content: &[u8]) {
+    let name = name(rt, alloc, bytes);
+    add(rt, alloc, table, &name, content);
+    assert!(rt; reads(rt, alloc, table, bytes, content));
 }
 
-fn remove(rt: &impl Abort, alloc: Global, table: &mut Table, bytes: &[u8]) -> Result<(), Fail> {
-    let name = name(alloc, bytes)?;
-    assert_eq!(rt; take(alloc, table, &[], &name), Some(Ok(())));
-    Ok(())
+fn remove(rt: &impl Abort, alloc: Global, table: &mut Table, bytes: &[u8]) {
+    let name = name(rt, alloc, bytes);
+    assert!(rt; take(alloc, table, &[], &name) == Some(Ok(())));
 }
 
-/// Whether file 1 has this entry alone.
-fn stores_only(alloc: Global, table: Table, name: &[u8], number: u64) -> Result<bool, Fail> {
-    let entries = table.into_overlay().get_dir(alloc, 1)?;
-    match entries.as_slice() {
-        [entry] => Ok(entry.name.as_slice() == name && entry.number == number),
-        _ => Ok(false),
+/// The entries of file 1.
+fn stored(rt: &impl Abort, alloc: Global, table: Table) -> Vec<StoredEntry> {
+    let mut overlay = table.into_overlay();
+    overlay.get_dir(alloc, 1).expect(rt, "a directory")
+}
+
+/// Whether this entry is there alone.
+fn is_only(entries: &[StoredEntry], name: &[u8], number: u64) -> bool {
+    match entries {
+        [entry] => entry.name.as_slice() == name && entry.number == number,
+        _ => false,
     }
 }
 
 #[test]
-fn own_files_come_and_go(rt: HostRuntime) -> Result<(), Fail> {
+fn own_files_come_and_go(rt: HostRuntime) {
     let alloc = rt.alloc();
-    let mut table = table(&rt, alloc)?;
+    let mut table = table(&rt, alloc);
     for (name, content) in FILES {
-        add_and_read(&rt, alloc, &mut table, name, content)?;
+        add_and_read(&rt, alloc, &mut table, name, content);
     }
-    remove(&rt, alloc, &mut table, b"new.txt")?;
-    assert!(rt; stores_only(alloc, table, b"test.txt", 4)?);
-    Ok(())
+    remove(&rt, alloc, &mut table, b"new.txt");
+    assert!(rt; is_only(&stored(&rt, alloc, table), b"test.txt", 4));
 }

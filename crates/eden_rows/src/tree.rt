@@ -1,10 +1,11 @@
 //! What a mount must show, as a plain map.
 
 use eden_model::{Kind, Origin};
-use std::alloc::{AllocError, Global};
+use std::alloc::Global;
+use std::process::Abort;
 
 /// A directory, a file or a link, and where its contents come from; of an own one its number, and a file's content.
-#[derive(Clone, Copy, PartialEq, Eq)]
+#[derive(Clone, Copy)]
 pub(crate) struct Node {
     pub(crate) kind: Kind,
     pub(crate) origin: Origin,
@@ -12,20 +13,33 @@ pub(crate) struct Node {
     pub(crate) content: u64,
 }
 
+/// A node at its path.
+#[derive(Drop)]
+pub(crate) struct Row {
+    pub(crate) path: Vec<u8>,
+    pub(crate) node: Node,
+}
+
 /// The nodes by their paths: each name is one letter.
 #[derive(Drop)]
 pub(crate) struct Tree {
-    rows: Vec<(Vec<u8>, Node)>,
+    rows: Vec<Row>,
+}
+
+fn path_of(rt: &impl Abort, alloc: Global, letters: &[u8]) -> Vec<u8> {
+    Vec::from_slice(alloc, letters).expect(rt, "memory")
 }
 
 /// A path, with one front in another's place where it begins so.
-fn moved(alloc: Global, path: &[u8], from: &[u8], to: &[u8]) -> Result<Vec<u8>, AllocError> {
+fn moved(rt: &impl Abort, alloc: Global, path: &[u8], from: &[u8], to: &[u8]) -> Vec<u8> {
     if !path.starts_with(from) {
-        return Ok(Vec::from_slice(alloc, path)?);
+        return path_of(rt, alloc, path);
     }
-    let mut moved = Vec::from_slice(alloc, to)?;
-    moved.extend_from_slice(&path[from.len()..])?;
-    Ok(moved)
+    let mut moved = path_of(rt, alloc, to);
+    moved
+        .extend_from_slice(&path[from.len()..])
+        .expect(rt, "memory");
+    moved
 }
 
 impl Tree {
@@ -35,14 +49,14 @@ impl Tree {
         }
     }
 
-    pub(crate) fn rows(&self) -> &[(Vec<u8>, Node)] {
+    pub(crate) fn rows(&self) -> &[Row] {
         self.rows.as_slice()
     }
 
     pub(crate) fn get(&self, path: &[u8]) -> Option<Node> {
-        for (there, node) in &self.rows {
-            if there.as_slice() == path {
-                return Some(*node);
+        for row in &self.rows {
+            if row.path.as_slice() == path {
+                return Some(row.node);
             }
         }
         None
@@ -57,30 +71,25 @@ impl Tree {
 
     /// Takes out what stands at and below a path.
     pub(crate) fn take(&mut self, path: &[u8]) {
-        self.rows.retain(|row| !row.0.starts_with(path));
+        self.rows.retain(|row| !row.path.starts_with(path));
     }
 
     /// Puts a node at a path, in place of what stands at and below it.
-    pub(crate) fn put(&mut self, alloc: Global, path: &[u8], node: Node) -> Result<(), AllocError> {
+    pub(crate) fn put(&mut self, rt: &impl Abort, alloc: Global, path: &[u8], node: Node) {
         self.take(path);
-        let path = Vec::from_slice(alloc, path)?;
-        self.rows.push((path, node))?;
-        Ok(())
+        let path = path_of(rt, alloc, path);
+        self.rows.push(Row { path, node }).expect(rt, "memory");
     }
 
     /// Moves what stands at and below a path, in place of what stands at and below another.
-    pub(crate) fn rename(
-        &mut self,
-        alloc: Global,
-        from: &[u8],
-        to: &[u8],
-    ) -> Result<(), AllocError> {
+    pub(crate) fn rename(&mut self, rt: &impl Abort, alloc: Global, from: &[u8], to: &[u8]) {
         self.take(to);
         let mut rows = Vec::new(alloc);
-        for (path, node) in &self.rows {
-            rows.push((moved(alloc, path, from, to)?, *node))?;
+        for row in &self.rows {
+            let path = moved(rt, alloc, &row.path, from, to);
+            let node = row.node;
+            rows.push(Row { path, node }).expect(rt, "memory");
         }
         self.rows = rows;
-        Ok(())
     }
 }
