@@ -50,7 +50,7 @@ const ANSWERS: &[(&[u8], Result<&[u8], Refusal>, usize)] = &[
     (b"object 1073741840\nabcd", Err(Refusal::Ended), 0),
 ];
 
-fn is_heard(heard: &Result<Vec<u8>, Refusal>, want: Result<&[u8], Refusal>) -> bool {
+pub(crate) fn is_heard(heard: &Result<Vec<u8>, Refusal>, want: Result<&[u8], Refusal>) -> bool {
     match (heard, want) {
         (Ok(bytes), Ok(want)) => bytes.as_slice() == want,
         (Err(refusal), Err(want)) => *refusal == want,
@@ -66,8 +66,10 @@ fn check_heard(
 ) {
     let mut reader = said;
     let heard = read_answer(rt.alloc(), &mut reader);
-    assert!(rt; is_heard(&heard, want), "of {said:?}");
-    assert!(rt; reader.len() == left, "of {said:?}");
+    assert!(rt;
+        is_heard(&heard, want) && reader.len() == left,
+        "of {said:?}"
+    );
 }
 
 #[test]

@@ -1,14 +1,16 @@
 //! Sources that ask a server, over a net that a test makes up and over the machine's own.
+use crate::answers::is_heard;
 use crate::lines::samples;
-use eden_model::Cause;
+use eden_model::{Cause, Id, Outside};
 use eden_remote::{Refusal, SocketSource, answer_objects, ask, read_answer};
 use eden_samples::{EMPTY_TREE, VERSION_1};
 use eden_source::Source;
+use std::alloc::Global;
 use std::cell::Cell;
 use std::io::{self, ErrorKind, Read, Write};
 use std::net::{Net, OpenListener, OpenStream, Shutdown, SocketAddr, TcpListener, TcpStream};
 use std::os::fd::{AsRawFd, RawFd};
-use std::test::Fail;
+use std::process::Abort;
 use std::time::Duration;
 
 // A connection on which the server says this, whatever it is asked.
@@ -134,31 +136,59 @@ fn a_source_connects_anew_after_a_fault(rt: HostRuntime) {
     }
 }
 
-#[test]
-fn both_ends_meet(rt: HostRuntime) -> Result<(), Fail> {
-    let listener = TcpListener::bind(&rt, "127.0.0.1:0")?;
-    let mut client = TcpStream::connect(&rt, listener.local_addr()?)?;
+// The ends of one connection.
+#[derive(Drop)]
+struct Ends {
+    client: TcpStream,
+    server: TcpStream,
+}
+
+fn connected(rt: &HostRuntime) -> io::Result<Ends> {
+    let listener = TcpListener::bind(rt, "127.0.0.1:0")?;
+    let client = TcpStream::connect(rt, listener.local_addr()?)?;
     let (server, _) = listener.accept()?;
-    assert!(rt; ask(&mut client, VERSION_1.id) == Ok(()));
-    assert!(rt; ask(&mut client, EMPTY_TREE.id) == Ok(()));
-    client.shutdown(Shutdown::Write)?;
-    let (mut reader, mut writer) = (&server, &server);
-    let ended = answer_objects(rt.alloc(), &mut reader, &mut writer, &mut samples(&rt));
-    assert!(rt; ended == Ok(()));
-    assert!(rt; read_answer(rt.alloc(), &mut client)?.as_slice() == VERSION_1.framed);
-    assert!(rt; read_answer(rt.alloc(), &mut client) == Err(Refusal::Missing));
-    Ok(())
+    Ok(Ends { client, server })
+}
+
+fn is_asked(client: &mut TcpStream, id: Id) -> bool {
+    matches!(ask(client, id), Ok(()))
+}
+
+// Whether the server answers all that it is asked, up to the end.
+fn is_served(rt: &(impl AllocGlobal + Abort), server: &TcpStream) -> bool {
+    let (mut reader, mut writer) = (server, server);
+    let ended = answer_objects(rt.alloc(), &mut reader, &mut writer, &mut samples(rt));
+    matches!(ended, Ok(()))
+}
+
+fn hears(alloc: Global, client: &mut TcpStream, want: Result<&[u8], Refusal>) -> bool {
+    is_heard(&read_answer(alloc, client), want)
 }
 
 #[test]
-fn a_silent_server_is_a_failure(rt: HostRuntime) -> Result<(), Fail> {
-    let listener = TcpListener::bind(&rt, "127.0.0.1:0")?;
-    let port = listener.local_addr()?.port();
+fn both_ends_meet(rt: HostRuntime) {
+    let mut ends = connected(&rt).expect(&rt, "a connection");
+    assert!(rt; is_asked(&mut ends.client, VERSION_1.id));
+    assert!(rt; is_asked(&mut ends.client, EMPTY_TREE.id));
+    ends.client.shutdown(Shutdown::Write).expect(&rt, "an end");
+    assert!(rt; is_served(&rt, &ends.server));
+    assert!(rt; hears(rt.alloc(), &mut ends.client, Ok(VERSION_1.framed)));
+    assert!(rt; hears(rt.alloc(), &mut ends.client, Err(Refusal::Missing)));
+}
+
+// Whether an object can't be had, by a failure of the connection.
+fn fails(alloc: Global, source: &mut impl Source<Outside>) -> bool {
+    matches!(source.fetch(alloc, VERSION_1.id), Err(Cause::Device))
+}
+
+#[test]
+fn a_silent_server_is_a_failure(rt: HostRuntime) {
+    let listener = TcpListener::bind(&rt, "127.0.0.1:0").expect(&rt, "a port");
+    let port = listener.local_addr().expect(&rt, "an address").port();
     let mut source = SocketSource::new(rt.alloc(), &rt, port, Duration::from_millis(20));
-    assert!(rt; source.fetch(rt.alloc(), VERSION_1.id) == Err(Cause::Device));
+    assert!(rt; fails(rt.alloc(), &mut source));
     assert!(rt; source.failures() == 1);
     drop(listener);
-    assert!(rt; source.fetch(rt.alloc(), VERSION_1.id) == Err(Cause::Device));
+    assert!(rt; fails(rt.alloc(), &mut source));
     assert!(rt; source.failures() == 2);
-    Ok(())
 }

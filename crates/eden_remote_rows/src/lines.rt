@@ -51,8 +51,10 @@ fn check_said<S: Source<Outside>>(
     let mut reader = said;
     let mut written = Vec::new(rt.alloc());
     let ended = answer_objects(rt.alloc(), &mut reader, &mut written, source);
-    assert!(rt; ended == Ok(()), "to {said:?}");
-    assert!(rt; written.as_slice() == want, "to {said:?}");
+    assert!(rt;
+        matches!(ended, Ok(())) && written.as_slice() == want,
+        "to {said:?}"
+    );
 }
 
 #[test]
@@ -72,17 +74,31 @@ fn lines_are_answered_in_order(rt: HostRuntime) -> Result<(), Fail> {
     Ok(())
 }
 
+// What is answered where an object has these framed bytes.
+fn answer_of(rt: &(impl AllocGlobal + Abort), framed: &[u8]) -> Vec<u8> {
+    let head = format!(in rt.alloc(); "object {}\n", framed.len()).expect(rt, "memory");
+    [head.as_bytes(), framed]
+        .concat(rt.alloc())
+        .expect(rt, "memory")
+}
+
+fn check_length(
+    rt: &(impl AllocGlobal + Abort),
+    source: &mut MemorySource<Outside>,
+    length: usize,
+) {
+    let framed = [7u8].repeat(rt.alloc(), length).expect(rt, "memory");
+    let want = answer_of(rt, &framed);
+    source.insert(VERSION_1.id, framed).expect(rt, "memory");
+    check_said(rt, source, ASKS, &want);
+}
+
 #[test]
-fn long_objects_are_answered(rt: HostRuntime) -> Result<(), Fail> {
+fn long_objects_are_answered(rt: HostRuntime) {
     let mut source = MemorySource::<Outside>::new(rt.alloc());
-    for length in [4_067, 4_068, 4_069, 100_000] {
-        let framed = [7].repeat(rt.alloc(), length)?;
-        let head = format!(in rt.alloc(); "object {length}\n")?;
-        let want = [head.as_bytes(), &framed].concat(rt.alloc())?;
-        source.insert(VERSION_1.id, framed)?;
-        check_said(&rt, &mut source, ASKS, &want);
+    for length in &[4_067, 4_068, 4_069, 100_000] {
+        check_length(&rt, &mut source, *length);
     }
-    Ok(())
 }
 
 #[test]
