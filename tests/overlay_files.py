@@ -1,6 +1,6 @@
 """The files of an overlay, read by their description alone, and the whole tree that they show over a commit.
 
-A file is a header of 64 bytes and a body; all numbers are big-endian. Nothing here was taken from the repository's own
+A file is a header of 64 bytes and a body, as docs/FORMATS.md has it. Nothing here was taken from the repository's own
 reader, so that the two can be compared. A file that isn't as described raises `Damaged`.
 """
 

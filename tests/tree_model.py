@@ -1,7 +1,7 @@
 """A whole tree as a dictionary from paths to nodes, and what each request answers on it and makes of it.
 
-This is the table of operations a second time, written from its description and not from the repository's own
-definition, so that the two can be compared. A path is a tuple of names; a node is a tuple:
+This is the table of operations a second time, written from a description in words (docs/OPERATIONS.md has one) and not
+from the repository's own definition, so that the two can be compared. A path is a tuple of names; a node is a tuple:
 
     ("file", executable, content)    ("link", content)    ("dir", listed)
 
