@@ -14,17 +14,8 @@ run: ## proves and builds mountd, and serves examples/first-run.txt on the sampl
 check: ## proves and tests the crates that changed since they last passed, and those above them, for daily work
 	@scripts/check-changed
 
-test: ## proves everything from nothing, and runs every test; its last line counts the end-to-end checks
-	rt ci
-	tests/oracle
-	tests/exporter
-	tests/overlay-life
-	tests/remote
-	tests/serving
-	tests/refused-memory
-	tests/mounted
-	tests/theorem
-	tests/end-to-end
+test: ## proves everything from nothing, and runs every test: docs/GATE.md; its last line counts what passed
+	@scripts/gate
 
 soak: ## a million random requests: the slow oracle beside the second table of operations, attempts beside the slow oracle, and events on mounts; and ten minutes of many clients
 	tests/oracle 1000000

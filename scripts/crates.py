@@ -1,5 +1,6 @@
 """The crates of this repository: what each stands on, in which order they are proved, and what tells that one changed."""
 
+import functools
 import hashlib
 import pathlib
 import subprocess
@@ -22,6 +23,14 @@ def dependencies():
     """Each crate, and the crates of the repository that it stands on."""
     found = rows()
     return {name: [other for other in below if other in found] for name, (_, below) in found.items()}
+
+
+def is_library(name):
+    return (TOP / "crates" / name / "src/lib.rt").is_file()
+
+
+def has_tests(name):
+    return any("#[test]" in path.read_text() for path in (TOP / "crates" / name / "src").rglob("*.rt"))
 
 
 def in_order(below):
@@ -50,9 +59,39 @@ def with_those_below(below, names):
     return met
 
 
+class Marks:
+    """What passed here already: in each crate's out/ a digest of all that it is made from, under a word for what passed."""
+
+    def __init__(self, word, below, names):
+        chosen = with_those_below(below, names)
+        self.word, self.digests = word, {}
+        for name in in_order(below):
+            if name in chosen:
+                self.digests[name] = digest_of(name, [self.digests[other] for other in below[name]])
+
+    def place(self, name):
+        return TOP / "crates" / name / "out" / self.word
+
+    def is_set(self, name):
+        is_there = not is_library(name) or (TOP / "crates" / name / "out/rlib").is_dir()
+        return is_there and self.place(name).is_file() and self.place(name).read_text() == self.digests[name]
+
+    def left(self):
+        """The crates that haven't passed, each behind those that it stands on."""
+        return [name for name in self.digests if not self.is_set(name)]
+
+    def set(self, name):
+        self.place(name).write_text(self.digests[name])
+
+
+@functools.cache
+def toolchain():
+    return subprocess.run(["rt", "version"], capture_output=True, check=True).stdout
+
+
 def digest_of(name, digests):
     """A digest of the toolchain, the crate's row and its files, and the digests of those that it stands on."""
-    digest = hashlib.sha1(subprocess.run(["rt", "version"], capture_output=True, check=True).stdout)
+    digest = hashlib.sha1(toolchain())
     digest.update(repr(rows()[name]).encode())
     crate = TOP / "crates" / name
     for path in sorted(path for part in READ for path in (crate / part).rglob("*") if path.is_file()):

@@ -1,0 +1,213 @@
+"""Proves crates side by side: each in a room of its own, as many at a time as processors and memory allow.
+
+`rt` keeps others out of the folders of a crate and of all that it stands on, so two runs of it in one tree go one after
+the other. A room is a tree of one crate's own: its sources, and those and the libraries of all below it, as hard links.
+What a command makes or keeps in the room goes back into the crate's out/ when it ends, however it ends.
+"""
+
+import concurrent.futures
+import contextlib
+import dataclasses
+import fcntl
+import os
+import shutil
+import signal
+import subprocess
+import sys
+import time
+
+from crates import READ, TOP, rows, with_those_below
+
+# What a check was seen to take at most, with one job and for each further one (docs/GATE.md).
+FIRST_JOB = 1_500_000_000
+NEXT_JOB = 800_000_000
+MOST_JOBS = 4
+
+
+def tell(text):
+    print(text, file=sys.stderr, flush=True)
+
+
+# ---- rooms
+
+
+@contextlib.contextmanager
+def locked(crate):
+    """Keeps `rt` and other rooms out of a crate's folder meanwhile."""
+    folder = os.open(crate, os.O_RDONLY)
+    try:
+        fcntl.flock(folder, fcntl.LOCK_EX)
+        yield folder
+    finally:
+        os.close(folder)
+
+
+def link_tree(source, target):
+    if source.is_dir():
+        shutil.copytree(source, target, copy_function=os.link)
+
+
+def move_all(source, target):
+    """Moves what stands in a folder into another, in the place of what has its name there."""
+    for path in list(source.iterdir()):
+        there = target / path.name
+        if there.is_dir():
+            shutil.rmtree(there)
+        path.rename(there)
+
+
+def leave(room, out):
+    """Gives back what a room holds of its crate's out/, also after a run that was killed."""
+    made = room / "crates" / out.parent.name / "out"
+    if made.is_dir():
+        move_all(made, out)
+    if room.is_dir():
+        shutil.rmtree(room)
+
+
+def furnish(room, name, below):
+    """The crate's sources and what earlier runs kept, and the sources and libraries of those below."""
+    for other in {name, *below}:
+        for part in READ:
+            link_tree(TOP / "crates" / other / part, room / "crates" / other / part)
+    for other in below:
+        with locked(TOP / "crates" / other):
+            link_tree(TOP / "crates" / other / "out/rlib", room / "crates" / other / "out/rlib")
+    lines = [f"{' '.join(head)}: {' '.join(deps)}\n" for key, (head, deps) in rows().items() if key in {name, *below}]
+    (room / "crates.txt").write_text("".join(lines))
+    shutil.copy(TOP / "HANDLES", room)
+
+
+@contextlib.contextmanager
+def room_of(name, below):
+    """A crate's folder in a room of its own, and the lock that keeps others out as long as somebody has it."""
+    out = TOP / "crates" / name / "out"
+    room = out / "room"
+    with locked(out.parent) as lock:
+        out.mkdir(exist_ok=True)
+        leave(room, out)
+        kept = list(out.iterdir())
+        try:
+            furnish(room, name, below)
+            made = room / "crates" / name / "out"
+            made.mkdir()
+            for path in kept:
+                # Programs stay where they are too: a mount may start one meanwhile.
+                path.rename(made / path.name) if path.is_dir() else shutil.copy2(path, made)
+            yield made.parent, lock
+        finally:
+            leave(room, out)
+
+
+# ---- side by side
+
+
+@dataclasses.dataclass
+class Task:
+    """A command for a crate, once the tasks that it waits for have passed."""
+
+    crate: str
+    command: list
+    waits: list
+    passed: object
+
+
+def weight_of(crate):
+    """What a crate's proof takes, told by the length of all that is read for it."""
+    return sum(path.stat().st_size for part in READ for path in (TOP / "crates" / crate / part).rglob("*") if path.is_file())
+
+
+def half_of_the_memory():
+    with open("/proc/meminfo") as lines:
+        return next(1024 * int(line.split()[1]) for line in lines if line.startswith("MemTotal:")) // 2
+
+
+class Lanes:
+    """Tasks that run side by side, those with the longest chain of others behind them first. `tasks` has each by its name,
+    behind those that it waits for."""
+
+    def __init__(self, tasks, below):
+        self.tasks, self.below = tasks, below
+        self.left = sorted(tasks, key=self.chains().get, reverse=True)
+        self.processors, self.memory = len(os.sched_getaffinity(0)), half_of_the_memory()
+        self.running, self.processes, self.ended, self.is_over = {}, set(), set(), False
+
+    def chains(self):
+        found = {}
+        for name in reversed(list(self.tasks)):
+            behind = [found[other] for other in found if name in self.tasks[other].waits]
+            found[name] = weight_of(self.tasks[name].crate) + max(behind, default=0)
+        return found
+
+    def ready(self):
+        busy = {self.tasks[name].crate for name, _ in self.running.values()}
+        return [name for name in self.left
+                if self.ended.issuperset(self.tasks[name].waits) and self.tasks[name].crate not in busy]
+
+    def jobs_for_one_of(self, waiting):
+        """How many jobs the next task gets: its share of the processors and of the memory that nobody uses."""
+        idle = self.processors - sum(jobs for _, jobs in self.running.values())
+        taken = sum(FIRST_JOB + NEXT_JOB * (jobs - 1) for _, jobs in self.running.values())
+        fitting = 1 + (self.memory - taken - FIRST_JOB) // NEXT_JOB
+        if self.running and min(idle, fitting) < 1:
+            return 0
+        return max(1, min(MOST_JOBS, idle // waiting, fitting))
+
+    def start(self, pool):
+        while waiting := self.ready():
+            jobs = self.jobs_for_one_of(len(waiting))
+            if jobs == 0:
+                return
+            self.left.remove(waiting[0])
+            self.running[pool.submit(self.run, self.tasks[waiting[0]], jobs)] = waiting[0], jobs
+
+    def run(self, task, jobs):
+        """Whether the command passed, what it said, and its seconds."""
+        began = time.monotonic()
+        verb, *rest = task.command
+        below = with_those_below(self.below, self.below[task.crate])
+        with room_of(task.crate, below) as (folder, lock):
+            if self.is_over:
+                return False, b"", 0
+            # Where we are killed, who proves goes on for a while: the lock goes with it.
+            process = subprocess.Popen(["rt", verb, "--jobs", str(jobs), *rest], cwd=folder, stdin=subprocess.DEVNULL,
+                                       stdout=subprocess.PIPE, stderr=subprocess.STDOUT, start_new_session=True,
+                                       pass_fds=(lock,))
+            self.processes.add(process)
+            said, _ = process.communicate()
+            self.processes.remove(process)
+        return process.returncode == 0, said, time.monotonic() - began
+
+    def stop(self):
+        self.is_over = True
+        for process in list(self.processes):
+            with contextlib.suppress(ProcessLookupError):
+                os.killpg(process.pid, signal.SIGTERM)
+
+    def end(self, future):
+        """Tells of a task that ended; where it failed, no other goes on."""
+        name, _ = self.running.pop(future)
+        is_well, said, seconds = future.result()
+        if self.is_over:
+            return
+        if not is_well:
+            self.stop()
+            tell(f"  {name}: failed after {seconds:.0f} s")
+            sys.stderr.buffer.write(said)
+            return
+        self.ended.add(name)
+        self.tasks[name].passed()
+        left = len(self.left) + len(self.running)
+        tell(f"  {name}: passed in {seconds:.0f} s" + (f", {left} left" if left else ""))
+
+    def all_pass(self):
+        with concurrent.futures.ThreadPoolExecutor(self.processors) as pool:
+            try:
+                while (self.left and not self.is_over) or self.running:
+                    if not self.is_over:
+                        self.start(pool)
+                    for future in concurrent.futures.wait(self.running, return_when="FIRST_COMPLETED").done:
+                        self.end(future)
+            except KeyboardInterrupt:
+                self.stop()
+        return not self.is_over
