@@ -5,7 +5,7 @@ ROOT := d8329fc1cc938780ffdd9f94e0d364e0ea74f579
 .PHONY: help try run check test soak bench fmt
 
 help: ## says what each target does
-	@sed -n 's/^\([a-z]*\): ##/\1:/p' Makefile
+	@sed -n 's/^\([a-z-]*\): ##/\1:/p' Makefile
 
 try: ## compiles mountd with no proof, and shows what it answers to examples/first-run.txt and changes.txt
 	@scripts/try-mountd $(ROOT)
