@@ -128,11 +128,15 @@ class Lanes:
 
     def __init__(self, tasks, below):
         self.tasks, self.below = tasks, below
-        self.left = sorted(tasks, key=self.chains().get, reverse=True)
-        self.processors, self.memory = len(os.sched_getaffinity(0)), half_of_the_memory()
+        self.chains = self.found_chains()
+        self.left = sorted(tasks, key=self.chains.get, reverse=True)
+        processors, self.memory = len(os.sched_getaffinity(0)), half_of_the_memory()
+        # A check of several jobs uses half of them in the mean: the rest wait for its longest function.
+        self.lanes, self.for_the_head = processors * 3 // 2, max(2, processors * 3 // 4)
         self.running, self.processes, self.ended, self.is_over = {}, set(), set(), False
 
-    def chains(self):
+    def found_chains(self):
+        """Of each task what it takes, and what the longest chain of those that wait for it takes."""
         found = {}
         for name in reversed(list(self.tasks)):
             behind = [found[other] for other in found if name in self.tasks[other].waits]
@@ -144,18 +148,21 @@ class Lanes:
         return [name for name in self.left
                 if self.ended.issuperset(self.tasks[name].waits) and self.tasks[name].crate not in busy]
 
-    def jobs_for_one_of(self, waiting):
-        """How many jobs the next task gets: its share of the processors and of the memory that nobody uses."""
-        idle = self.processors - sum(jobs for _, jobs in self.running.values())
+    def jobs_for(self, name, waiting):
+        """How many jobs the first of those that wait gets: what lanes and memory are left, but for one job of each other.
+        The head of the longest chain, for which all wait at last, gets most of the processors."""
+        idle = self.lanes - sum(jobs for _, jobs in self.running.values())
         taken = sum(FIRST_JOB + NEXT_JOB * (jobs - 1) for _, jobs in self.running.values())
         fitting = 1 + (self.memory - taken - FIRST_JOB) // NEXT_JOB
         if self.running and min(idle, fitting) < 1:
             return 0
-        return max(1, min(MOST_JOBS, idle // waiting, fitting))
+        is_head = all(self.chains[name] > self.chains[other] for other, _ in self.running.values())
+        wanted = max(idle - (waiting - 1), self.for_the_head if is_head else 1)
+        return max(1, min(MOST_JOBS, wanted, fitting))
 
     def start(self, pool):
         while waiting := self.ready():
-            jobs = self.jobs_for_one_of(len(waiting))
+            jobs = self.jobs_for(waiting[0], len(waiting))
             if jobs == 0:
                 return
             self.left.remove(waiting[0])
@@ -201,7 +208,7 @@ class Lanes:
         tell(f"  {name}: passed in {seconds:.0f} s" + (f", {left} left" if left else ""))
 
     def all_pass(self):
-        with concurrent.futures.ThreadPoolExecutor(self.processors) as pool:
+        with concurrent.futures.ThreadPoolExecutor(self.lanes) as pool:
             try:
                 while (self.left and not self.is_over) or self.running:
                     if not self.is_over:
