@@ -2,10 +2,10 @@
 
 ROOT := d8329fc1cc938780ffdd9f94e0d364e0ea74f579
 
-.PHONY: help run check test soak bench fmt
+.PHONY: help run check test wrong-bodies soak bench fmt
 
 help: ## says what each target does
-	@sed -n 's/^\([a-z]*\): ##/\1:/p' Makefile
+	@sed -n 's/^\([a-z-]*\): ##/\1:/p' Makefile
 
 run: ## proves and builds mountd, and serves examples/first-run.txt on the sample commit
 	@scripts/build-mountd
@@ -25,6 +25,9 @@ test: ## proves everything from nothing, and runs every test; its last line coun
 	tests/mounted
 	tests/theorem
 	tests/end-to-end
+
+wrong-bodies: ## tries the wrong bodies that the gate leaves out, or those of CRATE=NAME; goes on where it was stopped
+	@scripts/wrong-bodies $(CRATE)
 
 soak: ## a million random requests: the slow oracle beside the second table of operations, attempts beside the slow oracle, and events on mounts; and ten minutes of many clients
 	tests/oracle 1000000
