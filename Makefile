@@ -2,7 +2,7 @@
 
 ROOT := d8329fc1cc938780ffdd9f94e0d364e0ea74f579
 
-.PHONY: help try run check test soak bench fmt
+.PHONY: help try run check test wrong-bodies soak bench fmt
 
 help: ## says what each target does
 	@sed -n 's/^\([a-z-]*\): ##/\1:/p' Makefile
@@ -19,6 +19,9 @@ check: ## proves and tests the crates that changed since they last passed, and t
 
 test: ## proves everything from nothing, and runs every test: docs/GATE.md; its last line counts what passed
 	@scripts/gate
+
+wrong-bodies: ## tries the wrong bodies that the gate leaves out, or those of CRATE=NAME; goes on where it was stopped
+	@scripts/wrong-bodies $(CRATE)
 
 soak: ## a million random requests: the slow oracle beside the second table of operations, attempts beside the slow oracle, and events on mounts; and ten minutes of many clients
 	tests/oracle 1000000

@@ -145,6 +145,25 @@ fn fetch<J: Naming, R: Wait + Abort>(rt: &R, alloc: Global, shared: &Held<J>) {
     shared.fetch_all(rt, &mut source(rt, alloc, true));
 }
 
+/// How often a fetcher asks for a key that a caller is about to want: for seconds.
+const TRIES: u32 = 1_000_000;
+
+/// What comes of the first key that is queued. `Nothing` where none is, however often it is asked.
+fn fetch_in_time<J: Naming, R: Wait>(
+    rt: &R,
+    shared: &Held<J>,
+    source: &mut MemorySource<Outside>,
+) -> Fetched {
+    for _ in 0..TRIES {
+        let fetched = shared.fetch_one(rt, source);
+        if fetched != Fetched::Nothing {
+            return fetched;
+        }
+        yield_now();
+    }
+    Fetched::Nothing
+}
+
 /// Fetches once a key is queued, and then finds none: what came of it is that.
 fn fetch_next<J: Naming, R: Wait + Abort>(
     rt: &R,
@@ -154,15 +173,8 @@ fn fetch_next<J: Naming, R: Wait + Abort>(
     comes: Fetched,
 ) {
     let mut source = source(rt, alloc, has);
-    for _ in rt.forever() {
-        let fetched = shared.fetch_one(rt, &mut source);
-        if fetched != Fetched::Nothing {
-            assert!(rt; fetched == comes);
-            assert!(rt; shared.fetch_one(rt, &mut source) == Fetched::Nothing);
-            return;
-        }
-        yield_now();
-    }
+    assert!(rt; fetch_in_time(rt, shared, &mut source) == comes);
+    assert!(rt; shared.fetch_one(rt, &mut source) == Fetched::Nothing);
 }
 
 /// Two callers and two fetchers on threads of their own, until both callers were told three times.
