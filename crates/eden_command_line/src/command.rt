@@ -387,16 +387,17 @@ const PORT_HELP: &str = "The port of 127.0.0.1; 0 lets the machine choose";
 fn command_line<'a>(alloc: Global) -> Result<clap::Command<'a>, AllocError>
     ensures { IfOk result (λ command. app_of command ≡ mountd_line) }
 {
-    let stdio = stdio_line(alloc)?;
-    let serve = serve_line(alloc)?;
-    let objects = objects_line(alloc)?;
-    let import = import_line(alloc)?;
     let line = clap::Command::new(alloc, "mountd")
         .about("Answers requests on the files of a Git commit")
-        .subcommand_required(true)
-        .subcommand(stdio)?;
+        .subcommand_required(true);
+    // Each is made when it is added, so that no more than one is there beside the line.
+    let stdio = stdio_line(alloc)?;
+    let line = line.subcommand(stdio)?;
+    let serve = serve_line(alloc)?;
     let line = line.subcommand(serve)?;
+    let objects = objects_line(alloc)?;
     let line = line.subcommand(objects)?;
+    let import = import_line(alloc)?;
     let line = line.subcommand(import)?;
     Ok(line)
 }
