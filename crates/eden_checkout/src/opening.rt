@@ -32,7 +32,7 @@ const ROOT_FILE: u64 = 1;
 const FIRST_NUMBER: u64 = 2;
 
 /// Where the root comes from, and the number that is given next.
-#[derive(Clone, Copy, Debug)]
+#[derive(Clone, Copy)]
 pub(crate) struct Start {
     pub(crate) origin: Origin,
     pub(crate) next: u64,

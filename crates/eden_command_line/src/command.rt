@@ -46,7 +46,7 @@ const FETCHERS: u64 = 2;
 const SIZES: usize = 65_536;
 
 /// Where the objects of a mount come from.
-#[derive(Debug, Drop)]
+#[derive(Drop)]
 pub enum Objects {
     /// The folder that they lie in.
     Folder(String),
@@ -82,7 +82,7 @@ impl Display for MountCommand {
 }
 
 /// What mount `mountd stdio` or `mountd serve` is asked to open.
-#[derive(Debug, Drop)]
+#[derive(Drop)]
 pub struct MountOptions {
     /// The root directory's tree.
     pub root: Id,
@@ -97,7 +97,7 @@ pub struct MountOptions {
 }
 
 /// What `mountd serve` is asked to serve, and where.
-#[derive(Debug, Drop)]
+#[derive(Drop)]
 pub struct ServeOptions {
     /// The mount, which has as many passes as connections are served.
     pub mount: MountOptions,
@@ -108,7 +108,7 @@ pub struct ServeOptions {
 }
 
 /// Whose objects `mountd objects` is asked to serve, and where.
-#[derive(Debug, Drop)]
+#[derive(Drop)]
 pub struct ObjectsOptions {
     /// The folder that the objects lie in.
     pub folder: String,
@@ -119,7 +119,7 @@ pub struct ObjectsOptions {
 }
 
 /// What `mountd import` is asked to import.
-#[derive(Debug, Drop)]
+#[derive(Drop)]
 pub struct ImportOptions {
     /// The folder whose files become objects.
     pub from: String,
@@ -128,7 +128,7 @@ pub struct ImportOptions {
 }
 
 /// What the program is asked for.
-#[derive(Debug, Drop)]
+#[derive(Drop)]
 pub enum Command {
     Stdio(MountOptions),
     Serve(ServeOptions),
@@ -387,16 +387,17 @@ const PORT_HELP: &str = "The port of 127.0.0.1; 0 lets the machine choose";
 fn command_line<'a>(alloc: Global) -> Result<clap::Command<'a>, AllocError>
     ensures { IfOk result (λ command. app_of command ≡ mountd_line) }
 {
-    let stdio = stdio_line(alloc)?;
-    let serve = serve_line(alloc)?;
-    let objects = objects_line(alloc)?;
-    let import = import_line(alloc)?;
     let line = clap::Command::new(alloc, "mountd")
         .about("Answers requests on the files of a Git commit")
-        .subcommand_required(true)
-        .subcommand(stdio)?;
+        .subcommand_required(true);
+    // Each is made when it is added, so that no more than one is there beside the line.
+    let stdio = stdio_line(alloc)?;
+    let line = line.subcommand(stdio)?;
+    let serve = serve_line(alloc)?;
     let line = line.subcommand(serve)?;
+    let objects = objects_line(alloc)?;
     let line = line.subcommand(objects)?;
+    let import = import_line(alloc)?;
     let line = line.subcommand(import)?;
     Ok(line)
 }

@@ -1,7 +1,7 @@
 use eden_model::{Kind, Origin};
 
 /// The last entry in memory on a path.
-#[derive(Clone, Copy, Debug, PartialEq, Eq)]
+#[derive(Clone, Copy, PartialEq, Eq)]
 pub struct Seen {
     /// How many of the path's names lead to it: all of them where it is the entry at the path.
     pub names: usize,

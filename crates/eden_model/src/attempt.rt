@@ -2,7 +2,7 @@ use crate::id::Key;
 use crate::reply::Reply;
 
 /// What came of one attempt of a request.
-#[derive(Debug, Drop)]
+#[derive(Drop)]
 pub enum Attempt {
     /// The reply: the table's, or a fault.
     Finished(Reply),

@@ -6,7 +6,7 @@ use std::alloc::{AllocError, Global};
 use std::marker::Model;
 
 /// A blob's or a tree's body that is in its grammar and of at most 2^30 bytes. Contracts see its kind and its bytes.
-#[derive(Debug, Drop)]
+#[derive(Drop)]
 pub struct Object {
     kind: ObjKind,
     framed: Vec<u8>,

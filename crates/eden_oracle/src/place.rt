@@ -5,7 +5,7 @@ use std::alloc::{AllocError, Global};
 use std::marker::Model;
 
 /// Where a row stands: a path of any length, since a rename can make longer ones than a request can name.
-#[derive(Debug, Drop)]
+#[derive(Drop)]
 pub struct Place {
     names: Vec<Name>,
 }

@@ -18,7 +18,7 @@ use std::marker::Model;
 /// The slow oracle: a whole tree as its rows, each a path and a node, which the table of operations is run over.
 ///
 /// Contracts see the rows. A call takes time with all of them.
-#[derive(Debug, Drop)]
+#[derive(Drop)]
 pub struct WholeTree {
     rows: Vec<Row>,
 }

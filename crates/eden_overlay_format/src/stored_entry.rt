@@ -1,7 +1,7 @@
 use eden_model::{Kind, Name, Origin};
 
 /// One entry of a stored directory.
-#[derive(Debug, Drop)]
+#[derive(Drop)]
 pub struct StoredEntry {
     pub name: Name,
     pub kind: Kind,

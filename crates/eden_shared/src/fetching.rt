@@ -9,7 +9,7 @@ use std::alloc::Allocator;
 use std::sync::Wait;
 
 /// What came of a fetch.
-#[derive(Clone, Copy, Debug, PartialEq, Eq)]
+#[derive(Clone, Copy, PartialEq, Eq)]
 pub enum Fetched {
     /// No key is queued, or as many are in flight as may be.
     Nothing,

@@ -12,8 +12,8 @@ pub returns : goal.returns
 returns c =
     let name = codes "mountd" in
     let about : app_of c.about.result ≡ new_app name = ap app_of_fields c.about.ensures ∙ c.new.ensures.app in
-    let none : app_of c.subcommand_required.result ≡ on_top wants_one (new_app name) =
-    ap app_of_fields c.subcommand_required.ensures ∙ ap (on_top wants_one) about in
+    let none : app_of c.subcommand_required-line.result ≡ on_top wants_one (new_app name) =
+    ap app_of_fields c.subcommand_required-line.ensures ∙ ap (on_top wants_one) about in
     let one : app_of c.in_ok-line.line ≡ program name (stdio ∷ []) =
     c.in_ok-line.ensures.shape c.in_ok-stdio.ensures.local
     ∙ (ap (λ (a : App). with_subcommand a (shape_of c.in_ok-stdio.stdio)) none
