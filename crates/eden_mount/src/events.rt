@@ -1,7 +1,7 @@
 use eden_model::{Bytes, Cause, Key, Path, Reply, Request, StartFault};
 
 /// What a turn answers.
-#[derive(Debug, Drop)]
+#[derive(Drop)]
 pub enum Turned {
     /// The request is finished: its entry's number in the history, from 1 on, and the reply.
     Done(u32, Reply),
@@ -23,7 +23,7 @@ pub enum Arrived {
 }
 
 /// One atomic step of a mount.
-#[derive(Debug, Drop)]
+#[derive(Drop)]
 pub enum Event {
     /// A pass asks a request.
     Start(u32, Request),
@@ -40,7 +40,7 @@ pub enum Event {
 }
 
 /// What an event answers.
-#[derive(Debug, Drop)]
+#[derive(Drop)]
 pub enum Outcome {
     Start(Result<(), StartFault>),
     Turn(Turned),
