@@ -122,7 +122,10 @@ impl<W: World, T: Attempts<W> + Drop, A: Allocator> Mount<W, T, A> {
         ensures { Starts self.old pass request result self.new }
     {
         match self.admit(pass) {
-            Err(fault) => Err(fault),
+            Err(fault) => {
+                drop(request);
+                Err(fault)
+            }
             Ok(pending) => self.take_seat(pass, request, pending),
         }
     }
@@ -136,6 +139,7 @@ impl<W: World, T: Attempts<W> + Drop, A: Allocator> Mount<W, T, A> {
         ensures { Starts self.old pass request result self.new }
     {
         let Ok(()) = self.history.reserve(pending + 1) else {
+            drop(request);
             return Err(StartFault::Memory);
         };
         let since = self.history.len() as u32;
