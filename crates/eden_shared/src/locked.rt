@@ -61,13 +61,25 @@ impl<W: World, T: Attempts<W> + Drop, A: Allocator, J: Naming> Locked<W, T, A, J
         ensures err { OnErr result (end.new.value ≡ end.old.value) }
         ensures why { IfErr result (IsLawful floor end.old.value.told) }
     {
-        let since = self.admit(number, floor, end)?;
+        let since = match self.admit(number, floor, end) {
+            Ok(since) => since,
+            Err(fault) => {
+                drop(request);
+                drop(kept);
+                return Err(fault);
+            }
+        };
         let pending = Pending {
             request: kept,
             since,
         };
-        self.begin(number, end, request, &pending)?;
-        Ok(pending)
+        match self.begin(number, end, request, &pending) {
+            Ok(()) => Ok(pending),
+            Err(fault) => {
+                drop(pending);
+                Err(CallFault::Start(fault))
+            }
+        }
     }
 
     /// Tests whether the pass may start a request: not after `stop`, and not before the history has come to its floor.
