@@ -84,12 +84,7 @@ impl<W: World, T: Attempts<W> + Drop, A: Allocator, J: Naming> Locked<W, T, A, J
 
     /// Tests whether the pass may start a request: not after `stop`, and not before the history has come to its floor.
     /// How long the history is.
-    fn admit(
-        &mut self,
-        number: u32,
-        floor: u64,
-        end: &mut Far<Account>,
-    ) -> Result<u32, CallFault>
+    fn admit(&mut self, number: u32, floor: u64, end: &mut Far<Account>) -> Result<u32, CallFault>
         requires lane { HasName J.names number end.old.name }
         ensures same { self.new ≡ self.old }
         ensures end { (end.new.name ≡ end.old.name) × (end.new.value ≡ end.old.value) }
