@@ -141,22 +141,14 @@ fn beside_fetchers<
     requires { (b : Bool) → G.pre sessions b }
     ensures { (b : Bool) × G.post sessions b result }
 {
-    thread::scope(
-        thread::scope_env(),
-        rt,
-        move |scope| -> X
-            requires { IsSync R.row × IsSend W.row × IsSend T.row × IsSend A.row × IsSend J.row × IsSend S.row
-                × Frees A.Allocator A.dealloc_token × ((b : Bool) → G.pre sessions b) }
-            ensures { (b : Bool) × G.post sessions b result }
-        {
-            let fetched = scope
-                .spawn(move || fetch_from_all(rt, shared, fetchers))
-                .is_ok();
-            let served = sessions(fetched);
-            shared.stop(rt);
-            served
-        },
-    )
+    thread::scope(thread::scope_env(), rt, move |scope| {
+        let fetched = scope
+            .spawn(move || fetch_from_all(rt, shared, fetchers))
+            .is_ok();
+        let served = sessions(fetched);
+        shared.stop(rt);
+        served
+    })
 }
 
 /// Serves the sessions of all guests.

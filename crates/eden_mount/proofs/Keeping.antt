@@ -18,9 +18,9 @@ use Rattle.eden_import.specs.Queue as imports
 use Rattle.eden_import.specs.Queue.{Queue, Mark, IsQueue, IsPass, want_of, mark_of, after_await, after_quit, after_failed, after_failure}
 use Rattle.eden_import.proofs.CallerLemmas.{quit_rest, passes_keep_flight}
 use Rattle.eden_mount.specs.declared.seats.Pending.{Pending}
-use Rattle.eden_mount.specs.Tables.{Table}
+use Rattle.eden_mount.specs.Tables.{Table, Ticks}
 use Rattle.eden_mount.specs.Core.{Core, seat_of, Pends, IsFree, taken_room, entry}
-use Rattle.eden_mount.specs.Replying.{Replied, attempted, uncopied, failed, ToldBy, WaitsBy}
+use Rattle.eden_mount.specs.Replying.{Replied, attempted, uncopied, failed, Awaits}
 use Rattle.eden_mount.specs.Kept.{IsMount, core_from}
 use Rattle.eden_mount.proofs.SeatLemmas.{write_one, within_if_some, count_taken, count_freed}
 use Rattle.eden_mount.proofs.TurnLemmas.{nobody_met, nobody_marked, wants_after_done, marks_after_done, wants_after_wait, marks_after_wait}
@@ -117,6 +117,9 @@ module _ {T : Type 0} (A : Table T) (honest : Type 0) (opening : Tree) where
 
   -- ---- turn
 
+  pub tick_keeps : (m : Core T) (t : T) → IsMount A honest opening m → Ticks A m.table t → IsMount A honest opening (record m { table = t })
+  tick_keeps m t h ticks = retable m t h (λ honestly. ticks.tree)
+
   -- a reply of a turn is the table's at what the mount showed, and so is what it shows then; a fault leaves it
   abbrev IsTold : T → T → Request → Reply → Type 0
   IsTold t u q r = (fault_of r ≡ None → Replies (A.shown t) q r) × (A.shown u ≡ after (A.shown t) q r)
@@ -132,11 +135,6 @@ module _ {T : Type 0} (A : Table T) (honest : Type 0) (opening : Tree) where
         faulted fault.Memory is (done.tree honestly ∙ payload_keeps (A.shown t) q found says large)
     replied_is_tables mark (failed k x needs marked is) = faulted (fault.Fetch k.id x) is (needs.tree honestly)
 
-  told_is_tables : (t u : T) (q : Request) (mark : Option Mark) (r : Reply) → ToldBy A honest t q mark r u → honest → IsTold t u q r
-  told_is_tables t u q mark r told honestly =
-      let P : Tree → Type 0 = λ F. (fault_of r ≡ None → Replies F q r) × (A.shown u ≡ after F q r) in
-      subst P told.ticks.tree (replied_is_tables told.begun u q r honestly mark told.replied)
-
   pub pass_of : (m : Core T) (c : ℕ) (s : Pending) → IsMount A honest opening m → Pends c s m → IsPass c m.queue
   pass_of m c s h pends =
       let seats = h.seats in
@@ -144,9 +142,9 @@ module _ {T : Type 0} (A : Table T) (honest : Type 0) (opening : Tree) where
       (pends.0, omega (arith, inside, seats))
 
   pub turn_keeps : (m : Core T) (c : ℕ) (s : Pending) (r : Reply) (t : T) (q : Queue) (es : List Entry) → IsMount A honest opening m → Pends c s m → IsQueue q
-      → q ≡ after_quit c (after_failure c m.queue) → es ≡ m.history ++ entry c s.request r ∷ [] → ToldBy A honest m.table s.request (mark_of c m.queue) r t
+      → q ≡ after_quit c (after_failure c m.queue) → es ≡ m.history ++ entry c s.request r ∷ [] → Replied A honest m.table s.request (mark_of c m.queue) r t
       → IsMount A honest opening (core_from t q (set m.seats (c - 1) None) es m.limit)
-  turn_keeps m c s r t q es h pends i is grown told = record {
+  turn_keeps m c s r t q es h pends i is grown replied = record {
     queue = i;
     seats = length-set m.seats (c - 1) None ∙ h.seats ∙ sym passes;
     rests = λ x free. rest x (subst (λ n. (1 ≤ x) × (x ≤ n)) passes free.0) free.1 (x == c) refl;
@@ -175,7 +173,7 @@ module _ {T : Type 0} (A : Table T) (honest : Type 0) (opening : Tree) where
       written x low = write_one m.seats m.queue.passes c x None None h.seats pass.0 pass.1 low
 
       tables : honest → IsTold m.table t s.request r
-      tables honestly = told_is_tables m.table t s.request (mark_of c m.queue) r told honestly
+      tables honestly = replied_is_tables m.table t s.request r honestly (mark_of c m.queue) replied
 
       want : (x : ℕ) → IsPass x m.queue → want_of x q ≡ cond (x == c) None (want_of x m.queue)
       want x at = ap (want_of x) is ∙ wants_after_done m.queue c x h.queue pass at
@@ -196,8 +194,8 @@ module _ {T : Type 0} (A : Table T) (honest : Type 0) (opening : Tree) where
           omega (arith, long)
 
   pub wait_keeps : (m : Core T) (c : ℕ) (s : Pending) (k : Key) (t : T) (q : Queue) → IsMount A honest opening m → Pends c s m → IsQueue q → q ≡ after_await k c (after_failure c m.queue)
-      → WaitsBy A honest m.table s.request (mark_of c m.queue) k t → IsMount A honest opening (record m { table = t; queue = q })
-  wait_keeps m c s k t q h pends i is waits = retable (record m { queue = q }) t (requeue m q h i passes rest) (λ honestly. waits.awaits.needs.tree honestly ∙ waits.ticks.tree)
+      → Awaits A honest m.table s.request (mark_of c m.queue) k t → IsMount A honest opening (record m { table = t; queue = q })
+  wait_keeps m c s k t q h pends i is awaits = retable (record m { queue = q }) t (requeue m q h i passes rest) awaits.needs.tree
     where
       passes : q.passes ≡ m.queue.passes
       passes = ap (λ (y : Queue). y.passes) is ∙ (passes_keep_flight (after_failure c m.queue) k c).2.1

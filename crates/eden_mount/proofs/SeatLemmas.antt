@@ -1,6 +1,8 @@
 -- The seats of the passes: one is written.
-use Rattle.std.proofs.Common.{◌≡◌, ◌≤◌, ◌<◌, ◌+◌, ◌-◌, ◌==◌, ℕ, zero, suc, Bool, true, false, cond, List, [], ◌∷◌, length, get_or, Option, Some, None, eqb-true, refl, ap, ◌∙◌, arith}
+use Rattle.std.proofs.Common.{◌≡◌, ◌≤◌, ◌<◌, ◌+◌, ◌-◌, ◌==◌, ℕ, zero, suc, Bool, true, false, cond, List, [], ◌∷◌, length, get_or, Option, Some, None, IfSome, eqb-true, refl, ap, ◌∙◌, subst, arith}
 use Rattle.std.proofs.Math.ListN.{set}
+use Rattle.eden_model.specs.declared.request.Request.{Request}
+use Rattle.eden_mount.specs.declared.seats.Pending.{Pending}
 use Rattle.std.specs.List.{count_by}
 use Rattle.std.specs.Option.{is_some}
 use Rattle.std.proofs.lemmas.Bool.{eqb-false}
@@ -58,3 +60,9 @@ seat_taken xs i (Some x) h e t = (x, seat_read xs i (Some x) h e)
 pub seat_free : {X : Type 0} (xs : List (Option X)) (i : ℕ) (o : Option X) → i < length xs → o ≡ get_or xs i o → is_some o ≡ false → get_or xs i None ≡ None
 seat_free xs i None h e t = seat_read xs i None h e
 seat_free xs i (Some x) h e t = absurd (cc t)
+
+-- what was read of a request that is there
+pub asked_there : (xs ys : List (Option Pending)) (i : ℕ) (s : Pending) (q : Request) → ys ≡ xs → get_or xs i None ≡ Some s → IfSome (get_or ys i None) (λ p. q ≡ p.request) → q ≡ s.request
+asked_there xs ys i s q same at is =
+    let Is : Option Pending → Type 0 = λ o. IfSome o (λ p. q ≡ p.request) in
+    subst Is at (subst (λ (zs : List (Option Pending)). Is (get_or zs i None)) same is)

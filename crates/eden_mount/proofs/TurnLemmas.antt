@@ -5,6 +5,11 @@ use Rattle.eden_model.specs.declared.fault.Cause.TheVariants as cause
 use Rattle.eden_model.specs.declared.id.Key.{Key}
 use Rattle.eden_import.specs.Queue.{Queue, Mark, IsQueue, IsPass, want_of, mark_of, wants_key, after_await, after_quit, after_done, after_failed, after_failure}
 use Rattle.eden_import.proofs.CallerLemmas.{all_are_met, wanters_are_marked, one_forgets, one_awaits, one_quits, forgetting_keeps, marks_stay}
+use Rattle.eden_mount.specs.declared.events.Turned.{Turned}
+use Rattle.eden_mount.specs.declared.events.Turned.TheVariants.{Done, Wait, Idle}
+use Rattle.eden_mount.specs.Tables.{Table, Ticks}
+use Rattle.eden_mount.specs.Core.{Core}
+use Rattle.eden_mount.specs.Steps.{Turns, GoesOn}
 
 -- ---- a key lands or fails: who wants nothing is left alone
 
@@ -40,3 +45,11 @@ module _ (q : Queue) (c r : ℕ) (h : IsQueue q) (s : IsPass c q) (t : IsPass r 
 
   pub marks_after_wait : (k : Key) → mark_of r (after_await k c (after_failure c q)) ≡ cond (r == c) None (mark_of r q)
   marks_after_wait k = ap (λ (ms : List (Option Mark)). slice_index_or ms (r - 1) None) (marks_stay (after_failure c q) k c None).2 ∙ one_forgets q c r h s t
+
+-- ---- a tick, and the rest of a turn
+
+pub ticked : {T : Type 0} (A : Table T) (honest : Type 0) (m : Core T) (t : T) (c : ℕ) (r : Turned) (m' : Core T) → Ticks A m.table t → GoesOn A honest (record m { table = t }) c r m'
+    → Turns A honest m c r m'
+ticked A honest m t c (Done n r) m' ticks done = (done.0, done.1, done.2, done.3, record { begun = t; ticks = ticks; replied = done.4 })
+ticked A honest m t c (Wait k) m' ticks waits = (waits.0, waits.1, waits.2, record { begun = t; ticks = ticks; awaits = waits.3 })
+ticked A honest m t c Idle m' ticks none = absurd none

@@ -19,7 +19,7 @@ use Rattle.eden_mount.specs.declared.events.Arrived.{Arrived}
 use Rattle.eden_mount.specs.declared.events.Arrived.TheVariants.{Stored, Refused, Stray}
 use Rattle.eden_mount.specs.Tables.{Table, Ticks, KeepsBytes, Unloads}
 use Rattle.eden_mount.specs.Core.{Core, Pends, IsFree, taken_room, after_start, after_done, after_wait}
-use Rattle.eden_mount.specs.Replying.{ToldBy, WaitsBy}
+use Rattle.eden_mount.specs.Replying.{Replied, Awaits, ToldBy, WaitsBy}
 
 -- ---- start
 
@@ -55,6 +55,14 @@ module _ {T : Type 0} (A : Table T) (honest : Type 0) where
   Turns m c (Done n r) m' = IsDone m c n r m'
   Turns m c (Wait k) m' = IsWaiting m c k m'
   Turns m c Idle m' = IsIdle m c m'
+
+  -- a turn of a pass with a request pending, whose clock went on before
+  abbrev pub GoesOn : Core T → ℕ → Turned → Core T → Type 0
+  GoesOn m c (Done n r) m' = (s : Pending) × Pends c s m × (n ≡ length m.history + 1)
+      × (m' ≡ after_done c s.request r m'.table m) × Replied A honest m.table s.request (mark_of c m.queue) r m'.table
+  GoesOn m c (Wait k) m' = (s : Pending) × Pends c s m × (m' ≡ after_wait c k m'.table m)
+      × Awaits A honest m.table s.request (mark_of c m.queue) k m'.table
+  GoesOn m c Idle m' = ⊥
 
 -- ---- take
 

@@ -1,8 +1,8 @@
-ghost use Rattle.std.specs.Prelude.{◌≡◌, ◌<◌, ℕ, [], IfOk, IfErr, OnOk, OnErr, IfSome, IfNone};
+ghost use Rattle.std.specs.Prelude.{◌≡◌, ◌<◌, ℕ, true, false, [], IfOk, IfErr, OnOk, OnErr, IfSome, IfNone};
 ghost use Rattle.eden_model.specs.Histories.{Legal};
 ghost use Rattle.eden_object.specs.Objects.{IsHonest};
 ghost use Rattle.eden_mount.specs.Core.{Pends, IsFree, IsLeastBusy, pending_count, taken_room};
-ghost use Rattle.eden_mount.specs.Steps.{IsRefused, Starts, Turns, Takes, Arrives, Fails, LetsGo};
+ghost use Rattle.eden_mount.specs.Steps.{IsRefused, Starts, Turns, GoesOn, Takes, Arrives, Fails, LetsGo};
 ghost use Rattle.eden_mount.specs.Runs.{IsHonestEvent, AreHonest, Steps, Runs};
 ghost use Rattle.eden_mount.specs.Kept.{IsMount, core_from};
 ghost use Rattle.eden_mount.specs.Serving.{IsAtRest};
@@ -12,8 +12,8 @@ use crate::arrival::keep;
 use crate::attempts::Attempts;
 use crate::events::{Arrived, Event, Outcome, Turned};
 use crate::room::Room;
-use crate::seats::{Pending, count, occupy};
-use crate::settling::{Settled, settle};
+use crate::seats::{Pending, count, occupy, request_at, vacate};
+use crate::settling::{Settled, settle, write_down};
 use eden_import::Imports;
 use eden_model::{Cause, Entry, Key, Path, Request, StartFault, World};
 use std::alloc::{AllocError, Allocator, Global};
@@ -121,8 +121,25 @@ impl<W: World, T: Attempts<W> + Drop, A: Allocator> Mount<W, T, A> {
     pub fn start(&mut self, pass: u32, request: Request) -> Result<(), StartFault>
         ensures { Starts self.old pass request result self.new }
     {
-        let pending = self.admit(pass)?;
+        match self.admit(pass) {
+            Err(fault) => {
+                drop(request);
+                Err(fault)
+            }
+            Ok(pending) => self.take_seat(pass, request, pending),
+        }
+    }
+
+    /// Starts the request of a pass that may start one, beside so many that are pending, if memory has room for its
+    /// entry.
+    fn take_seat(&mut self, pass: u32, request: Request, pending: usize) -> Result<(), StartFault>
+        requires pending { pending ≡ pending_count self.old.seats }
+        requires free { IsFree pass self.old }
+        requires room { taken_room self.old < self.old.limit }
+        ensures { Starts self.old pass request result self.new }
+    {
         let Ok(()) = self.history.reserve(pending + 1) else {
+            drop(request);
             return Err(StartFault::Memory);
         };
         let since = self.history.len() as u32;
@@ -162,33 +179,48 @@ impl<W: World, T: Attempts<W> + Drop, A: Allocator> Mount<W, T, A> {
         ensures { Turns T.table W.honest self.old pass result self.new }
     {
         self.table.tick();
-        if pass == 0 || pass > self.imports.passes() {
+        if !self.has_pending(pass) {
             return Turned::Idle;
         }
+        self.go_on(pass)
+    }
+
+    /// Whether the pass has a request pending.
+    fn has_pending(&self, pass: u32) -> bool
+        ensures yes { result ≡ true → (s : declared.Pending) × Pends pass s self.now }
+        ensures no { result ≡ false → (s : declared.Pending) → ¬ Pends pass s self.now }
+    {
+        if pass == 0 || pass > self.imports.passes() {
+            return false;
+        }
+        self.seats[pass as usize - 1].is_some()
+    }
+
+    /// A turn of a pass that has a request pending, after the clock went on.
+    fn go_on(&mut self, pass: u32) -> Turned
+        requires { (s : declared.Pending) × Pends pass s self.old }
+        ensures { GoesOn T.table W.honest self.old pass result self.new }
+    {
         let seat = pass as usize - 1;
-        let Some(pending) = &self.seats[seat] else {
-            return Turned::Idle;
-        };
         let mark = self.imports.failure(pass);
-        match settle::<W, T>(self.alloc, &mut self.table, &pending.request, mark) {
+        let request = request_at(self.seats.as_slice(), seat);
+        match settle::<W, T>(self.alloc, &mut self.table, request, mark) {
             Settled::Waits(key) => {
                 self.imports.await_key(key, pass);
                 Turned::Wait(key)
             }
             Settled::Told(told, reply) => {
                 self.imports.quit(pass);
-                let Some(pending) = self.seats[seat].take() else {
-                    unreachable!();
-                };
-                let request = pending.request;
-                self.history
-                    .push(Entry {
+                let request = vacate(&mut self.seats, seat);
+                let number = write_down(
+                    &mut self.history,
+                    Entry {
                         pass,
                         request,
                         reply,
-                    })
-                    .unwrap();
-                Turned::Done(self.history.len() as u32, told)
+                    },
+                );
+                Turned::Done(number, told)
             }
         }
     }

@@ -42,14 +42,49 @@ impl<W: World, T: Attempts<W> + Drop, A: Allocator, J: Naming> Model for Locked<
 }
 
 impl<W: World, T: Attempts<W> + Drop, A: Allocator, J: Naming> Locked<W, T, A, J> {
-    /// Tests whether the pass may start a request: not after `stop`, and not before the history has come to its floor.
-    /// How long the history is.
-    pub(crate) fn admit(
+    /// Starts the request, of which `kept` is a copy. What is pending then.
+    pub(crate) fn start(
         &mut self,
         number: u32,
         floor: u64,
         end: &mut Far<Account>,
-    ) -> Result<u32, CallFault>
+        request: Request,
+        kept: Request,
+    ) -> Result<Pending, CallFault>
+        requires lane { HasName J.names number end.old.name }
+        requires free { end.old.value.pending ≡ None }
+        requires kept { kept ≡ request }
+        ensures name { end.new.name ≡ end.old.name }
+        ensures request { IfOk result (λ s. s.request ≡ request) }
+        ensures floor { IfOk result (λ s. floor ≤ s.since + 1) }
+        ensures pending { IfOk result (λ s. end.new.value ≡ account (Some s) end.old.value.told) }
+        ensures err { OnErr result (end.new.value ≡ end.old.value) }
+        ensures why { IfErr result (IsLawful floor end.old.value.told) }
+    {
+        let since = match self.admit(number, floor, end) {
+            Ok(since) => since,
+            Err(fault) => {
+                drop(request);
+                drop(kept);
+                return Err(fault);
+            }
+        };
+        let pending = Pending {
+            request: kept,
+            since,
+        };
+        match self.begin(number, end, request, &pending) {
+            Ok(()) => Ok(pending),
+            Err(fault) => {
+                drop(pending);
+                Err(CallFault::Start(fault))
+            }
+        }
+    }
+
+    /// Tests whether the pass may start a request: not after `stop`, and not before the history has come to its floor.
+    /// How long the history is.
+    fn admit(&mut self, number: u32, floor: u64, end: &mut Far<Account>) -> Result<u32, CallFault>
         requires lane { HasName J.names number end.old.name }
         ensures same { self.new ≡ self.old }
         ensures end { (end.new.name ≡ end.old.name) × (end.new.value ≡ end.old.value) }
@@ -70,7 +105,7 @@ impl<W: World, T: Attempts<W> + Drop, A: Allocator, J: Naming> Locked<W, T, A, J
     }
 
     /// Starts a request of a pass that has none pending.
-    pub(crate) fn begin(
+    fn begin(
         &mut self,
         number: u32,
         end: &mut Far<Account>,

@@ -1,4 +1,4 @@
-ghost use Rattle.std.specs.Prelude.{◌≡◌, ◌+◌, ◌≤◌, Some, None, IfOk, OnOk, OnErr, IfErr, IfSome};
+ghost use Rattle.std.specs.Prelude.{◌≡◌, ◌+◌, ◌<◌, ◌≤◌, vec_capacity, vec_len, Some, None, IfOk, OnOk, OnErr, IfErr, IfSome};
 ghost use Rattle.eden_shared.specs.Accounts.{account};
 ghost use Rattle.eden_shared.specs.Answers.{after_answer};
 ghost use Rattle.eden_shared.specs.Lanes.{HasName};
@@ -25,6 +25,22 @@ pub struct Shared<W: World, T: Attempts<W> + Drop, A: Allocator, J: Naming> {
     pub(crate) fetchers: Condvar,
 }
 
+/// A copy of the request, which is told with its reply, and room to tell it. The only error is want of memory.
+fn keep(alloc: Global, told: &mut Vec<Told>, request: &Request) -> Result<Request, CallFault>
+    ensures kept { IfOk result (λ kept. kept ≡ request.now) }
+    ensures same { told.new.items ≡ told.old.items }
+    ensures room { OnOk result (vec_len told.new < vec_capacity told.new) }
+    ensures err { IfErr result (λ fault. fault ≡ CallFault.Start StartFault.Memory) }
+{
+    if told.reserve(1).is_err() {
+        return Err(CallFault::Start(StartFault::Memory));
+    }
+    match request.copy(alloc) {
+        Ok(kept) => Ok(kept),
+        Err(_) => Err(CallFault::Start(StartFault::Memory)),
+    }
+}
+
 impl<W: World, T: Attempts<W> + Drop, A: Allocator, J: Naming> Shared<W, T, A, J> {
     /// Starts the request, of which `kept` is a copy. What is pending then.
     fn start<R: Wait>(
@@ -46,14 +62,7 @@ impl<W: World, T: Attempts<W> + Drop, A: Allocator, J: Naming> Shared<W, T, A, J
         ensures err { OnErr result (end.new.value ≡ end.old.value) }
         ensures why { IfErr result (IsLawful floor end.old.value.told) }
     {
-        let mut locked = self.lock.lock(rt);
-        let since = locked.admit(number, floor, end)?;
-        let pending = Pending {
-            request: kept,
-            since,
-        };
-        locked.begin(number, end, request, &pending)?;
-        Ok(pending)
+        self.lock.lock(rt).start(number, floor, end, request, kept)
     }
 
     /// Tries until the pending request is answered, and waits between two tries.
@@ -88,12 +97,7 @@ impl<W: World, T: Attempts<W> + Drop, A: Allocator, J: Naming> Shared<W, T, A, J
         ensures err { OnErr result (pass.new ≡ pass.old) }
         ensures why { IfErr result (IsLawful pass.old.floor pass.old.told) }
     {
-        let Ok(kept) = request.copy(self.alloc) else {
-            return Err(CallFault::Start(StartFault::Memory));
-        };
-        if pass.told.reserve(1).is_err() {
-            return Err(CallFault::Start(StartFault::Memory));
-        }
+        let kept = keep(self.alloc, &mut pass.told, &request)?;
         let pending = self.start(rt, pass.number, pass.floor, &mut pass.end, request, kept)?;
         let answer = self.wait_for(rt, pass.number, &mut pass.end);
         pass.floor = u64::from(answer.number) + 1;

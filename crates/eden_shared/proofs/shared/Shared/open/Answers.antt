@@ -1,8 +1,6 @@
-use Rattle.std.proofs.Common.{◌≡◌, ◌∙◌, [], ℕ, suc, ap, sym, subst, replicate, None, Some, length, arith}
+use Rattle.std.proofs.Common.{◌≡◌, ◌∙◌, ℕ, suc, ap, sym, subst, replicate, None, Some, arith}
 use Rattle.std.specs.Prelude.{slice_index_or}
-use Rattle.std.proofs.lemmas.List.{length-map}
-use Rattle.eden_shared.specs.declared.lanes.Lane.{Lane}
-use Rattle.eden_shared.specs.Accounts.{account, accounts}
+use Rattle.eden_shared.specs.Accounts.{accounts}
 use Rattle.eden_shared.specs.Passes.{newcomers}
 use Rattle.eden_shared.proofs.Opened.{accounts_fresh, all_free, as_named}
 use Rattle.eden_shared.proofs.shared.Shared.open.Goals as goal

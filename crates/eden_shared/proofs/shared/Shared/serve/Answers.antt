@@ -12,7 +12,7 @@ pub invariant_of-pass-2 : goal.invariant_of-pass-2
 invariant_of-pass-2 g c =
     let here = c.pass.inside in let p = c.in_ok-pending.pending in let a = c.wait_for-answer.result in let began = c.in_ok-pending.ensures in
     let items : c.push_reserved.new.self.items ≡ here.told.items ++ told a.number p.request a.reply ∷ [] = c.push_reserved.ensures.items ∙ ap
-    (λ l. l ++ told a.number p.request a.reply ∷ []) c.reserve.ensures.items in
+    (λ l. l ++ told a.number p.request a.reply ∷ []) c.keep.ensures.same in
     let known = ap (λ (x : Account). x.told) c.pass.invariant.1 in
     let says = c.wait_for-answer.ensures.account ∙ ap (after_answer a) began.pending ∙ ap (λ l. account None (l ++ told a.number p.request a.reply ∷ [])) known ∙ ap (account None) (sym items) in
     let answers : AnswersTo g.W.World.honest g.W.World.opening here.number a p = subst
@@ -29,7 +29,7 @@ pub returns-clause-ok : goal.returns-clause-ok
 returns-clause-ok g c =
     let here = c.pass.inside in let p = c.in_ok-pending.pending in let a = c.wait_for-answer.result in let began = c.in_ok-pending.ensures in
     let items : c.push_reserved.new.self.items ≡ here.told.items ++ told a.number p.request a.reply ∷ [] = c.push_reserved.ensures.items ∙ ap
-    (λ l. l ++ told a.number p.request a.reply ∷ []) c.reserve.ensures.items in
+    (λ l. l ++ told a.number p.request a.reply ∷ []) c.keep.ensures.same in
     let answers : AnswersTo g.W.World.honest g.W.World.opening here.number a p = subst
     (λ (x : Account). IfSome x.pending (AnswersTo g.W.World.honest g.W.World.opening here.number a)) began.pending c.wait_for-answer.ensures.answers in
     let after : Carried = carried here.number (c.from.result + 1) c.push_reserved.new.self.items in

@@ -5,7 +5,7 @@ use Rattle.eden_mount.specs.Core.{Core, IsFree, pending_count, taken_room}
 use Rattle.eden_mount.specs.Kept.{IsHeld, core_from}
 use Rattle.eden_mount.proofs.SeatLemmas.{count_taken}
 use Rattle.eden_mount.proofs.Keeping.{start_keeps}
-use Rattle.eden_mount.proofs.mount.Mount.start.Goals as goal
+use Rattle.eden_mount.proofs.mount.Mount.take_seat.Goals as goal
 
 pub invariant_of-self-2 : goal.invariant_of-self-2
 invariant_of-self-2 g c =
@@ -17,10 +17,10 @@ invariant_of-self-2 g c =
     let m = core_from a.table a.imports a.seats.items a.history.items a.limit in
     let s : Pending = record { request = c.args.request; since = c.len-since.result } in
     let May : Core g.row.T.Denot → Type 0 = λ n. IsFree pass n × (taken_room n < n.limit) in
-    let may : May m = subst May (sym c.self.view_is) c.in_ok-pending.ensures.admitted in
+    let may : May m = subst May (sym c.self.view_is) (c.requires.free, c.requires.room) in
     let seats : length a.seats.items ≡ a.imports.passes = c.self.invariant.0.seats in
     let within : pass - 1 < length a.seats.items = omega (arith, seats, may.0.0.0, may.0.0.1) in
-    let counted : c.in_ok-pending.pending ≡ pending_count a.seats.items = c.in_ok-pending.ensures.pending ∙ ap (λ (n : Core g.row.T.Denot). pending_count n.seats) (sym c.self.view_is) in
+    let counted : c.args.pending ≡ pending_count a.seats.items = c.requires.pending ∙ ap (λ (n : Core g.row.T.Denot). pending_count n.seats) (sym c.self.view_is) in
     let more = count_taken a.seats.items (pass - 1) s within may.0.1 in
     let Held : List (Option Pending) → Type 0 = λ xs. IsHeld A honest opening (vec_capacity c.reserve.new.self) (core_from a.table a.imports xs c.reserve.new.self.items a.limit) in
     subst Held (sym c.occupy.ensures) (
