@@ -6,7 +6,7 @@ use eden_model::{Errno, Fault, Key};
 use std::alloc::AllocError;
 
 /// How the walk over the directories above a path ends.
-#[derive(Clone, Copy, Debug, PartialEq, Eq)]
+#[derive(Clone, Copy, PartialEq, Eq)]
 pub enum Walked {
     /// Each of them is a loaded directory.
     Through,
@@ -19,7 +19,7 @@ pub enum Walked {
 }
 
 /// Why a walk ends before its path does.
-#[derive(Clone, Copy, Debug)]
+#[derive(Clone, Copy)]
 pub(crate) enum Stop {
     Errs(Errno),
     Needs(Key),
