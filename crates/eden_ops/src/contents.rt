@@ -17,7 +17,7 @@ use eden_overlay::Files;
 use std::alloc::{AllocError, Allocator, Global};
 
 /// What is made of a content.
-#[derive(Clone, Copy, Debug)]
+#[derive(Clone, Copy)]
 pub(crate) enum Form<'a> {
     /// Its bytes from an offset on, at most so many.
     Part(u64, u64),
