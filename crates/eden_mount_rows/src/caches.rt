@@ -6,11 +6,10 @@ use eden_cache::{BYTES_LIMIT, OBJECTS_LIMIT, ObjectCache, SIZES_LIMIT};
 use eden_model::{Id, Key, ObjKind};
 use eden_object::{Object, check};
 use linked_list_allocator::LocalHeap;
-use std::alloc::{AllocError, Allocator, Global};
+use std::alloc::{Allocator, Global};
 use std::process::Abort;
-use std::test::Fail;
 
-#[derive(Clone, Copy, Debug, PartialEq, Eq)]
+#[derive(Clone, Copy)]
 enum Sample {
     Version1,
     Version2,
@@ -57,13 +56,11 @@ impl Sample {
     }
 
     /// The object, checked.
-    fn object(self, rt: &impl Abort, alloc: Global) -> Result<Object, AllocError> {
+    fn object(self, rt: &impl Abort, alloc: Global) -> Object {
         let key = self.key();
-        let framed = Vec::from_slice(alloc, self.framed())?;
-        match check(key.id, key.kind, framed.as_slice()) {
-            Ok(()) => Ok(Object::new(key.kind, framed)),
-            Err(cause) => panic!(rt; "{self:?} is refused: {cause:?}"),
-        }
+        let framed = Vec::from_slice(alloc, self.framed()).expect(rt, "memory");
+        check(key.id, key.kind, framed.as_slice()).expect(rt, "an object");
+        Object::new(key.kind, framed)
     }
 }
 
@@ -73,13 +70,13 @@ fn put<A: Allocator + Clone>(
     alloc: Global,
     cache: &mut ObjectCache<A>,
     sample: Sample,
-) -> Result<Result<(), Object>, AllocError> {
-    let object = sample.object(rt, alloc)?;
+) -> Result<(), Object> {
+    let object = sample.object(rt, alloc);
     let key = Key {
         kind: object.kind(),
         id: sample.key().id,
     };
-    Ok(cache.put(key, object))
+    cache.put(key, object)
 }
 
 #[derive(Clone, Copy)]
@@ -102,7 +99,7 @@ struct Row {
     weight: u64,
 }
 
-const ROWS: [Row; 3] = [
+static ROWS: [Row; 3] = [
     // Too heavy for the bound, it is alone.
     Row {
         entries: 2,
@@ -140,15 +137,11 @@ fn take_step<A: Allocator + Clone>(
     alloc: Global,
     cache: &mut ObjectCache<A>,
     step: Step,
-) -> Result<(), AllocError> {
+) {
     match step {
-        Put(sample) => {
-            let refused = put(rt, alloc, cache, sample)?.is_err();
-            assert!(rt; !refused);
-        }
+        Put(sample) => assert!(rt; put(rt, alloc, cache, sample).is_ok()),
         Get(sample) => assert!(rt; holds(rt, cache, sample)),
     }
-    Ok(())
 }
 
 /// Whether the object is there, with its bytes.
@@ -171,11 +164,10 @@ fn take_steps<A: Allocator + Clone>(
     alloc: Global,
     cache: &mut ObjectCache<A>,
     steps: &[Step],
-) -> Result<(), AllocError> {
+) {
     for step in steps {
-        take_step(rt, alloc, cache, *step)?;
+        take_step(rt, alloc, cache, *step);
     }
-    Ok(())
 }
 
 /// Whether each sample is there that has to be, and no other.
@@ -206,23 +198,27 @@ fn keeps_these<A: Allocator + Clone>(
 }
 
 /// An empty cache of the row's bounds.
-fn cache_of(rt: &impl Abort, alloc: Global, row: &Row) -> Result<ObjectCache<Global>, AllocError> {
+fn cache_of(rt: &impl Abort, alloc: Global, row: &Row) -> ObjectCache<Global> {
     assert!(rt; 1 <= row.entries && row.entries <= OBJECTS_LIMIT);
     assert!(rt; 1 <= row.bytes && row.bytes <= BYTES_LIMIT);
     assert!(rt; 1 <= row.sizes && row.sizes <= SIZES_LIMIT);
-    ObjectCache::new(alloc, row.entries, row.bytes, row.sizes)
+    ObjectCache::new(alloc, row.entries, row.bytes, row.sizes).expect(rt, "memory")
+}
+
+/// Takes the row's steps: then the cache is as the row says.
+fn try_row(rt: &impl Abort, alloc: Global, row: &Row) {
+    let mut cache = cache_of(rt, alloc, row);
+    take_steps(rt, alloc, &mut cache, row.steps);
+    assert!(rt; cache.usage().bytes == row.weight);
+    assert!(rt; holds_these(rt, &mut cache, &row.objects));
+    assert!(rt; keeps_these(&mut cache, &row.lengths));
 }
 
 #[test]
-fn what_was_used_last_stays(rt: HostRuntime) -> Result<(), Fail> {
+fn what_was_used_last_stays(rt: HostRuntime) {
     for row in &ROWS {
-        let mut cache = cache_of(&rt, rt.alloc(), row)?;
-        take_steps(&rt, rt.alloc(), &mut cache, row.steps)?;
-        assert!(rt; cache.usage().bytes == row.weight);
-        assert!(rt; holds_these(&rt, &mut cache, &row.objects));
-        assert!(rt; keeps_these(&mut cache, &row.lengths));
+        try_row(&rt, rt.alloc(), row);
     }
-    Ok(())
 }
 
 /// How far the samples went into a cache over a small heap: how many until one was refused, and how many lengths found
@@ -233,22 +229,32 @@ struct Reached {
     lengths_left_out: usize,
 }
 
-/// Whether a put found memory. A refused one hands the object back, and changes nothing.
+/// A refused put handed the object back, and changed nothing.
+fn check_refused<A: Allocator + Clone>(
+    rt: &impl Abort,
+    cache: &mut ObjectCache<A>,
+    sample: Sample,
+    back: &Object,
+) {
+    assert!(rt; sample.framed().ends_with(back.body()));
+    assert!(rt; !holds(rt, cache, sample));
+    assert!(rt; cache.size_of(sample.key().id).is_none());
+}
+
+/// Whether a put found memory. A refused one changes nothing.
 fn finds_memory<A: Allocator + Clone>(
     rt: &impl Abort,
     alloc: Global,
     cache: &mut ObjectCache<A>,
     sample: Sample,
-) -> Result<bool, AllocError> {
+) -> bool {
     let usage = cache.usage();
-    match put(rt, alloc, cache, sample)? {
-        Ok(()) => Ok(true),
+    match put(rt, alloc, cache, sample) {
+        Ok(()) => true,
         Err(object) => {
-            assert!(rt; sample.framed().ends_with(object.body()));
             assert!(rt; cache.usage() == usage);
-            assert!(rt; !holds(rt, cache, sample));
-            assert!(rt; cache.size_of(sample.key().id).is_none());
-            Ok(false)
+            check_refused(rt, cache, sample, &object);
+            false
         }
     }
 }
@@ -263,21 +269,21 @@ fn fill<A: Allocator + Clone>(
     rt: &impl Abort,
     alloc: Global,
     cache: &mut ObjectCache<A>,
-) -> Result<Reached, AllocError> {
+) -> Reached {
     let mut reached = Reached {
         stored: 0,
         lengths_left_out: 0,
     };
     for sample in SAMPLES {
-        if !finds_memory(rt, alloc, cache, sample)? {
-            return Ok(reached);
+        if !finds_memory(rt, alloc, cache, sample) {
+            return reached;
         }
         reached.stored = reached.stored.saturating_add(1);
         if lacks_length(cache, sample) {
             reached.lengths_left_out = reached.lengths_left_out.saturating_add(1);
         }
     }
-    Ok(reached)
+    reached
 }
 
 /// Puts the samples until one is refused. Those before it are there.
@@ -285,23 +291,19 @@ fn fill_and_look<A: Allocator + Clone>(
     rt: &impl Abort,
     alloc: Global,
     cache: &mut ObjectCache<A>,
-) -> Result<Reached, AllocError> {
-    let reached = fill(rt, alloc, cache)?;
+) -> Reached {
+    let reached = fill(rt, alloc, cache);
     for sample in SAMPLES.iter().take(reached.stored) {
         assert!(rt; holds(rt, cache, *sample));
     }
-    Ok(reached)
+    reached
 }
 
 /// What a heap of that size has room for; none if it is not even that for an empty cache.
-fn fill_heap(
-    rt: &impl Abort,
-    alloc: Global,
-    heap: &LocalHeap,
-) -> Result<Option<Reached>, AllocError> {
+fn fill_heap(rt: &impl Abort, alloc: Global, heap: &LocalHeap) -> Option<Reached> {
     match ObjectCache::new(heap, 5, 100, 5) {
-        Err(AllocError) => Ok(None),
-        Ok(mut cache) => Ok(Some(fill_and_look(rt, alloc, &mut cache)?)),
+        Err(_) => None,
+        Ok(mut cache) => Some(fill_and_look(rt, alloc, &mut cache)),
     }
 }
 
@@ -324,35 +326,35 @@ impl Met {
 }
 
 /// What a heap of so many bytes has room for. It is given back whole.
-fn reached_in(rt: &impl Abort, alloc: Global, bytes: usize) -> Result<Option<Reached>, AllocError> {
-    let heap = LocalHeap::new(alloc, bytes)?;
-    let reached = fill_heap(rt, alloc, &heap)?;
+fn reached_in(rt: &impl Abort, alloc: Global, bytes: usize) -> Option<Reached> {
+    let heap = LocalHeap::new(alloc, bytes).expect(rt, "memory");
+    let reached = fill_heap(rt, alloc, &heap);
     assert!(rt; heap.used() == 0);
-    Ok(reached)
+    reached
 }
 
 #[test]
-fn each_refused_put_hands_the_object_back(rt: HostRuntime) -> Result<(), Fail> {
+fn each_refused_put_hands_the_object_back(rt: HostRuntime) {
     let mut met = Met {
         refused: [false; 5],
         left_out: false,
         all: false,
     };
     for blocks in 0..256usize {
-        if let Some(reached) = reached_in(&rt, rt.alloc(), blocks * 16)? {
+        if let Some(reached) = reached_in(&rt, rt.alloc(), blocks * 16) {
             met.note(reached);
         }
     }
     assert!(rt; met.refused == [true; 5]);
     assert!(rt; met.left_out && met.all);
-    Ok(())
 }
 
 /// The blob of these framed bytes.
-fn blob(alloc: Global, framed: &[u8]) -> Result<Object, AllocError>
+fn blob(rt: &impl Abort, alloc: Global, framed: &[u8]) -> Object
     requires { IsFramed Blob framed.now }
 {
-    Ok(Object::new(ObjKind::Blob, Vec::from_slice(alloc, framed)?))
+    let framed = Vec::from_slice(alloc, framed).expect(rt, "memory");
+    Object::new(ObjKind::Blob, framed)
 }
 
 /// The id of that number.
@@ -371,19 +373,17 @@ fn put_many<A: Allocator + Clone>(
     cache: &mut ObjectCache<A>,
     count: usize,
     framed: &[u8],
-) -> Result<(), AllocError>
+)
     requires { IsFramed Blob framed.now }
 {
     for number in 0..count {
-        let object = blob(alloc, framed)?;
+        let object = blob(rt, alloc, framed);
         let key = Key {
             kind: object.kind(),
             id: numbered(number),
         };
-        let refused = cache.put(key, object).is_err();
-        assert!(rt; !refused);
+        assert!(rt; cache.put(key, object).is_ok());
     }
-    Ok(())
 }
 
 /// Whether the blob and the length of that number are there, or neither is.
@@ -397,15 +397,15 @@ fn keeps<A: Allocator + Clone>(cache: &mut ObjectCache<A>, number: usize, there:
 }
 
 #[test]
-fn a_full_cache_lets_the_oldest_go(rt: HostRuntime) -> Result<(), Fail> {
-    let mut cache = ObjectCache::new(rt.alloc(), OBJECTS_LIMIT, BYTES_LIMIT, SIZES_LIMIT)?;
+fn a_full_cache_lets_the_oldest_go(rt: HostRuntime) {
+    let cache = ObjectCache::new(rt.alloc(), OBJECTS_LIMIT, BYTES_LIMIT, SIZES_LIMIT);
+    let mut cache = cache.expect(&rt, "memory");
     let framed = Version1.framed();
     assert!(rt; check(Version1.key().id, ObjKind::Blob, framed).is_ok());
-    put_many(&rt, rt.alloc(), &mut cache, OBJECTS_LIMIT + 1, framed)?;
+    put_many(&rt, rt.alloc(), &mut cache, OBJECTS_LIMIT + 1, framed);
     assert!(rt; cache.usage().objects == OBJECTS_LIMIT);
     assert!(rt; cache.usage().sizes == SIZES_LIMIT);
     for number in 0..OBJECTS_LIMIT + 1 {
         assert!(rt; keeps(&mut cache, number, number > 0));
     }
-    Ok(())
 }

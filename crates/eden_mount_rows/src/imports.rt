@@ -2,7 +2,6 @@ use eden_import::{FLIGHTS_LIMIT, Imports, PASSES_LIMIT, Wanted};
 use eden_model::{Cause, Id, Key, ObjKind};
 use std::alloc::Global;
 use std::process::Abort;
-use std::test::Fail;
 
 /// A call, and what it must answer. Keys are told apart by a number.
 enum Call {
@@ -115,7 +114,7 @@ fn make(rt: &impl Abort, imports: &mut Imports<Global>, call: &Call) -> bool {
     }
 }
 
-const JOINED_AND_FAILED: [Call; 16] = [
+static JOINED_AND_FAILED: [Call; 16] = [
     Call::Want(1, 1, Wanted::Queued),
     Call::Want(2, 2, Wanted::Queued),
     Call::Want(1, 3, Wanted::Joined),
@@ -134,18 +133,22 @@ const JOINED_AND_FAILED: [Call; 16] = [
     Call::Take(None),
 ];
 
-#[test]
-fn joined_and_failed(rt: HostRuntime) -> Result<(), Fail> {
-    let mut imports = Imports::new(rt.alloc(), 3, 1)?;
-    assert!(rt; imports.passes() == 3 && imports.flights() == 1);
-    for call in JOINED_AND_FAILED.iter() {
-        assert!(rt; make(&rt, &mut imports, call));
+/// Makes the calls: each must answer what it says.
+fn make_each(rt: &impl Abort, imports: &mut Imports<Global>, calls: &[Call]) {
+    for (at, call) in calls.iter().enumerate() {
+        assert!(rt; make(rt, imports, call), "at {at}");
     }
-    Ok(())
+}
+
+#[test]
+fn joined_and_failed(rt: HostRuntime) {
+    let mut imports = Imports::new(rt.alloc(), 3, 1).expect(&rt, "memory");
+    assert!(rt; imports.passes() == 3 && imports.flights() == 1);
+    make_each(&rt, &mut imports, &JOINED_AND_FAILED);
 }
 
 /// What the turns of passes do to the queue.
-const AWAITED: [Call; 22] = [
+static AWAITED: [Call; 22] = [
     Call::Await(1, 1, Wanted::Queued),
     Call::Await(2, 64, Wanted::Queued),
     Call::Await(5, 3, Wanted::Queued),
@@ -175,10 +178,8 @@ const AWAITED: [Call; 22] = [
 ];
 
 #[test]
-fn awaited(rt: HostRuntime) -> Result<(), Fail> {
-    let mut imports = Imports::new(rt.alloc(), PASSES_LIMIT, FLIGHTS_LIMIT)?;
-    for call in AWAITED.iter() {
-        assert!(rt; make(&rt, &mut imports, call));
-    }
-    Ok(())
+fn awaited(rt: HostRuntime) {
+    let imports = Imports::new(rt.alloc(), PASSES_LIMIT, FLIGHTS_LIMIT);
+    let mut imports = imports.expect(&rt, "memory");
+    make_each(&rt, &mut imports, &AWAITED);
 }

@@ -11,9 +11,8 @@ use eden_mount::{Arrived, Config, Event, Local, Mount, Outcome, Room, Turned};
 use eden_samples::EMPTY_BLOB;
 use eden_source::MemorySource;
 use shelf::{Shelf, UNLOADED};
-use std::alloc::{AllocError, Global};
+use std::alloc::Global;
 use std::process::Abort;
-use std::test::Fail;
 
 /// An event, of the one key. `Start` asks for what needs it, `StartRoot` for what needs nothing.
 #[derive(Clone, Copy)]
@@ -139,27 +138,31 @@ fn mount(rt: &impl Abort, alloc: Global, history: u32, wide: bool) -> Mount<Outs
     Mount::new(room, Shelf::new(key(), wide))
 }
 
+fn events_of(rt: &impl Abort, alloc: Global, rows: &[(Call, Answer)]) -> Vec<Event> {
+    let mut events = Vec::new(alloc);
+    for (call, _) in rows {
+        events.push(event(rt, alloc, call)).expect(rt, "memory");
+    }
+    events
+}
+
 /// Makes the events happen at once: each answer must be the one beside it.
 fn run(
     rt: &impl Abort,
     alloc: Global,
     mount: &mut Mount<Outside, Shelf, Global>,
     rows: &[(Call, Answer)],
-) -> Result<(), AllocError> {
-    let mut events = Vec::new(alloc);
-    for (call, _) in rows {
-        events.push(event(rt, alloc, call))?;
-    }
-    let outcomes = mount.run(events)?;
+) {
+    let events = events_of(rt, alloc, rows);
+    let outcomes = mount.run(events).expect(rt, "memory");
     assert!(rt; outcomes.len() == rows.len());
     for (index, outcome) in outcomes.iter().enumerate() {
         assert!(rt; is_answer(&rows[index].1, outcome), "at {index}");
     }
-    Ok(())
 }
 
 /// A failure is told to those who wait for the key then, where they still need it.
-const FAILURES: [(Call, Answer); 29] = [
+static FAILURES: [(Call, Answer); 29] = [
     (Start(0), Not(StartFault::NoPass)),
     (Start(4), Not(StartFault::NoPass)),
     (Turn(0), Idle),
@@ -195,7 +198,7 @@ const FAILURES: [(Call, Answer); 29] = [
 ];
 
 /// An object that finds no memory fails; the history has a limit.
-const NARROW: [(Call, Answer); 12] = [
+static NARROW: [(Call, Answer); 12] = [
     (StartRoot(1), Began),
     (Turn(1), IsRoot(1)),
     (Arrive(b"blob 0\0"), Arrives(Arrived::Stray)),
@@ -214,21 +217,19 @@ const NARROW: [(Call, Answer); 12] = [
 ];
 
 #[test]
-fn failures_are_told(rt: HostRuntime) -> Result<(), Fail> {
+fn failures_are_told(rt: HostRuntime) {
     let mut mount = mount(&rt, rt.alloc(), 9, true);
-    run(&rt, rt.alloc(), &mut mount, FAILURES.as_slice())?;
+    run(&rt, rt.alloc(), &mut mount, &FAILURES);
     assert!(rt; mount.history().len() == 4 && mount.busy().is_none());
     assert!(rt; mount.into_table().turns == 11);
-    Ok(())
 }
 
 #[test]
-fn histories_are_full(rt: HostRuntime) -> Result<(), Fail> {
+fn histories_are_full(rt: HostRuntime) {
     let mut mount = mount(&rt, rt.alloc(), 3, false);
-    run(&rt, rt.alloc(), &mut mount, NARROW.as_slice())?;
+    run(&rt, rt.alloc(), &mut mount, &NARROW);
     assert!(rt; mount.busy() == Some(2));
     assert!(rt; mount.into_table().turns == 3);
-    Ok(())
 }
 
 /// One caller over a source that has these bytes under the one key.

@@ -1,13 +1,12 @@
 // The ids that Git gives, and what each test of `check` refuses.
-ghost use Rattle.std.specs.Prelude.{◌≡◌, IfOk};
+ghost use Rattle.std.specs.Prelude.{◌≡◌};
 
 use eden_object::{
     Cause, Id, Key, Mode, Name, ObjKind, Object, TreeEntry, check, decode_blob, decode_tree,
     encode_blob, encode_tree, id_of, is_encodable, parse_id,
 };
-use std::alloc::{AllocError, Global};
+use std::alloc::Global;
 use std::process::Abort;
-use std::test::Fail;
 
 const EMPTY_BLOB: [u8; 20] = [
     0xe6, 0x9d, 0xe2, 0x9b, 0xb2, 0xd1, 0xd6, 0x43, 0x4b, 0x8b, 0x29, 0xae, 0x77, 0x5a, 0xd8, 0xc2,
@@ -49,37 +48,66 @@ const TREE_B: [u8; 20] = [
     0x41, 0xb0, 0xe6, 0x14,
 ];
 
-fn is_object(rt: &impl Abort, id: [u8; 20], kind: ObjKind, framed: &[u8]) {
-    let id = Id { bytes: id };
-    assert_eq!(rt; id_of(framed), id);
-    assert_eq!(rt; check(id, kind, framed), Ok(()));
+/// An object of Git: its id, its kind and its framed bytes.
+struct Known {
+    id: [u8; 20],
+    kind: ObjKind,
+    framed: &'static [u8],
 }
 
-/// What `check` answers for bytes that are asked for under their own id.
-fn refused(rt: &impl Abort, kind: ObjKind, framed: &[u8], cause: Cause) {
-    assert_eq!(rt; check(id_of(framed), kind, framed), Err(cause));
+static KNOWN: [Known; 8] = [
+    Known {
+        id: EMPTY_BLOB,
+        kind: ObjKind::Blob,
+        framed: b"blob 0\0",
+    },
+    Known {
+        id: HELLO,
+        kind: ObjKind::Blob,
+        framed: b"blob 6\0hello\n",
+    },
+    Known {
+        id: VERSION_1,
+        kind: ObjKind::Blob,
+        framed: b"blob 10\0version 1\n",
+    },
+    Known {
+        id: VERSION_2,
+        kind: ObjKind::Blob,
+        framed: b"blob 10\0version 2\n",
+    },
+    Known {
+        id: NEW_FILE,
+        kind: ObjKind::Blob,
+        framed: b"blob 9\0new file\n",
+    },
+    Known {
+        id: EMPTY_TREE,
+        kind: ObjKind::Tree,
+        framed: b"tree 0\0",
+    },
+    Known {
+        id: TREE_A,
+        kind: ObjKind::Tree,
+        framed: b"tree 36\0100644 test.txt\0\x83\xba\xaea\x80Ne\xccs\xa7 \x1arRu\x0cv\x06j0",
+    },
+    Known {
+        id: TREE_B,
+        kind: ObjKind::Tree,
+        framed: b"tree 101\040000 bak\0\xd82\x9f\xc1\xcc\x93\x87\x80\xff\xdd\x9f\x94\xe0\xd3d\xe0\xeat\xf5y100644 new.txt\0\xfaI\xb0w\x97#\x91\xadX\x03pP\xf2\xa7_t\xe3g\x1e\x92100644 test.txt\0\x1fzzG*\xbf=\xd9d?\xd6\x15\xf6\xda7\x9cJ\xcb>:",
+    },
+];
+
+fn is_known(known: &Known) -> bool {
+    let id = Id { bytes: known.id };
+    id_of(known.framed) == id && check(id, known.kind, known.framed) == Ok(())
 }
 
 #[test]
 fn objects_of_git(rt: HostRuntime) {
-    is_object(&rt, EMPTY_BLOB, ObjKind::Blob, b"blob 0\0");
-    is_object(&rt, HELLO, ObjKind::Blob, b"blob 6\0hello\n");
-    is_object(&rt, VERSION_1, ObjKind::Blob, b"blob 10\0version 1\n");
-    is_object(&rt, VERSION_2, ObjKind::Blob, b"blob 10\0version 2\n");
-    is_object(&rt, NEW_FILE, ObjKind::Blob, b"blob 9\0new file\n");
-    is_object(&rt, EMPTY_TREE, ObjKind::Tree, b"tree 0\0");
-    is_object(
-        &rt,
-        TREE_A,
-        ObjKind::Tree,
-        b"tree 36\0100644 test.txt\0\x83\xba\xaea\x80Ne\xccs\xa7 \x1arRu\x0cv\x06j0",
-    );
-    is_object(
-        &rt,
-        TREE_B,
-        ObjKind::Tree,
-        b"tree 101\040000 bak\0\xd82\x9f\xc1\xcc\x93\x87\x80\xff\xdd\x9f\x94\xe0\xd3d\xe0\xeat\xf5y100644 new.txt\0\xfaI\xb0w\x97#\x91\xadX\x03pP\xf2\xa7_t\xe3g\x1e\x92100644 test.txt\0\x1fzzG*\xbf=\xd9d?\xd6\x15\xf6\xda7\x9cJ\xcb>:",
-    );
+    for (at, known) in KNOWN.iter().enumerate() {
+        assert!(rt; is_known(known), "at {at}");
+    }
 }
 
 #[test]
@@ -89,60 +117,108 @@ fn ids_as_text(rt: HostRuntime) {
     assert_eq!(rt; parse_id("CE013625030ba8dba906f756967f9e9ca394464a"), None);
 }
 
+/// The tree of one file.
+const FRAMED_A: &[u8] =
+    b"tree 36\0100644 test.txt\0\x83\xba\xaea\x80Ne\xccs\xa7 \x1arRu\x0cv\x06j0";
+
+/// Bytes that are asked for under their own id, as what, and why they aren't.
+struct Refused {
+    kind: ObjKind,
+    framed: &'static [u8],
+    cause: Cause,
+}
+
+static REFUSED: [Refused; 10] = [
+    Refused {
+        kind: ObjKind::Blob,
+        framed: FRAMED_A,
+        cause: Cause::WrongKind,
+    },
+    Refused {
+        kind: ObjKind::Blob,
+        framed: b"commit 0\0",
+        cause: Cause::WrongKind,
+    },
+    Refused {
+        kind: ObjKind::Blob,
+        framed: b"blob 3\0hi",
+        cause: Cause::Malformed,
+    },
+    Refused {
+        kind: ObjKind::Blob,
+        framed: b"blob 02\0hi",
+        cause: Cause::Malformed,
+    },
+    Refused {
+        kind: ObjKind::Blob,
+        framed: b"blob 36893488147419103234\0hi",
+        cause: Cause::Malformed,
+    },
+    Refused {
+        kind: ObjKind::Blob,
+        framed: b"blob \0",
+        cause: Cause::Malformed,
+    },
+    Refused {
+        kind: ObjKind::Blob,
+        framed: b"note 2\0hi",
+        cause: Cause::Malformed,
+    },
+    // One byte is cut, and the length is right.
+    Refused {
+        kind: ObjKind::Tree,
+        framed: b"tree 35\0100644 test.txt\0\x83\xba\xaea\x80Ne\xccs\xa7 \x1arRu\x0cv\x06j",
+        cause: Cause::Malformed,
+    },
+    // A file and a directory of one name, with another name between them, as Git would order them.
+    Refused {
+        kind: ObjKind::Tree,
+        framed: b"tree 88\0100644 a\0\x01\x01\x01\x01\x01\x01\x01\x01\x01\x01\x01\x01\x01\x01\x01\x01\x01\x01\x01\x01100644 a-b\0\x02\x02\x02\x02\x02\x02\x02\x02\x02\x02\x02\x02\x02\x02\x02\x02\x02\x02\x02\x0240000 a\0\x03\x03\x03\x03\x03\x03\x03\x03\x03\x03\x03\x03\x03\x03\x03\x03\x03\x03\x03\x03",
+        cause: Cause::Malformed,
+    },
+    Refused {
+        kind: ObjKind::Tree,
+        framed: b"tree 86\0100644 b\0\x01\x01\x01\x01\x01\x01\x01\x01\x01\x01\x01\x01\x01\x01\x01\x01\x01\x01\x01\x01100644 a\0\x02\x02\x02\x02\x02\x02\x02\x02\x02\x02\x02\x02\x02\x02\x02\x02\x02\x02\x02\x0240000 b\0\x03\x03\x03\x03\x03\x03\x03\x03\x03\x03\x03\x03\x03\x03\x03\x03\x03\x03\x03\x03",
+        cause: Cause::Malformed,
+    },
+];
+
+fn is_refused(refused: &Refused) -> bool {
+    check(id_of(refused.framed), refused.kind, refused.framed) == Err(refused.cause)
+}
+
 #[test]
 fn refusals(rt: HostRuntime) {
-    let tree_a = b"tree 36\0100644 test.txt\0\x83\xba\xaea\x80Ne\xccs\xa7 \x1arRu\x0cv\x06j0";
     let id = Id { bytes: HELLO };
-    assert_eq!(rt; check(id, ObjKind::Tree, tree_a), Err(Cause::BadDigest));
-    refused(&rt, ObjKind::Blob, tree_a, Cause::WrongKind);
-    refused(&rt, ObjKind::Blob, b"commit 0\0", Cause::WrongKind);
-    refused(&rt, ObjKind::Blob, b"blob 3\0hi", Cause::Malformed);
-    refused(&rt, ObjKind::Blob, b"blob 02\0hi", Cause::Malformed);
-    refused(
-        &rt,
-        ObjKind::Blob,
-        b"blob 36893488147419103234\0hi",
-        Cause::Malformed,
-    );
-    refused(&rt, ObjKind::Blob, b"blob \0", Cause::Malformed);
-    refused(&rt, ObjKind::Blob, b"note 2\0hi", Cause::Malformed);
-    // One byte is cut, and the length is right.
-    refused(
-        &rt,
-        ObjKind::Tree,
-        b"tree 35\0100644 test.txt\0\x83\xba\xaea\x80Ne\xccs\xa7 \x1arRu\x0cv\x06j",
-        Cause::Malformed,
-    );
-    // A file and a directory of one name, with another name between them, as Git would order them.
-    refused(
-        &rt,
-        ObjKind::Tree,
-        b"tree 88\0100644 a\0\x01\x01\x01\x01\x01\x01\x01\x01\x01\x01\x01\x01\x01\x01\x01\x01\x01\x01\x01\x01100644 a-b\0\x02\x02\x02\x02\x02\x02\x02\x02\x02\x02\x02\x02\x02\x02\x02\x02\x02\x02\x02\x0240000 a\0\x03\x03\x03\x03\x03\x03\x03\x03\x03\x03\x03\x03\x03\x03\x03\x03\x03\x03\x03\x03",
-        Cause::Malformed,
-    );
-    refused(
-        &rt,
-        ObjKind::Tree,
-        b"tree 86\0100644 b\0\x01\x01\x01\x01\x01\x01\x01\x01\x01\x01\x01\x01\x01\x01\x01\x01\x01\x01\x01\x01100644 a\0\x02\x02\x02\x02\x02\x02\x02\x02\x02\x02\x02\x02\x02\x02\x02\x02\x02\x02\x02\x0240000 b\0\x03\x03\x03\x03\x03\x03\x03\x03\x03\x03\x03\x03\x03\x03\x03\x03\x03\x03\x03\x03",
-        Cause::Malformed,
-    );
+    assert_eq!(rt; check(id, ObjKind::Tree, FRAMED_A), Err(Cause::BadDigest));
+    for (at, refused) in REFUSED.iter().enumerate() {
+        assert!(rt; is_refused(refused), "at {at}");
+    }
 }
 
 // Each spelling of a mode, and names against their order.
+const MODES_BODY: &[u8] =
+    b"40000 g\0AAAAAAAAAAAAAAAAAAAA040000 f\0BBBBBBBBBBBBBBBBBBBB100644 e\0CCCCCCCCCCCCCCCCCCCC100664 d\0DDDDDDDDDDDDDDDDDDDD100755 c\0EEEEEEEEEEEEEEEEEEEE120000 b\0FFFFFFFFFFFFFFFFFFFF160000 a\0GGGGGGGGGGGGGGGGGGGG";
+
+/// A mode, the one letter of a name, and the letter of which its id is.
+static MODES: [(Mode, u8, u8); 7] = [
+    (Mode::Dir, b'g', b'A'),
+    (Mode::Dir, b'f', b'B'),
+    (Mode::File, b'e', b'C'),
+    (Mode::File, b'd', b'D'),
+    (Mode::Exec, b'c', b'E'),
+    (Mode::Link, b'b', b'F'),
+    (Mode::Gitlink, b'a', b'G'),
+];
+
 #[test]
-fn every_mode(rt: HostRuntime) -> Result<(), Fail> {
-    let body =
-        b"40000 g\0AAAAAAAAAAAAAAAAAAAA040000 f\0BBBBBBBBBBBBBBBBBBBB100644 e\0CCCCCCCCCCCCCCCCCCCC100664 d\0DDDDDDDDDDDDDDDDDDDD100755 c\0EEEEEEEEEEEEEEEEEEEE120000 b\0FFFFFFFFFFFFFFFFFFFF160000 a\0GGGGGGGGGGGGGGGGGGGG";
-    let entries = decode_tree(rt.alloc(), body)?.ok_or("no tree")?;
+fn every_mode(rt: HostRuntime) {
+    let entries = decode_tree(rt.alloc(), MODES_BODY).expect(&rt, "memory");
+    let entries = entries.expect(&rt, "a tree");
     assert_eq!(rt; entries.len(), 7);
-    is_entry(&rt, &entries[0], Mode::Dir, b'g', b'A');
-    is_entry(&rt, &entries[1], Mode::Dir, b'f', b'B');
-    is_entry(&rt, &entries[2], Mode::File, b'e', b'C');
-    is_entry(&rt, &entries[3], Mode::File, b'd', b'D');
-    is_entry(&rt, &entries[4], Mode::Exec, b'c', b'E');
-    is_entry(&rt, &entries[5], Mode::Link, b'b', b'F');
-    is_entry(&rt, &entries[6], Mode::Gitlink, b'a', b'G');
-    Ok(())
+    for (entry, (mode, name, id)) in entries.iter().zip(MODES.iter()) {
+        assert!(rt; has(entry, *mode, &[*name], [*id; 20]));
+    }
 }
 
 // Whether the entry has that mode, that name and that id.
@@ -150,189 +226,183 @@ fn has(entry: &TreeEntry, mode: Mode, name: &[u8], id: [u8; 20]) -> bool {
     entry.mode == mode && entry.name.as_slice() == name && entry.id.bytes == id
 }
 
-fn is_entry(rt: &impl Abort, entry: &TreeEntry, mode: Mode, name: u8, id: u8) {
-    assert!(rt; has(entry, mode, &[name], [id; 20]));
-}
-
 #[test]
-fn bodies(rt: HostRuntime) -> Result<(), Fail> {
+fn bodies(rt: HostRuntime) {
     assert!(rt; decode_blob(b"blob 6\0hello\n") == Some(b"hello\n".as_slice()));
     assert!(rt; decode_blob(b"tree 0\0") == None);
-    assert!(rt; decode_tree(rt.alloc(), b"100644 a")?.is_none());
-    Ok(())
+    let cut = decode_tree(rt.alloc(), b"100644 a").expect(&rt, "memory");
+    assert!(rt; cut.is_none());
 }
 
 // The object in bytes that are asked for under their own id.
-fn object(alloc: Global, kind: ObjKind, framed: Vec<u8>) -> Result<Object, Cause>
-    ensures { IfOk result (λ object. object.kind ≡ kind) }
+fn object(rt: &impl Abort, alloc: Global, kind: ObjKind, framed: Vec<u8>) -> Object
+    ensures { result.kind ≡ kind }
 {
     let id = id_of(framed.as_slice());
-    Object::checked(alloc, Key { kind, id }, framed)
+    Object::checked(alloc, Key { kind, id }, framed).expect(rt, "an object")
 }
 
 #[test]
-fn contents(rt: HostRuntime) -> Result<(), Fail> {
-    let framed = b"blob 6\0hello\n".to_vec(rt.alloc())?;
+fn contents(rt: HostRuntime) {
+    let framed = b"blob 6\0hello\n".to_vec(rt.alloc()).expect(&rt, "memory");
     assert!(rt; id_of(framed.as_slice()).bytes == HELLO);
-    let hello = object(rt.alloc(), ObjKind::Blob, framed)?;
+    let hello = object(&rt, rt.alloc(), ObjKind::Blob, framed);
     assert!(rt; hello.kind() == ObjKind::Blob);
     assert!(rt; hello.body() == b"hello\n".as_slice());
     assert!(rt; hello.len() == 6);
-    Ok(())
 }
 
-fn push_file(body: &mut Vec<u8>, name: &str) -> Result<(), AllocError> {
-    body.extend_from_slice(b"100644 ")?;
-    body.extend_from_slice(name.as_bytes())?;
-    body.extend_from_slice(&[0])?;
-    body.extend_from_slice(&[0x2a; 20])
+fn put(rt: &impl Abort, to: &mut Vec<u8>, bytes: &[u8]) {
+    to.extend_from_slice(bytes).expect(rt, "memory");
 }
 
-fn header(alloc: Global, len: usize) -> Result<Vec<u8>, AllocError> {
-    let header = format!(in alloc; "tree {len}\0")?;
-    Ok(header.into_bytes())
+fn put_file(rt: &impl Abort, body: &mut Vec<u8>, name: &str) {
+    put(rt, body, b"100644 ");
+    put(rt, body, name.as_bytes());
+    put(rt, body, &[0]);
+    put(rt, body, &[0x2a; 20]);
+}
+
+fn header(rt: &impl Abort, alloc: Global, len: usize) -> Vec<u8> {
+    let header = format!(in alloc; "tree {len}\0").expect(rt, "memory");
+    header.into_bytes()
 }
 
 /// The tree of these names, files of one id, in the order in which they are given.
-fn tree_of(alloc: Global, names: &[&str]) -> Result<Vec<u8>, AllocError> {
+fn tree_of(rt: &impl Abort, alloc: Global, names: &[&str]) -> Vec<u8> {
     let mut body = Vec::new(alloc);
     for name in names {
-        push_file(&mut body, name)?;
+        put_file(rt, &mut body, name);
     }
-    let mut framed = header(alloc, body.len())?;
-    framed.extend_from_slice(body.as_slice())?;
-    Ok(framed)
+    let mut framed = header(rt, alloc, body.len());
+    put(rt, &mut framed, body.as_slice());
+    framed
 }
 
 /// How many entries the tree has, where it is one. What `Object::checked` answers is what `check` answers.
-fn entries_of(
-    rt: &(impl Abort + Alloc<A = Global>),
-    names: &[&str],
-) -> Result<Option<usize>, AllocError> {
-    let framed = tree_of(rt.alloc(), names)?;
+fn entries_of(rt: &impl Abort, alloc: Global, names: &[&str]) -> Option<usize> {
+    let framed = tree_of(rt, alloc, names);
     let id = id_of(framed.as_slice());
     let answer = check(id, ObjKind::Tree, framed.as_slice());
     let key = Key {
         kind: ObjKind::Tree,
         id,
     };
-    match Object::checked(rt.alloc(), key, framed) {
+    match Object::checked(alloc, key, framed) {
         Ok(tree) => {
-            assert_eq!(rt; answer, Ok(()));
-            Ok(Some(tree.entries(rt.alloc())?.len()))
+            assert!(rt; answer == Ok(()));
+            Some(tree.entries(alloc).expect(rt, "memory").len())
         }
         Err(cause) => {
-            assert_eq!(rt; answer, Err(cause));
-            Ok(None)
+            assert!(rt; answer == Err(cause));
+            None
         }
     }
 }
 
 #[test]
-fn trees_in_each_order(rt: HostRuntime) -> Result<(), Fail> {
-    assert_eq!(rt; entries_of(&rt, &["a", "a.b", "b"])?, Some(3));
-    assert_eq!(rt; entries_of(&rt, &["b", "a.b", "a", "c"])?, Some(4));
-    assert_eq!(rt; entries_of(&rt, &["a", "b", "b"])?, None);
-    assert_eq!(rt; entries_of(&rt, &["b", "a", "c", "b"])?, None);
-    Ok(())
+fn trees_in_each_order(rt: HostRuntime) {
+    let alloc = rt.alloc();
+    assert_eq!(rt; entries_of(&rt, alloc, &["a", "a.b", "b"]), Some(3));
+    assert_eq!(rt; entries_of(&rt, alloc, &["b", "a.b", "a", "c"]), Some(4));
+    assert_eq!(rt; entries_of(&rt, alloc, &["a", "b", "b"]), None);
+    assert_eq!(rt; entries_of(&rt, alloc, &["b", "a", "c", "b"]), None);
 }
 
-fn entry(alloc: Global, mode: Mode, name: &str, id: [u8; 20]) -> Result<TreeEntry, Fail> {
-    let name = Name::new(Vec::from_slice(alloc, name.as_bytes())?)?;
-    Ok(TreeEntry {
+fn entry(rt: &impl Abort, alloc: Global, mode: Mode, name: &str, id: [u8; 20]) -> TreeEntry {
+    let name = Vec::from_slice(alloc, name.as_bytes()).expect(rt, "memory");
+    TreeEntry {
         mode,
-        name,
+        name: Name::new(name).expect(rt, "a name"),
         id: Id { bytes: id },
-    })
-}
-
-// The framed tree, where it can be written.
-fn written(alloc: Global, entries: &[TreeEntry]) -> Result<Vec<u8>, Fail> {
-    if is_encodable(alloc, entries)? {
-        Ok(encode_tree(alloc, entries)?)
-    } else {
-        Err(Fail::from("no tree"))
     }
 }
 
+// The framed tree, which can be written.
+fn written(rt: &impl Abort, alloc: Global, entries: &[TreeEntry]) -> Vec<u8> {
+    let is_tree = is_encodable(alloc, entries).expect(rt, "memory");
+    assert!(rt; is_tree);
+    encode_tree(alloc, entries).expect(rt, "memory")
+}
+
+/// A tree's entry: its mode, its name and its id.
+type Row = (Mode, &'static str, [u8; 20]);
+
+fn entries(rt: &impl Abort, alloc: Global, rows: &[Row]) -> Vec<TreeEntry> {
+    let mut entries = Vec::new(alloc);
+    for (mode, name, id) in rows {
+        let entry = entry(rt, alloc, *mode, name, *id);
+        entries.push(entry).expect(rt, "memory");
+    }
+    entries
+}
+
+static TWICE: [Row; 2] = [(Mode::Dir, "a", TREE_A), (Mode::File, "a", VERSION_1)];
+
 #[test]
-fn names_that_come_twice_are_not_written(rt: HostRuntime) -> Result<(), Fail> {
-    let alloc = rt.alloc();
-    let entries = [
-        entry(alloc, Mode::Dir, "a", TREE_A)?,
-        entry(alloc, Mode::File, "a", VERSION_1)?,
-    ];
-    assert!(rt; !is_encodable(alloc, &entries)?);
-    Ok(())
+fn names_that_come_twice_are_not_written(rt: HostRuntime) {
+    let entries = entries(&rt, rt.alloc(), &TWICE);
+    let is_tree = is_encodable(rt.alloc(), entries.as_slice()).expect(&rt, "memory");
+    assert!(rt; !is_tree);
 }
 
 #[test]
-fn written_blobs_of_git(rt: HostRuntime) -> Result<(), Fail> {
-    let blob = encode_blob(rt.alloc(), b"version 1\n")?;
+fn written_blobs_of_git(rt: HostRuntime) {
+    let blob = encode_blob(rt.alloc(), b"version 1\n").expect(&rt, "memory");
     assert!(rt; blob.len() == 18);
     assert!(rt; id_of(blob.as_slice()).bytes == VERSION_1);
-    Ok(())
 }
 
-// The entries of a table.
-fn entries(alloc: Global, table: &[(Mode, &str, [u8; 20])]) -> Result<Vec<TreeEntry>, Fail> {
-    let mut entries = Vec::new(alloc);
-    for (mode, name, id) in table {
-        entries.push(entry(alloc, *mode, name, *id)?)?;
-    }
-    Ok(entries)
-}
+static ENTRIES_A: [Row; 1] = [(Mode::File, "test.txt", VERSION_1)];
 
-const ENTRIES_A: &[(Mode, &str, [u8; 20])] = &[(Mode::File, "test.txt", VERSION_1)];
-
-const ENTRIES_B: &[(Mode, &str, [u8; 20])] = &[
+static ENTRIES_B: [Row; 3] = [
     (Mode::File, "test.txt", VERSION_2),
     (Mode::File, "new.txt", NEW_FILE),
     (Mode::Dir, "bak", TREE_A),
 ];
 
 // Whether that is the length of the tree of these entries, and that its id.
-fn is_written(
-    alloc: Global,
-    table: &[(Mode, &str, [u8; 20])],
-    len: usize,
-    id: [u8; 20],
-) -> Result<bool, Fail> {
-    let framed = written(alloc, entries(alloc, table)?.as_slice())?;
-    Ok(framed.len() == len && id_of(framed.as_slice()).bytes == id)
+fn is_written(rt: &impl Abort, alloc: Global, rows: &[Row], len: usize, id: [u8; 20]) -> bool {
+    let framed = written(rt, alloc, entries(rt, alloc, rows).as_slice());
+    framed.len() == len && id_of(framed.as_slice()).bytes == id
 }
 
 #[test]
-fn written_trees_of_git(rt: HostRuntime) -> Result<(), Fail> {
+fn written_trees_of_git(rt: HostRuntime) {
     let alloc = rt.alloc();
-    assert!(rt; is_written(alloc, &[], 7, EMPTY_TREE)?);
-    assert!(rt; is_written(alloc, ENTRIES_A, 44, TREE_A)?);
-    assert!(rt; is_written(alloc, ENTRIES_B, 110, TREE_B)?);
-    Ok(())
+    assert!(rt; is_written(&rt, alloc, &[], 7, EMPTY_TREE));
+    assert!(rt; is_written(&rt, alloc, &ENTRIES_A, 44, TREE_A));
+    assert!(rt; is_written(&rt, alloc, &ENTRIES_B, 110, TREE_B));
 }
 
 // What is written and read again.
-fn read_again(alloc: Global, entries: &[TreeEntry]) -> Result<Vec<TreeEntry>, Fail> {
-    let framed = written(alloc, entries)?;
-    let tree = object(alloc, ObjKind::Tree, framed)?;
-    Ok(tree.entries(alloc)?)
+fn read_again(rt: &impl Abort, alloc: Global, rows: &[Row]) -> Vec<TreeEntry> {
+    let framed = written(rt, alloc, entries(rt, alloc, rows).as_slice());
+    let tree = object(rt, alloc, ObjKind::Tree, framed);
+    tree.entries(alloc).expect(rt, "memory")
 }
 
-const EACH_MODE: &[(Mode, &str, [u8; 20])] = &[
+static EACH_MODE: [Row; 4] = [
     (Mode::Dir, "a", TREE_A),
     (Mode::Exec, "a.b", VERSION_1),
     (Mode::Link, "c", HELLO),
     (Mode::Gitlink, "b", HELLO),
 ];
 
+/// The same as Git orders them.
+static ORDERED: [Row; 4] = [
+    (Mode::Exec, "a.b", VERSION_1),
+    (Mode::Dir, "a", TREE_A),
+    (Mode::Gitlink, "b", HELLO),
+    (Mode::Link, "c", HELLO),
+];
+
 // `a` and `a.b` as Git orders them, where `a` is a directory. Each mode is written and read.
 #[test]
-fn written_trees_are_read(rt: HostRuntime) -> Result<(), Fail> {
-    let read = read_again(rt.alloc(), entries(rt.alloc(), EACH_MODE)?.as_slice())?;
+fn written_trees_are_read(rt: HostRuntime) {
+    let read = read_again(&rt, rt.alloc(), &EACH_MODE);
     assert!(rt; read.len() == 4);
-    assert!(rt; has(&read[0], Mode::Exec, b"a.b", VERSION_1));
-    assert!(rt; has(&read[1], Mode::Dir, b"a", TREE_A));
-    assert!(rt; has(&read[2], Mode::Gitlink, b"b", HELLO));
-    assert!(rt; has(&read[3], Mode::Link, b"c", HELLO));
-    Ok(())
+    for (entry, (mode, name, id)) in read.iter().zip(ORDERED.iter()) {
+        assert!(rt; has(entry, *mode, name.as_bytes(), *id));
+    }
 }

@@ -12,7 +12,6 @@ use std::alloc::Global;
 use std::marker::Brand;
 use std::process::Abort;
 use std::sync::Wait;
-use std::test::Fail;
 use std::thread::{Threads, join, yield_now};
 
 /// A mount of three passes over a shelf, as it is shared.
@@ -50,31 +49,62 @@ fn learn<J: Naming, R: Wait + Abort>(rt: &R, alloc: Global, ties: Ties)
     requires ties { AreTied ties.lanes.items ties.ends.items 3 }
     requires names { names_of ties.lanes.items ≡ J.names }
 {
-    let (shared, mut passes) = open::<J>(rt, alloc, ties);
-    let (third, second, first) = (passes.pop(), passes.pop(), passes.pop());
-    let (Some(third), Some(mut second), Some(mut first)) = (third, second, first) else {
-        rt.abort()
-    };
-    second.learn(5);
-    assert!(rt; second.floor() == 6);
-    assert!(rt; ask_root(rt, alloc, &shared, &mut second) == awaits_more(0));
-    assert!(rt; ask_root(rt, alloc, &shared, &mut first) == Ok(1));
-    assert!(rt; ask_root(rt, alloc, &shared, &mut second) == awaits_more(1));
-    shared.stop(rt);
-    assert!(rt; ask_root(rt, alloc, &shared, &mut first) == Err(CallFault::Stopped));
-    assert!(rt; first.told().len() == 1 && first.floor() == 2);
-    passes.push(third).expect(rt, "memory");
-    passes.push(second).expect(rt, "memory");
-    passes.push(first).expect(rt, "memory");
-    assert!(rt; entries(shared, passes) == Some(1));
+    let (shared, passes) = open::<J>(rt, alloc, ties);
+    let mut three = three_of(rt, passes);
+    ask_before_it_is_known(rt, alloc, &shared, &mut three.first, &mut three.second);
+    assert!(rt; entries(rt, alloc, shared, three) == 1);
 }
 
-/// How many entries the history has, where the passes are all there.
-fn entries<J: Naming>(shared: Held<J>, passes: Vec<Pass<J>>) -> Option<usize> {
-    match shared.finish(passes) {
-        Ok(mount) => Some(mount.history().len()),
-        Err(_) => None,
+/// The second pass learns of the fifth entry, and both ask.
+fn ask_before_it_is_known<J: Naming, R: Wait + Abort>(
+    rt: &R,
+    alloc: Global,
+    shared: &Held<J>,
+    first: &mut Pass<J>,
+    second: &mut Pass<J>,
+) {
+    second.learn(5);
+    assert!(rt; second.floor() == 6);
+    assert!(rt; ask_root(rt, alloc, shared, second) == awaits_more(0));
+    assert!(rt; ask_root(rt, alloc, shared, first) == Ok(1));
+    assert!(rt; ask_root(rt, alloc, shared, second) == awaits_more(1));
+    shared.stop(rt);
+    assert!(rt; ask_root(rt, alloc, shared, first) == Err(CallFault::Stopped));
+    assert!(rt; first.told().len() == 1 && first.floor() == 2);
+}
+
+/// The passes of a mount.
+#[derive(Drop)]
+struct Three<J: Naming> {
+    first: Pass<J>,
+    second: Pass<J>,
+    third: Pass<J>,
+}
+
+fn three_of<J: Naming>(rt: &impl Abort, mut passes: Vec<Pass<J>>) -> Three<J> {
+    let third = passes.pop().expect(rt, "a pass");
+    let second = passes.pop().expect(rt, "a pass");
+    let first = passes.pop().expect(rt, "a pass");
+    Three {
+        first,
+        second,
+        third,
     }
+}
+
+/// The passes, the last one first.
+fn backwards<J: Naming>(rt: &impl Abort, alloc: Global, three: Three<J>) -> Vec<Pass<J>> {
+    let mut passes = Vec::new(alloc);
+    passes.push(three.third).expect(rt, "memory");
+    passes.push(three.second).expect(rt, "memory");
+    passes.push(three.first).expect(rt, "memory");
+    passes
+}
+
+/// How many entries the history has. The passes are all there.
+fn entries<J: Naming>(rt: &impl Abort, alloc: Global, shared: Held<J>, three: Three<J>) -> usize {
+    let ended = shared.finish(backwards(rt, alloc, three));
+    ended.ok().expect(rt, "each pass").history().len()
 }
 
 /// Nothing is fetched that nobody waits for. Where one pass was dropped and another is kept, mount and pass come back
@@ -86,14 +116,19 @@ fn tear<J: Naming, R: Wait + Abort>(rt: &R, alloc: Global, ties: Ties)
     let (shared, mut passes) = open::<J>(rt, alloc, ties);
     let kept = passes.pop().expect(rt, "a pass");
     drop(passes.pop());
-    let mut first = passes.pop().expect(rt, "a pass");
-    assert!(rt; ask_root(rt, alloc, &shared, &mut first) == Ok(1));
+    let first = passes.first_mut().expect(rt, "a pass");
+    assert!(rt; ask_root(rt, alloc, &shared, first) == Ok(1));
     let fetched = shared.fetch_one(rt, &mut MemorySource::<Outside>::new(alloc));
     assert!(rt; fetched == Fetched::Nothing);
-    passes.push(first).expect(rt, "memory");
+    check_torn(rt, shared, passes);
+    assert!(rt; is_told(Some(&kept), 0));
+}
+
+/// The one pass that is left comes back, and the mount with its one entry.
+fn check_torn<J: Naming>(rt: &impl Abort, shared: Held<J>, passes: Vec<Pass<J>>) {
     let torn = shared.finish(passes).err().expect(rt, "no whole mount");
     assert!(rt; torn.mount.history().len() == 1 && torn.passes.len() == 1);
-    assert!(rt; is_told(torn.passes.first(), 1) && is_told(Some(&kept), 0));
+    assert!(rt; is_told(torn.passes.first(), 1));
 }
 
 /// Whether there is the pass, and it was told of so many calls.
@@ -118,16 +153,26 @@ fn reads<J: Naming, R: Wait + Abort>(
 }
 
 /// Asks three times for the object, and looks at each reply.
-fn ask<J: Naming, R: Wait + Abort>(
+fn ask<J: Naming, R: Wait + Abort>(rt: &R, alloc: Global, shared: &Held<J>, pass: &mut Pass<J>) {
+    for count in 1..4usize {
+        assert!(rt; reads(rt, alloc, shared, pass) && pass.told().len() == count);
+    }
+}
+
+/// Two callers on threads of their own. Then the mount is stopped.
+fn ask_twice<J: Naming + Send + Sync, R: Threads + Wait + Abort + Sync>(
     rt: &R,
     alloc: Global,
     shared: &Held<J>,
-    mut pass: Pass<J>,
-) -> Pass<J> {
-    for count in 1..4usize {
-        assert!(rt; reads(rt, alloc, shared, &mut pass) && pass.told().len() == count);
-    }
-    pass
+    first: &mut Pass<J>,
+    second: &mut Pass<J>,
+) {
+    join(
+        rt,
+        || ask(rt, alloc, shared, first),
+        || ask(rt, alloc, shared, second),
+    );
+    shared.stop(rt);
 }
 
 /// A source that has the object, or lacks it.
@@ -177,7 +222,16 @@ fn fetch_next<J: Naming, R: Wait + Abort>(
     assert!(rt; shared.fetch_one(rt, &mut source) == Fetched::Nothing);
 }
 
-/// Two callers and two fetchers on threads of their own, until both callers were told three times.
+/// Two fetchers on threads of their own.
+fn fetch_twice<J: Naming + Send + Sync, R: Threads + Wait + Abort + Sync>(
+    rt: &R,
+    alloc: Global,
+    shared: &Held<J>,
+) {
+    join(rt, || fetch(rt, alloc, shared), || fetch(rt, alloc, shared));
+}
+
+/// Two callers beside two fetchers, until both callers were told three times.
 fn race<J: Naming + Send + Sync, R: Threads + Wait + Abort + Sync>(
     rt: &R,
     alloc: Global,
@@ -186,35 +240,16 @@ fn race<J: Naming + Send + Sync, R: Threads + Wait + Abort + Sync>(
     requires ties { AreTied ties.lanes.items ties.ends.items 3 }
     requires names { names_of ties.lanes.items ≡ J.names }
 {
-    let (shared, mut passes) = open::<J>(rt, alloc, ties);
-    let (third, second, first) = (passes.pop(), passes.pop(), passes.pop());
-    let (Some(third), Some(second), Some(first)) = (third, second, first) else {
-        rt.abort()
-    };
+    let (shared, passes) = open::<J>(rt, alloc, ties);
+    let mut three = three_of(rt, passes);
     let lock = &shared;
-    let (_, (first, second)) = join(
+    let (first, second) = (&mut three.first, &mut three.second);
+    join(
         rt,
-        move || {
-            join(
-                rt,
-                move || fetch(rt, alloc, lock),
-                move || fetch(rt, alloc, lock),
-            );
-        },
-        move || {
-            let both = join(
-                rt,
-                move || ask(rt, alloc, lock, first),
-                move || ask(rt, alloc, lock, second),
-            );
-            lock.stop(rt);
-            both
-        },
+        || fetch_twice(rt, alloc, lock),
+        || ask_twice(rt, alloc, lock, first, second),
     );
-    passes.push(third).expect(rt, "memory");
-    passes.push(second).expect(rt, "memory");
-    passes.push(first).expect(rt, "memory");
-    assert!(rt; entries(shared, passes) == Some(6));
+    assert!(rt; entries(rt, alloc, shared, three) == 6);
 }
 
 /// A caller waits while one key is fetched: first no source has it, and then one has.
@@ -244,31 +279,27 @@ fn meet<J: Naming + Send + Sync, R: Threads + Wait + Abort + Sync>(
 }
 
 #[test]
-fn a_learnt_number_is_awaited(rt: HostRuntime) -> Result<(), Fail> {
-    let ties = Ties::new(rt.alloc(), 3)?;
+fn a_learnt_number_is_awaited(rt: HostRuntime) {
+    let ties = Ties::new(rt.alloc(), 3).expect(&rt, "memory");
     learn::<Brand, HostRuntime>(&rt, rt.alloc(), ties);
-    Ok(())
 }
 
 #[test]
-fn a_missing_pass_tears_the_end(rt: HostRuntime) -> Result<(), Fail> {
-    let ties = Ties::new(rt.alloc(), 3)?;
+fn a_missing_pass_tears_the_end(rt: HostRuntime) {
+    let ties = Ties::new(rt.alloc(), 3).expect(&rt, "memory");
     tear::<Brand, HostRuntime>(&rt, rt.alloc(), ties);
-    Ok(())
 }
 
 #[test]
-fn a_queued_key_is_fetched_once(rt: HostRuntime) -> Result<(), Fail> {
-    let ties = Ties::new(rt.alloc(), 3)?;
+fn a_queued_key_is_fetched_once(rt: HostRuntime) {
+    let ties = Ties::new(rt.alloc(), 3).expect(&rt, "memory");
     meet::<Brand, HostRuntime>(&rt, rt.alloc(), ties);
-    Ok(())
 }
 
 #[test]
-fn callers_and_fetchers_share(rt: HostRuntime) -> Result<(), Fail> {
+fn callers_and_fetchers_share(rt: HostRuntime) {
     for _round in 0..200u32 {
-        let ties = Ties::new(rt.alloc(), 3)?;
+        let ties = Ties::new(rt.alloc(), 3).expect(&rt, "memory");
         race::<Brand, HostRuntime>(&rt, rt.alloc(), ties);
     }
-    Ok(())
 }
