@@ -1,8 +1,10 @@
 //! What the system does, which no clause can say: on real files, and on a file system that fails.
+ghost use Rattle.std.specs.Prelude.{◌≤◌};
+
 use crate::folders::{Made, folder_of, make};
 use eden_files::{FolderFault, Links, entry_in, read_file, read_within, remove_file, replace_file};
 use eden_samples::{Call, FaultySystem};
-use std::alloc::AllocError;
+use std::alloc::{AllocError, Global};
 use std::fs;
 use std::io::{self, ErrorKind, PipeReader, Read, Write};
 use std::os::fd::AsRawFd;
@@ -93,7 +95,7 @@ fn plain_files_are_read_whole(rt: HostRuntime) {
     let folder = folder_of(&rt, "read", FILES).expect(&rt, "files");
     for (name, longest, refused, followed) in READS {
         let path = folder.join(rt.alloc(), name).expect(&rt, "memory");
-        assert!(rt; give(&rt, &path, *longest, *refused, *followed), "{name}");
+        assert!(rt; give(&rt, &path, *longest, *refused, *followed));
     }
     fs::remove_dir_all(&rt, folder.as_path()).expect(&rt, "a folder");
 }
@@ -182,6 +184,20 @@ impl Read for Breaking {
     }
 }
 
+// Whether a read within so many bytes, where less are expected, gives that.
+fn gives_within<R: Read + Drop>(
+    alloc: Global,
+    reader: R,
+    expected: u32,
+    longest: u32,
+    want: Outcome,
+) -> bool
+    requires { expected ≤ longest }
+{
+    let answer = read_within(alloc, reader, u64::from(expected), u64::from(longest));
+    is_outcome(&answer, want)
+}
+
 #[test]
 fn a_cut_read_is_no_file(rt: HostRuntime) {
     for (kind, want) in [
@@ -189,8 +205,8 @@ fn a_cut_read_is_no_file(rt: HostRuntime) {
         (ErrorKind::NotFound, DEVICE),
         (ErrorKind::OutOfMemory, MEMORY),
     ] {
-        let answer = read_within(rt.alloc(), Breaking { left: 3, kind }, 10, 10);
-        assert!(rt; is_outcome(&answer, want));
+        let reader = Breaking { left: 3, kind };
+        assert!(rt; gives_within(rt.alloc(), reader, 10, 10, want));
     }
 }
 
@@ -206,19 +222,14 @@ fn replaces_over_link(rt: &HostRuntime, file: &str, new: &PathBuf, target: &str)
         && holds(rt, file, target.as_bytes())
 }
 
-// The first of the links that is in the way of the file's replacement.
-fn first_in_the_way(
-    rt: &HostRuntime,
-    folder: &PathBuf,
-) -> Result<Option<&'static str>, AllocError> {
-    let file = folder.join(rt.alloc(), "file")?;
-    let new = folder.join(rt.alloc(), "file.new")?;
+// Whether no link is in the way of the file's replacement.
+fn replaces_over_links(rt: &HostRuntime, file: &str, new: &PathBuf) -> bool {
     for target in ["other", "nothing", "/dev/full", "/proc/self/fd/0"] {
-        if !replaces_over_link(rt, file.as_str(), &new, target) {
-            return Ok(Some(target));
+        if !replaces_over_link(rt, file, new, target) {
+            return false;
         }
     }
-    Ok(None)
+    true
 }
 
 // Whether the file stays as it is where it can't be replaced.
@@ -230,12 +241,12 @@ fn stays(rt: &HostRuntime, file: &str, bytes: &[u8]) -> bool {
 #[test]
 fn a_replacement_is_a_new_file(rt: HostRuntime) {
     let folder = folder_with(&rt, "replaced", "other", b"other").expect(&rt, "a file");
-    let in_the_way = first_in_the_way(&rt, &folder).expect(&rt, "memory");
-    assert_eq!(rt; in_the_way, None);
+    let file = folder.join(rt.alloc(), "file").expect(&rt, "memory");
+    let new = folder.join(rt.alloc(), "file.new").expect(&rt, "memory");
+    assert!(rt; replaces_over_links(&rt, file.as_str(), &new));
     let other = folder.join(rt.alloc(), "other").expect(&rt, "memory");
     assert!(rt; holds(&rt, other.as_str(), b"other"));
     make(&rt, &folder, "file.new", Made::Folder).expect(&rt, "a folder");
-    let file = folder.join(rt.alloc(), "file").expect(&rt, "memory");
     assert!(rt; stays(&rt, file.as_str(), b"/proc/self/fd/0"));
     fs::remove_dir_all(&rt, folder.as_path()).expect(&rt, "a folder");
 }
@@ -278,7 +289,7 @@ fn failed_changes_are_told(rt: HostRuntime) {
     let file = folder.join(rt.alloc(), "file").expect(&rt, "memory");
     assert!(rt; replace_file(&rt, rt.alloc(), file.as_str(), b"old") == Ok(()));
     for (kind, fault) in KINDS {
-        assert!(rt; changes_fail(&rt, file.as_str(), *kind, *fault), "{kind:?}");
+        assert!(rt; changes_fail(&rt, file.as_str(), *kind, *fault));
     }
     assert!(rt; is_removed(&rt, file.as_str()));
     assert!(rt; is_removed(&rt, file.as_str()));
@@ -342,8 +353,7 @@ fn names_are_listed(rt: HostRuntime) {
 #[test]
 fn grown_files_are_read(rt: HostRuntime) {
     let long = [7; 65536].repeat(rt.alloc(), 10).expect(&rt, "memory");
-    let answer = read_within(rt.alloc(), long.as_slice(), 100, 655_360);
-    assert!(rt; is_outcome(&answer, Ok(long.as_slice())));
-    let answer = read_within(rt.alloc(), long.as_slice(), 100, 655_359);
-    assert!(rt; is_outcome(&answer, TOO_LONG));
+    let whole = Ok(long.as_slice());
+    assert!(rt; gives_within(rt.alloc(), long.as_slice(), 100, 655_360, whole));
+    assert!(rt; gives_within(rt.alloc(), long.as_slice(), 100, 655_359, TOO_LONG));
 }

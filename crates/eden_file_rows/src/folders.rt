@@ -18,6 +18,10 @@ pub enum Made {
 /// Makes that under the name.
 pub fn make(rt: &HostRuntime, folder: &PathBuf, name: &str, made: Made) -> io::Result<()> {
     let path = folder.join(rt.alloc(), name)?;
+    make_at(rt, &path, made)
+}
+
+fn make_at(rt: &HostRuntime, path: &PathBuf, made: Made) -> io::Result<()> {
     match made {
         Made::File(bytes) => fs::write(rt, path.as_path(), bytes),
         Made::Long(len) => make_long(rt, path.as_str(), len),

@@ -1,9 +1,9 @@
 //! The kinds of files that an overlay stands on: in memory, in a folder, and failing ones.
 use crate::folders::{Made, folder_of};
-use eden_model::{Outside, World};
+use eden_model::Outside;
 use eden_overlay::{FailingFiles, Files, FilesFault, FolderFiles, MemoryFiles, StopFiles};
 use eden_samples::{Call as SystemCall, FaultySystem};
-use std::alloc::{AllocError, Global};
+use std::alloc::Global;
 use std::cell::Cell;
 use std::fs;
 use std::io::ErrorKind;
@@ -28,7 +28,7 @@ enum Answer {
 }
 
 // Whether the files give that answer to the call.
-fn gives<W: World, F: Files<W>>(files: &mut F, alloc: Global, call: Call, want: Answer) -> bool {
+fn gives<F: Files<Outside>>(files: &mut F, alloc: Global, call: Call, want: Answer) -> bool {
     match call {
         Call::Read(number) => is_read(&files.read(alloc, number), want),
         Call::Replace(number, bytes) => is_done(files.replace(alloc, number, bytes), want),
@@ -62,15 +62,14 @@ fn is_done(answer: Result<(), FilesFault>, want: Answer) -> bool {
     }
 }
 
-// The first of the calls, made one after another, to which the files give another answer.
-fn first_wrong<W: World, F: Files<W>>(
-    files: &mut F,
-    alloc: Global,
-    calls: &[(Call, Answer)],
-) -> Option<usize> {
-    calls
-        .iter()
-        .position(|(call, want)| !gives::<W, F>(files, alloc, *call, *want))
+// Whether the files give those answers to the calls, made one after another.
+fn gives_all<F: Files<Outside>>(files: &mut F, alloc: Global, calls: &[(Call, Answer)]) -> bool {
+    for (call, want) in calls {
+        if !gives(files, alloc, *call, *want) {
+            return false;
+        }
+    }
+    true
 }
 
 // What every kind of files answers that is empty at first.
@@ -122,27 +121,24 @@ fn memory_keeps_many_files(rt: HostRuntime) {
 #[test]
 fn memory_behaves(rt: HostRuntime) {
     let mut files = MemoryFiles::<Outside>::new(rt.alloc());
-    let wrong = first_wrong::<Outside, _>(&mut files, rt.alloc(), BEHAVIOUR);
-    assert_eq!(rt; wrong, None);
+    assert!(rt; gives_all(&mut files, rt.alloc(), BEHAVIOUR));
 }
 
-// The first of the calls to which files in the folder give another answer, and how many failures they count.
-fn asked_in_folder(
-    rt: &HostRuntime,
-    folder: &PathBuf,
-    calls: &[(Call, Answer)],
-) -> Result<(Option<usize>, u64), AllocError> {
-    let mut files = FolderFiles::new(rt, folder.clone()?);
-    let wrong = first_wrong::<Outside, _>(&mut files, rt.alloc(), calls);
-    Ok((wrong, files.failures()))
+// How many failures files in the folder count that give those answers; none where they give others.
+fn failures_of(rt: &HostRuntime, folder: PathBuf, calls: &[(Call, Answer)]) -> Option<u64> {
+    let mut files = FolderFiles::new(rt, folder);
+    if gives_all(&mut files, rt.alloc(), calls) {
+        Some(files.failures())
+    } else {
+        None
+    }
 }
 
 #[test]
 fn folder_behaves(rt: HostRuntime) {
     let folder = folder_of(&rt, "overlay-behaves", &[]).expect(&rt, "a folder");
-    let (wrong, failures) = asked_in_folder(&rt, &folder, BEHAVIOUR).expect(&rt, "memory");
-    assert_eq!(rt; wrong, None);
-    assert_eq!(rt; failures, 0);
+    let asked = folder.clone().expect(&rt, "memory");
+    assert!(rt; failures_of(&rt, asked, BEHAVIOUR) == Some(0));
     fs::remove_dir_all(&rt, folder.as_path()).expect(&rt, "a folder");
 }
 
@@ -177,9 +173,8 @@ const ODD: &[(Call, Answer)] = &[
 #[test]
 fn folder_reads_plain_files_alone(rt: HostRuntime) {
     let folder = folder_of(&rt, "overlay-odd", ODD_FILES).expect(&rt, "files");
-    let (wrong, failures) = asked_in_folder(&rt, &folder, ODD).expect(&rt, "memory");
-    assert_eq!(rt; wrong, None);
-    assert_eq!(rt; failures, 5);
+    let asked = folder.clone().expect(&rt, "memory");
+    assert!(rt; failures_of(&rt, asked, ODD) == Some(5));
     fs::remove_dir_all(&rt, folder.as_path()).expect(&rt, "a folder");
 }
 
@@ -195,8 +190,8 @@ const LEFT_OVER: &[(Call, Answer)] = &[
 fn what_a_failure_left_is_no_file(rt: HostRuntime) {
     let table = [("5.new", Made::File(b"left over"))];
     let folder = folder_of(&rt, "overlay-left", &table).expect(&rt, "a file");
-    let (wrong, _) = asked_in_folder(&rt, &folder, LEFT_OVER).expect(&rt, "memory");
-    assert_eq!(rt; wrong, None);
+    let asked = folder.clone().expect(&rt, "memory");
+    assert!(rt; failures_of(&rt, asked, LEFT_OVER).is_some());
     let new = folder.join(rt.alloc(), "5.new").expect(&rt, "memory");
     assert!(rt; !fs::exists(&rt, new.as_path()).expect(&rt, "an answer"));
     fs::remove_dir_all(&rt, folder.as_path()).expect(&rt, "a folder");
@@ -213,9 +208,8 @@ const GONE: &[(Call, Answer)] = &[
 fn a_missing_folder_fails(rt: HostRuntime) {
     let folder = folder_of(&rt, "overlay-gone", &[]).expect(&rt, "a folder");
     fs::remove_dir(&rt, folder.as_path()).expect(&rt, "no folder");
-    let (wrong, failures) = asked_in_folder(&rt, &folder, GONE).expect(&rt, "memory");
-    assert_eq!(rt; wrong, None);
-    assert_eq!(rt; failures, 2);
+    let asked = folder.clone().expect(&rt, "memory");
+    assert!(rt; failures_of(&rt, asked, GONE) == Some(2));
 }
 
 #[derive(Clone, Copy)]
@@ -227,7 +221,7 @@ enum Ask {
 }
 
 // The fault of that call on file 5.
-fn fault_of<W: World, F: Files<W>>(files: &mut F, alloc: Global, ask: Ask) -> Option<FilesFault> {
+fn fault_of<F: Files<Outside>>(files: &mut F, alloc: Global, ask: Ask) -> Option<FilesFault> {
     match ask {
         Ask::Read => files.read(alloc, 5).err(),
         Ask::Replace => files.replace(alloc, 5, b"new").err(),
@@ -261,8 +255,8 @@ fn is_told(rt: &HostRuntime, folder: PathBuf, call: SystemCall, ask: Ask) -> boo
 }
 
 // Whether file 5 has these bytes.
-fn holds(files: &mut FolderFiles<&HostRuntime>, alloc: Global, bytes: &'static [u8]) -> bool {
-    gives::<Outside, _>(files, alloc, Call::Read(5), Answer::Bytes(Some(bytes)))
+fn holds<F: Files<Outside>>(files: &mut F, alloc: Global, bytes: &'static [u8]) -> bool {
+    gives(files, alloc, Call::Read(5), Answer::Bytes(Some(bytes)))
 }
 
 #[test]
@@ -278,14 +272,13 @@ fn a_failing_device_is_told_and_counted(rt: HostRuntime) {
 }
 
 // Stores a file, reads it, removes it, and lists what is left. Which of the four calls fail?
-fn failing<W: World, F: Files<W>>(files: &mut F, alloc: Global) -> [bool; 4] {
+fn failing<F: Files<Outside>>(files: &mut F, alloc: Global) -> [bool; 4] {
     [
-        Call::Replace(7, b"a"),
-        Call::Read(7),
-        Call::Remove(7),
-        Call::List,
+        gives(files, alloc, Call::Replace(7, b"a"), Answer::Device),
+        gives(files, alloc, Call::Read(7), Answer::Device),
+        gives(files, alloc, Call::Remove(7), Answer::Device),
+        gives(files, alloc, Call::List, Answer::Device),
     ]
-    .map(|call| gives::<W, F>(files, alloc, call, Answer::Device))
 }
 
 // The call that fails, which calls fail then, and what is left.
@@ -304,14 +297,14 @@ fn one_fails(
     alloc: Global,
     want: [bool; 4],
 ) -> bool {
-    failing::<Outside, _>(files, alloc) == want && (files.failures() == 1) == want.contains(&true)
+    failing(files, alloc) == want && (files.failures() == 1) == want.contains(&true)
 }
 
 // Whether those calls fail where that one does, and that is left.
 fn one_fails_and_leaves(alloc: Global, call: u64, want: [bool; 4], left: &'static [u64]) -> bool {
     let mut files = FailingFiles::new(MemoryFiles::<Outside>::new(alloc), call);
     one_fails(&mut files, alloc, want)
-        && gives::<Outside, _>(
+        && gives(
             &mut files.into_files(),
             alloc,
             Call::List,
@@ -322,10 +315,7 @@ fn one_fails_and_leaves(alloc: Global, call: u64, want: [bool; 4], left: &'stati
 #[test]
 fn one_call_fails(rt: HostRuntime) {
     for (call, want, left) in ONE_FAILS {
-        assert!(rt;
-            one_fails_and_leaves(rt.alloc(), *call, *want, left),
-            "at call {call}"
-        );
+        assert!(rt; one_fails_and_leaves(rt.alloc(), *call, *want, left));
     }
 }
 
@@ -346,7 +336,7 @@ fn stops(
     want: [bool; 4],
 ) -> bool {
     allowed.set(calls);
-    failing::<Outside, _>(files, alloc) == want && allowed.get() == 0
+    failing(files, alloc) == want && allowed.get() == 0
 }
 
 #[test]
@@ -360,5 +350,5 @@ fn files_stop_and_are_mended(rt: HostRuntime) {
         assert!(rt; files.failures() == *failures);
     }
     let mut files = files.into_files();
-    assert!(rt; gives::<Outside, _>(&mut files, alloc, Call::List, Answer::Numbers(&[])));
+    assert!(rt; gives(&mut files, alloc, Call::List, Answer::Numbers(&[])));
 }

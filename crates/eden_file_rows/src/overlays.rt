@@ -7,7 +7,6 @@ use eden_overlay::{Files, GetFault, MemoryFiles, Overlay};
 use eden_overlay_format::{Refusal, State, StoredEntry};
 use std::alloc::Global;
 use std::process::Abort;
-use std::test::Fail;
 
 type InMemory = Overlay<Outside, MemoryFiles<Outside>>;
 
@@ -32,9 +31,9 @@ fn filled_with(rt: &impl Abort, alloc: Global, entries: &[StoredEntry]) -> InMem
 }
 
 // The same, where the directory has the file `test.txt` alone.
-fn filled(rt: &impl Abort, alloc: Global) -> Result<InMemory, Fail> {
-    let entries = one_file(alloc, Origin::Own)?;
-    Ok(filled_with(rt, alloc, entries.as_slice()))
+fn filled(rt: &impl Abort, alloc: Global) -> InMemory {
+    let entries = one_file(rt, alloc, Origin::Own);
+    filled_with(rt, alloc, entries.as_slice())
 }
 
 // Whether file 2 has that content.
@@ -62,13 +61,12 @@ fn lists(overlay: &mut InMemory, alloc: Global, want: &[u64]) -> bool {
 }
 
 #[test]
-fn files_are_got(rt: HostRuntime) -> Result<(), Fail> {
-    let mut overlay = filled(&rt, rt.alloc())?;
+fn files_are_got(rt: HostRuntime) {
+    let mut overlay = filled(&rt, rt.alloc());
     assert!(rt; has_content(&mut overlay, rt.alloc(), b"hi"));
     assert!(rt; has_one_file(&mut overlay, rt.alloc()));
     assert!(rt; overlay.get_state(rt.alloc()) == Ok(STATE));
     assert!(rt; lists(&mut overlay, rt.alloc(), &[0, 1, 2]));
-    Ok(())
 }
 
 // The files of that overlay: their numbers, the first bytes of their headers, their bodies and their lengths.
@@ -87,14 +85,13 @@ fn has(files: &mut MemoryFiles<Outside>, alloc: Global, number: u64, want: &[u8]
 }
 
 #[test]
-fn files_are_stored(rt: HostRuntime) -> Result<(), Fail> {
-    let mut files = filled(&rt, rt.alloc())?.into_files();
+fn files_are_stored(rt: HostRuntime) {
+    let mut files = filled(&rt, rt.alloc()).into_files();
     for (number, front, body, len) in STORED {
-        let bytes = stored(rt.alloc(), front, 0, body).expect(&rt, "memory");
+        let bytes = stored(&rt, rt.alloc(), front, 0, body);
         assert!(rt; bytes.len() == *len);
         assert!(rt; has(&mut files, rt.alloc(), *number, bytes.as_slice()));
     }
-    Ok(())
 }
 
 // Takes the root's directory, the state and a file that isn't there out.
@@ -105,14 +102,13 @@ fn remove_some(rt: &impl Abort, alloc: Global, overlay: &mut InMemory) {
 }
 
 #[test]
-fn files_are_removed(rt: HostRuntime) -> Result<(), Fail> {
-    let mut overlay = filled(&rt, rt.alloc())?;
+fn files_are_removed(rt: HostRuntime) {
+    let mut overlay = filled(&rt, rt.alloc());
     remove_some(&rt, rt.alloc(), &mut overlay);
     assert!(rt; overlay.get_state(rt.alloc()) == Err(GetFault::Absent));
     assert!(rt; overlay.get_dir(rt.alloc(), 1).err() == Some(GetFault::Absent));
     assert!(rt; overlay.get_file(rt.alloc(), 1).err() == Some(GetFault::Absent));
     assert!(rt; has_content(&mut overlay, rt.alloc(), b"hi"));
-    Ok(())
 }
 
 // Whether a stored file of these bytes is told as damaged so, as a directory and as a file.
@@ -164,7 +160,7 @@ const DAMAGES: &[(&[u8; 8], &[u8], usize, Option<Refusal>, Option<Refusal>)] = &
 #[test]
 fn damage_is_told(rt: HostRuntime) {
     for (front, body, len, as_directory, as_file) in DAMAGES {
-        let bytes = stored(rt.alloc(), front.as_slice(), 0, body).expect(&rt, "memory");
+        let bytes = stored(&rt, rt.alloc(), front.as_slice(), 0, body);
         let bytes = cut(&rt, bytes.as_slice(), *len);
         assert!(rt; is_told(rt.alloc(), bytes, *as_directory, *as_file));
     }

@@ -1,6 +1,6 @@
 //! The answers of sources in memory and in folders.
 use crate::folders::{Made, folder_of};
-use eden_model::{Cause, Id, Outside, World};
+use eden_model::{Cause, Id, Outside};
 use eden_samples::{Call, FaultySystem, VERSION_1, VERSION_2};
 use eden_source::{FolderSource, MemorySource, Source};
 use std::alloc::{AllocError, Global};
@@ -25,7 +25,7 @@ fn is_answer(answer: &Result<Vec<u8>, Cause>, want: Result<&[u8], Cause>) -> boo
 }
 
 // Whether the source gives that answer.
-fn gives<W: World, S: Source<W>>(
+fn gives<S: Source<Outside>>(
     source: &mut S,
     alloc: Global,
     id: Id,
@@ -120,26 +120,24 @@ const ANSWERS: &[(u8, Result<&[u8], Cause>, u64)] = &[
     (0x8a, Err(Cause::Missing), 3),
 ];
 
-// The first byte of the first id that has another answer in that folder, or after which other failures are counted.
-fn first_wrong(rt: &HostRuntime, folder: PathBuf) -> Option<u8> {
-    let mut source = FolderSource::new(rt, folder);
+// Whether a source has all those answers, and counts so many failures after each.
+fn gives_all<S: Source<Outside>>(source: &mut S, alloc: Global) -> bool {
     for (first, want, failures) in ANSWERS {
-        let is_answered = gives(&mut source, rt.alloc(), id_starting(*first), *want);
+        let is_answered = gives(source, alloc, id_starting(*first), *want);
         if !is_answered || source.failures() != *failures {
-            return Some(*first);
+            return false;
         }
     }
-    None
+    true
 }
 
 #[test]
 fn folder_gives_its_files(rt: HostRuntime) {
     let folder = folder_of(&rt, "source", OBJECTS).expect(&rt, "objects");
-    let wrong = first_wrong(&rt, folder.clone().expect(&rt, "memory"));
-    assert_eq!(rt; wrong, None);
+    let mut source = FolderSource::new(&rt, folder.clone().expect(&rt, "memory"));
+    assert!(rt; gives_all(&mut source, rt.alloc()));
     fs::remove_dir_all(&rt, folder.as_path()).expect(&rt, "a folder");
-    let mut gone = FolderSource::new(&rt, folder);
-    assert!(rt; gives(&mut gone, rt.alloc(), VERSION_1.id, Err(Cause::Missing)));
+    assert!(rt; gives(&mut source, rt.alloc(), VERSION_1.id, Err(Cause::Missing)));
 }
 
 const KINDS: &[(ErrorKind, Cause, u64)] = &[
@@ -148,16 +146,9 @@ const KINDS: &[(ErrorKind, Cause, u64)] = &[
 ];
 
 // Whether each of two questions has that answer, and so many failures are counted then.
-fn fails(
-    system: FaultySystem<&HostRuntime>,
-    alloc: Global,
-    folder: PathBuf,
-    want: Cause,
-    failures: u64,
-) -> bool {
-    let mut source = FolderSource::new(system, folder);
-    gives(&mut source, alloc, VERSION_1.id, Err(want))
-        && gives(&mut source, alloc, VERSION_1.id, Err(want))
+fn fails<S: Source<Outside>>(source: &mut S, alloc: Global, want: Cause, failures: u64) -> bool {
+    gives(source, alloc, VERSION_1.id, Err(want))
+        && gives(source, alloc, VERSION_1.id, Err(want))
         && source.failures() == failures
 }
 
@@ -176,7 +167,8 @@ fn all_fail(
             kind,
             instead: None,
         };
-        if !fails(system, rt.alloc(), folder.clone()?, want, failures) {
+        let mut source = FolderSource::new(system, folder.clone()?);
+        if !fails(&mut source, rt.alloc(), want, failures) {
             return Ok(false);
         }
     }
@@ -188,8 +180,7 @@ fn all_fail(
 fn failures_are_counted(rt: HostRuntime) {
     let folder = folder_of(&rt, "source-failures", OBJECTS).expect(&rt, "objects");
     for (kind, want, failures) in KINDS {
-        let told = all_fail(&rt, &folder, *kind, *want, *failures);
-        assert!(rt; told == Ok(true), "{kind:?}");
+        assert!(rt; all_fail(&rt, &folder, *kind, *want, *failures) == Ok(true));
     }
     fs::remove_dir_all(&rt, folder.as_path()).expect(&rt, "a folder");
 }

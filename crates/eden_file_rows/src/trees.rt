@@ -1,8 +1,9 @@
 //! Directories in memory: a subtree that moves, a path that is changed, and no memory.
+use crate::formats;
 use eden_model::{Kind, Name, Origin};
 use eden_tree::{Change, Dir, Entry};
 use linked_list_allocator::LocalHeap;
-use std::alloc::{AllocError, Allocator, Global};
+use std::alloc::{Allocator, Global};
 use std::collections::BTreeMap;
 use std::process::Abort;
 
@@ -22,8 +23,7 @@ fn name(rt: &impl Abort, alloc: Global, number: u32) -> Name {
         *letter = b'a' + (rest % 16) as u8;
         rest /= 16;
     }
-    let letters = Vec::from_slice(alloc, letters.as_slice()).expect(rt, "memory");
-    Name::new(letters).expect(rt, "a name")
+    formats::name(rt, alloc, &letters)
 }
 
 fn entry<A: Allocator>(number: u64, child: Option<Box<Dir<A>, A>>) -> Entry<A> {
@@ -35,17 +35,13 @@ fn entry<A: Allocator>(number: u64, child: Option<Box<Dir<A>, A>>) -> Entry<A> {
     }
 }
 
-fn put<A: Allocator>(rt: &impl Abort, dir: &mut Dir<A>, name: Name, entry: Entry<A>) {
+fn put(rt: &impl Abort, dir: &mut Dir<Global>, name: Name, entry: Entry<Global>) {
     assert!(rt; dir.insert(name, entry).is_ok());
 }
 
-fn again<A: Allocator + Clone>(rt: &impl Abort, tree: &A) -> A {
-    tree.clone().expect(rt, "memory")
-}
-
 /// A directory of the names of the first numbers.
-fn wide<A: Allocator>(rt: &impl Abort, alloc: Global, tree: A, count: u32) -> Dir<A> {
-    let mut dir = Dir::new(tree, 0);
+fn wide(rt: &impl Abort, alloc: Global, count: u32) -> Dir<Global> {
+    let mut dir = Dir::new(alloc, 0);
     for number in 0..count {
         let name = name(rt, alloc, number);
         put(rt, &mut dir, name, entry(u64::from(number), None));
@@ -54,30 +50,30 @@ fn wide<A: Allocator>(rt: &impl Abort, alloc: Global, tree: A, count: u32) -> Di
 }
 
 /// A directory of one entry, which holds that directory.
-fn above<A: Allocator + Clone>(rt: &impl Abort, alloc: Global, tree: &A, below: Dir<A>) -> Dir<A> {
+fn above(rt: &impl Abort, alloc: Global, below: Dir<Global>) -> Dir<Global> {
     let stamp = below.stamp().wrapping_add(1);
-    let child = boxed(rt, tree, below);
-    let mut dir = Dir::new(again(rt, tree), stamp);
+    let child = boxed(rt, alloc, below);
+    let mut dir = Dir::new(alloc, stamp);
     let name = name(rt, alloc, 7);
     put(rt, &mut dir, name, entry(stamp, Some(child)));
     dir
 }
 
-fn boxed<A: Allocator + Clone>(rt: &impl Abort, tree: &A, dir: Dir<A>) -> Box<Dir<A>, A> {
-    Box::new(again(rt, tree), dir).ok().expect(rt, "memory")
+fn boxed(rt: &impl Abort, alloc: Global, dir: Dir<Global>) -> Box<Dir<Global>> {
+    Box::new(alloc, dir).ok().expect(rt, "memory")
 }
 
 /// Loaded directories of one entry each, one inside another; the stamp is how many are below.
-fn nested<A: Allocator + Clone>(rt: &impl Abort, alloc: Global, tree: &A, levels: u64) -> Dir<A> {
-    let mut dir = Dir::new(again(rt, tree), 0);
+fn nested(rt: &impl Abort, alloc: Global, levels: u64) -> Dir<Global> {
+    let mut dir = Dir::new(alloc, 0);
     for _ in 1..levels {
-        dir = above(rt, alloc, tree, dir);
+        dir = above(rt, alloc, dir);
     }
     dir
 }
 
 /// The number of what was taken out.
-fn take_number<A: Allocator>(dir: &mut Dir<A>, key: &Name) -> Option<u64> {
+fn take_number(dir: &mut Dir<Global>, key: &Name) -> Option<u64> {
     match dir.remove(key) {
         None => None,
         Some(entry) => Some(entry.number),
@@ -91,19 +87,11 @@ fn are_those<A: Allocator>(back: &Name, handed: &Entry<A>, key: &Name, number: u
 
 /// Puts a number under a name that the map doesn't have.
 fn put_new(rt: &impl Abort, map: &mut BTreeMap<Name, u64>, key: Name, number: u64) {
-    assert!(rt; map.get(&key).is_none());
-    map.insert(key, number)
-        .map_err(AllocError::from)
-        .expect(rt, "memory");
+    assert!(rt; matches!(map.insert(key, number), Ok(None)));
 }
 
 /// Takes out of both, and compares what they answer.
-fn take_of_both<A: Allocator>(
-    rt: &impl Abort,
-    dir: &mut Dir<A>,
-    map: &mut BTreeMap<Name, u64>,
-    key: &Name,
-) {
+fn take_of_both(rt: &impl Abort, dir: &mut Dir<Global>, map: &mut BTreeMap<Name, u64>, key: &Name) {
     assert!(rt; take_number(dir, key) == map.remove(key));
 }
 
@@ -127,10 +115,10 @@ fn put_into_both<A: Allocator>(
 }
 
 /// Puts into both, or takes out of both, and compares what they answer.
-fn change_both<A: Allocator>(
+fn change_both(
     rt: &impl Abort,
     alloc: Global,
-    dir: &mut Dir<A>,
+    dir: &mut Dir<Global>,
     map: &mut BTreeMap<Name, u64>,
     word: u32,
 ) {
@@ -154,10 +142,10 @@ fn assert_alike<A: Allocator>(rt: &impl Abort, dir: &Dir<A>, map: &BTreeMap<Name
     assert!(rt; dir.at(position).is_none());
 }
 
-fn change_often<A: Allocator>(
+fn change_often(
     rt: &impl Abort,
     alloc: Global,
-    dir: &mut Dir<A>,
+    dir: &mut Dir<Global>,
     map: &mut BTreeMap<Name, u64>,
 ) {
     let mut state = 1;
@@ -170,19 +158,11 @@ fn change_often<A: Allocator>(
     }
 }
 
-fn change_at_random<A: Allocator>(rt: &impl Abort, alloc: Global, tree: A) {
-    let mut dir = Dir::new(tree, 0);
-    let mut map = BTreeMap::new(alloc);
-    change_often(rt, alloc, &mut dir, &mut map);
-}
-
 #[test]
 fn random_changes_agree_with_an_ordered_map(rt: HostRuntime) {
-    change_at_random(&rt, rt.alloc(), rt.alloc());
-}
-
-fn lacks<A: Allocator>(dir: &Dir<A>, key: &Name) -> bool {
-    dir.get(key).is_none()
+    let mut dir = Dir::new(rt.alloc(), 0);
+    let mut map = BTreeMap::new(rt.alloc());
+    change_often(&rt, rt.alloc(), &mut dir, &mut map);
 }
 
 /// Whether what came back is what was given under that number, which the directory lacks.
@@ -195,7 +175,7 @@ fn is_handed_back<A: Allocator>(
     number: u32,
 ) -> bool {
     let key = name(rt, alloc, number);
-    are_those(back, handed, &key, u64::from(number)) && lacks(dir, &key)
+    are_those(back, handed, &key, u64::from(number)) && dir.get(&key).is_none()
 }
 
 /// Whether an insert found room. A refused one hands name and entry back, and changes nothing.
@@ -271,19 +251,14 @@ fn remove_loaded<A: Allocator>(rt: &impl Abort, dir: &mut Dir<A>, name: &Name) {
 }
 
 /// Takes the only loaded directory out.
-fn detach_loaded<A: Allocator>(rt: &impl Abort, dir: &mut Dir<A>, name: &Name) -> Box<Dir<A>, A> {
+fn detach_loaded(rt: &impl Abort, dir: &mut Dir<Global>, name: &Name) -> Box<Dir<Global>> {
     let loaded = dir.detach(name).expect(rt, "a loaded directory");
     assert!(rt; dir.depth() == 1 && dir.detach(name).is_none());
     loaded
 }
 
 /// Attaches a directory of three levels, and takes its entry out of nine.
-fn attach_and_remove<A: Allocator>(
-    rt: &impl Abort,
-    to: &mut Dir<A>,
-    name: &Name,
-    moved: Box<Dir<A>, A>,
-) {
+fn attach_and_remove(rt: &impl Abort, to: &mut Dir<Global>, name: &Name, moved: Box<Dir<Global>>) {
     attach_where_free(rt, to, name, moved);
     assert!(rt; to.depth() == 4);
     remove_loaded(rt, to, name);
@@ -291,42 +266,28 @@ fn attach_and_remove<A: Allocator>(
 }
 
 /// Moves what is below one directory's entry to another's, and takes that entry out.
-fn move_subtree<A: Allocator>(rt: &impl Abort, alloc: Global, from: &mut Dir<A>, to: &mut Dir<A>) {
+fn move_subtree(rt: &impl Abort, alloc: Global, from: &mut Dir<Global>, to: &mut Dir<Global>) {
     let moved = detach_loaded(rt, from, &name(rt, alloc, 7));
     attach_and_remove(rt, to, &name(rt, alloc, 8), moved);
 }
 
-fn move_into_wide<A: Allocator + Clone>(
-    rt: &impl Abort,
-    alloc: Global,
-    tree: &A,
-    from: &mut Dir<A>,
-) {
-    let mut to = wide(rt, alloc, again(rt, tree), 9);
-    move_subtree(rt, alloc, from, &mut to);
-}
-
-fn move_from_nested<A: Allocator + Clone>(rt: &impl Abort, alloc: Global, tree: &A) {
-    let mut from = nested(rt, alloc, tree, 4);
-    move_into_wide(rt, alloc, tree, &mut from);
-}
-
 #[test]
 fn a_subtree_moves_without_a_copy(rt: HostRuntime) {
-    move_from_nested(&rt, rt.alloc(), &rt.alloc());
+    let mut from = nested(&rt, rt.alloc(), 4);
+    let mut to = wide(&rt, rt.alloc(), 9);
+    move_subtree(&rt, rt.alloc(), &mut from, &mut to);
 }
 
 /// Makes a directory of depth 256 and one of a million entries, and drops them.
-fn drops<A: Allocator + Clone>(rt: &impl Abort, alloc: Global, tree: &A) -> bool {
-    let depth = nested(rt, alloc, tree, 256).depth();
-    let count = wide(rt, alloc, again(rt, tree), 1_000_000).count();
+fn drops(rt: &impl Abort, alloc: Global) -> bool {
+    let depth = nested(rt, alloc, 256).depth();
+    let count = wide(rt, alloc, 1_000_000).count();
     depth == 256 && count == 1_000_000
 }
 
 #[test]
 fn deep_and_wide_directories_are_dropped(rt: HostRuntime) {
-    let alloc = rt.alloc();
-    assert!(rt; drops(&rt, alloc, &alloc));
+    assert!(rt; drops(&rt, rt.alloc()));
 }
 
 /// Marks a loaded directory as unsaved, and counts it: whether one is loaded.
@@ -353,7 +314,7 @@ impl<A: Allocator> Change<A, u64> for Mark {
 }
 
 /// Stamps two levels, and marks the directory below them. Nothing stands at the path's end.
-fn stamp_and_mark<A: Allocator>(rt: &impl Abort, root: &mut Entry<A>, path: &[Name; 3]) {
+fn stamp_and_mark(rt: &impl Abort, root: &mut Entry<Global>, path: &[Name; 3]) {
     let mut count = 0;
     root.stamp_along(&path[..1], 77);
     assert!(rt; root.change_at(&path[..2], &mut count, Mark) == Some(true));
@@ -362,7 +323,7 @@ fn stamp_and_mark<A: Allocator>(rt: &impl Abort, root: &mut Entry<A>, path: &[Na
 }
 
 /// The stamp of the loaded directory at the end of the path, and whether it is unsaved.
-fn state_at<A: Allocator>(root: &Entry<A>, path: &[Name]) -> Option<(u64, bool)> {
+fn state_at(root: &Entry<Global>, path: &[Name]) -> Option<(u64, bool)> {
     match &root.walk(path)?.child {
         None => None,
         Some(child) => Some((child.stamp(), child.unsaved())),
@@ -374,7 +335,7 @@ fn sevens(rt: &impl Abort, alloc: Global) -> [Name; 3] {
 }
 
 /// Goes down the only entries, each under the name of 7: stamps two levels, and marks the one below them.
-fn change_below<A: Allocator>(rt: &impl Abort, alloc: Global, root: &mut Entry<A>) {
+fn change_below(rt: &impl Abort, alloc: Global, root: &mut Entry<Global>) {
     let path = sevens(rt, alloc);
     stamp_and_mark(rt, root, &path);
     assert!(rt; state_at(root, &path[..0]) == Some((77, false)));
@@ -382,12 +343,9 @@ fn change_below<A: Allocator>(rt: &impl Abort, alloc: Global, root: &mut Entry<A
     assert!(rt; state_at(root, &path[..2]) == Some((0, true)));
 }
 
-fn change_in_nested<A: Allocator + Clone>(rt: &impl Abort, alloc: Global, tree: &A) {
-    let dir = nested(rt, alloc, tree, 3);
-    change_below(rt, alloc, &mut entry(1, Some(boxed(rt, tree, dir))));
-}
-
 #[test]
 fn a_path_is_stamped_and_its_end_changed(rt: HostRuntime) {
-    change_in_nested(&rt, rt.alloc(), &rt.alloc());
+    let dir = nested(&rt, rt.alloc(), 3);
+    let child = boxed(&rt, rt.alloc(), dir);
+    change_below(&rt, rt.alloc(), &mut entry(1, Some(child)));
 }

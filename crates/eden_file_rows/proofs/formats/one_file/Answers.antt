@@ -1,4 +1,5 @@
-use Rattle.std.proofs.Common.{[], ◌∷◌, ◌∙◌, ap, arith}
+use Rattle.std.proofs.Common.{◌≡◌, [], ◌∷◌, ap, subst, arith}
+use Rattle.std.specs.Prelude.{IfOk}
 use Rattle.std.specs.List.Sorted.{IsStrictlySortedBy}
 use Rattle.eden_model.specs.declared.kind.Kind.TheVariants as kind
 use Rattle.eden_model.specs.Names.{name_refusal}
@@ -11,8 +12,8 @@ alone : (e : StoredEntry) → IsStorable e → AreStorable (e ∷ [])
 unfolding IsStrictlySortedBy
 alone e h = record { count = omega arith; rising = (tt, tt); each = (h, tt) }
 
-pub returns-in_ok-from_array-in-Ok : goal.returns-in_ok-from_array-in-Ok
-returns-in_ok-from_array-in-Ok c =
-    let name = ap name_refusal c.in-Ok.ensures.ok ∙ c.in-Ok.ensures.only_names in
-    let entry : StoredEntry = record { name = c.in-Ok.name; kind = kind.File; origin = c.args.origin; number = 2 } in
-    rw c.in_ok-from_array-in-Ok.ensures.items (alone entry (record { name = name; origin = c.requires; least = omega arith; most = omega arith }))
+pub returns : goal.returns
+returns g c =
+    let entry : StoredEntry = record { name = c.name.result; kind = kind.File; origin = c.args.origin; number = 2 } in
+    let items : c.expect.result.items ≡ entry ∷ [] = subst (λ r. IfOk r (λ v. v.items ≡ entry ∷ [])) c.expect.ensures c.from_array.ensures.items in
+    rw items (alone entry (record { name = ap name_refusal c.name.ensures; origin = c.requires; least = omega arith; most = omega arith }))
