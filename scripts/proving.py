@@ -22,6 +22,8 @@ from crates import READ, TOP, rows, with_those_below
 FIRST_JOB = 1_500_000_000
 NEXT_JOB = 800_000_000
 MOST_JOBS = 4
+# What isn't at the head of the longest chain gets what that leaves of the processors.
+BESIDE = ("nice", "-n", "10")
 
 
 def tell(text):
@@ -132,7 +134,7 @@ class Lanes:
         self.left = sorted(tasks, key=self.chains.get, reverse=True)
         processors, self.memory = len(os.sched_getaffinity(0)), half_of_the_memory()
         # A check of several jobs uses half of them in the mean: the rest wait for its longest function.
-        self.lanes, self.for_the_head = processors * 3 // 2, max(2, processors * 3 // 4)
+        self.lanes = processors * 3 // 2
         self.running, self.processes, self.ended, self.is_over = {}, set(), set(), False
 
     def found_chains(self):
@@ -148,38 +150,43 @@ class Lanes:
         return [name for name in self.left
                 if self.ended.issuperset(self.tasks[name].waits) and self.tasks[name].crate not in busy]
 
+    def is_head(self, name):
+        return all(self.chains[name] > self.chains[other] for other, _ in self.running.values())
+
     def jobs_for(self, name, waiting):
         """How many jobs the first of those that wait gets: what lanes and memory are left, but for one job of each other.
-        The head of the longest chain, for which all wait at last, gets most of the processors."""
+        The head of the longest chain, for which all wait at last, gets the most that it can use."""
         idle = self.lanes - sum(jobs for _, jobs in self.running.values())
         taken = sum(FIRST_JOB + NEXT_JOB * (jobs - 1) for _, jobs in self.running.values())
         fitting = 1 + (self.memory - taken - FIRST_JOB) // NEXT_JOB
         if self.running and min(idle, fitting) < 1:
             return 0
-        is_head = all(self.chains[name] > self.chains[other] for other, _ in self.running.values())
-        wanted = max(idle - (waiting - 1), self.for_the_head if is_head else 1)
-        return max(1, min(MOST_JOBS, wanted, fitting))
+        wanted = MOST_JOBS if self.is_head(name) else min(MOST_JOBS, idle - (waiting - 1))
+        return max(1, min(wanted, self.lanes, fitting))
 
     def start(self, pool):
         while waiting := self.ready():
-            jobs = self.jobs_for(waiting[0], len(waiting))
+            first = waiting[0]
+            jobs = self.jobs_for(first, len(waiting))
             if jobs == 0:
                 return
-            self.left.remove(waiting[0])
-            self.running[pool.submit(self.run, self.tasks[waiting[0]], jobs)] = waiting[0], jobs
+            words = () if self.is_head(first) else BESIDE
+            self.left.remove(first)
+            self.running[pool.submit(self.run, self.tasks[first], jobs, words)] = first, jobs
 
-    def run(self, task, jobs):
-        """Whether the command passed, what it said, and its seconds."""
+    def run(self, task, jobs, words):
+        """Whether the command, behind those words, passed, what it said, and its seconds."""
         began = time.monotonic()
         verb, *rest = task.command
         below = with_those_below(self.below, self.below[task.crate])
         with room_of(task.crate, below) as (folder, lock):
             if self.is_over:
                 return False, b"", 0
-            # Where we are killed, who proves goes on for a while: the lock goes with it.
-            process = subprocess.Popen(["rt", verb, "--jobs", str(jobs), *rest], cwd=folder, stdin=subprocess.DEVNULL,
-                                       stdout=subprocess.PIPE, stderr=subprocess.STDOUT, start_new_session=True,
-                                       pass_fds=(lock,))
+            # Where we are killed, who proves goes on for a while: the lock goes with it. A group, and no session: Linux
+            # gives each session the same share, whatever is nice in it.
+            process = subprocess.Popen([*words, "rt", verb, "--jobs", str(jobs), *rest], cwd=folder,
+                                       stdin=subprocess.DEVNULL, stdout=subprocess.PIPE, stderr=subprocess.STDOUT,
+                                       process_group=0, pass_fds=(lock,))
             self.processes.add(process)
             said, _ = process.communicate()
             self.processes.remove(process)
