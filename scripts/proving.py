@@ -22,8 +22,6 @@ from crates import READ, TOP, rows, with_those_below
 FIRST_JOB = 1_500_000_000
 NEXT_JOB = 800_000_000
 MOST_JOBS = 4
-# What isn't at the head of the longest chain gets what that leaves of the processors.
-BESIDE = ("nice", "-n", "10")
 
 
 def tell(text):
@@ -115,8 +113,9 @@ class Task:
 
 
 def weight_of(crate):
-    """What a crate's proof takes, told by the length of all that is read for it."""
-    return sum(path.stat().st_size for part in READ for path in (TOP / "crates" / crate / part).rglob("*") if path.is_file())
+    """What a crate's proof takes, told by the length of its code: some six seconds of a processor for each 1,000 bytes,
+    twice that in the highest crates."""
+    return sum(path.stat().st_size for path in (TOP / "crates" / crate / "src").rglob("*.rt"))
 
 
 def half_of_the_memory():
@@ -170,12 +169,11 @@ class Lanes:
             jobs = self.jobs_for(first, len(waiting))
             if jobs == 0:
                 return
-            words = () if self.is_head(first) else BESIDE
             self.left.remove(first)
-            self.running[pool.submit(self.run, self.tasks[first], jobs, words)] = first, jobs
+            self.running[pool.submit(self.run, self.tasks[first], jobs)] = first, jobs
 
-    def run(self, task, jobs, words):
-        """Whether the command, behind those words, passed, what it said, and its seconds."""
+    def run(self, task, jobs):
+        """Whether the command passed, what it said, and its seconds."""
         began = time.monotonic()
         verb, *rest = task.command
         below = with_those_below(self.below, self.below[task.crate])
@@ -183,10 +181,10 @@ class Lanes:
             if self.is_over:
                 return False, b"", 0
             # Where we are killed, who proves goes on for a while: the lock goes with it. A group, and no session: Linux
-            # gives each session the same share, whatever is nice in it.
-            process = subprocess.Popen([*words, "rt", verb, "--jobs", str(jobs), *rest], cwd=folder,
-                                       stdin=subprocess.DEVNULL, stdout=subprocess.PIPE, stderr=subprocess.STDOUT,
-                                       process_group=0, pass_fds=(lock,))
+            # gives each session the same share of the processors, whatever its jobs.
+            process = subprocess.Popen(["rt", verb, "--jobs", str(jobs), *rest], cwd=folder, stdin=subprocess.DEVNULL,
+                                       stdout=subprocess.PIPE, stderr=subprocess.STDOUT, process_group=0,
+                                       pass_fds=(lock,))
             self.processes.add(process)
             said, _ = process.communicate()
             self.processes.remove(process)
