@@ -27,12 +27,12 @@ use Rattle.eden_mount.specs.Tables.{Table}
 use Rattle.eden_mount.specs.Core.{Core, seat_of, Pends}
 use Rattle.eden_mount.specs.Replying.{Replied, attempted, uncopied, failed}
 use Rattle.eden_mount.specs.Kept.{IsMount}
-use Rattle.eden_mount.specs.Runs.{Steps, starts, turns, takes, arrives, fails, unloads, Runs}
-use Rattle.eden_mount.specs.Spans.{Blames, with_pass, then_waits, waits_after, or_failed, but_for, then_heard, IsBlamed, AreBlamed, then_flies, IsFlown, AreFlown}
-use Rattle.eden_mount.specs.Laws.{WaitsStand, MarkedWaitNoMore, waits_of, heard_by, flies_in, FetchFaultsAreBlamed, QueuedAreWaitedFor, TakenOnce}
+use Rattle.eden_mount.specs.Events.{Steps, starts, turns, takes, arrives, fails, unloads}
+use Rattle.eden_mount.specs.Spans.{waits_of, flies_in, Blames, heard_by, with_pass, then_waits, waits_after, or_failed, but_for, then_heard, IsBlamed, AreBlamed, then_flies, IsFlown, AreFlown}
+use Rattle.eden_mount.specs.Laws.{WaitsStand, MarkedWaitNoMore}
 use Rattle.eden_mount.proofs.Keeping.{pass_of}
 use Rattle.eden_mount.proofs.TurnLemmas.{wants_after_done, marks_after_done, wants_after_wait, marks_after_wait}
-use Rattle.eden_mount.proofs.Running.{runs_keep}
+use Rattle.eden_mount.proofs.Running.{Runs, OfRuns, runs_keep, taken_passes}
 
 -- a want for the key is the key
 wanted_is : (k : Key) (o : Option Key) → wants_key k o ≡ true → o ≡ Some k
@@ -108,10 +108,6 @@ module _ {T : Type 0} (A : Table T) (honest : Type 0) (opening : Tree) where
     where
       at : (i : ℕ) → IsPass i k.queue → IsPass i m.queue
       at i s = (s.0, subst (λ n. i ≤ n) (ap (λ (q : Queue). q.passes) is) s.1)
-
-  taken_passes : (q : Queue) (o : Option Key) → (after_take o q).passes ≡ q.passes
-  taken_passes q None = refl
-  taken_passes q (Some k) = refl
 
   same_all : (w : ℕ → Option Key) (P : Blames) (m k : Core T) → k.queue ≡ m.queue → Hears w P m → Hears w P k
   same_all w P m k is h = same_queue w P m k (ap (λ (q : Queue). q.wants) is) (ap (λ (q : Queue). q.marks) is) (ap (λ (q : Queue). q.passes) is) h
@@ -201,7 +197,7 @@ module _ {T : Type 0} (A : Table T) (honest : Type 0) (opening : Tree) where
   at_first : (m : Core T) → Hears (waits_of m) (heard_by m) m
   at_first m = record { waits = λ c k s e. e; heard = λ c k x s e. e }
 
-  pub fetch_faults_are_blamed : FetchFaultsAreBlamed A honest opening
+  pub fetch_faults_are_blamed : OfRuns A honest opening (λ m es os m'. AreBlamed (waits_of m) (heard_by m) es os)
   fetch_faults_are_blamed m m' es os h r = all_blamed (waits_of m) (heard_by m) m m' es os (at_first m) h r
 
   -- a pass that wants a key has a request pending
@@ -212,7 +208,9 @@ module _ {T : Type 0} (A : Table T) (honest : Type 0) (opening : Tree) where
       at None e = absurd (let none : None ≡ Some k = sym (h.rests c (pass, e)).0 ∙ want in cc none)
       at (Some s) e = (s, (pass.0, e))
 
-  pub queued_are_waited_for : QueuedAreWaitedFor A honest opening
+  -- some pending request waits for each queued key
+  pub queued_are_waited_for : OfRuns A honest opening (λ m es os m'. (k : Key) → has_key k m'.queue.queue ≡ true
+      → (c : ℕ) × (s : Pending) × Pends c s m' × (waits_after (waits_of m) es os c ≡ Some k))
   queued_are_waited_for m m' es os h r k queued =
       let now = runs_keep A honest opening m m' es os h r in
       let found = queued_are_wanted m'.queue k now.queue queued in
@@ -261,7 +259,7 @@ module _ {T : Type 0} (A : Table T) (honest : Type 0) (opening : Tree) where
       let one = flown g m k e o h l step in
       (one.0, all_flown (then_flies g e o) k m' es os one.1 kept more)
 
-  pub taken_once : TakenOnce A honest opening
+  pub taken_once : OfRuns A honest opening (λ m es os m'. AreFlown (flies_in m) es os)
   taken_once m m' es os h r = all_flown (flies_in m) m m' es os (record { flies = λ j. refl }) h r
 
   -- ---- one turn

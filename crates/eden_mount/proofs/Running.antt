@@ -1,24 +1,43 @@
 -- What holds of every run, by one step after another.
-use Rattle.std.proofs.Common.{◌≡◌, ◌≤◌, ◌<◌, ◌-◌, ◌==◌, ℕ, Bool, true, false, cond, List, [], ◌∷◌, ◌++◌, length, Option, Some, None, slice_index_or, IfSome, Ok, Err, length-append, append_assoc, append-nil, refl, sym, ap, ◌∙◌, subst, arith}
+use Rattle.std.proofs.Common.{◌≡◌, ◌≤◌, ◌<◌, ◌-◌, ◌==◌, ℕ, Bool, true, false, cond, List, [], ◌∷◌, ◌++◌, length, Option, Some, None, slice_index_or, IsSome, IfSome, Ok, Err, length-append, append_assoc, append-nil, refl, sym, ap, ◌∙◌, subst, arith}
 use Rattle.std.proofs.Math.ListN.{set}
 use Rattle.std.specs.Option.{option_map}
+use Rattle.eden_model.specs.declared.fault.StartFault.TheVariants.{NoPass, Busy, HistoryFull, Memory}
+use Rattle.eden_model.specs.declared.id.Key.{Key}
 use Rattle.eden_model.specs.declared.request.Request.{Request}
 use Rattle.eden_model.specs.Trees.{Tree}
+use Rattle.eden_import.specs.Queue.{Queue, next_key, after_failed, after_failure, after_take}
+use Rattle.eden_import.proofs.CallerLemmas.{quit_rest, passes_keep_flight}
 use Rattle.eden_mount.specs.declared.seats.Pending.{Pending}
 use Rattle.eden_mount.specs.declared.events.Turned.TheVariants.{Done, Wait, Idle}
 use Rattle.eden_mount.specs.declared.events.Arrived.TheVariants.{Stored, Refused, Stray}
 use Rattle.eden_mount.specs.declared.events.Event.{Event}
 use Rattle.eden_mount.specs.declared.events.Outcome.{Outcome}
 use Rattle.eden_mount.specs.Tables.{Table}
-use Rattle.eden_mount.specs.Core.{Core, seat_of, entry}
+use Rattle.eden_mount.specs.Core.{Core, seat_of, Pends, entry}
 use Rattle.eden_mount.specs.Kept.{IsMount}
-use Rattle.eden_mount.specs.Runs.{Steps, starts, turns, takes, arrives, fails, unloads, Runs}
-use Rattle.eden_mount.specs.Spans.{with_pass, then_asked, asked_after, entry_of, then_told, told, then_length, then_begun, IsNumbered, AreNumbered}
-use Rattle.eden_mount.specs.Laws.{request_of, since_of, RunsKeep, HistoryGrows, NumbersAreInSpans, PendingIsAsked}
+use Rattle.eden_mount.specs.Events.{Steps, starts, turns, takes, arrives, fails, unloads}
+use Rattle.eden_mount.specs.Spans.{request_of, since_of, with_pass, then_asked, asked_after, entry_of, then_told, told, IsAnswered, AreAnswered, then_length, then_begun, IsNumbered, AreNumbered}
 use Rattle.eden_mount.proofs.SeatLemmas.{write_one, within_if_some}
 
+pub taken_passes : (q : Queue) (o : Option Key) → (after_take o q).passes ≡ q.passes
+taken_passes q None = refl
+taken_passes q (Some k) = refl
+
 module _ {T : Type 0} (A : Table T) (honest : Type 0) (opening : Tree) where
-  pub runs_keep : RunsKeep A honest opening
+  -- the events were answered so, one after another, and after each there was a mount
+  abbrev pub Runs : Core T → List Event → List Outcome → Core T → Type 0
+  Runs m [] [] m' = m' ≡ m
+  Runs m [] (o ∷ os) m' = ⊥
+  Runs m (e ∷ es) [] m' = ⊥
+  Runs m (e ∷ es) (o ∷ os) m' = (k : Core T) × Steps A honest m k e o × IsMount A honest opening k × Runs k es os m'
+
+  -- of every run, from any mount
+  abbrev pub OfRuns : (Core T → List Event → List Outcome → Core T → Type 0) → Type 0
+  OfRuns P = (m m' : Core T) (es : List Event) (os : List Outcome) → IsMount A honest opening m → Runs m es os m' → P m es os m'
+
+  -- every mount that comes of a run is one
+  pub runs_keep : OfRuns (λ m es os m'. IsMount A honest opening m')
   runs_keep m m' [] [] h r = subst (IsMount A honest opening) (sym r) h
   runs_keep m m' [] (o ∷ os) h r = absurd r
   runs_keep m m' (e ∷ es) [] h r = absurd r
@@ -120,7 +139,7 @@ module _ {T : Type 0} (A : Table T) (honest : Type 0) (opening : Tree) where
       let w = quiet f b m k l (ap (λ (x : Core T). x.seats) p.1) (ap (λ (x : Core T). x.history) p.1) in
       record { links = w.0; history = w.1; grown = w.2; numbered = tt }
 
-  grows : (f : ℕ → Option Request) (b : ℕ → Option ℕ) (m m' : Core T) (es : List Event) (os : List Outcome) → Links f b m → IsMount A honest opening m → Runs A honest opening m es os m'
+  grows : (f : ℕ → Option Request) (b : ℕ → Option ℕ) (m m' : Core T) (es : List Event) (os : List Outcome) → Links f b m → IsMount A honest opening m → Runs m es os m'
       → m'.history ≡ m.history ++ told f es os
   grows f b m m' [] [] l h r = ap (λ (x : Core T). x.history) r ∙ sym (append-nil m.history)
   grows f b m m' [] (o ∷ os) l h r = absurd r
@@ -132,7 +151,7 @@ module _ {T : Type 0} (A : Table T) (honest : Type 0) (opening : Tree) where
       ∙ append_assoc m.history (then_told f e o) (told (then_asked f e o) es os)
 
   numbers : (f : ℕ → Option Request) (b : ℕ → Option ℕ) (n : ℕ) (m m' : Core T) (es : List Event) (os : List Outcome) → Links f b m → length m.history ≡ n → IsMount A honest opening m
-      → Runs A honest opening m es os m' → AreNumbered b n es os
+      → Runs m es os m' → AreNumbered b n es os
   numbers f b n m m' [] os l z h r = tt
   numbers f b n m m' (e ∷ es) [] l z h r = tt
   numbers f b n m m' (e ∷ es) (o ∷ os) l z h (k, step, kept, more) =
@@ -140,7 +159,7 @@ module _ {T : Type 0} (A : Table T) (honest : Type 0) (opening : Tree) where
       let P : ℕ → Type 0 = λ i. AreNumbered b i (e ∷ es) (o ∷ os) in
       subst P z (one.numbered, numbers (then_asked f e o) (then_begun b (length m.history) e o) (then_length (length m.history) o) k m' es os one.links one.grown kept more)
 
-  pendings : (f : ℕ → Option Request) (b : ℕ → Option ℕ) (m m' : Core T) (es : List Event) (os : List Outcome) → Links f b m → IsMount A honest opening m → Runs A honest opening m es os m' → (c : ℕ)
+  pendings : (f : ℕ → Option Request) (b : ℕ → Option ℕ) (m m' : Core T) (es : List Event) (os : List Outcome) → Links f b m → IsMount A honest opening m → Runs m es os m' → (c : ℕ)
       → 1 ≤ c → request_of m' c ≡ asked_after f es os c
   pendings f b m m' [] [] l h r c low = ap (λ (x : Core T). request_of x c) r ∙ sym (l.asked c low)
   pendings f b m m' [] (o ∷ os) l h r c low = absurd r
@@ -149,14 +168,71 @@ module _ {T : Type 0} (A : Table T) (honest : Type 0) (opening : Tree) where
       let one = follows f b m k e o h l step in
       pendings (then_asked f e o) (then_begun b (length m.history) e o) k m' es os one.links kept more c low
 
+  -- ---- answers
+
+  passes_stay : (m k : Core T) (e : Event) (o : Outcome) → Steps A honest m k e o → k.queue.passes ≡ m.queue.passes
+  passes_stay m k _ _ (starts c q (Ok u) p) = ap (λ (x : Core T). x.queue.passes) p.2
+  passes_stay m k _ _ (starts c q (Err x) p) = ap (λ (x : Core T). x.queue.passes) p.1
+  passes_stay m k _ _ (turns c (Done n r) p) = ap (λ (x : Core T). x.queue.passes) p.3 ∙ (quit_rest c (after_failure c m.queue)).1
+  passes_stay m k _ _ (turns c (Wait j) p) = ap (λ (x : Core T). x.queue.passes) p.2 ∙ (passes_keep_flight (after_failure c m.queue) j c).2.1
+  passes_stay m k _ _ (turns c Idle p) = ap (λ (x : Core T). x.queue.passes) p.2
+  passes_stay m k _ _ (takes o p) = ap (λ (x : Core T). x.queue.passes) p.1 ∙ taken_passes m.queue (next_key m.queue)
+  passes_stay m k _ _ (arrives j bytes Stored p) = ap (λ (x : Core T). x.queue.passes) p.2
+  passes_stay m k _ _ (arrives j bytes (Refused x) p) = ap (λ (x : Core T). x.queue.passes) p.2
+  passes_stay m k _ _ (arrives j bytes Stray p) = ap (λ (x : Core T). x.queue.passes) p.1
+  passes_stay m k _ _ (fails j x true p) = ap (λ (x : Core T). x.queue.passes) p.1 ∙ ap (λ b. (cond b (after_failed j x m.queue) m.queue).passes) (sym p.0)
+  passes_stay m k _ _ (fails j x false p) = ap (λ (x : Core T). x.queue.passes) p.1 ∙ ap (λ b. (cond b (after_failed j x m.queue) m.queue).passes) (sym p.0)
+  passes_stay m k _ _ (unloads q age gone p) = ap (λ (x : Core T). x.queue.passes) p.1
+
+  module _ (f : ℕ → Option Request) (b : ℕ → Option ℕ) (m : Core T) (l : Links f b m) where
+    asks_none : (c : ℕ) → 1 ≤ c → seat_of c m ≡ None → f c ≡ None
+    asks_none c low none = l.asked c low ∙ ap (option_map (λ (s : Pending). s.request)) none
+
+    asks_some : (c : ℕ) (s : Pending) → Pends c s m → IsSome (f c)
+    asks_some c s pends = subst IsSome (sym (l.asked c pends.0 ∙ ap (option_map (λ (x : Pending). x.request)) pends.1)) refl
+
+    rests : (c : ℕ) → ((s : Pending) → ¬ Pends c s m) → 1 ≤ c → f c ≡ None
+    rests c never low = asks_none c low (at (seat_of c m) refl)
+      where
+        at : (o : Option Pending) → seat_of c m ≡ o → seat_of c m ≡ None
+        at None is = is
+        at (Some s) is = absurd (never s (low, is))
+
+    answered : (k : Core T) (e : Event) (o : Outcome) → Steps A honest m k e o → IsAnswered m.queue.passes f e o
+    answered k _ _ (starts c q (Ok u) p) = (p.0.0.0, p.0.0.1, asks_none c p.0.0.0 p.0.1)
+    answered k _ _ (starts c q (Err NoPass) p) = p.0
+    answered k _ _ (starts c q (Err Busy) p) = asks_some c p.0.1 p.0.2
+    answered k _ _ (starts c q (Err (HistoryFull limit)) p) = asks_none c p.0.0.0.0 p.0.0.1
+    answered k _ _ (starts c q (Err Memory) p) = asks_none c p.0.0.0.0 p.0.0.1
+    answered k _ _ (turns c (Done n r) p) = asks_some c p.0 p.1
+    answered k _ _ (turns c (Wait j) p) = asks_some c p.0 p.1
+    answered k _ _ (turns c Idle p) = rests c p.0
+    answered k _ _ (takes o p) = tt
+    answered k _ _ (arrives j bytes a p) = tt
+    answered k _ _ (fails j x y p) = tt
+    answered k _ _ (unloads q age gone p) = tt
+
+  all_answered : (f : ℕ → Option Request) (b : ℕ → Option ℕ) (m m' : Core T) (es : List Event) (os : List Outcome) → Links f b m → IsMount A honest opening m → Runs m es os m'
+      → AreAnswered m.queue.passes f es os
+  all_answered f b m m' [] [] l h r = tt
+  all_answered f b m m' [] (o ∷ os) l h r = absurd r
+  all_answered f b m m' (e ∷ es) [] l h r = absurd r
+  all_answered f b m m' (e ∷ es) (o ∷ os) l h (k, step, kept, more) =
+      let one = follows f b m k e o h l step in
+      let rest = all_answered (then_asked f e o) (then_begun b (length m.history) e o) k m' es os one.links kept more in
+      (answered f b m l k e o step, subst (λ n. AreAnswered n (then_asked f e o) es os) (passes_stay m k e o step) rest)
+
   from_start : (m : Core T) → Links (request_of m) (since_of m) m
   from_start m = record { asked = λ c low. refl; begun = λ c low. refl }
 
-  pub history_grows : HistoryGrows A honest opening
+  pub history_grows : OfRuns (λ m es os m'. m'.history ≡ m.history ++ told (request_of m) es os)
   history_grows m m' es os h r = grows (request_of m) (since_of m) m m' es os (from_start m) h r
 
-  pub numbers_are_in_spans : NumbersAreInSpans A honest opening
+  pub numbers_are_in_spans : OfRuns (λ m es os m'. AreNumbered (since_of m) (length m.history) es os)
   numbers_are_in_spans m m' es os h r = numbers (request_of m) (since_of m) (length m.history) m m' es os (from_start m) refl h r
 
-  pub pending_is_asked : PendingIsAsked A honest opening
+  pub pending_is_asked : OfRuns (λ m es os m'. (c : ℕ) → 1 ≤ c → request_of m' c ≡ asked_after (request_of m) es os c)
   pending_is_asked m m' es os h r = pendings (request_of m) (since_of m) m m' es os (from_start m) h r
+
+  pub all_are_answered : OfRuns (λ m es os m'. AreAnswered m.queue.passes (request_of m) es os)
+  all_are_answered m m' es os h r = all_answered (request_of m) (since_of m) m m' es os (from_start m) h r

@@ -3,7 +3,7 @@ pub mod Core
 pub mod Replying
 pub mod Steps
 pub mod Kept
-pub mod Runs
+pub mod Events
 pub mod Spans
 pub mod Laws
 pub mod Settings

@@ -1,20 +1,39 @@
 -- What a list of events and outcomes says of each pass: what it has asked, what it waits for, what failed for it.
-use Rattle.std.specs.Prelude.{◌≡◌, ◌≢◌, ◌<◌, ◌+◌, ◌==◌, ◌⊎◌, ◌&&◌, ◌||◌, not, ℕ, Bool, true, false, if◌then◌else◌, List, [], ◌∷◌, ◌++◌, Option, Some, None, IfSome, Ok}
+use Rattle.std.specs.Prelude.{◌≡◌, ◌≢◌, ◌<◌, ◌≤◌, ◌+◌, ◌==◌, ◌⊎◌, ◌&&◌, ◌||◌, not, ℕ, Bool, true, false, if◌then◌else◌, List, [], ◌∷◌, ◌++◌, Option, Some, None, IsSome, IfSome, Ok, Err}
+use Rattle.std.specs.Option.{option_map}
 use Rattle.eden_model.specs.declared.entry.Entry.{Entry}
 use Rattle.eden_model.specs.declared.fault.Cause.{Cause}
 use Rattle.eden_model.specs.declared.fault.Fault.TheVariants as fault
+use Rattle.eden_model.specs.declared.fault.StartFault.TheVariants.{NoPass, Busy}
 use Rattle.eden_model.specs.declared.id.Key.{Key}
 use Rattle.eden_model.specs.declared.reply.Reply.{Reply}
 use Rattle.eden_model.specs.declared.reply.Reply.TheVariants as say
 use Rattle.eden_model.specs.declared.request.Request.{Request}
 use Rattle.eden_model.specs.Keys.{same_key}
-use Rattle.eden_mount.specs.declared.events.Turned.TheVariants.{Done, Wait}
+use Rattle.eden_import.specs.Keys.{has_key}
+use Rattle.eden_import.specs.Queue.{want_of, mark_of}
+use Rattle.eden_mount.specs.declared.seats.Pending.{Pending}
+use Rattle.eden_mount.specs.declared.events.Turned.TheVariants.{Done, Wait, Idle}
 use Rattle.eden_mount.specs.declared.events.Arrived.TheVariants.{Stored, Refused, Stray}
 use Rattle.eden_mount.specs.declared.events.Event.{Event}
 use Rattle.eden_mount.specs.declared.events.Event.TheVariants as event
 use Rattle.eden_mount.specs.declared.events.Outcome.{Outcome}
 use Rattle.eden_mount.specs.declared.events.Outcome.TheVariants as outcome
-use Rattle.eden_mount.specs.Core.{entry}
+use Rattle.eden_mount.specs.Core.{Core, seat_of, entry}
+
+-- ---- what a mount says at the run's start
+
+abbrev pub request_of : {T : Type 0} → Core T → ℕ → Option Request
+request_of m c = option_map (λ (s : Pending). s.request) (seat_of c m)
+
+abbrev pub since_of : {T : Type 0} → Core T → ℕ → Option ℕ
+since_of m c = option_map (λ (s : Pending). s.since) (seat_of c m)
+
+abbrev pub waits_of : {T : Type 0} → Core T → ℕ → Option Key
+waits_of m c = want_of c m.queue
+
+abbrev pub flies_in : {T : Type 0} → Core T → Key → Bool
+flies_in m k = has_key k m.queue.flight
 
 -- this of one pass, and of every other what f has
 abbrev pub with_pass : {X : Type 0} → (ℕ → X) → ℕ → X → ℕ → X
@@ -47,6 +66,28 @@ told f [] os = []
 told f (e ∷ es) [] = []
 told f (e ∷ es) (o ∷ os) = then_told f e o ++ told (then_asked f e o) es os
 
+-- ---- answers
+
+-- Each event has an answer of its kind. A start is refused as unknown where there is none of n such passes, and as busy
+-- where a request is pending; a turn is idle exactly where none is.
+abbrev pub IsAnswered : ℕ → (ℕ → Option Request) → Event → Outcome → Type 0
+IsAnswered n f (event.Start c q) (outcome.Start (Ok u)) = (1 ≤ c) × (c ≤ n) × (f c ≡ None)
+IsAnswered n f (event.Start c q) (outcome.Start (Err NoPass)) = ¬ ((1 ≤ c) × (c ≤ n))
+IsAnswered n f (event.Start c q) (outcome.Start (Err Busy)) = IsSome (f c)
+IsAnswered n f (event.Start c q) (outcome.Start (Err x)) = f c ≡ None
+IsAnswered n f (event.Turn c) (outcome.Turn Idle) = 1 ≤ c → f c ≡ None
+IsAnswered n f (event.Turn c) (outcome.Turn t) = IsSome (f c)
+IsAnswered n f event.Take (outcome.Take o) = Unit {0}
+IsAnswered n f (event.Arrive k bytes) (outcome.Arrive a) = Unit {0}
+IsAnswered n f (event.Fail k x) (outcome.Fail b) = Unit {0}
+IsAnswered n f (event.Unload p age) (outcome.Unload gone) = Unit {0}
+IsAnswered n f e o = ⊥
+
+abbrev pub AreAnswered : ℕ → (ℕ → Option Request) → List Event → List Outcome → Type 0
+AreAnswered n f [] [] = Unit {0}
+AreAnswered n f (e ∷ es) (o ∷ os) = IsAnswered n f e o × AreAnswered n (then_asked f e o) es os
+AreAnswered n f es os = ⊥
+
 -- ---- numbers
 
 -- how long the history is
@@ -66,9 +107,8 @@ IsNumbered b n (event.Turn c) (outcome.Turn (Done k r)) = (k ≡ n + 1) × IfSom
 IsNumbered b n e o = Unit {0}
 
 abbrev pub AreNumbered : (ℕ → Option ℕ) → ℕ → List Event → List Outcome → Type 0
-AreNumbered b n [] os = Unit {0}
-AreNumbered b n (e ∷ es) [] = Unit {0}
 AreNumbered b n (e ∷ es) (o ∷ os) = IsNumbered b n e o × AreNumbered (then_begun b n e o) (then_length n o) es os
+AreNumbered b n es os = Unit {0}
 
 -- ---- waits and failures
 
@@ -86,6 +126,10 @@ waits_after w (e ∷ es) (o ∷ os) = waits_after (then_waits w e o) es os
 -- which pass heard since its last turn that a key, for which it waits, failed with that cause
 abbrev pub Blames : Type 1
 Blames = ℕ → Key → Cause → Type 0
+
+-- the failures that a mount's passes have heard
+abbrev pub heard_by : {T : Type 0} → Core T → Blames
+heard_by m c k x = mark_of c m.queue ≡ Some (k, x)
 
 abbrev pub or_failed : (ℕ → Option Key) → Blames → Key → Cause → Blames
 or_failed w P k x i j y = P i j y ⊎ ((w i ≡ Some k) × (j ≡ k) × (y ≡ x))
@@ -106,9 +150,8 @@ IsBlamed P (event.Turn c) (outcome.Turn (Done n (say.Fault (fault.Fetch id x))))
 IsBlamed P e o = Unit {0}
 
 abbrev pub AreBlamed : (ℕ → Option Key) → Blames → List Event → List Outcome → Type 0
-AreBlamed w P [] os = Unit {0}
-AreBlamed w P (e ∷ es) [] = Unit {0}
 AreBlamed w P (e ∷ es) (o ∷ os) = IsBlamed P e o × AreBlamed (then_waits w e o) (then_heard w P e o) es os
+AreBlamed w P es os = Unit {0}
 
 -- ---- flights
 
@@ -130,6 +173,5 @@ IsFlown g (event.Fail k x) (outcome.Fail b) = b ≡ g k
 IsFlown g e o = Unit {0}
 
 abbrev pub AreFlown : (Key → Bool) → List Event → List Outcome → Type 0
-AreFlown g [] os = Unit {0}
-AreFlown g (e ∷ es) [] = Unit {0}
 AreFlown g (e ∷ es) (o ∷ os) = IsFlown g e o × AreFlown (then_flies g e o) es os
+AreFlown g es os = Unit {0}

@@ -1,9 +1,12 @@
-ghost use Rattle.std.specs.Prelude.{◌≡◌, ◌<◌, ℕ, true, false, [], IfOk, IfErr, OnOk, OnErr, IfSome, IfNone};
-ghost use Rattle.eden_model.specs.Histories.{Legal};
+ghost use Rattle.std.specs.Prelude.{◌≡◌, ◌<◌, ◌≤◌, ◌++◌, ℕ, true, false, [], length, Some, IfOk, IfErr, OnOk, OnErr, IfSome, IfNone};
+ghost use Rattle.eden_model.specs.declared.id.Key as keys;
+ghost use Rattle.eden_model.specs.Histories.{Legal, replay};
+ghost use Rattle.eden_import.specs.Keys.{has_key};
 ghost use Rattle.eden_object.specs.Objects.{IsHonest};
 ghost use Rattle.eden_mount.specs.Core.{Pends, IsFree, IsLeastBusy, pending_count, taken_room};
 ghost use Rattle.eden_mount.specs.Steps.{IsRefused, Starts, Turns, GoesOn, Takes, Arrives, Fails, LetsGo};
-ghost use Rattle.eden_mount.specs.Runs.{IsHonestEvent, AreHonest, Steps, Runs};
+ghost use Rattle.eden_mount.specs.Events.{IsHonestEvent, AreHonest, Steps};
+ghost use Rattle.eden_mount.specs.Spans.{request_of, since_of, waits_of, heard_by, flies_in, told, asked_after, waits_after, AreAnswered, AreNumbered, AreBlamed, AreFlown};
 ghost use Rattle.eden_mount.specs.Kept.{IsMount, core_from};
 ghost use Rattle.eden_mount.specs.Serving.{IsAtRest};
 ghost use Rattle.eden_mount.specs.declared.seats.Pending as declared;
@@ -283,18 +286,40 @@ impl<W: World, T: Attempts<W> + Drop, A: Allocator> Mount<W, T, A> {
         }
     }
 
-    /// Makes these events happen, one after another; the outcomes are the answers of the calls. The only error is want
-    /// of memory for the outcomes, before any event.
+    /// Makes these events happen, one after another; the outcomes are the answers of the calls.
+    ///
+    /// The history goes on with one entry for each finished request, in order, at the number that was told, behind the
+    /// start of its span; where the outside is honest it is legal, and the table shows the tree after it. What is pending
+    /// is what was asked, less what is done. Each fetch fault has its failure, which its pass heard while it waited for
+    /// that key; some pending request waits for each queued key; and a key is taken again only after it arrived or failed.
+    ///
+    /// The only error is want of memory for the outcomes, before any event.
     pub fn run(&mut self, events: Vec<Event>) -> Result<Vec<Outcome>, AllocError>
         requires { W.honest → AreHonest W.repository events.items }
-        ensures ok { IfOk result (λ os. Runs T.table W.honest W.opening self.old events.items os.items self.new) }
+        ensures history { IfOk result (λ os. self.new.history
+            ≡ self.old.history ++ told (request_of self.old) events.items os.items) }
+        ensures legal { W.honest → Legal W.opening self.new.history }
+        ensures shown { W.honest → T.table.shown self.new.table ≡ replay W.opening self.new.history }
+        ensures answered { IfOk result (λ os.
+            AreAnswered self.old.queue.passes (request_of self.old) events.items os.items) }
+        ensures numbers { IfOk result (λ os.
+            AreNumbered (since_of self.old) (length self.old.history) events.items os.items) }
+        ensures pending { IfOk result (λ os. (c : ℕ) → 1 ≤ c
+            → request_of self.new c ≡ asked_after (request_of self.old) events.items os.items c) }
+        ensures blamed { IfOk result (λ os. AreBlamed (waits_of self.old) (heard_by self.old) events.items os.items) }
+        ensures queued { IfOk result (λ os. (k : keys.Key) → has_key k self.new.queue.queue ≡ true → (c : ℕ)
+            × (s : declared.Pending) × Pends c s self.new
+            × (waits_after (waits_of self.old) events.items os.items c ≡ Some k)) }
+        ensures taken { IfOk result (λ os. AreFlown (flies_in self.old) events.items os.items) }
         ensures err { OnErr result (self.new ≡ self.old) }
     {
+        self.holds();
         let mut outcomes = Vec::with_capacity(self.alloc, events.len())?;
         for event in events {
             outcomes.push(self.apply(event)).unwrap();
             self.holds();
         }
+        self.holds();
         Ok(outcomes)
     }
 }

@@ -2,7 +2,7 @@ use Rattle.std.proofs.Common.{ℕ, List, sym, subst}
 use Rattle.eden_mount.specs.declared.events.Event.{Event}
 use Rattle.eden_mount.specs.declared.events.Outcome.TheVariants as outcome
 use Rattle.eden_mount.specs.Steps.{Arrives}
-use Rattle.eden_mount.specs.Runs.{Steps, starts, turns, takes, arrives, fails, unloads}
+use Rattle.eden_mount.specs.Events.{Steps, starts, turns, takes, arrives, fails, unloads}
 use Rattle.eden_mount.proofs.mount.Mount.apply.Goals as goal
 
 pub returns-in-Start : goal.returns-in-Start

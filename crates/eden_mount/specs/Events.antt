@@ -1,10 +1,10 @@
--- Runs of events: one step after another.
-use Rattle.std.specs.Prelude.{◌≡◌, ℕ, Bool, List, [], ◌∷◌, Option, Result}
+-- Events, and what each does to a mount.
+use Rattle.std.specs.Prelude.{ℕ, Bool, List, [], ◌∷◌, Option, Result}
 use Rattle.eden_model.specs.declared.fault.Cause.{Cause}
 use Rattle.eden_model.specs.declared.fault.StartFault.{StartFault}
 use Rattle.eden_model.specs.declared.id.Key.{Key}
 use Rattle.eden_model.specs.declared.request.Request.{Request}
-use Rattle.eden_model.specs.Trees.{Path, Tree}
+use Rattle.eden_model.specs.Trees.{Path}
 use Rattle.eden_model.specs.Repository.{Repository}
 use Rattle.eden_object.specs.Objects.{IsHonest}
 use Rattle.eden_mount.specs.declared.events.Turned.{Turned}
@@ -16,7 +16,6 @@ use Rattle.eden_mount.specs.declared.events.Outcome.TheVariants as outcome
 use Rattle.eden_mount.specs.Tables.{Table}
 use Rattle.eden_mount.specs.Core.{Core}
 use Rattle.eden_mount.specs.Steps.{Starts, Turns, Takes, Arrives, Fails, LetsGo}
-use Rattle.eden_mount.specs.Kept.{IsMount}
 
 -- bytes that arrive agree with the repository
 abbrev pub IsHonestEvent : Repository → Event → Type 0
@@ -43,11 +42,3 @@ module _ {T : Type 0} (A : Table T) (honest : Type 0) where
     fails : (k : Key) (x : Cause) (b : Bool) → Fails m k x b m' → Steps m m' (event.Fail k x) (outcome.Fail b)
     unloads : (p : Path) (age gone : ℕ) → LetsGo A honest m p age gone m'
         → Steps m m' (event.Unload p age) (outcome.Unload gone)
-
-module _ {T : Type 0} (A : Table T) (honest : Type 0) (opening : Tree) where
-  -- the events were answered so, one after another, and after each there was a mount
-  abbrev pub Runs : Core T → List Event → List Outcome → Core T → Type 0
-  Runs m [] [] m' = m' ≡ m
-  Runs m [] (o ∷ os) m' = ⊥
-  Runs m (e ∷ es) [] m' = ⊥
-  Runs m (e ∷ es) (o ∷ os) m' = (k : Core T) × Steps A honest m k e o × IsMount A honest opening k × Runs k es os m'
