@@ -9,14 +9,20 @@ TOP = pathlib.Path(__file__).resolve().parent.parent
 READ = ("src", "specs", "proofs")
 
 
-def rows(top=TOP):
+def rows():
     """Each crate of crates.txt, and its row: the words before the colon, and the libraries behind it."""
     found = {}
-    for line in (top / "crates.txt").read_text().splitlines():
+    for line in (TOP / "crates.txt").read_text().splitlines():
         head, colon, below = line.partition("#")[0].partition(":")
         if colon:
             found[head.split()[0]] = head.split(), below.split()
     return found
+
+
+def write_rows(folder, names):
+    """Writes the rows of these crates into a crates.txt of the folder's own."""
+    lines = [f"{' '.join(head)}: {' '.join(below)}\n" for name, (head, below) in rows().items() if name in names]
+    (folder / "crates.txt").write_text("".join(lines))
 
 
 def dependencies():
@@ -89,11 +95,11 @@ def toolchain():
     return subprocess.run(["rt", "version"], capture_output=True, check=True).stdout
 
 
-def digest_of(name, digests, top=TOP):
+def digest_of(name, digests):
     """A digest of the toolchain, the crate's row and its files, and the digests of those that it stands on."""
     digest = hashlib.sha1(toolchain())
-    digest.update(repr(rows(top)[name]).encode())
-    crate = top / "crates" / name
+    digest.update(repr(rows()[name]).encode())
+    crate = TOP / "crates" / name
     for path in sorted(path for part in READ for path in (crate / part).rglob("*") if path.is_file()):
         digest.update(str(path.relative_to(crate)).encode() + b"\0" + path.read_bytes())
     for other in digests:

@@ -16,7 +16,7 @@ import subprocess
 import sys
 import time
 
-from crates import READ, TOP, rows, with_those_below
+from crates import READ, TOP, with_those_below, write_rows
 
 # What a check was seen to take at most, with one job and for each further one (docs/GATE.md).
 FIRST_JOB = 1_500_000_000
@@ -73,8 +73,7 @@ def furnish(room, name, below):
     for other in below:
         with locked(TOP / "crates" / other):
             link_tree(TOP / "crates" / other / "out/rlib", room / "crates" / other / "out/rlib")
-    lines = [f"{' '.join(head)}: {' '.join(deps)}\n" for key, (head, deps) in rows().items() if key in {name, *below}]
-    (room / "crates.txt").write_text("".join(lines))
+    write_rows(room, {name, *below})
     shutil.copy(TOP / "HANDLES", room)
 
 
@@ -118,6 +117,10 @@ def weight_of(crate):
     return sum(path.stat().st_size for path in (TOP / "crates" / crate / "src").rglob("*.rt"))
 
 
+def processors():
+    return len(os.sched_getaffinity(0))
+
+
 def half_of_the_memory():
     with open("/proc/meminfo") as lines:
         return next(1024 * int(line.split()[1]) for line in lines if line.startswith("MemTotal:")) // 2
@@ -131,9 +134,9 @@ class Lanes:
         self.tasks, self.below = tasks, below
         self.chains = self.found_chains()
         self.left = sorted(tasks, key=self.chains.get, reverse=True)
-        processors, self.memory = len(os.sched_getaffinity(0)), half_of_the_memory()
+        self.memory = half_of_the_memory()
         # A check of several jobs uses half of them in the mean: the rest wait for its longest function.
-        self.lanes = processors * 3 // 2
+        self.lanes = processors() * 3 // 2
         self.running, self.processes, self.ended, self.is_over = {}, set(), set(), False
 
     def found_chains(self):
