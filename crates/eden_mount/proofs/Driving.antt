@@ -15,6 +15,7 @@ use Rattle.eden_model.specs.Keys.{same_key}
 use Rattle.eden_model.specs.Requests.{most_objects}
 use Rattle.eden_model.specs.Trees.{Tree}
 use Rattle.eden_model.proofs.CallerLemmas.{same_key-Decides}
+use Rattle.eden_object.specs.Objects.{Body}
 use Rattle.eden_source.specs.Asking.{Asked}
 use Rattle.eden_source.specs.Fetching.{Answer}
 use Rattle.eden_import.specs.Keys.{has_key, without}
@@ -22,12 +23,12 @@ use Rattle.eden_import.specs.Queue.{Queue, Mark, IsQueue, IsPass, want_of, mark_
 use Rattle.eden_import.proofs.CallerLemmas.{all_are_met, wanters_are_marked}
 use Rattle.eden_mount.specs.declared.seats.Pending.{Pending}
 use Rattle.eden_mount.specs.declared.events.Turned.TheVariants.{Done, Wait}
-use Rattle.eden_mount.specs.Tables.{Table, KeepsBytes}
+use Rattle.eden_mount.specs.Tables.{Table, Stores, KeepsBytes}
 use Rattle.eden_mount.specs.Core.{Core, seat_of, Pends, IsFree, entry, pending_from, after_start}
 use Rattle.eden_mount.specs.Kept.{IsMount}
 use Rattle.eden_mount.specs.Replying.{Replied, attempted, uncopied, failed, ToldBy, WaitsBy}
 use Rattle.eden_mount.specs.Steps.{Turns, Takes}
-use Rattle.eden_mount.specs.Serving.{FailsBy, HasFailed, Comes, IsAtRest, IsDriven, Serves, Stays, budget, turns_left, left_at, drive_size, Hands, Drives}
+use Rattle.eden_mount.specs.Serving.{FailsBy, HasFailed, Comes, IsAtRest, IsDriven, LeadsTo, first, waiting, storing, IsTold, Serves, Stays, budget, turns_left, left_at, drive_size, Hands, Drives}
 use Rattle.eden_mount.proofs.CallerLemmas.{stays_on}
 
 -- ---- the queue of one caller
@@ -100,6 +101,7 @@ module _ {T : Type 0} (A : Table T) where
   -- how the caller stands after the answer was handed in
   record Goes (q : Request) (a : Asked) (m m' : Core T) : Type 0 where
     driven : IsDriven A q m'
+    came : ((k : Key) × (o : Body) × Stores A m.table k o m'.table) ⊎ (m'.table ≡ m.table)
     history : m'.history ≡ m.history
     seats : m'.seats ≡ m.seats
     stays : Stays A m m'
@@ -132,6 +134,7 @@ module _ {T : Type 0} (A : Table T) where
       let none : (j : Key) (x : Cause) → mark_of 1 m'.queue ≡ Some (j, x) → A.needs m'.table q j = λ j x e. absurd (let both : None ≡ Some (j, x) = sym mark ∙ e in cc both) in
       record {
         driven = driven_on q k m m' kept h seats (ap (λ (x : Queue). x.queue) queue) (ap (λ (x : Queue). x.flight) queue) (ap (want_of 1) queue ∙ (all_are_met m.queue k cause.Memory 1).0) none;
+        came = inl (k, record { kind = k.kind; bytes = keeps.0 }, keeps.2);
         history = ap (λ (x : Core T). x.history) is;
         seats = seats;
         stays = record { commit = keeps.2.commit; passes = ap (λ (x : Queue). x.passes) queue; limit = ap (λ (x : Core T). x.limit) is };
@@ -154,6 +157,7 @@ module _ {T : Type 0} (A : Table T) where
       subst (λ (i : Key). A.needs m'.table q i) same (subst (λ (t : T). A.needs t q k) (sym table) h.needs)) in
       record {
         driven = driven_on q k m m' kept h seats (ap (λ (y : Queue). y.queue) queue) (ap (λ (y : Queue). y.flight) queue) want needed;
+        came = inr table;
         history = ap (λ (y : Core T). y.history) is;
         seats = seats;
         stays = record { commit = ap A.commit table; passes = ap (λ (y : Queue). y.passes) queue; limit = ap (λ (y : Core T). y.limit) is };
@@ -236,6 +240,7 @@ module _ {T : Type 0} (A : Table T) (honest : Type 0) where
   -- the turn waited, and its key was taken
   record Flies (q : Request) (m m2 : Core T) (k j : Key) : Type 0 where
     same : j ≡ k
+    waited : WaitsBy A honest m.table q (mark_of 1 m.queue) k m2.table
     flying : IsFlying A q k m2
     within : A.left m2.table q ≤ budget (mark_of 1 m.queue) (A.left m.table q)
     some : 1 ≤ A.left m2.table q
@@ -259,6 +264,7 @@ module _ {T : Type 0} (A : Table T) (honest : Type 0) where
       let deep : 0 < length m.queue.marks = (let e = h.kept.each_pass_has_mark in let low = h.kept.some_passes.0 in omega (arith, e, low)) in
       record {
         same = took.0;
+        waited = subst (λ (t : T). WaitsBy A honest m.table q (mark_of 1 m.queue) k t) (sym table) wait;
         flying = record {
           queue = ap (λ (x : Queue). x.queue) queue2;
           flight = ap (λ (x : Queue). x.flight) queue2;
@@ -295,6 +301,13 @@ module _ {S : Type 0} (fetched : S → Id → Answer → S → Type 0) {T : Type
       let less = fewer_turns A (mark_of 1 m.queue) (A.left m.table q) (A.left m2.table q) q (record { key = k; answer = hand.answer }) m2 m3 refl f.within f.some g.how in
       (g.driven, subst (λ n. n < drive_size A m) (sym (size_of A q m3 g.driven)) (subst (λ n. turns_left (mark_of 1 m3.queue) (A.left m3.table q) < n) (sym (size_of A q m h)) less))
 
+  -- the answer was handed in, and then the rest
+  after_answer : (a : Asked) (m m' : Core T) (v : T) → Goes A q a m m' → LeadsTo A honest q m'.table v → LeadsTo A honest q m.table v
+  after_answer a m m' v g rest = by g.came where
+    by : ((k : Key) × (o : Body) × Stores A m.table k o m'.table) ⊎ (m'.table ≡ m.table) → LeadsTo A honest q m.table v
+    by (inl (k, o, stores)) = storing m.table m'.table v k o stores rest
+    by (inr same) = subst (λ (t : T). LeadsTo A honest q t v) same rest
+
   -- a reply leaves the commit
   same_commit : (t u : T) (mark : Option Mark) (r : Reply) → Replied A honest t q mark r u → A.commit u ≡ A.commit t
   same_commit t u mark r (attempted done) = done.commit
@@ -310,7 +323,7 @@ module _ {S : Type 0} (fetched : S → Id → Answer → S → Type 0) {T : Type
         asks = [];
         asked = refl;
         few = omega arith;
-        told = record { before = m.table; mark = mark_of 1 m.queue; told = mine };
+        told = record { before = m.table; led = first m.table; mark = mark_of 1 m.queue; told = mine };
         history = ap (λ (x : Core T). x.history) is ∙ ap (λ (x : Request). m.history ++ entry 1 x r ∷ []) asked;
         seats = ap (λ (x : Core T). x.seats) is;
         quiet = record {
@@ -347,7 +360,12 @@ module _ {S : Type 0} (fetched : S → Id → Answer → S → Type 0) {T : Type
         asks = a ∷ d.asks;
         asked = (t, subst (λ (i : Key). fetched s i.id hand.answer t) f.same hand.asked, d.asked);
         few = omega (arith, few);
-        told = d.told;
+        told = record {
+          before = d.told.before;
+          led = waiting m.table m2.table d.told.before (mark_of 1 m.queue) k f.waited (after_answer a m2 m3 d.told.before g d.told.led);
+          mark = d.told.mark;
+          told = d.told.told;
+        };
         history = d.history ∙ ap (λ es. es ++ entry 1 q r ∷ []) (g.history ∙ f.history);
         seats = d.seats ∙ ap (λ xs. set xs 0 None) (g.seats ∙ f.seats);
         quiet = d.quiet;
@@ -393,7 +411,7 @@ module _ {T : Type 0} (A : Table T) (honest : Type 0) (opening : Tree) (q : Requ
         asks = d.asks;
         asked = d.asked;
         few = omega (arith, few, bound);
-        told = d.told;
+        told = subst (λ (t : T). IsTold A honest q reply t m'.table) (ap (λ (x : Core T). x.table) is) d.told;
         history = d.history ∙ ap (λ (x : Core T). x.history ++ entry 1 q reply ∷ []) is;
         rest = record {
           quiet = d.quiet;

@@ -9,13 +9,14 @@ use Rattle.eden_model.specs.declared.request.Request.{Request}
 use Rattle.eden_model.specs.declared.reply.Reply.{Reply}
 use Rattle.eden_model.specs.declared.reply.Reply.TheVariants as say
 use Rattle.eden_model.specs.Requests.{most_objects}
+use Rattle.eden_object.specs.Objects.{Body}
 use Rattle.eden_source.specs.Fetching.{Answer, Fetches}
 use Rattle.eden_source.specs.Asking.{Asked, heard}
 use Rattle.eden_import.specs.Queue.{Mark, IsQueue, want_of, mark_of, after_done, after_failed}
 use Rattle.eden_mount.specs.declared.seats.Pending.{Pending}
-use Rattle.eden_mount.specs.Tables.{Table, KeepsBytes}
+use Rattle.eden_mount.specs.Tables.{Table, Stores, KeepsBytes}
 use Rattle.eden_mount.specs.Core.{Core, seat_of, Pends, entry}
-use Rattle.eden_mount.specs.Replying.{ToldBy}
+use Rattle.eden_mount.specs.Replying.{ToldBy, WaitsBy}
 use Rattle.eden_mount.specs.Steps.{IsUseless, IsRefused}
 
 -- ---- what the source was asked for
@@ -83,9 +84,17 @@ pub record Stays {T : Type 0} (A : Table T) (m m' : Core T) : Type 0 where
   pub passes : m'.queue.passes ≡ m.queue.passes
   pub limit : m'.limit ≡ m.limit
 
--- the last turn told the reply
-pub record IsTold {T : Type 0} (A : Table T) (honest : Type 0) (q : Request) (r : Reply) (u : T) : Type 0 where
+-- what the turns and the fetches for a request make of a table before its last turn: a turn ends in a wait, and an object
+-- that came is kept
+pub data LeadsTo {T : Type 0} (A : Table T) (honest : Type 0) (q : Request) : T → T → Type 0 where
+  first : (t : T) → LeadsTo A honest q t t
+  waiting : (t u v : T) (mark : Option Mark) (k : Key) → WaitsBy A honest t q mark k u → LeadsTo A honest q u v → LeadsTo A honest q t v
+  storing : (t u v : T) (k : Key) (o : Body) → Stores A t k o u → LeadsTo A honest q u v → LeadsTo A honest q t v
+
+-- the last turn told the reply, on what those before it had made of the table t
+pub record IsTold {T : Type 0} (A : Table T) (honest : Type 0) (q : Request) (r : Reply) (t u : T) : Type 0 where
   pub before : T
+  pub led : LeadsTo A honest q t before
   pub mark : Option Mark
   pub told : ToldBy A honest before q mark r u
 
@@ -101,7 +110,7 @@ module _ {S : Type 0} (fetched : S → Id → Answer → S → Type 0) {T : Type
     pub asks : List Asked
     pub asked : Fetches fetched s (heard asks) t
     pub few : length asks ≤ budget (mark_of 1 m.queue) (A.left m.table q)
-    pub told : IsTold A honest q r m'.table
+    pub told : IsTold A honest q r m.table m'.table
     pub history : m'.history ≡ m.history ++ entry 1 q r ∷ []
     pub seats : m'.seats ≡ slice_set m.seats 0 None
     pub quiet : IsQuiet m'
@@ -113,12 +122,13 @@ module _ {S : Type 0} (fetched : S → Id → Answer → S → Type 0) {T : Type
   DrivesOn honest m s r m' t = (q : Request) → IsDriven A q m → Drives honest q m s r m' t
 
   -- A request was served: the source was asked for at most one object for each place on its paths, the history has its
-  -- entry, and a fetch fault is of an object that was asked for and failed.
+  -- entry, a fault has its cause in what the caller's own turns made of the table, and a fetch fault is of an object that was
+  -- asked for and failed.
   pub record Serves (honest : Type 0) (q : Request) (m : Core T) (s : S) (r : Reply) (m' : Core T) (t : S) : Type 0 where
     pub asks : List Asked
     pub asked : Fetches fetched s (heard asks) t
     pub few : length asks ≤ most_objects q
-    pub told : IsTold A honest q r m'.table
+    pub told : IsTold A honest q r m.table m'.table
     pub history : m'.history ≡ m.history ++ entry 1 q r ∷ []
     pub rest : IsAtRest m'
     pub stays : Stays A m m'
