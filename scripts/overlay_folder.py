@@ -17,8 +17,8 @@ NUMBERED = re.compile("0|[1-9][0-9]*")
 
 # Of mountd's files: a header and a body; a directory's body is a count and entries, file 0 begins with the tree's id.
 HEADER = 64
-FILE_HEAD = b"OVFL\0\0\0\1"
-DIRECTORY_HEAD = b"OVDR\0\0\0\1"
+FILE_HEADS = b"OVFL\0\0\0\1", b"OVFL\0\0\0\2"
+DIRECTORY_HEADS = b"OVDR\0\0\0\1", b"OVDR\0\0\0\2"
 STATE, ROOT = "0", 1
 ENTRY = struct.Struct(">BBQ")
 ID = 20
@@ -63,7 +63,7 @@ class OverlayFolder:
     def state_root(self):
         """The tree that file 0 names, which a clean close leaves; None where there is none."""
         data = self.file(STATE)
-        return data[HEADER : HEADER + ID].hex() if len(data) > HEADER + ID and data.startswith(FILE_HEAD) else None
+        return data[HEADER : HEADER + ID].hex() if len(data) > HEADER + ID and data.startswith(FILE_HEADS) else None
 
     def file(self, name):
         """A file's bytes; none where it can't be read, since it is mountd that tells what is wrong with an overlay."""
@@ -99,7 +99,7 @@ class OverlayFolder:
 
 def entries(data):
     """Name, kind and number of each own entry of a directory's file, up to what is cut or damaged."""
-    if not data.startswith(DIRECTORY_HEAD):
+    if not data.startswith(DIRECTORY_HEADS):
         return
     at = HEADER + 4
     while at + ENTRY.size < len(data):

@@ -1,15 +1,18 @@
 """The files of an overlay, read by their description alone, and the whole tree that they show over a commit.
 
-A file is a header of 64 bytes and a body, as docs/FORMATS.md has it. Nothing here was taken from the repository's own
-reader, so that the two can be compared. A file that isn't as described raises `Damaged`.
+A file is a header of 64 bytes and a body, as docs/FORMATS.md has it, in one of two versions. Nothing here was taken from
+the repository's own reader, so that the two can be compared. A file that isn't as described raises `Damaged`.
 """
 
 import collections
+import hashlib
 import re
 
 FILE = b"OVFL"
 DIRECTORY = b"OVDR"
-VERSION = 1
+# The version that is written, and the one before it, which is read.
+VERSION, OLD_VERSION = 2, 1
+VERSION_AT, LENGTH_AT, DIGEST_AT, UNREAD_AT = 4, 8, 16, 36
 HEADER_BYTES = 64
 FIRST_NUMBER = 2
 END_OF_NUMBERS = 1 << 63
@@ -30,23 +33,47 @@ def sound(condition, *what):
         raise Damaged(*what)
 
 
-def header(identifier):
-    return identifier + VERSION.to_bytes(4, "big") + bytes(56)
+def file_bytes(identifier, body):
+    """The file with that body as it is written."""
+    told = VERSION.to_bytes(4, "big") + len(body).to_bytes(8, "big") + hashlib.sha1(body).digest()
+    return identifier + told + bytes(HEADER_BYTES - UNREAD_AT) + body
+
+
+def old_file_bytes(identifier, body):
+    """The same as version 1 has it, which tells nothing of the body."""
+    return identifier + OLD_VERSION.to_bytes(4, "big") + bytes(HEADER_BYTES - LENGTH_AT) + body
+
+
+def entry_bytes(kind, origin, number, name, object_id=b""):
+    """An entry of a directory's file."""
+    return bytes([kind, origin]) + number.to_bytes(8, "big") + object_id + bytes([len(name)]) + name
+
+
+def directory_body(*entries):
+    return len(entries).to_bytes(4, "big") + b"".join(entries)
+
+
+def state_body(root, following):
+    return bytes.fromhex(root) + following.to_bytes(8, "big")
 
 
 def state_bytes(root, following):
     """File 0, as a clean close leaves it."""
-    return header(FILE) + bytes.fromhex(root) + following.to_bytes(8, "big")
+    return file_bytes(FILE, state_body(root, following))
+
+
+def version_of(data):
+    return int.from_bytes(data[VERSION_AT:LENGTH_AT], "big")
 
 
 def body_of(identifier, data):
-    sound(data[:HEADER_BYTES] == header(identifier), "a header of", identifier, data[:HEADER_BYTES])
-    return data[HEADER_BYTES:]
-
-
-def looked_at(data):
-    """The file with zeros in those bytes of its header that a reader doesn't look at."""
-    return data[:8] + bytes(56) + data[HEADER_BYTES:] if len(data) >= HEADER_BYTES else data
+    body = data[HEADER_BYTES:]
+    sound(len(data) >= HEADER_BYTES and data.startswith(identifier), "a header of", identifier, data[:HEADER_BYTES])
+    sound(version_of(data) in (VERSION, OLD_VERSION), "a version", version_of(data))
+    if version_of(data) == VERSION:
+        sound(int.from_bytes(data[LENGTH_AT:DIGEST_AT], "big") == len(body), "the length of a body", len(body))
+        sound(data[DIGEST_AT:UNREAD_AT] == hashlib.sha1(body).digest(), "the digest of a body", body)
+    return body
 
 
 class Fields:

@@ -15,7 +15,8 @@ MOUNTD = pathlib.Path(sys.argv[1] if len(sys.argv) > 1 else TOP / "crates/mountd
 EXPORTER = TOP / "scripts/objects-from-git"
 GIT_OBJECTS = TOP / "scripts/git-objects"
 SAMPLE_ROOT = "d8329fc1cc938780ffdd9f94e0d364e0ea74f579"
-SAMPLE_OBJECTS = TOP / "examples/objects"
+EXAMPLES = TOP / "examples"
+SAMPLE_OBJECTS = EXAMPLES / "objects"
 
 
 @contextlib.contextmanager

@@ -147,7 +147,7 @@ fn load_all(alloc: Global, tables: &mut [Kept], entries: &[TreeEntry]) -> u64
 fn unload_all(alloc: Global, tables: &mut [Kept]) -> u64 {
     let mut gone = 0u64;
     for table in tables {
-        gone = gone.saturating_add(table.unload(alloc, &[], 0));
+        gone = gone.saturating_add(table.unload(alloc, &[], 0).count);
     }
     gone
 }

@@ -1,5 +1,5 @@
 -- The running sum and the bounds, around the calls of the map behind the cache.
-use Rattle.std.proofs.Common.{◌≡◌, ℕ, ◌+◌, ◌<◌, ◌≤◌, inl, inr, Bool, List, length, take, subst, sym, ap, ◌∙◌, min, arith}
+use Rattle.std.proofs.Common.{◌≡◌, ℕ, ◌+◌, ◌<◌, ◌≤◌, ◌^◌, inl, inr, Bool, List, length, take, subst, sym, ap, ◌∙◌, min, arith}
 use Rattle.std.proofs.lemmas.List.{length-take}
 use Rattle.eden_model.specs.declared.id.Key.{Key}
 use Rattle.eden_object.specs.Objects.{Body}
@@ -8,7 +8,6 @@ use Rattle.eden_cache.specs.Bounded.{newest, weight_of, weight_gone, Fits, IsLon
 use Rattle.eden_model.specs.Keys.{same_key}
 use Rattle.eden_cache.specs.Cache.{IsTallied}
 use Rattle.eden_model.proofs.CallerLemmas.{same_key-Decides}
-use Rattle.eden_cache.specs.declared.cache.TheConstants.{BYTES_LIMIT}
 use Rattle.eden_cache.proofs.KeyKinds.{kinds_promoted, kinds_front}
 use Rattle.eden_cache.proofs.Newest.{length-promoted, put_entries-newest}
 use Rattle.eden_cache.proofs.Weights.{weight_of-promoted, weight_of-put_entries}
@@ -54,12 +53,12 @@ module _ (weight bytes : ℕ) (c : LruCache Key Body) (k : Key) (v : Body) (t : 
   put_front kept front = IsLongestFront-cut c.cap bytes (newest same_key k v c.entries) kept (subst (λ (l : List (Key × Body)). IsLongestFront c.cap bytes l kept) same front)
 
   pub put_tallied : v.kind ≡ k.kind → (sum : ℕ) (d : LruCache Key Body) → IsLongestFront c.cap bytes (put_entries same_key c k v) d.entries → sum ≡ weight_of d.entries → d.cap ≡ c.cap
-      → length v.bytes ≤ BYTES_LIMIT → IsTallied sum bytes d
+      → length v.bytes ≤ 2 ^ 40 → IsTallied sum bytes d
   put_tallied own sum d front is cap short = record {
     sum = is;
     fits = subst (λ (n : ℕ). Fits n bytes d.entries) (sym cap) front.fits;
     kinds = kinds_front c.cap bytes k v c.entries d.entries own t.kinds (put_front d.entries front);
     room = omega (arith, t.room);
-    light = omega (arith, light_front c.cap bytes BYTES_LIMIT (k, v) _ d.entries (put_front d.entries front) t.limit short);
+    light = omega (arith, light_front c.cap bytes (2 ^ 40) (k, v) _ d.entries (put_front d.entries front) t.limit short);
     limit = t.limit;
   }

@@ -1,5 +1,5 @@
 -- What a cache is seen as, and what is true of each.
-use Rattle.std.specs.Prelude.{◌≡◌, ℕ, ◌<◌, ◌≤◌, ◌⊎◌, List, [], length, take, None}
+use Rattle.std.specs.Prelude.{◌≡◌, ℕ, ◌<◌, ◌≤◌, ◌^◌, ◌⊎◌, List, [], length, take, None}
 use Rattle.std.specs.List.{All, IsDistinct}
 use Rattle.std.specs.Map.{keys_of, lookup}
 use Rattle.lru.specs.LruCache.{LruCache}
@@ -9,7 +9,6 @@ use Rattle.eden_model.specs.declared.id.ObjKind.{ObjKind}
 use Rattle.eden_model.specs.declared.id.ObjKind.TheVariants.{Blob, Tree}
 use Rattle.eden_model.specs.Keys.{same_id, same_key}
 use Rattle.eden_object.specs.Objects.{Body}
-use Rattle.eden_cache.specs.declared.cache.TheConstants.{BYTES_LIMIT}
 use Rattle.eden_cache.specs.declared.cache.Usage.{Usage}
 use Rattle.eden_cache.specs.Bounded.{newest, weight_of, Fits, IsLongestFront}
 
@@ -20,6 +19,16 @@ pub record Cache : Type 0 where
   pub most_entries : ℕ
   pub most_bytes : ℕ
   pub most_sizes : ℕ
+
+-- a cache may be made for so many objects, for so many bytes of them together, and for so many sizes
+abbrev pub IsObjectBound : ℕ → Type 0
+IsObjectBound n = (1 ≤ n) × (n ≤ 65536)
+
+abbrev pub IsByteBound : ℕ → Type 0
+IsByteBound n = (1 ≤ n) × (n ≤ 2 ^ 40)
+
+abbrev pub IsSizeBound : ℕ → Type 0
+IsSizeBound n = (1 ≤ n) × (n ≤ 65536)
 
 abbrev pub empty : ℕ → ℕ → ℕ → Cache
 empty entries bytes sizes = record { objects = []; sizes = []; most_entries = entries; most_bytes = bytes; most_sizes = sizes }
@@ -57,8 +66,8 @@ pub record IsTallied (weight bytes : ℕ) (objects : LruCache Key Body) : Type 0
   pub fits : Fits objects.cap bytes objects.entries
   pub kinds : AreOfTheirKinds objects.entries
   pub room : 0 < objects.cap
-  pub light : weight ≤ BYTES_LIMIT
-  pub limit : bytes ≤ BYTES_LIMIT
+  pub light : weight ≤ 2 ^ 40
+  pub limit : bytes ≤ 2 ^ 40
 
 -- the sizes are within their bound
 pub record IsWithin (sizes : LruCache Id ℕ) : Type 0 where

@@ -1,8 +1,9 @@
-ghost use Rattle.std.specs.Prelude.{◌≡◌, ◌≤◌, Some, length, IfOk, IfSome, OnOk, OnErr, IfErr, IsSome, IsOk};
+ghost use Rattle.std.specs.Prelude.{◌≡◌, ◌↔◌, Some, length, IfOk, IfSome, OnOk, OnErr, IfErr, IsSome, IsOk, IsTrue};
 ghost use Rattle.std.specs.Borrow.{sem};
 ghost use Rattle.std.specs.Map.{lookup};
 ghost use Rattle.std.specs.Option.{option_copied};
 ghost use Rattle.lru.specs.LruCache.{promoted};
+ghost use Rattle.eden_cache.specs.Cache.{IsObjectBound, IsByteBound, IsSizeBound};
 
 use crate::evict::{evict, let_go};
 use eden_model::{Id, Key, ObjKind};
@@ -20,6 +21,19 @@ pub const BYTES_LIMIT: u64 = 1 << 40;
 
 /// The greatest bound on the number of sizes.
 pub const SIZES_LIMIT: usize = 65_536;
+
+/// Whether a cache may be made for so many objects, 1 to 65,536, of so many bytes together, 1 to 2^40, and so many
+/// sizes, 1 to 65,536.
+pub fn are_bounds(entries: usize, bytes: u64, sizes: usize) -> bool
+    ensures { IsTrue result ↔ (IsObjectBound entries × IsByteBound bytes × IsSizeBound sizes) }
+{
+    1 <= entries
+        && entries <= OBJECTS_LIMIT
+        && 1 <= bytes
+        && bytes <= BYTES_LIMIT
+        && 1 <= sizes
+        && sizes <= SIZES_LIMIT
+}
 
 /// How many objects a cache holds, what they weigh together in bytes, and how many sizes it holds.
 #[derive(Clone, Copy, Debug, PartialEq, Eq)]
@@ -61,9 +75,9 @@ impl<A: Allocator + Clone> ObjectCache<A> {
     ///
     /// It takes the memory of an empty cache, whatever the bounds; the only error is want of it.
     pub fn new(alloc: A, entries: usize, bytes: u64, sizes: usize) -> Result<Self, AllocError>
-        requires entries { (1 ≤ entries) × (entries ≤ OBJECTS_LIMIT) }
-        requires bytes { (1 ≤ bytes) × (bytes ≤ BYTES_LIMIT) }
-        requires sizes { (1 ≤ sizes) × (sizes ≤ SIZES_LIMIT) }
+        requires entries { IsObjectBound entries }
+        requires bytes { IsByteBound bytes }
+        requires sizes { IsSizeBound sizes }
         ensures { IfOk result (λ c. c ≡ empty entries bytes sizes) }
     {
         let Some(entries) = NonZeroUsize::new(entries) else {

@@ -9,5 +9,5 @@ mod cache;
 mod evict;
 mod laws;
 
-pub use cache::{BYTES_LIMIT, OBJECTS_LIMIT, ObjectCache, SIZES_LIMIT, Usage};
+pub use cache::{BYTES_LIMIT, OBJECTS_LIMIT, ObjectCache, SIZES_LIMIT, Usage, are_bounds};
 pub use laws::cache_laws;

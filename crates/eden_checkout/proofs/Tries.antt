@@ -15,11 +15,10 @@ use Rattle.eden_object.specs.Objects.{Body}
 use Rattle.eden_overlay.specs.declared.files.Files.{Ghosts as Files}
 use Rattle.eden_cache.specs.Cache.{Cache, KeepsObject, KeepsSize}
 use Rattle.eden_tree.specs.Directory.{Row}
-use Rattle.eden_inode.specs.Tables.{Table}
+use Rattle.eden_inode.specs.Tables.{Table, shows}
 use Rattle.eden_mount.specs.Tables.{Tries, Ticks, Stores, Unloads}
 use Rattle.eden_ops.specs.Attempts.{IsRealNeed}
 use Rattle.eden_ops.specs.Caches.{FindsTheSame, object_at}
-use Rattle.eden_ops.specs.Keeping.{shows}
 use Rattle.eden_ops.specs.Laws.{KeepsShown, KeepsEntries}
 use Rattle.eden_ops.specs.Left.{left, SomeAreLeft, NeedsStay, LeftFalls}
 use Rattle.eden_checkout.specs.Attempted.{IsTicked, IsTried, IsPut, IsUnloaded, attempted}
@@ -35,6 +34,7 @@ module _ {W F : Type 0} (w : Ghosts W) (f : Files F W) (shown : KeepsShown w f) 
     reply = tried.attempts.answer.reply;
     tree = tried.attempts.answer.shown;
     commit = tried.root;
+    next = tried.leaves.on.next;
     unfetched = λ id cause is. tried.attempts.answer.fault (fault.Fetch id cause) is;
     cache = found_still tried.attempts.cache;
   }
@@ -49,6 +49,7 @@ module _ {W F : Type 0} (w : Ghosts W) (f : Files F W) (shown : KeepsShown w f) 
         still = λ j before. stay s.inodes.root t.inodes.root s.cache t.cache q j k grows tried.attempts.cache before waits.need;
         tree = shown s.inodes t.inodes waits.keeps;
         commit = tried.root;
+        next = tried.leaves.on.next;
         cache = found_still tried.attempts.cache;
         some = left.0;
         left = left.1;
@@ -61,6 +62,7 @@ module _ {W F : Type 0} (w : Ghosts W) (f : Files F W) where
     ticked = is;
     tree = ap (λ (u : Checkout F). shows w f u.inodes) is;
     commit = ap (λ (u : Checkout F). u.root) is;
+    next = ap (λ (u : Checkout F). u.inodes.next) is;
     cache = λ k. ap (λ (u : Checkout F). is_some (object_at u.cache k)) is;
     needs = λ q k need. subst (λ (u : Checkout F). IsRealNeed q u.inodes.root u.cache k) (sym is) need;
     left = λ q. ap (λ (u : Checkout F). left u.inodes.root u.cache q) is;
@@ -72,6 +74,7 @@ module _ {W F : Type 0} (w : Ghosts W) (f : Files F W) where
     kept = put;
     tree = ap (shows w f) put.inodes;
     commit = put.root;
+    next = ap (λ (u : Table F). u.next) put.inodes;
     cached = ap is_some found;
     left = λ q need.
         let root = ap (λ (u : Table F). u.root) put.inodes in
@@ -85,4 +88,4 @@ module _ {W F : Type 0} (w : Ghosts W) (f : Files F W) where
   stores_by falls s t k o (Err x) inodes root kept size found = kept
 
   pub unloads : (s t : Checkout F) (p : Path) (age gone : ℕ) → IsUnloaded w f s p age gone t → (w.honest → shows w f t.inodes ≡ shows w f s.inodes) → Unloads (attempted w f) w.honest s p age gone t
-  unloads s t p age gone is same = record { unloaded = is; tree = same; commit = is.root; cache = λ k. ap (λ (c : Cache). is_some (object_at c k)) is.cache }
+  unloads s t p age gone is same = record { unloaded = is; tree = same; commit = is.root; next = is.rest.0; cache = λ k. ap (λ (c : Cache). is_some (object_at c k)) is.cache }

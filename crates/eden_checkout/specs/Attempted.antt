@@ -1,21 +1,25 @@
 -- What a mount knows of a checkout.
-use Rattle.std.specs.Prelude.{◌≡◌, ◌≤◌, ◌+◌, ◌-◌, ◌^◌, ℕ, Some, min, length}
+use Rattle.std.specs.Prelude.{◌≡◌, ◌+◌, ◌-◌, ◌^◌, ℕ, Option, Some, min, length}
 use Rattle.std.specs.Option.{is_some}
 use Rattle.eden_model.specs.declared.attempt.Attempt.{Attempt}
 use Rattle.eden_model.specs.declared.id.Key.{Key}
 use Rattle.eden_model.specs.declared.request.Request.{Request}
 use Rattle.eden_model.specs.declared.world.World.{Ghosts}
+use Rattle.eden_model.specs.Failures.{Counted}
 use Rattle.eden_model.specs.Trees.{Path}
 use Rattle.eden_object.specs.Objects.{Body}
 use Rattle.eden_overlay.specs.declared.files.Files.{Ghosts as Files}
+use Rattle.eden_overlay.specs.declared.files.FilesFault.{FilesFault}
+use Rattle.eden_overlay.specs.declared.files.FilesFault.TheVariants as files
 use Rattle.eden_cache.specs.Cache.{KeepsObject, KeepsSize}
 use Rattle.eden_tree.specs.Directory.{Row}
 use Rattle.eden_tree.specs.Paths.{row_at, edit_row}
 use Rattle.eden_tie.specs.Unloading.{Unloads, IsSettled}
+use Rattle.eden_inode.specs.Tables.{shows}
 use Rattle.eden_mount.specs.Tables.{Table}
 use Rattle.eden_ops.specs.Attempts.{IsRealNeed, Attempts}
 use Rattle.eden_ops.specs.Caches.{object_at}
-use Rattle.eden_ops.specs.Keeping.{shows, Keeps}
+use Rattle.eden_ops.specs.Keeping.{Keeps}
 use Rattle.eden_ops.specs.Leaving.{LeavesAfter}
 use Rattle.eden_ops.specs.Left.{left}
 use Rattle.eden_ops.specs.Looks.{IsLook}
@@ -40,15 +44,16 @@ module _ {W F : Type 0} (w : Ghosts W) (f : Files F W) where
     pub inodes : t.inodes ≡ s.inodes
     pub root : t.root ≡ s.root
 
-  -- so many directories went, all of them at and below the path, what is loaded there still is settled, and the cache stays
-  -- as it is
+  -- so many directories went, all of them at and below the path, what is loaded there still is settled, the device failed at
+  -- a store where that is said and nowhere else, and the cache stays as it is
   pub record IsUnloaded (s : Checkout F) (p : Path) (age gone : ℕ) (t : Checkout F) : Type 0 where
     pub count : ℕ
     pub counted : gone ≡ min count (2 ^ 64 - 1)
     pub unloads : Unloads w.honest s.inodes.clock age (f.stored s.inodes.files) s.inodes.root (f.stored t.inodes.files) t.inodes.root count
-    pub settled : (y : Row) → row_at p t.inodes.root ≡ Some y → IsSettled s.inodes.clock age y
+    pub refused : Option FilesFault
+    pub settled : (y : Row) → row_at p t.inodes.root ≡ Some y → IsSettled s.inodes.clock age refused y
+    pub failures : Counted (refused ≡ Some files.Device) (f.failures s.inodes.files) (f.failures t.inodes.files)
     pub elsewhere : (y : Row) × (t.inodes.root ≡ edit_row p (λ _. y) s.inodes.root)
-    pub failures : f.failures s.inodes.files ≤ f.failures t.inodes.files
     pub rest : (t.inodes.next ≡ s.inodes.next) × (t.inodes.clock ≡ s.inodes.clock)
     pub cache : t.cache ≡ s.cache
     pub root : t.root ≡ s.root
@@ -57,6 +62,7 @@ module _ {W F : Type 0} (w : Ghosts W) (f : Files F W) where
   attempted = record {
     shown = λ t. shows w f t.inodes;
     commit = λ t. t.root;
+    next = λ t. t.inodes.next;
     caches = λ t k. is_some (object_at t.cache k);
     needs = λ t q k. IsRealNeed q t.inodes.root t.cache k;
     left = λ t q. left t.inodes.root t.cache q;

@@ -33,6 +33,6 @@ impl<A: Allocator + Clone, W: World, F: Files<W>> Attempts<W> for Checkout<A, W,
     }
 
     fn unload(&mut self, alloc: Global, path: &Path, older_than: u64) -> u64 {
-        self.inodes.unload(alloc, path.as_slice(), older_than)
+        self.inodes.unload(alloc, path.as_slice(), older_than).count
     }
 }

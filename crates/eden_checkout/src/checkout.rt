@@ -1,6 +1,5 @@
 ghost use Rattle.std.specs.Prelude.{◌≡◌, [], OnOk, IfOk, IfErr};
-ghost use Rattle.eden_ops.specs.Keeping.{shows};
-ghost use Rattle.eden_inode.specs.Tables.{fresh_root};
+ghost use Rattle.eden_inode.specs.Tables.{fresh_root, shows};
 ghost use Rattle.eden_tie.specs.Chains.{AreSaved};
 ghost use Rattle.eden_model.specs.Failures.{Rose};
 ghost use Rattle.eden_overlay.specs.declared.files.FilesFault.TheVariants as fault;

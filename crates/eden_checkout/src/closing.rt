@@ -4,7 +4,7 @@ ghost use Rattle.eden_model.specs.Failures.{Counted};
 ghost use Rattle.eden_overlay_format.specs.Directory.{number_least, number_end};
 ghost use Rattle.eden_overlay.specs.declared.files.FilesFault.TheVariants as files;
 ghost use Rattle.eden_overlay.specs.Held.{HoldsState, with_state};
-ghost use Rattle.eden_ops.specs.Keeping.{shows};
+ghost use Rattle.eden_inode.specs.Tables.{shows};
 ghost use Rattle.eden_checkout.specs.Closing.{Leaves, as_files};
 
 use eden_inode::Inodes;

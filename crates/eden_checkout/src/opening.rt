@@ -114,7 +114,7 @@ pub(crate) fn begin<W: World, F: Files<W>>(
         Opening::Closed => state_of(alloc, overlay, root)?.next,
         Opening::Rescan => rescanned(alloc, overlay)?,
     };
-    overlay.remove_state(alloc)?;
+    overlay.remove_state()?;
     let origin = if numbers.contains(&ROOT_FILE) {
         Origin::Own
     } else {

@@ -1,5 +1,5 @@
 -- What the matches of the program's command line say.
-use Rattle.std.proofs.Common.{◌≡◌, ◌∙◌, ap, sym, subst, inl, inr, ◌⊎◌, refl, true, false, true≢false, List, [], ◌∷◌, Option, Some, None, Result, Ok, Err, IfErr, ℕ, codes, option_map}
+use Rattle.std.proofs.Common.{◌≡◌, ◌∙◌, ap, sym, subst, inl, inr, ◌⊎◌, refl, true, false, true≢false, List, [], ◌∷◌, Option, Some, None, Result, Ok, Err, IfErr, ℕ, codes, is_some, option_map}
 use Rattle.std.proofs.Math.Path.{fun_ext}
 use Rattle.std.specs.Prelude.{Box}
 use Rattle.std.specs.Box.{box_value}
@@ -18,14 +18,16 @@ use Rattle.clap.specs.Faults.{fault_of}
 use Rattle.clap.specs.Values.{kind_of}
 use Rattle.clap.specs.declared.error.Error.{Error}
 use Rattle.clap.specs.declared.error.kind.ErrorKind.TheVariants.{OutOfMemory}
-use Rattle.eden_command_line.specs.CommandLine.{IsTaken, Refuses, RefusesNumber, RefusesNumbers, RefusesValues, command_name, import, mountd_line, named, objects, serve, stdio, subcommands, value_of}
-use Rattle.eden_command_line.specs.Grammar.{HasRequired, Meets, Subcommand, value_in}
+use Rattle.eden_command_line.specs.CommandLine.{IsTaken, NamesNotOne, Refuses, RefusesNumber, RefusesNumbers, RefusesValues, command_name, import, mountd_line, named, objects, serve, stdio, subcommands, value_of}
+use Rattle.eden_command_line.specs.Grammar.{HasRequired, Subcommand, value_in}
 use Rattle.eden_command_line.specs.Numbers.{IsNoNumber, number_name}
 use Rattle.eden_command_line.specs.declared.numbers.NumberOption.{NumberOption}
+use Rattle.eden_command_line.specs.declared.numbers.NumberOption.TheVariants.{Remote}
 use Rattle.eden_command_line.specs.declared.command.MountCommand.{MountCommand}
+use Rattle.eden_command_line.specs.declared.command.MountCommand.TheVariants as by
 use Rattle.eden_command_line.specs.declared.command.OptionsError.{OptionsError}
 use Rattle.eden_command_line.specs.declared.command.OptionsError.TheVariants as error
-use Rattle.eden_command_line.proofs.MetLines.{Meets-taken}
+use Rattle.eden_command_line.proofs.MetLines.{Meets, Meets-taken}
 
 -- the name that stands beside a subcommand's rows
 name_of_rows : (m : ArgMatches) → subcommand_name_of m ≡ option_map (λ p. p.0) (subcommand_rows_of m)
@@ -135,6 +137,12 @@ by_words P words f name met h =
     first_value-rows f option ∙ sym (ap (λ (o : Option (Text × List Row)). value_in o option) met)) in
     subst P same h
 
+-- ---- where the objects come from
+
+-- a server's port, and no folder
+pub port-one : (value : Text → Option Text) → value (codes "objects") ≡ None → is_some (value (number_name Remote)) ≡ true → NamesNotOne value → ⊥
+port-one value none some alike = true≢false (sym some ∙ sym alike ∙ ap is_some none)
+
 -- values that a command refuses which opens a mount
 pub values_refuse : (command : MountCommand) (words : List Text) (f : Found) (why : OptionsError) → IsTaken words
     → subcommand_of mountd_line words ≡ Some (command_name command, rows_of f) → RefusesValues command (first_value f) why → Refuses words why
@@ -146,11 +154,20 @@ values_refuse command words f why taken met refused =
     by_fault error.Root why = (taken, why)
     by_fault (error.Source refusing) why =
         let named_so : named words ≡ Some (command_name refusing) = named-met words f (command_name command) met ∙ ap (λ c. Some (command_name c)) (sym why.0) in
-        (taken, named_so, why.1)
-    by_fault (error.Number option) why = (taken, why)
+        (taken, named_so, why.1, why.2)
+    by_fault (error.Number option) why = (taken, (λ _ _. why.0), why.1)
     by_fault error.Memory why = tt
 
--- .. and `objects`
+-- `objects` opens no mount
+opens_none : (command : MountCommand) (name : Option Text) → name ≡ Some objects.0 → name ≡ Some (command_name command) → ⊥
+opens_none by.Stdio name is named =
+    let same : objects.0 ≡ command_name by.Stdio = cc in
+    differ objects.0 (command_name by.Stdio) refl same
+opens_none by.Serve name is named =
+    let same : objects.0 ≡ command_name by.Serve = cc in
+    differ objects.0 (command_name by.Serve) refl same
+
+-- .. and what it refuses
 pub numbers_refuse : (words : List Text) (f : Found) (why : OptionsError) → IsTaken words
     → subcommand_of mountd_line words ≡ Some (objects.0, rows_of f) → RefusesNumbers (first_value f) why → Refuses words why
 numbers_refuse words f why taken met refused =
@@ -160,7 +177,7 @@ numbers_refuse words f why taken met refused =
     by_fault (error.Refused reason) why = absurd why
     by_fault error.Root why = absurd why
     by_fault (error.Source command) why = absurd why
-    by_fault (error.Number option) why = (taken, why)
+    by_fault (error.Number option) why = (taken, (λ command is. absurd (opens_none command (named words) (named-met words f objects.0 met) is)), why)
     by_fault error.Memory why = tt
 
 -- a value that an option was to read as its number

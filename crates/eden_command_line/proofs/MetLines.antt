@@ -1,6 +1,6 @@
 -- The words that `clap` takes meet one of a program's subcommands, with each option that it requires: by induction over the
 -- subcommands, and over the options of one.
-use Rattle.std.proofs.Common.{◌≡◌, ◌∙◌, refl, inl, inr, arith, Bool, true, false, cond, not, ◌&&◌, ◌||◌, List, [], ◌∷◌, ◌++◌, map, Option, Some, None, codes, option_map, true≢false}
+use Rattle.std.proofs.Common.{◌≡◌, ◌⊎◌, ◌∙◌, refl, inl, inr, arith, Bool, true, false, cond, not, ◌&&◌, ◌||◌, List, [], ◌∷◌, ◌++◌, map, Option, Some, None, codes, option_map, true≢false}
 use Rattle.std.proofs.Math.Bool.{or-false}
 use Rattle.std.specs.Prelude.{find, is_some}
 use Rattle.std.specs.List.{list_any}
@@ -14,7 +14,7 @@ use Rattle.clap.specs.Simple.{Shape, argument_words, built, built_leaf, entered,
 use Rattle.clap.specs.Walk.{Row, Rule, Text, answers_to, finished, nothing_held, rows_after, walk, walk_from}
 use Rattle.eden_command_line.proofs.FilledRows.{AllValued, Filled, Filled-finished, given_value}
 use Rattle.eden_command_line.proofs.TakenLines.{is_help, level_parts, walk_stop}
-use Rattle.eden_command_line.specs.Grammar.{HasRequired, LineOption, Meets, Subcommand, flag, option_rule, optional, program, required, subcommand_shape}
+use Rattle.eden_command_line.specs.Grammar.{HasRequired, LineOption, Subcommand, flag, option_rule, optional, program, required, subcommand_shape}
 
 -- no check fails for a want of an argument
 none_wanted : (argument : Bool) → check_kinds false false argument ≡ [] → argument ≡ false
@@ -71,6 +71,12 @@ subcommand_given name subcommand words e =
     all_given subcommand.1 rows filled (none_wanted (list_any (is_left_out rows) (built_rules subcommand.1)) parts.3)
 
 -- ---- the whole line
+
+-- one of the subcommands was met, with each option that it requires
+abbrev pub Meets : List Subcommand → Option (Text × List Row) → Type 0
+Meets [] met = ⊥
+Meets (subcommand ∷ rest) met =
+    ((rows : List Row) × (met ≡ Some (subcommand.0, rows)) × HasRequired subcommand.1 rows) ⊎ Meets rest met
 
 help_named : (word : Text) → bytes_eq word (codes "help") ≡ false → bytes_eq (codes "help") word ≡ false
 help_named word e = go (bytes_eq (codes "help") word) refl

@@ -103,9 +103,18 @@ SaysObjects value (place.Port port) = (value (codes "objects") ≡ None) × Give
 abbrev pub NamesNotOne : (Text → Option Text) → Type 0
 NamesNotOne value = is_some (value (codes "objects")) ≡ is_some (value (number_name Remote))
 
+-- the root is an id
+abbrev pub NamesRoot : (Text → Option Text) → Type 0
+NamesRoot value = (root : Text) × (value (codes "root") ≡ Some root) × IsIdText root
+
 -- the root is no id
 abbrev pub NamesNoRoot : (Text → Option Text) → Type 0
 NamesNoRoot value = (root : Text) × (value (codes "root") ≡ Some root) × ¬ IsIdText root
+
+-- the root is an id, and one place of objects is named
+pub record NamesMount (value : Text → Option Text) : Type 0 where
+  pub root : NamesRoot value
+  pub one : ¬ NamesNotOne value
 
 -- the mount that a command is to open is what these values say
 pub record IsMount (command : MountCommand) (value : Text → Option Text) (options : MountOptions) : Type 0 where
@@ -155,18 +164,31 @@ RefusesNumbers value (error.Source command) = ⊥
 RefusesNumbers value (error.Number option) = RefusesNumber value option
 RefusesNumbers value error.Memory = ⊤
 
--- .. and a command that opens a mount
+-- why it is refused where the objects are to come from
+abbrev pub RefusesObjects : MountCommand → (Text → Option Text) → OptionsError → Type 0
+RefusesObjects command value (error.Refused why) = ⊥
+RefusesObjects command value error.Root = ⊥
+RefusesObjects command value (error.Source refusing) = (refusing ≡ command) × NamesNotOne value
+RefusesObjects command value (error.Number option) = (¬ NamesNotOne value) × RefusesNumber value option
+RefusesObjects command value error.Memory = ⊤
+
+-- why a command that opens a mount refuses such values: the root first, then where the objects come from, then a number
 abbrev pub RefusesValues : MountCommand → (Text → Option Text) → OptionsError → Type 0
 RefusesValues command value (error.Refused why) = ⊥
 RefusesValues command value error.Root = NamesNoRoot value
-RefusesValues command value (error.Source refusing) = (refusing ≡ command) × NamesNotOne value
-RefusesValues command value (error.Number option) = RefusesNumber value option
+RefusesValues command value (error.Source refusing) = (refusing ≡ command) × NamesRoot value × NamesNotOne value
+RefusesValues command value (error.Number option) = NamesMount value × RefusesNumber value option
 RefusesValues command value error.Memory = ⊤
 
--- why the words are refused
+-- where the command opens a mount, its root is an id, and one place of objects is named
+abbrev pub NamesItsMount : List Text → Type 0
+NamesItsMount words = (command : MountCommand) → named words ≡ Some (command_name command) → NamesMount (value_of words)
+
+-- why the words are refused: what is told says that the words passed what comes before it
 abbrev pub Refuses : List Text → OptionsError → Type 0
 Refuses words (error.Refused why) = IsAmong (kind_of why) (fault_of mountd_line words)
 Refuses words error.Root = IsTaken words × NamesNoRoot (value_of words)
-Refuses words (error.Source command) = IsTaken words × (named words ≡ Some (command_name command)) × NamesNotOne (value_of words)
-Refuses words (error.Number option) = IsTaken words × RefusesNumber (value_of words) option
+Refuses words (error.Source command) =
+    IsTaken words × (named words ≡ Some (command_name command)) × NamesRoot (value_of words) × NamesNotOne (value_of words)
+Refuses words (error.Number option) = IsTaken words × NamesItsMount words × RefusesNumber (value_of words) option
 Refuses words error.Memory = ⊤

@@ -1,5 +1,5 @@
 -- Command lines of a program with subcommands, whose options each take one value or none, in the words of `clap`'s grammar.
-use Rattle.std.specs.Prelude.{◌≡◌, ◌⊎◌, ⊤, true, false, List, [], ◌∷◌, ◌++◌, map, Option, Some, None, is_some}
+use Rattle.std.specs.Prelude.{◌≡◌, ⊤, true, false, List, [], ◌∷◌, ◌++◌, map, Option, Some, None, is_some}
 use Rattle.clap.specs.Words.{App, Row, Rule, Shape, Text, first_of, new_rule}
 use Rattle.clap.specs.Simple.{new_shape}
 use Rattle.clap.specs.declared.builder.action.ArgAction.TheVariants.{SetTrue}
@@ -45,9 +45,3 @@ HasRequired [] rows = ⊤
 HasRequired (required name ∷ rest) rows = (is_some (first_of name rows) ≡ true) × HasRequired rest rows
 HasRequired (optional name ∷ rest) rows = HasRequired rest rows
 HasRequired (flag name ∷ rest) rows = HasRequired rest rows
-
--- one of the subcommands was met, with each option that it requires
-abbrev pub Meets : List Subcommand → Option (Text × List Row) → Type 0
-Meets [] met = ⊥
-Meets (subcommand ∷ rest) met =
-    ((rows : List Row) × (met ≡ Some (subcommand.0, rows)) × HasRequired subcommand.1 rows) ⊎ Meets rest met

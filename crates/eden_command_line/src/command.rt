@@ -3,7 +3,7 @@ ghost use Rattle.std.specs.Prelude.{◌≡◌, ◌≤◌, ◌⊎◌, ◌↔◌, 
 ghost use Rattle.clap.specs.declared.builder.command.Command.TheViews.{out-Command as fields_of};
 ghost use Rattle.clap.specs.declared.error.kind.ErrorKind.TheVariants.{OutOfMemory};
 ghost use Rattle.clap.specs.Words.{app_of, first_value, found_of, kind_of, rows_of, rule_of, shape_of, subcommand_of, subcommand_rows_of};
-ghost use Rattle.eden_command_line.specs.CommandLine.{AreServed, AsksFor, IsGiven, IsImport, IsMount, IsServed, IsTaken, Refuses, RefusesNumber, RefusesNumbers, RefusesValues, SaysLimits, SaysObjects, SaysPasses, command_name, import, import_options, kept_options, mount_options, mountd_line, objects, objects_options, serve, serve_options, stdio};
+ghost use Rattle.eden_command_line.specs.CommandLine.{AreServed, AsksFor, IsGiven, IsImport, IsMount, IsServed, IsTaken, NamesMount, Refuses, RefusesNumber, RefusesNumbers, RefusesObjects, RefusesValues, SaysLimits, SaysObjects, SaysPasses, command_name, import, import_options, kept_options, mount_options, mountd_line, objects, objects_options, serve, serve_options, stdio};
 ghost use Rattle.eden_command_line.specs.Grammar.{HasRequired, flag, option_rule, optional, required, subcommand_shape, with_options};
 ghost use Rattle.eden_command_line.specs.Numbers.{IsNoNumber, IsNumber, SaysNumber, least_of, most_of, number_name};
 ghost use Rattle.eden_command_line.specs.declared.numbers.NumberOption.TheVariants.{Sessions};
@@ -204,6 +204,7 @@ fn mount_options(
 ) -> Result<MountOptions, OptionsError>
     requires { HasRequired mount_options (rows_of (found_of given.now)) }
     ensures ok { IfOk result (IsMount command (first_value (found_of given.now))) }
+    ensures opened { OnOk result (NamesMount (first_value (found_of given.now))) }
     ensures err { IfErr result (RefusesValues command (first_value (found_of given.now))) }
 {
     let root = given.get_str("root").unwrap();
@@ -228,7 +229,7 @@ fn objects_of(
     command: MountCommand,
 ) -> Result<Objects, OptionsError>
     ensures ok { IfOk result (SaysObjects (first_value (found_of given.now))) }
-    ensures err { IfErr result (RefusesValues command (first_value (found_of given.now))) }
+    ensures err { IfErr result (RefusesObjects command (first_value (found_of given.now))) }
 {
     let port = given.get_str("remote");
     match given.get_str("objects") {

@@ -1,5 +1,5 @@
-//! All changes on a mount whose device stops at each call in turn: it works again for the next request, or never, and then
-//! what is left is opened by a rescan.
+//! All changes on a mount whose device stops at each call in turn: it works again for the next request, or never. What is
+//! left is opened by a rescan, and also, where the device works again, after a close.
 
 use crate::grounds::Ground;
 use crate::mounts::{Mounted, Settings, Stored, Unopened, close, open};
@@ -12,8 +12,8 @@ use eden_random::Commit;
 use std::alloc::Global;
 use std::process::Abort;
 
-/// Each change, on the commit of two files. What moves is a file of the commit, an own one in another's place, and an empty
-/// directory.
+/// Each change, on the commit of two files. What moves is a file of the commit, an own one in another's place, an empty
+/// directory, and a file to the root. Changes come after a move in its source and elsewhere.
 const CHANGES: &[&str] = &[
     "mkdir /sub",
     "write /test.txt 12 21",
@@ -25,9 +25,12 @@ const CHANGES: &[&str] = &[
     "rename /sub/new.txt /bak/new.txt",
     "mkdir /sub/sub",
     "rename /sub/sub /bak/sub",
+    "create /sub/last.txt",
     "unlink /test.txt",
     "rmdir /bak/sub",
     "write /bak/test.txt 0 56",
+    "rename /bak/test.txt /last.txt",
+    "create /sub/new.txt",
 ];
 
 /// Whether a device that stopped works again for the next request.
@@ -118,13 +121,13 @@ fn two_files(rt: &impl Abort, alloc: Global) -> Ground {
     Ground::over(rt, alloc, commit)
 }
 
-/// The files that are left where the device stops once so many calls passed.
-fn stopped(rt: &impl Abort, ground: &mut Ground, calls: u64) -> Stored {
+/// The files that are left without a close where the device stops once so many calls passed.
+fn left(rt: &impl Abort, ground: &mut Ground, device: Device, calls: u64) -> Stored {
     let mut mount = match fresh(rt, ground, calls) {
         Ok(mount) => mount,
         Err(files) => return files,
     };
-    let stopped = change(rt, ground, &mut mount, Device::Stopped);
+    let stopped = change(rt, ground, &mut mount, device);
     let files = mount.into_table().abandon().into_files();
     match &stopped {
         Some(Request::Rename(from, _)) => forget(rt, ground, from, files),
@@ -132,9 +135,9 @@ fn stopped(rt: &impl Abort, ground: &mut Ground, calls: u64) -> Stored {
     }
 }
 
-fn check_stop(rt: &impl Abort, alloc: Global, calls: u64) {
+fn check_left(rt: &impl Abort, alloc: Global, device: Device, calls: u64) {
     let mut ground = two_files(rt, alloc);
-    let files = stopped(rt, &mut ground, calls);
+    let files = left(rt, &mut ground, device, calls);
     show_same(rt, &mut ground, Opening::Rescan, files);
 }
 
@@ -161,7 +164,14 @@ fn all_calls(rt: &impl Abort, alloc: Global) -> u64 {
 #[test]
 fn a_rescan_shows_what_was_done_before_the_device_stopped(rt: HostRuntime) {
     for calls in 0..all_calls(&rt, rt.alloc()) {
-        check_stop(&rt, rt.alloc(), calls);
+        check_left(&rt, rt.alloc(), Device::Stopped, calls);
+    }
+}
+
+#[test]
+fn a_rescan_shows_what_was_done_once_the_device_worked_again(rt: HostRuntime) {
+    for calls in 0..all_calls(&rt, rt.alloc()) {
+        check_left(&rt, rt.alloc(), Device::Mended, calls);
     }
 }
 
@@ -170,4 +180,48 @@ fn a_change_that_the_device_stopped_is_not_made(rt: HostRuntime) {
     for calls in 0..all_calls(&rt, rt.alloc()) {
         check_mend(&rt, rt.alloc(), calls);
     }
+}
+
+/// An own file that is to be moved, beside an own directory.
+const MADE: &[&str] = &["mkdir /d", "create /d/a", "mkdir /d/sub", "mkdir /e"];
+
+/// Changes to what stayed in the file's directory, and below it.
+const LATER: &[&str] = &["write /d/a 0 61", "create /d/sub/b", "symlink /d/sub/c 61"];
+
+/// All of these changes are answered as by the oracle.
+fn make(rt: &impl Abort, ground: &mut Ground, mount: &mut Mounted, lines: &[&str]) {
+    for line in lines {
+        let change = request(rt, ground.alloc, line);
+        assert!(rt; is_made(rt, ground, mount, &change));
+    }
+}
+
+/// The device stops in a rename once so many calls passed, and then works again. Whether it stopped.
+fn check_later(rt: &impl Abort, alloc: Global, calls: u64) -> bool {
+    let mut ground = two_files(rt, alloc);
+    let Ok(mut mount) = fresh(rt, &ground, u64::MAX) else {
+        rt.abort()
+    };
+    make(rt, &mut ground, &mut mount, MADE);
+    ground.calls.set(calls);
+    let rename = request(rt, alloc, "rename /d/a /e/a");
+    let stopped = !is_made(rt, &mut ground, &mut mount, &rename);
+    ground.calls.set(u64::MAX);
+    if stopped {
+        make(rt, &mut ground, &mut mount, LATER);
+    }
+    let files = mount.into_table().abandon().into_files();
+    show_same(rt, &mut ground, Opening::Rescan, files);
+    stopped
+}
+
+#[test]
+fn a_rescan_shows_what_was_done_to_an_entry_that_could_not_be_moved(rt: HostRuntime) {
+    let mut stopped = 0;
+    for calls in 0..8 {
+        if check_later(&rt, rt.alloc(), calls) {
+            stopped += 1;
+        }
+    }
+    assert!(rt; stopped > 1);
 }

@@ -11,18 +11,41 @@ use eden_overlay_format::{
 use std::alloc::Global;
 use std::process::Abort;
 
-/// How a stored content or state begins.
+/// How a stored content or state of version 1 begins.
 pub const FILE: [u8; 8] = [0x4f, 0x56, 0x46, 0x4c, 0, 0, 0, 1];
 
-const LATER_FILE: [u8; 8] = [0x4f, 0x56, 0x46, 0x4c, 0, 0, 0, 2];
+/// How one of version 2 begins, which is the version that is written.
+pub const NEW_FILE: [u8; 8] = [0x4f, 0x56, 0x46, 0x4c, 0, 0, 0, 2];
 
-/// How a stored directory begins.
+const LATER_FILE: [u8; 8] = [0x4f, 0x56, 0x46, 0x4c, 0, 0, 0, 3];
+
+/// How a stored directory of version 1 begins, and one of version 2.
 pub const DIRECTORY: [u8; 8] = [0x4f, 0x56, 0x44, 0x52, 0, 0, 0, 1];
 
-/// A stored file: the first 8 bytes of its header, the 56 that say nothing, and its body.
+pub const NEW_DIRECTORY: [u8; 8] = [0x4f, 0x56, 0x44, 0x52, 0, 0, 0, 2];
+
+/// A stored file of version 1: the first 8 bytes of its header, the 56 that say nothing, and its body.
 pub fn stored(rt: &impl Abort, alloc: Global, front: &[u8], unread: u8, body: &[u8]) -> Vec<u8> {
     let mut bytes = front.to_vec(alloc).expect(rt, "memory");
     bytes.extend_from_slice(&[unread; 56]).expect(rt, "memory");
+    bytes.extend_from_slice(body).expect(rt, "memory");
+    bytes
+}
+
+/// One of version 2: the first 8 bytes, the body's length and SHA-1, 28 bytes that say nothing, and the body.
+pub fn told(
+    rt: &impl Abort,
+    alloc: Global,
+    front: &[u8],
+    digest: &[u8],
+    unread: u8,
+    body: &[u8],
+) -> Vec<u8> {
+    let mut bytes = front.to_vec(alloc).expect(rt, "memory");
+    let length = (body.len() as u64).to_be_bytes();
+    bytes.extend_from_slice(&length).expect(rt, "memory");
+    bytes.extend_from_slice(digest).expect(rt, "memory");
+    bytes.extend_from_slice(&[unread; 28]).expect(rt, "memory");
     bytes.extend_from_slice(body).expect(rt, "memory");
     bytes
 }
@@ -33,29 +56,63 @@ pub fn cut<'a>(rt: &impl Abort, bytes: &'a [u8], len: usize) -> &'a [u8] {
     &bytes[..len]
 }
 
+/// The SHA-1 of `abc`, as FIPS 180 has it.
+const ABC: [u8; 20] = [
+    0xa9, 0x99, 0x3e, 0x36, 0x47, 0x06, 0x81, 0x6a, 0xba, 0x3e, 0x25, 0x71, 0x78, 0x50, 0xc2, 0x6c,
+    0x9c, 0xd0, 0xd8, 0x9d,
+];
+
+/// The SHA-1 of no bytes.
+const NOTHING: [u8; 20] = [
+    0xda, 0x39, 0xa3, 0xee, 0x5e, 0x6b, 0x4b, 0x0d, 0x32, 0x55, 0xbf, 0xef, 0x95, 0x60, 0x18, 0x90,
+    0xaf, 0xd8, 0x07, 0x09,
+];
+
 #[test]
 fn contents(rt: HostRuntime) {
-    let hi = stored(&rt, rt.alloc(), &FILE, 0, b"hi");
-    let written = encode_file(rt.alloc(), b"hi").expect(&rt, "memory");
-    assert!(rt; written == hi);
-    assert!(rt; hi.len() == 66);
-    assert!(rt; decode_file(cut(&rt, &hi, 63)) == Err(Refusal::Short));
+    let abc = told(&rt, rt.alloc(), &NEW_FILE, &ABC, 0, b"abc");
+    let written = encode_file(rt.alloc(), b"abc").expect(&rt, "memory");
+    assert!(rt; written == abc);
+    assert!(rt; abc.len() == 67);
+    assert!(rt; decode_file(cut(&rt, &abc, 63)) == Err(Refusal::Short));
+    assert!(rt; decode_file(cut(&rt, &abc, 66)) == Err(Refusal::BadLength));
+    let empty = encode_file(rt.alloc(), b"").expect(&rt, "memory");
+    assert!(rt; empty == told(&rt, rt.alloc(), &NEW_FILE, &NOTHING, 0, b""));
+    assert!(rt; empty.len() == 64);
 }
 
-/// The fronts of a file, the byte that says nothing, and why the file is refused, if it is.
+/// The front of a file of version 1, the byte that says nothing, and why the file is refused, if it is.
 const FRONTS: &[(&[u8], u8, Option<Refusal>)] = &[
     (&FILE, 0, None),
     (&FILE, 7, None),
     (&DIRECTORY, 0, Some(Refusal::BadIdentifier)),
     (&LATER_FILE, 0, Some(Refusal::BadVersion)),
+    (&NEW_FILE, 0, Some(Refusal::BadLength)),
 ];
 
-/// Why the file is refused; none where it is read as `hi`.
-fn refusal(rt: &impl Abort, file: &[u8]) -> Option<Refusal> {
+/// Of one of version 2 the front, the digest, the byte that says nothing, the body, and why it is refused, if it is.
+const TOLD_FRONTS: &[(&[u8], &[u8], u8, &[u8], Option<Refusal>)] = &[
+    (&NEW_FILE, &ABC, 0, b"abc", None),
+    (&NEW_FILE, &ABC, 7, b"abc", None),
+    (&FILE, &NOTHING, 7, b"abc", None),
+    (&NEW_FILE, &ABC, 0, b"abd", Some(Refusal::BadDigest)),
+    (&NEW_FILE, &NOTHING, 0, b"abc", Some(Refusal::BadDigest)),
+    (
+        &NEW_DIRECTORY,
+        &NOTHING,
+        0,
+        b"abc",
+        Some(Refusal::BadIdentifier),
+    ),
+    (&LATER_FILE, &ABC, 0, b"abc", Some(Refusal::BadVersion)),
+];
+
+/// Why the file is refused; none where it is read as that content.
+fn refusal(rt: &impl Abort, file: &[u8], body: &[u8]) -> Option<Refusal> {
     match decode_file(file) {
         Err(refusal) => Some(refusal),
         Ok(content) => {
-            assert!(rt; content == b"hi".as_slice());
+            assert!(rt; content == body);
             None
         }
     }
@@ -65,7 +122,11 @@ fn refusal(rt: &impl Abort, file: &[u8]) -> Option<Refusal> {
 fn fronts(rt: HostRuntime) {
     for (front, unread, why) in FRONTS {
         let file = stored(&rt, rt.alloc(), front, *unread, b"hi");
-        assert!(rt; refusal(&rt, &file) == *why);
+        assert!(rt; refusal(&rt, &file, b"hi") == *why);
+    }
+    for (front, digest, unread, body, why) in TOLD_FRONTS {
+        let file = told(&rt, rt.alloc(), front, digest, *unread, body);
+        assert!(rt; refusal(&rt, &file, body) == *why);
     }
 }
 
@@ -79,13 +140,22 @@ const STATE_BODY: [u8; 28] = [
     0x11, 0x11, 0x11, 0x11, 0, 0, 0, 0, 0, 0, 1, 2,
 ];
 
+/// The SHA-1 of that body.
+const STATE_DIGEST: [u8; 20] = [
+    0x91, 0x2c, 0x95, 0xca, 0xec, 0xe1, 0x0e, 0xa6, 0x9c, 0xa1, 0xe1, 0x17, 0x36, 0x02, 0xe9, 0xea,
+    0x9a, 0xc7, 0xb2, 0x68,
+];
+
 #[test]
 fn states(rt: HostRuntime) {
-    let bytes = stored(&rt, rt.alloc(), &FILE, 0, &STATE_BODY);
+    let bytes = told(&rt, rt.alloc(), &NEW_FILE, &STATE_DIGEST, 0, &STATE_BODY);
     let written = encode_state(rt.alloc(), STATE).expect(&rt, "memory");
     assert!(rt; written == bytes);
     assert!(rt; bytes.len() == 92);
     assert!(rt; decode_state(&bytes) == Ok(STATE));
+    assert!(rt; decode_state(cut(&rt, &bytes, 91)) == Err(Refusal::BadLength));
+    let old = stored(&rt, rt.alloc(), &FILE, 0, &STATE_BODY);
+    assert!(rt; decode_state(&old) == Ok(STATE));
 }
 
 /// The body of a state whose next number is the root's.
@@ -173,20 +243,41 @@ fn written(rt: &impl Abort, alloc: Global, origin: Origin) -> Vec<u8>
 /// The body of that directory, where the file's content is its own.
 pub const OWN_BODY: &[u8] = b"\x00\x00\x00\x01\x00\x01\x00\x00\x00\x00\x00\x00\x00\x02\x08test.txt";
 
+/// The SHA-1 of that body.
+pub const OWN_DIGEST: [u8; 20] = [
+    0xb5, 0x17, 0xdb, 0x85, 0x9c, 0x13, 0xcd, 0x22, 0x66, 0xf6, 0x4f, 0x9a, 0xbe, 0x45, 0x66, 0x2d,
+    0x66, 0x76, 0xd4, 0xea,
+];
+
 #[test]
 fn own_file_is_written(rt: HostRuntime) {
     let file = written(&rt, rt.alloc(), Origin::Own);
-    assert!(rt; file == stored(&rt, rt.alloc(), &DIRECTORY, 0, OWN_BODY));
+    assert!(rt; file == told(&rt, rt.alloc(), &NEW_DIRECTORY, &OWN_DIGEST, 0, OWN_BODY));
     assert!(rt; file.len() == 87);
 }
 
 const OBJECT_BODY: &[u8] =
     b"\x00\x00\x00\x01\x00\x00\x00\x00\x00\x00\x00\x00\x00\x02\x22\x22\x22\x22\x22\x22\x22\x22\x22\x22\x22\x22\x22\x22\x22\x22\x22\x22\x22\x22\x08test.txt";
 
+/// The SHA-1 of that body.
+const OBJECT_DIGEST: [u8; 20] = [
+    0x9b, 0x91, 0x02, 0xa3, 0x22, 0x6f, 0x77, 0x84, 0xe7, 0xd1, 0x52, 0x13, 0x9c, 0xe0, 0x82, 0xac,
+    0xcc, 0x0a, 0x28, 0x55,
+];
+
 #[test]
 fn object_file_is_written(rt: HostRuntime) {
     let id = Id { bytes: [0x22; 20] };
     let file = written(&rt, rt.alloc(), Origin::Object(id));
-    assert!(rt; file == stored(&rt, rt.alloc(), &DIRECTORY, 0, OBJECT_BODY));
+    assert!(rt;
+        file == told(
+            &rt,
+            rt.alloc(),
+            &NEW_DIRECTORY,
+            &OBJECT_DIGEST,
+            0,
+            OBJECT_BODY
+        )
+    );
     assert!(rt; file.len() == 107);
 }

@@ -32,7 +32,7 @@ fn gives<F: Files<Outside>>(files: &mut F, alloc: Global, call: Call, want: Answ
     match call {
         Call::Read(number) => is_read(&files.read(alloc, number), want),
         Call::Replace(number, bytes) => is_done(files.replace(alloc, number, bytes), want),
-        Call::Remove(number) => is_done(files.remove(alloc, number), want),
+        Call::Remove(number) => is_done(files.remove(number), want),
         Call::List => is_listed(&files.list(alloc), want),
     }
 }
@@ -178,6 +178,44 @@ fn folder_reads_plain_files_alone(rt: HostRuntime) {
     fs::remove_dir_all(&rt, folder.as_path()).expect(&rt, "a folder");
 }
 
+// A file of 8 MiB, the longest, and one of a byte more.
+const LONG_FILES: &[(&str, Made)] = &[
+    ("5", Made::Long(8_388_608)),
+    ("6", Made::Long(1_073_741_888)),
+    ("7", Made::Long(1_073_741_889)),
+];
+
+// How many bytes the file of that number has, or why it isn't read.
+fn length_of<F: Files<Outside>>(
+    files: &mut F,
+    alloc: Global,
+    number: u64,
+) -> Result<Option<usize>, FilesFault> {
+    match files.read(alloc, number) {
+        Ok(Some(bytes)) => Ok(Some(bytes.len())),
+        Ok(None) => Ok(None),
+        Err(fault) => Err(fault),
+    }
+}
+
+// Reads that find no memory tell which files are read at all, so that none of 2^30 bytes has to be.
+#[test]
+fn folder_reads_long_files(rt: HostRuntime) {
+    let folder = folder_of(&rt, "overlay-long", LONG_FILES).expect(&rt, "files");
+    let mut files = FolderFiles::new(&rt, folder.clone().expect(&rt, "memory"));
+    assert!(rt; length_of(&mut files, rt.alloc(), 5) == Ok(Some(8_388_608)));
+    let system = FaultySystem {
+        files: &rt,
+        call: SystemCall::Read,
+        kind: ErrorKind::OutOfMemory,
+        instead: None,
+    };
+    let mut failing = FolderFiles::new(system, folder.clone().expect(&rt, "memory"));
+    assert!(rt; length_of(&mut failing, rt.alloc(), 6) == Err(FilesFault::Memory));
+    assert!(rt; length_of(&mut failing, rt.alloc(), 7) == Err(FilesFault::Device));
+    fs::remove_dir_all(&rt, folder.as_path()).expect(&rt, "a folder");
+}
+
 const LEFT_OVER: &[(Call, Answer)] = &[
     (Call::Read(5), Answer::Bytes(None)),
     (Call::List, Answer::Numbers(&[])),
@@ -225,7 +263,7 @@ fn fault_of<F: Files<Outside>>(files: &mut F, alloc: Global, ask: Ask) -> Option
     match ask {
         Ask::Read => files.read(alloc, 5).err(),
         Ask::Replace => files.replace(alloc, 5, b"new").err(),
-        Ask::Remove => files.remove(alloc, 5).err(),
+        Ask::Remove => files.remove(5).err(),
         Ask::List => files.list(alloc).err(),
     }
 }

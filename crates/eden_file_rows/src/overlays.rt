@@ -1,7 +1,9 @@
 //! What an overlay over files in memory stores, gets, removes and refuses.
 ghost use Rattle.eden_overlay_format.specs.Directory.{AreStorable};
 
-use crate::formats::{DIRECTORY, FILE, OWN_BODY, cut, one_file, stored};
+use crate::formats::{
+    DIRECTORY, FILE, NEW_DIRECTORY, NEW_FILE, OWN_BODY, OWN_DIGEST, cut, one_file, stored, told,
+};
 use eden_model::{Id, Origin, Outside};
 use eden_overlay::{Files, GetFault, MemoryFiles, Overlay};
 use eden_overlay_format::{Refusal, State, StoredEntry};
@@ -69,11 +71,24 @@ fn files_are_got(rt: HostRuntime) {
     assert!(rt; lists(&mut overlay, rt.alloc(), &[0, 1, 2]));
 }
 
-// The files of that overlay: their numbers, the first bytes of their headers, their bodies and their lengths.
-const STORED: &[(u64, [u8; 8], &[u8], usize)] = &[
-    (0, FILE, STATE_BODY, 92),
-    (1, DIRECTORY, OWN_BODY, 87),
-    (2, FILE, b"hi", 66),
+// The SHA-1 of the state's body.
+const STATE_DIGEST: [u8; 20] = [
+    0x74, 0xa8, 0xd0, 0x9a, 0xbe, 0xcd, 0xd7, 0x0e, 0x95, 0x53, 0x96, 0x48, 0x25, 0x60, 0xe4, 0x6c,
+    0xba, 0x21, 0xea, 0x96,
+];
+
+// The SHA-1 of `hi`.
+const HI: [u8; 20] = [
+    0xc2, 0x2b, 0x5f, 0x91, 0x78, 0x34, 0x26, 0x09, 0x42, 0x8d, 0x6f, 0x51, 0xb2, 0xc5, 0xaf, 0x4c,
+    0x0b, 0xde, 0x6a, 0x42,
+];
+
+// The files of that overlay: their numbers, the first bytes of their headers, the digests of their bodies, these, and
+// their lengths.
+const STORED: &[(u64, [u8; 8], [u8; 20], &[u8], usize)] = &[
+    (0, NEW_FILE, STATE_DIGEST, STATE_BODY, 92),
+    (1, NEW_DIRECTORY, OWN_DIGEST, OWN_BODY, 87),
+    (2, NEW_FILE, HI, b"hi", 66),
 ];
 
 // Whether a file has exactly these bytes.
@@ -87,24 +102,24 @@ fn has(files: &mut MemoryFiles<Outside>, alloc: Global, number: u64, want: &[u8]
 #[test]
 fn files_are_stored(rt: HostRuntime) {
     let mut files = filled(&rt, rt.alloc()).into_files();
-    for (number, front, body, len) in STORED {
-        let bytes = stored(&rt, rt.alloc(), front, 0, body);
+    for (number, front, digest, body, len) in STORED {
+        let bytes = told(&rt, rt.alloc(), front, digest, 0, body);
         assert!(rt; bytes.len() == *len);
         assert!(rt; has(&mut files, rt.alloc(), *number, bytes.as_slice()));
     }
 }
 
 // Takes the root's directory, the state and a file that isn't there out.
-fn remove_some(rt: &impl Abort, alloc: Global, overlay: &mut InMemory) {
-    overlay.remove(alloc, 1).expect(rt, "memory");
-    overlay.remove_state(alloc).expect(rt, "memory");
-    overlay.remove(alloc, 7).expect(rt, "memory");
+fn remove_some(rt: &impl Abort, overlay: &mut InMemory) {
+    overlay.remove(1).expect(rt, "removed");
+    overlay.remove_state().expect(rt, "removed");
+    overlay.remove(7).expect(rt, "removed");
 }
 
 #[test]
 fn files_are_removed(rt: HostRuntime) {
     let mut overlay = filled(&rt, rt.alloc());
-    remove_some(&rt, rt.alloc(), &mut overlay);
+    remove_some(&rt, &mut overlay);
     assert!(rt; overlay.get_state(rt.alloc()) == Err(GetFault::Absent));
     assert!(rt; overlay.get_dir(rt.alloc(), 1).err() == Some(GetFault::Absent));
     assert!(rt; overlay.get_file(rt.alloc(), 1).err() == Some(GetFault::Absent));
@@ -128,7 +143,10 @@ fn is_told(
 }
 
 // The front of a directory's file of a later version.
-const LATER: [u8; 8] = [0x4f, 0x56, 0x44, 0x52, 0, 0, 0, 2];
+const LATER: [u8; 8] = [0x4f, 0x56, 0x44, 0x52, 0, 0, 0, 3];
+
+// The front of one of version 2, whose length and digest aren't told here.
+const UNTOLD: [u8; 8] = [0x4f, 0x56, 0x44, 0x52, 0, 0, 0, 2];
 
 // The front and the body of a stored file, how many bytes of it there are, and how it is told.
 const DAMAGES: &[(&[u8; 8], &[u8], usize, Option<Refusal>, Option<Refusal>)] = &[
@@ -146,6 +164,20 @@ const DAMAGES: &[(&[u8; 8], &[u8], usize, Option<Refusal>, Option<Refusal>)] = &
         OWN_BODY,
         87,
         Some(Refusal::BadVersion),
+        Some(Refusal::BadIdentifier),
+    ),
+    (
+        &UNTOLD,
+        OWN_BODY,
+        87,
+        Some(Refusal::BadLength),
+        Some(Refusal::BadIdentifier),
+    ),
+    (
+        &UNTOLD,
+        b"",
+        64,
+        Some(Refusal::BadDigest),
         Some(Refusal::BadIdentifier),
     ),
     (

@@ -140,6 +140,65 @@ fn folder_gives_its_files(rt: HostRuntime) {
     assert!(rt; gives(&mut source, rt.alloc(), VERSION_1.id, Err(Cause::Missing)));
 }
 
+// By an id's first byte: 83 has an object of 8 MiB, 84 the longest, and 85 one of a byte more.
+const LONG_OBJECTS: &[(&str, Made)] = &[
+    ("83", Made::Folder),
+    ("84", Made::Folder),
+    ("85", Made::Folder),
+    (
+        "83/baae61804e65cc73a7201a7252750c76066a30",
+        Made::Long(8_388_608),
+    ),
+    (
+        "84/baae61804e65cc73a7201a7252750c76066a30",
+        Made::Long(1_073_741_840),
+    ),
+    (
+        "85/baae61804e65cc73a7201a7252750c76066a30",
+        Made::Long(1_073_741_841),
+    ),
+];
+
+// How many bytes the source gives for the id.
+fn given<S: Source<Outside>>(source: &mut S, alloc: Global, first: u8) -> Option<usize> {
+    match source.fetch(alloc, id_starting(first)) {
+        Ok(framed) => Some(framed.len()),
+        Err(_) => None,
+    }
+}
+
+// Reads that fail tell which objects are read at all, so that none of 2^30 bytes has to be.
+#[test]
+fn folder_gives_long_files(rt: HostRuntime) {
+    let folder = folder_of(&rt, "source-long", LONG_OBJECTS).expect(&rt, "objects");
+    let mut source = FolderSource::new(&rt, folder.clone().expect(&rt, "memory"));
+    assert!(rt; given(&mut source, rt.alloc(), 0x83) == Some(8_388_608));
+    let system = FaultySystem {
+        files: &rt,
+        call: Call::Read,
+        kind: ErrorKind::ConnectionReset,
+        instead: None,
+    };
+    let mut failing = FolderSource::new(system, folder.clone().expect(&rt, "memory"));
+    assert!(rt;
+        gives(
+            &mut failing,
+            rt.alloc(),
+            id_starting(0x84),
+            Err(Cause::Device)
+        )
+    );
+    assert!(rt;
+        gives(
+            &mut failing,
+            rt.alloc(),
+            id_starting(0x85),
+            Err(Cause::TooLarge)
+        )
+    );
+    fs::remove_dir_all(&rt, folder.as_path()).expect(&rt, "a folder");
+}
+
 const KINDS: &[(ErrorKind, Cause, u64)] = &[
     (ErrorKind::ConnectionReset, Cause::Device, 2),
     (ErrorKind::OutOfMemory, Cause::Memory, 0),

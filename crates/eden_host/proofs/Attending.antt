@@ -1,5 +1,5 @@
 -- What stays of a pass through its session.
-use Rattle.std.proofs.Common.{◌≡◌, ◌<◌, List, [], ◌∷◌, ◌++◌, length, Option, Some, None, Result, Ok, Err, inl, inr, refl, sym, ap, ◌∙◌, arith}
+use Rattle.std.proofs.Common.{◌≡◌, ◌<◌, ℕ, List, [], ◌∷◌, ◌++◌, length, Option, Some, None, Result, Ok, Err, inl, inr, refl, sym, ap, ◌∙◌, arith}
 use Rattle.std.specs.Prelude.{⊤}
 use Rattle.std.specs.declared.io.Read.{Ghosts as Read}
 use Rattle.std.specs.declared.io.Write.{Ghosts as Write}
@@ -7,6 +7,7 @@ use Rattle.eden_model.specs.declared.fault.CallFault.{CallFault}
 use Rattle.eden_model.specs.declared.request.Request.{Request}
 use Rattle.eden_model.specs.declared.reply.Reply.{Reply}
 use Rattle.eden_model.specs.Trees.{Tree}
+use Rattle.eden_shared.specs.declared.account.Terms.{Terms}
 use Rattle.eden_shared.specs.Passes.{Carried}
 use Rattle.eden_wire.specs.declared.request.Item.{Item}
 use Rattle.eden_wire.specs.declared.request.Item.TheVariants.{Asks, Refuses, Bad}
@@ -18,12 +19,16 @@ use Rattle.eden_host.specs.declared.fault.HostFault.{HostFault}
 use Rattle.eden_host.specs.declared.fault.HostFault.TheVariants.{Listen}
 
 module _ (honest : Type 0) (opening : Tree) where
-  number_stays : (p p' : Carried) (q : Request) (a : Result Reply CallFault) → GuestAnswers honest opening p q a p' → p'.number ≡ p.number
-  number_stays p p' q (Ok reply) answers = ap (λ (x : Carried). x.number) answers.0.is
-  number_stays p p' q (Err fault) answers = ap (λ (x : Carried). x.number) answers.1
+  -- whose pass it is
+  abbrev who : Carried → Terms × ℕ
+  who p = (p.terms, p.number)
 
-  numbers_stay : (items : List Item) (given : List (Option (Result Reply CallFault))) (p p' : Carried) → Serves (GuestAnswers honest opening) p items given p' → p'.number ≡ p.number
-  numbers_stay [] [] p p' h = ap (λ (x : Carried). x.number) (sym h)
+  number_stays : (p p' : Carried) (q : Request) (a : Result Reply CallFault) → GuestAnswers honest opening p q a p' → who p' ≡ who p
+  number_stays p p' q (Ok reply) answers = ap who answers.0.is
+  number_stays p p' q (Err fault) answers = ap who answers.1
+
+  numbers_stay : (items : List Item) (given : List (Option (Result Reply CallFault))) (p p' : Carried) → Serves (GuestAnswers honest opening) p items given p' → who p' ≡ who p
+  numbers_stay [] [] p p' h = ap who (sym h)
   numbers_stay [] (a ∷ given) p p' h = absurd h
   numbers_stay (Asks q ∷ items) [] p p' h = absurd h
   numbers_stay (Asks q ∷ items) (None ∷ given) p p' h = numbers_stay items given p p' h
@@ -37,7 +42,8 @@ module _ (honest : Type 0) (opening : Tree) where
         → Session (GuestAnswers honest opening) (p, p') (i.remaining reader, i.remaining unread) (o.contents writer, o.contents written) said
         → IsAttended i o honest opening p p' reader writer said
     attended p p' reader unread writer written said s =
-        record { number = numbers_stay (s.items ++ s.last) s.given p p' s.served; unread = unread; written = written; session = s }
+        let stays = numbers_stay (s.items ++ s.last) s.given p p' s.served in
+        record { number = ap (λ (x : Terms × ℕ). x.1) stays; terms = ap (λ (x : Terms × ℕ). x.0) stays; unread = unread; written = written; session = s }
 
     -- nobody could connect any more
     pub unattended : (ps : List Carried) → 0 < length ps → AreAttended i o honest opening ps ps (Err Listen)

@@ -4,6 +4,7 @@ use Rattle.std.specs.Prelude.{⊤}
 use Rattle.std.specs.declared.io.Read.{Ghosts as Read}
 use Rattle.std.specs.declared.io.Write.{Ghosts as Write}
 use Rattle.eden_model.specs.Trees.{Tree}
+use Rattle.eden_shared.specs.declared.account.Terms.{Terms}
 use Rattle.eden_shared.specs.Passes.{AreEach, Carried, HasNumber}
 use Rattle.eden_host.specs.declared.fault.HostFault.{HostFault}
 use Rattle.eden_host.specs.Sessions.{AreAttended, AreHosted}
@@ -15,6 +16,10 @@ HasAt ps k p = (p' : Carried) × (slice_get ps k ≡ Some p') × (p'.number ≡ 
 -- the same pass is at the same place of an equal list
 at_same : (ps ps' : List Carried) (k : ℕ) (p : Carried) → ps' ≡ ps → slice_get ps k ≡ Some p → HasAt ps' k p
 at_same ps ps' k p same at = (p, subst (λ (l : List Carried). slice_get l k ≡ Some p) (sym same) at, refl)
+
+-- each is of a mount that was opened so
+abbrev pub AllOf : Terms → List Carried → Type 0
+AllOf t ps = (k : ℕ) (p : Carried) → slice_get ps k ≡ Some p → p.terms ≡ t
 
 module _ {I O : Type 0} (i : Read I) (w : Write O) (honest : Type 0) (opening : Tree) where
   count_stays : (ps ps' : List Carried) (o : Result ⊤ HostFault) → AreAttended i w honest opening ps ps' o → length ps' ≡ length ps
@@ -37,6 +42,20 @@ module _ {I O : Type 0} (i : Read I) (w : Write O) (honest : Type 0) (opening : 
   number_after : (ps ps' : List Carried) (o : Result ⊤ HostFault) (c : ℕ) → AreAttended i w honest opening ps ps' o → HasNumber ps c → HasNumber ps' c
   number_after ps ps' o c h found =
       let there = has_after ps ps' o found.1.0 found.0 h found.1.1 in (there.0, (found.1.0, there.1), there.2 ∙ found.2)
+
+  terms_after : (t : Terms) (ps ps' : List Carried) (o : Result ⊤ HostFault) → AreAttended i w honest opening ps ps' o → AllOf t ps → AllOf t ps'
+  terms_after t [] [] o h all k p at = all k p at
+  terms_after t [] (p' ∷ ps') o h all k p at = absurd h
+  terms_after t (x ∷ ps) [] o h all k p at = absurd h
+  terms_after t (x ∷ ps) (y ∷ ps') o (inl h) all zero p at = (let same : y ≡ p = cc at in ap (λ (q : Carried). q.terms) (sym same) ∙ h.4.terms ∙ all zero x refl)
+  terms_after t (x ∷ ps) (y ∷ ps') o (inl h) all (suc k) p at = terms_after t ps ps' h.3 h.5 (λ j. all (suc j)) k p at
+  terms_after t (x ∷ ps) (y ∷ ps') o (inr h) all k p at =
+      let same : y ∷ ps' ≡ x ∷ ps = cc (h.0, h.1) in all k p (subst (λ (l : List Carried). slice_get l k ≡ Some p) same at)
+
+  -- the passes are of the same mount
+  pub terms_stay : (t : Terms) (ps ps' : List Carried) (o : Result ⊤ HostFault) → AreHosted i w honest opening ps ps' o → AllOf t ps → AllOf t ps'
+  terms_stay t ps ps' o (inl h) all = terms_after t ps ps' o h all
+  terms_stay t ps ps' o (inr h) all = subst (AllOf t) (sym h.0) all
 
   pub each_stays : (ps ps' : List Carried) (o : Result ⊤ HostFault) (n : ℕ) → AreHosted i w honest opening ps ps' o → AreEach ps n → AreEach ps' n
   each_stays ps ps' o n (inl h) each =

@@ -18,18 +18,18 @@ HasLearntNothing p = p.floor ≡ last_told p.told + 1
 pub record HaveLearntNothing (passes : List Carried) : Type 0 where
   pub each : AllByRecursion HasLearntNothing passes
 
--- why a request isn't taken: the history is full, there is no memory, or the mount was stopped; the guest is never foreign
-abbrev pub IsTurnedAway : CallFault → Type 0
-IsTurnedAway (Start why) = IsRefusal why
-IsTurnedAway (Foreign floor length) = ⊥
-IsTurnedAway Stopped = Unit {0}
-
 -- the reply that was told last
 abbrev pub last_reply : List Told → Reply → Type 0
 last_reply ts r = (t : Told) × (slice_get ts (length ts - 1) ≡ Some t) × (r ≡ t.reply)
 
 module _ (honest : Type 0) (opening : Tree) where
+  -- why a request isn't taken: the history is full, there is no memory, or the mount was stopped; the guest is never foreign
+  abbrev pub IsTurnedAway : Carried → CallFault → Type 0
+  IsTurnedAway p (Start why) = IsRefusal honest opening p why
+  IsTurnedAway p (Foreign floor length) = ⊥
+  IsTurnedAway p Stopped = Unit {0}
+
   -- the pass was told of one call more, and its reply is the answer; or the request wasn't taken, and nothing changed
   abbrev pub GuestAnswers : Carried → Request → Result Reply CallFault → Carried → Type 0
   GuestAnswers old q (Ok reply) new = Grows honest opening old q new × last_reply new.told reply
-  GuestAnswers old q (Err fault) new = IsTurnedAway fault × (new ≡ old)
+  GuestAnswers old q (Err fault) new = IsTurnedAway old fault × (new ≡ old)

@@ -23,6 +23,7 @@ module _ {I O : Type 0} (i : Read I) (o : Write O) (honest : Type 0) (opening : 
   -- a session was served with the pass, over what this reader gave and what this writer took, and ended so
   pub record IsAttended (p p' : Carried) (reader : I) (writer : O) (said : Result ⊤ SessionFault) : Type 0 where
     pub number : p'.number ≡ p.number
+    pub terms : p'.terms ≡ p.terms
     pub unread : I
     pub written : O
     pub session : Session (GuestAnswers honest opening) (p, p') (i.remaining reader, i.remaining unread) (o.contents writer, o.contents written) said

@@ -79,7 +79,7 @@ impl<'a, W: World, T: Attempts<W> + Drop, A: Allocator, J: Naming, R: Wait> Gues
     /// Asks a request, and waits for its reply; or the pass stays as it was.
     fn ask(&mut self, request: Request) -> Result<(), CallFault>
         ensures { MatchResult result (λ _. Grows W.honest W.opening self.old request self.new)
-            (λ fault. IsTurnedAway fault × (self.new ≡ self.old)) }
+            (λ fault. IsTurnedAway W.honest W.opening self.old fault × (self.new ≡ self.old)) }
     {
         match self.pass.call(self.shared, self.rt, request) {
             Ok(_) => Ok(()),

@@ -3,7 +3,7 @@ ghost use Rattle.std.specs.Prelude.{◌≡◌, Bool, List, length, IfOk, IsOk, M
 ghost use Rattle.std.specs.Thread.{IsSync};
 ghost use denote.Param.Send.{Frees, IsSend};
 ghost use Rattle.eden_model.specs.Histories.{Legal};
-ghost use Rattle.eden_shared.specs.Passes.{Agrees, AreEach, Carried, newcomers};
+ghost use Rattle.eden_shared.specs.Passes.{Agrees, AreEach, AreNewcomers, Carried};
 ghost use Rattle.eden_host.specs.Guests.{HaveLearntNothing};
 ghost use Rattle.eden_host.specs.Sessions.{AreHosted};
 
@@ -53,7 +53,7 @@ fn fetch_from_all<
 
 /// Passes that were told nothing learnt nothing.
 fn begin<J: Naming>(passes: &Vec<Pass<J>>)
-    requires { passes.now.items ≡ newcomers 1 (length J.names) }
+    requires { AreNewcomers passes.now.items (length J.names) }
     ensures learnt { HaveLearntNothing passes.now.items }
     ensures each { AreEach passes.now.items (length J.names) }
 {}
@@ -82,10 +82,10 @@ pub fn host<
     fetchers: Fetchers<S>,
     unloading: Unloading,
 ) -> Hosted<W, T, A, J>
-    requires passes { passes.items ≡ newcomers 1 (length J.names) }
+    requires passes { AreNewcomers passes.items (length J.names) }
     ensures told { (left : List Carried)
         × AreHosted I.Read O.Write W.honest W.opening passes.items left result.outcome
-        × IfOk result.mount (λ m. Agrees m left) }
+        × IfOk result.mount (λ m. Agrees T.table m left) }
     ensures whole { IsOk result.mount }
     ensures legal { W.honest → MatchResult result.mount (λ m. Legal W.opening m.history)
         (λ t. Legal W.opening t.mount.history) }

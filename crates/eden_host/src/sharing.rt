@@ -3,8 +3,9 @@ ghost use Rattle.std.specs.Prelude.{◌≡◌, length, IfOk, IfErr};
 ghost use Rattle.eden_mount.specs.Settings.{IsRoom};
 ghost use Rattle.eden_shared.specs.Lanes.{names_of};
 ghost use Rattle.eden_shared.specs.Opening.{AreTied};
-ghost use Rattle.eden_shared.specs.Passes.{newcomers};
-ghost use Rattle.eden_host.specs.Sharing.{HostsTable};
+ghost use Rattle.eden_shared.specs.Passes.{AreNewcomers, newcomers};
+ghost use Rattle.eden_shared.specs.declared.account.Terms as declared;
+ghost use Rattle.eden_host.specs.Sharing.{HostsTable, terms_at};
 
 use crate::accepts::Accepts;
 use crate::fault::HostFault;
@@ -42,7 +43,7 @@ fn share<W: World, T: Attempts<W> + Drop, A: Allocator, J: Naming>(
     requires ties { AreTied ties.lanes.items ties.ends.items room.queue.passes }
     requires names { names_of ties.lanes.items ≡ J.names }
     ensures count { length J.names ≡ room.queue.passes }
-    ensures passes { IfOk result (λ o. o.1.items ≡ newcomers 1 room.queue.passes) }
+    ensures passes { IfOk result (λ o. o.1.items ≡ newcomers (terms_at T.table room table) 1 room.queue.passes) }
     ensures err { IfErr result (λ t. t ≡ table) }
 {
     let mount: Mount<W, T, A> = Mount::new(room, table);
@@ -72,8 +73,9 @@ fn host_passes<
     fetchers: Fetchers<S>,
     unloading: Unloading,
 ) -> HostedTable<T>
-    requires passes { passes.items ≡ newcomers 1 (length J.names) }
-    ensures { HostsTable T.table I.Read O.Write W.honest W.opening (length J.names) result }
+    requires passes { AreNewcomers passes.items (length J.names) }
+    ensures { (terms : declared.Terms) → passes.items ≡ newcomers terms 1 terms.passes
+        → HostsTable T.table I.Read O.Write W.honest W.opening terms result }
 {
     let hosted = host(rt, alloc, listener, shared, passes, fetchers, unloading);
     let Hosted { mount, outcome } = hosted;
@@ -113,7 +115,7 @@ pub fn host_table<
     requires room { IsRoom room }
     requires ties { AreTied ties.lanes.items ties.ends.items room.queue.passes }
     requires names { names_of ties.lanes.items ≡ J.names }
-    ensures hosted { IfOk result (HostsTable T.table I.Read O.Write W.honest W.opening room.queue.passes) }
+    ensures hosted { IfOk result (HostsTable T.table I.Read O.Write W.honest W.opening (terms_at T.table room table)) }
     ensures err { IfErr result (λ t. t ≡ table) }
 {
     match share::<W, T, A, J>(alloc, room, table, ties) {

@@ -4,7 +4,7 @@ ghost use Rattle.std.specs.Prelude.{◌≡◌, [], length};
 ghost use Rattle.eden_mount.specs.Serving.{IsAtRest};
 ghost use Rattle.eden_shared.specs.Lanes.{names_of};
 ghost use Rattle.eden_shared.specs.Opening.{AreTied, IsUnused};
-ghost use Rattle.eden_shared.specs.Passes.{newcomers};
+ghost use Rattle.eden_shared.specs.Passes.{AreNewcomers};
 
 use eden_cache::ObjectCache;
 use eden_checkout::Checkout;
@@ -82,7 +82,7 @@ pub(crate) fn open<J: Naming>(
 ) -> (Held<J>, Vec<Pass<J>>)
     requires ties { AreTied ties.lanes.items ties.ends.items size.passes }
     requires names { names_of ties.lanes.items ≡ J.names }
-    ensures { result.1.items ≡ newcomers 1 (length J.names) }
+    ensures { AreNewcomers result.1.items (length J.names) }
 {
     let mount = mount(rt, alloc, MemoryFiles::new(alloc), root, size);
     match Held::<J>::open(alloc, mount, ties) {
@@ -108,7 +108,7 @@ pub(crate) fn serve<
     sources: Vec<S>,
     unloading: Unloading,
 ) -> Mounted
-    requires { passes.items ≡ newcomers 1 (length J.names) }
+    requires { AreNewcomers passes.items (length J.names) }
 {
     assert!(rt; !sources.is_empty());
     let fetchers = Fetchers::new(sources);

@@ -2,7 +2,7 @@
 ghost use Rattle.std.specs.Prelude.{◌≡◌, length};
 ghost use Rattle.eden_shared.specs.Lanes.{names_of};
 ghost use Rattle.eden_shared.specs.Opening.{AreTied};
-ghost use Rattle.eden_shared.specs.Passes.{newcomers};
+ghost use Rattle.eden_shared.specs.Passes.{AreNewcomers};
 
 use crate::clients::Arrivals;
 use crate::mounts::{Held, Mounted, Size, open, serve};
@@ -34,7 +34,7 @@ fn serve_clients<'a, J: Naming + Send + Sync, R: Threads + Wait + Abort + Sync>(
     passes: Vec<Pass<J>>,
     round: &'a Round,
 ) -> Mounted
-    requires { passes.items ≡ newcomers 1 (length J.names) }
+    requires { AreNewcomers passes.items (length J.names) }
 {
     let arrivals = Arrivals {
         rt,

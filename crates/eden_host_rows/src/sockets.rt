@@ -2,7 +2,7 @@
 ghost use Rattle.std.specs.Prelude.{◌≡◌, length};
 ghost use Rattle.eden_shared.specs.Lanes.{names_of};
 ghost use Rattle.eden_shared.specs.Opening.{AreTied};
-ghost use Rattle.eden_shared.specs.Passes.{newcomers};
+ghost use Rattle.eden_shared.specs.Passes.{AreNewcomers};
 
 use crate::mounts::{Held, Mounted, Size, open, serve};
 use eden_host::{Port, Unloading};
@@ -121,7 +121,7 @@ fn serve_port<
     listener: TcpListener,
     from: SocketAddr,
 ) -> Mounted
-    requires { passes.items ≡ newcomers 1 (length J.names) }
+    requires { AreNewcomers passes.items (length J.names) }
 {
     let mut sources = Vec::new(alloc);
     let source = SocketSource::new(alloc, rt, from.port(), Duration::from_secs(10));

@@ -6,7 +6,6 @@ use Rattle.std.specs.Option.{option_map_or}
 use Rattle.eden_model.specs.declared.id.Key.{Key}
 use Rattle.eden_model.specs.declared.fault.Cause.{Cause}
 use Rattle.eden_model.specs.Keys.{same_key}
-use Rattle.eden_import.specs.declared.imports.TheConstants.{PASSES_LIMIT, FLIGHTS_LIMIT}
 use Rattle.eden_import.specs.Keys.{has_key, without}
 
 -- what is kept of a failed key for a pass that wanted it
@@ -61,10 +60,10 @@ is_wanted k ws = list_any (wants_key k) ws
 
 -- there may be so many passes, and so many keys in flight
 abbrev pub IsPassCount : ℕ → Type 0
-IsPassCount n = (1 ≤ n) × (n ≤ PASSES_LIMIT)
+IsPassCount n = (1 ≤ n) × (n ≤ 64)
 
 abbrev pub IsFlightCount : ℕ → Type 0
-IsFlightCount n = (1 ≤ n) × (n ≤ FLIGHTS_LIMIT)
+IsFlightCount n = (1 ≤ n) × (n ≤ 64)
 
 pub record IsQueue (q : Queue) : Type 0 where
   pub some_passes : IsPassCount q.passes

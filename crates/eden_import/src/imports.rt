@@ -1,4 +1,4 @@
-ghost use Rattle.std.specs.Prelude.{◌≡◌, IfOk, if◌then◌else◌, replicate, None};
+ghost use Rattle.std.specs.Prelude.{◌≡◌, ◌↔◌, IsTrue, IfOk, if◌then◌else◌, replicate, None};
 ghost use Rattle.eden_import.specs.Keys.{has_key};
 ghost use Rattle.eden_import.specs.Queue.{Queue, IsQueue, IsPassCount, IsFlightCount, IsPass, WantsNoOther, want_of, mark_of, stands, next_key};
 ghost use Rattle.eden_import.specs.Queue.{empty, after_want, after_leave, after_leave_own, after_await, after_quit, after_take, after_done, after_failed, after_failure};
@@ -15,6 +15,13 @@ pub const PASSES_LIMIT: u32 = 64;
 
 /// How many keys may be in flight at most.
 pub const FLIGHTS_LIMIT: u32 = 64;
+
+/// Whether there may be so many passes, and so many keys in flight: 1 to 64 each.
+pub fn are_counts(passes: u32, flights: u32) -> bool
+    ensures { IsTrue result ↔ (IsPassCount passes × IsFlightCount flights) }
+{
+    1 <= passes && passes <= PASSES_LIMIT && 1 <= flights && flights <= FLIGHTS_LIMIT
+}
 
 /// How a want was met.
 #[derive(Clone, Copy, Debug, PartialEq, Eq)]

@@ -10,5 +10,5 @@ mod imports;
 mod keys;
 mod laws;
 
-pub use imports::{FLIGHTS_LIMIT, Imports, PASSES_LIMIT, Wanted};
+pub use imports::{FLIGHTS_LIMIT, Imports, PASSES_LIMIT, Wanted, are_counts};
 pub use laws::queue_laws;

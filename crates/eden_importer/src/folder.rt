@@ -1,5 +1,7 @@
-ghost use Rattle.std.specs.Prelude.{List, IfOk, OnOk};
+ghost use Rattle.std.specs.Prelude.{◌≡◌, ◌≤◌, ◌<◌, ◌+◌, List, Ok, Err, IfOk, OnOk};
+ghost use Rattle.eden_importer.specs.Limits.{longest_file, most_levels};
 ghost use Rattle.eden_importer.specs.Trees.{HasPlainModes, IsTreeOf};
+ghost use Rattle.eden_importer.specs.declared.fault.ImportFault.TheVariants as fault;
 ghost use Rattle.eden_model.specs.declared.tree_entry.TreeEntry.{TreeEntry};
 
 use crate::fault::ImportFault;
@@ -43,11 +45,11 @@ fn import_top<R: Files + Alloc + Eprint + Clone + Drop>(
 ) -> Result<Id, ImportFault>
     ensures { IfOk result (λ id. (entries : List TreeEntry) × HasPlainModes entries × IsTreeOf entries id) }
 {
-    let entries = import_entries(alloc, folder, LEVELS, store)?;
+    let entries = import_entries(alloc, folder, 0, store)?;
     import_tree(alloc, entries.as_slice(), store)
 }
 
-// The entries of a folder below which there may be so many levels.
+// The entries of a folder that lies so many levels below the top.
 fn import_entries<R: Files + Alloc + Eprint + Clone + Drop>(
     alloc: Global,
     folder: &PathBuf,
@@ -64,9 +66,8 @@ fn import_entries<R: Files + Alloc + Eprint + Clone + Drop>(
                 let id = import_file(alloc, &path, store)?;
                 push_entry(alloc, &mut entries, &found, id)?;
             }
-            Kind::Folder if levels == 0 => return Err(ImportFault::TooLarge),
             Kind::Folder => {
-                let below = import_entries(alloc, &path, levels - 1, store)?;
+                let below = import_entries(alloc, &path, level_below(levels)?, store)?;
                 if !below.is_empty() {
                     let id = import_tree(alloc, below.as_slice(), store)?;
                     push_entry(alloc, &mut entries, &found, id)?;
@@ -75,6 +76,18 @@ fn import_entries<R: Files + Alloc + Eprint + Clone + Drop>(
         }
     }
     Ok(entries)
+}
+
+// How many levels below the top that lies which is in a folder of that level.
+fn level_below(levels: u32) -> Result<u32, ImportFault>
+    ensures within { levels < most_levels → result ≡ Ok (levels + 1) }
+    ensures deep { most_levels ≤ levels → result ≡ Err fault.TooLarge }
+{
+    if levels < LEVELS {
+        Ok(levels + 1)
+    } else {
+        Err(ImportFault::TooLarge)
+    }
 }
 
 fn push_entry(
@@ -109,7 +122,9 @@ fn import_file<R: Files + Eprint>(
     alloc: Global,
     path: &PathBuf,
     store: &mut Store<R>,
-) -> Result<Id, ImportFault> {
+) -> Result<Id, ImportFault>
+    ensures bound { LONGEST ≡ longest_file }
+{
     let content = read_file(store.files(), alloc, path.as_str(), Links::Refused, LONGEST)?;
     let framed = encode_blob(alloc, content.as_slice())?;
     store.put(alloc, framed.as_slice())

@@ -1,4 +1,6 @@
-ghost use Rattle.std.specs.Prelude.{◌≡◌, ◌≢◌, ◌⊎◌, Err, None, IfOk, IfErr};
+ghost use Rattle.std.specs.Prelude.{◌≡◌, ◌≢◌, ◌⊎◌, Ok, Err, None, IfOk, IfErr, IsErrAnd};
+ghost use Rattle.std.specs.Fs.{IsDir, IsFile};
+ghost use Rattle.std.specs.IoError.{error_kind};
 ghost use Rattle.eden_model.specs.Names.{name_refusal};
 ghost use Rattle.eden_importer.specs.declared.fault.ImportFault.TheVariants as fault;
 
@@ -7,8 +9,9 @@ use eden_files::entry_in;
 use eden_object::Name;
 use std::alloc::{Alloc, AllocError, Allocator, Global};
 use std::fs::{self, DirEntry, FileType};
+use std::io::{self, ErrorKind};
 use std::path::PathBuf;
-use std::{io, rt};
+use std::rt;
 
 /// What an entry of a folder is.
 #[derive(Clone, Copy, Debug, PartialEq, Eq)]
@@ -42,14 +45,20 @@ pub(crate) fn list<R: rt::Files + Alloc + Clone + Drop>(
 fn look_at<R: rt::Files + Drop, A: Allocator>(
     alloc: Global,
     item: io::Result<DirEntry<R, A>>,
-) -> Result<Found, ImportFault> {
+) -> Result<Found, ImportFault>
+    ensures no_text { IsErrAnd item (λ e. error_kind e ≡ ErrorKind.InvalidFilename) → result ≡ Err fault.Name }
+{
     let entry = entry_in(item)?.ok_or(ImportFault::Name)?;
     let kind = kind_of(&entry.file_type()?)?;
     let name = String::from_str(alloc, entry.file_name())?;
     Ok(Found { name, kind })
 }
 
-fn kind_of(kind: &FileType) -> Result<Kind, ImportFault> {
+fn kind_of(kind: &FileType) -> Result<Kind, ImportFault>
+    ensures file { IsFile kind.now → result ≡ Ok Kind.File }
+    ensures folder { IsDir kind.now → result ≡ Ok Kind.Folder }
+    ensures other { ¬ IsFile kind.now → ¬ IsDir kind.now → result ≡ Err fault.Kind }
+{
     if kind.is_file() {
         Ok(Kind::File)
     } else if kind.is_dir() {

@@ -1,4 +1,5 @@
 pub mod Rows
+pub mod Refusals
 pub mod Unloads
 pub mod Sorting
 pub mod Filled

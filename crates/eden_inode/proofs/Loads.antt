@@ -35,16 +35,24 @@ told_why i value file honest old new (get.Damaged e) why rose = inr (λ h. refus
 told_why i value file honest old new get.Device why rose = inl (rose refl)
 told_why i value file honest old new get.Memory why rose = tt
 
+-- a directory without a tree object is the mount's own, or empty
+own_at : (p : Path) (x y : Row) → HasNoTree p x → row_at p x ≡ Some y → (y.origin ≡ origin.Empty → ⊥) → IsAt p x origin.Own
+own_at p x y (inl own) at other = own
+own_at p x y (inr empty) at other = absurd (other (ap (λ (z : Row). z.origin) (same_some y empty.row (sym at ∙ empty.there)) ∙ empty.origin))
+
 -- .. of the entry at a path
-pub load_why : (honest : Type 0) (next old new : ℕ) (F : Stored) (p : Path) (x y : Row) (f : Fault) → row_at p x ≡ Some y
+pub load_why : (honest : Type 0) (next old new : ℕ) (F : Stored) (p : Path) (x y : Row) (f : Fault) → HasNoTree p x → row_at p x ≡ Some y → (y.origin ≡ origin.Empty → ⊥)
     → IsGetFault honest old new (entries_at F y.number) f → IsLoadFault honest next old new F p x None f
-load_why honest next old new F p x y (fault.Fetch id cause) at h = h
-load_why honest next old new F p x y fault.Memory at h = h
-load_why honest next old new F p x y fault.Numbers at h = h
-load_why honest next old new F p x y fault.Overlay at h = elim h [
-  | inl rose ↦ inl rose
-  | inr none ↦ inr (λ z found good. ap (λ (w : Row). entries_at F w.number) (same_some z y (sym found ∙ at)) ∙ none good)
-]
+load_why honest next old new F p x y (fault.Fetch id cause) without at other h = h
+load_why honest next old new F p x y fault.Memory without at other h = h
+load_why honest next old new F p x y fault.Numbers without at other h = h
+load_why honest next old new F p x y fault.Overlay without at other h = (
+  own_at p x y without at other,
+  elim h [
+    | inl rose ↦ inl rose
+    | inr none ↦ inr (λ z found good. ap (λ (w : Row). entries_at F w.number) (same_some z y (sym found ∙ at)) ∙ none good)
+  ],
+)
 
 pub content_why : (honest : Type 0) (old new : ℕ) (F : Stored) (p : Path) (x y : Row) (f : Fault) → row_at p x ≡ Some y
     → IsGetFault honest old new (content_at F y.number) f → IsContentFault honest old new F p x f

@@ -1,7 +1,8 @@
 -- Loaded directories that go, one after the other, at an entry and in the directory above it.
-use Rattle.std.proofs.Common.{◌≡◌, ℕ, ◌+◌, ◌-◌, ◌≤◌, true, false, cond, [], ◌∷◌, Some, None, refl, sym, ap, ◌∙◌, subst, arith}
+use Rattle.std.proofs.Common.{◌≡◌, ℕ, ◌+◌, ◌-◌, ◌≤◌, true, false, cond, [], ◌∷◌, Option, Some, None, IsSome, refl, sym, ap, ◌∙◌, subst, arith}
 use Rattle.eden_model.specs.Trees.{Name, Path}
 use Rattle.eden_overlay_format.specs.Directory.{AreStorable}
+use Rattle.eden_overlay.specs.declared.files.FilesFault.{FilesFault}
 use Rattle.eden_overlay.specs.Files.{Stored}
 use Rattle.eden_overlay.specs.Held.{with_entries}
 use Rattle.eden_overlay.specs.Soundness.{AreSound}
@@ -117,17 +118,20 @@ module _ (Honest : Type 0) (clock age : ℕ) where
   pub may_list : (F : Stored) (x : Row) (d : Directory) → MayUnload Honest clock age F (with_child (Some d) x) → AreStorable (listing_of d)
   may_list F x d may = (may F (with_child (Some d) x) 0 none).0 [] (with_child (Some d) x) d refl (child_of-with_child (Some d) x)
 
-  pub settled_none : (x : Row) → child_of x ≡ None → IsSettled clock age x
-  settled_none x shut [] y d at h old inside = none_some d _ (sym shut ∙ ap child_of (same_some x y at) ∙ h)
-  settled_none x shut (n ∷ p) y d at h old inside = none_some y _ (sym (row_at-unloaded n p x shut) ∙ at)
+  pub settled_none : (refused : Option FilesFault) (x : Row) → child_of x ≡ None → IsSettled clock age refused x
+  settled_none refused x shut [] y d at h old inside = none_some d _ (sym shut ∙ ap child_of (same_some x y at) ∙ h)
+  settled_none refused x shut (n ∷ p) y d at h old inside = none_some y _ (sym (row_at-unloaded n p x shut) ∙ at)
 
-  pub settled_over : (x : Row) (d : Directory) → ((n : Name) (z : Row) → find_row n d.rows ≡ Some z → IsSettled clock age z)
-      → (age ≤ clock - d.stamp → HasNoneInside d → d.unsaved ≡ true) → IsSettled clock age (with_child (Some d) x)
-  settled_over x d each stays [] y e at h old inside =
+  pub settled_more : (a b : Option FilesFault) (x : Row) → (IsSome a → IsSome b) → IsSettled clock age a x → IsSettled clock age b x
+  settled_more a b x more settled p y d at h old inside = let s = settled p y d at h old inside in (s.0, more s.1)
+
+  pub settled_over : (refused : Option FilesFault) (x : Row) (d : Directory) → ((n : Name) (z : Row) → find_row n d.rows ≡ Some z → IsSettled clock age refused z)
+      → (age ≤ clock - d.stamp → HasNoneInside d → (d.unsaved ≡ true) × IsSome refused) → IsSettled clock age refused (with_child (Some d) x)
+  settled_over refused x d each stays [] y e at h old inside =
       let same : d ≡ e = same_some d e (sym (child_of-with_child (Some d) x) ∙ ap child_of (same_some (with_child (Some d) x) y at) ∙ h) in
-      let P : Directory → Type 0 = λ a. age ≤ clock - a.stamp → HasNoneInside a → a.unsaved ≡ true in
+      let P : Directory → Type 0 = λ a. age ≤ clock - a.stamp → HasNoneInside a → (a.unsaved ≡ true) × IsSome refused in
       subst P same stays old inside
-  settled_over x d each stays (n ∷ p) y e at h old inside =
+  settled_over refused x d each stays (n ∷ p) y e at h old inside =
       let t = through n p (with_child (Some d) x) y at in
       let same : t.directory ≡ d = same_some t.directory d (sym t.holds ∙ child_of-with_child (Some d) x) in
       each n t.below (ap (λ (a : Directory). find_row n a.rows) (sym same) ∙ t.there) p y e t.at h old inside

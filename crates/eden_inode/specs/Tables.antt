@@ -8,18 +8,21 @@ use Rattle.eden_model.specs.declared.kind.Origin.{Origin}
 use Rattle.eden_model.specs.declared.kind.Origin.TheVariants as origin
 use Rattle.eden_model.specs.declared.id.Id.{Id}
 use Rattle.eden_model.specs.declared.tree_entry.TreeEntry.{TreeEntry}
+use Rattle.eden_model.specs.declared.world.World.{Ghosts}
 use Rattle.eden_model.specs.Failures.{Rose}
 use Rattle.eden_model.specs.Repository.{Repository}
-use Rattle.eden_model.specs.Trees.{Path}
+use Rattle.eden_model.specs.Trees.{Path, Tree}
 use Rattle.eden_object.specs.Trees.{NamesDiffer}
 use Rattle.eden_overlay_format.specs.declared.stored_entry.StoredEntry.{StoredEntry}
 use Rattle.eden_overlay_format.specs.Directory.{number_end}
+use Rattle.eden_overlay.specs.declared.files.Files.{Ghosts as Files}
 use Rattle.eden_overlay.specs.Files.{Stored}
 use Rattle.eden_overlay.specs.Held.{entries_at, content_at}
 use Rattle.eden_overlay.specs.Soundness.{IsLive, Names, HoldsKind, AreSound}
 use Rattle.eden_tree.specs.Directory.{Row, child_of, unloaded}
 use Rattle.eden_tree.specs.Paths.{row_at}
 use Rattle.eden_tie.specs.Loading.{IsAt}
+use Rattle.eden_tie.specs.Shown.{shown_in}
 use Rattle.eden_inode.specs.declared.seen.Seen.{Seen}
 
 pub record Table (F : Type 0) : Type 0 where
@@ -33,6 +36,10 @@ pub record Table (F : Type 0) : Type 0 where
   pub clock : ℕ
   -- how often a name came, went or was unloaded
   pub changes : ℕ
+
+-- the tree that a table shows
+abbrev pub shows : {W F : Type 0} → Ghosts W → Files F W → Table F → Tree
+shows w f t = shown_in w.repository (f.stored t.files) t.root
 
 -- the root's entry before anything is loaded
 abbrev pub fresh_root : Origin → Row
@@ -74,14 +81,15 @@ abbrev pub HasNoTree : Path → Row → Type 0
 HasNoTree p x = IsAt p x origin.Own ⊎ IsAt p x origin.Empty
 
 -- why a directory isn't loaded: no memory; too few numbers are left for the entries of a tree object; the device failed, or
--- the own file is no directory
+-- the file is no directory, which only one that is the mount's own has
 abbrev pub IsLoadFault : Type 0 → ℕ → ℕ → ℕ → Stored → Path → Row → Option (List TreeEntry) → Fault → Type 0
 IsLoadFault honest next old new F p x es (fault.Fetch id cause) = ⊥
 IsLoadFault honest next old new F p x es fault.Memory = Unit {0}
 IsLoadFault honest next old new F p x None fault.Numbers = ⊥
 IsLoadFault honest next old new F p x (Some es) fault.Numbers = number_end < next + length es
 IsLoadFault honest next old new F p x (Some es) fault.Overlay = ⊥
-IsLoadFault honest next old new F p x None fault.Overlay = Rose old new ⊎ ((y : Row) → row_at p x ≡ Some y → honest → entries_at F y.number ≡ None)
+IsLoadFault honest next old new F p x None fault.Overlay =
+    IsAt p x origin.Own × (Rose old new ⊎ ((y : Row) → row_at p x ≡ Some y → honest → entries_at F y.number ≡ None))
 
 -- .. and why a content isn't had
 abbrev pub IsContentFault : Type 0 → ℕ → ℕ → Stored → Path → Row → Fault → Type 0

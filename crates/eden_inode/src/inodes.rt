@@ -4,8 +4,10 @@ ghost use Rattle.eden_model.specs.declared.kind.Origin as declared;
 ghost use Rattle.eden_model.specs.declared.kind.Origin.TheVariants as origin;
 ghost use Rattle.eden_model.specs.declared.id.Id as id;
 ghost use Rattle.eden_model.specs.declared.id.ObjKind.TheVariants as object;
+ghost use Rattle.eden_model.specs.Failures.{Counted};
 ghost use Rattle.eden_overlay_format.specs.Directory.{number_least, number_end};
 ghost use Rattle.eden_overlay.specs.Held.{HoldsContent};
+ghost use Rattle.eden_overlay.specs.declared.files.FilesFault.TheVariants as files;
 ghost use Rattle.std.specs.Coded.{codes};
 ghost use Rattle.eden_tree.specs.Coding.{child_code};
 ghost use Rattle.std.specs.Option.{option_copied, option_and_then};
@@ -13,11 +15,11 @@ ghost use Rattle.eden_tree.specs.Directory.{Row, child_of};
 ghost use Rattle.eden_tree.specs.Paths.{row_at, edit_row, stamped_along};
 ghost use Rattle.eden_tie.specs.Kept.{IsTable, IsKept};
 ghost use Rattle.eden_tie.specs.Loading.{IsAt, LoadsObject, LoadsOwn};
-ghost use Rattle.eden_tie.specs.Shown.{shown_in};
 ghost use Rattle.eden_tie.specs.Unloading.{Unloads, IsSettled};
-ghost use Rattle.eden_inode.specs.Tables.{Table, fresh_root, CanStart, IsLast, HasTree, HasNoTree, IsLoadFault, IsContentFault};
+ghost use Rattle.eden_inode.specs.Tables.{Table, fresh_root, CanStart, IsLast, HasTree, HasNoTree, IsLoadFault, IsContentFault, shows};
 
 use crate::fill::from_object;
+use crate::gone::{Gone, NOTHING};
 use crate::load::{own_content, put_loaded, unlisted};
 use crate::look::{look, unloaded};
 use crate::seen::Seen;
@@ -149,9 +151,7 @@ impl<A: Allocator + Clone, W: World, F: Files<W>> Inodes<A, W, F> {
     pub fn look(&mut self, path: &[Name]) -> Seen
         ensures last { IsLast path.now self.old.root result }
         ensures stamped { self.new ≡ record self.old { root = stamped_along path.now self.old.clock self.old.root } }
-        ensures shown { W.honest
-            → shown_in W.repository (F.stored self.new.files) self.new.root ≡ shown_in W.repository
-            (F.stored self.old.files) self.old.root }
+        ensures shown { W.honest → shows W.World F.Files self.new ≡ shows W.World F.Files self.old }
     {
         kept_laws();
         shown_laws();
@@ -191,7 +191,8 @@ impl<A: Allocator + Clone, W: World, F: Files<W>> Inodes<A, W, F> {
     ///
     /// The entries of a tree object are given the numbers from the next one on, in byte order of their names; those of an
     /// own file have theirs. The directories of the path are stamped. Errors: `Numbers` where too few are left, `Memory`,
-    /// and `Overlay` where the device failed or the own file is no directory. Nothing has changed then.
+    /// and, for one that is the mount's own, `Overlay` where the device failed or its file is no directory. Nothing has changed
+    /// then.
     pub fn load(
         &mut self,
         alloc: Global,
@@ -212,9 +213,7 @@ impl<A: Allocator + Clone, W: World, F: Files<W>> Inodes<A, W, F> {
             (F.stored self.old.files) path.now self.old.root (option_map (λ es. es.now) entries.entry)) }
         ensures files { W.honest → F.stored self.new.files ≡ F.stored self.old.files }
         ensures counted { (F.failures self.old.files) ≤ (F.failures self.new.files) }
-        ensures shown { W.honest
-            → shown_in W.repository (F.stored self.new.files) self.new.root ≡ shown_in W.repository
-            (F.stored self.old.files) self.old.root }
+        ensures shown { W.honest → shows W.World F.Files self.new ≡ shows W.World F.Files self.old }
         ensures rest { (self.new.clock ≡ self.old.clock) × (self.new.changes ≡ self.old.changes) }
     {
         match entries {
@@ -237,9 +236,7 @@ impl<A: Allocator + Clone, W: World, F: Files<W>> Inodes<A, W, F> {
         ensures fault { IfErr result
             (IsLoadFault W.honest self.old.next (F.failures self.old.files) (F.failures self.new.files)
             (F.stored self.old.files) path.now self.old.root (Some entries.now)) }
-        ensures shown { W.honest
-            → shown_in W.repository (F.stored self.new.files) self.new.root ≡ shown_in W.repository
-            (F.stored self.old.files) self.old.root }
+        ensures shown { W.honest → shows W.World F.Files self.new ≡ shows W.World F.Files self.old }
         ensures rest { (self.new.files ≡ self.old.files)
             × ((self.new.clock ≡ self.old.clock) × (self.new.changes ≡ self.old.changes)) }
     {
@@ -268,9 +265,7 @@ impl<A: Allocator + Clone, W: World, F: Files<W>> Inodes<A, W, F> {
             (F.stored self.old.files) path.now self.old.root None) }
         ensures files { W.honest → F.stored self.new.files ≡ F.stored self.old.files }
         ensures counted { (F.failures self.old.files) ≤ (F.failures self.new.files) }
-        ensures shown { W.honest
-            → shown_in W.repository (F.stored self.new.files) self.new.root ≡ shown_in W.repository
-            (F.stored self.old.files) self.old.root }
+        ensures shown { W.honest → shows W.World F.Files self.new ≡ shows W.World F.Files self.old }
         ensures rest { (self.new.next ≡ self.old.next)
             × ((self.new.clock ≡ self.old.clock) × (self.new.changes ≡ self.old.changes)) }
     {
@@ -322,21 +317,23 @@ impl<A: Allocator + Clone, W: World, F: Files<W>> Inodes<A, W, F> {
     }
 
     /// Lets go of the loaded directories at and below a path that have not been used for so many turns, the leaves first; an
-    /// unsaved one is stored first. How many went, up to 2^64 - 1.
+    /// unsaved one is stored first. How many went, and whether a store was refused.
     ///
-    /// A directory with a loaded one left inside stays, and so does an unsaved one that can't be stored.
-    pub fn unload(&mut self, alloc: Global, path: &[Name], older_than: u64) -> u64
+    /// A directory with a loaded one left inside stays, and so does an unsaved one where a store was refused, by the device
+    /// or for want of memory.
+    pub fn unload(&mut self, alloc: Global, path: &[Name], older_than: u64) -> Gone
         ensures unloads { (c : ℕ)
-            × ((result ≡ min c u64.MAX)
+            × ((result.count ≡ min c u64.MAX)
             × Unloads W.honest self.old.clock older_than (F.stored self.old.files) self.old.root
             (F.stored self.new.files) self.new.root c) }
-        ensures settled { (y : Row) → row_at path.now self.new.root ≡ Some y → IsSettled self.old.clock older_than y }
+        ensures settled { (y : Row) → row_at path.now self.new.root ≡ Some y
+            → IsSettled self.old.clock older_than result.refused y }
+        ensures refused { Counted (result.refused ≡ Some files.Device) (F.failures self.old.files)
+            (F.failures self.new.files) }
         ensures elsewhere { (f : Row) × (self.new.root ≡ edit_row path.now (λ _. f) self.old.root) }
-        ensures shown { W.honest
-            → shown_in W.repository (F.stored self.new.files) self.new.root ≡ shown_in W.repository
-            (F.stored self.old.files) self.old.root }
+        ensures shown { W.honest → shows W.World F.Files self.new ≡ shows W.World F.Files self.old }
         ensures counted { (F.failures self.old.files) ≤ (F.failures self.new.files) }
-        ensures changes { self.new.changes ≡ min (self.old.changes + result) u64.MAX }
+        ensures changes { self.new.changes ≡ min (self.old.changes + result.count) u64.MAX }
         ensures rest { (self.new.next ≡ self.old.next) × (self.new.clock ≡ self.old.clock) }
     {
         let unloading = Unloading {
@@ -345,9 +342,9 @@ impl<A: Allocator + Clone, W: World, F: Files<W>> Inodes<A, W, F> {
             older_than,
         };
         match self.root.change_at(path, &mut self.overlay, unloading) {
-            None => 0,
+            None => NOTHING,
             Some(gone) => {
-                self.changes = self.changes.saturating_add(gone);
+                self.changes = self.changes.saturating_add(gone.count);
                 gone
             }
         }

@@ -5,6 +5,7 @@
 #![tactic(auto)]
 
 mod fill;
+mod gone;
 mod inodes;
 mod listing;
 mod load;
@@ -12,5 +13,6 @@ mod look;
 mod seen;
 mod unload;
 
+pub use gone::Gone;
 pub use inodes::Inodes;
 pub use seen::Seen;

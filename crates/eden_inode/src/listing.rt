@@ -1,8 +1,10 @@
 //! Loaded directories as stored ones.
-ghost use Rattle.std.specs.Prelude.{◌≡◌, ◌≤◌, IfOk, OnOk, OnErr};
+ghost use Rattle.std.specs.Prelude.{◌≡◌, Err, IfOk, OnOk, OnErr};
+ghost use Rattle.eden_model.specs.Failures.{Counted};
 ghost use Rattle.eden_overlay_format.specs.Directory.{AreStorable};
 ghost use Rattle.eden_overlay.specs.Held.{with_entries};
 ghost use Rattle.eden_overlay.specs.Soundness.{AreSound};
+ghost use Rattle.eden_overlay.specs.declared.files.FilesFault.TheVariants as files;
 ghost use Rattle.eden_tie.specs.Listings.{listing_of};
 
 use eden_model::World;
@@ -45,7 +47,7 @@ pub(crate) fn save<A: Allocator, W: World, F: Files<W>>(
     ensures ok { W.honest
         → OnOk result (F.stored overlay.new ≡ with_entries (F.stored overlay.old) number (listing_of dir.now)) }
     ensures err { W.honest → OnErr result (F.stored overlay.new ≡ F.stored overlay.old) }
-    ensures counted { F.failures overlay.old ≤ F.failures overlay.new }
+    ensures counted { Counted (result ≡ Err files.Device) (F.failures overlay.old) (F.failures overlay.new) }
 {
     let entries = listing(alloc, dir)?;
     overlay.put_dir(alloc, number, &entries)

@@ -1,5 +1,5 @@
 //! What is loaded at a path, and from where.
-ghost use Rattle.std.specs.Prelude.{◌≡◌, ◌≢◌, ◌≤◌, [], Some, IfOk, IfErr, OnOk, OnErr};
+ghost use Rattle.std.specs.Prelude.{◌≡◌, ◌≢◌, ◌≤◌, [], Some, IsOkAnd, IfOk, IfErr, OnOk, OnErr};
 ghost use Rattle.eden_model.specs.declared.id.Id as id;
 ghost use Rattle.eden_model.specs.declared.kind.Kind.TheVariants as kind;
 ghost use Rattle.eden_model.specs.declared.kind.Origin as declared;
@@ -88,7 +88,8 @@ pub(crate) fn own_directory<A: Allocator, W: World, F: Files<W>>(
     }
 }
 
-/// The directory that an entry without a tree object is loaded as: what its file stores, or nothing.
+/// The directory that an entry without a tree object is loaded as: what its file stores, or nothing, for which no file is
+/// read and which never fails.
 pub(crate) fn unlisted<A: Allocator, W: World, F: Files<W>>(
     alloc: Global,
     dirs: A,
@@ -101,7 +102,7 @@ pub(crate) fn unlisted<A: Allocator, W: World, F: Files<W>>(
     ensures new { IfOk result (IsNew clock) }
     ensures own { W.honest → origin ≡ origins.Own
         → IfOk result (λ d. HoldsEntries (F.stored overlay.old) number (listing_of d)) }
-    ensures empty { origin ≡ origins.Empty → IfOk result (λ d. d.rows ≡ []) }
+    ensures empty { origin ≡ origins.Empty → IsOkAnd result (λ d. d.rows ≡ []) }
     ensures storable { IfOk result (λ d. AreStorable (listing_of d)) }
     ensures fault { IfErr result
         (IsGetFault W.honest (F.failures overlay.old) (F.failures overlay.new)

@@ -1,16 +1,19 @@
 //! Loaded directories that go.
-ghost use Rattle.std.specs.Prelude.{◌≡◌, ◌≤◌, ◌-◌, ◌+◌, ◌↔◌, ℕ, Some, None, min, IsTrue, IsFalse, true, false};
+ghost use Rattle.std.specs.Prelude.{◌≡◌, ◌≤◌, ◌-◌, ◌+◌, ◌↔◌, ℕ, Ok, Err, Some, None, OnErr, min, IsTrue, IsFalse, true, false};
+ghost use Rattle.eden_model.specs.Failures.{Counted};
 ghost use Rattle.eden_overlay_format.specs.Directory.{AreStorable};
 ghost use Rattle.eden_overlay.specs.Held.{with_entries};
 ghost use Rattle.eden_overlay.specs.Soundness.{AreSound};
+ghost use Rattle.eden_overlay.specs.declared.files.FilesFault.TheVariants as files;
 ghost use Rattle.eden_tree.specs.Directory.{Row, child_of, with_child};
 ghost use Rattle.eden_tie.specs.Listings.{listing_of};
 ghost use Rattle.eden_tie.specs.Unloading.{Unloads, IsSettled, MayUnload, HasNoneInside};
 ghost use Rattle.eden_inode.specs.Going.{IsUnloaded};
 
+use crate::gone::{Gone, NOTHING, ONE, both, refusal};
 use crate::listing::save;
 use eden_model::World;
-use eden_overlay::{Files, Overlay};
+use eden_overlay::{Files, FilesFault, Overlay};
 use eden_tree::{Change, Dir, Entry};
 use std::alloc::{Allocator, Global};
 
@@ -31,7 +34,8 @@ fn has_none_inside<A: Allocator>(dir: &Dir<A>) -> bool
     true
 }
 
-/// Whether a directory of that number goes: it is old enough, none is left inside, and it is saved or could be.
+/// Whether a directory of that number goes: it is old enough, none is left inside, and it is saved or was now; or why that
+/// was refused.
 fn may_go<A: Allocator, W: World, F: Files<W>>(
     dir: &Dir<A>,
     number: u64,
@@ -39,32 +43,38 @@ fn may_go<A: Allocator, W: World, F: Files<W>>(
     alloc: Global,
     clock: u64,
     age: u64,
-) -> bool
+) -> Result<bool, FilesFault>
     requires entries { AreStorable (listing_of dir.now) }
     requires sound { W.honest → age ≤ clock - dir.now.stamp → HasNoneInside dir.now → dir.now.unsaved ≡ true
         → AreSound (with_entries (F.stored overlay.old) number (listing_of dir.now)) }
-    ensures old { IsTrue result → age ≤ clock - dir.now.stamp }
-    ensures inside { IsTrue result → HasNoneInside dir.now }
-    ensures saved { W.honest → IsTrue result → dir.now.unsaved ≡ false → F.stored overlay.new ≡ F.stored overlay.old }
-    ensures stored { W.honest → IsTrue result → dir.now.unsaved ≡ true
+    ensures old { result ≡ Ok true → age ≤ clock - dir.now.stamp }
+    ensures inside { result ≡ Ok true → HasNoneInside dir.now }
+    ensures saved { W.honest → result ≡ Ok true → dir.now.unsaved ≡ false → F.stored overlay.new ≡ F.stored overlay.old }
+    ensures stored { W.honest → result ≡ Ok true → dir.now.unsaved ≡ true
         → F.stored overlay.new ≡ with_entries (F.stored overlay.old) number (listing_of dir.now) }
-    ensures stays { IsFalse result → age ≤ clock - dir.now.stamp → HasNoneInside dir.now → dir.now.unsaved ≡ true }
-    ensures unchanged { W.honest → IsFalse result → F.stored overlay.new ≡ F.stored overlay.old }
-    ensures counted { F.failures overlay.old ≤ F.failures overlay.new }
+    ensures stays { result ≡ Ok false → age ≤ clock - dir.now.stamp → ¬ HasNoneInside dir.now }
+    ensures unchanged { W.honest → result ≡ Ok false → F.stored overlay.new ≡ F.stored overlay.old }
+    ensures refused { OnErr result (dir.now.unsaved ≡ true) }
+    ensures left { W.honest → OnErr result (F.stored overlay.new ≡ F.stored overlay.old) }
+    ensures counted { Counted (result ≡ Err files.Device) (F.failures overlay.old) (F.failures overlay.new) }
 {
     if clock.saturating_sub(dir.stamp()) < age {
-        return false;
+        return Ok(false);
     }
     if !has_none_inside(dir) {
-        return false;
+        return Ok(false);
     }
     if !dir.unsaved() {
-        return true;
+        return Ok(true);
     }
-    save(alloc, overlay, number, dir).is_ok()
+    match save(alloc, overlay, number, dir) {
+        Ok(()) => Ok(true),
+        Err(fault) => Err(fault),
+    }
 }
 
-/// Unloads what is old enough inside a directory of that number, the leaves first: how many went, and whether it goes too.
+/// Unloads what is old enough inside a directory of that number, the leaves first: what came of that, and whether it goes
+/// too.
 #[cycle(unload)]
 fn unload_inside<A: Allocator, W: World, F: Files<W>>(
     dir: &mut Dir<A>,
@@ -73,34 +83,37 @@ fn unload_inside<A: Allocator, W: World, F: Files<W>>(
     alloc: Global,
     clock: u64,
     age: u64,
-) -> (u64, bool)
+) -> (Gone, bool)
     requires may { (x : Row)
         × ((x.number ≡ number)
         × ((child_of x ≡ Some dir.old) × MayUnload W.honest clock age (F.stored overlay.old) x)) }
     ensures goes { IsTrue result.1 → (x : Row) → x.number ≡ number → child_of x ≡ Some dir.old → (c : ℕ)
-        × ((result.0 ≡ min c u64.MAX)
+        × ((result.0.count ≡ min c u64.MAX)
         × Unloads W.honest clock age (F.stored overlay.old) x (F.stored overlay.new) (with_child None x) (c + 1)) }
     ensures stays { IsFalse result.1 → (x : Row) → x.number ≡ number → child_of x ≡ Some dir.old → (c : ℕ)
-        × ((result.0 ≡ min c u64.MAX)
+        × ((result.0.count ≡ min c u64.MAX)
         × Unloads W.honest clock age (F.stored overlay.old) x (F.stored overlay.new) (with_child (Some dir.new) x) c) }
-    ensures settled { IsFalse result.1 → (x : Row) → IsSettled clock age (with_child (Some dir.new) x) }
-    ensures counted { F.failures overlay.old ≤ F.failures overlay.new }
+    ensures settled { IsFalse result.1 → (x : Row)
+        → IsSettled clock age result.0.refused (with_child (Some dir.new) x) }
+    ensures counted { Counted (result.0.refused ≡ Some files.Device) (F.failures overlay.old) (F.failures overlay.new) }
 {
-    let mut gone = 0u64;
+    let mut gone = NOTHING;
     for i in 0..dir.count() {
         match dir.at_mut(i) {
             None => unreachable!(),
             Some(entry) => {
                 let more = unload_entry(entry, overlay, alloc, clock, age);
-                gone = gone.saturating_add(more);
+                gone = both(gone, more);
             }
         }
     }
-    let goes = may_go(dir, number, overlay, alloc, clock, age);
-    (gone, goes)
+    match may_go(dir, number, overlay, alloc, clock, age) {
+        Ok(goes) => (gone, goes),
+        Err(fault) => (both(gone, refusal(fault)), false),
+    }
 }
 
-/// Unloads what is old enough at and below an entry, the leaves first: how many went.
+/// Unloads what is old enough at and below an entry, the leaves first.
 #[cycle(unload)]
 fn unload_entry<A: Allocator, W: World, F: Files<W>>(
     entry: &mut Entry<A>,
@@ -108,20 +121,20 @@ fn unload_entry<A: Allocator, W: World, F: Files<W>>(
     alloc: Global,
     clock: u64,
     age: u64,
-) -> u64
+) -> Gone
     requires may { MayUnload W.honest clock age (F.stored overlay.old) entry.old }
     ensures unloaded { IsUnloaded W.honest clock age (F.stored overlay.old) entry.old
         (F.stored overlay.new) entry.new result }
-    ensures counted { F.failures overlay.old ≤ F.failures overlay.new }
+    ensures counted { Counted (result.refused ≡ Some files.Device) (F.failures overlay.old) (F.failures overlay.new) }
 {
     let number = entry.number;
     let (gone, goes) = match entry.directory_mut() {
-        None => return 0,
+        None => return NOTHING,
         Some(dir) => unload_inside(dir, number, overlay, alloc, clock, age),
     };
     if goes {
         entry.child = None;
-        gone.saturating_add(1)
+        both(gone, ONE)
     } else {
         gone
     }
@@ -136,14 +149,15 @@ pub(crate) struct Unloading {
 }
 
 impl<A: Allocator, W: World, F: Files<W>> Change<A, Overlay<W, F>> for Unloading {
-    type Output = u64;
+    type Output = Gone;
 
     ghost may = { λ u o x. MayUnload W.honest u.clock u.older_than (F.stored o) x };
 
     ghost does = { λ u o x p z gone.
-        IsUnloaded W.honest u.clock u.older_than (F.stored o) x (F.stored p) z gone × (F.failures o ≤ F.failures p) };
+        IsUnloaded W.honest u.clock u.older_than (F.stored o) x (F.stored p) z gone
+        × Counted (gone.refused ≡ Some files.Device) (F.failures o) (F.failures p) };
 
-    fn change(self, overlay: &mut Overlay<W, F>, entry: &mut Entry<A>) -> u64 {
+    fn change(self, overlay: &mut Overlay<W, F>, entry: &mut Entry<A>) -> Gone {
         unload_entry(entry, overlay, self.alloc, self.clock, self.older_than)
     }
 }

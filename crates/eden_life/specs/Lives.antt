@@ -6,14 +6,14 @@ use Rattle.eden_model.specs.declared.world.World.{Ghosts}
 use Rattle.eden_model.specs.Histories.{replay}
 use Rattle.eden_overlay.specs.declared.files.Files.{Ghosts as Files}
 use Rattle.eden_overlay.specs.declared.files.FilesFault.{FilesFault}
-use Rattle.eden_ops.specs.Keeping.{shows}
+use Rattle.eden_inode.specs.Tables.{shows}
 use Rattle.eden_mount.specs.Core.{Core}
 use Rattle.eden_mount.specs.Settings.{Settings}
 use Rattle.eden_checkout.specs.declared.fault.OpenFault.{OpenFault}
 use Rattle.eden_checkout.specs.declared.fault.OpenFault.TheVariants as opens
 use Rattle.eden_checkout.specs.Attempted.{attempted}
 use Rattle.eden_checkout.specs.Checkouts.{Checkout}
-use Rattle.eden_shared.specs.Passes.{newcomers}
+use Rattle.eden_shared.specs.declared.account.Terms.{Terms}
 use Rattle.eden_serve.specs.declared.opening.Base.{Base}
 use Rattle.eden_serve.specs.Opening.{Closes, IsOpened, IsRefused}
 use Rattle.eden_host.specs.declared.fault.HostFault.{HostFault}
@@ -30,6 +30,10 @@ first_told (Err host.Listen) unclosed = Err life.Listen
 first_told (Err (host.Session fault)) unclosed = Err (life.Session fault)
 first_told (Ok _) (Some fault) = Err (life.Close fault)
 first_told (Ok _) None = Ok tt
+
+-- what a mount of these settings over that checkout is opened with
+abbrev pub opened_with : {F : Type 0} → Settings → Checkout F → Terms
+opened_with s t = record { passes = s.passes; limit = s.history; commit = t.root; next = t.inodes.next }
 
 module _ {W F : Type 0} (w : Ghosts W) (f : Files F W) where
   -- a checkout was closed to the files, or it wasn't, and shows what it showed
@@ -55,15 +59,16 @@ module _ {W F : Type 0} (w : Ghosts W) (f : Files F W) where
     pub closed : Closes w f base.root begun w.opening left.unclosed left.files
 
   module _ {I O : Type 0} (i : Read I) (o : Write O) where
-    -- The overlay was opened, its guests hosted, and the overlay closed, however the sessions ended. Where the outside is
-    -- honest, what the files show is the tree after what the guests were told.
+    -- The overlay was opened, its guests hosted, and the overlay closed, however the sessions ended. The files are the same
+    -- commit's, and no inode number was given again. Where the outside is honest, what they show is the tree after what the
+    -- guests were told.
     pub record IsHosted (base : Base) (settings : Settings) (files : F) (left : SharedEnding F) : Type 0 where
       pub begun : Checkout F
       pub opened : IsOpened w f base settings files begun
       pub hosted : Result ⊤ HostFault
       pub ended : Core (Checkout F)
-      pub is : IsLeft (attempted w f) i o w.honest w.opening (newcomers 1 settings.passes) hosted ended
-      pub closed : Closes w f ended.table.root ended.table (replay w.opening ended.history) left.unclosed left.files
+      pub is : IsLeft (attempted w f) i o w.honest w.opening (opened_with settings begun) hosted ended
+      pub closed : Closes w f base.root ended.table (replay w.opening ended.history) left.unclosed left.files
       pub told : left.outcome ≡ first_told hosted left.unclosed
 
     abbrev pub LivesSharedBy : Result ⊤ SharedLifeFault → Base → Settings → F → SharedEnding F → Type 0

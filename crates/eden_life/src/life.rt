@@ -132,7 +132,8 @@ fn live_tied<
 /// The clients come in the order in which the listener takes them, each with its own thread and its own session, which
 /// ends where its input does or at a line that is no request. What they were told is one history: the replies of the
 /// commit's whole tree, changed by one request after another. The overlay is closed once the last session has ended,
-/// and after a fault too; only where the close fails are the files left without their state.
+/// and after a fault too, with the same commit and the next inode number that was reached; only where the close fails
+/// are the files left without their state.
 ///
 /// Errors are told in `outcome`, the first in the order opening, listening, session, close. Where the overlay isn't
 /// opened, or there is no memory to share it, nobody is listened for.

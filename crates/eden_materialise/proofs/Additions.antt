@@ -15,7 +15,7 @@ use Rattle.eden_overlay.proofs.CallerLemmas.{moved, contents_held, entries_held}
 use Rattle.eden_tree.specs.Directory.{Row, Directory, child_of}
 use Rattle.eden_tree.specs.Paths.{row_at}
 use Rattle.eden_inode.specs.Tables.{Table}
-use Rattle.eden_tie.specs.Chains.{AreSaved, StaysLoaded, Above}
+use Rattle.eden_tie.specs.Chains.{NoneMarked, StaysLoaded, Above}
 use Rattle.eden_tie.specs.Changing.{HasRoom, changed}
 use Rattle.eden_tie.specs.Filing.{leaf}
 use Rattle.eden_tie.specs.Kept.{IsTable, IsKept}
@@ -29,7 +29,7 @@ use Rattle.eden_materialise.specs.declared.new_entry.NewEntry.{NewEntry}
 use Rattle.eden_materialise.specs.declared.new_entry.NewEntry.TheVariants as new
 use Rattle.eden_materialise.specs.Filing.{kind_as, node_as, with_own, own_row, IsShort, LacksEntry, MayAdd, FilesEntry, RefusedBy}
 use Rattle.eden_materialise.specs.Puts.{AtDirectory}
-use Rattle.eden_materialise.proofs.Filing.{files_stored, files_strays, files_table, files_saved, files_stay, files_kept, files_unseen, files_shown}
+use Rattle.eden_materialise.proofs.Filing.{files_stored, files_strays, files_table, files_marks, files_stay, files_kept, files_unseen, files_shown}
 
 pub nothing_storable : AreStorable []
 unfolding IsStrictlySortedBy
@@ -181,8 +181,8 @@ module _ (T : Type 0) (stored : T → Stored) (failures : T → ℕ) (honest : T
     pub adds_table : IsTable z u.next
     adds_table = subst (λ (j : ℕ). IsTable z j) (sym next_is) (files_table honest p n w F M t.root (failures t.files) G z now R (t.next + 1) given_table may_stand answer was_done)
 
-    pub adds_saved : AreSaved t.root → AreSaved z
-    adds_saved all = files_saved honest p n w F M t.root (failures t.files) G z now R (t.next + 1) given_table may_stand answer was_done all
+    pub adds_marks : NoneMarked t.root z
+    adds_marks = files_marks honest p n w F M t.root (failures t.files) G z now R (t.next + 1) given_table may_stand answer was_done
 
     pub adds_stay : StaysLoaded t.root z
     adds_stay = files_stay honest p n w F M t.root (failures t.files) G z now R (t.next + 1) given_table may_stand answer was_done

@@ -9,15 +9,16 @@ use Rattle.eden_overlay_format.specs.Directory.{AreStorable}
 use Rattle.eden_overlay.specs.Files.{Stored}
 use Rattle.eden_overlay.specs.declared.files.FilesFault.{FilesFault}
 use Rattle.eden_overlay.specs.declared.files.FilesFault.TheVariants as files
+use Rattle.eden_overlay.specs.Walking.{is_own}
 use Rattle.eden_tree.specs.Directory.{Row, Directory, child_of}
 use Rattle.eden_tree.specs.Paths.{row_at}
-use Rattle.eden_tie.specs.Chains.{IsLoadedAt, AreSaved, StaysLoaded, Above, Unfinished, MayStore, left, listed, Refused, at_first, later}
+use Rattle.eden_tie.specs.Chains.{IsLoadedAt, NoneMarked, StaysLoaded, Above, Unfinished, MayStore, left, listed, Refused, at_first, later}
 use Rattle.eden_tie.specs.Kept.{IsTable, IsKept}
 use Rattle.eden_tie.specs.Laws.{owned}
 use Rattle.eden_tie.specs.Listings.{listing_of}
-use Rattle.eden_tie.specs.Materialising.{is_own, Chain, lowest_own, lowest, owned_along}
+use Rattle.eden_tie.specs.Materialising.{Chain, lowest_own, lowest, owned_along}
 use Rattle.eden_tie.specs.Shown.{shown_in}
-use Rattle.eden_tie.proofs.CallerLemmas.{place_at, chain_joined, ties_sound, owned_table, owned_stays, owned_saved, owned_kept, owned_alike, refused_kept, refused_alike}
+use Rattle.eden_tie.proofs.CallerLemmas.{place_at, chain_joined, ties_sound, owned_table, owned_stays, owned_marked, owned_kept, owned_alike, refused_kept, refused_alike}
 use Rattle.eden_materialise.specs.Chains.{lowest_of, with_lowest, StaySound, IsHeld, Owns}
 use Rattle.eden_materialise.specs.Faults.{told, IsStoreFault}
 use Rattle.eden_materialise.specs.Puts.{AtDirectory}
@@ -97,9 +98,9 @@ module _ (honest : Type 0) (p : Path) (F : Stored) (x : Row) (old : ℕ) (G : St
   owns_table (Ok u) next table loaded o = subst (λ (r : Row). IsTable r next) (sym o.ok) (owned_table x next p table loaded)
   owns_table (Err e) next table loaded o = subst (λ (r : Row). IsTable r next) (sym o.err) table
 
-  pub owns_saved : (answer : Result (Unit {0}) Fault) (next : ℕ) → IsTable x next → IsLoadedAt p x → Owns honest p F x old G z new answer → AreSaved x → AreSaved z
-  owns_saved (Ok u) next table loaded o all = subst AreSaved (sym o.ok) (owned_saved x next p table loaded all)
-  owns_saved (Err e) next table loaded o all = subst AreSaved (sym o.err) all
+  pub owns_marks : (answer : Result (Unit {0}) Fault) → Owns honest p F x old G z new answer → NoneMarked x z
+  owns_marks (Ok u) o = subst (NoneMarked x) (sym o.ok) (owned_marked x p)
+  owns_marks (Err e) o = subst (NoneMarked x) (sym o.err) (λ q unsaved. unsaved)
 
   pub owns_stays : (answer : Result (Unit {0}) Fault) → IsLoadedAt p x → Owns honest p F x old G z new answer → StaysLoaded x z
   owns_stays (Ok u) loaded o = subst (StaysLoaded x) (sym o.ok) (owned_stays x p loaded)

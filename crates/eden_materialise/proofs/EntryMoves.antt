@@ -2,23 +2,24 @@
 use Rattle.std.proofs.Common.{arith, ◌≢◌, ◌≡◌, ◌≤◌, ℕ, true, false, cond, [], ◌∷◌, ◌++◌, Option, Some, None, IfSome, Result, Ok, Err, OnOk, OnErr, inl, inr, refl, sym, ap, ◌∙◌, subst}
 use Rattle.std.proofs.lemmas.Option.{same_Some, none-some}
 use Rattle.eden_model.specs.declared.fault.Fault.{Fault}
+use Rattle.eden_model.specs.Failures.{Rose}
 use Rattle.eden_model.specs.Operations.{move}
 use Rattle.eden_model.specs.Repository.{Repository}
 use Rattle.eden_model.specs.Trees.{Name, Path}
 use Rattle.eden_overlay.specs.Files.{Stored}
 use Rattle.eden_overlay.specs.Held.{without}
 use Rattle.eden_overlay.specs.Soundness.{AreSound}
+use Rattle.eden_overlay.specs.Walking.{is_own}
 use Rattle.eden_overlay.proofs.CallerLemmas.{put_apart}
 use Rattle.eden_tree.specs.Directory.{Row, Directory, child_of}
 use Rattle.eden_tree.specs.Rows.{find_row}
 use Rattle.eden_tie.specs.Changing.{MayMove, moved_in, marked_source, files_left, files_moved}
 use Rattle.eden_tie.specs.Kept.{IsTable, IsKept}
-use Rattle.eden_tie.specs.Materialising.{is_own}
-use Rattle.eden_tie.specs.Chains.{StaysLoaded, AreSaved}
+use Rattle.eden_tie.specs.Chains.{StaysLoaded, NoneMarked}
 use Rattle.eden_tie.specs.Moving.{CanMove}
 use Rattle.eden_tie.specs.Shown.{shown_in}
 use Rattle.eden_tie.specs.Ties.{IsAway, Tied}
-use Rattle.eden_tie.proofs.CallerLemmas.{ties_sound, replaces_there, moved_table, moved_kept, moved_shown, marked_table, marked_kept, marked_shown, replaced_tied, replaced_kept, replaced_shown, moved_stays, marked_stays, moved_saved, left_elsewhere, moved_elsewhere}
+use Rattle.eden_tie.proofs.CallerLemmas.{ties_sound, replaces_there, moved_table, moved_kept, moved_shown, marked_table, marked_kept, marked_shown, replaced_tied, replaced_kept, replaced_shown, moved_stays, marked_stays, moved_marks, left_elsewhere, moved_elsewhere}
 use Rattle.eden_materialise.specs.EntryMoves.{own_number, Clears, nothing, removed, failed, MovesIn, IsMoved, MovesEntry}
 use Rattle.eden_materialise.specs.Puts.{AtDirectory}
 
@@ -36,19 +37,19 @@ pub clears_from : (honest : Type 0) (F H : Stored) (old between : ℕ) (G : Stor
     → Clears honest H between G new o → Clears honest F old G new o
 clears_from honest F H old between G new None files count (nothing is same) = nothing (λ h. is h ∙ files h) (same ∙ count)
 clears_from honest F H old between G new (Some j) files count (removed k is same) = removed k (λ h. is h ∙ ap (λ (I : Stored). without I k) (files h)) (same ∙ count)
-clears_from honest F H old between G new (Some j) files count (failed k is rises) = failed k (λ h. is h ∙ files h) (subst (λ j. j ≤ new) count rises)
+clears_from honest F H old between G new (Some j) files count (failed k is rose) = failed k (λ h. is h ∙ files h) (subst (λ (i : ℕ). Rose i new) count rose)
 
 -- what holds of the files with it and without it holds then
 pub cleared : (honest : Type 0) (F : Stored) (old : ℕ) (G : Stored) (new : ℕ) (o : Option ℕ) (P : Stored → Type 0) → Clears honest F old G new o → honest
     → P F → ((k : ℕ) → o ≡ Some k → P (without F k)) → P G
 cleared honest F old G new None P (nothing is same) h whole gone = subst P (sym (is h)) whole
 cleared honest F old G new (Some j) P (removed k is same) h whole gone = subst P (sym (is h)) (gone k refl)
-cleared honest F old G new (Some j) P (failed k is rises) h whole gone = subst P (sym (is h)) whole
+cleared honest F old G new (Some j) P (failed k is rose) h whole gone = subst P (sym (is h)) whole
 
 pub never_less : (honest : Type 0) (F : Stored) (old : ℕ) (G : Stored) (new : ℕ) (o : Option ℕ) → Clears honest F old G new o → old ≤ new
 never_less honest F old G new None (nothing is same) = omega (arith, same)
 never_less honest F old G new (Some j) (removed k is same) = omega (arith, same)
-never_less honest F old G new (Some j) (failed k is rises) = rises
+never_less honest F old G new (Some j) (failed k is rose) = rose.kept
 
 module _ (honest : Type 0) (F : Stored) (x : Row) (p : Path) (n : Name) (q : Path) (m : Name) (can : MovesIn honest F x p n q m) (may : MayMove x p n q m)
     (own : Option ℕ) (is : own ≡ own_number (find_row m can.can.target.rows)) where
@@ -102,9 +103,9 @@ module _ (honest : Type 0) (F : Stored) (x : Row) (next : ℕ) (p : Path) (n : N
     | inr left ↦ subst (StaysLoaded x) (sym left.1.1.0) (marked_stays x p n q m left.1.0)
   ]
 
-  pub move_saved : (answer : Result (Unit {0}) Fault) → MovesEntry honest p n q m F x old G z new answer → OnOk answer (AreSaved x → AreSaved z)
-  move_saved (Ok u) c = λ saved. subst AreSaved (sym c.ok.root) (moved_saved x next p n q m table c.ok.may saved)
-  move_saved (Err e) c = tt
+  pub move_marks : (answer : Result (Unit {0}) Fault) → MovesEntry honest p n q m F x old G z new answer → OnOk answer (NoneMarked x z)
+  move_marks (Ok u) c = subst (NoneMarked x) (sym c.ok.root) (moved_marks x next p n q m table c.ok.may)
+  move_marks (Err e) c = tt
 
   pub move_counted : (answer : Result (Unit {0}) Fault) → MovesEntry honest p n q m F x old G z new answer → OnOk answer (old ≤ new)
   move_counted (Ok u) c = never_less honest (files_moved x p n q m c.ok.may F) old G new (own_number (find_row m c.ok.may.target.rows)) c.ok.files

@@ -7,7 +7,7 @@ use Rattle.eden_overlay.specs.Files.{Stored}
 use Rattle.eden_overlay.specs.Held.{with_entries}
 use Rattle.eden_tree.specs.Directory.{Row, Directory, child_of}
 use Rattle.eden_tree.specs.Paths.{row_at}
-use Rattle.eden_tie.specs.Chains.{AreSaved, StaysLoaded, chained, Above, Refused}
+use Rattle.eden_tie.specs.Chains.{NoneMarked, StaysLoaded, chained, Above, Refused}
 use Rattle.eden_tie.specs.Changing.{changed}
 use Rattle.eden_tie.specs.Kept.{IsTable, IsKept}
 use Rattle.eden_tie.specs.Listings.{listing_of}
@@ -18,7 +18,7 @@ use Rattle.eden_materialise.specs.Faults.{IsStoreFault}
 use Rattle.eden_materialise.specs.Filing.{FilesEntry, not_filed, filed, RefusedBy}
 use Rattle.eden_materialise.specs.Listings.{ChangesEntry}
 use Rattle.eden_materialise.specs.Puts.{AtDirectory}
-use Rattle.eden_materialise.proofs.Listings.{changes_table, changes_saved, changes_stay, changes_kept_then, changes_shown, changes_unseen}
+use Rattle.eden_materialise.proofs.Listings.{changes_table, changes_marks, changes_stay, changes_kept_then, changes_shown, changes_unseen}
 
 -- what was put in is an entry that changed
 module _ (honest : Type 0) (p : Path) (n : Name) (v w : Row) (is : v ≡ w) (B : Stored) (x : Row) (old count : ℕ) (same : count ≡ old) (G : Stored) (z : Row) (now : ℕ) where
@@ -80,9 +80,9 @@ module _ (honest : Type 0) (p : Path) (n : Name) (w : Row) (F M : Stored) (x : R
     files_table answer (not_filed e same files why) = subst (λ (r : Row). IsTable r next) (sym same) table
     files_table answer (filed B a is c) = changes_table honest R p n (Some w) B x old G z now next table (may B is) a c
 
-    pub files_saved : (answer : Result (Unit {0}) Fault) → FilesEntry honest p n w F M x old G z now answer → AreSaved x → AreSaved z
-    files_saved answer (not_filed e same files why) all = subst AreSaved (sym same) all
-    files_saved answer (filed B a is c) all = changes_saved honest R p n (Some w) B x old G z now next table (may B is) a c all
+    pub files_marks : (answer : Result (Unit {0}) Fault) → FilesEntry honest p n w F M x old G z now answer → NoneMarked x z
+    files_marks answer (not_filed e same files why) = subst (NoneMarked x) (sym same) (λ q unsaved. unsaved)
+    files_marks answer (filed B a is c) = changes_marks honest R p n (Some w) B x old G z now next table (may B is) a c
 
     pub files_stay : (answer : Result (Unit {0}) Fault) → FilesEntry honest p n w F M x old G z now answer → StaysLoaded x z
     files_stay answer (not_filed e same files why) = subst (StaysLoaded x) (sym same) (λ q there. there)

@@ -14,16 +14,16 @@ use Rattle.eden_overlay_format.specs.Values.{content_in}
 use Rattle.eden_overlay.specs.Files.{Stored}
 use Rattle.eden_overlay.specs.Held.{HoldsContent, with_content, with_entries}
 use Rattle.eden_overlay.specs.Soundness.{HoldsKind, AreSound}
+use Rattle.eden_overlay.specs.Walking.{is_own}
 use Rattle.eden_overlay.proofs.CallerLemmas.{moved, contents_held}
 use Rattle.eden_tree.specs.Directory.{Row, child_of}
-use Rattle.eden_tie.specs.Chains.{AreSaved, StaysLoaded, chained, Above}
+use Rattle.eden_tie.specs.Chains.{NoneMarked, StaysLoaded, chained, Above}
 use Rattle.eden_tie.specs.Changing.{changed}
 use Rattle.eden_tie.specs.Filing.{leaf, HasFile}
 use Rattle.eden_tie.specs.Kept.{IsTable, IsKept}
 use Rattle.eden_tie.specs.Laws.{owned}
 use Rattle.eden_tie.specs.Listings.{stored_entry, listing_of}
 use Rattle.eden_tie.specs.Loose.{IsLoose, other_entry}
-use Rattle.eden_tie.specs.Materialising.{is_own}
 use Rattle.eden_tie.specs.Shown.{shown_in}
 use Rattle.eden_tie.specs.Standing.{MayStand, kept_number}
 use Rattle.eden_tie.proofs.CallerLemmas.{place_at, entry_storable, loose_sound, loose_kept, loose_alike, file_shows, loose_elsewhere, content_sound, content_kept, content_grafts}
@@ -32,7 +32,7 @@ use Rattle.eden_materialise.specs.Filing.{not_filed, RefusedBy}
 use Rattle.eden_materialise.specs.Fills.{MayFill, FillsFile}
 use Rattle.eden_materialise.specs.Listings.{IsHeldFor}
 use Rattle.eden_materialise.specs.Puts.{AtDirectory}
-use Rattle.eden_materialise.proofs.Filing.{files_ok, files_stored, files_err, files_strays, files_fault, files_counted, files_table, files_saved, files_stay, files_kept, files_unseen, files_shown}
+use Rattle.eden_materialise.proofs.Filing.{files_ok, files_stored, files_err, files_strays, files_fault, files_counted, files_table, files_marks, files_stay, files_kept, files_unseen, files_shown}
 use Rattle.eden_materialise.proofs.Reforms.{each_can}
 
 own_then : (o : Origin) → is_own o ≡ true → o ≡ origin.Own
@@ -135,9 +135,9 @@ module _ (honest : Type 0) (R : Repository) (p : Path) (n : Name) (w : Row) (con
     fills_table answer (inl (own, c)) = subst (λ (r : Row). IsTable r next) (sym c.root) table
     fills_table answer (inr (other, c)) = files_table honest p n (owned w) F M x old G z now R next table may_fill answer c
 
-    pub fills_saved : (answer : Result (Unit {0}) Fault) → Fills answer → AreSaved x → AreSaved z
-    fills_saved answer (inl (own, c)) all = subst AreSaved (sym c.root) all
-    fills_saved answer (inr (other, c)) all = files_saved honest p n (owned w) F M x old G z now R next table may_fill answer c all
+    pub fills_marks : (answer : Result (Unit {0}) Fault) → Fills answer → NoneMarked x z
+    fills_marks answer (inl (own, c)) = subst (NoneMarked x) (sym c.root) (λ q unsaved. unsaved)
+    fills_marks answer (inr (other, c)) = files_marks honest p n (owned w) F M x old G z now R next table may_fill answer c
 
     pub fills_stay : (answer : Result (Unit {0}) Fault) → Fills answer → StaysLoaded x z
     fills_stay answer (inl (own, c)) = subst (StaysLoaded x) (sym c.root) (λ q there. there)

@@ -6,7 +6,6 @@ mod Order
 mod Moves
 mod Listings
 mod Within
-mod Counts
 mod EntryMoves
 mod Chains
 mod Reforms
@@ -14,3 +13,4 @@ mod Removals
 mod Filing
 mod Additions
 mod Fills
+mod Fronts

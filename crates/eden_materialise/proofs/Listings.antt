@@ -10,14 +10,14 @@ use Rattle.eden_overlay.specs.Held.{with_entries}
 use Rattle.eden_tree.specs.Directory.{Row, Directory, child_of, with_child}
 use Rattle.eden_tree.specs.Paths.{row_at, edit_row}
 use Rattle.eden_tree.proofs.CallerLemmas.{child_of-with_child, edits_alike}
-use Rattle.eden_tie.specs.Chains.{IsLoadedAt, AreSaved, StaysLoaded, chained, Above, Unfinished, listed, Refused, at_first, later}
+use Rattle.eden_tie.specs.Chains.{IsLoadedAt, NoneMarked, StaysLoaded, chained, Above, Unfinished, listed, Refused, at_first, later}
 use Rattle.eden_tie.specs.Changing.{changed, with_listing}
 use Rattle.eden_tie.specs.Kept.{IsTable, IsKept}
 use Rattle.eden_tie.specs.Listings.{listing_of}
 use Rattle.eden_tie.specs.Shown.{shown_in}
 use Rattle.eden_tie.specs.ShownLaws.{shown_from}
 use Rattle.eden_tie.specs.Standing.{MayStand}
-use Rattle.eden_tie.proofs.CallerLemmas.{at_changed, loaded_there, above_back, unfinished_back, refused_kept, refused_alike, stands_sound, put_sound, stands_table, stands_saved, stands_stays, stands_kept, stands_grafts}
+use Rattle.eden_tie.proofs.CallerLemmas.{at_changed, loaded_there, above_back, unfinished_back, refused_kept, refused_alike, stands_sound, put_sound, stands_table, stands_marks, stands_stays, stands_kept, stands_grafts}
 use Rattle.eden_materialise.specs.Chains.{StaySound}
 use Rattle.eden_materialise.specs.Listings.{IsHeldFor, ChangesEntry}
 use Rattle.eden_materialise.specs.Moves.{changed_in, IsPutAt}
@@ -107,9 +107,9 @@ module _ (honest : Type 0) (R : Repository) (p : Path) (n : Name) (o : Option Ro
   changes_table (Ok u) c = subst (λ (r : Row). IsTable r next) (sym (c.ok may.row may.directory may.at may.holds)) (stands_table honest R F x next p n o table may)
   changes_table (Err e) c = subst (λ (r : Row). IsTable r next) (sym c.err) table
 
-  pub changes_saved : (answer : Result (Unit {0}) Fault) → ChangesEntry honest p n o F x old G z new answer → AreSaved x → AreSaved z
-  changes_saved (Ok u) c all = subst AreSaved (sym (c.ok may.row may.directory may.at may.holds)) (stands_saved honest R F x next p n o table may all)
-  changes_saved (Err e) c all = subst AreSaved (sym c.err) all
+  pub changes_marks : (answer : Result (Unit {0}) Fault) → ChangesEntry honest p n o F x old G z new answer → NoneMarked x z
+  changes_marks (Ok u) c = subst (NoneMarked x) (sym (c.ok may.row may.directory may.at may.holds)) (stands_marks honest R F x next p n o table may)
+  changes_marks (Err e) c = subst (NoneMarked x) (sym c.err) (λ q unsaved. unsaved)
 
   pub changes_stay : (answer : Result (Unit {0}) Fault) → ChangesEntry honest p n o F x old G z new answer → StaysLoaded x z
   changes_stay (Ok u) c = subst (StaysLoaded x) (sym (c.ok may.row may.directory may.at may.holds)) (stands_stays honest R F x next p n o table may)

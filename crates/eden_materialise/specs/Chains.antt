@@ -7,12 +7,13 @@ use Rattle.eden_overlay_format.specs.declared.stored_entry.StoredEntry.{StoredEn
 use Rattle.eden_overlay.specs.Files.{Stored}
 use Rattle.eden_overlay.specs.Held.{with_entries}
 use Rattle.eden_overlay.specs.Soundness.{AreSound}
+use Rattle.eden_overlay.specs.Walking.{is_own}
 use Rattle.eden_tree.specs.Directory.{Row, Directory}
 use Rattle.eden_tie.specs.Chains.{IsAboveOther, Above, Unfinished, Refused}
 use Rattle.eden_tie.specs.Kept.{IsTable, IsKept}
 use Rattle.eden_tie.specs.Laws.{owned}
 use Rattle.eden_tie.specs.Listings.{listing_of}
-use Rattle.eden_tie.specs.Materialising.{is_own, marked_listing, Chain, owned_along}
+use Rattle.eden_tie.specs.Materialising.{marked_listing, Chain, owned_along}
 use Rattle.eden_materialise.specs.declared.listing.Listed.{Listed}
 use Rattle.eden_materialise.specs.Faults.{IsStoreFault}
 use Rattle.eden_materialise.specs.Listed.{listed_as}

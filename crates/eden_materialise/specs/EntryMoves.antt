@@ -1,14 +1,15 @@
 -- An entry that moves in the table of a mount.
-use Rattle.std.specs.Prelude.{◌≡◌, ◌≢◌, ◌≤◌, ◌⊎◌, ℕ, if◌then◌else◌, Option, Some, None, Result, OnOk, OnErr, IfErr}
+use Rattle.std.specs.Prelude.{◌≡◌, ◌≢◌, ◌⊎◌, ℕ, if◌then◌else◌, Option, Some, None, Result, OnOk, OnErr, IfErr}
 use Rattle.eden_model.specs.declared.fault.Fault.{Fault}
+use Rattle.eden_model.specs.Failures.{Rose}
 use Rattle.eden_model.specs.Trees.{Name, Path}
 use Rattle.eden_overlay.specs.Files.{Stored}
 use Rattle.eden_overlay.specs.Held.{without}
+use Rattle.eden_overlay.specs.Walking.{is_own}
 use Rattle.eden_tree.specs.Directory.{Row}
 use Rattle.eden_tree.specs.Rows.{find_row}
 use Rattle.eden_tie.specs.Changing.{MayMove, moved_in, marked_source, files_left, files_moved}
 use Rattle.eden_tie.specs.Kept.{IsTable}
-use Rattle.eden_tie.specs.Materialising.{is_own}
 use Rattle.eden_tie.specs.Moving.{CanMove}
 use Rattle.eden_tie.specs.Ties.{Tied}
 use Rattle.eden_materialise.specs.Faults.{IsStoreFault}
@@ -18,12 +19,12 @@ abbrev pub own_number : Option Row → Option ℕ
 own_number None = None
 own_number (Some w) = if is_own w.origin then Some w.number else None
 
--- F became G: the file of that number was removed, or is left where that failed. The counts of failures of the device are
--- those before and then.
+-- F became G: the file of that number was removed, or is left where the device failed at that. The counts of failures of
+-- the device are those before and then.
 pub data Clears (honest : Type 0) (F : Stored) (old : ℕ) (G : Stored) (new : ℕ) : Option ℕ → Type 0 where
   nothing : (honest → G ≡ F) → new ≡ old → Clears honest F old G new None
   removed : (k : ℕ) → (honest → G ≡ without F k) → new ≡ old → Clears honest F old G new (Some k)
-  failed : (k : ℕ) → (honest → G ≡ F) → old ≤ new → Clears honest F old G new (Some k)
+  failed : (k : ℕ) → (honest → G ≡ F) → Rose old new → Clears honest F old G new (Some k)
 
 -- an entry can move in a table, tied to the files where the outside is honest
 pub record MovesIn (honest : Type 0) (F : Stored) (x : Row) (p : Path) (n : Name) (q : Path) (m : Name) : Type 0 where

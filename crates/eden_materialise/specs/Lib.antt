@@ -9,3 +9,4 @@ pub mod Reforms
 pub mod Removals
 pub mod Filing
 pub mod Fills
+pub mod Saving

@@ -5,11 +5,11 @@ ghost use Rattle.eden_model.specs.declared.fault.Fault.TheVariants as fault;
 ghost use Rattle.eden_model.specs.Trees.{graft};
 ghost use Rattle.eden_overlay_format.specs.Directory.{number_end};
 ghost use Rattle.eden_overlay.specs.Held.{with_entries};
-ghost use Rattle.eden_tie.specs.Chains.{AreSaved, StaysLoaded, chained, Above};
+ghost use Rattle.eden_tie.specs.Chains.{NoneMarked, StaysLoaded, chained, Above};
 ghost use Rattle.eden_tie.specs.Changing.{HasRoom, changed};
 ghost use Rattle.eden_tie.specs.Filing.{leaf};
 ghost use Rattle.eden_tie.specs.Listings.{listing_of};
-ghost use Rattle.eden_tie.specs.Shown.{shown_in};
+ghost use Rattle.eden_inode.specs.Tables.{shows};
 ghost use Rattle.eden_materialise.specs.Filing.{node_as, with_own, own_row, IsShort, LacksEntry, MayAdd, FilesEntry, RefusedBy, IsAddFault};
 ghost use Rattle.eden_materialise.specs.Puts.{AtDirectory};
 
@@ -111,13 +111,10 @@ pub fn add_entry<A: Allocator + Clone, W: World, F: Files<W>>(
     ensures unused { result ≡ Err fault.Numbers → inodes.new ≡ inodes.old }
     ensures counted { OnOk result (F.failures inodes.new.files ≡ F.failures inodes.old.files) }
     ensures shown { W.honest
-        → OnOk result (shown_in W.repository (F.stored inodes.new.files) inodes.new.root ≡ graft
-        (path.now ++ name.now ∷ []) (leaf (node_as new.entry))
-        (shown_in W.repository (F.stored inodes.old.files) inodes.old.root)) }
-    ensures unseen { W.honest
-        → OnErr result (shown_in W.repository (F.stored inodes.new.files) inodes.new.root ≡ shown_in W.repository
-        (F.stored inodes.old.files) inodes.old.root) }
-    ensures saved { AreSaved inodes.old.root → AreSaved inodes.new.root }
+        → OnOk result (shows W.World F.Files inodes.new ≡ graft (path.now ++ name.now ∷ []) (leaf (node_as new.entry))
+        (shows W.World F.Files inodes.old)) }
+    ensures unseen { W.honest → OnErr result (shows W.World F.Files inodes.new ≡ shows W.World F.Files inodes.old) }
+    ensures marks { NoneMarked inodes.old.root inodes.new.root }
     ensures stays { StaysLoaded inodes.old.root inodes.new.root }
     ensures next { OnOk result (inodes.new.next ≡ inodes.old.next + 1) }
     ensures changes { OnOk result (inodes.new.changes ≡ min (inodes.old.changes + 1) u64.MAX) }

@@ -7,10 +7,11 @@ ghost use Rattle.eden_overlay.specs.Files.{Stored};
 ghost use Rattle.eden_overlay.specs.Held.{with_entries};
 ghost use Rattle.eden_overlay.specs.Soundness.{AreSound};
 ghost use Rattle.eden_overlay.specs.declared.files.FilesFault.TheVariants as files;
+ghost use Rattle.eden_overlay.specs.Walking.{is_own};
 ghost use Rattle.eden_tree.specs.Rows.{find_row};
 ghost use Rattle.eden_tie.specs.Chains.{IsLoadedAt, IsAboveOther, Above, Unfinished, Refused};
 ghost use Rattle.eden_tie.specs.Laws.{owned};
-ghost use Rattle.eden_tie.specs.Materialising.{is_own, marked_listing, Chain, IsChain, kept_mark, owned_along};
+ghost use Rattle.eden_tie.specs.Materialising.{marked_listing, Chain, IsChain, kept_mark, owned_along};
 ghost use Rattle.eden_materialise.specs.Chains.{lowest_of, with_lowest, StoresAgain, StaySound, IsHeld};
 ghost use Rattle.eden_materialise.specs.Puts.{AtDirectory};
 

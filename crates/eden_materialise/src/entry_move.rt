@@ -11,10 +11,10 @@ ghost use Rattle.eden_tree.specs.Directory.{child_of};
 ghost use Rattle.eden_tree.specs.Rows.{find_row};
 ghost use Rattle.eden_tree.specs.Paths.{row_at};
 ghost use Rattle.eden_tie.specs.Changing.{HasRoom, MayMove, moved_in, files_moved};
-ghost use Rattle.eden_tie.specs.Chains.{StaysLoaded, AreSaved};
+ghost use Rattle.eden_tie.specs.Chains.{StaysLoaded, NoneMarked};
 ghost use Rattle.eden_tie.specs.Moving.{CanMove};
-ghost use Rattle.eden_tie.specs.Shown.{shown_in};
 ghost use Rattle.eden_tie.specs.Ties.{IsAway};
+ghost use Rattle.eden_inode.specs.Tables.{shows};
 ghost use Rattle.eden_materialise.specs.EntryMoves.{own_number, Clears, MovesIn, IsMoved, IsUnmoved, MovesEntry};
 ghost use Rattle.eden_materialise.specs.Faults.{IsStoreFault};
 ghost use Rattle.eden_materialise.specs.Puts.{AtDirectory};
@@ -121,19 +121,16 @@ fn store_move<A: Allocator, W: World, F: Files<W>>(
     return move_between(alloc, root, overlay, from, name, to, new_name);
 }
 
-/// Removes the file of an entry that was replaced or left out. One that can't be removed is left, and nothing names it.
-pub(crate) fn remove_replaced<W: World, F: Files<W>>(
-    alloc: Global,
-    overlay: &mut Overlay<W, F>,
-    own: Option<u64>,
-)
+/// Removes the file of an entry that was replaced or left out. One that the device doesn't remove is left, and nothing
+/// names it.
+pub(crate) fn remove_replaced<W: World, F: Files<W>>(overlay: &mut Overlay<W, F>, own: Option<u64>)
     requires { W.honest → IfSome own (λ k. AreSound (without (F.stored overlay.old) k)) }
     ensures { Clears W.honest (F.stored overlay.old) (F.failures overlay.old) (F.stored overlay.new)
         (F.failures overlay.new) own }
 {
     match own {
         None => return,
-        Some(number) => match overlay.remove(alloc, number) {
+        Some(number) => match overlay.remove(number) {
             Ok(()) => return,
             Err(_) => return,
         },
@@ -178,7 +175,7 @@ impl<A: Allocator, W: World, F: Files<W>> Change<A, Overlay<W, F>> for EntryMove
             self.new_name,
         ) {
             Ok(()) => {
-                remove_replaced(self.alloc, overlay, spot.own);
+                remove_replaced(overlay, spot.own);
                 return Ok(());
             }
             Err(fault) => return Err(told(fault)),
@@ -189,7 +186,8 @@ impl<A: Allocator, W: World, F: Files<W>> Change<A, Overlay<W, F>> for EntryMove
 /// Moves an entry that isn't loaded from a name of the directory at one path to a name of that at another, or within
 /// one, in place of one that isn't loaded either. Both directories are loaded and the mount's own: the first is stored
 /// without the entry, then the other with it, and then both are so in memory, saved; one directory is stored once. The
-/// file of an own entry that was replaced is removed last; where that fails it is left, and the answer is Ok all the same.
+/// file of an own entry that was replaced is removed last; where the device fails at that it is left, and the answer is Ok
+/// all the same.
 ///
 /// The tree that is shown has at and below the new path what stood at and below the old one, and nothing there. Errors:
 /// `Overlay` where the device failed, and `Memory`, also where a directory has no room for one more entry. Memory and files
@@ -212,18 +210,15 @@ pub fn move_entry<A: Allocator + Clone, W: World, F: Files<W>>(
     ensures fault { IfErr result (IsStoreFault (F.failures inodes.old.files) (F.failures inodes.new.files)) }
     ensures counted { OnOk result (F.failures inodes.old.files ≤ F.failures inodes.new.files) }
     ensures loaded { StaysLoaded inodes.old.root inodes.new.root }
-    ensures saved { OnOk result (AreSaved inodes.old.root → AreSaved inodes.new.root) }
+    ensures marks { OnOk result (NoneMarked inodes.old.root inodes.new.root) }
     ensures elsewhere { W.honest
         → AtDirectory to.now inodes.old.root
         (λ y d. (k : ℕ) → IsAway inodes.old.root k → own_number (find_row new_name.now d.rows) ≢ Some k
         → F.stored inodes.new.files k ≡ F.stored inodes.old.files k) }
     ensures shown { W.honest
-        → OnOk result (shown_in W.repository (F.stored inodes.new.files) inodes.new.root ≡ move
-        (shown_in W.repository (F.stored inodes.old.files) inodes.old.root) (from.now ++ name.now ∷ [])
-        (to.now ++ new_name.now ∷ [])) }
-    ensures unseen { W.honest
-        → OnErr result (shown_in W.repository (F.stored inodes.new.files) inodes.new.root ≡ shown_in W.repository
-        (F.stored inodes.old.files) inodes.old.root) }
+        → OnOk result (shows W.World F.Files inodes.new ≡ move (shows W.World F.Files inodes.old)
+        (from.now ++ name.now ∷ []) (to.now ++ new_name.now ∷ [])) }
+    ensures unseen { W.honest → OnErr result (shows W.World F.Files inodes.new ≡ shows W.World F.Files inodes.old) }
     ensures changes { inodes.new.changes ≡ min (inodes.old.changes + 1) u64.MAX }
     ensures rest { (inodes.new.next ≡ inodes.old.next) × (inodes.new.clock ≡ inodes.old.clock) }
 {

@@ -21,6 +21,7 @@ mod owning;
 mod reform;
 mod removal;
 mod renaming;
+mod saving;
 
 pub use addition::add_entry;
 pub use content::store_content;
@@ -30,3 +31,4 @@ pub use new_entry::NewEntry;
 pub use owning::materialise;
 pub use reform::set_kind;
 pub use removal::remove_entry;
+pub use saving::save_above;

@@ -1,10 +1,10 @@
 //! A chain of directories made the mount's own, in the table of a mount.
 
 ghost use Rattle.std.specs.Prelude.{◌≡◌, ◌+◌, min, IfErr, OnOk, OnErr};
-ghost use Rattle.eden_tie.specs.Chains.{IsLoadedAt, AreSaved, StaysLoaded, Refused};
+ghost use Rattle.eden_tie.specs.Chains.{IsLoadedAt, NoneMarked, StaysLoaded, Refused};
 ghost use Rattle.eden_tie.specs.Laws.{owned};
 ghost use Rattle.eden_tie.specs.Materialising.{Chain, owned_along};
-ghost use Rattle.eden_tie.specs.Shown.{shown_in};
+ghost use Rattle.eden_inode.specs.Tables.{shows};
 ghost use Rattle.eden_materialise.specs.Chains.{IsHeld, Owns};
 ghost use Rattle.eden_materialise.specs.Faults.{IsStoreFault};
 
@@ -59,10 +59,8 @@ pub fn materialise<A: Allocator + Clone, W: World, F: Files<W>>(
         → OnErr result (Refused (F.stored inodes.old.files) inodes.old.root path.now (F.stored inodes.new.files)) }
     ensures fault { IfErr result (IsStoreFault (F.failures inodes.old.files) (F.failures inodes.new.files)) }
     ensures counted { OnOk result (F.failures inodes.new.files ≡ F.failures inodes.old.files) }
-    ensures shown { W.honest
-        → shown_in W.repository (F.stored inodes.new.files) inodes.new.root ≡ shown_in W.repository
-        (F.stored inodes.old.files) inodes.old.root }
-    ensures saved { AreSaved inodes.old.root → AreSaved inodes.new.root }
+    ensures shown { W.honest → shows W.World F.Files inodes.new ≡ shows W.World F.Files inodes.old }
+    ensures marks { NoneMarked inodes.old.root inodes.new.root }
     ensures stays { StaysLoaded inodes.old.root inodes.new.root }
     ensures changes { inodes.new.changes ≡ min (inodes.old.changes + 1) u64.MAX }
     ensures rest { (inodes.new.next ≡ inodes.old.next) × (inodes.new.clock ≡ inodes.old.clock) }

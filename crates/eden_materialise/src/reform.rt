@@ -5,10 +5,10 @@ ghost use Rattle.eden_model.specs.declared.kind.Kind.TheVariants as kinds;
 ghost use Rattle.eden_model.specs.Shown.{node_from};
 ghost use Rattle.eden_model.specs.Trees.{graft};
 ghost use Rattle.eden_tree.specs.Directory.{Row};
-ghost use Rattle.eden_tie.specs.Chains.{AreSaved, StaysLoaded, chained};
+ghost use Rattle.eden_tie.specs.Chains.{NoneMarked, StaysLoaded, chained};
 ghost use Rattle.eden_tie.specs.Changing.{changed};
 ghost use Rattle.eden_tie.specs.Filing.{leaf, content_shown, HasFile};
-ghost use Rattle.eden_tie.specs.Shown.{shown_in};
+ghost use Rattle.eden_inode.specs.Tables.{shows};
 ghost use Rattle.eden_materialise.specs.Faults.{IsStoreFault};
 ghost use Rattle.eden_materialise.specs.Listings.{ChangesEntry};
 ghost use Rattle.eden_materialise.specs.Puts.{AtDirectory};
@@ -97,14 +97,11 @@ pub fn set_kind<A: Allocator + Clone, W: World, F: Files<W>>(
     ensures fault { IfErr result (IsStoreFault (F.failures inodes.old.files) (F.failures inodes.new.files)) }
     ensures counted { OnOk result (F.failures inodes.new.files ≡ F.failures inodes.old.files) }
     ensures shown { W.honest → (w : Row) → HasFile inodes.old.root path.now name.now w
-        → OnOk result (shown_in W.repository (F.stored inodes.new.files) inodes.new.root ≡ graft
-        (path.now ++ name.now ∷ [])
+        → OnOk result (shows W.World F.Files inodes.new ≡ graft (path.now ++ name.now ∷ [])
         (leaf (node_from kind (content_shown W.repository (F.stored inodes.old.files) w) false))
-        (shown_in W.repository (F.stored inodes.old.files) inodes.old.root)) }
-    ensures unseen { W.honest
-        → OnErr result (shown_in W.repository (F.stored inodes.new.files) inodes.new.root ≡ shown_in W.repository
-        (F.stored inodes.old.files) inodes.old.root) }
-    ensures saved { AreSaved inodes.old.root → AreSaved inodes.new.root }
+        (shows W.World F.Files inodes.old)) }
+    ensures unseen { W.honest → OnErr result (shows W.World F.Files inodes.new ≡ shows W.World F.Files inodes.old) }
+    ensures marks { NoneMarked inodes.old.root inodes.new.root }
     ensures stays { StaysLoaded inodes.old.root inodes.new.root }
     ensures changes { inodes.new.changes ≡ min (inodes.old.changes + 1) u64.MAX }
     ensures rest { (inodes.new.next ≡ inodes.old.next) × (inodes.new.clock ≡ inodes.old.clock) }

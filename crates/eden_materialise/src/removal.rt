@@ -2,9 +2,9 @@
 
 ghost use Rattle.std.specs.Prelude.{◌≡◌, ◌≤◌, ◌∷◌, [], ◌++◌, ◌+◌, min, None, IfErr, OnOk, OnErr};
 ghost use Rattle.eden_model.specs.Trees.{graft};
-ghost use Rattle.eden_tie.specs.Chains.{AreSaved, StaysLoaded, chained, Refused};
+ghost use Rattle.eden_tie.specs.Chains.{NoneMarked, StaysLoaded, chained, Refused};
 ghost use Rattle.eden_tie.specs.Changing.{changed};
-ghost use Rattle.eden_tie.specs.Shown.{shown_in};
+ghost use Rattle.eden_inode.specs.Tables.{shows};
 ghost use Rattle.eden_materialise.specs.Faults.{IsStoreFault};
 ghost use Rattle.eden_materialise.specs.Listings.{IsHeldFor};
 ghost use Rattle.eden_materialise.specs.Puts.{AtDirectory};
@@ -41,7 +41,7 @@ impl<A: Allocator, W: World, F: Files<W>> Change<A, Overlay<W, F>> for Removal<'
         let spot = spot_at(entry, self.path, self.name);
         match take_out(self.alloc, entry, overlay, self.path, self.name) {
             Ok(()) => {
-                remove_replaced(self.alloc, overlay, spot.own);
+                remove_replaced(overlay, spot.own);
                 return Ok(());
             }
             Err(fault) => return Err(told(fault)),
@@ -51,7 +51,7 @@ impl<A: Allocator, W: World, F: Files<W>> Change<A, Overlay<W, F>> for Removal<'
 
 /// Removes an entry that isn't loaded from the loaded directory at a path. The directory is stored without it, and the
 /// chain above it as far as it isn't the mount's own; then memory is so. The entry's own file, where it has one, is removed
-/// last; where that fails it is left, which nothing shows, and the answer is Ok all the same.
+/// last; where the device fails at that it is left, which nothing shows, and the answer is Ok all the same.
 ///
 /// The tree that is shown has nothing at and below the name, and is as before elsewhere. Errors: `Overlay` where the device
 /// failed, and `Memory`. Memory is as it was then, and so is what is shown.
@@ -73,13 +73,10 @@ pub fn remove_entry<A: Allocator + Clone, W: World, F: Files<W>>(
     ensures fault { IfErr result (IsStoreFault (F.failures inodes.old.files) (F.failures inodes.new.files)) }
     ensures counted { OnOk result (F.failures inodes.old.files ≤ F.failures inodes.new.files) }
     ensures shown { W.honest
-        → OnOk result (shown_in W.repository (F.stored inodes.new.files) inodes.new.root ≡ graft
-        (path.now ++ name.now ∷ []) (λ below. None)
-        (shown_in W.repository (F.stored inodes.old.files) inodes.old.root)) }
-    ensures unseen { W.honest
-        → OnErr result (shown_in W.repository (F.stored inodes.new.files) inodes.new.root ≡ shown_in W.repository
-        (F.stored inodes.old.files) inodes.old.root) }
-    ensures saved { AreSaved inodes.old.root → AreSaved inodes.new.root }
+        → OnOk result (shows W.World F.Files inodes.new ≡ graft (path.now ++ name.now ∷ []) (λ below. None)
+        (shows W.World F.Files inodes.old)) }
+    ensures unseen { W.honest → OnErr result (shows W.World F.Files inodes.new ≡ shows W.World F.Files inodes.old) }
+    ensures marks { NoneMarked inodes.old.root inodes.new.root }
     ensures stays { StaysLoaded inodes.old.root inodes.new.root }
     ensures changes { inodes.new.changes ≡ min (inodes.old.changes + 1) u64.MAX }
     ensures rest { (inodes.new.next ≡ inodes.old.next) × (inodes.new.clock ≡ inodes.old.clock) }

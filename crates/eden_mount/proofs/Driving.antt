@@ -28,8 +28,8 @@ use Rattle.eden_mount.specs.Core.{Core, seat_of, Pends, IsFree, entry, pending_f
 use Rattle.eden_mount.specs.Kept.{IsMount}
 use Rattle.eden_mount.specs.Replying.{Replied, attempted, uncopied, failed, ToldBy, WaitsBy}
 use Rattle.eden_mount.specs.Steps.{Turns, Takes}
-use Rattle.eden_mount.specs.Serving.{FailsBy, HasFailed, Comes, IsAtRest, IsDriven, LeadsTo, first, waiting, storing, IsTold, Serves, Stays, budget, turns_left, left_at, drive_size, Hands, Drives}
-use Rattle.eden_mount.proofs.CallerLemmas.{stays_on}
+use Rattle.eden_mount.specs.Serving.{FailsBy, HasFailed, Comes, IsAtRest, IsDriven, LeadsTo, first, waiting, storing, IsTold, Serves, Stays, budget, Hands, Drives}
+use Rattle.eden_mount.proofs.CallerLemmas.{stays_on, stays_at, turn_stays, take_stays}
 
 -- ---- the queue of one caller
 
@@ -74,6 +74,18 @@ first_pass : (q : Queue) → IsQueue q → IsPass 1 q
 first_pass q h = (omega arith, h.some_passes.0)
 
 -- ---- one round: a turn that waits, its key taken, fetched and handed in
+
+-- an upper bound for the turns to come
+abbrev pub turns_left : Option Mark → ℕ → ℕ
+turns_left None n = 2 * n + 1
+turns_left (Some mark) n = 2 * n
+
+abbrev pub left_at : {T : Type 0} → Table T → T → Option Pending → ℕ
+left_at A t None = 0
+left_at A t (Some s) = A.left t s.request
+
+abbrev pub drive_size : {T : Type 0} → Table T → Core T → ℕ
+drive_size A m = turns_left (mark_of 1 m.queue) (left_at A m.table (seat_of 1 m))
 
 module _ {T : Type 0} (A : Table T) where
   same_seat : (m : Core T) (s t : Pending) → Pends 1 s m → Pends 1 t m → s ≡ t
@@ -137,7 +149,7 @@ module _ {T : Type 0} (A : Table T) where
         came = inl (k, record { kind = k.kind; bytes = keeps.0 }, keeps.2);
         history = ap (λ (x : Core T). x.history) is;
         seats = seats;
-        stays = record { commit = keeps.2.commit; passes = ap (λ (x : Queue). x.passes) queue; limit = ap (λ (x : Core T). x.limit) is };
+        stays = record { commit = keeps.2.commit; next = (let same = keeps.2.next in omega (arith, same)); passes = ap (λ (x : Queue). x.passes) queue; limit = ap (λ (x : Core T). x.limit) is };
         how = inl (mark, keeps.2.left q h.needs);
       }
 
@@ -160,7 +172,7 @@ module _ {T : Type 0} (A : Table T) where
         came = inr table;
         history = ap (λ (y : Core T). y.history) is;
         seats = seats;
-        stays = record { commit = ap A.commit table; passes = ap (λ (y : Queue). y.passes) queue; limit = ap (λ (y : Core T). y.limit) is };
+        stays = stays_at A m m' table (ap (λ (y : Queue). y.passes) queue) (ap (λ (y : Core T). y.limit) is);
         how = inr (x, why, mark, table);
       }
 
@@ -280,11 +292,7 @@ module _ {T : Type 0} (A : Table T) (honest : Type 0) where
         some = subst (λ (t : T). 1 ≤ A.left t q) (sym table) wait.awaits.needs.some;
         history = ap (λ (x : Core T). x.history) is2 ∙ ap (λ (x : Core T). x.history) is;
         seats = seats;
-        stays = record {
-          commit = ap A.commit table ∙ wait.awaits.needs.commit ∙ wait.ticks.commit;
-          passes = ap (λ (x : Queue). x.passes) queue2;
-          limit = ap (λ (x : Core T). x.limit) is2 ∙ ap (λ (x : Core T). x.limit) is;
-        };
+        stays = stays_on A m m1 m2 (turn_stays A honest m m1 1 (Wait k) (s, p, is, w)) (take_stays A m1 m2 (Some j) (next, is2));
       }
 
 module _ {S : Type 0} (fetched : S → Id → Answer → S → Type 0) {T : Type 0} (A : Table T) (honest : Type 0) (q : Request) where
@@ -308,12 +316,6 @@ module _ {S : Type 0} (fetched : S → Id → Answer → S → Type 0) {T : Type
     by (inl (k, o, stores)) = storing m.table m'.table v k o stores rest
     by (inr same) = subst (λ (t : T). LeadsTo A honest q t v) same rest
 
-  -- a reply leaves the commit
-  same_commit : (t u : T) (mark : Option Mark) (r : Reply) → Replied A honest t q mark r u → A.commit u ≡ A.commit t
-  same_commit t u mark r (attempted done) = done.commit
-  same_commit t u mark r (uncopied found done large memory) = done.commit
-  same_commit t u mark r (failed k x needs marked was) = needs.commit
-
   pub done_drives : (m m' : Core T) (s : S) (n : ℕ) (r : Reply) → IsDriven A q m → Turns A honest m 1 (Done n r) m' → Drives fetched A honest q m s r m' s
   done_drives m m' s n r h (p, pends, number, is, told) =
       let asked : p.request ≡ q = ap (λ (x : Pending). x.request) (same_seat A m p h.seat pends h.pends) ∙ h.request in
@@ -330,11 +332,7 @@ module _ {S : Type 0} (fetched : S → Id → Answer → S → Type 0) {T : Type
           queue = ap (λ (x : Queue). x.queue) queue ∙ h.quiet.queue;
           flight = ap (λ (x : Queue). x.flight) queue ∙ h.quiet.flight;
         };
-        stays = record {
-          commit = same_commit mine.begun m'.table (mark_of 1 m.queue) r mine.replied ∙ mine.ticks.commit;
-          passes = ap (λ (x : Queue). x.passes) queue;
-          limit = ap (λ (x : Core T). x.limit) is;
-        };
+        stays = turn_stays A honest m m' 1 (Done n r) (p, pends, number, is, told);
         failed = λ id x e. inr (why mine.begun m'.table id x e mine.replied);
       }
     where
@@ -417,10 +415,6 @@ module _ {T : Type 0} (A : Table T) (honest : Type 0) (opening : Tree) (q : Requ
           quiet = d.quiet;
           free = ap (λ (x : List (Option Pending)). slice_index_or x 0 None) d.seats ∙ emptied m1.seats;
         };
-        stays = stays_on A m m1 m' (record {
-          commit = ap (λ (x : Core T). A.commit x.table) is;
-          passes = ap (λ (x : Core T). x.queue.passes) is;
-          limit = ap (λ (x : Core T). x.limit) is;
-        }) d.stays;
+        stays = stays_on A m m1 m' (stays_at A m m1 (ap (λ (x : Core T). x.table) is) (ap (λ (x : Core T). x.queue.passes) is) (ap (λ (x : Core T). x.limit) is)) d.stays;
         failed = λ id x e. ⊎_elim (λ f. f) (λ w. absurd (let both : None ≡ Some (w.0, x) = sym clear ∙ w.2 in cc both)) (d.failed id x e);
       }

@@ -1,5 +1,5 @@
 -- What each event leaves of what every mount keeps.
-use Rattle.std.proofs.Common.{◌≡◌, ◌≤◌, ◌<◌, ◌+◌, ◌-◌, ◌==◌, ℕ, Bool, true, false, cond, List, [], ◌∷◌, ◌++◌, length, Option, Some, None, eqb-true, length-append, refl, sym, ap, ◌∙◌, subst, arith}
+use Rattle.std.proofs.Common.{◌≡◌, ◌≤◌, ◌<◌, ◌+◌, ◌-◌, ◌==◌, ℕ, Bool, true, false, cond, List, [], ◌∷◌, ◌++◌, length, Option, Some, None, zero, suc, slice_get, eqb-true, length-append, refl, sym, ap, ◌∙◌, subst, arith}
 use Rattle.std.proofs.Math.ListN.{set, length-set}
 use Rattle.eden_model.specs.declared.entry.Entry.{Entry}
 use Rattle.eden_model.specs.declared.fault.Cause.{Cause}
@@ -26,6 +26,13 @@ use Rattle.eden_mount.proofs.SeatLemmas.{write_one, within_if_some, count_taken,
 use Rattle.eden_mount.proofs.TurnLemmas.{nobody_met, nobody_marked, wants_after_done, marks_after_done, wants_after_wait, marks_after_wait}
 use Rattle.eden_mount.proofs.Payloads.{payload_keeps, payload_is_no_fault}
 
+-- what holds of each entry and of one more
+of_each : (P : Entry → Type 0) (es : List Entry) (one : Entry) → ((i : ℕ) (e : Entry) → slice_get es i ≡ Some e → P e) → P one → (i : ℕ) (e : Entry) → slice_get (es ++ one ∷ []) i ≡ Some e → P e
+of_each P [] one all here zero e at = subst P (cc at) here
+of_each P [] one all here (suc i) e at = absurd (cc at)
+of_each P (x ∷ es) one all here zero e at = all zero e at
+of_each P (x ∷ es) one all here (suc i) e at = of_each P es one (λ j. all (suc j)) here i e at
+
 at_end : (p n m : ℕ) → 1 ≤ p → p ≤ n → m ≡ n → p - 1 < m
 at_end p n m low high e = omega arith
 
@@ -44,6 +51,7 @@ module _ {T : Type 0} (A : Table T) (honest : Type 0) (opening : Tree) where
     room = h.room;
     limit = h.limit;
     since = h.since;
+    entries = λ i e at. subst (λ (n : ℕ). (1 ≤ e.pass) × (e.pass ≤ n)) (sym same) (h.entries i e at);
     legal = h.legal;
     shown = h.shown;
   }
@@ -57,6 +65,7 @@ module _ {T : Type 0} (A : Table T) (honest : Type 0) (opening : Tree) where
     room = h.room;
     limit = h.limit;
     since = h.since;
+    entries = h.entries;
     legal = h.legal;
     shown = λ honestly. same honestly ∙ h.shown honestly;
   }
@@ -90,6 +99,7 @@ module _ {T : Type 0} (A : Table T) (honest : Type 0) (opening : Tree) where
     room = omega (arith, count_taken m.seats (c - 1) s inside free.1, ap length is);
     limit = h.limit;
     since = λ r t pends. pending r t pends (r == c) (written r pends.0);
+    entries = λ i e at. h.entries i e (subst (λ (l : List Entry). slice_get l i ≡ Some e) is at);
     legal = λ honestly. subst (Legal opening) (sym is) (h.legal honestly);
     shown = λ honestly. h.shown honestly ∙ ap (replay opening) (sym is);
   }
@@ -151,6 +161,8 @@ module _ {T : Type 0} (A : Table T) (honest : Type 0) (opening : Tree) where
     room = omega (arith, h.room, count_freed m.seats (c - 1) s pends.1, long);
     limit = h.limit;
     since = λ x p other. pending x p other (x == c) (written x other.0);
+    entries = λ j e at. subst (λ (k : ℕ). (1 ≤ e.pass) × (e.pass ≤ k)) (sym passes)
+        (of_each (λ (x : Entry). IsPass x.pass m.queue) m.history (entry c s.request r) h.entries pass j e (subst (λ (l : List Entry). slice_get l j ≡ Some e) grown at));
     legal = λ honestly. subst (Legal opening) (sym grown)
         ((Legal-append opening m.history (entry c s.request r ∷ [])).1 (h.legal honestly, (λ plain. subst (λ (F : Tree). Replies F s.request r) (h.shown honestly) ((tables honestly).0 plain), tt)));
     shown = λ honestly. (tables honestly).1 ∙ ap (λ (F : Tree). after F s.request r) (h.shown honestly) ∙ sym (replay-append opening m.history (entry c s.request r ∷ [])) ∙ ap (replay opening)

@@ -1,9 +1,9 @@
 -- What every mount keeps.
-use Rattle.std.specs.Prelude.{◌≡◌, ◌<◌, ◌≤◌, ◌^◌, ℕ, List, length, Option, None}
+use Rattle.std.specs.Prelude.{◌≡◌, ◌<◌, ◌≤◌, ◌^◌, ℕ, List, length, slice_get, Option, Some, None}
 use Rattle.eden_model.specs.declared.entry.Entry.{Entry}
 use Rattle.eden_model.specs.Trees.{Tree}
 use Rattle.eden_model.specs.Histories.{Legal, replay}
-use Rattle.eden_import.specs.Queue.{Queue, IsQueue, want_of, mark_of}
+use Rattle.eden_import.specs.Queue.{Queue, IsQueue, IsPass, want_of, mark_of}
 use Rattle.eden_mount.specs.declared.seats.Pending.{Pending}
 use Rattle.eden_mount.specs.Tables.{Table}
 use Rattle.eden_mount.specs.Core.{Core, Pends, IsFree, taken_room}
@@ -24,6 +24,8 @@ module _ {T : Type 0} (A : Table T) (honest : Type 0) (opening : Tree) where
     pub limit : m.limit < 2 ^ 32
     -- each began within the history
     pub since : (c : ℕ) (s : Pending) → Pends c s m → s.since ≤ length m.history
+    -- each entry is one of its passes'
+    pub entries : (i : ℕ) (e : Entry) → slice_get m.history i ≡ Some e → IsPass e.pass m.queue
     -- the history is one that the opening tree has, and the mount shows the tree after it
     pub legal : honest → Legal opening m.history
     pub shown : honest → A.shown m.table ≡ replay opening m.history

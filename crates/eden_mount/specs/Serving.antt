@@ -1,5 +1,5 @@
 -- What one caller's call promises, and what its source was asked for.
-use Rattle.std.specs.Prelude.{◌≡◌, ◌≤◌, ◌⊎◌, ◌+◌, ◌*◌, ◌-◌, ◌++◌, ℕ, List, [], ◌∷◌, length, slice_set, Option, Some, None, Result, Ok, Err, MatchResult}
+use Rattle.std.specs.Prelude.{◌≡◌, ◌≤◌, ◌⊎◌, ◌-◌, ◌++◌, ℕ, List, [], ◌∷◌, length, slice_set, Option, Some, None, Result, Ok, Err, MatchResult}
 use Rattle.eden_model.specs.declared.fault.Cause.{Cause}
 use Rattle.eden_model.specs.declared.fault.Fault.TheVariants as fault
 use Rattle.eden_model.specs.declared.fault.StartFault.{StartFault}
@@ -66,21 +66,11 @@ abbrev pub budget : Option Mark → ℕ → ℕ
 budget None n = n
 budget (Some mark) n = n - 1
 
--- an upper bound for the turns to come
-abbrev pub turns_left : Option Mark → ℕ → ℕ
-turns_left None n = 2 * n + 1
-turns_left (Some mark) n = 2 * n
-
-abbrev pub left_at : {T : Type 0} → Table T → T → Option Pending → ℕ
-left_at A t None = 0
-left_at A t (Some s) = A.left t s.request
-
-abbrev pub drive_size : {T : Type 0} → Table T → Core T → ℕ
-drive_size A m = turns_left (mark_of 1 m.queue) (left_at A m.table (seat_of 1 m))
-
--- what a mount was opened with: its table's commit, how many passes it has, and how long its history may become
+-- what a mount was opened with: its table's commit, how many passes it has, and how long its history may become; no inode
+-- number is given again
 pub record Stays {T : Type 0} (A : Table T) (m m' : Core T) : Type 0 where
   pub commit : A.commit m'.table ≡ A.commit m.table
+  pub next : A.next m.table ≤ A.next m'.table
   pub passes : m'.queue.passes ≡ m.queue.passes
   pub limit : m'.limit ≡ m.limit
 

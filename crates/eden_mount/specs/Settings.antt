@@ -1,6 +1,6 @@
 -- What a mount is opened with.
 use Rattle.std.specs.Prelude.{◌≡◌, ◌≤◌, ◌<◌, ◌^◌, ℕ, List, replicate, Option, None}
-use Rattle.eden_cache.specs.declared.cache.TheConstants.{OBJECTS_LIMIT, BYTES_LIMIT, SIZES_LIMIT}
+use Rattle.eden_cache.specs.Cache.{IsObjectBound, IsByteBound, IsSizeBound}
 use Rattle.eden_import.specs.Queue.{Queue, IsPassCount, IsFlightCount, empty}
 use Rattle.eden_mount.specs.declared.seats.Pending.{Pending}
 
@@ -24,9 +24,9 @@ pub record InLimits (s : Settings) : Type 0 where
   pub flights : IsFlightCount s.flights
   pub some_history : 1 ≤ s.history
   pub short_history : s.history < 2 ^ 32
-  pub entries : (1 ≤ s.entries) × (s.entries ≤ OBJECTS_LIMIT)
-  pub bytes : (1 ≤ s.bytes) × (s.bytes ≤ BYTES_LIMIT)
-  pub sizes : (1 ≤ s.sizes) × (s.sizes ≤ SIZES_LIMIT)
+  pub entries : IsObjectBound s.entries
+  pub bytes : IsByteBound s.bytes
+  pub sizes : IsSizeBound s.sizes
 
 -- the room of a mount in which nothing has happened
 pub record Room : Type 0 where

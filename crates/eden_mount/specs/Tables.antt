@@ -19,6 +19,8 @@ pub record Table (T : Type 0) : Type 1 where
   pub shown : T → Tree
   -- the commit that it is a checkout of, by the id of its tree
   pub commit : T → Id
+  -- the next inode number that it gives
+  pub next : T → ℕ
   -- whether its cache has the object
   pub caches : T → Key → Bool
   -- the request's checks, in their order, end at what that object alone gives, and the cache lacks it
@@ -40,6 +42,7 @@ module _ {T : Type 0} (A : Table T) where
     pub ticked : A.ticked t u
     pub tree : A.shown u ≡ A.shown t
     pub commit : A.commit u ≡ A.commit t
+    pub next : A.next u ≡ A.next t
     pub cache : (k : Key) → A.caches u k ≡ A.caches t k
     pub needs : (q : Request) (k : Key) → A.needs t q k → A.needs u q k
     pub left : (q : Request) → A.left u q ≡ A.left t q
@@ -49,6 +52,7 @@ module _ {T : Type 0} (A : Table T) where
     pub kept : A.kept t k o u
     pub tree : A.shown u ≡ A.shown t
     pub commit : A.commit u ≡ A.commit t
+    pub next : A.next u ≡ A.next t
     pub cached : A.caches u k ≡ true
     pub left : (q : Request) → A.needs t q k → A.left u q < A.left t q
 
@@ -64,6 +68,7 @@ module _ {T : Type 0} (A : Table T) (honest : Type 0) where
     pub reply : honest → fault_of r ≡ None → Replies (A.shown t) q r
     pub tree : honest → A.shown u ≡ after (A.shown t) q r
     pub commit : A.commit u ≡ A.commit t
+    pub next : A.next t ≤ A.next u
     -- nothing is fetched in an attempt
     pub unfetched : (id : Id) (x : Cause) → r ≢ say.Fault (fault.Fetch id x)
     pub cache : (k : Key) → A.caches t k ≡ true → A.caches u k ≡ true
@@ -76,6 +81,7 @@ module _ {T : Type 0} (A : Table T) (honest : Type 0) where
     pub still : (j : Key) → A.needs t q j → (j ≡ k) ⊎ (A.left u q < A.left t q)
     pub tree : honest → A.shown u ≡ A.shown t
     pub commit : A.commit u ≡ A.commit t
+    pub next : A.next t ≤ A.next u
     pub cache : (j : Key) → A.caches t j ≡ true → A.caches u j ≡ true
     pub some : 1 ≤ A.left u q
     pub left : A.left u q ≤ A.left t q
@@ -89,4 +95,5 @@ module _ {T : Type 0} (A : Table T) (honest : Type 0) where
     pub unloaded : A.unloaded t p age gone u
     pub tree : honest → A.shown u ≡ A.shown t
     pub commit : A.commit u ≡ A.commit t
+    pub next : A.next u ≡ A.next t
     pub cache : (k : Key) → A.caches u k ≡ A.caches t k

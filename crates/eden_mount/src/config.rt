@@ -1,8 +1,8 @@
 ghost use Rattle.std.specs.Prelude.{◌≡◌, ◌↔◌, IsSome, IfSome};
 ghost use Rattle.eden_mount.specs.Settings.{InLimits};
 
-use eden_cache::{BYTES_LIMIT, OBJECTS_LIMIT, SIZES_LIMIT};
-use eden_import::{FLIGHTS_LIMIT, PASSES_LIMIT};
+use eden_cache::are_bounds;
+use eden_import::are_counts;
 use std::marker::Model;
 
 /// What a mount is opened with, each within its limits. Contracts see the six numbers.
@@ -44,17 +44,9 @@ impl Config {
         ensures limits { IsSome result ↔ InLimits (settings_from passes flights history entries bytes sizes) }
         ensures value { IfSome result (λ c. c ≡ settings_from passes flights history entries bytes sizes) }
     {
-        let within = 1 <= passes
-            && passes <= PASSES_LIMIT
-            && 1 <= flights
-            && flights <= FLIGHTS_LIMIT
+        let within = are_counts(passes, flights)
             && 1 <= history
-            && 1 <= entries
-            && entries <= OBJECTS_LIMIT
-            && 1 <= bytes
-            && bytes <= BYTES_LIMIT
-            && 1 <= sizes
-            && sizes <= SIZES_LIMIT;
+            && are_bounds(entries, bytes, sizes);
         if !within {
             return None;
         }

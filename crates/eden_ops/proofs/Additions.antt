@@ -2,7 +2,7 @@
 use Rattle.std.proofs.Common.{◌≡◌, ◌≢◌, ◌≤◌, ◌<◌, ◌+◌, ◌⊎◌, ◌==◌, nat_lt, ℕ, Bool, true, false, List, [], ◌∷◌, ◌++◌, length, Option, Some, None, sym, refl, ◌∙◌, ap, subst, inl, inr, arith}
 use Rattle.std.proofs.lemmas.List.{append-nil, append_assoc}
 use Rattle.std.proofs.lemmas.Bool.{le-ltb, ne_eqb}
-use Rattle.std.specs.Option.{option_and_then}
+use Rattle.std.specs.Option.{option_map, option_and_then}
 use Rattle.eden_model.specs.declared.errno.Errno.TheVariants.{EEXIST, ENOENT, ENAMETOOLONG}
 use Rattle.eden_model.specs.declared.fault.Fault.{Fault}
 use Rattle.eden_model.specs.declared.fault.Fault.TheVariants as fault
@@ -17,7 +17,8 @@ use Rattle.eden_model.specs.Limits.{most_target}
 use Rattle.eden_model.specs.Operations.{Meets as Table_Meets, Says, Unless, Adds, Targets, Replies, put, done}
 use Rattle.eden_model.specs.Paths.{is_root}
 use Rattle.eden_model.specs.Repository.{Repository}
-use Rattle.eden_model.specs.Trees.{Name, Path, Tree, Walk, Passes, through, walk_from, walk, reach, graft}
+use Rattle.eden_model.specs.Requests.{paths_of}
+use Rattle.eden_model.specs.Trees.{Name, Path, Tree, Walk, Passes, through, walk_from, walk, Reach, Absent, ends, reach, graft}
 use Rattle.eden_overlay_format.specs.Directory.{number_end}
 use Rattle.eden_overlay.specs.declared.files.Files.{Ghosts as Files}
 use Rattle.eden_overlay.specs.Files.{Stored}
@@ -29,7 +30,7 @@ use Rattle.eden_tree.proofs.CallerLemmas.{reads_on}
 use Rattle.eden_tie.specs.Filing.{leaf}
 use Rattle.eden_tie.specs.Shown.{shown_in}
 use Rattle.eden_tie.specs.ShownLaws.{AreDirectories, ShowsAbsent}
-use Rattle.eden_inode.specs.Tables.{Table}
+use Rattle.eden_inode.specs.Tables.{Table, shows}
 use Rattle.eden_materialise.specs.declared.new_entry.NewEntry.{NewEntry}
 use Rattle.eden_materialise.specs.Filing.{node_as, IsShort, LacksEntry, IsAddFault}
 use Rattle.eden_model.specs.declared.attempt.Attempt.TheVariants.{Finished}
@@ -37,8 +38,7 @@ use Rattle.eden_ops.specs.Attempts.{Attempts}
 use Rattle.eden_ops.specs.Caches.{FindsTheSame}
 use Rattle.eden_ops.specs.Changes.{IsAdding, file, dir, link}
 use Rattle.eden_ops.specs.Faults.{Makes, creates, makes_dir, links, IsLawful}
-use Rattle.eden_ops.specs.Keeping.{shows}
-use Rattle.eden_ops.specs.Known.{known}
+use Rattle.eden_ops.specs.Known.{known_node, known}
 use Rattle.eden_ops.specs.Leaving.{given}
 use Rattle.eden_ops.proofs.Answering.{Asked}
 use Rattle.eden_ops.proofs.Changing.{put_alone, refused}
@@ -142,6 +142,12 @@ lacks_entry p above n x split passes none =
           ∙ sym (ap (λ (q : Path). row_at q x) split) ∙ none);
     }
 
+-- it may be made by what is known
+pub may_add : (p : Path) (q : Request) (e : NewEntry) → IsAdding p q e → is_root p ≡ false → (x : Row) → walk (known x) p ≡ Passes → row_at p x ≡ None → Replies (known x) q say.Ok
+may_add p q e adding root x passes none = (asked_add p root q e adding).says (known x) say.Ok (subst (λ (m : Reach). Table_Meets m (Says say.Ok) (adds (known x)) say.Ok) (sym absent) refl) where
+  absent : reach (known x) p ≡ Absent
+  absent = ap (λ (v : Walk). ends v (known x p)) passes ∙ ap (λ (o : Option Row). ends Passes (option_map known_node o)) none
+
 -- nothing stands below it
 pub absent_alone : ShowsAbsent → (R : Repository) (F : Stored) (p above : Path) (n : Name) (x : Row) → AreDirectories x → p ≡ above ++ n ∷ [] → LacksEntry x above n → (m : Name) (r : Path)
     → shown_in R F x (p ++ m ∷ r) ≡ None
@@ -163,19 +169,22 @@ root_refused w f p q e adding s c root = record {
 
 module _ {W F : Type 0} (w : Ghosts W) (f : Files F W) (p : Path) (q : Request) (e : NewEntry) (adding : IsAdding p q e) (s t u : Table F) (c d : Cache)
     (same : w.honest → shows w f t ≡ shows w f s) (rises : f.failures s.files ≤ f.failures t.files) (cache : FindsTheSame c d) where
-  pub not_added : (a : Fault) → IsAddFault t.next (f.failures t.files) (f.failures u.files) a → (a ≡ fault.Numbers → u ≡ t) → (w.honest → shows w f u ≡ shows w f t)
-      → Attempts w f q s u c d (Finished (say.Fault a))
-  not_added (fault.Fetch id cause) h unused shown = absurd h
-  not_added fault.Memory h unused shown = refused w f q s t u c d same rises cache fault.Memory h (λ x is. no_kind p x q e adding is) shown
-  not_added fault.Overlay h unused shown = refused w f q s t u c d same rises cache fault.Overlay h (λ x is. no_kind p x q e adding is) shown
-  not_added fault.Numbers h unused shown = record {
+  pub not_added : (a : Fault) → Replies (known t.root) q say.Ok → IsAddFault t.next (f.failures t.files) (f.failures u.files) a → (a ≡ fault.Numbers → u ≡ t)
+      → (w.honest → shows w f u ≡ shows w f t) → Attempts w f q s u c d (Finished (say.Fault a))
+  not_added (fault.Fetch id cause) free h unused shown = absurd h
+  not_added fault.Memory free h unused shown = refused w f q s t u c d same rises cache fault.Memory h (λ x is. no_kind p x q e adding is) shown
+  not_added fault.Overlay free h unused shown = refused w f q s t u c d same rises cache fault.Overlay h (λ x is. no_kind p x q e adding is) shown
+  not_added fault.Numbers free h unused shown = record {
     answer = record {
       reply = λ h x. cc;
-      fault = λ a is. let one : fault.Numbers ≡ a = cc in subst (λ (b : Fault). IsLawful w f q s u b) one (inl (makes p q e adding, few_left (unused refl)));
+      fault = λ a is. let one : fault.Numbers ≡ a = cc in subst (λ (b : Fault). IsLawful w f q s u b) one (inl (makes p q e adding, may_still (unused refl), few_left (unused refl)));
       shown = λ h. shown h ∙ same h;
     };
     cache = cache;
   } where
+    may_still : u ≡ t → Replies (known u.root) q say.Ok
+    may_still is = subst (λ (v : Table F). Replies (known v.root) q say.Ok) (sym is) free
+
     few_left : u ≡ t → number_end < u.next + 1
     few_left is = let end = h.0 in let next : u.next ≡ t.next = ap (λ (x : Table F). x.next) is in omega (arith, end, next)
 
@@ -193,6 +202,11 @@ pub adds_one : (p : Path) (q : Request) (e : NewEntry) → IsAdding p q e → gi
 adds_one p _ _ (file content empty) = refl
 adds_one p _ _ dir = refl
 adds_one p _ _ (link target some short) = refl
+
+pub adds_path : (p : Path) (q : Request) (e : NewEntry) → IsAdding p q e → paths_of q ≡ p ∷ []
+adds_path p _ _ (file content empty) = refl
+adds_path p _ _ dir = refl
+adds_path p _ _ (link target some short) = refl
 
 pub one_more : (a b m : ℕ) → b ≡ a + 1 → m ≡ 1 → b ≤ a + m
 one_more a b m is one = omega (arith, is, one)

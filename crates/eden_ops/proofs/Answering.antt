@@ -26,15 +26,15 @@ use Rattle.eden_overlay.specs.Files.{Stored}
 use Rattle.eden_cache.specs.Cache.{Cache}
 use Rattle.eden_tree.specs.Directory.{Child, unloaded, loaded, Row}
 use Rattle.eden_tree.specs.Paths.{row_at}
-use Rattle.eden_inode.specs.Tables.{Table}
+use Rattle.eden_inode.specs.Tables.{Table, shows}
 use Rattle.eden_model.specs.declared.attempt.Attempt.TheVariants.{Finished}
 use Rattle.eden_ops.specs.declared.answer.Stop.{Stop}
 use Rattle.eden_ops.specs.declared.answer.Stop.TheVariants as stop
 use Rattle.eden_ops.specs.Attempts.{Attempts, Wants, IsUnsized, Meets, MeetsShown, Lacks, IsShown, shown_node, object_kind, stopped}
 use Rattle.eden_ops.specs.Caches.{FindsTheSame}
 use Rattle.eden_ops.specs.Faults.{IsDamaged, WantsNumbers, IsCaused, IsLawful, Makes, creates, makes_dir, links}
-use Rattle.eden_ops.specs.Keeping.{shows, Keeps}
-use Rattle.eden_ops.specs.Known.{content_known, known_by, known_node, known, is_unlisted, place_from, place_on, place}
+use Rattle.eden_ops.specs.Keeping.{Keeps}
+use Rattle.eden_ops.specs.Known.{known_by, known_node, known, is_unlisted, place_from, place_on, place}
 use Rattle.eden_ops.proofs.Walking.{walk_here, reach_here, place_passes}
 
 -- a request that looks at a path first: its reply is by what stands there, or by its absence
@@ -89,7 +89,7 @@ some_inj a b is = cc
 tree_wanted : (x : Row) (q : Path) (d : Cache) (k : Key) → known x q ≡ Some (Dir false) → Wants (row_at q x) d k → k.kind ≡ objects.Tree
 tree_wanted x q d k dir h =
     let is = some_inj (known_node h.row) (Dir false) (sym (ap (option_map known_node) h.there) ∙ dir) in
-    h.kind ∙ ap object_kind (dir_child h.row.kind (content_known h.row.origin) h.row.child is)
+    h.kind ∙ ap object_kind (dir_child h.row.kind None h.row.child is)
 
 -- a look makes no entry
 pub no_entry : (r : Request) (x : Path) → Makes r → r ≡ ask.Kind x → ⊥
@@ -147,9 +147,9 @@ module _ {W F : Type 0} {absent : Reply → Type 0} (w : Ghosts W) (f : Files F 
   lawful (fault.Fetch id cause) un h = h
   lawful fault.Memory un h = λ x is. subst (λ (y : Path). walk (known s.root) y ≡ Unlisted) (sym (first.plain x is)) (h p refl)
   lawful fault.Overlay un (inl rose) = inl rose
-  lawful fault.Overlay un (inr damaged) = inr (subst (λ (x : Path). IsDamaged w f x t) (sym (first.at (known t.root) un)) damaged)
+  lawful fault.Overlay un (inr held) = inr (λ r. silent (known t.root) r un, subst (λ (x : Path). IsDamaged w f x t) (sym (first.at (known t.root) un)) held.1)
   lawful fault.Numbers un (inl m) = absurd (no_entry (ask.Kind p) p m.0 refl)
-  lawful fault.Numbers un (inr h) = inr (subst (λ (x : Path). WantsNumbers w f x t) (sym (first.at (known t.root) un)) h)
+  lawful fault.Numbers un (inr held) = inr (λ r. silent (known t.root) r un, subst (λ (x : Path). WantsNumbers w f x t) (sym (first.at (known t.root) un)) held.1)
 
   pub first_ended : (z : Stop) → Meets w f p s t d (Err z) → (w.honest → MeetsShown w f p s t (Err z)) → Attempts w f q s t c d (stopped z)
   first_ended (stop.Errs e) h shown =
@@ -196,28 +196,28 @@ module _ {W F : Type 0} {absent : Reply → Type 0} (w : Ghosts W) (f : Files F 
     place_is : place (known t.root) q ≡ p
     place_is = asks.at (known t.root) ∙ place_passes (known t.root) p (walk_here t.root p y at)
 
-    lawful_here : (e : Fault) → ((x : Path) → q ≡ ask.Kind x → ⊥) → IsCaused w f p s t e → IsLawful w f q s t e
-    lawful_here (fault.Fetch id cause) other h = h
-    lawful_here fault.Memory other h = λ x is. absurd (other x is)
-    lawful_here fault.Overlay other (inl rose) = inl rose
-    lawful_here fault.Overlay other (inr damaged) = inr (subst (λ (x : Path). IsDamaged w f x t) (sym place_is) damaged)
-    lawful_here fault.Numbers other h = inr (subst (λ (x : Path). WantsNumbers w f x t) (sym place_is) h)
+    module _ (none : (r : Reply) → ¬ here (known t.root) (known_node y) r) where
+      quiet : (r : Reply) → ¬ Replies (known t.root) q r
+      quiet r x = none r (subst (λ (v : Reach). Table_Meets v absent (here (known t.root)) r) (reach_here t.root p y at) (asks.only (known t.root) r x))
 
-    pub lacked : (z : Stop) → ((x : Path) → q ≡ ask.Kind x → ⊥) → ((k : Key) → z ≡ stop.Needs k → ((r : Reply) → ¬ here (known t.root) (known_node y) r) × IsUnsized q d k) → Lacks w f p s t d z
+      lawful_here : (e : Fault) → ((x : Path) → q ≡ ask.Kind x → ⊥) → IsCaused w f p s t e → IsLawful w f q s t e
+      lawful_here (fault.Fetch id cause) other h = h
+      lawful_here fault.Memory other h = λ x is. absurd (other x is)
+      lawful_here fault.Overlay other (inl rose) = inl rose
+      lawful_here fault.Overlay other (inr damaged) = inr (quiet, subst (λ (x : Path). IsDamaged w f x t) (sym place_is) damaged)
+      lawful_here fault.Numbers other h = inr (quiet, subst (λ (x : Path). WantsNumbers w f x t) (sym place_is) h)
+
+    pub lacked : (z : Stop) → ((x : Path) → q ≡ ask.Kind x → ⊥) → ((r : Reply) → ¬ here (known t.root) (known_node y) r) → ((k : Key) → z ≡ stop.Needs k → IsUnsized q d k) → Lacks w f p s t d z
         → Attempts w f q s t c d (stopped z)
-    lacked (stop.Errs e) other need h = absurd h
-    lacked (stop.Needs k) other need h = record {
+    lacked (stop.Errs e) other none sized h = absurd h
+    lacked (stop.Needs k) other none sized h = record {
       answer = record {
-        need = record {
-          silent = λ r x. (need k refl).0 r (subst (λ (v : Reach). Table_Meets v absent (here (known t.root)) r) (reach_here t.root p y at) (asks.only (known t.root) r x));
-          wanted = subst (λ (x : Path). Wants (row_at x t.root) d k) (sym place_is) h;
-          unsized = (need k refl).1;
-        };
+        need = record { silent = quiet none; wanted = subst (λ (x : Path). Wants (row_at x t.root) d k) (sym place_is) h; unsized = sized k refl };
         keeps = keeps;
       };
       cache = cache;
     }
-    lacked (stop.Faults e) other need h = faulted e (lawful_here e other h)
+    lacked (stop.Faults e) other none sized h = faulted e (lawful_here none e other h)
 
 -- nothing is at the path, which is refused
 pub first_absent : {W F : Type 0} (w : Ghosts W) (f : Files F W) (q : Request) (p : Path) (here : Tree → Node → Reply → Type 0) (first : Starts q p (Refuses ENOENT) here) (s t : Table F) (c d : Cache)

@@ -12,7 +12,7 @@ use Rattle.eden_tree.specs.Directory.{Child, unloaded, loaded, Row, child_of, di
 use Rattle.eden_tree.specs.Paths.{row_at, stamped_along, Standing, standing, standing_at, stamped}
 use Rattle.eden_tree.proofs.CallerLemmas.{stamps_along}
 use Rattle.eden_tie.proofs.CallerLemmas.{map_some}
-use Rattle.eden_ops.specs.Known.{content_known, known_by, known_node, known}
+use Rattle.eden_ops.specs.Known.{known_by, known_node, known}
 
 pub record Bare : Type 0 where
   pub number : ℕ
@@ -55,21 +55,21 @@ bare_along p q s x =
 
 -- ---- what is known of an entry
 
-abbrev known_bare : Bare → Node
-known_bare b = if b.loaded then Dir true else node_from b.kind (content_known b.origin) false
+abbrev pub known_bare : Bare → Node
+known_bare b = if b.loaded then Dir true else node_from b.kind None false
 
 by_child : (c : Child) (n : Node) → known_by c n ≡ (if is_some (directory_in c) then Dir true else n)
 by_child unloaded n = refl
 by_child (loaded s u r) n = refl
 
-known_as : (o : Option Row) → option_map known_node o ≡ option_map known_bare (option_map bare o)
+pub known_as : (o : Option Row) → option_map known_node o ≡ option_map known_bare (option_map bare o)
 known_as None = refl
-known_as (Some x) = ap (λ (n : Node). Some n) (by_child x.child (node_from x.kind (content_known x.origin) false))
+known_as (Some x) = ap (λ (n : Node). Some n) (by_child x.child (node_from x.kind None false))
 
 pub known_along : (p : Path) (s : ℕ) (x : Row) (q : Path) → known (stamped_along p s x) q ≡ known x q
 known_along p s x q = known_as (row_at q (stamped_along p s x)) ∙ ap (option_map known_bare) (bare_along p q s x) ∙ sym (known_as (row_at q x))
 
-walk_alike : (G H : Tree) → ((q : Path) → G q ≡ H q) → (front rest : Path) → walk_from G front rest ≡ walk_from H front rest
+pub walk_alike : (G H : Tree) → ((q : Path) → G q ≡ H q) → (front rest : Path) → walk_from G front rest ≡ walk_from H front rest
 walk_alike G H same front [] = refl
 walk_alike G H same front (n ∷ rest) =
     ap (λ o. through o (walk_from G (front ++ n ∷ []) rest)) (same front)
@@ -83,7 +83,7 @@ walk_stamped p s x q = walk_alike (known (stamped_along p s x)) (known x) (known
 pub still_there : (p q : Path) (s : ℕ) (x y : Row) → row_at q x ≡ Some y → (z : Row) × ((row_at q (stamped_along p s x) ≡ Some z) × (bare z ≡ bare y))
 still_there p q s x y at = map_some bare (row_at q (stamped_along p s x)) (bare y) (sym (bare_along p q s x ∙ ap (option_map bare) at))
 
-still_absent : {X : Type 0} (o : Option X) (g : X → Bare) → option_map g o ≡ None → o ≡ None
+pub still_absent : {X : Type 0} (o : Option X) (g : X → Bare) → option_map g o ≡ None → o ≡ None
 still_absent None g is = refl
 still_absent (Some x) g is = cc
 

@@ -1,12 +1,10 @@
 -- What a load leaves, and why it is refused.
-use Rattle.std.proofs.Common.{◌≡◌, ◌≢◌, ◌≤◌, ◌<◌, ◌+◌, ℕ, List, length, Some, None, Result, Ok, Err, OnOk, OnErr, IfErr, IsErr, sym, ◌∙◌, ap, subst, inl, inr}
+use Rattle.std.proofs.Common.{◌≡◌, ◌≤◌, ◌<◌, ◌+◌, ℕ, List, length, Some, None, Result, Ok, Err, OnOk, OnErr, IfErr, IsErr, sym, ◌∙◌, ap, subst, inl, inr}
 use Rattle.std.specs.Result.{IsErrAnd}
 use Rattle.eden_model.specs.declared.fault.Fault.{Fault}
 use Rattle.eden_model.specs.declared.fault.Fault.TheVariants as fault
-use Rattle.eden_model.specs.declared.id.Id.{Id}
 use Rattle.eden_model.specs.declared.kind.Kind.{Kind}
 use Rattle.eden_model.specs.declared.kind.Kind.TheVariants as kind
-use Rattle.eden_model.specs.declared.kind.Origin.{Origin}
 use Rattle.eden_model.specs.declared.kind.Origin.TheVariants as origin
 use Rattle.eden_model.specs.declared.tree_entry.TreeEntry.{TreeEntry}
 use Rattle.eden_model.specs.declared.world.World.{Ghosts}
@@ -55,22 +53,20 @@ module _ {W F : Type 0} (w : Ghosts W) (f : Files F W) (p : Path) (s t : Table F
     pub none_keeps : Keeps w f s t
     none_keeps = loads_none w f s t still.0 still.1 (record { stored = stored; failures = counted; clock = rest.0; changes = rest.1 })
 
-    damaged_at : (o : Origin) (at : IsAt p s.root o) → ((id : Id) → o ≢ origin.Object id) → ((y : Row) → row_at p s.root ≡ Some y → w.honest → entries_at (f.stored s.files) y.number ≡ None)
-        → IsCaused w f p s t fault.Overlay
-    damaged_at o at from h =
+    damaged_at : IsAt p s.root origin.Own → ((y : Row) → row_at p s.root ≡ Some y → w.honest → entries_at (f.stored s.files) y.number ≡ None) → IsCaused w f p s t fault.Overlay
+    damaged_at at h =
         inr (record {
           row = at.row;
           there = ap (row_at p) still.0 ∙ at.there;
-          from = λ id is. from id (sym at.origin ∙ is);
+          from = at.origin;
           damaged = λ honest. none_held (f.stored t.files) at.row.kind at.row.number at.kind (ap (λ (G : Stored). entries_at G at.row.number) (stored honest) ∙ h at.row at.there honest);
         })
 
     pub own_caused : HasNoTree p s.root → (e : Fault) → IsLoadFault w.honest s.next (f.failures s.files) (f.failures t.files) (f.stored s.files) p s.root None e → IsCaused w f p s t e
     own_caused none (fault.Fetch id cause) h = h
     own_caused none fault.Memory h = tt
-    own_caused none fault.Overlay (inl rose) = inl rose
-    own_caused (inl at) fault.Overlay (inr h) = damaged_at origin.Own at (λ id is. cc) h
-    own_caused (inr at) fault.Overlay (inr h) = damaged_at origin.Empty at (λ id is. cc) h
+    own_caused none fault.Overlay (own, inl rose) = inl rose
+    own_caused none fault.Overlay (own, inr h) = damaged_at own h
     own_caused none fault.Numbers h = absurd h
 
     pub object_caused : (es : List TreeEntry) → HasTree w.repository w.honest p s.root es → (e : Fault)

@@ -35,7 +35,7 @@ use Rattle.eden_tree.proofs.CallerLemmas.{reads_on}
 use Rattle.eden_tie.specs.Filing.{leaf, HasFile}
 use Rattle.eden_tie.specs.Shown.{item_in, table_ground, shown_in}
 use Rattle.eden_tie.specs.ShownLaws.{AreDirectories, ShowsBelow}
-use Rattle.eden_inode.specs.Tables.{Table}
+use Rattle.eden_inode.specs.Tables.{Table, shows}
 use Rattle.eden_materialise.specs.Faults.{IsStoreFault}
 use Rattle.eden_materialise.specs.Removals.{HasEntry}
 use Rattle.eden_model.specs.declared.attempt.Attempt.TheVariants.{Finished}
@@ -43,7 +43,6 @@ use Rattle.eden_ops.specs.Attempts.{Attempts}
 use Rattle.eden_ops.specs.Caches.{FindsTheSame}
 use Rattle.eden_ops.specs.Changes.{exec_kind}
 use Rattle.eden_ops.specs.Faults.{IsLawful}
-use Rattle.eden_ops.specs.Keeping.{shows}
 use Rattle.eden_ops.specs.Listings.{HasNoEntries, HasEntries}
 use Rattle.eden_ops.proofs.Answering.{Asks}
 use Rattle.eden_ops.proofs.Looking.{IsPlain}

@@ -1,22 +1,20 @@
 -- An entry that was met, the part of its content, and its directory.
-use Rattle.std.proofs.Common.{◌≡◌, ◌≢◌, ◌⊎◌, Bool, true, false, Option, Some, None, sym, refl, ◌∙◌, ap, subst, inl, inr}
+use Rattle.std.proofs.Common.{◌≡◌, ◌≢◌, ◌⊎◌, Bool, true, false, Option, Some, None, sym, refl, ◌∙◌, subst, inl, inr}
 use Rattle.std.proofs.lemmas.Bool.{false≢true}
 use Rattle.std.specs.Option.{is_some, IsSome}
-use Rattle.eden_model.specs.declared.id.Key.{Key}
 use Rattle.eden_model.specs.declared.kind.Kind.TheVariants as kind
 use Rattle.eden_model.specs.Repository.{Repository}
 use Rattle.eden_model.specs.Shown.{node_from}
 use Rattle.eden_model.specs.declared.node.Node.TheVariants.{Dir}
 use Rattle.eden_model.specs.Trees.{Path, Reach}
 use Rattle.eden_overlay.specs.Files.{Stored}
-use Rattle.eden_cache.specs.Cache.{Cache}
 use Rattle.eden_tree.specs.Directory.{Row, child_of}
 use Rattle.eden_tree.specs.Paths.{row_at}
 use Rattle.eden_tie.specs.Loading.{IsAt}
 use Rattle.eden_inode.specs.declared.seen.Seen.{Seen}
-use Rattle.eden_ops.specs.Attempts.{IsSeen, IsShown, Wants}
+use Rattle.eden_ops.specs.Attempts.{IsSeen, IsShown}
 use Rattle.eden_ops.specs.Contents.{HasContent}
-use Rattle.eden_ops.specs.Known.{content_known, known_node, IsLoadedAt}
+use Rattle.eden_ops.specs.Known.{known_node, IsLoadedAt}
 use Rattle.eden_ops.proofs.Meeting.{some_of}
 use Rattle.eden_ops.proofs.Walking.{known_at, known_loaded, known_unloaded}
 
@@ -42,15 +40,9 @@ module _ (p : Path) (x : Row) (seen : Seen) (s : IsSeen p x seen) where
       some_eq a b is = cc
   shown_kind R F met h (inr dir) = sym s.kind ∙ dir
 
-  -- what is known of it, where its object is wanted
-  pub known_lost : (d : Cache) (k : Key) → seen.loaded ≡ false → Wants (row_at p x) d k → (known_node s.row ≡ node_from s.row.kind (content_known s.row.origin) false)
-      × (content_known s.row.origin ≡ None)
-  known_lost d k off h = (
-    known_unloaded s.row (away off),
-    ap content_known (ap (λ (z : Row). z.origin) (some_eq s.row h.row (sym s.there ∙ h.there)) ∙ h.from),
-  ) where
-    some_eq : (a b : Row) → Some a ≡ Some b → a ≡ b
-    some_eq a b is = cc
+  -- what is known of it
+  pub known_away : seen.loaded ≡ false → known_node s.row ≡ node_from s.row.kind None false
+  known_away off = known_unloaded s.row (away off)
 
   -- its directory, which is loaded or not
   pub is_loaded : seen.loaded ≡ true → IsLoadedAt p x

@@ -23,14 +23,14 @@ use Rattle.eden_tree.specs.Directory.{Row}
 use Rattle.eden_tree.specs.Paths.{row_at}
 use Rattle.eden_tie.specs.Filing.{content_shown}
 use Rattle.eden_inode.specs.declared.seen.Seen.{Seen}
-use Rattle.eden_inode.specs.Tables.{Table}
+use Rattle.eden_inode.specs.Tables.{Table, shows}
 use Rattle.eden_materialise.specs.Faults.{IsStoreFault}
 use Rattle.eden_model.specs.declared.attempt.Attempt.TheVariants.{Finished}
 use Rattle.eden_ops.specs.declared.answer.Stop.{Stop}
 use Rattle.eden_ops.specs.Attempts.{Attempts, IsShown, IsUnsized, Meets, MeetsShown, Lacks, shown_node, stopped}
 use Rattle.eden_ops.specs.Caches.{FindsTheSame}
 use Rattle.eden_ops.specs.Contents.{IsFileAt}
-use Rattle.eden_ops.specs.Keeping.{shows, Keeps}
+use Rattle.eden_ops.specs.Keeping.{Keeps}
 use Rattle.eden_ops.specs.Known.{known}
 use Rattle.eden_ops.specs.Requests.{IsFileSeen, IsForFile, for_read, for_write, for_truncate, for_exec}
 use Rattle.eden_ops.proofs.Answering.{Asks, walk_ended, says_absent}
@@ -98,7 +98,7 @@ module _ {W F : Type 0} (w : Ghosts W) (f : Files F W) (p : Path) (s t : Table F
         → ((k : Kind) (a : Option (List ℕ)) (r : Reply) → IsPlain k → a ≡ None → ¬ here (known v.root) (node_from k a false) r) → Lacks w f p t v e z → Attempts w f q s v c e (stopped z)
     file_lacks other sized z lost lacks =
         content_lacks w f p s t d (Some seen) seen refl file.entry q here asks c same keeps cache shown v e alike kept still finds file.away other z
-        (λ n is. (λ k a r like none. lost k a r (subst IsPlain (sym like) file.plain) none, sized n)) lacks
+        (λ k a r like none. lost k a r (subst IsPlain (sym like) file.plain) none) (λ n is. sized n) lacks
 
     pub is_file : IsFileAt p v.root row
     is_file = file_at p t.root v.root row still file.entry.there (away p t.root seen file.entry file.away) plain

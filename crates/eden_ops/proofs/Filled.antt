@@ -29,12 +29,11 @@ use Rattle.eden_overlay.specs.Held.{own_files}
 use Rattle.eden_cache.specs.Cache.{Cache}
 use Rattle.eden_tree.specs.Directory.{Row, child_of}
 use Rattle.eden_tree.specs.Paths.{row_at}
-use Rattle.eden_inode.specs.Tables.{Table}
+use Rattle.eden_inode.specs.Tables.{Table, shows}
 use Rattle.eden_model.specs.declared.attempt.Attempt.TheVariants.{Finished}
 use Rattle.eden_ops.specs.Attempts.{Attempts, IsShown, shown_node}
 use Rattle.eden_ops.specs.Caches.{FindsTheSame}
 use Rattle.eden_ops.specs.Contents.{IsFileAt}
-use Rattle.eden_ops.specs.Keeping.{shows}
 use Rattle.eden_ops.proofs.Answering.{Asks, says_at}
 use Rattle.eden_ops.proofs.Changing.{changed_by}
 use Rattle.eden_ops.proofs.Looking.{IsPlain, plain_other}
@@ -167,11 +166,16 @@ module _ (size : ℕ) where
   pub truncated_some : (c : Option (List ℕ)) (old : List ℕ) → (size == 0) ≡ false → c ≡ Some old → truncated size c ≡ Some (resized size old)
   truncated_some c old some is = truncated_by c (Some (resized size old)) false some (ap (option_map (resized size)) is)
 
--- ---- a write without bytes changes nothing
+-- ---- what is there is put there
 
 put_at : (G : Tree) (p q : Path) (o : Option Node) (b : Bool) → path_eq p q ≡ b → G p ≡ o → (if b then o else G q) ≡ G q
 put_at G p q o true same at = sym at ∙ ap G ((path_eq-Decides p q).0 same)
 put_at G p q o false same at = refl
+
+pub put_back : (G : Tree) (p : Path) (o : Option Node) → G p ≡ o → put G p o ≡ G
+put_back G p o at = fun_ext (λ q. put_at G p q o (path_eq p q) refl at)
+
+-- ---- a write without bytes changes nothing
 
 unwritten : (offset : ℕ) (o : Option Node) → option_map (with_content (option_map (written offset []))) o ≡ o
 unwritten offset None = refl
@@ -187,7 +191,7 @@ no_bytes (b ∷ bytes) is = absurd (false≢true (sym (eqb-suc-zero (length byte
 pub writes_nothing : (p : Path) (offset : ℕ) (bytes : List ℕ) (n : ℕ) → (length bytes == 0) ≡ true → (G : Tree) → after G (ask.Write p offset bytes) (say.Count n) ≡ G
 writes_nothing p offset bytes n none G =
     ap (λ (b : List ℕ). edit G p (with_content (option_map (written offset b)))) (no_bytes bytes none)
-    ∙ fun_ext (λ q. put_at G p q _ (path_eq p q) refl (sym (unwritten offset (G p))))
+    ∙ put_back G p _ (sym (unwritten offset (G p)))
 
 -- ---- a content in the place of another
 
@@ -212,7 +216,7 @@ here_at (Stops e) o n is = cc
 here_at Unlisted o n is = cc
 
 -- the node that is shown there
-node_shown : (R : Repository) (F : Stored) (G : Tree) (p : Path) (o : Option Row) (y : Row) → o ≡ Some y → IsShown R F o (reach G p) → (l : Bool) × (G p ≡ Some (shown_node R F y l))
+pub node_shown : (R : Repository) (F : Stored) (G : Tree) (p : Path) (o : Option Row) (y : Row) → o ≡ Some y → IsShown R F o (reach G p) → (l : Bool) × (G p ≡ Some (shown_node R F y l))
 node_shown R F G p o y at h =
     let row = same_Some h.row y (sym h.there ∙ at) in
     (h.listed, here_at (walk G p) (G p) (shown_node R F h.row h.listed) h.is ∙ ap (λ (z : Row). Some (shown_node R F z h.listed)) row)

@@ -1,5 +1,5 @@
 -- What is left once directories went.
-use Rattle.std.proofs.Common.{◌≡◌, ◌⊎◌, ℕ, false, [], ◌∷◌, ◌++◌, Option, Some, None, sym, refl, ◌∙◌, ap, subst, inl, inr}
+use Rattle.std.proofs.Common.{◌≡◌, ◌⊎◌, ℕ, Bool, true, [], ◌∷◌, ◌++◌, Option, Some, None, sym, refl, ◌∙◌, ap, subst, inl, inr}
 use Rattle.std.proofs.lemmas.List.{append-nil}
 use Rattle.std.proofs.lemmas.Option.{same_Some, none-some}
 use Rattle.std.specs.Option.{option_map, option_and_then}
@@ -11,14 +11,13 @@ use Rattle.eden_tree.specs.Directory.{Row, Directory, child_of, with_child}
 use Rattle.eden_tree.specs.Rows.{find_row}
 use Rattle.eden_tree.specs.Paths.{row_at, edit_row, Standing, standing, standing_at}
 use Rattle.eden_tree.proofs.CallerLemmas.{reads_on, edits_one, edits_there, edits_not_beside, edits_nothing, child_of-with_child, row_at-unloaded}
-use Rattle.eden_tie.specs.Chains.{AreSaved, IsLoadedAt, StaysLoaded}
+use Rattle.eden_tie.specs.Chains.{IsLoadedAt, IsUnsavedAt, NoneMarked, StaysLoaded}
 use Rattle.eden_tie.specs.Unloading.{Unloads, none, one_more, same_files}
-use Rattle.eden_tie.proofs.CallerLemmas.{map_some, loaded_there, Loaded, loaded_found}
+use Rattle.eden_tie.proofs.CallerLemmas.{map_some, loaded_there, Loaded, loaded_found, mark_of, unsaved_standing, standing_unsaved}
 use Rattle.eden_ops.specs.Changes.{SameNames}
 use Rattle.eden_ops.specs.Letting.{IsLeft, LetsGo}
 use Rattle.eden_ops.proofs.Growing.{front_of}
 use Rattle.eden_ops.proofs.Names.{names_same, names_on, numbered, numbered_standing}
-use Rattle.eden_ops.proofs.Saving.{SavedAt, by_path, by_place}
 
 -- the entry v of what is left was there before
 abbrev pub WasThere : Row → Path → Standing → Type 0
@@ -125,22 +124,22 @@ pub lets_go : (honest : Type 0) (clock age : ℕ) (F : Stored) (x : Row) (G : St
 lets_go honest clock age F x G z c u p one = record { elsewhere = one; left = unloads_left honest clock age F x G z c u; names = unloads_names honest clock age F x G z c u }
 
 module _ (p : Path) (x z : Row) (g : LetsGo p x z) where
-  -- none of them was marked unsaved where none is now
-  left_saved : SavedAt x → SavedAt z
-  left_saved all q v stamp unsaved at loaded = by was.1.1.loaded where
-    was : WasThere x q v
-    was = g.left q v at
-
-    by : (v.loaded ≡ was.0.loaded) ⊎ (v.loaded ≡ None) → unsaved ≡ false
-    by (inl one) = all q was.0 stamp unsaved was.1.0 (sym one ∙ loaded)
-    by (inr gone) = absurd (none-some (stamp, unsaved) (sym gone ∙ loaded))
-
-  pub goes_saved : AreSaved x → AreSaved z
-  goes_saved all = by_place z (left_saved (by_path x all))
-
   -- what is loaded was so
   pub goes_fewer : StaysLoaded z x
   goes_fewer = fewer_left x z g.left
+
+  -- .. and what is unsaved of them
+  pub goes_marks : NoneMarked x z
+  goes_marks q unsaved = by (standing_at q z) refl (unsaved_standing q z unsaved) where
+    same : (s v : Standing) → IsLeft s v → mark_of (Some v) ≡ Some true → mark_of (Some s) ≡ Some true
+    same s v left is = elim left.loaded [
+      | inl one ↦ ap (option_map (λ (m : ℕ × Bool). m.1)) (sym one) ∙ is
+      | inr gone ↦ absurd (none-some true (sym (ap (option_map (λ (m : ℕ × Bool). m.1)) gone) ∙ is))
+    ]
+
+    by : (o : Option Standing) → standing_at q z ≡ o → mark_of o ≡ Some true → IsUnsavedAt q x
+    by None at is = absurd (none-some true is)
+    by (Some v) at is = let was = g.left q v at in standing_unsaved q x (ap mark_of was.1.0 ∙ same was.0 v was.1.1 is)
 
   -- what doesn't stand at or below the path is as it was
   pub kept_elsewhere : (q : Path) → behind_of p q ≡ None → standing_at q z ≡ standing_at q x

@@ -1,5 +1,5 @@
 -- What an attempt leaves, by its request.
-use Rattle.std.proofs.Common.{◌≡◌, ◌≢◌, ◌≤◌, ◌+◌, ℕ, refl, ◌∙◌, subst, sym, arith}
+use Rattle.std.proofs.Common.{◌≡◌, ◌≢◌, ◌≤◌, ◌⊎◌, ◌+◌, ℕ, inl, inr, refl, ◌∙◌, subst, sym, arith}
 use Rattle.eden_model.specs.declared.attempt.Attempt.{Attempt}
 use Rattle.eden_model.specs.declared.attempt.Attempt.TheVariants.{Finished}
 use Rattle.eden_model.specs.declared.errno.Errno.{Errno}
@@ -8,39 +8,23 @@ use Rattle.eden_model.specs.declared.request.Request.{Request}
 use Rattle.eden_model.specs.declared.request.Request.TheVariants as ask
 use Rattle.eden_model.specs.declared.reply.Reply.TheVariants as say
 use Rattle.eden_model.specs.declared.world.World.{Ghosts}
+use Rattle.eden_model.specs.Requests.{paths_of}
 use Rattle.eden_model.specs.Trees.{Path}
 use Rattle.eden_overlay.specs.declared.files.Files.{Ghosts as Files}
 use Rattle.eden_tree.specs.Directory.{Row}
-use Rattle.eden_tie.specs.Chains.{AreSaved}
+use Rattle.eden_tie.specs.Chains.{IsUnsavedAt, NoneMarked, StaysLoaded}
+use Rattle.eden_tie.specs.Saving.{IsSavedAbove}
 use Rattle.eden_inode.specs.Tables.{Table}
 use Rattle.eden_ops.specs.Changes.{IsOutside, StaysOrBecomesOwn, SameNames, LeavesOn, Leaves}
 use Rattle.eden_ops.specs.Keeping.{Keeps}
-use Rattle.eden_ops.specs.Leaving.{LetsBe, given, SavedAfter, Gives, LeavesAfter}
+use Rattle.eden_ops.specs.Leaving.{AreSavedAbove, Gives, IsFault, LeavesAfter, LetsBe, MayMark, given}
 use Rattle.eden_ops.specs.Letting.{LetsGo}
-use Rattle.eden_ops.specs.Relocating.{StaysBeside, AreSavedBut}
-use Rattle.eden_ops.specs.Renames.{IsNoFault}
-use Rattle.eden_ops.proofs.Going.{goes_saved, loaded_elsewhere}
+use Rattle.eden_ops.specs.Relocating.{StaysBeside}
+use Rattle.eden_ops.proofs.Going.{goes_marks, loaded_elsewhere}
 use Rattle.eden_ops.proofs.Names.{names_on, names_grown}
-use Rattle.eden_ops.proofs.Relocation.{saved_but}
 use Rattle.eden_ops.proofs.Roots.{root_left}
 use Rattle.eden_ops.proofs.Saving.{keeps_leaves, leaves_on, leaves_some, no_less}
 use Rattle.eden_ops.proofs.Steps.{keeps_entries}
-
-saved_after : (q : Request) (x : Row) → AreSaved x → SavedAfter q x
-saved_after (ask.Rename from to) x all = saved_but from x all
-saved_after (ask.Kind p) x all = all
-saved_after (ask.Stat p) x all = all
-saved_after (ask.Read p offset count) x all = all
-saved_after (ask.ReadLink p) x all = all
-saved_after (ask.List p after limit) x all = all
-saved_after (ask.Write p offset bytes) x all = all
-saved_after (ask.Truncate p size) x all = all
-saved_after (ask.Create p) x all = all
-saved_after (ask.SetExec p exec) x all = all
-saved_after (ask.Mkdir p) x all = all
-saved_after (ask.Symlink p target) x all = all
-saved_after (ask.Unlink p) x all = all
-saved_after (ask.Rmdir p) x all = all
 
 pub none_given : (a b n : ℕ) → b ≡ a → b ≤ a + n
 none_given a b n is = omega (arith, is)
@@ -71,27 +55,28 @@ module _ {W F : Type 0} (w : Ghosts W) (f : Files F W) (s t : Table F) (keeps : 
     gives = record { reached = t; walked = keeps; stays = λ p in_them is. is; no_less = omega arith; no_more = none_given t.next t.next (given q) refl };
     errs = λ e is. keeps;
     faults = λ e is. names_grown s.root t.root (keeps_entries w f s t keeps);
-    saved = λ fine. before.saved;
-    marked = λ all. saved_after q t.root (before.saved all);
+    marked = λ p unsaved. inr (before.marks p unsaved);
+    stands = λ no. inl keeps;
   }
 
   module _ (u : Table F) (a : Attempt) (fine : IsNoError a) (names : NamesAfter a t.root u.root) where
     -- .. and then a change that lets loaded directories be
-    pub leaves_changed : (q : Request) → Leaves f t u → u.next ≤ t.next + given q → LeavesAfter w f q s u a
-    leaves_changed q l more = record {
+    pub leaves_changed : (q : Request) → Leaves f t u → u.next ≤ t.next + given q → (¬ IsFault a → AreSavedAbove (paths_of q) u.root) → LeavesAfter w f q s u a
+    leaves_changed q l more stands = record {
       on = leaves_on f (LetsBe q) s t u (leaves_some f (LetsBe q) s t before) (leaves_some f (LetsBe q) t u l);
       gives = gives_then (LetsBe q) (given q) u (leaves_some f (LetsBe q) t u l) more;
       errs = λ e is. absurd (fine e is);
       faults = names_then a u names;
-      saved = λ no all. l.saved (before.saved all);
-      marked = λ all. saved_after q u.root (l.saved (before.saved all));
+      marked = λ p unsaved. inr (before.marks p (l.marks p unsaved));
+      stands = λ no. inr (stands no);
     }
 
     -- .. or an entry moved
     pub leaves_moved : (from to : Path) → StaysBeside from to t.root u.root → StaysOrBecomesOwn t.root.origin u.root.origin → (u.next ≡ t.next) × (u.clock ≡ t.clock)
         → f.failures t.files ≤ f.failures u.files
-        → (IsNoFault a → AreSaved t.root → AreSaved u.root) → (AreSaved t.root → AreSavedBut from u.root) → LeavesAfter w f (ask.Rename from to) s u a
-    leaves_moved from to stays root rest counted saved marked =
+        → ((p : Path) → IsUnsavedAt p u.root → MayMark (ask.Rename from to) a p ⊎ IsUnsavedAt p t.root)
+        → (¬ IsFault a → AreSavedAbove (paths_of (ask.Rename from to)) u.root) → LeavesAfter w f (ask.Rename from to) s u a
+    leaves_moved from to stays root rest counted marked stands =
         let paths = LetsBe (ask.Rename from to) in
         let l : LeavesOn f paths t u = record { loaded = λ p o. stays p o.0 o.1; root = root; next = no_less t.next u.next rest.0; failures = counted; clock = rest.1 } in
         record {
@@ -99,8 +84,8 @@ module _ {W F : Type 0} (w : Ghosts W) (f : Files F W) (s t : Table F) (keeps : 
           gives = gives_then paths 0 u l (none_given t.next u.next 0 rest.0);
           errs = λ e is. absurd (fine e is);
           faults = names_then a u names;
-          saved = λ no all. saved no (before.saved all);
-          marked = λ all. marked (before.saved all);
+          marked = λ p unsaved. elim (marked p unsaved) [ inl may ↦ inl may | inr was ↦ inr (before.marks p was) ];
+          stands = λ no. inr (stands no);
         }
 
 -- directories went that stood at and below a path
@@ -109,22 +94,22 @@ module _ {W F : Type 0} (w : Ghosts W) (f : Files F W) (p : Path) (s t u : Table
   gone : LeavesOn f (IsOutside p) t u
   gone = record { loaded = λ q off is. loaded_elsewhere p t.root u.root g q off is; root = root_left p t.root u.root g; next = no_less t.next u.next rest.0; failures = counted; clock = rest.1 }
 
-  leaves_went : (v : Table F) → LeavesOn f (IsOutside p) t v → v.next ≡ t.next → (AreSaved u.root → AreSaved v.root) → NamesAfter a t.root v.root → LeavesAfter w f (ask.Rmdir p) s v a
-  leaves_went v l next saved names =
-      let all_saved : AreSaved s.root → AreSaved v.root = λ all. saved (goes_saved p t.root u.root g ((keeps_leaves w f s t keeps).saved all)) in
+  leaves_went : (v : Table F) → LeavesOn f (IsOutside p) t v → v.next ≡ t.next → NoneMarked u.root v.root → NamesAfter a t.root v.root → (¬ IsFault a → IsSavedAbove p v.root) → LeavesAfter w f (ask.Rmdir p) s v a
+  leaves_went v l next marks names stands =
       record {
         on = leaves_on f (IsOutside p) s t v (leaves_some f (IsOutside p) s t (keeps_leaves w f s t keeps)) l;
         gives = gives_then w f s t keeps (IsOutside p) 0 v l (none_given t.next v.next 0 next);
         errs = λ e is. absurd (fine e is);
         faults = names_then w f s t keeps a v names;
-        saved = λ no. all_saved;
-        marked = all_saved;
+        marked = λ q unsaved. inr ((keeps_leaves w f s t keeps).marks q (goes_marks p t.root u.root g q (marks q unsaved)));
+        stands = λ no. inr (stands no, tt);
       }
 
-  pub leaves_gone : LeavesAfter w f (ask.Rmdir p) s u a
-  leaves_gone = leaves_went u gone rest.0 (λ all. all) (λ e is. g.names)
+  pub leaves_gone : IsFault a → LeavesAfter w f (ask.Rmdir p) s u a
+  leaves_gone fault = leaves_went u gone rest.0 (λ q unsaved. unsaved) (λ e is. g.names) (λ no. absurd (no fault))
 
   -- .. and then the entry there was removed, or in a fault nothing was
-  pub leaves_removed : (v : Table F) → Leaves f u v → v.next ≡ u.next → ((e : Fault) → a ≡ Finished (say.Fault e) → v.root ≡ u.root) → LeavesAfter w f (ask.Rmdir p) s v a
-  leaves_removed v l next same = leaves_went v (leaves_on f (IsOutside p) t u v gone (leaves_some f (IsOutside p) u v l)) (next ∙ rest.0) l.saved
-      (λ e is. subst (SameNames t.root) (sym (same e is)) g.names)
+  pub leaves_removed : (v : Table F) → Leaves f u v → v.next ≡ u.next → ((e : Fault) → a ≡ Finished (say.Fault e) → SameNames u.root v.root × StaysLoaded v.root u.root)
+      → (¬ IsFault a → IsSavedAbove p v.root) → LeavesAfter w f (ask.Rmdir p) s v a
+  leaves_removed v l next names = leaves_went v (leaves_on f (IsOutside p) t u v gone (leaves_some f (IsOutside p) u v l)) (next ∙ rest.0) l.marks
+      (λ e is. (let n = names e is in names_on t.root u.root v.root (λ q was now. n.1 q now) g.names n.0))

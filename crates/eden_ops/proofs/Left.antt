@@ -22,7 +22,7 @@ use Rattle.eden_tree.specs.Paths.{row_at, Standing, standing}
 use Rattle.eden_tie.proofs.CallerLemmas.{map_some}
 use Rattle.eden_ops.specs.Attempts.{object_kind, Wants, IsRealNeed}
 use Rattle.eden_ops.specs.Caches.{object_at, FindsTheSame}
-use Rattle.eden_ops.specs.Known.{known, known_node, content_known, is_unlisted, is_silent, place_from, place_on, last_path, place}
+use Rattle.eden_ops.specs.Known.{known, known_node, is_unlisted, is_silent, place_from, place_on, last_path, place}
 use Rattle.eden_ops.specs.Laws.{Stays, Grows}
 use Rattle.eden_ops.specs.Left.{places_from, is_cached, has_object, spared, left, FewAreLeft, SomeAreLeft, NeedsStay, LeftFalls}
 use Rattle.eden_ops.proofs.Deeper.{place_is_front, place_long}
@@ -47,8 +47,8 @@ is_dir kind.Link never = absurd (never (λ is. cc))
 is_dir kind.Dir never = refl
 
 module _ (y v : Row) (stays : Stays (standing y) (standing v)) where
-  bare_node : node_from v.kind (content_known v.origin) false ≡ node_from y.kind (content_known y.origin) false
-  bare_node = ap (λ (k : Kind). node_from k (content_known v.origin) false) stays.kind ∙ ap (λ (o : Origin). node_from y.kind (content_known o) false) stays.origin
+  bare_node : node_from v.kind None false ≡ node_from y.kind None false
+  bare_node = ap (λ (k : Kind). node_from k None false) stays.kind
 
   node_by : (a b : Option Directory) → child_of y ≡ a → child_of v ≡ b → (known_node v ≡ known_node y) ⊎ ((known_node y ≡ Dir false) × (known_node v ≡ Dir true))
   node_by (Some d) (Some e) was now = inl (known_loaded v e now ∙ sym (known_loaded y d was))
@@ -58,7 +58,7 @@ module _ (y v : Row) (stays : Stays (standing y) (standing v)) where
   node_by None (Some e) was now =
       let dir = is_dir y.kind (λ other. none-some (e.stamp, e.unsaved)
       (sym (stays.leaf other (ap (option_map (λ (x : Directory). (x.stamp, x.unsaved))) was)) ∙ ap (option_map (λ (x : Directory). (x.stamp, x.unsaved))) now)) in
-      inr (known_unloaded y was ∙ dir_node y.kind (content_known y.origin) dir, known_loaded v e now)
+      inr (known_unloaded y was ∙ dir_node y.kind None dir, known_loaded v e now)
   node_by None None was now = inl (known_unloaded v now ∙ bare_node ∙ sym (known_unloaded y was))
 
   node_later : (known_node v ≡ known_node y) ⊎ ((known_node y ≡ Dir false) × (known_node v ≡ Dir true))

@@ -28,5 +28,7 @@ pub mod Renames
 pub mod TwoPaths
 pub mod Filled
 pub mod Filing
+pub mod Already
 pub mod Leaving
 pub mod CallerLemmas
+mod Settled

@@ -33,8 +33,7 @@ use Rattle.eden_tie.specs.Shown.{shown_in}
 use Rattle.eden_tie.specs.ShownLaws.{AreDirectories, ShowsBelow, ShowsAbsent}
 use Rattle.eden_tie.specs.Kept.{IsKept}
 use Rattle.eden_tie.proofs.CallerLemmas.{and_then_some, place_at, rising_of}
-use Rattle.eden_inode.specs.Tables.{Table}
-use Rattle.eden_ops.specs.Keeping.{shows}
+use Rattle.eden_inode.specs.Tables.{Table, shows}
 use Rattle.eden_ops.specs.Listings.{kind_in, kinds_in, HasNoEntries, HasEntries, IsPage}
 use Rattle.eden_ops.proofs.Looking.{kind_node}
 use Rattle.eden_ops.proofs.Seeing.{kept_dirs, shown_there, shown_dir, meets_here}

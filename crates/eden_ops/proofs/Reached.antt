@@ -9,12 +9,11 @@ use Rattle.eden_cache.specs.Cache.{Cache}
 use Rattle.eden_tree.specs.Paths.{row_at}
 use Rattle.eden_tie.specs.ShownLaws.{AreDirectories, ShowsBelow, ShowsAbsent}
 use Rattle.eden_inode.specs.declared.seen.Seen.{Seen}
-use Rattle.eden_inode.specs.Tables.{Table}
+use Rattle.eden_inode.specs.Tables.{Table, shows}
 use Rattle.eden_ops.specs.declared.answer.Stop.{Stop}
 use Rattle.eden_ops.specs.declared.answer.Stop.TheVariants as stop
 use Rattle.eden_ops.specs.declared.answer.Walked.TheVariants as walked
 use Rattle.eden_ops.specs.Attempts.{IsSeen, IsShown, Meets, MeetsShown, EndsShown}
-use Rattle.eden_ops.specs.Keeping.{shows}
 use Rattle.eden_ops.specs.Known.{known}
 use Rattle.eden_ops.proofs.Seeing.{shown_there, meets_error, meets_absent, meets_here}
 use Rattle.eden_ops.proofs.Walking.{walk_here}

@@ -1,6 +1,5 @@
 -- An entry that goes to another path: both paths are cleared, both directories their own, and then it can move.
 use Rattle.std.proofs.Common.{◌≡◌, ℕ, Bool, true, [], ◌∷◌, ◌++◌, length, Option, Some, None, Result, Ok, Err, IsErr, IfSome, IfErr, refl, sym, ap, ◌∙◌, subst, inl, inr, arith, append_assoc, length-append}
-use Rattle.std.proofs.lemmas.Bool.{false≢true}
 use Rattle.std.proofs.lemmas.List.{append-nil}
 use Rattle.std.proofs.lemmas.Option.{none-some}
 use Rattle.std.proofs.lemmas.Result.{on_ok_weaker}
@@ -18,25 +17,24 @@ use Rattle.eden_tree.specs.Directory.{Row, Directory, child_of, with_child}
 use Rattle.eden_tree.specs.Rows.{find_row}
 use Rattle.eden_tree.specs.Paths.{row_at, Standing, standing, standing_at}
 use Rattle.eden_tree.proofs.CallerLemmas.{reads_on, edits_one, steps_down, child_of-with_child}
-use Rattle.eden_tie.specs.Chains.{IsLoadedAt, AreSaved, StaysLoaded}
+use Rattle.eden_tie.specs.Chains.{IsLoadedAt, IsUnsavedAt, StaysLoaded}
 use Rattle.eden_tie.specs.Changing.{MayMove, marked_source}
 use Rattle.eden_tie.specs.Laws.{owned}
 use Rattle.eden_tie.specs.Materialising.{owned_along}
 use Rattle.eden_tie.specs.Moving.{CanMove}
-use Rattle.eden_tie.proofs.CallerLemmas.{map_some, loaded_there, loaded_found}
+use Rattle.eden_tie.proofs.CallerLemmas.{map_some, loaded_there, loaded_found, marked_alone}
 use Rattle.eden_inode.specs.Tables.{Table}
 use Rattle.eden_materialise.specs.EntryMoves.{IsUnmoved}
 use Rattle.eden_materialise.specs.Faults.{IsStoreFault}
 use Rattle.eden_ops.specs.Changes.{SameNames}
 use Rattle.eden_ops.specs.Letting.{LetsGo}
-use Rattle.eden_ops.specs.Relocating.{CanRelocate, IsUnloadedAt, IsCleared, StaysBeside, AreSavedBut, both_owned, Readies}
+use Rattle.eden_ops.specs.Relocating.{CanRelocate, IsUnloadedAt, IsCleared, StaysBeside, MarksAlone, both_owned, Readies}
 use Rattle.eden_ops.proofs.Bare.{bare_at, without_stamp, some_pair}
 use Rattle.eden_ops.proofs.Changing.{none_held, is_in}
 use Rattle.eden_ops.proofs.Going.{kept_elsewhere, loaded_elsewhere, stays_there}
 use Rattle.eden_ops.proofs.Names.{names_same, fewer_same, names_on, face, face_at, names_alike, fewer_alike}
 use Rattle.eden_ops.proofs.Owned.{is_held, owned_held, behind_itself, owned_own, owned_still}
 use Rattle.eden_ops.proofs.Roots.{comes_on}
-use Rattle.eden_ops.proofs.Saving.{by_path}
 use Rattle.eden_ops.proofs.Walking.{front_loaded}
 
 -- ---- one step after another
@@ -47,7 +45,7 @@ module _ {W F : Type 0} (w : Ghosts W) (f : Files F W) where
     shown = λ h. two.shown h ∙ one.shown h;
     names = names_on s.root t.root u.root (λ p was now. two.fewer p now) one.names two.names;
     fewer = λ p now. one.fewer p (two.fewer p now);
-    saved = λ all. two.saved (one.saved all);
+    marks = λ q unsaved. one.marks q (two.marks q unsaved);
     root = comes_on s.root.origin t.root.origin u.root.origin one.root two.root;
     fault = subst (λ (k : ℕ). IfErr a (IsStoreFault k (f.failures u.files))) one.counted two.fault;
     counted = on_ok_weaker a (λ is. is ∙ one.counted) two.counted;
@@ -190,15 +188,7 @@ pub moves_shown : (now before old : Tree) (from to p q : Path) → now ≡ move 
 moves_shown now before old from to p q is same split cut =
     is ∙ ap (λ (T : Tree). move T p q) same ∙ ap (λ (r : Path). move old r q) (sym split) ∙ ap (λ (r : Path). move old from r) (sym cut)
 
--- ---- marks
-
--- none is unsaved where all are saved
-is_saved : (x : Row) → AreSaved x → (r : Path) (y : Row) (d : Directory) → standing_at r x ≡ Some (standing y) → child_of y ≡ Some d → d.unsaved ≡ true → ⊥
-is_saved x saved r y d at holds unsaved =
-    false≢true (sym (by_path x saved r (standing y) d.stamp d.unsaved at (ap (option_map mark_of) holds)) ∙ unsaved)
-
-pub saved_but : (from : Path) (x : Row) → AreSaved x → AreSavedBut from x
-saved_but from x saved r y d at holds unsaved = absurd (is_saved x saved r y d (ap (option_map standing) at) holds unsaved)
+-- ---- a move that failed
 
 module _ (x : Row) (p : Path) (n : Name) (q : Path) (m : Name) where
   module _ (may : MayMove x p n q m) where
@@ -233,19 +223,6 @@ module _ (x : Row) (p : Path) (n : Name) (q : Path) (m : Name) where
         by (Some (k ∷ s)) front =
             ap (λ (o : Option Standing). option_map face (option_map without_stamp o)) (below_marked k s ∙ ap (λ (t : Path). standing_at t x) (sym (behind_sound p r (k ∷ s) front)))
 
-  module _ (may : MayMove x p n q m) (saved : AreSaved x) where
-    marked_by : (r : Path) (y : Row) (d : Directory) → child_of y ≡ Some d → d.unsaved ≡ true → (o : Option Path) → behind_of p r ≡ o
-        → grafted o (λ s. standing_at s (then may)) (standing_at r x) ≡ Some (standing y) → (k : Name) × (p ++ n ∷ [] ≡ r ++ k ∷ [])
-    marked_by r y d holds unsaved None front is = absurd (is_saved x saved r y d is holds unsaved)
-    marked_by r y d holds unsaved (Some []) front is = (n, ap (λ (s : Path). s ++ n ∷ []) (sym (append-nil p) ∙ sym (behind_sound p r [] front)))
-    marked_by r y d holds unsaved (Some (k ∷ s)) front is =
-        absurd (is_saved x saved r y d (ap (λ (t : Path). standing_at t x) (behind_sound p r (k ∷ s) front) ∙ sym (below_marked may k s) ∙ is) holds unsaved)
-
-    marked_but : AreSavedBut (p ++ n ∷ []) (marked_source x p n q m may)
-    marked_but r y d at holds unsaved =
-        marked_by r y d holds unsaved (behind_of p r) refl (sym (edits_one p (with_child (Some (marked may))) x may.from r may.at_from) ∙ ap (option_map standing) at)
-
-  -- a move that failed
   pub unmoved_names : (honest : Type 0) (F G : Stored) (z : Row) → IsUnmoved honest p n q m F x G z → SameNames x z
   unmoved_names honest F G z (inl same) = names_same x z same.0
   unmoved_names honest F G z (inr left) =
@@ -258,6 +235,9 @@ module _ (x : Row) (p : Path) (n : Name) (q : Path) (m : Name) where
       let may = left.1.0 in
       subst (λ (y : Row). StaysLoaded y x) (sym left.1.1.0) (fewer_alike x (marked_source x p n q m may) (marked_face may))
 
-  pub unmoved_but : (honest : Type 0) (F G : Stored) (z : Row) → IsUnmoved honest p n q m F x G z → AreSaved x → AreSavedBut (p ++ n ∷ []) z
-  unmoved_but honest F G z (inl same) saved = subst (AreSavedBut (p ++ n ∷ [])) (sym same.0) (saved_but (p ++ n ∷ []) x saved)
-  unmoved_but honest F G z (inr left) saved = subst (AreSavedBut (p ++ n ∷ [])) (sym left.1.1.0) (marked_but left.1.0 saved)
+  pub unmoved_marks : (honest : Type 0) (F G : Stored) (z : Row) → IsUnmoved honest p n q m F x G z → MarksAlone (p ++ n ∷ []) x z
+  unmoved_marks honest F G z (inl same) r unsaved = inr (subst (IsUnsavedAt r) same.0 unsaved)
+  unmoved_marks honest F G z (inr left) r unsaved = elim (marked_alone x p n q m left.1.0 r (subst (IsUnsavedAt r) left.1.1.0 unsaved)) [
+    | inl here ↦ inl (n, ap (λ (s : Path). s ++ n ∷ []) (sym here))
+    | inr was ↦ inr was
+  ]

@@ -22,13 +22,13 @@ use Rattle.eden_cache.specs.Cache.{Cache}
 use Rattle.eden_tree.specs.Directory.{Row}
 use Rattle.eden_tree.specs.Paths.{row_at}
 use Rattle.eden_inode.specs.declared.seen.Seen.{Seen}
-use Rattle.eden_inode.specs.Tables.{Table}
+use Rattle.eden_inode.specs.Tables.{Table, shows}
 use Rattle.eden_ops.specs.declared.answer.Stop.{Stop}
 use Rattle.eden_ops.specs.declared.answer.Stop.TheVariants as stop
 use Rattle.eden_ops.specs.Attempts.{Wants, IsSeen, IsShown, Meets, MeetsShown, Lacks, shown_node}
 use Rattle.eden_ops.specs.Faults.{IsCaused, IsLawful}
-use Rattle.eden_ops.specs.Keeping.{shows, Keeps}
-use Rattle.eden_ops.specs.Known.{content_known, known, place_on, IsLoadedAt}
+use Rattle.eden_ops.specs.Keeping.{Keeps}
+use Rattle.eden_ops.specs.Known.{known, place_on, IsLoadedAt}
 use Rattle.eden_ops.specs.Listings.{HasNoEntries, HasEntries}
 use Rattle.eden_ops.specs.Renames.{MayLand, Lands, LandsShown}
 use Rattle.eden_ops.proofs.Answering.{no_entry}
@@ -51,14 +51,15 @@ module _ {W F : Type 0} (w : Ghosts W) (f : Files F W) (p : Path) (dir : Bool) (
   caused_there : (e : Fault) → IsLawful w f (ask.Kind p) s t e → IsCaused w f (place_on (known t.root) p) s t e
   caused_there (fault.Fetch id cause) h = h
   caused_there fault.Memory h = tt
-  caused_there fault.Overlay h = h
+  caused_there fault.Overlay (inl rose) = inl rose
+  caused_there fault.Overlay (inr held) = inr held.1
   caused_there fault.Numbers (inl m) = absurd (no_entry (ask.Kind p) p m.0 refl)
-  caused_there fault.Numbers (inr h) = h
+  caused_there fault.Numbers (inr held) = held.1
 
   pub land_ended : (z : Stop) → Meets w f p s t d (Err z) → Lands w f p dir s t d (Err z)
   land_ended (stop.Errs e) h = tt
   land_ended (stop.Needs k) h = (λ r. silent_there (known t.root) r h.0, h.1)
-  land_ended (stop.Faults e) h = caused_there e h.1
+  land_ended (stop.Faults e) h = (λ r. silent_there (known t.root) r h.0, caused_there e h.1)
 
   pub land_fails : (z : Stop) → MeetsShown w f p s t (Err z) → LandsShown w f p dir s (Err z)
   land_fails (stop.Errs e) h = subst (λ (x : Reach). Table_Meets x (Says say.Ok) (Replaces (shows w f s) p dir) (say.Err e)) (sym h) refl
@@ -119,18 +120,18 @@ module _ {W F : Type 0} (w : Ghosts W) (f : Files F W) (p : Path) (s t u : Table
   place_still : place_on (known u.root) p ≡ p
   place_still = place_passes (known u.root) p passes_still
 
-  known_away : reach (known u.root) p ≡ Here (node_from at.row.kind (content_known at.row.origin) false)
+  known_away : reach (known u.root) p ≡ Here (node_from at.row.kind None false)
   known_away = reach_here u.root p at.row here_still ∙ ap (λ (n : Node). Here n) (known_unloaded at.row (away p t.root seen at off))
 
   unlisted_there : (r : Reply) → ¬ MayLand (known u.root) p true r
   unlisted_there r h =
-      lists_away (IfEmpty (known u.root) p) at.row.kind (content_known at.row.origin) r (dir_kind p t.root seen at off told)
+      lists_away (IfEmpty (known u.root) p) at.row.kind None r (dir_kind p t.root seen at off told)
       (subst (λ (v : Reach). Table_Meets v (Says say.Ok) (Replaces (known u.root) p true) r) known_away h)
 
   lacks_by : (z : Stop) → Lacks w f p s u d z → Lands w f p true s u d (Err z)
   lacks_by (stop.Errs e) h = absurd h
   lacks_by (stop.Needs k) h = (unlisted_there, subst (λ (x : Path). Wants (row_at x u.root) d k) (sym place_still) h)
-  lacks_by (stop.Faults e) h = subst (λ (x : Path). IsCaused w f x s u e) (sym place_still) h
+  lacks_by (stop.Faults e) h = (unlisted_there, subst (λ (x : Path). IsCaused w f x s u e) (sym place_still) h)
 
   pub land_lacks : (dir : Bool) → dir ≡ true → Keeps w f s t → (z : Stop) → Lacks w f p t u d z → Lands w f p dir s u d (Err z)
   land_lacks dir is keeps z h = subst (λ (b : Bool). Lands w f p b s u d (Err z)) (sym is) (lacks_by z (lacks_since w f p s t u d keeps z h))

@@ -5,10 +5,14 @@ use Rattle.std.specs.Result.{IsErrAnd}
 use Rattle.eden_model.specs.declared.fault.Fault.{Fault}
 use Rattle.eden_model.specs.declared.fault.Fault.TheVariants as fault
 use Rattle.eden_model.specs.declared.kind.Kind.TheVariants as kind
+use Rattle.eden_model.specs.declared.errno.Errno.TheVariants.{ENOENT}
+use Rattle.eden_model.specs.declared.reply.Reply.{Reply}
+use Rattle.eden_model.specs.declared.reply.Reply.TheVariants as say
 use Rattle.eden_model.specs.declared.request.Request.TheVariants as ask
 use Rattle.eden_model.specs.declared.world.World.{Ghosts}
 use Rattle.eden_model.specs.Failures.{Rose}
-use Rattle.eden_model.specs.Trees.{Path, Unlisted, walk}
+use Rattle.eden_model.specs.Operations.{Meets as Table_Meets, Says, Refuses, Replies, kind_of}
+use Rattle.eden_model.specs.Trees.{Path, Walk, Unlisted, walk, Reach, ends}
 use Rattle.eden_overlay.specs.declared.files.Files.{Ghosts as Files}
 use Rattle.eden_cache.specs.Cache.{Cache}
 use Rattle.eden_tree.specs.Directory.{Row}
@@ -48,15 +52,18 @@ module _ {W F : Type 0} (w : Ghosts W) (f : Files F W) (p : Path) where
     place_there : place_on (known v.root) p ≡ take seen.names p
     place_there = ap (λ (x : Row). place_on (known x) p) still ∙ place_here p u.root seen last away lt dir
 
+    ends_here : walk (known v.root) p ≡ Unlisted
+    ends_here = ap (λ (x : Row). walk (known x) p) still ∙ ends_unlisted p u.root seen last away lt dir
+
+    silent : (r : Reply) → ¬ Replies (known v.root) (ask.Kind p) r
+    silent r h = subst (λ (x : Reach). Table_Meets x (Refuses ENOENT) (λ n. Says (say.Kind (kind_of n))) r) (ap (λ (x : Walk). ends x (known v.root p)) ends_here) h
+
     lawful : (a : Fault) → IsCaused w f (take seen.names p) u v a → IsLawful w f (ask.Kind p) s v a
     lawful (fault.Fetch id why) h = h
     lawful fault.Memory h = λ q is. let same : p ≡ q = cc in subst (λ (r : Path). walk (known s.root) r ≡ Unlisted) same cause
     lawful fault.Overlay (inl rose) = inl (rose_on (f.failures s.files) (f.failures u.files) (f.failures v.files) (keeps_counts w f s u before).1.1.1 rose)
-    lawful fault.Overlay (inr damaged) = inr (subst (λ (r : Path). IsDamaged w f r v) (sym place_there) damaged)
-    lawful fault.Numbers h = inr (subst (λ (r : Path). WantsNumbers w f r v) (sym place_there) h)
-
-    ends_here : walk (known v.root) p ≡ Unlisted
-    ends_here = ap (λ (x : Row). walk (known x) p) still ∙ ends_unlisted p u.root seen last away lt dir
+    lawful fault.Overlay (inr damaged) = inr (silent, subst (λ (r : Path). IsDamaged w f r v) (sym place_there) damaged)
+    lawful fault.Numbers h = inr (silent, subst (λ (r : Path). WantsNumbers w f r v) (sym place_there) h)
 
     pub ends_there : (z : Stop) → Lacks w f (take seen.names p) u v e z → Ends w f p s v e (walked_by z)
     ends_there (stop.Errs a) h = absurd h

@@ -23,7 +23,7 @@ use Rattle.eden_tie.specs.Listings.{Place}
 use Rattle.eden_tie.specs.Shown.{Away, item_in, table_ground, shown_in}
 use Rattle.eden_tie.specs.ShownLaws.{AreDirectories, ShowsBelow, ShowsAbsent}
 use Rattle.eden_tie.proofs.CallerLemmas.{place_at}
-use Rattle.eden_ops.specs.Known.{content_known, known_node, known}
+use Rattle.eden_ops.specs.Known.{known_node, known}
 use Rattle.eden_ops.specs.Attempts.{shown_node}
 use Rattle.eden_ops.proofs.Walking.{known_loaded, known_unloaded}
 
@@ -118,7 +118,7 @@ module _ (below : ShowsBelow) (missing : ShowsAbsent) (R : Repository) (F : Stor
   by_child f n rest w y None none at on =
       let h = shown_there f y at in
       subst (λ (a : Node). Same (through (Some a) w) f (n ∷ rest)) (sym (known_unloaded y none))
-      (by_away f n rest w y.kind (content_known y.origin) (content_with R (own_files F) (source_of y.number y.origin)) h.1.1.listed (h.1.0 ∙ ap (λ (a : Node). Some a) h.1.1.is))
+      (by_away f n rest w y.kind None (content_with R (own_files F) (source_of y.number y.origin)) h.1.1.listed (h.1.0 ∙ ap (λ (a : Node). Some a) h.1.1.is))
   by_child f n rest w y (Some d) holds at on =
       subst (λ (a : Node). Same (through (Some a) w) f (n ∷ rest)) (sym (known_loaded y d holds))
       (lifted f n rest w (shown_dir f y d at holds) (on (seen_below f n y d at holds)))

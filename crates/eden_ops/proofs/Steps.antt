@@ -9,8 +9,8 @@ use Rattle.eden_tree.specs.Paths.{edit_row, stamped_along}
 use Rattle.eden_tie.specs.Loading.{LoadsObject, LoadsOwn}
 use Rattle.eden_tie.specs.ShownLaws.{StampsAlike, ObjectLoadsAlike}
 use Rattle.eden_tie.proofs.CallerLemmas.{own_loads_alike}
-use Rattle.eden_inode.specs.Tables.{Table, HasTree, HasNoTree}
-use Rattle.eden_ops.specs.Keeping.{shows, Loads, from_object, without, Beside, Step, stamps, loads, rests, Keeps, same, on}
+use Rattle.eden_inode.specs.Tables.{Table, HasTree, HasNoTree, shows}
+use Rattle.eden_ops.specs.Keeping.{Loads, from_object, without, Beside, Step, stamps, loads, rests, Keeps, same, on}
 use Rattle.eden_ops.specs.Laws.{Grows, KeepsShown, KeepsFiles, KeepsEntries, KeepsCounts}
 use Rattle.eden_tie.specs.Shown.{shown_in}
 use Rattle.eden_overlay.specs.Files.{Stored}

@@ -19,17 +19,17 @@ use Rattle.eden_cache.specs.Cache.{Cache}
 use Rattle.eden_tree.specs.Directory.{Row}
 use Rattle.eden_tree.specs.Paths.{row_at}
 use Rattle.eden_inode.specs.declared.seen.Seen.{Seen}
-use Rattle.eden_inode.specs.Tables.{Table}
+use Rattle.eden_inode.specs.Tables.{Table, shows}
 use Rattle.eden_model.specs.declared.attempt.Attempt.TheVariants.{Finished}
 use Rattle.eden_ops.specs.declared.answer.Stop.{Stop}
 use Rattle.eden_ops.specs.declared.answer.Stop.TheVariants as stop
 use Rattle.eden_ops.specs.Attempts.{Attempts, IsSeen, IsShown, IsUnsized, Meets, MeetsShown, Lacks, shown_node, stopped}
 use Rattle.eden_ops.specs.Caches.{FindsTheSame}
 use Rattle.eden_ops.specs.Contents.{HasContent}
-use Rattle.eden_ops.specs.Keeping.{shows, Keeps}
-use Rattle.eden_ops.specs.Known.{content_known, known}
+use Rattle.eden_ops.specs.Keeping.{Keeps}
+use Rattle.eden_ops.specs.Known.{known}
 use Rattle.eden_ops.proofs.Answering.{Asks, says_at, says_here, replied, lacked}
-use Rattle.eden_ops.proofs.Fetching.{has_content, shown_kind, known_lost}
+use Rattle.eden_ops.proofs.Fetching.{has_content, shown_kind, known_away}
 use Rattle.eden_ops.proofs.Finding.{finds_on}
 use Rattle.eden_ops.proofs.Reached.{seen_at, shown_at}
 use Rattle.eden_ops.proofs.Rounds.{lacks_since}
@@ -74,14 +74,9 @@ module _ {W F : Type 0} (w : Ghosts W) (f : Files F W) (p : Path) (s t : Table F
           (λ h. says_at w.repository (f.stored t.files) p here (shows w f s) (row_at p t.root) at.row at.there (there h) r (λ listed. says h at.row at.there listed (sym at.kind)))
 
       pub content_lacks : seen.loaded ≡ false → ((x : Path) → q ≡ ask.Kind x → ⊥) → (z : Stop)
-          → ((k : Key) → z ≡ stop.Needs k → ((m : Kind) (a : Option (List ℕ)) (r : Reply) → m ≡ seen.kind → a ≡ None → ¬ here (known u.root) (node_from m a false) r) × IsUnsized q e k)
+          → ((m : Kind) (a : Option (List ℕ)) (r : Reply) → m ≡ seen.kind → a ≡ None → ¬ here (known u.root) (node_from m a false) r) → ((k : Key) → z ≡ stop.Needs k → IsUnsized q e k)
           → Lacks w f p t u e z → Attempts w f q s u c e (stopped z)
-      content_lacks off other z need h =
+      content_lacks off other z lost sized h =
           let row : row_at p u.root ≡ Some at.row = ap (row_at p) still ∙ at.there in
           lacked w f q p here asks s u c e (λ h. alike h ∙ same h) on (finds_on c d e cache finds) at.row row z other
-          (λ k wanted.
-          let none = need k wanted in
-          let lost = known_lost p u.root seen (record { row = at.row; there = row; number = at.number; kind = at.kind; origin = at.origin; loaded = at.loaded }) e k off
-          (subst (λ (y : Stop). Lacks w f p t u e y) wanted h) in
-          (λ r x. none.0 at.row.kind (content_known at.row.origin) r (sym at.kind) lost.1 (subst (λ (a : Node). here (known u.root) a r) lost.0 x), none.1))
-          (lacks_since w f p s t u e keeps z h)
+          (λ r x. lost at.row.kind None r (sym at.kind) refl (subst (λ (a : Node). here (known u.root) a r) (known_away p t.root seen at off) x)) sized (lacks_since w f p s t u e keeps z h)

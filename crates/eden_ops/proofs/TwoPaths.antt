@@ -30,16 +30,16 @@ use Rattle.eden_tree.specs.Paths.{row_at, Standing, standing}
 use Rattle.eden_tie.specs.Chains.{IsLoadedAt}
 use Rattle.eden_tie.proofs.CallerLemmas.{map_some, loaded_there}
 use Rattle.eden_inode.specs.declared.seen.Seen.{Seen}
-use Rattle.eden_inode.specs.Tables.{Table}
+use Rattle.eden_inode.specs.Tables.{Table, shows}
 use Rattle.eden_materialise.specs.Faults.{IsStoreFault}
 use Rattle.eden_model.specs.declared.attempt.Attempt.TheVariants.{Finished}
 use Rattle.eden_ops.specs.declared.answer.Stop.{Stop}
 use Rattle.eden_ops.specs.declared.answer.Stop.TheVariants as stop
 use Rattle.eden_ops.specs.Attempts.{Attempts, Wants, IsSeen, IsShown, Meets, MeetsShown, shown_node, stopped}
 use Rattle.eden_ops.specs.Caches.{FindsTheSame}
-use Rattle.eden_ops.specs.Faults.{IsCaused, IsLawful}
-use Rattle.eden_ops.specs.Keeping.{shows, Keeps}
-use Rattle.eden_ops.specs.Known.{content_known, known_by, known_node, known, is_silent, place_on, place}
+use Rattle.eden_ops.specs.Faults.{IsDamaged, WantsNumbers, IsCaused, IsLawful}
+use Rattle.eden_ops.specs.Keeping.{Keeps}
+use Rattle.eden_ops.specs.Known.{known_by, known_node, known, is_silent, place_on, place}
 use Rattle.eden_ops.specs.Laws.{Grows}
 use Rattle.eden_ops.specs.Relocating.{CanRelocate}
 use Rattle.eden_ops.specs.Renames.{IsTold, MayLand, Goes, IsPlainReply, IsByPaths, Lands, LandsShown}
@@ -93,14 +93,14 @@ module _ (p : Path) (x z : Row) (seen : Seen) (at : IsSeen p x seen) (grows : Gr
     by (inl on) =
         let is_loaded = stays_loaded x z p grows (is_loaded p x seen at on) in
         ap is_dir (some_inj (known_node y) (Dir true) (sym (ap (option_map known_node) there) ∙ is_loaded))
-    by (inr dir) = known_as_dir y.child y.kind (content_known y.origin) (ap (λ (s : Standing). s.kind) is ∙ same ∙ sym at.kind ∙ dir)
+    by (inr dir) = known_as_dir y.child y.kind None (ap (λ (s : Standing). s.kind) is ∙ same ∙ sym at.kind ∙ dir)
   known_as y v there is same leaf false told =
       let o = told.otherwise refl in
       let other : at.row.kind ≢ kind.Dir = λ k. o.1 (at.kind ∙ k) in
       let mark : Directory → ℕ × Bool = λ e. (e.stamp, e.unsaved) in
       let none = leaf other (ap (option_map mark) (away p x seen at o.0)) in
       let gone : child_of y ≡ None = none_of_map mark (child_of y) (sym (ap (λ (s : Standing). s.loaded) is ∙ none)) in
-      ap is_dir (known_unloaded y gone) ∙ node_other y.kind (content_known y.origin) false (λ k. other (sym (ap (λ (s : Standing). s.kind) is ∙ same) ∙ k))
+      ap is_dir (known_unloaded y gone) ∙ node_other y.kind None false (λ k. other (sym (ap (λ (s : Standing). s.kind) is ∙ same) ∙ k))
 
   still : (b : Bool) → IsTold seen b → IsStill p z b
   still b told =
@@ -238,11 +238,12 @@ module _ {W F : Type 0} (w : Ghosts W) (f : Files F W) (from to : Path) (s t : T
     abbrev since : w.honest → shows w f u ≡ shows w f s
     since h = alike h ∙ b.same h
 
-    lawful : (a : Fault) → IsCaused w f (place_on (known u.root) to) s u a → IsLawful w f q s u a
-    lawful (fault.Fetch id cause) h = h
-    lawful fault.Memory h = λ x is. cc
-    lawful fault.Overlay h = subst (λ (p : Path). IsCaused w f p s u fault.Overlay) (sym place_is) h
-    lawful fault.Numbers h = inr (subst (λ (p : Path). IsCaused w f p s u fault.Numbers) (sym place_is) h)
+    lawful : (a : Fault) → ((r : Reply) → ¬ MayLand (known u.root) to dir r) → IsCaused w f (place_on (known u.root) to) s u a → IsLawful w f q s u a
+    lawful (fault.Fetch id cause) none h = h
+    lawful fault.Memory none h = λ x is. cc
+    lawful fault.Overlay none (inl rose) = inl rose
+    lawful fault.Overlay none (inr damaged) = inr (λ r x. none r (only r x), subst (λ (p : Path). IsDamaged w f p u) (sym place_is) damaged)
+    lawful fault.Numbers none h = inr (λ r x. none r (only r x), subst (λ (p : Path). WantsNumbers w f p u) (sym place_is) h)
 
     pub land_stopped : (z : Stop) → Lands w f to dir t u e (Err z) → (w.honest → LandsShown w f to dir t (Err z)) → Attempts w f q s u c e (stopped z)
     land_stopped (stop.Errs a) h told = answered w f q s u c e since (finds_on c d e b.cache finds) (say.Err a) refl (λ G. refl) (λ honest. says honest (say.Err a) (told honest))
@@ -257,7 +258,8 @@ module _ {W F : Type 0} (w : Ghosts W) (f : Files F W) (from to : Path) (s t : T
       };
       cache = finds_on c d e b.cache finds;
     }
-    land_stopped (stop.Faults a) h told = failed w f q s u c e since (finds_on c d e b.cache finds) a (lawful a (caused_since w f (place_on (known u.root) to) s t u b.keeps a h))
+    land_stopped (stop.Faults a) h told = failed w f q s u c e since (finds_on c d e b.cache finds) a
+        (lawful a h.0 (caused_since w f (place_on (known u.root) to) s t u b.keeps a h.1))
 
     pub can_go : walk (known u.root) to ≡ Passes → CanRelocate u.root from to
     can_go passes = can from to dir paths u.root here passes

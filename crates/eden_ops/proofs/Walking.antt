@@ -14,7 +14,7 @@ use Rattle.eden_tree.specs.Rows.{find_row}
 use Rattle.eden_tree.specs.Paths.{row_at}
 use Rattle.eden_tree.proofs.CallerLemmas.{reads_on}
 use Rattle.eden_tie.proofs.CallerLemmas.{and_then_some, map_some}
-use Rattle.eden_ops.specs.Known.{content_known, known_by, known_node, known, is_unlisted, place_from, place_on}
+use Rattle.eden_ops.specs.Known.{known_by, known_node, known, is_unlisted, place_from, place_on}
 
 -- ---- one entry
 
@@ -27,10 +27,10 @@ unloaded_by unloaded n is = refl
 unloaded_by (loaded s u r) n is = cc
 
 pub known_loaded : (y : Row) (d : Directory) → child_of y ≡ Some d → known_node y ≡ Dir true
-known_loaded y d is = loaded_by y.child (node_from y.kind (content_known y.origin) false) d is
+known_loaded y d is = loaded_by y.child (node_from y.kind None false) d is
 
-pub known_unloaded : (y : Row) → child_of y ≡ None → known_node y ≡ node_from y.kind (content_known y.origin) false
-known_unloaded y is = unloaded_by y.child (node_from y.kind (content_known y.origin) false) is
+pub known_unloaded : (y : Row) → child_of y ≡ None → known_node y ≡ node_from y.kind None false
+known_unloaded y is = unloaded_by y.child (node_from y.kind None false) is
 
 pub known_at : (x : Row) (p : Path) (y : Row) (n : Node) → row_at p x ≡ Some y → known_node y ≡ n → known x p ≡ Some n
 known_at x p y n at is = ap (option_map known_node) at ∙ ap (λ (m : Node). Some m) is
@@ -80,7 +80,7 @@ module _ (x : Row) where
     node_dir kind.Dir c is = refl
 
     pub known_unlisted : y.kind ≡ kind.Dir → child_of y ≡ None → known x q ≡ Some (Dir false)
-    known_unlisted dir none = known_at x q y (Dir false) at (known_unloaded y none ∙ node_dir y.kind (content_known y.origin) dir)
+    known_unlisted dir none = known_at x q y (Dir false) at (known_unloaded y none ∙ node_dir y.kind None dir)
 
     pub walk_unlisted : y.kind ≡ kind.Dir → child_of y ≡ None → walk (known x) (q ++ n ∷ rest) ≡ Unlisted
     walk_unlisted dir none = walk_along [] q (n ∷ rest) y at ∙ ap (λ o. through o (walk_from (known x) (q ++ n ∷ []) rest)) (known_unlisted dir none)
@@ -98,8 +98,8 @@ module _ (x : Row) where
     pub walk_file : (y.kind ≡ kind.Dir → ⊥) → child_of y ≡ None → walk (known x) (q ++ n ∷ rest) ≡ Stops ENOTDIR
     walk_file other none =
         walk_along [] q (n ∷ rest) y at
-        ∙ ap (λ o. through o (walk_from (known x) (q ++ n ∷ []) rest)) (known_at x q y (node_from y.kind (content_known y.origin) false) at (known_unloaded y none))
-        ∙ node_stops y.kind (content_known y.origin) (walk_from (known x) (q ++ n ∷ []) rest) other
+        ∙ ap (λ o. through o (walk_from (known x) (q ++ n ∷ []) rest)) (known_at x q y (node_from y.kind None false) at (known_unloaded y none))
+        ∙ node_stops y.kind None (walk_from (known x) (q ++ n ∷ []) rest) other
 
     -- .. or a loaded one
     pub walk_loaded : (d : Directory) → child_of y ≡ Some d → walk (known x) (q ++ n ∷ rest) ≡ walk_from (known x) (q ++ n ∷ []) rest
@@ -138,8 +138,8 @@ dir_by_kind kind.Exec c is = cc
 dir_by_kind kind.Link c is = cc
 dir_by_kind kind.Dir c is = cc
 
-dir_by_child : (y : Row) (c : Child) → known_by c (node_from y.kind (content_known y.origin) false) ≡ Dir true → (d : Directory) × (directory_in c ≡ Some d)
-dir_by_child y unloaded is = absurd (dir_by_kind y.kind (content_known y.origin) is)
+dir_by_child : (y : Row) (c : Child) → known_by c (node_from y.kind None false) ≡ Dir true → (d : Directory) × (directory_in c ≡ Some d)
+dir_by_child y unloaded is = absurd (dir_by_kind y.kind None is)
 dir_by_child y (loaded s u r) is = (record { stamp = s; unsaved = u; rows = listed r }, refl)
 
 -- an entry that is known as a listed directory is loaded

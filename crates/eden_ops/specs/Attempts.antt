@@ -26,7 +26,7 @@ use Rattle.eden_tree.specs.Directory.{Row, child_of}
 use Rattle.eden_tree.specs.Paths.{row_at}
 use Rattle.eden_cache.specs.Cache.{Cache}
 use Rattle.eden_inode.specs.declared.seen.Seen.{Seen}
-use Rattle.eden_inode.specs.Tables.{Table}
+use Rattle.eden_inode.specs.Tables.{Table, shows}
 use Rattle.eden_model.specs.declared.attempt.Attempt.{Attempt}
 use Rattle.eden_model.specs.declared.attempt.Attempt.TheVariants.{Finished, Need}
 use Rattle.eden_ops.specs.declared.answer.Stop.{Stop}
@@ -35,7 +35,7 @@ use Rattle.eden_ops.specs.declared.answer.Walked.{Walked}
 use Rattle.eden_ops.specs.declared.answer.Walked.TheVariants as walked
 use Rattle.eden_ops.specs.Known.{known, place_on, place}
 use Rattle.eden_ops.specs.Caches.{object_at, size_at, FindsTheSame}
-use Rattle.eden_ops.specs.Keeping.{shows, Keeps}
+use Rattle.eden_ops.specs.Keeping.{Keeps}
 use Rattle.eden_ops.specs.Faults.{IsCaused, IsLawful}
 
 -- ---- a real need

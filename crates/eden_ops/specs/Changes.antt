@@ -14,7 +14,7 @@ use Rattle.eden_model.specs.Trees.{Name, Path}
 use Rattle.eden_overlay.specs.declared.files.Files.{Ghosts as Files}
 use Rattle.eden_tree.specs.Directory.{Row}
 use Rattle.eden_tree.specs.Paths.{row_at}
-use Rattle.eden_tie.specs.Chains.{IsLoadedAt, AreSaved}
+use Rattle.eden_tie.specs.Chains.{IsLoadedAt, NoneMarked}
 use Rattle.eden_inode.specs.Tables.{Table}
 use Rattle.eden_materialise.specs.declared.new_entry.NewEntry.{NewEntry}
 use Rattle.eden_materialise.specs.declared.new_entry.NewEntry.TheVariants as new
@@ -56,7 +56,7 @@ module _ {W F : Type 0} (f : Files F W) where
     pub failures : f.failures s.files ≤ f.failures t.files
     pub clock : t.clock ≡ s.clock
 
-  -- .. on every path, and where no directory was unsaved none is
+  -- .. on every path, and what is unsaved was so
   pub record Leaves (s t : Table F) : Type 0 where
     pub everywhere : LeavesOn (λ p. Unit {0}) s t
-    pub saved : AreSaved s.root → AreSaved t.root
+    pub marks : NoneMarked s.root t.root

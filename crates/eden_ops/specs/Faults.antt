@@ -1,5 +1,5 @@
 -- Which faults an attempt may answer.
-use Rattle.std.specs.Prelude.{◌≡◌, ◌≢◌, ◌<◌, ◌+◌, ◌⊎◌, ℕ, List, length, Some, None}
+use Rattle.std.specs.Prelude.{◌≡◌, ◌<◌, ◌+◌, ◌⊎◌, ℕ, List, length, Some, None}
 use Rattle.eden_model.specs.declared.fault.Fault.{Fault}
 use Rattle.eden_model.specs.declared.fault.Fault.TheVariants as fault
 use Rattle.eden_model.specs.declared.id.Id.{Id}
@@ -8,9 +8,12 @@ use Rattle.eden_model.specs.declared.kind.Kind.TheVariants as kind
 use Rattle.eden_model.specs.declared.kind.Origin.TheVariants as origin
 use Rattle.eden_model.specs.declared.request.Request.{Request}
 use Rattle.eden_model.specs.declared.request.Request.TheVariants as ask
+use Rattle.eden_model.specs.declared.reply.Reply.{Reply}
+use Rattle.eden_model.specs.declared.reply.Reply.TheVariants as say
 use Rattle.eden_model.specs.declared.tree_entry.TreeEntry.{TreeEntry}
 use Rattle.eden_model.specs.declared.world.World.{Ghosts}
 use Rattle.eden_model.specs.Failures.{Rose}
+use Rattle.eden_model.specs.Operations.{Replies}
 use Rattle.eden_model.specs.Trees.{Path, Unlisted, walk}
 use Rattle.eden_overlay_format.specs.Directory.{number_end}
 use Rattle.eden_overlay.specs.declared.files.Files.{Ghosts as Files}
@@ -22,7 +25,7 @@ use Rattle.eden_tie.specs.Loading.{IsAt}
 use Rattle.eden_inode.specs.Tables.{Table}
 use Rattle.eden_ops.specs.Known.{known, place}
 
--- an entry is made
+-- a request that makes an entry
 pub data Makes : Request → Type 0 where
   creates : (p : Path) → Makes (ask.Create p)
   makes_dir : (p : Path) → Makes (ask.Mkdir p)
@@ -39,12 +42,20 @@ HoldsNone F kind.Exec k = content_at F k ≡ None
 HoldsNone F kind.Link k = content_at F k ≡ None
 HoldsNone F kind.Dir k = entries_at F k ≡ None
 
+-- what memory knows gives the request no reply, and this holds of the place where its checks end
+abbrev pub IsHeldUp : Request → Row → (Path → Type 0) → Type 0
+IsHeldUp q x Holds = ((r : Reply) → ¬ Replies (known x) q r) × Holds (place (known x) q)
+
+-- by what memory knows an entry is made, and no number is left for it
+abbrev pub WantsNumber : Request → Row → ℕ → Type 0
+WantsNumber q x next = Makes q × Replies (known x) q say.Ok × (number_end < next + 1)
+
 module _ {W F : Type 0} (w : Ghosts W) (f : Files F W) where
-  -- the stored file of the entry at a path, which is no object's, holds nothing
+  -- the stored file of the entry at a path, which is the mount's own, holds nothing
   pub record IsDamaged (p : Path) (t : Table F) : Type 0 where
     pub row : Row
     pub there : row_at p t.root ≡ Some row
-    pub from : (id : Id) → row.origin ≢ origin.Object id
+    pub from : row.origin ≡ origin.Own
     pub damaged : w.honest → HoldsNone (f.stored t.files) row.kind row.number
 
   -- the numbers that are left are too few for the entries of the tree object of a directory
@@ -62,9 +73,10 @@ module _ {W F : Type 0} (w : Ghosts W) (f : Files F W) where
   IsCaused p s t fault.Overlay = Rose (f.failures s.files) (f.failures t.files) ⊎ IsDamaged p t
   IsCaused p s t fault.Numbers = WantsNumbers p t
 
-  -- No attempt answers a fetch fault; of the others, each comes where it has its cause.
+  -- No attempt answers a fetch fault. Of the others each comes where it has its cause; one of a file that is read, or of numbers
+  -- for a directory's entries, only where the request has no reply without them.
   abbrev pub IsLawful : Request → Table F → Table F → Fault → Type 0
   IsLawful q s t (fault.Fetch id cause) = ⊥
   IsLawful q s t fault.Memory = MayWantMemory q s.root
-  IsLawful q s t fault.Overlay = IsCaused (place (known t.root) q) s t fault.Overlay
-  IsLawful q s t fault.Numbers = (Makes q × (number_end < t.next + 1)) ⊎ IsCaused (place (known t.root) q) s t fault.Numbers
+  IsLawful q s t fault.Overlay = Rose (f.failures s.files) (f.failures t.files) ⊎ IsHeldUp q t.root (λ p. IsDamaged p t)
+  IsLawful q s t fault.Numbers = WantsNumber q t.root t.next ⊎ IsHeldUp q t.root (λ p. WantsNumbers p t)

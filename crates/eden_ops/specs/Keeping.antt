@@ -4,18 +4,13 @@ use Rattle.eden_model.specs.declared.id.Id.{Id}
 use Rattle.eden_model.specs.declared.kind.Origin.TheVariants as origin
 use Rattle.eden_model.specs.declared.tree_entry.TreeEntry.{TreeEntry}
 use Rattle.eden_model.specs.declared.world.World.{Ghosts}
-use Rattle.eden_model.specs.Trees.{Path, Tree}
+use Rattle.eden_model.specs.Trees.{Path}
 use Rattle.eden_overlay.specs.declared.files.Files.{Ghosts as Files}
 use Rattle.eden_tree.specs.Paths.{stamped_along}
 use Rattle.eden_tie.specs.Loading.{IsAt, LoadsObject, LoadsOwn}
-use Rattle.eden_tie.specs.Shown.{shown_in}
 use Rattle.eden_inode.specs.Tables.{Table, HasNoTree}
 
 module _ {W F : Type 0} (w : Ghosts W) (f : Files F W) where
-  -- the tree that a table shows
-  abbrev pub shows : Table F → Tree
-  shows t = shown_in w.repository (f.stored t.files) t.root
-
   -- the directory at a path is loaded, and the entries of a tree object have the next numbers
   pub data Loads (p : Path) (t u : Table F) : Type 0 where
     from_object : (id : Id) (es : List TreeEntry) → IsAt p t.root (origin.Object id) → (w.honest → w.repository.tree id ≡ Some es)

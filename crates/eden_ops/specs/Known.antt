@@ -1,8 +1,6 @@
--- What memory knows with nothing fetched, and where the checks of a request end there.
-use Rattle.std.specs.Prelude.{◌≡◌, ℕ, Bool, true, false, List, [], ◌∷◌, ◌++◌, Option, Some, None, if◌then◌else◌}
+-- What memory knows with nothing fetched and no file read, and where the checks of a request end there.
+use Rattle.std.specs.Prelude.{◌≡◌, Bool, true, false, List, [], ◌∷◌, ◌++◌, Option, Some, None, if◌then◌else◌}
 use Rattle.std.specs.Option.{option_map}
-use Rattle.eden_model.specs.declared.kind.Origin.{Origin}
-use Rattle.eden_model.specs.declared.kind.Origin.TheVariants as origin
 use Rattle.eden_model.specs.declared.node.Node.{Node}
 use Rattle.eden_model.specs.declared.node.Node.TheVariants.{File, Link, Dir}
 use Rattle.eden_model.specs.declared.request.Request.{Request}
@@ -12,19 +10,14 @@ use Rattle.eden_model.specs.Trees.{Path, Tree, Walk, Passes, Stops, Unlisted, wa
 use Rattle.eden_tree.specs.Directory.{Child, unloaded, loaded, Row}
 use Rattle.eden_tree.specs.Paths.{row_at}
 
--- the content of an object is lost; that of an own file is there, and here it doesn't matter which it is
-abbrev pub content_known : Origin → Option (List ℕ)
-content_known (origin.Object id) = None
-content_known origin.Own = Some []
-content_known origin.Empty = Some []
-
 -- a loaded directory is a listed one
 abbrev pub known_by : Child → Node → Node
 known_by unloaded n = n
 known_by (loaded stamp unsaved rows) n = Dir true
 
+-- .. and no content is in memory, an own file's no more than an object's
 abbrev pub known_node : Row → Node
-known_node x = known_by x.child (node_from x.kind (content_known x.origin) false)
+known_node x = known_by x.child (node_from x.kind None false)
 
 -- the tree that the root's entry x knows
 abbrev pub known : Row → Tree

@@ -6,10 +6,10 @@ use Rattle.eden_model.specs.Trees.{Name, Path, Tree, Unlisted, walk}
 use Rattle.eden_overlay.specs.declared.files.Files.{Ghosts as Files}
 use Rattle.eden_tree.specs.Directory.{Row}
 use Rattle.eden_tree.specs.Paths.{Standing, standing_at}
-use Rattle.eden_inode.specs.Tables.{Table}
+use Rattle.eden_inode.specs.Tables.{Table, shows}
 use Rattle.eden_ops.specs.Changes.{Leaves}
 use Rattle.eden_ops.specs.Known.{known, IsLoadedAt, place_on}
-use Rattle.eden_ops.specs.Keeping.{shows, Keeps}
+use Rattle.eden_ops.specs.Keeping.{Keeps}
 
 -- an entry as it was, but that a directory may be loaded now: what was loaded is, with its mark
 pub record Stays (y v : Standing) : Type 0 where

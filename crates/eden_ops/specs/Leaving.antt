@@ -1,5 +1,5 @@
 -- What an attempt of any request leaves of a table.
-use Rattle.std.specs.Prelude.{◌≡◌, ◌≤◌, ◌+◌, ℕ}
+use Rattle.std.specs.Prelude.{◌≡◌, ◌≤◌, ◌⊎◌, ◌+◌, ℕ, List, [], ◌∷◌}
 use Rattle.eden_model.specs.declared.attempt.Attempt.{Attempt}
 use Rattle.eden_model.specs.declared.attempt.Attempt.TheVariants.{Finished}
 use Rattle.eden_model.specs.declared.errno.Errno.{Errno}
@@ -8,15 +8,17 @@ use Rattle.eden_model.specs.declared.request.Request.{Request}
 use Rattle.eden_model.specs.declared.request.Request.TheVariants as ask
 use Rattle.eden_model.specs.declared.reply.Reply.TheVariants as say
 use Rattle.eden_model.specs.declared.world.World.{Ghosts}
+use Rattle.eden_model.specs.Requests.{paths_of}
 use Rattle.eden_model.specs.Trees.{Path}
 use Rattle.eden_overlay.specs.declared.files.Files.{Ghosts as Files}
 use Rattle.eden_tree.specs.Directory.{Row}
-use Rattle.eden_tie.specs.Chains.{IsLoadedAt, AreSaved}
+use Rattle.eden_tie.specs.Chains.{IsLoadedAt, IsUnsavedAt}
+use Rattle.eden_tie.specs.Saving.{IsSavedAbove}
 use Rattle.eden_inode.specs.Tables.{Table}
 use Rattle.eden_ops.specs.Changes.{IsOutside, SameNames, LeavesOn}
 use Rattle.eden_ops.specs.Keeping.{Keeps}
-use Rattle.eden_ops.specs.Relocating.{AreSavedBut}
-use Rattle.eden_ops.specs.Renames.{IsBeside, IsNoFault}
+use Rattle.eden_ops.specs.Relocating.{StandsIn}
+use Rattle.eden_ops.specs.Renames.{IsBeside}
 
 -- the paths on which a request lets loaded directories be
 abbrev pub LetsBe : Request → Path → Type 0
@@ -31,10 +33,19 @@ given (ask.Mkdir p) = 1
 given (ask.Symlink p target) = 1
 given _ = 0
 
--- where no directory was unsaved none is then; after a fault of a rename, none but the one that its entry stands in
-abbrev pub SavedAfter : Request → Row → Type 0
-SavedAfter (ask.Rename from to) x = AreSavedBut from x
-SavedAfter _ x = AreSaved x
+-- the answer is a fault
+abbrev pub IsFault : Attempt → Type 0
+IsFault a = (e : Fault) × (a ≡ Finished (say.Fault e))
+
+-- the request may mark the directory at a path unsaved: a rename that ends in a fault, the one that its entry stands in
+abbrev pub MayMark : Request → Attempt → Path → Type 0
+MayMark (ask.Rename from to) a p = IsFault a × StandsIn from p
+MayMark _ a p = ⊥
+
+-- no directory above one of the paths is unsaved
+abbrev pub AreSavedAbove : List Path → Row → Type 0
+AreSavedAbove [] x = Unit {0}
+AreSavedAbove (p ∷ ps) x = IsSavedAbove p x × AreSavedAbove ps x
 
 module _ {W F : Type 0} (w : Ghosts W) (f : Files F W) where
   -- Directories are loaded on the way, each entry of a tree object with the next number, and on these paths they stay so.
@@ -47,11 +58,12 @@ module _ {W F : Type 0} (w : Ghosts W) (f : Files F W) where
     pub no_more : t.next ≤ reached.next + most
 
   -- An error changes nothing, but that directories are loaded on the way. A fault changes no name and no kind in a directory
-  -- that stays loaded.
+  -- that stays loaded. What is unsaved then was so before, unless the request may mark it.
   pub record LeavesAfter (q : Request) (s t : Table F) (a : Attempt) : Type 0 where
     pub on : LeavesOn f (LetsBe q) s t
     pub gives : Gives (LetsBe q) (given q) s t
     pub errs : (e : Errno) → a ≡ Finished (say.Err e) → Keeps w f s t
     pub faults : (e : Fault) → a ≡ Finished (say.Fault e) → SameNames s.root t.root
-    pub saved : IsNoFault a → AreSaved s.root → AreSaved t.root
-    pub marked : AreSaved s.root → SavedAfter q t.root
+    pub marked : (p : Path) → IsUnsavedAt p t.root → MayMark q a p ⊎ IsUnsavedAt p s.root
+    -- Where it is no fault, nothing changed, or no directory is unsaved above the request's paths: what changed stands in the files.
+    pub stands : ¬ IsFault a → Keeps w f s t ⊎ AreSavedAbove (paths_of q) t.root

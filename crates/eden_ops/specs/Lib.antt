@@ -4,6 +4,7 @@ pub mod Keeping
 pub mod Faults
 pub mod Contents
 pub mod Listings
+pub mod Already
 pub mod Attempts
 pub mod Looks
 pub mod Requests
@@ -14,3 +15,4 @@ pub mod Letting
 pub mod Relocating
 pub mod Renames
 pub mod Leaving
+pub mod Settling

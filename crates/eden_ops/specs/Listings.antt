@@ -9,8 +9,7 @@ use Rattle.eden_model.specs.Operations.{IsListing, page_of}
 use Rattle.eden_model.specs.Trees.{Name, Path, Tree, node_at, Here, reach}
 use Rattle.eden_overlay.specs.declared.files.Files.{Ghosts as Files}
 use Rattle.eden_tree.specs.Directory.{Row, Directory}
-use Rattle.eden_inode.specs.Tables.{Table}
-use Rattle.eden_ops.specs.Keeping.{shows}
+use Rattle.eden_inode.specs.Tables.{Table, shows}
 
 abbrev pub kind_in : Name × Row → Name × Kind
 kind_in e = (e.0, e.1.kind)

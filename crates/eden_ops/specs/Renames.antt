@@ -1,7 +1,6 @@
 -- What a rename meets.
 use Rattle.std.specs.Prelude.{◌≡◌, ◌≢◌, ◌⊎◌, ◌&&◌, Bool, true, false, Option, Some, None, Result, Ok, Err}
 use Rattle.eden_model.specs.declared.errno.Errno.TheVariants.{EINVAL, ENOTEMPTY}
-use Rattle.eden_model.specs.declared.fault.Fault.{Fault}
 use Rattle.eden_model.specs.declared.kind.Kind.TheVariants as kind
 use Rattle.eden_model.specs.declared.request.Request.TheVariants as ask
 use Rattle.eden_model.specs.declared.reply.Reply.{Reply}
@@ -15,24 +14,17 @@ use Rattle.eden_overlay.specs.declared.files.Files.{Ghosts as Files}
 use Rattle.eden_tree.specs.Paths.{row_at}
 use Rattle.eden_cache.specs.Cache.{Cache}
 use Rattle.eden_inode.specs.declared.seen.Seen.{Seen}
-use Rattle.eden_inode.specs.Tables.{Table}
-use Rattle.eden_model.specs.declared.attempt.Attempt.{Attempt}
-use Rattle.eden_model.specs.declared.attempt.Attempt.TheVariants.{Finished}
+use Rattle.eden_inode.specs.Tables.{Table, shows}
 use Rattle.eden_ops.specs.declared.answer.Stop.{Stop}
 use Rattle.eden_ops.specs.declared.answer.Stop.TheVariants as stop
 use Rattle.eden_ops.specs.Attempts.{Wants}
 use Rattle.eden_ops.specs.Changes.{IsOutside}
 use Rattle.eden_ops.specs.Faults.{IsCaused}
-use Rattle.eden_ops.specs.Keeping.{shows}
 use Rattle.eden_ops.specs.Known.{known, place_on}
 
 -- a path that is neither at or below the one nor at or below the other
 abbrev pub IsBeside : Path → Path → Path → Type 0
 IsBeside from to q = IsOutside from q × IsOutside to q
-
--- the answer is no fault
-abbrev pub IsNoFault : Attempt → Type 0
-IsNoFault a = (e : Fault) → a ≢ Finished (say.Fault e)
 
 -- what was seen is a directory, or isn't
 pub record IsTold (seen : Seen) (dir : Bool) : Type 0 where
@@ -68,7 +60,7 @@ module _ {W F : Type 0} (w : Ghosts W) (f : Files F W) where
   Lands p dir s t d (Ok u) = walk (known t.root) p ≡ Passes
   Lands p dir s t d (Err (stop.Errs e)) = Unit {0}
   Lands p dir s t d (Err (stop.Needs k)) = ((r : Reply) → ¬ MayLand (known t.root) p dir r) × Wants (row_at (place_on (known t.root) p) t.root) d k
-  Lands p dir s t d (Err (stop.Faults e)) = IsCaused w f (place_on (known t.root) p) s t e
+  Lands p dir s t d (Err (stop.Faults e)) = ((r : Reply) → ¬ MayLand (known t.root) p dir r) × IsCaused w f (place_on (known t.root) p) s t e
 
   -- .. and what the table says there of what is shown
   abbrev pub LandsShown : Path → Bool → Table F → Result (Unit {0}) Stop → Type 0

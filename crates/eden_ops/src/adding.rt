@@ -10,6 +10,7 @@ ghost use Rattle.eden_ops.specs.Leaving.{LeavesAfter};
 use crate::end::ended;
 use crate::laws::keeps_laws;
 use crate::meet::meet;
+use crate::settling::settle;
 use eden_cache::ObjectCache;
 use eden_inode::Inodes;
 use eden_materialise::{NewEntry, add_entry};
@@ -44,6 +45,9 @@ fn add<A: Allocator + Clone, W: World, F: Files<W>, C: Allocator + Clone>(
     keeps_laws::<W, F>();
     shown_laws();
     inodes.holds();
+    if let Err(fault) = settle(inodes, alloc, path.as_slice()) {
+        return Attempt::Finished(Reply::Fault(fault));
+    }
     match add_entry(inodes, alloc, above, name, new) {
         Ok(()) => Attempt::Finished(Reply::Ok),
         Err(fault) => Attempt::Finished(Reply::Fault(fault)),

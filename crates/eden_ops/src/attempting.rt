@@ -1,4 +1,5 @@
 //! One attempt of any request.
+ghost use Rattle.eden_ops.specs.Already.{IsSoAlready};
 ghost use Rattle.eden_ops.specs.Attempts.{Attempts};
 ghost use Rattle.eden_ops.specs.Caches.{IsStocked};
 ghost use Rattle.eden_ops.specs.Keeping.{Keeps};
@@ -30,6 +31,7 @@ pub fn change<A: Allocator + Clone, W: World, F: Files<W>, C: Allocator + Clone>
     requires stocked { IsStocked W.repository W.honest cache.old }
     ensures attempts { Attempts W.World F.Files request.now inodes.old inodes.new cache.old cache.new result }
     ensures leaves { LeavesAfter W.World F.Files request.now inodes.old inodes.new result }
+    ensures already { IsSoAlready W.World F.Files request.now inodes.old → Keeps W.World F.Files inodes.old inodes.new }
 {
     match request {
         Request::Write(path, offset, data) => {
@@ -52,7 +54,7 @@ pub fn change<A: Allocator + Clone, W: World, F: Files<W>, C: Allocator + Clone>
 }
 
 /// One attempt of a request: it is answered as the table of operations answers it on what is shown, or ends in a fault, or
-/// needs an object that the cache lacks. Nothing is fetched.
+/// needs an object that the cache lacks. Nothing is fetched. Where it asks for what is so already nothing is stored.
 pub fn attempt<A: Allocator + Clone, W: World, F: Files<W>, C: Allocator + Clone>(
     inodes: &mut Inodes<A, W, F>,
     cache: &mut ObjectCache<C>,
@@ -62,6 +64,7 @@ pub fn attempt<A: Allocator + Clone, W: World, F: Files<W>, C: Allocator + Clone
     requires { IsStocked W.repository W.honest cache.old }
     ensures attempts { Attempts W.World F.Files request.now inodes.old inodes.new cache.old cache.new result }
     ensures leaves { LeavesAfter W.World F.Files request.now inodes.old inodes.new result }
+    ensures already { IsSoAlready W.World F.Files request.now inodes.old → Keeps W.World F.Files inodes.old inodes.new }
     ensures looks { IsLook request.now → Keeps W.World F.Files inodes.old inodes.new }
 {
     keeps_laws::<W, F>();

@@ -3,10 +3,11 @@ ghost use Rattle.std.specs.Prelude.{◌≡◌, ◌≤◌, ◌<◌, ◌+◌, ◌^
 ghost use Rattle.eden_model.specs.declared.id.ObjKind.TheVariants as objects;
 ghost use Rattle.eden_model.specs.Limits.{most_file};
 ghost use Rattle.eden_model.specs.Operations.{resized, written};
+ghost use Rattle.eden_inode.specs.Tables.{shows};
 ghost use Rattle.eden_ops.specs.Attempts.{Lacks};
 ghost use Rattle.eden_ops.specs.Caches.{IsStocked, FindsTheSame, object_at};
 ghost use Rattle.eden_ops.specs.Contents.{HasContent, Fits, made, IsMade};
-ghost use Rattle.eden_ops.specs.Keeping.{shows, Keeps};
+ghost use Rattle.eden_ops.specs.Keeping.{Keeps};
 
 use crate::answer::Stop;
 use crate::laws::keeps_laws;

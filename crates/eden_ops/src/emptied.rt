@@ -3,9 +3,9 @@ ghost use Rattle.std.specs.Prelude.{◌≡◌, true, MatchBool};
 ghost use Rattle.eden_model.specs.declared.node.Node.TheVariants.{Dir};
 ghost use Rattle.eden_model.specs.declared.request.Request.TheVariants as ask;
 ghost use Rattle.eden_model.specs.Trees.{Here, reach};
+ghost use Rattle.eden_inode.specs.Tables.{shows};
 ghost use Rattle.eden_ops.specs.Attempts.{Attempts};
 ghost use Rattle.eden_ops.specs.Caches.{IsStocked};
-ghost use Rattle.eden_ops.specs.Keeping.{shows};
 ghost use Rattle.eden_ops.specs.Known.{IsLoadedAt};
 ghost use Rattle.eden_ops.specs.Leaving.{LeavesAfter};
 ghost use Rattle.eden_ops.specs.Listings.{HasNoEntries, HasEntries};
@@ -14,6 +14,7 @@ use crate::end::ended;
 use crate::letting::let_go;
 use crate::listing::bring_seen;
 use crate::meet::meet;
+use crate::settling::settle;
 use crate::what::what;
 use eden_cache::ObjectCache;
 use eden_inode::Inodes;
@@ -74,6 +75,9 @@ pub fn rmdir<A: Allocator + Clone, W: World, F: Files<W>, C: Allocator + Clone>(
         return Attempt::Finished(Reply::Err(Errno::ENOTEMPTY));
     }
     if let Err(fault) = let_go(inodes, alloc, path.as_slice()) {
+        return Attempt::Finished(Reply::Fault(fault));
+    }
+    if let Err(fault) = settle(inodes, alloc, path.as_slice()) {
         return Attempt::Finished(Reply::Fault(fault));
     }
     match remove_entry(inodes, alloc, above, name) {

@@ -2,14 +2,17 @@
 ghost use Rattle.std.specs.Prelude.{◌≡◌, ◌≢◌};
 ghost use Rattle.eden_model.specs.declared.kind.Kind.TheVariants as kinds;
 ghost use Rattle.eden_model.specs.declared.request.Request.TheVariants as ask;
+ghost use Rattle.eden_ops.specs.Already.{IsSoAlready};
 ghost use Rattle.eden_ops.specs.Attempts.{Attempts};
 ghost use Rattle.eden_ops.specs.Caches.{IsStocked};
 ghost use Rattle.eden_ops.specs.Changes.{exec_kind};
+ghost use Rattle.eden_ops.specs.Keeping.{Keeps};
 ghost use Rattle.eden_ops.specs.Leaving.{LeavesAfter};
 
 use crate::end::ended;
 use crate::file::meet_file;
 use crate::laws::keeps_laws;
+use crate::settling::settle;
 use eden_cache::ObjectCache;
 use eden_inode::Inodes;
 use eden_materialise::set_kind;
@@ -25,7 +28,8 @@ fn exec_kind(exec: bool) -> Kind
     if exec { Kind::Exec } else { Kind::File }
 }
 
-/// Makes a file one that can be executed, or one that can't. Its content isn't fetched.
+/// Makes a file one that can be executed, or one that can't. Its content isn't fetched. Where it is so already nothing
+/// is stored, and nothing changes.
 pub fn set_exec<A: Allocator + Clone, W: World, F: Files<W>, C: Allocator + Clone>(
     inodes: &mut Inodes<A, W, F>,
     cache: &mut ObjectCache<C>,
@@ -37,18 +41,27 @@ pub fn set_exec<A: Allocator + Clone, W: World, F: Files<W>, C: Allocator + Clon
     ensures attempts { Attempts W.World F.Files
         (ask.SetExec path.now exec) inodes.old inodes.new cache.old cache.new result }
     ensures leaves { LeavesAfter W.World F.Files (ask.SetExec path.now exec) inodes.old inodes.new result }
+    ensures already { IsSoAlready W.World F.Files (ask.SetExec path.now exec) inodes.old
+        → Keeps W.World F.Files inodes.old inodes.new }
 {
-    match meet_file(inodes, cache, alloc, path) {
+    let seen = match meet_file(inodes, cache, alloc, path) {
         Err(stop) => return ended(stop),
-        Ok(_) => {}
+        Ok(seen) => seen,
+    };
+    let kind = exec_kind(exec);
+    if seen.kind == kind {
+        return Attempt::Finished(Reply::Ok);
     }
     keeps_laws::<W, F>();
     shown_laws();
+    if let Err(fault) = settle(inodes, alloc, path.as_slice()) {
+        return Attempt::Finished(Reply::Fault(fault));
+    }
     inodes.holds();
     let Some((name, above)) = path.as_slice().split_last() else {
         unreachable!()
     };
-    match set_kind(inodes, alloc, above, name, exec_kind(exec)) {
+    match set_kind(inodes, alloc, above, name, kind) {
         Ok(()) => Attempt::Finished(Reply::Ok),
         Err(fault) => Attempt::Finished(Reply::Fault(fault)),
     }

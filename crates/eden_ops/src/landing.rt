@@ -1,7 +1,8 @@
 //! What may go to a path.
 ghost use Rattle.std.specs.Prelude.{◌≡◌};
+ghost use Rattle.eden_inode.specs.Tables.{shows};
 ghost use Rattle.eden_ops.specs.Caches.{IsStocked, FindsTheSame};
-ghost use Rattle.eden_ops.specs.Keeping.{shows, Keeps};
+ghost use Rattle.eden_ops.specs.Keeping.{Keeps};
 ghost use Rattle.eden_ops.specs.Renames.{Lands, LandsShown};
 
 use crate::answer::Stop;

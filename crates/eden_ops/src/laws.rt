@@ -6,7 +6,8 @@ use eden_overlay::Files;
 use eden_tie::shown_laws;
 
 /// What an attempt that changes nothing keeps: what is shown, and where the outside is honest the stored files; each entry,
-/// what is loaded, and that nothing is unsaved; the clock and the count of changes. Numbers are given, and the device's failures rise.
+/// and what is loaded, and no directory becomes unsaved; the clock and the count of changes. Numbers are given, and the
+/// device's failures rise.
 pub fn keeps_laws<W: World, F: Files<W>>()
     ensures shown { KeepsShown W.World F.Files }
     ensures files { KeepsFiles W.World F.Files }

@@ -1,10 +1,10 @@
 //! Directories that are let go of.
 ghost use Rattle.std.specs.Prelude.{◌≡◌, ◌≤◌, Some, None, IfErr, OnOk};
-ghost use Rattle.eden_tie.specs.Chains.{AreSaved};
+ghost use Rattle.eden_tie.specs.Chains.{NoneMarked};
 ghost use Rattle.eden_tree.specs.Directory.{Row, child_of};
 ghost use Rattle.eden_tree.specs.Paths.{row_at};
+ghost use Rattle.eden_inode.specs.Tables.{shows};
 ghost use Rattle.eden_materialise.specs.Faults.{IsStoreFault};
-ghost use Rattle.eden_ops.specs.Keeping.{shows};
 ghost use Rattle.eden_ops.specs.Letting.{LetsGo};
 
 use eden_inode::Inodes;
@@ -26,7 +26,7 @@ pub fn let_go<A: Allocator + Clone, W: World, F: Files<W>>(
     ensures counted { F.failures inodes.old.files ≤ F.failures inodes.new.files }
     ensures unfailed { OnOk result (F.failures inodes.new.files ≡ F.failures inodes.old.files) }
     ensures same { W.honest → shows W.World F.Files inodes.new ≡ shows W.World F.Files inodes.old }
-    ensures saved { AreSaved inodes.old.root → AreSaved inodes.new.root }
+    ensures marks { NoneMarked inodes.old.root inodes.new.root }
     ensures rest { (inodes.new.next ≡ inodes.old.next) × (inodes.new.clock ≡ inodes.old.clock) }
 {
     let failures = inodes.failures();

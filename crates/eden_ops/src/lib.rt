@@ -27,6 +27,7 @@ mod reading;
 mod relocating;
 mod removing;
 mod renaming;
+mod settling;
 mod sizes;
 mod walk;
 mod what;

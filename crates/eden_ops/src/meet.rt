@@ -1,8 +1,9 @@
 //! What a request meets at a path.
 ghost use Rattle.std.specs.Prelude.{◌≡◌};
+ghost use Rattle.eden_inode.specs.Tables.{shows};
 ghost use Rattle.eden_ops.specs.Attempts.{Meets, MeetsShown};
 ghost use Rattle.eden_ops.specs.Caches.{IsStocked, FindsTheSame};
-ghost use Rattle.eden_ops.specs.Keeping.{shows, Keeps};
+ghost use Rattle.eden_ops.specs.Keeping.{Keeps};
 
 use crate::answer::Stop;
 use crate::bring::bring;

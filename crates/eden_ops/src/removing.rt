@@ -7,6 +7,7 @@ ghost use Rattle.eden_ops.specs.Leaving.{LeavesAfter};
 use crate::end::ended;
 use crate::laws::keeps_laws;
 use crate::meet::meet;
+use crate::settling::settle;
 use crate::what::what;
 use eden_cache::ObjectCache;
 use eden_inode::Inodes;
@@ -42,6 +43,9 @@ pub fn unlink<A: Allocator + Clone, W: World, F: Files<W>, C: Allocator + Clone>
     keeps_laws::<W, F>();
     shown_laws();
     inodes.holds();
+    if let Err(fault) = settle(inodes, alloc, path.as_slice()) {
+        return Attempt::Finished(Reply::Fault(fault));
+    }
     match remove_entry(inodes, alloc, above, name) {
         Ok(()) => Attempt::Finished(Reply::Ok),
         Err(fault) => Attempt::Finished(Reply::Fault(fault)),

@@ -3,11 +3,12 @@ ghost use Rattle.std.specs.Prelude.{◌≡◌, ℕ, List, length, Some, None, Er
 ghost use Rattle.eden_model.specs.declared.id.Key as key;
 ghost use Rattle.eden_model.specs.declared.id.ObjKind.TheVariants as objects;
 ghost use Rattle.eden_model.specs.declared.request.Request.TheVariants as ask;
+ghost use Rattle.eden_inode.specs.Tables.{shows};
 ghost use Rattle.eden_ops.specs.declared.answer.Stop.TheVariants as stops;
 ghost use Rattle.eden_ops.specs.Attempts.{Attempts, Lacks};
 ghost use Rattle.eden_ops.specs.Caches.{IsStocked, FindsTheSame, IsSize, object_at, size_at};
 ghost use Rattle.eden_ops.specs.Contents.{HasContent, HasLength};
-ghost use Rattle.eden_ops.specs.Keeping.{shows, Keeps};
+ghost use Rattle.eden_ops.specs.Keeping.{Keeps};
 
 use crate::answer::Stop;
 use crate::end::ended;

@@ -2,11 +2,13 @@
 
 use crate::steps::{Ask, D, Names, ROOT, Row, Step, TEST, Want, check_all};
 use eden_model::{Errno, Fault, Kind};
-use eden_samples::{ONE_FILE, VERSION_1};
+use eden_samples::{ONE_FILE, TWO_FILES, VERSION_1};
 
 const LINK: Names = &[b"l"];
 
 const D_F: Names = &[b"d", b"f"];
+
+const BAK_TEST: Names = &[b"bak", b"test.txt"];
 
 /// A write behind the end leaves zeros between. The file is stored in its directory's stead, and then that.
 const WRITTEN: Row = Row {
@@ -107,6 +109,47 @@ const TURNED_AND_WRITTEN: Row = Row {
     files: &[(1, 87), (2, 77)],
 };
 
+/// A file of the commit that is plain already, in the root and deeper: over a device that fails it is made plain, and
+/// nothing else, and no file is left.
+const PLAIN_ALREADY: Row = Row {
+    root: TWO_FILES,
+    objects: 8,
+    steps: &[
+        Step::Pass(0),
+        Step::Need(BAK_TEST, Ask::SetExec(false), TWO_FILES),
+        Step::Need(BAK_TEST, Ask::SetExec(false), ONE_FILE),
+        Step::Ask(BAK_TEST, Ask::SetExec(false), Want::Ok),
+        Step::Ask(BAK_TEST, Ask::SetExec(true), Want::Fault(Fault::Overlay)),
+        Step::Ask(BAK_TEST, Ask::SetExec(false), Want::Ok),
+        Step::Ask(&[b"new.txt"], Ask::SetExec(false), Want::Ok),
+        Step::Ask(BAK_TEST, Ask::Kind, Want::Kind(Kind::File)),
+    ],
+    files: &[],
+};
+
+/// Once executable, in the root and deeper, a file is made so again over a device that fails, and the files stay.
+const EXECUTABLE_ALREADY: Row = Row {
+    root: ONE_FILE,
+    objects: 8,
+    steps: &[
+        Step::Need(D, Ask::Mkdir, ONE_FILE),
+        Step::Ask(D, Ask::Mkdir, Want::Ok),
+        Step::Ask(D_F, Ask::Create, Want::Ok),
+        Step::Ask(D_F, Ask::SetExec(true), Want::Ok),
+        Step::Ask(TEST, Ask::SetExec(true), Want::Ok),
+        Step::Pass(0),
+        Step::Ask(D_F, Ask::SetExec(true), Want::Ok),
+        Step::Ask(TEST, Ask::SetExec(true), Want::Ok),
+        Step::Ask(D_F, Ask::SetExec(false), Want::Fault(Fault::Overlay)),
+        Step::Ask(TEST, Ask::SetExec(false), Want::Fault(Fault::Overlay)),
+        Step::Ask(D_F, Ask::SetExec(true), Want::Ok),
+        Step::Ask(TEST, Ask::SetExec(true), Want::Ok),
+        Step::Ask(D_F, Ask::Kind, Want::Kind(Kind::Exec)),
+        Step::Ask(TEST, Ask::Kind, Want::Kind(Kind::Exec)),
+    ],
+    files: &[(1, 119), (3, 80), (4, 64)],
+};
+
 /// Directories, files and links come and go; none of it needs a content.
 const COMES: Row = Row {
     root: ONE_FILE,
@@ -176,6 +219,8 @@ const ROWS: &[Row] = &[
     FILLED,
     TURNED,
     TURNED_AND_WRITTEN,
+    PLAIN_ALREADY,
+    EXECUTABLE_ALREADY,
     COMES,
     GOES,
     FAILED,

@@ -167,7 +167,7 @@ fn take(rt: &impl Abort, mount: &mut Mount, step: Step) -> bool {
             let request = request(rt, mount.alloc, names, ask);
             needs(rt, mount, &request, object)
         }
-        Step::Unload(count) => mount.table.unload(mount.alloc, &[], 0) == count,
+        Step::Unload(count) => mount.table.unload(mount.alloc, &[], 0).count == count,
         Step::Pass(count) => {
             mount.calls.set(count);
             true

@@ -51,7 +51,7 @@ impl<T: Drop> From<AllocFailed<T>> for FilesFault {
 /// What is stored is promised where the World is honest. After an error nothing has changed. Each answer `Device` raises
 /// the count of failures, and no other answer touches it.
 pub trait Files<W: World>: Drop {
-    ghost use Rattle.std.specs.Prelude.{◌≡◌, ℕ, None, Some, Err, IfOk, OnOk, OnErr, option_map};
+    ghost use Rattle.std.specs.Prelude.{◌≡◌, ℕ, None, Some, Err, IfOk, IfErr, OnOk, OnErr, option_map};
     ghost use Rattle.std.specs.Ordering.{nat_cmp};
     ghost use Rattle.std.specs.List.Sorted.{IsStrictlySortedBy};
     ghost use Rattle.eden_model.specs.Failures.{Counted};
@@ -80,10 +80,11 @@ pub trait Files<W: World>: Drop {
         ensures err { W.honest → OnErr result (stored self.new ≡ stored self.old) }
         ensures counted { Counted (result ≡ Err Device) (failures self.old) (failures self.new) };
 
-    /// Removes the file of that number; Ok too where there is none.
-    fn remove(&mut self, alloc: Global, number: u64) -> Result<(), FilesFault>
+    /// Removes the file of that number; Ok too where there is none. It takes no memory: its one error is the device's.
+    fn remove(&mut self, number: u64) -> Result<(), FilesFault>
         ensures ok { W.honest → OnOk result (stored self.new ≡ put (stored self.old) number None) }
         ensures err { W.honest → OnErr result (stored self.new ≡ stored self.old) }
+        ensures fault { IfErr result (λ f. f ≡ Device) }
         ensures counted { Counted (result ≡ Err Device) (failures self.old) (failures self.new) };
 
     /// The numbers of all files, rising.

@@ -1,9 +1,9 @@
-ghost use Rattle.std.specs.Prelude.{◌≡◌, ◌≤◌, Err, IfOk, IfSome, length};
+ghost use Rattle.std.specs.Prelude.{◌≡◌, ◌≤◌, Err, IfOk, IfErr, IfSome, length};
 ghost use Rattle.std.specs.Ordering.{nat_cmp};
 ghost use Rattle.std.specs.List.Sorted.{IsStrictlySortedBy};
 ghost use Rattle.std.specs.Path.{path_buf_bytes};
 ghost use Rattle.eden_model.specs.Failures.{Counted};
-ghost use Rattle.eden_overlay.specs.InFolder.{of_folder};
+ghost use Rattle.eden_overlay.specs.InFolder.{longest_stored, of_folder};
 ghost use Rattle.eden_overlay.specs.declared.files.FilesFault.TheVariants as fault;
 
 use crate::files::{Files, FilesFault, count};
@@ -64,11 +64,11 @@ impl<R: rt::Files + Alloc + Clone + Drop> Files<Outside> for FolderFiles<R> {
         self.failures
     }
 
-    /// `Device` too where the name isn't a plain file's, or the file is over `LONGEST_FILE`.
+    /// `Device` too where the name isn't a plain file's, or the file is over 2^30 + 64 bytes.
     fn read(&mut self, alloc: Global, number: u64) -> Result<Option<Vec<u8>>, FilesFault>
         ensures counted { Counted (result ≡ Err fault.Device) self.old.failures self.new.failures }
         ensures path { self.new.path ≡ self.old.path }
-        ensures bounded { IfOk result (λ o. IfSome o (λ v. length v.items ≤ LONGEST_FILE)) }
+        ensures bounded { IfOk result (λ o. IfSome o (λ v. length v.items ≤ longest_stored)) }
     {
         let answer = read_number(&self.files, alloc, &self.folder, number);
         self.failures = count(self.failures, &answer);
@@ -85,11 +85,12 @@ impl<R: rt::Files + Alloc + Clone + Drop> Files<Outside> for FolderFiles<R> {
         answer
     }
 
-    fn remove(&mut self, alloc: Global, number: u64) -> Result<(), FilesFault>
+    fn remove(&mut self, number: u64) -> Result<(), FilesFault>
+        ensures fault { IfErr result (λ f. f ≡ fault.Device) }
         ensures counted { Counted (result ≡ Err fault.Device) self.old.failures self.new.failures }
         ensures path { self.new.path ≡ self.old.path }
     {
-        let answer = remove_number(&self.files, alloc, &self.folder, number);
+        let answer = remove_number(&self.files, &self.folder, number);
         self.failures = count(self.failures, &answer);
         answer
     }
@@ -122,9 +123,10 @@ fn read_number<R: rt::Files>(
     folder: &PathBuf,
     number: u64,
 ) -> Result<Option<Vec<u8>>, FilesFault>
-    ensures { IfOk result (λ o. IfSome o (λ v. length v.items ≤ LONGEST_FILE)) }
+    ensures bound { LONGEST_FILE ≡ longest_stored }
+    ensures bounded { IfOk result (λ o. IfSome o (λ v. length v.items ≤ longest_stored)) }
 {
-    let path = file_path(alloc, folder, number)?;
+    let path = file_path(folder, number)?;
     match read_file(files, alloc, path.as_str(), Links::Refused, LONGEST_FILE) {
         Ok(bytes) => Ok(Some(bytes)),
         Err(FolderFault::Missing) => Ok(None),
@@ -139,20 +141,20 @@ fn replace_number<R: rt::Files>(
     number: u64,
     bytes: &[u8],
 ) -> Result<(), FilesFault> {
-    let path = file_path(alloc, folder, number)?;
+    let path = file_path(folder, number)?;
     replace_file(files, alloc, path.as_str(), bytes)?;
     Ok(())
 }
 
-fn remove_number<R: rt::Files>(
-    files: &R,
-    alloc: Global,
-    folder: &PathBuf,
-    number: u64,
-) -> Result<(), FilesFault> {
-    let path = file_path(alloc, folder, number)?;
-    remove_file(files, path.as_str())?;
-    Ok(())
+// No memory of the program's own is taken: whatever the system refuses it for is the device's failure.
+fn remove_number<R: rt::Files>(files: &R, folder: &PathBuf, number: u64) -> Result<(), FilesFault>
+    ensures { IfErr result (λ f. f ≡ fault.Device) }
+{
+    let path = file_path(folder, number)?;
+    match remove_file(files, path.as_str()) {
+        Ok(()) => Ok(()),
+        Err(_) => Err(FilesFault::Device),
+    }
 }
 
 // The number that names the entry, if one does. A name that isn't UTF-8 is no number's.

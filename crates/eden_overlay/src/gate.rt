@@ -1,6 +1,6 @@
 //! Files that fail where a test wants it.
 
-ghost use Rattle.std.specs.Prelude.{◌≡◌, None, Some, Err, IfOk, OnOk, OnErr, option_map};
+ghost use Rattle.std.specs.Prelude.{◌≡◌, None, Some, Err, IfOk, IfErr, OnOk, OnErr, option_map};
 ghost use Rattle.std.specs.Ordering.{nat_cmp};
 ghost use Rattle.std.specs.List.Sorted.{IsStrictlySortedBy};
 ghost use Rattle.eden_model.specs.Failures.{Counted};
@@ -170,14 +170,15 @@ impl<W: World, F: Files<W>, G: Gate> Files<W> for GatedFiles<F, G> {
         answer
     }
 
-    fn remove(&mut self, alloc: Global, number: u64) -> Result<(), FilesFault>
+    fn remove(&mut self, number: u64) -> Result<(), FilesFault>
         ensures ok { W.honest → OnOk result (F.stored self.new.files ≡ put (F.stored self.old.files) number None) }
         ensures err { W.honest → OnErr result (F.stored self.new.files ≡ F.stored self.old.files) }
+        ensures fault { IfErr result (λ f. f ≡ fault.Device) }
         ensures counted { Counted (result ≡ Err fault.Device) self.old.failures self.new.failures }
         ensures calls { Calls G.passed self.old result self.new }
     {
         let answer = if self.gate.passes() {
-            self.files.remove(alloc, number)
+            self.files.remove(number)
         } else {
             Err(FilesFault::Device)
         };

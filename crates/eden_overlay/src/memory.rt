@@ -62,7 +62,7 @@ impl<W: World> Files<W> for MemoryFiles<W> {
         Ok(())
     }
 
-    fn remove(&mut self, _alloc: Global, number: u64) -> Result<(), FilesFault> {
+    fn remove(&mut self, number: u64) -> Result<(), FilesFault> {
         self.files.remove(&number);
         Ok(())
     }

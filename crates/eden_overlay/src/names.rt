@@ -1,17 +1,53 @@
 // The names of a folder's files.
-ghost use Rattle.std.specs.Prelude.{◌≡◌, ◌<◌, ◌^◌, ℕ, Some, IfOk, IfSome, decimal};
-ghost use Rattle.std.specs.Path.{path_buf_bytes};
+ghost use Rattle.std.specs.Prelude.{◌≡◌, ◌<◌, ◌≤◌, ◌+◌, ◌^◌, ◌++◌, ◌∷◌, [], if◌then◌else◌, ℕ, Some, IfOk, IfErr, IfSome, IsOk, OnOk, decimal, length};
+ghost use Rattle.std.specs.Path.{path_buf_bytes, with_separator};
 ghost use Rattle.eden_overlay.specs.InFolder as folder_spec;
+ghost use Rattle.eden_overlay.specs.declared.files.FilesFault.TheVariants as fault;
 
+use crate::files::FilesFault;
+use arrayvec::ArrayString;
 use itoa::Buffer;
-use std::alloc::{AllocError, Global};
 use std::path::PathBuf;
 
-// Where the file of that number lies.
-pub(crate) fn file_path(alloc: Global, folder: &PathBuf, number: u64) -> Result<PathBuf, AllocError>
-    ensures { IfOk result (λ p. path_buf_bytes p ≡ folder_spec.file_path (path_buf_bytes folder.now) number) }
+/// The system takes no longer path, in bytes.
+const LONGEST_PATH: usize = 4096;
+
+// A path on the stack, which takes no memory.
+pub(crate) type FilePath = ArrayString<LONGEST_PATH>;
+
+// Where the file of that number lies; `Device` where that is longer than any path that the system takes.
+pub(crate) fn file_path(folder: &PathBuf, number: u64) -> Result<FilePath, FilesFault>
+    ensures ok { IfOk result (λ p. p.bytes ≡ folder_spec.file_path (path_buf_bytes folder.now) number) }
+    ensures fits { length (folder_spec.file_path (path_buf_bytes folder.now) number) ≤ LONGEST_PATH → IsOk result }
+    ensures fault { IfErr result (λ f. f ≡ fault.Device) }
 {
-    folder.join(alloc, Buffer::new().format(number))
+    let mut path = FilePath::new();
+    append(&mut path, folder.as_str())?;
+    if !ends_in_slash(folder.as_str()) {
+        append(&mut path, "/")?;
+    }
+    append(&mut path, Buffer::new().format(number))?;
+    Ok(path)
+}
+
+// Whether a name may follow a path at once: it ends in a slash, or is empty.
+fn ends_in_slash(path: &str) -> bool
+    ensures { with_separator path.now ≡ (if result then path.now else path.now ++ 47 ∷ []) }
+{
+    let bytes = path.as_bytes();
+    bytes.is_empty() || bytes[bytes.len() - 1] == b'/'
+}
+
+// The path with that text behind it, where it isn't too long then.
+fn append(path: &mut FilePath, text: &str) -> Result<(), FilesFault>
+    ensures ok { OnOk result (path.new.bytes ≡ path.old.bytes ++ text.now) }
+    ensures fits { length path.old.bytes + length text.now ≤ LONGEST_PATH → IsOk result }
+    ensures fault { IfErr result (λ f. f ≡ fault.Device) }
+{
+    match path.try_push_str(text) {
+        Ok(()) => Ok(()),
+        Err(_) => Err(FilesFault::Device),
+    }
 }
 
 // The number whose file has that name.

@@ -167,15 +167,17 @@ impl<W: World, F: Files<W>> Overlay<W, F> {
         }
     }
 
-    /// Removes the file of that number; Ok too where there is none. After an error nothing has changed.
-    pub fn remove(&mut self, alloc: Global, number: u64) -> Result<(), FilesFault>
+    /// Removes the file of that number; Ok too where there is none. It takes no memory: its one error is the device's, and
+    /// nothing has changed then.
+    pub fn remove(&mut self, number: u64) -> Result<(), FilesFault>
         requires sound { W.honest → AreSound (without (F.stored self.old) number) }
         ensures ok { W.honest → OnOk result (F.stored self.new ≡ without (F.stored self.old) number) }
         ensures err { W.honest → OnErr result (F.stored self.new ≡ F.stored self.old) }
+        ensures fault { IfErr result (λ f. f ≡ files.Device) }
         ensures counted { Counted (result ≡ Err files.Device) (F.failures self.old) (F.failures self.new) }
     {
         self.recent.forget(number);
-        self.files.remove(alloc, number)
+        self.files.remove(number)
     }
 
     /// Stores the state as file 0, in place of any that was there. After an error nothing has changed. Soundness stays
@@ -206,14 +208,16 @@ impl<W: World, F: Files<W>> Overlay<W, F> {
         }
     }
 
-    /// Removes file 0; Ok too where there is none. After an error nothing has changed.
-    pub fn remove_state(&mut self, alloc: Global) -> Result<(), FilesFault>
+    /// Removes file 0; Ok too where there is none. It takes no memory: its one error is the device's, and nothing has
+    /// changed then.
+    pub fn remove_state(&mut self) -> Result<(), FilesFault>
         ensures ok { W.honest → OnOk result (F.stored self.new ≡ without (F.stored self.old) 0) }
         ensures err { W.honest → OnErr result (F.stored self.new ≡ F.stored self.old) }
+        ensures fault { IfErr result (λ f. f ≡ files.Device) }
         ensures counted { Counted (result ≡ Err files.Device) (F.failures self.old) (F.failures self.new) }
     {
         self.recent.forget(STATE_NUMBER);
-        self.files.remove(alloc, STATE_NUMBER)
+        self.files.remove(STATE_NUMBER)
     }
 
     /// The numbers of all files, rising.

@@ -1,13 +1,15 @@
--- What every stored file is: a header of 64 bytes, and a body behind it. This alone says what a header is.
+-- What every stored file is: a header of 64 bytes, and a body behind it. This alone says what a header is. What is written has
+-- version 2, which tells a damaged body; version 1, which doesn't, is read still.
 -- The two identifiers and the header's length are those of EdenFS's overlay files; the rest is this project's own.
 use Rattle.std.specs.Prelude.{◌≡◌, ℕ, List, ◌++◌, length, take, drop, replicate, codes, nat_lt, if◌then◌else◌, Option, Some, None, unwrap_or}
 use Rattle.std.specs.Option.{is_none}
-use Rattle.std.specs.Int.{w32, to_be_bytes}
+use Rattle.std.specs.Int.{w32, w64, to_be_bytes}
 use Rattle.std.specs.Str.{bytes_eq}
+use Rattle.sha1.specs.Sha1.{sha1}
 use Rattle.eden_overlay_format.specs.declared.header.Identifier.{Identifier}
 use Rattle.eden_overlay_format.specs.declared.header.Identifier.TheVariants as identifier
 use Rattle.eden_overlay_format.specs.declared.refusal.Refusal.{Refusal}
-use Rattle.eden_overlay_format.specs.declared.refusal.Refusal.TheVariants.{Short, BadIdentifier, BadVersion, BadBody}
+use Rattle.eden_overlay_format.specs.declared.refusal.Refusal.TheVariants.{Short, BadIdentifier, BadVersion, BadBody, BadLength, BadDigest}
 
 -- bytes 0 to 3
 abbrev pub identifier_bytes : Identifier → List ℕ
@@ -15,16 +17,20 @@ identifier_bytes identifier.File = codes "OVFL"
 identifier_bytes identifier.Directory = codes "OVDR"
 
 -- bytes 4 to 7
-abbrev pub version_bytes : List ℕ
-version_bytes = to_be_bytes w32 1
+abbrev pub version_bytes : ℕ → List ℕ
+version_bytes version = to_be_bytes w32 version
 
--- the header as it is written, with zeros for bytes 8 to 63
-unfoldable pub header : Identifier → List ℕ
-header i = identifier_bytes i ++ version_bytes ++ replicate 56 0
+-- bytes 8 to 15 and 16 to 35 of version 2: the length of the body behind the header, and its SHA-1 (FIPS 180-4)
+abbrev pub length_bytes : List ℕ → List ℕ
+length_bytes body = to_be_bytes w64 (length body)
+
+-- the header as it is written, in version 2, with zeros for bytes 36 to 63
+unfoldable pub header : Identifier → List ℕ → List ℕ
+header i body = identifier_bytes i ++ version_bytes 2 ++ length_bytes body ++ sha1 body ++ replicate 28 0
 
 -- the file as it is written
 abbrev pub written : Identifier → List ℕ → List ℕ
-written i body = header i ++ body
+written i body = header i body ++ body
 
 -- the numbers that stand for refusals
 abbrev pub refusal_number : Refusal → ℕ
@@ -32,11 +38,24 @@ refusal_number Short = 1
 refusal_number BadIdentifier = 2
 refusal_number BadVersion = 3
 refusal_number BadBody = 4
+refusal_number BadLength = 5
+refusal_number BadDigest = 6
 
+-- what version 2 says of the body
+unfoldable pub body_refusal : List ℕ → Option Refusal
+body_refusal bytes =
+    if bytes_eq (take 8 (drop 8 bytes)) (length_bytes (drop 64 bytes))
+    then (if bytes_eq (take 20 (drop 16 bytes)) (sha1 (drop 64 bytes)) then None else Some BadDigest)
+    else Some BadLength
+
+-- version 1 says nothing of the body
 abbrev pub version_refusal : List ℕ → Option Refusal
-version_refusal bytes = if bytes_eq (take 4 (drop 4 bytes)) version_bytes then None else Some BadVersion
+version_refusal bytes =
+    if bytes_eq (take 4 (drop 4 bytes)) (version_bytes 2) then body_refusal bytes
+    else (if bytes_eq (take 4 (drop 4 bytes)) (version_bytes 1) then None else Some BadVersion)
 
--- What is wrong with the header, where the file was asked for under that identifier. Bytes 8 to 63 are not looked at.
+-- What is wrong with the header, where the file was asked for under that identifier: in version 1 bytes 8 to 63 are not
+-- looked at, and in version 2 bytes 36 to 63.
 unfoldable pub header_refusal : Identifier → List ℕ → Option Refusal
 header_refusal i bytes =
     if nat_lt (length bytes) 64 then Some Short

@@ -6,7 +6,7 @@ ghost use Rattle.eden_overlay_format.specs.Content.{content_most, IsFile};
 ghost use Rattle.eden_overlay_format.specs.Values.{content_in};
 ghost use Rattle.eden_overlay_format.specs.declared.header.Identifier.TheVariants as identifier;
 
-use crate::header::{Identifier, body_of, start};
+use crate::header::{Identifier, body_of, seal, start};
 use crate::refusal::Refusal;
 use std::alloc::{AllocError, Global};
 
@@ -19,8 +19,9 @@ pub fn encode_file(alloc: Global, content: &[u8]) -> Result<Vec<u8>, AllocError>
     ensures bytes { IfOk result (λ v. v.items ≡ written identifier.File content.now) }
     ensures read_again { IfOk result (λ v. IsFile v.items content.now) }
 {
-    let mut out = start(alloc, Identifier::File, content.len())?;
+    let mut out = start(alloc, content.len())?;
     out.extend_from_slice(content)?;
+    seal(Identifier::File, &mut out);
     Ok(out)
 }
 

@@ -10,7 +10,7 @@ ghost use Rattle.eden_overlay_format.specs.declared.header.Identifier.TheVariant
 ghost use Rattle.eden_overlay_format.specs.declared.refusal.DecodeFault.TheVariants as fault;
 
 use crate::fields::{row_of, u32_of};
-use crate::header::{Identifier, body_of, start};
+use crate::header::{Identifier, body_of, seal, start};
 use crate::refusal::{DecodeFault, Refusal};
 use crate::stored_entry::StoredEntry;
 use crate::writing::put_row;
@@ -33,11 +33,12 @@ pub fn encode_dir(alloc: Global, entries: &[StoredEntry]) -> Result<Vec<u8>, All
     ensures bytes { IfOk result (λ v. v.items ≡ written identifier.Directory (directory_body entries.now)) }
     ensures read_again { IfOk result (λ v. IsDirectory v.items entries.now) }
 {
-    let mut out = start(alloc, Identifier::Directory, entries.len() * ROW_LEAST)?;
+    let mut out = start(alloc, entries.len() * ROW_LEAST)?;
     out.extend_from_slice(&(entries.len() as u32).to_be_bytes())?;
     for entry in entries {
         put_row(&mut out, entry)?;
     }
+    seal(Identifier::Directory, &mut out);
     Ok(out)
 }
 

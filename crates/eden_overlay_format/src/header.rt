@@ -1,16 +1,20 @@
 //! The header of 64 bytes that each stored file begins with.
 
-ghost use Rattle.std.specs.Prelude.{◌≡◌, Some, IfOk, MatchResult};
-ghost use Rattle.eden_overlay_format.specs.Stored.{body_in, header_refusal, identifier_bytes, header};
+ghost use Rattle.std.specs.Prelude.{◌≡◌, ◌≤◌, Some, None, length, drop, replicate, IfOk, MatchResult};
+ghost use Rattle.eden_overlay_format.specs.Stored.{body_in, body_refusal, header, header_refusal, identifier_bytes, version_refusal, written};
 
 use crate::refusal::Refusal;
+use sha1::Sha1;
 use std::alloc::{AllocError, Global};
 
 /// The length of the header that each stored file begins with, in bytes.
 pub const HEADER_LEN: usize = 64;
 
-/// The format's version.
-const VERSION: u32 = 1;
+/// The version that is written: its header tells the body's length and SHA-1.
+const VERSION: u32 = 2;
+
+/// The version that was written before, whose header tells nothing of the body.
+const OLD_VERSION: u32 = 1;
 
 /// What a stored file holds, as its first four bytes say it.
 #[derive(Clone, Copy, Debug, PartialEq, Eq)]
@@ -33,6 +37,38 @@ impl Identifier {
     }
 }
 
+/// Whether the body is as long as its header of version 2 says, and has the digest that this says.
+#[tactic(auto, unfolding(crate::specs::Stored::body_refusal))]
+fn check_body(bytes: &[u8]) -> Result<(), Refusal>
+    requires { 64 ≤ length bytes.now }
+    ensures { MatchResult result (λ _. body_refusal bytes.now ≡ None)
+        (λ e. body_refusal bytes.now ≡ Some e) }
+{
+    let (_, body) = bytes.split_at(HEADER_LEN);
+    if &bytes[8..16] != (body.len() as u64).to_be_bytes().as_slice() {
+        return Err(Refusal::BadLength);
+    }
+    if &bytes[16..36] != Sha1::digest(body).as_slice() {
+        return Err(Refusal::BadDigest);
+    }
+    Ok(())
+}
+
+/// Whether the version is one that is read, and what its header says of the body is so.
+fn check_version(bytes: &[u8]) -> Result<(), Refusal>
+    requires { 64 ≤ length bytes.now }
+    ensures { MatchResult result (λ _. version_refusal bytes.now ≡ None)
+        (λ e. version_refusal bytes.now ≡ Some e) }
+{
+    if &bytes[4..8] == VERSION.to_be_bytes().as_slice() {
+        return check_body(bytes);
+    }
+    if &bytes[4..8] != OLD_VERSION.to_be_bytes().as_slice() {
+        return Err(Refusal::BadVersion);
+    }
+    Ok(())
+}
+
 /// The body of a stored file with that identifier, or what is wrong with its header.
 #[tactic(auto, unfolding(crate::specs::Stored::body_in, crate::specs::Stored::header_refusal))]
 pub(crate) fn body_of(identifier: Identifier, bytes: &[u8]) -> Result<&[u8], Refusal>
@@ -45,25 +81,38 @@ pub(crate) fn body_of(identifier: Identifier, bytes: &[u8]) -> Result<&[u8], Ref
     if &bytes[..4] != identifier.bytes().as_slice() {
         return Err(Refusal::BadIdentifier);
     }
-    if &bytes[4..8] != VERSION.to_be_bytes().as_slice() {
-        return Err(Refusal::BadVersion);
-    }
+    check_version(bytes)?;
     let (_, body) = bytes.split_at(HEADER_LEN);
     Ok(body)
 }
 
-/// A new file's header, with room for a body of that many bytes behind it. The only error is want of memory.
-#[tactic(auto, unfolding(crate::specs::Stored::header))]
-pub(crate) fn start(
-    alloc: Global,
-    identifier: Identifier,
-    body_len: usize,
-) -> Result<Vec<u8>, AllocError>
-    ensures { IfOk result (λ v. v.items ≡ header identifier) }
+/// A new file: room for its header, and behind it for a body of that many bytes. The only error is want of memory.
+pub(crate) fn start(alloc: Global, body_len: usize) -> Result<Vec<u8>, AllocError>
+    ensures { IfOk result (λ v. v.items ≡ replicate 64 0) }
 {
     let mut out = Vec::with_capacity(alloc, HEADER_LEN.saturating_add(body_len))?;
-    out.extend_from_slice(&identifier.bytes())?;
-    out.extend_from_slice(&VERSION.to_be_bytes())?;
-    out.extend_from_slice(&[0; 56])?;
+    out.extend_from_slice(&[0; HEADER_LEN])?;
     Ok(out)
+}
+
+/// The header of a file with that body.
+#[tactic(auto, unfolding(crate::specs::Stored::header))]
+fn header_of(identifier: Identifier, body: &[u8]) -> [u8; HEADER_LEN]
+    ensures { result ≡ header identifier body.now }
+{
+    let mut header = [0; HEADER_LEN];
+    header[..4].copy_from_slice(&identifier.bytes());
+    header[4..8].copy_from_slice(&VERSION.to_be_bytes());
+    header[8..16].copy_from_slice(&(body.len() as u64).to_be_bytes());
+    header[16..36].copy_from_slice(&Sha1::digest(body));
+    header
+}
+
+/// Writes the header into its room, once the body stands behind it.
+pub(crate) fn seal(identifier: Identifier, file: &mut Vec<u8>)
+    requires { 64 ≤ length file.old.items }
+    ensures { file.new.items ≡ written identifier (drop 64 file.old.items) }
+{
+    let (head, body) = file.as_mut_slice().split_at_mut(HEADER_LEN);
+    head.copy_from_slice(&header_of(identifier, body));
 }

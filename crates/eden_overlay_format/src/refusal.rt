@@ -16,16 +16,22 @@ pub enum Refusal {
     /// The first four bytes aren't those that were asked for.
     #[error("another kind of file")]
     BadIdentifier,
-    /// The version isn't 1.
+    /// The version is neither 1 nor 2.
     #[error("an unknown version")]
     BadVersion,
+    /// In version 2 the body isn't as long as the header says.
+    #[error("the body has another length")]
+    BadLength,
+    /// In version 2 the body's SHA-1 isn't the header's.
+    #[error("the body has another digest")]
+    BadDigest,
     /// The body isn't in its grammar.
     #[error("the body is not in its grammar")]
     BadBody,
 }
 
 impl Refusal {
-    /// The refusal's number: 1 `Short`, 2 `BadIdentifier`, 3 `BadVersion`, 4 `BadBody`.
+    /// The refusal's number: 1 `Short`, 2 `BadIdentifier`, 3 `BadVersion`, 4 `BadBody`, 5 `BadLength`, 6 `BadDigest`.
     pub fn number(self) -> u8
         ensures { result ≡ refusal_number self }
     {
@@ -34,6 +40,8 @@ impl Refusal {
             Refusal::BadIdentifier => 2,
             Refusal::BadVersion => 3,
             Refusal::BadBody => 4,
+            Refusal::BadLength => 5,
+            Refusal::BadDigest => 6,
         }
     }
 }

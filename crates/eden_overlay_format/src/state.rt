@@ -9,7 +9,7 @@ ghost use Rattle.eden_overlay_format.specs.Values.{state_in};
 ghost use Rattle.eden_overlay_format.specs.declared.header.Identifier.TheVariants as identifier;
 
 use crate::fields::{array_of, u64_of};
-use crate::header::{Identifier, body_of, start};
+use crate::header::{Identifier, body_of, seal, start};
 use crate::refusal::Refusal;
 use crate::writing::put_id;
 use eden_model::Id;
@@ -38,9 +38,10 @@ pub fn encode_state(alloc: Global, state: State) -> Result<Vec<u8>, AllocError>
     ensures bytes { IfOk result (λ v. v.items ≡ written identifier.File (state_body state)) }
     ensures read_again { IfOk result (λ v. IsState v.items state) }
 {
-    let mut out = start(alloc, Identifier::File, STATE_LEN)?;
+    let mut out = start(alloc, STATE_LEN)?;
     put_id(&mut out, state.root)?;
     out.extend_from_slice(&state.next.to_be_bytes())?;
+    seal(Identifier::File, &mut out);
     Ok(out)
 }
 

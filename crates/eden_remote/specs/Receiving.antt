@@ -1,16 +1,13 @@
 -- What a client hears.
-use Rattle.std.specs.Prelude.{◌≡◌, ◌≢◌, ◌≤◌, ◌<◌, ◌+◌, ◌^◌, ◌⊎◌, ℕ, List, [], ◌∷◌, ◌++◌, length, take, codes, decimal, Result, Ok, Err, MatchResult}
+use Rattle.std.specs.Prelude.{◌≡◌, ◌≢◌, ◌≤◌, ◌<◌, ◌⊎◌, ℕ, List, [], ◌∷◌, ◌++◌, length, take, codes, decimal, Result, Ok, Err, MatchResult}
 use Rattle.std.specs.Str.Parse.{digits_value}
 use Rattle.std.specs.Io.KnownBytes.{Consumes, IsAtEnd}
 use Rattle.std.specs.declared.alloc.Global.{Global}
 use Rattle.std.specs.declared.vec.Vec.{Vec}
+use Rattle.eden_source.specs.Fetching.{longest_framed}
 use Rattle.eden_remote.specs.Protocol.{Known, IsOneLine, IsNumber, IsFirstLine, object_line, object_text, missing_line, fault_line}
 use Rattle.eden_remote.specs.declared.refusal.Refusal.{Refusal}
 use Rattle.eden_remote.specs.declared.refusal.Refusal.TheVariants as refusal
-
--- the longest framed object: a body of 2^30 bytes and its header
-abbrev pub longest_framed : ℕ
-longest_framed = 2 ^ 30 + 16
 
 -- a number over that, of any size
 pub record IsTooLong (digits : List ℕ) : Type 0 where

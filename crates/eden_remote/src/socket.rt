@@ -1,8 +1,8 @@
 ghost use Rattle.std.specs.Prelude.{◌≡◌, ◌≤◌, ◌⊎◌, length, IfOk, IfErr};
 ghost use Rattle.std.specs.Option.{is_some};
-ghost use Rattle.eden_source.specs.Fetching.{answer_of, IsSourceCause};
-ghost use Rattle.eden_remote.specs.Remote.{keeps_connection};
-ghost use Rattle.eden_remote.specs.Receiving.{longest_framed};
+ghost use Rattle.eden_source.specs.Fetching.{answer_of, IsSourceCause, longest_framed};
+ghost use Rattle.std.specs.Io.Buffered.{reader_inner, reader_remaining};
+ghost use Rattle.eden_remote.specs.Remote.{AsksAndHears, keeps_connection};
 
 use crate::receiving::read_answer;
 use crate::refusal::Refusal;
@@ -118,12 +118,15 @@ fn exchange<C: Read + Write + Drop>(
     }
 }
 
+// Asks for the object, and hears the answer.
 fn hear<C: Read + Write>(
     alloc: Global,
     connection: &mut BufReader<C>,
     id: Id,
 ) -> Result<Vec<u8>, Refusal>
-    ensures { IfOk result (λ v. length v.items ≤ longest_framed) }
+    ensures heard { AsksAndHears (λ c. C.contents (reader_inner c)) (reader_remaining C.remaining) id
+        connection.old result connection.new }
+    ensures bounded { IfOk result (λ v. length v.items ≤ longest_framed) }
 {
     ask(connection.get_mut(), id)?;
     read_answer(alloc, connection)

@@ -149,7 +149,7 @@ fn take(rt: &impl Abort, alloc: Global, table: &mut Table, step: Step) -> bool {
         }
         Step::Unload(path, age, went) => {
             let path = names(rt, alloc, path);
-            table.unload(alloc, &path, age) == went
+            table.unload(alloc, &path, age).count == went
         }
     }
 }

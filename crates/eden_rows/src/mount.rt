@@ -12,7 +12,7 @@ use crate::names::name;
 use crate::tree::{Node, Tree};
 use eden_inode::Inodes;
 use eden_model::{Fault, Id, Kind, Name, Origin, Outside};
-use eden_overlay::{MemoryFiles, Overlay, StopFiles};
+use eden_overlay::{FilesFault, MemoryFiles, Overlay, StopFiles};
 use eden_samples::{ONE_FILE, Sample, TWO_FILES};
 use eden_tree::{Dir, Entry};
 use std::alloc::{Allocator, Global};
@@ -291,10 +291,12 @@ impl<A: Allocator + Clone> Mount<A> {
         false
     }
 
-    /// Unloads what is that old at and below a path: how many directories went.
+    /// Unloads what is that old at and below a path: how many directories went. Memory isn't wanting.
     pub(crate) fn unload(&mut self, rt: &impl Abort, path: &[u8], age: u64) -> u64 {
         let path = names(rt, self.alloc, path);
-        self.table.unload(self.alloc, &path, age)
+        let gone = self.table.unload(self.alloc, &path, age);
+        assert!(rt; gone.refused != Some(FilesFault::Memory));
+        gone.count
     }
 
     /// Loads the directories on a path.

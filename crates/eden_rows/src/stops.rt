@@ -159,10 +159,18 @@ fn unload(rt: &impl Abort, mount: &mut Mount<Global>, row: Row) {
     assert!(rt; !mount.table.look(&[]).loaded);
 }
 
-/// The move, and then what is left, by its numbers.
+/// Many turns go by.
+fn grow_old(mount: &mut Mount<Global>) {
+    for _ in 0..200 {
+        mount.table.tick();
+    }
+}
+
+/// The move, and late in a long life what is left of it, by its numbers.
 fn files_after(rt: &impl Abort, alloc: Global, row: Row, is_over: bool) -> Vec<u64> {
     let mut pair = start(rt, alloc, is_over);
     move_file(rt, &mut pair, row);
+    grow_old(&mut pair.mount);
     unload(rt, &mut pair.mount, row);
     assert!(rt; shows(rt, &mut pair));
     let mount = pair.mount;

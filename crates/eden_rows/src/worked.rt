@@ -287,7 +287,7 @@ fn take(rt: &impl Abort, alloc: Global, table: &mut Table, step: Step) -> bool {
     match step {
         Step::Load(_, tree) => load(rt, alloc, table, &path, tree).is_ok(),
         Step::LoadOwn(_) => load_own(alloc, table, &path),
-        Step::Unload(_) => table.unload(alloc, &path, 0) > 0,
+        Step::Unload(_) => table.unload(alloc, &path, 0).count > 0,
         Step::Give(count) => give(table, count),
         Step::Done(change) => try_change(rt, alloc, table, change) == Some(Ok(())),
         Step::Look(_, number, kind, object) => {

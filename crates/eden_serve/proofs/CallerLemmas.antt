@@ -7,7 +7,7 @@ use Rattle.eden_model.specs.Trees.{Tree}
 use Rattle.eden_overlay.specs.declared.files.Files.{Ghosts as Files}
 use Rattle.eden_overlay.specs.declared.files.FilesFault.{FilesFault}
 use Rattle.eden_overlay.specs.Held.{HoldsState}
-use Rattle.eden_ops.specs.Keeping.{shows}
+use Rattle.eden_inode.specs.Tables.{shows}
 use Rattle.eden_checkout.specs.Checkouts.{Checkout}
 use Rattle.eden_checkout.specs.Opening.{CanOpen, files_show}
 use Rattle.eden_serve.specs.Opening.{Closes}

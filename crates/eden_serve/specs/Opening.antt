@@ -11,7 +11,7 @@ use Rattle.eden_overlay.specs.declared.files.FilesFault.TheVariants as fault
 use Rattle.eden_overlay.specs.Held.{HoldsState}
 use Rattle.eden_overlay.specs.Soundness.{AreSound}
 use Rattle.eden_tie.specs.Chains.{AreSaved}
-use Rattle.eden_ops.specs.Keeping.{shows}
+use Rattle.eden_inode.specs.Tables.{shows}
 use Rattle.eden_mount.specs.Settings.{Settings}
 use Rattle.eden_checkout.specs.declared.fault.OpenFault.{OpenFault}
 use Rattle.eden_checkout.specs.Checkouts.{Checkout}

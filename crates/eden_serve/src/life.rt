@@ -1,7 +1,7 @@
 //! A mount from its opening over its caller's session to its close.
 ghost use Rattle.std.specs.Prelude.{◌≡◌};
+ghost use Rattle.eden_inode.specs.Tables.{shows};
 ghost use Rattle.eden_checkout.specs.Opening.{MayOpen};
-ghost use Rattle.eden_ops.specs.Keeping.{shows};
 ghost use Rattle.eden_serve.specs.Lives.{Lives, Ends, first_fault};
 
 use crate::fault::LifeFault;

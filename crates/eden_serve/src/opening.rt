@@ -1,9 +1,9 @@
 //! A commit's checkout opened over an overlay, with the room of a mount, and closed to it.
 ghost use Rattle.std.specs.Prelude.{◌≡◌, IfOk, IfErr};
 ghost use Rattle.eden_cache.specs.Cache.{empty};
+ghost use Rattle.eden_inode.specs.Tables.{shows};
 ghost use Rattle.eden_mount.specs.Settings.{room_for};
 ghost use Rattle.eden_checkout.specs.Opening.{MayOpen};
-ghost use Rattle.eden_ops.specs.Keeping.{shows};
 ghost use Rattle.eden_serve.specs.Opening.{Closes, IsOpened, IsRefused};
 
 use eden_cache::ObjectCache;

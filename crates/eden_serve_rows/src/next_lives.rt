@@ -35,6 +35,27 @@ const UNCHANGED: Row = Row {
     },
 };
 
+/// So it is where a file is made what it is already.
+const PLAIN_ALREADY: Row = Row {
+    first: Life {
+        root: TWO_FILES,
+        opening: Opening::Closed,
+        history: 1_000,
+        input: "setexec /new.txt 0\nsetexec /bak/test.txt 0\nkind /new.txt\n",
+        said: "ok\nok\nkind file\n",
+        asked: &[TWO_FILES, ONE_FILE],
+    },
+    files: &[(0, 92)],
+    again: Life {
+        root: TWO_FILES,
+        opening: Opening::Closed,
+        history: 1_000,
+        input: "kind /bak/test.txt\n",
+        said: "kind file\n",
+        asked: &[TWO_FILES, ONE_FILE],
+    },
+};
+
 /// The whole of what is asked for again is in the files.
 const WRITTEN: Row = Row {
     first: Life {
@@ -159,7 +180,9 @@ fn changes_are_there_in_the_next_life(rt: HostRuntime) {
 
 #[test]
 fn what_is_not_changed_comes_from_the_commit(rt: HostRuntime) {
-    check(&rt, rt.alloc(), UNCHANGED);
+    for row in [UNCHANGED, PLAIN_ALREADY] {
+        check(&rt, rt.alloc(), row);
+    }
 }
 
 #[test]

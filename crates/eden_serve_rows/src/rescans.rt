@@ -44,7 +44,7 @@ fn killed(rt: &impl Abort, alloc: Global, damages: &[Damage]) -> Stored {
     let mut files = changed(rt, alloc, DEVICE_STOPS);
     for damage in damages {
         match *damage {
-            Removed(number) => assert!(rt; files.remove(alloc, number).is_ok()),
+            Removed(number) => assert!(rt; files.remove(number).is_ok()),
             Cut(number, size) => cut(rt, alloc, &mut files, number, size),
             Replaced(number, body) => put_directory(rt, alloc, &mut files, number, body),
         }
@@ -113,6 +113,7 @@ const E: &[u8] = b"\0\0\0\x01\x03\x01\0\0\0\0\0\0\0\x02\x01e";
 const REFUSED: &[(&[Damage], OpenFault)] = &[
     (&[Removed(2)], OpenFault::Dangling(2)),
     (&[Cut(1, 63)], OpenFault::Damaged(1, Refusal::Short)),
+    (&[Cut(2, 64)], OpenFault::Damaged(2, Refusal::BadLength)),
     (
         &[Replaced(2, EMPTY)],
         OpenFault::Damaged(2, Refusal::BadIdentifier),

@@ -10,6 +10,7 @@ use Rattle.eden_model.specs.declared.reply.Reply.{Reply}
 use Rattle.eden_mount.specs.declared.seats.Pending.{Pending}
 use Rattle.eden_mount.specs.Core.{entry}
 use Rattle.eden_shared.specs.declared.account.Account.{Account}
+use Rattle.eden_shared.specs.declared.account.Terms.{Terms}
 use Rattle.eden_shared.specs.declared.account.Told.{Told}
 use Rattle.eden_shared.specs.Accounts.{told, account, told_by, accounts}
 use Rattle.eden_shared.specs.Calls.{last_told}
@@ -53,47 +54,48 @@ told_last c n (e ∷ h) some =
 
 -- ---- all passes
 
--- the account at a place: its seat, and what was told
-pub accounts_at : (c : ℕ) (seats : List (Option Pending)) (h : List Entry) (k p : ℕ) (v : Account) → p ≡ c + k → slice_get (accounts c seats h) k ≡ Some v → (slice_get seats k ≡ Some v.pending)
-    × (v.told ≡ told_by p 1 h)
-accounts_at c [] h k p v is at = absurd (cc at)
-accounts_at c (s ∷ seats) h zero p v is at =
-    let same : account s (told_by c 1 h) ≡ v = cc at in
-    let pass : c ≡ p = omega arith in
-    (ap (λ (w : Account). Some w.pending) same, sym (ap (λ (w : Account). w.told) same) ∙ ap (λ n. told_by n 1 h) pass)
-accounts_at c (s ∷ seats) h (suc k) p v is at = accounts_at (suc c) seats h k p v (omega arith) at
+module _ (t : Terms) where
+  -- the account at a place: its seat, and what was told
+  pub accounts_at : (c : ℕ) (seats : List (Option Pending)) (h : List Entry) (k p : ℕ) (v : Account) → p ≡ c + k → slice_get (accounts t c seats h) k ≡ Some v
+      → (slice_get seats k ≡ Some v.pending) × (v.told ≡ told_by p 1 h) × (v.terms ≡ t)
+  accounts_at c [] h k p v is at = absurd (cc at)
+  accounts_at c (s ∷ seats) h zero p v is at =
+      let same : account t s (told_by c 1 h) ≡ v = cc at in
+      let pass : c ≡ p = omega arith in
+      (ap (λ (w : Account). Some w.pending) same, sym (ap (λ (w : Account). w.told) same) ∙ ap (λ n. told_by n 1 h) pass, sym (ap (λ (w : Account). w.terms) same))
+  accounts_at c (s ∷ seats) h (suc k) p v is at = accounts_at (suc c) seats h k p v (omega arith) at
 
--- a seat is taken
-pub accounts_set : (c : ℕ) (seats : List (Option Pending)) (h : List Entry) (k p : ℕ) (s : Option Pending) → p ≡ c + k
-    → accounts c (slice_set seats k s) h ≡ slice_set (accounts c seats h) k (account s (told_by p 1 h))
-accounts_set c [] h k p s is = refl
-accounts_set c (x ∷ seats) h zero p s is = ap (λ n. account s (told_by n 1 h) ∷ accounts (suc c) seats h) (omega arith)
-accounts_set c (x ∷ seats) h (suc k) p s is = ap (λ vs. account x (told_by c 1 h) ∷ vs) (accounts_set (suc c) seats h k p s (omega arith))
+  -- a seat is taken
+  pub accounts_set : (c : ℕ) (seats : List (Option Pending)) (h : List Entry) (k p : ℕ) (s : Option Pending) → p ≡ c + k
+      → accounts t c (slice_set seats k s) h ≡ slice_set (accounts t c seats h) k (account t s (told_by p 1 h))
+  accounts_set c [] h k p s is = refl
+  accounts_set c (x ∷ seats) h zero p s is = ap (λ n. account t s (told_by n 1 h) ∷ accounts t (suc c) seats h) (omega arith)
+  accounts_set c (x ∷ seats) h (suc k) p s is = ap (λ vs. account t x (told_by c 1 h) ∷ vs) (accounts_set (suc c) seats h k p s (omega arith))
 
-accounts_others : (c p : ℕ) (seats : List (Option Pending)) (h : List Entry) (q : Request) (r : Reply) → p < c → accounts c seats (h ++ entry p q r ∷ []) ≡ accounts c seats h
-accounts_others c p [] h q r less = refl
-accounts_others c p (x ∷ seats) h q r less =
-    let head = told_others p c 1 h q r (apart p c (λ same. absurd (omega (arith, same)))) in
-    let rest = accounts_others (suc c) p seats h q r (omega arith) in
-    λ i. account x (head i) ∷ rest i
+  accounts_others : (c p : ℕ) (seats : List (Option Pending)) (h : List Entry) (q : Request) (r : Reply) → p < c → accounts t c seats (h ++ entry p q r ∷ []) ≡ accounts t c seats h
+  accounts_others c p [] h q r less = refl
+  accounts_others c p (x ∷ seats) h q r less =
+      let head = told_others p c 1 h q r (apart p c (λ same. absurd (omega (arith, same)))) in
+      let rest = accounts_others (suc c) p seats h q r (omega arith) in
+      λ i. account t x (head i) ∷ rest i
 
--- a pass is answered: its seat is free, and it was told of the entry
-pub accounts_done : (c p : ℕ) (seats : List (Option Pending)) (h : List Entry) (k : ℕ) (q : Request) (r : Reply) → p ≡ c + k
-    → accounts c (slice_set seats k None) (h ++ entry p q r ∷ []) ≡ slice_set (accounts c seats h) k (account None (told_by p 1 h ++ told (1 + length h) q r ∷ []))
-accounts_done c p [] h k q r is = refl
-accounts_done c p (x ∷ seats) h zero q r is =
-    let pass : c ≡ p = omega arith in
-    let head = ap (λ n. told_by n 1 (h ++ entry p q r ∷ [])) pass ∙ told_own p 1 h q r in
-    let rest = accounts_others (suc c) p seats h q r (omega arith) in
-    λ i. account None (head i) ∷ rest i
-accounts_done c p (x ∷ seats) h (suc k) q r is =
-    let head = told_others p c 1 h q r (apart p c (λ same. absurd (omega (arith, same)))) in
-    let rest = accounts_done (suc c) p seats h k q r (omega arith) in
-    λ i. account x (head i) ∷ rest i
+  -- a pass is answered: its seat is free, and it was told of the entry
+  pub accounts_done : (c p : ℕ) (seats : List (Option Pending)) (h : List Entry) (k : ℕ) (q : Request) (r : Reply) → p ≡ c + k
+      → accounts t c (slice_set seats k None) (h ++ entry p q r ∷ []) ≡ slice_set (accounts t c seats h) k (account t None (told_by p 1 h ++ told (1 + length h) q r ∷ []))
+  accounts_done c p [] h k q r is = refl
+  accounts_done c p (x ∷ seats) h zero q r is =
+      let pass : c ≡ p = omega arith in
+      let head = ap (λ n. told_by n 1 (h ++ entry p q r ∷ [])) pass ∙ told_own p 1 h q r in
+      let rest = accounts_others (suc c) p seats h q r (omega arith) in
+      λ i. account t None (head i) ∷ rest i
+  accounts_done c p (x ∷ seats) h (suc k) q r is =
+      let head = told_others p c 1 h q r (apart p c (λ same. absurd (omega (arith, same)))) in
+      let rest = accounts_done (suc c) p seats h k q r (omega arith) in
+      λ i. account t x (head i) ∷ rest i
 
-pub length_accounts : (c : ℕ) (seats : List (Option Pending)) (h : List Entry) → length (accounts c seats h) ≡ length seats
-length_accounts c [] h = refl
-length_accounts c (s ∷ seats) h = ap suc (length_accounts (suc c) seats h)
+  pub length_accounts : (c : ℕ) (seats : List (Option Pending)) (h : List Entry) → length (accounts t c seats h) ≡ length seats
+  length_accounts c [] h = refl
+  length_accounts c (s ∷ seats) h = ap suc (length_accounts (suc c) seats h)
 
 -- ---- seats
 

@@ -5,10 +5,12 @@ use Rattle.std.proofs.lemmas.List.{length-map}
 use Rattle.std.specs.Prelude.{slice_get, slice_index_or}
 use Rattle.std.specs.declared.option.Option.{Option}
 use Rattle.eden_mount.specs.declared.seats.Pending.{Pending}
+use Rattle.eden_model.specs.Trees.{Tree}
+use Rattle.eden_mount.specs.Tables.{Table}
 use Rattle.eden_mount.specs.Core.{Core}
+use Rattle.eden_mount.specs.Kept.{IsMount}
 use Rattle.eden_shared.specs.declared.lanes.Lane.{Lane}
-use Rattle.eden_shared.specs.Accounts.{accounts}
-use Rattle.eden_shared.specs.Lanes.{names_of, values_of}
+use Rattle.eden_shared.specs.Guarded.{IsTied}
 use Rattle.eden_shared.specs.Passes.{Carried, Has, AreEach, IsKnown, Agrees}
 use Rattle.eden_shared.proofs.Entries.{knows_own}
 use Rattle.eden_shared.proofs.Accounting.{length_accounts, seat_there}
@@ -21,19 +23,22 @@ seat_within [] k s at = absurd (cc at)
 seat_within (x ∷ seats) zero s at = omega arith
 seat_within (x ∷ seats) (suc k) s at = (let r = seat_within seats k s at in omega arith)
 
-pub as_many : {T : Type 0} (m : Core T) (lanes : List Lane) (names : List ℕ) → names_of lanes ≡ names → values_of lanes ≡ accounts 1 m.seats m.history → length m.seats ≡ m.queue.passes
-    → length names ≡ m.queue.passes
-as_many m lanes names named valued seats =
-    ap length (sym named) ∙ length-map lanes (λ (l : Lane). l.near.name) ∙ sym (length-map lanes (λ (l : Lane). l.near.value)) ∙ ap length valued ∙ length_accounts 1 m.seats m.history ∙ seats
+pub as_many : {T : Type 0} (A : Table T) (m : Core T) (lanes : List Lane) (names : List ℕ) → IsTied A names lanes m → length m.seats ≡ m.queue.passes → length names ≡ m.queue.passes
+as_many A m lanes names tied seats =
+    ap length (sym tied.named) ∙ length-map lanes (λ (l : Lane). l.near.name) ∙ sym (length-map lanes (λ (l : Lane). l.near.value)) ∙ ap length tied.valued
+    ∙ length_accounts tied.terms 1 m.seats m.history ∙ seats
 
 -- where each pass is known, nothing is pending
-pub all_agree : {T : Type 0} (m : Core T) (passes : List Carried) → length m.seats ≡ m.queue.passes → AreEach passes m.queue.passes → ((p : Carried) → Has passes p → IsKnown m p) → Agrees m passes
-all_agree m passes seats are known = record {
+pub all_agree : {T : Type 0} (A : Table T) (honest : Type 0) (opening : Tree) (m : Core T) (passes : List Carried) → IsMount A honest opening m → AreEach passes m.queue.passes
+    → ((p : Carried) → Has passes p → IsKnown A m p) → Agrees A m passes
+all_agree A honest opening m passes mount are known = record {
   each = are;
   rest = λ c s pends.
       let within = seat_within m.seats (c - 1) s pends.1 in
-      let one = are.each c pends.0 (let some = pends.0 in omega arith) in
+      let one = are.each c pends.0 (let some = pends.0 in let seats = mount.seats in omega arith) in
       let free = ap (λ n. slice_get m.seats (n - 1)) (sym one.2) ∙ (known one.0 one.1).free in
       absurd (cc (sym (seat_there m.seats (c - 1) None free) ∙ pends.1));
   told = λ p has. knows_own m.history p (known p has).told;
+  entries = λ n e is. (let pass = mount.entries (n - 1) e is.1 in are.each e.pass pass.0 pass.1);
+  kept = λ p has. (known p has).kept;
 }

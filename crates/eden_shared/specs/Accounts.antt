@@ -5,13 +5,14 @@ use Rattle.eden_model.specs.declared.request.Request.{Request}
 use Rattle.eden_model.specs.declared.reply.Reply.{Reply}
 use Rattle.eden_mount.specs.declared.seats.Pending.{Pending}
 use Rattle.eden_shared.specs.declared.account.Account.{Account}
+use Rattle.eden_shared.specs.declared.account.Terms.{Terms}
 use Rattle.eden_shared.specs.declared.account.Told.{Told}
 
 abbrev pub told : ℕ → Request → Reply → Told
 told n q r = record { number = n; request = q; reply = r }
 
-abbrev pub account : Option Pending → List Told → Account
-account s ts = record { pending = s; told = ts }
+abbrev pub account : Terms → Option Pending → List Told → Account
+account terms s ts = record { terms = terms; pending = s; told = ts }
 
 -- the entries of pass c, where the first has the number n
 abbrev pub told_by : ℕ → ℕ → List Entry → List Told
@@ -19,6 +20,6 @@ told_by c n [] = []
 told_by c n (e ∷ es) = if e.pass == c then told n e.request e.reply ∷ told_by c (suc n) es else told_by c (suc n) es
 
 -- the accounts of the passes from c on: their seats, and their entries
-abbrev pub accounts : ℕ → List (Option Pending) → List Entry → List Account
-accounts c [] history = []
-accounts c (s ∷ seats) history = account s (told_by c 1 history) ∷ accounts (suc c) seats history
+abbrev pub accounts : Terms → ℕ → List (Option Pending) → List Entry → List Account
+accounts terms c [] history = []
+accounts terms c (s ∷ seats) history = account terms s (told_by c 1 history) ∷ accounts terms (suc c) seats history

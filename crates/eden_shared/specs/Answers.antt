@@ -13,4 +13,4 @@ told_of (Some s) a = told a.number s.request a.reply ∷ []
 
 -- nothing is pending any more, and the pass was told so
 abbrev pub after_answer : Answered → Account → Account
-after_answer a x = account None (x.told ++ told_of x.pending a)
+after_answer a x = account x.terms None (x.told ++ told_of x.pending a)

@@ -1,5 +1,5 @@
 -- What a call through the lock promises.
-use Rattle.std.specs.Prelude.{◌≡◌, ℕ, ◌+◌, ◌-◌, ◌<◌, ◌≤◌, ◌++◌, List, [], ◌∷◌, length, slice_get, Some}
+use Rattle.std.specs.Prelude.{◌≡◌, ℕ, ◌+◌, ◌-◌, ◌<◌, ◌≤◌, ◌++◌, List, [], ◌∷◌, length, slice_get, Some, true, false}
 use Rattle.eden_model.specs.declared.entry.Entry.{Entry}
 use Rattle.eden_model.specs.declared.fault.CallFault.{CallFault}
 use Rattle.eden_model.specs.declared.fault.CallFault.TheVariants.{Start, Foreign, Stopped}
@@ -13,7 +13,8 @@ use Rattle.eden_mount.specs.Core.{entry}
 use Rattle.eden_mount.specs.declared.seats.Pending.{Pending}
 use Rattle.eden_shared.specs.declared.account.Told.{Told}
 use Rattle.eden_shared.specs.declared.lanes.Answered.{Answered}
-use Rattle.eden_shared.specs.Accounts.{told}
+use Rattle.eden_shared.specs.Accounts.{told, told_by}
+use Rattle.eden_shared.specs.Guarded.{Guarded}
 use Rattle.eden_shared.specs.Passes.{Carried, carried}
 
 -- the last number that was told, or 0
@@ -22,20 +23,35 @@ last_told [] = 0
 last_told (t ∷ []) = t.number
 last_told (t ∷ u ∷ ts) = last_told (u ∷ ts)
 
--- why a pass of this lock isn't let start: it is neither unknown nor busy
-abbrev pub IsRefusal : StartFault → Type 0
-IsRefusal NoPass = ⊥
-IsRefusal Busy = ⊥
-IsRefusal (HistoryFull limit) = Unit {0}
-IsRefusal Memory = Unit {0}
-
--- why a call isn't served; a pass is foreign only by what it learnt, since the history has what it was told
-abbrev pub IsLawful : ℕ → List Told → CallFault → Type 0
-IsLawful floor ts (Start f) = IsRefusal f
-IsLawful floor ts (Foreign f l) = (f ≡ floor) × (l + 1 < f) × (last_told ts ≤ l)
-IsLawful floor ts Stopped = Unit {0}
+-- why nobody with this floor is let in now: the lock was stopped, or else the history is too short
+abbrev pub IsHeldBack : {T : Type 0} → Guarded T → ℕ → CallFault → Type 0
+IsHeldBack l floor (Start f) = ⊥
+IsHeldBack l floor (Foreign f n) = (l.stopped ≡ false) × (f ≡ floor) × (n ≡ length l.mount.history) × (n + 1 < f)
+IsHeldBack l floor Stopped = l.stopped ≡ true
 
 module _ (honest : Type 0) (opening : Tree) where
+  -- the history is full: some legal one, in which this pass was told its own entries, and so many pending requests of others
+  pub record IsFull (p : Carried) : Type 0 where
+    pub history : List Entry
+    pub legal : honest → Legal opening history
+    pub told : p.told ≡ told_by p.number 1 history
+    pub pending : ℕ
+    pub others : pending < p.terms.passes
+    pub full : length history + pending ≡ p.terms.limit
+
+  -- why a pass of this lock isn't let start: it is neither unknown nor busy
+  abbrev pub IsRefusal : Carried → StartFault → Type 0
+  IsRefusal p NoPass = ⊥
+  IsRefusal p Busy = ⊥
+  IsRefusal p (HistoryFull limit) = (limit ≡ p.terms.limit) × IsFull p
+  IsRefusal p Memory = Unit {0}
+
+  -- why a call isn't served; a pass is foreign only by what it learnt, since the history has what it was told
+  abbrev pub IsLawful : Carried → CallFault → Type 0
+  IsLawful p (Start f) = IsRefusal p f
+  IsLawful p (Foreign f l) = (f ≡ p.floor) × (l + 1 < f) × (last_told p.told ≤ l)
+  IsLawful p Stopped = Unit {0}
+
   -- some legal history of n entries ends with this one
   abbrev pub StandsIn : ℕ → ℕ → Request → Reply → Type 0
   StandsIn n c q r = (before : List Entry) × (length (before ++ entry c q r ∷ []) ≡ n) × (honest → Legal opening (before ++ entry c q r ∷ []))
@@ -50,7 +66,7 @@ module _ (honest : Type 0) (opening : Tree) where
     pub reply : Reply
     pub later : p.floor ≤ number
     pub stands : StandsIn number p.number q reply
-    pub is : p' ≡ carried p.number (number + 1) (p.told ++ told number q reply ∷ [])
+    pub is : p' ≡ carried p.terms p.number (number + 1) (p.told ++ told number q reply ∷ [])
 
   -- .. which is lent
   abbrev pub Lends : Carried → Request → Told → Carried → Type 0

@@ -1,6 +1,8 @@
+pub mod Terms
 pub mod Accounts
 pub mod Answers
 pub mod Lanes
+pub mod Guarded
 pub mod Passes
 pub mod Calls
 pub mod Fetched

@@ -1,11 +1,12 @@
 -- What a shared mount is opened over.
-use Rattle.std.specs.Prelude.{◌≡◌, ℕ, List, [], map, replicate, None}
+use Rattle.std.specs.Prelude.{◌≡◌, ◌<◌, ℕ, List, [], length, map, slice_get, Some, None}
 use Rattle.eden_mount.specs.declared.seats.Pending.{Pending}
 use Rattle.eden_mount.specs.Core.{Core, Pends}
 use Rattle.eden_mount.specs.Serving.{IsQuiet}
-use Rattle.eden_shared.specs.declared.account.Account.{Account}
 use Rattle.eden_shared.specs.declared.lanes.Lane.{Lane}
 use Rattle.eden_shared.specs.declared.opening.End.{End}
+use Rattle.eden_shared.specs.declared.account.Account.{Account}
+use Rattle.eden_shared.specs.declared.account.Terms.{Terms}
 use Rattle.eden_shared.specs.Accounts.{account}
 use Rattle.eden_shared.specs.Lanes.{names_of, values_of}
 
@@ -18,11 +19,11 @@ pub record IsUnused {T : Type 0} (m : Core T) : Type 0 where
 abbrev pub far_names : List End → List ℕ
 far_names ends = map (λ (e : End). e.far.name) ends
 
-abbrev pub far_values : List End → List Account
-far_values ends = map (λ (e : End). e.far.value) ends
-
--- n ties, whose passes have nothing pending and were told nothing
+-- both ends of n ties
 pub record AreTied (lanes : List Lane) (ends : List End) (n : ℕ) : Type 0 where
   pub names : far_names ends ≡ names_of lanes
-  pub near : values_of lanes ≡ replicate n (account None [])
-  pub far : far_values ends ≡ replicate n (account None [])
+  pub count : length lanes ≡ n
+
+-- the first n hold that a mount was opened so, and that their passes were told nothing
+abbrev pub AreOpened : Terms → List Lane → ℕ → Type 0
+AreOpened terms lanes n = (k : ℕ) → k < n → (a : Account) → slice_get (values_of lanes) k ≡ Some a → a ≡ account terms None []

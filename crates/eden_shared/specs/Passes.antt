@@ -2,18 +2,23 @@
 use Rattle.std.specs.Prelude.{◌≡◌, ◌↔◌, ℕ, zero, suc, ◌+◌, ◌-◌, ◌≤◌, List, [], ◌∷◌, length, slice_get, Some, None}
 use Rattle.eden_model.specs.declared.entry.Entry.{Entry}
 use Rattle.eden_mount.specs.declared.seats.Pending.{Pending}
+use Rattle.eden_mount.specs.Tables.{Table}
 use Rattle.eden_mount.specs.Core.{Core, Pends, entry}
+use Rattle.eden_shared.specs.declared.account.Terms.{Terms}
 use Rattle.eden_shared.specs.declared.account.Told.{Told}
 use Rattle.eden_shared.specs.Accounts.{told_by}
+use Rattle.eden_shared.specs.Terms.{Meets}
 
 pub record Carried : Type 0 where
+  -- what its mount was opened with
+  pub terms : Terms
   pub number : ℕ
   -- the least number that the pass's next entry may have
   pub floor : ℕ
   pub told : List Told
 
-abbrev pub carried : ℕ → ℕ → List Told → Carried
-carried number floor ts = record { number = number; floor = floor; told = ts }
+abbrev pub carried : Terms → ℕ → ℕ → List Told → Carried
+carried terms number floor ts = record { terms = terms; number = number; floor = floor; told = ts }
 
 abbrev pub greater : ℕ → ℕ → ℕ
 greater a b = a + (b - a)
@@ -24,9 +29,13 @@ Rises least [] floor = least ≤ floor
 Rises least (t ∷ ts) floor = (least ≤ t.number) × Rises (suc t.number) ts floor
 
 -- the passes from c on, which were told nothing
-abbrev pub newcomers : ℕ → ℕ → List Carried
-newcomers c zero = []
-newcomers c (suc n) = carried c 1 [] ∷ newcomers (suc c) n
+abbrev pub newcomers : Terms → ℕ → ℕ → List Carried
+newcomers terms c zero = []
+newcomers terms c (suc n) = carried terms c 1 [] ∷ newcomers terms (suc c) n
+
+-- passes from 1 on, which were told nothing
+abbrev pub AreNewcomers : List Carried → ℕ → Type 0
+AreNewcomers passes n = (terms : Terms) × (passes ≡ newcomers terms 1 n)
 
 -- one of them
 abbrev pub Has : List Carried → Carried → Type 0
@@ -41,10 +50,11 @@ pub record AreEach (passes : List Carried) (n : ℕ) : Type 0 where
   pub count : length passes ≡ n
   pub each : (c : ℕ) → 1 ≤ c → c ≤ n → HasNumber passes c
 
--- the pass has nothing pending, and was told its entries
-pub record IsKnown {T : Type 0} (m : Core T) (p : Carried) : Type 0 where
+-- the pass has nothing pending, and was told its entries, and the mount keeps what it was opened with
+pub record IsKnown {T : Type 0} (A : Table T) (m : Core T) (p : Carried) : Type 0 where
   pub free : slice_get m.seats (p.number - 1) ≡ Some None
   pub told : p.told ≡ told_by p.number 1 m.history
+  pub kept : Meets A p.terms m
 
 -- entry n of a history
 abbrev pub IsEntry : List Entry → ℕ → Entry → Type 0
@@ -58,8 +68,11 @@ Heard p t = (k : ℕ) × (slice_get p.told k ≡ Some t)
 abbrev pub KnowsItsOwn : List Entry → Carried → Type 0
 KnowsItsOwn history p = (t : Told) → Heard p t ↔ IsEntry history t.number (entry p.number t.request t.reply)
 
--- there is one pass of each number, nothing is pending, and each was told of its entries and of nothing else
-pub record Agrees {T : Type 0} (m : Core T) (passes : List Carried) : Type 0 where
+-- There is one pass of each number, nothing is pending, each was told of its entries and of nothing else, and no entry is
+-- anybody else's. The mount keeps what it was opened with.
+pub record Agrees {T : Type 0} (A : Table T) (m : Core T) (passes : List Carried) : Type 0 where
   pub each : AreEach passes m.queue.passes
   pub rest : (c : ℕ) (s : Pending) → ¬ Pends c s m
   pub told : (p : Carried) → Has passes p → KnowsItsOwn m.history p
+  pub entries : (n : ℕ) (e : Entry) → IsEntry m.history n e → HasNumber passes e.pass
+  pub kept : (p : Carried) → Has passes p → Meets A p.terms m

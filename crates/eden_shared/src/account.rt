@@ -1,4 +1,4 @@
-use eden_model::{Reply, Request};
+use eden_model::{Id, Reply, Request};
 use eden_mount::Pending;
 use std::collections::LinkedList;
 use std::marker::Brand;
@@ -12,8 +12,18 @@ pub struct Told {
     pub reply: Reply,
 }
 
+/// What a shared mount was opened with: how many passes, how long its history may become, its commit, by the id of its
+/// tree, and the next inode number. No value of it is made.
+pub struct Terms {
+    pub passes: u32,
+    pub limit: u32,
+    pub commit: Id,
+    pub next: u64,
+}
+
 /// What a pass and the lock both say of the pass. No value of it is made: it is what the ends of a tie hold.
 pub struct Account {
+    pub terms: Terms,
     pub pending: Option<Pending>,
     pub told: LinkedList<Told>,
 }

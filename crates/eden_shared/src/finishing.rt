@@ -18,10 +18,10 @@ pub struct Torn<W: World, T: Attempts<W> + Drop, A: Allocator, J: Naming> {
 
 impl<W: World, T: Attempts<W> + Drop, A: Allocator, J: Naming> Shared<W, T, A, J> {
     /// Gives the mount back, where each of its passes is there once: then nothing is pending, and the history's entries
-    /// are what the passes were told. Else `Torn`, with mount and passes as they were. It takes no memory.
+    /// are what the passes were told, and no others. Else `Torn`, with mount and passes as they were. It takes no memory.
     pub fn finish(self, passes: Vec<Pass<J>>) -> Result<Mount<W, T, A>, Torn<W, T, A, J>>
-        ensures ok { IfOk result (λ m. Agrees m passes.items) }
-        ensures torn { IfErr result (λ t. (t.passes.items ≡ passes.items) × (¬ Agrees t.mount passes.items)) }
+        ensures ok { IfOk result (λ m. Agrees T.table m passes.items) }
+        ensures torn { IfErr result (λ t. (t.passes.items ≡ passes.items) × (¬ Agrees T.table t.mount passes.items)) }
         ensures each { AreEach passes.items (length J.names) → IsOk result }
         ensures legal { W.honest → MatchResult result (λ m. Legal W.opening m.history)
             (λ t. Legal W.opening t.mount.history) }

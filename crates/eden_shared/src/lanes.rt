@@ -4,8 +4,9 @@ ghost use Rattle.eden_shared.specs.Lanes.{names_of, values_of};
 
 use crate::account::Account;
 use crate::ends::{Begins, Far, Near, Turns, turn};
-use eden_model::Reply;
-use eden_mount::Pending;
+use eden_model::{Reply, World};
+use eden_mount::{Attempts, Mount, Pending};
+use std::alloc::Allocator;
 
 /// The end of a tie that lies under the lock. The byte is there since a row of values without bytes gets no proof.
 #[derive(Drop)]
@@ -14,14 +15,26 @@ pub struct Lane {
     pub mark: u8,
 }
 
-/// An account of a pass that was told nothing.
+/// An account of a pass of no mount yet.
 pub(crate) struct Fresh;
 
 impl Begins<(), Account> for Fresh {
     ghost use Rattle.std.specs.Prelude.{None, []};
     ghost use Rattle.eden_shared.specs.Accounts.{account};
+    ghost use Rattle.eden_shared.specs.Terms.{no_terms};
 
-    ghost value = { λ _. account None [] };
+    ghost value = { λ _. account no_terms None [] };
+}
+
+/// An account of a pass of this mount, which was told nothing.
+pub(crate) struct Opens;
+
+impl<W: World, T: Attempts<W> + Drop, A: Allocator> Turns<Mount<W, T, A>, Account> for Opens {
+    ghost use Rattle.std.specs.Prelude.{None, []};
+    ghost use Rattle.eden_shared.specs.Accounts.{account};
+    ghost use Rattle.eden_shared.specs.Terms.{terms_of};
+
+    ghost after = { λ m a. account (terms_of T.table m) None [] };
 }
 
 /// The account stays.
@@ -38,7 +51,7 @@ impl Turns<Pending, Account> for Starts {
     ghost use Rattle.std.specs.Prelude.{Some};
     ghost use Rattle.eden_shared.specs.Accounts.{account};
 
-    ghost after = { λ s a. account (Some s) a.told };
+    ghost after = { λ s a. account a.terms (Some s) a.told };
 }
 
 /// A reply, and its entry's number.

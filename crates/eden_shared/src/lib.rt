@@ -16,7 +16,7 @@ mod opening;
 mod pass;
 mod shared;
 
-pub use account::{Naming, Told};
+pub use account::{Naming, Terms, Told};
 pub use fetching::Fetched;
 pub use finishing::Torn;
 pub use opening::Ties;

@@ -1,12 +1,16 @@
 // What lies under the lock: the mount, whether it was stopped, and one end of each pass's tie.
-ghost use Rattle.std.specs.Prelude.{◌≡◌, ◌+◌, ◌≤◌, length, Some, None, IfOk, OnOk, OnErr, IfErr, IfSome, IfNone, true};
+ghost use Rattle.std.specs.Prelude.{◌≡◌, ◌+◌, ◌≤◌, ℕ, length, Some, None, IfOk, OnOk, OnErr, IfErr, IfSome, IfNone, true, false};
 ghost use Rattle.eden_object.specs.Objects.{IsHonest};
+ghost use Rattle.eden_mount.specs.Core.{Pends};
+ghost use Rattle.eden_mount.specs.Steps.{IsRefused};
+ghost use Rattle.eden_mount.specs.declared.seats.Pending as declared;
 ghost use Rattle.eden_shared.specs.Accounts.{account};
 ghost use Rattle.eden_shared.specs.Answers.{after_answer};
-ghost use Rattle.eden_shared.specs.Calls.{AnswersTo, IsLawful, IsRefusal};
+ghost use Rattle.eden_shared.specs.Calls.{AnswersTo, IsHeldBack, IsLawful, IsRefusal};
 ghost use Rattle.eden_shared.specs.Lanes.{HasName};
 ghost use Rattle.eden_shared.specs.Fetched.{ComesTo};
-ghost use Rattle.eden_shared.specs.Passes.{Agrees, AreEach, Carried, Has, IsKnown};
+ghost use Rattle.eden_shared.specs.Guarded.{guarded};
+ghost use Rattle.eden_shared.specs.Passes.{Agrees, AreEach, Carried, Has, IsKnown, carried};
 
 use crate::account::{Account, Naming};
 use crate::ends::Far;
@@ -18,7 +22,8 @@ use eden_mount::{Arrived, Attempts, Mount, Pending, Turned};
 use std::alloc::Allocator;
 use std::marker::{Model, PhantomData};
 
-/// Contracts see the mount. What the ends hold are its seats and the entries of each pass.
+/// Contracts see the mount, and whether it was stopped. What the ends hold are its seats, the entries of each pass, and
+/// what the mount was opened with.
 #[derive(Drop)]
 pub struct Locked<W: World, T: Attempts<W> + Drop, A: Allocator, J: Naming> {
     pub(crate) mount: Mount<W, T, A>,
@@ -28,17 +33,13 @@ pub struct Locked<W: World, T: Attempts<W> + Drop, A: Allocator, J: Naming> {
 }
 
 impl<W: World, T: Attempts<W> + Drop, A: Allocator, J: Naming> Model for Locked<W, T, A, J> {
-    ghost use Rattle.std.specs.Prelude.{◌≡◌};
-    ghost use Rattle.eden_mount.specs.Core.{Core};
-    ghost use Rattle.eden_shared.specs.Accounts.{accounts};
-    ghost use Rattle.eden_shared.specs.Lanes.{names_of, values_of};
+    ghost use Rattle.eden_shared.specs.Guarded.{Guarded, IsTied, guarded};
 
-    ghost Value = { Core T };
+    ghost Value = { Guarded T };
 
-    ghost view = { λ l. l.mount };
+    ghost view = { λ l. guarded l.mount l.stopped };
 
-    ghost invariant = { λ l. (names_of l.lanes.items ≡ J.names)
-        × (values_of l.lanes.items ≡ accounts 1 l.mount.seats l.mount.history) };
+    ghost invariant = { λ l. IsTied T.table J.names l.lanes.items l.mount };
 }
 
 impl<W: World, T: Attempts<W> + Drop, A: Allocator, J: Naming> Locked<W, T, A, J> {
@@ -57,9 +58,11 @@ impl<W: World, T: Attempts<W> + Drop, A: Allocator, J: Naming> Locked<W, T, A, J
         ensures name { end.new.name ≡ end.old.name }
         ensures request { IfOk result (λ s. s.request ≡ request) }
         ensures floor { IfOk result (λ s. floor ≤ s.since + 1) }
-        ensures pending { IfOk result (λ s. end.new.value ≡ account (Some s) end.old.value.told) }
+        ensures pending { IfOk result (λ s. end.new.value
+            ≡ account end.old.value.terms (Some s) end.old.value.told) }
         ensures err { OnErr result (end.new.value ≡ end.old.value) }
-        ensures why { IfErr result (IsLawful floor end.old.value.told) }
+        ensures why { IfErr result (IsLawful W.honest W.opening
+            (carried end.old.value.terms number floor end.old.value.told)) }
     {
         let since = match self.admit(number, floor, end) {
             Ok(since) => since,
@@ -88,9 +91,12 @@ impl<W: World, T: Attempts<W> + Drop, A: Allocator, J: Naming> Locked<W, T, A, J
         requires lane { HasName J.names number end.old.name }
         ensures same { self.new ≡ self.old }
         ensures end { (end.new.name ≡ end.old.name) × (end.new.value ≡ end.old.value) }
-        ensures length { IfOk result (λ n. n ≡ length self.old.history) }
+        ensures length { IfOk result (λ n. n ≡ length self.old.mount.history) }
+        ensures heeded { OnOk result (self.old.stopped ≡ false) }
+        ensures held { IfErr result (IsHeldBack self.old floor) }
         ensures floor { IfOk result (λ n. floor ≤ n + 1) }
-        ensures why { IfErr result (IsLawful floor end.old.value.told) }
+        ensures why { IfErr result (IsLawful W.honest W.opening
+            (carried end.old.value.terms number floor end.old.value.told)) }
     {
         look(&mut self.lanes, number as usize - 1, end);
         if self.stopped {
@@ -115,11 +121,14 @@ impl<W: World, T: Attempts<W> + Drop, A: Allocator, J: Naming> Locked<W, T, A, J
         requires lane { HasName J.names number end.old.name }
         requires free { end.old.value.pending ≡ None }
         requires request { pending.now.request ≡ request }
-        requires since { pending.now.since ≡ length self.old.history }
+        requires since { pending.now.since ≡ length self.old.mount.history }
         ensures name { end.new.name ≡ end.old.name }
-        ensures ok { OnOk result (end.new.value ≡ account (Some pending.now) end.old.value.told) }
+        ensures ok { OnOk result (end.new.value
+            ≡ account end.old.value.terms (Some pending.now) end.old.value.told) }
         ensures err { OnErr result (end.new.value ≡ end.old.value) }
-        ensures why { IfErr result IsRefusal }
+        ensures refused { IfErr result (IsRefused self.old.mount number) }
+        ensures why { IfErr result (IsRefusal W.honest W.opening
+            (carried end.old.value.terms number 0 end.old.value.told)) }
     {
         let at = number as usize - 1;
         look(&mut self.lanes, at, end);
@@ -156,12 +165,19 @@ impl<W: World, T: Attempts<W> + Drop, A: Allocator, J: Naming> Locked<W, T, A, J
     }
 
     /// From now on no request is started.
-    pub(crate) fn stop(&mut self) {
+    pub(crate) fn stop(&mut self)
+        ensures { self.new ≡ guarded self.old.mount true }
+    {
         self.stopped = true;
     }
 
     /// Whether nothing will be wanted any more: it was stopped, and nothing is pending.
-    pub(crate) fn is_over(&self) -> bool {
+    pub(crate) fn is_over(&self) -> bool
+        ensures stopped { result ≡ true → self.now.stopped ≡ true }
+        ensures rests { result ≡ true → (c : ℕ) (s : declared.Pending) → ¬ Pends c s self.now.mount }
+        ensures over { self.now.stopped ≡ true → ((c : ℕ) (s : declared.Pending) → ¬ Pends c s self.now.mount)
+            → result ≡ true }
+    {
         self.stopped && self.mount.busy().is_none()
     }
 
@@ -192,7 +208,7 @@ impl<W: World, T: Attempts<W> + Drop, A: Allocator, J: Naming> Locked<W, T, A, J
     fn check(&mut self, pass: &mut Pass<J>)
         ensures lock { self.new ≡ self.old }
         ensures pass { pass.new ≡ pass.old }
-        ensures known { IsKnown self.old pass.old }
+        ensures known { IsKnown T.table self.old.mount pass.old }
     {
         look(&mut self.lanes, pass.number as usize - 1, &mut pass.end);
     }
@@ -201,7 +217,7 @@ impl<W: World, T: Attempts<W> + Drop, A: Allocator, J: Naming> Locked<W, T, A, J
     fn check_all(&mut self, passes: &mut Vec<Pass<J>>)
         ensures lock { self.new ≡ self.old }
         ensures passes { passes.new.items ≡ passes.old.items }
-        ensures known { (p : Carried) → Has passes.old.items p → IsKnown self.old p }
+        ensures known { (p : Carried) → Has passes.old.items p → IsKnown T.table self.old.mount p }
     {
         for i in 0..passes.len() {
             self.check(&mut passes[i]);
@@ -212,9 +228,9 @@ impl<W: World, T: Attempts<W> + Drop, A: Allocator, J: Naming> Locked<W, T, A, J
     pub(crate) fn agrees(&mut self, passes: &mut Vec<Pass<J>>) -> bool
         ensures lock { self.new ≡ self.old }
         ensures passes { passes.new.items ≡ passes.old.items }
-        ensures yes { result ≡ true → Agrees self.old passes.old.items }
-        ensures no { AreEach passes.old.items self.old.queue.passes → result ≡ true }
-        ensures count { length J.names ≡ self.old.queue.passes }
+        ensures yes { result ≡ true → Agrees T.table self.old.mount passes.old.items }
+        ensures no { AreEach passes.old.items self.old.mount.queue.passes → result ≡ true }
+        ensures count { length J.names ≡ self.old.mount.queue.passes }
     {
         self.mount.holds();
         self.check_all(passes);
@@ -227,7 +243,7 @@ impl<W: World, T: Attempts<W> + Drop, A: Allocator, J: Naming> Locked<W, T, A, J
 
     /// The mount, as it is.
     pub(crate) fn into_mount(self) -> Mount<W, T, A>
-        ensures { result ≡ self }
+        ensures { result ≡ self.mount }
     {
         let Locked { mount, .. } = self;
         mount

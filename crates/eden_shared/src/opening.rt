@@ -1,12 +1,12 @@
-ghost use Rattle.std.specs.Prelude.{◌≡◌, ◌≤◌, [], length, replicate, None, IfOk, IfErr};
-ghost use Rattle.eden_shared.specs.Accounts.{account};
+ghost use Rattle.std.specs.Prelude.{◌≡◌, ◌≤◌, length, IfOk, IfErr};
 ghost use Rattle.eden_shared.specs.Lanes.{names_of};
-ghost use Rattle.eden_shared.specs.Opening.{AreTied, IsUnused, far_names, far_values};
+ghost use Rattle.eden_shared.specs.Opening.{AreOpened, AreTied, IsUnused, far_names};
 ghost use Rattle.eden_shared.specs.Passes.{newcomers};
+ghost use Rattle.eden_shared.specs.Terms.{terms_of};
 
 use crate::account::{Account, Naming};
 use crate::ends::{Far, tie};
-use crate::lanes::{Fresh, Lane};
+use crate::lanes::{Fresh, Lane, Opens, change};
 use crate::locked::Locked;
 use crate::pass::Pass;
 use crate::shared::Shared;
@@ -47,21 +47,30 @@ impl Ties {
     }
 }
 
-/// The passes of these ends, in order. The only error is want of memory.
-fn hand_out<J: Naming>(alloc: Global, ends: Vec<End>) -> Result<Vec<Pass<J>>, AllocError>
+/// The passes of these ends, in order, which hold what the mount is opened with. The only error is want of memory.
+fn hand_out<W: World, T: Attempts<W> + Drop, A: Allocator, J: Naming>(
+    alloc: Global,
+    mount: &Mount<W, T, A>,
+    lanes: &mut Vec<Lane>,
+    ends: Vec<End>,
+) -> Result<Vec<Pass<J>>, AllocError>
     requires names { far_names ends.items ≡ J.names }
-    requires values { far_values ends.items ≡ replicate (length J.names) (account None []) }
+    requires tied { names_of lanes.old.items ≡ J.names }
     requires few { length J.names ≤ 64 }
-    ensures { IfOk result (λ v. v.items ≡ newcomers 1 (length J.names)) }
+    ensures names { names_of lanes.new.items ≡ names_of lanes.old.items }
+    ensures opened { IfOk result (λ v. AreOpened (terms_of T.table mount.now) lanes.new.items (length v.items)) }
+    ensures passes { IfOk result (λ v. v.items ≡ newcomers (terms_of T.table mount.now) 1 (length J.names)) }
 {
     let mut passes = Vec::new(alloc);
     for end in ends {
-        let number = passes.len() as u32 + 1;
+        let place = passes.len();
+        let mut far = end.far;
+        change::<Mount<W, T, A>, Opens>(lanes, place, &mut far, mount);
         passes.push(Pass {
-            number,
+            number: place as u32 + 1,
             floor: 1,
             told: Vec::new(alloc),
-            end: end.far,
+            end: far,
             names: PhantomData,
         })?;
     }
@@ -80,12 +89,12 @@ impl<W: World, T: Attempts<W> + Drop, A: Allocator, J: Naming> Shared<W, T, A, J
         requires ties { AreTied ties.lanes.items ties.ends.items mount.queue.passes }
         requires names { names_of ties.lanes.items ≡ J.names }
         ensures count { length J.names ≡ mount.queue.passes }
-        ensures passes { IfOk result (λ s. s.1.items ≡ newcomers 1 mount.queue.passes) }
+        ensures passes { IfOk result (λ s. s.1.items ≡ newcomers (terms_of T.table mount) 1 mount.queue.passes) }
         ensures err { IfErr result (λ e. e.1 ≡ mount) }
     {
         mount.holds();
-        let Ties { lanes, ends } = ties;
-        let passes = match hand_out::<J>(alloc, ends) {
+        let Ties { mut lanes, ends } = ties;
+        let passes = match hand_out::<W, T, A, J>(alloc, &mount, &mut lanes, ends) {
             Ok(passes) => passes,
             Err(error) => return Err((error, mount)),
         };

@@ -33,9 +33,9 @@ impl<J: Naming> Model for Pass<J> {
 
     ghost Value = { Carried };
 
-    ghost view = { λ p. carried p.number p.floor p.told.items };
+    ghost view = { λ p. carried p.end.value.terms p.number p.floor p.told.items };
 
-    ghost invariant = { λ p. HasName J.names p.number p.end.name × (p.end.value ≡ account None p.told.items)
+    ghost invariant = { λ p. HasName J.names p.number p.end.name × (p.end.value ≡ account p.end.value.terms None p.told.items)
         × Rises 1 p.told.items p.floor };
 }
 
@@ -72,7 +72,7 @@ impl<J: Naming> Pass<J> {
 
     /// Whoever was told this number told the pass of it: its next entry is to be a later one.
     pub fn learn(&mut self, number: u32)
-        ensures { self.new ≡ carried self.old.number (greater self.old.floor (number + 1)) self.old.told }
+        ensures { self.new ≡ carried self.old.terms self.old.number (greater self.old.floor (number + 1)) self.old.told }
     {
         let least = u64::from(number) + 1;
         if least > self.floor {
@@ -83,8 +83,8 @@ impl<J: Naming> Pass<J> {
     /// Asks a request, and waits for its reply, which lies here from then on. Its number isn't below the floor, which
     /// is behind it afterwards.
     ///
-    /// Faults: `Start` with `Memory`, or with `HistoryFull`, where entries and pending requests are as many as the
-    /// history may have; `Foreign`, where a number that the pass learnt isn't in the history; `Stopped`. Each leaves the
+    /// Faults: `Start` with `Memory`, or with `HistoryFull` and the limit, where entries and pending requests are as many
+    /// as the history may have; `Foreign`, where a number that the pass learnt isn't in the history; `Stopped`. Each leaves the
     /// pass as it was.
     pub fn call<W: World, T: Attempts<W> + Drop, A: Allocator, R: Wait>(
         &mut self,
@@ -95,7 +95,7 @@ impl<J: Naming> Pass<J> {
         ensures* after { sem 𝓛 (Rests (the_row J.row J.Naming) self.entry
             (λ new. MatchResult result (λ t. Lends W.honest W.opening self.old request t.now new)
             (λ fault. new ≡ self.old))) }
-        ensures why { IfErr result (IsLawful self.old.floor self.old.told) }
+        ensures why { IfErr result (IsLawful W.honest W.opening self.old) }
     {
         match shared.serve(rt, self, request) {
             Err(fault) => Err(fault),

@@ -3,6 +3,7 @@ ghost use Rattle.eden_shared.specs.Accounts.{account};
 ghost use Rattle.eden_shared.specs.Answers.{after_answer};
 ghost use Rattle.eden_shared.specs.Lanes.{HasName};
 ghost use Rattle.eden_shared.specs.Calls.{AnswersTo, Grows, IsLawful};
+ghost use Rattle.eden_shared.specs.Passes.{carried};
 
 use crate::account::{Account, Naming, Told};
 use crate::ends::Far;
@@ -58,9 +59,11 @@ impl<W: World, T: Attempts<W> + Drop, A: Allocator, J: Naming> Shared<W, T, A, J
         ensures name { end.new.name ≡ end.old.name }
         ensures request { IfOk result (λ s. s.request ≡ request) }
         ensures floor { IfOk result (λ s. floor ≤ s.since + 1) }
-        ensures pending { IfOk result (λ s. end.new.value ≡ account (Some s) end.old.value.told) }
+        ensures pending { IfOk result (λ s. end.new.value
+            ≡ account end.old.value.terms (Some s) end.old.value.told) }
         ensures err { OnErr result (end.new.value ≡ end.old.value) }
-        ensures why { IfErr result (IsLawful floor end.old.value.told) }
+        ensures why { IfErr result (IsLawful W.honest W.opening
+            (carried end.old.value.terms number floor end.old.value.told)) }
     {
         self.lock.lock(rt).start(number, floor, end, request, kept)
     }
@@ -95,7 +98,7 @@ impl<W: World, T: Attempts<W> + Drop, A: Allocator, J: Naming> Shared<W, T, A, J
     ) -> Result<(), CallFault>
         ensures ok { OnOk result (Grows W.honest W.opening pass.old request pass.new) }
         ensures err { OnErr result (pass.new ≡ pass.old) }
-        ensures why { IfErr result (IsLawful pass.old.floor pass.old.told) }
+        ensures why { IfErr result (IsLawful W.honest W.opening pass.old) }
     {
         let kept = keep(self.alloc, &mut pass.told, &request)?;
         let pending = self.start(rt, pass.number, pass.floor, &mut pass.end, request, kept)?;

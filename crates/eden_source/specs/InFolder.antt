@@ -1,5 +1,5 @@
 -- A folder of object files.
-use Rattle.std.specs.Prelude.{◌≡◌, ◌≤◌, ◌+◌, ◌^◌, ℕ, List, length, take, drop, Err, IfOk}
+use Rattle.std.specs.Prelude.{◌≡◌, ◌≤◌, ℕ, List, length, take, drop, Err, IfOk}
 use Rattle.std.specs.Path.{path_join}
 use Rattle.hex.specs.Hex.{encode_lower}
 use Rattle.eden_files.specs.Folders.{Folder}
@@ -9,7 +9,7 @@ use Rattle.eden_model.specs.declared.id.Id.{Id}
 use Rattle.eden_model.specs.declared.fault.Cause.{Cause}
 use Rattle.eden_model.specs.declared.fault.Cause.TheVariants as cause
 use Rattle.eden_model.specs.Failures.{one_more}
-use Rattle.eden_source.specs.Fetching.{Answer}
+use Rattle.eden_source.specs.Fetching.{Answer, longest_framed}
 
 -- the object's file: `xx/` and 38 hexadecimal digits below the folder
 abbrev pub object_path : List ℕ → Id → List ℕ
@@ -27,4 +27,4 @@ of_folder folder.Memory = cause.Memory
 pub record FetchedFromFolder (old : Folder) (id : Id) (answer : Answer) (new : Folder) : Type 0 where
   pub path : new.path ≡ old.path
   pub counted : answer ≡ Err cause.Device → new.failures ≡ one_more old.failures
-  pub bounded : IfOk answer (λ framed. length framed ≤ 2 ^ 30 + 16)
+  pub bounded : IfOk answer (λ framed. length framed ≤ longest_framed)

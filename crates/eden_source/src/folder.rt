@@ -1,7 +1,7 @@
 ghost use Rattle.std.specs.Prelude.{◌≡◌, ◌≢◌, ◌≤◌, Err, IfOk, IfErr, length};
 ghost use Rattle.std.specs.Path.{path_buf_bytes};
 ghost use Rattle.eden_model.specs.Failures.{one_more};
-ghost use Rattle.eden_source.specs.Fetching.{IsSourceCause};
+ghost use Rattle.eden_source.specs.Fetching.{IsSourceCause, longest_framed};
 ghost use Rattle.eden_source.specs.InFolder.{object_path, of_folder};
 
 use crate::source::Source;
@@ -83,7 +83,8 @@ fn read_object<R: Files>(
     folder: &PathBuf,
     id: Id,
 ) -> Result<Vec<u8>, Cause>
-    ensures bounded { IfOk result (λ v. length v.items ≤ LONGEST_FRAMED) }
+    ensures bound { LONGEST_FRAMED ≡ longest_framed }
+    ensures bounded { IfOk result (λ v. length v.items ≤ longest_framed) }
     ensures causes { IfErr result IsSourceCause }
 {
     let path = path_of(alloc, folder, id).map_err(|_| Cause::Memory)?;

@@ -12,13 +12,13 @@ use Rattle.eden_tree.specs.Rows.{find_row, change_row}
 use Rattle.eden_tree.specs.Paths.{row_at, edit_row}
 use Rattle.eden_tree.proofs.CallerLemmas.{same-≡, same-≢, child_of-with_child, change_rows-held, find_row-drop_row, find_row-change_row, length-change_row, steps_down}
 use Rattle.eden_tie.specs.Listings.{listing_of}
-use Rattle.eden_tie.specs.Changing.{HasRoom, MayGo, MayMove, MayChange, changed, with_listing}
+use Rattle.eden_tie.specs.Changing.{HasRoom, MayGo, MayMove, changed, with_listing}
 use Rattle.eden_tie.specs.Kept.{IsTable}
-use Rattle.eden_tie.specs.Moving.{CanMove, MovesThere, ReplacesThere}
+use Rattle.eden_tie.specs.Moving.{CanMove}
 use Rattle.eden_tie.proofs.Rows.{and_then_some, stored_rising}
 use Rattle.eden_tie.proofs.Chain.{place_at, root_loaded}
 use Rattle.eden_tie.proofs.Changed.{listing_table}
-use Rattle.eden_tie.proofs.Moved.{if_some}
+use Rattle.eden_tie.proofs.Moved.{if_some, MayChange}
 use Rattle.eden_tie.proofs.Storable.{length_dropped, stored_found, drop_storable, entry_storable}
 
 -- ---- both are there
@@ -215,8 +215,18 @@ module _ (x : Row) (next : ℕ) (p : Path) (n : Name) (q : Path) (m : Name) (tab
     entries_put = entry_storable is_still.directory m c.entry listed_target (stored_found n m c.entry c.source.rows listed_source.each c.there good) (still_room room);
   }
 
+-- what can move may move in a table, where there is room
+abbrev pub MovesThere : Type 0
+MovesThere = (x : Row) (next : ℕ) (p : Path) (n : Name) (q : Path) (m : Name) → IsTable x next → (c : CanMove x p n q m) → name_refusal m ≡ None
+    → HasRoom c.target m → MayMove x p n q m
+
 pub moves_there : MovesThere
 moves_there x next p n q m table c good room = may_move x next p n q m table c good room
+
+-- and what it replaces is what stands there
+abbrev pub ReplacesThere : Type 0
+ReplacesThere = (x : Row) (next : ℕ) (p : Path) (n : Name) (q : Path) (m : Name) → IsTable x next → (c : CanMove x p n q m) → (may : MayMove x p n q m)
+    → find_row m may.target.rows ≡ find_row m c.target.rows
 
 pub replaces_there : ReplacesThere
 replaces_there x next p n q m table c may =

@@ -20,7 +20,7 @@ pub use Rattle.eden_tie.proofs.Sound.{ties_sound}
 pub use Rattle.eden_tie.proofs.Between.{moves_there, replaces_there}
 pub use Rattle.eden_tie.proofs.Moving.{moved_table, moved_kept, moved_shown, replaced_tied, replaced_kept, replaced_shown}
 pub use Rattle.eden_tie.proofs.Marked.{marked_table, marked_kept, marked_shown}
-pub use Rattle.eden_tie.proofs.Staying.{moved_stays, marked_stays, moved_saved, left_elsewhere, moved_elsewhere}
+pub use Rattle.eden_tie.proofs.Staying.{moved_stays, marked_stays, moved_marks, marked_alone, left_elsewhere, moved_elsewhere}
 -- what loads, and directories that go, keep of a table's invariant, beside `kept_laws`
 pub use Rattle.eden_tie.proofs.Tables.{own_loads_table, unloads_table}
 pub use Rattle.eden_tie.proofs.KeptLemmas.{next_rises, own_loads_kept, unloads_kept, tables_unload}
@@ -38,12 +38,16 @@ pub use Rattle.eden_tie.proofs.Changed.{listing_table, listing_kept, listing_gra
 -- a chain that becomes its own: its steps, what it keeps, and what is shown then
 pub use Rattle.eden_tie.proofs.Chained.{marked_are, Step, step, at_step, chain_from, chain_can, so_far, none_yet, above_back, unfinished_back}
 pub use Rattle.eden_tie.proofs.StaysLoaded.{loaded_there, Loaded, loaded_found}
-pub use Rattle.eden_tie.proofs.ChainLaws.{same_listing, owned_table, owned_stays, owned_saved, owned_kept, owned_alike, refused_kept, refused_alike, owned_chain, chain_joined}
+-- which directories are unsaved
+pub use Rattle.eden_tie.proofs.Unsaved.{mark_of, unsaved_standing, standing_unsaved, unsaved_with, none_marked_with}
+pub use Rattle.eden_tie.proofs.ChainLaws.{same_listing, owned_table, owned_stays, owned_marked, owned_kept, owned_alike, refused_kept, refused_alike, owned_chain, chain_joined}
 -- what may stand under a name of a loaded directory: its chain's stores, what it keeps, and what is shown then
 pub use Rattle.eden_tie.proofs.Storable.{drop_storable, entry_storable}
-pub use Rattle.eden_tie.proofs.Stands.{stands_sound, put_sound, put_can, stands_table, stands_saved, stands_stays, stands_kept, stands_grafts, removed_sound, removed_kept, removed_alike}
+pub use Rattle.eden_tie.proofs.Stands.{stands_sound, put_sound, put_can, stands_table, stands_marks, stands_stays, stands_kept, stands_grafts, removed_sound, removed_kept, removed_alike}
 -- files that nothing has as its own
 pub use Rattle.eden_tie.proofs.LooseFiles.{loose_sound, loose_kept, loose_alike}
 -- the own file of an entry
 pub use Rattle.eden_tie.proofs.Filing.{content_shows, file_shows, empty_shows, loose_elsewhere, entry_elsewhere}
 pub use Rattle.eden_tie.proofs.Contents.{content_sound, content_kept, content_grafts}
+-- a directory that is stored again
+pub use Rattle.eden_tie.proofs.Saved.{saves_table, saves_kept, saves_alike, saves_marks, saves_unmarked}

@@ -1,5 +1,5 @@
 -- What a chain of directories that becomes its own keeps of a table's invariant, and what is shown then.
-use Rattle.std.proofs.Common.{◌≡◌, ◌≢◌, ◌⊎◌, ℕ, false, [], ◌∷◌, ◌++◌, Option, Some, None, refl, sym, ap, ◌∙◌, subst}
+use Rattle.std.proofs.Common.{◌≡◌, ◌≢◌, ◌⊎◌, ℕ, [], ◌∷◌, ◌++◌, Option, Some, None, refl, sym, ap, ◌∙◌, subst}
 use Rattle.eden_model.specs.declared.kind.Kind.{Kind}
 use Rattle.eden_model.specs.declared.kind.Origin.{Origin}
 use Rattle.eden_model.specs.declared.kind.Origin.TheVariants as origin
@@ -14,7 +14,7 @@ use Rattle.eden_tree.specs.Directory.{Row, Directory, child_of, with_child}
 use Rattle.eden_tree.specs.Rows.{find_row}
 use Rattle.eden_tree.specs.Paths.{row_at}
 use Rattle.eden_tree.proofs.CallerLemmas.{child_of-with_child}
-use Rattle.eden_tie.specs.Chains.{AreSaved, chained, Above, at_end, as_is, again}
+use Rattle.eden_tie.specs.Chains.{chained, Above, at_end, as_is, again}
 use Rattle.eden_tie.specs.Changing.{with_listing}
 use Rattle.eden_tie.specs.Kept.{IsTable, IsKept}
 use Rattle.eden_tie.specs.Listings.{own_if_loaded, listing_of, Place, top, inside}
@@ -59,28 +59,24 @@ lowest_elsewhere E y F (lowest v d h other) k off = put_apart E y.number k _ off
 -- ---- the table then
 
 module _ (x : Row) (next : ℕ) (table : IsTable x next) (p : Path) (y : Row) (d e : Directory) (at : row_at p x ≡ Some y) (holds : child_of y ≡ Some d)
-    (are : AreStorable (listing_of e)) (each : (m : Name) (v : Row) → find_row m e.rows ≡ Some v → (find_row m d.rows ≡ Some v) ⊎ (child_of v ≡ None))
-    (saved : AreSaved y → e.unsaved ≡ false) where
+    (are : AreStorable (listing_of e)) (each : (m : Name) (v : Row) → find_row m e.rows ≡ Some v → (find_row m d.rows ≡ Some v) ⊎ (child_of v ≡ None)) where
   abbrev now : Row
   now = chained p e x
 
-  was : (w : Row) (c : Directory) → Place now w → child_of w ≡ Some c → Then y d e holds are each saved x w c
-  was w c q h = forth y d e holds are each saved p x at table.listed w c q h
+  was : (w : Row) (c : Directory) → Place now w → child_of w ≡ Some c → Then y d e holds are each x w c
+  was w c q h = forth y d e holds are each p x at table.listed w c q h
 
   pub table_now : IsTable now next
   table_now = record {
     root = chained_number e p x ∙ table.root;
     kind = chained_kind e p x ∙ table.kind;
     listed = λ w c q h. elim (was w c q h) [
-      | on_chain own can mark ↦ can
+      | on_chain own can ↦ can
       | as_before b ↦ subst AreStorable (sym b.listing) (table.listed b.row b.directory b.place b.holds)
     ];
     least = table.least;
     most = table.most;
   }
-
-  pub saved_now : AreSaved x → AreSaved now
-  saved_now all w c q h = elim (was w c q h) [ on_chain own can mark ↦ mark all | as_before b ↦ b.mark ∙ all b.row b.directory b.place b.holds ]
 
   pub can_chain : IsChain (with_listing p e x) p
   can_chain = chain_can e p x y at are table.listed
@@ -88,7 +84,7 @@ module _ (x : Row) (next : ℕ) (table : IsTable x next) (p : Path) (y : Row) (d
   module _ (R : Repository) (F : Stored) (k : IsKept R F x next) (E full : Stored) (t : Ties E full (with_listing p e x) next) (G : Stored) (c : Chain E (with_listing p e x) p G) where
     from_now : (w : Row) (c : Directory) → Place now w → child_of w ≡ Some c → w.origin ≢ origin.Own → IsFrom R no_files w c
     from_now w c q h other = elim (was w c q h) [
-      | on_chain own can mark ↦ absurd (other own)
+      | on_chain own can ↦ absurd (other own)
       | as_before b ↦ from_alike R no_files w b.row c b.directory b.number b.origin b.listing (k.agrees b.row b.directory b.place b.holds (λ own. other (b.origin ∙ own)))
     ]
 

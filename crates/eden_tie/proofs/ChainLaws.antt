@@ -1,5 +1,5 @@
 -- The laws of chains that become the mount's own.
-use Rattle.std.proofs.Common.{◌≡◌, ◌≢◌, ◌⊎◌, ℕ, false, [], Some, None, inl, sym, ap, ◌∙◌, subst}
+use Rattle.std.proofs.Common.{◌≡◌, ◌≢◌, ◌⊎◌, ℕ, [], Some, None, inl, sym, ap, ◌∙◌, subst}
 use Rattle.eden_model.specs.declared.kind.Origin.TheVariants as origin
 use Rattle.eden_model.specs.Repository.{Repository, ground_with}
 use Rattle.eden_model.specs.Shown.{shown}
@@ -11,22 +11,23 @@ use Rattle.eden_tree.specs.Directory.{Row, Directory, child_of, with_child}
 use Rattle.eden_tree.specs.Rows.{find_row}
 use Rattle.eden_tree.specs.Paths.{row_at}
 use Rattle.eden_tree.proofs.CallerLemmas.{with_child-same, edits_same}
-use Rattle.eden_tie.specs.Chains.{IsLoadedAt, AreSaved, StaysLoaded, Above, MayStore, left, listed, at_first, later}
-use Rattle.eden_tie.specs.ChainLaws.{OwnedTable, OwnedStays, OwnedSaved, OwnedKept, OwnedAlike, RefusedKept, RefusedAlike}
+use Rattle.eden_tie.specs.Chains.{IsLoadedAt, StaysLoaded, Above, MayStore, left, listed, at_first, later}
+use Rattle.eden_tie.specs.ChainLaws.{OwnedTable, OwnedStays, OwnedMarks, OwnedKept, OwnedAlike, RefusedKept, RefusedAlike}
 use Rattle.eden_tie.specs.Changing.{with_listing}
 use Rattle.eden_tie.specs.Kept.{IsTable, IsKept}
 use Rattle.eden_tie.specs.Laws.{owned}
-use Rattle.eden_tie.specs.Listings.{listing_of, top}
+use Rattle.eden_tie.specs.Listings.{listing_of}
 use Rattle.eden_tie.specs.Materialising.{Chain, IsChain, owned_along}
 use Rattle.eden_tie.specs.Shown.{shown_in}
 use Rattle.eden_tie.specs.ShownLaws.{full_item}
 use Rattle.eden_tie.specs.Ties.{Ties}
 use Rattle.eden_tie.proofs.Chain.{place_at}
-use Rattle.eden_tie.proofs.ChainKept.{table_now, saved_now, can_chain, kept_now, shown_full}
+use Rattle.eden_tie.proofs.ChainKept.{table_now, can_chain, kept_now, shown_full}
 use Rattle.eden_tie.proofs.Chained.{chain_from}
 use Rattle.eden_tie.proofs.ShownFull.{shows_full}
 use Rattle.eden_tie.proofs.StaysLoaded.{Loaded, loaded_found, stays_loaded}
 use Rattle.eden_tie.proofs.Strays.{first_stray, strays_kept, strays_alike}
+use Rattle.eden_tie.proofs.Unsaved.{owned_marks}
 
 -- the table with the directory at a path as it is
 pub same_listing : (p : Path) (x y : Row) (d : Directory) → row_at p x ≡ Some y → child_of y ≡ Some d → with_listing p d x ≡ x
@@ -45,14 +46,8 @@ module _ (x : Row) (next : ℕ) (table : IsTable x next) (p : Path) (l : Loaded 
   was_there : (m : Name) (v : Row) → find_row m l.directory.rows ≡ Some v → (find_row m l.directory.rows ≡ Some v) ⊎ (child_of v ≡ None)
   was_there m v f = inl f
 
-  was_saved : AreSaved l.row → l.directory.unsaved ≡ false
-  was_saved all = all l.row l.directory top l.holds
-
   table_then : IsTable now next
-  table_then = subst (λ (a : Row). IsTable (owned (owned_along p a)) next) same (table_now x next table p l.row l.directory l.directory l.at l.holds can was_there was_saved)
-
-  saved_then : AreSaved x → AreSaved now
-  saved_then all = subst (λ (a : Row). AreSaved (owned (owned_along p a))) same (saved_now x next table p l.row l.directory l.directory l.at l.holds can was_there was_saved all)
+  table_then = subst (λ (a : Row). IsTable (owned (owned_along p a)) next) same (table_now x next table p l.row l.directory l.directory l.at l.holds can was_there)
 
   module _ (R : Repository) (F : Stored) (k : IsKept R F x next) (G : Stored) (c : Chain F x p G) where
     ties : Ties F k.full (with_listing p l.directory x) next
@@ -64,20 +59,20 @@ module _ (x : Row) (next : ℕ) (table : IsTable x next) (p : Path) (l : Loaded 
     kept_then : IsKept R G now next
     kept_then =
         subst (λ (a : Row). IsKept R G (owned (owned_along p a)) next) same
-        (kept_now x next table p l.row l.directory l.directory l.at l.holds can was_there was_saved R F k F k.full ties G chain)
+        (kept_now x next table p l.row l.directory l.directory l.at l.holds can was_there R F k F k.full ties G chain)
 
     alike : shown_in R G now ≡ shown_in R F x
     alike =
         ap (λ (a : Row). shown_in R G (owned (owned_along p a))) (sym same)
-        ∙ shown_full x next table p l.row l.directory l.directory l.at l.holds can was_there was_saved R F k F k.full ties G chain
+        ∙ shown_full x next table p l.row l.directory l.directory l.at l.holds can was_there R F k F k.full ties G chain
         ∙ ap (λ (a : Row). shown (ground_with R (own_files k.full)) (full_item a)) same
         ∙ sym (shows_full R F x next k)
 
 pub owned_table : OwnedTable
 owned_table x next p table loaded = table_then x next table p (loaded_found p x loaded)
 
-pub owned_saved : OwnedSaved
-owned_saved x next p table loaded all = saved_then x next table p (loaded_found p x loaded) all
+pub owned_marked : OwnedMarks
+owned_marked x p q unsaved = owned_marks p q x unsaved
 
 pub owned_stays : OwnedStays
 owned_stays x p loaded =
@@ -117,7 +112,7 @@ pub owned_chain : (x : Row) (next : ℕ) (p : Path) → IsTable x next → IsLoa
 owned_chain x next p table loaded =
     let l = loaded_found p x loaded in
     subst (λ (a : Row). IsChain a p) (same x next table p l)
-    (can_chain x next table p l.row l.directory l.directory l.at l.holds (can x next table p l) (was_there x next table p l) (was_saved x next table p l))
+    (can_chain x next table p l.row l.directory l.directory l.at l.holds (can x next table p l) (was_there x next table p l))
 
 -- its lowest directory, and those above it
 pub chain_joined : (F M : Stored) (p : Path) (x y : Row) (d : Directory) (G : Stored) → row_at p x ≡ Some y → child_of y ≡ Some d → Chain F y [] M → Above M x p G → Chain F x p G

@@ -13,15 +13,16 @@ use Rattle.eden_overlay_format.specs.Directory.{AreStorable, IsStorable, HasOrig
 use Rattle.eden_overlay_format.specs.declared.stored_entry.StoredEntry.{StoredEntry}
 use Rattle.eden_overlay.specs.Files.{Stored}
 use Rattle.eden_overlay.specs.Held.{with_entries}
+use Rattle.eden_overlay.specs.Walking.{is_own}
 use Rattle.eden_tree.specs.Directory.{Row, Directory, child_of, with_child}
 use Rattle.eden_tree.specs.Rows.{find_row, set_row}
 use Rattle.eden_tree.specs.Paths.{row_at}
 use Rattle.eden_tree.proofs.CallerLemmas.{order, child_of-with_child, change_row-twice, steps_down, steps_back, with_child-same, edits_same, edits_twice}
-use Rattle.eden_tie.specs.Chains.{AreSaved, chained, Above, at_end, as_is, again, Unfinished, here, below}
+use Rattle.eden_tie.specs.Chains.{chained, Above, at_end, as_is, again, Unfinished, here, below}
 use Rattle.eden_tie.specs.Changing.{with_listing}
 use Rattle.eden_tie.specs.Laws.{owned}
 use Rattle.eden_tie.specs.Listings.{stored_entry, listing_of, Place, top}
-use Rattle.eden_tie.specs.Materialising.{is_own, marked_entry, marked_listing, Chain, both_own, above, IsChain, kept_mark, owned_along}
+use Rattle.eden_tie.specs.Materialising.{marked_entry, marked_listing, Chain, both_own, above, IsChain, kept_mark, owned_along}
 use Rattle.eden_tie.proofs.Chain.{at_changed, root_loaded}
 use Rattle.eden_tie.proofs.Chains.{marked_is}
 use Rattle.eden_tie.proofs.Edits.{find_set, find_other, map_set}
@@ -153,14 +154,14 @@ module _ (e : Directory) where
 -- ---- what is loaded then
 
 module _ (y : Row) (d e : Directory) (holds : child_of y ≡ Some d) (are : AreStorable (listing_of e))
-    (each : (m : Name) (v : Row) → find_row m e.rows ≡ Some v → (find_row m d.rows ≡ Some v) ⊎ (child_of v ≡ None)) (saved : AreSaved y → e.unsaved ≡ false) where
+    (each : (m : Name) (v : Row) → find_row m e.rows ≡ Some v → (find_row m d.rows ≡ Some v) ⊎ (child_of v ≡ None)) where
   -- a directory of the chain, or one as it was
   pub data Then (x w : Row) (c : Directory) : Type 0 where
-    on_chain : w.origin ≡ origin.Own → AreStorable (listing_of c) → (AreSaved x → c.unsaved ≡ false) → Then x w c
+    on_chain : w.origin ≡ origin.Own → AreStorable (listing_of c) → Then x w c
     as_before : Was x w c → Then x w c
 
   then_up : (x z w : Row) (a c : Directory) (n : Name) → child_of x ≡ Some a → find_row n a.rows ≡ Some z → Then z w c → Then x w c
-  then_up x z w a c n h there (on_chain own can mark) = on_chain own can (λ all. mark (λ v b q k. all v b (below_top x z v a n h there q) k))
+  then_up x z w a c n h there (on_chain own can) = on_chain own can
   then_up x z w a c n h there (as_before b) = as_before (record {
     row = b.row;
     directory = b.directory;
@@ -189,10 +190,6 @@ module _ (y : Row) (d e : Directory) (holds : child_of y ≡ Some d) (are : AreS
     last_can : AreStorable (listing_of last)
     last_can = subst AreStorable last_listing (marked_are a n can)
 
-    last_saved : AreSaved x → last.unsaved ≡ false
-    last_saved all =
-        ap (kept_mark (Some z)) (all x a top h) ∙ elim (is_own z.origin) as (λ b. (if b then false else false) ≡ false) [ true ↦ refl | false ↦ refl ]
-
     last_there : find_row n last.rows ≡ Some (chained p e z)
     last_there = find_set n z (chained p e z) a.rows there
 
@@ -202,7 +199,6 @@ module _ (y : Row) (d e : Directory) (holds : child_of y ≡ Some d) (are : AreS
     step_then : (w : Row) (c : Directory) → Place (owned (with_child (Some last) x)) w → child_of w ≡ Some c → ((q : Place (chained p e z) w) → Then z w c) → Then x w c
     step_then w c q k deeper = elim (level_cases (owned (with_child (Some last) x)) last n (chained p e z) w c last_holds last_there q k) [
       | inl is ↦ on_chain (ap (λ (r : Row). r.origin) is.0) (let P : Directory → Type 0 = λ b. AreStorable (listing_of b) in subst P (sym is.1) last_can)
-          (λ all. ap (λ (b : Directory). b.unsaved) is.1 ∙ last_saved all)
       | inr other ↦ elim other [
         | inl r ↦ then_up x z w a c n h there (deeper r)
         | inr b ↦ as_before (was_itself x w c
@@ -216,7 +212,7 @@ module _ (y : Row) (d e : Directory) (holds : child_of y ≡ Some d) (are : AreS
     | inl at_top ↦
         (let dir : c ≡ e = same_Some c e (sym k ∙ ap child_of at_top ∙ child_of-with_child (Some e) x) in
         let P : Directory → Type 0 = λ b. AreStorable (listing_of b) in
-        on_chain (ap (λ (r : Row). r.origin) at_top) (subst P (sym dir) are) (λ all. ap (λ (b : Directory). b.unsaved) dir ∙ saved (subst AreSaved is all)))
+        on_chain (ap (λ (r : Row). r.origin) at_top) (subst P (sym dir) are))
     | inr b ↦
         (let dir : b.directory ≡ e = same_Some b.directory e (sym b.holds ∙ child_of-with_child (Some e) x) in
         elim (each b.name b.row (ap (λ (r : Directory). find_row b.name r.rows) (sym dir) ∙ b.there)) [

@@ -14,16 +14,15 @@ use Rattle.eden_tree.specs.Directory.{Row, Directory, child_of, with_child}
 use Rattle.eden_tree.specs.Rows.{find_row}
 use Rattle.eden_tree.proofs.CallerLemmas.{same-≡, same-refl, child_of-with_child}
 use Rattle.eden_tie.specs.Listings.{listing_of, Place, top, inside}
-use Rattle.eden_tie.specs.Changing.{MayChange, changed, with_listing}
+use Rattle.eden_tie.specs.Changing.{changed, with_listing}
 use Rattle.eden_tie.specs.Kept.{IsTable, IsKept}
-use Rattle.eden_tie.specs.KeptLaws.{ListingTable, ListingKept}
 use Rattle.eden_tie.specs.Shown.{shown_in, IsFrom}
-use Rattle.eden_tie.specs.ShownLaws.{shown_from, ListingGrafts}
+use Rattle.eden_tie.specs.ShownLaws.{shown_from}
 use Rattle.eden_tie.proofs.Rows.{stored_rising}
 use Rattle.eden_tie.proofs.Follows.{place_cases}
 use Rattle.eden_tie.proofs.Chain.{place_at, root_loaded}
 use Rattle.eden_tie.proofs.Loops.{place_on}
-use Rattle.eden_tie.proofs.Moved.{find_with, from_with, if_some, changes_kept}
+use Rattle.eden_tie.proofs.Moved.{find_with, from_with, if_some, changes_kept, MayChange}
 use Rattle.eden_tie.proofs.Steps.{edited_number, edited_kind, edited_forth}
 use Rattle.eden_tie.proofs.Fine.{from_alike}
 use Rattle.eden_tie.proofs.Alike.{changes_graft}
@@ -124,11 +123,28 @@ module _ (honest : Type 0) (F : Stored) (x : Row) (next : ℕ) (p : Path) (n : N
     now_shown = changes_graft R files p n o x a.row a.directory new (a.ties h).fits.is_dir a.at a.holds others here_new
         ∙ ap (λ (T : Tree). graft (p ++ n ∷ []) (shown_from R files o) T) shows_as_before
 
+-- whatever the outside: a listing that changes leaves a table
+abbrev pub ListingTable : Type 1
+ListingTable = (honest : Type 0) (F : Stored) (x : Row) (next : ℕ) (p : Path) (n : Name) (o : Option Row) → IsTable x next
+    → (may : MayChange honest F x next p n o) → IsTable (with_listing p (changed may.directory n o) x) next
+
 pub listing_table : ListingTable
 listing_table honest F x next p n o table a = now_table honest F x next p n o table a
 
+-- where the outside is honest: stored first, it keeps a table over the files then
+abbrev pub ListingKept : Type 1
+ListingKept = (honest : Type 0) (R : Repository) (F : Stored) (x : Row) (next : ℕ) (p : Path) (n : Name) (o : Option Row) → honest → IsTable x next
+    → IsKept R F x next → (may : MayChange honest F x next p n o)
+    → IsKept R (with_entries F may.row.number (listing_of (changed may.directory n o))) (with_listing p (changed may.directory n o) x) next
+
 pub listing_kept : ListingKept
 listing_kept honest R F x next p n o h table k a = now_kept honest F x next p n o table a h R k
+
+-- .. and what the entry shows over those files stands at and below the name, and all else is as before
+abbrev pub ListingGrafts : Type 1
+ListingGrafts = (honest : Type 0) (R : Repository) (F : Stored) (x : Row) (next : ℕ) (p : Path) (n : Name) (o : Option Row) → honest → IsTable x next
+    → (may : MayChange honest F x next p n o) → (G : Stored) → G ≡ with_entries F may.row.number (listing_of (changed may.directory n o))
+    → shown_in R G (with_listing p (changed may.directory n o) x) ≡ graft (p ++ n ∷ []) (shown_from R G o) (shown_in R F x)
 
 pub listing_grafts : ListingGrafts
 listing_grafts honest R F x next p n o h table a G is =

@@ -14,7 +14,6 @@ use Rattle.eden_tree.specs.Paths.{row_at, edit_row}
 use Rattle.eden_tie.specs.Listings.{stored_entry, full_entry, full_listing, Place}
 use Rattle.eden_tie.specs.Ties.{IsAway, SameFile, Ties}
 use Rattle.eden_tie.specs.Kept.{IsTable, IsKept}
-use Rattle.eden_tie.specs.KeptLaws.{GoesKept}
 use Rattle.eden_tie.specs.Shown.{IsFrom}
 use Rattle.eden_tie.specs.Unloading.{HasNoneInside, Goes}
 use Rattle.eden_tie.proofs.Rows.{full_rising, by_origin}
@@ -218,6 +217,11 @@ module _ (honest : Type 0) (R : Repository) (clock age next : ℕ) (F : Stored) 
 
   pub either_goes : IsKept R G z next
   either_goes = by_origin g.row.origin (IsKept R G z next) other_goes own_goes
+
+-- a directory that goes keeps a table
+abbrev pub GoesKept : Type 1
+GoesKept = (honest : Type 0) (R : Repository) (clock age next : ℕ) (F : Stored) (x : Row) (G : Stored) (z : Row) → honest → IsTable x next → IsKept R F x next
+    → Goes honest clock age F x G z → IsKept R G z next
 
 pub goes_kept : GoesKept
 goes_kept honest R clock age next F x G z h table k g = either_goes honest R clock age next F x G z h table k g

@@ -1,13 +1,18 @@
 -- What keeps the invariant of a table: loads, and directories that go.
-use Rattle.std.proofs.Common.{◌≡◌, ◌≢◌, ◌≤◌, ◌+◌, ℕ, length, Some, inl, inr, sym, ◌∙◌, subst, arith}
+use Rattle.std.proofs.Common.{◌≡◌, ◌≢◌, ◌≤◌, ◌+◌, ℕ, length, Some, inl, inr, sym, ◌∙◌, subst, arith, ◌⊎◌}
 use Rattle.eden_model.specs.declared.kind.Origin.TheVariants as origin
+use Rattle.eden_model.specs.Repository.{Repository}
+use Rattle.eden_model.specs.Trees.{Path}
+use Rattle.eden_overlay_format.specs.Directory.{AreStorable}
 use Rattle.eden_overlay.specs.Files.{Stored}
 use Rattle.eden_tree.specs.Directory.{Row, with_child}
 use Rattle.eden_tree.specs.Paths.{edit_row}
-use Rattle.eden_tie.specs.Kept.{IsKept}
-use Rattle.eden_tie.specs.KeptLaws.{NextRises, StampsKept, ObjectLoadsKept, OwnLoadsKept, UnloadsKept, TablesUnload}
+use Rattle.eden_tie.specs.Kept.{IsKept, IsTable}
+use Rattle.eden_tie.specs.KeptLaws.{NextRises, StampsKept, ObjectLoadsKept}
 use Rattle.eden_tie.specs.Ties.{Ties}
-use Rattle.eden_tie.specs.Unloading.{none, one_more, same_files}
+use Rattle.eden_tie.specs.Unloading.{none, one_more, same_files, Unloads, MayUnload}
+use Rattle.eden_tie.specs.Loading.{IsAt, LoadsOwn}
+use Rattle.eden_tie.specs.Listings.{listing_of}
 use Rattle.eden_tie.proofs.Chain.{place_at}
 use Rattle.eden_tie.proofs.Fine.{stamped_kept}
 use Rattle.eden_tie.proofs.Gone.{goes_kept}
@@ -44,6 +49,11 @@ object_loads_kept R F clock next x p id es z after table k a tree l are =
     let Q : ℕ → Type 0 = λ i. IsKept R F (edit_row p (with_child (Some d)) x) i in
     subst P (sym l.is) (stamped_kept R F (edit_row p (with_child (Some d)) x) after (subst Q (sym l.gives) loaded) p clock)
 
+-- a directory that is loaded from its stored file, or as an empty one, keeps a table
+abbrev pub OwnLoadsKept : Type 1
+OwnLoadsKept = (honest : Type 0) (R : Repository) (F : Stored) (clock next : ℕ) (x : Row) (p : Path) (z : Row) → honest → IsTable x next → IsKept R F x next
+    → IsAt p x origin.Own ⊎ IsAt p x origin.Empty → (l : LoadsOwn honest clock F x p z) → AreStorable (listing_of l.directory) → IsKept R F z next
+
 pub own_loads_kept : OwnLoadsKept
 own_loads_kept honest R F clock next x p z h table k either l are =
     let d = l.directory in
@@ -58,6 +68,12 @@ own_loads_kept honest R F clock next x p z h table k either l are =
     ] in
     subst P (sym l.is) (stamped_kept R F v next loaded p clock)
 
+-- so do directories that go
+abbrev pub UnloadsKept : Type 1
+UnloadsKept = (honest : Type 0) (R : Repository) (clock age next : ℕ) (F : Stored) (x : Row) (G : Stored) (z : Row) (c : ℕ) → honest → IsTable x next
+    → IsKept R F x next
+    → Unloads honest clock age F x G z c → IsKept R G z next
+
 pub unloads_kept : UnloadsKept
 unloads_kept honest R clock age next F x G z c h table k none = k
 unloads_kept honest R clock age next F x G z c h table k (one_more H y b K v u g) =
@@ -65,6 +81,11 @@ unloads_kept honest R clock age next F x G z c h table k (one_more H y b K v u g
 unloads_kept honest R clock age next F x G z c h table k (same_files H y b K u same) =
     let P : Stored → Type 0 = λ I. IsKept R I z next in
     subst P (sym (same h)) (unloads_kept honest R clock age next F x H z b h table k u)
+
+-- a table may be unloaded
+abbrev pub TablesUnload : Type 1
+TablesUnload = (honest : Type 0) (R : Repository) (clock age next : ℕ) (F : Stored) (x : Row) → IsTable x next → (honest → IsKept R F x next)
+    → MayUnload honest clock age F x
 
 pub tables_unload : TablesUnload
 tables_unload honest R clock age next F x table kept G z c u =

@@ -38,6 +38,7 @@ pub mod Chained
 pub mod ChainKept
 pub mod Strays
 pub mod StaysLoaded
+pub mod Unsaved
 pub mod ChainLaws
 pub mod Numbers
 pub mod Stands
@@ -46,3 +47,5 @@ pub mod Staying
 pub mod LooseFiles
 pub mod Filing
 pub mod Contents
+pub mod Remarked
+pub mod Saved

@@ -1,5 +1,5 @@
 -- A directory that is loaded leaves what is shown.
-use Rattle.std.proofs.Common.{◌≡◌, inl, inr, ℕ, Some, sym, ap, ◌∙◌}
+use Rattle.std.proofs.Common.{◌≡◌, inl, inr, ℕ, Some, sym, ap, ◌∙◌, ◌⊎◌}
 use Rattle.eden_model.specs.declared.kind.Origin.{Origin}
 use Rattle.eden_model.specs.declared.kind.Origin.TheVariants as origin
 use Rattle.eden_model.specs.Trees.{Path}
@@ -8,9 +8,9 @@ use Rattle.eden_overlay.specs.Files.{Stored}
 use Rattle.eden_overlay.specs.Held.{own_files}
 use Rattle.eden_tree.specs.Directory.{Row, Directory, with_child}
 use Rattle.eden_tree.specs.Paths.{edit_row}
-use Rattle.eden_tie.specs.Loading.{IsAt, IsNew, with_loaded}
+use Rattle.eden_tie.specs.Loading.{IsAt, IsNew, with_loaded, LoadsOwn}
 use Rattle.eden_tie.specs.Shown.{shown_in, IsFrom}
-use Rattle.eden_tie.specs.ShownLaws.{ObjectLoadsAlike, OwnLoadsAlike}
+use Rattle.eden_tie.specs.ShownLaws.{ObjectLoadsAlike}
 use Rattle.eden_tie.proofs.Alike.{loads_alike, stamps_alike}
 use Rattle.eden_tie.proofs.Listed.{own_from, other_from}
 use Rattle.eden_tie.proofs.Objects.{none_inside, object_from, empty_from}
@@ -27,6 +27,11 @@ object_loads_alike R F clock next x p id es z after at tree l =
     ap (shown_in R F) l.is
     ∙ new_alike R F clock x p (origin.Object id) at l.directory l.new
     (other_from R F at.row l.directory (λ own. (let both : origin.Object id ≡ origin.Own = sym at.origin ∙ own in cc)) (object_from R next id es at.row l.directory at.origin tree l.has))
+
+-- a directory that is loaded from its stored file, or as an empty one, leaves what is shown
+abbrev pub OwnLoadsAlike : Type 1
+OwnLoadsAlike = (honest : Type 0) (R : Repository) (F : Stored) (clock : ℕ) (x : Row) (p : Path) (z : Row) → honest
+    → IsAt p x origin.Own ⊎ IsAt p x origin.Empty → LoadsOwn honest clock F x p z → shown_in R F z ≡ shown_in R F x
 
 pub own_loads_alike : OwnLoadsAlike
 own_loads_alike honest R F clock x p z h (inl at) l =

@@ -1,26 +1,24 @@
 -- A directory that was stored with an entry left out, and is marked unsaved.
-use Rattle.std.proofs.Common.{◌≡◌, ℕ, true, Some, None, inl, inr, refl, sym, ap, ◌∙◌, subst}
-use Rattle.std.proofs.lemmas.Option.{same_Some}
+use Rattle.std.proofs.Common.{◌≡◌, ℕ, true, Some, None, refl, sym, ◌∙◌, subst}
 use Rattle.eden_model.specs.Trees.{Name, Path}
-use Rattle.eden_model.specs.Repository.{no_files}
+use Rattle.eden_model.specs.Repository.{no_files, Repository}
 use Rattle.eden_overlay_format.specs.Directory.{AreStorable}
+use Rattle.eden_overlay.specs.Files.{Stored}
 use Rattle.eden_overlay.proofs.CallerLemmas.{apart}
 use Rattle.eden_tree.specs.Directory.{Row, Directory, child_of, with_child}
-use Rattle.eden_tree.specs.Rows.{find_row}
-use Rattle.eden_tree.proofs.CallerLemmas.{child_of-with_child}
-use Rattle.eden_tie.specs.Listings.{listing_of, Place, top, inside}
+use Rattle.eden_tie.specs.Listings.{listing_of, Place, top}
 use Rattle.eden_tie.specs.Changing.{MayMove, changed, marked_source, files_left}
-use Rattle.eden_tie.specs.Kept.{IsTable}
-use Rattle.eden_tie.specs.Moving.{MarkedTable, MarkedKept, MarkedShown}
-use Rattle.eden_tie.proofs.Follows.{place_cases}
+use Rattle.eden_tie.specs.Kept.{IsTable, IsKept}
+use Rattle.eden_tie.specs.Shown.{shown_in}
+use Rattle.eden_tie.specs.Ties.{Tied}
 use Rattle.eden_tie.proofs.Chain.{place_at}
-use Rattle.eden_tie.proofs.Loops.{place_on}
-use Rattle.eden_tie.proofs.Steps.{edited_number, edited_kind, edited_forth}
+use Rattle.eden_tie.proofs.Steps.{edited_number, edited_kind}
 use Rattle.eden_tie.proofs.Fine.{from_alike}
 use Rattle.eden_tie.proofs.Alike.{directories_alike, edited_alike}
 use Rattle.eden_tie.proofs.ShownFull.{backs_tied}
 use Rattle.eden_tie.proofs.Backed.{backs_loaded, backed_alike}
 use Rattle.eden_tie.proofs.Moved.{moves_kept}
+use Rattle.eden_tie.proofs.Remarked.{before}
 
 module _ (x : Row) (next : ℕ) (p : Path) (n : Name) (q : Path) (m : Name) (a : MayMove x p n q m) where
   abbrev marked : Directory
@@ -29,54 +27,12 @@ module _ (x : Row) (next : ℕ) (p : Path) (n : Name) (q : Path) (m : Name) (a :
   abbrev then : Row
   then = marked_source x p n q m a
 
-  on_row : Place x a.from
-  on_row = place_at p x a.from a.at_from
-
-  -- what is loaded then was, with the same listing
-  record Before (w : Row) (e : Directory) : Type 0 where
-    row : Row
-    directory : Directory
-    place : Place x row
-    holds : child_of row ≡ Some directory
-    number : w.number ≡ row.number
-    origin : w.origin ≡ row.origin
-    listing : listing_of e ≡ listing_of directory
-
-  marked_holds : child_of (with_child (Some marked) a.from) ≡ Some marked
-  marked_holds = child_of-with_child (Some marked) a.from
-
-  before : (w : Row) (e : Directory) → Place then w → child_of w ≡ Some e → Before w e
-  before w e r h = elim (edited_forth p (Some marked) x a.from a.at_from w e r h) [
-    | inl s ↦ elim (place_cases (with_child (Some marked) a.from) w s) [
-      | inl is ↦
-          (let dir : e ≡ marked = same_Some e marked (sym h ∙ ap child_of is ∙ marked_holds) in
-          record {
-            row = a.from;
-            directory = a.source;
-            place = on_row;
-            holds = a.holds_source;
-            number = ap (λ (c : Row). c.number) is;
-            origin = ap (λ (c : Row). c.origin) is;
-            listing = ap listing_of dir;
-          })
-      | inr b ↦
-          (let dir : b.directory ≡ marked = same_Some b.directory marked (sym b.holds ∙ marked_holds) in
-          let there : find_row b.name a.source.rows ≡ Some b.row = ap (λ (c : Directory). find_row b.name c.rows) (sym dir) ∙ b.there in
-          record {
-            row = w;
-            directory = e;
-            place = place_on x b.row w (inside a.from a.source b.name b.row on_row a.holds_source there) b.place;
-            holds = h;
-            number = refl;
-            origin = refl;
-            listing = refl;
-          })
-    ]
-    | inr b ↦ record { row = b.row; directory = b.directory; place = b.place; holds = b.holds; number = b.number; origin = b.origin; listing = b.listing }
-  ]
-
   listed : IsTable x next → (w : Row) (e : Directory) → Place then w → child_of w ≡ Some e → AreStorable (listing_of e)
-  listed table w e r h = let b = before w e r h in subst AreStorable (sym b.listing) (table.listed b.row b.directory b.place b.holds)
+  listed table w e r h = let b = before x p a.from a.source a.at_from a.holds_source true w e r h in subst AreStorable (sym b.listing) (table.listed b.row b.directory b.place b.holds)
+
+abbrev pub MarkedTable : Type 0
+MarkedTable = (x : Row) (next : ℕ) (p : Path) (n : Name) (q : Path) (m : Name) → IsTable x next → (may : MayMove x p n q m)
+    → IsTable (marked_source x p n q m may) next
 
 pub marked_table : MarkedTable
 marked_table x next p n q m table a = record {
@@ -87,6 +43,10 @@ marked_table x next p n q m table a = record {
   most = table.most;
 }
 
+abbrev pub MarkedKept : Type 0
+MarkedKept = (R : Repository) (F : Stored) (x : Row) (next : ℕ) (p : Path) (n : Name) (q : Path) (m : Name) → IsKept R F x next
+    → (may : MayMove x p n q m) → IsKept R (files_left x p n q m may F) (marked_source x p n q m may) next
+
 pub marked_kept : MarkedKept
 marked_kept R F x next p n q m k a =
     let tied = (moves_kept F x next p n q m (k.full, k.ties) a).marked in
@@ -94,9 +54,13 @@ marked_kept R F x next p n q m k a =
       full = tied.0;
       ties = tied.1;
       agrees = λ w e r h other.
-          (let b = before x next p n q m a w e r h in
+          (let b = before x p a.from a.source a.at_from a.holds_source true w e r h in
           from_alike R no_files w b.row e b.directory b.number b.origin b.listing (k.agrees b.row b.directory b.place b.holds (λ own. other (b.origin ∙ own))));
     }
+
+abbrev pub MarkedShown : Type 0
+MarkedShown = (R : Repository) (F : Stored) (x : Row) (next : ℕ) (p : Path) (n : Name) (q : Path) (m : Name) → Tied F x next
+    → (may : MayMove x p n q m) → shown_in R (files_left x p n q m may F) (marked_source x p n q m may) ≡ shown_in R F x
 
 pub marked_shown : MarkedShown
 marked_shown R F x next p n q m t a =

@@ -10,6 +10,7 @@ use Rattle.eden_overlay_format.specs.declared.stored_entry.StoredEntry.{StoredEn
 use Rattle.eden_overlay.specs.Files.{Stored}
 use Rattle.eden_overlay.specs.Held.{HoldsEntries, with_entries}
 use Rattle.eden_overlay.specs.Soundness.{AreSound}
+use Rattle.eden_overlay.specs.Walking.{is_own}
 use Rattle.eden_overlay.proofs.CallerLemmas.{apart, entries_held, numbers_from_two}
 use Rattle.eden_tree.specs.Directory.{Row, Directory, child_of, with_child}
 use Rattle.eden_tree.specs.Rows.{find_row, change_row, set_row}
@@ -17,7 +18,7 @@ use Rattle.eden_tree.specs.Paths.{row_at, edit_row}
 use Rattle.eden_tree.proofs.CallerLemmas.{child_of-with_child, change_rows-held, change_row-found, change_row-twice, reads_on, edits_on, edits_same, edits_twice, edits_alike, steps_down}
 use Rattle.eden_tie.specs.Listings.{stored_entry, full_entry, listing_of, Place, top}
 use Rattle.eden_tie.specs.Laws.{owned, with_owned}
-use Rattle.eden_tie.specs.Materialising.{is_own, marked_listing, Chain, lowest_own, lowest, both_own, above, OnTheWay, stored, further, IsChain, kept_mark, owned_along, ChainSound, ChainTied}
+use Rattle.eden_tie.specs.Materialising.{marked_listing, Chain, lowest_own, lowest, both_own, above, OnTheWay, stored, further, IsChain, kept_mark, owned_along, ChainSound, ChainTied}
 use Rattle.eden_tie.specs.Ties.{IsStoredAs, Ties}
 use Rattle.eden_tie.proofs.Chain.{place_at, at_changed, stored_new, children_tied, strays_tied, root_tied}
 use Rattle.eden_tie.proofs.Chains.{chain_last, chain_marked, chain_rest, marked_is}

@@ -21,7 +21,7 @@ use Rattle.eden_tree.proofs.CallerLemmas.{same-≡, same-refl, find_row-put_row,
 use Rattle.eden_tie.specs.Listings.{stored_entry, full_entry, listing_of, full_listing, Place, top, inside}
 use Rattle.eden_tie.specs.Ties.{IsAway, SameFile, Ties, Tied}
 use Rattle.eden_tie.specs.Changing.{IsCarried, MayBecome, with_listing, placed, rows_with, changed, MayGo, MayCome, EntryTied, DropTied, MoveTied, NewFileTied}
-use Rattle.eden_tie.specs.Changing.{MayMove, files_left, files_moved, moved_in, IsMoveKept, MovesKept, ChangesKept, NewEntryTied}
+use Rattle.eden_tie.specs.Changing.{MayMove, files_left, files_moved, moved_in, IsMoveKept, MovesKept, NewEntryTied}
 use Rattle.eden_tie.proofs.Rows.{mapped_from, contains_mapped, full_rising, entry_as_is, gone_after}
 use Rattle.eden_tie.proofs.Places.{rising_of, named_full, place_counts, away_row, away_below}
 use Rattle.eden_tie.proofs.Follows.{held_moved, Back}
@@ -437,6 +437,32 @@ module _ (F : Stored) (x : Row) (next : ℕ) (p : Path) (n : Name) (q : Path) (m
 
 pub moves_kept : MovesKept
 moves_kept F x next p n q m t a = move_kept F x next p n q m t a
+
+-- ---- one listing that changes
+
+-- a directory of its own where this under that name may be stored
+pub record MayChange (Honest : Type 0) (F : Stored) (x : Row) (next : ℕ) (p : Path) (n : Name) (o : Option Row) : Type 0 where
+  pub row : Row
+  pub directory : Directory
+  pub at : row_at p x ≡ Some row
+  pub holds : child_of row ≡ Some directory
+  pub own : row.origin ≡ origin.Own
+  pub may_go : MayGo directory n
+  pub entries : AreStorable (listing_of (changed directory n o))
+  pub unloaded : IfSome o (λ z. child_of z ≡ None)
+  pub full : Honest → Stored
+  pub ties : (h : Honest) → Ties F (full h) x next
+  pub may_come : (h : Honest) → MayCome F (full h) x next n o
+  pub sound : (h : Honest) → AreSound (with_entries (full h) row.number (full_listing (changed directory n o)))
+
+-- one listing that is stored leaves the files sound, and the table tied as it is then
+pub record IsChangeKept (F : Stored) (x : Row) (next : ℕ) (p : Path) (n : Name) (o : Option Row) (number : ℕ) (d : Directory) : Type 0 where
+  pub sound : AreSound (with_entries F number (listing_of (changed d n o)))
+  pub tied : Tied (with_entries F number (listing_of (changed d n o))) (with_listing p (changed d n o) x) next
+
+abbrev pub ChangesKept : Type 1
+ChangesKept = (Honest : Type 0) (F : Stored) (x : Row) (next : ℕ) (p : Path) (n : Name) (o : Option Row) → Honest
+    → (may : MayChange Honest F x next p n o) → IsChangeKept F x next p n o may.row.number may.directory
 
 pub changes_kept : ChangesKept
 changes_kept Honest F x next p n o h a =

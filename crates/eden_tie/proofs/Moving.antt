@@ -14,9 +14,8 @@ use Rattle.eden_tree.specs.Rows.{find_row}
 use Rattle.eden_tree.specs.Paths.{row_at}
 use Rattle.eden_tree.proofs.CallerLemmas.{reads_on}
 use Rattle.eden_tie.specs.Listings.{stored_entry, full_entry, listing_of, full_listing, Place, inside}
-use Rattle.eden_tie.specs.Changing.{MayGo, MayChange, MayMove, changed, with_listing, moved_in, files_left, files_moved, IsCarried}
+use Rattle.eden_tie.specs.Changing.{MayGo, MayMove, changed, with_listing, moved_in, files_left, files_moved, IsCarried}
 use Rattle.eden_tie.specs.Kept.{IsTable, IsKept}
-use Rattle.eden_tie.specs.Moving.{MovedTable, MovedKept, MovedShown, ReplacedTied, ReplacedKept, ReplacedShown}
 use Rattle.eden_tie.specs.Shown.{shown_in}
 use Rattle.eden_tie.specs.Ties.{Ties, Tied}
 use Rattle.eden_tie.proofs.Rows.{entry_as_is}
@@ -27,7 +26,7 @@ use Rattle.eden_tie.proofs.Below.{shows_below}
 use Rattle.eden_tie.proofs.ShownFull.{Backs, backs_tied}
 use Rattle.eden_tie.proofs.Backed.{backs_loaded, backed_alike}
 use Rattle.eden_tie.proofs.LooseFiles.{taken_tied, taken_alike}
-use Rattle.eden_tie.proofs.Moved.{drop_tied, move_tied, carried_full, unnamed, loaded_before}
+use Rattle.eden_tie.proofs.Moved.{drop_tied, move_tied, carried_full, unnamed, loaded_before, MayChange}
 use Rattle.eden_tie.proofs.Changed.{listing_table, listing_kept, listing_grafts}
 
 -- a move is an entry left out, and then one put in
@@ -153,18 +152,42 @@ module _ (honest : Type 0) (F : Stored) (x : Row) (next : ℕ) (p : Path) (n : N
     removed_shown : (R : Repository) → shown_in R (without (files_moved x p n q m a F) w.number) (moved_in x p n q m a) ≡ shown_in R (files_moved x p n q m a F) (moved_in x p n q m a)
     removed_shown R = taken_alike (files_moved x p n q m a F) (full_then h) (moved_in x p n q m a) next (tied_then h) w.number least unnamed_then R
 
+-- both stores of a move, whatever the outside: a table stays one
+abbrev pub MovedTable : Type 0
+MovedTable = (x : Row) (next : ℕ) (p : Path) (n : Name) (q : Path) (m : Name) → IsTable x next → (may : MayMove x p n q m)
+    → IsTable (moved_in x p n q m may) next
+
 pub moved_table : MovedTable
 moved_table x next p n q m table a = table_then ⊥ (λ k. None) x next p n q m a (λ h. absurd h) table
+
+-- where it is honest: a table is kept, and shows at the new path what stood below the old one, and nothing there
+abbrev pub MovedKept : Type 0
+MovedKept = (R : Repository) (F : Stored) (x : Row) (next : ℕ) (p : Path) (n : Name) (q : Path) (m : Name) → IsTable x next → IsKept R F x next
+    → (may : MayMove x p n q m) → IsKept R (files_moved x p n q m may F) (moved_in x p n q m may) next
 
 pub moved_kept : MovedKept
 moved_kept R F x next p n q m table k a = kept_then (Unit {0}) F x next p n q m a (λ h. (k.full, k.ties)) table tt R k
 
+abbrev pub MovedShown : Type 0
+MovedShown = (R : Repository) (F : Stored) (x : Row) (next : ℕ) (p : Path) (n : Name) (q : Path) (m : Name) → IsTable x next → Tied F x next
+    → (may : MayMove x p n q m) → shown_in R (files_moved x p n q m may F) (moved_in x p n q m may) ≡ move (shown_in R F x) (p ++ n ∷ []) (q ++ m ∷ [])
+
 pub moved_shown : MovedShown
 moved_shown R F x next p n q m table t a = shown_then (Unit {0}) F x next p n q m a (λ h. t) table tt R
+
+-- the file of what was replaced: nothing names it, so it may be removed
+abbrev pub ReplacedTied : Type 0
+ReplacedTied = (F : Stored) (x : Row) (next : ℕ) (p : Path) (n : Name) (q : Path) (m : Name) → Tied F x next → (may : MayMove x p n q m)
+    → (w : Row) → find_row m may.target.rows ≡ Some w → Tied (without (files_moved x p n q m may F) w.number) (moved_in x p n q m may) next
 
 pub replaced_tied : ReplacedTied
 replaced_tied F x next p n q m t a w stood =
     (put (full_then (Unit {0}) F x next p n q m a (λ h. t) tt) w.number None, removed (Unit {0}) F x next p n q m a (λ h. t) tt w stood)
+
+abbrev pub ReplacedKept : Type 0
+ReplacedKept = (R : Repository) (F : Stored) (x : Row) (next : ℕ) (p : Path) (n : Name) (q : Path) (m : Name) → IsTable x next → IsKept R F x next
+    → (may : MayMove x p n q m) → (w : Row) → find_row m may.target.rows ≡ Some w
+    → IsKept R (without (files_moved x p n q m may F) w.number) (moved_in x p n q m may) next
 
 pub replaced_kept : ReplacedKept
 replaced_kept R F x next p n q m table k a w stood = record {
@@ -172,6 +195,11 @@ replaced_kept R F x next p n q m table k a w stood = record {
   ties = removed (Unit {0}) F x next p n q m a (λ h. (k.full, k.ties)) tt w stood;
   agrees = (moved_kept R F x next p n q m table k a).agrees;
 }
+
+abbrev pub ReplacedShown : Type 0
+ReplacedShown = (R : Repository) (F : Stored) (x : Row) (next : ℕ) (p : Path) (n : Name) (q : Path) (m : Name) → Tied F x next
+    → (may : MayMove x p n q m) → (w : Row) → find_row m may.target.rows ≡ Some w
+    → shown_in R (without (files_moved x p n q m may F) w.number) (moved_in x p n q m may) ≡ shown_in R (files_moved x p n q m may F) (moved_in x p n q m may)
 
 pub replaced_shown : ReplacedShown
 replaced_shown R F x next p n q m t a w stood = removed_shown (Unit {0}) F x next p n q m a (λ h. t) tt w stood R

@@ -1,32 +1,35 @@
 -- What may stand under a name of a loaded directory: stored with the chain above it, it does.
-use Rattle.std.proofs.Common.{◌≡◌, ◌≢◌, ◌≤◌, ◌⊎◌, ℕ, true, false, cond, [], Option, Some, None, IfSome, inl, inr, refl, sym, ap, ◌∙◌, subst, arith}
+use Rattle.std.proofs.Common.{◌≡◌, ◌≢◌, ◌≤◌, ◌⊎◌, ℕ, true, false, cond, [], Option, Some, None, IfSome, inl, inr, refl, sym, ap, ◌∙◌, subst, arith, ◌∷◌, ◌++◌}
 use Rattle.std.specs.Str.{bytes_eq}
 use Rattle.eden_model.specs.declared.kind.Kind.TheVariants as kind
 use Rattle.eden_model.specs.declared.kind.Origin.{Origin}
 use Rattle.eden_model.specs.declared.kind.Origin.TheVariants as origin
 use Rattle.eden_model.specs.Named.{AreRising}
 use Rattle.eden_model.specs.Repository.{Repository}
-use Rattle.eden_model.specs.Trees.{Name, Path}
+use Rattle.eden_model.specs.Trees.{Name, Path, graft}
 use Rattle.eden_overlay_format.specs.Directory.{AreStorable}
 use Rattle.eden_overlay.specs.Files.{Stored, put}
 use Rattle.eden_overlay.specs.Held.{with_entries, without}
 use Rattle.eden_overlay.specs.Laws.{IsUnnamed}
 use Rattle.eden_overlay.specs.Soundness.{HoldsKind, AreSound}
+use Rattle.eden_overlay.specs.Walking.{is_own}
 use Rattle.eden_overlay.proofs.CallerLemmas.{put_here, kind_moved, apart, numbers_from_two}
 use Rattle.eden_tree.specs.Directory.{Row, Directory, child_of, with_child}
 use Rattle.eden_tree.specs.Rows.{find_row}
 use Rattle.eden_tree.specs.Paths.{row_at}
-use Rattle.eden_tree.proofs.CallerLemmas.{same-≡, same-refl, child_of-with_child}
-use Rattle.eden_tie.specs.Chains.{AreSaved, chained, Above, Unfinished, listed, Refused, later}
+use Rattle.eden_tree.proofs.CallerLemmas.{same-≡, same-refl, child_of-with_child, steps_down}
+use Rattle.eden_tie.specs.Chains.{chained, Above, Unfinished, listed, Refused, later, StaysLoaded, NoneMarked}
 use Rattle.eden_tie.specs.Changing.{changed, with_listing, MayGo, MayCome}
 use Rattle.eden_tie.specs.Kept.{IsTable, IsKept}
 use Rattle.eden_tie.specs.Listings.{full_entry, listing_of, full_listing, Place}
-use Rattle.eden_tie.specs.Materialising.{is_own, IsChain, Chain, lowest_own, lowest}
-use Rattle.eden_tie.specs.Standing.{IsNumbered, kept_number, new_number, MayStand, StandsTable, StandsSaved, StandsStays, StandsKept, StandsGrafts, RemovedSound, RemovedKept, RemovedAlike}
+use Rattle.eden_tie.specs.Materialising.{IsChain, Chain, lowest_own, lowest}
+use Rattle.eden_tie.specs.Standing.{IsNumbered, kept_number, new_number, MayStand}
 use Rattle.eden_tie.specs.Ties.{SameFile, Ties}
+use Rattle.eden_tie.specs.Shown.{shown_in}
+use Rattle.eden_tie.specs.ShownLaws.{shown_from}
 use Rattle.eden_tie.proofs.Chain.{place_at}
 use Rattle.eden_tie.proofs.Chained.{chain_from, above_back, unfinished_back}
-use Rattle.eden_tie.proofs.ChainKept.{table_now, saved_now, can_chain, kept_now, grafted_now}
+use Rattle.eden_tie.proofs.ChainKept.{table_now, can_chain, kept_now, grafted_now}
 use Rattle.eden_tie.proofs.ChainLaws.{refused_kept}
 use Rattle.eden_tie.proofs.Changing.{unstored_tied}
 use Rattle.eden_tie.proofs.KeptLemmas.{ties_rise}
@@ -38,6 +41,7 @@ use Rattle.eden_tie.proofs.Places.{named_full, place_counts, away_row}
 use Rattle.eden_tie.proofs.Rows.{stored_rising, as_is, by_origin}
 use Rattle.eden_tie.proofs.Sound.{ties_sound}
 use Rattle.eden_tie.proofs.StaysLoaded.{stays_loaded}
+use Rattle.eden_tie.proofs.Unsaved.{none_marked_with, chained_marks}
 
 -- files `full` in which it may come to stand
 record Stands (F : Stored) (x : Row) (next : ℕ) (y : Row) (d : Directory) (n : Name) (o : Option Row) : Type 0 where
@@ -166,9 +170,6 @@ module _ (honest : Type 0) (R : Repository) (F : Stored) (x : Row) (next : ℕ) 
   here_new : find_row n new.rows ≡ o
   here_new = find_with n n o a.directory.rows rising ∙ ap (λ b. cond b o (find_row n a.directory.rows)) (same-refl n)
 
-  saved : AreSaved a.row → new.unsaved ≡ false
-  saved all = refl
-
   module _ (h : honest) (k : IsKept R F x next) where
     stood : Stands F x next a.row a.directory n o
     stood = stands_any honest R F x next h k p a.row a.directory n a.at a.holds a.may_go o a.storable a.unloaded a.numbered
@@ -190,7 +191,7 @@ module _ (honest : Type 0) (R : Repository) (F : Stored) (x : Row) (next : ℕ) 
 
     pub stands_sound : (G : Stored) → Above first x p G ⊎ Unfinished first x p G → AreSound G
     stands_sound G (inl up) =
-        let now = kept_now x next table p a.row a.directory new a.at a.holds a.storable each saved R F k below.files full_below below.ties G (chain G up) in
+        let now = kept_now x next table p a.row a.directory new a.at a.holds a.storable each R F k below.files full_below below.ties G (chain G up) in
         ties_sound G now.full _ next now.ties
     stands_sound G (inr u) = let was = refused_kept R F x next p G table k (refused_later G u) in ties_sound G was.full x next was.ties
 
@@ -200,30 +201,59 @@ module _ (honest : Type 0) (R : Repository) (F : Stored) (x : Row) (next : ℕ) 
     put_sound G (inr u) = stands_sound G (inr (unfinished_back p x a.row a.directory new a.at a.holds first G u))
 
   pub put_can : IsChain (with_listing p new x) p
-  put_can = can_chain x next table p a.row a.directory new a.at a.holds a.storable each saved
+  put_can = can_chain x next table p a.row a.directory new a.at a.holds a.storable each
+
+abbrev pub StandsTable : Type 1
+StandsTable = (honest : Type 0) (R : Repository) (F : Stored) (x : Row) (next : ℕ) (p : Path) (n : Name) (o : Option Row) → IsTable x next
+    → (may : MayStand honest R F x next p n o) → IsTable (chained p (changed may.directory n o) x) next
 
 pub stands_table : StandsTable
 stands_table honest R F x next p n o table a =
-    table_now x next table p a.row a.directory (changed a.directory n o) a.at a.holds a.storable (each honest R F x next p n o table a) (saved honest R F x next p n o table a)
+    table_now x next table p a.row a.directory (changed a.directory n o) a.at a.holds a.storable (each honest R F x next p n o table a)
 
-pub stands_saved : StandsSaved
-stands_saved honest R F x next p n o table a all =
-    saved_now x next table p a.row a.directory (changed a.directory n o) a.at a.holds a.storable (each honest R F x next p n o table a) (saved honest R F x next p n o table a) all
+abbrev pub StandsMarks : Type 1
+StandsMarks = (honest : Type 0) (R : Repository) (F : Stored) (x : Row) (next : ℕ) (p : Path) (n : Name) (o : Option Row) → IsTable x next
+    → (may : MayStand honest R F x next p n o) → NoneMarked x (chained p (changed may.directory n o) x)
+
+pub stands_marks : StandsMarks
+stands_marks honest R F x next p n o table a =
+    let e = changed a.directory n o in
+    chained_marks p e x (none_marked_with p x a.row e a.at (λ m v found. elim (each honest R F x next p n o table a m v found) [
+      | inl was ↦ inl (steps_down m [] a.row v a.directory a.holds was)
+      | inr none ↦ inr none
+    ]) refl)
+
+abbrev pub StandsStays : Type 1
+StandsStays = (honest : Type 0) (R : Repository) (F : Stored) (x : Row) (next : ℕ) (p : Path) (n : Name) (o : Option Row) → IsTable x next
+    → (may : MayStand honest R F x next p n o) → StaysLoaded x (chained p (changed may.directory n o) x)
 
 pub stands_stays : StandsStays
 stands_stays honest R F x next p n o table a =
     stays_loaded a.row a.directory (changed a.directory n o) a.holds (stays honest R F x next p n o table a) p x a.at
 
+abbrev pub StandsKept : Type 1
+StandsKept = (honest : Type 0) (R : Repository) (F : Stored) (x : Row) (next : ℕ) (p : Path) (n : Name) (o : Option Row) → honest → IsTable x next
+    → IsKept R F x next
+    → (may : MayStand honest R F x next p n o) → (G : Stored) → Above (with_entries F may.row.number (listing_of (changed may.directory n o))) x p G
+    → IsKept R G (chained p (changed may.directory n o) x) next
+
 pub stands_kept : StandsKept
 stands_kept honest R F x next p n o h table k a G up =
     let b = below honest R F x next p n o table a h k in
-    kept_now x next table p a.row a.directory (changed a.directory n o) a.at a.holds a.storable (each honest R F x next p n o table a) (saved honest R F x next p n o table a)
+    kept_now x next table p a.row a.directory (changed a.directory n o) a.at a.holds a.storable (each honest R F x next p n o table a)
     R F k b.files (full_below honest R F x next p n o table a h k) b.ties G (chain honest R F x next p n o table a h k G up)
+
+-- what comes then shows at and below the name, and all else is as before
+abbrev pub StandsGrafts : Type 1
+StandsGrafts = (honest : Type 0) (R : Repository) (F : Stored) (x : Row) (next : ℕ) (p : Path) (n : Name) (o : Option Row) → honest → IsTable x next
+    → IsKept R F x next
+    → (may : MayStand honest R F x next p n o) → (G : Stored) → Above (with_entries F may.row.number (listing_of (changed may.directory n o))) x p G
+    → shown_in R G (chained p (changed may.directory n o) x) ≡ graft (p ++ n ∷ []) (shown_from R G o) (shown_in R F x)
 
 pub stands_grafts : StandsGrafts
 stands_grafts honest R F x next p n o h table k a G up =
     let b = below honest R F x next p n o table a h k in
-    grafted_now x next table p a.row a.directory (changed a.directory n o) a.at a.holds a.storable (each honest R F x next p n o table a) (saved honest R F x next p n o table a)
+    grafted_now x next table p a.row a.directory (changed a.directory n o) a.at a.holds a.storable (each honest R F x next p n o table a)
     R F k b.files (full_below honest R F x next p n o table a h k) b.ties G (chain honest R F x next p n o table a h k G up) n o (others honest R F x next p n o table a)
     (here_new honest R F x next p n o table a)
     (stays honest R F x next p n o table a) b.beside (with_entries F a.row.number (listing_of (changed a.directory n o))) b.low up
@@ -257,10 +287,22 @@ module _ (honest : Type 0) (R : Repository) (F : Stored) (x : Row) (next : ℕ) 
   removed_ties : Ties (without G w.number) (put full_left w.number None) (chained p left x) next
   removed_ties = taken_tied G full_left (chained p left x) next ties_left w.number gone_least nothing_names
 
+abbrev pub RemovedSound : Type 1
+RemovedSound = (honest : Type 0) (R : Repository) (F : Stored) (x : Row) (next : ℕ) (p : Path) (n : Name) → honest → IsTable x next → IsKept R F x next
+    → (may : MayStand honest R F x next p n None) → (w : Row) → find_row n may.directory.rows ≡ Some w
+    → (G : Stored) → Above (with_entries F may.row.number (listing_of (changed may.directory n None))) x p G
+    → AreSound (without G w.number)
+
 pub removed_sound : RemovedSound
 removed_sound honest R F x next p n h table k a w there G up =
     ties_sound (without G w.number) (put (full_left honest R F x next p n h table k a w there G up) w.number None) (chained p (changed a.directory n None) x) next
     (removed_ties honest R F x next p n h table k a w there G up)
+
+abbrev pub RemovedKept : Type 1
+RemovedKept = (honest : Type 0) (R : Repository) (F : Stored) (x : Row) (next : ℕ) (p : Path) (n : Name) → honest → IsTable x next → IsKept R F x next
+    → (may : MayStand honest R F x next p n None) → (w : Row) → find_row n may.directory.rows ≡ Some w
+    → (G : Stored) → Above (with_entries F may.row.number (listing_of (changed may.directory n None))) x p G
+    → IsKept R (without G w.number) (chained p (changed may.directory n None) x) next
 
 pub removed_kept : RemovedKept
 removed_kept honest R F x next p n h table k a w there G up = record {
@@ -268,6 +310,12 @@ removed_kept honest R F x next p n h table k a w there G up = record {
   ties = removed_ties honest R F x next p n h table k a w there G up;
   agrees = (stands_kept honest R F x next p n None h table k a G up).agrees;
 }
+
+abbrev pub RemovedAlike : Type 1
+RemovedAlike = (honest : Type 0) (R : Repository) (F : Stored) (x : Row) (next : ℕ) (p : Path) (n : Name) → honest → IsTable x next → IsKept R F x next
+    → (may : MayStand honest R F x next p n None) → (w : Row) → find_row n may.directory.rows ≡ Some w
+    → (G : Stored) → Above (with_entries F may.row.number (listing_of (changed may.directory n None))) x p G
+    → shown_in R (without G w.number) (chained p (changed may.directory n None) x) ≡ shown_in R G (chained p (changed may.directory n None) x)
 
 pub removed_alike : RemovedAlike
 removed_alike honest R F x next p n h table k a w there G up =

@@ -1,5 +1,5 @@
 -- What is loaded, what is saved and the other files, once an entry moved.
-use Rattle.std.proofs.Common.{◌≡◌, ℕ, true, false, cond, [], ◌∷◌, Option, Some, None, inl, inr, refl, sym, ap, ◌∙◌, subst}
+use Rattle.std.proofs.Common.{◌≡◌, ◌⊎◌, ℕ, true, false, cond, [], ◌∷◌, Option, Some, None, inl, inr, refl, sym, ap, ◌∙◌, subst}
 use Rattle.std.specs.Str.{bytes_eq}
 use Rattle.std.specs.Option.{option_map}
 use Rattle.std.proofs.lemmas.Option.{same_Some}
@@ -11,19 +11,18 @@ use Rattle.eden_tree.specs.Rows.{find_row, change_row}
 use Rattle.eden_tree.specs.Paths.{row_at, edit_row}
 use Rattle.eden_tree.proofs.CallerLemmas.{same-≡, child_of-with_child, change_rows-held, find_row-change_row, steps_down}
 use Rattle.eden_tie.specs.Listings.{listing_of}
-use Rattle.eden_tie.specs.Changing.{MayChange, MayMove, changed, with_listing, moved_in, marked_source, files_left}
+use Rattle.eden_tie.specs.Changing.{MayMove, changed, with_listing, moved_in, marked_source, files_left, files_moved}
 use Rattle.eden_tie.specs.Kept.{IsTable}
-use Rattle.eden_tie.specs.Chains.{AreSaved}
-use Rattle.eden_tie.specs.Moving.{MovedStays, MarkedStays, MovedSaved, LeftElsewhere, MovedElsewhere}
+use Rattle.eden_tie.specs.Chains.{IsUnsavedAt, NoneMarked, StaysLoaded}
+use Rattle.eden_tie.specs.Ties.{IsAway, Tied}
 use Rattle.eden_tie.proofs.Rows.{stored_rising}
 use Rattle.eden_tie.proofs.Chain.{place_at}
 use Rattle.eden_tie.proofs.Loops.{loaded_above}
-use Rattle.eden_tie.proofs.Steps.{edited_forth}
-use Rattle.eden_tie.proofs.Moved.{loaded_with, loaded_before}
-use Rattle.eden_tie.proofs.Changed.{inside_new}
+use Rattle.eden_tie.proofs.Moved.{from_with, if_some, loaded_with, loaded_before, MayChange}
 use Rattle.eden_tie.proofs.Between.{one_step}
 use Rattle.eden_tie.proofs.Moving.{leaving, coming, table_between}
 use Rattle.eden_tie.proofs.StaysLoaded.{Loaded, loaded_found, loaded_there}
+use Rattle.eden_tie.proofs.Unsaved.{unsaved_with, none_marked_with}
 
 -- ---- what is loaded
 
@@ -80,6 +79,9 @@ module _ (y : Row) (d e : Directory) (held : child_of y ≡ Some d)
         }
       ] refl
 
+abbrev pub MarkedStays : Type 0
+MarkedStays = (x : Row) (p : Path) (n : Name) (q : Path) (m : Name) → (may : MayMove x p n q m) → StaysLoaded x (marked_source x p n q m may)
+
 pub marked_stays : MarkedStays
 marked_stays x p n q m a r loaded =
     let l = still_loaded a.from a.source (record a.source { unsaved = true }) a.holds_source (λ j w c f k. f) p r x a.at_from (loaded_found r x loaded) in
@@ -95,14 +97,12 @@ module _ (x : Row) (next : ℕ) (p : Path) (n : Name) (o : Option Row) (table : 
   listing_stays r l = still_loaded a.row a.directory (changed a.directory n o) a.holds
       (loaded_with a.directory n o (stored_rising a.directory (table.listed a.row a.directory (place_at p x a.row a.at) a.holds)) a.may_go) p r x a.at l
 
-  listing_saved : AreSaved x → AreSaved then
-  listing_saved saved w e q h = elim (edited_forth p (Some (changed a.directory n o)) x a.row a.at w e q h) [
-    | inl r ↦ elim (inside_new ⊥ F x next p n o table a w e r h) [
-      | inl is ↦ ap (λ (c : Directory). c.unsaved) is.1
-      | inr was ↦ saved w e was h
-    ]
-    | inr b ↦ b.mark ∙ saved b.row b.directory b.place b.holds
-  ]
+  listing_marks : NoneMarked x then
+  listing_marks = none_marked_with p x a.row (changed a.directory n o) a.at (λ j w found.
+      elim (from_with j n o a.directory.rows w (stored_rising a.directory (table.listed a.row a.directory (place_at p x a.row a.at) a.holds)) found) [
+        | inl was ↦ inl (steps_down j [] a.row w a.directory a.holds was)
+        | inr is ↦ inr (if_some o (λ z. child_of z ≡ None) w a.unloaded is.1)
+      ]) refl
 
 module _ (x : Row) (next : ℕ) (p : Path) (n : Name) (q : Path) (m : Name) (table : IsTable x next) (a : MayMove x p n q m) where
   abbrev nothing : Stored
@@ -123,21 +123,51 @@ module _ (x : Row) (next : ℕ) (p : Path) (n : Name) (q : Path) (m : Name) (tab
   both_stay : (r : Path) → Loaded r x → Loaded r (moved_in x p n q m a)
   both_stay r l = listing_stays between next q m (Some a.entry) table_left (files_left x p n q m a nothing) put_in r (listing_stays x next p n None table nothing left r l)
 
-  both_saved : AreSaved x → AreSaved (moved_in x p n q m a)
-  both_saved saved = listing_saved between next q m (Some a.entry) table_left (files_left x p n q m a nothing) put_in (listing_saved x next p n None table nothing left saved)
+  both_marks : NoneMarked x (moved_in x p n q m a)
+  both_marks r unsaved = listing_marks x next p n None table nothing left r (listing_marks between next q m (Some a.entry) table_left (files_left x p n q m a nothing) put_in r unsaved)
+
+abbrev pub MovedStays : Type 0
+MovedStays = (x : Row) (next : ℕ) (p : Path) (n : Name) (q : Path) (m : Name) → IsTable x next → (may : MayMove x p n q m)
+    → StaysLoaded x (moved_in x p n q m may)
 
 pub moved_stays : MovedStays
 moved_stays x next p n q m table a r loaded =
     let l = both_stay x next p n q m table a r (loaded_found r x loaded) in
     loaded_there r (moved_in x p n q m a) l.row l.directory l.at l.holds
 
-pub moved_saved : MovedSaved
-moved_saved x next p n q m table a saved = both_saved x next p n q m table a saved
+-- a move that is done marks nothing
+abbrev pub MovedMarks : Type 0
+MovedMarks = (x : Row) (next : ℕ) (p : Path) (n : Name) (q : Path) (m : Name) → IsTable x next → (may : MayMove x p n q m)
+    → NoneMarked x (moved_in x p n q m may)
+
+pub moved_marks : MovedMarks
+moved_marks x next p n q m table a = both_marks x next p n q m table a
+
+-- .. and one that isn't only the first directory
+abbrev pub MarkedAlone : Type 0
+MarkedAlone = (x : Row) (p : Path) (n : Name) (q : Path) (m : Name) → (may : MayMove x p n q m) → (r : Path)
+    → IsUnsavedAt r (marked_source x p n q m may) → (r ≡ p) ⊎ IsUnsavedAt r x
+
+pub marked_alone : MarkedAlone
+marked_alone x p n q m a r unsaved =
+    elim (unsaved_with p x a.from (record a.source { unsaved = true }) a.at_from (λ j w found. inl (steps_down j [] a.from w a.source a.holds_source found)) r unsaved) [
+      | inl here ↦ inl here.0
+      | inr was ↦ inr was
+    ]
 
 -- ---- the other files
 
+-- it stores files of loaded directories alone
+abbrev pub LeftElsewhere : Type 0
+LeftElsewhere = (F : Stored) (x : Row) (p : Path) (n : Name) (q : Path) (m : Name) → (may : MayMove x p n q m) → (k : ℕ) → IsAway x k
+    → files_left x p n q m may F k ≡ F k
+
 pub left_elsewhere : LeftElsewhere
 left_elsewhere F x p n q m a k away = apart F a.from.number (listing_of (changed a.source n None)) a.entries_left k (away a.from a.source (place_at p x a.from a.at_from) a.holds_source)
+
+abbrev pub MovedElsewhere : Type 0
+MovedElsewhere = (F : Stored) (x : Row) (next : ℕ) (p : Path) (n : Name) (q : Path) (m : Name) → Tied F x next → (may : MayMove x p n q m)
+    → (k : ℕ) → IsAway x k → files_moved x p n q m may F k ≡ F k
 
 pub moved_elsewhere : MovedElsewhere
 moved_elsewhere F x next p n q m t a k away =

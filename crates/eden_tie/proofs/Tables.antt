@@ -3,14 +3,15 @@ use Rattle.std.proofs.Common.{◌≡◌, ℕ, List, Option, Some, None, inl, inr
 use Rattle.eden_model.specs.Trees.{Path}
 use Rattle.eden_overlay_format.specs.declared.stored_entry.StoredEntry.{StoredEntry}
 use Rattle.eden_overlay_format.specs.Directory.{AreStorable}
+use Rattle.eden_overlay.specs.Files.{Stored}
 use Rattle.eden_tree.specs.Directory.{Row, Directory, child_of, with_child}
 use Rattle.eden_tree.specs.Paths.{row_at, edit_row}
 use Rattle.eden_tree.proofs.CallerLemmas.{child_of-with_child, edits_nothing}
 use Rattle.eden_tie.specs.Listings.{listing_of, Place}
 use Rattle.eden_tie.specs.Kept.{IsTable}
-use Rattle.eden_tie.specs.KeptLaws.{StampsTable, ObjectLoadsTable, OwnLoadsTable, UnloadsTable}
-use Rattle.eden_tie.specs.Loading.{with_loaded}
-use Rattle.eden_tie.specs.Unloading.{HasNoneInside, none, one_more, same_files}
+use Rattle.eden_tie.specs.KeptLaws.{StampsTable, ObjectLoadsTable}
+use Rattle.eden_tie.specs.Loading.{with_loaded, LoadsOwn}
+use Rattle.eden_tie.specs.Unloading.{HasNoneInside, none, one_more, same_files, Unloads}
 use Rattle.eden_tie.proofs.Chain.{root_loaded}
 use Rattle.eden_tie.proofs.Objects.{none_inside}
 use Rattle.eden_tie.proofs.Steps.{Was, leaf_cases, stamped_same, stamped_forth, edited_number, edited_kind, edited_forth}
@@ -64,10 +65,20 @@ object_loads_table clock next x p es z after t l are ends =
     let first = t.least in
     record { root = now.root; kind = now.kind; listed = now.listed; least = omega (arith, first, gives); most = ends }
 
+-- a directory that is loaded from its stored file, or as an empty one, and can be stored leaves a table
+abbrev pub OwnLoadsTable : Type 1
+OwnLoadsTable = (honest : Type 0) (clock next : ℕ) (F : Stored) (x : Row) (p : Path) (z : Row) → IsTable x next → (l : LoadsOwn honest clock F x p z)
+    → AreStorable (listing_of l.directory) → IsTable z next
+
 pub own_loads_table : OwnLoadsTable
 own_loads_table honest clock next F x p z t l are =
     let P : Row → Type 0 = λ r. IsTable r next in
     subst P (sym l.is) (loaded_table x next p clock l.directory t (none_inside l.directory l.new.unloaded) are)
+
+-- so do directories that go
+abbrev pub UnloadsTable : Type 1
+UnloadsTable = (honest : Type 0) (clock age next : ℕ) (F : Stored) (x : Row) (G : Stored) (z : Row) (c : ℕ) → IsTable x next
+    → Unloads honest clock age F x G z c → IsTable z next
 
 pub unloads_table : UnloadsTable
 unloads_table honest clock age next F x G z c t none = t

@@ -13,8 +13,7 @@ use Rattle.eden_tree.proofs.CallerLemmas.{child_of-with_child, with_child-same, 
 use Rattle.eden_tie.specs.Listings.{listing_of, Place, top}
 use Rattle.eden_tie.specs.Shown.{shown_in, IsFrom}
 use Rattle.eden_tie.specs.Kept.{IsTable, IsKept}
-use Rattle.eden_tie.specs.ShownLaws.{UnloadsAlike}
-use Rattle.eden_tie.specs.Unloading.{HasNoneInside, Goes, none, one_more, same_files}
+use Rattle.eden_tie.specs.Unloading.{HasNoneInside, Goes, none, one_more, same_files, Unloads}
 use Rattle.eden_tie.proofs.Chain.{place_at}
 use Rattle.eden_tie.proofs.Alike.{loads_alike}
 use Rattle.eden_tie.proofs.Listed.{own_from, saved_from}
@@ -58,7 +57,12 @@ module _ (honest : Type 0) (R : Repository) (clock age next : ℕ) (F : Stored) 
   goes_alike : shown_in R G z ≡ shown_in R F x
   goes_alike = ap (shown_in R G) g.gone ∙ by_mark g.directory.unsaved refl
 
--- and any number of them
+-- .. and any number of them
+abbrev pub UnloadsAlike : Type 1
+UnloadsAlike = (honest : Type 0) (R : Repository) (clock age next : ℕ) (F : Stored) (x : Row) (G : Stored) (z : Row) (c : ℕ) → honest → IsTable x next
+    → IsKept R F x next
+    → Unloads honest clock age F x G z c → shown_in R G z ≡ shown_in R F x
+
 pub unloads_alike : UnloadsAlike
 unloads_alike honest R clock age next F x G z c h t kept none = refl
 unloads_alike honest R clock age next F x G z c h t kept (one_more H y b K v u g) =

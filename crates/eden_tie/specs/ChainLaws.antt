@@ -4,21 +4,21 @@ use Rattle.eden_model.specs.Repository.{Repository}
 use Rattle.eden_model.specs.Trees.{Path}
 use Rattle.eden_overlay.specs.Files.{Stored}
 use Rattle.eden_tree.specs.Directory.{Row}
-use Rattle.eden_tie.specs.Chains.{IsLoadedAt, AreSaved, StaysLoaded, Refused}
+use Rattle.eden_tie.specs.Chains.{IsLoadedAt, NoneMarked, StaysLoaded, Refused}
 use Rattle.eden_tie.specs.Kept.{IsTable, IsKept}
 use Rattle.eden_tie.specs.Laws.{owned}
 use Rattle.eden_tie.specs.Materialising.{Chain, owned_along}
 use Rattle.eden_tie.specs.Shown.{shown_in}
 
--- whatever the outside: a table stays one, what is loaded stays so, and none is unsaved where none was
+-- whatever the outside: a table stays one, what is loaded stays so, and none is unsaved that wasn't
 abbrev pub OwnedTable : Type 0
 OwnedTable = (x : Row) (next : ℕ) (p : Path) → IsTable x next → IsLoadedAt p x → IsTable (owned (owned_along p x)) next
 
 abbrev pub OwnedStays : Type 0
 OwnedStays = (x : Row) (p : Path) → IsLoadedAt p x → StaysLoaded x (owned (owned_along p x))
 
-abbrev pub OwnedSaved : Type 0
-OwnedSaved = (x : Row) (next : ℕ) (p : Path) → IsTable x next → IsLoadedAt p x → AreSaved x → AreSaved (owned (owned_along p x))
+abbrev pub OwnedMarks : Type 0
+OwnedMarks = (x : Row) (p : Path) → NoneMarked x (owned (owned_along p x))
 
 -- once the chain is stored, a kept table is kept, and shows the same
 abbrev pub OwnedKept : Type 0

@@ -1,17 +1,19 @@
 -- A chain of directories that becomes the mount's own, the listing of its lowest one changed.
 use Rattle.std.specs.Prelude.{◌≡◌, ◌⊎◌, ℕ, true, false, List, [], ◌∷◌, Some, IsSome, IsSomeAnd}
+use Rattle.std.specs.Option.{option_map, option_and_then}
 use Rattle.eden_model.specs.Trees.{Name, Path}
 use Rattle.eden_overlay_format.specs.Directory.{AreStorable}
 use Rattle.eden_overlay_format.specs.declared.stored_entry.StoredEntry.{StoredEntry}
 use Rattle.eden_overlay.specs.Files.{Stored}
 use Rattle.eden_overlay.specs.Held.{with_entries}
+use Rattle.eden_overlay.specs.Walking.{is_own}
 use Rattle.eden_tree.specs.Directory.{Row, Directory, child_of}
 use Rattle.eden_tree.specs.Rows.{find_row}
 use Rattle.eden_tree.specs.Paths.{row_at}
 use Rattle.eden_tie.specs.Changing.{with_listing}
 use Rattle.eden_tie.specs.Laws.{owned}
 use Rattle.eden_tie.specs.Listings.{Place}
-use Rattle.eden_tie.specs.Materialising.{is_own, marked_listing, owned_along}
+use Rattle.eden_tie.specs.Materialising.{marked_listing, owned_along}
 
 -- the entry at the path is a loaded directory
 abbrev pub IsLoadedAt : Path → Row → Type 0
@@ -20,6 +22,14 @@ IsLoadedAt p x = IsSomeAnd (row_at p x) (λ y. IsSome (child_of y))
 -- no loaded directory is unsaved
 abbrev pub AreSaved : Row → Type 0
 AreSaved x = (y : Row) (d : Directory) → Place x y → child_of y ≡ Some d → d.unsaved ≡ false
+
+-- the loaded directory at the path is unsaved
+abbrev pub IsUnsavedAt : Path → Row → Type 0
+IsUnsavedAt p x = option_map (λ (d : Directory). d.unsaved) (option_and_then child_of (row_at p x)) ≡ Some true
+
+-- what is unsaved in z is so in x
+abbrev pub NoneMarked : Row → Row → Type 0
+NoneMarked x z = (p : Path) → IsUnsavedAt p z → IsUnsavedAt p x
 
 -- what is loaded in x is so in z
 abbrev pub StaysLoaded : Row → Row → Type 0

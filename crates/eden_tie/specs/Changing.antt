@@ -157,21 +157,6 @@ module _ (x : Row) (p : Path) (n : Name) (q : Path) (m : Name) (may : MayMove x 
   abbrev pub marked_source : Row
   marked_source = with_listing p (record may.source { unsaved = true }) x
 
--- a directory of its own where this under that name may be stored
-pub record MayChange (Honest : Type 0) (F : Stored) (x : Row) (next : ℕ) (p : Path) (n : Name) (o : Option Row) : Type 0 where
-  pub row : Row
-  pub directory : Directory
-  pub at : row_at p x ≡ Some row
-  pub holds : child_of row ≡ Some directory
-  pub own : row.origin ≡ origin.Own
-  pub may_go : MayGo directory n
-  pub entries : AreStorable (listing_of (changed directory n o))
-  pub unloaded : IfSome o (λ z. child_of z ≡ None)
-  pub full : Honest → Stored
-  pub ties : (h : Honest) → Ties F (full h) x next
-  pub may_come : (h : Honest) → MayCome F (full h) x next n o
-  pub sound : (h : Honest) → AreSound (with_entries (full h) row.number (full_listing (changed directory n o)))
-
 -- both stores of a move leave the files sound; between them the table is tied once the first directory is marked, and after
 -- them as it is then
 pub record IsMoveKept (F : Stored) (x : Row) (next : ℕ) (p : Path) (n : Name) (q : Path) (m : Name) (may : MayMove x p n q m) : Type 0 where
@@ -183,15 +168,6 @@ pub record IsMoveKept (F : Stored) (x : Row) (next : ℕ) (p : Path) (n : Name) 
 abbrev pub MovesKept : Type 0
 MovesKept = (F : Stored) (x : Row) (next : ℕ) (p : Path) (n : Name) (q : Path) (m : Name) → Tied F x next
     → (may : MayMove x p n q m) → IsMoveKept F x next p n q m may
-
--- one listing that is stored leaves the files sound, and the table tied as it is then
-pub record IsChangeKept (F : Stored) (x : Row) (next : ℕ) (p : Path) (n : Name) (o : Option Row) (number : ℕ) (d : Directory) : Type 0 where
-  pub sound : AreSound (with_entries F number (listing_of (changed d n o)))
-  pub tied : Tied (with_entries F number (listing_of (changed d n o))) (with_listing p (changed d n o) x) next
-
-abbrev pub ChangesKept : Type 1
-ChangesKept = (Honest : Type 0) (F : Stored) (x : Row) (next : ℕ) (p : Path) (n : Name) (o : Option Row) → Honest
-    → (may : MayChange Honest F x next p n o) → IsChangeKept F x next p n o may.row.number may.directory
 
 -- a new entry of a number that nothing names, its own file stored first
 abbrev pub NewEntryTied : Type 0

@@ -1,20 +1,17 @@
--- What keeps a table: loads, directories that go, and listings that change.
-use Rattle.std.specs.Prelude.{◌≤◌, ℕ, Option, Some, ◌≡◌, ◌⊎◌, List}
+-- What keeps a table: stamps, numbers that are given, and loads from tree objects.
+use Rattle.std.specs.Prelude.{◌≤◌, ℕ, Some, ◌≡◌, List}
 use Rattle.eden_model.specs.declared.id.Id.{Id}
 use Rattle.eden_model.specs.declared.kind.Origin.TheVariants as origin
 use Rattle.eden_model.specs.declared.tree_entry.TreeEntry.{TreeEntry}
-use Rattle.eden_model.specs.Trees.{Name, Path}
+use Rattle.eden_model.specs.Trees.{Path}
 use Rattle.eden_model.specs.Repository.{Repository}
 use Rattle.eden_overlay_format.specs.Directory.{AreStorable, number_end}
 use Rattle.eden_overlay.specs.Files.{Stored}
-use Rattle.eden_overlay.specs.Held.{with_entries}
 use Rattle.eden_tree.specs.Directory.{Row}
 use Rattle.eden_tree.specs.Paths.{stamped_along}
 use Rattle.eden_tie.specs.Listings.{listing_of}
 use Rattle.eden_tie.specs.Kept.{IsTable, IsKept}
-use Rattle.eden_tie.specs.Loading.{IsAt, LoadsObject, LoadsOwn}
-use Rattle.eden_tie.specs.Unloading.{Goes, Unloads, MayUnload}
-use Rattle.eden_tie.specs.Changing.{MayChange, changed, with_listing}
+use Rattle.eden_tie.specs.Loading.{IsAt, LoadsObject}
 
 -- ---- whatever the outside
 
@@ -27,20 +24,6 @@ abbrev pub ObjectLoadsTable : Type 0
 ObjectLoadsTable = (clock next : ℕ) (x : Row) (p : Path) (es : List TreeEntry) (z : Row) (after : ℕ) → IsTable x next
     → (l : LoadsObject clock next x p es z after)
     → AreStorable (listing_of l.directory) → after ≤ number_end → IsTable z after
-
-abbrev pub OwnLoadsTable : Type 1
-OwnLoadsTable = (honest : Type 0) (clock next : ℕ) (F : Stored) (x : Row) (p : Path) (z : Row) → IsTable x next → (l : LoadsOwn honest clock F x p z)
-    → AreStorable (listing_of l.directory) → IsTable z next
-
--- so do directories that go
-abbrev pub UnloadsTable : Type 1
-UnloadsTable = (honest : Type 0) (clock age next : ℕ) (F : Stored) (x : Row) (G : Stored) (z : Row) (c : ℕ) → IsTable x next
-    → Unloads honest clock age F x G z c → IsTable z next
-
--- so does a listing that changes
-abbrev pub ListingTable : Type 1
-ListingTable = (honest : Type 0) (F : Stored) (x : Row) (next : ℕ) (p : Path) (n : Name) (o : Option Row) → IsTable x next
-    → (may : MayChange honest F x next p n o) → IsTable (with_listing p (changed may.directory n o) x) next
 
 -- ---- where the outside is honest
 
@@ -58,29 +41,3 @@ ObjectLoadsKept = (R : Repository) (F : Stored) (clock next : ℕ) (x : Row) (p 
     → IsKept R F x next
     → IsAt p x (origin.Object id) → R.tree id ≡ Some es → (l : LoadsObject clock next x p es z after) → AreStorable (listing_of l.directory)
     → IsKept R F z after
-
--- .. or from its stored file, or as an empty one
-abbrev pub OwnLoadsKept : Type 1
-OwnLoadsKept = (honest : Type 0) (R : Repository) (F : Stored) (clock next : ℕ) (x : Row) (p : Path) (z : Row) → honest → IsTable x next → IsKept R F x next
-    → IsAt p x origin.Own ⊎ IsAt p x origin.Empty → (l : LoadsOwn honest clock F x p z) → AreStorable (listing_of l.directory) → IsKept R F z next
-
--- and one that goes
-abbrev pub GoesKept : Type 1
-GoesKept = (honest : Type 0) (R : Repository) (clock age next : ℕ) (F : Stored) (x : Row) (G : Stored) (z : Row) → honest → IsTable x next → IsKept R F x next
-    → Goes honest clock age F x G z → IsKept R G z next
-
-abbrev pub UnloadsKept : Type 1
-UnloadsKept = (honest : Type 0) (R : Repository) (clock age next : ℕ) (F : Stored) (x : Row) (G : Stored) (z : Row) (c : ℕ) → honest → IsTable x next
-    → IsKept R F x next
-    → Unloads honest clock age F x G z c → IsKept R G z next
-
--- a table may be unloaded
-abbrev pub TablesUnload : Type 1
-TablesUnload = (honest : Type 0) (R : Repository) (clock age next : ℕ) (F : Stored) (x : Row) → IsTable x next → (honest → IsKept R F x next)
-    → MayUnload honest clock age F x
-
--- a listing that changes, stored first, keeps a table over the files then
-abbrev pub ListingKept : Type 1
-ListingKept = (honest : Type 0) (R : Repository) (F : Stored) (x : Row) (next : ℕ) (p : Path) (n : Name) (o : Option Row) → honest → IsTable x next
-    → IsKept R F x next → (may : MayChange honest F x next p n o)
-    → IsKept R (with_entries F may.row.number (listing_of (changed may.directory n o))) (with_listing p (changed may.directory n o) x) next

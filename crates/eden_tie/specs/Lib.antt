@@ -15,3 +15,4 @@ pub mod ChainLaws
 pub mod Standing
 pub mod Loose
 pub mod Filing
+pub mod Saving

@@ -1,7 +1,6 @@
 -- Which files materialising a directory stores.
 use Rattle.std.specs.Prelude.{◌≡◌, ◌⊎◌, ℕ, Bool, true, false, if◌then◌else◌, List, [], ◌∷◌, map, Option, Some, None}
 use Rattle.std.specs.Str.{bytes_eq}
-use Rattle.eden_model.specs.declared.kind.Origin.{Origin}
 use Rattle.eden_model.specs.declared.kind.Origin.TheVariants as origin
 use Rattle.eden_model.specs.Trees.{Name, Path}
 use Rattle.eden_model.specs.Named.{AreRising}
@@ -10,17 +9,12 @@ use Rattle.eden_overlay_format.specs.declared.stored_entry.StoredEntry.{StoredEn
 use Rattle.eden_overlay.specs.Files.{Stored}
 use Rattle.eden_overlay.specs.Held.{with_entries}
 use Rattle.eden_overlay.specs.Soundness.{AreSound}
+use Rattle.eden_overlay.specs.Walking.{is_own}
 use Rattle.eden_tree.specs.Directory.{Row, Directory, child_of, change_child}
 use Rattle.eden_tree.specs.Rows.{find_row, change_row}
 use Rattle.eden_tie.specs.Listings.{listing_of}
 use Rattle.eden_tie.specs.Laws.{owned, with_owned}
 use Rattle.eden_tie.specs.Ties.{Ties}
-
--- whether the origin is its own
-abbrev pub is_own : Origin → Bool
-is_own (origin.Object id) = false
-is_own origin.Own = true
-is_own origin.Empty = false
 
 -- an entry as it is stored, its own where it has that name
 abbrev pub marked_entry : Name → Name × Row → StoredEntry

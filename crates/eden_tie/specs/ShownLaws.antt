@@ -1,5 +1,5 @@
 -- What a table shows, and what keeps that.
-use Rattle.std.specs.Prelude.{◌≡◌, ◌≢◌, ◌⊎◌, ℕ, List, [], ◌∷◌, ◌++◌, Option, Some, None, false}
+use Rattle.std.specs.Prelude.{◌≡◌, ◌≢◌, ℕ, List, [], ◌∷◌, ◌++◌, Option, Some, None, false}
 use Rattle.std.specs.Option.{option_map}
 use Rattle.eden_model.specs.declared.id.Id.{Id}
 use Rattle.eden_model.specs.declared.kind.Kind.TheVariants as kind
@@ -9,16 +9,15 @@ use Rattle.eden_model.specs.Trees.{Name, Path, Tree, graft}
 use Rattle.eden_model.specs.Shown.{Item, shown, shown_at}
 use Rattle.eden_model.specs.Repository.{Repository, Source, source_of, ground_with}
 use Rattle.eden_overlay.specs.Files.{Stored}
-use Rattle.eden_overlay.specs.Held.{own_files, with_entries}
+use Rattle.eden_overlay.specs.Held.{own_files}
 use Rattle.eden_tree.specs.Directory.{Row, Directory, child_of, with_child}
 use Rattle.eden_tree.specs.Rows.{find_row}
 use Rattle.eden_tree.specs.Paths.{row_at, edit_row, stamped_along}
-use Rattle.eden_tie.specs.Listings.{own_if_loaded, listing_of, Place}
+use Rattle.eden_tie.specs.Listings.{own_if_loaded, Place}
 use Rattle.eden_tie.specs.Shown.{item_in, table_ground, shown_in, shown_away, IsFrom}
 use Rattle.eden_tie.specs.Kept.{IsTable, IsKept}
-use Rattle.eden_tie.specs.Loading.{IsAt, LoadsObject, LoadsOwn}
-use Rattle.eden_tie.specs.Unloading.{HasNoneInside, Unloads}
-use Rattle.eden_tie.specs.Changing.{MayChange, changed, with_listing}
+use Rattle.eden_tie.specs.Loading.{IsAt, LoadsObject}
+use Rattle.eden_tie.specs.Unloading.{HasNoneInside}
 
 -- an entry as it would be were all that is loaded materialised
 abbrev pub full_item : Row → Item Source
@@ -49,20 +48,9 @@ abbrev pub ObjectLoadsAlike : Type 0
 ObjectLoadsAlike = (R : Repository) (F : Stored) (clock next : ℕ) (x : Row) (p : Path) (id : Id) (es : List TreeEntry) (z : Row) (after : ℕ)
     → IsAt p x (origin.Object id) → R.tree id ≡ Some es → LoadsObject clock next x p es z after → shown_in R F z ≡ shown_in R F x
 
--- .. and from its stored file, or as an empty one
-abbrev pub OwnLoadsAlike : Type 1
-OwnLoadsAlike = (honest : Type 0) (R : Repository) (F : Stored) (clock : ℕ) (x : Row) (p : Path) (z : Row) → honest
-    → IsAt p x origin.Own ⊎ IsAt p x origin.Empty → LoadsOwn honest clock F x p z → shown_in R F z ≡ shown_in R F x
-
 -- stamps and marks are not seen
 abbrev pub StampsAlike : Type 0
 StampsAlike = (R : Repository) (F : Stored) (p : Path) (clock : ℕ) (x : Row) → shown_in R F (stamped_along p clock x) ≡ shown_in R F x
-
--- however many directories go, the same is shown
-abbrev pub UnloadsAlike : Type 1
-UnloadsAlike = (honest : Type 0) (R : Repository) (clock age next : ℕ) (F : Stored) (x : Row) (G : Stored) (z : Row) (c : ℕ) → honest → IsTable x next
-    → IsKept R F x next
-    → Unloads honest clock age F x G z c → shown_in R G z ≡ shown_in R F x
 
 -- what an entry shows, or none
 abbrev pub shown_from : Repository → Stored → Option Row → Tree
@@ -88,10 +76,3 @@ ShowsBelow = (R : Repository) (F : Stored) (p q : Path) (x y : Row) → AreDirec
 abbrev pub ShowsAbsent : Type 0
 ShowsAbsent = (R : Repository) (F : Stored) (p : Path) (n : Name) (q : Path) (x y : Row) (d : Directory) → AreDirectories x
     → row_at p x ≡ Some y → child_of y ≡ Some d → find_row n d.rows ≡ None → shown_in R F x (p ++ n ∷ q) ≡ None
-
--- A listing that changes, stored first: what the entry shows over the files then stands at and below the name, and all else
--- is as before.
-abbrev pub ListingGrafts : Type 1
-ListingGrafts = (honest : Type 0) (R : Repository) (F : Stored) (x : Row) (next : ℕ) (p : Path) (n : Name) (o : Option Row) → honest → IsTable x next
-    → (may : MayChange honest F x next p n o) → (G : Stored) → G ≡ with_entries F may.row.number (listing_of (changed may.directory n o))
-    → shown_in R G (with_listing p (changed may.directory n o) x) ≡ graft (p ++ n ∷ []) (shown_from R G o) (shown_in R F x)

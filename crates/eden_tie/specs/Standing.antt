@@ -1,22 +1,19 @@
 -- What may come to stand under a name of a loaded directory, told by the table alone.
-use Rattle.std.specs.Prelude.{◌≡◌, ◌≢◌, ◌≤◌, ◌<◌, ◌⊎◌, ℕ, [], ◌∷◌, ◌++◌, Option, Some, None, IfSome}
+use Rattle.std.specs.Prelude.{◌≡◌, ◌≢◌, ◌≤◌, ◌<◌, ◌⊎◌, ℕ, [], Option, Some, None, IfSome}
 use Rattle.eden_model.specs.declared.kind.Kind.TheVariants as kind
 use Rattle.eden_model.specs.declared.kind.Origin.TheVariants as origin
 use Rattle.eden_model.specs.Repository.{Repository}
-use Rattle.eden_model.specs.Trees.{Name, Path, graft}
+use Rattle.eden_model.specs.Trees.{Name, Path}
 use Rattle.eden_overlay_format.specs.Directory.{IsStorable, AreStorable, number_least}
 use Rattle.eden_overlay.specs.Files.{Stored}
-use Rattle.eden_overlay.specs.Held.{HoldsEntries, with_entries, without}
-use Rattle.eden_overlay.specs.Soundness.{HoldsKind, AreSound}
+use Rattle.eden_overlay.specs.Held.{HoldsEntries}
+use Rattle.eden_overlay.specs.Soundness.{HoldsKind}
 use Rattle.eden_tree.specs.Directory.{Row, Directory, child_of}
 use Rattle.eden_tree.specs.Rows.{find_row}
 use Rattle.eden_tree.specs.Paths.{row_at}
-use Rattle.eden_tie.specs.Chains.{AreSaved, StaysLoaded, chained, Above}
 use Rattle.eden_tie.specs.Changing.{HasRoom, MayGo, changed}
-use Rattle.eden_tie.specs.Kept.{IsTable, IsKept}
+use Rattle.eden_tie.specs.Kept.{IsKept}
 use Rattle.eden_tie.specs.Listings.{stored_entry, listing_of}
-use Rattle.eden_tie.specs.Shown.{shown_in}
-use Rattle.eden_tie.specs.ShownLaws.{shown_from}
 
 -- the number of what comes
 pub data IsNumbered (honest : Type 0) (R : Repository) (F : Stored) (x : Row) (next : ℕ) (d : Directory) (n : Name) (z : Row) : Type 0 where
@@ -45,50 +42,3 @@ DropStorable = (d : Directory) (n : Name) → AreStorable (listing_of d) → Are
 abbrev pub EntryStorable : Type 0
 EntryStorable = (d : Directory) (n : Name) (z : Row) → AreStorable (listing_of d) → IsStorable (stored_entry (n, z))
     → HasRoom d n → AreStorable (listing_of (changed d n (Some z)))
-
--- ---- what may stand may be stored, with the chain above it, and then stand there in memory
-
-abbrev pub StandsTable : Type 1
-StandsTable = (honest : Type 0) (R : Repository) (F : Stored) (x : Row) (next : ℕ) (p : Path) (n : Name) (o : Option Row) → IsTable x next
-    → (may : MayStand honest R F x next p n o) → IsTable (chained p (changed may.directory n o) x) next
-
-abbrev pub StandsSaved : Type 1
-StandsSaved = (honest : Type 0) (R : Repository) (F : Stored) (x : Row) (next : ℕ) (p : Path) (n : Name) (o : Option Row) → IsTable x next
-    → (may : MayStand honest R F x next p n o) → AreSaved x → AreSaved (chained p (changed may.directory n o) x)
-
-abbrev pub StandsStays : Type 1
-StandsStays = (honest : Type 0) (R : Repository) (F : Stored) (x : Row) (next : ℕ) (p : Path) (n : Name) (o : Option Row) → IsTable x next
-    → (may : MayStand honest R F x next p n o) → StaysLoaded x (chained p (changed may.directory n o) x)
-
-abbrev pub StandsKept : Type 1
-StandsKept = (honest : Type 0) (R : Repository) (F : Stored) (x : Row) (next : ℕ) (p : Path) (n : Name) (o : Option Row) → honest → IsTable x next
-    → IsKept R F x next
-    → (may : MayStand honest R F x next p n o) → (G : Stored) → Above (with_entries F may.row.number (listing_of (changed may.directory n o))) x p G
-    → IsKept R G (chained p (changed may.directory n o) x) next
-
--- what comes then shows at and below the name, and all else is as before
-abbrev pub StandsGrafts : Type 1
-StandsGrafts = (honest : Type 0) (R : Repository) (F : Stored) (x : Row) (next : ℕ) (p : Path) (n : Name) (o : Option Row) → honest → IsTable x next
-    → IsKept R F x next
-    → (may : MayStand honest R F x next p n o) → (G : Stored) → Above (with_entries F may.row.number (listing_of (changed may.directory n o))) x p G
-    → shown_in R G (chained p (changed may.directory n o) x) ≡ graft (p ++ n ∷ []) (shown_from R G o) (shown_in R F x)
-
--- ---- once an entry is left out its file may be taken out: nothing names it
-
-abbrev pub RemovedSound : Type 1
-RemovedSound = (honest : Type 0) (R : Repository) (F : Stored) (x : Row) (next : ℕ) (p : Path) (n : Name) → honest → IsTable x next → IsKept R F x next
-    → (may : MayStand honest R F x next p n None) → (w : Row) → find_row n may.directory.rows ≡ Some w
-    → (G : Stored) → Above (with_entries F may.row.number (listing_of (changed may.directory n None))) x p G
-    → AreSound (without G w.number)
-
-abbrev pub RemovedKept : Type 1
-RemovedKept = (honest : Type 0) (R : Repository) (F : Stored) (x : Row) (next : ℕ) (p : Path) (n : Name) → honest → IsTable x next → IsKept R F x next
-    → (may : MayStand honest R F x next p n None) → (w : Row) → find_row n may.directory.rows ≡ Some w
-    → (G : Stored) → Above (with_entries F may.row.number (listing_of (changed may.directory n None))) x p G
-    → IsKept R (without G w.number) (chained p (changed may.directory n None) x) next
-
-abbrev pub RemovedAlike : Type 1
-RemovedAlike = (honest : Type 0) (R : Repository) (F : Stored) (x : Row) (next : ℕ) (p : Path) (n : Name) → honest → IsTable x next → IsKept R F x next
-    → (may : MayStand honest R F x next p n None) → (w : Row) → find_row n may.directory.rows ≡ Some w
-    → (G : Stored) → Above (with_entries F may.row.number (listing_of (changed may.directory n None))) x p G
-    → shown_in R (without G w.number) (chained p (changed may.directory n None) x) ≡ shown_in R G (chained p (changed may.directory n None) x)

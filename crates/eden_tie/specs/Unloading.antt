@@ -1,7 +1,8 @@
 -- Loaded directories that go.
-use Rattle.std.specs.Prelude.{◌≡◌, ◌≤◌, ◌-◌, ◌+◌, ℕ, true, false, Some, None}
+use Rattle.std.specs.Prelude.{◌≡◌, ◌≤◌, ◌-◌, ◌+◌, ℕ, true, false, Option, Some, None, IsSome}
 use Rattle.eden_model.specs.Trees.{Name, Path}
 use Rattle.eden_overlay_format.specs.Directory.{AreStorable}
+use Rattle.eden_overlay.specs.declared.files.FilesFault.{FilesFault}
 use Rattle.eden_overlay.specs.Files.{Stored}
 use Rattle.eden_overlay.specs.Held.{with_entries}
 use Rattle.eden_overlay.specs.Soundness.{AreSound}
@@ -35,10 +36,10 @@ pub data Unloads (honest : Type 0) (clock age : ℕ) (F : Stored) (x : Row) : St
       → Unloads honest clock age F x H z (c + 1)
   same_files : (G : Stored) (y : Row) (c : ℕ) (H : Stored) → Unloads honest clock age F x G y c → (honest → H ≡ G) → Unloads honest clock age F x H y c
 
--- what is still loaded is too young, has a loaded directory inside, or is unsaved
-abbrev pub IsSettled : ℕ → ℕ → Row → Type 0
-IsSettled clock age x = (p : Path) (y : Row) (d : Directory) → row_at p x ≡ Some y → child_of y ≡ Some d
-    → age ≤ clock - d.stamp → HasNoneInside d → d.unsaved ≡ true
+-- what is still loaded is too young, has a loaded directory inside, or is unsaved where a store was refused
+abbrev pub IsSettled : ℕ → ℕ → Option FilesFault → Row → Type 0
+IsSettled clock age refused x = (p : Path) (y : Row) (d : Directory) → row_at p x ≡ Some y → child_of y ≡ Some d
+    → age ≤ clock - d.stamp → HasNoneInside d → (d.unsaved ≡ true) × IsSome refused
 
 -- every loaded directory can be stored
 abbrev pub AreListed : Row → Type 0

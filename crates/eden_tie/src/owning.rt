@@ -1,4 +1,4 @@
-ghost use Rattle.eden_tie.specs.ChainLaws.{OwnedTable, OwnedStays, OwnedSaved, OwnedKept, OwnedAlike, RefusedKept, RefusedAlike};
+ghost use Rattle.eden_tie.specs.ChainLaws.{OwnedTable, OwnedStays, OwnedMarks, OwnedKept, OwnedAlike, RefusedKept, RefusedAlike};
 ghost use Rattle.eden_tie.specs.Loose.{LooseSound, LooseKept, LooseAlike};
 ghost use Rattle.eden_tie.specs.Standing.{DropStorable, EntryStorable};
 
@@ -11,7 +11,7 @@ ghost use Rattle.eden_tie.specs.Standing.{DropStorable, EntryStorable};
 pub fn chain_laws()
     ensures table { OwnedTable }
     ensures stays { OwnedStays }
-    ensures saved { OwnedSaved }
+    ensures marks { OwnedMarks }
     ensures kept { OwnedKept }
     ensures alike { OwnedAlike }
     ensures refused_kept { RefusedKept }

@@ -51,6 +51,7 @@ impl Attempts<Outside> for Shelf {
     ghost table = { record {
       shown = λ t p. None;
       commit = λ t. t.key.id;
+      next = λ t. 0;
       caches = λ t k. nat_lt 0 t.objects && same_key t.key k;
       needs = λ t q k. (t.objects ≡ 0) × (k ≡ t.key) × (1 ≤ most_objects q);
       left = λ t q. most_objects q - t.objects;

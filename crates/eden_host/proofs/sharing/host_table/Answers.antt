@@ -1,7 +1,13 @@
-use Rattle.std.proofs.Common.{ℕ, subst}
-use Rattle.eden_host.specs.Sharing.{HostsTable}
+use Rattle.std.proofs.Common.{rules}
+use Rattle.eden_host.proofs.Beginning.{are_newcomers}
+use Rattle.eden_host.specs.Sharing.{terms_at}
 use Rattle.eden_host.proofs.sharing.host_table.Goals as goal
 
 pub returns-in-Ok-clause-hosted : goal.returns-in-Ok-clause-hosted
 returns-in-Ok-clause-hosted g c =
-    subst (λ (n : ℕ). HostsTable g.T.Attempts.table g.I.Read g.O.Write g.W.World.honest g.W.World.opening n c.host_passes.result) c.in-Ok.ensures.count c.host_passes.ensures
+    c.host_passes.ensures (terms_at g.T.Attempts.table c.args.room c.args.table) c.in-Ok.ensures.passes
+
+pub host_passes-requires-clause-passes : goal.host_passes-requires-clause-passes
+host_passes-requires-clause-passes g c =
+    let are = are_newcomers (terms_at g.T.Attempts.table c.args.room c.args.table) _ _ c.in-Ok.ensures.passes c.in-Ok.ensures.count in
+    search (rules, are)

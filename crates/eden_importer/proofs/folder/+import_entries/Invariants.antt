@@ -1,8 +1,10 @@
+use Rattle.std.proofs.Common.{◌-◌}
+use Rattle.eden_importer.specs.Limits.{most_levels}
 use Rattle.eden_importer.specs.Trees.{HasPlainModes}
 use Rattle.eden_importer.proofs.folder.+import_entries.Given as goal
 
 abbrev pub decreases-import_entries : goal.decreases-import_entries
-decreases-import_entries g l = l.levels
+decreases-import_entries g l = most_levels - l.levels
 
 abbrev pub invariant-loop-found : goal.invariant-loop-found
 invariant-loop-found g l = record {

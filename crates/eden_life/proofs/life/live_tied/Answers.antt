@@ -29,5 +29,5 @@ returns-in-Err g c =
 pub returns-in-Ok : goal.returns-in-Ok
 returns-in-Ok g c =
     ended g.W.World g.F.Files g.I.Read g.O.Write c.args.base c.args.config.now c.args.backing.files c.end.result
-    c.in-Ok.table c.in-Ok.room.queue.passes c.host_table-hosted.result c.in-Ok.ensures.opened
-    (ap (λ (r : Room). r.queue.passes) c.in-Ok.ensures.room) c.host_table-hosted.ensures.hosted c.host_table-hosted.ensures.err c.end.ensures
+    c.in-Ok.table c.in-Ok.room c.host_table-hosted.result c.in-Ok.ensures.opened
+    c.in-Ok.ensures.room c.host_table-hosted.ensures.hosted c.host_table-hosted.ensures.err c.end.ensures

@@ -1,7 +1,7 @@
 use Rattle.std.proofs.Common.{ap}
 use Rattle.eden_inode.specs.Tables.{Table}
 use Rattle.eden_tie.specs.Shown.{shown_in}
-use Rattle.eden_materialise.proofs.Additions.{adds_may, adds_table, adds_kept, adds_stored, adds_strays, adds_shown, adds_unseen, adds_saved, adds_stay}
+use Rattle.eden_materialise.proofs.Additions.{adds_may, adds_table, adds_kept, adds_stored, adds_strays, adds_shown, adds_unseen, adds_marks, adds_stay}
 use Rattle.eden_materialise.proofs.addition.add_entry.Goals as goal
 
 pub returns-then-not-has_room-clause-numbers : goal.returns-then-not-has_room-clause-numbers
@@ -65,13 +65,13 @@ returns-in-Some-clause-unseen g c h =
     (c.if-not-has_room.ensures l.row l.directory l.at l.holds) c.as_slice.ensures.named c.requires.short c.holds-in-Some.ensures.table (g.F.Files.stored c.change.new.self.files) c.change.new.self.root
     (g.F.Files.failures c.change.new.self.files) c.change.result c.change.ensures.does h
 
-pub returns-in-Some-clause-saved : goal.returns-in-Some-clause-saved
-returns-in-Some-clause-saved g c all =
+pub returns-in-Some-clause-marks : goal.returns-in-Some-clause-marks
+returns-in-Some-clause-marks g c =
     let l = c.requires.lacks in
-    adds_saved g.row.F.Denot g.F.Files.stored g.F.Files.failures g.W.World.honest g.W.World.repository c.args.path.now c.args.name.now c.args.new c.args.inodes.now c.give_number.new.self
+    adds_marks g.row.F.Denot g.F.Files.stored g.F.Files.failures g.W.World.honest g.W.World.repository c.args.path.now c.args.name.now c.args.new c.args.inodes.now c.give_number.new.self
     c.in-Some.number c.in-Some.ensures.some.1 c.in-Some.ensures.some.0 l c.holds.ensures.table c.holds.ensures.kept
     (c.if-not-has_room.ensures l.row l.directory l.at l.holds) c.as_slice.ensures.named c.requires.short c.holds-in-Some.ensures.table (g.F.Files.stored c.change.new.self.files) c.change.new.self.root
-    (g.F.Files.failures c.change.new.self.files) c.change.result c.change.ensures.does all
+    (g.F.Files.failures c.change.new.self.files) c.change.result c.change.ensures.does
 
 pub returns-in-Some-clause-stays : goal.returns-in-Some-clause-stays
 returns-in-Some-clause-stays g c =

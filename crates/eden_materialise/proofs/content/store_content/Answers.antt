@@ -1,4 +1,4 @@
-use Rattle.eden_materialise.proofs.Fills.{fills_ok, fills_stored, fills_err, fills_strays, fills_fault, fills_counted, fills_table, fills_saved, fills_stay, fills_kept, fills_unseen, fills_shown}
+use Rattle.eden_materialise.proofs.Fills.{fills_ok, fills_stored, fills_err, fills_strays, fills_fault, fills_counted, fills_table, fills_marks, fills_stay, fills_kept, fills_unseen, fills_shown}
 use Rattle.eden_materialise.proofs.content.store_content.Goals as goal
 
 pub change-requires-clause-may : goal.change-requires-clause-may
@@ -89,13 +89,13 @@ returns-clause-unseen g c h =
     c.holds.ensures.table c.requires.there.1 c.requires.short (g.F.Files.failures t.files) (g.F.Files.stored then.files) then.root (g.F.Files.failures then.files)
     h (c.holds.ensures.kept h) c.change.result (c.change.ensures.does c.requires.there.0 c.requires.there.1)
 
-pub returns-clause-saved : goal.returns-clause-saved
-returns-clause-saved g c all =
+pub returns-clause-marks : goal.returns-clause-marks
+returns-clause-marks g c =
     let t = c.args.inodes.now in
     let then = c.change.new.self in
-    fills_saved g.W.World.honest g.W.World.repository c.args.path.now c.args.name.now c.requires.there.0 c.args.content.now (g.F.Files.stored t.files) t.root t.next
+    fills_marks g.W.World.honest g.W.World.repository c.args.path.now c.args.name.now c.requires.there.0 c.args.content.now (g.F.Files.stored t.files) t.root t.next
     c.holds.ensures.table c.requires.there.1 c.requires.short (g.F.Files.failures t.files) (g.F.Files.stored then.files) then.root (g.F.Files.failures then.files)
-    c.change.result (c.change.ensures.does c.requires.there.0 c.requires.there.1) all
+    c.change.result (c.change.ensures.does c.requires.there.0 c.requires.there.1)
 
 pub returns-clause-stays : goal.returns-clause-stays
 returns-clause-stays g c =

@@ -1,4 +1,4 @@
-use Rattle.eden_materialise.proofs.Listings.{changes_table, changes_saved, changes_stay, changes_kept_then, changes_shown, changes_unseen}
+use Rattle.eden_materialise.proofs.Listings.{changes_table, changes_marks, changes_stay, changes_kept_then, changes_shown, changes_unseen}
 use Rattle.eden_materialise.proofs.entry_change.change_entry.Goals as goal
 
 pub change-requires-clause-table : goal.change-requires-clause-table
@@ -27,12 +27,12 @@ returns-clause-unseen g c h =
     changes_unseen g.W.World.honest g.W.World.repository c.args.path.now c.args.name.now c.args.entry (g.F.Files.stored t.files) t.root (g.F.Files.failures t.files)
     (g.F.Files.stored then.files) then.root (g.F.Files.failures then.files) t.next c.holds.ensures.table c.requires.may h (c.holds.ensures.kept h) c.change.result c.change.ensures.does
 
-pub returns-clause-saved : goal.returns-clause-saved
-returns-clause-saved g c all =
+pub returns-clause-marks : goal.returns-clause-marks
+returns-clause-marks g c =
     let t = c.args.inodes.now in
     let then = c.change.new.self in
-    changes_saved g.W.World.honest g.W.World.repository c.args.path.now c.args.name.now c.args.entry (g.F.Files.stored t.files) t.root (g.F.Files.failures t.files)
-    (g.F.Files.stored then.files) then.root (g.F.Files.failures then.files) t.next c.holds.ensures.table c.requires.may c.change.result c.change.ensures.does all
+    changes_marks g.W.World.honest g.W.World.repository c.args.path.now c.args.name.now c.args.entry (g.F.Files.stored t.files) t.root (g.F.Files.failures t.files)
+    (g.F.Files.stored then.files) then.root (g.F.Files.failures then.files) t.next c.holds.ensures.table c.requires.may c.change.result c.change.ensures.does
 
 pub returns-clause-stays : goal.returns-clause-stays
 returns-clause-stays g c =

@@ -1,4 +1,4 @@
-use Rattle.eden_materialise.proofs.EntryMoves.{moves_in, move_table, move_stays, move_saved, move_counted, move_elsewhere, move_kept, move_shown, move_unseen}
+use Rattle.eden_materialise.proofs.EntryMoves.{moves_in, move_table, move_stays, move_marks, move_counted, move_elsewhere, move_kept, move_shown, move_unseen}
 use Rattle.eden_materialise.proofs.entry_move.move_entry.Goals as goal
 
 pub change-requires-clause-may : goal.change-requires-clause-may
@@ -33,11 +33,11 @@ returns-clause-loaded g c =
     move_stays g.W.World.honest (g.F.Files.stored t.files) t.root t.next c.args.from.now c.args.name.now c.args.to.now c.args.new_name.now (g.F.Files.failures t.files)
     (g.F.Files.stored then.files) then.root (g.F.Files.failures then.files) c.holds.ensures.table c.change.result c.change.ensures.does
 
-pub returns-clause-saved : goal.returns-clause-saved
-returns-clause-saved g c =
+pub returns-clause-marks : goal.returns-clause-marks
+returns-clause-marks g c =
     let t = c.args.inodes.now in
     let then = c.change.new.self in
-    move_saved g.W.World.honest (g.F.Files.stored t.files) t.root t.next c.args.from.now c.args.name.now c.args.to.now c.args.new_name.now (g.F.Files.failures t.files)
+    move_marks g.W.World.honest (g.F.Files.stored t.files) t.root t.next c.args.from.now c.args.name.now c.args.to.now c.args.new_name.now (g.F.Files.failures t.files)
     (g.F.Files.stored then.files) then.root (g.F.Files.failures then.files) c.holds.ensures.table c.change.result c.change.ensures.does
 
 pub returns-clause-elsewhere : goal.returns-clause-elsewhere

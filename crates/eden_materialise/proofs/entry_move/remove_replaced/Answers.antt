@@ -1,6 +1,7 @@
-use Rattle.std.proofs.Common.{ℕ, Option, refl, sym, subst}
+use Rattle.std.proofs.Common.{◌≡◌, ℕ, Option, Result, Err, refl, sym, ap, subst}
+use Rattle.eden_overlay.specs.declared.files.FilesFault.{FilesFault}
+use Rattle.eden_overlay.specs.declared.files.FilesFault.TheVariants as files
 use Rattle.eden_materialise.specs.EntryMoves.{Clears, nothing, removed, failed}
-use Rattle.eden_materialise.proofs.Counts.{never_falls}
 use Rattle.eden_materialise.proofs.entry_move.remove_replaced.Goals as goal
 
 pub returns-in-None : goal.returns-in-None
@@ -20,5 +21,5 @@ pub returns-in-Err : goal.returns-in-Err
 returns-in-Err g c =
     let then = c.remove.new.self in
     let P : Option ℕ → Type 0 = λ o. Clears g.W.World.honest (g.F.Files.stored c.args.overlay.now) (g.F.Files.failures c.args.overlay.now) (g.F.Files.stored then) (g.F.Files.failures then) o in
-    subst P (sym c.in-Some.is) (failed c.in-Some.number c.in-Err.ensures.err
-    (never_falls c.in-Err.field-0 (g.F.Files.failures c.args.overlay.now) (g.F.Files.failures then) c.in-Err.ensures.counted))
+    let fault : ◌≡◌ {A = Result (Unit {0}) FilesFault} (Err c.in-Err.field-0) (Err files.Device) = ap (λ f. Err f) c.in-Err.ensures.fault in
+    subst P (sym c.in-Some.is) (failed c.in-Some.number c.in-Err.ensures.err (c.in-Err.ensures.counted.rose fault))

@@ -1,4 +1,4 @@
-use Rattle.eden_materialise.proofs.Chains.{owns_table, owns_saved, owns_stays, owns_kept, owns_alike}
+use Rattle.eden_materialise.proofs.Chains.{owns_table, owns_marks, owns_stays, owns_kept, owns_alike}
 use Rattle.eden_materialise.proofs.owning.materialise.Goals as goal
 
 pub change-requires-clause-table : goal.change-requires-clause-table
@@ -20,12 +20,12 @@ returns-clause-shown g c h =
     owns_alike g.W.World.honest c.args.path.now (g.F.Files.stored t.files) t.root (g.F.Files.failures t.files) (g.F.Files.stored then.files) then.root (g.F.Files.failures then.files)
     h g.W.World.repository t.next c.holds.ensures.table (c.holds.ensures.kept h) c.requires.loaded c.change.result c.change.ensures.does
 
-pub returns-clause-saved : goal.returns-clause-saved
-returns-clause-saved g c all =
+pub returns-clause-marks : goal.returns-clause-marks
+returns-clause-marks g c =
     let t = c.args.inodes.now in
     let then = c.change.new.self in
-    owns_saved g.W.World.honest c.args.path.now (g.F.Files.stored t.files) t.root (g.F.Files.failures t.files) (g.F.Files.stored then.files) then.root (g.F.Files.failures then.files)
-    c.change.result t.next c.holds.ensures.table c.requires.loaded c.change.ensures.does all
+    owns_marks g.W.World.honest c.args.path.now (g.F.Files.stored t.files) t.root (g.F.Files.failures t.files) (g.F.Files.stored then.files) then.root (g.F.Files.failures then.files)
+    c.change.result c.change.ensures.does
 
 pub returns-clause-stays : goal.returns-clause-stays
 returns-clause-stays g c =

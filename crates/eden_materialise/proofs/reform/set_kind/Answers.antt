@@ -1,7 +1,7 @@
 use Rattle.std.proofs.Common.{Some}
 use Rattle.eden_tree.specs.Directory.{Row}
 use Rattle.eden_materialise.specs.Reforms.{of_kind}
-use Rattle.eden_materialise.proofs.Listings.{changes_table, changes_saved, changes_stay, changes_kept_then, changes_unseen}
+use Rattle.eden_materialise.proofs.Listings.{changes_table, changes_marks, changes_stay, changes_kept_then, changes_unseen}
 use Rattle.eden_materialise.proofs.Reforms.{may_reform, reform_shown}
 use Rattle.eden_materialise.proofs.reform.set_kind.Goals as goal
 
@@ -57,15 +57,15 @@ returns-clause-unseen g c h =
     changes_unseen g.W.World.honest g.W.World.repository c.args.path.now c.args.name.now (Some (of_kind c.args.kind w)) F t.root (g.F.Files.failures t.files)
     (g.F.Files.stored then.files) then.root (g.F.Files.failures then.files) t.next c.holds.ensures.table may h (c.holds.ensures.kept h) c.change.result (c.change.ensures.does w c.requires.there.1)
 
-pub returns-clause-saved : goal.returns-clause-saved
-returns-clause-saved g c all =
+pub returns-clause-marks : goal.returns-clause-marks
+returns-clause-marks g c =
     let t = c.args.inodes.now in
     let then = c.change.new.self in
     let w = c.requires.there.0 in
     let F = g.F.Files.stored t.files in
     let may = may_reform g.W.World.honest g.W.World.repository F t.root t.next c.args.path.now c.args.name.now c.args.kind w c.holds.ensures.table c.requires.there.1 c.requires.file in
-    changes_saved g.W.World.honest g.W.World.repository c.args.path.now c.args.name.now (Some (of_kind c.args.kind w)) F t.root (g.F.Files.failures t.files)
-    (g.F.Files.stored then.files) then.root (g.F.Files.failures then.files) t.next c.holds.ensures.table may c.change.result (c.change.ensures.does w c.requires.there.1) all
+    changes_marks g.W.World.honest g.W.World.repository c.args.path.now c.args.name.now (Some (of_kind c.args.kind w)) F t.root (g.F.Files.failures t.files)
+    (g.F.Files.stored then.files) then.root (g.F.Files.failures then.files) t.next c.holds.ensures.table may c.change.result (c.change.ensures.does w c.requires.there.1)
 
 pub returns-clause-stays : goal.returns-clause-stays
 returns-clause-stays g c =

@@ -1,5 +1,5 @@
 use Rattle.std.proofs.Common.{None}
-use Rattle.eden_materialise.proofs.Listings.{changes_table, changes_saved, changes_stay}
+use Rattle.eden_materialise.proofs.Listings.{changes_table, changes_marks, changes_stay}
 use Rattle.eden_materialise.proofs.Removals.{may_remove, removes, removes_strays, removes_fault, removes_counted, removes_kept, removes_shown, removes_unseen}
 use Rattle.eden_materialise.proofs.removal.remove_entry.Goals as goal
 
@@ -90,14 +90,14 @@ returns-clause-unseen g c h =
     removes_unseen g.W.World.honest g.W.World.repository c.args.path.now c.args.name.now F t.root (g.F.Files.failures t.files)
     (g.F.Files.stored then.files) then.root (g.F.Files.failures then.files) t.next c.holds.ensures.table may h (c.holds.ensures.kept h) c.change.result c.change.ensures.does
 
-pub returns-clause-saved : goal.returns-clause-saved
-returns-clause-saved g c all =
+pub returns-clause-marks : goal.returns-clause-marks
+returns-clause-marks g c =
     let t = c.args.inodes.now in
     let F = g.F.Files.stored t.files in
     let may = may_remove g.W.World.honest g.W.World.repository F t.root t.next c.args.path.now c.args.name.now c.holds.ensures.table c.requires.there in
     let done = c.change.ensures.does in
-    changes_saved g.W.World.honest g.W.World.repository c.args.path.now c.args.name.now None F t.root (g.F.Files.failures t.files)
-    done.between c.change.new.self.root done.count t.next c.holds.ensures.table may c.change.result done.changes all
+    changes_marks g.W.World.honest g.W.World.repository c.args.path.now c.args.name.now None F t.root (g.F.Files.failures t.files)
+    done.between c.change.new.self.root done.count t.next c.holds.ensures.table may c.change.result done.changes
 
 pub returns-clause-stays : goal.returns-clause-stays
 returns-clause-stays g c =

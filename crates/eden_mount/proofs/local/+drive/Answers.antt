@@ -1,8 +1,7 @@
 use Rattle.std.proofs.Common.{◌≡◌, ◌<◌, Some, arith}
 use Rattle.eden_mount.specs.declared.events.Turned.TheVariants.{Done, Wait}
 use Rattle.eden_mount.specs.Steps.{Turns, Takes}
-use Rattle.eden_mount.specs.Serving.{drive_size}
-use Rattle.eden_mount.proofs.Driving.{done_drives, round_goes, round_drives}
+use Rattle.eden_mount.proofs.Driving.{drive_size, done_drives, round_goes, round_drives}
 use Rattle.eden_mount.proofs.local.+drive.Goals as goal
 
 pub returns-in-Done : goal.returns-in-Done

@@ -1,4 +1,4 @@
-use Rattle.eden_mount.specs.Serving.{drive_size}
+use Rattle.eden_mount.proofs.Driving.{drive_size}
 use Rattle.eden_mount.proofs.local.+drive.Given as goal
 
 abbrev pub decreases-drive : goal.decreases-drive

@@ -1,4 +1,4 @@
-use Rattle.std.proofs.Common.{◌==◌, ℕ, ◌++◌, ◌∷◌, Option, Some, Ok, Err, sym, refl, subst, ap, ◌∙◌}
+use Rattle.std.proofs.Common.{le_trans, ◌≡◌, ◌≤◌, ◌+◌, ◌==◌, ℕ, List, ◌++◌, ◌∷◌, Option, Some, Ok, Err, sym, refl, subst, ap, ◌∙◌}
 use Rattle.eden_model.specs.declared.errno.Errno.TheVariants.{EEXIST}
 use Rattle.eden_model.specs.declared.reply.Reply.TheVariants as say
 use Rattle.eden_model.specs.Operations.{Meets as Table_Meets, Says}
@@ -7,21 +7,25 @@ use Rattle.eden_model.specs.Trees.{Tree, Path, Reach, reach, graft}
 use Rattle.eden_tree.specs.Paths.{row_at}
 use Rattle.eden_tie.specs.Changing.{changed as changed_listing}
 use Rattle.eden_tie.specs.Filing.{leaf}
+use Rattle.eden_tie.specs.Saving.{IsSavedAbove}
 use Rattle.eden_tie.proofs.CallerLemmas.{loaded_there}
 use Rattle.eden_inode.specs.declared.seen.Seen.{Seen}
+use Rattle.eden_inode.specs.Tables.{shows}
 use Rattle.eden_materialise.specs.Filing.{node_as, own_row}
 use Rattle.eden_model.specs.declared.attempt.Attempt.{Attempt}
 use Rattle.eden_model.specs.declared.attempt.Attempt.TheVariants.{Finished}
 use Rattle.eden_ops.specs.Attempts.{Attempts, Meets, MeetsShown, IsShown}
-use Rattle.eden_ops.specs.Keeping.{shows, same}
-use Rattle.eden_ops.specs.Leaving.{given}
-use Rattle.eden_ops.proofs.Additions.{adds, asked_add, short_new, lacks_entry, absent_alone, put_new, not_added, root_refused, add_count, given_more, one_given, adds_one, one_more, one_at_most}
+use Rattle.eden_ops.specs.Keeping.{same}
+use Rattle.eden_ops.specs.Changes.{SameNames}
+use Rattle.eden_ops.specs.Leaving.{AreSavedAbove, given}
+use Rattle.eden_ops.proofs.Additions.{adds, asked_add, short_new, lacks_entry, may_add}
+use Rattle.eden_ops.proofs.Additions.{absent_alone, put_new, not_added, root_refused, add_count, given_more, one_given, adds_one, adds_path, one_more, one_at_most, no_kind}
 use Rattle.eden_ops.proofs.Answering.{walk_ended, says_here}
-use Rattle.eden_ops.proofs.Changing.{not_root, changed}
+use Rattle.eden_ops.proofs.Changing.{not_root, changed, refused}
 use Rattle.eden_ops.proofs.Roots.{root_same, root_chained}
-use Rattle.eden_ops.proofs.Names.{names_same}
-use Rattle.eden_ops.proofs.Leaving.{leaves_kept, leaves_changed}
+use Rattle.eden_ops.proofs.Leaving.{none_given, leaves_kept, leaves_changed}
 use Rattle.eden_ops.proofs.Saving.{leaves_by, no_less}
+use Rattle.eden_ops.proofs.Settled.{row_none, walk_still, settles_leaves, leaves_then, saved_on}
 use Rattle.eden_ops.proofs.Seeing.{kept_dirs}
 use Rattle.eden_ops.proofs.adding.add.Goals as goal
 
@@ -41,13 +45,32 @@ returns-in-Err-clause-leaves g c q adding = leaves_kept g.W.World g.F.Files c.ar
 pub returns-in-Ok-Some-clause-leaves : goal.returns-in-Ok-Some-clause-leaves
 returns-in-Ok-Some-clause-leaves g c q adding = leaves_kept g.W.World g.F.Files c.args.inodes.now c.meet.new.inodes c.meet.ensures.keeps q _
 
+pub returns-in-Err-settle-clause-attempts : goal.returns-in-Err-settle-clause-attempts
+returns-in-Err-settle-clause-attempts g c q adding =
+    let s = c.args.inodes.now in
+    let t = c.meet.new.inodes in
+    let e = c.in-Ok-None.ensures in
+    let x = c.in-Err-settle.ensures.settles.readies in
+    refused g.W.World g.F.Files q s t c.settle.new.inodes c.args.cache.now c.meet.new.cache e.same ((c.keeps_laws.ensures.counts s t e.keeps).1.1.1) e.cache c.in-Err-settle.fault x.fault
+    (λ y is. no_kind c.args.path.now y q c.args.new adding is) x.shown
+
+pub returns-in-Err-settle-clause-leaves : goal.returns-in-Err-settle-clause-leaves
+returns-in-Err-settle-clause-leaves g c q adding =
+    let t = c.meet.new.inodes in
+    let v = c.settle.new.inodes in
+    let x = c.in-Err-settle.ensures.settles in
+    leaves_changed g.W.World g.F.Files c.args.inodes.now t c.meet.ensures.keeps v (Finished (say.Fault c.in-Err-settle.fault)) (λ e is. cc) (λ e is. x.readies.names) q
+    (settles_leaves g.W.World g.F.Files t v _ x) (none_given t.next v.next (given q) x.readies.next) (λ no. absurd (no (c.in-Err-settle.fault, refl)))
+
 pub add_entry-requires-clause-lacks : goal.add_entry-requires-clause-lacks
 add_entry-requires-clause-lacks g c =
     let p = c.args.path.now in
     let s = c.args.inodes.now in
     let t = c.meet.new.inodes in
+    let v = c.settle.new.inodes in
+    let alike = c.settle.ensures.settles.alike in
     let met = subst (λ (o : Option Seen). Meets g.W.World g.F.Files p s t c.meet.new.cache (Ok o)) c.in-Ok-None.field-0-is c.in-Ok-None.ensures.meets in
-    lacks_entry p c.in-Some.above.now c.in-Some.name.now t.root (sym c.as_slice.ensures ∙ c.in-Some.ensures.cases.0) met.0 met.1
+    lacks_entry p c.in-Some.above.now c.in-Some.name.now v.root (sym c.as_slice.ensures ∙ c.in-Some.ensures.cases.0) (walk_still t.root v.root alike p ∙ met.0) (row_none t.root v.root alike p met.1)
 
 pub add_entry-requires-clause-short : goal.add_entry-requires-clause-short
 add_entry-requires-clause-short g c = short_new c.args.path.now c.requires.asked.0 c.args.new c.requires.asked.1
@@ -57,7 +80,9 @@ returns-in-Ok-clause-attempts g c q adding =
     let p = c.args.path.now in
     let s = c.args.inodes.now in
     let t = c.meet.new.inodes in
+    let v = c.settle.new.inodes in
     let u = c.add_entry.new.inodes in
+    let x = c.settle.ensures.settles in
     let e = c.in-Ok-None.ensures in
     let R = g.W.World.repository in
     let F = g.F.Files.stored t.files in
@@ -66,13 +91,14 @@ returns-in-Ok-clause-attempts g c q adding =
     let root = not_root p c.in-Some.above.now c.in-Some.name.now split in
     let met = subst (λ (o : Option Seen). Meets g.W.World g.F.Files p s t c.meet.new.cache (Ok o)) c.in-Ok-None.field-0-is e.meets in
     let lacks = lacks_entry p c.in-Some.above.now c.in-Some.name.now t.root split met.0 met.1 in
-    changed g.W.World g.F.Files q s t u c.args.cache.now c.meet.new.cache e.same ((c.keeps_laws.ensures.counts s t e.keeps).1.1.1) e.cache
+    changed g.W.World g.F.Files q s v u c.args.cache.now c.meet.new.cache (λ h. x.readies.shown h ∙ e.same h)
+    (le_trans (c.keeps_laws.ensures.counts s t e.keeps).1.1.1 (settles_leaves g.W.World g.F.Files t v _ x).everywhere.failures) e.cache
     (λ h. (asked_add p root q c.args.new adding).says G say.Ok
     (subst (λ (x : Reach). Table_Meets x (Says say.Ok) (adds G) say.Ok) (sym (subst (λ (o : Option Seen). MeetsShown g.W.World g.F.Files p s t (Ok o)) c.in-Ok-None.field-0-is (e.shown h))) refl))
     (λ h.
     c.in-Ok.ensures.shown h
-    ∙ ap (λ (r : Path). graft r (leaf (node_as c.args.new)) (shows g.W.World g.F.Files t)) (sym split)
-    ∙ ap (graft p (leaf (node_as c.args.new))) (e.same h)
+    ∙ ap (λ (r : Path). graft r (leaf (node_as c.args.new)) (shows g.W.World g.F.Files v)) (sym split)
+    ∙ ap (graft p (leaf (node_as c.args.new))) (x.readies.shown h ∙ e.same h)
     ∙ put_new G p q c.args.new adding (λ n r. sym (ap (λ (T : Tree). T (p ++ n ∷ r)) (e.same h))
     ∙ absent_alone c.shown_laws.ensures.absent R F p c.in-Some.above.now c.in-Some.name.now t.root (kept_dirs R F t.root t.next (c.holds.ensures.kept h)) split lacks n r))
 
@@ -80,38 +106,52 @@ pub returns-in-Ok-clause-leaves : goal.returns-in-Ok-clause-leaves
 returns-in-Ok-clause-leaves g c q adding =
     let x = c.in-Ok.ensures in
     let t = c.meet.new.inodes in
+    let v = c.settle.new.inodes in
     let u = c.add_entry.new.inodes in
     let p = c.args.path.now in
     let above = c.in-Some.above.now in
     let name = c.in-Some.name.now in
+    let st = c.settle.ensures.settles in
     let met = subst (λ (o : Option Seen). Meets g.W.World g.F.Files p c.args.inodes.now t c.meet.new.cache (Ok o)) c.in-Ok-None.field-0-is c.in-Ok-None.ensures.meets in
-    let lacks = lacks_entry p above name t.root (sym c.as_slice.ensures ∙ c.in-Some.ensures.cases.0) met.0 met.1 in
-    let root = root_chained above t.root u.root (λ d. changed_listing d name (Some (own_row t.next c.args.new))) (loaded_there above t.root lacks.row lacks.directory lacks.at lacks.holds) x.ok in
-    let l = leaves_by g.F.Files t u x.stays root x.saved (one_given t.next u.next x.next) x.rest (no_less (g.F.Files.failures t.files) (g.F.Files.failures u.files) x.counted) in
-    leaves_changed g.W.World g.F.Files c.args.inodes.now t c.meet.ensures.keeps u (Finished say.Ok) (λ e is. cc) (λ e is. cc) q l
-    (one_more t.next u.next (given q) x.next (adds_one p q c.args.new adding))
+    let lacks = lacks_entry p above name v.root (sym c.as_slice.ensures ∙ c.in-Some.ensures.cases.0) (walk_still t.root v.root st.alike p ∙ met.0) (row_none t.root v.root st.alike p met.1) in
+    let root = root_chained above v.root u.root (λ d. changed_listing d name (Some (own_row v.next c.args.new))) (loaded_there above v.root lacks.row lacks.directory lacks.at lacks.holds) x.ok in
+    let l = leaves_by g.F.Files v u x.stays root x.marks (one_given v.next u.next x.next) x.rest (no_less (g.F.Files.failures v.files) (g.F.Files.failures u.files) x.counted) in
+    let saved = subst (λ (r : Path). IsSavedAbove r v.root) c.as_slice-2.ensures c.in_default-settle.ensures.saved in
+    leaves_changed g.W.World g.F.Files c.args.inodes.now t c.meet.ensures.keeps u (Finished say.Ok) (λ e is. cc) (λ e is. cc) q
+    (leaves_then g.W.World g.F.Files t v u (settles_leaves g.W.World g.F.Files t v _ st) l)
+    (subst (λ (k : ℕ). u.next ≤ k + given q) st.readies.next (one_more v.next u.next (given q) x.next (adds_one p q c.args.new adding)))
+    (λ no. subst (λ (ps : List Path). AreSavedAbove ps u.root) (sym (adds_path p q c.args.new adding)) (saved_on p v.root u.root saved x.marks, tt))
 
 pub returns-in-Err-add_entry-clause-attempts : goal.returns-in-Err-add_entry-clause-attempts
 returns-in-Err-add_entry-clause-attempts g c q adding =
     let s = c.args.inodes.now in
     let t = c.meet.new.inodes in
+    let v = c.settle.new.inodes in
     let u = c.add_entry.new.inodes in
+    let st = c.settle.ensures.settles in
     let e = c.in-Ok-None.ensures in
     let x = c.in-Err-add_entry.ensures in
-    not_added g.W.World g.F.Files c.args.path.now q c.args.new adding s t u c.args.cache.now c.meet.new.cache e.same
-    ((c.keeps_laws.ensures.counts s t e.keeps).1.1.1) e.cache c.in-Err-add_entry.fault x.fault
+    let p = c.args.path.now in
+    let root = not_root p c.in-Some.above.now c.in-Some.name.now (sym c.as_slice.ensures ∙ c.in-Some.ensures.cases.0) in
+    let met = subst (λ (o : Option Seen). Meets g.W.World g.F.Files p s t c.meet.new.cache (Ok o)) c.in-Ok-None.field-0-is e.meets in
+    not_added g.W.World g.F.Files p q c.args.new adding s v u c.args.cache.now c.meet.new.cache (λ h. st.readies.shown h ∙ e.same h)
+    (le_trans (c.keeps_laws.ensures.counts s t e.keeps).1.1.1 (settles_leaves g.W.World g.F.Files t v _ st).everywhere.failures) e.cache c.in-Err-add_entry.fault
+    (may_add p q c.args.new adding root v.root (walk_still t.root v.root st.alike p ∙ met.0) (row_none t.root v.root st.alike p met.1)) x.fault
     (λ is. x.unused (ap Err is)) x.unseen
 
 pub returns-in-Err-add_entry-clause-leaves : goal.returns-in-Err-add_entry-clause-leaves
 returns-in-Err-add_entry-clause-leaves g c q adding =
     let x = c.in-Err-add_entry.ensures in
     let t = c.meet.new.inodes in
+    let v = c.settle.new.inodes in
     let u = c.add_entry.new.inodes in
-    let counted = add_count t.next (g.F.Files.failures t.files) (g.F.Files.failures u.files) c.in-Err-add_entry.fault x.fault in
-    let l = leaves_by g.F.Files t u x.stays (root_same t.root u.root x.err) x.saved (given_more t.next u.next _ _ x.given) x.rest counted in
+    let st = c.settle.ensures.settles in
+    let counted = add_count v.next (g.F.Files.failures v.files) (g.F.Files.failures u.files) c.in-Err-add_entry.fault x.fault in
+    let l = leaves_by g.F.Files v u x.stays (root_same v.root u.root x.err) x.marks (given_more v.next u.next _ _ x.given) x.rest counted in
     leaves_changed g.W.World g.F.Files c.args.inodes.now t c.meet.ensures.keeps u (Finished (say.Fault c.in-Err-add_entry.fault)) (λ e is. cc)
-    (λ e is. names_same t.root u.root x.err) q l
-    (one_at_most t.next u.next (given q) _ _ x.given (adds_one c.args.path.now q c.args.new adding))
+    (λ e is. subst (SameNames t.root) (sym x.err) st.readies.names) q (leaves_then g.W.World g.F.Files t v u (settles_leaves g.W.World g.F.Files t v _ st) l)
+    (subst (λ (k : ℕ). u.next ≤ k + given q) st.readies.next (one_at_most v.next u.next (given q) _ _ x.given (adds_one c.args.path.now q c.args.new adding)))
+    (λ no. absurd (no (c.in-Err-add_entry.fault, refl)))
 
 pub returns-in_default-clause-attempts : goal.returns-in_default-clause-attempts
 returns-in_default-clause-attempts g c q adding =

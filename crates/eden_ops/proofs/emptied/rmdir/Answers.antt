@@ -6,15 +6,20 @@ use Rattle.eden_model.specs.declared.reply.Reply.TheVariants as say
 use Rattle.eden_model.specs.declared.request.Request.TheVariants as ask
 use Rattle.eden_model.specs.Operations.{IfEmpty, Removes}
 use Rattle.eden_model.specs.Trees.{Tree, Path, reach, graft}
+use Rattle.eden_tree.specs.Directory.{Row}
 use Rattle.eden_tree.specs.Paths.{row_at}
 use Rattle.eden_tie.specs.Changing.{changed as changed_listing}
+use Rattle.eden_tie.specs.Chains.{StaysLoaded}
+use Rattle.eden_tie.specs.Saving.{IsSavedAbove}
 use Rattle.eden_tie.proofs.CallerLemmas.{map_some}
 use Rattle.eden_inode.specs.declared.seen.Seen.{Seen}
 use Rattle.eden_model.specs.declared.attempt.Attempt.{Attempt}
 use Rattle.eden_model.specs.declared.attempt.Attempt.TheVariants.{Finished}
+use Rattle.eden_inode.specs.Tables.{shows}
 use Rattle.eden_ops.specs.Attempts.{Attempts, MeetsShown}
-use Rattle.eden_ops.specs.Keeping.{shows, same}
-use Rattle.eden_ops.specs.Known.{content_known, known_node, known}
+use Rattle.eden_ops.specs.Changes.{SameNames}
+use Rattle.eden_ops.specs.Keeping.{same}
+use Rattle.eden_ops.specs.Known.{known_node, known}
 use Rattle.eden_ops.specs.Letting.{LetsGo}
 use Rattle.eden_ops.specs.Listings.{HasNoEntries, HasEntries}
 use Rattle.eden_ops.proofs.Answering.{walk_ended, says_absent, replied, lacked}
@@ -30,6 +35,7 @@ use Rattle.eden_ops.proofs.Roots.{root_same, root_chained}
 use Rattle.eden_ops.proofs.Rounds.{lacks_since}
 use Rattle.eden_ops.proofs.Saving.{leaves_by, fault_count, no_less}
 use Rattle.eden_ops.proofs.Steps.{keeps_on, keeps_counts}
+use Rattle.eden_ops.proofs.Settled.{row_still, settles_leaves, leaves_then, saved_on}
 use Rattle.eden_ops.proofs.Telling.{met_tells}
 use Rattle.eden_ops.proofs.Walking.{known_unloaded}
 use Rattle.eden_ops.proofs.emptied.rmdir.Goals as goal
@@ -97,11 +103,9 @@ returns-in-Err-bring_seen-clause-attempts g c =
     (lacked g.W.World g.F.Files q p (removes p) (asks_rmdir p (not_root p c.in-Some.above.now c.in-Some.name.now split)) s u c.args.cache.now c.bring_seen.new.cache (λ h. b.same h ∙ e.same h)
     (keeps_on g.W.World g.F.Files s t u e.keeps b.keeps)
     (finds_on c.args.cache.now c.meet.new.cache c.bring_seen.new.cache e.cache b.cache) seen.row at c.in-Err-bring_seen.stop (λ x is. cc)
-    (λ k is. (
-      λ r h. lists_away (IfEmpty (known u.root) p) seen.row.kind (content_known seen.row.origin) r (dir_kind p t.root c.in-Ok-Some.seen seen z.away (c.what.ensures.dir c.in-Dir.is))
-          (subst (λ (n : Node). Removes (known u.root) p n r) (known_unloaded seen.row (away p t.root c.in-Ok-Some.seen seen z.away)) h),
-      λ x y. cc,
-    )) (lacks_since g.W.World g.F.Files p s t u c.bring_seen.new.cache e.keeps c.in-Err-bring_seen.stop z.lacks))
+    (λ r h. lists_away (IfEmpty (known u.root) p) seen.row.kind None r (dir_kind p t.root c.in-Ok-Some.seen seen z.away (c.what.ensures.dir c.in-Dir.is))
+    (subst (λ (n : Node). Removes (known u.root) p n r) (known_unloaded seen.row (away p t.root c.in-Ok-Some.seen seen z.away)) h)) (λ k is x y. cc)
+    (lacks_since g.W.World g.F.Files p s t u c.bring_seen.new.cache e.keeps c.in-Err-bring_seen.stop z.lacks))
 
 pub returns-in-Err-bring_seen-clause-leaves : goal.returns-in-Err-bring_seen-clause-leaves
 returns-in-Err-bring_seen-clause-leaves g c =
@@ -154,23 +158,49 @@ returns-in-Err-let_go-clause-leaves g c =
     let v = c.let_go.new.inodes in
     let goes = subst (λ (q : Path). LetsGo q u.root v.root) c.as_slice-2.ensures c.let_go.ensures.goes in
     leaves_gone g.W.World g.F.Files p s u v (keeps_on g.W.World g.F.Files s c.meet.new.inodes u c.meet.ensures.keeps c.bring_seen.ensures.keeps) goes c.let_go.ensures.rest c.let_go.ensures.counted
-    (Finished (say.Fault c.in-Err-let_go.fault)) (λ e is. cc)
+    (Finished (say.Fault c.in-Err-let_go.fault)) (λ e is. cc) (c.in-Err-let_go.fault, refl)
 
 -- ---- it is removed
+
+pub returns-in-Err-settle-clause-attempts : goal.returns-in-Err-settle-clause-attempts
+returns-in-Err-settle-clause-attempts g c =
+    let s = c.args.inodes.now in
+    let t = c.meet.new.inodes in
+    let u = c.bring_seen.new.inodes in
+    let v = c.let_go.new.inodes in
+    let e = c.in-Ok-Some.ensures in
+    let b = c.bring_seen.ensures in
+    let x = c.in-Err-settle.ensures.settles.readies in
+    let counts = (keeps_counts g.W.World g.F.Files s u (keeps_on g.W.World g.F.Files s t u e.keeps b.keeps)).1.1.1 in
+    refused g.W.World g.F.Files (ask.Rmdir c.args.path.now) s v c.settle.new.inodes c.args.cache.now c.bring_seen.new.cache (λ h. c.let_go.ensures.same h ∙ b.same h ∙ e.same h)
+    (le_trans counts c.let_go.ensures.counted)
+    (finds_on c.args.cache.now c.meet.new.cache c.bring_seen.new.cache e.cache b.cache) c.in-Err-settle.fault x.fault (λ y is. cc) x.shown
+
+pub returns-in-Err-settle-clause-leaves : goal.returns-in-Err-settle-clause-leaves
+returns-in-Err-settle-clause-leaves g c =
+    let s = c.args.inodes.now in
+    let u = c.bring_seen.new.inodes in
+    let v = c.let_go.new.inodes in
+    let w = c.settle.new.inodes in
+    let x = c.in-Err-settle.ensures.settles in
+    let goes = subst (λ (q : Path). LetsGo q u.root v.root) c.as_slice-2.ensures c.let_go.ensures.goes in
+    leaves_removed g.W.World g.F.Files c.args.path.now s u v (keeps_on g.W.World g.F.Files s c.meet.new.inodes u c.meet.ensures.keeps c.bring_seen.ensures.keeps) goes c.let_go.ensures.rest
+    c.let_go.ensures.counted
+    (Finished (say.Fault c.in-Err-settle.fault)) (λ e is. cc) w (settles_leaves g.W.World g.F.Files v w _ x) x.readies.next (λ e is. (x.readies.names, x.readies.fewer))
+    (λ no. absurd (no (c.in-Err-settle.fault, refl)))
 
 pub remove_entry-requires : goal.remove_entry-requires
 remove_entry-requires g c =
     let p = c.args.path.now in
     let u = c.bring_seen.new.inodes in
     let v = c.let_go.new.inodes in
+    let w = c.settle.new.inodes in
     let split = sym c.as_slice.ensures ∙ c.in-Some.ensures.cases.0 in
     let goes = subst (λ (q : Path). LetsGo q u.root v.root) c.as_slice-2.ensures c.let_go.ensures.goes in
     let y = map_some known_node (row_at p u.root) (Dir true) (sym c.in_default-bring_seen.ensures.ok) in
     let z = stays_there p u.root v.root goes y.0 y.1.0 in
-    record {
-      there = has_entry p c.in-Some.above.now c.in-Some.name.now v.root z.0 split z.1.0
-          (c.in_default-let_go.ensures.away z.0 (ap (λ (q : Path). row_at q v.root) c.as_slice-2.ensures ∙ z.1.0));
-    }
+    let off = c.in_default-let_go.ensures.away z.0 (ap (λ (q : Path). row_at q v.root) c.as_slice-2.ensures ∙ z.1.0) in
+    record { there = has_entry p c.in-Some.above.now c.in-Some.name.now w.root z.0 split (row_still v.root w.root c.settle.ensures.settles.alike p z.0 z.1.0 off) off }
 
 pub returns-in-Ok-clause-attempts : goal.returns-in-Ok-clause-attempts
 returns-in-Ok-clause-attempts g c =
@@ -179,6 +209,8 @@ returns-in-Ok-clause-attempts g c =
     let t = c.meet.new.inodes in
     let u = c.bring_seen.new.inodes in
     let v = c.let_go.new.inodes in
+    let w = c.settle.new.inodes in
+    let st = c.settle.ensures.settles in
     let z = c.remove_entry.new.inodes in
     let e = c.in-Ok-Some.ensures in
     let b = c.bring_seen.ensures in
@@ -188,14 +220,15 @@ returns-in-Ok-clause-attempts g c =
     let same : g.W.World.honest → shows g.W.World g.F.Files v ≡ G = λ h. c.let_go.ensures.same h ∙ alike h in
     let none : g.W.World.honest → HasNoEntries G p = λ h. subst (λ (T : Tree). HasNoEntries T p) (alike h) (c.if-not-is_empty.ensures.entries h) in
     let counts = (keeps_counts g.W.World g.F.Files s u (keeps_on g.W.World g.F.Files s t u e.keeps b.keeps)).1.1.1 in
-    changed g.W.World g.F.Files (ask.Rmdir p) s v z c.args.cache.now c.bring_seen.new.cache same (le_trans counts c.let_go.ensures.counted)
+    changed g.W.World g.F.Files (ask.Rmdir p) s w z c.args.cache.now c.bring_seen.new.cache (λ h. st.readies.shown h ∙ same h)
+    (le_trans (le_trans counts c.let_go.ensures.counted) (settles_leaves g.W.World g.F.Files v w _ st).everywhere.failures)
     (finds_on c.args.cache.now c.meet.new.cache c.bring_seen.new.cache e.cache b.cache)
     (λ h. (asks_rmdir p (not_root p c.in-Some.above.now c.in-Some.name.now split)).says G say.Ok
     (removes_empty G p (sym (ap (λ (T : Tree). reach T p) (alike h)) ∙ c.is_empty.ensures.here h) (none h)))
     (λ h.
     c.in-Ok.ensures.shown h
-    ∙ ap (λ (q : Path). graft q (λ below. None) (shows g.W.World g.F.Files v)) (sym split)
-    ∙ ap (graft p (λ below. None)) (same h)
+    ∙ ap (λ (q : Path). graft q (λ below. None) (shows g.W.World g.F.Files w)) (sym split)
+    ∙ ap (graft p (λ below. None)) (st.readies.shown h ∙ same h)
     ∙ put_alone G p (λ below. None) (none h) (λ n r. refl))
 
 pub returns-in-Ok-clause-leaves : goal.returns-in-Ok-clause-leaves
@@ -210,12 +243,18 @@ returns-in-Ok-clause-leaves g c =
     let goes = subst (λ (q : Path). LetsGo q u.root v.root) c.as_slice-2.ensures c.let_go.ensures.goes in
     let y = map_some known_node (row_at p u.root) (Dir true) (sym c.in_default-bring_seen.ensures.ok) in
     let there = stays_there p u.root v.root goes y.0 y.1.0 in
-    let loaded = above_loaded v.root there.0 p above name (sym c.as_slice.ensures ∙ c.in-Some.ensures.cases.0) there.1.0 in
-    let root = root_chained above v.root c.remove_entry.new.inodes.root (λ d. changed_listing d name None) loaded x.ok in
+    let w = c.settle.new.inodes in
+    let st = c.settle.ensures.settles in
+    let off = c.in_default-let_go.ensures.away there.0 (ap (λ (q : Path). row_at q v.root) c.as_slice-2.ensures ∙ there.1.0) in
+    let still = row_still v.root w.root st.alike p there.0 there.1.0 off in
+    let loaded = above_loaded w.root there.0 p above name (sym c.as_slice.ensures ∙ c.in-Some.ensures.cases.0) still in
+    let saved = subst (λ (r : Path). IsSavedAbove r w.root) c.as_slice-3.ensures c.in_default-settle.ensures.saved in
+    let root = root_chained above w.root c.remove_entry.new.inodes.root (λ d. changed_listing d name None) loaded x.ok in
     let z = c.remove_entry.new.inodes in
-    let l = leaves_by g.F.Files v z x.stays root c.remove_entry.ensures.saved (no_less v.next z.next x.rest.0) x.rest.1 x.counted in
+    let l = leaves_by g.F.Files w z x.stays root c.remove_entry.ensures.marks (no_less w.next z.next x.rest.0) x.rest.1 x.counted in
     leaves_removed g.W.World g.F.Files p s u v (keeps_on g.W.World g.F.Files s c.meet.new.inodes u c.meet.ensures.keeps c.bring_seen.ensures.keeps) goes c.let_go.ensures.rest c.let_go.ensures.counted
-    (Finished say.Ok) (λ e is. cc) z l x.rest.0 (λ e is. cc)
+    (Finished say.Ok) (λ e is. cc) z (leaves_then g.W.World g.F.Files v w z (settles_leaves g.W.World g.F.Files v w _ st) l) (x.rest.0 ∙ st.readies.next) (λ e is. absurd (cc))
+    (λ no. saved_on p w.root z.root saved c.remove_entry.ensures.marks)
 
 pub returns-in-Err-remove_entry-clause-attempts : goal.returns-in-Err-remove_entry-clause-attempts
 returns-in-Err-remove_entry-clause-attempts g c =
@@ -227,9 +266,11 @@ returns-in-Err-remove_entry-clause-attempts g c =
     let e = c.in-Ok-Some.ensures in
     let b = c.bring_seen.ensures in
     let x = c.in-Err-remove_entry.ensures in
+    let w = c.settle.new.inodes in
+    let st = c.settle.ensures.settles in
     let counts = (keeps_counts g.W.World g.F.Files s u (keeps_on g.W.World g.F.Files s t u e.keeps b.keeps)).1.1.1 in
-    refused g.W.World g.F.Files (ask.Rmdir p) s v c.remove_entry.new.inodes c.args.cache.now c.bring_seen.new.cache (λ h. c.let_go.ensures.same h ∙ b.same h ∙ e.same h)
-    (le_trans counts c.let_go.ensures.counted)
+    refused g.W.World g.F.Files (ask.Rmdir p) s w c.remove_entry.new.inodes c.args.cache.now c.bring_seen.new.cache (λ h. st.readies.shown h ∙ c.let_go.ensures.same h ∙ b.same h ∙ e.same h)
+    (le_trans (le_trans counts c.let_go.ensures.counted) (settles_leaves g.W.World g.F.Files v w _ st).everywhere.failures)
     (finds_on c.args.cache.now c.meet.new.cache c.bring_seen.new.cache e.cache b.cache) c.in-Err-remove_entry.fault x.fault (λ y is. cc) x.unseen
 
 pub returns-in-Err-remove_entry-clause-leaves : goal.returns-in-Err-remove_entry-clause-leaves
@@ -240,11 +281,15 @@ returns-in-Err-remove_entry-clause-leaves g c =
     let v = c.let_go.new.inodes in
     let z = c.remove_entry.new.inodes in
     let x = c.in-Err-remove_entry.ensures in
+    let w = c.settle.new.inodes in
+    let st = c.settle.ensures.settles in
     let goes = subst (λ (q : Path). LetsGo q u.root v.root) c.as_slice-2.ensures c.let_go.ensures.goes in
-    let counted = fault_count (g.F.Files.failures v.files) (g.F.Files.failures z.files) c.in-Err-remove_entry.fault x.fault in
-    let l = leaves_by g.F.Files v z x.stays (root_same v.root z.root x.err) c.remove_entry.ensures.saved (no_less v.next z.next x.rest.0) x.rest.1 counted in
+    let counted = fault_count (g.F.Files.failures w.files) (g.F.Files.failures z.files) c.in-Err-remove_entry.fault x.fault in
+    let l = leaves_by g.F.Files w z x.stays (root_same w.root z.root x.err) c.remove_entry.ensures.marks (no_less w.next z.next x.rest.0) x.rest.1 counted in
     leaves_removed g.W.World g.F.Files p s u v (keeps_on g.W.World g.F.Files s c.meet.new.inodes u c.meet.ensures.keeps c.bring_seen.ensures.keeps) goes c.let_go.ensures.rest c.let_go.ensures.counted
-    (Finished (say.Fault c.in-Err-remove_entry.fault)) (λ e is. cc) z l x.rest.0 (λ e is. x.err)
+    (Finished (say.Fault c.in-Err-remove_entry.fault)) (λ e is. cc) z (leaves_then g.W.World g.F.Files v w z (settles_leaves g.W.World g.F.Files v w _ st) l) (x.rest.0 ∙ st.readies.next)
+    (λ e is. (subst (SameNames v.root) (sym x.err) st.readies.names, subst (λ (r : Row). StaysLoaded r v.root) (sym x.err) st.readies.fewer))
+    (λ no. absurd (no (c.in-Err-remove_entry.fault, refl)))
 
 pub returns-in_default-clause-leaves : goal.returns-in_default-clause-leaves
 returns-in_default-clause-leaves g c = leaves_kept g.W.World g.F.Files c.args.inodes.now c.args.inodes.now same (ask.Rmdir c.args.path.now) _

@@ -3,8 +3,8 @@ use Rattle.eden_model.specs.declared.errno.Errno.TheVariants.{ENOTEMPTY}
 use Rattle.eden_model.specs.declared.reply.Reply.TheVariants as say
 use Rattle.eden_model.specs.Trees.{Tree, reach}
 use Rattle.eden_tree.specs.Paths.{row_at}
+use Rattle.eden_inode.specs.Tables.{shows}
 use Rattle.eden_ops.specs.Attempts.{IsShown}
-use Rattle.eden_ops.specs.Keeping.{shows}
 use Rattle.eden_ops.specs.Renames.{MayLand}
 use Rattle.eden_ops.proofs.Looking.{no_dir}
 use Rattle.eden_ops.proofs.Reached.{seen_at, shown_at, met_passes}

@@ -1,24 +1,24 @@
 use Rattle.std.proofs.Common.{arith}
-use Rattle.eden_ops.proofs.Going.{lets_go, goes_saved}
+use Rattle.eden_ops.proofs.Going.{lets_go, goes_marks}
 use Rattle.eden_ops.proofs.letting.let_go.Goals as goal
 
 pub returns-then-is_none-clause-goes : goal.returns-then-is_none-clause-goes
 returns-then-is_none-clause-goes g c = let e = c.unload.ensures in lets_go g.W.World.honest _ _ _ _ _ _ e.unloads.0 e.unloads.1.1 c.args.path.now e.elsewhere
 
-pub returns-then-is_none-clause-saved : goal.returns-then-is_none-clause-saved
-returns-then-is_none-clause-saved g c = goes_saved c.args.path.now c.args.inodes.now.root c.unload.new.self.root (returns-then-is_none-clause-goes g c)
+pub returns-then-is_none-clause-marks : goal.returns-then-is_none-clause-marks
+returns-then-is_none-clause-marks g c = goes_marks c.args.path.now c.args.inodes.now.root c.unload.new.self.root (returns-then-is_none-clause-goes g c)
 
 pub returns-then-failures-clause-goes : goal.returns-then-failures-clause-goes
 returns-then-failures-clause-goes g c = let e = c.unload.ensures in lets_go g.W.World.honest _ _ _ _ _ _ e.unloads.0 e.unloads.1.1 c.args.path.now e.elsewhere
 
-pub returns-then-failures-clause-saved : goal.returns-then-failures-clause-saved
-returns-then-failures-clause-saved g c = goes_saved c.args.path.now c.args.inodes.now.root c.unload.new.self.root (returns-then-failures-clause-goes g c)
+pub returns-then-failures-clause-marks : goal.returns-then-failures-clause-marks
+returns-then-failures-clause-marks g c = goes_marks c.args.path.now c.args.inodes.now.root c.unload.new.self.root (returns-then-failures-clause-goes g c)
 
 pub returns-clause-goes : goal.returns-clause-goes
 returns-clause-goes g c = let e = c.unload.ensures in lets_go g.W.World.honest _ _ _ _ _ _ e.unloads.0 e.unloads.1.1 c.args.path.now e.elsewhere
 
-pub returns-clause-saved : goal.returns-clause-saved
-returns-clause-saved g c = goes_saved c.args.path.now c.args.inodes.now.root c.unload.new.self.root (returns-clause-goes g c)
+pub returns-clause-marks : goal.returns-clause-marks
+returns-clause-marks g c = goes_marks c.args.path.now c.args.inodes.now.root c.unload.new.self.root (returns-clause-goes g c)
 
 pub returns-then-failures-clause-fault : goal.returns-then-failures-clause-fault
 returns-then-failures-clause-fault g c = omega (arith, c.if-failures.true, c.failures.ensures, c.failures-failures.ensures)

@@ -74,7 +74,7 @@ returns-in-Err-make-clause-attempts g c =
     (content_lacks g.W.World g.F.Files c.args.path.now c.args.inodes.now c.meet.new.inodes c.meet.new.cache _ c.in-Ok-Some.seen c.in-Ok-Some.field-0-is e.meets
     (ask.ReadLink c.args.path.now) reads_target
     (asks_target c.args.path.now) c.args.cache.now e.same e.keeps e.cache e.shown c.make.new.inodes c.make.new.cache b.same b.keeps b.still b.cache other.0 (λ x is. cc) c.in-Err-make.stop
-    (λ k is. (λ n a r same lost. target_lost n a false r (same ∙ other.1 ∙ c.in-Link.is) lost, λ x y. cc)) c.in-Err-make.ensures.lacks)
+    (λ n a r same lost. target_lost n a false r (same ∙ other.1 ∙ c.in-Link.is) lost) (λ k is x y. cc) c.in-Err-make.ensures.lacks)
 
 pub returns-in-Err-make-clause-keeps : goal.returns-in-Err-make-clause-keeps
 returns-in-Err-make-clause-keeps g c = keeps_on g.W.World g.F.Files c.args.inodes.now c.meet.new.inodes c.make.new.inodes c.meet.ensures.keeps c.make.ensures.keeps

@@ -1,4 +1,4 @@
-use Rattle.std.proofs.Common.{◌≡◌, true, Option, Some, Ok, sym, refl, subst, ap, ◌∙◌}
+use Rattle.std.proofs.Common.{◌≡◌, true, Option, Some, None, Ok, sym, refl, subst, ap, ◌∙◌}
 use Rattle.std.proofs.lemmas.Bool.{le-ltb, ne_eqb}
 use Rattle.eden_model.specs.declared.errno.Errno.TheVariants.{ENOTDIR}
 use Rattle.eden_model.specs.declared.fault.Fault.TheVariants as fault
@@ -12,9 +12,10 @@ use Rattle.eden_model.specs.declared.node.Node.TheVariants.{Dir}
 use Rattle.eden_tree.specs.Paths.{row_at}
 use Rattle.eden_inode.specs.declared.seen.Seen.{Seen}
 use Rattle.eden_model.specs.declared.attempt.Attempt.{Attempt}
+use Rattle.eden_inode.specs.Tables.{shows}
 use Rattle.eden_ops.specs.Attempts.{Attempts, MeetsShown}
-use Rattle.eden_ops.specs.Keeping.{shows, same}
-use Rattle.eden_ops.specs.Known.{content_known, known}
+use Rattle.eden_ops.specs.Keeping.{same}
+use Rattle.eden_ops.specs.Known.{known}
 use Rattle.eden_ops.proofs.Answering.{walk_ended, says_absent, faulted, replied, lacked}
 use Rattle.eden_ops.proofs.Fetching.{away, dir_kind}
 use Rattle.eden_ops.proofs.Finding.{finds_on}
@@ -84,12 +85,10 @@ returns-in-Err-bring_seen-clause-attempts g c =
     (asks_list p c.args.after.now c.args.limit (ne_eqb c.args.limit 0 c.if-limit-eq0.false) (le-ltb 1000 c.args.limit c.if-limit-gt-MAX_ENTRIES.false)) s u c.args.cache.now c.bring_seen.new.cache
     (λ h. b.same h ∙ e.same h) (keeps_on g.W.World g.F.Files s t u e.keeps b.keeps)
     (finds_on c.args.cache.now c.meet.new.cache c.bring_seen.new.cache e.cache b.cache) seen.row at c.in-Err-bring_seen.stop (λ x is. cc)
-    (λ k is. (
-      λ r h. lists_away (ListsSome (known u.root) p c.args.after.now c.args.limit) seen.row.kind (content_known seen.row.origin) r
-          (dir_kind p t.root c.in-Ok-Some.seen seen z.away (c.what.ensures.dir c.in-Dir.is))
-          (subst (λ (n : Node). Lists (known u.root) p c.args.after.now c.args.limit n r) (known_unloaded seen.row (away p t.root c.in-Ok-Some.seen seen z.away)) h),
-      λ x y. cc,
-    )) (lacks_since g.W.World g.F.Files p s t u c.bring_seen.new.cache e.keeps c.in-Err-bring_seen.stop z.lacks))
+    (λ r h. lists_away (ListsSome (known u.root) p c.args.after.now c.args.limit) seen.row.kind None r
+    (dir_kind p t.root c.in-Ok-Some.seen seen z.away (c.what.ensures.dir c.in-Dir.is))
+    (subst (λ (n : Node). Lists (known u.root) p c.args.after.now c.args.limit n r) (known_unloaded seen.row (away p t.root c.in-Ok-Some.seen seen z.away)) h)) (λ k is x y. cc)
+    (lacks_since g.W.World g.F.Files p s t u c.bring_seen.new.cache e.keeps c.in-Err-bring_seen.stop z.lacks))
 
 pub returns-in-Err-bring_seen-clause-keeps : goal.returns-in-Err-bring_seen-clause-keeps
 returns-in-Err-bring_seen-clause-keeps g c = keeps_on g.W.World g.F.Files c.args.inodes.now c.meet.new.inodes c.bring_seen.new.inodes c.meet.ensures.keeps c.bring_seen.ensures.keeps

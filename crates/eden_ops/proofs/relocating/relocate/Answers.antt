@@ -1,116 +1,91 @@
-use Rattle.std.proofs.Common.{◌++◌, ◌∷◌, [], sym, ◌∙◌, subst}
-use Rattle.eden_model.specs.Trees.{Path}
-use Rattle.eden_ops.specs.Keeping.{shows}
-use Rattle.eden_ops.specs.Relocating.{AreSavedBut}
-use Rattle.eden_ops.proofs.Bringing.{on_err}
+use Rattle.std.proofs.Common.{le_trans, ℕ, IfErr, inl, inr, ap, ◌∙◌, subst}
+use Rattle.std.proofs.lemmas.Result.{on_ok_weaker, on_err_weaker}
+use Rattle.eden_model.specs.Operations.{move}
+use Rattle.eden_model.specs.Trees.{Tree}
+use Rattle.eden_materialise.specs.Faults.{IsStoreFault}
 use Rattle.eden_ops.proofs.Names.{names_on}
-use Rattle.eden_ops.proofs.Relocation.{above_loaded, can_move, moves_shown, saved_but, unmoved_names, unmoved_fewer, unmoved_but}
-use Rattle.eden_ops.proofs.Roots.{comes_on, root_moved, root_unmoved}
+use Rattle.eden_ops.proofs.Roots.{comes_on}
+use Rattle.eden_ops.proofs.Settled.{alike_stays, can_still, settles_leaves, saved_on}
 use Rattle.eden_ops.proofs.relocating.relocate.Goals as goal
 
-pub returns-in_err-clear_both-clause-err : goal.returns-in_err-clear_both-clause-err
-returns-in_err-clear_both-clause-err g c = λ h. on_err c.from_residual.result _ (c.in_err-clear_both.ensures.readies.shown h)
+-- ---- what was unsaved wasn't stored
 
-pub returns-in_err-clear_both-clause-marked : goal.returns-in_err-clear_both-clause-marked
-returns-in_err-clear_both-clause-marked g c = λ all. saved_but c.args.from.now c.clear_both.new.inodes.root (c.in_err-clear_both.ensures.readies.saved all)
+pub returns-in-Err-clause-err : goal.returns-in-Err-clause-err
+returns-in-Err-clause-err g c h = c.in-Err.ensures.settles.readies.shown h
 
-pub returns-in_err-clear_both-clause-root : goal.returns-in_err-clear_both-clause-root
-returns-in_err-clear_both-clause-root g c = c.in_err-clear_both.ensures.readies.root
+pub returns-in-Err-clause-names : goal.returns-in-Err-clause-names
+returns-in-Err-clause-names g c = c.in-Err.ensures.settles.readies.names
 
-pub returns-in_err-clear_both-clause-names : goal.returns-in_err-clear_both-clause-names
-returns-in_err-clear_both-clause-names g c = on_err c.from_residual.result _ c.in_err-clear_both.ensures.readies.names
+pub returns-in-Err-clause-fault : goal.returns-in-Err-clause-fault
+returns-in-Err-clause-fault g c = c.in-Err.ensures.settles.readies.fault
 
-pub own_both-requires-clause-one : goal.own_both-requires-clause-one
-own_both-requires-clause-one g c =
-    let can = c.in_ok-clear_both.ensures.cleared.can in
-    above_loaded c.clear_both.new.inodes.root can.row c.as_slice-old.result.now c.in-Some.above.now c.in-Some.name.now c.in-Some.ensures.cases.0 can.there
+pub returns-in-Err-clause-counted : goal.returns-in-Err-clause-counted
+returns-in-Err-clause-counted g c = (settles_leaves g.W.World g.F.Files c.args.inodes.now c.settle_both.new.inodes _ c.in-Err.ensures.settles).everywhere.failures
 
-pub returns-in_err-own_both-clause-err : goal.returns-in_err-own_both-clause-err
-returns-in_err-own_both-clause-err g c = λ h. on_err c.from_residual-in_err-own_both.result _ (c.in_err-own_both.ensures.readies.shown h ∙ c.in_ok-clear_both.ensures.readies.shown h)
+pub returns-in-Err-clause-loaded : goal.returns-in-Err-clause-loaded
+returns-in-Err-clause-loaded g c q off other is = alike_stays c.args.inodes.now.root c.settle_both.new.inodes.root c.in-Err.ensures.settles.alike q is
 
-pub returns-in_err-own_both-clause-names : goal.returns-in_err-own_both-clause-names
-returns-in_err-own_both-clause-names g c =
-    let one = c.in_ok-clear_both.ensures.readies in
-    let two = c.in_err-own_both.ensures.readies in
-    on_err c.from_residual-in_err-own_both.result _
-    (names_on c.args.inodes.now.root c.clear_both.new.inodes.root c.own_both.new.inodes.root (λ p was now. two.fewer p now) one.names two.names)
+pub returns-in-Err-clause-root : goal.returns-in-Err-clause-root
+returns-in-Err-clause-root g c = c.in-Err.ensures.settles.readies.root
 
-pub returns-in_err-own_both-clause-marked : goal.returns-in_err-own_both-clause-marked
-returns-in_err-own_both-clause-marked g c = λ all. saved_but c.args.from.now c.own_both.new.inodes.root (c.in_err-own_both.ensures.readies.saved (c.in_ok-clear_both.ensures.readies.saved all))
+pub returns-in-Err-clause-marked : goal.returns-in-Err-clause-marked
+returns-in-Err-clause-marked g c q unsaved = inr (c.in-Err.ensures.settles.readies.marks q unsaved)
 
-pub returns-in_err-own_both-clause-root : goal.returns-in_err-own_both-clause-root
-returns-in_err-own_both-clause-root g c =
-    comes_on c.args.inodes.now.root.origin c.clear_both.new.inodes.root.origin c.own_both.new.inodes.root.origin c.in_ok-clear_both.ensures.readies.root c.in_err-own_both.ensures.readies.root
+pub returns-in-Err-clause-rest : goal.returns-in-Err-clause-rest
+returns-in-Err-clause-rest g c = (c.in-Err.ensures.settles.readies.next, c.in-Err.ensures.settles.readies.clock)
 
-pub move_entry-requires : goal.move_entry-requires
-move_entry-requires g c =
-    let q = c.in-Some-split_last.new_above.now in
-    let cleared = c.in_ok-clear_both.ensures.cleared in
-    let own = c.in_ok-own_both.ensures in
-    record {
-      may = can_move c.clear_both.new.inodes.root c.own_both.new.inodes.root c.as_slice-old.result.now c.as_slice-new.result.now
-          c.in-Some.above.now c.in-Some.name.now q c.in-Some-split_last.new_name.now c.in-Some.ensures.cases.0 c.in-Some-split_last.ensures.cases.0
-          cleared own.owned (own.stays q (cleared.can.above q c.in-Some-split_last.new_name.now c.in-Some-split_last.ensures.cases.0));
-    }
+-- ---- it was
 
-pub returns-in_err-move_entry-clause-err : goal.returns-in_err-move_entry-clause-err
-returns-in_err-move_entry-clause-err g c = λ h.
-    on_err c.from_residual-in_err-move_entry.result _ (c.in_err-move_entry.ensures.unseen h ∙ c.in_ok-own_both.ensures.readies.shown h ∙ c.in_ok-clear_both.ensures.readies.shown h)
-
-pub returns-in_err-move_entry-clause-names : goal.returns-in_err-move_entry-clause-names
-returns-in_err-move_entry-clause-names g c =
-    let one = c.in_ok-clear_both.ensures.readies in
-    let two = c.in_ok-own_both.ensures.readies in
-    let x = c.args.inodes.now.root in
-    let y = c.clear_both.new.inodes.root in
-    let u = c.own_both.new.inodes in
-    let v = c.move_entry.new.inodes in
-    let name = c.in-Some.name.now in
-    let to = c.in-Some-split_last.new_above.now in
-    let new_name = c.in-Some-split_last.new_name.now in
-    let err = c.in_err-move_entry.ensures.err in
-    let same = unmoved_names u.root c.in-Some.above.now name to new_name g.W.World.honest (g.F.Files.stored u.files) (g.F.Files.stored v.files) v.root err in
-    let fewer = unmoved_fewer u.root c.in-Some.above.now name to new_name g.W.World.honest (g.F.Files.stored u.files) (g.F.Files.stored v.files) v.root err in
-    on_err c.from_residual-in_err-move_entry.result _
-    (names_on x u.root v.root (λ p was now. fewer p now) (names_on x y u.root (λ p was now. two.fewer p now) one.names two.names) same)
-
-pub returns-in_err-move_entry-clause-marked : goal.returns-in_err-move_entry-clause-marked
-returns-in_err-move_entry-clause-marked g c = λ all.
-    let u = c.own_both.new.inodes in
-    let v = c.move_entry.new.inodes in
-    subst (λ (r : Path). AreSavedBut r v.root) (sym (sym c.as_slice-old.ensures ∙ c.in-Some.ensures.cases.0))
-    (unmoved_but u.root c.in-Some.above.now c.in-Some.name.now c.in-Some-split_last.new_above.now c.in-Some-split_last.new_name.now
-    g.W.World.honest (g.F.Files.stored u.files) (g.F.Files.stored v.files) v.root c.in_err-move_entry.ensures.err
-    (c.in_ok-own_both.ensures.readies.saved (c.in_ok-clear_both.ensures.readies.saved all)))
-
-pub returns-in_err-move_entry-clause-root : goal.returns-in_err-move_entry-clause-root
-returns-in_err-move_entry-clause-root g c =
-    let u = c.own_both.new.inodes in
-    let v = c.move_entry.new.inodes in
-    comes_on c.args.inodes.now.root.origin u.root.origin v.root.origin
-    (comes_on c.args.inodes.now.root.origin c.clear_both.new.inodes.root.origin u.root.origin c.in_ok-clear_both.ensures.readies.root c.in_ok-own_both.ensures.readies.root)
-    (root_unmoved g.W.World.honest c.in-Some.above.now c.in-Some.name.now c.in-Some-split_last.new_above.now c.in-Some-split_last.new_name.now
-    (g.F.Files.stored u.files) u.root (g.F.Files.stored v.files) v.root c.in_err-move_entry.ensures.err)
+pub carry-requires : goal.carry-requires
+carry-requires g c = record {
+  may = can_still c.args.inodes.now.root c.settle_both.new.inodes.root c.settle_both.ensures.settles.alike c.args.from.now c.args.to.now c.requires.may;
+}
 
 pub returns-clause-ok : goal.returns-clause-ok
-returns-clause-ok g c = λ h.
-    moves_shown (shows g.W.World g.F.Files c.move_entry.new.inodes) (shows g.W.World g.F.Files c.own_both.new.inodes) (shows g.W.World g.F.Files c.args.inodes.now) c.args.from.now c.args.to.now
-    (c.in-Some.above.now ++ c.in-Some.name.now ∷ []) (c.in-Some-split_last.new_above.now ++ c.in-Some-split_last.new_name.now ∷ [])
-    (c.in_ok-move_entry.ensures.shown h) (c.in_ok-own_both.ensures.readies.shown h ∙ c.in_ok-clear_both.ensures.readies.shown h)
-    (sym c.as_slice-old.ensures ∙ c.in-Some.ensures.cases.0) (sym c.as_slice-new.ensures ∙ c.in-Some-split_last.ensures.cases.0)
+returns-clause-ok g c h =
+    on_ok_weaker c.carry.result (λ is. is ∙ ap (λ (T : Tree). move T c.args.from.now c.args.to.now) (c.settle_both.ensures.settles.readies.shown h)) (c.carry.ensures.ok h)
 
-pub returns-clause-saved : goal.returns-clause-saved
-returns-clause-saved g c = λ all. c.in_ok-move_entry.ensures.saved (c.in_ok-own_both.ensures.readies.saved (c.in_ok-clear_both.ensures.readies.saved all))
+pub returns-clause-err : goal.returns-clause-err
+returns-clause-err g c h = on_err_weaker c.carry.result (λ is. is ∙ c.settle_both.ensures.settles.readies.shown h) (c.carry.ensures.err h)
 
-pub returns-clause-marked : goal.returns-clause-marked
-returns-clause-marked g c = λ all.
-    saved_but c.args.from.now c.move_entry.new.inodes.root (c.in_ok-move_entry.ensures.saved (c.in_ok-own_both.ensures.readies.saved (c.in_ok-clear_both.ensures.readies.saved all)))
+pub returns-clause-names : goal.returns-clause-names
+returns-clause-names g c =
+    let x = c.args.inodes.now.root in
+    let y = c.settle_both.new.inodes.root in
+    let st = c.settle_both.ensures.settles in
+    on_err_weaker c.carry.result (λ names. names_on x y c.carry.new.inodes.root (λ p was now. alike_stays x y st.alike p was) st.readies.names names) c.carry.ensures.names
+
+pub returns-clause-fault : goal.returns-clause-fault
+returns-clause-fault g c =
+    subst (λ (k : ℕ). IfErr c.carry.result (IsStoreFault k (g.F.Files.failures c.carry.new.inodes.files))) c.in_default.ensures.settles.readies.counted c.carry.ensures.fault
+
+pub returns-clause-counted : goal.returns-clause-counted
+returns-clause-counted g c =
+    le_trans (settles_leaves g.W.World g.F.Files c.args.inodes.now c.settle_both.new.inodes _ c.settle_both.ensures.settles).everywhere.failures c.carry.ensures.counted
+
+pub returns-clause-loaded : goal.returns-clause-loaded
+returns-clause-loaded g c q off other is =
+    c.carry.ensures.loaded q off other (alike_stays c.args.inodes.now.root c.settle_both.new.inodes.root c.settle_both.ensures.settles.alike q is)
+
+pub returns-clause-marks : goal.returns-clause-marks
+returns-clause-marks g c = on_ok_weaker c.carry.result (λ marks q unsaved. c.settle_both.ensures.settles.readies.marks q (marks q unsaved)) c.carry.ensures.marks
 
 pub returns-clause-root : goal.returns-clause-root
 returns-clause-root g c =
-    let u = c.own_both.new.inodes in
-    let v = c.move_entry.new.inodes in
-    comes_on c.args.inodes.now.root.origin u.root.origin v.root.origin
-    (comes_on c.args.inodes.now.root.origin c.clear_both.new.inodes.root.origin u.root.origin c.in_ok-clear_both.ensures.readies.root c.in_ok-own_both.ensures.readies.root)
-    (root_moved g.W.World.honest c.in-Some.above.now c.in-Some.name.now c.in-Some-split_last.new_above.now c.in-Some-split_last.new_name.now
-    (g.F.Files.stored u.files) u.root (g.F.Files.failures u.files) (g.F.Files.stored v.files) v.root (g.F.Files.failures v.files) c.in_ok-move_entry.ensures.ok)
+    comes_on c.args.inodes.now.root.origin c.settle_both.new.inodes.root.origin c.carry.new.inodes.root.origin c.settle_both.ensures.settles.readies.root c.carry.ensures.root
+
+pub returns-clause-marked : goal.returns-clause-marked
+returns-clause-marked g c q unsaved =
+    elim (c.carry.ensures.marked q unsaved) [ inl in_it ↦ inl in_it | inr was ↦ inr (c.settle_both.ensures.settles.readies.marks q was) ]
+
+pub returns-clause-rest : goal.returns-clause-rest
+returns-clause-rest g c =
+    let r = c.settle_both.ensures.settles.readies in
+    (c.carry.ensures.rest.0 ∙ r.next, c.carry.ensures.rest.1 ∙ r.clock)
+
+pub returns-clause-saved : goal.returns-clause-saved
+returns-clause-saved g c =
+    let y = c.settle_both.new.inodes.root in
+    let z = c.carry.new.inodes.root in
+    let saved = c.in_default.ensures.saved in
+    on_ok_weaker c.carry.result (λ marks. (saved_on c.args.from.now y z saved.0 marks, saved_on c.args.to.now y z saved.1 marks)) c.carry.ensures.marks

@@ -1,4 +1,4 @@
-use Rattle.std.proofs.Common.{◌≡◌, ◌≢◌, ◌⊎◌, ◌++◌, ◌∷◌, Option, None, Ok, sym, refl, subst, ap, ◌∙◌, inl, inr}
+use Rattle.std.proofs.Common.{le_trans, ◌≡◌, ◌≢◌, ◌⊎◌, ◌++◌, ◌∷◌, Option, None, Ok, sym, refl, subst, ap, ◌∙◌, inl, inr}
 use Rattle.eden_model.specs.declared.errno.Errno.TheVariants.{EISDIR}
 use Rattle.eden_model.specs.declared.kind.Kind.{Kind}
 use Rattle.eden_model.specs.declared.kind.Kind.TheVariants as kind
@@ -10,19 +10,22 @@ use Rattle.eden_overlay.specs.Held.{own_files}
 use Rattle.eden_tree.specs.Directory.{child_of}
 use Rattle.eden_tree.specs.Paths.{row_at}
 use Rattle.eden_tie.specs.Changing.{changed as changed_listing}
+use Rattle.eden_tie.specs.Saving.{IsSavedAbove}
 use Rattle.eden_inode.specs.declared.seen.Seen.{Seen}
 use Rattle.eden_model.specs.declared.attempt.Attempt.{Attempt}
 use Rattle.eden_model.specs.declared.attempt.Attempt.TheVariants.{Finished}
+use Rattle.eden_inode.specs.Tables.{shows}
 use Rattle.eden_ops.specs.Attempts.{Attempts, MeetsShown, IsShown}
-use Rattle.eden_ops.specs.Keeping.{shows, same}
+use Rattle.eden_ops.specs.Changes.{SameNames}
+use Rattle.eden_ops.specs.Keeping.{same}
 use Rattle.eden_ops.proofs.Answering.{walk_ended, says_absent, says_at}
 use Rattle.eden_ops.proofs.Changing.{not_root, none_held, has_entry, put_alone, file_alone, changed, refused, unlinks, asks_unlink, unlinks_file, unlinks_dir}
 use Rattle.eden_ops.proofs.Reached.{seen_at, shown_at}
 use Rattle.eden_ops.proofs.Relocation.{above_loaded}
 use Rattle.eden_ops.proofs.Roots.{root_same, root_chained}
-use Rattle.eden_ops.proofs.Names.{names_same}
 use Rattle.eden_ops.proofs.Leaving.{none_given, leaves_kept, leaves_changed}
 use Rattle.eden_ops.proofs.Saving.{leaves_by, fault_count, no_less}
+use Rattle.eden_ops.proofs.Settled.{row_still, settles_leaves, leaves_then, saved_on}
 use Rattle.eden_ops.proofs.Seeing.{kept_dirs}
 use Rattle.eden_ops.proofs.Telling.{as_dir, met_tells}
 use Rattle.eden_ops.proofs.removing.unlink.Goals as goal
@@ -71,14 +74,19 @@ remove_entry-requires g c =
     let split = sym c.as_slice.ensures ∙ c.in-Some.ensures.cases.0 in
     let seen = seen_at g.W.World g.F.Files p s t c.meet.new.cache _ c.in-Ok-Some.seen c.in-Ok-Some.field-0-is e.meets in
     let other = c.what.ensures.other (file_not_dir c.what.result c.in-File.is) in
-    record { there = has_entry p c.in-Some.above.now c.in-Some.name.now t.root seen.row split seen.there (none_held (child_of seen.row) (sym seen.loaded ∙ other.0)) }
+    let v = c.settle.new.inodes in
+    let away = none_held (child_of seen.row) (sym seen.loaded ∙ other.0) in
+    let there = row_still t.root v.root c.settle.ensures.settles.alike p seen.row seen.there away in
+    record { there = has_entry p c.in-Some.above.now c.in-Some.name.now v.root seen.row split there away }
 
 pub returns-in-Ok-clause-attempts : goal.returns-in-Ok-clause-attempts
 returns-in-Ok-clause-attempts g c =
     let p = c.args.path.now in
     let s = c.args.inodes.now in
     let t = c.meet.new.inodes in
+    let v = c.settle.new.inodes in
     let u = c.remove_entry.new.inodes in
+    let st = c.settle.ensures.settles in
     let e = c.in-Ok-Some.ensures in
     let R = g.W.World.repository in
     let F = g.F.Files.stored t.files in
@@ -88,14 +96,15 @@ returns-in-Ok-clause-attempts g c =
     let shown : g.W.World.honest → IsShown R F (row_at p t.root) (reach G p) = shown_at g.W.World g.F.Files p s t c.meet.new.cache _ c.in-Ok-Some.seen c.in-Ok-Some.field-0-is e.shown in
     let other = c.what.ensures.other (file_not_dir c.what.result c.in-File.is) in
     let file : seen.row.kind ≢ kind.Dir = λ dir. file_not_dir c.what.result c.in-File.is (sym other.1 ∙ seen.kind ∙ dir) in
-    changed g.W.World g.F.Files (ask.Unlink p) s t u c.args.cache.now c.meet.new.cache e.same ((c.keeps_laws.ensures.counts s t e.keeps).1.1.1) e.cache
+    changed g.W.World g.F.Files (ask.Unlink p) s v u c.args.cache.now c.meet.new.cache (λ h. st.readies.shown h ∙ e.same h)
+    (le_trans (c.keeps_laws.ensures.counts s t e.keeps).1.1.1 (settles_leaves g.W.World g.F.Files t v _ st).everywhere.failures) e.cache
     (λ h. (asks_unlink p (not_root p c.in-Some.above.now c.in-Some.name.now split)).says G say.Ok
     (says_at R F p unlinks G (row_at p t.root) seen.row seen.there (shown h) say.Ok
     (λ listed. unlinks_file seen.row.kind (content_with R (own_files F) (source_of seen.row.number seen.row.origin)) listed file)))
     (λ h.
     c.in-Ok.ensures.shown h
-    ∙ ap (λ (q : Path). graft q (λ below. None) (shows g.W.World g.F.Files t)) (sym split)
-    ∙ ap (graft p (λ below. None)) (e.same h)
+    ∙ ap (λ (q : Path). graft q (λ below. None) (shows g.W.World g.F.Files v)) (sym split)
+    ∙ ap (graft p (λ below. None)) (st.readies.shown h ∙ e.same h)
     ∙ put_alone G p (λ below. None)
     (λ n r. sym (ap (λ (T : Tree). T (p ++ n ∷ r)) (e.same h)) ∙ file_alone c.shown_laws.ensures.below R F p t.root seen.row
     (kept_dirs R F t.root t.next (c.holds.ensures.kept h)) seen.there file n r) (λ n r. refl))
@@ -105,11 +114,31 @@ returns-in-Err-remove_entry-clause-attempts g c =
     let p = c.args.path.now in
     let s = c.args.inodes.now in
     let t = c.meet.new.inodes in
+    let v = c.settle.new.inodes in
     let u = c.remove_entry.new.inodes in
+    let st = c.settle.ensures.settles in
     let e = c.in-Ok-Some.ensures in
     let x = c.in-Err-remove_entry.ensures in
-    refused g.W.World g.F.Files (ask.Unlink p) s t u c.args.cache.now c.meet.new.cache e.same ((c.keeps_laws.ensures.counts s t e.keeps).1.1.1) e.cache c.in-Err-remove_entry.fault x.fault
+    refused g.W.World g.F.Files (ask.Unlink p) s v u c.args.cache.now c.meet.new.cache (λ h. st.readies.shown h ∙ e.same h)
+    (le_trans (c.keeps_laws.ensures.counts s t e.keeps).1.1.1 (settles_leaves g.W.World g.F.Files t v _ st).everywhere.failures) e.cache c.in-Err-remove_entry.fault x.fault
     (λ y is. cc) x.unseen
+
+pub returns-in-Err-settle-clause-attempts : goal.returns-in-Err-settle-clause-attempts
+returns-in-Err-settle-clause-attempts g c =
+    let s = c.args.inodes.now in
+    let t = c.meet.new.inodes in
+    let e = c.in-Ok-Some.ensures in
+    let x = c.in-Err-settle.ensures.settles.readies in
+    refused g.W.World g.F.Files (ask.Unlink c.args.path.now) s t c.settle.new.inodes c.args.cache.now c.meet.new.cache e.same ((c.keeps_laws.ensures.counts s t e.keeps).1.1.1) e.cache
+    c.in-Err-settle.fault x.fault (λ y is. cc) x.shown
+
+pub returns-in-Err-settle-clause-leaves : goal.returns-in-Err-settle-clause-leaves
+returns-in-Err-settle-clause-leaves g c =
+    let t = c.meet.new.inodes in
+    let v = c.settle.new.inodes in
+    let x = c.in-Err-settle.ensures.settles in
+    leaves_changed g.W.World g.F.Files c.args.inodes.now t c.meet.ensures.keeps v (Finished (say.Fault c.in-Err-settle.fault)) (λ e is. cc) (λ e is. x.readies.names) (ask.Unlink c.args.path.now)
+    (settles_leaves g.W.World g.F.Files t v _ x) (none_given t.next v.next 0 x.readies.next) (λ no. absurd (no (c.in-Err-settle.fault, refl)))
 
 pub returns-in-Err-clause-leaves : goal.returns-in-Err-clause-leaves
 returns-in-Err-clause-leaves g c = leaves_kept g.W.World g.F.Files c.args.inodes.now c.meet.new.inodes c.meet.ensures.keeps (ask.Unlink c.args.path.now) _
@@ -125,25 +154,35 @@ returns-in-Ok-clause-leaves g c =
     let x = c.in-Ok.ensures in
     let p = c.args.path.now in
     let t = c.meet.new.inodes in
+    let v = c.settle.new.inodes in
+    let st = c.settle.ensures.settles in
     let above = c.in-Some.above.now in
     let name = c.in-Some.name.now in
     let seen = seen_at g.W.World g.F.Files p c.args.inodes.now t c.meet.new.cache _ c.in-Ok-Some.seen c.in-Ok-Some.field-0-is c.in-Ok-Some.ensures.meets in
-    let loaded = above_loaded t.root seen.row p above name (sym c.as_slice.ensures ∙ c.in-Some.ensures.cases.0) seen.there in
-    let root = root_chained above t.root c.remove_entry.new.inodes.root (λ d. changed_listing d name None) loaded x.ok in
+    let other = c.what.ensures.other (file_not_dir c.what.result c.in-File.is) in
+    let there = row_still t.root v.root st.alike p seen.row seen.there (none_held (child_of seen.row) (sym seen.loaded ∙ other.0)) in
+    let loaded = above_loaded v.root seen.row p above name (sym c.as_slice.ensures ∙ c.in-Some.ensures.cases.0) there in
+    let root = root_chained above v.root c.remove_entry.new.inodes.root (λ d. changed_listing d name None) loaded x.ok in
     let u = c.remove_entry.new.inodes in
-    let l = leaves_by g.F.Files t u x.stays root x.saved (no_less t.next u.next x.rest.0) x.rest.1 x.counted in
-    leaves_changed g.W.World g.F.Files c.args.inodes.now t c.meet.ensures.keeps u (Finished say.Ok) (λ e is. cc) (λ e is. cc) (ask.Unlink p) l (none_given t.next u.next 0 x.rest.0)
+    let l = leaves_by g.F.Files v u x.stays root x.marks (no_less v.next u.next x.rest.0) x.rest.1 x.counted in
+    let saved = subst (λ (r : Path). IsSavedAbove r v.root) c.as_slice-2.ensures c.in_default-settle.ensures.saved in
+    leaves_changed g.W.World g.F.Files c.args.inodes.now t c.meet.ensures.keeps u (Finished say.Ok) (λ e is. cc) (λ e is. cc) (ask.Unlink p)
+    (leaves_then g.W.World g.F.Files t v u (settles_leaves g.W.World g.F.Files t v _ st) l)
+    (none_given t.next u.next 0 (x.rest.0 ∙ st.readies.next)) (λ no. (saved_on p v.root u.root saved x.marks, tt))
 
 pub returns-in-Err-remove_entry-clause-leaves : goal.returns-in-Err-remove_entry-clause-leaves
 returns-in-Err-remove_entry-clause-leaves g c =
     let x = c.in-Err-remove_entry.ensures in
     let t = c.meet.new.inodes in
+    let v = c.settle.new.inodes in
     let u = c.remove_entry.new.inodes in
-    let counted = fault_count (g.F.Files.failures t.files) (g.F.Files.failures u.files) c.in-Err-remove_entry.fault x.fault in
-    let l = leaves_by g.F.Files t u x.stays (root_same t.root u.root x.err) x.saved (no_less t.next u.next x.rest.0) x.rest.1 counted in
+    let st = c.settle.ensures.settles in
+    let counted = fault_count (g.F.Files.failures v.files) (g.F.Files.failures u.files) c.in-Err-remove_entry.fault x.fault in
+    let l = leaves_by g.F.Files v u x.stays (root_same v.root u.root x.err) x.marks (no_less v.next u.next x.rest.0) x.rest.1 counted in
     leaves_changed g.W.World g.F.Files c.args.inodes.now t c.meet.ensures.keeps u (Finished (say.Fault c.in-Err-remove_entry.fault)) (λ e is. cc)
-    (λ e is. names_same t.root u.root x.err) (ask.Unlink c.args.path.now) l
-    (none_given t.next u.next 0 x.rest.0)
+    (λ e is. subst (SameNames t.root) (sym x.err) st.readies.names) (ask.Unlink c.args.path.now)
+    (leaves_then g.W.World g.F.Files t v u (settles_leaves g.W.World g.F.Files t v _ st) l)
+    (none_given t.next u.next 0 (x.rest.0 ∙ st.readies.next)) (λ no. absurd (no (c.in-Err-remove_entry.fault, refl)))
 
 pub returns-in_default-clause-leaves : goal.returns-in_default-clause-leaves
 returns-in_default-clause-leaves g c = leaves_kept g.W.World g.F.Files c.args.inodes.now c.args.inodes.now same (ask.Unlink c.args.path.now) _

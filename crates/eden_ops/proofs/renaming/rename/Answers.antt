@@ -1,4 +1,4 @@
-use Rattle.std.proofs.Common.{◌≡◌, false, Option, Ok, sym, refl, subst, ◌∙◌}
+use Rattle.std.proofs.Common.{◌≡◌, false, Option, Ok, inl, inr, sym, refl, subst, ◌∙◌}
 use Rattle.eden_model.specs.declared.request.Request.TheVariants as ask
 use Rattle.eden_model.specs.Paths.{is_root}
 use Rattle.eden_inode.specs.declared.seen.Seen.{Seen}
@@ -121,11 +121,11 @@ pub returns-in-Ok-relocate-clause-leaves : goal.returns-in-Ok-relocate-clause-le
 returns-in-Ok-relocate-clause-leaves g c =
     let x = c.in-Ok-relocate.ensures in
     leaves_moved g.W.World g.F.Files c.args.inodes.now c.land.new.inodes (keeps_on g.W.World g.F.Files c.args.inodes.now c.meet.new.inodes c.land.new.inodes c.meet.ensures.keeps c.land.ensures.keeps)
-    c.relocate.new.inodes (Finished say.Ok) (λ e is. cc) (λ e is. cc) c.args.from.now c.args.to.now x.loaded x.root x.rest x.counted (λ fine. x.saved) x.marked
+    c.relocate.new.inodes (Finished say.Ok) (λ e is. cc) (λ e is. cc) c.args.from.now c.args.to.now x.loaded x.root x.rest x.counted (λ q unsaved. inr (x.marks q unsaved)) (λ no. (x.saved.0, (x.saved.1, tt)))
 
 pub returns-in-Err-relocate-clause-leaves : goal.returns-in-Err-relocate-clause-leaves
 returns-in-Err-relocate-clause-leaves g c =
     let x = c.in-Err-relocate.ensures in
     leaves_moved g.W.World g.F.Files c.args.inodes.now c.land.new.inodes (keeps_on g.W.World g.F.Files c.args.inodes.now c.meet.new.inodes c.land.new.inodes c.meet.ensures.keeps c.land.ensures.keeps)
     c.relocate.new.inodes (Finished (say.Fault c.in-Err-relocate.fault)) (λ e is. cc) (λ e is. x.names) c.args.from.now c.args.to.now x.loaded x.root x.rest x.counted
-    (λ fine. absurd (fine c.in-Err-relocate.fault refl)) x.marked
+    (λ q unsaved. elim (x.marked q unsaved) [ inl in_it ↦ inl ((c.in-Err-relocate.fault, refl), in_it) | inr was ↦ inr was ]) (λ no. absurd (no (c.in-Err-relocate.fault, refl)))

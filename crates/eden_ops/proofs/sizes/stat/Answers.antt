@@ -50,10 +50,8 @@ returns-in-Err-size-clause-attempts g c =
     subst (λ (a : Attempt). Attempts g.W.World g.F.Files (ask.Stat c.args.path.now) c.args.inodes.now c.size.new.inodes c.args.cache.now c.size.new.cache a) (sym c.ended-in-Err-size.ensures)
     (content_lacks g.W.World g.F.Files c.args.path.now c.args.inodes.now c.meet.new.inodes c.meet.new.cache _ c.in-Ok-Some.seen c.in-Ok-Some.field-0-is e.meets (ask.Stat c.args.path.now) stats
     (asks_stat c.args.path.now) c.args.cache.now e.same e.keeps e.cache e.shown c.size.new.inodes c.size.new.cache b.same b.keeps b.still b.cache other.0 (λ x is. cc) c.in-Err-size.stop
-    (λ k is. (
-      λ n a r same lost. stats_lost n a false r (λ dir. no_dir c.what-kind.result c.in-File.is (sym other.1 ∙ sym same ∙ dir)) lost,
-      λ x y blob. b.unkept k (c.in-Err-size.is ∙ ap Err is),
-    )) c.in-Err-size.ensures.lacks)
+    (λ n a r same lost. stats_lost n a false r (λ dir. no_dir c.what-kind.result c.in-File.is (sym other.1 ∙ sym same ∙ dir)) lost)
+    (λ k is x y blob. b.unkept k (c.in-Err-size.is ∙ ap Err is)) c.in-Err-size.ensures.lacks)
 
 pub returns-in-Err-size-clause-keeps : goal.returns-in-Err-size-clause-keeps
 returns-in-Err-size-clause-keeps g c = keeps_on g.W.World g.F.Files c.args.inodes.now c.meet.new.inodes c.size.new.inodes c.meet.ensures.keeps c.size.ensures.keeps

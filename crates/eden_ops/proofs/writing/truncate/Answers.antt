@@ -15,7 +15,6 @@ use Rattle.eden_ops.proofs.Filing.{file_tells, file_lacks, is_file, file_fills, 
 use Rattle.eden_ops.proofs.Filled.{truncates, asks_truncate, truncates_far, truncates_none, truncates_some, truncates_lost, truncated_none, truncated_some}
 use Rattle.eden_ops.proofs.Finding.{still_stocked, finds_same}
 use Rattle.eden_ops.proofs.Looking.{plain_other}
-use Rattle.eden_ops.proofs.Names.{names_same}
 use Rattle.eden_ops.proofs.Leaving.{none_given, leaves_kept, leaves_changed}
 use Rattle.eden_ops.proofs.Steps.{keeps_on}
 use Rattle.eden_ops.proofs.writing.truncate.Goals as goal
@@ -140,28 +139,28 @@ pub returns-in-Ok-fill-clause-leaves : goal.returns-in-Ok-fill-clause-leaves
 returns-in-Ok-fill-clause-leaves g c =
     leaves_changed g.W.World g.F.Files c.args.inodes.now c.meet_file.new.inodes c.meet_file.ensures.keeps
     c.fill.new.inodes (Finished say.Ok) (λ e is. cc) (λ e is. cc) (ask.Truncate c.args.path.now c.args.size) c.fill.ensures.leaves
-    (none_given c.meet_file.new.inodes.next c.fill.new.inodes.next 0 c.fill.ensures.next)
+    (none_given c.meet_file.new.inodes.next c.fill.new.inodes.next 0 c.fill.ensures.next) (λ no. (c.in-Ok-fill.ensures.saved, tt))
 
 pub returns-in-Err-fill-clause-leaves : goal.returns-in-Err-fill-clause-leaves
 returns-in-Err-fill-clause-leaves g c =
     leaves_changed g.W.World g.F.Files c.args.inodes.now c.meet_file.new.inodes c.meet_file.ensures.keeps
     c.fill.new.inodes (Finished (say.Fault c.in-Err-fill.fault)) (λ e is. cc)
-    (λ e is. names_same c.meet_file.new.inodes.root c.fill.new.inodes.root c.in-Err-fill.ensures.err)
+    (λ e is. c.in-Err-fill.ensures.names)
     (ask.Truncate c.args.path.now c.args.size) c.fill.ensures.leaves
-    (none_given c.meet_file.new.inodes.next c.fill.new.inodes.next 0 c.fill.ensures.next)
+    (none_given c.meet_file.new.inodes.next c.fill.new.inodes.next 0 c.fill.ensures.next) (λ no. absurd (no (c.in-Err-fill.fault, refl)))
 
 pub returns-in-Ok-fill-2-clause-leaves : goal.returns-in-Ok-fill-2-clause-leaves
 returns-in-Ok-fill-2-clause-leaves g c =
     leaves_changed g.W.World g.F.Files c.args.inodes.now c.make.new.inodes
     (keeps_on g.W.World g.F.Files c.args.inodes.now c.meet_file.new.inodes c.make.new.inodes c.meet_file.ensures.keeps c.make.ensures.keeps)
     c.fill-2.new.inodes (Finished say.Ok) (λ e is. cc) (λ e is. cc) (ask.Truncate c.args.path.now c.args.size) c.fill-2.ensures.leaves
-    (none_given c.make.new.inodes.next c.fill-2.new.inodes.next 0 c.fill-2.ensures.next)
+    (none_given c.make.new.inodes.next c.fill-2.new.inodes.next 0 c.fill-2.ensures.next) (λ no. (c.in-Ok-fill-2.ensures.saved, tt))
 
 pub returns-clause-leaves : goal.returns-clause-leaves
 returns-clause-leaves g c =
     leaves_changed g.W.World g.F.Files c.args.inodes.now c.make.new.inodes
     (keeps_on g.W.World g.F.Files c.args.inodes.now c.meet_file.new.inodes c.make.new.inodes c.meet_file.ensures.keeps c.make.ensures.keeps)
     c.fill-2.new.inodes (Finished (say.Fault c.in-Err-fill-2.fault)) (λ e is. cc)
-    (λ e is. names_same c.make.new.inodes.root c.fill-2.new.inodes.root c.in-Err-fill-2.ensures.err)
+    (λ e is. c.in-Err-fill-2.ensures.names)
     (ask.Truncate c.args.path.now c.args.size) c.fill-2.ensures.leaves
-    (none_given c.make.new.inodes.next c.fill-2.new.inodes.next 0 c.fill-2.ensures.next)
+    (none_given c.make.new.inodes.next c.fill-2.new.inodes.next 0 c.fill-2.ensures.next) (λ no. absurd (no (c.in-Err-fill-2.fault, refl)))

@@ -16,7 +16,6 @@ use Rattle.eden_ops.proofs.Filing.{file_tells, file_lacks, is_file, file_fills, 
 use Rattle.eden_ops.proofs.Filled.{writes, asks_write, writes_none, writes_far, writes_some, writes_lost, writes_nothing}
 use Rattle.eden_ops.proofs.Finding.{still_stocked}
 use Rattle.eden_ops.proofs.Looking.{plain_other}
-use Rattle.eden_ops.proofs.Names.{names_same}
 use Rattle.eden_ops.proofs.Leaving.{none_given, leaves_kept, leaves_changed}
 use Rattle.eden_ops.proofs.Steps.{keeps_on}
 use Rattle.eden_ops.proofs.writing.write.Goals as goal
@@ -154,16 +153,16 @@ returns-in-Ok-fill-clause-leaves g c =
     leaves_changed g.W.World g.F.Files c.args.inodes.now c.make.new.inodes
     (keeps_on g.W.World g.F.Files c.args.inodes.now c.meet_file.new.inodes c.make.new.inodes c.meet_file.ensures.keeps c.make.ensures.keeps)
     c.fill.new.inodes (Finished (say.Count (length c.args.bytes.now))) (λ e is. cc) (λ e is. cc) (ask.Write c.args.path.now c.args.offset c.args.bytes.now) c.fill.ensures.leaves
-    (none_given c.make.new.inodes.next c.fill.new.inodes.next 0 c.fill.ensures.next)
+    (none_given c.make.new.inodes.next c.fill.new.inodes.next 0 c.fill.ensures.next) (λ no. (c.in-Ok-fill.ensures.saved, tt))
 
 pub returns-clause-leaves : goal.returns-clause-leaves
 returns-clause-leaves g c =
     leaves_changed g.W.World g.F.Files c.args.inodes.now c.make.new.inodes
     (keeps_on g.W.World g.F.Files c.args.inodes.now c.meet_file.new.inodes c.make.new.inodes c.meet_file.ensures.keeps c.make.ensures.keeps)
     c.fill.new.inodes (Finished (say.Fault c.in-Err-fill.fault)) (λ e is. cc)
-    (λ e is. names_same c.make.new.inodes.root c.fill.new.inodes.root c.in-Err-fill.ensures.err)
+    (λ e is. c.in-Err-fill.ensures.names)
     (ask.Write c.args.path.now c.args.offset c.args.bytes.now) c.fill.ensures.leaves
-    (none_given c.make.new.inodes.next c.fill.new.inodes.next 0 c.fill.ensures.next)
+    (none_given c.make.new.inodes.next c.fill.new.inodes.next 0 c.fill.ensures.next) (λ no. absurd (no (c.in-Err-fill.fault, refl)))
 
 pub returns-then-count-gt-MAX_DATA-clause-leaves : goal.returns-then-count-gt-MAX_DATA-clause-leaves
 returns-then-count-gt-MAX_DATA-clause-leaves g c = leaves_kept g.W.World g.F.Files c.args.inodes.now c.args.inodes.now same (ask.Write c.args.path.now c.args.offset c.args.bytes.now) _

@@ -1,10 +1,15 @@
-use Rattle.std.proofs.Common.{rules, ◌≡◌, ◌∙◌, ap}
+use Rattle.std.proofs.Common.{rules, ◌≡◌, ◌++◌, ◌∙◌, ap, replicate}
 use Rattle.eden_overlay_format.specs.declared.header.Identifier.TheVariants as identifier
-use Rattle.eden_overlay_format.specs.Stored.{body_in, written}
-use Rattle.eden_overlay_format.proofs.Headers.{written_found}
+use Rattle.eden_overlay_format.specs.Stored.{body_in}
+use Rattle.eden_overlay_format.proofs.Headers.{written_found, sealed}
 use Rattle.eden_overlay_format.proofs.content.encode_file.Goals as goal
+
+pub returns-clause-bytes : goal.returns-clause-bytes
+returns-clause-bytes c =
+    let body : c.extend_from_slice.new.self.items ≡ replicate 64 0 ++ c.args.content.now = search rules in
+    sealed identifier.File c.extend_from_slice.new.self.items c.args.content.now c.seal.new.file.items body c.seal.ensures
 
 pub returns-clause-read_again : goal.returns-clause-read_again
 returns-clause-read_again c =
-    let all : c.extend_from_slice.new.self.items ≡ written identifier.File c.args.content.now = search rules in
+    let all = returns-clause-bytes c in
     record { stored = ap (body_in identifier.File) all ∙ written_found identifier.File c.args.content.now; most = c.requires }

@@ -1,4 +1,4 @@
-use Rattle.eden_tie.proofs.ChainLaws.{owned_table, owned_stays, owned_saved, owned_kept, owned_alike, refused_kept, refused_alike}
+use Rattle.eden_tie.proofs.ChainLaws.{owned_table, owned_stays, owned_marked, owned_kept, owned_alike, refused_kept, refused_alike}
 use Rattle.eden_tie.proofs.LooseFiles.{loose_sound, loose_kept, loose_alike}
 use Rattle.eden_tie.proofs.Storable.{drop_storable, entry_storable}
 use Rattle.eden_tie.proofs.owning.chain_laws.Goals as goal
@@ -9,8 +9,8 @@ returns-clause-table c = owned_table
 pub returns-clause-stays : goal.returns-clause-stays
 returns-clause-stays c = owned_stays
 
-pub returns-clause-saved : goal.returns-clause-saved
-returns-clause-saved c = owned_saved
+pub returns-clause-marks : goal.returns-clause-marks
+returns-clause-marks c = owned_marked
 
 pub returns-clause-kept : goal.returns-clause-kept
 returns-clause-kept c = owned_kept

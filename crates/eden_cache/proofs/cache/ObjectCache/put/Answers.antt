@@ -1,5 +1,4 @@
-use Rattle.std.proofs.Common.{◌≤◌, length, refl, arith}
-use Rattle.eden_cache.specs.declared.cache.TheConstants.{BYTES_LIMIT}
+use Rattle.std.proofs.Common.{◌≤◌, ◌^◌, length, refl, arith}
 use Rattle.eden_cache.proofs.Sizes.{size_put}
 use Rattle.eden_cache.proofs.Tallies.{put_few, put_sum, put_front, put_tallied}
 use Rattle.eden_cache.proofs.CacheLaws.{finds_what_was_put}
@@ -21,7 +20,7 @@ pub invariant_of-self-in-Blob : goal.invariant_of-self-in-Blob
 invariant_of-self-in-Blob g c =
     let front = rw c.in-Ok.ensures.entries at c.evict-self-inside.ensures.front in
     let cap = rw c.in-Ok.ensures.entries at c.evict-self-inside.ensures.cap in
-    let short : length c.args.object.bytes ≤ BYTES_LIMIT = omega (arith, c.body.ensures.sound.short) in
+    let short : length c.args.object.bytes ≤ 2 ^ 40 = omega (arith, c.body.ensures.sound.short) in
     let put = c.put in
     let size = size_put c.self.inside.sizes put.new.self c.args.key.id (length c.body.result.now) put.result c.self.invariant.1 put.ensures.entries put.ensures.err put.ensures.succeeds in
     let left = c.evict-self-inside in
@@ -31,7 +30,7 @@ pub invariant_of-self-in-Tree : goal.invariant_of-self-in-Tree
 invariant_of-self-in-Tree g c =
     let front = rw c.in-Ok.ensures.entries at c.evict-self-inside.ensures.front in
     let cap = rw c.in-Ok.ensures.entries at c.evict-self-inside.ensures.cap in
-    let short : length c.args.object.bytes ≤ BYTES_LIMIT = omega (arith, c.body.ensures.sound.short) in
+    let short : length c.args.object.bytes ≤ 2 ^ 40 = omega (arith, c.body.ensures.sound.short) in
     let left = c.evict-self-inside in
     (put_tallied _ _ c.self.inside.objects c.args.key c.args.object c.self.invariant.0 c.requires.kind left.result left.new.objects front left.ensures.sum cap short, c.self.invariant.1)
 

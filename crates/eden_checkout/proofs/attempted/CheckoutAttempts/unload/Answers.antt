@@ -23,16 +23,17 @@ returns g c =
     let e = c.unload.ensures in
     let s : Checkout _ = record { inodes = x.inodes; cache = x.cache; root = x.root } in
     let t : Checkout _ = record { inodes = c.unload.new.self; cache = x.cache; root = x.root } in
-    let here = unloads g.W.World g.F.Files s t c.as_slice.result.now c.args.older_than c.unload.result (record {
+    let here = unloads g.W.World g.F.Files s t c.as_slice.result.now c.args.older_than c.unload.result.count (record {
       count = e.unloads.0;
       counted = e.unloads.1.0;
       unloads = e.unloads.1.1;
+      refused = c.unload.result.refused;
       settled = e.settled;
       elsewhere = e.elsewhere;
-      failures = e.counted;
+      failures = e.refused;
       rest = e.rest;
       cache = refl;
       root = refl;
     }) e.shown in
-    subst (λ (u : Checkout _). Unloads (attempted g.W.World g.F.Files) g.W.World.honest u c.args.path.now c.args.older_than c.unload.result t) c.self.view_is
-    (subst (λ (p : Path). Unloads (attempted g.W.World g.F.Files) g.W.World.honest s p c.args.older_than c.unload.result t) c.as_slice.ensures here)
+    subst (λ (u : Checkout _). Unloads (attempted g.W.World g.F.Files) g.W.World.honest u c.args.path.now c.args.older_than c.unload.result.count t) c.self.view_is
+    (subst (λ (p : Path). Unloads (attempted g.W.World g.F.Files) g.W.World.honest s p c.args.older_than c.unload.result.count t) c.as_slice.ensures here)

@@ -1,7 +1,7 @@
 use Rattle.std.proofs.Common.{◌≡◌, subst}
 use Rattle.eden_overlay.specs.Soundness.{AreSound}
 use Rattle.eden_tie.specs.Chains.{AreSaved}
-use Rattle.eden_ops.specs.Keeping.{shows}
+use Rattle.eden_inode.specs.Tables.{shows}
 use Rattle.eden_checkout.specs.Checkouts.{Checkout}
 use Rattle.eden_checkout.specs.Opening.{files_show}
 use Rattle.eden_checkout.proofs.Closed.{saved_shown}

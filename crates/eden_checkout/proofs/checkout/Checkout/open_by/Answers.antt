@@ -4,8 +4,7 @@ use Rattle.eden_overlay.specs.Files.{Stored}
 use Rattle.eden_overlay.specs.Held.{without}
 use Rattle.eden_tie.specs.Chains.{AreSaved}
 use Rattle.eden_tie.specs.Shown.{shown_in}
-use Rattle.eden_inode.specs.Tables.{CanStart, Table, fresh_root}
-use Rattle.eden_ops.specs.Keeping.{shows}
+use Rattle.eden_inode.specs.Tables.{CanStart, Table, fresh_root, shows}
 use Rattle.eden_checkout.specs.Opening.{Starts, Finds}
 use Rattle.eden_checkout.proofs.Opened.{can_start, shown_by, fresh_saved}
 use Rattle.eden_checkout.proofs.checkout.Checkout.open_by.Goals as goal

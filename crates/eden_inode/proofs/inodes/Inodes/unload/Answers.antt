@@ -93,8 +93,10 @@ returns-in-Some-clause-settled g c y at =
     let p = c.args.path.now in
     let x = c.self.inside.root in
     let there : row_at p c.change_at.new.self ≡ Some u.after = ap (row_at p) u.is ∙ edits_there p (λ _. u.after) x ∙ ap (option_map (λ _. u.after)) u.was in
-    let settled : IsSettled c.self.inside.clock c.args.older_than y = subst (λ (z : Row). IsSettled c.self.inside.clock c.args.older_than z) (same_some u.after y (sym there ∙ at)) u.done.0.settled in
-    subst (λ (v : Table _). IsSettled v.clock c.args.older_than y) c.self.view_is settled
+    let refused = c.in-Some.gone.refused in
+    let settled : IsSettled c.self.inside.clock c.args.older_than refused y =
+    subst (λ (z : Row). IsSettled c.self.inside.clock c.args.older_than refused z) (same_some u.after y (sym there ∙ at)) u.done.0.settled in
+    subst (λ (v : Table _). IsSettled v.clock c.args.older_than refused y) c.self.view_is settled
 
 pub returns-in-Some-clause-shown : goal.returns-in-Some-clause-shown
 returns-in-Some-clause-shown g c h =

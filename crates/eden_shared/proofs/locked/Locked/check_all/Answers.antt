@@ -10,10 +10,10 @@ loop-i-preserved g c =
     let i = c.loop-i.i in let v = c.index_mut.result.now in let before = c.loop-i.invariant in let items = c.args.passes.now.items in
     let below : i < length c.loop-i.passes.items = search rules in
     let at : slice_get c.loop-i.passes.items i ≡ Some v = slice_get_read _ _ _ _ refl below c.index_mut.ensures.value in
-    let P : ℕ → Type 0 = λ k. (p : Carried) → slice_get items k ≡ Some p → IsKnown c.args.self.now p in
+    let P : ℕ → Type 0 = λ k. (p : Carried) → slice_get items k ≡ Some p → IsKnown g.T.Attempts.table c.args.self.now.mount p in
     let here : P i = λ p is.
     let same : v ≡ p = cc (sym at ∙ ap (λ l. slice_get l i) before.1 ∙ is) in
-    subst (λ m. IsKnown m p) before.0 (subst (λ (x : Carried). IsKnown c.loop-i.self x) same c.check.ensures.known) in (
+    subst (λ l. IsKnown g.T.Attempts.table l.mount p) before.0 (subst (λ (x : Carried). IsKnown g.T.Attempts.table c.loop-i.self.mount x) same c.check.ensures.known) in (
       c.check.ensures.lock ∙ before.0,
       set_same c.loop-i.passes.items i c.check.new.pass (at ∙ ap Some (sym c.check.ensures.pass)) ∙ before.1,
       below_more P i before.2 here,

@@ -1,0 +1,9 @@
+use Rattle.std.proofs.Common.{◌≡◌}
+use Rattle.eden_materialise.proofs.Fronts.{SoFar}
+use Rattle.eden_materialise.proofs.saving.save_above.Given as goal
+
+abbrev pub invariant-loop-i : goal.invariant-loop-i
+invariant-loop-i g l =
+    SoFar g.W.World.honest g.W.World.repository l.path (g.F.Files.stored l.initial.inodes.files) l.initial.inodes.root (g.F.Files.failures l.initial.inodes.files) l.i
+    (g.F.Files.stored l.inodes.files) l.inodes.root (g.F.Files.failures l.inodes.files)
+    × ((l.inodes.next ≡ l.initial.inodes.next) × (l.inodes.clock ≡ l.initial.inodes.clock))

@@ -1,0 +1,26 @@
+use Rattle.eden_materialise.proofs.Fronts.{can_save, at_table, at_kept, at_shown}
+use Rattle.eden_materialise.proofs.saving.save_at.Goals as goal
+
+pub change-requires-clause-may : goal.change-requires-clause-may
+change-requires-clause-may g c =
+    let t = c.args.inodes.now in
+    can_save g.W.World.honest g.W.World.repository (g.F.Files.stored t.files) t.root t.next c.args.path.now c.holds.ensures.table c.holds.ensures.kept
+
+pub change-requires-clause-table : goal.change-requires-clause-table
+change-requires-clause-table g c files root answer does =
+    let t = c.args.inodes.now in
+    at_table g.W.World.honest c.args.path.now (g.F.Files.stored t.files) t.root (g.F.Files.failures t.files) (g.F.Files.stored files) root (g.F.Files.failures files)
+    t.next c.holds.ensures.table answer does
+
+pub change-requires-clause-kept : goal.change-requires-clause-kept
+change-requires-clause-kept g c h files root answer does =
+    let t = c.args.inodes.now in
+    at_kept g.W.World.honest c.args.path.now (g.F.Files.stored t.files) t.root (g.F.Files.failures t.files) (g.F.Files.stored files) root (g.F.Files.failures files)
+    t.next c.holds.ensures.table h g.W.World.repository (c.holds.ensures.kept h) answer does
+
+pub returns-clause-shown : goal.returns-clause-shown
+returns-clause-shown g c h =
+    let t = c.args.inodes.now in
+    let then = c.change.new.self in
+    at_shown g.W.World.honest c.args.path.now (g.F.Files.stored t.files) t.root (g.F.Files.failures t.files) (g.F.Files.stored then.files) then.root (g.F.Files.failures then.files)
+    t.next c.holds.ensures.table h g.W.World.repository (c.holds.ensures.kept h) c.change.result c.change.ensures.does
