@@ -217,11 +217,11 @@ fn check_later(rt: &impl Abort, alloc: Global, calls: u64) -> bool {
 
 #[test]
 fn a_rescan_shows_what_was_done_to_an_entry_that_could_not_be_moved(rt: HostRuntime) {
-    let mut stopped = 0;
-    for calls in 0..8 {
-        if check_later(&rt, rt.alloc(), calls) {
-            stopped += 1;
-        }
+    // A move between two own directories stores both.
+    for calls in 0..2 {
+        assert!(rt; check_later(&rt, rt.alloc(), calls));
     }
-    assert!(rt; stopped > 1);
+    for calls in 2..8 {
+        check_later(&rt, rt.alloc(), calls);
+    }
 }
