@@ -254,7 +254,7 @@ def check_laziness(folder, large):
 
 
 def check_open_files(folder, repository):
-    """What programs do with open files and attributes is as the README says."""
+    """What programs do with open files and attributes is as docs/MOUNT-GIT.md says."""
     with Mount(repository, "HEAD", folder / "mounted") as mount:
         top = mount.folder
         (top / "gone").write_text("abc")
