@@ -1,4 +1,5 @@
 ghost use Rattle.std.specs.Prelude.{◌≡◌, ◌≤◌, ◌<◌, ◌-◌, ◌^◌, IfOk, IfSome, Ok, Err, length};
+ghost use Rattle.std.specs.Io.KnownBytes.{Consumes};
 ghost use Rattle.std.specs.Fs.{metadata_len, file_type, IsFile};
 ghost use Rattle.eden_files.specs.declared.fault.FolderFault.TheVariants as fault;
 
@@ -34,6 +35,35 @@ pub fn read_file<R: rt::Files>(
     let file = open_plain(files, path, links)?;
     let len = plain_len(&file.metadata()?, longest)?;
     read_within(alloc, file, len, longest)
+}
+
+/// The first `N` bytes of the plain file at the path, and how many it has: the bytes behind them aren't read. A file of
+/// fewer bytes than `N` isn't read at all: zeros stand for them. It takes no memory of the program's own.
+///
+/// The errors are those of `read_file`; `Device` too where the file ends before the length that it was said to have.
+pub fn read_front<R: rt::Files, const N: usize>(
+    files: &R,
+    path: &str,
+    links: Links,
+    longest: u64,
+) -> Result<([u8; N], u64), FolderFault>
+    ensures { IfOk result (λ x. x.1 ≤ longest) }
+{
+    let mut file = open_plain(files, path, links)?;
+    let len = plain_len(&file.metadata()?, longest)?;
+    if len < N as u64 {
+        return Ok(([0; N], len));
+    }
+    Ok((front_of(&mut file)?, len))
+}
+
+/// The first `N` bytes that the reader gives; `Device` too where it gives fewer.
+pub fn front_of<R: Read, const N: usize>(reader: &mut R) -> Result<[u8; N], FolderFault>
+    ensures { IfOk result (λ first. Consumes (R.remaining reader.old) (R.remaining reader.new) first) }
+{
+    let mut first = [0; N];
+    reader.read_exact(&mut first)?;
+    Ok(first)
 }
 
 /// All that the reader gives, in room for `expected` bytes and one more, by which the end is seen without growing.

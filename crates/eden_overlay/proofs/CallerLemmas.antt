@@ -10,3 +10,5 @@ pub use Rattle.eden_overlay.proofs.Directories.{dropped_stay, dropped_unnamed}
 pub use Rattle.eden_overlay.proofs.Entering.{added_stay, entered_stay}
 pub use Rattle.eden_overlay.proofs.Moving.{renamed_stay, moved_stay}
 pub use Rattle.eden_overlay.proofs.Accusing.{accused_unsound}
+-- the length of a content that a file's head tells
+pub use Rattle.eden_overlay.proofs.Lengths.{length_held, no_length}

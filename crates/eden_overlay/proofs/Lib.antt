@@ -11,3 +11,4 @@ pub mod Moving
 pub mod Places
 pub mod Walks
 pub mod Accusing
+mod Lengths

@@ -1,5 +1,7 @@
 -- Files by their numbers, as contracts see them.
-use Rattle.std.specs.Prelude.{ℕ, ◌==◌, List, Option, if◌then◌else◌, IsSome, All, Contains}
+use Rattle.std.specs.Prelude.{ℕ, ◌==◌, List, Option, Some, None, if◌then◌else◌, IsSome, All, Contains}
+use Rattle.eden_overlay_format.specs.declared.header.Head.{Head}
+use Rattle.eden_overlay_format.specs.Content.{IsHead}
 
 abbrev pub Stored : Type 0
 Stored = ℕ → Option (List ℕ)
@@ -12,3 +14,9 @@ put f k w = λ q. if k == q then w else f q
 pub record Lists (ks : List ℕ) (f : Stored) : Type 0 where
   pub there : All (λ k. IsSome (f k)) ks
   pub all : (k : ℕ) → IsSome (f k) → Contains ks k
+
+-- what was had is the head of the file, or there is no file
+abbrev pub IsHeadOf : Option (List ℕ) → Option Head → Type 0
+IsHeadOf (Some bytes) (Some head) = IsHead head bytes
+IsHeadOf None None = Unit {0}
+IsHeadOf _ _ = ⊥

@@ -1,13 +1,17 @@
 -- Why a stored file gave no value.
-use Rattle.std.specs.Prelude.{◌≡◌, List, ℕ, Option, None, IsSomeAnd}
+use Rattle.std.specs.Prelude.{◌≡◌, List, ℕ, Option, Some, None, Result, Ok, Err, IsSomeAnd}
+use Rattle.eden_overlay_format.specs.declared.header.Head.{Head}
 use Rattle.eden_overlay_format.specs.declared.header.Identifier.{Identifier}
+use Rattle.eden_overlay_format.specs.declared.refusal.Refusal.{Refusal}
 use Rattle.eden_overlay_format.specs.declared.refusal.DecodeFault.{DecodeFault}
 use Rattle.eden_overlay_format.specs.declared.refusal.DecodeFault.TheVariants as decode
 use Rattle.eden_overlay_format.specs.Stored.{Refuses}
+use Rattle.eden_overlay_format.specs.Content.{content_length}
 use Rattle.eden_overlay.specs.declared.files.FilesFault.{FilesFault}
 use Rattle.eden_overlay.specs.declared.files.FilesFault.TheVariants as files
 use Rattle.eden_overlay.specs.declared.fault.GetFault.{GetFault}
 use Rattle.eden_overlay.specs.declared.fault.GetFault.TheVariants as get
+use Rattle.eden_overlay.specs.Held.{HeadTells}
 
 -- The fault says why a file that was asked for under that identifier gives no value: it isn't stored; or it is, and its
 -- bytes hold none and have that first refusal. The device and memory may fail whatever is stored.
@@ -16,6 +20,22 @@ Explains i value file get.Absent = file ≡ None
 Explains i value file (get.Damaged refusal) = IsSomeAnd file (λ bytes. Refuses i value bytes refusal)
 Explains i value file get.Device = Unit {0}
 Explains i value file get.Memory = Unit {0}
+
+-- .. or why a file's head tells no content's length
+abbrev pub ExplainsLength : Option (List ℕ) → GetFault → Type 0
+ExplainsLength file get.Absent = file ≡ None
+ExplainsLength file (get.Damaged refusal) = IsSomeAnd file (λ bytes. HeadTells bytes (Err refusal))
+ExplainsLength file get.Device = Unit {0}
+ExplainsLength file get.Memory = ⊥
+
+-- what is answered for that head
+abbrev pub told_by : Result ℕ Refusal → Result ℕ GetFault
+told_by (Ok len) = Ok len
+told_by (Err refusal) = Err (get.Damaged refusal)
+
+abbrev pub length_of : Option Head → Result ℕ GetFault
+length_of (Some head) = told_by (content_length head.first head.len)
+length_of None = Err get.Absent
 
 -- the numbers that stand for faults of the files
 abbrev pub files_fault_number : FilesFault → ℕ

@@ -1,13 +1,16 @@
 -- What a file holds, and the files with one of them put in or taken out.
-use Rattle.std.specs.Prelude.{◌≡◌, ℕ, List, Option, Some, None}
+use Rattle.std.specs.Prelude.{◌≡◌, ℕ, List, Option, Some, None, Result, Ok, IsSomeAnd}
 use Rattle.std.specs.Option.{option_map, option_and_then}
 use Rattle.eden_model.specs.Named.{named}
 use Rattle.eden_model.specs.Shown.{Item, Items}
 use Rattle.eden_model.specs.Repository.{Source, source_of, OwnFiles}
 use Rattle.eden_overlay_format.specs.declared.header.Identifier.TheVariants as identifier
+use Rattle.eden_overlay_format.specs.declared.header.Head.{Head}
+use Rattle.eden_overlay_format.specs.declared.refusal.Refusal.{Refusal}
 use Rattle.eden_overlay_format.specs.declared.state.State.{State}
 use Rattle.eden_overlay_format.specs.declared.stored_entry.StoredEntry.{StoredEntry}
 use Rattle.eden_overlay_format.specs.Stored.{written}
+use Rattle.eden_overlay_format.specs.Content.{IsHead, content_length}
 use Rattle.eden_overlay_format.specs.Directory.{directory_body}
 use Rattle.eden_overlay_format.specs.State.{state_body}
 use Rattle.eden_overlay_format.specs.Values.{content_in, state_in, entries_in}
@@ -31,6 +34,15 @@ HoldsEntries F k entries = entries_at F k ≡ Some entries
 
 abbrev pub HoldsState : Stored → State → Type 0
 HoldsState F state = state_at F ≡ Some state
+
+-- the head of a file tells that of its content's length, whatever the content's digest is
+pub record HeadTells (bytes : List ℕ) (told : Result ℕ Refusal) : Type 0 where
+  pub head : Head
+  pub is : IsHead head bytes
+  pub tells : content_length head.first head.len ≡ told
+
+abbrev pub TellsLength : Stored → ℕ → ℕ → Type 0
+TellsLength F k len = IsSomeAnd (F k) (λ bytes. HeadTells bytes (Ok len))
 
 -- ---- what own files show
 

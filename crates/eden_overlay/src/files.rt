@@ -4,6 +4,7 @@ ghost use Rattle.eden_overlay.specs.Getting.{files_fault_number};
 ghost use Rattle.eden_overlay.specs.declared.files.FilesFault.TheVariants as fault;
 
 use eden_model::World;
+use eden_overlay_format::Head;
 use std::alloc::{AllocError, AllocFailed, Global};
 use thiserror::Error;
 
@@ -55,7 +56,7 @@ pub trait Files<W: World>: Drop {
     ghost use Rattle.std.specs.Ordering.{nat_cmp};
     ghost use Rattle.std.specs.List.Sorted.{IsStrictlySortedBy};
     ghost use Rattle.eden_model.specs.Failures.{Counted};
-    ghost use Rattle.eden_overlay.specs.Files.{Stored, put, Lists};
+    ghost use Rattle.eden_overlay.specs.Files.{Stored, put, IsHeadOf, Lists};
     ghost use Rattle.eden_overlay.specs.declared.files.FilesFault.TheVariants.{Device};
 
     /// The files, by their numbers.
@@ -72,6 +73,14 @@ pub trait Files<W: World>: Drop {
     fn read(&mut self, alloc: Global, number: u64) -> Result<Option<Vec<u8>>, FilesFault>
         ensures found { W.honest → IfOk result (λ o. option_map (λ v. v.items) o ≡ stored self.old number) }
         ensures unchanged { W.honest → stored self.new ≡ stored self.old }
+        ensures counted { Counted (result ≡ Err Device) (failures self.old) (failures self.new) };
+
+    /// The first 64 bytes of the file with that number, and its length, or None where there is none. The rest isn't read,
+    /// and it takes no memory: its one error is the device's.
+    fn head(&mut self, number: u64) -> Result<Option<Head>, FilesFault>
+        ensures found { W.honest → IfOk result (IsHeadOf (stored self.old number)) }
+        ensures unchanged { W.honest → stored self.new ≡ stored self.old }
+        ensures fault { IfErr result (λ f. f ≡ Device) }
         ensures counted { Counted (result ≡ Err Device) (failures self.old) (failures self.new) };
 
     /// Stores the bytes as the whole file of that number, in place of any that was there.

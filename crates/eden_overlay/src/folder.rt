@@ -8,8 +8,9 @@ ghost use Rattle.eden_overlay.specs.declared.files.FilesFault.TheVariants as fau
 
 use crate::files::{Files, FilesFault, count};
 use crate::names::{file_path, number_named};
-use eden_files::{FolderFault, Links, entry_in, read_file, remove_file, replace_file};
+use eden_files::{FolderFault, Links, entry_in, read_file, read_front, remove_file, replace_file};
 use eden_model::Outside;
+use eden_overlay_format::Head;
 use std::alloc::{Alloc, AllocError, Allocator, Global};
 use std::collections::BTreeSet;
 use std::fs::{self, DirEntry};
@@ -75,6 +76,18 @@ impl<R: rt::Files + Alloc + Clone + Drop> Files<Outside> for FolderFiles<R> {
         answer
     }
 
+    /// `Device` too where the name isn't a plain file's, or the file is over 2^30 + 64 bytes.
+    fn head(&mut self, number: u64) -> Result<Option<Head>, FilesFault>
+        ensures fault { IfErr result (λ f. f ≡ fault.Device) }
+        ensures counted { Counted (result ≡ Err fault.Device) self.old.failures self.new.failures }
+        ensures path { self.new.path ≡ self.old.path }
+        ensures bounded { IfOk result (λ o. IfSome o (λ head. head.len ≤ longest_stored)) }
+    {
+        let answer = head_number(&self.files, &self.folder, number);
+        self.failures = count(self.failures, &answer);
+        answer
+    }
+
     /// Writes `NUMBER.new` whole, and then renames it. Nothing waits for the disk to have it.
     fn replace(&mut self, alloc: Global, number: u64, bytes: &[u8]) -> Result<(), FilesFault>
         ensures counted { Counted (result ≡ Err fault.Device) self.old.failures self.new.failures }
@@ -131,6 +144,29 @@ fn read_number<R: rt::Files>(
         Ok(bytes) => Ok(Some(bytes)),
         Err(FolderFault::Missing) => Ok(None),
         Err(fault) => Err(FilesFault::from(fault)),
+    }
+}
+
+// No memory of the program's own is taken: whatever the system refuses it for is the device's failure.
+fn head_number<R: rt::Files>(
+    files: &R,
+    folder: &PathBuf,
+    number: u64,
+) -> Result<Option<Head>, FilesFault>
+    ensures fault { IfErr result (λ f. f ≡ fault.Device) }
+    ensures bounded { IfOk result (λ o. IfSome o (λ head. head.len ≤ longest_stored)) }
+{
+    let path = file_path(folder, number)?;
+    match read_front(files, path.as_str(), Links::Refused, LONGEST_FILE) {
+        Ok(front) => {
+            let first = front.0;
+            Ok(Some(Head {
+                first,
+                len: front.1,
+            }))
+        }
+        Err(FolderFault::Missing) => Ok(None),
+        Err(_) => Err(FilesFault::Device),
     }
 }
 

@@ -5,11 +5,12 @@ ghost use Rattle.std.specs.Ordering.{nat_cmp};
 ghost use Rattle.std.specs.List.Sorted.{IsStrictlySortedBy};
 ghost use Rattle.eden_model.specs.Failures.{Counted};
 ghost use Rattle.eden_overlay.specs.Gates.{Calls};
-ghost use Rattle.eden_overlay.specs.Files.{Lists, put};
+ghost use Rattle.eden_overlay.specs.Files.{IsHeadOf, Lists, put};
 ghost use Rattle.eden_overlay.specs.declared.files.FilesFault.TheVariants as fault;
 
 use crate::files::{Files, FilesFault, count};
 use eden_model::World;
+use eden_overlay_format::Head;
 use std::alloc::Global;
 use std::cell::Cell;
 use std::marker::Model;
@@ -147,6 +148,22 @@ impl<W: World, F: Files<W>, G: Gate> Files<W> for GatedFiles<F, G> {
     {
         let answer = if self.gate.passes() {
             self.files.read(alloc, number)
+        } else {
+            Err(FilesFault::Device)
+        };
+        self.failures = count(self.failures, &answer);
+        answer
+    }
+
+    fn head(&mut self, number: u64) -> Result<Option<Head>, FilesFault>
+        ensures found { W.honest → IfOk result (IsHeadOf (F.stored self.old.files number)) }
+        ensures unchanged { W.honest → F.stored self.new.files ≡ F.stored self.old.files }
+        ensures fault { IfErr result (λ f. f ≡ fault.Device) }
+        ensures counted { Counted (result ≡ Err fault.Device) self.old.failures self.new.failures }
+        ensures calls { Calls G.passed self.old result self.new }
+    {
+        let answer = if self.gate.passes() {
+            self.files.head(number)
         } else {
             Err(FilesFault::Device)
         };

@@ -2,11 +2,13 @@ ghost use Rattle.std.specs.Prelude.{◌≡◌, [], IfOk};
 ghost use Rattle.std.specs.Option.{option_copied, option_map};
 ghost use Rattle.std.specs.Ordering.{nat_cmp};
 ghost use Rattle.std.specs.List.Sorted.{IsStrictlySortedBy};
-ghost use Rattle.eden_overlay.specs.Files.{Lists};
+ghost use Rattle.eden_overlay_format.specs.Content.{IsHead};
+ghost use Rattle.eden_overlay.specs.Files.{IsHeadOf, Lists};
 ghost use Rattle.eden_overlay.specs.InMemory.{files_of, stored_in};
 
 use crate::files::{Files, FilesFault};
 use eden_model::World;
+use eden_overlay_format::{HEADER_LEN, Head};
 use std::alloc::{AllocError, Global};
 use std::collections::BTreeMap;
 use std::marker::{Model, PhantomData};
@@ -56,6 +58,10 @@ impl<W: World> Files<W> for MemoryFiles<W> {
         Ok(copied(alloc, self.files.get(&number))?)
     }
 
+    fn head(&mut self, number: u64) -> Result<Option<Head>, FilesFault> {
+        Ok(head_in(self.files.get(&number)))
+    }
+
     fn replace(&mut self, alloc: Global, number: u64, bytes: &[u8]) -> Result<(), FilesFault> {
         let bytes = Vec::from_slice(alloc, bytes)?;
         self.files.insert(number, bytes)?;
@@ -79,6 +85,30 @@ fn copied(alloc: Global, bytes: Option<&Vec<u8>>) -> Result<Option<Vec<u8>>, All
     match bytes {
         None => Ok(None),
         Some(bytes) => Ok(Some(Vec::from_slice(alloc, bytes.as_slice())?)),
+    }
+}
+
+// The head of the bytes, if there are any.
+fn head_in(bytes: Option<&Vec<u8>>) -> Option<Head>
+    ensures { IsHeadOf (option_map (λ v. v.items) (option_copied bytes.entry)) result }
+{
+    match bytes {
+        None => None,
+        Some(bytes) => Some(head_of(bytes.as_slice())),
+    }
+}
+
+// The first bytes, and how many there are.
+fn head_of(bytes: &[u8]) -> Head
+    ensures { IsHead result bytes.now }
+{
+    let first = match bytes.split_first_chunk::<HEADER_LEN>() {
+        None => [0; HEADER_LEN],
+        Some((first, _)) => *first,
+    };
+    Head {
+        first,
+        len: bytes.len() as u64,
     }
 }
 

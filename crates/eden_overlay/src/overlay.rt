@@ -1,6 +1,6 @@
 //! The files of an overlay, stored and got as what they hold.
 
-ghost use Rattle.std.specs.Prelude.{◌≡◌, ◌≤◌, Err, length, OnOk, OnErr, IfOk, IfErr};
+ghost use Rattle.std.specs.Prelude.{◌≡◌, ◌≢◌, ◌≤◌, Err, length, OnOk, OnErr, IfOk, IfErr};
 ghost use Rattle.std.specs.Ordering.{nat_cmp};
 ghost use Rattle.std.specs.List.Sorted.{IsStrictlySortedBy};
 ghost use Rattle.eden_model.specs.Failures.{Counted};
@@ -10,9 +10,9 @@ ghost use Rattle.eden_overlay_format.specs.Directory.{number_least, number_end, 
 ghost use Rattle.eden_overlay_format.specs.State.{IsGoodState};
 ghost use Rattle.eden_overlay_format.specs.Values.{content_in, state_in, entries_in};
 ghost use Rattle.eden_overlay.specs.Files.{Lists};
-ghost use Rattle.eden_overlay.specs.Held.{HoldsContent, HoldsEntries, HoldsState, with_content, with_entries, with_state, without};
+ghost use Rattle.eden_overlay.specs.Held.{HoldsContent, HoldsEntries, HoldsState, TellsLength, with_content, with_entries, with_state, without};
 ghost use Rattle.eden_overlay.specs.Soundness.{AreSound};
-ghost use Rattle.eden_overlay.specs.Getting.{Explains};
+ghost use Rattle.eden_overlay.specs.Getting.{Explains, ExplainsLength, length_of};
 ghost use Rattle.eden_overlay.specs.Keeping.{IsKeptOf};
 ghost use Rattle.eden_overlay.specs.declared.files.FilesFault.TheVariants as files;
 ghost use Rattle.eden_overlay.specs.declared.fault.GetFault.TheVariants as get;
@@ -23,7 +23,8 @@ use crate::files::{Files, FilesFault};
 use crate::recent::Recent;
 use eden_model::World;
 use eden_overlay_format::{
-    State, StoredEntry, decode_dir, decode_state, encode_dir, encode_file, encode_state,
+    Head, State, StoredEntry, content_len, decode_dir, decode_state, encode_dir, encode_file,
+    encode_state,
 };
 use std::alloc::Global;
 use std::marker::{Model, PhantomData};
@@ -144,6 +145,23 @@ impl<W: World, F: Files<W>> Overlay<W, F> {
         }
     }
 
+    /// The length of the content of the file of that number, or why it tells none: by its first 64 bytes and its length. The
+    /// content isn't read: that it has another digest than its header says is told by `get_file`. The files aren't asked
+    /// where the content is kept. It takes no memory.
+    pub fn get_len(&mut self, number: u64) -> Result<u64, GetFault>
+        ensures told { W.honest → IfOk result (TellsLength (F.stored self.old) number) }
+        ensures refused { W.honest → IfErr result (ExplainsLength (F.stored self.old number)) }
+        ensures memory { result ≢ Err get.Memory }
+        ensures unchanged { W.honest → F.stored self.new ≡ F.stored self.old }
+        ensures counted { Counted (result ≡ Err get.Device) (F.failures self.old) (F.failures self.new) }
+    {
+        if let Some(len) = self.recent.len_of(number) {
+            return Ok(len);
+        }
+        let head = self.files.head(number)?;
+        len_told(head)
+    }
+
     /// Keeps a content that was got in memory, in place of any other, if it isn't too long.
     pub fn keep(&mut self, number: u64, content: Content)
         requires { W.honest → HoldsContent (F.stored self.old) number content }
@@ -228,5 +246,20 @@ impl<W: World, F: Files<W>> Overlay<W, F> {
         ensures counted { Counted (result ≡ Err files.Device) (F.failures self.old) (F.failures self.new) }
     {
         self.files.list(alloc)
+    }
+}
+
+// The length of the content that a file with that head stores, or why it has none.
+fn len_told(head: Option<Head>) -> Result<u64, GetFault>
+    ensures told { result ≡ length_of head }
+    ensures memory { result ≢ Err get.Memory }
+    ensures device { result ≢ Err get.Device }
+{
+    match head {
+        None => Err(GetFault::Absent),
+        Some(head) => match content_len(&head) {
+            Ok(len) => Ok(len),
+            Err(refusal) => Err(GetFault::Damaged(refusal)),
+        },
     }
 }

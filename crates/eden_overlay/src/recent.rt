@@ -1,6 +1,7 @@
 //! The content that stays in memory.
 
 ghost use Rattle.std.specs.Prelude.{◌≡◌, ◌≢◌, ◌≤◌, ◌<◌, Some, None, length, IfSome, IfNone};
+ghost use Rattle.eden_overlay.specs.Keeping.{kept_length};
 
 use crate::content::Content;
 
@@ -37,6 +38,16 @@ impl Recent {
     {
         match self.kept.take() {
             Some(kept) if kept.number == number => Some(kept.content),
+            _ => None,
+        }
+    }
+
+    /// The length of the content of that file, if it is the one that is kept. It stays.
+    pub(crate) fn len_of(&self, number: u64) -> Option<u64>
+        ensures { result ≡ kept_length number self.now.kept }
+    {
+        match &self.kept {
+            Some(kept) if kept.number == number => Some(kept.content.as_slice().len() as u64),
             _ => None,
         }
     }

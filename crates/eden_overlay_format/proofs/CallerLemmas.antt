@@ -10,6 +10,8 @@ use Rattle.eden_overlay_format.specs.State.{IsGoodState, state_body}
 use Rattle.eden_overlay_format.specs.Values.{content_in, state_in, entries_in}
 use Rattle.eden_overlay_format.proofs.Headers.{written_found, behind}
 use Rattle.eden_overlay_format.proofs.Found.{contents_found, states_found, entries_found, never_both}
+-- what a head tells of a content's length
+pub use Rattle.eden_overlay_format.proofs.Lengths.{lengths_told, lengths_none}
 
 -- what is written is found
 

@@ -1,17 +1,17 @@
 -- Headers: what was written is found, and one identifier alone.
-use Rattle.std.proofs.Common.{◌≡◌, ◌≤◌, ◌+◌, ℕ, Bool, true, false, ltb, cond, List, ◌++◌, length, take, drop, replicate, get_or, Option, Some, None, refl, sym, ap, ◌∙◌, arith}
-use Rattle.std.specs.Option.{is_none}
+use Rattle.std.proofs.Common.{◌≡◌, ◌≤◌, ◌+◌, ◌-◌, ℕ, Bool, true, false, nat_lt, cond, List, ◌++◌, length, take, drop, replicate, get_or, Option, Some, None, refl, sym, ap, ◌∙◌, arith}
+use Rattle.std.specs.Option.{is_none, option_or}
 use Rattle.std.specs.Str.{bytes_eq}
 use Rattle.std.proofs.lemmas.Bool.{le-ltb, ltb-false}
 use Rattle.std.proofs.lemmas.Option.{cond_some}
 use Rattle.std.proofs.lemmas.Slice.Eq.{bytes_eq-Decides}
-use Rattle.std.proofs.lemmas.List.{length-append, append_assoc, take_at, drop_at}
+use Rattle.std.proofs.lemmas.List.{length-append, length-drop, append_assoc, take_at, drop_at}
 use Rattle.sha1.specs.Sha1.{sha1, digest_bytes}
 use Rattle.eden_overlay_format.specs.declared.header.Identifier.{Identifier}
 use Rattle.eden_overlay_format.specs.declared.header.Identifier.TheVariants as identifier
 use Rattle.eden_overlay_format.specs.declared.refusal.Refusal.{Refusal}
 use Rattle.eden_overlay_format.specs.declared.refusal.Refusal.TheVariants.{Short, BadIdentifier}
-use Rattle.eden_overlay_format.specs.Stored.{identifier_bytes, version_bytes, length_bytes, body_refusal, version_refusal, header, header_refusal, body_in, written}
+use Rattle.eden_overlay_format.specs.Stored.{identifier_bytes, version_bytes, length_bytes, version_refusal, head_refusal, digest_refusal, header, header_refusal, body_in, written}
 use Rattle.eden_overlay_format.specs.Laws.{WrittenFound}
 
 pub digest_length : (m : List ℕ) → length (sha1 m) ≡ 20
@@ -25,15 +25,16 @@ same_bytes xs ys e = (bytes_eq-Decides xs ys).1 e
 
 -- a header with nothing wrong
 well_headed : (i : Identifier) (bytes : List ℕ) → 64 ≤ length bytes → take 4 bytes ≡ identifier_bytes i → take 4 (drop 4 bytes) ≡ version_bytes 2
-    → body_refusal bytes ≡ None → body_in i bytes ≡ Some (drop 64 bytes)
-unfolding header_refusal body_in
-well_headed i bytes long named known good =
-    rw (le-ltb (length bytes) 64 long, same_bytes (take 4 bytes) (identifier_bytes i) named, same_bytes (take 4 (drop 4 bytes)) (version_bytes 2) known, good) refl
-
-body_good : (bytes : List ℕ) → take 8 (drop 8 bytes) ≡ length_bytes (drop 64 bytes) → take 20 (drop 16 bytes) ≡ sha1 (drop 64 bytes) → body_refusal bytes ≡ None
-unfolding body_refusal
-body_good bytes long digest =
-    rw (same_bytes (take 8 (drop 8 bytes)) (length_bytes (drop 64 bytes)) long, same_bytes (take 20 (drop 16 bytes)) (sha1 (drop 64 bytes)) digest) refl
+    → take 8 (drop 8 bytes) ≡ length_bytes (length bytes - 64) → take 20 (drop 16 bytes) ≡ sha1 (drop 64 bytes) → body_in i bytes ≡ Some (drop 64 bytes)
+unfolding body_in header_refusal head_refusal digest_refusal
+well_headed i bytes long named known told digest =
+    rw (
+      le-ltb (length bytes) 64 long,
+      same_bytes (take 4 bytes) (identifier_bytes i) named,
+      same_bytes (take 4 (drop 4 bytes)) (version_bytes 2) known,
+      same_bytes (take 8 (drop 8 bytes)) (length_bytes (length bytes - 64)) told,
+      same_bytes (take 20 (drop 16 bytes)) (sha1 (drop 64 bytes)) digest,
+    ) refl
 
 -- the digest, the zeros and the body, behind the first 16 bytes
 module _ (body : List ℕ) where
@@ -57,13 +58,15 @@ unfolding header
 written_found identifier.File body =
     let file = header identifier.File body ++ body in
     let behind : drop 64 file ≡ body = found_body body in
-    let good = body_good file (rw behind refl) (found_digest body ∙ ap sha1 (sym behind)) in
-    well_headed identifier.File file (omega (arith, found_length body)) refl refl good ∙ ap (λ (b : List ℕ). Some b) behind
+    let told : length file - 64 ≡ length body = sym (length-drop 64 file) ∙ ap length behind in
+    well_headed identifier.File file (omega (arith, found_length body)) refl refl (ap length_bytes (sym told)) (found_digest body ∙ ap sha1 (sym behind))
+    ∙ ap (λ (b : List ℕ). Some b) behind
 written_found identifier.Directory body =
     let file = header identifier.Directory body ++ body in
     let behind : drop 64 file ≡ body = found_body body in
-    let good = body_good file (rw behind refl) (found_digest body ∙ ap sha1 (sym behind)) in
-    well_headed identifier.Directory file (omega (arith, found_length body)) refl refl good ∙ ap (λ (b : List ℕ). Some b) behind
+    let told : length file - 64 ≡ length body = sym (length-drop 64 file) ∙ ap length behind in
+    well_headed identifier.Directory file (omega (arith, found_length body)) refl refl (ap length_bytes (sym told)) (found_digest body ∙ ap sha1 (sym behind))
+    ∙ ap (λ (b : List ℕ). Some b) behind
 
 -- a file whose header is written behind its body
 pub sealed : (i : Identifier) (items body new : List ℕ) → items ≡ replicate 64 0 ++ body → new ≡ written i (drop 64 items) → new ≡ written i body
@@ -72,25 +75,25 @@ sealed i items body new e h = h ∙ ap (λ (all : List ℕ). written i (drop 64 
 -- ---- what is found
 
 -- a file that has a body passed the test of its identifier
-passed : (short named : Bool) (rest : Option Refusal) (text body : List ℕ) → cond (is_none (cond short (Some Short) (cond named rest (Some BadIdentifier)))) (Some text) None ≡ Some body
-    → (short ≡ false) × (named ≡ true)
-passed true named rest text body e = absurd cc
-passed false true rest text body e = (refl, refl)
-passed false false rest text body e = absurd cc
+passed : (short named : Bool) (rest digest : Option Refusal) (text body : List ℕ)
+    → cond (is_none (option_or (cond short (Some Short) (cond named rest (Some BadIdentifier))) digest)) (Some text) None ≡ Some body → (short ≡ false) × (named ≡ true)
+passed true named rest digest text body e = absurd cc
+passed false true rest digest text body e = (refl, refl)
+passed false false rest digest text body e = absurd cc
 
-identified : (i : Identifier) (bytes body : List ℕ) → body_in i bytes ≡ Some body → take 4 bytes ≡ identifier_bytes i
-unfolding body_in header_refusal
-identified i bytes body e =
-    let named = bytes_eq (take 4 bytes) (identifier_bytes i) in
-    (bytes_eq-Decides (take 4 bytes) (identifier_bytes i)).0 (passed (ltb (length bytes) 64) named (version_refusal bytes) (drop 64 bytes) body e).1
+module _ (i : Identifier) (bytes body : List ℕ) (found : body_in i bytes ≡ Some body) where
+  abbrev tested : (nat_lt (length bytes) 64 ≡ false) × (bytes_eq (take 4 bytes) (identifier_bytes i) ≡ true)
+  unfolding body_in header_refusal head_refusal
+  tested =
+      passed (nat_lt (length bytes) 64) (bytes_eq (take 4 bytes) (identifier_bytes i)) (version_refusal bytes (length bytes)) (digest_refusal bytes) (drop 64 bytes) body found
 
--- and is long enough
-pub behind : (i : Identifier) (bytes body : List ℕ) → body_in i bytes ≡ Some body → (64 ≤ length bytes) × (drop 64 bytes ≡ body)
-unfolding body_in header_refusal
-behind i bytes body e =
-    let named = bytes_eq (take 4 bytes) (identifier_bytes i) in
-    let good = is_none (cond (ltb (length bytes) 64) (Some Short) (cond named (version_refusal bytes) (Some BadIdentifier))) in
-    (ltb-false (length bytes) 64 (passed (ltb (length bytes) 64) named (version_refusal bytes) (drop 64 bytes) body e).0, (cond_some good (drop 64 bytes) body e).1)
+  identified : take 4 bytes ≡ identifier_bytes i
+  identified = (bytes_eq-Decides (take 4 bytes) (identifier_bytes i)).0 tested.1
+
+  -- and is long enough
+  pub behind : (64 ≤ length bytes) × (drop 64 bytes ≡ body)
+  unfolding body_in
+  behind = (ltb-false (length bytes) 64 tested.0, (cond_some (is_none (header_refusal i bytes)) (drop 64 bytes) body found).1)
 
 pub not_both : (bytes content entries : List ℕ) → body_in identifier.File bytes ≡ Some content → body_in identifier.Directory bytes ≡ Some entries → ⊥
 not_both bytes content entries h k =

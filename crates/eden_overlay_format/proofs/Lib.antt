@@ -5,3 +5,4 @@ pub mod Rows
 pub mod Rising
 pub mod Loop
 pub mod Found
+mod Lengths

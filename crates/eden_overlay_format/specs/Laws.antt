@@ -1,10 +1,14 @@
 -- What the grammars promise.
-use Rattle.std.specs.Prelude.{◌≡◌, ◌↔◌, ℕ, List, Some}
+use Rattle.std.specs.Prelude.{◌≡◌, ◌⊎◌, ◌↔◌, ℕ, List, Some, Ok, Err, length, drop}
 use Rattle.eden_overlay_format.specs.declared.header.Identifier.{Identifier}
+use Rattle.eden_overlay_format.specs.declared.header.Head.{Head}
+use Rattle.eden_overlay_format.specs.declared.header.Identifier.TheVariants as identifier
+use Rattle.eden_overlay_format.specs.declared.refusal.Refusal.{Refusal}
+use Rattle.eden_overlay_format.specs.declared.refusal.Refusal.TheVariants.{BadBody, BadDigest}
 use Rattle.eden_overlay_format.specs.declared.state.State.{State}
 use Rattle.eden_overlay_format.specs.declared.stored_entry.StoredEntry.{StoredEntry}
-use Rattle.eden_overlay_format.specs.Stored.{written, body_in}
-use Rattle.eden_overlay_format.specs.Content.{IsFile}
+use Rattle.eden_overlay_format.specs.Stored.{written, header_refusal, body_in, Refuses}
+use Rattle.eden_overlay_format.specs.Content.{IsFile, IsHead, content_length}
 use Rattle.eden_overlay_format.specs.State.{IsState}
 use Rattle.eden_overlay_format.specs.Directory.{IsDirectory}
 use Rattle.eden_overlay_format.specs.Values.{content_in, state_in, entries_in}
@@ -26,3 +30,24 @@ WrittenFound = (i : Identifier) (body : List ℕ) → body_in i (written i body)
 -- no bytes are a content and a directory
 abbrev pub NeverBoth : Type 0
 NeverBoth = (bytes content : List ℕ) (es : List StoredEntry) → content_in bytes ≡ Some content → ¬ (entries_in bytes ≡ Some es)
+
+-- ---- what a file's head tells of its content's length
+
+-- the file has the wrong digest, which its head doesn't tell
+abbrev pub HasBadDigest : List ℕ → Type 0
+HasBadDigest bytes = header_refusal identifier.File bytes ≡ Some BadDigest
+
+-- the length that is told is that of the content
+abbrev pub LengthsTold : Type 0
+LengthsTold = (head : Head) (bytes content : List ℕ) → IsHead head bytes → content_in bytes ≡ Some content
+    → content_length head.first head.len ≡ Ok (length content)
+
+-- .. and only where there is one, but for the digest
+abbrev pub LengthsFound : Type 0
+LengthsFound = (head : Head) (bytes : List ℕ) (len : ℕ) → IsHead head bytes → content_length head.first head.len ≡ Ok len
+    → (len ≡ length (drop 64 bytes)) × ((content_in bytes ≡ Some (drop 64 bytes)) ⊎ HasBadDigest bytes)
+
+-- a refusal is the first, but that a wrong digest comes before a content that is too long
+abbrev pub LengthsRefused : Type 0
+LengthsRefused = (head : Head) (bytes : List ℕ) (e : Refusal) → IsHead head bytes → content_length head.first head.len ≡ Err e
+    → Refuses identifier.File content_in bytes e ⊎ ((e ≡ BadBody) × HasBadDigest bytes)

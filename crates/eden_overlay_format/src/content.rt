@@ -2,11 +2,11 @@
 
 ghost use Rattle.std.specs.Prelude.{◌≡◌, ◌≤◌, Some, length, IfOk, IfErr};
 ghost use Rattle.eden_overlay_format.specs.Stored.{Refuses, written};
-ghost use Rattle.eden_overlay_format.specs.Content.{content_most, IsFile};
+ghost use Rattle.eden_overlay_format.specs.Content.{content_length, content_most, IsFile};
 ghost use Rattle.eden_overlay_format.specs.Values.{content_in};
 ghost use Rattle.eden_overlay_format.specs.declared.header.Identifier.TheVariants as identifier;
 
-use crate::header::{Identifier, body_of, seal, start};
+use crate::header::{HEADER_LEN, Head, Identifier, body_of, check_head, seal, start};
 use crate::refusal::Refusal;
 use std::alloc::{AllocError, Global};
 
@@ -36,4 +36,18 @@ pub fn decode_file(bytes: &[u8]) -> Result<&[u8], Refusal>
         return Err(Refusal::BadBody);
     }
     Ok(content)
+}
+
+/// The length of the content that a file with that head stores, or the first refusal. The body is neither read nor needed:
+/// whether it has the digest that its header says is for `decode_file` to tell.
+#[tactic(auto, unfolding(crate::specs::Content::content_length))]
+pub fn content_len(head: &Head) -> Result<u64, Refusal>
+    ensures { result ≡ content_length head.now.first head.now.len }
+{
+    check_head(Identifier::File, &head.first, head.len)?;
+    let len = head.len - HEADER_LEN as u64;
+    if len > CONTENT_MOST as u64 {
+        return Err(Refusal::BadBody);
+    }
+    Ok(len)
 }

@@ -1,7 +1,7 @@
 //! The header of 64 bytes that each stored file begins with.
 
 ghost use Rattle.std.specs.Prelude.{◌≡◌, ◌≤◌, Some, None, length, drop, replicate, IfOk, MatchResult};
-ghost use Rattle.eden_overlay_format.specs.Stored.{body_in, body_refusal, header, header_refusal, identifier_bytes, version_refusal, written};
+ghost use Rattle.eden_overlay_format.specs.Stored.{body_in, digest_refusal, head_refusal, header, header_refusal, identifier_bytes, version_refusal, written};
 
 use crate::refusal::Refusal;
 use sha1::Sha1;
@@ -37,34 +37,61 @@ impl Identifier {
     }
 }
 
-/// Whether the body is as long as its header of version 2 says, and has the digest that this says.
-#[tactic(auto, unfolding(crate::specs::Stored::body_refusal))]
-fn check_body(bytes: &[u8]) -> Result<(), Refusal>
-    requires { 64 ≤ length bytes.now }
-    ensures { MatchResult result (λ _. body_refusal bytes.now ≡ None)
-        (λ e. body_refusal bytes.now ≡ Some e) }
+/// The first 64 bytes of a stored file, and its length in bytes. Those of a file that is shorter are any bytes.
+#[derive(Clone, Copy, Debug, PartialEq, Eq)]
+pub struct Head {
+    pub first: [u8; HEADER_LEN],
+    pub len: u64,
+}
+
+/// Whether the version is one that is read; in version 2 the file has the length that its header says.
+fn check_version(first: &[u8], len: u64) -> Result<(), Refusal>
+    requires first { 64 ≤ length first.now }
+    requires len { 64 ≤ len }
+    ensures { MatchResult result (λ _. version_refusal first.now len ≡ None)
+        (λ e. version_refusal first.now len ≡ Some e) }
 {
-    let (_, body) = bytes.split_at(HEADER_LEN);
-    if &bytes[8..16] != (body.len() as u64).to_be_bytes().as_slice() {
-        return Err(Refusal::BadLength);
+    if &first[4..8] == VERSION.to_be_bytes().as_slice() {
+        if &first[8..16] != (len - HEADER_LEN as u64).to_be_bytes().as_slice() {
+            return Err(Refusal::BadLength);
+        }
+        return Ok(());
     }
-    if &bytes[16..36] != Sha1::digest(body).as_slice() {
-        return Err(Refusal::BadDigest);
+    if &first[4..8] != OLD_VERSION.to_be_bytes().as_slice() {
+        return Err(Refusal::BadVersion);
     }
     Ok(())
 }
 
-/// Whether the version is one that is read, and what its header says of the body is so.
-fn check_version(bytes: &[u8]) -> Result<(), Refusal>
-    requires { 64 ≤ length bytes.now }
-    ensures { MatchResult result (λ _. version_refusal bytes.now ≡ None)
-        (λ e. version_refusal bytes.now ≡ Some e) }
+/// Whether a file of that length and identifier begins so. Its body isn't looked at.
+#[tactic(auto, unfolding(crate::specs::Stored::head_refusal))]
+pub(crate) fn check_head(identifier: Identifier, first: &[u8], len: u64) -> Result<(), Refusal>
+    requires { 64 ≤ len → 64 ≤ length first.now }
+    ensures refusal { MatchResult result (λ _. head_refusal identifier first.now len ≡ None)
+        (λ e. head_refusal identifier first.now len ≡ Some e) }
+    ensures long { IfOk result (λ _. 64 ≤ len) }
 {
-    if &bytes[4..8] == VERSION.to_be_bytes().as_slice() {
-        return check_body(bytes);
+    if len < HEADER_LEN as u64 {
+        return Err(Refusal::Short);
     }
-    if &bytes[4..8] != OLD_VERSION.to_be_bytes().as_slice() {
-        return Err(Refusal::BadVersion);
+    if &first[..4] != identifier.bytes().as_slice() {
+        return Err(Refusal::BadIdentifier);
+    }
+    check_version(first, len)
+}
+
+/// Whether the body has the digest that a header of version 2 says.
+#[tactic(auto, unfolding(crate::specs::Stored::digest_refusal))]
+fn check_digest(bytes: &[u8]) -> Result<(), Refusal>
+    requires { 64 ≤ length bytes.now }
+    ensures { MatchResult result (λ _. digest_refusal bytes.now ≡ None)
+        (λ e. digest_refusal bytes.now ≡ Some e) }
+{
+    let (_, body) = bytes.split_at(HEADER_LEN);
+    if &bytes[4..8] == VERSION.to_be_bytes().as_slice() {
+        if &bytes[16..36] != Sha1::digest(body).as_slice() {
+            return Err(Refusal::BadDigest);
+        }
     }
     Ok(())
 }
@@ -75,13 +102,8 @@ pub(crate) fn body_of(identifier: Identifier, bytes: &[u8]) -> Result<&[u8], Ref
     ensures { MatchResult result (λ body. body_in identifier bytes.now ≡ Some body.now)
         (λ e. header_refusal identifier bytes.now ≡ Some e) }
 {
-    if bytes.len() < HEADER_LEN {
-        return Err(Refusal::Short);
-    }
-    if &bytes[..4] != identifier.bytes().as_slice() {
-        return Err(Refusal::BadIdentifier);
-    }
-    check_version(bytes)?;
+    check_head(identifier, bytes, bytes.len() as u64)?;
+    check_digest(bytes)?;
     let (_, body) = bytes.split_at(HEADER_LEN);
     Ok(body)
 }

@@ -15,9 +15,9 @@ mod state;
 mod stored_entry;
 mod writing;
 
-pub use content::{CONTENT_MOST, decode_file, encode_file};
+pub use content::{CONTENT_MOST, content_len, decode_file, encode_file};
 pub use directory::{decode_dir, encode_dir, is_rising};
-pub use header::{HEADER_LEN, Identifier};
+pub use header::{HEADER_LEN, Head, Identifier};
 pub use laws::format_laws;
 pub use refusal::{DecodeFault, Refusal};
 pub use state::{State, decode_state, encode_state};

@@ -49,5 +49,6 @@ pub use Rattle.eden_tie.proofs.LooseFiles.{loose_sound, loose_kept, loose_alike}
 -- the own file of an entry
 pub use Rattle.eden_tie.proofs.Filing.{content_shows, file_shows, empty_shows, loose_elsewhere, entry_elsewhere}
 pub use Rattle.eden_tie.proofs.Contents.{content_sound, content_kept, content_grafts}
+pub use Rattle.eden_tie.proofs.OwnContents.{own_held}
 -- a directory that is stored again
 pub use Rattle.eden_tie.proofs.Saved.{saves_table, saves_kept, saves_alike, saves_marks, saves_unmarked}

@@ -45,7 +45,7 @@ use Rattle.eden_tie.proofs.Storable.{drop_storable}
 use Rattle.eden_tie.proofs.Strays.{not_own_below}
 
 -- what is held as a file or a link is a content
-content_there : (F : Stored) (k : ℕ) (t : Kind) → t ≢ kind.Dir → HoldsKind F k t → (content : List ℕ) × HoldsContent F k content
+pub content_there : (F : Stored) (k : ℕ) (t : Kind) → t ≢ kind.Dir → HoldsKind F k t → (content : List ℕ) × HoldsContent F k content
 content_there F k kind.Dir file h = absurd (file refl)
 content_there F k kind.File file h = h
 content_there F k kind.Exec file h = h

@@ -49,3 +49,4 @@ pub mod Filing
 pub mod Contents
 pub mod Remarked
 pub mod Saved
+pub mod OwnContents

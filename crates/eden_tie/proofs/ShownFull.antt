@@ -48,7 +48,7 @@ no_content F k es held = elim (content_at F k) as (λ o. content_at F k ≡ o �
   | Some c ↦ λ e. absurd (one_kind F k c es e held)
 ] refl
 
-same_content : (F G : Stored) (k : ℕ) → SameFile F G k → content_at F k ≡ content_at G k
+pub same_content : (F G : Stored) (k : ℕ) → SameFile F G k → content_at F k ≡ content_at G k
 same_content F G k (inl is) = ap (option_and_then content_in) is
 same_content F G k (inr s) = no_content F k s.0 s.1.0 ∙ sym (no_content G k s.0 s.1.1)
 

@@ -1,5 +1,6 @@
 use Rattle.eden_overlay_format.proofs.Headers.{written_found}
 use Rattle.eden_overlay_format.proofs.Found.{contents_found, states_found, entries_found, never_both}
+use Rattle.eden_overlay_format.proofs.Lengths.{lengths_told, lengths_found, lengths_refused}
 use Rattle.eden_overlay_format.proofs.laws.format_laws.Goals as goal
 
 pub returns-clause-contents : goal.returns-clause-contents
@@ -16,3 +17,12 @@ returns-clause-written c = written_found
 
 pub returns-clause-never_both : goal.returns-clause-never_both
 returns-clause-never_both c = never_both
+
+pub returns-clause-lengths_told : goal.returns-clause-lengths_told
+returns-clause-lengths_told c = lengths_told
+
+pub returns-clause-lengths_found : goal.returns-clause-lengths_found
+returns-clause-lengths_found c = lengths_found
+
+pub returns-clause-lengths_refused : goal.returns-clause-lengths_refused
+returns-clause-lengths_refused c = lengths_refused
