@@ -4,4 +4,5 @@ pub mod Agreement
 pub mod Rows
 pub mod Rising
 pub mod Loop
+pub mod Listed
 pub mod Found
