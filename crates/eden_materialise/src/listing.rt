@@ -11,7 +11,7 @@ ghost use Rattle.eden_materialise.specs.Listed.{listed_as, origin_as};
 
 use eden_model::{Name, Origin, World};
 use eden_overlay::{Files, FilesFault, Overlay};
-use eden_overlay_format::StoredEntry;
+use eden_overlay_format::{Listing, StoredEntry};
 use eden_tree::Dir;
 use std::alloc::{AllocError, Allocator, Global};
 
@@ -45,6 +45,26 @@ pub(crate) fn listing<A: Allocator>(
                     origin,
                     number: entry.number,
                 })?;
+            }
+        }
+    }
+    Ok(entries)
+}
+
+/// The entries of a directory, written as its stored file has them.
+fn written<A: Allocator>(
+    alloc: Global,
+    dir: &Dir<A>,
+    listed: Listed<'_>,
+) -> Result<Listing, AllocError>
+    requires { AreStorable (listed_as listed dir.now) }
+    ensures { IfOk result (λ entries. entries ≡ listed_as listed.entry dir.now) }
+{
+    let mut entries = Listing::new(alloc, dir.count())?;
+    for i in 0..dir.count() {
+        if let Some((name, entry)) = dir.at(i) {
+            if let Some(origin) = origin_in(listed, name, entry.origin) {
+                entries = entries.push(name, entry.kind, origin, entry.number)?;
             }
         }
     }
@@ -88,6 +108,6 @@ pub(crate) fn save<A: Allocator, W: World, F: Files<W>>(
     ensures err { W.honest → OnErr result (F.stored overlay.new ≡ F.stored overlay.old) }
     ensures counted { Counted (result ≡ Err files.Device) (F.failures overlay.old) (F.failures overlay.new) }
 {
-    let entries = listing(alloc, dir, listed)?;
-    overlay.put_dir(alloc, number, &entries)
+    let entries = written(alloc, dir, listed)?;
+    overlay.put_listing(alloc, number, entries)
 }

@@ -23,8 +23,8 @@ use crate::files::{Files, FilesFault};
 use crate::recent::Recent;
 use eden_model::World;
 use eden_overlay_format::{
-    Head, State, StoredEntry, content_len, decode_dir, decode_state, encode_dir, encode_file,
-    encode_state,
+    Head, Listing, State, StoredEntry, content_len, decode_dir, decode_state, encode_dir,
+    encode_file, encode_state,
 };
 use std::alloc::Global;
 use std::marker::{Model, PhantomData};
@@ -126,6 +126,25 @@ impl<W: World, F: Files<W>> Overlay<W, F> {
     {
         self.recent.forget(number);
         let bytes = encode_dir(alloc, entries)?;
+        self.files.replace(alloc, number, &bytes)
+    }
+
+    /// Stores a directory, whose entries are written already, as the file of that number, in place of any that was there:
+    /// the root's is 1. After an error nothing has changed.
+    pub fn put_listing(
+        &mut self,
+        alloc: Global,
+        number: u64,
+        listing: Listing,
+    ) -> Result<(), FilesFault>
+        requires entries { AreStorable listing }
+        requires sound { W.honest → AreSound (with_entries (F.stored self.old) number listing) }
+        ensures ok { W.honest → OnOk result (F.stored self.new ≡ with_entries (F.stored self.old) number listing) }
+        ensures err { W.honest → OnErr result (F.stored self.new ≡ F.stored self.old) }
+        ensures counted { Counted (result ≡ Err files.Device) (F.failures self.old) (F.failures self.new) }
+    {
+        self.recent.forget(number);
+        let bytes = listing.into_file();
         self.files.replace(alloc, number, &bytes)
     }
 

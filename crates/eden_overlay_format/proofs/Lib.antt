@@ -4,5 +4,6 @@ pub mod Agreement
 pub mod Rows
 pub mod Rising
 pub mod Loop
+pub mod Listed
 pub mod Found
 mod Lengths

@@ -170,7 +170,7 @@ rows_only (suc n) bytes x e =
     let front : bytes ≡ flat_map row all ++ others.1 = a.front ∙ ap (λ (t : List ℕ). row first.0 ++ t) b.front ∙ joined in
     is_read (flat_map row) (AreRows (suc n)) bytes (all, others.1) x (record { front = front; good = (ap suc b.good.0, (a.good, b.good.1)) }) e2))
 
-rows_again : (es : List StoredEntry) (rest : List ℕ) → AllByRecursion IsStorable es → rows_at (length es) (flat_map row es ++ rest) ≡ Some (es, rest)
+pub rows_again : (es : List StoredEntry) (rest : List ℕ) → AllByRecursion IsStorable es → rows_at (length es) (flat_map row es ++ rest) ≡ Some (es, rest)
 unfolding rows_at
 rows_again [] rest h = refl
 rows_again (e ∷ es) rest h =

@@ -36,7 +36,13 @@ pub fn encode_dir(alloc: Global, entries: &[StoredEntry]) -> Result<Vec<u8>, All
     let mut out = start(alloc, entries.len() * ROW_LEAST)?;
     out.extend_from_slice(&(entries.len() as u32).to_be_bytes())?;
     for entry in entries {
-        put_row(&mut out, entry)?;
+        put_row(
+            &mut out,
+            &entry.name,
+            entry.kind,
+            entry.origin,
+            entry.number,
+        )?;
     }
     seal(Identifier::Directory, &mut out);
     Ok(out)

@@ -3,8 +3,7 @@
 ghost use Rattle.std.specs.Prelude.{◌≡◌, ◌++◌, length, OnOk};
 ghost use Rattle.eden_overlay_format.specs.Directory.{kind_code, origin_code, origin_bytes, row};
 
-use crate::stored_entry::StoredEntry;
-use eden_model::{Id, Kind, Origin};
+use eden_model::{Id, Kind, Name, Origin};
 use std::alloc::AllocError;
 
 pub(crate) fn put_id(out: &mut Vec<u8>, id: Id) -> Result<(), AllocError>
@@ -47,12 +46,19 @@ fn put_origin(out: &mut Vec<u8>, origin: Origin) -> Result<(), AllocError>
 }
 
 /// A row of a directory.
-pub(crate) fn put_row(out: &mut Vec<u8>, entry: &StoredEntry) -> Result<(), AllocError>
-    ensures { OnOk result (out.new.items ≡ out.old.items ++ row entry.now) }
+pub(crate) fn put_row(
+    out: &mut Vec<u8>,
+    name: &Name,
+    kind: Kind,
+    origin: Origin,
+    number: u64,
+) -> Result<(), AllocError>
+    ensures { OnOk result (out.new.items ≡
+        out.old.items ++ row (record { name = name.now; kind = kind; origin = origin; number = number })) }
 {
-    out.extend_from_slice(&[code_of_kind(entry.kind), code_of_origin(entry.origin)])?;
-    out.extend_from_slice(&entry.number.to_be_bytes())?;
-    put_origin(out, entry.origin)?;
-    out.push(entry.name.len() as u8)?;
-    out.extend_from_slice(entry.name.as_slice())
+    out.extend_from_slice(&[code_of_kind(kind), code_of_origin(origin)])?;
+    out.extend_from_slice(&number.to_be_bytes())?;
+    put_origin(out, origin)?;
+    out.push(name.len() as u8)?;
+    out.extend_from_slice(name.as_slice())
 }

@@ -1,0 +1,102 @@
+//! A directory's file while its entries are written.
+
+ghost use Rattle.std.specs.Prelude.{◌≡◌, ◌≤◌, ◌<◌, ◌++◌, [], ◌∷◌, length, drop, replicate, IfOk};
+ghost use Rattle.std.specs.Int.{w32, to_be_bytes};
+ghost use Rattle.eden_overlay_format.specs.Stored.{written};
+ghost use Rattle.eden_overlay_format.specs.Directory.{IsStorable, directory_body};
+ghost use Rattle.eden_overlay_format.specs.declared.header.Identifier.TheVariants as identifier;
+
+use crate::header::{HEADER_LEN, Identifier, seal, start};
+use crate::writing::put_row;
+use eden_model::{Kind, Name, Origin};
+use std::alloc::{AllocError, Global};
+use std::marker::Model;
+
+/// The length of the count before the rows, in bytes.
+const COUNT_LEN: usize = 4;
+
+/// The length of what stands before the rows, in bytes.
+const FRONT_LEN: usize = HEADER_LEN + COUNT_LEN;
+
+/// The room that is made for a row at first, in bytes: that of one with a name of 21 bytes and no id.
+const ROW_ROOM: usize = 32;
+
+/// The entries of a directory, written one behind the other as its stored file has them. Contracts see the entries.
+#[derive(Drop)]
+pub struct Listing {
+    // Room for the header and the count, which are written last, and then the rows.
+    file: Vec<u8>,
+    count: u32,
+}
+
+impl Model for Listing {
+    ghost use Rattle.std.specs.Prelude.{List};
+    ghost use Rattle.eden_overlay_format.specs.declared.stored_entry.StoredEntry.{StoredEntry};
+    ghost use Rattle.eden_overlay_format.specs.Listing.{IsUnderWay, entries_under_way};
+
+    ghost Value = { List StoredEntry };
+
+    ghost view = { λ l. entries_under_way l.count l.file.items };
+
+    ghost invariant = { λ l. IsUnderWay l.count l.file.items };
+}
+
+impl Listing {
+    /// A listing without entries, with room for so many of usual length. The only error is want of memory.
+    pub fn new(alloc: Global, count: u32) -> Result<Listing, AllocError>
+        ensures { IfOk result (λ l. l ≡ []) }
+    {
+        let mut file = start(alloc, COUNT_LEN + count as usize * ROW_ROOM)?;
+        file.extend_from_slice(&[0; COUNT_LEN])?;
+        Ok(Listing { file, count: 0 })
+    }
+
+    /// The same listing with one entry more behind the others. The only error is want of memory.
+    pub fn push(
+        self,
+        name: &Name,
+        kind: Kind,
+        origin: Origin,
+        number: u64,
+    ) -> Result<Listing, AllocError>
+        requires storable { IsStorable (record { name = name.now; kind = kind; origin = origin; number = number }) }
+        requires room { length self < u32.MAX }
+        ensures { IfOk result
+            (λ l. l ≡ self ++ record { name = name.now; kind = kind; origin = origin; number = number } ∷ []) }
+    {
+        let Listing { mut file, count } = self;
+        put_row(&mut file, name, kind, origin, number)?;
+        Ok(Listing {
+            file,
+            count: count + 1,
+        })
+    }
+
+    /// The stored file of a directory with these entries.
+    pub fn into_file(self) -> Vec<u8>
+        ensures { result.items ≡ written identifier.Directory (directory_body self) }
+    {
+        let Listing { mut file, count } = self;
+        put_count(&mut file, count);
+        seal(Identifier::Directory, &mut file);
+        file
+    }
+}
+
+/// What stands before the rows until the header is written: room for it, and the count.
+fn front_of(count: u32) -> [u8; FRONT_LEN]
+    ensures { result ≡ replicate 64 0 ++ to_be_bytes w32 count }
+{
+    let mut front = [0; FRONT_LEN];
+    front[HEADER_LEN..].copy_from_slice(&count.to_be_bytes());
+    front
+}
+
+/// Writes the count of the rows into its room.
+fn put_count(file: &mut Vec<u8>, count: u32)
+    requires { 68 ≤ length file.old.items }
+    ensures { file.new.items ≡ replicate 64 0 ++ to_be_bytes w32 count ++ drop 68 file.old.items }
+{
+    let (front, _) = file.as_mut_slice().split_at_mut(FRONT_LEN);
+    front.copy_from_slice(&front_of(count));
+}
