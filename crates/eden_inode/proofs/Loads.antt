@@ -1,26 +1,32 @@
 -- Why what is stored isn't had, and what is at a path then.
-use Rattle.std.proofs.Common.{◌≡◌, ℕ, List, Option, Some, None, inl, inr, refl, sym, ap, ◌∙◌}
+use Rattle.std.proofs.Common.{◌≡◌, ◌≢◌, ℕ, List, Option, Some, None, Result, Ok, Err, IfOk, inl, inr, refl, sym, ap, ◌∙◌, subst}
 use Rattle.std.specs.Option.{option_and_then, IsSomeAnd}
 use Rattle.eden_model.specs.declared.fault.Fault.{Fault}
 use Rattle.eden_model.specs.declared.fault.Fault.TheVariants as fault
 use Rattle.eden_model.specs.declared.id.Id.{Id}
+use Rattle.eden_model.specs.declared.kind.Kind.TheVariants as kind
 use Rattle.eden_model.specs.declared.kind.Origin.{Origin}
 use Rattle.eden_model.specs.declared.kind.Origin.TheVariants as origin
 use Rattle.eden_model.specs.Failures.{Rose}
+use Rattle.eden_model.specs.Repository.{Repository}
 use Rattle.eden_model.specs.Trees.{Path}
 use Rattle.eden_overlay_format.specs.declared.header.Identifier.{Identifier}
 use Rattle.eden_overlay_format.specs.declared.refusal.Refusal.{Refusal}
 use Rattle.eden_overlay_format.specs.Stored.{Refuses}
+use Rattle.eden_overlay_format.specs.Values.{content_in}
 use Rattle.eden_overlay.specs.declared.fault.GetFault.{GetFault}
 use Rattle.eden_overlay.specs.declared.fault.GetFault.TheVariants as get
 use Rattle.eden_overlay.specs.Files.{Stored}
-use Rattle.eden_overlay.specs.Held.{entries_at, content_at}
-use Rattle.eden_overlay.specs.Getting.{Explains}
+use Rattle.eden_overlay.specs.Held.{TellsLength, entries_at, content_at}
+use Rattle.eden_overlay.specs.Getting.{Explains, ExplainsLength}
+use Rattle.eden_overlay.proofs.CallerLemmas.{length_held, no_length}
 use Rattle.eden_tree.specs.Directory.{Row}
 use Rattle.eden_tree.specs.Paths.{row_at}
 use Rattle.eden_inode.specs.Faults.{told, IsGetFault}
+use Rattle.eden_tie.specs.Kept.{IsTable, IsKept}
 use Rattle.eden_tie.specs.Loading.{IsAt}
-use Rattle.eden_inode.specs.Tables.{HasNoTree, IsLoadFault, IsContentFault}
+use Rattle.eden_tie.proofs.CallerLemmas.{place_at, own_held}
+use Rattle.eden_inode.specs.Tables.{HasNoTree, IsLoadFault, IsContentFault, HoldsLength}
 use Rattle.eden_inode.proofs.Rows.{same_some}
 
 refused : {X : Type 0} (i : Identifier) (value : List ℕ → Option X) (file : Option (List ℕ)) (e : Refusal) → IsSomeAnd file (λ bytes. Refuses i value bytes e) → option_and_then value file ≡ None
@@ -74,3 +80,21 @@ not_object p x y (inr empty) at i is = let row = ap (λ (z : Row). z.origin)
 pub some_at : (p : Path) (x : Row) → HasNoTree p x → (o : Origin) × IsAt p x o
 some_at p x (inl own) = (origin.Own, own)
 some_at p x (inr empty) = (origin.Empty, empty)
+
+-- ---- the length of a content
+
+-- what a mount tells of a fault is why no length is told
+pub length_why : (file : Option (List ℕ)) (honest : Type 0) (old new : ℕ) (f : GetFault)
+    → (honest → ExplainsLength file f) → (f ≡ get.Device → Rose old new) → IsGetFault honest old new (option_and_then content_in file) (told f)
+length_why file honest old new get.Absent why rose = inr (λ h. ap (option_and_then content_in) (why h))
+length_why file honest old new (get.Damaged e) why rose = inr (λ h. no_length file e (why h))
+length_why file honest old new get.Device why rose = inl (rose refl)
+length_why file honest old new get.Memory why rose = tt
+
+-- one that is told is that of the content, which is stored
+pub length_there : (R : Repository) (F : Stored) (x : Row) (next : ℕ) (p : Path) (z : Row) (r : Result ℕ Fault) → IsTable x next → IsKept R F x next → row_at p x ≡ Some z
+    → z.kind ≢ kind.Dir → z.origin ≡ origin.Own → IfOk r (TellsLength F z.number) → IfOk r (λ len. (y : Row) → row_at p x ≡ Some y → HoldsLength F y.number len)
+length_there R F x next p z (Err e) table kept at file own told = tt
+length_there R F x next p z (Ok len) table kept at file own told = λ y there.
+    let held = own_held R F x next table kept z (place_at p x z at) file own in
+    subst (λ (w : Row). HoldsLength F w.number len) (same_some z y (sym at ∙ there)) (held.0, (held.1, length_held F z.number len held.0 told held.1))

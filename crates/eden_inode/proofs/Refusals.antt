@@ -1,5 +1,5 @@
 -- Stores that were refused while directories went, one after the other, and the device's count of failures.
-use Rattle.std.proofs.Common.{◌≡◌, ◌<◌, ◌≤◌, ◌^◌, ◌-◌, ℕ, Bool, true, false, Option, Some, None, IsSome, Result, Ok, Err, inl, inr, refl, sym, ◌∙◌, arith}
+use Rattle.std.proofs.Common.{◌≡◌, ◌≤◌, ◌^◌, ◌-◌, ℕ, Bool, true, false, Option, Some, None, IsSome, Result, Err, inl, inr, refl, ◌∙◌, arith}
 use Rattle.std.proofs.lemmas.Bool.{cases_lt}
 use Rattle.eden_model.specs.Failures.{Rose, Counted}
 use Rattle.eden_overlay.specs.declared.files.FilesFault.{FilesFault}

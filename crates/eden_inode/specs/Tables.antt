@@ -17,7 +17,7 @@ use Rattle.eden_overlay_format.specs.declared.stored_entry.StoredEntry.{StoredEn
 use Rattle.eden_overlay_format.specs.Directory.{number_end}
 use Rattle.eden_overlay.specs.declared.files.Files.{Ghosts as Files}
 use Rattle.eden_overlay.specs.Files.{Stored}
-use Rattle.eden_overlay.specs.Held.{entries_at, content_at}
+use Rattle.eden_overlay.specs.Held.{HoldsContent, entries_at, content_at}
 use Rattle.eden_overlay.specs.Soundness.{IsLive, Names, HoldsKind, AreSound}
 use Rattle.eden_tree.specs.Directory.{Row, child_of, unloaded}
 use Rattle.eden_tree.specs.Paths.{row_at}
@@ -97,3 +97,7 @@ IsContentFault honest old new F p x (fault.Fetch id cause) = ⊥
 IsContentFault honest old new F p x fault.Memory = Unit {0}
 IsContentFault honest old new F p x fault.Numbers = ⊥
 IsContentFault honest old new F p x fault.Overlay = Rose old new ⊎ ((y : Row) → row_at p x ≡ Some y → honest → content_at F y.number ≡ None)
+
+-- file k holds a content of that length
+abbrev pub HoldsLength : Stored → ℕ → ℕ → Type 0
+HoldsLength F k len = (content : List ℕ) × (HoldsContent F k content × (len ≡ length content))

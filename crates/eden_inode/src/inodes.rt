@@ -16,11 +16,11 @@ ghost use Rattle.eden_tree.specs.Paths.{row_at, edit_row, stamped_along};
 ghost use Rattle.eden_tie.specs.Kept.{IsTable, IsKept};
 ghost use Rattle.eden_tie.specs.Loading.{IsAt, LoadsObject, LoadsOwn};
 ghost use Rattle.eden_tie.specs.Unloading.{Unloads, IsSettled};
-ghost use Rattle.eden_inode.specs.Tables.{Table, fresh_root, CanStart, IsLast, HasTree, HasNoTree, IsLoadFault, IsContentFault, shows};
+ghost use Rattle.eden_inode.specs.Tables.{Table, fresh_root, CanStart, IsLast, HasTree, HasNoTree, IsLoadFault, IsContentFault, HoldsLength, shows};
 
 use crate::fill::from_object;
 use crate::gone::{Gone, NOTHING};
-use crate::load::{own_content, put_loaded, unlisted};
+use crate::load::{own_content, own_len, put_loaded, unlisted};
 use crate::look::{look, unloaded};
 use crate::seen::Seen;
 use crate::unload::Unloading;
@@ -301,6 +301,28 @@ impl<A: Allocator + Clone, W: World, F: Files<W>> Inodes<A, W, F> {
         };
         let number = entry.number;
         own_content(alloc, &mut self.overlay, number)
+    }
+
+    /// The length of the content of an own file or link. Its body isn't read: that this has another digest than its header
+    /// says is told by `content`. Error: `Overlay`, where the device failed or the stored file is none by its header.
+    pub fn content_len(&mut self, path: &[Name]) -> Result<u64, Fault>
+        requires { (y : Row)
+            × ((row_at path.now self.old.root ≡ Some y) × ((y.origin ≡ origin.Own) × (y.kind ≢ kind.Dir))) }
+        ensures ok { W.honest
+            → IfOk result (λ len. (y : Row) → row_at path.now self.old.root ≡ Some y
+            → HoldsLength (F.stored self.old.files) y.number len) }
+        ensures fault { IfErr result
+            (IsContentFault W.honest (F.failures self.old.files) (F.failures self.new.files)
+            (F.stored self.old.files) path.now self.old.root) }
+        ensures files { W.honest → F.stored self.new.files ≡ F.stored self.old.files }
+        ensures counted { (F.failures self.old.files) ≤ (F.failures self.new.files) }
+        ensures rest { self.new ≡ record self.old { files = self.new.files } }
+    {
+        let Some(entry) = self.root.walk(path) else {
+            unreachable!()
+        };
+        let number = entry.number;
+        own_len(&mut self.overlay, number)
     }
 
     /// Keeps the content of an own file or link in memory, in place of any other, if the overlay keeps contents of its length:

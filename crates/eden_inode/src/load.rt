@@ -5,7 +5,7 @@ ghost use Rattle.eden_model.specs.declared.kind.Kind.TheVariants as kind;
 ghost use Rattle.eden_model.specs.declared.kind.Origin as declared;
 ghost use Rattle.eden_model.specs.declared.kind.Origin.TheVariants as origins;
 ghost use Rattle.eden_overlay_format.specs.Directory.{AreStorable};
-ghost use Rattle.eden_overlay.specs.Held.{HoldsEntries, HoldsContent, entries_at, content_at};
+ghost use Rattle.eden_overlay.specs.Held.{HoldsEntries, HoldsContent, TellsLength, entries_at, content_at};
 ghost use Rattle.eden_tree.specs.Directory.{with_child};
 ghost use Rattle.eden_tie.specs.Listings.{listing_of};
 ghost use Rattle.eden_tie.specs.Loading.{IsAt, IsNew, with_loaded};
@@ -132,6 +132,24 @@ pub(crate) fn own_content<W: World, F: Files<W>>(
 {
     match overlay.get_file(alloc, number) {
         Ok(content) => Ok(content),
+        Err(fault) => Err(told(fault)),
+    }
+}
+
+/// The length of the content that the file of that number stores, as the file's head tells it.
+pub(crate) fn own_len<W: World, F: Files<W>>(
+    overlay: &mut Overlay<W, F>,
+    number: u64,
+) -> Result<u64, Fault>
+    ensures told { W.honest → IfOk result (TellsLength (F.stored overlay.old) number) }
+    ensures fault { IfErr result
+        (IsGetFault W.honest (F.failures overlay.old) (F.failures overlay.new)
+        (content_at (F.stored overlay.old) number)) }
+    ensures files { W.honest → F.stored overlay.new ≡ F.stored overlay.old }
+    ensures counted { F.failures overlay.old ≤ F.failures overlay.new }
+{
+    match overlay.get_len(number) {
+        Ok(len) => Ok(len),
         Err(fault) => Err(told(fault)),
     }
 }
