@@ -40,14 +40,14 @@ module _ {W F : Type 0} (w : Ghosts W) (f : Files F W) (shown : KeepsShown w f) 
   }
   tries (Need k) tried =
       let waits = tried.attempts.answer in
-      let grows = entries s.inodes t.inodes waits.keeps in
+      let grows = entries _ s.inodes t.inodes waits.keeps in
       let left = some s.inodes.root t.inodes.root s.cache t.cache q k grows tried.attempts.cache waits.need in
       record {
         tried = tried;
         needed = waits.need;
         lacks = ap is_some waits.need.wanted.lacks;
         still = λ j before. stay s.inodes.root t.inodes.root s.cache t.cache q j k grows tried.attempts.cache before waits.need;
-        tree = shown s.inodes t.inodes waits.keeps;
+        tree = shown _ s.inodes t.inodes waits.keeps;
         commit = tried.root;
         next = tried.leaves.on.next;
         cache = found_still tried.attempts.cache;

@@ -6,6 +6,7 @@ use Rattle.eden_model.specs.declared.id.Key.{Key}
 use Rattle.eden_model.specs.declared.request.Request.{Request}
 use Rattle.eden_model.specs.declared.world.World.{Ghosts}
 use Rattle.eden_model.specs.Failures.{Counted}
+use Rattle.eden_model.specs.Requests.{paths_of}
 use Rattle.eden_model.specs.Trees.{Path}
 use Rattle.eden_object.specs.Objects.{Body}
 use Rattle.eden_overlay.specs.declared.files.Files.{Ghosts as Files}
@@ -22,7 +23,7 @@ use Rattle.eden_ops.specs.Caches.{object_at}
 use Rattle.eden_ops.specs.Keeping.{Keeps}
 use Rattle.eden_ops.specs.Leaving.{LeavesAfter}
 use Rattle.eden_ops.specs.Left.{left}
-use Rattle.eden_ops.specs.Looks.{IsLook}
+use Rattle.eden_ops.specs.Looks.{IsLook, IsBeyondLimits}
 use Rattle.eden_checkout.specs.Checkouts.{Checkout}
 
 module _ {W F : Type 0} (w : Ghosts W) (f : Files F W) where
@@ -30,11 +31,13 @@ module _ {W F : Type 0} (w : Ghosts W) (f : Files F W) where
   abbrev pub IsTicked : Checkout F → Checkout F → Type 0
   IsTicked s t = t ≡ record s { inodes = record s.inodes { clock = min (s.inodes.clock + 1) (2 ^ 64 - 1) } }
 
-  -- an attempt, as the table's and the cache's; a look changes nothing, but that directories are loaded on the way
+  -- an attempt, as the table's and the cache's; a look changes nothing, but that directories are stamped and
+  -- loaded on the way, and beyond the limits not even that
   pub record IsTried (s : Checkout F) (q : Request) (a : Attempt) (t : Checkout F) : Type 0 where
     pub attempts : Attempts w f q s.inodes t.inodes s.cache t.cache a
     pub leaves : LeavesAfter w f q s.inodes t.inodes a
-    pub looks : IsLook q → Keeps w f s.inodes t.inodes
+    pub looks : IsLook q → Keeps w f (paths_of q) s.inodes t.inodes
+    pub refused : IsBeyondLimits q → t.inodes ≡ s.inodes
     pub root : t.root ≡ s.root
 
   -- the object is cached, and what is loaded stays as it is

@@ -38,6 +38,7 @@ use Rattle.eden_ops.specs.Attempts.{Attempts}
 use Rattle.eden_ops.specs.Caches.{FindsTheSame}
 use Rattle.eden_ops.specs.Changes.{IsAdding, file, dir, link}
 use Rattle.eden_ops.specs.Faults.{Makes, creates, makes_dir, links, IsLawful}
+use Rattle.eden_ops.specs.Keeping.{Keeps}
 use Rattle.eden_ops.specs.Known.{known_node, known}
 use Rattle.eden_ops.specs.Leaving.{given}
 use Rattle.eden_ops.proofs.Answering.{Asked}
@@ -207,6 +208,9 @@ pub adds_path : (p : Path) (q : Request) (e : NewEntry) → IsAdding p q e → p
 adds_path p _ _ (file content empty) = refl
 adds_path p _ _ dir = refl
 adds_path p _ _ (link target some short) = refl
+
+pub adds_keeps : {W F : Type 0} (w : Ghosts W) (f : Files F W) (p : Path) (q : Request) (e : NewEntry) → IsAdding p q e → (s t : Table F) → Keeps w f (p ∷ []) s t → Keeps w f (paths_of q) s t
+adds_keeps w f p q e adding s t = subst (λ (ps : List Path). Keeps w f ps s t) (sym (adds_path p q e adding))
 
 pub one_more : (a b m : ℕ) → b ≡ a + 1 → m ≡ 1 → b ≤ a + m
 one_more a b m is one = omega (arith, is, one)

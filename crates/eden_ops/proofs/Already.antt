@@ -43,10 +43,10 @@ exec_known exec (loaded s u r) k c d is = cc
 
 module _ {W F : Type 0} (w : Ghosts W) (f : Files F W) (p : Path) (exec : Bool) (s t : Table F) (seen : Seen) (at : IsSeen p t.root seen) where
   -- it stays known
-  by_known : Keeps w f s t → IsSo (ask.SetExec p exec) (known s.root) → seen.kind ≡ exec_kind exec
+  by_known : {ps : List Path} → Keeps w f ps s t → IsSo (ask.SetExec p exec) (known s.root) → seen.kind ≡ exec_kind exec
   by_known keeps so =
       let y = map_some known_node (row_at p s.root) (File exec so.0) (sym so.1) in
-      let v = (keeps_entries w f s t keeps).there p (standing y.0) (ap (option_map standing) y.1.0) in
+      let v = (keeps_entries w f _ s t keeps).there p (standing y.0) (ap (option_map standing) y.1.0) in
       let one : v.0 ≡ standing at.row = same_Some v.0 (standing at.row) (sym v.1.0 ∙ ap (option_map standing) at.there) in
       at.kind
       ∙ sym (ap (λ (x : Standing). x.kind) one)
@@ -62,7 +62,7 @@ module _ {W F : Type 0} (w : Ghosts W) (f : Files F W) (p : Path) (exec : Bool) 
       (same_Some (shown_node w.repository (f.stored t.files) at.row n.0) (File exec so.0) (sym n.1 ∙ so.1))
 
   -- where it is so already, its entry is
-  pub so_already : Keeps w f s t → (w.honest → IsShown w.repository (f.stored t.files) (row_at p t.root) (reach (shows w f s) p)) → IsSoAlready w f (ask.SetExec p exec) s
+  pub so_already : {ps : List Path} → Keeps w f ps s t → (w.honest → IsShown w.repository (f.stored t.files) (row_at p t.root) (reach (shows w f s) p)) → IsSoAlready w f (ask.SetExec p exec) s
       → seen.kind ≡ exec_kind exec
   so_already keeps shown (inl so) = by_known keeps so
   so_already keeps shown (inr so) = by_shown (shown so.0) so.1

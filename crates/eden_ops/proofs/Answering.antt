@@ -19,6 +19,7 @@ use Rattle.eden_model.specs.declared.world.World.{Ghosts}
 use Rattle.eden_model.specs.Histories.{fault_of}
 use Rattle.eden_model.specs.Operations.{At, Meets as Table_Meets, Refuses, Replies, after}
 use Rattle.eden_model.specs.Repository.{Repository}
+use Rattle.eden_model.specs.Requests.{paths_of}
 use Rattle.eden_model.specs.Shown.{node_from}
 use Rattle.eden_model.specs.Trees.{Path, Tree, Walk, Unlisted, through, walk_from, walk, Reach, Here, ends, reach}
 use Rattle.eden_overlay.specs.declared.files.Files.{Ghosts as Files}
@@ -132,7 +133,7 @@ module _ {W F : Type 0} (w : Ghosts W) (f : Files F W) (q : Request) (s t : Tabl
 
 module _ {W F : Type 0} {absent : Reply → Type 0} (w : Ghosts W) (f : Files F W) (q : Request) (p : Path) (here : Tree → Node → Reply → Type 0) (first : Starts q p absent here) (s t : Table F)
     (c d : Cache)
-    (same : w.honest → shows w f t ≡ shows w f s) (keeps : Keeps w f s t) (cache : FindsTheSame c d) where
+    (same : w.honest → shows w f t ≡ shows w f s) (keeps : Keeps w f (paths_of q) s t) (cache : FindsTheSame c d) where
   -- a reply that leaves the tree
   pub first_replied : (r : Reply) → fault_of r ≡ None → ((G : Tree) → after G q r ≡ G) → (w.honest → Table_Meets (reach (shows w f s) p) absent (here (shows w f s)) r)
       → Attempts w f q s t c d (Finished r)
@@ -177,7 +178,7 @@ module _ {W F : Type 0} {absent : Reply → Type 0} (w : Ghosts W) (f : Files F 
 
 module _ {W F : Type 0} {absent : Reply → Type 0} (w : Ghosts W) (f : Files F W) (q : Request) (p : Path) (here : Tree → Node → Reply → Type 0) (asks : Asked q p absent here) (s t : Table F)
     (c d : Cache)
-    (same : w.honest → shows w f t ≡ shows w f s) (keeps : Keeps w f s t) (cache : FindsTheSame c d) where
+    (same : w.honest → shows w f t ≡ shows w f s) (keeps : Keeps w f (paths_of q) s t) (cache : FindsTheSame c d) where
   pub replied : (r : Reply) → fault_of r ≡ None → ((G : Tree) → after G q r ≡ G) → (w.honest → Table_Meets (reach (shows w f s) p) absent (here (shows w f s)) r) → Attempts w f q s t c d (Finished r)
   replied = first_replied w f q p here (starts asks) s t c d same keeps cache
 
@@ -221,11 +222,11 @@ module _ {W F : Type 0} {absent : Reply → Type 0} (w : Ghosts W) (f : Files F 
 
 -- nothing is at the path, which is refused
 pub first_absent : {W F : Type 0} (w : Ghosts W) (f : Files F W) (q : Request) (p : Path) (here : Tree → Node → Reply → Type 0) (first : Starts q p (Refuses ENOENT) here) (s t : Table F) (c d : Cache)
-    → (w.honest → shows w f t ≡ shows w f s) → Keeps w f s t → FindsTheSame c d → (w.honest → MeetsShown w f p s t (Ok None)) → Attempts w f q s t c d (Finished (say.Err ENOENT))
+    → (w.honest → shows w f t ≡ shows w f s) → Keeps w f (paths_of q) s t → FindsTheSame c d → (w.honest → MeetsShown w f p s t (Ok None)) → Attempts w f q s t c d (Finished (say.Err ENOENT))
 first_absent w f q p here first s t c d same keeps cache shown =
     first_replied w f q p here first s t c d same keeps cache (say.Err ENOENT) refl (λ G. refl)
     (λ honest. subst (λ (x : Reach). Table_Meets x (Refuses ENOENT) (here (shows w f s)) (say.Err ENOENT)) (sym (shown honest)) refl)
 
 pub says_absent : {W F : Type 0} (w : Ghosts W) (f : Files F W) (q : Request) (p : Path) (here : Tree → Node → Reply → Type 0) (asks : Asks q p here) (s t : Table F) (c d : Cache)
-    → (w.honest → shows w f t ≡ shows w f s) → Keeps w f s t → FindsTheSame c d → (w.honest → MeetsShown w f p s t (Ok None)) → Attempts w f q s t c d (Finished (say.Err ENOENT))
+    → (w.honest → shows w f t ≡ shows w f s) → Keeps w f (paths_of q) s t → FindsTheSame c d → (w.honest → MeetsShown w f p s t (Ok None)) → Attempts w f q s t c d (Finished (say.Err ENOENT))
 says_absent w f q p here asks s t c d same keeps cache shown = first_absent w f q p here (starts asks) s t c d same keeps cache shown

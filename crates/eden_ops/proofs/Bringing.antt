@@ -1,5 +1,5 @@
 -- What a load leaves, and why it is refused.
-use Rattle.std.proofs.Common.{◌≡◌, ◌≤◌, ◌<◌, ◌+◌, ℕ, List, length, Some, None, Result, Ok, Err, OnOk, OnErr, IfErr, IsErr, sym, ◌∙◌, ap, subst, inl, inr}
+use Rattle.std.proofs.Common.{◌≡◌, ◌≤◌, ◌<◌, ◌+◌, ℕ, List, [], ◌∷◌, length, Some, None, Result, Ok, Err, OnOk, OnErr, IfErr, IsErr, sym, ◌∙◌, ap, subst, inl, inr}
 use Rattle.std.specs.Result.{IsErrAnd}
 use Rattle.eden_model.specs.declared.fault.Fault.{Fault}
 use Rattle.eden_model.specs.declared.fault.Fault.TheVariants as fault
@@ -34,7 +34,7 @@ none_held F kind.Dir n is h = h
 module _ {W F : Type 0} (w : Ghosts W) (f : Files F W) (p : Path) (s t : Table F)
     (stored : w.honest → f.stored t.files ≡ f.stored s.files) (counted : f.failures s.files ≤ f.failures t.files) (rest : (t.clock ≡ s.clock) × (t.changes ≡ s.changes)) where
   -- without a tree object
-  pub own_keeps : HasNoTree p s.root → LoadsOwn w.honest s.clock (f.stored s.files) s.root p t.root × (t.next ≡ s.next) → Keeps w f s t
+  pub own_keeps : HasNoTree p s.root → LoadsOwn w.honest s.clock (f.stored s.files) s.root p t.root × (t.next ≡ s.next) → Keeps w f (p ∷ []) s t
   own_keeps none l = loads_own w f s t p none l.0 l.1 (record { stored = stored; failures = counted; clock = rest.0; changes = rest.1 })
 
   pub own_loaded : HasNoTree p s.root → LoadsOwn w.honest s.clock (f.stored s.files) s.root p t.root → IsLoadedAt p t.root
@@ -42,7 +42,7 @@ module _ {W F : Type 0} (w : Ghosts W) (f : Files F W) (p : Path) (s t : Table F
   own_loaded (inr at) l = subst (λ (z : Row). IsLoadedAt p z) (sym l.is) (loaded_there p s.root at.row l.directory at.there at.unloaded at.kind s.clock)
 
   -- from a tree object
-  pub object_keeps : (es : List TreeEntry) → HasTree w.repository w.honest p s.root es → LoadsObject s.clock s.next s.root p es t.root t.next → Keeps w f s t
+  pub object_keeps : (es : List TreeEntry) → HasTree w.repository w.honest p s.root es → LoadsObject s.clock s.next s.root p es t.root t.next → Keeps w f (p ∷ []) s t
   object_keeps es has l = loads_object w f s t p es has l (record { stored = stored; failures = counted; clock = rest.0; changes = rest.1 })
 
   pub object_loaded : (es : List TreeEntry) → HasTree w.repository w.honest p s.root es → LoadsObject s.clock s.next s.root p es t.root t.next → IsLoadedAt p t.root
@@ -50,7 +50,7 @@ module _ {W F : Type 0} (w : Ghosts W) (f : Files F W) (p : Path) (s t : Table F
 
   -- refused
   module _ (still : (t.root ≡ s.root) × (t.next ≡ s.next)) where
-    pub none_keeps : Keeps w f s t
+    pub none_keeps : Keeps w f (p ∷ []) s t
     none_keeps = loads_none w f s t still.0 still.1 (record { stored = stored; failures = counted; clock = rest.0; changes = rest.1 })
 
     damaged_at : IsAt p s.root origin.Own → ((y : Row) → row_at p s.root ≡ Some y → w.honest → entries_at (f.stored s.files) y.number ≡ None) → IsCaused w f p s t fault.Overlay

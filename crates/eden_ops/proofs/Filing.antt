@@ -1,5 +1,5 @@
 -- What a request for a file answers of what it meets.
-use Rattle.std.proofs.Common.{◌≡◌, ℕ, Bool, true, false, length, List, Option, Some, None, Ok, Err, sym, refl, ◌∙◌, subst}
+use Rattle.std.proofs.Common.{◌≡◌, ℕ, Bool, true, false, length, List, [], ◌∷◌, Option, Some, None, Ok, Err, sym, refl, ◌∙◌, subst}
 use Rattle.std.proofs.lemmas.Bool.{le-ltb}
 use Rattle.eden_model.specs.declared.errno.Errno.TheVariants.{ENOENT, EINVAL, EISDIR}
 use Rattle.eden_model.specs.declared.fault.Fault.{Fault}
@@ -15,6 +15,7 @@ use Rattle.eden_model.specs.declared.world.World.{Ghosts}
 use Rattle.eden_model.specs.Histories.{fault_of}
 use Rattle.eden_model.specs.Limits.{most_data}
 use Rattle.eden_model.specs.Operations.{OnFile, with_content, put, edit, after}
+use Rattle.eden_model.specs.Requests.{paths_of}
 use Rattle.eden_model.specs.Shown.{node_from}
 use Rattle.eden_model.specs.Trees.{Path, Tree, reach}
 use Rattle.eden_overlay.specs.declared.files.Files.{Ghosts as Files}
@@ -53,10 +54,19 @@ asks_file p _ (for_write offset bytes few) = record { file = _; asks = asks_writ
 asks_file p _ (for_truncate size) = record { file = _; asks = asks_truncate size p }
 asks_file p _ (for_exec exec) = record { file = _; asks = asks_exec p exec }
 
+file_paths : (p : Path) (q : Request) → IsForFile p q → paths_of q ≡ p ∷ []
+file_paths p _ (for_read offset count few) = refl
+file_paths p _ (for_write offset bytes few) = refl
+file_paths p _ (for_truncate size) = refl
+file_paths p _ (for_exec exec) = refl
+
 module _ {W F : Type 0} (w : Ghosts W) (f : Files F W) (p : Path) (q : Request) (asked : IsForFile p q) (s t : Table F) (c d : Cache)
-    (same : w.honest → shows w f t ≡ shows w f s) (keeps : Keeps w f s t) (cache : FindsTheSame c d) where
+    (same : w.honest → shows w f t ≡ shows w f s) (met : Keeps w f (p ∷ []) s t) (cache : FindsTheSame c d) where
   abbrev a : AsksFile q p
   a = asks_file p q asked
+
+  keeps : Keeps w f (paths_of q) s t
+  keeps = subst (λ (ps : List Path). Keeps w f ps s t) (sym (file_paths p q asked)) met
 
   pub file_walk : (z : Stop) → Meets w f p s t d (Err z) → (w.honest → MeetsShown w f p s t (Err z)) → Attempts w f q s t c d (stopped z)
   file_walk z meets shown = walk_ended w f q p (λ G n. OnFile a.file n) a.asks s t c d same keeps cache z meets shown
@@ -79,7 +89,7 @@ module _ {W F : Type 0} (w : Ghosts W) (f : Files F W) (p : Path) (q : Request) 
 
 module _ {W F : Type 0} (w : Ghosts W) (f : Files F W) (p : Path) (s t : Table F) (c d : Cache) (seen : Seen) (file : IsFileSeen p t.root seen)
     (shown : w.honest → IsShown w.repository (f.stored t.files) (row_at p t.root) (reach (shows w f s) p))
-    (same : w.honest → shows w f t ≡ shows w f s) (keeps : Keeps w f s t) (cache : FindsTheSame c d) (q : Request) (here : Tree → Node → Reply → Type 0) (asks : Asks q p here) where
+    (same : w.honest → shows w f t ≡ shows w f s) (cache : FindsTheSame c d) (q : Request) (keeps : Keeps w f (paths_of q) s t) (here : Tree → Node → Reply → Type 0) (asks : Asks q p here) where
   abbrev row : Row
   row = file.entry.row
 
@@ -93,7 +103,7 @@ module _ {W F : Type 0} (w : Ghosts W) (f : Files F W) (p : Path) (s t : Table F
       met_tells w f p s t d (Some seen) seen refl file.entry q here asks c same keeps cache shown r fine leaves (λ k a l is on. says k a l (subst IsPlain (sym is) file.plain))
 
   -- its content was had, or not
-  module _ (v : Table F) (e : Cache) (alike : w.honest → shows w f v ≡ shows w f t) (kept : Keeps w f t v) (still : v.root ≡ t.root) (finds : FindsTheSame d e) where
+  module _ (v : Table F) (e : Cache) (alike : w.honest → shows w f v ≡ shows w f t) (kept : Keeps w f (paths_of q) t v) (still : v.root ≡ t.root) (finds : FindsTheSame d e) where
     pub file_lacks : ((x : Path) → q ≡ ask.Kind x → ⊥) → ((k : Key) → IsUnsized q e k) → (z : Stop)
         → ((k : Kind) (a : Option (List ℕ)) (r : Reply) → IsPlain k → a ≡ None → ¬ here (known v.root) (node_from k a false) r) → Lacks w f p t v e z → Attempts w f q s v c e (stopped z)
     file_lacks other sized z lost lacks =
@@ -117,4 +127,4 @@ module _ {W F : Type 0} (w : Ghosts W) (f : Files F W) (p : Path) (s t : Table F
 
       pub file_refused : (a : Fault) → IsStoreFault (f.failures v.files) (f.failures u.files) a → ((x : Path) → q ≡ ask.Kind x → ⊥) → (w.honest → shows w f u ≡ shows w f v)
           → Attempts w f q s u c e (Finished (say.Fault a))
-      file_refused a store other unseen = refused w f q s v u c e together ((keeps_counts w f s v (keeps_on w f s t v keeps kept)).1.1.1) (finds_on c d e cache finds) a store other unseen
+      file_refused a store other unseen = refused w f q s v u c e together ((keeps_counts w f _ s v (keeps_on w f s t v keeps kept)).1.1.1) (finds_on c d e cache finds) a store other unseen

@@ -1,5 +1,5 @@
 -- What an attempt leaves, by its request.
-use Rattle.std.proofs.Common.{◌≡◌, ◌≢◌, ◌≤◌, ◌⊎◌, ◌+◌, ℕ, inl, inr, refl, ◌∙◌, subst, sym, arith}
+use Rattle.std.proofs.Common.{◌≡◌, ◌≢◌, ◌≤◌, ◌⊎◌, ◌+◌, ℕ, [], ◌∷◌, inl, inr, refl, ◌∙◌, subst, sym, arith}
 use Rattle.eden_model.specs.declared.attempt.Attempt.{Attempt}
 use Rattle.eden_model.specs.declared.attempt.Attempt.TheVariants.{Finished}
 use Rattle.eden_model.specs.declared.errno.Errno.{Errno}
@@ -37,32 +37,32 @@ NamesAfter a x z = (e : Fault) → a ≡ Finished (say.Fault e) → SameNames x 
 abbrev pub IsNoError : Attempt → Type 0
 IsNoError a = (e : Errno) → a ≢ Finished (say.Err e)
 
-module _ {W F : Type 0} (w : Ghosts W) (f : Files F W) (s t : Table F) (keeps : Keeps w f s t) where
+module _ {W F : Type 0} (w : Ghosts W) (f : Files F W) (q : Request) (s t : Table F) (keeps : Keeps w f (paths_of q) s t) where
   before : Leaves f s t
-  before = keeps_leaves w f s t keeps
+  before = keeps_leaves w f _ s t keeps
 
-  gives_then : (paths : Path → Type 0) (most : ℕ) (u : Table F) → LeavesOn f paths t u → u.next ≤ t.next + most → Gives w f paths most s u
+  gives_then : (paths : Path → Type 0) (most : ℕ) (u : Table F) → LeavesOn f paths t u → u.next ≤ t.next + most → Gives w f (paths_of q) paths most s u
   gives_then paths most u l more = record { reached = t; walked = keeps; stays = l.loaded; no_less = l.next; no_more = more }
 
   pub names_then : (a : Attempt) (u : Table F) → NamesAfter a t.root u.root → NamesAfter a s.root u.root
   names_then a u names e is =
-      names_on s.root t.root u.root (λ p was now. before.everywhere.loaded p tt was) (names_grown s.root t.root (keeps_entries w f s t keeps)) (names e is)
+      names_on s.root t.root u.root (λ p was now. before.everywhere.loaded p tt was) (names_grown s.root t.root (keeps_entries w f _ s t keeps)) (names e is)
 
   -- directories were loaded, and no more
-  pub leaves_kept : (q : Request) (a : Attempt) → LeavesAfter w f q s t a
-  leaves_kept q a = record {
+  pub leaves_kept : (a : Attempt) → LeavesAfter w f q s t a
+  leaves_kept a = record {
     on = leaves_some f (LetsBe q) s t before;
     gives = record { reached = t; walked = keeps; stays = λ p in_them is. is; no_less = omega arith; no_more = none_given t.next t.next (given q) refl };
     errs = λ e is. keeps;
-    faults = λ e is. names_grown s.root t.root (keeps_entries w f s t keeps);
+    faults = λ e is. names_grown s.root t.root (keeps_entries w f _ s t keeps);
     marked = λ p unsaved. inr (before.marks p unsaved);
     stands = λ no. inl keeps;
   }
 
   module _ (u : Table F) (a : Attempt) (fine : IsNoError a) (names : NamesAfter a t.root u.root) where
     -- .. and then a change that lets loaded directories be
-    pub leaves_changed : (q : Request) → Leaves f t u → u.next ≤ t.next + given q → (¬ IsFault a → AreSavedAbove (paths_of q) u.root) → LeavesAfter w f q s u a
-    leaves_changed q l more stands = record {
+    pub leaves_changed : Leaves f t u → u.next ≤ t.next + given q → (¬ IsFault a → AreSavedAbove (paths_of q) u.root) → LeavesAfter w f q s u a
+    leaves_changed l more stands = record {
       on = leaves_on f (LetsBe q) s t u (leaves_some f (LetsBe q) s t before) (leaves_some f (LetsBe q) t u l);
       gives = gives_then (LetsBe q) (given q) u (leaves_some f (LetsBe q) t u l) more;
       errs = λ e is. absurd (fine e is);
@@ -71,25 +71,31 @@ module _ {W F : Type 0} (w : Ghosts W) (f : Files F W) (s t : Table F) (keeps : 
       stands = λ no. inr (stands no);
     }
 
-    -- .. or an entry moved
-    pub leaves_moved : (from to : Path) → StaysBeside from to t.root u.root → StaysOrBecomesOwn t.root.origin u.root.origin → (u.next ≡ t.next) × (u.clock ≡ t.clock)
-        → f.failures t.files ≤ f.failures u.files
-        → ((p : Path) → IsUnsavedAt p u.root → MayMark (ask.Rename from to) a p ⊎ IsUnsavedAt p t.root)
-        → (¬ IsFault a → AreSavedAbove (paths_of (ask.Rename from to)) u.root) → LeavesAfter w f (ask.Rename from to) s u a
-    leaves_moved from to stays root rest counted marked stands =
-        let paths = LetsBe (ask.Rename from to) in
-        let l : LeavesOn f paths t u = record { loaded = λ p o. stays p o.0 o.1; root = root; next = no_less t.next u.next rest.0; failures = counted; clock = rest.1 } in
-        record {
-          on = leaves_on f paths s t u (leaves_some f paths s t before) l;
-          gives = gives_then paths 0 u l (none_given t.next u.next 0 rest.0);
-          errs = λ e is. absurd (fine e is);
-          faults = names_then a u names;
-          marked = λ p unsaved. elim (marked p unsaved) [ inl may ↦ inl may | inr was ↦ inr (before.marks p was) ];
-          stands = λ no. inr (stands no);
-        }
+-- .. or an entry moved
+module _ {W F : Type 0} (w : Ghosts W) (f : Files F W) (from to : Path) (s t : Table F) (keeps : Keeps w f (from ∷ to ∷ []) s t) (u : Table F) (a : Attempt) (fine : IsNoError a)
+    (names : NamesAfter a t.root u.root) where
+  abbrev rename : Request
+  rename = ask.Rename from to
+
+  pub leaves_moved : StaysBeside from to t.root u.root → StaysOrBecomesOwn t.root.origin u.root.origin → (u.next ≡ t.next) × (u.clock ≡ t.clock)
+      → f.failures t.files ≤ f.failures u.files
+      → ((p : Path) → IsUnsavedAt p u.root → MayMark rename a p ⊎ IsUnsavedAt p t.root)
+      → (¬ IsFault a → AreSavedAbove (paths_of rename) u.root) → LeavesAfter w f rename s u a
+  leaves_moved stays root rest counted marked stands =
+      let paths = LetsBe rename in
+      let was = before w f rename s t keeps in
+      let l : LeavesOn f paths t u = record { loaded = λ p o. stays p o.0 o.1; root = root; next = no_less t.next u.next rest.0; failures = counted; clock = rest.1 } in
+      record {
+        on = leaves_on f paths s t u (leaves_some f paths s t was) l;
+        gives = gives_then w f rename s t keeps paths 0 u l (none_given t.next u.next 0 rest.0);
+        errs = λ e is. absurd (fine e is);
+        faults = names_then w f rename s t keeps a u names;
+        marked = λ p unsaved. elim (marked p unsaved) [ inl may ↦ inl may | inr already ↦ inr (was.marks p already) ];
+        stands = λ no. inr (stands no);
+      }
 
 -- directories went that stood at and below a path
-module _ {W F : Type 0} (w : Ghosts W) (f : Files F W) (p : Path) (s t u : Table F) (keeps : Keeps w f s t) (g : LetsGo p t.root u.root) (rest : (u.next ≡ t.next) × (u.clock ≡ t.clock))
+module _ {W F : Type 0} (w : Ghosts W) (f : Files F W) (p : Path) (s t u : Table F) (keeps : Keeps w f (p ∷ []) s t) (g : LetsGo p t.root u.root) (rest : (u.next ≡ t.next) × (u.clock ≡ t.clock))
     (counted : f.failures t.files ≤ f.failures u.files) (a : Attempt) (fine : IsNoError a) where
   gone : LeavesOn f (IsOutside p) t u
   gone = record { loaded = λ q off is. loaded_elsewhere p t.root u.root g q off is; root = root_left p t.root u.root g; next = no_less t.next u.next rest.0; failures = counted; clock = rest.1 }
@@ -97,11 +103,11 @@ module _ {W F : Type 0} (w : Ghosts W) (f : Files F W) (p : Path) (s t u : Table
   leaves_went : (v : Table F) → LeavesOn f (IsOutside p) t v → v.next ≡ t.next → NoneMarked u.root v.root → NamesAfter a t.root v.root → (¬ IsFault a → IsSavedAbove p v.root) → LeavesAfter w f (ask.Rmdir p) s v a
   leaves_went v l next marks names stands =
       record {
-        on = leaves_on f (IsOutside p) s t v (leaves_some f (IsOutside p) s t (keeps_leaves w f s t keeps)) l;
-        gives = gives_then w f s t keeps (IsOutside p) 0 v l (none_given t.next v.next 0 next);
+        on = leaves_on f (IsOutside p) s t v (leaves_some f (IsOutside p) s t (keeps_leaves w f _ s t keeps)) l;
+        gives = gives_then w f (ask.Rmdir p) s t keeps (IsOutside p) 0 v l (none_given t.next v.next 0 next);
         errs = λ e is. absurd (fine e is);
-        faults = names_then w f s t keeps a v names;
-        marked = λ q unsaved. inr ((keeps_leaves w f s t keeps).marks q (goes_marks p t.root u.root g q (marks q unsaved)));
+        faults = names_then w f (ask.Rmdir p) s t keeps a v names;
+        marked = λ q unsaved. inr ((keeps_leaves w f _ s t keeps).marks q (goes_marks p t.root u.root g q (marks q unsaved)));
         stands = λ no. inr (stands no, tt);
       }
 

@@ -31,4 +31,5 @@ pub mod Filing
 pub mod Already
 pub mod Leaving
 pub mod CallerLemmas
+pub mod Stamps
 mod Settled

@@ -1,5 +1,5 @@
 -- The looks, one by one.
-use Rattle.std.proofs.Common.{◌≡◌, ◌≢◌, ◌⊎◌, ◌==◌, ◌||◌, ℕ, Bool, true, false, nat_lt, List, [], length, take, drop, Option, Some, None, sym, refl, subst, inl, inr}
+use Rattle.std.proofs.Common.{◌≡◌, ◌≢◌, ◌≤◌, ◌<◌, ◌⊎◌, ◌==◌, ◌||◌, ℕ, Bool, true, false, nat_lt, List, [], length, take, drop, Option, Some, None, sym, refl, subst, inl, inr, arith}
 use Rattle.eden_model.specs.declared.errno.Errno.TheVariants.{EINVAL, ENOTDIR}
 use Rattle.eden_model.specs.declared.id.ObjKind.TheVariants as objects
 use Rattle.eden_model.specs.declared.kind.Kind.{Kind}
@@ -183,3 +183,12 @@ lists_away P kind.File c r is h = cc
 lists_away P kind.Exec c r is h = cc
 lists_away P kind.Link c r is h = cc
 lists_away P kind.Dir c r is h = h
+
+-- ---- what isn't beyond a limit
+
+pub not_more : (n most : ℕ) → n ≤ most → most < n → ⊥
+not_more n most few many = omega (arith, few, many)
+
+pub some_at_most : (n most : ℕ) → (n ≡ 0 → ⊥) → n ≤ most → (n ≡ 0) ⊎ (most < n) → ⊥
+some_at_most n most some few (inl none) = some none
+some_at_most n most some few (inr many) = not_more n most few many

@@ -1,5 +1,5 @@
 -- What stands where an entry is to go.
-use Rattle.std.proofs.Common.{◌≡◌, ◌≢◌, ◌⊎◌, ℕ, Bool, true, false, List, [], Option, Some, None, Err, sym, refl, ◌∙◌, ap, subst, inl, inr}
+use Rattle.std.proofs.Common.{◌≡◌, ◌≢◌, ◌⊎◌, ℕ, Bool, true, false, List, [], ◌∷◌, Option, Some, None, Err, sym, refl, ◌∙◌, ap, subst, inl, inr}
 use Rattle.std.specs.Option.{option_map}
 use Rattle.eden_model.specs.declared.errno.Errno.TheVariants.{ENOTDIR, EISDIR, ENOTEMPTY}
 use Rattle.eden_model.specs.declared.fault.Fault.{Fault}
@@ -133,7 +133,7 @@ module _ {W F : Type 0} (w : Ghosts W) (f : Files F W) (p : Path) (s t u : Table
   lacks_by (stop.Needs k) h = (unlisted_there, subst (λ (x : Path). Wants (row_at x u.root) d k) (sym place_still) h)
   lacks_by (stop.Faults e) h = (unlisted_there, subst (λ (x : Path). IsCaused w f x s u e) (sym place_still) h)
 
-  pub land_lacks : (dir : Bool) → dir ≡ true → Keeps w f s t → (z : Stop) → Lacks w f p t u d z → Lands w f p dir s u d (Err z)
+  pub land_lacks : (dir : Bool) → dir ≡ true → Keeps w f (p ∷ []) s t → (z : Stop) → Lacks w f p t u d z → Lands w f p dir s u d (Err z)
   land_lacks dir is keeps z h = subst (λ (b : Bool). Lands w f p b s u d (Err z)) (sym is) (lacks_by z (lacks_since w f p s t u d keeps z h))
 
   pub land_untold : (dir : Bool) (z : Stop) → Lacks w f p t u d z → LandsShown w f p dir s (Err z)

@@ -1,5 +1,5 @@
 -- One round of a walk: a look, and a directory that is loaded where it ends.
-use Rattle.std.proofs.Common.{◌≡◌, ◌<◌, ◌≤◌, ◌+◌, ◌-◌, ◌^◌, ◌⊎◌, ℕ, zero, suc, false, length, Option, Result, Ok, Err, IsErr, take, sym, ◌∙◌, ap, subst, arith, inl, inr}
+use Rattle.std.proofs.Common.{◌≡◌, ◌<◌, ◌≤◌, ◌+◌, ◌-◌, ◌^◌, ◌⊎◌, ℕ, zero, suc, false, List, length, Option, Result, Ok, Err, IsErr, take, sym, ◌∙◌, ap, subst, arith, inl, inr}
 use Rattle.std.proofs.lemmas.Bool.{cases_lt}
 use Rattle.std.specs.Result.{IsErrAnd}
 use Rattle.eden_model.specs.declared.fault.Fault.{Fault}
@@ -48,7 +48,7 @@ module _ {W F : Type 0} (w : Ghosts W) (f : Files F W) (p : Path) where
 
   -- the directory there isn't loaded
   module _ (s u v : Table F) (e : Cache) (seen : Seen) (last : IsLast p u.root seen) (away : seen.loaded ≡ false) (lt : seen.names < length p) (dir : seen.kind ≡ kind.Dir)
-      (before : Keeps w f s u) (cause : walk (known s.root) p ≡ Unlisted) (still : v.root ≡ u.root) where
+      {ps : List Path} (before : Keeps w f ps s u) (cause : walk (known s.root) p ≡ Unlisted) (still : v.root ≡ u.root) where
     place_there : place_on (known v.root) p ≡ take seen.names p
     place_there = ap (λ (x : Row). place_on (known x) p) still ∙ place_here p u.root seen last away lt dir
 
@@ -61,7 +61,7 @@ module _ {W F : Type 0} (w : Ghosts W) (f : Files F W) (p : Path) where
     lawful : (a : Fault) → IsCaused w f (take seen.names p) u v a → IsLawful w f (ask.Kind p) s v a
     lawful (fault.Fetch id why) h = h
     lawful fault.Memory h = λ q is. let same : p ≡ q = cc in subst (λ (r : Path). walk (known s.root) r ≡ Unlisted) same cause
-    lawful fault.Overlay (inl rose) = inl (rose_on (f.failures s.files) (f.failures u.files) (f.failures v.files) (keeps_counts w f s u before).1.1.1 rose)
+    lawful fault.Overlay (inl rose) = inl (rose_on (f.failures s.files) (f.failures u.files) (f.failures v.files) (keeps_counts w f _ s u before).1.1.1 rose)
     lawful fault.Overlay (inr damaged) = inr (silent, subst (λ (r : Path). IsDamaged w f r v) (sym place_there) damaged)
     lawful fault.Numbers h = inr (silent, subst (λ (r : Path). WantsNumbers w f r v) (sym place_there) h)
 
@@ -84,14 +84,14 @@ module _ {W F : Type 0} (w : Ghosts W) (f : Files F W) (p : Path) where
       omega (arith, there)
 
   -- what is lacking since a later table is lacking since one before it
-  pub caused_since : (s t u : Table F) → Keeps w f s t → (a : Fault) → IsCaused w f p t u a → IsCaused w f p s u a
+  pub caused_since : {ps : List Path} (s t u : Table F) → Keeps w f ps s t → (a : Fault) → IsCaused w f p t u a → IsCaused w f p s u a
   caused_since s t u before (fault.Fetch id why) h = h
   caused_since s t u before fault.Memory h = tt
-  caused_since s t u before fault.Overlay (inl rose) = inl (rose_on (f.failures s.files) (f.failures t.files) (f.failures u.files) (keeps_counts w f s t before).1.1.1 rose)
+  caused_since s t u before fault.Overlay (inl rose) = inl (rose_on (f.failures s.files) (f.failures t.files) (f.failures u.files) (keeps_counts w f _ s t before).1.1.1 rose)
   caused_since s t u before fault.Overlay (inr damaged) = inr damaged
   caused_since s t u before fault.Numbers h = h
 
-  pub lacks_since : (s t u : Table F) (d : Cache) → Keeps w f s t → (z : Stop) → Lacks w f p t u d z → Lacks w f p s u d z
+  pub lacks_since : {ps : List Path} (s t u : Table F) (d : Cache) → Keeps w f ps s t → (z : Stop) → Lacks w f p t u d z → Lacks w f p s u d z
   lacks_since s t u d before (stop.Errs e) h = h
   lacks_since s t u d before (stop.Needs k) h = h
   lacks_since s t u d before (stop.Faults a) h = caused_since s t u before a h

@@ -1,5 +1,5 @@
 -- What changes nothing marks no directory unsaved.
-use Rattle.std.proofs.Common.{◌≡◌, ◌≤◌, ℕ, Bool, Option, Some, None, Result, Ok, Err, OnOk, IfErr, sym, refl, ◌∙◌, ap, subst, inl, inr, arith}
+use Rattle.std.proofs.Common.{◌≡◌, ◌≤◌, ℕ, Bool, List, Option, Some, None, Result, Ok, Err, OnOk, IfErr, sym, refl, ◌∙◌, ap, subst, inl, inr, arith}
 use Rattle.std.specs.Option.{option_map}
 use Rattle.eden_model.specs.declared.fault.Fault.{Fault}
 use Rattle.eden_model.specs.declared.fault.Fault.TheVariants as fault
@@ -53,14 +53,14 @@ module _ {W F : Type 0} (w : Ghosts W) (f : Files F W) where
   load_marks s t p (from_object id es at tree l) = subst (NoneMarked s.root) (sym l.is) (loaded_marks p s.root at.row l.directory s.clock at.there l.new)
   load_marks s t p (without none l next) = subst (NoneMarked s.root) (sym l.is) (own_marks s p t.root none l)
 
-  step_marks : (s t : Table F) → Step w f s t → NoneMarked s.root t.root
-  step_marks s _ (stamps p) = stamps_mark p s.clock s.root
-  step_marks s _ (loads t p l b) = load_marks s t p l
+  step_marks : {ps : List Path} (s t : Table F) → Step w f ps s t → NoneMarked s.root t.root
+  step_marks s _ (stamps p at) = stamps_mark p s.clock s.root
+  step_marks s _ (loads t p at l b) = load_marks s t p l
   step_marks s _ (rests t root next b) = subst (NoneMarked s.root) (sym root) (λ q unsaved. unsaved)
 
-  steps_marks : (s t : Table F) → Keeps w f s t → NoneMarked s.root t.root
-  steps_marks s _ same q unsaved = unsaved
-  steps_marks s _ (on t u k step) q unsaved = steps_marks s t k q (step_marks t u step q unsaved)
+  steps_marks : (ps : List Path) (s t : Table F) → Keeps w f ps s t → NoneMarked s.root t.root
+  steps_marks ps s _ same q unsaved = unsaved
+  steps_marks ps s _ (on t u k step) q unsaved = steps_marks ps s t k q (step_marks t u step q unsaved)
 
   grows_loads : (x z : Row) → Grows x z → StaysLoaded x z
   grows_loads x z g p is =
@@ -72,18 +72,18 @@ module _ {W F : Type 0} (w : Ghosts W) (f : Files F W) where
       loaded_there p z y.0 d.0 y.1.0 d.1.0
 
   pub keeps_leaves : KeepsLeaves w f
-  keeps_leaves s t k =
-      let n = keeps_counts w f s t k in
+  keeps_leaves ps s t k =
+      let n = keeps_counts w f _ s t k in
       record {
         everywhere = record {
-          loaded = λ p all. grows_loads s.root t.root (keeps_entries w f s t k) p;
+          loaded = λ p all. grows_loads s.root t.root (keeps_entries w f ps s t k) p;
           root = root_grows s.root t.root
-              (keeps_entries w f s t k);
+              (keeps_entries w f ps s t k);
           next = n.1.1.0;
           failures = n.1.1.1;
           clock = n.0;
         };
-        marks = steps_marks s t k;
+        marks = steps_marks ps s t k;
       }
 
 -- two changes, one after the other

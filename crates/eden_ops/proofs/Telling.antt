@@ -11,6 +11,7 @@ use Rattle.eden_model.specs.declared.world.World.{Ghosts}
 use Rattle.eden_model.specs.Histories.{fault_of}
 use Rattle.eden_model.specs.Operations.{after}
 use Rattle.eden_model.specs.Repository.{source_of, content_with}
+use Rattle.eden_model.specs.Requests.{paths_of}
 use Rattle.eden_model.specs.Shown.{node_from}
 use Rattle.eden_model.specs.Trees.{Path, Tree, reach}
 use Rattle.eden_overlay.specs.declared.files.Files.{Ghosts as Files}
@@ -47,7 +48,7 @@ module _ {W F : Type 0} (w : Ghosts W) (f : Files F W) (p : Path) (s t : Table F
   pub met_content : seen.kind ≢ kind.Dir → HasContent p t.root seen.origin
   met_content other = has_content p t.root seen at t.root refl other
 
-  module _ (q : Request) (here : Tree → Node → Reply → Type 0) (asks : Asks q p here) (c : Cache) (same : w.honest → shows w f t ≡ shows w f s) (keeps : Keeps w f s t) (cache : FindsTheSame c d)
+  module _ (q : Request) (here : Tree → Node → Reply → Type 0) (asks : Asks q p here) (c : Cache) (same : w.honest → shows w f t ≡ shows w f s) (keeps : Keeps w f (paths_of q) s t) (cache : FindsTheSame c d)
       (shown : w.honest → MeetsShown w f p s t (Ok o)) where
     abbrev there : w.honest → IsShown w.repository (f.stored t.files) (row_at p t.root) (reach (shows w f s) p)
     there = shown_at w f p s t d o seen is shown
@@ -62,8 +63,8 @@ module _ {W F : Type 0} (w : Ghosts W) (f : Files F W) (p : Path) (s t : Table F
         (λ on. shown_kind p t.root seen at w.repository (f.stored t.files) (reach (shows w f s) p) (there h) (inl on)))
 
     -- by its content, for which the entries stay
-    module _ (u : Table F) (e : Cache) (alike : w.honest → shows w f u ≡ shows w f t) (kept : Keeps w f t u) (still : u.root ≡ t.root) (finds : FindsTheSame d e) where
-      abbrev on : Keeps w f s u
+    module _ (u : Table F) (e : Cache) (alike : w.honest → shows w f u ≡ shows w f t) (kept : Keeps w f (paths_of q) t u) (still : u.root ≡ t.root) (finds : FindsTheSame d e) where
+      abbrev on : Keeps w f (paths_of q) s u
       on = keeps_on w f s t u keeps kept
 
       pub content_tells : (r : Reply) → fault_of r ≡ None → ((T : Tree) → after T q r ≡ T)

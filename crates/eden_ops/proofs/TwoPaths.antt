@@ -52,7 +52,7 @@ use Rattle.eden_ops.proofs.Finding.{finds_on}
 use Rattle.eden_ops.proofs.Reached.{seen_at, shown_at}
 use Rattle.eden_ops.proofs.Renames.{none_of_map}
 use Rattle.eden_ops.proofs.Rounds.{caused_since}
-use Rattle.eden_ops.proofs.Steps.{keeps_on, keeps_entries, keeps_counts}
+use Rattle.eden_ops.proofs.Steps.{keeps_on, keeps_first, keeps_second, keeps_entries, keeps_counts}
 use Rattle.eden_ops.proofs.Walking.{reach_here, walk_here, known_dir, known_unloaded}
 
 -- ---- a directory or not
@@ -183,12 +183,12 @@ pub record Begins {W F : Type 0} (w : Ghosts W) (f : Files F W) (from to : Path)
   pub shown : w.honest → IsShown w.repository (f.stored t.files) (row_at from t.root) (reach (shows w f s) from)
   pub told : IsTold seen dir
   pub same : w.honest → shows w f t ≡ shows w f s
-  pub keeps : Keeps w f s t
+  pub keeps : Keeps w f (from ∷ to ∷ []) s t
   pub cache : FindsTheSame c d
 
 pub begins : {W F : Type 0} (w : Ghosts W) (f : Files F W) (from to : Path) (s t : Table F) (c d : Cache) (o : Option Seen) (seen : Seen) (dir : Bool) → o ≡ Some seen → is_root from ≡ false
     → is_root to ≡ false
-    → Meets w f from s t d (Ok o) → (w.honest → MeetsShown w f from s t (Ok o)) → (w.honest → shows w f t ≡ shows w f s) → Keeps w f s t → FindsTheSame c d → IsTold seen dir
+    → Meets w f from s t d (Ok o) → (w.honest → MeetsShown w f from s t (Ok o)) → (w.honest → shows w f t ≡ shows w f s) → Keeps w f (from ∷ []) s t → FindsTheSame c d → IsTold seen dir
     → Begins w f from to s t c d seen dir
 begins w f from to s t c d o seen dir is root other meets shown same keeps cache told = record {
   root = root;
@@ -197,7 +197,7 @@ begins w f from to s t c d o seen dir is root other meets shown same keeps cache
   shown = shown_at w f from s t d o seen is shown;
   told = told;
   same = same;
-  keeps = keeps;
+  keeps = keeps_first w f from to s t keeps;
   cache = cache;
 }
 
@@ -216,7 +216,10 @@ module _ {W F : Type 0} (w : Ghosts W) (f : Files F W) (from to : Path) (s t : T
       first_here w f q from (moves from to) starts s t c d b.same b.keeps b.cache b.at.row b.at.there b.shown r plain.fine plain.leaves
       (λ h l. subst (λ (b : Bool). Goes (shows w f s) from to b r) (sym (as_shown h l)) (plain.says (shows w f s)))
 
-  module _ (paths : IsByPaths from to dir None) (u : Table F) (e : Cache) (alike : w.honest → shows w f u ≡ shows w f t) (on : Keeps w f t u) (finds : FindsTheSame d e) where
+  module _ (paths : IsByPaths from to dir None) (u : Table F) (e : Cache) (alike : w.honest → shows w f u ≡ shows w f t) (after : Keeps w f (to ∷ []) t u) (finds : FindsTheSame d e) where
+    abbrev on : Keeps w f (from ∷ to ∷ []) t u
+    on = keeps_second w f from to t u after
+
     says : w.honest → (r : Reply) → MayLand (shows w f t) to dir r → Replies (shows w f s) q r
     says h r may =
         starts.says (shows w f s) r
@@ -224,7 +227,7 @@ module _ {W F : Type 0} (w : Ghosts W) (f : Files F W) (from to : Path) (s t : T
         (λ l. subst (λ (b : Bool). Goes (shows w f s) from to b r) (sym (as_shown h l)) (goes from to dir paths (shows w f s) r (subst (λ (G : Tree). MayLand G to dir r) (b.same h) may))))
 
     here : IsStill from u.root dir
-    here = still from t.root u.root seen b.at (keeps_entries w f t u on) dir b.told
+    here = still from t.root u.root seen b.at (keeps_entries w f _ t u on) dir b.told
 
     only : (r : Reply) → Replies (known u.root) q r → MayLand (known u.root) to dir r
     only r h =
@@ -265,7 +268,7 @@ module _ {W F : Type 0} (w : Ghosts W) (f : Files F W) (from to : Path) (s t : T
     can_go passes = can from to dir paths u.root here passes
 
     rises : f.failures s.files ≤ f.failures u.files
-    rises = (keeps_counts w f s u (keeps_on w f s t u b.keeps on)).1.1.1
+    rises = (keeps_counts w f _ s u (keeps_on w f s t u b.keeps on)).1.1.1
 
     pub went : (v : Table F) → (w.honest → MayLand (shows w f t) to dir say.Ok) → (w.honest → shows w f v ≡ move (shows w f u) from to) → Attempts w f q s v c e (Finished say.Ok)
     went v may is =

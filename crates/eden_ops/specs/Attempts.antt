@@ -1,5 +1,5 @@
 -- What one attempt of a request answers.
-use Rattle.std.specs.Prelude.{◌≡◌, Bool, true, Option, Some, None, Result, Ok, Err}
+use Rattle.std.specs.Prelude.{◌≡◌, Bool, true, [], ◌∷◌, Option, Some, None, Result, Ok, Err}
 use Rattle.std.specs.Option.{is_some, IsSome}
 use Rattle.eden_model.specs.declared.fault.Fault.{Fault}
 use Rattle.eden_model.specs.declared.id.Key.{Key}
@@ -17,6 +17,7 @@ use Rattle.eden_model.specs.declared.world.World.{Ghosts}
 use Rattle.eden_model.specs.Histories.{fault_of}
 use Rattle.eden_model.specs.Operations.{Replies, after}
 use Rattle.eden_model.specs.Repository.{Repository, source_of, content_with}
+use Rattle.eden_model.specs.Requests.{paths_of}
 use Rattle.eden_model.specs.Shown.{node_from}
 use Rattle.eden_model.specs.Trees.{Path, Passes, Stops, Unlisted, walk, Reach, Fails, Absent, Here, reach}
 use Rattle.eden_overlay.specs.declared.files.Files.{Ghosts as Files}
@@ -109,7 +110,7 @@ module _ {W F : Type 0} (w : Ghosts W) (f : Files F W) where
   -- The object is really needed, and nothing changed.
   pub record Waits (q : Request) (s t : Table F) (d : Cache) (k : Key) : Type 0 where
     pub need : IsRealNeed q t.root d k
-    pub keeps : Keeps w f s t
+    pub keeps : Keeps w f (paths_of q) s t
 
   abbrev pub Answers : Request → Table F → Table F → Cache → Attempt → Type 0
   Answers q s t d (Finished r) = Finishes q s t r
@@ -131,7 +132,7 @@ module _ {W F : Type 0} (w : Ghosts W) (f : Files F W) where
   -- it ends so over what memory knows now, and nothing changed
   pub record Reaches (p : Path) (s t : Table F) (c d : Cache) (a : Walked) : Type 0 where
     pub ends : Ends p s t d a
-    pub keeps : Keeps w f s t
+    pub keeps : Keeps w f (p ∷ []) s t
     pub cache : FindsTheSame c d
 
   -- .. and in which entry: it is there, the directory above has none of that name, or the walk ends before

@@ -1,14 +1,20 @@
 -- What an attempt leaves of a table that changes nothing: directories on the way are stamped and loaded.
-use Rattle.std.specs.Prelude.{◌≡◌, ◌≤◌, List, Some}
+use Rattle.std.specs.Prelude.{◌≡◌, ◌≤◌, ◌⊎◌, true, List, [], ◌∷◌, Some}
 use Rattle.eden_model.specs.declared.id.Id.{Id}
 use Rattle.eden_model.specs.declared.kind.Origin.TheVariants as origin
 use Rattle.eden_model.specs.declared.tree_entry.TreeEntry.{TreeEntry}
 use Rattle.eden_model.specs.declared.world.World.{Ghosts}
+use Rattle.eden_model.specs.Operations.{is_front}
 use Rattle.eden_model.specs.Trees.{Path}
 use Rattle.eden_overlay.specs.declared.files.Files.{Ghosts as Files}
 use Rattle.eden_tree.specs.Paths.{stamped_along}
 use Rattle.eden_tie.specs.Loading.{IsAt, LoadsObject, LoadsOwn}
 use Rattle.eden_inode.specs.Tables.{Table, HasNoTree}
+
+-- the path is one of these, or a front of one
+abbrev pub LeadsTo : List Path → Path → Type 0
+LeadsTo [] p = ⊥
+LeadsTo (q ∷ qs) p = (is_front p q ≡ true) ⊎ LeadsTo qs p
 
 module _ {W F : Type 0} (w : Ghosts W) (f : Files F W) where
   -- the directory at a path is loaded, and the entries of a tree object have the next numbers
@@ -24,12 +30,13 @@ module _ {W F : Type 0} (w : Ghosts W) (f : Files F W) where
     pub clock : u.clock ≡ t.clock
     pub changes : u.changes ≡ t.changes
 
-  pub data Step (t : Table F) : Table F → Type 0 where
-    stamps : (p : Path) → Step t (record t { root = stamped_along p t.clock t.root })
-    loads : (u : Table F) (p : Path) → Loads p t u → Beside t u → Step t u
-    rests : (u : Table F) → u.root ≡ t.root → u.next ≡ t.next → Beside t u → Step t u
+  -- directories are stamped and loaded that lead to these paths, and no others
+  pub data Step (paths : List Path) (t : Table F) : Table F → Type 0 where
+    stamps : (p : Path) → LeadsTo paths p → Step paths t (record t { root = stamped_along p t.clock t.root })
+    loads : (u : Table F) (p : Path) → LeadsTo paths p → Loads p t u → Beside t u → Step paths t u
+    rests : (u : Table F) → u.root ≡ t.root → u.next ≡ t.next → Beside t u → Step paths t u
 
   -- any number of such steps
-  pub data Keeps (s : Table F) : Table F → Type 0 where
-    same : Keeps s s
-    on : (t u : Table F) → Keeps s t → Step t u → Keeps s u
+  pub data Keeps (paths : List Path) (s : Table F) : Table F → Type 0 where
+    same : Keeps paths s s
+    on : (t u : Table F) → Keeps paths s t → Step paths t u → Keeps paths s u

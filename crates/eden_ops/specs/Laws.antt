@@ -1,5 +1,5 @@
 -- What follows of what an attempt leaves, and of waits that follow each other.
-use Rattle.std.specs.Prelude.{◌≡◌, ◌≢◌, ◌≤◌, ◌<◌, ◌++◌, ◌∷◌, ℕ, Bool, [], length, Some, None}
+use Rattle.std.specs.Prelude.{◌≡◌, ◌≢◌, ◌≤◌, ◌<◌, ◌++◌, ◌∷◌, ℕ, Bool, List, [], length, Some, None}
 use Rattle.eden_model.specs.declared.kind.Kind.TheVariants as kinds
 use Rattle.eden_model.specs.declared.world.World.{Ghosts}
 use Rattle.eden_model.specs.Trees.{Name, Path, Tree, Unlisted, walk}
@@ -10,6 +10,7 @@ use Rattle.eden_inode.specs.Tables.{Table, shows}
 use Rattle.eden_ops.specs.Changes.{Leaves}
 use Rattle.eden_ops.specs.Known.{known, IsLoadedAt, place_on}
 use Rattle.eden_ops.specs.Keeping.{Keeps}
+use Rattle.eden_ops.specs.Stamps.{StampsTowards}
 
 -- an entry as it was, but that a directory may be loaded now: what was loaded is, with its mark
 pub record Stays (y v : Standing) : Type 0 where
@@ -26,20 +27,23 @@ pub record Grows (x z : Row) : Type 0 where
 
 module _ {W F : Type 0} (w : Ghosts W) (f : Files F W) where
   abbrev pub KeepsShown : Type 0
-  KeepsShown = (s t : Table F) → Keeps w f s t → w.honest → shows w f t ≡ shows w f s
+  KeepsShown = (paths : List Path) (s t : Table F) → Keeps w f paths s t → w.honest → shows w f t ≡ shows w f s
 
   abbrev pub KeepsFiles : Type 0
-  KeepsFiles = (s t : Table F) → Keeps w f s t → w.honest → f.stored t.files ≡ f.stored s.files
+  KeepsFiles = (paths : List Path) (s t : Table F) → Keeps w f paths s t → w.honest → f.stored t.files ≡ f.stored s.files
 
   abbrev pub KeepsEntries : Type 0
-  KeepsEntries = (s t : Table F) → Keeps w f s t → Grows s.root t.root
+  KeepsEntries = (paths : List Path) (s t : Table F) → Keeps w f paths s t → Grows s.root t.root
 
   abbrev pub KeepsCounts : Type 0
-  KeepsCounts = (s t : Table F) → Keeps w f s t → (t.clock ≡ s.clock)
+  KeepsCounts = (paths : List Path) (s t : Table F) → Keeps w f paths s t → (t.clock ≡ s.clock)
       × ((t.changes ≡ s.changes) × ((s.next ≤ t.next) × (f.failures s.files ≤ f.failures t.files)))
 
   abbrev pub KeepsLeaves : Type 0
-  KeepsLeaves = (s t : Table F) → Keeps w f s t → Leaves f s t
+  KeepsLeaves = (paths : List Path) (s t : Table F) → Keeps w f paths s t → Leaves f s t
+
+  abbrev pub KeepsStamps : Type 0
+  KeepsStamps = (paths : List Path) (s t : Table F) → Keeps w f paths s t → StampsTowards paths s.clock s.root t.root
 
 -- ---- waits that follow each other
 

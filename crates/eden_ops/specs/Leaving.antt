@@ -50,9 +50,9 @@ AreSavedAbove (p ∷ ps) x = IsSavedAbove p x × AreSavedAbove ps x
 module _ {W F : Type 0} (w : Ghosts W) (f : Files F W) where
   -- Directories are loaded on the way, each entry of a tree object with the next number, and on these paths they stay so.
   -- Beside that at most so many numbers are given.
-  pub record Gives (paths : Path → Type 0) (most : ℕ) (s t : Table F) : Type 0 where
+  pub record Gives (walks : List Path) (paths : Path → Type 0) (most : ℕ) (s t : Table F) : Type 0 where
     pub reached : Table F
-    pub walked : Keeps w f s reached
+    pub walked : Keeps w f walks s reached
     pub stays : (p : Path) → paths p → IsLoadedAt p reached.root → IsLoadedAt p t.root
     pub no_less : reached.next ≤ t.next
     pub no_more : t.next ≤ reached.next + most
@@ -61,9 +61,9 @@ module _ {W F : Type 0} (w : Ghosts W) (f : Files F W) where
   -- that stays loaded. What is unsaved then was so before, unless the request may mark it.
   pub record LeavesAfter (q : Request) (s t : Table F) (a : Attempt) : Type 0 where
     pub on : LeavesOn f (LetsBe q) s t
-    pub gives : Gives (LetsBe q) (given q) s t
-    pub errs : (e : Errno) → a ≡ Finished (say.Err e) → Keeps w f s t
+    pub gives : Gives (paths_of q) (LetsBe q) (given q) s t
+    pub errs : (e : Errno) → a ≡ Finished (say.Err e) → Keeps w f (paths_of q) s t
     pub faults : (e : Fault) → a ≡ Finished (say.Fault e) → SameNames s.root t.root
     pub marked : (p : Path) → IsUnsavedAt p t.root → MayMark q a p ⊎ IsUnsavedAt p s.root
     -- Where it is no fault, nothing changed, or no directory is unsaved above the request's paths: what changed stands in the files.
-    pub stands : ¬ IsFault a → Keeps w f s t ⊎ AreSavedAbove (paths_of q) t.root
+    pub stands : ¬ IsFault a → Keeps w f (paths_of q) s t ⊎ AreSavedAbove (paths_of q) t.root

@@ -1,6 +1,7 @@
 pub mod Known
 pub mod Caches
 pub mod Keeping
+pub mod Stamps
 pub mod Faults
 pub mod Contents
 pub mod Listings

@@ -1,6 +1,8 @@
--- Requests that change nothing, and those that change something at one path.
+-- Requests that change nothing, those that change something at one path, and those that are refused before any look.
+use Rattle.std.specs.Prelude.{◌≡◌, ◌<◌, ◌⊎◌, length}
 use Rattle.eden_model.specs.declared.request.Request.{Request}
 use Rattle.eden_model.specs.declared.request.Request.TheVariants as ask
+use Rattle.eden_model.specs.Limits.{most_data, most_entries, most_target}
 
 abbrev pub IsLook : Request → Type 0
 IsLook (ask.Kind p) = Unit {0}
@@ -28,3 +30,11 @@ IsChange (ask.Symlink p target) = Unit {0}
 IsChange (ask.Unlink p) = Unit {0}
 IsChange (ask.Rmdir p) = Unit {0}
 IsChange _ = ⊥
+
+-- it asks for more than is ever given or taken, or for nothing where something has to be
+abbrev pub IsBeyondLimits : Request → Type 0
+IsBeyondLimits (ask.Read p offset count) = most_data < count
+IsBeyondLimits (ask.List p after limit) = (limit ≡ 0) ⊎ (most_entries < limit)
+IsBeyondLimits (ask.Write p offset bytes) = most_data < length bytes
+IsBeyondLimits (ask.Symlink p target) = (length target ≡ 0) ⊎ (most_target < length target)
+IsBeyondLimits _ = ⊥

@@ -6,6 +6,7 @@ ghost use Rattle.eden_ops.specs.Attempts.{Attempts};
 ghost use Rattle.eden_ops.specs.Caches.{IsStocked};
 ghost use Rattle.eden_ops.specs.Changes.{IsAdding};
 ghost use Rattle.eden_ops.specs.Leaving.{LeavesAfter};
+ghost use Rattle.eden_ops.specs.Looks.{IsBeyondLimits};
 
 use crate::end::ended;
 use crate::laws::keeps_laws;
@@ -94,6 +95,7 @@ pub fn symlink<A: Allocator + Clone, W: World, F: Files<W>, C: Allocator + Clone
     ensures attempts { Attempts W.World F.Files
         (ask.Symlink path.now target.now) inodes.old inodes.new cache.old cache.new result }
     ensures leaves { LeavesAfter W.World F.Files (ask.Symlink path.now target.now) inodes.old inodes.new result }
+    ensures refused { IsBeyondLimits (ask.Symlink path.now target.now) → inodes.new ≡ inodes.old }
 {
     if target.is_empty() {
         return Attempt::Finished(Reply::Err(Errno::ENOENT));

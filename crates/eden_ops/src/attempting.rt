@@ -1,10 +1,13 @@
 //! One attempt of any request.
+ghost use Rattle.std.specs.Prelude.{◌≡◌};
+ghost use Rattle.eden_model.specs.Requests.{paths_of};
 ghost use Rattle.eden_ops.specs.Already.{IsSoAlready};
 ghost use Rattle.eden_ops.specs.Attempts.{Attempts};
 ghost use Rattle.eden_ops.specs.Caches.{IsStocked};
 ghost use Rattle.eden_ops.specs.Keeping.{Keeps};
 ghost use Rattle.eden_ops.specs.Leaving.{LeavesAfter};
-ghost use Rattle.eden_ops.specs.Looks.{IsLook, IsChange};
+ghost use Rattle.eden_ops.specs.Looks.{IsLook, IsChange, IsBeyondLimits};
+ghost use Rattle.eden_ops.specs.Stamps.{AreWalked};
 
 use crate::adding::{create, mkdir, symlink};
 use crate::emptied::rmdir;
@@ -31,7 +34,9 @@ pub fn change<A: Allocator + Clone, W: World, F: Files<W>, C: Allocator + Clone>
     requires stocked { IsStocked W.repository W.honest cache.old }
     ensures attempts { Attempts W.World F.Files request.now inodes.old inodes.new cache.old cache.new result }
     ensures leaves { LeavesAfter W.World F.Files request.now inodes.old inodes.new result }
-    ensures already { IsSoAlready W.World F.Files request.now inodes.old → Keeps W.World F.Files inodes.old inodes.new }
+    ensures already { IsSoAlready W.World F.Files request.now inodes.old
+        → Keeps W.World F.Files (paths_of request.now) inodes.old inodes.new }
+    ensures refused { IsBeyondLimits request.now → inodes.new ≡ inodes.old }
 {
     match request {
         Request::Write(path, offset, data) => {
@@ -64,8 +69,12 @@ pub fn attempt<A: Allocator + Clone, W: World, F: Files<W>, C: Allocator + Clone
     requires { IsStocked W.repository W.honest cache.old }
     ensures attempts { Attempts W.World F.Files request.now inodes.old inodes.new cache.old cache.new result }
     ensures leaves { LeavesAfter W.World F.Files request.now inodes.old inodes.new result }
-    ensures already { IsSoAlready W.World F.Files request.now inodes.old → Keeps W.World F.Files inodes.old inodes.new }
-    ensures looks { IsLook request.now → Keeps W.World F.Files inodes.old inodes.new }
+    ensures already { IsSoAlready W.World F.Files request.now inodes.old
+        → Keeps W.World F.Files (paths_of request.now) inodes.old inodes.new }
+    ensures refused { IsBeyondLimits request.now → inodes.new ≡ inodes.old }
+    ensures walked { IsLook request.now → ¬ IsBeyondLimits request.now
+        → AreWalked (paths_of request.now) inodes.new.clock inodes.new.root }
+    ensures looks { IsLook request.now → Keeps W.World F.Files (paths_of request.now) inodes.old inodes.new }
 {
     keeps_laws::<W, F>();
     match request {

@@ -1,5 +1,5 @@
 //! One directory, loaded.
-ghost use Rattle.std.specs.Prelude.{◌≡◌, None, IfOk, IfErr, OnOk, OnErr, MatchOption};
+ghost use Rattle.std.specs.Prelude.{◌≡◌, None, IfOk, IfErr, OnOk, OnErr, MatchOption, ◌∷◌, []};
 ghost use Rattle.eden_model.specs.declared.id.ObjKind.TheVariants as objects;
 ghost use Rattle.eden_object.specs.Trees.{NamesDiffer};
 ghost use Rattle.eden_tie.specs.Loading.{IsAt};
@@ -49,7 +49,7 @@ pub(crate) fn bring<A: Allocator + Clone, W: World, F: Files<W>, C: Allocator + 
     ensures ok { OnOk result (IsLoadedAt path.now inodes.new.root) }
     ensures err { OnErr result (inodes.new.root ≡ inodes.old.root) }
     ensures lacks { IfErr result (Lacks W.World F.Files path.now inodes.old inodes.new cache.new) }
-    ensures keeps { Keeps W.World F.Files inodes.old inodes.new }
+    ensures keeps { Keeps W.World F.Files (path.now ∷ []) inodes.old inodes.new }
     ensures cache { FindsTheSame cache.old cache.new }
 {
     match origin {

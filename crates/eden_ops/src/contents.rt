@@ -1,5 +1,5 @@
 //! Contents of files and links.
-ghost use Rattle.std.specs.Prelude.{◌≡◌, ◌≤◌, ◌<◌, ◌+◌, ◌^◌, ℕ, List, length, take, drop, Some, None, IfOk, IfErr, MatchOption};
+ghost use Rattle.std.specs.Prelude.{◌≡◌, ◌≤◌, ◌<◌, ◌+◌, ◌^◌, ℕ, List, length, take, drop, Some, None, IfOk, IfErr, MatchOption, ◌∷◌, []};
 ghost use Rattle.eden_model.specs.declared.id.ObjKind.TheVariants as objects;
 ghost use Rattle.eden_model.specs.Limits.{most_file};
 ghost use Rattle.eden_model.specs.Operations.{resized, written};
@@ -122,7 +122,7 @@ pub(crate) fn make<A: Allocator + Clone, W: World, F: Files<W>, C: Allocator + C
     ensures lacks { IfErr result (Lacks W.World F.Files path.now inodes.old inodes.new cache.new) }
     ensures still { inodes.new.root ≡ inodes.old.root }
     ensures same { W.honest → shows W.World F.Files inodes.new ≡ shows W.World F.Files inodes.old }
-    ensures keeps { Keeps W.World F.Files inodes.old inodes.new }
+    ensures keeps { Keeps W.World F.Files (path.now ∷ []) inodes.old inodes.new }
     ensures cache { FindsTheSame cache.old cache.new }
 {
     keeps_laws::<W, F>();

@@ -1,5 +1,5 @@
 //! Files that can be executed, or can't.
-ghost use Rattle.std.specs.Prelude.{◌≡◌, ◌≢◌};
+ghost use Rattle.std.specs.Prelude.{◌≡◌, ◌≢◌, ◌∷◌, []};
 ghost use Rattle.eden_model.specs.declared.kind.Kind.TheVariants as kinds;
 ghost use Rattle.eden_model.specs.declared.request.Request.TheVariants as ask;
 ghost use Rattle.eden_ops.specs.Already.{IsSoAlready};
@@ -42,7 +42,7 @@ pub fn set_exec<A: Allocator + Clone, W: World, F: Files<W>, C: Allocator + Clon
         (ask.SetExec path.now exec) inodes.old inodes.new cache.old cache.new result }
     ensures leaves { LeavesAfter W.World F.Files (ask.SetExec path.now exec) inodes.old inodes.new result }
     ensures already { IsSoAlready W.World F.Files (ask.SetExec path.now exec) inodes.old
-        → Keeps W.World F.Files inodes.old inodes.new }
+        → Keeps W.World F.Files (path.now ∷ []) inodes.old inodes.new }
 {
     let seen = match meet_file(inodes, cache, alloc, path) {
         Err(stop) => return ended(stop),

@@ -1,5 +1,5 @@
 //! The file that a request is for.
-ghost use Rattle.std.specs.Prelude.{◌≡◌, IfOk, IfErr, OnOk};
+ghost use Rattle.std.specs.Prelude.{◌≡◌, IfOk, IfErr, OnOk, ◌∷◌, []};
 ghost use Rattle.eden_model.specs.declared.request.Request as request;
 ghost use Rattle.eden_model.specs.Trees.{reach};
 ghost use Rattle.eden_tree.specs.Paths.{row_at};
@@ -8,6 +8,7 @@ ghost use Rattle.eden_ops.specs.Attempts.{Attempts, IsShown, stopped};
 ghost use Rattle.eden_ops.specs.Caches.{IsStocked, FindsTheSame};
 ghost use Rattle.eden_ops.specs.Requests.{IsForFile, IsFileSeen};
 ghost use Rattle.eden_ops.specs.Keeping.{Keeps};
+ghost use Rattle.eden_ops.specs.Stamps.{IsWalked};
 
 use crate::answer::Stop;
 use crate::meet::meet;
@@ -33,7 +34,8 @@ pub(crate) fn meet_file<A: Allocator + Clone, W: World, F: Files<W>, C: Allocato
     ensures ends { (q : request.Request) → IsForFile path.now q
         → IfErr result (λ z. Attempts W.World F.Files q inodes.old inodes.new cache.old cache.new (stopped z)) }
     ensures same { W.honest → shows W.World F.Files inodes.new ≡ shows W.World F.Files inodes.old }
-    ensures keeps { Keeps W.World F.Files inodes.old inodes.new }
+    ensures keeps { Keeps W.World F.Files (path.now ∷ []) inodes.old inodes.new }
+    ensures walked { IsWalked path.now inodes.new.clock inodes.new.root }
     ensures cache { FindsTheSame cache.old cache.new }
 {
     let seen = match meet(inodes, cache, alloc, path) {

@@ -1,8 +1,10 @@
 //! What stands at a path.
+ghost use Rattle.std.specs.Prelude.{[], ◌∷◌};
 ghost use Rattle.eden_model.specs.declared.request.Request.TheVariants as ask;
 ghost use Rattle.eden_ops.specs.Attempts.{Attempts};
 ghost use Rattle.eden_ops.specs.Caches.{IsStocked};
 ghost use Rattle.eden_ops.specs.Keeping.{Keeps};
+ghost use Rattle.eden_ops.specs.Stamps.{IsWalked};
 
 use crate::end::ended;
 use crate::meet::meet;
@@ -21,7 +23,8 @@ pub fn kind<A: Allocator + Clone, W: World, F: Files<W>, C: Allocator + Clone>(
 ) -> Attempt
     requires { IsStocked W.repository W.honest cache.old }
     ensures attempts { Attempts W.World F.Files (ask.Kind path.now) inodes.old inodes.new cache.old cache.new result }
-    ensures keeps { Keeps W.World F.Files inodes.old inodes.new }
+    ensures keeps { Keeps W.World F.Files (path.now ∷ []) inodes.old inodes.new }
+    ensures walked { IsWalked path.now inodes.new.clock inodes.new.root }
 {
     match meet(inodes, cache, alloc, path) {
         Err(stop) => ended(stop),

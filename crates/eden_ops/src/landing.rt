@@ -1,5 +1,5 @@
 //! What may go to a path.
-ghost use Rattle.std.specs.Prelude.{◌≡◌};
+ghost use Rattle.std.specs.Prelude.{◌≡◌, ◌∷◌, []};
 ghost use Rattle.eden_inode.specs.Tables.{shows};
 ghost use Rattle.eden_ops.specs.Caches.{IsStocked, FindsTheSame};
 ghost use Rattle.eden_ops.specs.Keeping.{Keeps};
@@ -31,7 +31,7 @@ pub(crate) fn land<A: Allocator + Clone, W: World, F: Files<W>, C: Allocator + C
     ensures lands { Lands W.World F.Files path.now dir inodes.old inodes.new cache.new result }
     ensures shown { W.honest → LandsShown W.World F.Files path.now dir inodes.old result }
     ensures same { W.honest → shows W.World F.Files inodes.new ≡ shows W.World F.Files inodes.old }
-    ensures keeps { Keeps W.World F.Files inodes.old inodes.new }
+    ensures keeps { Keeps W.World F.Files (path.now ∷ []) inodes.old inodes.new }
     ensures cache { FindsTheSame cache.old cache.new }
 {
     let seen = match meet(inodes, cache, alloc, path) {

@@ -1,19 +1,21 @@
 ghost use Rattle.eden_ops.specs.Left.{FewAreLeft, SomeAreLeft, NeedsStay, LeftFalls};
-ghost use Rattle.eden_ops.specs.Laws.{KeepsShown, KeepsFiles, KeepsEntries, KeepsCounts, KeepsLeaves, PlaceIsFront, NextIsDeeper};
+ghost use Rattle.eden_ops.specs.Laws.{KeepsShown, KeepsFiles, KeepsEntries, KeepsCounts, KeepsLeaves, KeepsStamps};
+ghost use Rattle.eden_ops.specs.Laws.{PlaceIsFront, NextIsDeeper};
 
 use eden_model::World;
 use eden_overlay::Files;
 use eden_tie::shown_laws;
 
 /// What an attempt that changes nothing keeps: what is shown, and where the outside is honest the stored files; each entry,
-/// and what is loaded, and no directory becomes unsaved; the clock and the count of changes. Numbers are given, and the
-/// device's failures rise.
+/// and what is loaded, and no directory becomes unsaved; the clock and the count of changes; and the stamp of each directory
+/// that is loaded, unless it leads to a path of the request. Numbers are given, and the device's failures rise.
 pub fn keeps_laws<W: World, F: Files<W>>()
     ensures shown { KeepsShown W.World F.Files }
     ensures files { KeepsFiles W.World F.Files }
     ensures entries { KeepsEntries W.World F.Files }
     ensures counts { KeepsCounts W.World F.Files }
     ensures leaves { KeepsLeaves W.World F.Files }
+    ensures stamps { KeepsStamps W.World F.Files }
 {
     shown_laws();
 }

@@ -1,8 +1,10 @@
 //! Targets of links.
+ghost use Rattle.std.specs.Prelude.{[], ◌∷◌};
 ghost use Rattle.eden_model.specs.declared.request.Request.TheVariants as ask;
 ghost use Rattle.eden_ops.specs.Attempts.{Attempts};
 ghost use Rattle.eden_ops.specs.Caches.{IsStocked};
 ghost use Rattle.eden_ops.specs.Keeping.{Keeps};
+ghost use Rattle.eden_ops.specs.Stamps.{IsWalked};
 
 use crate::contents::{Form, make};
 use crate::end::ended;
@@ -24,7 +26,8 @@ pub fn readlink<A: Allocator + Clone, W: World, F: Files<W>, C: Allocator + Clon
     requires { IsStocked W.repository W.honest cache.old }
     ensures attempts { Attempts W.World F.Files
         (ask.ReadLink path.now) inodes.old inodes.new cache.old cache.new result }
-    ensures keeps { Keeps W.World F.Files inodes.old inodes.new }
+    ensures keeps { Keeps W.World F.Files (path.now ∷ []) inodes.old inodes.new }
+    ensures walked { IsWalked path.now inodes.new.clock inodes.new.root }
 {
     let seen = match meet(inodes, cache, alloc, path) {
         Err(stop) => return ended(stop),

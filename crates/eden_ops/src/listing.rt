@@ -1,5 +1,5 @@
 //! Entries of a directory.
-ghost use Rattle.std.specs.Prelude.{◌≡◌, ◌⊎◌, true, false, IfErr, OnOk, OnErr};
+ghost use Rattle.std.specs.Prelude.{◌≡◌, ◌⊎◌, true, false, IfErr, OnOk, OnErr, ◌∷◌, []};
 ghost use Rattle.eden_model.specs.declared.kind.Kind.TheVariants as kind;
 ghost use Rattle.eden_model.specs.declared.request.Request.TheVariants as ask;
 ghost use Rattle.eden_inode.specs.Tables.{shows};
@@ -7,6 +7,8 @@ ghost use Rattle.eden_ops.specs.Attempts.{Attempts, IsSeen, Lacks};
 ghost use Rattle.eden_ops.specs.Caches.{IsStocked, FindsTheSame};
 ghost use Rattle.eden_ops.specs.Keeping.{Keeps};
 ghost use Rattle.eden_ops.specs.Known.{IsLoadedAt};
+ghost use Rattle.eden_ops.specs.Looks.{IsBeyondLimits};
+ghost use Rattle.eden_ops.specs.Stamps.{IsWalked};
 
 use crate::answer::Stop;
 use crate::bring::bring;
@@ -37,7 +39,7 @@ pub(crate) fn bring_seen<A: Allocator + Clone, W: World, F: Files<W>, C: Allocat
     ensures still { OnErr result (inodes.new.root ≡ inodes.old.root) }
     ensures lacks { IfErr result (Lacks W.World F.Files path.now inodes.old inodes.new cache.new) }
     ensures same { W.honest → shows W.World F.Files inodes.new ≡ shows W.World F.Files inodes.old }
-    ensures keeps { Keeps W.World F.Files inodes.old inodes.new }
+    ensures keeps { Keeps W.World F.Files (path.now ∷ []) inodes.old inodes.new }
     ensures cache { FindsTheSame cache.old cache.new }
 {
     keeps_laws::<W, F>();
@@ -60,7 +62,10 @@ pub fn list<A: Allocator + Clone, W: World, F: Files<W>, C: Allocator + Clone>(
     requires { IsStocked W.repository W.honest cache.old }
     ensures attempts { Attempts W.World F.Files
         (ask.List path.now after.now limit) inodes.old inodes.new cache.old cache.new result }
-    ensures keeps { Keeps W.World F.Files inodes.old inodes.new }
+    ensures keeps { Keeps W.World F.Files (path.now ∷ []) inodes.old inodes.new }
+    ensures walked { ¬ IsBeyondLimits (ask.List path.now after.now limit)
+        → IsWalked path.now inodes.new.clock inodes.new.root }
+    ensures refused { IsBeyondLimits (ask.List path.now after.now limit) → inodes.new ≡ inodes.old }
 {
     if limit == 0 || limit > MAX_ENTRIES {
         return Attempt::Finished(Reply::Err(Errno::EINVAL));

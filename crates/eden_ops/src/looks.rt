@@ -1,8 +1,11 @@
 //! The looks, by their request.
+ghost use Rattle.std.specs.Prelude.{◌≡◌};
+ghost use Rattle.eden_model.specs.Requests.{paths_of};
 ghost use Rattle.eden_ops.specs.Attempts.{Attempts};
 ghost use Rattle.eden_ops.specs.Caches.{IsStocked};
 ghost use Rattle.eden_ops.specs.Keeping.{Keeps};
-ghost use Rattle.eden_ops.specs.Looks.{IsLook};
+ghost use Rattle.eden_ops.specs.Looks.{IsLook, IsBeyondLimits};
+ghost use Rattle.eden_ops.specs.Stamps.{AreWalked};
 
 use crate::kinds::kind;
 use crate::links::readlink;
@@ -25,7 +28,10 @@ pub fn look<A: Allocator + Clone, W: World, F: Files<W>, C: Allocator + Clone>(
     requires look { IsLook request.now }
     requires stocked { IsStocked W.repository W.honest cache.old }
     ensures attempts { Attempts W.World F.Files request.now inodes.old inodes.new cache.old cache.new result }
-    ensures keeps { Keeps W.World F.Files inodes.old inodes.new }
+    ensures keeps { Keeps W.World F.Files (paths_of request.now) inodes.old inodes.new }
+    ensures refused { IsBeyondLimits request.now → inodes.new ≡ inodes.old }
+    ensures walked { ¬ IsBeyondLimits request.now
+        → AreWalked (paths_of request.now) inodes.new.clock inodes.new.root }
 {
     match request {
         Request::Kind(path) => kind(inodes, cache, alloc, path),

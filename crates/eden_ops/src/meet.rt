@@ -1,9 +1,10 @@
 //! What a request meets at a path.
-ghost use Rattle.std.specs.Prelude.{◌≡◌};
+ghost use Rattle.std.specs.Prelude.{◌≡◌, ◌∷◌, []};
 ghost use Rattle.eden_inode.specs.Tables.{shows};
 ghost use Rattle.eden_ops.specs.Attempts.{Meets, MeetsShown};
 ghost use Rattle.eden_ops.specs.Caches.{IsStocked, FindsTheSame};
 ghost use Rattle.eden_ops.specs.Keeping.{Keeps};
+ghost use Rattle.eden_ops.specs.Stamps.{IsWalked};
 
 use crate::answer::Stop;
 use crate::bring::bring;
@@ -27,8 +28,9 @@ fn pass<A: Allocator + Clone, W: World, F: Files<W>, C: Allocator + Clone>(
 ) -> Result<Option<Seen>, Stop>
     requires { IsStocked W.repository W.honest cache.old }
     ensures meets { Meets W.World F.Files path.now inodes.old inodes.new cache.new result }
-    ensures keeps { Keeps W.World F.Files inodes.old inodes.new }
+    ensures keeps { Keeps W.World F.Files (path.now ∷ []) inodes.old inodes.new }
     ensures cache { FindsTheSame cache.old cache.new }
+    ensures walked { IsWalked path.now inodes.new.clock inodes.new.root }
 {
     // So many directories from the root on are loaded.
     let mut loaded = 0;
@@ -62,8 +64,9 @@ pub(crate) fn meet<A: Allocator + Clone, W: World, F: Files<W>, C: Allocator + C
     ensures meets { Meets W.World F.Files path.now inodes.old inodes.new cache.new result }
     ensures shown { W.honest → MeetsShown W.World F.Files path.now inodes.old inodes.new result }
     ensures same { W.honest → shows W.World F.Files inodes.new ≡ shows W.World F.Files inodes.old }
-    ensures keeps { Keeps W.World F.Files inodes.old inodes.new }
+    ensures keeps { Keeps W.World F.Files (path.now ∷ []) inodes.old inodes.new }
     ensures cache { FindsTheSame cache.old cache.new }
+    ensures walked { IsWalked path.now inodes.new.clock inodes.new.root }
 {
     keeps_laws::<W, F>();
     shown_laws();

@@ -1,8 +1,11 @@
 //! Bytes of a file.
+ghost use Rattle.std.specs.Prelude.{◌≡◌, [], ◌∷◌};
 ghost use Rattle.eden_model.specs.declared.request.Request.TheVariants as ask;
 ghost use Rattle.eden_ops.specs.Attempts.{Attempts};
 ghost use Rattle.eden_ops.specs.Caches.{IsStocked};
 ghost use Rattle.eden_ops.specs.Keeping.{Keeps};
+ghost use Rattle.eden_ops.specs.Looks.{IsBeyondLimits};
+ghost use Rattle.eden_ops.specs.Stamps.{IsWalked};
 
 use crate::contents::{Form, make};
 use crate::end::ended;
@@ -25,7 +28,10 @@ pub fn read<A: Allocator + Clone, W: World, F: Files<W>, C: Allocator + Clone>(
     requires { IsStocked W.repository W.honest cache.old }
     ensures attempts { Attempts W.World F.Files
         (ask.Read path.now offset count) inodes.old inodes.new cache.old cache.new result }
-    ensures keeps { Keeps W.World F.Files inodes.old inodes.new }
+    ensures keeps { Keeps W.World F.Files (path.now ∷ []) inodes.old inodes.new }
+    ensures walked { ¬ IsBeyondLimits (ask.Read path.now offset count)
+        → IsWalked path.now inodes.new.clock inodes.new.root }
+    ensures refused { IsBeyondLimits (ask.Read path.now offset count) → inodes.new ≡ inodes.old }
 {
     if count > MAX_DATA {
         return Attempt::Finished(Reply::Err(Errno::EINVAL));

@@ -1,5 +1,5 @@
 //! What stands at a path, and how long it is.
-ghost use Rattle.std.specs.Prelude.{◌≡◌, ℕ, List, length, Some, None, Err, IfOk, IfErr, OnErr, MatchOption};
+ghost use Rattle.std.specs.Prelude.{◌≡◌, ℕ, List, length, Some, None, Err, IfOk, IfErr, OnErr, MatchOption, ◌∷◌, []};
 ghost use Rattle.eden_model.specs.declared.id.Key as key;
 ghost use Rattle.eden_model.specs.declared.id.ObjKind.TheVariants as objects;
 ghost use Rattle.eden_model.specs.declared.request.Request.TheVariants as ask;
@@ -9,6 +9,7 @@ ghost use Rattle.eden_ops.specs.Attempts.{Attempts, Lacks};
 ghost use Rattle.eden_ops.specs.Caches.{IsStocked, FindsTheSame, IsSize, object_at, size_at};
 ghost use Rattle.eden_ops.specs.Contents.{HasContent, HasLength};
 ghost use Rattle.eden_ops.specs.Keeping.{Keeps};
+ghost use Rattle.eden_ops.specs.Stamps.{IsWalked};
 
 use crate::answer::Stop;
 use crate::end::ended;
@@ -85,7 +86,7 @@ fn size<A: Allocator + Clone, W: World, F: Files<W>, C: Allocator + Clone>(
     ensures unkept { (k : key.Key) → result ≡ Err (stops.Needs k) → size_at cache.new k.id ≡ None }
     ensures still { inodes.new.root ≡ inodes.old.root }
     ensures same { W.honest → shows W.World F.Files inodes.new ≡ shows W.World F.Files inodes.old }
-    ensures keeps { Keeps W.World F.Files inodes.old inodes.new }
+    ensures keeps { Keeps W.World F.Files (path.now ∷ []) inodes.old inodes.new }
     ensures cache { FindsTheSame cache.old cache.new }
 {
     keeps_laws::<W, F>();
@@ -111,7 +112,8 @@ pub fn stat<A: Allocator + Clone, W: World, F: Files<W>, C: Allocator + Clone>(
 ) -> Attempt
     requires { IsStocked W.repository W.honest cache.old }
     ensures attempts { Attempts W.World F.Files (ask.Stat path.now) inodes.old inodes.new cache.old cache.new result }
-    ensures keeps { Keeps W.World F.Files inodes.old inodes.new }
+    ensures keeps { Keeps W.World F.Files (path.now ∷ []) inodes.old inodes.new }
+    ensures walked { IsWalked path.now inodes.new.clock inodes.new.root }
 {
     let seen = match meet(inodes, cache, alloc, path) {
         Err(stop) => return ended(stop),

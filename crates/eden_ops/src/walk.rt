@@ -1,6 +1,7 @@
 //! The walk over the directories above a path.
 ghost use Rattle.eden_ops.specs.Attempts.{Reaches, EndsShown};
 ghost use Rattle.eden_ops.specs.Caches.{IsStocked};
+ghost use Rattle.eden_ops.specs.Stamps.{IsWalked};
 
 use crate::answer::{Stop, Walked};
 use crate::meet::meet;
@@ -22,6 +23,7 @@ pub fn reach<A: Allocator + Clone, W: World, F: Files<W>, C: Allocator + Clone>(
     requires { IsStocked W.repository W.honest cache.old }
     ensures reaches { Reaches W.World F.Files path.now inodes.old inodes.new cache.old cache.new result }
     ensures shown { W.honest → EndsShown W.World F.Files path.now inodes.old result }
+    ensures walked { IsWalked path.now inodes.new.clock inodes.new.root }
 {
     match meet(inodes, cache, alloc, path) {
         Ok(_) => Walked::Through,

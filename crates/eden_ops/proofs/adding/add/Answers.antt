@@ -19,7 +19,7 @@ use Rattle.eden_ops.specs.Keeping.{same}
 use Rattle.eden_ops.specs.Changes.{SameNames}
 use Rattle.eden_ops.specs.Leaving.{AreSavedAbove, given}
 use Rattle.eden_ops.proofs.Additions.{adds, asked_add, short_new, lacks_entry, may_add}
-use Rattle.eden_ops.proofs.Additions.{absent_alone, put_new, not_added, root_refused, add_count, given_more, one_given, adds_one, adds_path, one_more, one_at_most, no_kind}
+use Rattle.eden_ops.proofs.Additions.{absent_alone, put_new, not_added, root_refused, add_count, given_more, one_given, adds_one, adds_path, adds_keeps, one_more, one_at_most, no_kind}
 use Rattle.eden_ops.proofs.Answering.{walk_ended, says_here}
 use Rattle.eden_ops.proofs.Changing.{not_root, changed, refused}
 use Rattle.eden_ops.proofs.Roots.{root_same, root_chained}
@@ -37,13 +37,16 @@ returns-in-Err-clause-attempts g c q adding =
     let e = c.in-Err.ensures in
     let root = not_root p c.in-Some.above.now c.in-Some.name.now (sym c.as_slice.ensures ∙ c.in-Some.ensures.cases.0) in
     subst (λ (a : Attempt). Attempts g.W.World g.F.Files q s t c.args.cache.now c.meet.new.cache a) (sym c.ended.ensures)
-    (walk_ended g.W.World g.F.Files q p adds (asked_add p root q c.args.new adding) s t c.args.cache.now c.meet.new.cache e.same e.keeps e.cache c.in-Err.stop e.meets e.shown)
+    (walk_ended g.W.World g.F.Files q p adds (asked_add p root q c.args.new adding) s t c.args.cache.now c.meet.new.cache e.same
+    (adds_keeps g.W.World g.F.Files p q c.args.new adding s t e.keeps) e.cache c.in-Err.stop e.meets e.shown)
 
 pub returns-in-Err-clause-leaves : goal.returns-in-Err-clause-leaves
-returns-in-Err-clause-leaves g c q adding = leaves_kept g.W.World g.F.Files c.args.inodes.now c.meet.new.inodes c.meet.ensures.keeps q _
+returns-in-Err-clause-leaves g c q adding = leaves_kept g.W.World g.F.Files q c.args.inodes.now c.meet.new.inodes
+    (adds_keeps g.W.World g.F.Files c.args.path.now q c.args.new adding c.args.inodes.now c.meet.new.inodes c.meet.ensures.keeps) _
 
 pub returns-in-Ok-Some-clause-leaves : goal.returns-in-Ok-Some-clause-leaves
-returns-in-Ok-Some-clause-leaves g c q adding = leaves_kept g.W.World g.F.Files c.args.inodes.now c.meet.new.inodes c.meet.ensures.keeps q _
+returns-in-Ok-Some-clause-leaves g c q adding = leaves_kept g.W.World g.F.Files q c.args.inodes.now c.meet.new.inodes
+    (adds_keeps g.W.World g.F.Files c.args.path.now q c.args.new adding c.args.inodes.now c.meet.new.inodes c.meet.ensures.keeps) _
 
 pub returns-in-Err-settle-clause-attempts : goal.returns-in-Err-settle-clause-attempts
 returns-in-Err-settle-clause-attempts g c q adding =
@@ -51,7 +54,7 @@ returns-in-Err-settle-clause-attempts g c q adding =
     let t = c.meet.new.inodes in
     let e = c.in-Ok-None.ensures in
     let x = c.in-Err-settle.ensures.settles.readies in
-    refused g.W.World g.F.Files q s t c.settle.new.inodes c.args.cache.now c.meet.new.cache e.same ((c.keeps_laws.ensures.counts s t e.keeps).1.1.1) e.cache c.in-Err-settle.fault x.fault
+    refused g.W.World g.F.Files q s t c.settle.new.inodes c.args.cache.now c.meet.new.cache e.same ((c.keeps_laws.ensures.counts _ s t e.keeps).1.1.1) e.cache c.in-Err-settle.fault x.fault
     (λ y is. no_kind c.args.path.now y q c.args.new adding is) x.shown
 
 pub returns-in-Err-settle-clause-leaves : goal.returns-in-Err-settle-clause-leaves
@@ -59,7 +62,8 @@ returns-in-Err-settle-clause-leaves g c q adding =
     let t = c.meet.new.inodes in
     let v = c.settle.new.inodes in
     let x = c.in-Err-settle.ensures.settles in
-    leaves_changed g.W.World g.F.Files c.args.inodes.now t c.meet.ensures.keeps v (Finished (say.Fault c.in-Err-settle.fault)) (λ e is. cc) (λ e is. x.readies.names) q
+    leaves_changed g.W.World g.F.Files q c.args.inodes.now t
+    (adds_keeps g.W.World g.F.Files c.args.path.now q c.args.new adding c.args.inodes.now c.meet.new.inodes c.meet.ensures.keeps) v (Finished (say.Fault c.in-Err-settle.fault)) (λ e is. cc) (λ e is. x.readies.names)
     (settles_leaves g.W.World g.F.Files t v _ x) (none_given t.next v.next (given q) x.readies.next) (λ no. absurd (no (c.in-Err-settle.fault, refl)))
 
 pub add_entry-requires-clause-lacks : goal.add_entry-requires-clause-lacks
@@ -92,7 +96,7 @@ returns-in-Ok-clause-attempts g c q adding =
     let met = subst (λ (o : Option Seen). Meets g.W.World g.F.Files p s t c.meet.new.cache (Ok o)) c.in-Ok-None.field-0-is e.meets in
     let lacks = lacks_entry p c.in-Some.above.now c.in-Some.name.now t.root split met.0 met.1 in
     changed g.W.World g.F.Files q s v u c.args.cache.now c.meet.new.cache (λ h. x.readies.shown h ∙ e.same h)
-    (le_trans (c.keeps_laws.ensures.counts s t e.keeps).1.1.1 (settles_leaves g.W.World g.F.Files t v _ x).everywhere.failures) e.cache
+    (le_trans (c.keeps_laws.ensures.counts _ s t e.keeps).1.1.1 (settles_leaves g.W.World g.F.Files t v _ x).everywhere.failures) e.cache
     (λ h. (asked_add p root q c.args.new adding).says G say.Ok
     (subst (λ (x : Reach). Table_Meets x (Says say.Ok) (adds G) say.Ok) (sym (subst (λ (o : Option Seen). MeetsShown g.W.World g.F.Files p s t (Ok o)) c.in-Ok-None.field-0-is (e.shown h))) refl))
     (λ h.
@@ -117,7 +121,8 @@ returns-in-Ok-clause-leaves g c q adding =
     let root = root_chained above v.root u.root (λ d. changed_listing d name (Some (own_row v.next c.args.new))) (loaded_there above v.root lacks.row lacks.directory lacks.at lacks.holds) x.ok in
     let l = leaves_by g.F.Files v u x.stays root x.marks (one_given v.next u.next x.next) x.rest (no_less (g.F.Files.failures v.files) (g.F.Files.failures u.files) x.counted) in
     let saved = subst (λ (r : Path). IsSavedAbove r v.root) c.as_slice-2.ensures c.in_default-settle.ensures.saved in
-    leaves_changed g.W.World g.F.Files c.args.inodes.now t c.meet.ensures.keeps u (Finished say.Ok) (λ e is. cc) (λ e is. cc) q
+    leaves_changed g.W.World g.F.Files q c.args.inodes.now t
+    (adds_keeps g.W.World g.F.Files c.args.path.now q c.args.new adding c.args.inodes.now c.meet.new.inodes c.meet.ensures.keeps) u (Finished say.Ok) (λ e is. cc) (λ e is. cc)
     (leaves_then g.W.World g.F.Files t v u (settles_leaves g.W.World g.F.Files t v _ st) l)
     (subst (λ (k : ℕ). u.next ≤ k + given q) st.readies.next (one_more v.next u.next (given q) x.next (adds_one p q c.args.new adding)))
     (λ no. subst (λ (ps : List Path). AreSavedAbove ps u.root) (sym (adds_path p q c.args.new adding)) (saved_on p v.root u.root saved x.marks, tt))
@@ -135,7 +140,7 @@ returns-in-Err-add_entry-clause-attempts g c q adding =
     let root = not_root p c.in-Some.above.now c.in-Some.name.now (sym c.as_slice.ensures ∙ c.in-Some.ensures.cases.0) in
     let met = subst (λ (o : Option Seen). Meets g.W.World g.F.Files p s t c.meet.new.cache (Ok o)) c.in-Ok-None.field-0-is e.meets in
     not_added g.W.World g.F.Files p q c.args.new adding s v u c.args.cache.now c.meet.new.cache (λ h. st.readies.shown h ∙ e.same h)
-    (le_trans (c.keeps_laws.ensures.counts s t e.keeps).1.1.1 (settles_leaves g.W.World g.F.Files t v _ st).everywhere.failures) e.cache c.in-Err-add_entry.fault
+    (le_trans (c.keeps_laws.ensures.counts _ s t e.keeps).1.1.1 (settles_leaves g.W.World g.F.Files t v _ st).everywhere.failures) e.cache c.in-Err-add_entry.fault
     (may_add p q c.args.new adding root v.root (walk_still t.root v.root st.alike p ∙ met.0) (row_none t.root v.root st.alike p met.1)) x.fault
     (λ is. x.unused (ap Err is)) x.unseen
 
@@ -148,8 +153,8 @@ returns-in-Err-add_entry-clause-leaves g c q adding =
     let st = c.settle.ensures.settles in
     let counted = add_count v.next (g.F.Files.failures v.files) (g.F.Files.failures u.files) c.in-Err-add_entry.fault x.fault in
     let l = leaves_by g.F.Files v u x.stays (root_same v.root u.root x.err) x.marks (given_more v.next u.next _ _ x.given) x.rest counted in
-    leaves_changed g.W.World g.F.Files c.args.inodes.now t c.meet.ensures.keeps u (Finished (say.Fault c.in-Err-add_entry.fault)) (λ e is. cc)
-    (λ e is. subst (SameNames t.root) (sym x.err) st.readies.names) q (leaves_then g.W.World g.F.Files t v u (settles_leaves g.W.World g.F.Files t v _ st) l)
+    leaves_changed g.W.World g.F.Files q c.args.inodes.now t
+    (adds_keeps g.W.World g.F.Files c.args.path.now q c.args.new adding c.args.inodes.now c.meet.new.inodes c.meet.ensures.keeps) u (Finished (say.Fault c.in-Err-add_entry.fault)) (λ e is. cc) (λ e is. subst (SameNames t.root) (sym x.err) st.readies.names) (leaves_then g.W.World g.F.Files t v u (settles_leaves g.W.World g.F.Files t v _ st) l)
     (subst (λ (k : ℕ). u.next ≤ k + given q) st.readies.next (one_at_most v.next u.next (given q) _ _ x.given (adds_one c.args.path.now q c.args.new adding)))
     (λ no. absurd (no (c.in-Err-add_entry.fault, refl)))
 
@@ -169,8 +174,9 @@ returns-in-Ok-Some-clause-attempts g c q adding =
     let seen = subst (λ (o : Option Seen). Meets g.W.World g.F.Files p s t c.meet.new.cache (Ok o)) c.in-Ok-Some.field-0-is e.meets in
     let shown : g.W.World.honest → IsShown g.W.World.repository (g.F.Files.stored t.files) (row_at p t.root) (reach (shows g.W.World g.F.Files s) p) = λ h. subst
     (λ (o : Option Seen). MeetsShown g.W.World g.F.Files p s t (Ok o)) c.in-Ok-Some.field-0-is (e.shown h) in
-    says_here g.W.World g.F.Files q p adds (asked_add p root q c.args.new adding) s t c.args.cache.now c.meet.new.cache e.same e.keeps e.cache seen.row seen.there shown (say.Err EEXIST) refl
+    says_here g.W.World g.F.Files q p adds (asked_add p root q c.args.new adding) s t c.args.cache.now c.meet.new.cache e.same
+    (adds_keeps g.W.World g.F.Files p q c.args.new adding s t e.keeps) e.cache seen.row seen.there shown (say.Err EEXIST) refl
     (λ T. refl) (λ h listed. refl)
 
 pub returns-in_default-clause-leaves : goal.returns-in_default-clause-leaves
-returns-in_default-clause-leaves g c q adding = leaves_kept g.W.World g.F.Files c.args.inodes.now c.args.inodes.now same q _
+returns-in_default-clause-leaves g c q adding = leaves_kept g.W.World g.F.Files q c.args.inodes.now c.args.inodes.now same _

@@ -8,6 +8,7 @@ use Rattle.eden_ops.specs.Keeping.{same}
 use Rattle.eden_ops.proofs.Answering.{answered}
 use Rattle.eden_ops.proofs.Finding.{finds_same}
 use Rattle.eden_ops.proofs.Leaving.{leaves_kept}
+use Rattle.eden_ops.proofs.Looking.{some_at_most}
 use Rattle.eden_ops.proofs.adding.symlink.Goals as goal
 
 pub add-requires-clause-asked : goal.add-requires-clause-asked
@@ -22,10 +23,10 @@ returns-clause-leaves g c = c.add.ensures.leaves (ask.Symlink c.args.path.now c.
     (link c.args.target (eqb-false (length c.args.target.now) 0 (sym c.if-is_empty.ensures)) c.if-target-gt-MAX_TARGET.false)
 
 pub returns-then-is_empty-clause-leaves : goal.returns-then-is_empty-clause-leaves
-returns-then-is_empty-clause-leaves g c = leaves_kept g.W.World g.F.Files c.args.inodes.now c.args.inodes.now same (ask.Symlink c.args.path.now c.args.target.now) _
+returns-then-is_empty-clause-leaves g c = leaves_kept g.W.World g.F.Files (ask.Symlink c.args.path.now c.args.target.now) c.args.inodes.now c.args.inodes.now same _
 
 pub returns-then-target-gt-MAX_TARGET-clause-leaves : goal.returns-then-target-gt-MAX_TARGET-clause-leaves
-returns-then-target-gt-MAX_TARGET-clause-leaves g c = leaves_kept g.W.World g.F.Files c.args.inodes.now c.args.inodes.now same (ask.Symlink c.args.path.now c.args.target.now) _
+returns-then-target-gt-MAX_TARGET-clause-leaves g c = leaves_kept g.W.World g.F.Files (ask.Symlink c.args.path.now c.args.target.now) c.args.inodes.now c.args.inodes.now same _
 
 pub returns-then-is_empty-clause-attempts : goal.returns-then-is_empty-clause-attempts
 returns-then-is_empty-clause-attempts g c =
@@ -33,3 +34,6 @@ returns-then-is_empty-clause-attempts g c =
     let s = c.args.inodes.now in
     answered g.W.World g.F.Files q s s c.args.cache.now c.args.cache.now (λ h. refl) (finds_same c.args.cache.now) (say.Err ENOENT) refl (λ G. refl)
     (λ h. rw (sym c.is_empty.ensures ∙ c.if-is_empty.true) refl)
+
+pub returns-clause-refused : goal.returns-clause-refused
+returns-clause-refused g c beyond = absurd (some_at_most (length c.args.target.now) 4095 (eqb-false (length c.args.target.now) 0 (sym c.if-is_empty.ensures)) c.if-target-gt-MAX_TARGET.false beyond)

@@ -54,7 +54,7 @@ returns-in-Err-clause-attempts g c =
     (asks_rmdir p (not_root p c.in-Some.above.now c.in-Some.name.now split)) s t c.args.cache.now c.meet.new.cache e.same e.keeps e.cache c.in-Err.stop e.meets e.shown)
 
 pub returns-in-Err-clause-leaves : goal.returns-in-Err-clause-leaves
-returns-in-Err-clause-leaves g c = leaves_kept g.W.World g.F.Files c.args.inodes.now c.meet.new.inodes c.meet.ensures.keeps (ask.Rmdir c.args.path.now) _
+returns-in-Err-clause-leaves g c = leaves_kept g.W.World g.F.Files (ask.Rmdir c.args.path.now) c.args.inodes.now c.meet.new.inodes c.meet.ensures.keeps _
 
 pub returns-in-Ok-None-clause-attempts : goal.returns-in-Ok-None-clause-attempts
 returns-in-Ok-None-clause-attempts g c =
@@ -67,7 +67,7 @@ returns-in-Ok-None-clause-attempts g c =
     (λ h. subst (λ (o : Option Seen). MeetsShown g.W.World g.F.Files p s t (Ok o)) c.in-Ok-None.field-0-is (e.shown h))
 
 pub returns-in-Ok-None-clause-leaves : goal.returns-in-Ok-None-clause-leaves
-returns-in-Ok-None-clause-leaves g c = leaves_kept g.W.World g.F.Files c.args.inodes.now c.meet.new.inodes c.meet.ensures.keeps (ask.Rmdir c.args.path.now) _
+returns-in-Ok-None-clause-leaves g c = leaves_kept g.W.World g.F.Files (ask.Rmdir c.args.path.now) c.args.inodes.now c.meet.new.inodes c.meet.ensures.keeps _
 
 -- ---- what is there is no directory, or isn't loaded
 
@@ -83,7 +83,7 @@ returns-in-File g c =
       attempts = met_tells g.W.World g.F.Files p s t c.meet.new.cache _ c.in-Ok-Some.seen c.in-Ok-Some.field-0-is e.meets (ask.Rmdir p) (removes p)
           (asks_rmdir p (not_root p c.in-Some.above.now c.in-Some.name.now split)) c.args.cache.now e.same e.keeps e.cache e.shown (say.Err ENOTDIR) refl (λ T. refl)
           (λ k a listed is on. lists_other (IfEmpty (shows g.W.World g.F.Files s) p) k a listed (λ dir. no_dir c.what.result c.in-File.is (sym other.1 ∙ sym is ∙ dir)));
-      leaves = leaves_kept g.W.World g.F.Files s t e.keeps (ask.Rmdir p) _;
+      leaves = leaves_kept g.W.World g.F.Files (ask.Rmdir p) s t e.keeps _;
     }
 
 pub returns-in-Err-bring_seen-clause-attempts : goal.returns-in-Err-bring_seen-clause-attempts
@@ -109,8 +109,7 @@ returns-in-Err-bring_seen-clause-attempts g c =
 
 pub returns-in-Err-bring_seen-clause-leaves : goal.returns-in-Err-bring_seen-clause-leaves
 returns-in-Err-bring_seen-clause-leaves g c =
-    leaves_kept g.W.World g.F.Files c.args.inodes.now c.bring_seen.new.inodes
-    (keeps_on g.W.World g.F.Files c.args.inodes.now c.meet.new.inodes c.bring_seen.new.inodes c.meet.ensures.keeps c.bring_seen.ensures.keeps) (ask.Rmdir c.args.path.now) _
+    leaves_kept g.W.World g.F.Files (ask.Rmdir c.args.path.now) c.args.inodes.now c.bring_seen.new.inodes (keeps_on g.W.World g.F.Files c.args.inodes.now c.meet.new.inodes c.bring_seen.new.inodes c.meet.ensures.keeps c.bring_seen.ensures.keeps) _
 
 -- ---- it has entries
 
@@ -132,8 +131,7 @@ returns-then-not-is_empty-clause-attempts g c =
 
 pub returns-then-not-is_empty-clause-leaves : goal.returns-then-not-is_empty-clause-leaves
 returns-then-not-is_empty-clause-leaves g c =
-    leaves_kept g.W.World g.F.Files c.args.inodes.now c.bring_seen.new.inodes
-    (keeps_on g.W.World g.F.Files c.args.inodes.now c.meet.new.inodes c.bring_seen.new.inodes c.meet.ensures.keeps c.bring_seen.ensures.keeps) (ask.Rmdir c.args.path.now) _
+    leaves_kept g.W.World g.F.Files (ask.Rmdir c.args.path.now) c.args.inodes.now c.bring_seen.new.inodes (keeps_on g.W.World g.F.Files c.args.inodes.now c.meet.new.inodes c.bring_seen.new.inodes c.meet.ensures.keeps c.bring_seen.ensures.keeps) _
 
 -- ---- it is let go of
 
@@ -147,7 +145,7 @@ returns-in-Err-let_go-clause-attempts g c =
     let e = c.in-Ok-Some.ensures in
     let b = c.bring_seen.ensures in
     let kept = keeps_on g.W.World g.F.Files s t u e.keeps b.keeps in
-    refused g.W.World g.F.Files (ask.Rmdir p) s u v c.args.cache.now c.bring_seen.new.cache (λ h. b.same h ∙ e.same h) (keeps_counts g.W.World g.F.Files s u kept).1.1.1
+    refused g.W.World g.F.Files (ask.Rmdir p) s u v c.args.cache.now c.bring_seen.new.cache (λ h. b.same h ∙ e.same h) (keeps_counts g.W.World g.F.Files _ s u kept).1.1.1
     (finds_on c.args.cache.now c.meet.new.cache c.bring_seen.new.cache e.cache b.cache) c.in-Err-let_go.fault c.in-Err-let_go.ensures.fault (λ y is. cc) c.let_go.ensures.same
 
 pub returns-in-Err-let_go-clause-leaves : goal.returns-in-Err-let_go-clause-leaves
@@ -171,7 +169,7 @@ returns-in-Err-settle-clause-attempts g c =
     let e = c.in-Ok-Some.ensures in
     let b = c.bring_seen.ensures in
     let x = c.in-Err-settle.ensures.settles.readies in
-    let counts = (keeps_counts g.W.World g.F.Files s u (keeps_on g.W.World g.F.Files s t u e.keeps b.keeps)).1.1.1 in
+    let counts = (keeps_counts g.W.World g.F.Files _ s u (keeps_on g.W.World g.F.Files s t u e.keeps b.keeps)).1.1.1 in
     refused g.W.World g.F.Files (ask.Rmdir c.args.path.now) s v c.settle.new.inodes c.args.cache.now c.bring_seen.new.cache (λ h. c.let_go.ensures.same h ∙ b.same h ∙ e.same h)
     (le_trans counts c.let_go.ensures.counted)
     (finds_on c.args.cache.now c.meet.new.cache c.bring_seen.new.cache e.cache b.cache) c.in-Err-settle.fault x.fault (λ y is. cc) x.shown
@@ -219,7 +217,7 @@ returns-in-Ok-clause-attempts g c =
     let alike : g.W.World.honest → shows g.W.World g.F.Files u ≡ G = λ h. b.same h ∙ e.same h in
     let same : g.W.World.honest → shows g.W.World g.F.Files v ≡ G = λ h. c.let_go.ensures.same h ∙ alike h in
     let none : g.W.World.honest → HasNoEntries G p = λ h. subst (λ (T : Tree). HasNoEntries T p) (alike h) (c.if-not-is_empty.ensures.entries h) in
-    let counts = (keeps_counts g.W.World g.F.Files s u (keeps_on g.W.World g.F.Files s t u e.keeps b.keeps)).1.1.1 in
+    let counts = (keeps_counts g.W.World g.F.Files _ s u (keeps_on g.W.World g.F.Files s t u e.keeps b.keeps)).1.1.1 in
     changed g.W.World g.F.Files (ask.Rmdir p) s w z c.args.cache.now c.bring_seen.new.cache (λ h. st.readies.shown h ∙ same h)
     (le_trans (le_trans counts c.let_go.ensures.counted) (settles_leaves g.W.World g.F.Files v w _ st).everywhere.failures)
     (finds_on c.args.cache.now c.meet.new.cache c.bring_seen.new.cache e.cache b.cache)
@@ -268,7 +266,7 @@ returns-in-Err-remove_entry-clause-attempts g c =
     let x = c.in-Err-remove_entry.ensures in
     let w = c.settle.new.inodes in
     let st = c.settle.ensures.settles in
-    let counts = (keeps_counts g.W.World g.F.Files s u (keeps_on g.W.World g.F.Files s t u e.keeps b.keeps)).1.1.1 in
+    let counts = (keeps_counts g.W.World g.F.Files _ s u (keeps_on g.W.World g.F.Files s t u e.keeps b.keeps)).1.1.1 in
     refused g.W.World g.F.Files (ask.Rmdir p) s w c.remove_entry.new.inodes c.args.cache.now c.bring_seen.new.cache (λ h. st.readies.shown h ∙ c.let_go.ensures.same h ∙ b.same h ∙ e.same h)
     (le_trans (le_trans counts c.let_go.ensures.counted) (settles_leaves g.W.World g.F.Files v w _ st).everywhere.failures)
     (finds_on c.args.cache.now c.meet.new.cache c.bring_seen.new.cache e.cache b.cache) c.in-Err-remove_entry.fault x.fault (λ y is. cc) x.unseen
@@ -292,4 +290,4 @@ returns-in-Err-remove_entry-clause-leaves g c =
     (λ no. absurd (no (c.in-Err-remove_entry.fault, refl)))
 
 pub returns-in_default-clause-leaves : goal.returns-in_default-clause-leaves
-returns-in_default-clause-leaves g c = leaves_kept g.W.World g.F.Files c.args.inodes.now c.args.inodes.now same (ask.Rmdir c.args.path.now) _
+returns-in_default-clause-leaves g c = leaves_kept g.W.World g.F.Files (ask.Rmdir c.args.path.now) c.args.inodes.now c.args.inodes.now same _

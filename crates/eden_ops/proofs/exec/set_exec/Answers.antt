@@ -57,14 +57,14 @@ returns-then-eq-clause-attempts g c =
     let content = content_with R (own_files F) (source_of seen.row.number seen.row.origin) in
     let so : c.in-Ok.seen.kind ≡ c.exec_kind-kind.result = same_true the_type (search rules) c.in-Ok.seen.kind c.exec_kind-kind.result (sym c.eq.ensures ∙ c.if-eq.true) in
     let is : seen.row.kind ≡ exec_kind c.args.exec = sym seen.kind ∙ so ∙ c.exec_kind-kind.ensures.is in
-    changed g.W.World g.F.Files (ask.SetExec p c.args.exec) s t t c.args.cache.now c.meet_file.new.cache e.same ((keeps_counts g.W.World g.F.Files s t e.keeps).1.1.1) e.cache
+    changed g.W.World g.F.Files (ask.SetExec p c.args.exec) s t t c.args.cache.now c.meet_file.new.cache e.same ((keeps_counts g.W.World g.F.Files _ s t e.keeps).1.1.1) e.cache
     (λ h. says_at R F p sets_exec G (row_at p t.root) seen.row seen.there (e.shown h) say.Ok (λ listed. sets_file seen.row.kind content listed plain))
     (λ h.
     let there = node_shown R F G p (row_at p t.root) seen.row seen.there (e.shown h) in
     e.same h ∙ sym (exec_stays G p c.args.exec seen.row.kind content there.0 is there.1))
 
 pub returns-then-eq-clause-leaves : goal.returns-then-eq-clause-leaves
-returns-then-eq-clause-leaves g c = leaves_kept g.W.World g.F.Files c.args.inodes.now c.meet_file.new.inodes c.meet_file.ensures.keeps (ask.SetExec c.args.path.now c.args.exec) _
+returns-then-eq-clause-leaves g c = leaves_kept g.W.World g.F.Files (ask.SetExec c.args.path.now c.args.exec) c.args.inodes.now c.meet_file.new.inodes c.meet_file.ensures.keeps _
 
 pub returns-in-Err-clause-already : goal.returns-in-Err-clause-already
 returns-in-Err-clause-already g c so = c.meet_file.ensures.keeps
@@ -105,7 +105,7 @@ returns-in-Err-settle-clause-attempts g c =
     let t = c.meet_file.new.inodes in
     let e = c.in-Ok.ensures in
     let x = c.in-Err-settle.ensures.settles.readies in
-    refused g.W.World g.F.Files (ask.SetExec c.args.path.now c.args.exec) s t c.settle.new.inodes c.args.cache.now c.meet_file.new.cache e.same ((c.keeps_laws.ensures.counts s t e.keeps).1.1.1)
+    refused g.W.World g.F.Files (ask.SetExec c.args.path.now c.args.exec) s t c.settle.new.inodes c.args.cache.now c.meet_file.new.cache e.same ((c.keeps_laws.ensures.counts _ s t e.keeps).1.1.1)
     e.cache c.in-Err-settle.fault x.fault (λ y is. cc) x.shown
 
 pub returns-in-Err-settle-clause-already : goal.returns-in-Err-settle-clause-already
@@ -119,8 +119,7 @@ returns-in-Err-settle-clause-leaves g c =
     let t = c.meet_file.new.inodes in
     let v = c.settle.new.inodes in
     let x = c.in-Err-settle.ensures.settles in
-    leaves_changed g.W.World g.F.Files c.args.inodes.now t c.meet_file.ensures.keeps v (Finished (say.Fault c.in-Err-settle.fault)) (λ e is. cc) (λ e is. x.readies.names)
-    (ask.SetExec c.args.path.now c.args.exec)
+    leaves_changed g.W.World g.F.Files (ask.SetExec c.args.path.now c.args.exec) c.args.inodes.now t c.meet_file.ensures.keeps v (Finished (say.Fault c.in-Err-settle.fault)) (λ e is. cc) (λ e is. x.readies.names)
     (settles_leaves g.W.World g.F.Files t v _ x) (none_given t.next v.next 0 x.readies.next) (λ no. absurd (no (c.in-Err-settle.fault, refl)))
 
 pub returns-in-Ok-set_kind-clause-attempts : goal.returns-in-Ok-set_kind-clause-attempts
@@ -143,7 +142,7 @@ returns-in-Ok-set_kind-clause-attempts g c =
     let still = row_still t.root v.root st.alike p seen.row seen.there off in
     let has = has_file p c.in-Some.above.now c.in-Some.name.now v.root seen.row split still off file in
     changed g.W.World g.F.Files (ask.SetExec p c.args.exec) s v u c.args.cache.now c.meet_file.new.cache (λ h. st.readies.shown h ∙ e.same h)
-    (le_trans (c.keeps_laws.ensures.counts s t e.keeps).1.1.1 (settles_leaves g.W.World g.F.Files t v _ st).everywhere.failures) e.cache
+    (le_trans (c.keeps_laws.ensures.counts _ s t e.keeps).1.1.1 (settles_leaves g.W.World g.F.Files t v _ st).everywhere.failures) e.cache
     (λ h. says_at R F p sets_exec G (row_at p t.root) seen.row seen.there (e.shown h) say.Ok
     (λ listed. sets_file seen.row.kind (content_with R (own_files F) (source_of seen.row.number seen.row.origin)) listed plain))
     (λ h.
@@ -170,10 +169,10 @@ returns-in-Err-set_kind-clause-attempts g c =
     let e = c.in-Ok.ensures in
     let x = c.in-Err-set_kind.ensures in
     refused g.W.World g.F.Files (ask.SetExec p c.args.exec) s v u c.args.cache.now c.meet_file.new.cache (λ h. st.readies.shown h ∙ e.same h)
-    (le_trans (c.keeps_laws.ensures.counts s t e.keeps).1.1.1 (settles_leaves g.W.World g.F.Files t v _ st).everywhere.failures) e.cache c.in-Err-set_kind.fault x.fault (λ y is. cc) x.unseen
+    (le_trans (c.keeps_laws.ensures.counts _ s t e.keeps).1.1.1 (settles_leaves g.W.World g.F.Files t v _ st).everywhere.failures) e.cache c.in-Err-set_kind.fault x.fault (λ y is. cc) x.unseen
 
 pub returns-in-Err-clause-leaves : goal.returns-in-Err-clause-leaves
-returns-in-Err-clause-leaves g c = leaves_kept g.W.World g.F.Files c.args.inodes.now c.meet_file.new.inodes c.meet_file.ensures.keeps (ask.SetExec c.args.path.now c.args.exec) _
+returns-in-Err-clause-leaves g c = leaves_kept g.W.World g.F.Files (ask.SetExec c.args.path.now c.args.exec) c.args.inodes.now c.meet_file.new.inodes c.meet_file.ensures.keeps _
 
 pub returns-in-Ok-set_kind-clause-leaves : goal.returns-in-Ok-set_kind-clause-leaves
 returns-in-Ok-set_kind-clause-leaves g c =
@@ -195,7 +194,7 @@ returns-in-Ok-set_kind-clause-leaves g c =
     (loaded_there above v.root has.row has.directory has.at has.holds) (x.ok seen.row has) in
     let l = leaves_by g.F.Files v u x.stays root x.marks (no_less v.next u.next x.rest.0) x.rest.1 (no_less (g.F.Files.failures v.files) (g.F.Files.failures u.files) x.counted) in
     let saved = subst (λ (r : Path). IsSavedAbove r v.root) c.as_slice.ensures c.in_default.ensures.saved in
-    leaves_changed g.W.World g.F.Files c.args.inodes.now t c.meet_file.ensures.keeps u (Finished say.Ok) (λ e is. cc) (λ e is. cc) (ask.SetExec p c.args.exec)
+    leaves_changed g.W.World g.F.Files (ask.SetExec p c.args.exec) c.args.inodes.now t c.meet_file.ensures.keeps u (Finished say.Ok) (λ e is. cc) (λ e is. cc)
     (leaves_then g.W.World g.F.Files t v u (settles_leaves g.W.World g.F.Files t v _ st) l)
     (none_given t.next u.next 0 (x.rest.0 ∙ st.readies.next)) (λ no. (saved_on p v.root u.root saved x.marks, tt))
 
@@ -208,7 +207,6 @@ returns-in-Err-set_kind-clause-leaves g c =
     let st = c.settle.ensures.settles in
     let counted = fault_count (g.F.Files.failures v.files) (g.F.Files.failures u.files) c.in-Err-set_kind.fault x.fault in
     let l = leaves_by g.F.Files v u x.stays (root_same v.root u.root x.err) x.marks (no_less v.next u.next x.rest.0) x.rest.1 counted in
-    leaves_changed g.W.World g.F.Files c.args.inodes.now t c.meet_file.ensures.keeps u (Finished (say.Fault c.in-Err-set_kind.fault)) (λ e is. cc)
-    (λ e is. subst (SameNames t.root) (sym x.err) st.readies.names) (ask.SetExec c.args.path.now c.args.exec)
+    leaves_changed g.W.World g.F.Files (ask.SetExec c.args.path.now c.args.exec) c.args.inodes.now t c.meet_file.ensures.keeps u (Finished (say.Fault c.in-Err-set_kind.fault)) (λ e is. cc) (λ e is. subst (SameNames t.root) (sym x.err) st.readies.names)
     (leaves_then g.W.World g.F.Files t v u (settles_leaves g.W.World g.F.Files t v _ st) l)
     (none_given t.next u.next 0 (x.rest.0 ∙ st.readies.next)) (λ no. absurd (no (c.in-Err-set_kind.fault, refl)))

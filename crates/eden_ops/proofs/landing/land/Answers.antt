@@ -8,7 +8,7 @@ use Rattle.eden_ops.specs.Attempts.{IsShown}
 use Rattle.eden_ops.specs.Renames.{MayLand}
 use Rattle.eden_ops.proofs.Looking.{no_dir}
 use Rattle.eden_ops.proofs.Reached.{seen_at, shown_at, met_passes}
-use Rattle.eden_ops.proofs.Renames.{land_ended, land_fails, land_over_file, land_over_none, land_over_some, land_lacks, loaded_passes}
+use Rattle.eden_ops.proofs.Renames.{land_ended, land_fails, land_over_file, file_refuses, land_over_none, land_over_some, land_lacks, loaded_passes}
 use Rattle.eden_ops.proofs.Steps.{keeps_on}
 use Rattle.eden_ops.proofs.landing.land.Goals as goal
 
@@ -32,6 +32,26 @@ returns-in-File g c =
     record {
       lands = met_passes g.W.World g.F.Files p s t c.meet.new.cache _ e.meets;
       shown = λ h. land_over_file g.W.World.repository (g.F.Files.stored t.files) (shows g.W.World g.F.Files s) p t.root c.in-Ok-Some.seen seen (shown h) c.args.dir c.if-dir.false
+          (λ dir. other (sym file.1 ∙ dir));
+      same = e.same;
+      keeps = e.keeps;
+      cache = e.cache;
+    }
+
+pub returns-then-dir : goal.returns-then-dir
+returns-then-dir g c =
+    let p = c.args.path.now in
+    let s = c.args.inodes.now in
+    let t = c.meet.new.inodes in
+    let e = c.in-Ok-Some.ensures in
+    let seen = seen_at g.W.World g.F.Files p s t c.meet.new.cache _ c.in-Ok-Some.seen c.in-Ok-Some.field-0-is e.meets in
+    let shown : g.W.World.honest → IsShown g.W.World.repository (g.F.Files.stored t.files) (row_at p t.root)
+    (reach (shows g.W.World g.F.Files s) p) = shown_at g.W.World g.F.Files p s t c.meet.new.cache _ c.in-Ok-Some.seen c.in-Ok-Some.field-0-is e.shown in
+    let other = no_dir c.what.result c.in-File.is in
+    let file = c.what.ensures.other other in
+    record {
+      lands = tt;
+      shown = λ h. file_refuses g.W.World.repository (g.F.Files.stored t.files) (shows g.W.World g.F.Files s) p t.root c.in-Ok-Some.seen seen (shown h) c.args.dir c.if-dir.true
           (λ dir. other (sym file.1 ∙ dir));
       same = e.same;
       keeps = e.keeps;

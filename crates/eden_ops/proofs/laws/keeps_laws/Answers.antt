@@ -1,5 +1,6 @@
 use Rattle.eden_ops.proofs.Steps.{keeps_shown, keeps_files, keeps_entries, keeps_counts}
 use Rattle.eden_ops.proofs.Saving.{keeps_leaves}
+use Rattle.eden_ops.proofs.Stamps.{keeps_stamps}
 use Rattle.eden_ops.proofs.laws.keeps_laws.Goals as goal
 
 pub returns : goal.returns
@@ -10,4 +11,5 @@ returns g c =
       entries = keeps_entries g.W.World g.F.Files;
       counts = keeps_counts g.W.World g.F.Files;
       leaves = keeps_leaves g.W.World g.F.Files;
+      stamps = keeps_stamps g.W.World g.F.Files;
     }

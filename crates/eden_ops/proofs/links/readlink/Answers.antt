@@ -15,6 +15,7 @@ use Rattle.eden_ops.proofs.Answering.{walk_ended, says_absent}
 use Rattle.eden_ops.proofs.Finding.{still_stocked}
 use Rattle.eden_ops.proofs.Telling.{as_dir, met_content, met_tells, content_tells, content_lacks}
 use Rattle.eden_ops.proofs.Looking.{reads_target, asks_target, target_other, target_some, target_lost}
+use Rattle.eden_ops.proofs.Stamps.{walked_on}
 use Rattle.eden_ops.proofs.Steps.{keeps_on}
 use Rattle.eden_ops.proofs.links.readlink.Goals as goal
 
@@ -105,3 +106,9 @@ make-requires-clause-content g c =
 
 pub make-requires-clause-stocked : goal.make-requires-clause-stocked
 make-requires-clause-stocked g c = still_stocked g.W.World.repository g.W.World.honest c.args.cache.now c.meet.new.cache c.meet.ensures.cache c.requires
+
+pub returns-in-Err-make-clause-walked : goal.returns-in-Err-make-clause-walked
+returns-in-Err-make-clause-walked g c = walked_on g.W.World g.F.Files c.args.path.now c.meet.new.inodes c.make.new.inodes c.meet.ensures.walked c.make.ensures.keeps
+
+pub returns-in-Ok-clause-walked : goal.returns-in-Ok-clause-walked
+returns-in-Ok-clause-walked g c = walked_on g.W.World g.F.Files c.args.path.now c.meet.new.inodes c.make.new.inodes c.meet.ensures.walked c.make.ensures.keeps

@@ -1,9 +1,9 @@
-use Rattle.std.proofs.Common.{sym, subst}
+use Rattle.std.proofs.Common.{[], ◌∷◌, sym, subst}
 use Rattle.eden_model.specs.Trees.{Path}
 use Rattle.eden_tie.specs.Loading.{IsAt}
 use Rattle.std.proofs.Common.{OnOk, IfErr}
 use Rattle.eden_ops.specs.Attempts.{Lacks}
-use Rattle.eden_ops.specs.Keeping.{same}
+use Rattle.eden_ops.specs.Keeping.{Keeps, same}
 use Rattle.eden_ops.specs.Known.{IsLoadedAt}
 use Rattle.eden_ops.proofs.Fetching.{is_loaded, is_away}
 use Rattle.eden_ops.proofs.listing.bring_seen.Goals as goal
@@ -26,5 +26,8 @@ pub returns-clause-lacks : goal.returns-clause-lacks
 returns-clause-lacks g c =
     subst (λ (q : Path). IfErr c.bring.result (Lacks g.W.World g.F.Files q c.args.inodes.now c.bring.new.inodes c.bring.new.cache)) c.as_slice.ensures c.bring.ensures.lacks
 
+pub returns-clause-keeps : goal.returns-clause-keeps
+returns-clause-keeps g c = subst (λ (p : Path). Keeps g.W.World g.F.Files (p ∷ []) c.args.inodes.now c.bring.new.inodes) c.as_slice.ensures c.bring.ensures.keeps
+
 pub returns-clause-same : goal.returns-clause-same
-returns-clause-same g c = c.keeps_laws.ensures.shown c.args.inodes.now c.bring.new.inodes c.bring.ensures.keeps
+returns-clause-same g c = c.keeps_laws.ensures.shown _ c.args.inodes.now c.bring.new.inodes c.bring.ensures.keeps

@@ -21,9 +21,10 @@ use Rattle.eden_ops.proofs.Fetching.{away, dir_kind}
 use Rattle.eden_ops.proofs.Finding.{finds_on}
 use Rattle.eden_ops.proofs.Listed.{page_told}
 use Rattle.eden_ops.proofs.Telling.{met_tells}
-use Rattle.eden_ops.proofs.Looking.{no_dir, lists, asks_list, lists_other, lists_away}
+use Rattle.eden_ops.proofs.Looking.{no_dir, some_at_most, lists, asks_list, lists_other, lists_away}
 use Rattle.eden_ops.proofs.Reached.{seen_at}
 use Rattle.eden_ops.proofs.Rounds.{lacks_since}
+use Rattle.eden_ops.proofs.Stamps.{walked_on}
 use Rattle.eden_ops.proofs.Steps.{keeps_on}
 use Rattle.eden_ops.proofs.Walking.{known_unloaded}
 use Rattle.eden_ops.proofs.listing.list.Goals as goal
@@ -66,6 +67,8 @@ returns-in-File g c =
           (λ k a listed is on. lists_other (ListsSome (shows g.W.World g.F.Files c.args.inodes.now) c.args.path.now c.args.after.now c.args.limit) k a listed
           (λ dir. no_dir c.what.result c.in-File.is (sym other.1 ∙ sym is ∙ dir)));
       keeps = e.keeps;
+      refused = λ beyond. absurd (some_at_most c.args.limit 1000 c.if-limit-eq0.false c.if-limit-gt-MAX_ENTRIES.false beyond);
+      walked = λ within. c.meet.ensures.walked;
     }
 
 pub returns-in-Err-bring_seen-clause-attempts : goal.returns-in-Err-bring_seen-clause-attempts
@@ -129,3 +132,27 @@ returns-in-Ok-clause-attempts g c =
 
 pub returns-in-Ok-clause-keeps : goal.returns-in-Ok-clause-keeps
 returns-in-Ok-clause-keeps g c = keeps_on g.W.World g.F.Files c.args.inodes.now c.meet.new.inodes c.bring_seen.new.inodes c.meet.ensures.keeps c.bring_seen.ensures.keeps
+
+pub returns-in-Err-clause-refused : goal.returns-in-Err-clause-refused
+returns-in-Err-clause-refused g c beyond = absurd (some_at_most c.args.limit 1000 c.if-limit-eq0.false c.if-limit-gt-MAX_ENTRIES.false beyond)
+
+pub returns-in-Ok-None-clause-refused : goal.returns-in-Ok-None-clause-refused
+returns-in-Ok-None-clause-refused g c beyond = absurd (some_at_most c.args.limit 1000 c.if-limit-eq0.false c.if-limit-gt-MAX_ENTRIES.false beyond)
+
+pub returns-in-Err-bring_seen-clause-refused : goal.returns-in-Err-bring_seen-clause-refused
+returns-in-Err-bring_seen-clause-refused g c beyond = absurd (some_at_most c.args.limit 1000 c.if-limit-eq0.false c.if-limit-gt-MAX_ENTRIES.false beyond)
+
+pub returns-in-Err-page_at-clause-refused : goal.returns-in-Err-page_at-clause-refused
+returns-in-Err-page_at-clause-refused g c beyond = absurd (some_at_most c.args.limit 1000 c.if-limit-eq0.false c.if-limit-gt-MAX_ENTRIES.false beyond)
+
+pub returns-in-Ok-clause-refused : goal.returns-in-Ok-clause-refused
+returns-in-Ok-clause-refused g c beyond = absurd (some_at_most c.args.limit 1000 c.if-limit-eq0.false c.if-limit-gt-MAX_ENTRIES.false beyond)
+
+pub returns-in-Err-bring_seen-clause-walked : goal.returns-in-Err-bring_seen-clause-walked
+returns-in-Err-bring_seen-clause-walked g c within = walked_on g.W.World g.F.Files c.args.path.now c.meet.new.inodes c.bring_seen.new.inodes c.meet.ensures.walked c.bring_seen.ensures.keeps
+
+pub returns-in-Err-page_at-clause-walked : goal.returns-in-Err-page_at-clause-walked
+returns-in-Err-page_at-clause-walked g c within = walked_on g.W.World g.F.Files c.args.path.now c.meet.new.inodes c.bring_seen.new.inodes c.meet.ensures.walked c.bring_seen.ensures.keeps
+
+pub returns-in-Ok-clause-walked : goal.returns-in-Ok-clause-walked
+returns-in-Ok-clause-walked g c within = walked_on g.W.World g.F.Files c.args.path.now c.meet.new.inodes c.bring_seen.new.inodes c.meet.ensures.walked c.bring_seen.ensures.keeps

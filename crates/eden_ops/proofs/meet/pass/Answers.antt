@@ -5,7 +5,8 @@ use Rattle.eden_ops.proofs.Finding.{finds_on}
 use Rattle.eden_ops.proofs.Looking.{no_dir}
 use Rattle.eden_ops.proofs.Meeting.{seen_here, absent_here, ends_absent, ends_file, is_at, ends_unlisted}
 use Rattle.eden_ops.proofs.Rounds.{last_after, walk_after, meets_err, counted_above}
-use Rattle.eden_ops.proofs.Steps.{keeps_on, looks}
+use Rattle.eden_ops.proofs.Stamps.{walked_after, walked_on}
+use Rattle.eden_ops.proofs.Steps.{keeps_on, keeps_front, looks}
 use Rattle.eden_ops.proofs.meet.pass.Goals as goal
 
 pub fronts-init : goal.fronts-init
@@ -16,6 +17,9 @@ returns-then-seen-path-clause-meets g c =
     seen_here c.args.path.now c.look-seen.new.self.root c.look-seen.result
     (last_after g.W.World g.F.Files c.args.path.now c.fronts.inodes c.look-seen.new.self c.look-seen.result c.look-seen.ensures.stamped c.look-seen.ensures.last) c.if-seen-path.true
 
+pub returns-then-seen-path-clause-walked : goal.returns-then-seen-path-clause-walked
+returns-then-seen-path-clause-walked g c = walked_after g.W.World g.F.Files c.args.path.now c.fronts.inodes c.look-seen.new.self c.look-seen.ensures.stamped
+
 pub returns-then-seen-path-clause-keeps : goal.returns-then-seen-path-clause-keeps
 returns-then-seen-path-clause-keeps g c =
     keeps_on g.W.World g.F.Files c.args.inodes.now c.fronts.inodes c.look-seen.new.self c.fronts.invariant.keeps
@@ -25,6 +29,9 @@ pub returns-then-seen-path-2-clause-meets : goal.returns-then-seen-path-2-clause
 returns-then-seen-path-2-clause-meets g c =
     absent_here c.args.path.now c.look-seen.new.self.root c.look-seen.result
     (last_after g.W.World g.F.Files c.args.path.now c.fronts.inodes c.look-seen.new.self c.look-seen.result c.look-seen.ensures.stamped c.look-seen.ensures.last) c.if-seen.true c.if-seen-path-2.true
+
+pub returns-then-seen-path-2-clause-walked : goal.returns-then-seen-path-2-clause-walked
+returns-then-seen-path-2-clause-walked g c = walked_after g.W.World g.F.Files c.args.path.now c.fronts.inodes c.look-seen.new.self c.look-seen.ensures.stamped
 
 pub returns-then-seen-path-2-clause-keeps : goal.returns-then-seen-path-2-clause-keeps
 returns-then-seen-path-2-clause-keeps g c =
@@ -38,6 +45,9 @@ returns-then-seen-clause-meets g c =
     let a = c.if-seen-path.false in
     let b = c.if-seen-path-2.false in
     ends_absent c.args.path.now c.look-seen.new.self.root c.look-seen.result last c.if-seen.true (omega (arith, le, a, b))
+
+pub returns-then-seen-clause-walked : goal.returns-then-seen-clause-walked
+returns-then-seen-clause-walked g c = walked_after g.W.World g.F.Files c.args.path.now c.fronts.inodes c.look-seen.new.self c.look-seen.ensures.stamped
 
 pub returns-then-seen-clause-keeps : goal.returns-then-seen-clause-keeps
 returns-then-seen-clause-keeps g c =
@@ -54,6 +64,7 @@ returns-in-File g c =
       keeps = keeps_on g.W.World g.F.Files c.args.inodes.now c.fronts.inodes c.look-seen.new.self c.fronts.invariant.keeps
           (looks g.W.World g.F.Files c.fronts.inodes c.look-seen.new.self c.args.path.now c.look-seen.ensures.stamped);
       cache = c.fronts.invariant.cache;
+      walked = walked_after g.W.World g.F.Files c.args.path.now c.fronts.inodes c.look-seen.new.self c.look-seen.ensures.stamped;
     }
 
 pub bring-requires-clause-at : goal.bring-requires-clause-at
@@ -79,13 +90,18 @@ returns-in_err-bring-in-Dir-clause-meets g c =
     meets_err g.W.World g.F.Files p s u c.bring.new.inodes c.bring.new.cache seen last c.if-seen.false lt c.in-Dir.is before cause c.in_err-bring-in-Dir.ensures.err
     c.from_residual.result c.in_err-bring-in-Dir.field-0.0 c.from_residual.ensures.0 c.from_residual.ensures.1 c.in_err-bring-in-Dir.ensures.lacks
 
+pub returns-in_err-bring-in-Dir-clause-walked : goal.returns-in_err-bring-in-Dir-clause-walked
+returns-in_err-bring-in-Dir-clause-walked g c =
+    walked_on g.W.World g.F.Files c.args.path.now c.look-seen.new.self c.bring.new.inodes (walked_after g.W.World g.F.Files c.args.path.now c.fronts.inodes c.look-seen.new.self c.look-seen.ensures.stamped) c.bring.ensures.keeps
+
 pub returns-in_err-bring-in-Dir-clause-keeps : goal.returns-in_err-bring-in-Dir-clause-keeps
 returns-in_err-bring-in-Dir-clause-keeps g c =
     let s = c.args.inodes.now in
     let t = c.fronts.inodes in
     let u = c.look-seen.new.self in
     keeps_on g.W.World g.F.Files s u c.bring.new.inodes
-    (keeps_on g.W.World g.F.Files s t u c.fronts.invariant.keeps (looks g.W.World g.F.Files t u c.args.path.now c.look-seen.ensures.stamped)) c.bring.ensures.keeps
+    (keeps_on g.W.World g.F.Files s t u c.fronts.invariant.keeps (looks g.W.World g.F.Files t u c.args.path.now c.look-seen.ensures.stamped))
+    (keeps_front g.W.World g.F.Files c.look-seen.result.names c.args.path.now u c.bring.new.inodes c.bring.ensures.keeps)
 
 pub fronts-smaller : goal.fronts-smaller
 fronts-smaller g c =
@@ -111,7 +127,8 @@ fronts-preserved g c =
     let lt : seen.names < length p = omega (arith, le, a) in
     record {
       keeps = keeps_on g.W.World g.F.Files s u c.bring.new.inodes
-          (keeps_on g.W.World g.F.Files s t u c.fronts.invariant.keeps (looks g.W.World g.F.Files t u p c.look-seen.ensures.stamped)) c.bring.ensures.keeps;
+          (keeps_on g.W.World g.F.Files s t u c.fronts.invariant.keeps (looks g.W.World g.F.Files t u p c.look-seen.ensures.stamped))
+          (keeps_front g.W.World g.F.Files seen.names p u c.bring.new.inodes c.bring.ensures.keeps);
       cache = finds_on c.args.cache.now c.fronts.cache c.bring.new.cache c.fronts.invariant.cache c.bring.ensures.cache;
       cause = λ _. c.fronts.invariant.cause (sym (walk_after g.W.World g.F.Files p t u c.look-seen.ensures.stamped) ∙ ends_unlisted p u.root seen last c.if-seen.false lt c.in-Dir.is);
       few = omega (arith, lt);

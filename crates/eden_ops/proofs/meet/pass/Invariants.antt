@@ -1,4 +1,4 @@
-use Rattle.std.proofs.Common.{◌≡◌, ◌≤◌, ◌+◌, ◌-◌, ℕ, length, take}
+use Rattle.std.proofs.Common.{◌≡◌, ◌≤◌, ◌+◌, ◌-◌, ℕ, [], ◌∷◌, length, take}
 use Rattle.eden_model.specs.Trees.{Unlisted, walk}
 use Rattle.eden_ops.specs.Caches.{FindsTheSame}
 use Rattle.eden_ops.specs.Keeping.{Keeps}
@@ -8,7 +8,7 @@ use Rattle.eden_ops.proofs.meet.pass.Given as goal
 -- nothing changed; where the walk is unlisted now, it was at first; and so many directories of the path are loaded
 abbrev pub invariant-fronts : goal.invariant-fronts
 invariant-fronts g l = record {
-  keeps : Keeps g.W.World g.F.Files l.fn.inodes l.inodes;
+  keeps : Keeps g.W.World g.F.Files (l.path ∷ []) l.fn.inodes l.inodes;
   cache : FindsTheSame l.fn.cache l.cache;
   cause : walk (known l.inodes.root) l.path ≡ Unlisted → walk (known l.fn.inodes.root) l.path ≡ Unlisted;
   few : l.loaded ≤ length l.path;

@@ -13,7 +13,8 @@ use Rattle.eden_ops.specs.Requests.{for_read}
 use Rattle.eden_ops.proofs.Fetching.{has_content}
 use Rattle.eden_ops.proofs.Filing.{file_tells, file_lacks}
 use Rattle.eden_ops.proofs.Finding.{still_stocked}
-use Rattle.eden_ops.proofs.Looking.{IsPlain, reads, asks_read, plain_other, reads_none, reads_some, reads_lost}
+use Rattle.eden_ops.proofs.Looking.{IsPlain, not_more, reads, asks_read, plain_other, reads_none, reads_some, reads_lost}
+use Rattle.eden_ops.proofs.Stamps.{walked_on}
 use Rattle.eden_ops.proofs.Steps.{keeps_on}
 use Rattle.eden_ops.proofs.Telling.{content_tells}
 use Rattle.eden_ops.proofs.reading.read.Goals as goal
@@ -31,8 +32,8 @@ pub returns-then-count-eq0-clause-attempts : goal.returns-then-count-eq0-clause-
 returns-then-count-eq0-clause-attempts g c =
     let e = c.in-Ok.ensures in
     let none : c.new-then-count-eq0.result ≡ [] = c.new-then-count-eq0.ensures ∙ c.new.ensures.items in
-    file_tells g.W.World g.F.Files c.args.path.now c.args.inodes.now c.meet_file.new.inodes c.args.cache.now c.meet_file.new.cache c.in-Ok.seen e.file e.shown e.same e.keeps e.cache
-    (ask.Read c.args.path.now c.args.offset c.args.count) (reads c.args.offset c.args.count)
+    file_tells g.W.World g.F.Files c.args.path.now c.args.inodes.now c.meet_file.new.inodes c.args.cache.now c.meet_file.new.cache c.in-Ok.seen e.file e.shown e.same e.cache
+    (ask.Read c.args.path.now c.args.offset c.args.count) e.keeps (reads c.args.offset c.args.count)
     (asks_read c.args.path.now c.args.offset c.args.count (le-ltb 65536 c.args.count c.if-count-gt-MAX_DATA.false)) (say.Data c.new-then-count-eq0.result) refl (λ T. refl)
     (λ k a l plain. subst (λ b. Reads c.args.offset c.args.count (node_from k a l) (say.Data b)) (sym none)
     (reads_none c.args.offset c.args.count k a l plain (ap (λ (n : ℕ). n == 0) c.if-count-eq0.true)))
@@ -51,8 +52,8 @@ returns-in-Err-make-clause-attempts g c =
     let b = c.make.ensures in
     subst (λ (a : Attempt). Attempts g.W.World g.F.Files (ask.Read c.args.path.now c.args.offset c.args.count) c.args.inodes.now c.make.new.inodes c.args.cache.now c.make.new.cache a)
     (sym c.ended-in-Err-make.ensures)
-    (file_lacks g.W.World g.F.Files c.args.path.now c.args.inodes.now c.meet_file.new.inodes c.args.cache.now c.meet_file.new.cache c.in-Ok.seen e.file e.shown e.same e.keeps e.cache
-    (ask.Read c.args.path.now c.args.offset c.args.count) (reads c.args.offset c.args.count)
+    (file_lacks g.W.World g.F.Files c.args.path.now c.args.inodes.now c.meet_file.new.inodes c.args.cache.now c.meet_file.new.cache c.in-Ok.seen e.file e.shown e.same e.cache
+    (ask.Read c.args.path.now c.args.offset c.args.count) e.keeps (reads c.args.offset c.args.count)
     (asks_read c.args.path.now c.args.offset c.args.count (le-ltb 65536 c.args.count c.if-count-gt-MAX_DATA.false)) c.make.new.inodes c.make.new.cache b.same b.keeps b.still b.cache (λ x is. cc)
     (λ k x is. cc) c.in-Err-make.stop
     (λ k a r plain none. reads_lost c.args.offset c.args.count k a false r plain (ne_eqb c.args.count 0 c.if-count-eq0.false) none) c.in-Err-make.ensures.lacks)
@@ -77,3 +78,24 @@ returns-in-Err-make-clause-keeps g c = keeps_on g.W.World g.F.Files c.args.inode
 
 pub returns-in-Ok-make-clause-keeps : goal.returns-in-Ok-make-clause-keeps
 returns-in-Ok-make-clause-keeps g c = keeps_on g.W.World g.F.Files c.args.inodes.now c.meet_file.new.inodes c.make.new.inodes c.meet_file.ensures.keeps c.make.ensures.keeps
+
+pub returns-in-Err-clause-refused : goal.returns-in-Err-clause-refused
+returns-in-Err-clause-refused g c beyond = absurd (not_more c.args.count 65536 c.if-count-gt-MAX_DATA.false beyond)
+
+pub returns-then-count-eq0-clause-refused : goal.returns-then-count-eq0-clause-refused
+returns-then-count-eq0-clause-refused g c beyond = absurd (not_more c.args.count 65536 c.if-count-gt-MAX_DATA.false beyond)
+
+pub returns-in-Err-make-clause-refused : goal.returns-in-Err-make-clause-refused
+returns-in-Err-make-clause-refused g c beyond = absurd (not_more c.args.count 65536 c.if-count-gt-MAX_DATA.false beyond)
+
+pub returns-in-Ok-make-clause-refused : goal.returns-in-Ok-make-clause-refused
+returns-in-Ok-make-clause-refused g c beyond = absurd (not_more c.args.count 65536 c.if-count-gt-MAX_DATA.false beyond)
+
+pub returns-in-Err-make-clause-walked : goal.returns-in-Err-make-clause-walked
+returns-in-Err-make-clause-walked g c within = walked_on g.W.World g.F.Files c.args.path.now c.meet_file.new.inodes c.make.new.inodes c.meet_file.ensures.walked c.make.ensures.keeps
+
+pub returns-in-Ok-make-clause-walked : goal.returns-in-Ok-make-clause-walked
+returns-in-Ok-make-clause-walked g c within = walked_on g.W.World g.F.Files c.args.path.now c.meet_file.new.inodes c.make.new.inodes c.meet_file.ensures.walked c.make.ensures.keeps
+
+pub returns-then-count-gt-MAX_DATA-clause-walked : goal.returns-then-count-gt-MAX_DATA-clause-walked
+returns-then-count-gt-MAX_DATA-clause-walked g c within = absurd (within c.if-count-gt-MAX_DATA.true)

@@ -97,7 +97,7 @@ returns-in-Ok-clause-attempts g c =
     let other = c.what.ensures.other (file_not_dir c.what.result c.in-File.is) in
     let file : seen.row.kind ≢ kind.Dir = λ dir. file_not_dir c.what.result c.in-File.is (sym other.1 ∙ seen.kind ∙ dir) in
     changed g.W.World g.F.Files (ask.Unlink p) s v u c.args.cache.now c.meet.new.cache (λ h. st.readies.shown h ∙ e.same h)
-    (le_trans (c.keeps_laws.ensures.counts s t e.keeps).1.1.1 (settles_leaves g.W.World g.F.Files t v _ st).everywhere.failures) e.cache
+    (le_trans (c.keeps_laws.ensures.counts _ s t e.keeps).1.1.1 (settles_leaves g.W.World g.F.Files t v _ st).everywhere.failures) e.cache
     (λ h. (asks_unlink p (not_root p c.in-Some.above.now c.in-Some.name.now split)).says G say.Ok
     (says_at R F p unlinks G (row_at p t.root) seen.row seen.there (shown h) say.Ok
     (λ listed. unlinks_file seen.row.kind (content_with R (own_files F) (source_of seen.row.number seen.row.origin)) listed file)))
@@ -120,7 +120,7 @@ returns-in-Err-remove_entry-clause-attempts g c =
     let e = c.in-Ok-Some.ensures in
     let x = c.in-Err-remove_entry.ensures in
     refused g.W.World g.F.Files (ask.Unlink p) s v u c.args.cache.now c.meet.new.cache (λ h. st.readies.shown h ∙ e.same h)
-    (le_trans (c.keeps_laws.ensures.counts s t e.keeps).1.1.1 (settles_leaves g.W.World g.F.Files t v _ st).everywhere.failures) e.cache c.in-Err-remove_entry.fault x.fault
+    (le_trans (c.keeps_laws.ensures.counts _ s t e.keeps).1.1.1 (settles_leaves g.W.World g.F.Files t v _ st).everywhere.failures) e.cache c.in-Err-remove_entry.fault x.fault
     (λ y is. cc) x.unseen
 
 pub returns-in-Err-settle-clause-attempts : goal.returns-in-Err-settle-clause-attempts
@@ -129,7 +129,7 @@ returns-in-Err-settle-clause-attempts g c =
     let t = c.meet.new.inodes in
     let e = c.in-Ok-Some.ensures in
     let x = c.in-Err-settle.ensures.settles.readies in
-    refused g.W.World g.F.Files (ask.Unlink c.args.path.now) s t c.settle.new.inodes c.args.cache.now c.meet.new.cache e.same ((c.keeps_laws.ensures.counts s t e.keeps).1.1.1) e.cache
+    refused g.W.World g.F.Files (ask.Unlink c.args.path.now) s t c.settle.new.inodes c.args.cache.now c.meet.new.cache e.same ((c.keeps_laws.ensures.counts _ s t e.keeps).1.1.1) e.cache
     c.in-Err-settle.fault x.fault (λ y is. cc) x.shown
 
 pub returns-in-Err-settle-clause-leaves : goal.returns-in-Err-settle-clause-leaves
@@ -137,17 +137,17 @@ returns-in-Err-settle-clause-leaves g c =
     let t = c.meet.new.inodes in
     let v = c.settle.new.inodes in
     let x = c.in-Err-settle.ensures.settles in
-    leaves_changed g.W.World g.F.Files c.args.inodes.now t c.meet.ensures.keeps v (Finished (say.Fault c.in-Err-settle.fault)) (λ e is. cc) (λ e is. x.readies.names) (ask.Unlink c.args.path.now)
+    leaves_changed g.W.World g.F.Files (ask.Unlink c.args.path.now) c.args.inodes.now t c.meet.ensures.keeps v (Finished (say.Fault c.in-Err-settle.fault)) (λ e is. cc) (λ e is. x.readies.names)
     (settles_leaves g.W.World g.F.Files t v _ x) (none_given t.next v.next 0 x.readies.next) (λ no. absurd (no (c.in-Err-settle.fault, refl)))
 
 pub returns-in-Err-clause-leaves : goal.returns-in-Err-clause-leaves
-returns-in-Err-clause-leaves g c = leaves_kept g.W.World g.F.Files c.args.inodes.now c.meet.new.inodes c.meet.ensures.keeps (ask.Unlink c.args.path.now) _
+returns-in-Err-clause-leaves g c = leaves_kept g.W.World g.F.Files (ask.Unlink c.args.path.now) c.args.inodes.now c.meet.new.inodes c.meet.ensures.keeps _
 
 pub returns-in-Ok-None-clause-leaves : goal.returns-in-Ok-None-clause-leaves
-returns-in-Ok-None-clause-leaves g c = leaves_kept g.W.World g.F.Files c.args.inodes.now c.meet.new.inodes c.meet.ensures.keeps (ask.Unlink c.args.path.now) _
+returns-in-Ok-None-clause-leaves g c = leaves_kept g.W.World g.F.Files (ask.Unlink c.args.path.now) c.args.inodes.now c.meet.new.inodes c.meet.ensures.keeps _
 
 pub returns-in-Dir-clause-leaves : goal.returns-in-Dir-clause-leaves
-returns-in-Dir-clause-leaves g c = leaves_kept g.W.World g.F.Files c.args.inodes.now c.meet.new.inodes c.meet.ensures.keeps (ask.Unlink c.args.path.now) _
+returns-in-Dir-clause-leaves g c = leaves_kept g.W.World g.F.Files (ask.Unlink c.args.path.now) c.args.inodes.now c.meet.new.inodes c.meet.ensures.keeps _
 
 pub returns-in-Ok-clause-leaves : goal.returns-in-Ok-clause-leaves
 returns-in-Ok-clause-leaves g c =
@@ -166,7 +166,7 @@ returns-in-Ok-clause-leaves g c =
     let u = c.remove_entry.new.inodes in
     let l = leaves_by g.F.Files v u x.stays root x.marks (no_less v.next u.next x.rest.0) x.rest.1 x.counted in
     let saved = subst (λ (r : Path). IsSavedAbove r v.root) c.as_slice-2.ensures c.in_default-settle.ensures.saved in
-    leaves_changed g.W.World g.F.Files c.args.inodes.now t c.meet.ensures.keeps u (Finished say.Ok) (λ e is. cc) (λ e is. cc) (ask.Unlink p)
+    leaves_changed g.W.World g.F.Files (ask.Unlink p) c.args.inodes.now t c.meet.ensures.keeps u (Finished say.Ok) (λ e is. cc) (λ e is. cc)
     (leaves_then g.W.World g.F.Files t v u (settles_leaves g.W.World g.F.Files t v _ st) l)
     (none_given t.next u.next 0 (x.rest.0 ∙ st.readies.next)) (λ no. (saved_on p v.root u.root saved x.marks, tt))
 
@@ -179,10 +179,9 @@ returns-in-Err-remove_entry-clause-leaves g c =
     let st = c.settle.ensures.settles in
     let counted = fault_count (g.F.Files.failures v.files) (g.F.Files.failures u.files) c.in-Err-remove_entry.fault x.fault in
     let l = leaves_by g.F.Files v u x.stays (root_same v.root u.root x.err) x.marks (no_less v.next u.next x.rest.0) x.rest.1 counted in
-    leaves_changed g.W.World g.F.Files c.args.inodes.now t c.meet.ensures.keeps u (Finished (say.Fault c.in-Err-remove_entry.fault)) (λ e is. cc)
-    (λ e is. subst (SameNames t.root) (sym x.err) st.readies.names) (ask.Unlink c.args.path.now)
+    leaves_changed g.W.World g.F.Files (ask.Unlink c.args.path.now) c.args.inodes.now t c.meet.ensures.keeps u (Finished (say.Fault c.in-Err-remove_entry.fault)) (λ e is. cc) (λ e is. subst (SameNames t.root) (sym x.err) st.readies.names)
     (leaves_then g.W.World g.F.Files t v u (settles_leaves g.W.World g.F.Files t v _ st) l)
     (none_given t.next u.next 0 (x.rest.0 ∙ st.readies.next)) (λ no. absurd (no (c.in-Err-remove_entry.fault, refl)))
 
 pub returns-in_default-clause-leaves : goal.returns-in_default-clause-leaves
-returns-in_default-clause-leaves g c = leaves_kept g.W.World g.F.Files c.args.inodes.now c.args.inodes.now same (ask.Unlink c.args.path.now) _
+returns-in_default-clause-leaves g c = leaves_kept g.W.World g.F.Files (ask.Unlink c.args.path.now) c.args.inodes.now c.args.inodes.now same _

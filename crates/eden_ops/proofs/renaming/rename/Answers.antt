@@ -10,7 +10,7 @@ use Rattle.eden_ops.specs.Keeping.{same}
 use Rattle.eden_ops.proofs.Answering.{first_ended, first_absent}
 use Rattle.eden_ops.proofs.TwoPaths.{moves, starts_rename, begins, plain_told, land_stopped, can_go, went, stayed}
 use Rattle.eden_ops.proofs.Leaving.{leaves_kept, leaves_moved}
-use Rattle.eden_ops.proofs.Steps.{keeps_on}
+use Rattle.eden_ops.proofs.Steps.{keeps_first, keeps_both}
 use Rattle.eden_ops.proofs.renaming.rename.Goals as goal
 
 pub returns-in-Err-clause-attempts : goal.returns-in-Err-clause-attempts
@@ -24,7 +24,7 @@ returns-in-Err-clause-attempts g c =
     let other : is_root to ≡ false = sym c.is_root-else-is_root.ensures ∙ c.if-is_root-2.false in
     subst (λ (a : Attempt). Attempts g.W.World g.F.Files (ask.Rename from to) s t c.args.cache.now c.meet.new.cache a) (sym c.ended.ensures)
     (first_ended g.W.World g.F.Files (ask.Rename from to) from (moves from to)
-    (starts_rename from to root other) s t c.args.cache.now c.meet.new.cache e.same e.keeps e.cache c.in-Err.stop e.meets e.shown)
+    (starts_rename from to root other) s t c.args.cache.now c.meet.new.cache e.same (keeps_first g.W.World g.F.Files from to s t e.keeps) e.cache c.in-Err.stop e.meets e.shown)
 
 pub returns-in-Ok-None-clause-attempts : goal.returns-in-Ok-None-clause-attempts
 returns-in-Ok-None-clause-attempts g c =
@@ -35,7 +35,8 @@ returns-in-Ok-None-clause-attempts g c =
     let e = c.in-Ok-None.ensures in
     let root : is_root from ≡ false = sym c.is_root.ensures ∙ c.if-is_root.false in
     let other : is_root to ≡ false = sym c.is_root-else-is_root.ensures ∙ c.if-is_root-2.false in
-    first_absent g.W.World g.F.Files (ask.Rename from to) from (moves from to) (starts_rename from to root other) s t c.args.cache.now c.meet.new.cache e.same e.keeps e.cache
+    first_absent g.W.World g.F.Files (ask.Rename from to) from (moves from to) (starts_rename from to root other) s t c.args.cache.now c.meet.new.cache e.same
+    (keeps_first g.W.World g.F.Files from to s t e.keeps) e.cache
     (λ h. subst (λ (o : Option Seen). MeetsShown g.W.World g.F.Files from s t (Ok o)) c.in-Ok-None.field-0-is (e.shown h))
 
 pub returns-in-Some-clause-attempts : goal.returns-in-Some-clause-attempts
@@ -101,31 +102,31 @@ returns-in-Err-relocate-clause-attempts g c =
     l.same l.keeps l.cache c.relocate.new.inodes c.in-Err-relocate.fault x.fault x.err
 
 pub returns-then-is_root-clause-leaves : goal.returns-then-is_root-clause-leaves
-returns-then-is_root-clause-leaves g c = leaves_kept g.W.World g.F.Files c.args.inodes.now c.args.inodes.now same (ask.Rename c.args.from.now c.args.to.now) _
+returns-then-is_root-clause-leaves g c = leaves_kept g.W.World g.F.Files (ask.Rename c.args.from.now c.args.to.now) c.args.inodes.now c.args.inodes.now same _
 
 pub returns-in-Err-clause-leaves : goal.returns-in-Err-clause-leaves
-returns-in-Err-clause-leaves g c = leaves_kept g.W.World g.F.Files c.args.inodes.now c.meet.new.inodes c.meet.ensures.keeps (ask.Rename c.args.from.now c.args.to.now) _
+returns-in-Err-clause-leaves g c = leaves_kept g.W.World g.F.Files (ask.Rename c.args.from.now c.args.to.now) c.args.inodes.now c.meet.new.inodes
+    (keeps_first g.W.World g.F.Files c.args.from.now c.args.to.now c.args.inodes.now c.meet.new.inodes c.meet.ensures.keeps) _
 
 pub returns-in-Ok-None-clause-leaves : goal.returns-in-Ok-None-clause-leaves
-returns-in-Ok-None-clause-leaves g c = leaves_kept g.W.World g.F.Files c.args.inodes.now c.meet.new.inodes c.meet.ensures.keeps (ask.Rename c.args.from.now c.args.to.now) _
+returns-in-Ok-None-clause-leaves g c = leaves_kept g.W.World g.F.Files (ask.Rename c.args.from.now c.args.to.now) c.args.inodes.now c.meet.new.inodes
+    (keeps_first g.W.World g.F.Files c.args.from.now c.args.to.now c.args.inodes.now c.meet.new.inodes c.meet.ensures.keeps) _
 
 pub returns-in-Some-clause-leaves : goal.returns-in-Some-clause-leaves
-returns-in-Some-clause-leaves g c = leaves_kept g.W.World g.F.Files c.args.inodes.now c.meet.new.inodes c.meet.ensures.keeps (ask.Rename c.args.from.now c.args.to.now) _
+returns-in-Some-clause-leaves g c = leaves_kept g.W.World g.F.Files (ask.Rename c.args.from.now c.args.to.now) c.args.inodes.now c.meet.new.inodes
+    (keeps_first g.W.World g.F.Files c.args.from.now c.args.to.now c.args.inodes.now c.meet.new.inodes c.meet.ensures.keeps) _
 
 pub returns-in-Err-land-clause-leaves : goal.returns-in-Err-land-clause-leaves
 returns-in-Err-land-clause-leaves g c =
-    leaves_kept g.W.World g.F.Files c.args.inodes.now c.land.new.inodes (keeps_on g.W.World g.F.Files c.args.inodes.now c.meet.new.inodes c.land.new.inodes c.meet.ensures.keeps c.land.ensures.keeps)
-    (ask.Rename c.args.from.now c.args.to.now) _
+    leaves_kept g.W.World g.F.Files (ask.Rename c.args.from.now c.args.to.now) c.args.inodes.now c.land.new.inodes (keeps_both g.W.World g.F.Files c.args.from.now c.args.to.now c.args.inodes.now c.meet.new.inodes c.land.new.inodes c.meet.ensures.keeps c.land.ensures.keeps) _
 
 pub returns-in-Ok-relocate-clause-leaves : goal.returns-in-Ok-relocate-clause-leaves
 returns-in-Ok-relocate-clause-leaves g c =
     let x = c.in-Ok-relocate.ensures in
-    leaves_moved g.W.World g.F.Files c.args.inodes.now c.land.new.inodes (keeps_on g.W.World g.F.Files c.args.inodes.now c.meet.new.inodes c.land.new.inodes c.meet.ensures.keeps c.land.ensures.keeps)
-    c.relocate.new.inodes (Finished say.Ok) (λ e is. cc) (λ e is. cc) c.args.from.now c.args.to.now x.loaded x.root x.rest x.counted (λ q unsaved. inr (x.marks q unsaved)) (λ no. (x.saved.0, (x.saved.1, tt)))
+    leaves_moved g.W.World g.F.Files c.args.from.now c.args.to.now c.args.inodes.now c.land.new.inodes (keeps_both g.W.World g.F.Files c.args.from.now c.args.to.now c.args.inodes.now c.meet.new.inodes c.land.new.inodes c.meet.ensures.keeps c.land.ensures.keeps) c.relocate.new.inodes (Finished say.Ok) (λ e is. cc) (λ e is. cc) x.loaded x.root x.rest x.counted (λ q unsaved. inr (x.marks q unsaved)) (λ no. (x.saved.0, (x.saved.1, tt)))
 
 pub returns-in-Err-relocate-clause-leaves : goal.returns-in-Err-relocate-clause-leaves
 returns-in-Err-relocate-clause-leaves g c =
     let x = c.in-Err-relocate.ensures in
-    leaves_moved g.W.World g.F.Files c.args.inodes.now c.land.new.inodes (keeps_on g.W.World g.F.Files c.args.inodes.now c.meet.new.inodes c.land.new.inodes c.meet.ensures.keeps c.land.ensures.keeps)
-    c.relocate.new.inodes (Finished (say.Fault c.in-Err-relocate.fault)) (λ e is. cc) (λ e is. x.names) c.args.from.now c.args.to.now x.loaded x.root x.rest x.counted
+    leaves_moved g.W.World g.F.Files c.args.from.now c.args.to.now c.args.inodes.now c.land.new.inodes (keeps_both g.W.World g.F.Files c.args.from.now c.args.to.now c.args.inodes.now c.meet.new.inodes c.land.new.inodes c.meet.ensures.keeps c.land.ensures.keeps) c.relocate.new.inodes (Finished (say.Fault c.in-Err-relocate.fault)) (λ e is. cc) (λ e is. x.names) x.loaded x.root x.rest x.counted
     (λ q unsaved. elim (x.marked q unsaved) [ inl in_it ↦ inl ((c.in-Err-relocate.fault, refl), in_it) | inr was ↦ inr was ]) (λ no. absurd (no (c.in-Err-relocate.fault, refl)))

@@ -1,4 +1,4 @@
-use Rattle.std.proofs.Common.{◌∙◌}
+use Rattle.std.proofs.Common.{[], ◌∷◌, ◌∙◌}
 use Rattle.eden_ops.specs.Keeping.{same}
 use Rattle.eden_ops.proofs.Origins.{not_empty}
 use Rattle.eden_ops.proofs.Steps.{reads, reads_keeping}
@@ -12,7 +12,7 @@ unreachable-requires g c =
 pub returns-in_err-content-in-Own-clause-same : goal.returns-in_err-content-in-Own-clause-same
 returns-in_err-content-in-Own-clause-same g c =
     let e = c.content.ensures in
-    c.keeps_laws.ensures.shown c.args.inodes.now c.content.new.self (reads g.W.World g.F.Files c.args.inodes.now c.content.new.self e.rest e.files e.counted)
+    c.keeps_laws.ensures.shown (c.args.path.now ∷ []) c.args.inodes.now c.content.new.self (reads g.W.World g.F.Files c.args.inodes.now c.content.new.self e.rest e.files e.counted)
 
 pub returns-in_err-content-in-Own-clause-keeps : goal.returns-in_err-content-in-Own-clause-keeps
 returns-in_err-content-in-Own-clause-keeps g c =
@@ -22,7 +22,7 @@ returns-in_err-content-in-Own-clause-keeps g c =
 pub returns-in_ok-content-in-Own-clause-same : goal.returns-in_ok-content-in-Own-clause-same
 returns-in_ok-content-in-Own-clause-same g c =
     let e = c.content.ensures in
-    c.keeps_laws.ensures.shown c.args.inodes.now c.keep.new.self (reads_keeping g.W.World g.F.Files c.args.inodes.now c.content.new.self c.keep.new.self c.keep.ensures e.rest e.files e.counted)
+    c.keeps_laws.ensures.shown (c.args.path.now ∷ []) c.args.inodes.now c.keep.new.self (reads_keeping g.W.World g.F.Files c.args.inodes.now c.content.new.self c.keep.new.self c.keep.ensures e.rest e.files e.counted)
 
 pub returns-in_ok-content-in-Own-clause-keeps : goal.returns-in_ok-content-in-Own-clause-keeps
 returns-in_ok-content-in-Own-clause-keeps g c =

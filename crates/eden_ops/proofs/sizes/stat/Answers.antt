@@ -14,6 +14,7 @@ use Rattle.eden_ops.proofs.Answering.{walk_ended, says_absent}
 use Rattle.eden_ops.proofs.Finding.{still_stocked}
 use Rattle.eden_ops.proofs.Telling.{as_dir, met_content, met_tells, content_tells, content_lacks}
 use Rattle.eden_ops.proofs.Looking.{no_dir, stats, asks_stat, stats_dir, stats_some, stats_lost}
+use Rattle.eden_ops.proofs.Stamps.{walked_on}
 use Rattle.eden_ops.proofs.Steps.{keeps_on}
 use Rattle.eden_ops.proofs.sizes.stat.Goals as goal
 
@@ -85,3 +86,9 @@ size-requires-clause-content g c =
 
 pub size-requires-clause-stocked : goal.size-requires-clause-stocked
 size-requires-clause-stocked g c = still_stocked g.W.World.repository g.W.World.honest c.args.cache.now c.meet.new.cache c.meet.ensures.cache c.requires
+
+pub returns-in-Err-size-clause-walked : goal.returns-in-Err-size-clause-walked
+returns-in-Err-size-clause-walked g c = walked_on g.W.World g.F.Files c.args.path.now c.meet.new.inodes c.size.new.inodes c.meet.ensures.walked c.size.ensures.keeps
+
+pub returns-in-Ok-clause-walked : goal.returns-in-Ok-clause-walked
+returns-in-Ok-clause-walked g c = walked_on g.W.World g.F.Files c.args.path.now c.meet.new.inodes c.size.new.inodes c.meet.ensures.walked c.size.ensures.keeps

@@ -32,7 +32,7 @@ returns-then-size-gt-MAX_FILE-clause-attempts g c =
     let t = c.meet_file.new.inodes in
     let d = c.meet_file.new.cache in
     let e = c.in-Ok.ensures in
-    file_tells g.W.World g.F.Files p s t c.args.cache.now d c.in-Ok.seen e.file e.shown e.same e.keeps e.cache (ask.Truncate c.args.path.now c.args.size) (truncates c.args.size)
+    file_tells g.W.World g.F.Files p s t c.args.cache.now d c.in-Ok.seen e.file e.shown e.same e.cache (ask.Truncate c.args.path.now c.args.size) e.keeps (truncates c.args.size)
     (asks_truncate c.args.size c.args.path.now) (say.Err EFBIG) refl (λ T. refl)
     (λ k a l plain. truncates_far c.args.size k a l plain (lt-ltb 1073741824 c.args.size c.if-size-gt-MAX_FILE.true))
 
@@ -44,7 +44,7 @@ fill-requires-clause-there g c =
     let d = c.meet_file.new.cache in
     let e = c.in-Ok.ensures in (
       e.file.entry.row,
-      is_file g.W.World g.F.Files p s t c.args.cache.now d c.in-Ok.seen e.file e.shown e.same e.keeps e.cache (ask.Truncate c.args.path.now c.args.size) (truncates c.args.size)
+      is_file g.W.World g.F.Files p s t c.args.cache.now d c.in-Ok.seen e.file e.shown e.same e.cache (ask.Truncate c.args.path.now c.args.size) e.keeps (truncates c.args.size)
           (asks_truncate c.args.size c.args.path.now) t d (λ h. refl) same refl (finds_same d),
     )
 
@@ -55,7 +55,7 @@ returns-in-Ok-fill-clause-attempts g c =
     let t = c.meet_file.new.inodes in
     let d = c.meet_file.new.cache in
     let e = c.in-Ok.ensures in
-    file_fills g.W.World g.F.Files p s t c.args.cache.now d c.in-Ok.seen e.file e.shown e.same e.keeps e.cache (ask.Truncate c.args.path.now c.args.size) (truncates c.args.size)
+    file_fills g.W.World g.F.Files p s t c.args.cache.now d c.in-Ok.seen e.file e.shown e.same e.cache (ask.Truncate c.args.path.now c.args.size) e.keeps (truncates c.args.size)
     (asks_truncate c.args.size c.args.path.now) t d (λ h. refl) same refl (finds_same d) c.fill.new.inodes (truncated c.args.size) [] (say.Ok) refl (λ T. refl)
     (λ h. truncated_none c.args.size (content_shown g.W.World.repository (g.F.Files.stored t.files) e.file.entry.row) (ap (λ (n : ℕ). n == 0) c.if-size-eq0.true))
     (λ h l plain. truncates_none c.args.size e.file.entry.row.kind (content_shown g.W.World.repository (g.F.Files.stored t.files) e.file.entry.row) l plain
@@ -69,7 +69,7 @@ returns-in-Err-fill-clause-attempts g c =
     let d = c.meet_file.new.cache in
     let e = c.in-Ok.ensures in
     let x = c.in-Err-fill.ensures in
-    file_refused g.W.World g.F.Files p s t c.args.cache.now d c.in-Ok.seen e.file e.shown e.same e.keeps e.cache (ask.Truncate c.args.path.now c.args.size) (truncates c.args.size)
+    file_refused g.W.World g.F.Files p s t c.args.cache.now d c.in-Ok.seen e.file e.shown e.same e.cache (ask.Truncate c.args.path.now c.args.size) e.keeps (truncates c.args.size)
     (asks_truncate c.args.size c.args.path.now) t d (λ h. refl) same refl (finds_same d) c.fill.new.inodes c.in-Err-fill.fault x.fault (λ y is. cc) x.unseen
 
 pub make-requires-clause-content : goal.make-requires-clause-content
@@ -89,15 +89,14 @@ returns-in-Err-make-clause-attempts g c =
     let e = c.in-Ok.ensures in
     let b = c.make.ensures in
     subst (λ (a : Attempt). Attempts g.W.World g.F.Files (ask.Truncate c.args.path.now c.args.size) s c.make.new.inodes c.args.cache.now c.make.new.cache a) (sym c.ended-in-Err-make.ensures)
-    (file_lacks g.W.World g.F.Files p s t c.args.cache.now d c.in-Ok.seen e.file e.shown e.same e.keeps e.cache (ask.Truncate c.args.path.now c.args.size) (truncates c.args.size)
+    (file_lacks g.W.World g.F.Files p s t c.args.cache.now d c.in-Ok.seen e.file e.shown e.same e.cache (ask.Truncate c.args.path.now c.args.size) e.keeps (truncates c.args.size)
     (asks_truncate c.args.size c.args.path.now) c.make.new.inodes c.make.new.cache b.same b.keeps b.still b.cache (λ x is. cc) (λ k x is. cc) c.in-Err-make.stop
     (λ k a r plain none. truncates_lost c.args.size k a false plain (le-ltb 1073741824 c.args.size c.if-size-gt-MAX_FILE.false) (ne_eqb c.args.size 0 c.if-size-eq0.false) r none)
     c.in-Err-make.ensures.lacks)
 
 pub returns-in-Err-make-clause-leaves : goal.returns-in-Err-make-clause-leaves
 returns-in-Err-make-clause-leaves g c =
-    leaves_kept g.W.World g.F.Files c.args.inodes.now c.make.new.inodes
-    (keeps_on g.W.World g.F.Files c.args.inodes.now c.meet_file.new.inodes c.make.new.inodes c.meet_file.ensures.keeps c.make.ensures.keeps) (ask.Truncate c.args.path.now c.args.size) _
+    leaves_kept g.W.World g.F.Files (ask.Truncate c.args.path.now c.args.size) c.args.inodes.now c.make.new.inodes (keeps_on g.W.World g.F.Files c.args.inodes.now c.meet_file.new.inodes c.make.new.inodes c.meet_file.ensures.keeps c.make.ensures.keeps) _
 
 pub returns-in-Ok-fill-2-clause-attempts : goal.returns-in-Ok-fill-2-clause-attempts
 returns-in-Ok-fill-2-clause-attempts g c =
@@ -108,7 +107,7 @@ returns-in-Ok-fill-2-clause-attempts g c =
     let e = c.in-Ok.ensures in
     let b = c.make.ensures in
     let had = c.in-Ok-make.ensures.ok in
-    file_fills g.W.World g.F.Files p s t c.args.cache.now d c.in-Ok.seen e.file e.shown e.same e.keeps e.cache (ask.Truncate c.args.path.now c.args.size) (truncates c.args.size)
+    file_fills g.W.World g.F.Files p s t c.args.cache.now d c.in-Ok.seen e.file e.shown e.same e.cache (ask.Truncate c.args.path.now c.args.size) e.keeps (truncates c.args.size)
     (asks_truncate c.args.size c.args.path.now) c.make.new.inodes c.make.new.cache b.same b.keeps b.still b.cache c.fill-2.new.inodes (truncated c.args.size) c.as_slice.result.now (say.Ok) refl
     (λ T. refl)
     (λ h. truncated_some c.args.size (content_shown g.W.World.repository (g.F.Files.stored t.files) e.file.entry.row) had.content (ne_eqb c.args.size 0 c.if-size-eq0.false)
@@ -126,41 +125,31 @@ returns-clause-attempts g c =
     let e = c.in-Ok.ensures in
     let b = c.make.ensures in
     let x = c.in-Err-fill-2.ensures in
-    file_refused g.W.World g.F.Files p s t c.args.cache.now d c.in-Ok.seen e.file e.shown e.same e.keeps e.cache (ask.Truncate c.args.path.now c.args.size) (truncates c.args.size)
+    file_refused g.W.World g.F.Files p s t c.args.cache.now d c.in-Ok.seen e.file e.shown e.same e.cache (ask.Truncate c.args.path.now c.args.size) e.keeps (truncates c.args.size)
     (asks_truncate c.args.size c.args.path.now) c.make.new.inodes c.make.new.cache b.same b.keeps b.still b.cache c.fill-2.new.inodes c.in-Err-fill-2.fault x.fault (λ y is. cc) x.unseen
 
 pub returns-in-Err-clause-leaves : goal.returns-in-Err-clause-leaves
-returns-in-Err-clause-leaves g c = leaves_kept g.W.World g.F.Files c.args.inodes.now c.meet_file.new.inodes c.meet_file.ensures.keeps (ask.Truncate c.args.path.now c.args.size) _
+returns-in-Err-clause-leaves g c = leaves_kept g.W.World g.F.Files (ask.Truncate c.args.path.now c.args.size) c.args.inodes.now c.meet_file.new.inodes c.meet_file.ensures.keeps _
 
 pub returns-then-size-gt-MAX_FILE-clause-leaves : goal.returns-then-size-gt-MAX_FILE-clause-leaves
-returns-then-size-gt-MAX_FILE-clause-leaves g c = leaves_kept g.W.World g.F.Files c.args.inodes.now c.meet_file.new.inodes c.meet_file.ensures.keeps (ask.Truncate c.args.path.now c.args.size) _
+returns-then-size-gt-MAX_FILE-clause-leaves g c = leaves_kept g.W.World g.F.Files (ask.Truncate c.args.path.now c.args.size) c.args.inodes.now c.meet_file.new.inodes c.meet_file.ensures.keeps _
 
 pub returns-in-Ok-fill-clause-leaves : goal.returns-in-Ok-fill-clause-leaves
 returns-in-Ok-fill-clause-leaves g c =
-    leaves_changed g.W.World g.F.Files c.args.inodes.now c.meet_file.new.inodes c.meet_file.ensures.keeps
-    c.fill.new.inodes (Finished say.Ok) (λ e is. cc) (λ e is. cc) (ask.Truncate c.args.path.now c.args.size) c.fill.ensures.leaves
+    leaves_changed g.W.World g.F.Files (ask.Truncate c.args.path.now c.args.size) c.args.inodes.now c.meet_file.new.inodes c.meet_file.ensures.keeps c.fill.new.inodes (Finished say.Ok) (λ e is. cc) (λ e is. cc) c.fill.ensures.leaves
     (none_given c.meet_file.new.inodes.next c.fill.new.inodes.next 0 c.fill.ensures.next) (λ no. (c.in-Ok-fill.ensures.saved, tt))
 
 pub returns-in-Err-fill-clause-leaves : goal.returns-in-Err-fill-clause-leaves
 returns-in-Err-fill-clause-leaves g c =
-    leaves_changed g.W.World g.F.Files c.args.inodes.now c.meet_file.new.inodes c.meet_file.ensures.keeps
-    c.fill.new.inodes (Finished (say.Fault c.in-Err-fill.fault)) (λ e is. cc)
-    (λ e is. c.in-Err-fill.ensures.names)
-    (ask.Truncate c.args.path.now c.args.size) c.fill.ensures.leaves
+    leaves_changed g.W.World g.F.Files (ask.Truncate c.args.path.now c.args.size) c.args.inodes.now c.meet_file.new.inodes c.meet_file.ensures.keeps c.fill.new.inodes (Finished (say.Fault c.in-Err-fill.fault)) (λ e is. cc) (λ e is. c.in-Err-fill.ensures.names) c.fill.ensures.leaves
     (none_given c.meet_file.new.inodes.next c.fill.new.inodes.next 0 c.fill.ensures.next) (λ no. absurd (no (c.in-Err-fill.fault, refl)))
 
 pub returns-in-Ok-fill-2-clause-leaves : goal.returns-in-Ok-fill-2-clause-leaves
 returns-in-Ok-fill-2-clause-leaves g c =
-    leaves_changed g.W.World g.F.Files c.args.inodes.now c.make.new.inodes
-    (keeps_on g.W.World g.F.Files c.args.inodes.now c.meet_file.new.inodes c.make.new.inodes c.meet_file.ensures.keeps c.make.ensures.keeps)
-    c.fill-2.new.inodes (Finished say.Ok) (λ e is. cc) (λ e is. cc) (ask.Truncate c.args.path.now c.args.size) c.fill-2.ensures.leaves
+    leaves_changed g.W.World g.F.Files (ask.Truncate c.args.path.now c.args.size) c.args.inodes.now c.make.new.inodes (keeps_on g.W.World g.F.Files c.args.inodes.now c.meet_file.new.inodes c.make.new.inodes c.meet_file.ensures.keeps c.make.ensures.keeps) c.fill-2.new.inodes (Finished say.Ok) (λ e is. cc) (λ e is. cc) c.fill-2.ensures.leaves
     (none_given c.make.new.inodes.next c.fill-2.new.inodes.next 0 c.fill-2.ensures.next) (λ no. (c.in-Ok-fill-2.ensures.saved, tt))
 
 pub returns-clause-leaves : goal.returns-clause-leaves
 returns-clause-leaves g c =
-    leaves_changed g.W.World g.F.Files c.args.inodes.now c.make.new.inodes
-    (keeps_on g.W.World g.F.Files c.args.inodes.now c.meet_file.new.inodes c.make.new.inodes c.meet_file.ensures.keeps c.make.ensures.keeps)
-    c.fill-2.new.inodes (Finished (say.Fault c.in-Err-fill-2.fault)) (λ e is. cc)
-    (λ e is. c.in-Err-fill-2.ensures.names)
-    (ask.Truncate c.args.path.now c.args.size) c.fill-2.ensures.leaves
+    leaves_changed g.W.World g.F.Files (ask.Truncate c.args.path.now c.args.size) c.args.inodes.now c.make.new.inodes (keeps_on g.W.World g.F.Files c.args.inodes.now c.meet_file.new.inodes c.make.new.inodes c.meet_file.ensures.keeps c.make.ensures.keeps) c.fill-2.new.inodes (Finished (say.Fault c.in-Err-fill-2.fault)) (λ e is. cc) (λ e is. c.in-Err-fill-2.ensures.names) c.fill-2.ensures.leaves
     (none_given c.make.new.inodes.next c.fill-2.new.inodes.next 0 c.fill-2.ensures.next) (λ no. absurd (no (c.in-Err-fill-2.fault, refl)))

@@ -15,7 +15,7 @@ use Rattle.eden_ops.proofs.Fetching.{has_content}
 use Rattle.eden_ops.proofs.Filing.{file_tells, file_lacks, is_file, file_fills, file_refused}
 use Rattle.eden_ops.proofs.Filled.{writes, asks_write, writes_none, writes_far, writes_some, writes_lost, writes_nothing}
 use Rattle.eden_ops.proofs.Finding.{still_stocked}
-use Rattle.eden_ops.proofs.Looking.{plain_other}
+use Rattle.eden_ops.proofs.Looking.{plain_other, not_more}
 use Rattle.eden_ops.proofs.Leaving.{none_given, leaves_kept, leaves_changed}
 use Rattle.eden_ops.proofs.Steps.{keeps_on}
 use Rattle.eden_ops.proofs.writing.write.Goals as goal
@@ -39,7 +39,7 @@ returns-then-count-eq0-clause-attempts g c =
     let t = c.meet_file.new.inodes in
     let d = c.meet_file.new.cache in
     let e = c.in-Ok.ensures in
-    file_tells g.W.World g.F.Files p s t c.args.cache.now d c.in-Ok.seen e.file e.shown e.same e.keeps e.cache (ask.Write c.args.path.now c.args.offset c.args.bytes.now)
+    file_tells g.W.World g.F.Files p s t c.args.cache.now d c.in-Ok.seen e.file e.shown e.same e.cache (ask.Write c.args.path.now c.args.offset c.args.bytes.now) e.keeps
     (writes c.args.offset c.args.bytes.now) (asks_write c.args.offset c.args.bytes.now c.args.path.now (le-ltb 65536 (length c.args.bytes.now) c.if-count-gt-MAX_DATA.false)) (say.Count 0) refl
     (writes_nothing p c.args.offset c.args.bytes.now 0 (ap (λ (n : ℕ). n == 0) c.if-count-eq0.true))
     (λ k a l plain. writes_none c.args.offset c.args.bytes.now k a l plain (ap (λ (n : ℕ). n == 0) c.if-count-eq0.true))
@@ -51,7 +51,7 @@ returns-then-offset-count-clause-attempts g c =
     let t = c.meet_file.new.inodes in
     let d = c.meet_file.new.cache in
     let e = c.in-Ok.ensures in
-    file_tells g.W.World g.F.Files p s t c.args.cache.now d c.in-Ok.seen e.file e.shown e.same e.keeps e.cache (ask.Write c.args.path.now c.args.offset c.args.bytes.now)
+    file_tells g.W.World g.F.Files p s t c.args.cache.now d c.in-Ok.seen e.file e.shown e.same e.cache (ask.Write c.args.path.now c.args.offset c.args.bytes.now) e.keeps
     (writes c.args.offset c.args.bytes.now) (asks_write c.args.offset c.args.bytes.now c.args.path.now (le-ltb 65536 (length c.args.bytes.now) c.if-count-gt-MAX_DATA.false)) (say.Err EFBIG) refl
     (λ T. refl)
     (λ k a l plain. writes_far c.args.offset c.args.bytes.now k a l plain (ne_eqb (length c.args.bytes.now) 0 c.if-count-eq0.false)
@@ -75,7 +75,7 @@ returns-in-Err-make-clause-attempts g c =
     let b = c.make.ensures in
     subst (λ (a : Attempt). Attempts g.W.World g.F.Files (ask.Write c.args.path.now c.args.offset c.args.bytes.now) s c.make.new.inodes c.args.cache.now c.make.new.cache a)
     (sym c.ended-in-Err-make.ensures)
-    (file_lacks g.W.World g.F.Files p s t c.args.cache.now d c.in-Ok.seen e.file e.shown e.same e.keeps e.cache (ask.Write c.args.path.now c.args.offset c.args.bytes.now)
+    (file_lacks g.W.World g.F.Files p s t c.args.cache.now d c.in-Ok.seen e.file e.shown e.same e.cache (ask.Write c.args.path.now c.args.offset c.args.bytes.now) e.keeps
     (writes c.args.offset c.args.bytes.now)
     (asks_write c.args.offset c.args.bytes.now c.args.path.now (le-ltb 65536 (length c.args.bytes.now) c.if-count-gt-MAX_DATA.false)) c.make.new.inodes c.make.new.cache b.same b.keeps b.still
     b.cache (λ x is. cc) (λ k x is. cc) c.in-Err-make.stop
@@ -85,9 +85,7 @@ returns-in-Err-make-clause-attempts g c =
 
 pub returns-in-Err-make-clause-leaves : goal.returns-in-Err-make-clause-leaves
 returns-in-Err-make-clause-leaves g c =
-    leaves_kept g.W.World g.F.Files c.args.inodes.now c.make.new.inodes
-    (keeps_on g.W.World g.F.Files c.args.inodes.now c.meet_file.new.inodes c.make.new.inodes c.meet_file.ensures.keeps c.make.ensures.keeps)
-    (ask.Write c.args.path.now c.args.offset c.args.bytes.now) _
+    leaves_kept g.W.World g.F.Files (ask.Write c.args.path.now c.args.offset c.args.bytes.now) c.args.inodes.now c.make.new.inodes (keeps_on g.W.World g.F.Files c.args.inodes.now c.meet_file.new.inodes c.make.new.inodes c.meet_file.ensures.keeps c.make.ensures.keeps) _
 
 pub fill-requires-clause-there : goal.fill-requires-clause-there
 fill-requires-clause-there g c =
@@ -98,7 +96,7 @@ fill-requires-clause-there g c =
     let e = c.in-Ok.ensures in
     let b = c.make.ensures in (
       e.file.entry.row,
-      is_file g.W.World g.F.Files p s t c.args.cache.now d c.in-Ok.seen e.file e.shown e.same e.keeps e.cache (ask.Write c.args.path.now c.args.offset c.args.bytes.now)
+      is_file g.W.World g.F.Files p s t c.args.cache.now d c.in-Ok.seen e.file e.shown e.same e.cache (ask.Write c.args.path.now c.args.offset c.args.bytes.now) e.keeps
           (writes c.args.offset c.args.bytes.now)
           (asks_write c.args.offset c.args.bytes.now c.args.path.now (le-ltb 65536 (length c.args.bytes.now) c.if-count-gt-MAX_DATA.false)) c.make.new.inodes c.make.new.cache b.same b.keeps b.still
           b.cache,
@@ -113,7 +111,7 @@ returns-in-Ok-fill-clause-attempts g c =
     let e = c.in-Ok.ensures in
     let b = c.make.ensures in
     let had = c.in-Ok-make.ensures.ok in
-    file_fills g.W.World g.F.Files p s t c.args.cache.now d c.in-Ok.seen e.file e.shown e.same e.keeps e.cache (ask.Write c.args.path.now c.args.offset c.args.bytes.now)
+    file_fills g.W.World g.F.Files p s t c.args.cache.now d c.in-Ok.seen e.file e.shown e.same e.cache (ask.Write c.args.path.now c.args.offset c.args.bytes.now) e.keeps
     (writes c.args.offset c.args.bytes.now)
     (asks_write c.args.offset c.args.bytes.now c.args.path.now (le-ltb 65536 (length c.args.bytes.now) c.if-count-gt-MAX_DATA.false)) c.make.new.inodes c.make.new.cache b.same b.keeps b.still
     b.cache c.fill.new.inodes (option_map (written c.args.offset c.args.bytes.now)) c.as_slice.result.now (say.Count (length c.args.bytes.now)) refl (λ T. refl)
@@ -132,37 +130,47 @@ returns-clause-attempts g c =
     let e = c.in-Ok.ensures in
     let b = c.make.ensures in
     let x = c.in-Err-fill.ensures in
-    file_refused g.W.World g.F.Files p s t c.args.cache.now d c.in-Ok.seen e.file e.shown e.same e.keeps e.cache (ask.Write c.args.path.now c.args.offset c.args.bytes.now)
+    file_refused g.W.World g.F.Files p s t c.args.cache.now d c.in-Ok.seen e.file e.shown e.same e.cache (ask.Write c.args.path.now c.args.offset c.args.bytes.now) e.keeps
     (writes c.args.offset c.args.bytes.now)
     (asks_write c.args.offset c.args.bytes.now c.args.path.now (le-ltb 65536 (length c.args.bytes.now) c.if-count-gt-MAX_DATA.false)) c.make.new.inodes c.make.new.cache b.same b.keeps b.still
     b.cache c.fill.new.inodes c.in-Err-fill.fault x.fault (λ y is. cc) x.unseen
 
 pub returns-in-Err-clause-leaves : goal.returns-in-Err-clause-leaves
-returns-in-Err-clause-leaves g c = leaves_kept g.W.World g.F.Files c.args.inodes.now c.meet_file.new.inodes c.meet_file.ensures.keeps (ask.Write c.args.path.now c.args.offset c.args.bytes.now) _
+returns-in-Err-clause-leaves g c = leaves_kept g.W.World g.F.Files (ask.Write c.args.path.now c.args.offset c.args.bytes.now) c.args.inodes.now c.meet_file.new.inodes c.meet_file.ensures.keeps _
 
 pub returns-then-count-eq0-clause-leaves : goal.returns-then-count-eq0-clause-leaves
-returns-then-count-eq0-clause-leaves g c = leaves_kept g.W.World g.F.Files c.args.inodes.now c.meet_file.new.inodes c.meet_file.ensures.keeps
-    (ask.Write c.args.path.now c.args.offset c.args.bytes.now) _
+returns-then-count-eq0-clause-leaves g c = leaves_kept g.W.World g.F.Files (ask.Write c.args.path.now c.args.offset c.args.bytes.now) c.args.inodes.now c.meet_file.new.inodes c.meet_file.ensures.keeps _
 
 pub returns-then-offset-count-clause-leaves : goal.returns-then-offset-count-clause-leaves
-returns-then-offset-count-clause-leaves g c = leaves_kept g.W.World g.F.Files c.args.inodes.now c.meet_file.new.inodes c.meet_file.ensures.keeps
-    (ask.Write c.args.path.now c.args.offset c.args.bytes.now) _
+returns-then-offset-count-clause-leaves g c = leaves_kept g.W.World g.F.Files (ask.Write c.args.path.now c.args.offset c.args.bytes.now) c.args.inodes.now c.meet_file.new.inodes c.meet_file.ensures.keeps _
 
 pub returns-in-Ok-fill-clause-leaves : goal.returns-in-Ok-fill-clause-leaves
 returns-in-Ok-fill-clause-leaves g c =
-    leaves_changed g.W.World g.F.Files c.args.inodes.now c.make.new.inodes
-    (keeps_on g.W.World g.F.Files c.args.inodes.now c.meet_file.new.inodes c.make.new.inodes c.meet_file.ensures.keeps c.make.ensures.keeps)
-    c.fill.new.inodes (Finished (say.Count (length c.args.bytes.now))) (λ e is. cc) (λ e is. cc) (ask.Write c.args.path.now c.args.offset c.args.bytes.now) c.fill.ensures.leaves
+    leaves_changed g.W.World g.F.Files (ask.Write c.args.path.now c.args.offset c.args.bytes.now) c.args.inodes.now c.make.new.inodes (keeps_on g.W.World g.F.Files c.args.inodes.now c.meet_file.new.inodes c.make.new.inodes c.meet_file.ensures.keeps c.make.ensures.keeps) c.fill.new.inodes (Finished (say.Count (length c.args.bytes.now))) (λ e is. cc) (λ e is. cc) c.fill.ensures.leaves
     (none_given c.make.new.inodes.next c.fill.new.inodes.next 0 c.fill.ensures.next) (λ no. (c.in-Ok-fill.ensures.saved, tt))
 
 pub returns-clause-leaves : goal.returns-clause-leaves
 returns-clause-leaves g c =
-    leaves_changed g.W.World g.F.Files c.args.inodes.now c.make.new.inodes
-    (keeps_on g.W.World g.F.Files c.args.inodes.now c.meet_file.new.inodes c.make.new.inodes c.meet_file.ensures.keeps c.make.ensures.keeps)
-    c.fill.new.inodes (Finished (say.Fault c.in-Err-fill.fault)) (λ e is. cc)
-    (λ e is. c.in-Err-fill.ensures.names)
-    (ask.Write c.args.path.now c.args.offset c.args.bytes.now) c.fill.ensures.leaves
+    leaves_changed g.W.World g.F.Files (ask.Write c.args.path.now c.args.offset c.args.bytes.now) c.args.inodes.now c.make.new.inodes (keeps_on g.W.World g.F.Files c.args.inodes.now c.meet_file.new.inodes c.make.new.inodes c.meet_file.ensures.keeps c.make.ensures.keeps) c.fill.new.inodes (Finished (say.Fault c.in-Err-fill.fault)) (λ e is. cc) (λ e is. c.in-Err-fill.ensures.names) c.fill.ensures.leaves
     (none_given c.make.new.inodes.next c.fill.new.inodes.next 0 c.fill.ensures.next) (λ no. absurd (no (c.in-Err-fill.fault, refl)))
 
 pub returns-then-count-gt-MAX_DATA-clause-leaves : goal.returns-then-count-gt-MAX_DATA-clause-leaves
-returns-then-count-gt-MAX_DATA-clause-leaves g c = leaves_kept g.W.World g.F.Files c.args.inodes.now c.args.inodes.now same (ask.Write c.args.path.now c.args.offset c.args.bytes.now) _
+returns-then-count-gt-MAX_DATA-clause-leaves g c = leaves_kept g.W.World g.F.Files (ask.Write c.args.path.now c.args.offset c.args.bytes.now) c.args.inodes.now c.args.inodes.now same _
+
+pub returns-in-Err-clause-refused : goal.returns-in-Err-clause-refused
+returns-in-Err-clause-refused g c beyond = absurd (not_more (length c.args.bytes.now) 65536 c.if-count-gt-MAX_DATA.false beyond)
+
+pub returns-then-count-eq0-clause-refused : goal.returns-then-count-eq0-clause-refused
+returns-then-count-eq0-clause-refused g c beyond = absurd (not_more (length c.args.bytes.now) 65536 c.if-count-gt-MAX_DATA.false beyond)
+
+pub returns-then-offset-count-clause-refused : goal.returns-then-offset-count-clause-refused
+returns-then-offset-count-clause-refused g c beyond = absurd (not_more (length c.args.bytes.now) 65536 c.if-count-gt-MAX_DATA.false beyond)
+
+pub returns-in-Err-make-clause-refused : goal.returns-in-Err-make-clause-refused
+returns-in-Err-make-clause-refused g c beyond = absurd (not_more (length c.args.bytes.now) 65536 c.if-count-gt-MAX_DATA.false beyond)
+
+pub returns-in-Ok-fill-clause-refused : goal.returns-in-Ok-fill-clause-refused
+returns-in-Ok-fill-clause-refused g c beyond = absurd (not_more (length c.args.bytes.now) 65536 c.if-count-gt-MAX_DATA.false beyond)
+
+pub returns-clause-refused : goal.returns-clause-refused
+returns-clause-refused g c beyond = absurd (not_more (length c.args.bytes.now) 65536 c.if-count-gt-MAX_DATA.false beyond)
