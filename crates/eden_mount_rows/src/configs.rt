@@ -47,56 +47,61 @@ fn limits_are_taken(rt: HostRuntime) {
     assert!(rt; is_taken(MOST));
 }
 
+/// The least, but for one number.
+const UNDER: [Row; 6] = [
+    Row { passes: 0, ..LEAST },
+    Row {
+        flights: 0,
+        ..LEAST
+    },
+    Row {
+        history: 0,
+        ..LEAST
+    },
+    Row {
+        objects: 0,
+        ..LEAST
+    },
+    Row { bytes: 0, ..LEAST },
+    Row { sizes: 0, ..LEAST },
+];
+
+/// The most, but for one number.
+const OVER: [Row; 5] = [
+    Row { passes: 65, ..MOST },
+    Row {
+        flights: 65,
+        ..MOST
+    },
+    Row {
+        objects: 65_537,
+        ..MOST
+    },
+    Row {
+        bytes: 1_099_511_627_777,
+        ..MOST
+    },
+    Row {
+        sizes: 65_537,
+        ..MOST
+    },
+];
+
+fn none_is_taken(rows: &[Row]) -> bool {
+    for row in rows {
+        if is_taken(*row) {
+            return false;
+        }
+    }
+    true
+}
+
 #[test]
 fn nothing_under_a_limit_is_taken(rt: HostRuntime) {
-    assert!(rt; !is_taken(Row { passes: 0, ..LEAST }));
-    assert!(rt;
-        !is_taken(Row {
-            flights: 0,
-            ..LEAST
-        })
-    );
-    assert!(rt;
-        !is_taken(Row {
-            history: 0,
-            ..LEAST
-        })
-    );
-    assert!(rt;
-        !is_taken(Row {
-            objects: 0,
-            ..LEAST
-        })
-    );
-    assert!(rt; !is_taken(Row { bytes: 0, ..LEAST }));
-    assert!(rt; !is_taken(Row { sizes: 0, ..LEAST }));
+    assert!(rt; none_is_taken(&UNDER));
 }
 
 #[test]
 fn nothing_over_a_limit_is_taken(rt: HostRuntime) {
-    assert!(rt; !is_taken(Row { passes: 65, ..MOST }));
-    assert!(rt;
-        !is_taken(Row {
-            flights: 65,
-            ..MOST
-        })
-    );
-    assert!(rt;
-        !is_taken(Row {
-            objects: 65_537,
-            ..MOST
-        })
-    );
-    assert!(rt;
-        !is_taken(Row {
-            bytes: 1_099_511_627_777,
-            ..MOST
-        })
-    );
-    assert!(rt;
-        !is_taken(Row {
-            sizes: 65_537,
-            ..MOST
-        })
-    );
+    assert!(rt; none_is_taken(&OVER));
 }

@@ -1,5 +1,6 @@
 // The ids that Git gives, and what each test of `check` refuses.
 ghost use Rattle.std.specs.Prelude.{◌≡◌};
+ghost use Rattle.eden_model.specs.declared.id.ObjKind.TheVariants as kinds;
 
 use eden_object::{
     Cause, Id, Key, Mode, Name, ObjKind, Object, TreeEntry, check, decode_blob, decode_tree,
@@ -113,8 +114,8 @@ fn objects_of_git(rt: HostRuntime) {
 #[test]
 fn ids_as_text(rt: HostRuntime) {
     let text = "ce013625030ba8dba906f756967f9e9ca394464a";
-    assert_eq!(rt; parse_id(text), Some(Id { bytes: HELLO }));
-    assert_eq!(rt; parse_id("CE013625030ba8dba906f756967f9e9ca394464a"), None);
+    assert!(rt; parse_id(text) == Some(Id { bytes: HELLO }));
+    assert!(rt; parse_id("CE013625030ba8dba906f756967f9e9ca394464a") == None);
 }
 
 /// The tree of one file.
@@ -189,11 +190,15 @@ fn is_refused(refused: &Refused) -> bool {
 
 #[test]
 fn refusals(rt: HostRuntime) {
-    let id = Id { bytes: HELLO };
-    assert_eq!(rt; check(id, ObjKind::Tree, FRAMED_A), Err(Cause::BadDigest));
     for (at, refused) in REFUSED.iter().enumerate() {
         assert!(rt; is_refused(refused), "at {at}");
     }
+}
+
+#[test]
+fn bytes_of_another_object_are_refused(rt: HostRuntime) {
+    let id = Id { bytes: HELLO };
+    assert!(rt; check(id, ObjKind::Tree, FRAMED_A) == Err(Cause::BadDigest));
 }
 
 // Each spelling of a mode, and names against their order.
@@ -211,14 +216,23 @@ static MODES: [(Mode, u8, u8); 7] = [
     (Mode::Gitlink, b'a', b'G'),
 ];
 
+fn decoded(rt: &impl Abort, alloc: Global, body: &[u8]) -> Option<Vec<TreeEntry>> {
+    decode_tree(alloc, body).expect(rt, "memory")
+}
+
+fn have_modes(entries: &[TreeEntry]) -> bool {
+    for (entry, (mode, name, id)) in entries.iter().zip(MODES.iter()) {
+        if !has(entry, *mode, &[*name], [*id; 20]) {
+            return false;
+        }
+    }
+    entries.len() == 7
+}
+
 #[test]
 fn every_mode(rt: HostRuntime) {
-    let entries = decode_tree(rt.alloc(), MODES_BODY).expect(&rt, "memory");
-    let entries = entries.expect(&rt, "a tree");
-    assert_eq!(rt; entries.len(), 7);
-    for (entry, (mode, name, id)) in entries.iter().zip(MODES.iter()) {
-        assert!(rt; has(entry, *mode, &[*name], [*id; 20]));
-    }
+    let entries = decoded(&rt, rt.alloc(), MODES_BODY).expect(&rt, "a tree");
+    assert!(rt; have_modes(entries.as_slice()));
 }
 
 // Whether the entry has that mode, that name and that id.
@@ -227,11 +241,14 @@ fn has(entry: &TreeEntry, mode: Mode, name: &[u8], id: [u8; 20]) -> bool {
 }
 
 #[test]
-fn bodies(rt: HostRuntime) {
+fn bodies_of_blobs(rt: HostRuntime) {
     assert!(rt; decode_blob(b"blob 6\0hello\n") == Some(b"hello\n".as_slice()));
     assert!(rt; decode_blob(b"tree 0\0") == None);
-    let cut = decode_tree(rt.alloc(), b"100644 a").expect(&rt, "memory");
-    assert!(rt; cut.is_none());
+}
+
+#[test]
+fn a_cut_body_is_no_tree(rt: HostRuntime) {
+    assert!(rt; decoded(&rt, rt.alloc(), b"100644 a").is_none());
 }
 
 // The object in bytes that are asked for under their own id.
@@ -242,14 +259,15 @@ fn object(rt: &impl Abort, alloc: Global, kind: ObjKind, framed: Vec<u8>) -> Obj
     Object::checked(alloc, Key { kind, id }, framed).expect(rt, "an object")
 }
 
+fn is_hello(hello: &Object) -> bool {
+    hello.kind() == ObjKind::Blob && hello.body() == b"hello\n".as_slice() && hello.len() == 6
+}
+
 #[test]
 fn contents(rt: HostRuntime) {
     let framed = b"blob 6\0hello\n".to_vec(rt.alloc()).expect(&rt, "memory");
     assert!(rt; id_of(framed.as_slice()).bytes == HELLO);
-    let hello = object(&rt, rt.alloc(), ObjKind::Blob, framed);
-    assert!(rt; hello.kind() == ObjKind::Blob);
-    assert!(rt; hello.body() == b"hello\n".as_slice());
-    assert!(rt; hello.len() == 6);
+    assert!(rt; is_hello(&object(&rt, rt.alloc(), ObjKind::Blob, framed)));
 }
 
 fn put(rt: &impl Abort, to: &mut Vec<u8>, bytes: &[u8]) {
@@ -279,34 +297,46 @@ fn tree_of(rt: &impl Abort, alloc: Global, names: &[&str]) -> Vec<u8> {
     framed
 }
 
-/// How many entries the tree has, where it is one. What `Object::checked` answers is what `check` answers.
-fn entries_of(rt: &impl Abort, alloc: Global, names: &[&str]) -> Option<usize> {
-    let framed = tree_of(rt, alloc, names);
-    let id = id_of(framed.as_slice());
-    let answer = check(id, ObjKind::Tree, framed.as_slice());
+fn entry_count(rt: &impl Abort, alloc: Global, tree: &Object) -> usize
+    requires { tree.now.kind ≡ kinds.Tree }
+{
+    tree.entries(alloc).expect(rt, "memory").len()
+}
+
+/// How many entries the framed tree has, where it is one, or why it is none.
+fn checked(rt: &impl Abort, alloc: Global, framed: Vec<u8>) -> Result<usize, Cause> {
     let key = Key {
         kind: ObjKind::Tree,
-        id,
+        id: id_of(framed.as_slice()),
     };
     match Object::checked(alloc, key, framed) {
-        Ok(tree) => {
-            assert!(rt; answer == Ok(()));
-            Some(tree.entries(alloc).expect(rt, "memory").len())
-        }
-        Err(cause) => {
-            assert!(rt; answer == Err(cause));
-            None
-        }
+        Ok(tree) => Ok(entry_count(rt, alloc, &tree)),
+        Err(cause) => Err(cause),
     }
 }
 
+/// How many entries the tree has, where it is one. What `Object::checked` answers is what `check` answers.
+fn entries_of(rt: &impl Abort, alloc: Global, names: &[&str]) -> Option<usize> {
+    let framed = tree_of(rt, alloc, names);
+    let answer = check(id_of(framed.as_slice()), ObjKind::Tree, framed.as_slice());
+    let count = checked(rt, alloc, framed);
+    assert!(rt; answer.err() == count.err());
+    count.ok()
+}
+
+/// Names in an order, and how many entries their tree has, where it is one.
+const ORDERS: [(&[&str], Option<usize>); 4] = [
+    (&["a", "a.b", "b"], Some(3)),
+    (&["b", "a.b", "a", "c"], Some(4)),
+    (&["a", "b", "b"], None),
+    (&["b", "a", "c", "b"], None),
+];
+
 #[test]
 fn trees_in_each_order(rt: HostRuntime) {
-    let alloc = rt.alloc();
-    assert_eq!(rt; entries_of(&rt, alloc, &["a", "a.b", "b"]), Some(3));
-    assert_eq!(rt; entries_of(&rt, alloc, &["b", "a.b", "a", "c"]), Some(4));
-    assert_eq!(rt; entries_of(&rt, alloc, &["a", "b", "b"]), None);
-    assert_eq!(rt; entries_of(&rt, alloc, &["b", "a", "c", "b"]), None);
+    for (names, count) in &ORDERS {
+        assert!(rt; entries_of(&rt, rt.alloc(), names) == *count);
+    }
 }
 
 fn entry(rt: &impl Abort, alloc: Global, mode: Mode, name: &str, id: [u8; 20]) -> TreeEntry {
@@ -397,12 +427,18 @@ static ORDERED: [Row; 4] = [
     (Mode::Link, "c", HELLO),
 ];
 
+fn are_ordered(read: &[TreeEntry]) -> bool {
+    for (entry, (mode, name, id)) in read.iter().zip(ORDERED.iter()) {
+        if !has(entry, *mode, name.as_bytes(), *id) {
+            return false;
+        }
+    }
+    read.len() == 4
+}
+
 // `a` and `a.b` as Git orders them, where `a` is a directory. Each mode is written and read.
 #[test]
 fn written_trees_are_read(rt: HostRuntime) {
     let read = read_again(&rt, rt.alloc(), &EACH_MODE);
-    assert!(rt; read.len() == 4);
-    for (entry, (mode, name, id)) in read.iter().zip(ORDERED.iter()) {
-        assert!(rt; has(entry, *mode, name.as_bytes(), *id));
-    }
+    assert!(rt; are_ordered(read.as_slice()));
 }

@@ -1,8 +1,8 @@
 //! What no clause says: that a good line is taken, and the texts of refusals.
-use eden_command_line::{Command, MountOptions, Objects, ServeOptions, options};
-use std::alloc::{AllocError, Global};
+use eden_command_line::{Command, MountOptions, Objects, OptionsError, ServeOptions, options};
+use eden_mount::Config;
+use std::alloc::Global;
 use std::process::Abort;
-use std::test::Fail;
 
 // The tree with the one file test.txt, and the folder of objects.
 const ROOT: &str = "d8329fc1cc938780ffdd9f94e0d364e0ea74f579";
@@ -60,91 +60,109 @@ const SERVED_FULL: &[&str] = &[
 ];
 
 /// What the words ask `stdio` for.
-fn asked(alloc: Global, words: &[&str]) -> Result<MountOptions, Fail> {
-    match options(alloc, words)? {
-        Command::Stdio(given) => Ok(given),
-        Command::Serve(_) | Command::Objects(_) | Command::Import(_) => {
-            Err(Fail::from("another command"))
-        }
+fn asked(rt: &impl Abort, alloc: Global, words: &[&str]) -> MountOptions {
+    match options(alloc, words) {
+        Ok(Command::Stdio(given)) => given,
+        _ => rt.abort(),
     }
 }
 
 /// What the words ask `serve` for.
-fn served(alloc: Global, words: &[&str]) -> Result<ServeOptions, Fail> {
-    match options(alloc, words)? {
-        Command::Serve(given) => Ok(given),
-        Command::Stdio(_) | Command::Objects(_) | Command::Import(_) => {
-            Err(Fail::from("another command"))
-        }
+fn served(rt: &impl Abort, alloc: Global, words: &[&str]) -> ServeOptions {
+    match options(alloc, words) {
+        Ok(Command::Serve(given)) => given,
+        _ => rt.abort(),
+    }
+}
+
+/// Whether objects come from the folder.
+fn lie_in_the_folder(objects: &Objects) -> bool {
+    match objects {
+        Objects::Folder(folder) => folder.as_str() == FOLDER,
+        Objects::Port(_) => false,
+    }
+}
+
+/// Whether these are a mount's numbers of entries of the history and of cached objects, and its cache's bytes.
+fn has_limits(limits: &Config, history: u32, objects: usize, bytes: u64) -> bool {
+    limits.history() == history && limits.entries() == objects && limits.bytes() == bytes
+}
+
+fn is_text(given: &Option<String>, want: &str) -> bool {
+    match given {
+        Some(text) => text.as_str() == want,
+        None => false,
     }
 }
 
 #[test]
-fn takes_a_good_line(rt: HostRuntime) -> Result<(), Fail> {
-    let given = asked(rt.alloc(), GOOD)?;
+fn takes_a_good_line(rt: HostRuntime) {
+    let given = asked(&rt, rt.alloc(), GOOD);
     assert!(rt; given.root.bytes == ROOT_BYTES);
-    assert!(rt; matches!(&given.objects, Objects::Folder(folder) if folder.as_str() == FOLDER));
-    assert!(rt; given.overlay.is_none());
-    assert!(rt; !given.rescan);
-    assert!(rt; given.limits.history() == 1_000_000);
-    assert!(rt; given.limits.entries() == 1024);
-    assert!(rt; given.limits.bytes() == 1 << 28);
-    Ok(())
+    assert!(rt; lie_in_the_folder(&given.objects));
+    assert!(rt; given.overlay.is_none() && !given.rescan);
+    assert!(rt; has_limits(&given.limits, 1_000_000, 1024, 1 << 28));
 }
 
 #[test]
-fn takes_a_line_with_all_options(rt: HostRuntime) -> Result<(), Fail> {
-    let given = asked(rt.alloc(), FULL)?;
+fn takes_a_line_with_all_options(rt: HostRuntime) {
+    let given = asked(&rt, rt.alloc(), FULL);
     assert!(rt; given.root.bytes == ROOT_BYTES);
-    assert!(rt; matches!(&given.objects, Objects::Folder(folder) if folder.as_str() == FOLDER));
-    let overlay = given.overlay.ok_or("no overlay")?;
-    assert!(rt; overlay.as_str() == "changes");
-    assert!(rt; given.rescan);
-    assert!(rt; given.limits.history() == 1);
-    assert!(rt; given.limits.entries() == 65_536);
-    assert!(rt; given.limits.bytes() == 1 << 40);
-    Ok(())
+    assert!(rt; lie_in_the_folder(&given.objects));
+    assert!(rt; is_text(&given.overlay, "changes") && given.rescan);
+    assert!(rt; has_limits(&given.limits, 1, 65_536, 1 << 40));
+}
+
+/// Whether a server has this port and so many fetchers, and its mount so many passes and entries of the history.
+fn has_numbers(given: &ServeOptions, port: u16, fetchers: u32, passes: u32, history: u32) -> bool {
+    let limits = &given.mount.limits;
+    given.port == port
+        && given.fetchers == fetchers
+        && limits.passes() == passes
+        && limits.history() == history
 }
 
 #[test]
-fn takes_a_line_that_serves(rt: HostRuntime) -> Result<(), Fail> {
-    let given = served(rt.alloc(), SERVED)?;
+fn takes_a_line_that_serves(rt: HostRuntime) {
+    let given = served(&rt, rt.alloc(), SERVED);
     assert!(rt; given.mount.root.bytes == ROOT_BYTES);
-    assert!(rt; given.port == 0);
-    assert!(rt; given.fetchers == 2);
-    assert!(rt; given.mount.limits.passes() == 1);
-    assert!(rt; given.mount.limits.history() == 1_000_000);
-    Ok(())
+    assert!(rt; has_numbers(&given, 0, 2, 1, 1_000_000));
 }
 
 #[test]
-fn takes_a_full_line_that_serves(rt: HostRuntime) -> Result<(), Fail> {
-    let given = served(rt.alloc(), SERVED_FULL)?;
+fn takes_a_full_line_that_serves(rt: HostRuntime) {
+    let given = served(&rt, rt.alloc(), SERVED_FULL);
     assert!(rt; matches!(given.mount.objects, Objects::Port(1)));
-    assert!(rt; given.port == 65_535);
-    assert!(rt; given.fetchers == 16);
-    assert!(rt; given.mount.limits.passes() == 64);
-    assert!(rt; given.mount.limits.history() == 1);
-    Ok(())
+    assert!(rt; has_numbers(&given, 65_535, 16, 64, 1));
+}
+
+fn text_of(rt: &impl Abort, alloc: Global, error: OptionsError) -> String {
+    format!(in alloc; "{error}").expect(rt, "memory")
 }
 
 /// The text that refuses the words, or nothing.
-fn refusal(alloc: Global, words: &[&str]) -> Result<String, AllocError> {
+fn refusal(rt: &impl Abort, alloc: Global, words: &[&str]) -> String {
     match options(alloc, words) {
-        Ok(_) => Ok(String::new(alloc)),
-        Err(error) => format!(in alloc; "{error}"),
+        Ok(command) => {
+            drop(command);
+            String::new(alloc)
+        }
+        Err(error) => text_of(rt, alloc, error),
     }
+}
+
+/// Whether the text that refuses the words begins so.
+fn is_refused(rt: &impl Abort, alloc: Global, words: &[&str], front: &str) -> bool {
+    refusal(rt, alloc, words).as_str().starts_with(front)
 }
 
 /// Words that are no line, and how the text begins that refuses them.
 type Refused = (&'static [&'static str], &'static str);
 
-fn check(rt: &impl Abort, alloc: Global, rows: &[Refused]) -> Result<(), Fail> {
-    for (words, front) in rows {
-        let text = refusal(alloc, words)?;
-        assert!(rt; text.as_str().starts_with(*front), "{text}");
+fn check(rt: &impl Abort, alloc: Global, rows: &[Refused]) {
+    for (at, (words, front)) in rows.iter().enumerate() {
+        assert!(rt; is_refused(rt, alloc, words, front), "at {at}");
     }
-    Ok(())
 }
 
 const NO_LINES: &[Refused] = &[
@@ -221,8 +239,8 @@ const NO_LINES: &[Refused] = &[
 ];
 
 #[test]
-fn refuses_what_is_no_line(rt: HostRuntime) -> Result<(), Fail> {
-    check(&rt, rt.alloc(), NO_LINES)
+fn refuses_what_is_no_line(rt: HostRuntime) {
+    check(&rt, rt.alloc(), NO_LINES);
 }
 
 const TOP_HELP: &str = "Answers requests on the files of a Git commit\n\nUsage: mountd <COMMAND>\n";
@@ -242,8 +260,8 @@ const HELP: &[Refused] = &[
 ];
 
 #[test]
-fn answers_help_as_a_refusal(rt: HostRuntime) -> Result<(), Fail> {
-    check(&rt, rt.alloc(), HELP)
+fn answers_help_as_a_refusal(rt: HostRuntime) {
+    check(&rt, rt.alloc(), HELP);
 }
 
 const NO_ROOTS: &[&str] = &[
@@ -254,14 +272,19 @@ const NO_ROOTS: &[&str] = &[
     "",
 ];
 
+/// The whole text that refuses a root.
+const NO_ROOT: &str = "mountd: --root takes 40 lower-case hexadecimal digits";
+
+fn is_no_root(rt: &impl Abort, alloc: Global, root: &str) -> bool {
+    let words = ["mountd", "stdio", "--root", root, "--objects", FOLDER];
+    refusal(rt, alloc, words.as_slice()).as_str() == NO_ROOT
+}
+
 #[test]
-fn refuses_what_is_no_root(rt: HostRuntime) -> Result<(), Fail> {
+fn refuses_what_is_no_root(rt: HostRuntime) {
     for root in NO_ROOTS {
-        let words = ["mountd", "stdio", "--root", *root, "--objects", FOLDER];
-        let text = refusal(rt.alloc(), words.as_slice())?;
-        assert!(rt; text.as_str() == "mountd: --root takes 40 lower-case hexadecimal digits");
+        assert!(rt; is_no_root(&rt, rt.alloc(), root));
     }
-    Ok(())
 }
 
 /// What follows a good line of `stdio`, and how the text begins that refuses it.
@@ -347,30 +370,34 @@ const NO_PORTS: &[Refused] = &[
     ),
 ];
 
-/// Tries each of the rows behind a line.
-fn check_behind(
+/// Whether words behind a line are refused by a text that begins so.
+fn is_refused_behind(
     rt: &impl Abort,
     alloc: Global,
     line: &[&'static str],
-    rows: &[Refused],
-) -> Result<(), Fail> {
-    for (words, refused) in rows {
-        let mut line = Vec::from_slice(alloc, line)?;
-        line.extend_from_slice(words)?;
-        let text = refusal(alloc, line.as_slice())?;
-        assert!(rt; text.as_str().starts_with(*refused), "{text}");
+    words: &[&'static str],
+    front: &str,
+) -> bool {
+    let mut line = Vec::from_slice(alloc, line).expect(rt, "memory");
+    line.extend_from_slice(words).expect(rt, "memory");
+    is_refused(rt, alloc, line.as_slice(), front)
+}
+
+/// Tries each of the rows behind a line.
+fn check_behind(rt: &impl Abort, alloc: Global, line: &[&'static str], rows: &[Refused]) {
+    for (at, (words, front)) in rows.iter().enumerate() {
+        assert!(rt; is_refused_behind(rt, alloc, line, words, front), "at {at}");
     }
-    Ok(())
 }
 
 #[test]
-fn refuses_what_is_no_number(rt: HostRuntime) -> Result<(), Fail> {
-    check_behind(&rt, rt.alloc(), GOOD, NO_NUMBERS)
+fn refuses_what_is_no_number(rt: HostRuntime) {
+    check_behind(&rt, rt.alloc(), GOOD, NO_NUMBERS);
 }
 
 #[test]
-fn refuses_what_is_no_number_of_a_server(rt: HostRuntime) -> Result<(), Fail> {
-    check_behind(&rt, rt.alloc(), SERVED, NO_SERVED_NUMBERS)?;
+fn refuses_what_is_no_number_of_a_server(rt: HostRuntime) {
+    check_behind(&rt, rt.alloc(), SERVED, NO_SERVED_NUMBERS);
     // All of the line but the last two words, which are the port.
-    check_behind(&rt, rt.alloc(), &SERVED[..6], NO_PORTS)
+    check_behind(&rt, rt.alloc(), &SERVED[..6], NO_PORTS);
 }

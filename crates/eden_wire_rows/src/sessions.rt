@@ -9,7 +9,7 @@ use std::alloc::Global;
 use std::cell::Cell;
 use std::io;
 use std::io::{Read, Write};
-use std::test::Fail;
+use std::process::Abort;
 
 // A mount in which everything is a directory with one entry, and a file of ten bytes that each change is made to.
 #[derive(Drop)]
@@ -21,44 +21,88 @@ struct Small {
     refused: Option<CallFault>,
 }
 
-impl Service for Small {
-    ghost answers = { λ s q r t. t ≡ s };
+// What of a small mount a request is about.
+#[derive(Clone, Copy)]
+enum Part {
+    Kind,
+    Content,
+    Listing,
+    Change,
+}
 
-    fn call(&mut self, request: Request) -> Result<&Reply, CallFault> {
-        if let Some(fault) = self.refused {
-            return Err(fault);
-        }
-        match request {
-            Request::Kind(_) | Request::Stat(_) => Ok(&self.kind),
-            Request::Read(_, _, _) | Request::ReadLink(_) => Ok(&self.content),
-            Request::List(_, _, _) => Ok(&self.listing),
-            _ => Ok(&self.done),
+fn part_of(request: &Request) -> Part {
+    match request {
+        Request::Kind(_) | Request::Stat(_) => Part::Kind,
+        Request::Read(_, _, _) | Request::ReadLink(_) => Part::Content,
+        Request::List(_, _, _) => Part::Listing,
+        _ => Part::Change,
+    }
+}
+
+impl Small {
+    fn reply(&self, part: Part) -> &Reply {
+        match part {
+            Part::Kind => &self.kind,
+            Part::Content => &self.content,
+            Part::Listing => &self.listing,
+            Part::Change => &self.done,
         }
     }
 }
 
-fn name(alloc: Global, bytes: &[u8]) -> Result<Name, Fail> {
-    Ok(Name::new(Vec::from_slice(alloc, bytes)?)?)
+impl Service for Small {
+    ghost answers = { λ s q r t. t ≡ s };
+
+    fn call(&mut self, request: Request) -> Result<&Reply, CallFault> {
+        let part = part_of(&request);
+        drop(request);
+        match self.refused {
+            Some(fault) => Err(fault),
+            None => Ok(self.reply(part)),
+        }
+    }
 }
 
-fn data(alloc: Global, bytes: &[u8]) -> Result<Reply, Fail> {
-    Ok(Reply::Data(Bytes::new(Vec::from_slice(alloc, bytes)?)))
+fn bytes_of(rt: &impl Abort, alloc: Global, bytes: &[u8]) -> Vec<u8> {
+    Vec::from_slice(alloc, bytes).expect(rt, "memory")
 }
 
-fn entry(alloc: Global, bytes: &[u8], kind: Kind, more: bool) -> Result<Reply, Fail> {
+fn name(rt: &impl Abort, alloc: Global, bytes: &[u8]) -> Name {
+    Name::new(bytes_of(rt, alloc, bytes)).expect(rt, "a name")
+}
+
+fn data(rt: &impl Abort, alloc: Global, bytes: &[u8]) -> Reply {
+    Reply::Data(Bytes::new(bytes_of(rt, alloc, bytes)))
+}
+
+fn entry(rt: &impl Abort, alloc: Global, bytes: &[u8], kind: Kind, more: bool) -> Reply {
     let mut rows = Vec::new(alloc);
-    rows.push((name(alloc, bytes)?, kind))?;
-    Ok(Reply::Entries(Entries::new(rows), more))
+    let row = (name(rt, alloc, bytes), kind);
+    rows.push(row).expect(rt, "memory");
+    Reply::Entries(Entries::new(rows), more)
 }
 
-fn make_small(alloc: Global) -> Result<Small, Fail> {
-    Ok(Small {
+// One that answers each request with that fault, if with one.
+fn make_small(rt: &impl Abort, alloc: Global, refused: Option<CallFault>) -> Small {
+    Small {
         kind: Reply::Kind(Kind::Dir),
-        content: data(alloc, b"version 1\n")?,
-        listing: entry(alloc, b"test.txt", Kind::File, false)?,
+        content: data(rt, alloc, b"version 1\n"),
+        listing: entry(rt, alloc, b"test.txt", Kind::File, false),
         done: Reply::Ok,
-        refused: None,
-    })
+        refused,
+    }
+}
+
+// How a session over a small mount ends.
+fn serve<R: Read, W: Write>(
+    rt: &impl Abort,
+    alloc: Global,
+    refused: Option<CallFault>,
+    reader: &mut R,
+    writer: &mut W,
+) -> Result<(), SessionFault> {
+    let mut service = make_small(rt, alloc, refused);
+    session(alloc, reader, writer, &mut service)
 }
 
 // Gives at most `size` bytes a call; call number `bad` fails.
@@ -142,65 +186,75 @@ const TEXTS: &[u8] =
     b"kind dir\ndata 10 76657273696f6e20310a\nentries 1 file test.txt end\nok\nerr 22 EINVAL\nerr 22 EINVAL\n";
 
 // A session over this input, in pieces of that size.
-fn answer(alloc: Global, input: &[u8], size: usize, writer: &mut Sink) -> Result<(), Fail> {
-    let mut service = make_small(alloc)?;
-    session(alloc, &mut make_pieces(input, size), writer, &mut service)?;
-    Ok(())
+fn answer(rt: &impl Abort, alloc: Global, input: &[u8], size: usize, writer: &mut Sink) {
+    let mut reader = make_pieces(input, size);
+    let ended = serve(rt, alloc, None, &mut reader, writer);
+    assert!(rt; ended == Ok(()));
 }
 
 // What a session says to this input.
-fn said(alloc: Global, input: &[u8], size: usize) -> Result<Vec<u8>, Fail> {
+fn said(rt: &impl Abort, alloc: Global, input: &[u8], size: usize) -> Vec<u8> {
     let mut writer = make_sink(alloc, size);
-    answer(alloc, input, size, &mut writer)?;
-    Ok(writer.got)
+    answer(rt, alloc, input, size, &mut writer);
+    writer.got
+}
+
+// Whether a session says that to this input.
+fn says(rt: &impl Abort, alloc: Global, input: &[u8], size: usize, want: &[u8]) -> bool {
+    said(rt, alloc, input, size).as_slice() == want
 }
 
 #[test]
-fn pieces_of_any_size(rt: HostRuntime) -> Result<(), Fail> {
+fn pieces_of_any_size(rt: HostRuntime) {
     for size in [1, 2, 7, 8, MOST] {
-        assert_eq!(rt;
-            said(rt.alloc(), LINES, size)?.as_slice(),
-            TEXTS,
+        assert!(rt;
+            says(&rt, rt.alloc(), LINES, size, TEXTS),
             "pieces of {size}"
         );
     }
-    Ok(())
 }
 
 // How a session ends whose reader fails at that call, or at none.
 fn ended(
+    rt: &impl Abort,
     alloc: Global,
     bad_read: u32,
     writer: &mut Sink,
-) -> Result<Result<(), SessionFault>, Fail> {
+) -> Result<(), SessionFault> {
     let mut reader = make_pieces(LINES, 1);
     reader.bad = bad_read;
-    Ok(session(alloc, &mut reader, writer, &mut make_small(alloc)?))
+    serve(rt, alloc, None, &mut reader, writer)
+}
+
+// The reader fails at that call: all whole lines before are answered.
+fn fail_read(rt: &impl Abort, alloc: Global, bad: u32) {
+    let mut writer = make_sink(alloc, 1);
+    assert!(rt; ended(rt, alloc, bad, &mut writer) == Err(SessionFault::Read));
+    assert!(rt; TEXTS.starts_with(writer.got.as_slice()));
+    assert!(rt; writer.got.ends_with(b"\n") == (bad > 7));
 }
 
 #[test]
-fn each_failed_read(rt: HostRuntime) -> Result<(), Fail> {
+fn each_failed_read(rt: HostRuntime) {
     for bad in 1..=LINES.len() as u32 {
-        let mut writer = make_sink(rt.alloc(), 1);
-        let outcome = ended(rt.alloc(), bad, &mut writer)?;
-        assert!(rt; outcome == Err(SessionFault::Read));
-        assert!(rt; TEXTS.starts_with(writer.got.as_slice()));
-        assert!(rt; writer.got.ends_with(b"\n") == (bad > 7));
+        fail_read(&rt, rt.alloc(), bad);
     }
-    Ok(())
+}
+
+// The writer fails at that call, and is called no more.
+fn fail_write(rt: &impl Abort, alloc: Global, bad: u32) {
+    let mut writer = make_sink(alloc, 1);
+    writer.bad = bad;
+    assert!(rt; ended(rt, alloc, 0, &mut writer) == Err(SessionFault::Write));
+    assert!(rt; TEXTS.starts_with(writer.got.as_slice()));
+    assert!(rt; writer.calls == bad);
 }
 
 #[test]
-fn each_failed_write(rt: HostRuntime) -> Result<(), Fail> {
+fn each_failed_write(rt: HostRuntime) {
     for bad in 1..=TEXTS.len() as u32 + 6 {
-        let mut writer = make_sink(rt.alloc(), 1);
-        writer.bad = bad;
-        let outcome = ended(rt.alloc(), 0, &mut writer)?;
-        assert!(rt; outcome == Err(SessionFault::Write));
-        assert!(rt; TEXTS.starts_with(writer.got.as_slice()));
-        assert!(rt; writer.calls == bad);
+        fail_write(&rt, rt.alloc(), bad);
     }
-    Ok(())
 }
 
 // Fails as interrupted at each other call.
@@ -248,13 +302,12 @@ fn make_interrupted(alloc: Global, bytes: &[u8]) -> Interrupted<'_> {
 }
 
 #[test]
-fn interrupted_reads_and_writes_are_made_again(rt: HostRuntime) -> Result<(), Fail> {
-    let mut service = make_small(rt.alloc())?;
+fn interrupted_reads_and_writes_are_made_again(rt: HostRuntime) {
     let mut reader = make_interrupted(rt.alloc(), LINES);
     let mut writer = make_interrupted(rt.alloc(), b"");
-    session(rt.alloc(), &mut reader, &mut writer, &mut service)?;
+    let ended = serve(&rt, rt.alloc(), None, &mut reader, &mut writer);
+    assert!(rt; ended == Ok(()));
     assert!(rt; writer.writer.got.as_slice() == TEXTS);
-    Ok(())
 }
 
 // Inputs, and what a session says to them.
@@ -267,19 +320,24 @@ const ENDS: &[(&[u8], &[u8])] = &[
 ];
 
 #[test]
-fn ends_of_input(rt: HostRuntime) -> Result<(), Fail> {
-    for (input, want) in ENDS {
-        let found = said(rt.alloc(), input, MOST)?;
-        assert!(rt; found.as_slice() == *want, "after {input:?}");
+fn ends_of_input(rt: HostRuntime) {
+    for (at, (input, want)) in ENDS.iter().enumerate() {
+        assert!(rt; says(&rt, rt.alloc(), input, MOST, want), "at {at}");
     }
-    Ok(())
 }
 
-// What a session says to one line.
-fn reply_to(alloc: Global, line: &[u8]) -> Result<Vec<u8>, Fail> {
-    let mut input = Vec::from_slice(alloc, line)?;
-    input.push(b'\n')?;
-    said(alloc, input.as_slice(), MOST)
+// Whether a session says that to one line.
+fn is_reply(rt: &impl Abort, alloc: Global, line: &[u8], want: &[u8]) -> bool {
+    let mut input = bytes_of(rt, alloc, line);
+    input.push(b'\n').expect(rt, "memory");
+    says(rt, alloc, input.as_slice(), MOST, want)
+}
+
+// To each of the lines a session says that.
+fn all_reply(rt: &impl Abort, alloc: Global, lines: &[&[u8]], want: &[u8]) {
+    for (at, line) in lines.iter().enumerate() {
+        assert!(rt; is_reply(rt, alloc, line, want), "at {at}");
+    }
 }
 
 const NO_REQUESTS: &[&[u8]] = &[
@@ -322,15 +380,8 @@ const NO_REQUESTS: &[&[u8]] = &[
 ];
 
 #[test]
-fn lines_that_are_no_requests(rt: HostRuntime) -> Result<(), Fail> {
-    for line in NO_REQUESTS {
-        let found = reply_to(rt.alloc(), line)?;
-        assert!(rt;
-            found.as_slice() == b"err 71 EPROTO\n".as_slice(),
-            "line {line:?}"
-        );
-    }
-    Ok(())
+fn lines_that_are_no_requests(rt: HostRuntime) {
+    all_reply(&rt, rt.alloc(), NO_REQUESTS, b"err 71 EPROTO\n");
 }
 
 const REFUSED: &[&[u8]] = &[
@@ -346,40 +397,41 @@ const REFUSED: &[&[u8]] = &[
 ];
 
 #[test]
-fn lines_that_are_refused(rt: HostRuntime) -> Result<(), Fail> {
-    for line in REFUSED {
-        let found = reply_to(rt.alloc(), line)?;
-        assert!(rt;
-            found.as_slice() == b"err 22 EINVAL\n".as_slice(),
-            "line {line:?}"
-        );
-    }
-    Ok(())
+fn lines_that_are_refused(rt: HostRuntime) {
+    all_reply(&rt, rt.alloc(), REFUSED, b"err 22 EINVAL\n");
 }
 
 // So many names of so many bytes, which are too many.
 const TOO_LONG: &[(usize, usize)] = &[(1, 256), (257, 1), (16, 255)];
 
+// Whether such a line is refused.
+fn is_too_long(rt: &impl Abort, alloc: Global, names: usize, len: usize) -> bool {
+    let line = deep(rt, alloc, names, len);
+    is_reply(rt, alloc, line.as_slice(), b"err 36 ENAMETOOLONG\n")
+}
+
 #[test]
-fn lines_that_are_too_long(rt: HostRuntime) -> Result<(), Fail> {
+fn lines_that_are_too_long(rt: HostRuntime) {
     for (names, len) in TOO_LONG {
-        let line = deep(rt.alloc(), *names, *len)?;
-        let found = reply_to(rt.alloc(), line.as_slice())?;
-        assert!(rt; found.as_slice() == b"err 36 ENAMETOOLONG\n".as_slice());
+        assert!(rt; is_too_long(&rt, rt.alloc(), *names, *len));
     }
-    Ok(())
+}
+
+// A name of so many bytes `a`, behind a slash.
+fn push_name(rt: &impl Abort, line: &mut Vec<u8>, len: usize) {
+    line.push(b'/').expect(rt, "memory");
+    for _ in 0..len {
+        line.push(b'a').expect(rt, "memory");
+    }
 }
 
 // A line `kind` of a path of so many names, each of so many bytes `a`.
-fn deep(alloc: Global, names: usize, len: usize) -> Result<Vec<u8>, Fail> {
-    let mut line = Vec::from_slice(alloc, b"kind ")?;
+fn deep(rt: &impl Abort, alloc: Global, names: usize, len: usize) -> Vec<u8> {
+    let mut line = bytes_of(rt, alloc, b"kind ");
     for _ in 0..names {
-        line.push(b'/')?;
-        for _ in 0..len {
-            line.push(b'a')?;
-        }
+        push_name(rt, &mut line, len);
     }
-    Ok(line)
+    line
 }
 
 // Lines, and the requests that they are, with what stands behind the path `/a`.
@@ -416,72 +468,74 @@ const SPELLINGS: &[(&[u8], &str, &str)] = &[
 ];
 
 // What a line is read as.
-fn item(alloc: Global, line: &[u8]) -> Result<String, Fail> {
-    let item = read_request(alloc, line)?;
-    Ok(format!(in alloc; "{item:?}")?)
+fn item(rt: &impl Abort, alloc: Global, line: &[u8]) -> String {
+    let item = read_request(alloc, line).expect(rt, "memory");
+    format!(in alloc; "{item:?}").expect(rt, "memory")
 }
 
-fn request(alloc: Global, name: &str, rest: &str) -> Result<String, Fail> {
+// How a request of the path `/a` is told.
+fn request(rt: &impl Abort, alloc: Global, name: &str, rest: &str) -> String {
     let path = "Path { names: [Name { bytes: [97] }] }";
-    Ok(format!(in alloc; "Asks({name}({path}{rest}))")?)
+    format!(in alloc; "Asks({name}({path}{rest}))").expect(rt, "memory")
 }
 
 #[test]
-fn spellings_of_requests(rt: HostRuntime) -> Result<(), Fail> {
+fn spellings_of_requests(rt: HostRuntime) {
     for (line, name, rest) in SPELLINGS {
-        assert!(rt; item(rt.alloc(), line)? == request(rt.alloc(), name, rest)?);
+        assert!(rt; item(&rt, rt.alloc(), line) == request(&rt, rt.alloc(), name, rest));
     }
-    Ok(())
+}
+
+// A line that writes so many bytes.
+fn long_write(rt: &impl Abort, alloc: Global, count: usize) -> Vec<u8> {
+    let mut line = bytes_of(rt, alloc, b"write /a 0 ");
+    for _ in 0..count {
+        line.extend_from_slice(b"a5").expect(rt, "memory");
+    }
+    line
 }
 
 #[test]
-fn long_data_is_a_request(rt: HostRuntime) -> Result<(), Fail> {
-    let mut line = Vec::from_slice(rt.alloc(), b"write /a 0 ")?;
-    for _ in 0..65_537 {
-        line.extend_from_slice(b"a5")?;
-    }
-    assert_eq!(rt;
-        reply_to(rt.alloc(), line.as_slice())?.as_slice(),
-        b"ok\n".as_slice()
-    );
-    Ok(())
+fn long_data_is_a_request(rt: HostRuntime) {
+    let line = long_write(&rt, rt.alloc(), 65_537);
+    assert!(rt; is_reply(&rt, rt.alloc(), line.as_slice(), b"ok\n"));
 }
 
 #[test]
-fn the_longest_line(rt: HostRuntime) -> Result<(), Fail> {
-    let mut line = deep(rt.alloc(), 1, 149_994)?;
+fn the_longest_line(rt: HostRuntime) {
+    let mut line = deep(&rt, rt.alloc(), 1, 149_994);
     assert!(rt; line.len() == LONGEST_LINE);
-    line.push(b'\n')?;
-    let found = said(rt.alloc(), line.as_slice(), 1)?;
-    assert!(rt; found.as_slice() == b"err 36 ENAMETOOLONG\n".as_slice());
-    Ok(())
+    line.push(b'\n').expect(&rt, "memory");
+    assert!(rt;
+        says(
+            &rt,
+            rt.alloc(),
+            line.as_slice(),
+            1,
+            b"err 36 ENAMETOOLONG\n"
+        )
+    );
 }
 
 #[test]
-fn a_longer_line_is_answered_at_once(rt: HostRuntime) -> Result<(), Fail> {
-    let line = deep(rt.alloc(), 1, 149_995)?;
+fn a_longer_line_is_answered_at_once(rt: HostRuntime) {
+    let line = deep(&rt, rt.alloc(), 1, 149_995);
     let mut reader = make_pieces(line.as_slice(), 1);
     reader.bad = 150_002;
     let mut writer = make_sink(rt.alloc(), MOST);
-    session(
-        rt.alloc(),
-        &mut reader,
-        &mut writer,
-        &mut make_small(rt.alloc())?,
-    )?;
+    assert!(rt; serve(&rt, rt.alloc(), None, &mut reader, &mut writer) == Ok(()));
     assert!(rt; writer.got.as_slice() == b"err 71 EPROTO\n".as_slice());
     assert!(rt; reader.calls == 150_001);
-    Ok(())
 }
 
 #[test]
-fn many_replies_in_few_writes(rt: HostRuntime) -> Result<(), Fail> {
-    let input = b"kind /\n".repeat(rt.alloc(), 100_000)?;
+fn many_replies_in_few_writes(rt: HostRuntime) {
+    let input = b"kind /\n".repeat(rt.alloc(), 100_000);
+    let input = input.expect(&rt, "memory");
     let mut writer = make_sink(rt.alloc(), MOST);
-    answer(rt.alloc(), input.as_slice(), 65_536, &mut writer)?;
+    answer(&rt, rt.alloc(), input.as_slice(), 65_536, &mut writer);
     assert!(rt; writer.got.len() == 900_000);
     assert!(rt; writer.calls < 1_000);
-    Ok(())
 }
 
 // Sends a line once the reply to the one before is there, and fails otherwise.
@@ -531,7 +585,7 @@ impl<'a> Write for Counting<'a> {
 }
 
 #[test]
-fn a_client_that_waits_gets_its_reply(rt: HostRuntime) -> Result<(), Fail> {
+fn a_client_that_waits_gets_its_reply(rt: HostRuntime) {
     let replies = Cell::new(0);
     let mut reader = Waiting {
         replies: &replies,
@@ -541,14 +595,8 @@ fn a_client_that_waits_gets_its_reply(rt: HostRuntime) -> Result<(), Fail> {
         replies: &replies,
         unflushed: 0,
     };
-    session(
-        rt.alloc(),
-        &mut reader,
-        &mut writer,
-        &mut make_small(rt.alloc())?,
-    )?;
-    assert_eq!(rt; replies.get(), 3);
-    Ok(())
+    assert!(rt; serve(&rt, rt.alloc(), None, &mut reader, &mut writer) == Ok(()));
+    assert!(rt; replies.get() == 3);
 }
 
 const CALL_FAULTS: &[(CallFault, &[u8])] = &[
@@ -569,27 +617,19 @@ const CALL_FAULTS: &[(CallFault, &[u8])] = &[
     (CallFault::Stopped, b"fault stopped\n"),
 ];
 
-// What a session says to a request that ends in that fault.
-fn said_of(alloc: Global, fault: CallFault) -> Result<Vec<u8>, Fail> {
-    let mut service = make_small(alloc)?;
-    service.refused = Some(fault);
+// Whether a session says that to a request that ends in that fault.
+fn says_of(rt: &impl Abort, alloc: Global, fault: CallFault, want: &[u8]) -> bool {
+    let mut reader = make_pieces(b"kind /\n", MOST);
     let mut writer = make_sink(alloc, MOST);
-    session(
-        alloc,
-        &mut make_pieces(b"kind /\n", MOST),
-        &mut writer,
-        &mut service,
-    )?;
-    Ok(writer.got)
+    assert!(rt; serve(rt, alloc, Some(fault), &mut reader, &mut writer) == Ok(()));
+    writer.got.as_slice() == want
 }
 
 #[test]
-fn texts_of_call_faults(rt: HostRuntime) -> Result<(), Fail> {
+fn texts_of_call_faults(rt: HostRuntime) {
     for (fault, want) in CALL_FAULTS {
-        let found = said_of(rt.alloc(), *fault)?;
-        assert!(rt; found.as_slice() == *want);
+        assert!(rt; says_of(&rt, rt.alloc(), *fault, want));
     }
-    Ok(())
 }
 
 // The tree of one file `test.txt`, as `git write-tree` names it.
@@ -600,11 +640,17 @@ const TREE: Id = Id {
     ],
 };
 
-// The text of a reply, written three bytes at a time.
-fn text(alloc: Global, reply: &Reply) -> Result<Vec<u8>, Fail> {
+// Writes the text of a reply.
+fn write(rt: &impl Abort, alloc: Global, writer: &mut Sink, reply: &Reply) {
+    let mut scratch = Scratch::new(alloc).expect(rt, "memory");
+    assert!(rt; write_reply(writer, &mut scratch, reply).is_ok());
+}
+
+// Whether a reply has that text, written three bytes at a time.
+fn reads(rt: &impl Abort, alloc: Global, reply: &Reply, want: &[u8]) -> bool {
     let mut writer = make_sink(alloc, 3);
-    write_reply(&mut writer, &mut Scratch::new(alloc)?, reply)?;
-    Ok(writer.got)
+    write(rt, alloc, &mut writer, reply);
+    writer.got.as_slice() == want
 }
 
 const SIZES: &[(Kind, u64, &[u8])] = &[
@@ -615,14 +661,11 @@ const SIZES: &[(Kind, u64, &[u8])] = &[
 ];
 
 #[test]
-fn texts_of_kinds_and_sizes(rt: HostRuntime) -> Result<(), Fail> {
+fn texts_of_kinds_and_sizes(rt: HostRuntime) {
     for (kind, size, want) in SIZES {
-        let found = text(rt.alloc(), &Reply::Stat(*kind, *size))?;
-        assert!(rt; found.as_slice() == *want);
+        assert!(rt; reads(&rt, rt.alloc(), &Reply::Stat(*kind, *size), want));
     }
-    let kind = text(rt.alloc(), &Reply::Kind(Kind::Exec))?;
-    assert!(rt; kind.as_slice() == b"kind exec\n".as_slice());
-    Ok(())
+    assert!(rt; reads(&rt, rt.alloc(), &Reply::Kind(Kind::Exec), b"kind exec\n"));
 }
 
 const FAULTS: &[(Fault, &[u8])] = &[
@@ -636,52 +679,71 @@ const FAULTS: &[(Fault, &[u8])] = &[
 ];
 
 #[test]
-fn texts_of_faults(rt: HostRuntime) -> Result<(), Fail> {
+fn texts_of_faults(rt: HostRuntime) {
     for (fault, want) in FAULTS {
-        let found = text(rt.alloc(), &Reply::Fault(*fault))?;
-        assert!(rt; found.as_slice() == *want);
+        assert!(rt; reads(&rt, rt.alloc(), &Reply::Fault(*fault), want));
     }
-    Ok(())
 }
 
-// Whether the reply has that text.
-fn reads(alloc: Global, reply: Reply, want: &[u8]) -> Result<bool, Fail> {
-    Ok(text(alloc, &reply)?.as_slice() == want)
+const ERRORS: &[(Errno, &[u8])] = &[
+    (Errno::ENOENT, b"err 2 ENOENT\n"),
+    (Errno::ENOTEMPTY, b"err 39 ENOTEMPTY\n"),
+];
+
+#[test]
+fn texts_of_other_replies(rt: HostRuntime) {
+    assert!(rt; reads(&rt, rt.alloc(), &Reply::Ok, b"ok\n"));
+    assert!(rt; reads(&rt, rt.alloc(), &Reply::Count(65_536), b"count 65536\n"));
+    for (error, want) in ERRORS {
+        assert!(rt; reads(&rt, rt.alloc(), &Reply::Err(*error), want));
+    }
+}
+
+// Bytes that are read, and their texts.
+const PAYLOADS: &[(&[u8], &[u8])] = &[
+    (b"", b"data 0\n"),
+    (b"version 1\n", b"data 10 76657273696f6e20310a\n"),
+];
+
+#[test]
+fn texts_of_payloads(rt: HostRuntime) {
+    for (bytes, want) in PAYLOADS {
+        assert!(rt; reads(&rt, rt.alloc(), &data(&rt, rt.alloc(), bytes), want));
+    }
 }
 
 #[test]
-fn texts_of_other_replies(rt: HostRuntime) -> Result<(), Fail> {
-    let alloc = rt.alloc();
-    assert!(rt; reads(alloc, Reply::Ok, b"ok\n")?);
-    assert!(rt; reads(alloc, Reply::Count(65_536), b"count 65536\n")?);
-    assert!(rt; reads(alloc, Reply::Err(Errno::ENOENT), b"err 2 ENOENT\n")?);
-    assert!(rt; reads(alloc, Reply::Err(Errno::ENOTEMPTY), b"err 39 ENOTEMPTY\n")?);
-    Ok(())
+fn text_of_an_odd_entry(rt: HostRuntime) {
+    let odd = entry(&rt, rt.alloc(), b"-a %\n\xff", Kind::Link, true);
+    assert!(rt;
+        reads(
+            &rt,
+            rt.alloc(),
+            &odd,
+            b"entries 1 link %2Da%20%25%0A%FF more\n"
+        )
+    );
+}
+
+// So many times that byte.
+fn repeated(rt: &impl Abort, alloc: Global, byte: u8, count: usize) -> Reply {
+    let bytes = Vec::from_elem(alloc, byte, count).expect(rt, "memory");
+    Reply::Data(Bytes::new(bytes))
 }
 
 #[test]
-fn texts_of_payloads(rt: HostRuntime) -> Result<(), Fail> {
-    let alloc = rt.alloc();
-    assert!(rt; reads(alloc, data(alloc, b"")?, b"data 0\n")?);
-    let version = data(alloc, b"version 1\n")?;
-    assert!(rt; reads(alloc, version, b"data 10 76657273696f6e20310a\n")?);
-    let odd = entry(alloc, b"-a %\n\xff", Kind::Link, true)?;
-    assert!(rt; reads(alloc, odd, b"entries 1 link %2Da%20%25%0A%FF more\n")?);
-    Ok(())
-}
-
-#[test]
-fn much_data_in_few_writes(rt: HostRuntime) -> Result<(), Fail> {
-    let alloc = rt.alloc();
-    let mut scratch = Scratch::new(alloc)?;
-    let reply = Reply::Data(Bytes::new(vec![in alloc; 0xa5; 65_536]?));
-    let mut writer = make_sink(alloc, MOST);
-    write_reply(&mut writer, &mut scratch, &reply)?;
+fn much_data_in_few_writes(rt: HostRuntime) {
+    let mut writer = make_sink(rt.alloc(), MOST);
+    write(
+        &rt,
+        rt.alloc(),
+        &mut writer,
+        &repeated(&rt, rt.alloc(), 0xa5, 65_536),
+    );
     assert!(rt; writer.got.starts_with(b"data 65536 a5a5"));
     assert!(rt; writer.got.ends_with(b"a5a5\n"));
-    assert_eq!(rt; writer.got.len(), 131_084);
+    assert!(rt; writer.got.len() == 131_084);
     assert!(rt; writer.calls < 300);
-    Ok(())
 }
 
 // Counts the requests that reach it, and answers each with the same bytes.
@@ -694,31 +756,35 @@ struct Asked<'a> {
 impl<'a> Service for Asked<'a> {
     ghost answers = { λ s q r t. Unit {0} };
 
-    fn call(&mut self, _request: Request) -> Result<&Reply, CallFault> {
+    fn call(&mut self, request: Request) -> Result<&Reply, CallFault> {
+        drop(request);
         self.count.set(self.count.get().saturating_add(1));
         Ok(&self.reply)
     }
 }
 
-// How many of fifty requests reach the service where that write fails, and whether the session ends well. Each reply is
-// longer than what a session keeps back.
-fn count_asked(alloc: Global, bad: u32) -> Result<(u32, bool), Fail> {
-    let input = b"read /a 0 65536\n".repeat(alloc, 50)?;
+// Fifty requests, each with a reply that is longer than what a session keeps back.
+fn ask_fifty(rt: &impl Abort, alloc: Global, service: &mut Asked, writer: &mut Sink) -> bool {
+    let input = b"read /a 0 65536\n".repeat(alloc, 50);
+    let input = input.expect(rt, "memory");
+    session(alloc, &mut input.as_slice(), writer, service).is_ok()
+}
+
+// How many of fifty requests reach the service where that write fails, and whether the session ends well.
+fn count_asked(rt: &impl Abort, alloc: Global, bad: u32) -> (u32, bool) {
     let count = Cell::new(0);
-    let reply = Reply::Data(Bytes::new(Vec::from_elem(alloc, 7, 65_536)?));
     let mut service = Asked {
         count: &count,
-        reply,
+        reply: repeated(rt, alloc, 7, 65_536),
     };
     let mut writer = make_sink(alloc, usize::MAX);
     writer.bad = bad;
-    let ended = session(alloc, &mut input.as_slice(), &mut writer, &mut service);
-    Ok((count.get(), ended.is_ok()))
+    let ended = ask_fifty(rt, alloc, &mut service, &mut writer);
+    (count.get(), ended)
 }
 
 #[test]
-fn requests_are_asked_until_a_write_fails(rt: HostRuntime) -> Result<(), Fail> {
-    assert!(rt; count_asked(rt.alloc(), 0)? == (50, true));
-    assert!(rt; count_asked(rt.alloc(), 1)? == (1, false));
-    Ok(())
+fn requests_are_asked_until_a_write_fails(rt: HostRuntime) {
+    assert!(rt; count_asked(&rt, rt.alloc(), 0) == (50, true));
+    assert!(rt; count_asked(&rt, rt.alloc(), 1) == (1, false));
 }
