@@ -2,6 +2,7 @@
 use crate::folders::{Made, folder_of};
 use eden_model::Outside;
 use eden_overlay::{FailingFiles, Files, FilesFault, FolderFiles, MemoryFiles, StopFiles};
+use eden_overlay_format::Head;
 use eden_samples::{Call as SystemCall, FaultySystem};
 use std::alloc::Global;
 use std::cell::Cell;
@@ -14,6 +15,7 @@ use std::rc::Rc;
 #[derive(Clone, Copy)]
 enum Call {
     Read(u64),
+    Head(u64),
     Replace(u64, &'static [u8]),
     Remove(u64),
     List,
@@ -22,6 +24,8 @@ enum Call {
 #[derive(Clone, Copy)]
 enum Answer {
     Bytes(Option<&'static [u8]>),
+    // The first 64 bytes, of a file that has as many, and its length.
+    Head(Option<(&'static [u8], u64)>),
     Done,
     Numbers(&'static [u64]),
     Device,
@@ -31,6 +35,7 @@ enum Answer {
 fn gives<F: Files<Outside>>(files: &mut F, alloc: Global, call: Call, want: Answer) -> bool {
     match call {
         Call::Read(number) => is_read(&files.read(alloc, number), want),
+        Call::Head(number) => is_head(files.head(number), want),
         Call::Replace(number, bytes) => is_done(files.replace(alloc, number, bytes), want),
         Call::Remove(number) => is_done(files.remove(number), want),
         Call::List => is_listed(&files.list(alloc), want),
@@ -41,6 +46,17 @@ fn is_read(answer: &Result<Option<Vec<u8>>, FilesFault>, want: Answer) -> bool {
     match (answer, want) {
         (Ok(None), Answer::Bytes(want)) => want.is_none(),
         (Ok(Some(bytes)), Answer::Bytes(want)) => want == Some(bytes.as_slice()),
+        (Err(FilesFault::Device), Answer::Device) => true,
+        _ => false,
+    }
+}
+
+fn is_head(answer: Result<Option<Head>, FilesFault>, want: Answer) -> bool {
+    match (answer, want) {
+        (Ok(None), Answer::Head(want)) => want.is_none(),
+        (Ok(Some(head)), Answer::Head(Some((first, len)))) => {
+            head.len == len && (len < 64 || head.first.as_slice() == first)
+        }
         (Err(FilesFault::Device), Answer::Device) => true,
         _ => false,
     }
@@ -72,14 +88,27 @@ fn gives_all<F: Files<Outside>>(files: &mut F, alloc: Global, calls: &[(Call, An
     true
 }
 
+const SIXTY_FOUR: &[u8] = b"0123456789abcdef0123456789abcdef0123456789abcdef0123456789abcdef";
+
+const SIXTY_SIX: &[u8] = b"0123456789abcdef0123456789abcdef0123456789abcdef0123456789abcdef..";
+
 // What every kind of files answers that is empty at first.
 const BEHAVIOUR: &[(Call, Answer)] = &[
     (Call::List, Answer::Numbers(&[])),
     (Call::Read(10), Answer::Bytes(None)),
     (Call::Replace(10, b"ten"), Answer::Done),
     (Call::Read(10), Answer::Bytes(Some(b"ten"))),
+    (Call::Head(10), Answer::Head(Some((b"", 3)))),
     (Call::Read(1), Answer::Bytes(None)),
+    (Call::Head(1), Answer::Head(None)),
+    (Call::Replace(5, SIXTY_FOUR), Answer::Done),
+    (Call::Head(5), Answer::Head(Some((SIXTY_FOUR, 64)))),
+    (Call::Replace(5, SIXTY_SIX), Answer::Done),
+    (Call::Head(5), Answer::Head(Some((SIXTY_FOUR, 66)))),
+    (Call::Remove(5), Answer::Done),
+    (Call::Head(5), Answer::Head(None)),
     (Call::Replace(2, b""), Answer::Done),
+    (Call::Head(2), Answer::Head(Some((b"", 0)))),
     (Call::Read(2), Answer::Bytes(Some(b""))),
     (Call::List, Answer::Numbers(&[2, 10])),
     (Call::Replace(10, b"x"), Answer::Done),
@@ -167,6 +196,12 @@ const ODD: &[(Call, Answer)] = &[
     (Call::Read(7), Answer::Device),
     (Call::Read(8), Answer::Device),
     (Call::Read(9), Answer::Bytes(None)),
+    (Call::Head(4), Answer::Device),
+    (Call::Head(5), Answer::Head(Some((b"", 1)))),
+    (Call::Head(6), Answer::Device),
+    (Call::Head(7), Answer::Device),
+    (Call::Head(8), Answer::Device),
+    (Call::Head(9), Answer::Head(None)),
     (Call::Remove(4), Answer::Device),
 ];
 
@@ -174,7 +209,7 @@ const ODD: &[(Call, Answer)] = &[
 fn folder_reads_plain_files_alone(rt: HostRuntime) {
     let folder = folder_of(&rt, "overlay-odd", ODD_FILES).expect(&rt, "files");
     let asked = folder.clone().expect(&rt, "memory");
-    assert!(rt; failures_of(&rt, asked, ODD) == Some(5));
+    assert!(rt; failures_of(&rt, asked, ODD) == Some(9));
     fs::remove_dir_all(&rt, folder.as_path()).expect(&rt, "a folder");
 }
 
@@ -253,6 +288,7 @@ fn a_missing_folder_fails(rt: HostRuntime) {
 #[derive(Clone, Copy)]
 enum Ask {
     Read,
+    Head,
     Replace,
     Remove,
     List,
@@ -262,6 +298,7 @@ enum Ask {
 fn fault_of<F: Files<Outside>>(files: &mut F, alloc: Global, ask: Ask) -> Option<FilesFault> {
     match ask {
         Ask::Read => files.read(alloc, 5).err(),
+        Ask::Head => files.head(5).err(),
         Ask::Replace => files.replace(alloc, 5, b"new").err(),
         Ask::Remove => files.remove(5).err(),
         Ask::List => files.list(alloc).err(),
@@ -269,7 +306,10 @@ fn fault_of<F: Files<Outside>>(files: &mut F, alloc: Global, ask: Ask) -> Option
 }
 
 // No removal, no replacement and no listing that the device refused is told as done.
-const FAILED: [(SystemCall, Ask); 8] = [
+const FAILED: [(SystemCall, Ask); 11] = [
+    (SystemCall::Look, Ask::Head),
+    (SystemCall::Open, Ask::Head),
+    (SystemCall::LookAtOpen, Ask::Head),
     (SystemCall::Look, Ask::Read),
     (SystemCall::Open, Ask::Read),
     (SystemCall::Read, Ask::Read),

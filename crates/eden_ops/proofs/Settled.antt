@@ -1,7 +1,7 @@
 -- What was stored before a change: each entry is as it was, but for marks.
-use Rattle.std.proofs.Common.{◌≡◌, ◌∷◌, ◌++◌, ℕ, Bool, true, false, [], Option, Some, None, Result, Ok, Err, OnOk, refl, sym, ap, ◌∙◌, subst, inl}
+use Rattle.std.proofs.Common.{◌≡◌, ℕ, Bool, false, [], Option, Some, None, Result, Ok, Err, OnOk, refl, sym, ap, ◌∙◌, inl}
 use Rattle.std.proofs.lemmas.Option.{same_Some}
-use Rattle.std.specs.Option.{option_map, option_and_then, is_some}
+use Rattle.std.specs.Option.{option_map, is_some}
 use Rattle.eden_model.specs.declared.fault.Fault.{Fault}
 use Rattle.eden_model.specs.declared.kind.Kind.{Kind}
 use Rattle.eden_model.specs.declared.kind.Origin.{Origin}
@@ -11,11 +11,11 @@ use Rattle.eden_overlay.specs.declared.files.Files.{Ghosts as Files}
 use Rattle.eden_overlay.specs.Files.{Stored}
 use Rattle.eden_tree.specs.Directory.{Child, unloaded, loaded, Row, Directory, child_of, directory_in}
 use Rattle.eden_tree.specs.Paths.{row_at, Standing, standing, standing_at}
-use Rattle.eden_tie.specs.Chains.{StaysLoaded, IsUnsavedAt, NoneMarked}
+use Rattle.eden_tie.specs.Chains.{StaysLoaded, NoneMarked}
 use Rattle.eden_tie.specs.Saving.{SavesAbove, none, one_more, same_files, IsSavedAbove, unmarked, AreAlikeUnmarked}
 use Rattle.eden_tie.proofs.CallerLemmas.{map_some, saves_marks, saves_unmarked}
 use Rattle.eden_inode.specs.Tables.{Table}
-use Rattle.eden_ops.specs.Changes.{StaysOrBecomesOwn, SameNames, LeavesOn, Leaves}
+use Rattle.eden_ops.specs.Changes.{StaysOrBecomesOwn, SameNames, Leaves}
 use Rattle.eden_ops.specs.Known.{known}
 use Rattle.eden_ops.specs.Relocating.{CanRelocate}
 use Rattle.eden_ops.specs.Settling.{Settles}

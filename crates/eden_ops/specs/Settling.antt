@@ -1,5 +1,5 @@
 -- What is done before a change, so that it stands in the files.
-use Rattle.std.specs.Prelude.{◌≡◌, Result}
+use Rattle.std.specs.Prelude.{Result}
 use Rattle.eden_model.specs.declared.fault.Fault.{Fault}
 use Rattle.eden_model.specs.declared.world.World.{Ghosts}
 use Rattle.eden_overlay.specs.declared.files.Files.{Ghosts as Files}

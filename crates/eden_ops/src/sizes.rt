@@ -71,11 +71,10 @@ fn object_size<W: World, C: Allocator + Clone>(
     }
 }
 
-/// The length of the content of the file or link at a path, which comes from that origin.
+/// The length of the content of the file or link at a path, which comes from that origin. No body of an own file is read.
 fn size<A: Allocator + Clone, W: World, F: Files<W>, C: Allocator + Clone>(
     inodes: &mut Inodes<A, W, F>,
     cache: &mut ObjectCache<C>,
-    alloc: Global,
     path: &Path,
     origin: Origin,
 ) -> Result<u64, Stop>
@@ -93,12 +92,7 @@ fn size<A: Allocator + Clone, W: World, F: Files<W>, C: Allocator + Clone>(
     inodes.holds();
     match origin {
         Origin::Empty => unreachable!(),
-        Origin::Own => {
-            let content = inodes.content(alloc, path.as_slice())?;
-            let length = content.as_slice().len() as u64;
-            inodes.keep(path.as_slice(), content);
-            Ok(length)
-        }
+        Origin::Own => Ok(inodes.content_len(path.as_slice())?),
         Origin::Object(id) => object_size::<W, C>(cache, id),
     }
 }
@@ -125,7 +119,7 @@ pub fn stat<A: Allocator + Clone, W: World, F: Files<W>, C: Allocator + Clone>(
         Kind::Dir => return Attempt::Finished(Reply::Stat(Kind::Dir, 0)),
         Kind::File | Kind::Exec | Kind::Link => {}
     }
-    match size(inodes, cache, alloc, path, seen.origin) {
+    match size(inodes, cache, path, seen.origin) {
         Err(stop) => ended(stop),
         Ok(length) => Attempt::Finished(Reply::Stat(kind, length)),
     }

@@ -1,4 +1,4 @@
-use Rattle.std.proofs.Common.{le_trans, ◌≡◌, ◌≤◌, ◌+◌, ◌==◌, ℕ, List, ◌++◌, ◌∷◌, Option, Some, Ok, Err, sym, refl, subst, ap, ◌∙◌}
+use Rattle.std.proofs.Common.{le_trans, ◌≤◌, ◌+◌, ◌==◌, ℕ, List, ◌++◌, ◌∷◌, Option, Some, Ok, Err, sym, refl, subst, ap, ◌∙◌}
 use Rattle.eden_model.specs.declared.errno.Errno.TheVariants.{EEXIST}
 use Rattle.eden_model.specs.declared.reply.Reply.TheVariants as say
 use Rattle.eden_model.specs.Operations.{Meets as Table_Meets, Says}

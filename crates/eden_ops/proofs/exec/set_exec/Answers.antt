@@ -1,4 +1,4 @@
-use Rattle.std.proofs.Common.{le_trans, refl, ◌≡◌, ◌≢◌, ◌++◌, ◌∷◌, false, Some, sym, subst, ap, ◌∙◌, rules}
+use Rattle.std.proofs.Common.{le_trans, refl, ◌≡◌, ◌≢◌, false, Some, sym, subst, ap, ◌∙◌, rules}
 use denote.Enum.Bare.{same_true, same_false}
 use Rattle.eden_model.specs.contracts.kind.Kind.{the_type}
 use Rattle.eden_model.specs.declared.kind.Kind.{Kind}
