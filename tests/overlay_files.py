@@ -33,10 +33,15 @@ def sound(condition, *what):
         raise Damaged(*what)
 
 
+def head_bytes(identifier, length, digest):
+    """The header of a file whose body has that length and that digest."""
+    told = VERSION.to_bytes(4, "big") + length.to_bytes(8, "big") + digest
+    return identifier + told + bytes(HEADER_BYTES - UNREAD_AT)
+
+
 def file_bytes(identifier, body):
     """The file with that body as it is written."""
-    told = VERSION.to_bytes(4, "big") + len(body).to_bytes(8, "big") + hashlib.sha1(body).digest()
-    return identifier + told + bytes(HEADER_BYTES - UNREAD_AT) + body
+    return head_bytes(identifier, len(body), hashlib.sha1(body).digest()) + body
 
 
 def old_file_bytes(identifier, body):

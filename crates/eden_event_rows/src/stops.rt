@@ -225,3 +225,25 @@ fn a_rescan_shows_what_was_done_to_an_entry_that_could_not_be_moved(rt: HostRunt
         check_later(&rt, rt.alloc(), calls);
     }
 }
+
+/// Changes to two files, a look that loads their directory, and looks at their lengths.
+const WRITTEN: &[&str] = &["write /test.txt 0 6162", "write /new.txt 1 63"];
+
+const LOADED: &[&str] = &["kind /test.txt"];
+
+const LENGTHS: &[&str] = &["stat /test.txt", "stat /new.txt"];
+
+#[test]
+fn the_length_of_a_changed_file_takes_one_call(rt: HostRuntime) {
+    let mut ground = two_files(&rt, rt.alloc());
+    let Ok(mut mount) = fresh(&rt, &ground, u64::MAX) else {
+        rt.abort()
+    };
+    make(&rt, &mut ground, &mut mount, WRITTEN);
+    let files = close(&rt, rt.alloc(), mount.into_table(), &ground.calls);
+    let mut mount = mounted(&rt, &mut ground, Opening::Closed, files);
+    make(&rt, &mut ground, &mut mount, LOADED);
+    ground.calls.set(2);
+    make(&rt, &mut ground, &mut mount, LENGTHS);
+    assert!(rt; ground.calls.get() == 0);
+}
