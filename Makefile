@@ -44,6 +44,7 @@ bench: ## times the work that grows with its input, at full size
 	@cd crates/eden_bench && out/eden_bench lines 100000 timed
 	@scripts/build-mountd
 	@scripts/bench-mountd
+	@scripts/bench-instructions
 	@scripts/bench-remote
 	@scripts/bench-mounted
 	@scripts/bench-serve
