@@ -2,7 +2,14 @@
 
 ROOT := d8329fc1cc938780ffdd9f94e0d364e0ea74f579
 
-.PHONY: help try run check test wrong-bodies soak bench fmt
+# Where `make install` puts the program and the commands; DESTDIR goes before it where a package is made.
+PREFIX ?= /usr/local
+BIN = $(DESTDIR)$(PREFIX)/bin
+LIB = $(DESTDIR)$(PREFIX)/lib/yakembi
+COMMANDS := mount-git git-objects objects-from-git eden-shell
+MODULES := eden_client.py git_source.py mount_operations.py mount_pool.py overlay_folder.py
+
+.PHONY: help try run check test wrong-bodies soak bench fmt install uninstall
 
 help: ## says what each target does
 	@sed -n 's/^\([a-z-]*\): ##/\1:/p' Makefile
@@ -51,3 +58,14 @@ bench: ## times the work that grows with its input, at full size
 
 fmt: ## lays out every source and proof file
 	@for crate in crates/*/; do (cd $$crate && rt fmt) || exit 1; done
+
+install: ## puts mountd, which make run builds, and the commands for Git below PREFIX=DIR, or /usr/local
+	@test -x crates/mountd/out/mountd || { echo "install: mountd isn't built yet: make run" >&2; exit 1; }
+	install -d "$(BIN)" "$(LIB)"
+	install crates/mountd/out/mountd "$(BIN)"
+	cd scripts && install $(COMMANDS) "$(LIB)" && install -m 644 $(MODULES) "$(LIB)"
+	for command in $(COMMANDS); do ln -sf "../lib/yakembi/$$command" "$(BIN)/$$command"; done
+
+uninstall: ## takes away what make install put below PREFIX=DIR
+	rm -f "$(BIN)/mountd" $(foreach command,$(COMMANDS),"$(BIN)/$(command)")
+	rm -rf "$(LIB)"
