@@ -134,7 +134,7 @@ impl Life {
             return Err(StartFault::Busy);
         }
         if (self.done as usize).saturating_add(self.asked.len()) == self.limit as usize {
-            return Err(StartFault::HistoryFull(self.limit));
+            return Err(StartFault::HistoryFull(u64::from(self.limit)));
         }
         Ok(())
     }

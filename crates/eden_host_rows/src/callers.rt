@@ -49,7 +49,7 @@ fn ask<T: Attempts<Outside> + Drop, J: Naming, R: Wait + Abort>(
 ) -> Caller<J> {
     let mut seed = u64::from(pass.number());
     let mut tree = race.commit.whole(race.alloc).expect(rt, "a tree");
-    let full = CallFault::Start(StartFault::HistoryFull(race.load.size.history));
+    let full = CallFault::Start(StartFault::HistoryFull(u64::from(race.load.size.history)));
     let mut refused = 0u32;
     for _ in 0..race.load.requests {
         let request = request(race.alloc, &mut tree, &mut seed).expect(rt, "a request");

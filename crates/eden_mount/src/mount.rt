@@ -168,7 +168,7 @@ impl<W: World, T: Attempts<W> + Drop, A: Allocator> Mount<W, T, A> {
         }
         let pending = count(self.seats.as_slice());
         if self.history.len() + pending >= self.limit as usize {
-            return Err(StartFault::HistoryFull(self.limit));
+            return Err(StartFault::HistoryFull(u64::from(self.limit)));
         }
         Ok(pending)
     }

@@ -105,6 +105,7 @@ impl<W: World, T: Attempts<W> + Drop, A: Allocator, J: Naming> Locked<W, T, A, J
         self.mount.holds();
         let length = self.mount.history().len() as u32;
         if floor > u64::from(length) + 1 {
+            let length = u64::from(length);
             return Err(CallFault::Foreign { floor, length });
         }
         Ok(length)

@@ -224,11 +224,11 @@ fn put_fault<W: Write>(output: &mut Output, writer: &mut W, fault: Fault)
     }
 }
 
-fn put_history<W: Write>(output: &mut Output, writer: &mut W, limit: u32)
+fn put_history<W: Write>(output: &mut Output, writer: &mut W, limit: u64)
     ensures { Grows (W.contents writer.old) (W.contents writer.new) output.old output.new (history_text limit) }
 {
     output.put(writer, b"fault history ");
-    put_number(output, writer, u64::from(limit));
+    put_number(output, writer, limit);
     output.put(writer, b"\n");
 }
 
@@ -243,13 +243,13 @@ fn put_start_fault<W: Write>(output: &mut Output, writer: &mut W, fault: StartFa
     }
 }
 
-fn put_foreign<W: Write>(output: &mut Output, writer: &mut W, floor: u64, length: u32)
+fn put_foreign<W: Write>(output: &mut Output, writer: &mut W, floor: u64, length: u64)
     ensures { Grows (W.contents writer.old) (W.contents writer.new) output.old output.new (foreign_text floor length) }
 {
     output.put(writer, b"fault foreign ");
     put_number(output, writer, floor);
     output.put(writer, b" ");
-    put_number(output, writer, u64::from(length));
+    put_number(output, writer, length);
     output.put(writer, b"\n");
 }
 

@@ -39,7 +39,7 @@ fn ask_root<J: Naming, R: Wait + Abort>(
 }
 
 /// The sixth entry is awaited of a history of that length.
-fn awaits_more(length: u32) -> Result<u32, CallFault> {
+fn awaits_more(length: u64) -> Result<u32, CallFault> {
     Err(CallFault::Foreign { floor: 6, length })
 }
 
