@@ -15,6 +15,7 @@ use Rattle.eden_model.specs.Keys.{same_key}
 use Rattle.eden_model.specs.Requests.{most_objects}
 use Rattle.eden_model.specs.Trees.{Tree}
 use Rattle.eden_model.proofs.CallerLemmas.{same_key-Decides}
+use Rattle.eden_model.specs.Histories.{entry}
 use Rattle.eden_object.specs.Objects.{Body}
 use Rattle.eden_source.specs.Asking.{Asked}
 use Rattle.eden_source.specs.Fetching.{Answer}
@@ -24,7 +25,7 @@ use Rattle.eden_import.proofs.CallerLemmas.{all_are_met, wanters_are_marked}
 use Rattle.eden_mount.specs.declared.seats.Pending.{Pending}
 use Rattle.eden_mount.specs.declared.events.Turned.TheVariants.{Done, Wait}
 use Rattle.eden_mount.specs.Tables.{Table, Stores, KeepsBytes}
-use Rattle.eden_mount.specs.Core.{Core, seat_of, Pends, IsFree, entry, pending_from, after_start}
+use Rattle.eden_mount.specs.Core.{Core, seat_of, Pends, IsFree, pending_from, after_start}
 use Rattle.eden_mount.specs.Kept.{IsMount}
 use Rattle.eden_mount.specs.Replying.{Replied, attempted, uncopied, failed, ToldBy, WaitsBy}
 use Rattle.eden_mount.specs.Steps.{Turns, Takes}

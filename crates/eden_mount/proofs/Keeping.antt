@@ -11,7 +11,7 @@ use Rattle.eden_model.specs.declared.reply.Reply.{Reply}
 use Rattle.eden_model.specs.declared.reply.Reply.TheVariants as say
 use Rattle.eden_model.specs.Trees.{Tree}
 use Rattle.eden_model.specs.Operations.{Replies, after}
-use Rattle.eden_model.specs.Histories.{replay, Legal, fault_of}
+use Rattle.eden_model.specs.Histories.{replay, Legal, fault_of, entry}
 use Rattle.eden_model.proofs.CallerLemmas.{replay-append, Legal-append}
 use Rattle.eden_import.specs.Keys.{has_key}
 use Rattle.eden_import.specs.Queue as imports
@@ -19,7 +19,7 @@ use Rattle.eden_import.specs.Queue.{Queue, Mark, IsQueue, IsPass, want_of, mark_
 use Rattle.eden_import.proofs.CallerLemmas.{quit_rest, passes_keep_flight}
 use Rattle.eden_mount.specs.declared.seats.Pending.{Pending}
 use Rattle.eden_mount.specs.Tables.{Table, Ticks}
-use Rattle.eden_mount.specs.Core.{Core, seat_of, Pends, IsFree, taken_room, entry}
+use Rattle.eden_mount.specs.Core.{Core, seat_of, Pends, IsFree, taken_room}
 use Rattle.eden_mount.specs.Replying.{Replied, attempted, uncopied, failed, Awaits}
 use Rattle.eden_mount.specs.Kept.{IsMount, core_from}
 use Rattle.eden_mount.proofs.SeatLemmas.{write_one, within_if_some, count_taken, count_freed}

@@ -6,6 +6,7 @@ use Rattle.eden_model.specs.declared.fault.StartFault.TheVariants.{NoPass, Busy,
 use Rattle.eden_model.specs.declared.id.Key.{Key}
 use Rattle.eden_model.specs.declared.request.Request.{Request}
 use Rattle.eden_model.specs.Trees.{Tree}
+use Rattle.eden_model.specs.Histories.{entry}
 use Rattle.eden_import.specs.Queue.{Queue, next_key, after_failed, after_failure, after_take}
 use Rattle.eden_import.proofs.CallerLemmas.{quit_rest, passes_keep_flight}
 use Rattle.eden_mount.specs.declared.seats.Pending.{Pending}
@@ -14,7 +15,7 @@ use Rattle.eden_mount.specs.declared.events.Arrived.TheVariants.{Stored, Refused
 use Rattle.eden_mount.specs.declared.events.Event.{Event}
 use Rattle.eden_mount.specs.declared.events.Outcome.{Outcome}
 use Rattle.eden_mount.specs.Tables.{Table}
-use Rattle.eden_mount.specs.Core.{Core, seat_of, Pends, entry}
+use Rattle.eden_mount.specs.Core.{Core, seat_of, Pends}
 use Rattle.eden_mount.specs.Kept.{IsMount}
 use Rattle.eden_mount.specs.Events.{Steps, starts, turns, takes, arrives, fails, unloads}
 use Rattle.eden_mount.specs.Spans.{request_of, since_of, with_pass, then_asked, asked_after, entry_of, then_told, told, IsAnswered, AreAnswered, then_length, then_begun, IsNumbered, AreNumbered}

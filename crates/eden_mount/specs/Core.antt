@@ -6,6 +6,7 @@ use Rattle.eden_model.specs.declared.entry.Entry.{Entry}
 use Rattle.eden_model.specs.declared.id.Key.{Key}
 use Rattle.eden_model.specs.declared.request.Request.{Request}
 use Rattle.eden_model.specs.declared.reply.Reply.{Reply}
+use Rattle.eden_model.specs.Histories.{entry}
 use Rattle.eden_import.specs.Queue.{Queue, IsPass, after_await, after_quit, after_failure}
 use Rattle.eden_mount.specs.declared.seats.Pending.{Pending}
 
@@ -36,9 +37,6 @@ pending_count seats = count_by is_some seats
 -- entries and pending requests together
 abbrev pub taken_room : {T : Type 0} → Core T → ℕ
 taken_room m = length m.history + pending_count m.seats
-
-abbrev pub entry : ℕ → Request → Reply → Entry
-entry c q r = record { pass = c; request = q; reply = r }
 
 -- the least pass with a request pending
 pub record IsLeastBusy {T : Type 0} (m : Core T) (c : ℕ) : Type 0 where

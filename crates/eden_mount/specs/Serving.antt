@@ -9,13 +9,14 @@ use Rattle.eden_model.specs.declared.request.Request.{Request}
 use Rattle.eden_model.specs.declared.reply.Reply.{Reply}
 use Rattle.eden_model.specs.declared.reply.Reply.TheVariants as say
 use Rattle.eden_model.specs.Requests.{most_objects}
+use Rattle.eden_model.specs.Histories.{entry}
 use Rattle.eden_object.specs.Objects.{Body}
 use Rattle.eden_source.specs.Fetching.{Answer, Fetches}
 use Rattle.eden_source.specs.Asking.{Asked, heard}
 use Rattle.eden_import.specs.Queue.{Mark, IsQueue, want_of, mark_of, after_done, after_failed}
 use Rattle.eden_mount.specs.declared.seats.Pending.{Pending}
 use Rattle.eden_mount.specs.Tables.{Table, Stores, KeepsBytes}
-use Rattle.eden_mount.specs.Core.{Core, seat_of, Pends, entry}
+use Rattle.eden_mount.specs.Core.{Core, seat_of, Pends}
 use Rattle.eden_mount.specs.Replying.{ToldBy, WaitsBy}
 use Rattle.eden_mount.specs.Steps.{IsUseless, IsRefused}
 

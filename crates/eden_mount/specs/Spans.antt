@@ -10,6 +10,7 @@ use Rattle.eden_model.specs.declared.reply.Reply.{Reply}
 use Rattle.eden_model.specs.declared.reply.Reply.TheVariants as say
 use Rattle.eden_model.specs.declared.request.Request.{Request}
 use Rattle.eden_model.specs.Keys.{same_key}
+use Rattle.eden_model.specs.Histories.{entry}
 use Rattle.eden_import.specs.Keys.{has_key}
 use Rattle.eden_import.specs.Queue.{want_of, mark_of}
 use Rattle.eden_mount.specs.declared.seats.Pending.{Pending}
@@ -19,7 +20,7 @@ use Rattle.eden_mount.specs.declared.events.Event.{Event}
 use Rattle.eden_mount.specs.declared.events.Event.TheVariants as event
 use Rattle.eden_mount.specs.declared.events.Outcome.{Outcome}
 use Rattle.eden_mount.specs.declared.events.Outcome.TheVariants as outcome
-use Rattle.eden_mount.specs.Core.{Core, seat_of, entry}
+use Rattle.eden_mount.specs.Core.{Core, seat_of}
 
 -- ---- what a mount says at the run's start
 

@@ -3,7 +3,7 @@ use Rattle.std.proofs.Common.{◌≡◌, ℕ, zero, suc, ◌-◌, ◌≤◌, ◌
 use Rattle.std.proofs.lemmas.Bool.{eq-eqb, eqb-true}
 use Rattle.std.specs.Prelude.{slice_get}
 use Rattle.eden_model.specs.declared.entry.Entry.{Entry}
-use Rattle.eden_mount.specs.Core.{entry}
+use Rattle.eden_model.specs.Histories.{entry}
 use Rattle.eden_shared.specs.declared.account.Told.{Told}
 use Rattle.eden_shared.specs.Accounts.{told, told_by}
 use Rattle.eden_shared.specs.Passes.{Carried, KnowsItsOwn}

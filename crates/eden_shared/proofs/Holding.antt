@@ -9,9 +9,10 @@ use Rattle.eden_model.specs.declared.fault.StartFault.TheVariants.{NoPass, Busy,
 use Rattle.eden_model.specs.declared.request.Request.{Request}
 use Rattle.eden_model.specs.declared.reply.Reply.{Reply}
 use Rattle.eden_model.specs.Trees.{Tree}
+use Rattle.eden_model.specs.Histories.{entry}
 use Rattle.eden_mount.specs.declared.seats.Pending.{Pending}
 use Rattle.eden_mount.specs.Tables.{Table}
-use Rattle.eden_mount.specs.Core.{Core, entry, after_start, pending_from, pending_count}
+use Rattle.eden_mount.specs.Core.{Core, after_start, pending_from, pending_count}
 use Rattle.eden_mount.specs.Kept.{IsMount}
 use Rattle.eden_mount.specs.Serving.{Stays}
 use Rattle.eden_mount.specs.Steps.{IsRefused, IsDone}

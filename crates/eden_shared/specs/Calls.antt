@@ -7,9 +7,8 @@ use Rattle.eden_model.specs.declared.fault.StartFault.{StartFault}
 use Rattle.eden_model.specs.declared.fault.StartFault.TheVariants.{NoPass, Busy, HistoryFull, Memory}
 use Rattle.eden_model.specs.declared.request.Request.{Request}
 use Rattle.eden_model.specs.declared.reply.Reply.{Reply}
-use Rattle.eden_model.specs.Histories.{Legal}
+use Rattle.eden_model.specs.Histories.{Legal, entry}
 use Rattle.eden_model.specs.Trees.{Tree}
-use Rattle.eden_mount.specs.Core.{entry}
 use Rattle.eden_mount.specs.declared.seats.Pending.{Pending}
 use Rattle.eden_shared.specs.declared.account.Told.{Told}
 use Rattle.eden_shared.specs.declared.lanes.Answered.{Answered}

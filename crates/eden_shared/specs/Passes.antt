@@ -1,9 +1,10 @@
 -- What a pass carries.
 use Rattle.std.specs.Prelude.{◌≡◌, ◌↔◌, ℕ, zero, suc, ◌+◌, ◌-◌, ◌≤◌, List, [], ◌∷◌, length, slice_get, Some, None}
 use Rattle.eden_model.specs.declared.entry.Entry.{Entry}
+use Rattle.eden_model.specs.Histories.{entry}
 use Rattle.eden_mount.specs.declared.seats.Pending.{Pending}
 use Rattle.eden_mount.specs.Tables.{Table}
-use Rattle.eden_mount.specs.Core.{Core, Pends, entry}
+use Rattle.eden_mount.specs.Core.{Core, Pends}
 use Rattle.eden_shared.specs.declared.account.Terms.{Terms}
 use Rattle.eden_shared.specs.declared.account.Told.{Told}
 use Rattle.eden_shared.specs.Accounts.{told_by}

@@ -3,9 +3,10 @@ use Rattle.std.proofs.Math.ListN.{set}
 use Rattle.std.specs.Option.{is_some, IsSome}
 use Rattle.eden_model.specs.declared.reply.Reply.{Reply}
 use Rattle.eden_model.specs.declared.request.Request.{Request}
+use Rattle.eden_model.specs.Histories.{entry}
 use Rattle.eden_import.specs.Queue.{Queue, Mark, IsPass, mark_of, after_await, after_quit, after_failure}
 use Rattle.eden_mount.specs.declared.seats.Pending.{Pending}
-use Rattle.eden_mount.specs.Core.{Core, Pends, entry, pending_count}
+use Rattle.eden_mount.specs.Core.{Core, Pends, pending_count}
 use Rattle.eden_mount.specs.Kept.{IsMount, core_from}
 use Rattle.eden_mount.specs.Replying.{Replied, Awaits}
 use Rattle.eden_mount.proofs.SeatLemmas.{asked_there, count_freed}

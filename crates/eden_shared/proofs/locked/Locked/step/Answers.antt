@@ -1,7 +1,6 @@
 use Rattle.std.proofs.Common.{◌∙◌, ◌<◌, ◌∷◌, [], refl, sym, length-append, arith, subst}
 use Rattle.std.specs.Prelude.{IfSome}
-use Rattle.eden_model.specs.Histories.{Legal}
-use Rattle.eden_mount.specs.Core.{entry}
+use Rattle.eden_model.specs.Histories.{Legal, entry}
 use Rattle.eden_shared.specs.Calls.{AnswersTo}
 use Rattle.eden_mount.proofs.CallerLemmas.{turn_stays}
 use Rattle.eden_shared.proofs.Holding.{answered, grown, finished, tied_on}
