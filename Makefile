@@ -8,7 +8,7 @@ BIN = $(DESTDIR)$(PREFIX)/bin
 LIB = $(DESTDIR)$(PREFIX)/lib/yakembi
 COMMANDS := mount-git git-objects objects-from-git eden-shell
 
-.PHONY: help try run check test wrong-bodies soak bench fmt install uninstall
+.PHONY: help try run check test lint wrong-bodies soak bench fmt install uninstall
 
 help: ## says what each target does
 	@sed -n 's/^\([a-z-]*\): ##/\1:/p' Makefile
@@ -25,6 +25,9 @@ check: ## proves and tests the crates that changed since they last passed, and t
 
 test: ## proves everything from nothing, and runs every test: docs/GATE.md; its last line counts what passed
 	@scripts/gate
+
+lint: ## looks at layout, columns, types, pages and wrong bodies, and runs the tests that need nothing built, in two minutes
+	@scripts/gate lint
 
 wrong-bodies: ## tries the wrong bodies that the gate leaves out, or those of CRATE=NAME; goes on where it was stopped
 	@scripts/wrong-bodies $(CRATE)

@@ -10,18 +10,20 @@ import subprocess
 import sys
 import time
 import zlib
+from collections.abc import Callable
 
 from checks import PATIENCE, check, git, make_repository
 from folder_operations import Folder, compare, outcome, shown
-from mount_class import asked_for, refused
+from mount_class import Large, asked_for, refused
 from mount_folder import BUILDS, CHANGES, COPIES, ENDINGS, LOOKS, Both, Mount, checkout, children, said_by
 from programs import MOUNT_GIT, MOUNTD
+from tree_model import Values
 
 
 # ---- tools
 
 
-def check_tools(folder, repository):
+def check_tools(folder: pathlib.Path, repository: pathlib.Path) -> None:
     """Tools say and make in the mounted folder what they do in a plain one, and the next mount shows it all."""
     plain, given = checkout(repository, folder / "plain"), checkout(repository, folder / "in")
     subprocess.run(["tar", "-cf", given / "notes.tar", "-C", given, "notes"], check=True)
@@ -39,7 +41,7 @@ def check_tools(folder, repository):
         check("tools: the second end, with nothing said", (mount.end("SIGTERM"), mount.said()), (0, []))
 
 
-def run_tools(both):
+def run_tools(both: Both) -> None:
     for name, command in LOOKS + CHANGES:
         both.check(name, command)
     for name, command in BUILDS:
@@ -48,7 +50,7 @@ def run_tools(both):
         both.check(name, command, "rsync")
 
 
-def check_random_operations(folder, seed):
+def check_random_operations(folder: pathlib.Path, seed: int) -> None:
     """Random operations through FUSE and on a plain folder have the same outcomes, and leave the same."""
     repository = make_repository(folder)
     plain = checkout(repository, folder / "plain")
@@ -60,7 +62,7 @@ def check_random_operations(folder, seed):
 # ---- beginnings and ends
 
 
-def check_endings(folder, repository):
+def check_endings(folder: pathlib.Path, repository: pathlib.Path) -> None:
     """Each way to end it, in use or not, leaves an overlay that was closed, nothing mounted and nothing running."""
     overlay = folder / "overlay"
     for number, how in enumerate(ENDINGS):
@@ -83,7 +85,7 @@ def check_endings(folder, repository):
         check("ended: the last end", mount.end("SIGTERM"), 0)
 
 
-def check_ended(how, mount, overlay):
+def check_ended(how: str, mount: Mount, overlay: pathlib.Path) -> None:
     running = children(mount.process.pid)
     check(f"{how}: what runs below", len(running) >= 2, True)
     check(f"{how}: the end, with nothing said", (mount.end(how), mount.said()), (0, []))
@@ -92,7 +94,7 @@ def check_ended(how, mount, overlay):
     check(f"{how}: the overlay is closed", (overlay / "0").exists(), True)
 
 
-def left_of(running):
+def left_of(running: list[int]) -> list[int]:
     """The processes that run on: one whose parent is gone ends with its input, which takes it a moment."""
     end = time.monotonic() + PATIENCE
     while (left := [process for process in running if os.path.exists(f"/proc/{process}")]) and time.monotonic() < end:
@@ -100,13 +102,13 @@ def left_of(running):
     return left
 
 
-def wait_for(path):
+def wait_for(path: pathlib.Path) -> None:
     end = time.monotonic() + PATIENCE
     while not path.exists() and time.monotonic() < end:
         time.sleep(0.001)
 
 
-def check_kills(folder, repository):
+def check_kills(folder: pathlib.Path, repository: pathlib.Path) -> None:
     """A mount that was killed goes on where it was, at the same folder, with all that was answered."""
     overlay = folder / "overlay of the killed"
     with Mount(repository, "HEAD", folder / "killed", "--overlay", overlay) as mount:
@@ -127,7 +129,7 @@ def check_kills(folder, repository):
         check("killed: what is said", [mount.said(), again.said(), last.said()], [[], [line], [line]])
 
 
-def check_killed_mountd(folder, repository):
+def check_killed_mountd(folder: pathlib.Path, repository: pathlib.Path) -> None:
     """A mountd that is killed below costs the requests that find it so, which are EIO, and a line each."""
     with Mount(repository, "HEAD", folder / "mounted", "--overlay", folder / "overlay of a killed mountd") as mount:
         (mount.folder / "made").write_text("kept")
@@ -141,11 +143,11 @@ def check_killed_mountd(folder, repository):
         check("mountd killed: the end", mount.end("SIGTERM"), 0)
 
 
-def command_of(process):
+def command_of(process: int) -> list[bytes]:
     return pathlib.Path(f"/proc/{process}/cmdline").read_bytes().split(b"\0")
 
 
-def check_second_mount(folder, repository):
+def check_second_mount(folder: pathlib.Path, repository: pathlib.Path) -> None:
     """An overlay that is mounted is refused to another, in one line."""
     overlay = folder / "overlay of two"
     with Mount(repository, "HEAD", folder / "mounted", "--overlay", overlay) as mount:
@@ -157,14 +159,14 @@ def check_second_mount(folder, repository):
         check("a second mount: the end of the first", mount.end("SIGTERM"), 0)
 
 
-def check_missing_package(folder):
+def check_missing_package(folder: pathlib.Path) -> None:
     """A Python without fusepy, and no other to go to: one line names the packages."""
     words = ["env", "MOUNT_GIT_HANDED_ON=1", sys.executable, "-S", MOUNT_GIT, folder, "HEAD", folder / "mounted"]
     line = "mount-git: python3-fusepy is missing: apt install python3-fusepy fuse3"
     check("a missing package", said_by(*words), (1, [line]))
 
 
-def check_refusals(folder, repository):
+def check_refusals(folder: pathlib.Path, repository: pathlib.Path) -> None:
     """What can't be mounted is refused in one line."""
     full = folder / "full"
     full.mkdir()
@@ -188,7 +190,7 @@ def check_refusals(folder, repository):
     check("refused: the folder is as it was", list(empty.iterdir()), [])
 
 
-def check_moved_revision(folder):
+def check_moved_revision(folder: pathlib.Path) -> None:
     """An overlay stays on the commit that it was made on, and the next mount says so."""
     repository = make_repository(folder)
     before = git(repository, "rev-parse", "HEAD^{tree}")
@@ -206,7 +208,7 @@ def check_moved_revision(folder):
         check("moved: one line, with both trees", told, [True])
 
 
-def check_signed_commit(folder):
+def check_signed_commit(folder: pathlib.Path) -> None:
     """A signed commit's time is its own, also where Git's settings have it tell of signatures."""
     repository = make_repository(folder)
     tree = git(repository, "rev-parse", "HEAD^{tree}")
@@ -222,7 +224,7 @@ def check_signed_commit(folder):
         check("signed: the end, with nothing said", (mount.end("SIGTERM"), mount.said()), (0, []))
 
 
-def check_damaged_repository(folder):
+def check_damaged_repository(folder: pathlib.Path) -> None:
     """A file whose object is lost, or damaged, is EIO and a line that names it; all else goes on."""
     repository = make_repository(folder)
     with Mount(repository, "HEAD", folder / "mounted") as mount:
@@ -240,7 +242,7 @@ def check_damaged_repository(folder):
         check("damaged: the end", mount.end("SIGTERM"), 0)
 
 
-def check_laziness(folder, large):
+def check_laziness(folder: pathlib.Path, large: Large) -> None:
     """Of 50,000 files one file costs the objects on its path, and `grep -r` in a folder that folder's."""
     with Mount(large.repository, "HEAD", folder / "mounted", "--log") as mount:
         deep = mount.folder.joinpath(*map(os.fsdecode, large.path))
@@ -252,7 +254,7 @@ def check_laziness(folder, large):
         check("lazily mounted: the end", mount.end("SIGTERM"), 0)
 
 
-def check_open_files(folder, repository):
+def check_open_files(folder: pathlib.Path, repository: pathlib.Path) -> None:
     """What programs do with open files and attributes is as docs/MOUNT-GIT.md says."""
     with Mount(repository, "HEAD", folder / "mounted") as mount:
         top = mount.folder
@@ -279,7 +281,7 @@ def check_open_files(folder, repository):
         check("open: the end, with nothing said", (mount.end("SIGTERM"), mount.said()), (0, []))
 
 
-def check_attributes(top, repository):
+def check_attributes(top: pathlib.Path, repository: pathlib.Path) -> None:
     place = Folder(top)
     committed = int(git(repository, "log", "-1", "--format=%ct"))
     check("attributes: a file's time is the commit's", (top / "run.sh").stat().st_mtime, committed)
@@ -298,9 +300,12 @@ def check_attributes(top, repository):
     os.chmod(top / "log", 0o700)
     check("attributes: where it is set", outcome(place, "getattr", (b"log",))[1], 0o755)
     check("attributes: a name's length", os.statvfs(top).f_namemax, 255)
-    for name, call, words in [("a hard link", os.link, (top / "log", top / "other")),
-                              ("a pipe", os.mkfifo, (top / "pipe",)),
-                              ("another owner", os.chown, (top / "log", 12_345, -1))]:
-        check(f"attributes: {name} is EPERM", refused(call, *words), "EPERM")
+    calls: list[tuple[str, Callable[..., object], Values]] = [
+        ("a hard link", os.link, (top / "log", top / "other")),
+        ("a pipe", os.mkfifo, (top / "pipe",)),
+        ("another owner", os.chown, (top / "log", 12_345, -1)),
+    ]
+    for name, call, values in calls:
+        check(f"attributes: {name} is EPERM", refused(call, *values), "EPERM")
     with open(top / "log", "rb") as file:
-        check("attributes: fsync", os.fsync(file.fileno()), None)
+        check("attributes: fsync", refused(os.fsync, file.fileno()), None)

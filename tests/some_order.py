@@ -4,29 +4,38 @@ An order is one of the requests' real time: where one was answered before anothe
 don't follow on each other so may come in any order. The table of operations is tree_model's.
 """
 
-import collections
+from typing import NamedTuple
 
-from tree_model import WholeTree
+from tree_model import Node, Nodes, Path, Values, WholeTree
 
-# A request, when it was sent and when its reply was heard, by one clock that counts, and the reply. A request that was
-# never answered has None for both: it may have been done, or not.
-Asked = collections.namedtuple("Asked", "word fields sent heard reply")
+
+class Asked(NamedTuple):
+    """A request, when it was sent and when its reply was heard, by one clock that counts, and the reply.
+
+    A request that was never answered has None for both: it may have been done, or not.
+    """
+
+    word: str
+    fields: Values
+    sent: float
+    heard: float | None
+    reply: bytes | None
 
 
 class Search:
     """Looks for such an order that leads from one tree to another."""
 
-    def __init__(self, asked, seen, most_steps=200_000):
+    def __init__(self, asked: list[Asked], seen: Nodes, most_steps: int = 200_000) -> None:
         self.asked = asked
         self.seen = seen
         self.steps_left = most_steps
-        self.met = set()
+        self.met: set[tuple[frozenset[int], frozenset[tuple[Path, Node]]]] = set()
 
-    def leads_from(self, nodes):
+    def leads_from(self, nodes: Nodes) -> bool:
         """Whether there is one from these nodes to those that were seen, as far as the steps go."""
         return self.goes_on(nodes, frozenset(range(len(self.asked))))
 
-    def goes_on(self, nodes, left):
+    def goes_on(self, nodes: Nodes, left: frozenset[int]) -> bool:
         if nodes == self.seen and all(self.asked[at].reply is None for at in left):
             return True
         key = (left, frozenset(nodes.items()))
@@ -44,13 +53,13 @@ class Search:
                 return self.goes_on(nodes, left - {at})
         return any(self.goes_on(after, rest) for after, rest in changes)
 
-    def ready(self, left):
+    def ready(self, left: frozenset[int]) -> list[int]:
         """The requests that may come next: none of the others was answered before they were sent."""
-        first = min((self.asked[at].heard for at in left if self.asked[at].heard is not None), default=None)
+        first = min((heard for at in left if (heard := self.asked[at].heard) is not None), default=None)
         return [at for at in left if first is None or self.asked[at].sent < first]
 
 
-def done(nodes, asked):
+def done(nodes: Nodes, asked: Asked) -> Nodes | None:
     """The nodes after the request, or None where its reply on these isn't the one that was told.
 
     A request that wasn't answered fits anywhere, and one whose object couldn't be fetched changes nothing.

@@ -1,8 +1,8 @@
 """Serves the trees, blobs and links of a Git repository, as they are asked for, on a port of 127.0.0.1.
 
 A client sends `get ID` and a line feed, ID being 40 lower-case hexadecimal digits, and is answered `object N`, a line
-feed and the N framed bytes; `missing`; or `fault` where Git can't read the object or it is over 2^30 bytes. Another line
-ends the connection. The first line printed is `listening 127.0.0.1:PORT`. Connections are served side by side.
+feed and the N framed bytes; `missing`; or `fault` where Git can't read the object or it is over 2^30 bytes. Another
+line ends the connection. The first line printed is `listening 127.0.0.1:PORT`. Connections are served side by side.
 
 Every user of this machine can reach the port, and read every object of the repository through it.
 """
