@@ -6,6 +6,8 @@ ROOT := d8329fc1cc938780ffdd9f94e0d364e0ea74f579
 PREFIX ?= /usr/local
 BIN = $(DESTDIR)$(PREFIX)/bin
 LIB = $(DESTDIR)$(PREFIX)/lib/yakembi
+MAN = $(DESTDIR)$(PREFIX)/share/man/man1
+MANUAL := mountd.1 mount-git.1
 COMMANDS := mount-git git-objects objects-from-git eden-shell
 
 .PHONY: help try run check test lint wrong-bodies soak bench fmt install uninstall
@@ -61,13 +63,15 @@ bench: ## times the work that grows with its input, at full size
 fmt: ## lays out every source and proof file
 	@for crate in crates/*/; do (cd $$crate && rt fmt) || exit 1; done
 
-install: ## puts mountd, which make run builds, and the commands for Git below PREFIX=DIR, or /usr/local
+install: ## puts mountd, which make run builds, the commands for Git and their manual below PREFIX=DIR, or /usr/local
 	@test -x crates/mountd/out/mountd || { echo "install: mountd isn't built yet: make run" >&2; exit 1; }
 	install -d "$(BIN)" "$(LIB)/yakembi"
 	install crates/mountd/out/mountd "$(BIN)"
 	cd scripts && install $(COMMANDS) "$(LIB)" && install -m 644 yakembi/*.py "$(LIB)/yakembi"
+	install -d "$(MAN)" && cd docs/man && install -m 644 $(MANUAL) "$(MAN)"
 	for command in $(COMMANDS); do ln -sf "../lib/yakembi/$$command" "$(BIN)/$$command"; done
 
 uninstall: ## takes away what make install put below PREFIX=DIR
 	rm -f "$(BIN)/mountd" $(foreach command,$(COMMANDS),"$(BIN)/$(command)")
+	rm -f $(foreach page,$(MANUAL),"$(MAN)/$(page)")
 	rm -rf "$(LIB)"
