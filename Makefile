@@ -38,27 +38,8 @@ soak: ## a million random requests: the slow oracle beside the second table of o
 	tests/oracle 1000000
 	scripts/soak-rows
 
-bench: ## times the work that grows with its input, at full size
-	@cd crates/eden_bench && rt run -- tree 1000000 timed
-	@cd crates/eden_bench && for count in 100 10000 100000 1000000; do out/eden_bench directory $$count timed; done
-	@cd crates/eden_bench && for count in 10 10000; do out/eden_bench overlay $$count timed; done
-	@cd crates/eden_bench && for count in 100 10000 1000000; do out/eden_bench inodes $$count timed; done
-	@cd crates/eden_bench && for count in 10 10000; do out/eden_bench changes $$count timed; done
-	@cd crates/eden_bench && for count in 10 10000; do \
-	    folder=$$(mktemp -d) && out/eden_bench changes $$count timed $$folder; rm -r $$folder; done
-	@cd crates/eden_bench && for count in 10 10000 100000; do out/eden_bench attempts $$count timed; done
-	@cd crates/eden_bench && for count in 10 10000; do \
-	    folder=$$(mktemp -d) && out/eden_bench attempts $$count timed $$folder; rm -r $$folder; done
-	@cd crates/eden_bench && out/eden_bench large 64 timed
-	@cd crates/eden_bench && folder=$$(mktemp -d) && out/eden_bench large 64 timed $$folder; rm -r $$folder
-	@cd crates/eden_bench && out/eden_bench cache 1000000 timed
-	@cd crates/eden_bench && out/eden_bench lines 100000 timed
-	@scripts/build-mountd
-	@scripts/bench-mountd
-	@scripts/bench-instructions
-	@scripts/bench-remote
-	@scripts/bench-mounted
-	@scripts/bench-serve
+bench: ## times the work that grows with its input, at full size, and writes docs/measured/speed.md
+	@scripts/bench
 
 fmt: ## lays out every source and proof file
 	@for crate in crates/*/; do (cd $$crate && rt fmt) || exit 1; done
