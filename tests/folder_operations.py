@@ -31,7 +31,7 @@ Attributes = tuple[str, int, int | None, tuple[int, int]]
 LeftOpen = Callable[[WholeTree, str, Values, Any, Any], bool]
 
 
-def outcome(place: "Place", word: str, *fields: Any) -> Any:
+def outcome(place: "AnyPlace", word: str, *fields: Any) -> Any:
     try:
         return getattr(place, word)(*fields)
     except OSError as refusal:
@@ -195,14 +195,14 @@ class FileSystem:
         self.methods.rename(spelled(source), spelled(target))
 
 
-Place = Folder | FileSystem
+AnyPlace = Folder | FileSystem
 
 
 def spelled(path: Path) -> str:
     return "/" + "/".join(name.decode("latin-1") for name in path)
 
 
-def shown(place: "Place", path: Path = ()) -> Nodes:
+def shown(place: "AnyPlace", path: Path = ()) -> Nodes:
     """All that a place shows, as a dictionary from paths to nodes like those of `tree_model`."""
     kind, mode, size, _ = place.getattr(path)
     if kind == "file":
@@ -297,7 +297,7 @@ def note(tree: WholeTree, word: str, fields: Values) -> None:
         tree.write(path, offset + start, data[start : start + LONGEST_DATA])
 
 
-def compare(name: str, generator: random.Random, asked: Place, plain: Place,
+def compare(name: str, generator: random.Random, asked: AnyPlace, plain: AnyPlace,
             left_open: Sequence[tuple[str, LeftOpen]] = ()) -> None:
     """Makes random operations in both places, and compares each outcome, and at times all that the places show.
 

@@ -50,7 +50,7 @@ class Starts(Serving):
         return self.last
 
 
-class Shown:
+class MountedCommit:
     """A commit behind a class of operations. `said` are the lines that its user sees."""
 
     def __init__(self, root: str, source: Sequence[object], overlay: pathlib.Path, *options: object,
@@ -71,16 +71,17 @@ class Shown:
 
 
 @contextlib.contextmanager
-def over_git(repository: pathlib.Path, overlay: pathlib.Path, *options: object, **limits: int) -> Iterator[Shown]:
+def over_git(repository: pathlib.Path, overlay: pathlib.Path, *options: object,
+             **limits: int) -> Iterator[MountedCommit]:
     """A commit of a Git repository, whose objects are fetched as they are touched."""
     with listening([GIT_OBJECTS, repository], stderr=subprocess.DEVNULL) as (_, port):
         root = git(repository, "rev-parse", "HEAD^{tree}")
-        with Shown(root, ["--remote", port], overlay, *options, **limits) as mount:
+        with MountedCommit(root, ["--remote", port], overlay, *options, **limits) as mount:
             yield mount
 
 
-def sample(overlay: pathlib.Path, *options: object, **limits: int) -> Shown:
-    return Shown(SAMPLE_ROOT, ["--objects", SAMPLE_OBJECTS], overlay, *options, **limits)
+def sample(overlay: pathlib.Path, *options: object, **limits: int) -> MountedCommit:
+    return MountedCommit(SAMPLE_ROOT, ["--objects", SAMPLE_OBJECTS], overlay, *options, **limits)
 
 
 def refused(call: Callable[..., object], *words: object) -> str | None:
@@ -358,7 +359,7 @@ def check_slow_fetch(folder: pathlib.Path) -> None:
     repository = make_repository(folder)
     root = git(repository, "rev-parse", "HEAD^{tree}")
     with listening([GIT_OBJECTS, repository], stderr=subprocess.DEVNULL) as (server, port):
-        with Shown(root, ["--remote", port], folder / "overlay") as mount:
+        with MountedCommit(root, ["--remote", port], folder / "overlay") as mount:
             place = FileSystem(mount.operations)
             seen: list[bytes] = []
             check("slow: before", place.read((b"plain.txt",), 0, 100), b"plain\n")
@@ -398,7 +399,7 @@ def check_laziness(folder: pathlib.Path, large: Large) -> None:
     """Of 50,000 files one file costs the objects on its path, and a look through a folder that folder's."""
     log = folder / "log of the large"
     with open(log, "wb") as errors, listening([GIT_OBJECTS, large.repository, "--log"], stderr=errors) as (_, port):
-        with Shown(large.root, ["--remote", port], folder / "overlay of the large", *ALL_KEPT) as mount:
+        with MountedCommit(large.root, ["--remote", port], folder / "overlay of the large", *ALL_KEPT) as mount:
             place = FileSystem(mount.operations)
             check("lazy: a deep file", place.read(large.path, 0, 1_000), large.content)
             check("lazy: what one file costs", asked_for(log), sorted(large.deep))

@@ -92,7 +92,7 @@ def checkout(repository: pathlib.Path, folder: pathlib.Path, revision: str = "HE
 # ---- mount-git
 
 
-class Mount:
+class MountGit:
     """A run of `mount-git`, all of whose lines are kept in a file. It is killed where it takes too long."""
 
     def __init__(self, repository: pathlib.Path, revision: str, folder: pathlib.Path, *options: object) -> None:
@@ -167,7 +167,7 @@ def unmount(*words: object) -> None:
     subprocess.run([UNMOUNT, "-u", *map(str, words)], capture_output=True, timeout=PATIENCE)
 
 
-ENDINGS: dict[str, Callable[[Mount], object]] = {
+ENDINGS: dict[str, Callable[[MountGit], object]] = {
     "Ctrl-C": lambda mount: os.killpg(mount.process.pid, signal.SIGINT),
     "SIGTERM": lambda mount: mount.process.terminate(),
     "fusermount3 -u": lambda mount: unmount(mount.folder),

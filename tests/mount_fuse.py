@@ -15,7 +15,7 @@ from collections.abc import Callable
 from checks import PATIENCE, check, git, make_repository
 from folder_operations import Folder, compare, outcome, shown
 from mount_class import Large, asked_for, refused
-from mount_folder import BUILDS, CHANGES, COPIES, ENDINGS, LOOKS, Both, Mount, checkout, children, said_by
+from mount_folder import BUILDS, CHANGES, COPIES, ENDINGS, LOOKS, Both, MountGit, checkout, children, said_by
 from programs import MOUNT_GIT, MOUNTD
 from tree_model import Values
 
@@ -28,14 +28,14 @@ def check_tools(folder: pathlib.Path, repository: pathlib.Path) -> None:
     plain, given = checkout(repository, folder / "plain"), checkout(repository, folder / "in")
     subprocess.run(["tar", "-cf", given / "notes.tar", "-C", given, "notes"], check=True)
     (given / "bytes").write_bytes(random.Random(1).randbytes(1_000_000))
-    with Mount(repository, "HEAD", folder / "mounted", "--overlay", folder / "overlay") as mount:
+    with MountGit(repository, "HEAD", folder / "mounted", "--overlay", folder / "overlay") as mount:
         both = Both(repository, mount.folder, plain, folder)
         check("diff -r beside a checkout", said_by("diff", "-r", "--no-dereference", mount.folder, plain), (0, []))
         run_tools(both)
         check("tools: what stands at the end", shown(Folder(mount.folder)), shown(Folder(plain)))
         check("tools: what was copied out", shown(Folder(both.outs[0])), shown(Folder(both.outs[1])))
         check("tools: the end, with nothing said", (mount.end("SIGTERM"), mount.said()), (0, []))
-    with Mount(repository, "HEAD", folder / "mounted", "--overlay", folder / "overlay") as mount:
+    with MountGit(repository, "HEAD", folder / "mounted", "--overlay", folder / "overlay") as mount:
         check("tools: mounted again", shown(Folder(mount.folder)), shown(Folder(plain)))
         both.check("tools: a build goes on", "make --no-print-directory -C hello && hello/hello", "cc")
         check("tools: the second end, with nothing said", (mount.end("SIGTERM"), mount.said()), (0, []))
@@ -54,7 +54,7 @@ def check_random_operations(folder: pathlib.Path, seed: int) -> None:
     """Random operations through FUSE and on a plain folder have the same outcomes, and leave the same."""
     repository = make_repository(folder)
     plain = checkout(repository, folder / "plain")
-    with Mount(repository, "HEAD", folder / "mounted") as mount:
+    with MountGit(repository, "HEAD", folder / "mounted") as mount:
         compare("mounted", random.Random(seed), Folder(mount.folder), Folder(plain))
         check("mounted: the end, with nothing said", (mount.end("SIGTERM"), mount.said()), (0, []))
 
@@ -66,26 +66,26 @@ def check_endings(folder: pathlib.Path, repository: pathlib.Path) -> None:
     """Each way to end it, in use or not, leaves an overlay that was closed, nothing mounted and nothing running."""
     overlay = folder / "overlay"
     for number, how in enumerate(ENDINGS):
-        with Mount(repository, "HEAD", folder / "mounted", "--overlay", overlay) as mount:
+        with MountGit(repository, "HEAD", folder / "mounted", "--overlay", overlay) as mount:
             names = sorted(path.name for path in mount.folder.glob("made *"))
             check(f"{how}: what was made before", names, [f"made {before}" for before in range(number)])
             (mount.folder / f"made {number}").write_text(how)
             check_ended(how, mount, overlay)
-    with Mount(repository, "HEAD", folder / "mounted", "--overlay", overlay) as mount:
+    with MountGit(repository, "HEAD", folder / "mounted", "--overlay", overlay) as mount:
         with contextlib.suppress(OSError), open(mount.folder / "made 0", "rb"):
             check_ended("Ctrl-C", mount, overlay)
-    with Mount(repository, "HEAD", folder / "mounted", "--overlay", overlay) as mount:
+    with MountGit(repository, "HEAD", folder / "mounted", "--overlay", overlay) as mount:
         copy = subprocess.Popen(["cp", "-r", mount.folder / "notes", mount.folder / "copy"], stderr=subprocess.DEVNULL)
         wait_for(mount.folder / "copy")
         check_ended("SIGTERM", mount, overlay)
         check("ended in a copy: it fails", copy.wait(PATIENCE) != 0, True)
-    with Mount(repository, "HEAD", folder / "mounted", "--overlay", overlay) as mount:
+    with MountGit(repository, "HEAD", folder / "mounted", "--overlay", overlay) as mount:
         made = [(mount.folder / f"made {number}").read_text() for number in range(len(ENDINGS))]
         check("ended: all is there", made, list(ENDINGS))
         check("ended: the last end", mount.end("SIGTERM"), 0)
 
 
-def check_ended(how: str, mount: Mount, overlay: pathlib.Path) -> None:
+def check_ended(how: str, mount: MountGit, overlay: pathlib.Path) -> None:
     running = children(mount.process.pid)
     check(f"{how}: what runs below", len(running) >= 2, True)
     check(f"{how}: the end, with nothing said", (mount.end(how), mount.said()), (0, []))
@@ -111,17 +111,17 @@ def wait_for(path: pathlib.Path) -> None:
 def check_kills(folder: pathlib.Path, repository: pathlib.Path) -> None:
     """A mount that was killed goes on where it was, at the same folder, with all that was answered."""
     overlay = folder / "overlay of the killed"
-    with Mount(repository, "HEAD", folder / "killed", "--overlay", overlay) as mount:
+    with MountGit(repository, "HEAD", folder / "killed", "--overlay", overlay) as mount:
         (mount.folder / "kept").write_text("kept")
         mount.kill()
         check("killed with all below: the overlay isn't closed", (overlay / "0").exists(), False)
         check("killed with all below: its folder", outcome(Folder(mount.folder), "readdir", ()), "ENOTCONN")
-        with Mount(repository, "HEAD", mount.folder, "--overlay", overlay) as again:
+        with MountGit(repository, "HEAD", mount.folder, "--overlay", overlay) as again:
             check("killed with all below: what is there", (again.folder / "kept").read_text(), "kept")
             (again.folder / "kept too").write_text("kept too")
             again.process.kill()
             again.process.wait(PATIENCE)
-            with Mount(repository, "HEAD", mount.folder, "--overlay", overlay) as last:
+            with MountGit(repository, "HEAD", mount.folder, "--overlay", overlay) as last:
                 kept = [(last.folder / name).read_text() for name in ("kept", "kept too")]
                 check("killed alone: what is there", kept, ["kept", "kept too"])
                 check("killed alone: the end", last.end("SIGTERM"), 0)
@@ -131,7 +131,7 @@ def check_kills(folder: pathlib.Path, repository: pathlib.Path) -> None:
 
 def check_killed_mountd(folder: pathlib.Path, repository: pathlib.Path) -> None:
     """A mountd that is killed below costs the requests that find it so, which are EIO, and a line each."""
-    with Mount(repository, "HEAD", folder / "mounted", "--overlay", folder / "overlay of a killed mountd") as mount:
+    with MountGit(repository, "HEAD", folder / "mounted", "--overlay", folder / "overlay of a killed mountd") as mount:
         (mount.folder / "made").write_text("kept")
         below = [process for process in children(mount.process.pid) if b"--sessions" in command_of(process)]
         os.kill(below[0], signal.SIGKILL)
@@ -150,7 +150,7 @@ def command_of(process: int) -> list[bytes]:
 def check_second_mount(folder: pathlib.Path, repository: pathlib.Path) -> None:
     """An overlay that is mounted is refused to another, in one line."""
     overlay = folder / "overlay of two"
-    with Mount(repository, "HEAD", folder / "mounted", "--overlay", overlay) as mount:
+    with MountGit(repository, "HEAD", folder / "mounted", "--overlay", overlay) as mount:
         line = f"mount-git: the overlay {overlay} is in use by another mount"
         told = said_by(MOUNT_GIT, repository, "HEAD", folder / "second", "--overlay", overlay)
         check("a second mount", told, (1, [line]))
@@ -194,14 +194,14 @@ def check_moved_revision(folder: pathlib.Path) -> None:
     """An overlay stays on the commit that it was made on, and the next mount says so."""
     repository = make_repository(folder)
     before = git(repository, "rev-parse", "HEAD^{tree}")
-    with Mount(repository, "HEAD", folder / "mounted", "--overlay", folder / "overlay") as mount:
+    with MountGit(repository, "HEAD", folder / "mounted", "--overlay", folder / "overlay") as mount:
         (mount.folder / "made").write_text("made")
         seen = shown(Folder(mount.folder))
         check("moved: the first end", (mount.end("SIGTERM"), mount.said()), (0, []))
     (repository / "plain.txt").write_text("moved on\n")
     git(repository, "commit", "-qam", "moved on")
     after = git(repository, "rev-parse", "HEAD^{tree}")
-    with Mount(repository, "HEAD", folder / "mounted", "--overlay", folder / "overlay") as mount:
+    with MountGit(repository, "HEAD", folder / "mounted", "--overlay", folder / "overlay") as mount:
         check("moved: what is shown", shown(Folder(mount.folder)), seen)
         check("moved: the end", mount.end("SIGTERM"), 0)
         told = [before in line and after in line for line in mount.said()]
@@ -219,7 +219,7 @@ def check_signed_commit(folder: pathlib.Path) -> None:
     git(repository, "config", "log.showSignature", "true")
     told = git(repository, "show", "-s", "--format=%ct", commit)
     check("signed: Git tells of the signature", told != "1000000000", True)
-    with Mount(repository, commit, folder / "mounted") as mount:
+    with MountGit(repository, commit, folder / "mounted") as mount:
         check("signed: the commit's time", (mount.folder / "plain.txt").stat().st_mtime, 1_000_000_000)
         check("signed: the end, with nothing said", (mount.end("SIGTERM"), mount.said()), (0, []))
 
@@ -227,7 +227,7 @@ def check_signed_commit(folder: pathlib.Path) -> None:
 def check_damaged_repository(folder: pathlib.Path) -> None:
     """A file whose object is lost, or damaged, is EIO and a line that names it; all else goes on."""
     repository = make_repository(folder)
-    with Mount(repository, "HEAD", folder / "mounted") as mount:
+    with MountGit(repository, "HEAD", folder / "mounted") as mount:
         for name, content, cause in [("plain.txt", None, "Missing"), ("run.sh", b"blob 6\0other\n", "BadDigest")]:
             object_id = git(repository, "rev-parse", f"HEAD:{name}")
             place = repository / ".git/objects" / object_id[:2] / object_id[2:]
@@ -244,7 +244,7 @@ def check_damaged_repository(folder: pathlib.Path) -> None:
 
 def check_laziness(folder: pathlib.Path, large: Large) -> None:
     """Of 50,000 files one file costs the objects on its path, and `grep -r` in a folder that folder's."""
-    with Mount(large.repository, "HEAD", folder / "mounted", "--log") as mount:
+    with MountGit(large.repository, "HEAD", folder / "mounted", "--log") as mount:
         deep = mount.folder.joinpath(*map(os.fsdecode, large.path))
         check("lazily mounted: a deep file", deep.read_bytes(), large.content)
         check("lazily mounted: what one file costs", asked_for(mount.log), sorted(large.deep))
@@ -256,7 +256,7 @@ def check_laziness(folder: pathlib.Path, large: Large) -> None:
 
 def check_open_files(folder: pathlib.Path, repository: pathlib.Path) -> None:
     """What programs do with open files and attributes is as docs/MOUNT-GIT.md says."""
-    with Mount(repository, "HEAD", folder / "mounted") as mount:
+    with MountGit(repository, "HEAD", folder / "mounted") as mount:
         top = mount.folder
         (top / "gone").write_text("abc")
         with open(top / "gone", "r+b", buffering=0) as file:

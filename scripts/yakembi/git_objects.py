@@ -27,7 +27,7 @@ def tell(text: str) -> None:
     print(f"git-objects: {text}", file=sys.stderr, flush=True)
 
 
-class Client(socketserver.StreamRequestHandler):
+class ClientConnection(socketserver.StreamRequestHandler):
     """One connection, and one `git cat-file` behind it."""
 
     disable_nagle_algorithm = True
@@ -93,7 +93,7 @@ class Server(socketserver.ThreadingTCPServer):
     def __init__(self, port: int, repository: Repository, log: bool) -> None:
         self.repository = repository
         self.log = log
-        super().__init__(("127.0.0.1", port), Client)
+        super().__init__(("127.0.0.1", port), ClientConnection)
 
     def handle_error(self, request: object, client_address: object) -> None:
         """A connection that fails costs itself alone."""

@@ -190,7 +190,7 @@ def pool_over(program: Serving, overlay: str) -> Pool:
     raise Refusal(f"mountd didn't start: {word}")
 
 
-class Shown(MountOperations):
+class Announced(MountOperations):
     """The operations of a mount that says when it is there."""
 
     folder: str | None = None
@@ -199,7 +199,7 @@ class Shown(MountOperations):
         print(f"mounted {self.folder}", flush=True)
 
 
-def show(fuse: Callable[..., object], operations: Shown, folder: str) -> None:
+def show(fuse: Callable[..., object], operations: Announced, folder: str) -> None:
     """Serves the mount until it is unmounted, or until a signal, which libfuse takes where Python doesn't."""
     operations.folder = folder
     os.makedirs(folder, exist_ok=True)
@@ -227,7 +227,7 @@ def run(words: argparse.Namespace) -> None:
             pool = pool_over(program, overlay.path)
             try:
                 times = Times(seconds * 10**9, overlay.changed())
-                show(fuse, Shown(Mount(pool), times, overlay.path), folder)
+                show(fuse, Announced(Mount(pool), times, overlay.path), folder)
             finally:
                 problem = pool.close()
     if problem:

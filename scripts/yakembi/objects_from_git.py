@@ -20,7 +20,7 @@ BESIDE = "objects-from-git."
 LONGEST_HEADER = 32
 
 
-class Folder:
+class ObjectFolder:
     """The folder of objects. A file is written beside its place, to the disk, and renamed, so that none is ever cut."""
 
     def __init__(self, path: str, verify: bool) -> None:
@@ -105,7 +105,7 @@ class Progress:
 class Export:
     """One walk over a commit's objects, each written once."""
 
-    def __init__(self, repository: Repository, folder: Folder) -> None:
+    def __init__(self, repository: Repository, folder: ObjectFolder) -> None:
         self.objects = repository.objects()
         self.folder = folder
         self.met: set[str] = set()
@@ -168,7 +168,7 @@ class Export:
 def export(words: argparse.Namespace) -> str:
     repository = Repository(words.repository)
     root = repository.tree_of(words.revision)
-    run = Export(repository, Folder(words.folder, words.verify))
+    run = Export(repository, ObjectFolder(words.folder, words.verify))
     run.run(root)
     run.warn()
     return root
