@@ -86,7 +86,7 @@ def rows_below(heading: str, page: pathlib.Path = PAGE) -> list[list[str]]:
 
 
 def first_paragraph() -> str:
-    return PAGE.read_text().split("\n\n")[1].partition(" There are four subcommands:")[0]
+    return re.sub(r" There are \w+ subcommands:$", "", PAGE.read_text().split("\n\n")[1])
 
 
 # ---- pages in roff
