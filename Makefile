@@ -6,7 +6,7 @@ ROOT := d8329fc1cc938780ffdd9f94e0d364e0ea74f579
 PREFIX ?= /usr/local
 BIN = $(DESTDIR)$(PREFIX)/bin
 LIB = $(DESTDIR)$(PREFIX)/lib/yakembi
-COMMANDS := mount-git git-objects objects-from-git eden-shell
+COMMANDS := mount-git git-objects objects-from-git eden-shell check-session
 
 .PHONY: help try run check test wrong-bodies soak bench fmt install uninstall
 

@@ -13,7 +13,7 @@ import stat
 
 from checks import check
 from random_requests import Requests
-from tree_model import LONGEST_DATA, LONGEST_FILE, WholeTree
+from yakembi.tree_model import LONGEST_DATA, LONGEST_FILE, WholeTree
 
 LONGEST_NAME = 255
 LONGEST_PATH = 4_095

@@ -4,8 +4,8 @@ The program wrote it when its stored files had version 1, over the sample commit
 examples/overlay-version-1.txt. What stands here was written from docs/FORMATS.md and these requests.
 """
 
-from overlay_files import (DIRECTORY, EXECUTABLE, FILE, FOLDER, LINK, OWN, PLAIN, directory_body, entry_bytes,
-                           old_file_bytes, state_body)
+from yakembi.overlay_files import (DIRECTORY, EXECUTABLE, FILE, FOLDER, LINK, OWN, PLAIN, directory_body, entry_bytes,
+                                   old_file_bytes, state_body)
 from programs import SAMPLE_ROOT
 
 NEXT_NUMBER = 23

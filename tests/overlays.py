@@ -3,7 +3,7 @@
 import subprocess
 
 from checks import check, finished, git, whole_tree
-from overlay_files import Damaged, Shown, state_of, stored
+from yakembi.overlay_files import Damaged, Shown, state_of, stored
 from programs import EXPORTER, MOUNTD
 from random_requests import line_of
 

@@ -1,7 +1,7 @@
 """Random requests on a tree that is kept as a dictionary, their lines, and those whose replies say all of a tree."""
 
 from protocol import data_text, name_text, path_text
-from tree_model import LONGEST_DATA, LONGEST_FILE, LONGEST_TARGET, MOST_ENTRIES
+from yakembi.tree_model import LONGEST_DATA, LONGEST_FILE, LONGEST_TARGET, MOST_ENTRIES
 
 LONGEST_CONTENT = 4_096
 WORDS = ["kind", "stat", "read", "readlink", "list", "write", "truncate", "create", "setexec", "mkdir", "symlink",
