@@ -8,7 +8,7 @@ BIN = $(DESTDIR)$(PREFIX)/bin
 LIB = $(DESTDIR)$(PREFIX)/lib/yakembi
 MAN = $(DESTDIR)$(PREFIX)/share/man/man1
 MANUAL := mountd.1 mount-git.1
-COMMANDS := mount-git git-objects objects-from-git eden-shell
+COMMANDS := mount-git git-objects objects-from-git eden-shell check-session
 
 .PHONY: help try run check test lint wrong-bodies soak bench fmt install uninstall
 

@@ -17,7 +17,7 @@ from typing import Any
 
 from checks import check
 from random_requests import Requests
-from tree_model import LONGEST_DATA, LONGEST_FILE, Nodes, Path, Values, WholeTree
+from yakembi.tree_model import LONGEST_DATA, LONGEST_FILE, Nodes, Path, Values, WholeTree
 from yakembi.operations import MountOperations
 
 LONGEST_NAME = 255

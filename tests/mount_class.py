@@ -19,7 +19,7 @@ from mount_folder import checkout
 from programs import GIT_OBJECTS, MOUNTD, SAMPLE_OBJECTS, SAMPLE_ROOT, listening
 
 from helpers.git import DEEP, content_of, make_large_repository
-from tree_model import Values, WholeTree
+from yakembi.tree_model import Values, WholeTree
 from yakembi import client
 from yakembi.client import Session
 from yakembi.operations import UTIME_NOW, UTIME_OMIT, Mount, MountOperations

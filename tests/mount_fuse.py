@@ -17,7 +17,7 @@ from folder_operations import Folder, compare, outcome, shown
 from mount_class import Large, asked_for, refused
 from mount_folder import BUILDS, CHANGES, COPIES, ENDINGS, LOOKS, Both, MountGit, checkout, children, said_by
 from programs import MOUNT_GIT, MOUNTD
-from tree_model import Values
+from yakembi.tree_model import Values
 
 
 # ---- tools

@@ -4,10 +4,10 @@ The program wrote it when its stored files had version 1, over the sample commit
 examples/overlay-version-1.txt. What stands here was written from docs/FORMATS.md and these requests.
 """
 
-from overlay_files import (DIRECTORY, EXECUTABLE, FILE, FOLDER, LINK, OWN, PLAIN, directory_body, entry_bytes,
-                           old_file_bytes, state_body)
 from programs import SAMPLE_ROOT
-from tree_model import Nodes, Path
+from yakembi.overlay_files import (DIRECTORY, EXECUTABLE, FILE, FOLDER, LINK, OWN, PLAIN, directory_body, entry_bytes,
+                                   old_file_bytes, state_body)
+from yakembi.tree_model import Nodes, Path
 
 NEXT_NUMBER = 23
 CONTENTS = {2: b"version 1\n\0\0!", 4: b"read this\n", 6: b"\0\0notes", 7: b"guide.txt", 9: b"main", 11: b"", 12: b"b",

@@ -7,10 +7,10 @@ from typing import Any, TypeVar
 
 from checks import check, finished, git, whole_tree
 from helpers.running import Process, Status
-from overlay_files import Damaged, Shown, state_of, stored
 from programs import EXPORTER, MOUNTD
 from random_requests import line_of
-from tree_model import Node, Nodes, Path, Values, WholeTree
+from yakembi.overlay_files import Damaged, Shown, state_of, stored
+from yakembi.tree_model import Node, Nodes, Path, Values, WholeTree
 
 CLOSED = (0, b"")
 Read = TypeVar("Read")

@@ -5,7 +5,7 @@ from collections.abc import Iterator, Sequence
 from typing import Any
 
 from protocol import data_text, name_text, path_text
-from tree_model import LONGEST_DATA, LONGEST_FILE, LONGEST_TARGET, MOST_ENTRIES, Path, Values, WholeTree
+from yakembi.tree_model import LONGEST_DATA, LONGEST_FILE, LONGEST_TARGET, MOST_ENTRIES, Path, Values, WholeTree
 
 LONGEST_CONTENT = 4_096
 WORDS = ["kind", "stat", "read", "readlink", "list", "write", "truncate", "create", "setexec", "mkdir", "symlink",

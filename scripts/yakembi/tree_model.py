@@ -12,6 +12,16 @@ the request looks into a lost content or a directory whose entries are not known
 from collections.abc import Sequence
 from typing import Any
 
+from yakembi.client import name_text
+
+Path = tuple[bytes, ...]
+Node = tuple[Any, ...]
+Nodes = dict[Path, Node]
+# The fields of a request behind its word.
+Values = tuple[Any, ...]
+Names = list[bytes]
+Paths = list[Path]
+
 LONGEST_FILE = 1 << 30
 LONGEST_DATA = 65_536
 LONGEST_TARGET = 4_095
@@ -19,12 +29,6 @@ MOST_ENTRIES = 1_000
 
 NUMBERS = {"ENOENT": 2, "EBUSY": 16, "EEXIST": 17, "ENOTDIR": 20, "EISDIR": 21, "EINVAL": 22, "EFBIG": 27,
            "ENAMETOOLONG": 36, "ENOTEMPTY": 39}
-
-Path = tuple[bytes, ...]
-Node = tuple[Any, ...]
-Nodes = dict[Path, Node]
-# The fields of a request behind its word.
-Values = tuple[Any, ...]
 
 
 class Refused(Exception):
@@ -47,8 +51,8 @@ def known(content: bytes | None) -> bytes:
 
 
 class WholeTree:
-    def __init__(self, nodes: Nodes | None = None) -> None:
-        self.nodes = nodes if nodes is not None else {(): ("dir", True)}
+    def __init__(self, nodes: dict[Path, Node] | None = None) -> None:
+        self.nodes: dict[Path, Node] = nodes if nodes is not None else {(): ("dir", True)}
 
     # ---- looking
 
@@ -74,11 +78,15 @@ class WholeTree:
         self.walk(path)
         need(path not in self.nodes, "EEXIST")
 
-    def children(self, path: Path) -> list[bytes]:
+    def children(self, path: Path) -> Names:
         """The names in a directory whose entries are known, in byte order."""
         if not self.nodes[path][1]:
             raise Unknown
         return sorted(other[-1] for other in self.nodes if other != () and other[:-1] == path)
+
+    def at_and_below(self, path: Path) -> Paths:
+        """The paths of the node there and of all that stand below it."""
+        return [other for other in self.nodes if other[: len(path)] == path]
 
     def kind_word(self, node: Node) -> bytes:
         return b"exec" if node[0] == "file" and node[1] else str(node[0]).encode()
@@ -194,9 +202,10 @@ class WholeTree:
             else:
                 need(there[0] != "dir", "EISDIR")
             del self.nodes[target]
-        moved = [path for path in self.nodes if path[: len(source)] == source]
-        for path in moved:
-            self.nodes[target + path[len(source) :]] = self.nodes.pop(path)
+        for path in self.at_and_below(source):
+            node = self.nodes[path]
+            del self.nodes[path]
+            self.nodes[target + path[len(source) :]] = node
         return b"ok"
 
     def reply(self, word: str, *fields: Any) -> bytes | None:
@@ -216,7 +225,5 @@ def data_reply(data: bytes) -> bytes:
 
 
 def entries_reply(rows: Sequence[tuple[bytes, bytes]], more: bool) -> bytes:
-    from protocol import name_text
-
     body = b"".join(b" %s %s" % (kind, name_text(name)) for kind, name in rows)
     return b"entries %d%s %s" % (len(rows), body, b"more" if more else b"end")

@@ -10,7 +10,7 @@ import re
 from collections.abc import Mapping
 from typing import NamedTuple, Protocol
 
-from tree_model import Node, Nodes, Path
+from yakembi.tree_model import Node, Nodes, Path
 
 FILE = b"OVFL"
 DIRECTORY = b"OVDR"
@@ -27,15 +27,17 @@ OBJECT, OWN, EMPTY = range(3)
 
 
 class Entry(NamedTuple):
+    """An entry of a directory's file; the id is that of an object's, where it comes from one."""
+
     kind: int
     origin: int
     number: int
-    object_id: str | None
+    object_id: str
     name: bytes
 
 
 class Commit(Protocol):
-    """What is known of the commit below: its tree's id, the contents of its blobs, and what stands below a tree."""
+    """A commit's tree, the contents of its objects, and what stands below each tree, by the paths from there."""
 
     @property
     def root(self) -> str: ...
@@ -120,7 +122,7 @@ class Fields:
 
 def entry_in(fields: Fields) -> Entry:
     kind, origin, number = fields.number(1), fields.number(1), fields.number(8)
-    object_id = fields.take(20).hex() if origin == OBJECT else None
+    object_id = fields.take(20).hex() if origin == OBJECT else ""
     name = fields.take(fields.number(1))
     sound(kind <= FOLDER and origin <= EMPTY, "kind and origin", kind, origin)
     sound(origin != EMPTY or kind == FOLDER, "nothing as the origin of what is no directory", name)
@@ -158,7 +160,7 @@ def stored(folder: pathlib.Path) -> dict[int, bytes]:
     return {int(path.name): path.read_bytes() for path in folder.iterdir() if re.fullmatch("0|[1-9][0-9]*", path.name)}
 
 
-def is_unclean(files: dict[int, bytes]) -> bool:
+def is_unclean(files: Mapping[int, bytes]) -> bool:
     """Whether a mount opened these files, or made them, and was never closed."""
     return bool(files) and 0 not in files
 
@@ -166,7 +168,7 @@ def is_unclean(files: dict[int, bytes]) -> bool:
 class Shown:
     """What an overlay's files show over a commit: `nodes`, and `numbers`, those that stored directories name."""
 
-    def __init__(self, commit: Commit, files: dict[int, bytes]) -> None:
+    def __init__(self, commit: Commit, files: Mapping[int, bytes]) -> None:
         self.commit = commit
         self.files = files
         self.nodes: Nodes = {(): ("dir", True)}
@@ -193,12 +195,10 @@ class Shown:
         self.nodes[path] = ("dir", True)
         if entry.origin == OWN:
             self.directory(path, entry.number)
-        elif entry.object_id is not None:
+        elif entry.origin == OBJECT:
             self.nodes.update({path + below: node for below, node in self.commit.below(entry.object_id).items()})
 
     def leaf(self, entry: Entry) -> Node:
-        if entry.object_id is not None:
-            content = self.commit.contents[entry.object_id]
-        else:
-            content = body_of(FILE, self.file(entry.number))
+        own = entry.origin == OWN
+        content = body_of(FILE, self.file(entry.number)) if own else self.commit.contents[entry.object_id]
         return ("link", content) if entry.kind == LINK else ("file", entry.kind == EXECUTABLE, content)
