@@ -5,3 +5,4 @@ pub mod Sorting
 pub mod Filled
 pub mod Loads
 pub mod Starts
+mod Entries

@@ -1,5 +1,5 @@
 -- Rows of a directory, one after the other.
-use Rattle.std.proofs.Common.{◌≡◌, ℕ, zero, suc, ◌+◌, ◌<◌, ◌≤◌, true, false, List, [], ◌∷◌, ◌++◌, length, map, take, Option, Box, inl, inr, Some, None, refl, sym, ap, arith}
+use Rattle.std.proofs.Common.{◌≡◌, ℕ, zero, suc, ◌+◌, ◌<◌, true, false, List, [], ◌∷◌, length, Option, Box, inl, inr, Some, None, refl, sym, ap, arith}
 use Rattle.std.specs.List.{slice_get}
 use Rattle.std.specs.Option.{option_map, option_and_then, is_some}
 use Rattle.std.proofs.lemmas.Bool.{cases_lt}
@@ -39,19 +39,6 @@ none_held (Some b) h k = absurd (cc)
 pub not_held : {A : Type 0} (o : Option (Box Directory A)) → is_some o ≡ false → option_map (λ b. b.value) o ≡ None
 not_held None k = refl
 not_held (Some b) k = absurd (cc)
-
--- ---- lists made one by one
-
-pub take_one_more : {X Y : Type 0} (f : X → Y) (xs : List X) (i : ℕ) (e : X) → slice_get xs i ≡ Some e → take (suc i) (map f xs) ≡ take i (map f xs) ++ (f e ∷ [])
-take_one_more f [] i e h = absurd (cc)
-take_one_more f (x ∷ xs) zero e h = ap (λ a. f a ∷ []) (same_some x e h)
-take_one_more f (x ∷ xs) (suc i) e h = ap (λ l. f x ∷ l) (take_one_more f xs i e h)
-
-pub take_all : {X Y : Type 0} (f : X → Y) (xs : List X) (i : ℕ) → length xs ≤ i → take i (map f xs) ≡ map f xs
-take_all f [] zero h = refl
-take_all f [] (suc i) h = refl
-take_all f (x ∷ xs) zero h = absurd (omega arith)
-take_all f (x ∷ xs) (suc i) h = ap (λ l. f x ∷ l) (take_all f xs i (omega arith))
 
 -- ---- paths
 

@@ -2,3 +2,4 @@ pub mod Tables
 pub mod Filling
 pub mod Faults
 pub mod Going
+pub mod Listed

@@ -15,4 +15,5 @@ mod unload;
 
 pub use gone::Gone;
 pub use inodes::Inodes;
+pub use listing::{Listed, save, write_listing};
 pub use seen::Seen;

@@ -1,54 +1,89 @@
 //! Loaded directories as stored ones.
+
 ghost use Rattle.std.specs.Prelude.{◌≡◌, Err, IfOk, OnOk, OnErr};
 ghost use Rattle.eden_model.specs.Failures.{Counted};
+ghost use Rattle.eden_model.specs.Named.{AreRising};
 ghost use Rattle.eden_overlay_format.specs.Directory.{AreStorable};
 ghost use Rattle.eden_overlay.specs.Held.{with_entries};
 ghost use Rattle.eden_overlay.specs.Soundness.{AreSound};
 ghost use Rattle.eden_overlay.specs.declared.files.FilesFault.TheVariants as files;
-ghost use Rattle.eden_tie.specs.Listings.{listing_of};
+ghost use Rattle.eden_inode.specs.Listed.{listed_as, origin_as};
 
-use eden_model::World;
+use eden_model::{Name, Origin, World};
 use eden_overlay::{Files, FilesFault, Overlay};
-use eden_overlay_format::StoredEntry;
+use eden_overlay_format::Listing;
 use eden_tree::Dir;
 use std::alloc::{AllocError, Allocator, Global};
 
-/// The entries of a directory, as they are stored.
-pub(crate) fn listing<A: Allocator>(
-    alloc: Global,
+/// Which entries of a directory are stored, and as what.
+#[derive(Clone, Copy)]
+pub enum Listed<'a> {
+    /// Each as it is.
+    Whole,
+    /// All but the one of that name.
+    Without(&'a Name),
+    /// Each as it is, but the one of that name as the mount's own.
+    Owned(&'a Name),
+}
+
+/// The entries of a directory that are stored, written as its stored file has them, in that room, whose bytes go.
+pub fn write_listing<A: Allocator>(
+    room: Vec<u8>,
     dir: &Dir<A>,
-) -> Result<Vec<StoredEntry>, AllocError>
-    ensures { IfOk result (λ v. v.items ≡ listing_of dir.now) }
+    listed: Listed<'_>,
+) -> Result<Listing, AllocError>
+    requires { AreStorable (listed_as listed dir.now) }
+    ensures entries { IfOk result (λ entries. entries ≡ listed_as listed.entry dir.now) }
+    ensures rising { IfOk result (λ _. AreRising (λ r. r.0) dir.now.rows) }
 {
-    let mut entries = Vec::with_capacity(alloc, dir.count() as usize)?;
+    let mut entries = Listing::new(room, dir.count())?;
     for i in 0..dir.count() {
-        match dir.at(i) {
-            None => unreachable!(),
-            Some((name, entry)) => entries.push(StoredEntry {
-                name: name.copy(alloc)?,
-                kind: entry.kind,
-                origin: entry.origin,
-                number: entry.number,
-            })?,
+        if let Some((name, entry)) = dir.at(i) {
+            if let Some(origin) = origin_in(listed, name, entry.origin) {
+                entries = entries.push(name, entry.kind, origin, entry.number)?;
+            }
         }
     }
     Ok(entries)
 }
 
-/// Stores a loaded directory as the file of that number.
-pub(crate) fn save<A: Allocator, W: World, F: Files<W>>(
+/// The origin that an entry is stored with, or none where it is left out.
+fn origin_in(listed: Listed<'_>, name: &Name, origin: Origin) -> Option<Origin>
+    ensures { result ≡ origin_as listed.entry name.now origin }
+{
+    match listed {
+        Listed::Whole => Some(origin),
+        Listed::Without(other) => {
+            if *other == *name {
+                return None;
+            }
+            Some(origin)
+        }
+        Listed::Owned(other) => {
+            if *other == *name {
+                return Some(Origin::Own);
+            }
+            Some(origin)
+        }
+    }
+}
+
+/// Stores a directory so as the file of that number. After an error nothing has changed.
+pub fn save<A: Allocator, W: World, F: Files<W>>(
     alloc: Global,
     overlay: &mut Overlay<W, F>,
     number: u64,
     dir: &Dir<A>,
+    listed: Listed<'_>,
 ) -> Result<(), FilesFault>
-    requires entries { AreStorable (listing_of dir.now) }
-    requires sound { W.honest → AreSound (with_entries (F.stored overlay.old) number (listing_of dir.now)) }
+    requires entries { AreStorable (listed_as listed dir.now) }
+    requires sound { W.honest → AreSound (with_entries (F.stored overlay.old) number (listed_as listed dir.now)) }
     ensures ok { W.honest
-        → OnOk result (F.stored overlay.new ≡ with_entries (F.stored overlay.old) number (listing_of dir.now)) }
+        → OnOk result (F.stored overlay.new ≡ with_entries (F.stored overlay.old) number
+        (listed_as listed.entry dir.now)) }
     ensures err { W.honest → OnErr result (F.stored overlay.new ≡ F.stored overlay.old) }
     ensures counted { Counted (result ≡ Err files.Device) (F.failures overlay.old) (F.failures overlay.new) }
 {
-    let entries = listing(alloc, dir)?;
-    overlay.put_dir(alloc, number, &entries)
+    let entries = write_listing(overlay.room(alloc), dir, listed)?;
+    overlay.put_listing(alloc, number, entries)
 }

@@ -11,7 +11,7 @@ ghost use Rattle.eden_tie.specs.Unloading.{Unloads, IsSettled, MayUnload, HasNon
 ghost use Rattle.eden_inode.specs.Going.{IsUnloaded};
 
 use crate::gone::{Gone, NOTHING, ONE, both, refusal};
-use crate::listing::save;
+use crate::listing::{Listed, save};
 use eden_model::World;
 use eden_overlay::{Files, FilesFault, Overlay};
 use eden_tree::{Change, Dir, Entry};
@@ -67,7 +67,7 @@ fn may_go<A: Allocator, W: World, F: Files<W>>(
     if !dir.unsaved() {
         return Ok(true);
     }
-    match save(alloc, overlay, number, dir) {
+    match save(alloc, overlay, number, dir, Listed::Whole) {
         Ok(()) => Ok(true),
         Err(fault) => Err(fault),
     }

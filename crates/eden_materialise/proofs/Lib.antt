@@ -1,4 +1,3 @@
-mod Entries
 mod Steps
 mod Putting
 mod Swapped

@@ -14,9 +14,9 @@ use Rattle.eden_tie.specs.Kept.{IsTable, IsKept}
 use Rattle.eden_tie.specs.Laws.{owned}
 use Rattle.eden_tie.specs.Listings.{listing_of}
 use Rattle.eden_tie.specs.Materialising.{marked_listing, Chain, owned_along}
-use Rattle.eden_materialise.specs.declared.listing.Listed.{Listed}
+use Rattle.eden_inode.specs.declared.listing.Listed.{Listed}
 use Rattle.eden_materialise.specs.Faults.{IsStoreFault}
-use Rattle.eden_materialise.specs.Listed.{listed_as}
+use Rattle.eden_inode.specs.Listed.{listed_as}
 
 -- what is stored of the lowest directory: those entries, or where none are told, all of a directory that isn't its own
 abbrev pub lowest_of : Option Listed → Row → Directory → Option (List StoredEntry)

@@ -1,4 +1,3 @@
-pub mod Listed
 pub mod Puts
 pub mod Chains
 pub mod Moves

@@ -15,7 +15,7 @@ ghost use Rattle.eden_tie.specs.Materialising.{marked_listing, Chain, IsChain, k
 ghost use Rattle.eden_materialise.specs.Chains.{lowest_of, with_lowest, StoresAgain, StaySound, IsHeld};
 ghost use Rattle.eden_materialise.specs.Puts.{AtDirectory};
 
-use crate::listing::{Listed, save};
+use eden_inode::{Listed, save};
 use eden_model::{Name, Origin, World};
 use eden_overlay::{Files, FilesFault, Overlay};
 use eden_tree::{Dir, Entry};

@@ -17,9 +17,8 @@ ghost use Rattle.eden_materialise.specs.Puts.{AtDirectory};
 
 use crate::chain::{mark_own, store_chain};
 use crate::fault::told;
-use crate::listing::Listed;
 use crate::memory::{put_at, remove_at, take_back_at};
-use eden_inode::Inodes;
+use eden_inode::{Inodes, Listed};
 use eden_model::{Fault, Name, World};
 use eden_overlay::{Files, FilesFault, Overlay};
 use eden_tree::{Change, Entry};

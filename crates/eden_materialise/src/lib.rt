@@ -13,7 +13,6 @@ mod content;
 mod entry_change;
 mod entry_move;
 mod fault;
-mod listing;
 mod memory;
 mod moving;
 mod new_entry;

@@ -12,14 +12,14 @@ ghost use Rattle.eden_tree.specs.Rows.{find_row};
 ghost use Rattle.eden_tree.specs.Paths.{row_at};
 ghost use Rattle.eden_tie.specs.Listings.{listing_of};
 ghost use Rattle.eden_tie.specs.Changing.{MayMove, moved_in, marked_source, files_left, files_moved};
-ghost use Rattle.eden_materialise.specs.Listed.{listed_as};
+ghost use Rattle.eden_inode.specs.Listed.{listed_as};
 ghost use Rattle.eden_materialise.specs.Puts.{AtDirectory};
 
-use crate::listing::{Listed, listing};
 use crate::memory::{mark_at, put_at, remove_at, take_back_at};
+use eden_inode::{Listed, write_listing};
 use eden_model::{Name, World};
 use eden_overlay::{Files, FilesFault, Overlay};
-use eden_overlay_format::StoredEntry;
+use eden_overlay_format::Listing;
 use eden_tree::Entry;
 use std::alloc::{AllocError, Allocator, Global};
 
@@ -27,27 +27,28 @@ use std::alloc::{AllocError, Allocator, Global};
 #[derive(Drop)]
 struct Ready {
     number: u64,
-    entries: Vec<StoredEntry>,
+    entries: Listing,
 }
 
-/// The loaded directory at a path, as it is to be stored.
+/// The loaded directory at a path, as it is to be stored, written in that room.
 fn ready_at<A: Allocator>(
-    alloc: Global,
+    room: Vec<u8>,
     root: &Entry<A>,
     path: &[Name],
     listed: Listed<'_>,
 ) -> Result<Ready, AllocError>
-    requires { IsSomeAnd (row_at path.now root.now) (λ y. IsSome (child_of y)) }
+    requires loaded { IsSomeAnd (row_at path.now root.now) (λ y. IsSome (child_of y)) }
+    requires storable { AtDirectory path.now root.now (λ y d. AreStorable (listed_as listed d)) }
     ensures number { AtDirectory path.now root.now (λ y d. IfOk result (λ ready. ready.number ≡ y.number)) }
     ensures entries { AtDirectory path.now root.now
-        (λ y d. IfOk result (λ ready. ready.entries.items ≡ listed_as listed.entry d)) }
+        (λ y d. IfOk result (λ ready. ready.entries ≡ listed_as listed.entry d)) }
     ensures rising { AtDirectory path.now root.now (λ y d. IfOk result (λ ready. AreRising (λ r. r.0) d.rows)) }
 {
     match root.walk(path) {
         None => unreachable!(),
         Some(entry) => match entry.directory() {
             None => unreachable!(),
-            Some(dir) => match listing(alloc, dir, listed) {
+            Some(dir) => match write_listing(room, dir, listed) {
                 Err(refused) => return Err(refused),
                 Ok(entries) => {
                     return Ok(Ready {
@@ -92,36 +93,39 @@ pub(crate) fn copy_at<A: Allocator>(root: &Entry<A>, path: &[Name], name: &Name)
 fn store_both<A: Allocator, W: World, F: Files<W>>(
     alloc: Global,
     overlay: &mut Overlay<W, F>,
-    first: &Ready,
+    first: Ready,
     root: &Entry<A>,
     path: &[Name],
 ) -> (bool, Result<(), FilesFault>)
     requires loaded { IsSomeAnd (row_at path.now root.now) (λ y. IsSome (child_of y)) }
-    requires first { AreStorable first.now.entries.items }
+    requires first { AreStorable first.entries }
     requires second { AtDirectory path.now root.now (λ y d. AreStorable (listing_of d)) }
     requires first_sound { W.honest
-        → AreSound (with_entries (F.stored overlay.old) first.now.number first.now.entries.items) }
+        → AreSound (with_entries (F.stored overlay.old) first.number first.entries) }
     requires both_sound { W.honest
         → AtDirectory path.now root.now
         (λ y d. AreSound (with_entries
-        (with_entries (F.stored overlay.old) first.now.number first.now.entries.items) y.number (listing_of d))) }
+        (with_entries (F.stored overlay.old) first.number first.entries) y.number (listing_of d))) }
     ensures ok { W.honest
         → AtDirectory path.now root.now
         (λ y d. OnOk result.1
         (F.stored overlay.new ≡ with_entries
-        (with_entries (F.stored overlay.old) first.now.number first.now.entries.items) y.number (listing_of d))) }
+        (with_entries (F.stored overlay.old) first.number first.entries) y.number (listing_of d))) }
     ensures err { W.honest
         → OnErr result.1 (F.stored overlay.new ≡
         (if result.0 then with_entries
-        (F.stored overlay.old) first.now.number first.now.entries.items else F.stored overlay.old)) }
+        (F.stored overlay.old) first.number first.entries else F.stored overlay.old)) }
     ensures counted { Counted (result.1 ≡ Err files.Device) (F.failures overlay.old) (F.failures overlay.new) }
 {
-    let second = match ready_at(alloc, root, path, Listed::Whole) {
+    let second = match ready_at(Vec::new(alloc), root, path, Listed::Whole) {
         Ok(ready) => ready,
         Err(_) => return (false, Err(FilesFault::Memory)),
     };
-    match overlay.put_dir(alloc, first.number, &first.entries) {
-        Ok(()) => (true, overlay.put_dir(alloc, second.number, &second.entries)),
+    match overlay.put_listing(alloc, first.number, first.entries) {
+        Ok(()) => (
+            true,
+            overlay.put_listing(alloc, second.number, second.entries),
+        ),
         Err(fault) => (false, Err(fault)),
     }
 }
@@ -159,7 +163,8 @@ pub(crate) fn move_between<A: Allocator, W: World, F: Files<W>>(
     ensures counted { Counted (result ≡ Err files.Device) (F.failures overlay.old) (F.failures overlay.new) }
 {
     let copy = copy_at(root, from, name);
-    let left = match ready_at(alloc, root, from, Listed::Without(name)) {
+    let room = overlay.room(alloc);
+    let left = match ready_at(room, root, from, Listed::Without(name)) {
         Ok(ready) => ready,
         Err(_) => return Err(FilesFault::Memory),
     };
@@ -167,7 +172,7 @@ pub(crate) fn move_between<A: Allocator, W: World, F: Files<W>>(
         Ok(was) => was,
         Err(_) => return Err(FilesFault::Memory),
     };
-    match store_both(alloc, overlay, &left, root, to) {
+    match store_both(alloc, overlay, left, root, to) {
         (_, Ok(())) => {
             remove_at(root, from, name);
             return Ok(());

@@ -6,7 +6,7 @@ ghost use Rattle.eden_materialise.specs.Filing.{kind_as, with_own, own_row, IsSh
 
 use eden_model::{Kind, Origin, World};
 use eden_overlay::{Files, FilesFault, Overlay};
-use eden_overlay_format::StoredEntry;
+use eden_overlay_format::Listing;
 use eden_tree::Entry;
 use std::alloc::{Allocator, Global};
 
@@ -62,8 +62,8 @@ pub(crate) fn store_own<W: World, F: Files<W>>(
         NewEntry::File(_, content) => overlay.put_file(alloc, number, content),
         NewEntry::Link(target) => overlay.put_file(alloc, number, target),
         NewEntry::Dir => {
-            let none: [StoredEntry; 0] = [];
-            overlay.put_dir(alloc, number, &none)
+            let none = Listing::new(overlay.room(alloc), 0)?;
+            overlay.put_listing(alloc, number, none)
         }
     }
 }

@@ -13,9 +13,9 @@ ghost use Rattle.eden_tie.specs.Listings.{listing_of};
 ghost use Rattle.eden_tie.specs.Changing.{MayMove, changed, moved_in, files_moved};
 ghost use Rattle.eden_materialise.specs.Puts.{AtDirectory};
 
-use crate::listing::{Listed, save};
 use crate::memory::{put_at, remove_at, take_back_at};
 use crate::moving::copy_at;
+use eden_inode::{Listed, save};
 use eden_model::{Name, World};
 use eden_overlay::{Files, FilesFault, Overlay};
 use eden_tree::Entry;

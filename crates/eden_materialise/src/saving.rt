@@ -8,8 +8,7 @@ ghost use Rattle.eden_materialise.specs.Faults.{IsStoreFault};
 ghost use Rattle.eden_materialise.specs.Saving.{CanSave, SavesAt};
 
 use crate::fault::told;
-use crate::listing::{Listed, save};
-use eden_inode::Inodes;
+use eden_inode::{Inodes, Listed, save};
 use eden_model::{Fault, Name, World};
 use eden_overlay::{Files, Overlay};
 use eden_tree::{Change, Dir, Entry};

@@ -1,4 +1,4 @@
-ghost use Rattle.std.specs.Prelude.{◌≡◌, ◌≤◌, ℕ, List, Some, length, IfOk, IfErr};
+ghost use Rattle.std.specs.Prelude.{◌≡◌, ◌≤◌, ℕ, List, Some, length, drop, IfOk, IfErr};
 ghost use Rattle.eden_overlay_format.specs.Stored.{Refuses};
 ghost use Rattle.eden_overlay_format.specs.Content.{content_most};
 ghost use Rattle.eden_overlay_format.specs.Values.{content_in};
@@ -41,6 +41,13 @@ impl Content {
         ensures { content_in file.items ≡ Some result }
     {
         Content { file }
+    }
+
+    /// The file.
+    pub(crate) fn into_file(self) -> Vec<u8>
+        ensures { drop 64 result.items ≡ self }
+    {
+        self.file
     }
 
     /// The bytes.

@@ -27,6 +27,7 @@ mod names;
 mod overlay;
 mod recent;
 mod rescan;
+mod room;
 
 pub use content::Content;
 pub use fault::GetFault;

@@ -21,10 +21,11 @@ use crate::content::Content;
 use crate::fault::GetFault;
 use crate::files::{Files, FilesFault};
 use crate::recent::Recent;
+use crate::room::Room;
 use eden_model::World;
 use eden_overlay_format::{
-    Head, Listing, State, StoredEntry, content_len, decode_dir, decode_state, encode_dir,
-    encode_file, encode_state,
+    Head, Listing, State, StoredEntry, content_len, decode_dir, decode_state, encode_file_in,
+    encode_state,
 };
 use std::alloc::Global;
 use std::marker::{Model, PhantomData};
@@ -36,11 +37,13 @@ const STATE_NUMBER: u64 = 0;
 /// so. Contracts see the files.
 ///
 /// The content that was last stored, or was got and given back, stays in memory, if it isn't too long. Under an honest
-/// outside it is what its file holds.
+/// outside it is what its file holds. The room that a file was written in stays too, at most 1 MiB of it for contents and
+/// for directories each: a store that needs no more takes no memory for its file.
 #[derive(Drop)]
 pub struct Overlay<W: World, F: Files<W>> {
     files: F,
     recent: Recent,
+    room: Room,
     world: PhantomData<W>,
 }
 
@@ -60,6 +63,7 @@ impl<W: World, F: Files<W>> Overlay<W, F> {
         Overlay {
             files,
             recent: Recent::new(0),
+            room: Room::new(),
             world: PhantomData,
         }
     }
@@ -71,6 +75,7 @@ impl<W: World, F: Files<W>> Overlay<W, F> {
         Overlay {
             files: self.files,
             recent: Recent::new(most),
+            room: self.room,
             world: PhantomData,
         }
     }
@@ -99,8 +104,8 @@ impl<W: World, F: Files<W>> Overlay<W, F> {
         ensures counted { Counted (result ≡ Err files.Device) (F.failures self.old) (F.failures self.new) }
     {
         // First, so that memory never holds it beside the new content and the new file.
-        self.recent.clear();
-        let bytes = encode_file(alloc, content)?;
+        let room = self.recent.room(alloc);
+        let bytes = encode_file_in(room, content)?;
         match self.files.replace(alloc, number, &bytes) {
             Err(fault) => Err(fault),
             Ok(()) => {
@@ -124,9 +129,15 @@ impl<W: World, F: Files<W>> Overlay<W, F> {
         ensures err { W.honest → OnErr result (F.stored self.new ≡ F.stored self.old) }
         ensures counted { Counted (result ≡ Err files.Device) (F.failures self.old) (F.failures self.new) }
     {
-        self.recent.forget(number);
-        let bytes = encode_dir(alloc, entries)?;
-        self.files.replace(alloc, number, &bytes)
+        let listing = Listing::of(self.room.take(alloc), entries)?;
+        self.put_listing(alloc, number, listing)
+    }
+
+    /// The room for the next directory's file, to begin a `Listing` in. `put_listing` gives it back.
+    pub fn room(&mut self, alloc: Global) -> Vec<u8>
+        ensures { self.new ≡ self.old }
+    {
+        self.room.take(alloc)
     }
 
     /// Stores a directory, whose entries are written already, as the file of that number, in place of any that was there:
@@ -145,7 +156,9 @@ impl<W: World, F: Files<W>> Overlay<W, F> {
     {
         self.recent.forget(number);
         let bytes = listing.into_file();
-        self.files.replace(alloc, number, &bytes)
+        let answer = self.files.replace(alloc, number, &bytes);
+        self.room.keep(bytes);
+        answer
     }
 
     /// The content of the file of that number, or why there is none. The files aren't asked for a content that is kept.

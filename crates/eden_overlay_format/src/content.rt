@@ -1,6 +1,6 @@
 //! The content of a file or a link.
 
-ghost use Rattle.std.specs.Prelude.{◌≡◌, ◌≤◌, Some, length, IfOk, IfErr};
+ghost use Rattle.std.specs.Prelude.{◌≡◌, ◌≤◌, ◌<◌, ◌+◌, Some, length, IfOk, IfErr, OnErr, vec_capacity};
 ghost use Rattle.eden_overlay_format.specs.Stored.{Refuses, written};
 ghost use Rattle.eden_overlay_format.specs.Content.{content_length, content_most, IsFile};
 ghost use Rattle.eden_overlay_format.specs.Values.{content_in};
@@ -19,7 +19,18 @@ pub fn encode_file(alloc: Global, content: &[u8]) -> Result<Vec<u8>, AllocError>
     ensures bytes { IfOk result (λ v. v.items ≡ written identifier.File content.now) }
     ensures read_again { IfOk result (λ v. IsFile v.items content.now) }
 {
-    let mut out = start(alloc, content.len())?;
+    encode_file_in(Vec::new(alloc), content)
+}
+
+/// The stored file of a content of at most `CONTENT_MOST` bytes, in that room, whose bytes go. The only error is want of
+/// memory, where the room is too small.
+pub fn encode_file_in(room: Vec<u8>, content: &[u8]) -> Result<Vec<u8>, AllocError>
+    requires { length content.now ≤ content_most }
+    ensures bytes { IfOk result (λ v. v.items ≡ written identifier.File content.now) }
+    ensures read_again { IfOk result (λ v. IsFile v.items content.now) }
+    ensures full { OnErr result (vec_capacity room < 64 + length content.now) }
+{
+    let mut out = start(room, content.len())?;
     out.extend_from_slice(content)?;
     seal(Identifier::File, &mut out);
     Ok(out)

@@ -10,10 +10,10 @@ ghost use Rattle.eden_overlay_format.specs.declared.header.Identifier.TheVariant
 ghost use Rattle.eden_overlay_format.specs.declared.refusal.DecodeFault.TheVariants as fault;
 
 use crate::fields::{row_of, u32_of};
-use crate::header::{Identifier, body_of, seal, start};
+use crate::header::{Identifier, body_of};
+use crate::listing::Listing;
 use crate::refusal::{DecodeFault, Refusal};
 use crate::stored_entry::StoredEntry;
-use crate::writing::put_row;
 use std::alloc::{AllocError, Global};
 
 /// The least length of a row, in bytes: that of an entry with a name of one byte and no id.
@@ -33,19 +33,7 @@ pub fn encode_dir(alloc: Global, entries: &[StoredEntry]) -> Result<Vec<u8>, All
     ensures bytes { IfOk result (λ v. v.items ≡ written identifier.Directory (directory_body entries.now)) }
     ensures read_again { IfOk result (λ v. IsDirectory v.items entries.now) }
 {
-    let mut out = start(alloc, entries.len() * ROW_LEAST)?;
-    out.extend_from_slice(&(entries.len() as u32).to_be_bytes())?;
-    for entry in entries {
-        put_row(
-            &mut out,
-            &entry.name,
-            entry.kind,
-            entry.origin,
-            entry.number,
-        )?;
-    }
-    seal(Identifier::Directory, &mut out);
-    Ok(out)
+    Ok(Listing::of(Vec::new(alloc), entries)?.into_file())
 }
 
 fn read_rows(

@@ -1,11 +1,11 @@
 //! The header of 64 bytes that each stored file begins with.
 
-ghost use Rattle.std.specs.Prelude.{◌≡◌, ◌≤◌, Some, None, length, drop, replicate, IfOk, MatchResult};
+ghost use Rattle.std.specs.Prelude.{◌≡◌, ◌≤◌, ◌<◌, ◌+◌, Some, None, length, drop, replicate, IfOk, OnErr, MatchResult, vec_capacity};
 ghost use Rattle.eden_overlay_format.specs.Stored.{body_in, digest_refusal, head_refusal, header, header_refusal, identifier_bytes, version_refusal, written};
 
 use crate::refusal::Refusal;
 use sha1::Sha1;
-use std::alloc::{AllocError, Global};
+use std::alloc::AllocError;
 
 /// The length of the header that each stored file begins with, in bytes.
 pub const HEADER_LEN: usize = 64;
@@ -108,11 +108,16 @@ pub(crate) fn body_of(identifier: Identifier, bytes: &[u8]) -> Result<&[u8], Ref
     Ok(body)
 }
 
-/// A new file: room for its header, and behind it for a body of that many bytes. The only error is want of memory.
-pub(crate) fn start(alloc: Global, body_len: usize) -> Result<Vec<u8>, AllocError>
-    ensures { IfOk result (λ v. v.items ≡ replicate 64 0) }
+/// A new file in that room, whose bytes go: room for its header, and behind it for a body of that many bytes. The only
+/// error is want of memory, which comes only where the room is too small.
+pub(crate) fn start(room: Vec<u8>, body_len: usize) -> Result<Vec<u8>, AllocError>
+    ensures items { IfOk result (λ v. v.items ≡ replicate 64 0) }
+    ensures room { IfOk result (λ v. vec_capacity room ≤ vec_capacity v) }
+    ensures full { OnErr result (vec_capacity room < 64 + body_len) }
 {
-    let mut out = Vec::with_capacity(alloc, HEADER_LEN.saturating_add(body_len))?;
+    let mut out = room;
+    out.clear();
+    out.reserve_exact(HEADER_LEN.saturating_add(body_len))?;
     out.extend_from_slice(&[0; HEADER_LEN])?;
     Ok(out)
 }

@@ -3,13 +3,14 @@
 ghost use Rattle.std.specs.Prelude.{◌≡◌, ◌≤◌, ◌<◌, ◌++◌, [], ◌∷◌, length, drop, replicate, IfOk};
 ghost use Rattle.std.specs.Int.{w32, to_be_bytes};
 ghost use Rattle.eden_overlay_format.specs.Stored.{written};
-ghost use Rattle.eden_overlay_format.specs.Directory.{IsStorable, directory_body};
+ghost use Rattle.eden_overlay_format.specs.Directory.{IsStorable, AreStorable, directory_body};
 ghost use Rattle.eden_overlay_format.specs.declared.header.Identifier.TheVariants as identifier;
 
 use crate::header::{HEADER_LEN, Identifier, seal, start};
+use crate::stored_entry::StoredEntry;
 use crate::writing::put_row;
 use eden_model::{Kind, Name, Origin};
-use std::alloc::{AllocError, Global};
+use std::alloc::AllocError;
 use std::marker::Model;
 
 /// The length of the count before the rows, in bytes.
@@ -42,13 +43,26 @@ impl Model for Listing {
 }
 
 impl Listing {
-    /// A listing without entries, with room for so many of usual length. The only error is want of memory.
-    pub fn new(alloc: Global, count: u32) -> Result<Listing, AllocError>
+    /// A listing without entries in that room, whose bytes go, made fit for so many of usual length. The only error is want
+    /// of memory.
+    pub fn new(room: Vec<u8>, count: u32) -> Result<Listing, AllocError>
         ensures { IfOk result (λ l. l ≡ []) }
     {
-        let mut file = start(alloc, COUNT_LEN + count as usize * ROW_ROOM)?;
+        let mut file = start(room, COUNT_LEN + count as usize * ROW_ROOM)?;
         file.extend_from_slice(&[0; COUNT_LEN])?;
         Ok(Listing { file, count: 0 })
+    }
+
+    /// The listing of these entries, in that room, whose bytes go. The only error is want of memory.
+    pub fn of(room: Vec<u8>, entries: &[StoredEntry]) -> Result<Listing, AllocError>
+        requires { AreStorable entries.now }
+        ensures { IfOk result (λ l. l ≡ entries.now) }
+    {
+        let mut listing = Listing::new(room, entries.len() as u32)?;
+        for entry in entries {
+            listing = listing.push(&entry.name, entry.kind, entry.origin, entry.number)?;
+        }
+        Ok(listing)
     }
 
     /// The same listing with one entry more behind the others. The only error is want of memory.

@@ -38,7 +38,7 @@ pub fn encode_state(alloc: Global, state: State) -> Result<Vec<u8>, AllocError>
     ensures bytes { IfOk result (λ v. v.items ≡ written identifier.File (state_body state)) }
     ensures read_again { IfOk result (λ v. IsState v.items state) }
 {
-    let mut out = start(alloc, STATE_LEN)?;
+    let mut out = start(Vec::new(alloc), STATE_LEN)?;
     put_id(&mut out, state.root)?;
     out.extend_from_slice(&state.next.to_be_bytes())?;
     seal(Identifier::File, &mut out);

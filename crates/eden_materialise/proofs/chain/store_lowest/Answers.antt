@@ -6,8 +6,8 @@ use Rattle.eden_overlay.specs.Walking.{is_own}
 use Rattle.eden_tree.specs.Directory.{Row}
 use Rattle.eden_tie.specs.Listings.{listing_of}
 use Rattle.eden_materialise.specs.Chains.{lowest_of, with_lowest}
-use Rattle.eden_materialise.specs.Listed.{listed_as}
-use Rattle.eden_materialise.specs.declared.listing.Listed.{Listed}
+use Rattle.eden_inode.specs.Listed.{listed_as}
+use Rattle.eden_inode.specs.declared.listing.Listed.{Listed}
 use Rattle.eden_materialise.proofs.Chains.{only_other, whole_is}
 use Rattle.eden_materialise.proofs.chain.store_lowest.Goals as goal
 

@@ -1,11 +1,12 @@
 use Rattle.std.proofs.Common.{◌≡◌, ℕ, List, Result, Some, None, OnOk, OnErr, if◌then◌else◌, refl, sym, ap, ◌∙◌, subst, inl, inr}
+use Rattle.std.proofs.lemmas.Option.{same_Some}
 use Rattle.eden_overlay_format.specs.Directory.{AreStorable}
 use Rattle.eden_overlay_format.specs.declared.stored_entry.StoredEntry.{StoredEntry}
 use Rattle.eden_overlay.specs.Files.{Stored}
 use Rattle.eden_overlay.specs.Held.{with_entries}
 use Rattle.eden_overlay.specs.Soundness.{AreSound}
 use Rattle.eden_overlay.specs.declared.files.FilesFault.{FilesFault}
-use Rattle.eden_tree.specs.Directory.{Row, child_of}
+use Rattle.eden_tree.specs.Directory.{Row, Directory, child_of}
 use Rattle.eden_tree.specs.Paths.{edit_row}
 use Rattle.eden_tree.proofs.CallerLemmas.{child_of-with_child}
 use Rattle.eden_tie.specs.Listings.{listing_of}
@@ -15,10 +16,16 @@ use Rattle.eden_materialise.specs.Moves.{marked}
 use Rattle.eden_materialise.proofs.Putting.{put_there}
 use Rattle.eden_materialise.proofs.Moves.{marked_is, ordered, number_at, listing_at, moved_is}
 use Rattle.eden_materialise.proofs.moving.move_between.Goals as goal
-use Rattle.eden_materialise.proofs.moving.move_between.Goals.{then-stored, else-stored}
 
 pub same-copy : goal.same-copy
 same-copy g c = refl
+
+pub ready_at-requires-clause-storable : goal.ready_at-requires-clause-storable
+ready_at-requires-clause-storable g c y d at h =
+    let m = c.requires.may in
+    let up : m.from ≡ y = same_Some m.from y (sym m.at_from ∙ at) in
+    let is : m.source ≡ d = same_Some m.source d (sym m.holds_source ∙ ap child_of up ∙ h) in
+    subst (λ (s : Directory). AreStorable (listing_of (changed s c.args.name.now None))) is m.entries_left
 
 pub put_at-requires : goal.put_at-requires
 put_at-requires g c =
@@ -55,8 +62,9 @@ store_both-requires-clause-first_sound g c honest =
     let F = g.F.Files.stored c.args.overlay.now in
     let P : ℕ → Type 0 = λ k. AreSound (with_entries F k (listing_of (changed m.source c.args.name.now None))) in
     let Q : List StoredEntry → Type 0 = λ es. AreSound (with_entries F c.in-Ok.ready.number es) in
-    subst Q (sym (c.in-Ok.ensures.entries m.from m.source m.at_from m.holds_source))
-    (subst P (sym (c.in-Ok.ensures.number m.from m.source m.at_from m.holds_source)) (c.requires.left_sound honest m))
+    let R : Stored → Type 0 = λ G. AreSound (with_entries G c.in-Ok.ready.number c.in-Ok.ready.entries) in
+    subst R (sym (ap g.F.Files.stored c.room-room.ensures)) (subst Q (sym (c.in-Ok.ensures.entries m.from m.source m.at_from m.holds_source))
+    (subst P (sym (c.in-Ok.ensures.number m.from m.source m.at_from m.holds_source)) (c.requires.left_sound honest m)))
 
 -- the files that were made are those of a move
 module _ (x : Row) (p : _) (n : _) (q : _) (k : _) (m : MayMove x p n q k) (F : Stored) (from to : ℕ) (left put : List StoredEntry) (from_is : from ≡ m.from.number)
@@ -79,8 +87,9 @@ store_both-requires-clause-both_sound g c honest y d at h =
     let listing = listing_at c.args.root.now c.args.from.now c.args.name.now c.args.to.now c.args.new_name.now m rising c.requires.apart c.copy_at-copy.result same
     c.in-Ok-put_at.was.entry c.in-Ok-put_at.was.unsaved c.put_at.new.root c.in-Ok-put_at.ensures.ok y d at h in
     let is = moved_files c.args.root.now c.args.from.now c.args.name.now c.args.to.now c.args.new_name.now m (g.F.Files.stored c.args.overlay.now) c.in-Ok.ready.number y.number
-    c.in-Ok.ready.entries.items (listing_of d) (c.in-Ok.ensures.number m.from m.source m.at_from m.holds_source) (c.in-Ok.ensures.entries m.from m.source m.at_from m.holds_source) number listing in
-    subst AreSound (sym is) (c.requires.moved_sound honest m)
+    c.in-Ok.ready.entries (listing_of d) (c.in-Ok.ensures.number m.from m.source m.at_from m.holds_source) (c.in-Ok.ensures.entries m.from m.source m.at_from m.holds_source) number listing in
+    let P : Stored → Type 0 = λ G. AreSound (with_entries (with_entries G c.in-Ok.ready.number c.in-Ok.ready.entries) y.number (listing_of d)) in
+    subst P (sym (ap g.F.Files.stored c.room-room.ensures)) (subst AreSound (sym is) (c.requires.moved_sound honest m))
 
 pub returns-in_default-Ok-clause-ok : goal.returns-in_default-Ok-clause-ok
 returns-in_default-Ok-clause-ok g c m =
@@ -103,28 +112,39 @@ returns-in_default-Ok-clause-stored g c honest m =
     let listing = listing_at c.args.root.now c.args.from.now c.args.name.now c.args.to.now c.args.new_name.now m rising c.requires.apart c.copy_at-copy.result same
     c.in-Ok-put_at.was.entry c.in-Ok-put_at.was.unsaved c.put_at.new.root put put.after d at h in
     let is = moved_files c.args.root.now c.args.from.now c.args.name.now c.args.to.now c.args.new_name.now m (g.F.Files.stored c.args.overlay.now) c.in-Ok.ready.number put.after.number
-    c.in-Ok.ready.entries.items (listing_of d) (c.in-Ok.ensures.number m.from m.source m.at_from m.holds_source) (c.in-Ok.ensures.entries m.from m.source m.at_from m.holds_source) number listing in
+    c.in-Ok.ready.entries (listing_of d) (c.in-Ok.ensures.number m.from m.source m.at_from m.holds_source) (c.in-Ok.ensures.entries m.from m.source m.at_from m.holds_source) number listing in
     let P : Result (Unit {0}) FilesFault → Type 0 = λ r. OnOk r (g.F.Files.stored c.store_both.new.overlay
-    ≡ with_entries (with_entries (g.F.Files.stored c.args.overlay.now) c.in-Ok.ready.number c.in-Ok.ready.entries.items) put.after.number (listing_of d)) in
-    subst P c.in_default-Ok.is-1 (c.store_both.ensures.ok honest put.after d at h) ∙ is
+    ≡ with_entries (with_entries (g.F.Files.stored c.room-room.new.self) c.in-Ok.ready.number c.in-Ok.ready.entries) put.after.number (listing_of d)) in
+    subst P c.in_default-Ok.is-1 (c.store_both.ensures.ok honest put.after d at h)
+    ∙ ap (λ F. with_entries (with_entries (g.F.Files.stored F) c.in-Ok.ready.number c.in-Ok.ready.entries) put.after.number (listing_of d)) c.room-room.ensures ∙ is
 
 pub take_back_at-requires : goal.take_back_at-requires
 take_back_at-requires g c = (c.args.root.now, (c.copy_at-copy.result, c.in-Ok-put_at.ensures.ok))
 
-pub returns-in_default-Err-clause-err : goal.returns-in_default-Err-clause-err
-returns-in_default-Err-clause-err g c m =
-    let F = g.F.Files.stored c.args.overlay.now in
+-- the files after an error, by whether the first directory is stored
+pub returns-then-stored-clause-err : goal.returns-then-stored-clause-err
+returns-then-stored-clause-err g c m =
+    let F = g.F.Files.stored c.room-room.new.self in
     let G = g.F.Files.stored c.store_both.new.overlay in
-    let first : Stored = with_entries F c.in-Ok.ready.number c.in-Ok.ready.entries.items in
+    let same = ap g.F.Files.stored c.room-room.ensures in
+    let first : Stored = with_entries F c.in-Ok.ready.number c.in-Ok.ready.entries in
     let P : Result (Unit {0}) FilesFault → Type 0 = λ r. OnErr r (G ≡ (if c.store_both.result.0 then first else F)) in
     let told : g.W.World.honest → G ≡ (if c.store_both.result.0 then first else F) = λ honest. subst P c.in_default-Err.is-1 (c.store_both.ensures.err honest) in
     let back = c.take_back_at.ensures c.args.root.now c.copy_at-copy.result c.in-Ok-put_at.ensures.ok in
-    let left = ap (λ j. with_entries F j c.in-Ok.ready.entries.items) (c.in-Ok.ensures.number m.from m.source m.at_from m.holds_source)
-    ∙ ap (with_entries F m.from.number) (c.in-Ok.ensures.entries m.from m.source m.at_from m.holds_source) in
-    elim c.if-stored.branch [
-      | then-stored w ↦ inr (
-        w.root-is ∙ w.mark_at.ensures ∙ ap (edit_row c.args.from.now marked) back ∙ marked_is c.args.root.now c.args.from.now c.args.name.now c.args.to.now c.args.new_name.now m,
-        λ honest. told honest ∙ ap (λ b. if b then first else F) w.if-stored.true ∙ left,
-      )
-      | else-stored w ↦ inl (w.root-is ∙ back, λ honest. told honest ∙ ap (λ b. if b then first else F) w.if-stored.false)
-    ]
+    let left = ap (λ (H : Stored). with_entries H c.in-Ok.ready.number c.in-Ok.ready.entries) same
+    ∙ ap (λ j. with_entries (g.F.Files.stored c.args.overlay.now) j c.in-Ok.ready.entries) (c.in-Ok.ensures.number m.from m.source m.at_from m.holds_source)
+    ∙ ap (with_entries (g.F.Files.stored c.args.overlay.now) m.from.number) (c.in-Ok.ensures.entries m.from m.source m.at_from m.holds_source) in
+    inr (
+      c.mark_at.ensures ∙ ap (edit_row c.args.from.now marked) back ∙ marked_is c.args.root.now c.args.from.now c.args.name.now c.args.to.now c.args.new_name.now m,
+      λ honest. told honest ∙ ap (λ b. if b then first else F) c.if-stored.true ∙ left,
+    )
+
+pub returns-else-stored-clause-err : goal.returns-else-stored-clause-err
+returns-else-stored-clause-err g c m =
+    let F = g.F.Files.stored c.room-room.new.self in
+    let G = g.F.Files.stored c.store_both.new.overlay in
+    let first : Stored = with_entries F c.in-Ok.ready.number c.in-Ok.ready.entries in
+    let P : Result (Unit {0}) FilesFault → Type 0 = λ r. OnErr r (G ≡ (if c.store_both.result.0 then first else F)) in
+    let told : g.W.World.honest → G ≡ (if c.store_both.result.0 then first else F) = λ honest. subst P c.in_default-Err.is-1 (c.store_both.ensures.err honest) in
+    let back = c.take_back_at.ensures c.args.root.now c.copy_at-copy.result c.in-Ok-put_at.ensures.ok in
+    inl (back, λ honest. told honest ∙ ap (λ b. if b then first else F) c.if-stored.false ∙ ap g.F.Files.stored c.room-room.ensures)

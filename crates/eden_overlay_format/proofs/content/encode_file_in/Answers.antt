@@ -2,7 +2,7 @@ use Rattle.std.proofs.Common.{rules, ◌≡◌, ◌++◌, ◌∙◌, ap, replica
 use Rattle.eden_overlay_format.specs.declared.header.Identifier.TheVariants as identifier
 use Rattle.eden_overlay_format.specs.Stored.{body_in}
 use Rattle.eden_overlay_format.proofs.Headers.{written_found, sealed}
-use Rattle.eden_overlay_format.proofs.content.encode_file.Goals as goal
+use Rattle.eden_overlay_format.proofs.content.encode_file_in.Goals as goal
 
 pub returns-clause-bytes : goal.returns-clause-bytes
 returns-clause-bytes c =

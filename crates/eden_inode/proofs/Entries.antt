@@ -15,9 +15,9 @@ use Rattle.eden_tree.specs.Directory.{Row, Directory}
 use Rattle.eden_tie.specs.Listings.{stored_entry}
 use Rattle.eden_tie.specs.Materialising.{marked_entry}
 use Rattle.eden_tie.proofs.CallerLemmas.{rows_without, without_drops}
-use Rattle.eden_materialise.specs.declared.listing.Listed.{Listed}
-use Rattle.eden_materialise.specs.declared.listing.Listed.TheVariants.{Whole, Without, Owned}
-use Rattle.eden_materialise.specs.Listed.{listed_as, origin_as}
+use Rattle.eden_inode.specs.declared.listing.Listed.{Listed}
+use Rattle.eden_inode.specs.declared.listing.Listed.TheVariants.{Whole, Without, Owned}
+use Rattle.eden_inode.specs.Listed.{listed_as, origin_as}
 
 -- an entry as it is stored, where it is
 abbrev pub entry_as : Listed → Name × Row → Option StoredEntry

@@ -9,8 +9,8 @@ use Rattle.eden_tree.specs.Directory.{Directory}
 use Rattle.eden_tie.specs.Listings.{listing_of}
 use Rattle.eden_tie.specs.Changing.{changed}
 use Rattle.eden_tie.specs.Materialising.{marked_listing}
-use Rattle.eden_materialise.specs.declared.listing.Listed.{Listed}
-use Rattle.eden_materialise.specs.declared.listing.Listed.TheVariants.{Whole, Without, Owned}
+use Rattle.eden_inode.specs.declared.listing.Listed.{Listed}
+use Rattle.eden_inode.specs.declared.listing.Listed.TheVariants.{Whole, Without, Owned}
 
 -- the entries of a directory that are stored
 abbrev pub listed_as : Listed → Directory → List StoredEntry

@@ -2,10 +2,10 @@ use Rattle.std.proofs.Common.{◌≡◌, ◌+◌, ◌++◌, suc, List, [], ◌�
 use Rattle.eden_overlay_format.specs.declared.stored_entry.StoredEntry.{StoredEntry}
 use Rattle.eden_overlay_format.specs.Directory.{IsStorable}
 use Rattle.eden_tree.specs.Directory.{Row}
-use Rattle.eden_materialise.specs.Listed.{origin_as}
-use Rattle.eden_materialise.proofs.Entries.{entries_as, one_stored, one_left_out, one_there, all_as, next_can_be, next_has_room}
-use Rattle.eden_materialise.proofs.listing.written.Goals as goal
-use Rattle.eden_materialise.proofs.listing.written.Goals.{in-Some+in-Some-origin_in+in_ok-entries-2, in-Some+in_default-origin_in, in_default}
+use Rattle.eden_inode.specs.Listed.{origin_as}
+use Rattle.eden_inode.proofs.Entries.{entries_as, one_stored, one_left_out, one_there, all_as, next_can_be, next_has_room}
+use Rattle.eden_inode.proofs.listing.write_listing.Goals as goal
+use Rattle.eden_inode.proofs.listing.write_listing.Goals.{in-Some+in-Some-origin_in+in_ok-entries-2, in-Some+in_default-origin_in, in_default}
 
 pub push-requires-clause-storable : goal.push-requires-clause-storable
 push-requires-clause-storable g c =
@@ -55,6 +55,6 @@ loop-i-preserved g c =
       | in_default w ↦ absurd (one_there rows i (omega (arith, c.loop-i-test.true, c.count-i-end.ensures.value)) w.in_default.ensures)
     ]
 
-pub returns : goal.returns
-returns g c =
+pub returns-clause-entries : goal.returns-clause-entries
+returns-clause-entries g c =
     c.loop-i.invariant ∙ all_as c.args.listed c.args.dir.now c.loop-i.i c.count-i-end.ensures.rising (omega (arith, c.loop-i-test.false, c.count-i-end.ensures.value))

@@ -1,0 +1,47 @@
+//! Room that stays between stores.
+
+ghost use Rattle.std.specs.Prelude.{◌≡◌, ◌≤◌, ◌<◌, None, Some, [], IfSome, vec_capacity};
+
+use std::alloc::Global;
+
+/// The most room that stays, in bytes: so one large file doesn't hold memory for good.
+const ROOM_MOST: usize = 1 << 20;
+
+/// The room that a stored file was written in, for the next one, if it isn't too much.
+#[derive(Drop)]
+pub(crate) struct Room {
+    pub(crate) spare: Option<Vec<u8>>,
+}
+
+impl Room {
+    /// None yet.
+    pub(crate) fn new() -> Room
+        ensures { result.spare ≡ None }
+    {
+        Room { spare: None }
+    }
+
+    /// Takes the room out; where there is none, it is new and takes no memory yet.
+    pub(crate) fn take(&mut self, alloc: Global) -> Vec<u8>
+        ensures spare { IfSome self.old.spare (λ room. result ≡ room) }
+        ensures new { self.old.spare ≡ None → result.items ≡ [] }
+        ensures empty { self.new.spare ≡ None }
+    {
+        match self.spare.take() {
+            Some(room) => room,
+            None => Vec::new(alloc),
+        }
+    }
+
+    /// Keeps that room in place of any other, if it isn't too much.
+    pub(crate) fn keep(&mut self, room: Vec<u8>)
+        ensures kept { vec_capacity room ≤ ROOM_MOST → self.new.spare ≡ Some room }
+        ensures too_much { ROOM_MOST < vec_capacity room → self.new.spare ≡ None }
+    {
+        self.spare = if room.capacity() <= ROOM_MOST {
+            Some(room)
+        } else {
+            None
+        };
+    }
+}
