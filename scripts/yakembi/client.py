@@ -37,6 +37,8 @@ LONGEST_DATA = 65_536
 LONGEST_FILE = 1 << 30
 MOST_ENTRIES = 1_000
 GREATEST_NUMBER = (1 << 64) - 1
+# The longest reply, of 65,536 bytes in hexadecimal digits, is received whole.
+BUFFER = 1 << 18
 
 # What stands at a path: a plain file, an executable one, a link, a directory.
 FILE, EXEC, LINK, DIR = "file", "exec", "link", "dir"
@@ -318,7 +320,7 @@ def connect(port: int) -> Session:
     """A session with the `mountd serve` that listens on this port."""
     connection = socket.create_connection(("127.0.0.1", port))
     connection.setsockopt(socket.IPPROTO_TCP, socket.TCP_NODELAY, 1)
-    reader, writer = connection.makefile("rb"), connection.makefile("wb")
+    reader, writer = connection.makefile("rb", BUFFER), connection.makefile("wb")
     return Session(cast(BinaryIO, reader), cast(BinaryIO, writer), connection.close)
 
 

@@ -1,7 +1,8 @@
 """Shows a commit of a Git repository as a folder, through FUSE, without checking it out.
 
 What is read is fetched when it is first read. What is changed is kept in the overlay, a folder from which the next
-mount goes on; without one, changes are gone with the mount. Ctrl-C, SIGTERM and `fusermount3 -u FOLDER` end it.
+mount goes on; without one, changes are gone with the mount. Ctrl-C, SIGTERM and `fusermount3 -u FOLDER` end it. What a
+killed mount left on the folder is unmounted first.
 
 It needs Debian's packages python3-fusepy and fuse3, and mountd, which `make run` builds.
 """
