@@ -6,5 +6,5 @@ use Rattle.eden_model.specs.declared.reply.Reply.TheVariants as say
 use Rattle.eden_model.specs.Requests.{has_payload}
 
 -- the reply that was found; or, where replies are copied, want of memory in the place of one with a payload
-abbrev pub IsTold : Bool → Reply → Reply → Type 0
-IsTold copies found r = (r ≡ found) ⊎ ((copies ≡ true) × (has_payload found ≡ true) × (r ≡ say.Fault fault.Memory))
+abbrev pub Tells : Bool → Reply → Reply → Type 0
+Tells copies found r = (r ≡ found) ⊎ ((copies ≡ true) × (has_payload found ≡ true) × (r ≡ say.Fault fault.Memory))

@@ -6,7 +6,7 @@ pub trait History: Drop {
     ghost use Rattle.std.specs.Prelude.{◌≡◌, ◌+◌, ◌<◌, ◌≤◌, ◌++◌, ◌∷◌, [], ℕ, Bool, List, length, OnOk};
     ghost use Rattle.eden_model.specs.declared.entry.Entry.{Entry};
     ghost use Rattle.eden_model.specs.Histories.{entry};
-    ghost use Rattle.eden_history.specs.Telling.{IsTold};
+    ghost use Rattle.eden_history.specs.Telling.{Tells};
 
     /// The entries.
     ghost entries: { Self → List Entry };
@@ -42,5 +42,5 @@ pub trait History: Drop {
         ensures entries { entries self.new ≡ entries self.old ++ entry pass request result ∷ [] }
         ensures limit { limit self.new ≡ limit self.old }
         ensures room { room self.new ≡ room self.old }
-        ensures told { IsTold copies found result };
+        ensures told { Tells copies found result };
 }
