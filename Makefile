@@ -7,7 +7,6 @@ PREFIX ?= /usr/local
 BIN = $(DESTDIR)$(PREFIX)/bin
 LIB = $(DESTDIR)$(PREFIX)/lib/yakembi
 COMMANDS := mount-git git-objects objects-from-git eden-shell
-MODULES := eden_client.py git_source.py mount_operations.py mount_pool.py overlay_folder.py
 
 .PHONY: help try run check test wrong-bodies soak bench fmt install uninstall
 
@@ -61,9 +60,9 @@ fmt: ## lays out every source and proof file
 
 install: ## puts mountd, which make run builds, and the commands for Git below PREFIX=DIR, or /usr/local
 	@test -x crates/mountd/out/mountd || { echo "install: mountd isn't built yet: make run" >&2; exit 1; }
-	install -d "$(BIN)" "$(LIB)"
+	install -d "$(BIN)" "$(LIB)/yakembi"
 	install crates/mountd/out/mountd "$(BIN)"
-	cd scripts && install $(COMMANDS) "$(LIB)" && install -m 644 $(MODULES) "$(LIB)"
+	cd scripts && install $(COMMANDS) "$(LIB)" && install -m 644 yakembi/*.py "$(LIB)/yakembi"
 	for command in $(COMMANDS); do ln -sf "../lib/yakembi/$$command" "$(BIN)/$$command"; done
 
 uninstall: ## takes away what make install put below PREFIX=DIR

@@ -1,15 +1,18 @@
-"""The crates of this repository: what each stands on, in which order they are proved, and what tells that one changed."""
+"""The crates of this repository: what each stands on, in which order they are proved, and whether one changed."""
 
 import functools
 import hashlib
 import pathlib
 import subprocess
+from collections.abc import Iterable
 
 TOP = pathlib.Path(__file__).resolve().parent.parent
 READ = ("src", "specs", "proofs")
+# Each crate, and the crates of the repository that it stands on.
+Below = dict[str, list[str]]
 
 
-def rows():
+def rows() -> dict[str, tuple[list[str], list[str]]]:
     """Each crate of crates.txt, and its row: the words before the colon, and the libraries behind it."""
     found = {}
     for line in (TOP / "crates.txt").read_text().splitlines():
@@ -19,31 +22,30 @@ def rows():
     return found
 
 
-def write_rows(folder, names):
+def write_rows(folder: pathlib.Path, names: Iterable[str]) -> None:
     """Writes the rows of these crates into a crates.txt of the folder's own."""
     lines = [f"{' '.join(head)}: {' '.join(below)}\n" for name, (head, below) in rows().items() if name in names]
     (folder / "crates.txt").write_text("".join(lines))
 
 
-def dependencies():
-    """Each crate, and the crates of the repository that it stands on."""
+def dependencies() -> Below:
     found = rows()
     return {name: [other for other in below if other in found] for name, (_, below) in found.items()}
 
 
-def is_library(name):
+def is_library(name: str) -> bool:
     return (TOP / "crates" / name / "src/lib.rt").is_file()
 
 
-def has_tests(name):
+def has_tests(name: str) -> bool:
     return any("#[test]" in path.read_text() for path in (TOP / "crates" / name / "src").rglob("*.rt"))
 
 
-def in_order(below):
+def in_order(below: Below) -> list[str]:
     """The crates, each behind those that it stands on."""
-    order = []
+    order: list[str] = []
 
-    def visit(name):
+    def visit(name: str) -> None:
         if name not in order:
             for other in below[name]:
                 visit(other)
@@ -54,9 +56,10 @@ def in_order(below):
     return order
 
 
-def with_those_below(below, names):
+def with_those_below(below: Below, names: Iterable[str]) -> set[str]:
     """The named crates and all that they stand on."""
-    met, waiting = set(), list(names)
+    met: set[str] = set()
+    waiting = list(names)
     while waiting:
         name = waiting.pop()
         if name not in met:
@@ -66,36 +69,37 @@ def with_those_below(below, names):
 
 
 class Marks:
-    """What passed here already: in each crate's out/ a digest of all that it is made from, under a word for what passed."""
+    """What passed here already: in each crate's out/ a digest of all that it is made from, under a word for it."""
 
-    def __init__(self, word, below, names):
+    def __init__(self, word: str, below: Below, names: Iterable[str]) -> None:
         chosen = with_those_below(below, names)
-        self.word, self.digests = word, {}
+        self.word = word
+        self.digests: dict[str, str] = {}
         for name in in_order(below):
             if name in chosen:
                 self.digests[name] = digest_of(name, [self.digests[other] for other in below[name]])
 
-    def place(self, name):
+    def place(self, name: str) -> pathlib.Path:
         return TOP / "crates" / name / "out" / self.word
 
-    def is_set(self, name):
+    def is_set(self, name: str) -> bool:
         is_there = not is_library(name) or (TOP / "crates" / name / "out/rlib").is_dir()
         return is_there and self.place(name).is_file() and self.place(name).read_text() == self.digests[name]
 
-    def left(self):
+    def left(self) -> list[str]:
         """The crates that haven't passed, each behind those that it stands on."""
         return [name for name in self.digests if not self.is_set(name)]
 
-    def set(self, name):
+    def set(self, name: str) -> None:
         self.place(name).write_text(self.digests[name])
 
 
 @functools.cache
-def toolchain():
+def toolchain() -> bytes:
     return subprocess.run(["rt", "version"], capture_output=True, check=True).stdout
 
 
-def digest_of(name, digests):
+def digest_of(name: str, digests: Iterable[str]) -> str:
     """A digest of the toolchain, the crate's row and its files, and the digests of those that it stands on."""
     digest = hashlib.sha1(toolchain())
     digest.update(repr(rows()[name]).encode())

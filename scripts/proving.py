@@ -10,13 +10,16 @@ import contextlib
 import dataclasses
 import fcntl
 import os
+import pathlib
 import shutil
 import signal
 import subprocess
 import sys
 import time
+from collections.abc import Callable, Iterable, Iterator
+from concurrent.futures import Future, ThreadPoolExecutor
 
-from crates import READ, TOP, with_those_below, write_rows
+from crates import READ, TOP, Below, with_those_below, write_rows
 
 # What a check was seen to take at most, with one job and for each further one (docs/GATE.md).
 FIRST_JOB = 1_500_000_000
@@ -24,7 +27,7 @@ NEXT_JOB = 800_000_000
 MOST_JOBS = 4
 
 
-def tell(text):
+def tell(text: str) -> None:
     print(text, file=sys.stderr, flush=True)
 
 
@@ -32,7 +35,7 @@ def tell(text):
 
 
 @contextlib.contextmanager
-def locked(crate):
+def locked(crate: pathlib.Path) -> Iterator[int]:
     """Keeps `rt` and other rooms out of a crate's folder meanwhile."""
     folder = os.open(crate, os.O_RDONLY)
     try:
@@ -42,12 +45,12 @@ def locked(crate):
         os.close(folder)
 
 
-def link_tree(source, target):
+def link_tree(source: pathlib.Path, target: pathlib.Path) -> None:
     if source.is_dir():
         shutil.copytree(source, target, copy_function=os.link)
 
 
-def move_all(source, target):
+def move_all(source: pathlib.Path, target: pathlib.Path) -> None:
     """Moves what stands in a folder into another, in the place of what has its name there."""
     for path in list(source.iterdir()):
         there = target / path.name
@@ -56,7 +59,7 @@ def move_all(source, target):
         path.rename(there)
 
 
-def leave(room, out):
+def leave(room: pathlib.Path, out: pathlib.Path) -> None:
     """Gives back what a room holds of its crate's out/, also after a run that was killed."""
     made = room / "crates" / out.parent.name / "out"
     if made.is_dir():
@@ -65,7 +68,7 @@ def leave(room, out):
         shutil.rmtree(room)
 
 
-def furnish(room, name, below):
+def furnish(room: pathlib.Path, name: str, below: Iterable[str]) -> None:
     """The crate's sources and what earlier runs kept, and the sources and libraries of those below."""
     for other in {name, *below}:
         for part in READ:
@@ -78,7 +81,7 @@ def furnish(room, name, below):
 
 
 @contextlib.contextmanager
-def room_of(name, below):
+def room_of(name: str, below: Iterable[str]) -> Iterator[tuple[pathlib.Path, int]]:
     """A crate's folder in a room of its own, and the lock that keeps others out as long as somebody has it."""
     out = TOP / "crates" / name / "out"
     room = out / "room"
@@ -92,7 +95,10 @@ def room_of(name, below):
             made.mkdir()
             for path in kept:
                 # Programs stay where they are too: a mount may start one meanwhile.
-                path.rename(made / path.name) if path.is_dir() else shutil.copy2(path, made)
+                if path.is_dir():
+                    path.rename(made / path.name)
+                else:
+                    shutil.copy2(path, made)
             yield made.parent, lock
         finally:
             leave(room, out)
@@ -106,58 +112,73 @@ class Task:
     """A command for a crate, once the tasks that it waits for have passed."""
 
     crate: str
-    command: list
-    waits: list
-    passed: object
+    command: list[str]
+    waits: list[str]
+    passed: Callable[[], object]
 
 
-def weight_of(crate):
-    """What a crate's proof takes, told by the length of its code: some six seconds of a processor for each 1,000 bytes,
-    twice that in the highest crates."""
+# Whether a task's command passed, what it said, and its seconds.
+Ended = tuple[bool, bytes, float]
+
+
+def library_tasks(left: list[str], below: Below, mark: Callable[[str], object]) -> dict[str, Task]:
+    """The proof of each of these libraries, once those below it are proved; `mark` is told the name of each."""
+    def task(name: str) -> Task:
+        return Task(name, ["lib"], [other for other in below[name] if other in left], lambda: mark(name))
+
+    return {name: task(name) for name in left}
+
+
+def weight_of(crate: str) -> int:
+    """What a crate's proof takes, told by the length of its code: some six seconds of a processor for each 1,000
+    bytes, twice that in the highest crates."""
     return sum(path.stat().st_size for path in (TOP / "crates" / crate / "src").rglob("*.rt"))
 
 
-def processors():
+def processors() -> int:
     return len(os.sched_getaffinity(0))
 
 
-def half_of_the_memory():
+def half_of_the_memory() -> int:
     with open("/proc/meminfo") as lines:
         return next(1024 * int(line.split()[1]) for line in lines if line.startswith("MemTotal:")) // 2
 
 
 class Lanes:
-    """Tasks that run side by side, those with the longest chain of others behind them first. `tasks` has each by its name,
-    behind those that it waits for."""
+    """Tasks that run side by side, those with the longest chain of others behind them first. `tasks` has each by its
+    name, behind those that it waits for."""
 
-    def __init__(self, tasks, below):
+    def __init__(self, tasks: dict[str, Task], below: Below) -> None:
         self.tasks, self.below = tasks, below
         self.chains = self.found_chains()
-        self.left = sorted(tasks, key=self.chains.get, reverse=True)
+        self.left = sorted(tasks, key=lambda name: self.chains[name], reverse=True)
         self.memory = half_of_the_memory()
         # A check of several jobs uses half of them in the mean: the rest wait for its longest function.
         self.lanes = processors() * 3 // 2
-        self.running, self.processes, self.ended, self.is_over = {}, set(), set(), False
+        self.running: dict[Future[Ended], tuple[str, int]] = {}
+        self.processes: set[subprocess.Popen[bytes]] = set()
+        self.ended: set[str] = set()
+        self.is_over = False
 
-    def found_chains(self):
+    def found_chains(self) -> dict[str, int]:
         """Of each task what it takes, and what the longest chain of those that wait for it takes."""
-        found = {}
+        found: dict[str, int] = {}
         for name in reversed(list(self.tasks)):
             behind = [found[other] for other in found if name in self.tasks[other].waits]
             found[name] = weight_of(self.tasks[name].crate) + max(behind, default=0)
         return found
 
-    def ready(self):
+    def ready(self) -> list[str]:
         busy = {self.tasks[name].crate for name, _ in self.running.values()}
         return [name for name in self.left
                 if self.ended.issuperset(self.tasks[name].waits) and self.tasks[name].crate not in busy]
 
-    def is_head(self, name):
+    def is_head(self, name: str) -> bool:
         return all(self.chains[name] > self.chains[other] for other, _ in self.running.values())
 
-    def jobs_for(self, name, waiting):
-        """How many jobs the first of those that wait gets: what lanes and memory are left, but for one job of each other.
-        The head of the longest chain, for which all wait at last, gets the most that it can use."""
+    def jobs_for(self, name: str, waiting: int) -> int:
+        """How many jobs the first of those that wait gets: what lanes and memory are left, but for one job of each
+        other. The head of the longest chain, for which all wait at last, gets the most that it can use."""
         idle = self.lanes - sum(jobs for _, jobs in self.running.values())
         taken = sum(FIRST_JOB + NEXT_JOB * (jobs - 1) for _, jobs in self.running.values())
         fitting = 1 + (self.memory - taken - FIRST_JOB) // NEXT_JOB
@@ -166,7 +187,7 @@ class Lanes:
         wanted = MOST_JOBS if self.is_head(name) else min(MOST_JOBS, idle - (waiting - 1))
         return max(1, min(wanted, self.lanes, fitting))
 
-    def start(self, pool):
+    def start(self, pool: ThreadPoolExecutor) -> None:
         while waiting := self.ready():
             first = waiting[0]
             jobs = self.jobs_for(first, len(waiting))
@@ -175,8 +196,7 @@ class Lanes:
             self.left.remove(first)
             self.running[pool.submit(self.run, self.tasks[first], jobs)] = first, jobs
 
-    def run(self, task, jobs):
-        """Whether the command passed, what it said, and its seconds."""
+    def run(self, task: Task, jobs: int) -> Ended:
         began = time.monotonic()
         verb, *rest = task.command
         below = with_those_below(self.below, self.below[task.crate])
@@ -193,13 +213,13 @@ class Lanes:
             self.processes.remove(process)
         return process.returncode == 0, said, time.monotonic() - began
 
-    def stop(self):
+    def stop(self) -> None:
         self.is_over = True
         for process in list(self.processes):
             with contextlib.suppress(ProcessLookupError):
                 os.killpg(process.pid, signal.SIGTERM)
 
-    def end(self, future):
+    def end(self, future: Future[Ended]) -> None:
         """Tells of a task that ended; where it failed, no other goes on."""
         name, _ = self.running.pop(future)
         is_well, said, seconds = future.result()
@@ -215,8 +235,8 @@ class Lanes:
         left = len(self.left) + len(self.running)
         tell(f"  {name}: passed in {seconds:.0f} s" + (f", {left} left" if left else ""))
 
-    def all_pass(self):
-        with concurrent.futures.ThreadPoolExecutor(self.lanes) as pool:
+    def all_pass(self) -> bool:
+        with ThreadPoolExecutor(self.lanes) as pool:
             try:
                 while (self.left and not self.is_over) or self.running:
                     if not self.is_over:

@@ -1,101 +1,50 @@
-"""What the end-to-end scripts share: counted checks, Git without the user's settings, and a repository with everything."""
+"""What the end-to-end scripts share: counted checks, and a repository with everything.
 
-import contextlib
+Programs that may hang are `helpers.running`'s, and Git is `helpers.git`'s; tests find both here too.
+"""
+
 import os
-import subprocess
+import pathlib
 import sys
-import threading
 
-import protocol  # so that what scripts share can be imported
-from bench_git import git
+import paths  # before what stands in scripts/
+from helpers import running
+from helpers.git import git
+from helpers.running import PATIENCE, STILL_RUNNING, ending_of, finished, status_of, watched
 
-# How many seconds anything that is waited for may take: what hangs is found, and a machine whose disk stands still for a
-# while passes.
-PATIENCE = 120
-STILL_RUNNING = "still running"
+__all__ = ["PATIENCE", "STILL_RUNNING", "check", "closing_line", "ending_of", "finished", "git", "make_repository", "skip",
+           "status_of", "watched", "whole_tree"]
+
 # After so many programs that hang a script ends: there may be thousands of runs left.
 MOST_HUNG = 3
 
 passed = 0
 failed = 0
 skipped = 0
-hung = 0
 
 
-def check(name, got, wanted):
+def check(name: str, got: object, wanted: object) -> None:
     global passed, failed
     if got == wanted:
         passed += 1
         return
     failed += 1
     print(f"FAILED {name}: got {got!r:.300}, wanted {wanted!r:.300}", flush=True)
-    if hung >= MOST_HUNG:
-        sys.exit(closing_line(f"given up, since {hung} programs hung"))
+    if running.hung >= MOST_HUNG:
+        sys.exit(closing_line(f"given up, since {running.hung} programs hung"))
 
 
-def skip(name, why):
+def skip(name: str, why: str) -> None:
     """Says plainly what isn't checked on this machine, and counts it."""
     global skipped
     skipped += 1
     print(f"SKIPPED {name}: {why}")
 
 
-# ---- programs, which may hang
-
-
-def finished(words, **more):
-    """A program's run to its end. One that has none is killed, and its status says so; `more` is `subprocess.run`'s."""
-    global hung
-    words = [str(word) for word in words]
-    try:
-        return subprocess.run(words, **more, timeout=PATIENCE)
-    except subprocess.TimeoutExpired as late:
-        hung += 1
-        return subprocess.CompletedProcess(words, STILL_RUNNING, late.stdout or b"", late.stderr or b"")
-
-
-def kill_hung(process):
-    global hung
-    hung += 1
-    process.kill()
-
-
-def status_of(process):
-    """The status of a process that is to end by itself, whose output nobody wants."""
-    try:
-        return process.wait(PATIENCE)
-    except subprocess.TimeoutExpired:
-        kill_hung(process)
-        process.wait()
-        return STILL_RUNNING
-
-
-def ending_of(process):
-    """Status, output and errors of a process that is to end by itself."""
-    try:
-        output, errors = process.communicate(timeout=PATIENCE)
-    except subprocess.TimeoutExpired:
-        kill_hung(process)
-        return STILL_RUNNING, *process.communicate()
-    return process.returncode, output, errors
-
-
-@contextlib.contextmanager
-def watched(process):
-    """A process that is killed where the block takes too long, so that who waits for a line of it is told its end."""
-    alarm = threading.Timer(PATIENCE, kill_hung, [process])
-    alarm.daemon = True
-    alarm.start()
-    try:
-        yield process
-    finally:
-        alarm.cancel()
-
-
 # ---- Git
 
 
-def make_repository(folder):
+def make_repository(folder: pathlib.Path) -> pathlib.Path:
     """A repository with one of everything that a checkout can hold."""
     inner = folder / "inner"
     inner.mkdir()
@@ -136,7 +85,7 @@ def make_repository(folder):
     return outer
 
 
-def whole_tree(repository):
+def whole_tree(repository: pathlib.Path) -> dict[bytes, tuple[bytes, str]]:
     """Each path of the commit: its mode and its object's id."""
     rows = {}
     for row in git(repository, "ls-tree", "-rtz", "HEAD", text=False).split(b"\0")[:-1]:
@@ -146,7 +95,7 @@ def whole_tree(repository):
     return rows
 
 
-def closing_line(*more):
+def closing_line(*more: str) -> int:
     """Prints 'N passed, M failed' and what else is counted, and gives the status."""
     print(", ".join([f"{passed} passed", f"{failed} failed", *more]))
     return 1 if failed else 0

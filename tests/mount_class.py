@@ -15,11 +15,12 @@ from folder_operations import FileSystem, Folder, compare, shown
 from mount_folder import checkout
 from programs import GIT_OBJECTS, MOUNTD, SAMPLE_OBJECTS, SAMPLE_ROOT, listening
 
-import eden_client
-from bench_git import DEEP, content_of, make_large_repository
-from mount_operations import UTIME_NOW, UTIME_OMIT, Mount, MountOperations, Times
-from mount_pool import Pool, Serving
-from overlay_folder import OverlayFolder
+from helpers.git import DEEP, content_of, make_large_repository
+from yakembi import client
+from yakembi.operations import UTIME_NOW, UTIME_OMIT, Mount, MountOperations
+from yakembi.overlay import OverlayFolder
+from yakembi.pool import Pool, Serving
+from yakembi.times import Times
 
 USERS = 8
 TURNS = 25
@@ -164,7 +165,7 @@ REFUSED = [
 def check_client(folder):
     """What can't be spelled is never sent, what is refused has its number, and long reads and listings come whole."""
     words = [MOUNTD, "stdio", "--root", SAMPLE_ROOT, "--objects", SAMPLE_OBJECTS]
-    with eden_client.start([str(word) for word in words]) as session:
+    with client.start([str(word) for word in words]) as session:
         for name, word, fields, error in UNSPOKEN:
             moved = session.moved
             told = refused(getattr(session, word), *fields)
@@ -173,7 +174,7 @@ def check_client(folder):
             check(f"client: {name}", refused(getattr(session, word), *fields), error)
         check_client_data(session)
         session.exchange(b"no request\n")
-        with contextlib.suppress(eden_client.SessionEnded):
+        with contextlib.suppress(client.SessionEnded):
             check("client: a session that is over", session.kind(b"/"), "no answer")
         check("client: the child's end", session.close(), 0)
 

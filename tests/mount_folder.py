@@ -14,11 +14,9 @@ import threading
 import time
 
 from checks import PATIENCE, check, git, make_repository, skip
-from programs import MOUNTD, TOP
+from helpers.git import environment
+from programs import MOUNT_GIT, MOUNTD
 
-from bench_git import environment
-
-MOUNT_GIT = TOP / "scripts/mount-git"
 LONGEST_MOUNT = 280
 UNMOUNT = shutil.which("fusermount3") or shutil.which("fusermount")
 NUMBERS = itertools.count()

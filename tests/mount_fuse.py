@@ -14,9 +14,8 @@ import zlib
 from checks import PATIENCE, check, git, make_repository
 from folder_operations import Folder, compare, outcome, shown
 from mount_class import asked_for, refused
-from mount_folder import (BUILDS, CHANGES, COPIES, ENDINGS, LOOKS, MOUNT_GIT, Both, Mount, checkout,
-                          children, said_by)
-from programs import MOUNTD
+from mount_folder import BUILDS, CHANGES, COPIES, ENDINGS, LOOKS, Both, Mount, checkout, children, said_by
+from programs import MOUNT_GIT, MOUNTD
 
 
 # ---- tools

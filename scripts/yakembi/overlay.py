@@ -10,6 +10,7 @@ import fcntl
 import os
 import re
 import struct
+from collections.abc import Iterator
 
 NOTE = "mount-git"
 NOTE_LINE = re.compile(r"([0-9a-f]{40}) ([0-9]+)\n")
@@ -33,7 +34,7 @@ class InUse(Exception):
 class OverlayFolder:
     """The folder, made where it isn't there, and held until `close`."""
 
-    def __init__(self, path):
+    def __init__(self, path: str | os.PathLike[str]) -> None:
         os.makedirs(path, exist_ok=True)
         self.path = os.path.abspath(path)
         self.note = open(os.path.join(self.path, NOTE), "a+")
@@ -43,29 +44,29 @@ class OverlayFolder:
             self.note.close()
             raise InUse from None
 
-    def close(self):
+    def close(self) -> None:
         self.note.close()
 
-    def is_fresh(self):
+    def is_fresh(self) -> bool:
         return not any(NUMBERED.fullmatch(name) for name in os.listdir(self.path))
 
-    def noted(self):
+    def noted(self) -> tuple[str, int] | None:
         """The tree that the overlay stands on and its commit's time, as we wrote them down; None where we didn't."""
         self.note.seek(0)
         line = NOTE_LINE.fullmatch(self.note.read())
-        return line and (line[1], int(line[2]))
+        return (line[1], int(line[2])) if line else None
 
-    def write_note(self, root, seconds):
+    def write_note(self, root: str, seconds: int) -> None:
         self.note.truncate(0)
         self.note.write(f"{root} {seconds}\n")
         self.note.flush()
 
-    def state_root(self):
+    def state_root(self) -> str | None:
         """The tree that file 0 names, which a clean close leaves; None where there is none."""
         data = self.file(STATE)
         return data[HEADER : HEADER + ID].hex() if len(data) > HEADER + ID and data.startswith(FILE_HEADS) else None
 
-    def file(self, name):
+    def file(self, name: str | int) -> bytes:
         """A file's bytes; none where it can't be read, since it is mountd that tells what is wrong with an overlay."""
         try:
             with open(os.path.join(self.path, str(name)), "rb") as file:
@@ -73,7 +74,7 @@ class OverlayFolder:
         except OSError:
             return b""
 
-    def changed(self):
+    def changed(self) -> Iterator[tuple[bytes, int]]:
         """Rows of path and time, in nanoseconds, of what was changed: when its file was last stored.
 
         A folder is stored too when something in it is changed first; the rows don't tell that from a change of its own.
@@ -89,7 +90,7 @@ class OverlayFolder:
                 if kind == FOLDER:
                     folders.append((below + b"/", own))
 
-    def stored(self, number):
+    def stored(self, number: int) -> int:
         """When a file was last stored; 0 where it isn't there."""
         try:
             return os.stat(os.path.join(self.path, str(number))).st_mtime_ns
@@ -97,7 +98,7 @@ class OverlayFolder:
             return 0
 
 
-def entries(data):
+def entries(data: bytes) -> Iterator[tuple[bytes, int, int]]:
     """Name, kind and number of each own entry of a directory's file, up to what is cut or damaged."""
     if not data.startswith(DIRECTORY_HEADS):
         return

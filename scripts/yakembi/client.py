@@ -1,8 +1,8 @@
 """The line protocol of `mountd`, as a program speaks it that uses a mount.
 
-    import eden_client
+    from yakembi import client
 
-    with eden_client.connect(4711) as session:        # the port that `mountd serve` told
+    with client.connect(4711) as session:        # the port that `mountd serve` told
         session.write(b"/src/new.txt", 0, b"text")
         for name, kind in session.entries(b"/src"):
             print(name, kind)
@@ -17,12 +17,14 @@ or told what is no reply: then nobody knows whether a change that was asked for 
 use.
 """
 
-import collections
+import abc
 import errno
 import os
 import re
 import socket
 import subprocess
+from collections.abc import Callable, Iterator, Sequence
+from typing import Any, BinaryIO, NamedTuple, Self, cast
 from urllib.parse import unquote_to_bytes
 
 LONGEST_NAME = 255
@@ -37,14 +39,27 @@ GREATEST_NUMBER = (1 << 64) - 1
 # What stands at a path: a plain file, an executable one, a link, a directory.
 FILE, EXEC, LINK, DIR = "file", "exec", "link", "dir"
 
-Stat = collections.namedtuple("Stat", "kind size")
-Page = collections.namedtuple("Page", "entries more")
+# The names of a path, from the top down; what stands in a reply behind its first word.
+Names = Sequence[bytes]
+Fields = list[bytes]
+
+
+class Stat(NamedTuple):
+    kind: str
+    size: int
+
+
+class Page(NamedTuple):
+    """Rows of a name and its kind, and whether more come behind them."""
+
+    entries: list[tuple[bytes, str]]
+    more: bool
 
 
 class Fault(Exception):
     """What the mount couldn't do, in its own words: `fetch ID CAUSE`, `memory`, `overlay`, `numbers`, `history N`."""
 
-    def __init__(self, words):
+    def __init__(self, words: list[str]) -> None:
         super().__init__(" ".join(words))
         self.words = words
 
@@ -53,7 +68,7 @@ class SessionEnded(Exception):
     """The session is over, though its user hadn't closed it."""
 
 
-def refusal(number):
+def refusal(number: int) -> OSError:
     return OSError(number, os.strerror(number))
 
 
@@ -62,20 +77,20 @@ def refusal(number):
 ESCAPED = re.compile(rb"[^A-Za-z0-9._]")
 
 
-def name_text(name):
+def name_text(name: bytes) -> bytes:
     return ESCAPED.sub(lambda byte: b"%%%02X" % ord(byte.group()), name)
 
 
-def path_text(names):
+def path_text(names: Names) -> bytes:
     """The text of a path, which is given as its names."""
     return b"".join(b"/" + name_text(name) for name in names) or b"/"
 
 
-def data_text(data):
+def data_text(data: bytes) -> bytes:
     return data.hex().encode() or b"-"
 
 
-def checked_name(name):
+def checked_name(name: bytes) -> bytes:
     """The name, or the refusal that the mount would give."""
     if name in (b"", b".", b"..") or b"/" in name or b"\0" in name:
         raise refusal(errno.EINVAL)
@@ -84,7 +99,7 @@ def checked_name(name):
     return name
 
 
-def names_of(path):
+def names_of(path: bytes) -> tuple[bytes, ...]:
     """The names of a path, or its refusal."""
     if path == b"/":
         return ()
@@ -96,11 +111,11 @@ def names_of(path):
     return names
 
 
-def path_field(path):
+def path_field(path: bytes) -> bytes:
     return path_text(names_of(path))
 
 
-def number_field(number):
+def number_field(number: int) -> bytes:
     if not 0 <= number <= GREATEST_NUMBER:
         raise refusal(errno.EINVAL)
     return b"%d" % number
@@ -109,28 +124,28 @@ def number_field(number):
 # ---- requests
 
 
-class Requests:
+class Requests(abc.ABC):
     """The fourteen requests, over an `ask` that sends the fields of one line.
 
     The reply to it begins with the word `head`; `ask` gives the fields behind that, or raises what else was told.
     """
 
-    def ask(self, head, *fields):
-        raise NotImplementedError
+    @abc.abstractmethod
+    def ask(self, head: bytes, *fields: bytes) -> Fields: ...
 
-    def kind(self, path):
+    def kind(self, path: bytes) -> str:
         """FILE, EXEC, LINK or DIR."""
         return self.ask(b"kind", b"kind", path_field(path))[0].decode()
 
-    def stat(self, path):
+    def stat(self, path: bytes) -> Stat:
         """The kind, and the length of a file or of a link's target; 0 for a directory."""
         kind, size = self.ask(b"stat", b"stat", path_field(path))
         return Stat(kind.decode(), int(size))
 
-    def data(self, *fields):
+    def data(self, *fields: bytes) -> bytes:
         return bytes.fromhex(b"".join(self.ask(b"data", *fields)[1:]).decode())
 
-    def read(self, path, offset, length):
+    def read(self, path: bytes, offset: int, length: int) -> bytes:
         """At most `length` bytes from the offset on, in requests of at most LONGEST_DATA bytes."""
         content = bytearray()
         while True:
@@ -140,25 +155,26 @@ class Requests:
             if len(content) == length or len(piece) < wanted:
                 return bytes(content)
 
-    def readlink(self, path):
+    def readlink(self, path: bytes) -> bytes:
         return self.data(b"readlink", path_field(path))
 
-    def list(self, path, after=None, limit=MOST_ENTRIES):
-        """A page of a directory, rows of name and kind in byte order, and whether more come behind it."""
+    def list(self, path: bytes, after: bytes | None = None, limit: int = MOST_ENTRIES) -> Page:
+        """A page of a directory, in byte order."""
         last = b"-" if after is None else name_text(checked_name(after))
         fields = self.ask(b"entries", b"list", path_field(path), last, number_field(limit))
         rows = [(unquote_to_bytes(name), kind.decode()) for kind, name in zip(fields[1:-1:2], fields[2:-1:2])]
         return Page(rows, fields[-1] == b"more")
 
-    def entries(self, path):
+    def entries(self, path: bytes) -> Iterator[tuple[bytes, str]]:
         """All rows of a directory, a page after another."""
-        after, more = None, True
+        after: bytes | None = None
+        more = True
         while more:
             rows, more = self.list(path, after)
             yield from rows
             after = rows[-1][0] if rows else None
 
-    def write(self, path, offset, data):
+    def write(self, path: bytes, offset: int, data: bytes) -> int:
         """Writes at the offset, in requests of at most LONGEST_DATA bytes; those before one that is refused stay."""
         written = 0
         while True:
@@ -168,35 +184,35 @@ class Requests:
             if written >= len(data):
                 return written
 
-    def change(self, *fields):
+    def change(self, *fields: bytes) -> None:
         self.ask(b"ok", *fields)
 
-    def truncate(self, path, size):
+    def truncate(self, path: bytes, size: int) -> None:
         self.change(b"truncate", path_field(path), number_field(size))
 
-    def create(self, path):
+    def create(self, path: bytes) -> None:
         self.change(b"create", path_field(path))
 
-    def setexec(self, path, executable):
+    def setexec(self, path: bytes, executable: bool) -> None:
         self.change(b"setexec", path_field(path), b"1" if executable else b"0")
 
-    def mkdir(self, path):
+    def mkdir(self, path: bytes) -> None:
         self.change(b"mkdir", path_field(path))
 
-    def symlink(self, path, target):
+    def symlink(self, path: bytes, target: bytes) -> None:
         """Makes a link at the path, whose target is 1 to LONGEST_TARGET bytes."""
         field = path_field(path)
         if len(target) > LONGEST_TARGET:
             raise refusal(errno.ENAMETOOLONG)
         self.change(b"symlink", field, data_text(target))
 
-    def unlink(self, path):
+    def unlink(self, path: bytes) -> None:
         self.change(b"unlink", path_field(path))
 
-    def rmdir(self, path):
+    def rmdir(self, path: bytes) -> None:
         self.change(b"rmdir", path_field(path))
 
-    def rename(self, source, target):
+    def rename(self, source: bytes, target: bytes) -> None:
         self.change(b"rename", path_field(source), path_field(target))
 
 
@@ -206,20 +222,20 @@ class Requests:
 class Session(Requests):
     """One session, for one user at a time. `moved` counts the bytes of its lines and replies."""
 
-    def __init__(self, reader, writer, end):
+    def __init__(self, reader: BinaryIO, writer: BinaryIO, end: Callable[[], int | None]) -> None:
         self.reader = reader
         self.writer = writer
         self.end = end
         self.usable = True
         self.moved = 0
 
-    def __enter__(self):
+    def __enter__(self) -> Self:
         return self
 
-    def __exit__(self, *_):
+    def __exit__(self, *_: object) -> None:
         self.close()
 
-    def ask(self, head, *fields):
+    def ask(self, head: bytes, *fields: bytes) -> Fields:
         word, *rest = self.exchange(b" ".join(fields) + b"\n").split(b" ")
         if word == b"err":
             raise refusal(int(rest[0]))
@@ -230,7 +246,7 @@ class Session(Requests):
             raise SessionEnded(f"{word!r:.60} was told, which is no reply to {fields[0].decode()}")
         return rest
 
-    def exchange(self, line):
+    def exchange(self, line: bytes) -> bytes:
         """Sends a line, and gives its reply. Whatever stops it in between, an interrupt too, ends the session."""
         if not self.usable:
             raise SessionEnded("the session had ended before")
@@ -247,7 +263,7 @@ class Session(Requests):
         self.moved += len(line) + len(reply)
         return reply[:-1]
 
-    def close(self):
+    def close(self) -> int | None:
         """Ends the session; the status of a child that stood behind it."""
         self.usable = False
         for stream in (self.writer, self.reader):
@@ -258,14 +274,16 @@ class Session(Requests):
         return self.end()
 
 
-def connect(port):
+def connect(port: int) -> Session:
     """A session with the `mountd serve` that listens on this port."""
     connection = socket.create_connection(("127.0.0.1", port))
     connection.setsockopt(socket.IPPROTO_TCP, socket.TCP_NODELAY, 1)
-    return Session(connection.makefile("rb"), connection.makefile("wb"), connection.close)
+    reader, writer = connection.makefile("rb"), connection.makefile("wb")
+    return Session(cast(BinaryIO, reader), cast(BinaryIO, writer), connection.close)
 
 
-def start(words, **more):
+def start(words: Sequence[str], **more: Any) -> Session:
     """A session with a child, as `mountd stdio`; `more` goes to `subprocess.Popen`. `close` waits for its end."""
     child = subprocess.Popen(words, stdin=subprocess.PIPE, stdout=subprocess.PIPE, **more)
-    return Session(child.stdout, child.stdin, child.wait)
+    assert child.stdout is not None and child.stdin is not None
+    return Session(cast(BinaryIO, child.stdout), cast(BinaryIO, child.stdin), child.wait)

@@ -1,9 +1,11 @@
 """Git for measurements and tests, free of the user's own settings, and a large repository."""
 
 import os
+import pathlib
 import subprocess
+from typing import Literal, overload
 
-import git_source
+import yakembi.git
 
 SETTINGS = ["-c", "user.name=Bench", "-c", "user.email=bench@example.org", "-c", "init.defaultBranch=main",
             "-c", "protocol.file.allow=always", "-c", "advice.detachedHead=false"]
@@ -13,24 +15,32 @@ FOLDERS_IN_A_FOLDER = 25
 DEEP = "d17/e17/f/g/h/deep"
 
 
-def environment():
+def environment() -> dict[str, str]:
     """Without the caller's GIT_*, which in a hook name the repository that is worked in, and without settings."""
-    return {**git_source.environment(), "GIT_CONFIG_GLOBAL": os.devnull, "GIT_CONFIG_SYSTEM": os.devnull}
+    return {**yakembi.git.environment(), "GIT_CONFIG_GLOBAL": os.devnull, "GIT_CONFIG_SYSTEM": os.devnull}
 
 
-def git(repository, *words, data=None, text=True):
+@overload
+def git(repository: str | pathlib.Path, *words: str, data: bytes | None = None, text: Literal[True] = True) -> str: ...
+
+
+@overload
+def git(repository: str | pathlib.Path, *words: str, data: bytes | None = None, text: Literal[False]) -> bytes: ...
+
+
+def git(repository: str | pathlib.Path, *words: str, data: bytes | None = None, text: bool = True) -> str | bytes:
     """What Git prints, as text without the line feed at its end, or as bytes."""
-    done = subprocess.run(["git", *SETTINGS, "-C", str(repository), *words], input=data, capture_output=True, check=True,
-                          env=environment())
+    done = subprocess.run(["git", *SETTINGS, "-C", str(repository), *words], input=data, capture_output=True,
+                          check=True, env=environment())
     return done.stdout.decode().strip() if text else done.stdout
 
 
-def content_of(path):
+def content_of(path: str) -> str:
     """What the large repository has at a path."""
     return f"{path}\n" * 20
 
 
-def make_large_repository(folder):
+def make_large_repository(folder: pathlib.Path) -> pathlib.Path:
     """A repository of FILES files in one pack, 500 below each of FOLDERS folders, and one of them deeper.
 
     They come by an import stream, so that the working tree is never written.

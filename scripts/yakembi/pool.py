@@ -7,9 +7,11 @@ and opens it again on the same overlay; requests wait meanwhile, and nobody sees
 import os
 import subprocess
 import threading
+from collections.abc import Sequence
+from typing import Protocol
 
-import eden_client
-from eden_client import SessionEnded
+from yakembi import client
+from yakembi.client import Fields, Session, SessionEnded
 
 SESSIONS = 8
 FETCHERS = 4
@@ -29,11 +31,11 @@ class Unopened(Exception):
 class Running:
     """One `mountd` that runs, and its sessions."""
 
-    def __init__(self, child, sessions):
+    def __init__(self, child: subprocess.Popen[bytes], sessions: list[Session]) -> None:
         self.child = child
         self.sessions = sessions
 
-    def close(self):
+    def close(self) -> str | None:
         """Ends the sessions, and with the last of them mountd; what it said, where that wasn't its good end."""
         for session in self.sessions:
             session.close()
@@ -44,23 +46,32 @@ class Running:
         said = last_words(self.child)
         return None if self.child.returncode == 0 else said
 
-    def kill(self):
+    def kill(self) -> None:
         """Ends mountd where it stands; requests under way are told so."""
         self.child.kill()
 
 
-def last_words(child):
+def last_words(child: subprocess.Popen[bytes]) -> str:
     """Waits for a child, and tells its last line of standard error."""
+    assert child.stdout is not None and child.stderr is not None
     lines = child.stderr.read().decode(errors="replace").splitlines()
     for stream in (child.stdout, child.stderr):
         stream.close()
     return lines[-1] if child.wait() in WITH_A_LINE and lines else f"mountd ended with status {child.returncode}"
 
 
+class Program(Protocol):
+    """What can be started to take so many requests, again and again."""
+
+    def start(self, history: int) -> Running: ...
+
+
 class Serving:
     """How `mountd serve` is started over an overlay, so that it can be ended and started again."""
 
-    def __init__(self, mountd, root, source, overlay, more=(), sessions=SESSIONS, fetchers=FETCHERS):
+    def __init__(self, mountd: str | os.PathLike[str], root: str, source: Sequence[object],
+                 overlay: str | os.PathLike[str], more: Sequence[object] = (), sessions: int = SESSIONS,
+                 fetchers: int = FETCHERS) -> None:
         """`source` is `["--remote", PORT]` or `["--objects", FOLDER]`, `more` are further options of mountd."""
         self.mountd = os.fspath(mountd)
         self.sessions = sessions
@@ -68,7 +79,7 @@ class Serving:
                  "--fetchers", fetchers, *more]
         self.words = [str(word) for word in words]
 
-    def start(self, history):
+    def start(self, history: int) -> Running:
         """A mountd that runs, and takes so many requests. What a killed one left is rescanned."""
         limit = ["--history", str(history)]
         try:
@@ -78,29 +89,30 @@ class Serving:
                 raise
             return self.run([*limit, "--rescan"])
 
-    def run(self, more):
+    def run(self, more: list[str]) -> Running:
         """In a session of its own, so that a terminal's Ctrl-C doesn't reach it."""
         child = subprocess.Popen([self.mountd, "serve", *self.words, *more], stdin=subprocess.DEVNULL,
                                  stdout=subprocess.PIPE, stderr=subprocess.PIPE, start_new_session=True)
+        assert child.stdout is not None
         listening = child.stdout.readline().decode()
         if not listening:
             raise Unopened(last_words(child).removeprefix("mountd: open "))
         port = int(listening.rsplit(":", 1)[1])
         try:
-            return Running(child, [eden_client.connect(port) for _ in range(self.sessions)])
+            return Running(child, [client.connect(port) for _ in range(self.sessions)])
         except OSError as problem:
             child.kill()
             raise Unopened(f"its port {port} can't be reached: {problem.strerror}; {last_words(child)}") from None
 
 
-class Pool(eden_client.Requests):
+class Pool(client.Requests):
     """The requests of many threads, each on whichever session is free.
 
     A session that ends unexpectedly is a `SessionEnded` for the request on it. Then mountd is ended and started again,
     once: where not a single request is served after that, all are refused by `SessionEnded` from then on.
     """
 
-    def __init__(self, program, most_requests=MOST_REQUESTS, most_bytes=MOST_BYTES):
+    def __init__(self, program: Program, most_requests: int = MOST_REQUESTS, most_bytes: int = MOST_BYTES) -> None:
         self.program = program
         self.most_requests = most_requests
         self.most_bytes = most_bytes
@@ -111,7 +123,7 @@ class Pool(eden_client.Requests):
         self.is_retry = False
         self.open()
 
-    def open(self):
+    def open(self) -> None:
         self.running = self.program.start(self.most_requests)
         self.idle = list(self.running.sessions)
         self.requests = 0
@@ -119,7 +131,7 @@ class Pool(eden_client.Requests):
         self.served = 0
         self.ended = False
 
-    def ask(self, head, *fields):
+    def ask(self, head: bytes, *fields: bytes) -> Fields:
         session = self.take()
         before = session.moved
         try:
@@ -127,7 +139,7 @@ class Pool(eden_client.Requests):
         finally:
             self.give(session, session.moved - before)
 
-    def take(self):
+    def take(self) -> Session:
         """A free session, for one request."""
         with self.changed:
             while True:
@@ -143,7 +155,7 @@ class Pool(eden_client.Requests):
                     return self.idle.pop()
                 self.changed.wait()
 
-    def give(self, session, moved):
+    def give(self, session: Session, moved: int) -> None:
         with self.changed:
             self.busy -= 1
             self.bytes += moved
@@ -154,11 +166,11 @@ class Pool(eden_client.Requests):
                 self.ended = True
             self.changed.notify_all()
 
-    def is_over(self):
+    def is_over(self) -> bool:
         """Whether this mountd takes no more requests."""
         return self.ended or self.requests >= self.most_requests or self.bytes >= self.most_bytes
 
-    def open_again(self):
+    def open_again(self) -> None:
         """Ends mountd and starts it again on the same overlay, while all who have a request wait."""
         self.gone = True
         self.changed.notify_all()
@@ -172,7 +184,7 @@ class Pool(eden_client.Requests):
             raise SessionEnded(f"mountd wasn't opened again: {refusal}") from None
         self.gone = False
 
-    def close(self):
+    def close(self) -> str | None:
         """Waits for requests under way, and ends mountd; what it said, where that wasn't its good end."""
         with self.changed:
             while self.busy:

@@ -12,12 +12,13 @@ import errno
 import os
 import stat
 import sys
-import threading
-import time
+from collections.abc import Callable
+from typing import Any
 
-from eden_client import DIR, EXEC, FILE, LINK, Fault, Requests, SessionEnded, refusal
+from yakembi.client import DIR, EXEC, FILE, LINK, Fault, Fields, Requests, SessionEnded, refusal
+from yakembi.times import Times
 
-TYPES = {FILE: stat.S_IFREG, EXEC: stat.S_IFREG, LINK: stat.S_IFLNK, DIR: stat.S_IFDIR}
+TYPES: dict[str, int] = {FILE: stat.S_IFREG, EXEC: stat.S_IFREG, LINK: stat.S_IFLNK, DIR: stat.S_IFDIR}
 MODES = {FILE: stat.S_IFREG | 0o644, EXEC: stat.S_IFREG | 0o755, LINK: stat.S_IFLNK | 0o777, DIR: stat.S_IFDIR | 0o755}
 BLOCK = 512
 # What stands in the place of a time that is set to the clock's, or that stays. With seconds of 0, as they come, they are
@@ -34,7 +35,7 @@ CAUSES = {
 }
 
 
-def tell(line):
+def tell(line: str) -> None:
     """In one piece, since threads tell side by side."""
     sys.stderr.write(f"mount-git: {line}\n")
     sys.stderr.flush()
@@ -43,11 +44,11 @@ def tell(line):
 class Mount(Requests):
     """The requests of a pool or a session, whose faults are EIO; each is told in one line."""
 
-    def __init__(self, requests, tell=tell):
+    def __init__(self, requests: Requests, tell: Callable[[str], object] = tell) -> None:
         self.requests = requests
         self.tell = tell
 
-    def ask(self, head, *fields):
+    def ask(self, head: bytes, *fields: bytes) -> Fields:
         try:
             return self.requests.ask(head, *fields)
         except Fault as fault:
@@ -57,102 +58,12 @@ class Mount(Requests):
         raise refusal(errno.EIO)
 
 
-def explained(fault):
+def explained(fault: Fault) -> str:
     match fault.words:
         case ["fetch", object_id, cause]:
             return f"the object {object_id} can't be had: {cause}, {CAUSES.get(cause, 'as mountd says')}"
         case _:
             return f"mountd couldn't do a request: fault {fault}"
-
-
-# ---- times
-
-
-class Stamps:
-    """The times of what stands at one path, if they aren't the commit's, and what is known below it."""
-
-    __slots__ = ("changed", "below")
-
-    def __init__(self):
-        self.changed = None
-        self.below = {}
-
-
-class Times:
-    """When files and folders were changed, in nanoseconds: as the commit says where they weren't.
-
-    A change's time is the clock's, and later than each before it. They are kept in memory; `changed` are those of an
-    earlier mount, as rows of path and time.
-    """
-
-    def __init__(self, commit, changed=()):
-        self.lock = threading.Lock()
-        self.commit = commit
-        self.latest = 0
-        self.root = Stamps()
-        for path, when in changed:
-            self.at(path.decode("latin-1")).changed = when, when
-
-    def now(self):
-        self.latest = max(time.time_ns(), self.latest + 1)
-        return self.latest
-
-    def at(self, path):
-        """The stamps of a path, made where there are none."""
-        stamps = self.root
-        for name in names_in(path):
-            stamps = stamps.below.setdefault(name, Stamps())
-        return stamps
-
-    def of(self, path):
-        """When content and entry of what stands at the path were last changed."""
-        with self.lock:
-            stamps = self.root
-            for name in names_in(path):
-                stamps = stamps.below.get(name)
-                if stamps is None:
-                    return self.commit, self.commit
-            return stamps.changed or (self.commit, self.commit)
-
-    def change(self, *paths):
-        """The content of each was changed."""
-        with self.lock:
-            now = self.now()
-            for path in paths:
-                self.at(path).changed = now, now
-
-    def set(self, path, when=None):
-        """The content's time is set, and if there is none stays; the entry was changed now."""
-        with self.lock:
-            stamps = self.at(path)
-            content = stamps.changed[0] if stamps.changed else self.commit
-            stamps.changed = content if when is None else when, self.now()
-
-    def take(self, path):
-        """Takes away what is known at the path and below it; None where nothing is."""
-        above, name = os.path.split(path)
-        stamps = self.root
-        for part in names_in(above):
-            stamps = stamps.below.get(part)
-            if stamps is None:
-                return None
-        return stamps.below.pop(name, None)
-
-    def remove(self, path):
-        with self.lock:
-            self.take(path)
-
-    def move(self, source, target):
-        with self.lock:
-            moved = self.take(source)
-            self.take(target)
-            if moved is not None:
-                above, name = os.path.split(target)
-                self.at(above).below[name] = moved
-
-
-def names_in(path):
-    return [name for name in path.split("/") if name]
 
 
 # ---- operations
@@ -168,42 +79,42 @@ class MountOperations:
     # Without it libfuse answers a request that sets one of the two times, and does nothing.
     flag_utime_omit_ok = 1
 
-    def __init__(self, mount, times, place="/"):
+    def __init__(self, mount: Requests, times: Times, place: str = "/") -> None:
         self.mount = mount
         self.times = times
         self.place = place
         self.owner = {"st_uid": os.getuid(), "st_gid": os.getgid()}
 
-    def __call__(self, operation, *arguments):
+    def __call__(self, operation: str, *arguments: Any) -> Any:
         return getattr(self, operation)(*arguments)
 
-    def init(self, path):
+    def init(self, path: str) -> None:
         """The mount is there from now on; whoever wants to know takes this method's place."""
 
     # ---- looking
 
-    def getattr(self, path, fh=None):
+    def getattr(self, path: str, fh: Any = None) -> dict[str, int]:
         kind, size = self.mount.stat(raw(path))
         content, entry = self.times.of(path)
         return {**self.owner, "st_mode": MODES[kind], "st_nlink": 1, "st_size": size, "st_blocks": -(-size // BLOCK),
                 "st_atime": content, "st_mtime": content, "st_ctime": entry}
 
-    def access(self, path, mode):
+    def access(self, path: str, mode: int) -> int:
         kind = self.mount.kind(raw(path))
         if kind == FILE and mode & os.X_OK:
             raise refusal(errno.EACCES)
         return 0
 
-    def readdir(self, path, fh=None):
+    def readdir(self, path: str, fh: Any = None) -> list[tuple[str, dict[str, int], int]]:
         """Rows of name and attributes, of which the file's type is the only one."""
         rows = [(name.decode("latin-1"), {"st_mode": TYPES[kind]}, 0) for name, kind in self.mount.entries(raw(path))]
-        folder = {"st_mode": stat.S_IFDIR}
+        folder = {"st_mode": TYPES[DIR]}
         return [(".", folder, 0), ("..", folder, 0), *rows]
 
-    def readlink(self, path):
+    def readlink(self, path: str) -> str:
         return self.mount.readlink(raw(path)).decode("latin-1")
 
-    def open(self, path, flags):
+    def open(self, path: str, flags: int) -> int:
         """The mount has no open files; what this answers is passed to the calls below, which don't look at it."""
         kind = self.mount.kind(raw(path))
         if kind == DIR:
@@ -214,10 +125,10 @@ class MountOperations:
             self.truncate(path, 0)
         return 0
 
-    def read(self, path, size, offset, fh=None):
+    def read(self, path: str, size: int, offset: int, fh: Any = None) -> bytes:
         return self.mount.read(raw(path), offset, size)
 
-    def statfs(self, path):
+    def statfs(self, path: str) -> dict[str, int]:
         """The disk that changes go to."""
         disk = os.statvfs(self.place)
         told = ("f_bsize", "f_frsize", "f_blocks", "f_bfree", "f_bavail", "f_files", "f_ffree", "f_favail")
@@ -225,17 +136,17 @@ class MountOperations:
 
     # ---- changing a file
 
-    def write(self, path, data, offset, fh=None):
+    def write(self, path: str, data: bytes, offset: int, fh: Any = None) -> int:
         written = self.mount.write(raw(path), offset, data)
         self.times.change(path)
         return written
 
-    def truncate(self, path, length, fh=None):
+    def truncate(self, path: str, length: int, fh: Any = None) -> int:
         self.mount.truncate(raw(path), length)
         self.times.change(path)
         return 0
 
-    def chmod(self, path, mode):
+    def chmod(self, path: str, mode: int) -> int:
         """Keeps the owner's executable bit of a file, and passes over all others, and over those of folders."""
         kind = self.mount.kind(raw(path))
         if kind in (FILE, EXEC):
@@ -243,13 +154,13 @@ class MountOperations:
             self.times.set(path)
         return 0
 
-    def chown(self, path, uid, gid):
+    def chown(self, path: str, uid: int, gid: int) -> int:
         self.mount.kind(raw(path))
         if uid not in (-1, self.owner["st_uid"]) or gid not in (-1, self.owner["st_gid"]):
             raise refusal(errno.EPERM)
         return 0
 
-    def utimens(self, path, times=None):
+    def utimens(self, path: str, times: tuple[int, int] | None = None) -> int:
         """The time of the content is kept as long as the mount stands, that of the last read never."""
         self.mount.kind(raw(path))
         content = UTIME_NOW if times is None else times[1]
@@ -259,14 +170,14 @@ class MountOperations:
             self.times.set(path, None if content == UTIME_OMIT else content)
         return 0
 
-    def flush(self, path, fh=None):
+    def flush(self, path: str, fh: Any = None) -> int:
         return 0
 
-    def fsync(self, path, datasync, fh=None):
+    def fsync(self, path: str, datasync: int, fh: Any = None) -> int:
         """A change is stored before it is answered; that it is on the disk nobody says."""
         return 0
 
-    def release(self, path, fh=None):
+    def release(self, path: str, fh: Any = None) -> int:
         return 0
 
     fsyncdir = fsync
@@ -274,51 +185,51 @@ class MountOperations:
 
     # ---- making and taking away
 
-    def create(self, path, mode, fi=None):
+    def create(self, path: str, mode: int, fi: Any = None) -> int:
         self.mount.create(raw(path))
         if mode & stat.S_IXUSR:
             self.mount.setexec(raw(path), True)
         self.made(path)
         return 0
 
-    def mknod(self, path, mode, device):
+    def mknod(self, path: str, mode: int, device: int) -> int:
         if stat.S_IFMT(mode) not in (0, stat.S_IFREG):
             raise refusal(errno.EPERM)
         return self.create(path, mode)
 
-    def mkdir(self, path, mode):
+    def mkdir(self, path: str, mode: int) -> int:
         self.mount.mkdir(raw(path))
         self.made(path)
         return 0
 
-    def symlink(self, path, target):
+    def symlink(self, path: str, target: str) -> int:
         """Makes a link at the path; fusepy gives them in this order."""
         self.mount.symlink(raw(path), raw(target))
         self.made(path)
         return 0
 
-    def link(self, path, source):
+    def link(self, path: str, source: str) -> int:
         raise refusal(errno.EPERM)
 
-    def made(self, path):
+    def made(self, path: str) -> None:
         self.times.remove(path)
         self.times.change(path, os.path.dirname(path))
 
-    def unlink(self, path):
+    def unlink(self, path: str) -> int:
         self.mount.unlink(raw(path))
         self.gone(path)
         return 0
 
-    def rmdir(self, path):
+    def rmdir(self, path: str) -> int:
         self.mount.rmdir(raw(path))
         self.gone(path)
         return 0
 
-    def gone(self, path):
+    def gone(self, path: str) -> None:
         self.times.remove(path)
         self.times.change(os.path.dirname(path))
 
-    def rename(self, source, target, flags=0):
+    def rename(self, source: str, target: str, flags: int = 0) -> int:
         """Linux's flags (to refuse a target that is there, to exchange two) aren't known."""
         if flags:
             raise refusal(errno.EINVAL)
@@ -329,6 +240,6 @@ class MountOperations:
         return 0
 
 
-def raw(text):
+def raw(text: str) -> bytes:
     """The bytes of a path or a target."""
     return text.encode("latin-1")

@@ -7,6 +7,7 @@ that an id gives the bytes that it names. A refusal carries Git's own last line.
 import os
 import re
 import subprocess
+from collections.abc import Iterable, Iterator
 
 PIECE = 1 << 20
 MODES = {b"40000", b"040000", b"100644", b"100664", b"100755", b"120000", b"160000"}
@@ -18,26 +19,28 @@ class Refusal(Exception):
     """What is wrong, in one line."""
 
 
-def environment():
+def environment() -> dict[str, str]:
     clean = {name: value for name, value in os.environ.items() if not name.startswith("GIT_")}
     return {**clean, "GIT_NO_REPLACE_OBJECTS": "1", "LC_ALL": "C"}
 
 
-def last_line(done):
+def last_line(done: subprocess.CompletedProcess[bytes]) -> str:
     """What Git said went wrong, and its last line, for a refusal."""
     lines = [line.strip() for line in done.stderr.decode(errors="replace").splitlines() if line.strip()]
     said = [line for line in lines if line.startswith(("fatal:", "error:"))][:1] + lines[-1:]
     return "".join(f": {line}" for line in dict.fromkeys(said))
 
 
-def framed(word, length, pieces):
+def framed(word: str, length: int, pieces: Iterable[bytes]) -> Iterator[bytes]:
     """An object's bytes, in pieces: its header, and its body."""
     yield f"{word} {length}\0".encode()
     yield from pieces
 
 
 class Repository:
-    def __init__(self, path):
+    """A repository whose objects are named by SHA-1."""
+
+    def __init__(self, path: str) -> None:
         self.path = path
         done = self.git("rev-parse", "--git-dir")
         if done.returncode != 0:
@@ -46,11 +49,11 @@ class Repository:
         if names.stdout.strip() != b"sha1":
             raise Refusal(f"{path} names its objects by {names.stdout.decode().strip() or 'something'}, not by SHA-1")
 
-    def git(self, *words):
+    def git(self, *words: str) -> subprocess.CompletedProcess[bytes]:
         return subprocess.run(["git", "-C", self.path, *words], stdin=subprocess.DEVNULL, capture_output=True,
                               env=environment())
 
-    def tree_of(self, revision):
+    def tree_of(self, revision: str) -> str:
         """The id of a commit's tree, or of a tree that is named itself, as `HEAD:folder`."""
         named = self.git("rev-parse", "--verify", "--end-of-options", revision)
         found = named
@@ -60,42 +63,44 @@ class Repository:
             raise Refusal(f"{revision} names no commit or tree of {self.path}{last_line(found)}")
         return found.stdout.decode().strip()
 
-    def objects(self):
+    def objects(self) -> "Objects":
         return Objects(self.path)
 
 
 class Objects:
     """One `git cat-file` that is asked for one object after another."""
 
-    def __init__(self, path):
+    def __init__(self, path: str) -> None:
         self.process = subprocess.Popen(["git", "-C", path, "cat-file", "--batch"], stdin=subprocess.PIPE,
                                         stdout=subprocess.PIPE, stderr=subprocess.DEVNULL, env=environment())
+        assert self.process.stdin is not None and self.process.stdout is not None
+        self.asks, self.answers = self.process.stdin, self.process.stdout
 
-    def ask(self, object_id):
+    def ask(self, object_id: str) -> tuple[str, int] | None:
         """The object's word and its length, and the body must be read next; None where the repository lacks it."""
         try:
-            self.process.stdin.write(object_id.encode() + b"\n")
-            self.process.stdin.flush()
+            self.asks.write(object_id.encode() + b"\n")
+            self.asks.flush()
         except BrokenPipeError:
             raise Refusal("git ended before it was asked for all objects") from None
-        fields = self.process.stdout.readline().split()
+        fields = self.answers.readline().split()
         if len(fields) == 3:
             return fields[1].decode(), int(fields[2])
         if fields[1:] == [b"missing"]:
             return None
         raise Refusal(f"git can't read the object {object_id}")
 
-    def pieces(self, length):
+    def pieces(self, length: int) -> Iterator[bytes]:
         """The body, in pieces."""
         while length > 0:
-            piece = self.process.stdout.read(min(length, PIECE))
+            piece = self.answers.read(min(length, PIECE))
             if not piece:
                 raise Refusal("git ended in the middle of an object")
             length -= len(piece)
             yield piece
-        self.process.stdout.read(1)
+        self.answers.read(1)
 
-    def end(self):
+    def end(self) -> None:
         """Ends git, wherever it is."""
         self.process.kill()
         self.process.communicate()
@@ -104,7 +109,7 @@ class Objects:
 ENTRY = re.compile(rb"([0-7]+) ([^\0]+)\0(.{20})", re.DOTALL)
 
 
-def entries(tree_id, body):
+def entries(tree_id: str, body: bytes) -> Iterator[tuple[bytes, bytes, str]]:
     """The mode, the name and the id of each entry of a tree's body."""
     at = 0
     while at < len(body):

@@ -2,30 +2,37 @@
 
 import contextlib
 import hashlib
+import pathlib
 import socketserver
 import threading
 import time
+from collections.abc import Callable, Iterator
+from contextlib import AbstractContextManager
 
 # How long an object is held back at most, in seconds: mountd takes 30 of silence for a failure.
 LONGEST_HELD = 25
 
 
-def blob_id(content):
+# What is answered to an id, and whether the connection goes on.
+Answer = Callable[[str], tuple[bytes, bool]]
+
+
+def blob_id(content: bytes) -> str:
     return hashlib.sha1(b"blob %d\0" % len(content) + content).hexdigest()
 
 
 class Answers(socketserver.ThreadingTCPServer):
-    """A server on this machine whose answers are a function of the id; an answer that is None is silence."""
+    """A server on this machine."""
 
     allow_reuse_address = True
     daemon_threads = True
 
-    def __init__(self, answer, port=0):
-        self.answer = answer
+    def __init__(self, answer: Answer, port: int = 0) -> None:
+        self.answer: Answer = answer
         super().__init__(("127.0.0.1", port), Connection)
 
     @contextlib.contextmanager
-    def served(self):
+    def served(self) -> Iterator[int]:
         threading.Thread(target=self.serve_forever, args=(0.01,), daemon=True).start()
         try:
             yield self.server_address[1]
@@ -36,8 +43,9 @@ class Answers(socketserver.ThreadingTCPServer):
 
 class Connection(socketserver.StreamRequestHandler):
     disable_nagle_algorithm = True
+    server: Answers
 
-    def handle(self):
+    def handle(self) -> None:
         with contextlib.suppress(ConnectionError):
             while line := self.rfile.readline(64):
                 answer, goes_on = self.server.answer(line[4:-1].decode())
@@ -49,24 +57,24 @@ class Connection(socketserver.StreamRequestHandler):
 class Stored:
     """A folder of objects to be served: it notes what it is asked for, and may fail or wait before it answers."""
 
-    def __init__(self, folder, delay=0, fails_each=None):
+    def __init__(self, folder: pathlib.Path, delay: float = 0, fails_each: int | None = None) -> None:
         self.folder = folder
         self.delay = delay
         self.fails_each = fails_each
-        self.asked = []
-        self.failed = []
-        self.held = {}
+        self.asked: list[str] = []
+        self.failed: list[tuple[bytes, float]] = []
+        self.held: dict[str, threading.Event] = {}
         self.lock = threading.Lock()
 
-    def served(self):
+    def served(self) -> AbstractContextManager[int]:
         return Answers(self.answer).served()
 
-    def hold(self, object_id):
+    def hold(self, object_id: str) -> threading.Event:
         """From now on this object is kept back until the event is set."""
         self.held[object_id] = threading.Event()
         return self.held[object_id]
 
-    def answer(self, object_id):
+    def answer(self, object_id: str) -> tuple[bytes, bool]:
         with self.lock:
             self.asked.append(object_id)
             fails = self.fails_each is not None and len(self.asked) % self.fails_each == 0

@@ -1,0 +1,68 @@
+"""Tables in Markdown for docs/measured/, and the line above them that says when and where they were made."""
+
+import datetime
+import os
+import pathlib
+import re
+import subprocess
+from collections.abc import Iterable, Iterator
+
+from helpers.programs import TOP
+
+GIB = 1 << 20
+
+
+def table(heads: Iterable[str], rows: Iterable[Iterable[object]]) -> Iterator[str]:
+    """The lines of a table."""
+    heads = list(heads)
+    yield line_of(heads)
+    yield "|---" * len(heads) + "|"
+    for row in rows:
+        yield line_of(row)
+
+
+def line_of(cells: Iterable[object]) -> str:
+    return "| " + " | ".join(str(cell) for cell in cells) + " |"
+
+
+class Table:
+    """A table that is printed row by row, as its rows are measured."""
+
+    def __init__(self, *heads: str) -> None:
+        self.columns = len(heads)
+        print("", *table(heads, []), sep="\n", flush=True)
+
+    def row(self, *cells: object) -> None:
+        """A row, whose last cells may be left out."""
+        print(line_of([*cells, *[""] * (self.columns - len(cells))]), flush=True)
+
+
+def machine() -> str:
+    """The processors that we may use, their model, and the memory."""
+    models = re.findall(r"^model name\s*: (.*)$", pathlib.Path("/proc/cpuinfo").read_text(), re.M)
+    memory = re.search(r"^MemTotal: +(\d+) kB$", pathlib.Path("/proc/meminfo").read_text(), re.M)
+    model = re.sub(r"\((R|TM)\)|\bCPU\b", "", models[0]) if models else "of an unknown model"
+    gib = round(int(memory[1]) / GIB) if memory else 0
+    return f"{len(os.sched_getaffinity(0))} processors ({' '.join(model.split())}), {gib} GiB"
+
+
+def commit() -> str:
+    """The commit, and whether files of it are changed."""
+    words = ["git", "-C", str(TOP)]
+    done = subprocess.run([*words, "rev-parse", "--short", "HEAD"], capture_output=True, text=True)
+    if done.returncode != 0:
+        return "no commit"
+    changed = subprocess.run([*words, "diff", "--quiet", "HEAD"]).returncode != 0
+    return f"commit {done.stdout.strip()}" + (" with changes" if changed else "")
+
+
+def toolchain() -> str:
+    try:
+        return subprocess.run(["rt", "version"], capture_output=True, text=True).stdout.strip() or "no toolchain"
+    except OSError:
+        return "no toolchain"
+
+
+def where_and_when() -> str:
+    """The date, the commit, the toolchain and the machine, in a line."""
+    return f"{datetime.date.today()}, {commit()}, {toolchain()}, {machine()}"

@@ -1,0 +1,38 @@
+"""Where the programs are that tests and measurements run, and the sample commit.
+
+MOUNTD is crates/mountd/out/mountd unless the script's first word names it.
+"""
+
+import contextlib
+import pathlib
+import subprocess
+import sys
+from collections.abc import Iterator, Sequence
+from typing import Any
+
+from helpers.running import Process, watched
+
+TOP = pathlib.Path(__file__).resolve().parents[2]
+BUILT = TOP / "crates/mountd/out/mountd"
+MOUNTD = pathlib.Path(sys.argv[1] if len(sys.argv) > 1 and not sys.argv[1].startswith("-") else BUILT).resolve()
+EXPORTER = TOP / "scripts/objects-from-git"
+GIT_OBJECTS = TOP / "scripts/git-objects"
+MOUNT_GIT = TOP / "scripts/mount-git"
+SHELL = TOP / "scripts/eden-shell"
+SAMPLE_ROOT = "d8329fc1cc938780ffdd9f94e0d364e0ea74f579"
+EXAMPLES = TOP / "examples"
+SAMPLE_OBJECTS = EXAMPLES / "objects"
+
+
+@contextlib.contextmanager
+def listening(words: Sequence[object], **more: Any) -> Iterator[tuple[Process, int]]:
+    """A program that serves a port which it prints, and the port."""
+    process = subprocess.Popen([str(word) for word in words], stdout=subprocess.PIPE, **more)
+    try:
+        with watched(process):
+            assert process.stdout is not None
+            line = process.stdout.readline().decode()
+        yield process, int(line.rsplit(":", 1)[1])
+    finally:
+        process.kill()
+        process.communicate()

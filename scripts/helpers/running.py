@@ -1,0 +1,69 @@
+"""Programs that may hang: each is waited for as long as `PATIENCE` says, and then killed."""
+
+import contextlib
+import subprocess
+import threading
+from collections.abc import Iterator, Sequence
+from typing import Any
+
+# How many seconds anything that is waited for may take: what hangs is found, and a machine whose disk stands still for
+# a while passes.
+PATIENCE = 120
+# The status of what was killed since it took longer.
+STILL_RUNNING = "still running"
+
+Process = subprocess.Popen[bytes]
+Status = int | str
+
+# How many programs hung.
+hung = 0
+
+
+def finished(words: Sequence[object], **more: Any) -> subprocess.CompletedProcess[bytes]:
+    """A program's run to its end. One that has none is killed, and its status says so; `more` is `subprocess.run`'s."""
+    global hung
+    texts = [str(word) for word in words]
+    try:
+        return subprocess.run(texts, **more, timeout=PATIENCE)
+    except subprocess.TimeoutExpired as late:
+        hung += 1
+        status: Any = STILL_RUNNING
+        return subprocess.CompletedProcess(texts, status, late.stdout or b"", late.stderr or b"")
+
+
+def kill_hung(process: Process) -> None:
+    global hung
+    hung += 1
+    process.kill()
+
+
+def status_of(process: Process) -> Status:
+    """The status of a process that is to end by itself, whose output nobody wants."""
+    try:
+        return process.wait(PATIENCE)
+    except subprocess.TimeoutExpired:
+        kill_hung(process)
+        process.wait()
+        return STILL_RUNNING
+
+
+def ending_of(process: Process) -> tuple[Status, bytes, bytes]:
+    """Status, output and errors of a process that is to end by itself."""
+    try:
+        output, errors = process.communicate(timeout=PATIENCE)
+    except subprocess.TimeoutExpired:
+        kill_hung(process)
+        return STILL_RUNNING, *process.communicate()
+    return process.returncode, output, errors
+
+
+@contextlib.contextmanager
+def watched(process: Process) -> Iterator[Process]:
+    """A process that is killed where the block takes too long, so that who waits for a line of it is told its end."""
+    alarm = threading.Timer(PATIENCE, kill_hung, [process])
+    alarm.daemon = True
+    alarm.start()
+    try:
+        yield process
+    finally:
+        alarm.cancel()

@@ -1,0 +1,263 @@
+"""Shows a commit of a Git repository as a folder, through FUSE, without checking it out.
+
+What is read is fetched when it is first read. What is changed is kept in the overlay, a folder from which the next
+mount goes on; without one, changes are gone with the mount. Ctrl-C, SIGTERM and `fusermount3 -u FOLDER` end it.
+
+It needs Debian's packages python3-fusepy and fuse3, and mountd, which `make run` builds.
+"""
+
+import argparse
+import contextlib
+import errno
+import importlib
+import os
+import pathlib
+import shutil
+import signal
+import subprocess
+import sys
+import tempfile
+import time
+from collections.abc import Callable, Iterator
+from typing import Any
+
+from yakembi.git import Refusal, Repository, last_line
+from yakembi.operations import Mount, MountOperations, tell
+from yakembi.overlay import InUse, OverlayFolder
+from yakembi.pool import CACHE_ENTRIES, Pool, Serving, Unopened
+from yakembi.times import Times
+
+# The folder of the commands, which has the package.
+SCRIPTS = pathlib.Path(__file__).resolve().parent.parent
+IS_INSTALLED = SCRIPTS.parent.name == "lib"
+# As `make install` puts it, or as `make run` builds it.
+BESIDE = SCRIPTS.parents[1] / "bin/mountd" if IS_INSTALLED else SCRIPTS.parent / "crates/mountd/out/mountd"
+MOUNTD = os.environ.get("MOUNTD", BESIDE)
+PACKAGES = "apt install python3-fusepy fuse3"
+DEBIAN_PYTHON = "/usr/bin/python3"
+# In the environment of a run that was handed to Debian's Python already.
+HANDED_ON = "MOUNT_GIT_HANDED_ON"
+# A mountd whose adapter was killed ends by itself, and has the overlay for so long.
+SECONDS_LOCKED = 10
+UNOPENED = {
+    "Locked": "another program has it open",
+    "Damaged": "a file of it is damaged",
+    "Dangling": "a file of it is missing",
+    "Twice": "two names in it have one file",
+    "Device": "it can't be read or written",
+    "Memory": "there is no memory to open it",
+}
+# Nobody but us changes what the kernel keeps, so it may keep it; and a request has at most what the mount takes in one.
+FUSE_OPTIONS = {
+    "foreground": True, "fsname": "mount-git", "default_permissions": True, "kernel_cache": True, "big_writes": True,
+    "max_write": 65_536, "max_read": 65_536, "attr_timeout": 60, "entry_timeout": 60, "negative_timeout": 60,
+}
+
+
+# ---- what has to be there
+
+
+def fuse_class() -> Callable[..., object]:
+    """fusepy's class, whose module Debian calls `fusepy` and others `fuse`."""
+    for name in ("fusepy", "fuse"):
+        try:
+            found: Callable[..., object] = importlib.import_module(name).FUSE
+            return found
+        except (ImportError, AttributeError):
+            continue
+        except OSError:
+            raise Refusal(f"libfuse2 is missing: {PACKAGES}") from None
+    if HANDED_ON not in os.environ and os.access(DEBIAN_PYTHON, os.X_OK):
+        os.execve(DEBIAN_PYTHON, [DEBIAN_PYTHON, *sys.argv], {**os.environ, HANDED_ON: "1"})
+    raise Refusal(f"python3-fusepy is missing: {PACKAGES}")
+
+
+def check_fuse() -> None:
+    if os.geteuid() != 0 and shutil.which("fusermount") is None:
+        raise Refusal(f"fuse3 is missing: {PACKAGES}")
+    if not os.path.exists("/dev/fuse"):
+        raise Refusal("this system has no /dev/fuse")
+
+
+def mount_point(path: str) -> str:
+    """The folder, empty or not there yet. What a killed mount left on it is taken away."""
+    try:
+        names = os.listdir(path)
+    except FileNotFoundError:
+        names = []
+    except OSError as problem:
+        if problem.errno != errno.ENOTCONN:
+            raise
+        unmount = ["umount", "-l"] if os.geteuid() == 0 else ["fusermount", "-u", "-z"]
+        done = subprocess.run([*unmount, path], capture_output=True)
+        left = f"{path} was left by a mount that was killed, and"
+        if done.returncode != 0:
+            raise Refusal(f"{left} can't be unmounted{last_line(done)}") from None
+        tell(f"{left} is unmounted")
+        names = os.listdir(path)
+    if os.path.ismount(path):
+        raise Refusal(f"something is mounted on {path}")
+    if names:
+        raise Refusal(f"{path} isn't empty")
+    return os.path.abspath(path)
+
+
+def check_apart(overlay: str | None, folder: str) -> None:
+    """A mount hides what its folder held, so that its overlay can't lie there."""
+    if overlay is not None:
+        overlay, folder = os.path.realpath(overlay), os.path.realpath(folder)
+        if os.path.commonpath([overlay, folder]) == folder:
+            raise Refusal(f"the overlay {overlay} may not lie in the folder {folder}, which hides it")
+
+
+# ---- what runs below
+
+
+@contextlib.contextmanager
+def overlay_at(path: str | None) -> Iterator[OverlayFolder]:
+    """The overlay's folder; a temporary one where none is named."""
+    with contextlib.ExitStack() as stack:
+        if path is None:
+            path = stack.enter_context(tempfile.TemporaryDirectory(prefix="mount-git."))
+        try:
+            overlay = OverlayFolder(path)
+        except InUse:
+            raise Refusal(f"the overlay {path} is in use by another mount") from None
+        yield stack.enter_context(contextlib.closing(overlay))
+
+
+def tree_to_show(repository: Repository, revision: str, overlay: OverlayFolder) -> tuple[str, int]:
+    """The tree's id and its commit's time: as the overlay has them, if it was mounted before."""
+    tree, seconds = repository.tree_of(revision), commit_time(repository, revision)
+    if overlay.is_fresh():
+        overlay.write_note(tree, seconds)
+        return tree, seconds
+    noted = overlay.noted()
+    root = overlay.state_root() or (noted[0] if noted else None)
+    if root is None:
+        raise Refusal(f"the overlay {overlay.path} was left by a killed run, and doesn't say on which tree it stands")
+    if root != tree:
+        if repository.git("cat-file", "-e", root).returncode != 0:
+            raise Refusal(f"the overlay {overlay.path} stands on the tree {root}, which the repository lacks")
+        tell(f"{revision} is the tree {tree}, but the overlay stands on {root}, and that is shown; "
+             "another tree wants another overlay")
+    if noted is None or noted[0] != root:
+        noted = root, seconds
+        overlay.write_note(*noted)
+    return noted
+
+
+def commit_time(repository: Repository, revision: str) -> int:
+    """In seconds; now where the revision is a tree."""
+    # Git's own settings may have it tell of the commit's signature, in front of what is asked for.
+    words = ["show", "-s", "--no-show-signature", "--format=%ct"]
+    done = repository.git(*words, "--end-of-options", revision + "^{commit}")
+    return int(done.stdout) if done.returncode == 0 else int(time.time())
+
+
+@contextlib.contextmanager
+def objects_of(repository: str, log: bool) -> Iterator[int]:
+    """The port of a git-objects that ends with us, whatever ends us: its input does."""
+    options = ["--with-input", *(["--log"] if log else [])]
+    words = [sys.executable, str(SCRIPTS / "git-objects"), *options, "--", repository]
+    child = subprocess.Popen(words, stdin=subprocess.PIPE, stdout=subprocess.PIPE, start_new_session=True)
+    try:
+        assert child.stdout is not None
+        listening = child.stdout.readline().decode()
+        if not listening:
+            raise Refusal("git-objects ended before it served")
+        yield int(listening.rsplit(":", 1)[1])
+    finally:
+        child.kill()
+        child.communicate()
+
+
+def pool_over(program: Serving, overlay: str) -> Pool:
+    """The sessions; waits a little for a mountd that still has the overlay."""
+    end = time.monotonic() + SECONDS_LOCKED
+    while True:
+        try:
+            return Pool(program)
+        except Unopened as refusal:
+            word = str(refusal)
+        except OSError as problem:
+            raise Refusal(f"{program.mountd} can't be run ({problem.strerror}): `make run` builds it") from None
+        if word != "Locked" or time.monotonic() > end:
+            break
+        time.sleep(0.1)
+    if word in UNOPENED:
+        raise Refusal(f"the overlay {overlay} can't be opened: {word}, {UNOPENED[word]}")
+    raise Refusal(f"mountd didn't start: {word}")
+
+
+class Shown(MountOperations):
+    """The operations of a mount that says when it is there."""
+
+    folder: str | None = None
+
+    def init(self, path: str) -> None:
+        print(f"mounted {self.folder}", flush=True)
+
+
+def show(fuse: Callable[..., object], operations: Shown, folder: str) -> None:
+    """Serves the mount until it is unmounted, or until a signal, which libfuse takes where Python doesn't."""
+    operations.folder = folder
+    os.makedirs(folder, exist_ok=True)
+    signal.signal(signal.SIGTERM, signal.SIG_DFL)
+    try:
+        fuse(operations, os.fsencode(folder).decode("latin-1"), encoding="latin-1", **FUSE_OPTIONS)
+    except RuntimeError:
+        raise Refusal(f"{folder} couldn't be mounted") from None
+    finally:
+        for number in (signal.SIGINT, signal.SIGTERM, signal.SIGHUP):
+            signal.signal(number, signal.SIG_IGN)
+
+
+def run(words: argparse.Namespace) -> None:
+    fuse = fuse_class()
+    check_fuse()
+    repository = Repository(words.repository)
+    folder = mount_point(words.folder)
+    check_apart(words.overlay, folder)
+    with overlay_at(words.overlay) as overlay:
+        root, seconds = tree_to_show(repository, words.revision, overlay)
+        with objects_of(words.repository, words.log) as port:
+            program = Serving(words.mountd, root, ["--remote", port], overlay.path,
+                              more=["--cache-entries", CACHE_ENTRIES])
+            pool = pool_over(program, overlay.path)
+            try:
+                times = Times(seconds * 10**9, overlay.changed())
+                show(fuse, Shown(Mount(pool), times, overlay.path), folder)
+            finally:
+                problem = pool.close()
+    if problem:
+        raise Refusal(f"the overlay {overlay.path} wasn't closed well: {problem}")
+
+
+def parser() -> argparse.ArgumentParser:
+    found = argparse.ArgumentParser(prog="mount-git", description=__doc__,
+                                    formatter_class=argparse.RawDescriptionHelpFormatter)
+    found.add_argument("repository", metavar="REPO", help="the Git repository")
+    found.add_argument("revision", metavar="REV", help="a commit, or a tree, as HEAD:folder")
+    found.add_argument("folder", metavar="FOLDER", help="where it is shown; made where it isn't there")
+    found.add_argument("--overlay", metavar="DIR", help="where changes are kept")
+    found.add_argument("--mountd", metavar="PROGRAM", default=MOUNTD,
+                       help="instead of $MOUNTD, or of the one that `make run` builds or `make install` installed")
+    found.add_argument("--log", action="store_true", help="tell each object that is fetched on standard error")
+    return found
+
+
+def main() -> int:
+    words = parser().parse_args()
+    signal.signal(signal.SIGTERM, lambda *_: sys.exit(1))
+    try:
+        run(words)
+    except Refusal as refusal:
+        tell(str(refusal))
+        return 1
+    except OSError as problem:
+        tell(f"{problem.filename}: {problem.strerror}" if problem.filename else str(problem))
+        return 1
+    except KeyboardInterrupt:
+        return 1
+    return 0
