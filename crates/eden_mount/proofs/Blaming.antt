@@ -48,7 +48,7 @@ still_wanted k j o false e = e
 some_key : Key
 some_key = record { kind = objects.Blob; id = record { bytes = [] } }
 
-module _ {T : Type 0} (A : Table T) (honest : Type 0) (opening : Tree) where
+module _ {T : Type 0} (A : Table T) (honest : Type 0) (copies : Bool) (opening : Tree) where
   -- what was read off the events is what the queue says
   record Hears (w : ℕ → Option Key) (P : Blames) (m : Core T) : Type 0 where
     waits : (c : ℕ) (k : Key) → IsPass c m.queue → want_of c m.queue ≡ Some k → w c ≡ Some k
@@ -112,7 +112,7 @@ module _ {T : Type 0} (A : Table T) (honest : Type 0) (opening : Tree) where
   same_all : (w : ℕ → Option Key) (P : Blames) (m k : Core T) → k.queue ≡ m.queue → Hears w P m → Hears w P k
   same_all w P m k is h = same_queue w P m k (ap (λ (q : Queue). q.wants) is) (ap (λ (q : Queue). q.marks) is) (ap (λ (q : Queue). q.passes) is) h
 
-  hears : (w : ℕ → Option Key) (P : Blames) (m k : Core T) (e : Event) (o : Outcome) → IsMount A honest opening m → Hears w P m → Steps A honest m k e o
+  hears : (w : ℕ → Option Key) (P : Blames) (m k : Core T) (e : Event) (o : Outcome) → IsMount A honest opening m → Hears w P m → Steps A honest copies m k e o
       → Hears (then_waits w e o) (then_heard w P e o) k
   hears w P m k _ _ h l (starts c q (Ok u) p) = same_all w P m k (ap (λ (x : Core T). x.queue) p.2) l
   hears w P m k _ _ h l (starts c q (Err x) p) = same_all w P m k (ap (λ (x : Core T). x.queue) p.1) l
@@ -157,17 +157,17 @@ module _ {T : Type 0} (A : Table T) (honest : Type 0) (opening : Tree) where
   only_fetches P c n (say.Fault fault.Overlay) f = tt
   only_fetches P c n (say.Fault fault.Numbers) f = tt
 
-  fetch_blamed : (w : ℕ → Option Key) (P : Blames) (m : Core T) (c : ℕ) (t u : T) (q : Request) (r : Reply) → Hears w P m → IsPass c m.queue → Replied A honest t q (mark_of c m.queue) r u
+  fetch_blamed : (w : ℕ → Option Key) (P : Blames) (m : Core T) (c : ℕ) (t u : T) (q : Request) (r : Reply) → Hears w P m → IsPass c m.queue → Replied A honest copies t q (mark_of c m.queue) r u
       → (id : Id) (x : Cause) → r ≡ say.Fault (fault.Fetch id x) → (k : Key) × (k.id ≡ id) × P c k x
   fetch_blamed w P m c t u q r l pass (attempted done) id x is = absurd (done.unfetched id x is)
-  fetch_blamed w P m c t u q r l pass (uncopied found done large memory) id x is = absurd (let both : say.Fault fault.Memory ≡ say.Fault (fault.Fetch id x) = sym memory ∙ is in cc both)
+  fetch_blamed w P m c t u q r l pass (uncopied lacking found done large memory) id x is = absurd (let both : say.Fault fault.Memory ≡ say.Fault (fault.Fetch id x) = sym memory ∙ is in cc both)
   fetch_blamed w P m c t u q r l pass (failed k y needs marked was) id x is =
       let both : say.Fault (fault.Fetch k.id y) ≡ say.Fault (fault.Fetch id x) = sym was ∙ is in
       let ids : k.id ≡ id = cc both in
       let causes : y ≡ x = cc both in
       (k, ids, subst (P c k) causes (l.heard c k y pass marked))
 
-  blamed : (w : ℕ → Option Key) (P : Blames) (m k : Core T) (e : Event) (o : Outcome) → IsMount A honest opening m → Hears w P m → Steps A honest m k e o → IsBlamed P e o
+  blamed : (w : ℕ → Option Key) (P : Blames) (m k : Core T) (e : Event) (o : Outcome) → IsMount A honest opening m → Hears w P m → Steps A honest copies m k e o → IsBlamed P e o
   blamed w P m k _ _ h l (starts c q r p) = tt
   blamed w P m k _ _ h l (turns c (Done n r) p) =
       let told = p.4 in
@@ -179,13 +179,13 @@ module _ {T : Type 0} (A : Table T) (honest : Type 0) (opening : Tree) where
   blamed w P m k _ _ h l (fails j x b p) = tt
   blamed w P m k _ _ h l (unloads q age gone p) = tt
 
-  all_blamed : (w : ℕ → Option Key) (P : Blames) (m m' : Core T) (es : List Event) (os : List Outcome) → Hears w P m → IsMount A honest opening m → Runs A honest opening m es os m'
+  all_blamed : (w : ℕ → Option Key) (P : Blames) (m m' : Core T) (es : List Event) (os : List Outcome) → Hears w P m → IsMount A honest opening m → Runs A honest copies opening m es os m'
       → AreBlamed w P es os
   all_blamed w P m m' [] os l h r = tt
   all_blamed w P m m' (e ∷ es) [] l h r = tt
   all_blamed w P m m' (e ∷ es) (o ∷ os) l h (k, step, kept, more) = (blamed w P m k e o h l step, all_blamed (then_waits w e o) (then_heard w P e o) k m' es os (hears w P m k e o h l step) kept more)
 
-  all_hear : (w : ℕ → Option Key) (P : Blames) (m m' : Core T) (es : List Event) (os : List Outcome) → Hears w P m → IsMount A honest opening m → Runs A honest opening m es os m' → (c : ℕ) (k : Key)
+  all_hear : (w : ℕ → Option Key) (P : Blames) (m m' : Core T) (es : List Event) (os : List Outcome) → Hears w P m → IsMount A honest opening m → Runs A honest copies opening m es os m' → (c : ℕ) (k : Key)
       → IsPass c m'.queue → want_of c m'.queue ≡ Some k → waits_after w es os c ≡ Some k
   all_hear w P m m' [] [] l h r c k s e =
       let now : Hears w P m' = same_all w P m m' (ap (λ (x : Core T). x.queue) r) l in
@@ -197,7 +197,7 @@ module _ {T : Type 0} (A : Table T) (honest : Type 0) (opening : Tree) where
   at_first : (m : Core T) → Hears (waits_of m) (heard_by m) m
   at_first m = record { waits = λ c k s e. e; heard = λ c k x s e. e }
 
-  pub fetch_faults_are_blamed : OfRuns A honest opening (λ m es os m'. AreBlamed (waits_of m) (heard_by m) es os)
+  pub fetch_faults_are_blamed : OfRuns A honest copies opening (λ m es os m'. AreBlamed (waits_of m) (heard_by m) es os)
   fetch_faults_are_blamed m m' es os h r = all_blamed (waits_of m) (heard_by m) m m' es os (at_first m) h r
 
   -- a pass that wants a key has a request pending
@@ -209,10 +209,10 @@ module _ {T : Type 0} (A : Table T) (honest : Type 0) (opening : Tree) where
       at (Some s) e = (s, (pass.0, e))
 
   -- some pending request waits for each queued key
-  pub queued_are_waited_for : OfRuns A honest opening (λ m es os m'. (k : Key) → has_key k m'.queue.queue ≡ true
+  pub queued_are_waited_for : OfRuns A honest copies opening (λ m es os m'. (k : Key) → has_key k m'.queue.queue ≡ true
       → (c : ℕ) × (s : Pending) × Pends c s m' × (waits_after (waits_of m) es os c ≡ Some k))
   queued_are_waited_for m m' es os h r k queued =
-      let now = runs_keep A honest opening m m' es os h r in
+      let now = runs_keep A honest copies opening m m' es os h r in
       let found = queued_are_wanted m'.queue k now.queue queued in
       let pending = pends_if_wants m' found.0 k now found.1 found.2 in
       (found.0, pending.0, pending.1, all_hear (waits_of m) (heard_by m) m m' es os (at_first m) h r found.0 k found.1 found.2)
@@ -234,7 +234,7 @@ module _ {T : Type 0} (A : Table T) (honest : Type 0) (opening : Tree) where
       → Flies (λ i. g i || same_key i j) k
   joined_flight g m k j h next is l = record { flies = λ i. ap (has_key i) is ∙ (one_is_taken m.queue j i h next).1 ∙ ap (λ b. b || same_key i j) (l.flies i) }
 
-  flown : (g : Key → Bool) (m k : Core T) (e : Event) (o : Outcome) → IsMount A honest opening m → Flies g m → Steps A honest m k e o → IsFlown g e o × Flies (then_flies g e o) k
+  flown : (g : Key → Bool) (m k : Core T) (e : Event) (o : Outcome) → IsMount A honest opening m → Flies g m → Steps A honest copies m k e o → IsFlown g e o × Flies (then_flies g e o) k
   flown g m k _ _ h l (starts c q (Ok u) p) = (tt, same_flight g m k (ap (λ (x : Core T). x.queue.flight) p.2) l)
   flown g m k _ _ h l (starts c q (Err x) p) = (tt, same_flight g m k (ap (λ (x : Core T). x.queue.flight) p.1) l)
   flown g m k _ _ h l (turns c (Done n r) p) = (tt, same_flight g m k (ap (λ (x : Core T). x.queue.flight) p.3 ∙ (quit_rest c (after_failure c m.queue)).0) l)
@@ -252,20 +252,21 @@ module _ {T : Type 0} (A : Table T) (honest : Type 0) (opening : Tree) where
   flown g m k _ _ h l (fails j x false p) = (p.0 ∙ l.flies j, same_flight g m k (ap (λ (x : Core T). x.queue.flight) p.1 ∙ ap (λ b. (cond b (after_failed j x m.queue) m.queue).flight) (sym p.0)) l)
   flown g m k _ _ h l (unloads q age gone p) = (tt, same_flight g m k (ap (λ (x : Core T). x.queue.flight) p.1) l)
 
-  all_flown : (g : Key → Bool) (m m' : Core T) (es : List Event) (os : List Outcome) → Flies g m → IsMount A honest opening m → Runs A honest opening m es os m' → AreFlown g es os
+  all_flown : (g : Key → Bool) (m m' : Core T) (es : List Event) (os : List Outcome) → Flies g m → IsMount A honest opening m → Runs A honest copies opening m es os m' → AreFlown g es os
   all_flown g m m' [] os l h r = tt
   all_flown g m m' (e ∷ es) [] l h r = tt
   all_flown g m m' (e ∷ es) (o ∷ os) l h (k, step, kept, more) =
       let one = flown g m k e o h l step in
       (one.0, all_flown (then_flies g e o) k m' es os one.1 kept more)
 
-  pub taken_once : OfRuns A honest opening (λ m es os m'. AreFlown (flies_in m) es os)
+  pub taken_once : OfRuns A honest copies opening (λ m es os m'. AreFlown (flies_in m) es os)
   taken_once m m' es os h r = all_flown (flies_in m) m m' es os (record { flies = λ j. refl }) h r
 
-  -- ---- one turn
+-- ---- one turn
 
+module _ {T : Type 0} (A : Table T) (honest : Type 0) (opening : Tree) where
   pub waits_stand : WaitsStand A honest opening
-  waits_stand m m' c k h h' (s, pends, is, waits) =
+  waits_stand copies m m' c k h h' (s, pends, is, waits) =
       let pass = pass_of A honest opening m c s h pends in
       let queue : m'.queue ≡ after_await k c (after_failure c m.queue) = ap (λ (x : Core T). x.queue) is in
       let passes : m'.queue.passes ≡ m.queue.passes = ap (λ (q : Queue). q.passes) queue ∙ (passes_keep_flight (after_failure c m.queue) k c).2.1 in
@@ -274,4 +275,4 @@ module _ {T : Type 0} (A : Table T) (honest : Type 0) (opening : Tree) where
       wanted_stand m'.queue k c h'.queue now want
 
   pub marked_wait_no_more : MarkedWaitNoMore A honest opening
-  marked_wait_no_more m m' c k j x mark (s, pends, is, waits) same = waits.awaits.unmarked x (mark ∙ ap (λ (i : Key). Some (i, x)) (sym same))
+  marked_wait_no_more copies m m' c k j x mark (s, pends, is, waits) same = waits.awaits.unmarked x (mark ∙ ap (λ (i : Key). Some (i, x)) (sym same))

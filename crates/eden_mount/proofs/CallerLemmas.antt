@@ -49,40 +49,40 @@ module _ {T : Type 0} (A : Table T) where
   start_stays m n c q (Ok u) (free, few, is) = stays_at m n (ap (λ (x : Core T). x.table) is) (ap (λ (x : Core T). x.queue.passes) is) (ap (λ (x : Core T). x.limit) is)
   start_stays m n c q (Err f) (why, is) = stays_at m n (ap (λ (x : Core T). x.table) is) (ap (λ (x : Core T). x.queue.passes) is) (ap (λ (x : Core T). x.limit) is)
 
-  replied_commit : (honest : Type 0) (t u : T) (q : Request) (mark : Option Mark) (r : Reply) → Replied A honest t q mark r u → A.commit u ≡ A.commit t
-  replied_commit honest t u q mark r (attempted done) = done.commit
-  replied_commit honest t u q mark r (uncopied found done large memory) = done.commit
-  replied_commit honest t u q mark r (failed k x needs marked was) = needs.commit
+  replied_commit : (honest : Type 0) (copies : Bool) (t u : T) (q : Request) (mark : Option Mark) (r : Reply) → Replied A honest copies t q mark r u → A.commit u ≡ A.commit t
+  replied_commit honest copies t u q mark r (attempted done) = done.commit
+  replied_commit honest copies t u q mark r (uncopied lacking found done large memory) = done.commit
+  replied_commit honest copies t u q mark r (failed k x needs marked was) = needs.commit
 
-  replied_next : (honest : Type 0) (t u : T) (q : Request) (mark : Option Mark) (r : Reply) → Replied A honest t q mark r u → A.next t ≤ A.next u
-  replied_next honest t u q mark r (attempted done) = done.next
-  replied_next honest t u q mark r (uncopied found done large memory) = done.next
-  replied_next honest t u q mark r (failed k x needs marked was) = needs.next
+  replied_next : (honest : Type 0) (copies : Bool) (t u : T) (q : Request) (mark : Option Mark) (r : Reply) → Replied A honest copies t q mark r u → A.next t ≤ A.next u
+  replied_next honest copies t u q mark r (attempted done) = done.next
+  replied_next honest copies t u q mark r (uncopied lacking found done large memory) = done.next
+  replied_next honest copies t u q mark r (failed k x needs marked was) = needs.next
 
   -- a reply leaves the commit, and gives no number again
-  pub replied_stays : (honest : Type 0) (t b u : T) (q : Request) (mark : Option Mark) (r : Reply) → A.commit b ≡ A.commit t → A.next b ≡ A.next t → Replied A honest b q mark r u
+  pub replied_stays : (honest : Type 0) (copies : Bool) (t b u : T) (q : Request) (mark : Option Mark) (r : Reply) → A.commit b ≡ A.commit t → A.next b ≡ A.next t → Replied A honest copies b q mark r u
       → (A.commit u ≡ A.commit t) × (A.next t ≤ A.next u)
-  replied_stays honest t b u q mark r commit next replied = (
-    replied_commit honest b u q mark r replied ∙ commit,
-    no_less (A.next t) (A.next b) (A.next u) (same_next (A.next t) (A.next b) next) (replied_next honest b u q mark r replied),
+  replied_stays honest copies t b u q mark r commit next replied = (
+    replied_commit honest copies b u q mark r replied ∙ commit,
+    no_less (A.next t) (A.next b) (A.next u) (same_next (A.next t) (A.next b) next) (replied_next honest copies b u q mark r replied),
   )
 
-  pub turn_stays : (honest : Type 0) (m n : Core T) (c : ℕ) (t : Turned) → Turns A honest m c t n → Stays A m n
-  turn_stays honest m n c (Done k r) (s, pends, number, is, told) =
-      let table = replied_stays honest m.table told.begun n.table s.request _ r told.ticks.commit told.ticks.next told.replied in
+  pub turn_stays : (honest : Type 0) (copies : Bool) (m n : Core T) (c : ℕ) (t : Turned) → Turns A honest copies m c t n → Stays A m n
+  turn_stays honest copies m n c (Done k r) (s, pends, number, is, told) =
+      let table = replied_stays honest copies m.table told.begun n.table s.request _ r told.ticks.commit told.ticks.next told.replied in
       record {
         commit = table.0;
         next = table.1;
         passes = ap (λ (x : Core T). x.queue.passes) is ∙ (quit_rest c (after_failure c m.queue)).1;
         limit = ap (λ (x : Core T). x.limit) is;
       }
-  turn_stays honest m n c (Wait k) (s, pends, is, waits) = record {
+  turn_stays honest copies m n c (Wait k) (s, pends, is, waits) = record {
     commit = waits.awaits.needs.commit ∙ waits.ticks.commit;
     next = no_less (A.next m.table) (A.next waits.begun) (A.next n.table) (same_next (A.next m.table) (A.next waits.begun) waits.ticks.next) waits.awaits.needs.next;
     passes = ap (λ (x : Core T). x.queue.passes) is ∙ (passes_keep_flight (after_failure c m.queue) k c).2.1;
     limit = ap (λ (x : Core T). x.limit) is;
   }
-  turn_stays honest m n c Idle (none, ticks, is) = record {
+  turn_stays honest copies m n c Idle (none, ticks, is) = record {
     commit = ticks.commit;
     next = same_next (A.next m.table) (A.next n.table) ticks.next;
     passes = ap (λ (x : Core T). x.queue.passes) is;

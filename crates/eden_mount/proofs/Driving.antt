@@ -1,5 +1,5 @@
 -- One caller's request, driven to its reply.
-use Rattle.std.proofs.Common.{◌≡◌, ◌≤◌, ◌<◌, ◌+◌, ◌-◌, ◌*◌, ◌||◌, ◌⊎◌, not, ℕ, cond, List, [], ◌∷◌, ◌++◌, length, drop, Option, Some, None, Ok, Err, slice_index_or, slice_get, nat_lt, true, lt-ltb, inl, inr, refl, sym, ap, ◌∙◌, subst, ⊎_elim, arith}
+use Rattle.std.proofs.Common.{Bool, ◌≡◌, ◌≤◌, ◌<◌, ◌+◌, ◌-◌, ◌*◌, ◌||◌, ◌⊎◌, not, ℕ, cond, List, [], ◌∷◌, ◌++◌, length, drop, Option, Some, None, Ok, Err, slice_index_or, slice_get, nat_lt, true, lt-ltb, inl, inr, refl, sym, ap, ◌∙◌, subst, ⊎_elim, arith}
 use Rattle.std.proofs.Math.ListN.{set}
 use Rattle.std.specs.Option.{option_map_or}
 use Rattle.std.proofs.lemmas.List.{get_or-set_same}
@@ -261,8 +261,8 @@ module _ {T : Type 0} (A : Table T) (honest : Type 0) where
     seats : m2.seats ≡ m.seats
     stays : Stays A m m2
 
-  flies : (q : Request) (m m1 m2 : Core T) (k j : Key) → IsQueue m2.queue → IsDriven A q m → Turns A honest m 1 (Wait k) m1 → Takes m1 (Some j) m2 → Flies q m m2 k j
-  flies q m m1 m2 k j kept2 h (s, p, is, w) (next, is2) =
+  flies : (copies : Bool) (q : Request) (m m1 m2 : Core T) (k j : Key) → IsQueue m2.queue → IsDriven A q m → Turns A honest copies m 1 (Wait k) m1 → Takes m1 (Some j) m2 → Flies q m m2 k j
+  flies copies q m m1 m2 k j kept2 h (s, p, is, w) (next, is2) =
       let old : Queue = after_failure 1 m.queue in
       let asked : s.request ≡ q = ap (λ (x : Pending). x.request) (same_seat A m s h.seat p h.pends) ∙ h.request in
       let wait : WaitsBy A honest m.table q (mark_of 1 m.queue) k m1.table = subst (λ (y : Request). WaitsBy A honest m.table y (mark_of 1 m.queue) k m1.table) asked w in
@@ -293,19 +293,19 @@ module _ {T : Type 0} (A : Table T) (honest : Type 0) where
         some = subst (λ (t : T). 1 ≤ A.left t q) (sym table) wait.awaits.needs.some;
         history = ap (λ (x : Core T). x.history) is2 ∙ ap (λ (x : Core T). x.history) is;
         seats = seats;
-        stays = stays_on A m m1 m2 (turn_stays A honest m m1 1 (Wait k) (s, p, is, w)) (take_stays A m1 m2 (Some j) (next, is2));
+        stays = stays_on A m m1 m2 (turn_stays A honest copies m m1 1 (Wait k) (s, p, is, w)) (take_stays A m1 m2 (Some j) (next, is2));
       }
 
-module _ {S : Type 0} (fetched : S → Id → Answer → S → Type 0) {T : Type 0} (A : Table T) (honest : Type 0) (q : Request) where
+module _ {S : Type 0} (fetched : S → Id → Answer → S → Type 0) {T : Type 0} (A : Table T) (honest : Type 0) (copies : Bool) (q : Request) where
   -- what came of the key that was waited for
   came_of : (m m2 m3 : Core T) (s t : S) (k j : Key) → j ≡ k → (hand : Hands fetched A m2 s j m3 t) → Comes A m2 (record { key = k; answer = hand.answer }) m3
   came_of m m2 m3 s t k j same hand = subst (λ (i : Key). Comes A m2 (record { key = i; answer = hand.answer }) m3) same hand.came
 
   -- after one round the caller goes on, with fewer turns to come
-  pub round_goes : (m m1 m2 m3 : Core T) (s t : S) (k j : Key) → IsQueue m2.queue → IsQueue m3.queue → IsDriven A q m → Turns A honest m 1 (Wait k) m1 → Takes m1 (Some j) m2
+  pub round_goes : (m m1 m2 m3 : Core T) (s t : S) (k j : Key) → IsQueue m2.queue → IsQueue m3.queue → IsDriven A q m → Turns A honest copies m 1 (Wait k) m1 → Takes m1 (Some j) m2
       → Hands fetched A m2 s j m3 t → IsDriven A q m3 × (drive_size A m3 < drive_size A m)
   round_goes m m1 m2 m3 s t k j kept2 kept3 h turn take hand =
-      let f = flies A honest q m m1 m2 k j kept2 h turn take in
+      let f = flies A honest copies q m m1 m2 k j kept2 h turn take in
       let g = goes A q k hand.answer m2 m3 kept3 f.flying (came_of m m2 m3 s t k j f.same hand) in
       let less = fewer_turns A (mark_of 1 m.queue) (A.left m.table q) (A.left m2.table q) q (record { key = k; answer = hand.answer }) m2 m3 refl f.within f.some g.how in
       (g.driven, subst (λ n. n < drive_size A m) (sym (size_of A q m3 g.driven)) (subst (λ n. turns_left (mark_of 1 m3.queue) (A.left m3.table q) < n) (sym (size_of A q m h)) less))
@@ -317,10 +317,10 @@ module _ {S : Type 0} (fetched : S → Id → Answer → S → Type 0) {T : Type
     by (inl (k, o, stores)) = storing m.table m'.table v k o stores rest
     by (inr same) = subst (λ (t : T). LeadsTo A honest q t v) same rest
 
-  pub done_drives : (m m' : Core T) (s : S) (n : ℕ) (r : Reply) → IsDriven A q m → Turns A honest m 1 (Done n r) m' → Drives fetched A honest q m s r m' s
+  pub done_drives : (m m' : Core T) (s : S) (n : ℕ) (r : Reply) → IsDriven A q m → Turns A honest copies m 1 (Done n r) m' → Drives fetched A honest copies q m s r m' s
   done_drives m m' s n r h (p, pends, number, is, told) =
       let asked : p.request ≡ q = ap (λ (x : Pending). x.request) (same_seat A m p h.seat pends h.pends) ∙ h.request in
-      let mine : ToldBy A honest m.table q (mark_of 1 m.queue) r m'.table = subst (λ (x : Request). ToldBy A honest m.table x (mark_of 1 m.queue) r m'.table) asked told in
+      let mine : ToldBy A honest copies m.table q (mark_of 1 m.queue) r m'.table = subst (λ (x : Request). ToldBy A honest copies m.table x (mark_of 1 m.queue) r m'.table) asked told in
       let queue : m'.queue ≡ after_failure 1 (after_failure 1 m.queue) = ap (λ (x : Core T). x.queue) is ∙ quit_alone (after_failure 1 m.queue) h.unwanting in
       record {
         asks = [];
@@ -333,13 +333,13 @@ module _ {S : Type 0} (fetched : S → Id → Answer → S → Type 0) {T : Type
           queue = ap (λ (x : Queue). x.queue) queue ∙ h.quiet.queue;
           flight = ap (λ (x : Queue). x.flight) queue ∙ h.quiet.flight;
         };
-        stays = turn_stays A honest m m' 1 (Done n r) (p, pends, number, is, told);
+        stays = turn_stays A honest copies m m' 1 (Done n r) (p, pends, number, is, told);
         failed = λ id x e. inr (why mine.begun m'.table id x e mine.replied);
       }
     where
-      why : (t u : T) (id : Id) (x : Cause) → r ≡ say.Fault (fault.Fetch id x) → Replied A honest t q (mark_of 1 m.queue) r u → (k : Key) × (k.id ≡ id) × (mark_of 1 m.queue ≡ Some (k, x))
+      why : (t u : T) (id : Id) (x : Cause) → r ≡ say.Fault (fault.Fetch id x) → Replied A honest copies t q (mark_of 1 m.queue) r u → (k : Key) × (k.id ≡ id) × (mark_of 1 m.queue ≡ Some (k, x))
       why t u id x e (attempted done) = absurd (done.unfetched id x e)
-      why t u id x e (uncopied found done large memory) = absurd (let both : say.Fault fault.Memory ≡ say.Fault (fault.Fetch id x) = sym memory ∙ e in cc both)
+      why t u id x e (uncopied lacking found done large memory) = absurd (let both : say.Fault fault.Memory ≡ say.Fault (fault.Fetch id x) = sym memory ∙ e in cc both)
       why t u id x e (failed k z needs marked was) =
           let both : say.Fault (fault.Fetch k.id z) ≡ say.Fault (fault.Fetch id x) = sym was ∙ e in
           let ids : k.id ≡ id = cc both in
@@ -347,10 +347,10 @@ module _ {S : Type 0} (fetched : S → Id → Answer → S → Type 0) {T : Type
           (k, ids, marked ∙ ap (λ (c : Cause). Some (k, c)) causes)
 
   -- one more round, and then the rest
-  pub round_drives : (m m1 m2 m3 m' : Core T) (s t u : S) (k j : Key) (r : Reply) → IsQueue m2.queue → IsQueue m3.queue → IsDriven A q m → Turns A honest m 1 (Wait k) m1 → Takes m1 (Some j) m2
-      → Hands fetched A m2 s j m3 t → (IsDriven A q m3 → Drives fetched A honest q m3 t r m' u) → Drives fetched A honest q m s r m' u
+  pub round_drives : (m m1 m2 m3 m' : Core T) (s t u : S) (k j : Key) (r : Reply) → IsQueue m2.queue → IsQueue m3.queue → IsDriven A q m → Turns A honest copies m 1 (Wait k) m1 → Takes m1 (Some j) m2
+      → Hands fetched A m2 s j m3 t → (IsDriven A q m3 → Drives fetched A honest copies q m3 t r m' u) → Drives fetched A honest copies q m s r m' u
   round_drives m m1 m2 m3 m' s t u k j r kept2 kept3 h turn take hand rest =
-      let f = flies A honest q m m1 m2 k j kept2 h turn take in
+      let f = flies A honest copies q m m1 m2 k j kept2 h turn take in
       let g = goes A q k hand.answer m2 m3 kept3 f.flying (came_of m m2 m3 s t k j f.same hand) in
       let d = rest g.driven in
       let a : Asked = record { key = k; answer = hand.answer } in
@@ -400,9 +400,9 @@ module _ {T : Type 0} (A : Table T) (honest : Type 0) (opening : Tree) (q : Requ
         marked = λ k x e. absurd (let both : None ≡ Some (k, x) = sym idle.1 ∙ sym (ap (mark_of 1) queue) ∙ e in cc both);
       }
 
-  pub started_serves : {S : Type 0} (fetched : S → Id → Answer → S → Type 0) (m' : Core T) (s t : S) (reply : Reply) → ((u : T) (p : Request) → A.left u p ≤ most_objects p)
-      → Drives fetched A honest q m1 s reply m' t → Serves fetched A honest q m s reply m' t
-  started_serves fetched m' s t reply most d =
+  pub started_serves : {S : Type 0} (copies : Bool) (fetched : S → Id → Answer → S → Type 0) (m' : Core T) (s t : S) (reply : Reply) → ((u : T) (p : Request) → A.left u p ≤ most_objects p)
+      → Drives fetched A honest copies q m1 s reply m' t → Serves fetched A honest copies q m s reply m' t
+  started_serves copies fetched m' s t reply most d =
       let clear : mark_of 1 m1.queue ≡ None = ap (λ (x : Core T). mark_of 1 x.queue) is ∙ (h.rests 1 free).1 in
       let few : length d.asks ≤ A.left m1.table q = subst (λ o. length d.asks ≤ budget o (A.left m1.table q)) clear d.few in
       let bound : A.left m1.table q ≤ most_objects q = most m1.table q in
@@ -410,7 +410,7 @@ module _ {T : Type 0} (A : Table T) (honest : Type 0) (opening : Tree) (q : Requ
         asks = d.asks;
         asked = d.asked;
         few = omega (arith, few, bound);
-        told = subst (λ (t : T). IsTold A honest q reply t m'.table) (ap (λ (x : Core T). x.table) is) d.told;
+        told = subst (λ (t : T). IsTold A honest copies q reply t m'.table) (ap (λ (x : Core T). x.table) is) d.told;
         history = d.history ∙ ap (λ (x : Core T). x.history ++ entry 1 q reply ∷ []) is;
         rest = record {
           quiet = d.quiet;

@@ -138,12 +138,12 @@ module _ {T : Type 0} (A : Table T) (honest : Type 0) (opening : Tree) where
     faulted : (f : Fault) → r ≡ say.Fault f → A.shown u ≡ A.shown t → IsTold t u q r
     faulted f is same = (λ plain. absurd (let x : None ≡ Some f = sym plain ∙ ap fault_of is in cc x), same ∙ ap (after (A.shown t) q) (sym is))
 
-    replied_is_tables : (mark : Option Mark) → Replied A honest t q mark r u → IsTold t u q r
-    replied_is_tables mark (attempted done) = (done.reply honestly, done.tree honestly)
-    replied_is_tables mark (uncopied found done large is) =
+    replied_is_tables : (copies : Bool) (mark : Option Mark) → Replied A honest copies t q mark r u → IsTold t u q r
+    replied_is_tables copies mark (attempted done) = (done.reply honestly, done.tree honestly)
+    replied_is_tables copies mark (uncopied lacking found done large is) =
         let says = done.reply honestly (payload_is_no_fault found large) in
         faulted fault.Memory is (done.tree honestly ∙ payload_keeps (A.shown t) q found says large)
-    replied_is_tables mark (failed k x needs marked is) = faulted (fault.Fetch k.id x) is (needs.tree honestly)
+    replied_is_tables copies mark (failed k x needs marked is) = faulted (fault.Fetch k.id x) is (needs.tree honestly)
 
   pub pass_of : (m : Core T) (c : ℕ) (s : Pending) → IsMount A honest opening m → Pends c s m → IsPass c m.queue
   pass_of m c s h pends =
@@ -151,10 +151,10 @@ module _ {T : Type 0} (A : Table T) (honest : Type 0) (opening : Tree) where
       let inside = within_if_some m.seats (c - 1) s pends.1 in
       (pends.0, omega (arith, inside, seats))
 
-  pub turn_keeps : (m : Core T) (c : ℕ) (s : Pending) (r : Reply) (t : T) (q : Queue) (es : List Entry) → IsMount A honest opening m → Pends c s m → IsQueue q
-      → q ≡ after_quit c (after_failure c m.queue) → es ≡ m.history ++ entry c s.request r ∷ [] → Replied A honest m.table s.request (mark_of c m.queue) r t
+  pub turn_keeps : (copies : Bool) (m : Core T) (c : ℕ) (s : Pending) (r : Reply) (t : T) (q : Queue) (es : List Entry) → IsMount A honest opening m → Pends c s m → IsQueue q
+      → q ≡ after_quit c (after_failure c m.queue) → es ≡ m.history ++ entry c s.request r ∷ [] → Replied A honest copies m.table s.request (mark_of c m.queue) r t
       → IsMount A honest opening (core_from t q (set m.seats (c - 1) None) es m.limit)
-  turn_keeps m c s r t q es h pends i is grown replied = record {
+  turn_keeps copies m c s r t q es h pends i is grown replied = record {
     queue = i;
     seats = length-set m.seats (c - 1) None ∙ h.seats ∙ sym passes;
     rests = λ x free. rest x (subst (λ n. (1 ≤ x) × (x ≤ n)) passes free.0) free.1 (x == c) refl;
@@ -185,7 +185,7 @@ module _ {T : Type 0} (A : Table T) (honest : Type 0) (opening : Tree) where
       written x low = write_one m.seats m.queue.passes c x None None h.seats pass.0 pass.1 low
 
       tables : honest → IsTold m.table t s.request r
-      tables honestly = replied_is_tables m.table t s.request r honestly (mark_of c m.queue) replied
+      tables honestly = replied_is_tables m.table t s.request r honestly copies (mark_of c m.queue) replied
 
       want : (x : ℕ) → IsPass x m.queue → want_of x q ≡ cond (x == c) None (want_of x m.queue)
       want x at = ap (want_of x) is ∙ wants_after_done m.queue c x h.queue pass at

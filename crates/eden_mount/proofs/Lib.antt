@@ -3,6 +3,7 @@ mod SeatLemmas
 mod TurnLemmas
 mod Payloads
 mod Keeping
+mod Telling
 mod Running
 mod Blaming
 mod Driving

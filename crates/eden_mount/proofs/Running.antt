@@ -25,13 +25,13 @@ pub taken_passes : (q : Queue) (o : Option Key) → (after_take o q).passes ≡ 
 taken_passes q None = refl
 taken_passes q (Some k) = refl
 
-module _ {T : Type 0} (A : Table T) (honest : Type 0) (opening : Tree) where
+module _ {T : Type 0} (A : Table T) (honest : Type 0) (copies : Bool) (opening : Tree) where
   -- the events were answered so, one after another, and after each there was a mount
   abbrev pub Runs : Core T → List Event → List Outcome → Core T → Type 0
   Runs m [] [] m' = m' ≡ m
   Runs m [] (o ∷ os) m' = ⊥
   Runs m (e ∷ es) [] m' = ⊥
-  Runs m (e ∷ es) (o ∷ os) m' = (k : Core T) × Steps A honest m k e o × IsMount A honest opening k × Runs k es os m'
+  Runs m (e ∷ es) (o ∷ os) m' = (k : Core T) × Steps A honest copies m k e o × IsMount A honest opening k × Runs k es os m'
 
   -- of every run, from any mount
   abbrev pub OfRuns : (Core T → List Event → List Outcome → Core T → Type 0) → Type 0
@@ -78,7 +78,7 @@ module _ {T : Type 0} (A : Table T) (honest : Type 0) (opening : Tree) where
       × (length k.history ≡ length m.history)
   quiet f b m k l s h = (same_seats f b m k s l, h ∙ sym (append-nil m.history), ap length h)
 
-  follows : (f : ℕ → Option Request) (b : ℕ → Option ℕ) (m k : Core T) (e : Event) (o : Outcome) → IsMount A honest opening m → Links f b m → Steps A honest m k e o → Follows f b m k e o
+  follows : (f : ℕ → Option Request) (b : ℕ → Option ℕ) (m k : Core T) (e : Event) (o : Outcome) → IsMount A honest opening m → Links f b m → Steps A honest copies m k e o → Follows f b m k e o
   follows f b m k _ _ h l (starts c q (Ok u) p) =
       let is = p.2 in
       let seats = h.seats in
@@ -171,7 +171,7 @@ module _ {T : Type 0} (A : Table T) (honest : Type 0) (opening : Tree) where
 
   -- ---- answers
 
-  passes_stay : (m k : Core T) (e : Event) (o : Outcome) → Steps A honest m k e o → k.queue.passes ≡ m.queue.passes
+  passes_stay : (m k : Core T) (e : Event) (o : Outcome) → Steps A honest copies m k e o → k.queue.passes ≡ m.queue.passes
   passes_stay m k _ _ (starts c q (Ok u) p) = ap (λ (x : Core T). x.queue.passes) p.2
   passes_stay m k _ _ (starts c q (Err x) p) = ap (λ (x : Core T). x.queue.passes) p.1
   passes_stay m k _ _ (turns c (Done n r) p) = ap (λ (x : Core T). x.queue.passes) p.3 ∙ (quit_rest c (after_failure c m.queue)).1
@@ -199,7 +199,7 @@ module _ {T : Type 0} (A : Table T) (honest : Type 0) (opening : Tree) where
         at None is = is
         at (Some s) is = absurd (never s (low, is))
 
-    answered : (k : Core T) (e : Event) (o : Outcome) → Steps A honest m k e o → IsAnswered m.queue.passes f e o
+    answered : (k : Core T) (e : Event) (o : Outcome) → Steps A honest copies m k e o → IsAnswered m.queue.passes f e o
     answered k _ _ (starts c q (Ok u) p) = (p.0.0.0, p.0.0.1, asks_none c p.0.0.0 p.0.1)
     answered k _ _ (starts c q (Err NoPass) p) = p.0
     answered k _ _ (starts c q (Err Busy) p) = asks_some c p.0.1 p.0.2

@@ -30,12 +30,12 @@ abbrev pub AreHonest : Repository → List Event → Type 0
 AreHonest R [] = Unit {0}
 AreHonest R (e ∷ es) = IsHonestEvent R e × AreHonest R es
 
-module _ {T : Type 0} (A : Table T) (honest : Type 0) where
+module _ {T : Type 0} (A : Table T) (honest : Type 0) (copies : Bool) where
   -- the event was answered so, which left the mount as the second says
   pub data Steps (m m' : Core T) : Event → Outcome → Type 0 where
     starts : (c : ℕ) (q : Request) (r : Result Unit StartFault) → Starts m c q r m'
         → Steps m m' (event.Start c q) (outcome.Start r)
-    turns : (c : ℕ) (t : Turned) → Turns A honest m c t m' → Steps m m' (event.Turn c) (outcome.Turn t)
+    turns : (c : ℕ) (t : Turned) → Turns A honest copies m c t m' → Steps m m' (event.Turn c) (outcome.Turn t)
     takes : (o : Option Key) → Takes m o m' → Steps m m' event.Take (outcome.Take o)
     arrives : (k : Key) (bytes : List ℕ) (a : Arrived) → Arrives A m k bytes a m'
         → Steps m m' (event.Arrive k bytes) (outcome.Arrive a)

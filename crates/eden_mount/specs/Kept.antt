@@ -21,7 +21,7 @@ module _ {T : Type 0} (A : Table T) (honest : Type 0) (opening : Tree) where
     pub rests : (c : ℕ) → IsFree c m → (want_of c m.queue ≡ None) × (mark_of c m.queue ≡ None)
     -- each pending request has its place in the history
     pub room : taken_room m ≤ m.limit
-    pub limit : m.limit < 2 ^ 32
+    pub limit : m.limit < 2 ^ 64
     -- each began within the history
     pub since : (c : ℕ) (s : Pending) → Pends c s m → s.since ≤ length m.history
     -- each entry is one of its passes'
@@ -30,6 +30,6 @@ module _ {T : Type 0} (A : Table T) (honest : Type 0) (opening : Tree) where
     pub legal : honest → Legal opening m.history
     pub shown : honest → A.shown m.table ≡ replay opening m.history
 
-  -- .. and its entry finds room in the history's capacity
+  -- .. and its entry finds room in the history
   abbrev pub IsHeld : ℕ → Core T → Type 0
-  IsHeld capacity m = IsMount m × (taken_room m ≤ capacity)
+  IsHeld room m = IsMount m × (taken_room m ≤ room)

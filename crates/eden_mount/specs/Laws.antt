@@ -1,5 +1,5 @@
 -- What holds of every turn that ends in a wait.
-use Rattle.std.specs.Prelude.{◌≡◌, ◌≢◌, ℕ, true, Some}
+use Rattle.std.specs.Prelude.{◌≡◌, ◌≢◌, ℕ, Bool, true, Some}
 use Rattle.eden_model.specs.declared.fault.Cause.{Cause}
 use Rattle.eden_model.specs.declared.id.Key.{Key}
 use Rattle.eden_model.specs.Trees.{Tree}
@@ -13,10 +13,10 @@ use Rattle.eden_mount.specs.Kept.{IsMount}
 module _ {T : Type 0} (A : Table T) (honest : Type 0) (opening : Tree) where
   -- the key that a turn waits for is then queued or in flight
   abbrev pub WaitsStand : Type 0
-  WaitsStand = (m m' : Core T) (c : ℕ) (k : Key) → IsMount A honest opening m → IsMount A honest opening m'
-      → Turns A honest m c (Wait k) m' → stands k m'.queue ≡ true
+  WaitsStand = (copies : Bool) (m m' : Core T) (c : ℕ) (k : Key) → IsMount A honest opening m → IsMount A honest opening m'
+      → Turns A honest copies m c (Wait k) m' → stands k m'.queue ≡ true
 
   -- a marked request that needs the marked key is told so, and waits for it no more
   abbrev pub MarkedWaitNoMore : Type 0
-  MarkedWaitNoMore = (m m' : Core T) (c : ℕ) (k j : Key) (x : Cause) → mark_of c m.queue ≡ Some (k, x)
-      → Turns A honest m c (Wait j) m' → j ≢ k
+  MarkedWaitNoMore = (copies : Bool) (m m' : Core T) (c : ℕ) (k j : Key) (x : Cause) → mark_of c m.queue ≡ Some (k, x)
+      → Turns A honest copies m c (Wait j) m' → j ≢ k

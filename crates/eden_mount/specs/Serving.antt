@@ -1,5 +1,5 @@
 -- What one caller's call promises, and what its source was asked for.
-use Rattle.std.specs.Prelude.{◌≡◌, ◌≤◌, ◌⊎◌, ◌-◌, ◌++◌, ℕ, List, [], ◌∷◌, length, slice_set, Option, Some, None, Result, Ok, Err, MatchResult}
+use Rattle.std.specs.Prelude.{◌≡◌, ◌≤◌, ◌⊎◌, ◌-◌, ◌++◌, ℕ, Bool, List, [], ◌∷◌, length, slice_set, Option, Some, None, Result, Ok, Err, MatchResult}
 use Rattle.eden_model.specs.declared.fault.Cause.{Cause}
 use Rattle.eden_model.specs.declared.fault.Fault.TheVariants as fault
 use Rattle.eden_model.specs.declared.fault.StartFault.{StartFault}
@@ -83,11 +83,11 @@ pub data LeadsTo {T : Type 0} (A : Table T) (honest : Type 0) (q : Request) : T 
   storing : (t u v : T) (k : Key) (o : Body) → Stores A t k o u → LeadsTo A honest q u v → LeadsTo A honest q t v
 
 -- the last turn told the reply, on what those before it had made of the table t
-pub record IsTold {T : Type 0} (A : Table T) (honest : Type 0) (q : Request) (r : Reply) (t u : T) : Type 0 where
+pub record IsTold {T : Type 0} (A : Table T) (honest : Type 0) (copies : Bool) (q : Request) (r : Reply) (t u : T) : Type 0 where
   pub before : T
   pub led : LeadsTo A honest q t before
   pub mark : Option Mark
-  pub told : ToldBy A honest before q mark r u
+  pub told : ToldBy A honest copies before q mark r u
 
 module _ {S : Type 0} (fetched : S → Id → Answer → S → Type 0) {T : Type 0} (A : Table T) where
   -- the source was asked for the key, and its answer was handed in
@@ -97,11 +97,11 @@ module _ {S : Type 0} (fetched : S → Id → Answer → S → Type 0) {T : Type
     pub came : Comes A m (record { key = k; answer = answer }) m'
 
   -- the caller's request was driven to its reply
-  pub record Drives (honest : Type 0) (q : Request) (m : Core T) (s : S) (r : Reply) (m' : Core T) (t : S) : Type 0 where
+  pub record Drives (honest : Type 0) (copies : Bool) (q : Request) (m : Core T) (s : S) (r : Reply) (m' : Core T) (t : S) : Type 0 where
     pub asks : List Asked
     pub asked : Fetches fetched s (heard asks) t
     pub few : length asks ≤ budget (mark_of 1 m.queue) (A.left m.table q)
-    pub told : IsTold A honest q r m.table m'.table
+    pub told : IsTold A honest copies q r m.table m'.table
     pub history : m'.history ≡ m.history ++ entry 1 q r ∷ []
     pub seats : m'.seats ≡ slice_set m.seats 0 None
     pub quiet : IsQuiet m'
@@ -109,26 +109,26 @@ module _ {S : Type 0} (fetched : S → Id → Answer → S → Type 0) {T : Type
     pub failed : (id : Id) (x : Cause) → r ≡ say.Fault (fault.Fetch id x)
         → HasFailed asks id x ⊎ ((k : Key) × (k.id ≡ id) × (mark_of 1 m.queue ≡ Some (k, x)))
 
-  abbrev pub DrivesOn : Type 0 → Core T → S → Reply → Core T → S → Type 0
-  DrivesOn honest m s r m' t = (q : Request) → IsDriven A q m → Drives honest q m s r m' t
+  abbrev pub DrivesOn : Type 0 → Bool → Core T → S → Reply → Core T → S → Type 0
+  DrivesOn honest copies m s r m' t = (q : Request) → IsDriven A q m → Drives honest copies q m s r m' t
 
   -- A request was served: the source was asked for at most one object for each place on its paths, the history has its
   -- entry, a fault has its cause in what the caller's own turns made of the table, and a fetch fault is of an object that was
   -- asked for and failed.
-  pub record Serves (honest : Type 0) (q : Request) (m : Core T) (s : S) (r : Reply) (m' : Core T) (t : S) : Type 0 where
+  pub record Serves (honest : Type 0) (copies : Bool) (q : Request) (m : Core T) (s : S) (r : Reply) (m' : Core T) (t : S) : Type 0 where
     pub asks : List Asked
     pub asked : Fetches fetched s (heard asks) t
     pub few : length asks ≤ most_objects q
-    pub told : IsTold A honest q r m.table m'.table
+    pub told : IsTold A honest copies q r m.table m'.table
     pub history : m'.history ≡ m.history ++ entry 1 q r ∷ []
     pub rest : IsAtRest m'
     pub stays : Stays A m m'
     pub failed : (id : Id) (x : Cause) → r ≡ say.Fault (fault.Fetch id x) → HasFailed asks id x
 
   -- .. or refused, and nothing changed
-  abbrev pub Answers : Type 0 → Request → Core T → S → Result Reply StartFault → Core T → S → Type 0
-  Answers honest q m s (Ok r) m' t = Serves honest q m s r m' t
-  Answers honest q m s (Err f) m' t = IsRefused m 1 f × (m' ≡ m) × (t ≡ s)
+  abbrev pub Answers : Type 0 → Bool → Request → Core T → S → Result Reply StartFault → Core T → S → Type 0
+  Answers honest copies q m s (Ok r) m' t = Serves honest copies q m s r m' t
+  Answers honest copies q m s (Err f) m' t = IsRefused m 1 f × (m' ≡ m) × (t ≡ s)
 
 -- ---- a mount, the source that its caller asks, and the last reply
 
@@ -141,10 +141,10 @@ pub record Desk (T S : Type 0) : Type 0 where
 abbrev pub Declines : {T S : Type 0} → Desk T S → StartFault → Desk T S → Type 0
 Declines d f d' = IsRefused d.core 1 f × (d' ≡ d)
 
-module _ {S : Type 0} (fetched : S → Id → Answer → S → Type 0) {T : Type 0} (A : Table T) (honest : Type 0) (q : Request) where
+module _ {S : Type 0} (fetched : S → Id → Answer → S → Type 0) {T : Type 0} (A : Table T) (honest : Type 0) (copies : Bool) (q : Request) where
   -- a request was served, and its reply lies there
   abbrev pub IsServed : Desk T S → Desk T S → Type 0
-  IsServed d d' = Serves fetched A honest q d.core d.source d'.reply d'.core d'.source
+  IsServed d d' = Serves fetched A honest copies q d.core d.source d'.reply d'.core d'.source
 
   -- .. and is lent
   abbrev pub Lends : Desk T S → Reply → Desk T S → Type 0

@@ -32,13 +32,12 @@ pub record InLimits (s : Settings) : Type 0 where
 pub record Room : Type 0 where
   pub queue : Queue
   pub seats : List (Option Pending)
-  pub limit : ℕ
 
-abbrev pub room_from : Queue → List (Option Pending) → ℕ → Room
-room_from q seats limit = record { queue = q; seats = seats; limit = limit }
+abbrev pub room_from : Queue → List (Option Pending) → Room
+room_from q seats = record { queue = q; seats = seats }
 
 abbrev pub room_for : Settings → Room
-room_for s = room_from (empty s.passes s.flights) (replicate s.passes None) s.history
+room_for s = room_from (empty s.passes s.flights) (replicate s.passes None)
 
 -- .. is that of some settings
 pub record IsRoom (r : Room) : Type 0 where

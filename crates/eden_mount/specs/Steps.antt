@@ -36,33 +36,36 @@ Starts m c q (Err f) m' = IsRefused m c f × (m' ≡ m)
 
 -- ---- turn
 
+-- Where `copies` is true, the history has a copy of each reply, for which there may be no memory.
 module _ {T : Type 0} (A : Table T) (honest : Type 0) where
   -- nothing is pending: the clock goes on, and nothing else changes
   abbrev pub IsIdle : Core T → ℕ → Core T → Type 0
   IsIdle m c m' = ((s : Pending) → ¬ Pends c s m) × Ticks A m.table m'.table × (m' ≡ record m { table = m'.table })
 
   -- the pass's request is finished, and its entry has the number
-  abbrev pub IsDone : Core T → ℕ → ℕ → Reply → Core T → Type 0
-  IsDone m c n r m' = (s : Pending) × Pends c s m × (n ≡ length m.history + 1)
-      × (m' ≡ after_done c s.request r m'.table m) × ToldBy A honest m.table s.request (mark_of c m.queue) r m'.table
+  abbrev pub IsDone : Bool → Core T → ℕ → ℕ → Reply → Core T → Type 0
+  IsDone copies m c n r m' = (s : Pending) × Pends c s m × (n ≡ length m.history + 1)
+      × (m' ≡ after_done c s.request r m'.table m)
+      × ToldBy A honest copies m.table s.request (mark_of c m.queue) r m'.table
 
   -- the pass's request waits for the key
   abbrev pub IsWaiting : Core T → ℕ → Key → Core T → Type 0
   IsWaiting m c k m' = (s : Pending) × Pends c s m × (m' ≡ after_wait c k m'.table m)
       × WaitsBy A honest m.table s.request (mark_of c m.queue) k m'.table
 
-  abbrev pub Turns : Core T → ℕ → Turned → Core T → Type 0
-  Turns m c (Done n r) m' = IsDone m c n r m'
-  Turns m c (Wait k) m' = IsWaiting m c k m'
-  Turns m c Idle m' = IsIdle m c m'
+  abbrev pub Turns : Bool → Core T → ℕ → Turned → Core T → Type 0
+  Turns copies m c (Done n r) m' = IsDone copies m c n r m'
+  Turns copies m c (Wait k) m' = IsWaiting m c k m'
+  Turns copies m c Idle m' = IsIdle m c m'
 
   -- a turn of a pass with a request pending, whose clock went on before
-  abbrev pub GoesOn : Core T → ℕ → Turned → Core T → Type 0
-  GoesOn m c (Done n r) m' = (s : Pending) × Pends c s m × (n ≡ length m.history + 1)
-      × (m' ≡ after_done c s.request r m'.table m) × Replied A honest m.table s.request (mark_of c m.queue) r m'.table
-  GoesOn m c (Wait k) m' = (s : Pending) × Pends c s m × (m' ≡ after_wait c k m'.table m)
+  abbrev pub GoesOn : Bool → Core T → ℕ → Turned → Core T → Type 0
+  GoesOn copies m c (Done n r) m' = (s : Pending) × Pends c s m × (n ≡ length m.history + 1)
+      × (m' ≡ after_done c s.request r m'.table m)
+      × Replied A honest copies m.table s.request (mark_of c m.queue) r m'.table
+  GoesOn copies m c (Wait k) m' = (s : Pending) × Pends c s m × (m' ≡ after_wait c k m'.table m)
       × Awaits A honest m.table s.request (mark_of c m.queue) k m'.table
-  GoesOn m c Idle m' = ⊥
+  GoesOn copies m c Idle m' = ⊥
 
 -- ---- take
 

@@ -4,7 +4,7 @@ use eden_model::{Bytes, Cause, Key, Path, Reply, Request, StartFault};
 #[derive(Drop)]
 pub enum Turned {
     /// The request is finished: its entry's number in the history, from 1 on, and the reply.
-    Done(u32, Reply),
+    Done(u64, Reply),
     /// The request waits for this object.
     Wait(Key),
     /// Nothing is pending, or there is no such pass.

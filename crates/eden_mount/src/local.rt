@@ -10,15 +10,16 @@ ghost use Rattle.eden_mount.specs.contracts.local.Local.{the_row};
 use crate::attempts::Attempts;
 use crate::events::Turned;
 use crate::mount::Mount;
+use eden_history::{History, Kept};
 use eden_model::{Entry, Fault, Key, Reply, Request, StartFault, World};
 use eden_source::Source;
 use std::alloc::{Allocator, Global};
 use std::marker::Model;
 
 /// Asks the source for a key in flight, and hands in what came.
-fn fetch_one<W: World, S: Source<W>, T: Attempts<W> + Drop, A: Allocator>(
+fn fetch_one<W: World, S: Source<W>, T: Attempts<W> + Drop, A: Allocator, H: History>(
     alloc: Global,
-    mount: &mut Mount<W, T, A>,
+    mount: &mut Mount<W, T, A, H>,
     source: &mut S,
     key: Key,
 )
@@ -36,13 +37,13 @@ fn fetch_one<W: World, S: Source<W>, T: Attempts<W> + Drop, A: Allocator>(
 }
 
 /// Goes on with the caller's request until it is finished.
-fn drive<W: World, S: Source<W>, T: Attempts<W> + Drop, A: Allocator>(
+fn drive<W: World, S: Source<W>, T: Attempts<W> + Drop, A: Allocator, H: History>(
     alloc: Global,
-    mount: &mut Mount<W, T, A>,
+    mount: &mut Mount<W, T, A, H>,
     source: &mut S,
 ) -> Reply
     requires { (q : Request) × IsDriven T.table q mount.old }
-    ensures { DrivesOn S.fetched T.table W.honest mount.old source.old result mount.new source.new }
+    ensures { DrivesOn S.fetched T.table W.honest H.copies mount.old source.old result mount.new source.new }
 {
     match mount.turn(1) {
         Turned::Done(_, reply) => reply,
@@ -52,27 +53,27 @@ fn drive<W: World, S: Source<W>, T: Attempts<W> + Drop, A: Allocator>(
                 unreachable!();
             };
             mount.holds();
-            fetch_one::<W, S, T, A>(alloc, mount, source, key);
+            fetch_one::<W, S, T, A, H>(alloc, mount, source, key);
             mount.holds();
-            drive::<W, S, T, A>(alloc, mount, source)
+            drive::<W, S, T, A, H>(alloc, mount, source)
         }
     }
 }
 
 /// Serves one request over the source.
-fn answer<W: World, S: Source<W>, T: Attempts<W> + Drop, A: Allocator>(
+fn answer<W: World, S: Source<W>, T: Attempts<W> + Drop, A: Allocator, H: History>(
     alloc: Global,
-    mount: &mut Mount<W, T, A>,
+    mount: &mut Mount<W, T, A, H>,
     source: &mut S,
     request: Request,
 ) -> Result<Reply, StartFault>
     requires { IsAtRest mount.old }
-    ensures { Answers S.fetched T.table W.honest request mount.old source.old result mount.new source.new }
+    ensures { Answers S.fetched T.table W.honest H.copies request mount.old source.old result mount.new source.new }
 {
     mount.holds();
     match mount.start(1, request) {
         Err(fault) => Err(fault),
-        Ok(()) => Ok(drive::<W, S, T, A>(alloc, mount, source)),
+        Ok(()) => Ok(drive::<W, S, T, A, H>(alloc, mount, source)),
     }
 }
 
@@ -80,15 +81,15 @@ fn answer<W: World, S: Source<W>, T: Attempts<W> + Drop, A: Allocator>(
 ///
 /// Contracts see the mount, the source and the last reply.
 #[derive(Drop)]
-pub struct Local<W: World, S: Source<W> + Drop, T: Attempts<W> + Drop, A: Allocator> {
+pub struct Local<W: World, S: Source<W> + Drop, T: Attempts<W> + Drop, A: Allocator, H: History> {
     alloc: Global,
-    mount: Mount<W, T, A>,
+    mount: Mount<W, T, A, H>,
     source: S,
     reply: Reply,
 }
 
-impl<W: World, S: Source<W> + Drop, T: Attempts<W> + Drop, A: Allocator> Model
-    for Local<W, S, T, A> {
+impl<W: World, S: Source<W> + Drop, T: Attempts<W> + Drop, A: Allocator, H: History> Model
+    for Local<W, S, T, A, H> {
     ghost use Rattle.eden_mount.specs.Serving.{Desk, IsAtRest};
 
     ghost Value = { Desk T S };
@@ -98,9 +99,15 @@ impl<W: World, S: Source<W> + Drop, T: Attempts<W> + Drop, A: Allocator> Model
     ghost invariant = { λ l. IsAtRest l.mount };
 }
 
-impl<W: World, S: Source<W> + Drop, T: Attempts<W> + Drop, A: Allocator> Local<W, S, T, A> {
+impl<W: World, S: Source<W> + Drop, T: Attempts<W> + Drop, A: Allocator, H: History> Local<
+    W,
+    S,
+    T,
+    A,
+    H,
+> {
     /// Over a mount in which the first pass has nothing pending, and nothing is queued or in flight.
-    pub fn new(alloc: Global, mount: Mount<W, T, A>, source: S) -> Self
+    pub fn new(alloc: Global, mount: Mount<W, T, A, H>, source: S) -> Self
         requires { IsAtRest mount }
         ensures mount { result.core ≡ mount }
         ensures source { result.source ≡ source }
@@ -114,21 +121,13 @@ impl<W: World, S: Source<W> + Drop, T: Attempts<W> + Drop, A: Allocator> Local<W
     }
 
     /// Gives mount and source back.
-    pub fn into_parts(self) -> (Mount<W, T, A>, S)
+    pub fn into_parts(self) -> (Mount<W, T, A, H>, S)
         ensures mount { result.0 ≡ self.core }
         ensures source { result.1 ≡ self.source }
         ensures rest { IsAtRest self.core }
     {
         let Local { mount, source, .. } = self;
         (mount, source)
-    }
-
-    /// The entries so far.
-    pub fn history(&self) -> &[Entry]
-        ensures entries { result.now ≡ self.now.core.history }
-        ensures legal { W.honest → Legal W.opening self.now.core.history }
-    {
-        self.mount.history()
     }
 
     /// The last reply.
@@ -140,10 +139,10 @@ impl<W: World, S: Source<W> + Drop, T: Attempts<W> + Drop, A: Allocator> Local<W
 
     /// Serves a request; `reply` has its reply. It asks the source for at most one object for each place on its paths.
     pub fn serve(&mut self, request: Request) -> Result<(), StartFault>
-        ensures ok { OnOk result (IsServed S.fetched T.table W.honest request self.old self.new) }
+        ensures ok { OnOk result (IsServed S.fetched T.table W.honest H.copies request self.old self.new) }
         ensures err { IfErr result (λ fault. Declines self.old fault self.new) }
     {
-        match answer::<W, S, T, A>(self.alloc, &mut self.mount, &mut self.source, request) {
+        match answer::<W, S, T, A, H>(self.alloc, &mut self.mount, &mut self.source, request) {
             Err(fault) => Err(fault),
             Ok(reply) => {
                 self.reply = reply;
@@ -155,13 +154,23 @@ impl<W: World, S: Source<W> + Drop, T: Attempts<W> + Drop, A: Allocator> Local<W
     /// As `serve`, and lends the reply, which lies here until the next call.
     pub fn call(&mut self, request: Request) -> Result<&Reply, StartFault>
         ensures* after { sem 𝓛
-            (Rests (the_row W.row S.row T.row A.row W.World S.Source T.Attempts A.Allocator) self.entry
-            (λ new. MatchResult result (λ r. Lends S.fetched T.table W.honest request self.old r.now new)
+            (Rests (the_row W.row S.row T.row A.row H.row W.World S.Source T.Attempts A.Allocator H.History) self.entry
+            (λ new. MatchResult result (λ r. Lends S.fetched T.table W.honest H.copies request self.old r.now new)
             (λ fault. Declines self.old fault new))) }
     {
         match self.serve(request) {
             Err(fault) => Err(fault),
             Ok(()) => Ok(self.reply()),
         }
+    }
+}
+
+impl<W: World, S: Source<W> + Drop, T: Attempts<W> + Drop, A: Allocator> Local<W, S, T, A, Kept> {
+    /// The entries so far.
+    pub fn history(&self) -> &[Entry]
+        ensures entries { result.now ≡ self.now.core.history }
+        ensures legal { W.honest → Legal W.opening self.now.core.history }
+    {
+        self.mount.history()
     }
 }

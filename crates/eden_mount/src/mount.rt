@@ -16,7 +16,8 @@ use crate::attempts::Attempts;
 use crate::events::{Arrived, Event, Outcome, Turned};
 use crate::room::Room;
 use crate::seats::{Pending, count, occupy, request_at, vacate};
-use crate::settling::{Settled, settle, write_down};
+use crate::settling::{Settled, settle};
+use eden_history::{History, Kept};
 use eden_import::Imports;
 use eden_model::{Cause, Entry, Key, Path, Request, StartFault, World};
 use std::alloc::{AllocError, Allocator, Global};
@@ -26,51 +27,50 @@ use std::marker::{Model, PhantomData};
 ///
 /// A pass is a caller's seat, numbered from 1, with at most one pending request. Each call that may change the mount is
 /// one atomic step. Where the outside is honest, the history is at every moment one that the whole tree has, changed by
-/// one caller at a time, and the table shows the tree after it.
+/// one caller at a time, and the table shows the tree after it. That is so whether the history keeps its entries or only
+/// counts them.
 #[derive(Drop)]
-pub struct Mount<W: World, T: Attempts<W> + Drop, A: Allocator> {
+pub struct Mount<W: World, T: Attempts<W> + Drop, A: Allocator, H: History> {
     alloc: Global,
     table: T,
     imports: Imports<A>,
     seats: Vec<Option<Pending>>,
-    history: Vec<Entry>,
-    limit: u32,
+    history: H,
     world: PhantomData<W>,
 }
 
-impl<W: World, T: Attempts<W> + Drop, A: Allocator> Model for Mount<W, T, A> {
-    ghost use Rattle.std.specs.Prelude.{vec_capacity};
+impl<W: World, T: Attempts<W> + Drop, A: Allocator, H: History> Model for Mount<W, T, A, H> {
     ghost use Rattle.eden_mount.specs.Core.{Core};
     ghost use Rattle.eden_mount.specs.Kept.{IsHeld, core_from};
 
     ghost Value = { Core T };
 
-    ghost view = { λ m. core_from m.table m.imports m.seats.items m.history.items m.limit };
+    ghost view = { λ m. core_from m.table m.imports m.seats.items (H.entries m.history) (H.limit m.history) };
 
-    ghost invariant = { λ m. IsHeld T.table W.honest W.opening (vec_capacity m.history)
-        (core_from m.table m.imports m.seats.items m.history.items m.limit) };
+    ghost invariant = { λ m. IsHeld T.table W.honest W.opening (H.room m.history)
+        (core_from m.table m.imports m.seats.items (H.entries m.history) (H.limit m.history)) };
 }
 
-impl<W: World, T: Attempts<W> + Drop, A: Allocator> Mount<W, T, A> {
-    /// A mount over a table that shows the opening tree. Nothing is pending, and the history is empty.
-    pub fn new(room: Room<A>, table: T) -> Self
-        requires { W.honest → T.table.shown table ≡ W.opening }
-        ensures value { result ≡ core_from table room.queue room.seats [] room.limit }
+impl<W: World, T: Attempts<W> + Drop, A: Allocator, H: History> Mount<W, T, A, H> {
+    /// A mount over a table that shows the opening tree, with an empty history. Nothing is pending.
+    pub fn new(room: Room<A>, table: T, history: H) -> Self
+        requires shown { W.honest → T.table.shown table ≡ W.opening }
+        requires empty { H.entries history ≡ [] }
+        ensures value { result ≡ core_from table room.queue room.seats [] (H.limit history) }
         ensures rest { IsAtRest result }
     {
         let Room {
             alloc,
             imports,
             seats,
-            limit,
         } = room;
+        let _ = history.limit();
         Mount {
             alloc,
             table,
             imports,
             seats,
-            history: Vec::new(alloc),
-            limit,
+            history,
             world: PhantomData,
         }
     }
@@ -97,12 +97,11 @@ impl<W: World, T: Attempts<W> + Drop, A: Allocator> Mount<W, T, A> {
         self.imports.passes()
     }
 
-    /// The entries so far.
-    pub fn history(&self) -> &[Entry]
-        ensures entries { result.now ≡ self.now.history }
-        ensures legal { W.honest → Legal W.opening self.now.history }
+    /// How many entries the history has.
+    pub fn entries(&self) -> u64
+        ensures { result ≡ length self.now.history }
     {
-        self.history.as_slice()
+        self.history.len()
     }
 
     /// The least pass with a pending request.
@@ -145,7 +144,7 @@ impl<W: World, T: Attempts<W> + Drop, A: Allocator> Mount<W, T, A> {
             drop(request);
             return Err(StartFault::Memory);
         };
-        let since = self.history.len() as u32;
+        let since = self.history.len();
         occupy(
             &mut self.seats,
             pass as usize - 1,
@@ -167,8 +166,9 @@ impl<W: World, T: Attempts<W> + Drop, A: Allocator> Mount<W, T, A> {
             return Err(StartFault::Busy);
         }
         let pending = count(self.seats.as_slice());
-        if self.history.len() + pending >= self.limit as usize {
-            return Err(StartFault::HistoryFull(u64::from(self.limit)));
+        let limit = self.history.limit();
+        if self.history.len() + pending as u64 >= limit {
+            return Err(StartFault::HistoryFull(limit));
         }
         Ok(pending)
     }
@@ -177,9 +177,10 @@ impl<W: World, T: Attempts<W> + Drop, A: Allocator> Mount<W, T, A> {
     /// for no other.
     ///
     /// The clock goes on first. A mark of a failed key is used now or dropped: where the request still needs that key,
-    /// it is told `Fetch`. A reply that finds no memory for its copy is `Memory`, which a change's never is.
+    /// it is told `Fetch`. If the history copies replies, one that finds no memory for its copy is `Memory`, which a
+    /// change's never is.
     pub fn turn(&mut self, pass: u32) -> Turned
-        ensures { Turns T.table W.honest self.old pass result self.new }
+        ensures { Turns T.table W.honest H.copies self.old pass result self.new }
     {
         self.table.tick();
         if !self.has_pending(pass) {
@@ -202,7 +203,7 @@ impl<W: World, T: Attempts<W> + Drop, A: Allocator> Mount<W, T, A> {
     /// A turn of a pass that has a request pending, after the clock went on.
     fn go_on(&mut self, pass: u32) -> Turned
         requires { (s : declared.Pending) × Pends pass s self.old }
-        ensures { GoesOn T.table W.honest self.old pass result self.new }
+        ensures { GoesOn T.table W.honest H.copies self.old pass result self.new }
     {
         let seat = pass as usize - 1;
         let mark = self.imports.failure(pass);
@@ -212,18 +213,11 @@ impl<W: World, T: Attempts<W> + Drop, A: Allocator> Mount<W, T, A> {
                 self.imports.await_key(key, pass);
                 Turned::Wait(key)
             }
-            Settled::Told(told, reply) => {
+            Settled::Found(found) => {
                 self.imports.quit(pass);
                 let request = vacate(&mut self.seats, seat);
-                let number = write_down(
-                    &mut self.history,
-                    Entry {
-                        pass,
-                        request,
-                        reply,
-                    },
-                );
-                Turned::Done(number, told)
+                let told = self.history.tell(self.alloc, pass, request, found);
+                Turned::Done(self.history.len(), told)
             }
         }
     }
@@ -274,7 +268,7 @@ impl<W: World, T: Attempts<W> + Drop, A: Allocator> Mount<W, T, A> {
     /// Makes one event happen.
     fn apply(&mut self, event: Event) -> Outcome
         requires { W.honest → IsHonestEvent W.repository event }
-        ensures { Steps T.table W.honest self.old self.new event result }
+        ensures { Steps T.table W.honest H.copies self.old self.new event result }
     {
         match event {
             Event::Start(pass, request) => Outcome::Start(self.start(pass, request)),
@@ -321,5 +315,15 @@ impl<W: World, T: Attempts<W> + Drop, A: Allocator> Mount<W, T, A> {
         }
         self.holds();
         Ok(outcomes)
+    }
+}
+
+impl<W: World, T: Attempts<W> + Drop, A: Allocator> Mount<W, T, A, Kept> {
+    /// The entries so far.
+    pub fn history(&self) -> &[Entry]
+        ensures entries { result.now ≡ self.now.history }
+        ensures legal { W.honest → Legal W.opening self.now.history }
+    {
+        self.history.as_slice()
     }
 }

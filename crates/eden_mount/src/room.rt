@@ -15,7 +15,6 @@ pub struct Room<A: Allocator> {
     pub(crate) alloc: Global,
     pub(crate) imports: Imports<A>,
     pub(crate) seats: Vec<Option<Pending>>,
-    pub(crate) limit: u32,
 }
 
 impl<A: Allocator> Model for Room<A> {
@@ -23,9 +22,9 @@ impl<A: Allocator> Model for Room<A> {
 
     ghost Value = { Room };
 
-    ghost view = { λ r. room_from r.imports r.seats.items r.limit };
+    ghost view = { λ r. room_from r.imports r.seats.items };
 
-    ghost invariant = { λ r. IsRoom (room_from r.imports r.seats.items r.limit) };
+    ghost invariant = { λ r. IsRoom (room_from r.imports r.seats.items) };
 }
 
 impl<A: Allocator> Room<A> {
@@ -42,7 +41,6 @@ impl<A: Allocator> Room<A> {
             alloc,
             imports,
             seats,
-            limit: config.history(),
         })
     }
 }

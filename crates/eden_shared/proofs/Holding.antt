@@ -1,5 +1,5 @@
 -- What lies under the lock, as a mount steps on: the accounts stay those of its seats and its history.
-use Rattle.std.proofs.Common.{◌≡◌, ℕ, zero, suc, ◌+◌, ◌-◌, ◌<◌, ◌≤◌, cond, List, [], ◌∷◌, ◌++◌, length, slice_set, Option, Some, None, refl, sym, ap, ◌∙◌, arith}
+use Rattle.std.proofs.Common.{Bool, ◌≡◌, ℕ, zero, suc, ◌+◌, ◌-◌, ◌<◌, ◌≤◌, cond, List, [], ◌∷◌, ◌++◌, length, slice_set, Option, Some, None, refl, sym, ap, ◌∙◌, arith}
 use Rattle.std.specs.Prelude.{slice_get}
 use Rattle.std.specs.Option.{is_some}
 use Rattle.std.proofs.lemmas.List.Sums.{sum_by-cons, count_by-le-length}
@@ -99,7 +99,7 @@ module _ {T : Type 0} (m : Core T) (vs : List Account) (t : Terms) (n : ℕ) (v 
       ∙ sym (accounts_set t 1 m.seats m.history (n - 1) n (Some (pending_from q m)) (omega arith))
       ∙ ap (λ (c : Core T). accounts t 1 c.seats c.history) (sym step)
 
-  module _ (A : Table T) (honest : Type 0) (k : ℕ) (r : Reply) (m' : Core T) (done : IsDone A honest m n k r m') where
+  module _ (A : Table T) (honest : Type 0) (copies : Bool) (k : ℕ) (r : Reply) (m' : Core T) (done : IsDone A honest copies m n k r m') where
     -- what was pending is what is answered
     pub answered : v.pending ≡ Some done.0
     answered = sym (seat_there m.seats (n - 1) v.pending known.0) ∙ done.1.1

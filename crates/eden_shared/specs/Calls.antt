@@ -1,5 +1,5 @@
 -- What a call through the lock promises.
-use Rattle.std.specs.Prelude.{◌≡◌, ℕ, ◌+◌, ◌-◌, ◌<◌, ◌≤◌, ◌++◌, List, [], ◌∷◌, length, slice_get, Some, true, false}
+use Rattle.std.specs.Prelude.{◌≡◌, ℕ, ◌+◌, ◌-◌, ◌^◌, ◌<◌, min, ◌≤◌, ◌++◌, List, [], ◌∷◌, length, slice_get, Some, true, false}
 use Rattle.eden_model.specs.declared.entry.Entry.{Entry}
 use Rattle.eden_model.specs.declared.fault.CallFault.{CallFault}
 use Rattle.eden_model.specs.declared.fault.CallFault.TheVariants.{Start, Foreign, Stopped}
@@ -22,10 +22,14 @@ last_told [] = 0
 last_told (t ∷ []) = t.number
 last_told (t ∷ u ∷ ts) = last_told (u ∷ ts)
 
+-- a floor as it is told, in 64 bits
+abbrev pub told_floor : ℕ → ℕ
+told_floor floor = min floor (2 ^ 64 - 1)
+
 -- why nobody with this floor is let in now: the lock was stopped, or else the history is too short
 abbrev pub IsHeldBack : {T : Type 0} → Guarded T → ℕ → CallFault → Type 0
 IsHeldBack l floor (Start f) = ⊥
-IsHeldBack l floor (Foreign f n) = (l.stopped ≡ false) × (f ≡ floor) × (n ≡ length l.mount.history) × (n + 1 < f)
+IsHeldBack l floor (Foreign f n) = (l.stopped ≡ false) × (f ≡ told_floor floor) × (n ≡ length l.mount.history) × (n + 1 < floor)
 IsHeldBack l floor Stopped = l.stopped ≡ true
 
 module _ (honest : Type 0) (opening : Tree) where
@@ -48,7 +52,7 @@ module _ (honest : Type 0) (opening : Tree) where
   -- why a call isn't served; a pass is foreign only by what it learnt, since the history has what it was told
   abbrev pub IsLawful : Carried → CallFault → Type 0
   IsLawful p (Start f) = IsRefusal p f
-  IsLawful p (Foreign f l) = (f ≡ p.floor) × (l + 1 < f) × (last_told p.told ≤ l)
+  IsLawful p (Foreign f l) = (f ≡ told_floor p.floor) × (l + 1 < p.floor) × (last_told p.told ≤ l)
   IsLawful p Stopped = Unit {0}
 
   -- some legal history of n entries ends with this one

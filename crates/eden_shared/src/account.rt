@@ -7,7 +7,7 @@ use std::marker::Brand;
 #[derive(Debug, Drop)]
 pub struct Told {
     /// The entry's number in the history, from 1 on.
-    pub number: u32,
+    pub number: u64,
     pub request: Request,
     pub reply: Reply,
 }
@@ -16,7 +16,7 @@ pub struct Told {
 /// tree, and the next inode number. No value of it is made.
 pub struct Terms {
     pub passes: u32,
-    pub limit: u32,
+    pub limit: u64,
     pub commit: Id,
     pub next: u64,
 }

@@ -2,6 +2,7 @@ ghost use Rattle.eden_shared.specs.Fetched.{FetchesOne};
 
 use crate::account::Naming;
 use crate::shared::Shared;
+use eden_history::History;
 use eden_model::{Cause, Key, World};
 use eden_mount::{Arrived, Attempts};
 use eden_source::Source;
@@ -21,7 +22,7 @@ pub enum Fetched {
     Stray(Key),
 }
 
-impl<W: World, T: Attempts<W> + Drop, A: Allocator, J: Naming> Shared<W, T, A, J> {
+impl<W: World, T: Attempts<W> + Drop, A: Allocator, J: Naming, H: History> Shared<W, T, A, J, H> {
     /// Fetches the oldest key that callers wait for, and hands in what came. The lock isn't held while the source is
     /// asked.
     pub fn fetch_one<S: Source<W>, R: Wait>(&self, rt: &R, source: &mut S) -> Fetched

@@ -4,6 +4,7 @@ ghost use Rattle.eden_shared.specs.Lanes.{names_of, values_of};
 
 use crate::account::Account;
 use crate::ends::{Begins, Far, Near, Turns, turn};
+use eden_history::History;
 use eden_model::{Reply, World};
 use eden_mount::{Attempts, Mount, Pending};
 use std::alloc::Allocator;
@@ -29,7 +30,8 @@ impl Begins<(), Account> for Fresh {
 /// An account of a pass of this mount, which was told nothing.
 pub(crate) struct Opens;
 
-impl<W: World, T: Attempts<W> + Drop, A: Allocator> Turns<Mount<W, T, A>, Account> for Opens {
+impl<W: World, T: Attempts<W> + Drop, A: Allocator, H: History> Turns<Mount<W, T, A, H>, Account>
+    for Opens {
     ghost use Rattle.std.specs.Prelude.{None, []};
     ghost use Rattle.eden_shared.specs.Accounts.{account};
     ghost use Rattle.eden_shared.specs.Terms.{terms_of};
@@ -57,7 +59,7 @@ impl Turns<Pending, Account> for Starts {
 /// A reply, and its entry's number.
 #[derive(Drop)]
 pub struct Answered {
-    pub number: u32,
+    pub number: u64,
     pub reply: Reply,
 }
 

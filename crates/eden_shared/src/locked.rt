@@ -17,6 +17,7 @@ use crate::ends::Far;
 use crate::gathered::have_each;
 use crate::lanes::{Answered, Finishes, Lane, Starts, change, look};
 use crate::pass::Pass;
+use eden_history::History;
 use eden_model::{CallFault, Cause, Key, Path, Request, StartFault, World};
 use eden_mount::{Arrived, Attempts, Mount, Pending, Turned};
 use std::alloc::Allocator;
@@ -25,14 +26,15 @@ use std::marker::{Model, PhantomData};
 /// Contracts see the mount, and whether it was stopped. What the ends hold are its seats, the entries of each pass, and
 /// what the mount was opened with.
 #[derive(Drop)]
-pub struct Locked<W: World, T: Attempts<W> + Drop, A: Allocator, J: Naming> {
-    pub(crate) mount: Mount<W, T, A>,
+pub struct Locked<W: World, T: Attempts<W> + Drop, A: Allocator, J: Naming, H: History> {
+    pub(crate) mount: Mount<W, T, A, H>,
     pub(crate) stopped: bool,
     pub(crate) lanes: Vec<Lane>,
     pub(crate) names: PhantomData<J>,
 }
 
-impl<W: World, T: Attempts<W> + Drop, A: Allocator, J: Naming> Model for Locked<W, T, A, J> {
+impl<W: World, T: Attempts<W> + Drop, A: Allocator, J: Naming, H: History> Model
+    for Locked<W, T, A, J, H> {
     ghost use Rattle.eden_shared.specs.Guarded.{Guarded, IsTied, guarded};
 
     ghost Value = { Guarded T };
@@ -42,12 +44,12 @@ impl<W: World, T: Attempts<W> + Drop, A: Allocator, J: Naming> Model for Locked<
     ghost invariant = { λ l. IsTied T.table J.names l.lanes.items l.mount };
 }
 
-impl<W: World, T: Attempts<W> + Drop, A: Allocator, J: Naming> Locked<W, T, A, J> {
+impl<W: World, T: Attempts<W> + Drop, A: Allocator, J: Naming, H: History> Locked<W, T, A, J, H> {
     /// Starts the request, of which `kept` is a copy. What is pending then.
     pub(crate) fn start(
         &mut self,
         number: u32,
-        floor: u64,
+        known: u64,
         end: &mut Far<Account>,
         request: Request,
         kept: Request,
@@ -57,14 +59,14 @@ impl<W: World, T: Attempts<W> + Drop, A: Allocator, J: Naming> Locked<W, T, A, J
         requires kept { kept ≡ request }
         ensures name { end.new.name ≡ end.old.name }
         ensures request { IfOk result (λ s. s.request ≡ request) }
-        ensures floor { IfOk result (λ s. floor ≤ s.since + 1) }
+        ensures known { IfOk result (λ s. known ≤ s.since) }
         ensures pending { IfOk result (λ s. end.new.value
             ≡ account end.old.value.terms (Some s) end.old.value.told) }
         ensures err { OnErr result (end.new.value ≡ end.old.value) }
         ensures why { IfErr result (IsLawful W.honest W.opening
-            (carried end.old.value.terms number floor end.old.value.told)) }
+            (carried end.old.value.terms number (known + 1) end.old.value.told)) }
     {
-        let since = match self.admit(number, floor, end) {
+        let since = match self.admit(number, known, end) {
             Ok(since) => since,
             Err(fault) => {
                 drop(request);
@@ -87,25 +89,25 @@ impl<W: World, T: Attempts<W> + Drop, A: Allocator, J: Naming> Locked<W, T, A, J
 
     /// Tests whether the pass may start a request: not after `stop`, and not before the history has come to its floor.
     /// How long the history is.
-    fn admit(&mut self, number: u32, floor: u64, end: &mut Far<Account>) -> Result<u32, CallFault>
+    fn admit(&mut self, number: u32, known: u64, end: &mut Far<Account>) -> Result<u64, CallFault>
         requires lane { HasName J.names number end.old.name }
         ensures same { self.new ≡ self.old }
         ensures end { (end.new.name ≡ end.old.name) × (end.new.value ≡ end.old.value) }
         ensures length { IfOk result (λ n. n ≡ length self.old.mount.history) }
         ensures heeded { OnOk result (self.old.stopped ≡ false) }
-        ensures held { IfErr result (IsHeldBack self.old floor) }
-        ensures floor { IfOk result (λ n. floor ≤ n + 1) }
+        ensures held { IfErr result (IsHeldBack self.old (known + 1)) }
+        ensures known { IfOk result (λ n. known ≤ n) }
         ensures why { IfErr result (IsLawful W.honest W.opening
-            (carried end.old.value.terms number floor end.old.value.told)) }
+            (carried end.old.value.terms number (known + 1) end.old.value.told)) }
     {
         look(&mut self.lanes, number as usize - 1, end);
         if self.stopped {
             return Err(CallFault::Stopped);
         }
         self.mount.holds();
-        let length = self.mount.history().len() as u32;
-        if floor > u64::from(length) + 1 {
-            let length = u64::from(length);
+        let length = self.mount.entries();
+        if known > length {
+            let floor = known.saturating_add(1);
             return Err(CallFault::Foreign { floor, length });
         }
         Ok(length)
@@ -243,7 +245,7 @@ impl<W: World, T: Attempts<W> + Drop, A: Allocator, J: Naming> Locked<W, T, A, J
     }
 
     /// The mount, as it is.
-    pub(crate) fn into_mount(self) -> Mount<W, T, A>
+    pub(crate) fn into_mount(self) -> Mount<W, T, A, H>
         ensures { result ≡ self.mount }
     {
         let Locked { mount, .. } = self;

@@ -10,6 +10,7 @@ use crate::lanes::{Fresh, Lane, Opens, change};
 use crate::locked::Locked;
 use crate::pass::Pass;
 use crate::shared::Shared;
+use eden_history::History;
 use eden_model::World;
 use eden_mount::{Attempts, Mount};
 use std::alloc::{AllocError, Allocator, Global};
@@ -48,9 +49,9 @@ impl Ties {
 }
 
 /// The passes of these ends, in order, which hold what the mount is opened with. The only error is want of memory.
-fn hand_out<W: World, T: Attempts<W> + Drop, A: Allocator, J: Naming>(
+fn hand_out<W: World, T: Attempts<W> + Drop, A: Allocator, J: Naming, H: History>(
     alloc: Global,
-    mount: &Mount<W, T, A>,
+    mount: &Mount<W, T, A, H>,
     lanes: &mut Vec<Lane>,
     ends: Vec<End>,
 ) -> Result<Vec<Pass<J>>, AllocError>
@@ -65,10 +66,10 @@ fn hand_out<W: World, T: Attempts<W> + Drop, A: Allocator, J: Naming>(
     for end in ends {
         let place = passes.len();
         let mut far = end.far;
-        change::<Mount<W, T, A>, Opens>(lanes, place, &mut far, mount);
+        change::<Mount<W, T, A, H>, Opens>(lanes, place, &mut far, mount);
         passes.push(Pass {
             number: place as u32 + 1,
-            floor: 1,
+            known: 0,
             told: Vec::new(alloc),
             end: far,
             names: PhantomData,
@@ -77,14 +78,14 @@ fn hand_out<W: World, T: Attempts<W> + Drop, A: Allocator, J: Naming>(
     Ok(passes)
 }
 
-impl<W: World, T: Attempts<W> + Drop, A: Allocator, J: Naming> Shared<W, T, A, J> {
+impl<W: World, T: Attempts<W> + Drop, A: Allocator, J: Naming, H: History> Shared<W, T, A, J, H> {
     /// Shares a mount in which nothing has happened, with a pass for each that it was opened with, numbered from 1 on.
     /// The only error is want of memory, and the mount comes back.
     pub fn open(
         alloc: Global,
-        mount: Mount<W, T, A>,
+        mount: Mount<W, T, A, H>,
         ties: Ties,
-    ) -> Result<(Shared<W, T, A, J>, Vec<Pass<J>>), (AllocError, Mount<W, T, A>)>
+    ) -> Result<(Shared<W, T, A, J, H>, Vec<Pass<J>>), (AllocError, Mount<W, T, A, H>)>
         requires unused { IsUnused mount }
         requires ties { AreTied ties.lanes.items ties.ends.items mount.queue.passes }
         requires names { names_of ties.lanes.items ≡ J.names }
@@ -94,7 +95,7 @@ impl<W: World, T: Attempts<W> + Drop, A: Allocator, J: Naming> Shared<W, T, A, J
     {
         mount.holds();
         let Ties { mut lanes, ends } = ties;
-        let passes = match hand_out::<W, T, A, J>(alloc, &mount, &mut lanes, ends) {
+        let passes = match hand_out::<W, T, A, J, H>(alloc, &mount, &mut lanes, ends) {
             Ok(passes) => passes,
             Err(error) => return Err((error, mount)),
         };

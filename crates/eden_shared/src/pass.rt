@@ -1,4 +1,4 @@
-ghost use Rattle.std.specs.Prelude.{◌≡◌, ◌+◌, ◌<◌, ◌-◌, length, slice_get, Some, IfErr, MatchResult};
+ghost use Rattle.std.specs.Prelude.{◌≡◌, ◌+◌, ◌<◌, ◌-◌, length, min, slice_get, Some, IfErr, MatchResult};
 ghost use Rattle.std.specs.Borrow.{sem};
 ghost use Rattle.std.specs.Io.BufRead.{Rests};
 ghost use Rattle.eden_shared.specs.Calls.{IsLawful, Lends};
@@ -8,6 +8,7 @@ ghost use Rattle.eden_shared.specs.Passes.{carried, greater, Rises};
 use crate::account::{Account, Naming, Told};
 use crate::ends::Far;
 use crate::shared::Shared;
+use eden_history::History;
 use eden_model::{CallFault, Request, World};
 use eden_mount::Attempts;
 use std::alloc::Allocator;
@@ -19,24 +20,25 @@ use std::sync::Wait;
 #[derive(Drop)]
 pub struct Pass<J: Naming> {
     pub(crate) number: u32,
-    pub(crate) floor: u64,
+    // The greatest number that it was told or learnt.
+    pub(crate) known: u64,
     pub(crate) told: Vec<Told>,
     pub(crate) end: Far<Account>,
     pub(crate) names: PhantomData<J>,
 }
 
 impl<J: Naming> Model for Pass<J> {
-    ghost use Rattle.std.specs.Prelude.{◌≡◌, None};
+    ghost use Rattle.std.specs.Prelude.{◌≡◌, ◌+◌, None};
     ghost use Rattle.eden_shared.specs.Accounts.{account};
     ghost use Rattle.eden_shared.specs.Lanes.{HasName};
     ghost use Rattle.eden_shared.specs.Passes.{Carried, carried, Rises};
 
     ghost Value = { Carried };
 
-    ghost view = { λ p. carried p.end.value.terms p.number p.floor p.told.items };
+    ghost view = { λ p. carried p.end.value.terms p.number (p.known + 1) p.told.items };
 
     ghost invariant = { λ p. HasName J.names p.number p.end.name × (p.end.value ≡ account p.end.value.terms None p.told.items)
-        × Rises 1 p.told.items p.floor };
+        × Rises 1 p.told.items (p.known + 1) };
 }
 
 impl<J: Naming> Pass<J> {
@@ -63,20 +65,19 @@ impl<J: Naming> Pass<J> {
         &self.told[self.told.len() - 1]
     }
 
-    /// The least number that its next entry may have.
+    /// The least number that its next entry may have, or 2^64 - 1 where it is greater.
     pub fn floor(&self) -> u64
-        ensures { result ≡ self.now.floor }
+        ensures { result ≡ min self.now.floor u64.MAX }
     {
-        self.floor
+        self.known.saturating_add(1)
     }
 
     /// Whoever was told this number told the pass of it: its next entry is to be a later one.
-    pub fn learn(&mut self, number: u32)
+    pub fn learn(&mut self, number: u64)
         ensures { self.new ≡ carried self.old.terms self.old.number (greater self.old.floor (number + 1)) self.old.told }
     {
-        let least = u64::from(number) + 1;
-        if least > self.floor {
-            self.floor = least;
+        if number > self.known {
+            self.known = number;
         }
     }
 
@@ -86,9 +87,9 @@ impl<J: Naming> Pass<J> {
     /// Faults: `Start` with `Memory`, or with `HistoryFull` and the limit, where entries and pending requests are as many
     /// as the history may have; `Foreign`, where a number that the pass learnt isn't in the history; `Stopped`. Each leaves the
     /// pass as it was.
-    pub fn call<W: World, T: Attempts<W> + Drop, A: Allocator, R: Wait>(
+    pub fn call<W: World, T: Attempts<W> + Drop, A: Allocator, H: History, R: Wait>(
         &mut self,
-        shared: &Shared<W, T, A, J>,
+        shared: &Shared<W, T, A, J, H>,
         rt: &R,
         request: Request,
     ) -> Result<&Told, CallFault>

@@ -10,6 +10,7 @@ use crate::ends::Far;
 use crate::lanes::Answered;
 use crate::locked::Locked;
 use crate::pass::Pass;
+use eden_history::History;
 use eden_model::{CallFault, Path, Request, StartFault, World};
 use eden_mount::{Attempts, Pending};
 use std::alloc::{Allocator, Global};
@@ -19,9 +20,9 @@ use std::sync::{Condvar, Mutex, Wait};
 ///
 /// Callers wait on one condition for what they need, and fetchers on another for something to fetch.
 #[derive(Drop)]
-pub struct Shared<W: World, T: Attempts<W> + Drop, A: Allocator, J: Naming> {
+pub struct Shared<W: World, T: Attempts<W> + Drop, A: Allocator, J: Naming, H: History> {
     pub(crate) alloc: Global,
-    pub(crate) lock: Mutex<Locked<W, T, A, J>>,
+    pub(crate) lock: Mutex<Locked<W, T, A, J, H>>,
     pub(crate) callers: Condvar,
     pub(crate) fetchers: Condvar,
 }
@@ -42,13 +43,13 @@ fn keep(alloc: Global, told: &mut Vec<Told>, request: &Request) -> Result<Reques
     }
 }
 
-impl<W: World, T: Attempts<W> + Drop, A: Allocator, J: Naming> Shared<W, T, A, J> {
+impl<W: World, T: Attempts<W> + Drop, A: Allocator, J: Naming, H: History> Shared<W, T, A, J, H> {
     /// Starts the request, of which `kept` is a copy. What is pending then.
     fn start<R: Wait>(
         &self,
         rt: &R,
         number: u32,
-        floor: u64,
+        known: u64,
         end: &mut Far<Account>,
         request: Request,
         kept: Request,
@@ -58,14 +59,14 @@ impl<W: World, T: Attempts<W> + Drop, A: Allocator, J: Naming> Shared<W, T, A, J
         requires kept { kept ≡ request }
         ensures name { end.new.name ≡ end.old.name }
         ensures request { IfOk result (λ s. s.request ≡ request) }
-        ensures floor { IfOk result (λ s. floor ≤ s.since + 1) }
+        ensures known { IfOk result (λ s. known ≤ s.since) }
         ensures pending { IfOk result (λ s. end.new.value
             ≡ account end.old.value.terms (Some s) end.old.value.told) }
         ensures err { OnErr result (end.new.value ≡ end.old.value) }
         ensures why { IfErr result (IsLawful W.honest W.opening
-            (carried end.old.value.terms number floor end.old.value.told)) }
+            (carried end.old.value.terms number (known + 1) end.old.value.told)) }
     {
-        self.lock.lock(rt).start(number, floor, end, request, kept)
+        self.lock.lock(rt).start(number, known, end, request, kept)
     }
 
     /// Tries until the pending request is answered, and waits between two tries.
@@ -101,9 +102,9 @@ impl<W: World, T: Attempts<W> + Drop, A: Allocator, J: Naming> Shared<W, T, A, J
         ensures why { IfErr result (IsLawful W.honest W.opening pass.old) }
     {
         let kept = keep(self.alloc, &mut pass.told, &request)?;
-        let pending = self.start(rt, pass.number, pass.floor, &mut pass.end, request, kept)?;
+        let pending = self.start(rt, pass.number, pass.known, &mut pass.end, request, kept)?;
         let answer = self.wait_for(rt, pass.number, &mut pass.end);
-        pass.floor = u64::from(answer.number) + 1;
+        pass.known = answer.number;
         pass.told.push_reserved(Told {
             number: answer.number,
             request: pending.request,

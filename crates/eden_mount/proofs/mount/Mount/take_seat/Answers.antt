@@ -1,5 +1,5 @@
-use Rattle.std.proofs.Common.{◌≡◌, ◌-◌, ◌<◌, List, Option, length, sym, ap, ◌∙◌, subst, arith, rules}
-use Rattle.std.specs.Vec.{vec_capacity}
+use Rattle.std.proofs.Common.{◌≡◌, ◌-◌, ◌<◌, ℕ, List, Option, Some, length, sym, ap, ◌∙◌, subst, arith, rules}
+use Rattle.std.proofs.Math.ListN.{set}
 use Rattle.eden_mount.specs.declared.seats.Pending.{Pending}
 use Rattle.eden_mount.specs.Core.{Core, IsFree, pending_count, taken_room}
 use Rattle.eden_mount.specs.Kept.{IsHeld, core_from}
@@ -14,7 +14,7 @@ invariant_of-self-2 g c =
     let honest = g.W.World.honest in
     let opening = g.W.World.opening in
     let pass = c.args.pass in
-    let m = core_from a.table a.imports a.seats.items a.history.items a.limit in
+    let m = core_from a.table a.imports a.seats.items (g.H.History.entries a.history) (g.H.History.limit a.history) in
     let s : Pending = record { request = c.args.request; since = c.len-since.result } in
     let May : Core g.row.T.Denot → Type 0 = λ n. IsFree pass n × (taken_room n < n.limit) in
     let may : May m = subst May (sym c.self.view_is) (c.requires.free, c.requires.room) in
@@ -22,8 +22,10 @@ invariant_of-self-2 g c =
     let within : pass - 1 < length a.seats.items = omega (arith, seats, may.0.0.0, may.0.0.1) in
     let counted : c.args.pending ≡ pending_count a.seats.items = c.requires.pending ∙ ap (λ (n : Core g.row.T.Denot). pending_count n.seats) (sym c.self.view_is) in
     let more = count_taken a.seats.items (pass - 1) s within may.0.1 in
-    let Held : List (Option Pending) → Type 0 = λ xs. IsHeld A honest opening (vec_capacity c.reserve.new.self) (core_from a.table a.imports xs c.reserve.new.self.items a.limit) in
-    subst Held (sym c.occupy.ensures) (
-      start_keeps A honest opening m pass s c.reserve.new.self.items c.self.invariant.0 may.0 may.1 c.reserve.ensures.items (search rules),
-      omega (arith, more, counted, c.in-Ok.ensures.ok),
-    )
+    let H = g.H.History in
+    let h = c.reserve.new.self in
+    let Held : List (Option Pending) → ℕ → Type 0 = λ xs n. IsHeld A honest opening (H.room h) (core_from a.table a.imports xs (H.entries h) n) in
+    subst (λ xs. Held xs (H.limit h)) (sym c.occupy.ensures) (subst (Held (set a.seats.items (pass - 1) (Some s))) (sym c.reserve.ensures.limit) (
+      start_keeps A honest opening m pass s (H.entries h) c.self.invariant.0 may.0 may.1 c.reserve.ensures.entries (search rules),
+      omega (arith, more, counted, ap length c.reserve.ensures.entries, c.in-Ok.ensures),
+    ))

@@ -1,4 +1,4 @@
-use Rattle.std.proofs.Common.{◌∙◌, Some, sym, ap, subst}
+use Rattle.std.proofs.Common.{◌+◌, ◌∙◌, Some, sym, ap, subst}
 use Rattle.eden_shared.specs.declared.account.Account.{Account}
 use Rattle.eden_shared.specs.declared.account.Terms.{Terms}
 use Rattle.eden_shared.specs.Passes.{Carried, carried, IsKnown}
@@ -11,7 +11,7 @@ returns-clause-known g c =
     let m = c.self.inside.mount in let here = c.pass.inside in let says = c.pass.invariant.1 in
     let A = g.T.Attempts.table in
     let is = known m _ c.self.invariant.terms here.number here.end.value c.pass.invariant.0.0 c.self.invariant.valued c.look.ensures.lane in
-    let knows : IsKnown A m (carried here.end.value.terms here.number here.floor here.told.items) = record {
+    let knows : IsKnown A m (carried here.end.value.terms here.number (here.known + 1) here.told.items) = record {
       free = is.0 ∙ ap (λ (x : Account). Some x.pending) says;
       told = sym (ap (λ (x : Account). x.told) says) ∙ is.1;
       kept = subst (λ (t : Terms). Meets A t m) (sym is.2) c.self.invariant.kept;
