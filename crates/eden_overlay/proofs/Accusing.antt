@@ -22,7 +22,7 @@ use Rattle.eden_overlay.specs.Walking.{of_getting}
 use Rattle.eden_overlay.proofs.Puts.{nothing_there}
 
 -- a count that rose later rose
-risen : (old mid new : ℕ) → old ≤ mid → Rose mid new → Rose old new
+pub risen : (old mid new : ℕ) → old ≤ mid → Rose mid new → Rose old new
 risen old mid new up h =
     let kept = h.kept in
     let whole : (mid < 2 ^ 64 - 1) ⊎ (2 ^ 64 - 1 ≤ mid) → old < 2 ^ 64 - 1 → old < new = elim [

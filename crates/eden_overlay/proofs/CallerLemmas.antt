@@ -12,3 +12,7 @@ pub use Rattle.eden_overlay.proofs.Moving.{renamed_stay, moved_stay}
 pub use Rattle.eden_overlay.proofs.Accusing.{accused_unsound}
 -- the length of a content that a file's head tells
 pub use Rattle.eden_overlay.proofs.Lengths.{length_held, no_length}
+-- files without orphans
+pub use Rattle.eden_overlay.proofs.Tidied.{root_stays, named_stays, live_before, named_before, still_sound}
+-- a count that rose later rose
+pub use Rattle.eden_overlay.proofs.Accusing.{risen}

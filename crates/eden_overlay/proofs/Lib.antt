@@ -11,4 +11,5 @@ pub mod Moving
 pub mod Places
 pub mod Walks
 pub mod Accusing
+pub mod Tidied
 mod Lengths

@@ -19,7 +19,7 @@ use Rattle.eden_overlay.specs.Files.{Stored}
 use Rattle.eden_overlay.specs.Held.{HoldsEntries}
 use Rattle.eden_overlay.specs.Soundness.{Names, LeadsOn, here, below, IsLive, HoldsKind, HasOwn, AreSound}
 use Rattle.eden_overlay.specs.Rescanning.{LiveEntry, IsNextOf, IsOwned, IsTwice}
-use Rattle.eden_overlay.specs.Walking.{is_own, pending_in, InRange, HoldsBelow, Place, AreApart, Pass, Walked}
+use Rattle.eden_overlay.specs.Walking.{is_own, pending_in, InRange, HoldsBelow, Place, AreApart, Pass, Walked, AreNamed}
 use Rattle.eden_overlay.proofs.Held.{is_at-nat_cmp}
 use Rattle.eden_overlay.proofs.Puts.{same_or_apart, one_held, held_storable}
 use Rattle.eden_overlay.proofs.Strays.{numbers_from_two, nothing_named}
@@ -253,24 +253,33 @@ module _ (F G : Stored) (same : G ≡ F) (was_met : ℕ → Bool) (walked : Walk
   pub sound_then : HoldsKind F 1 kind.Dir → AreSound F
   sound_then top = sound_at_end F w.visited was_met last_pass top
 
+  pub named_then : AreNamed F was_met
+  named_then = record {
+    all = λ d e r named. all_met F w.visited was_met last_pass d e r named;
+    only = λ k there. named_number F w.visited was_met last_pass k there;
+  }
+
+-- without file 1 nothing is named
+pub rootless_named : (F : Stored) (was_met : ℕ → Bool) → F 1 ≡ None → ((k : ℕ) → was_met k ≡ true → ⊥) → AreNamed F was_met
+rootless_named F was_met none never = record {
+  all = λ d e r named. absurd (nothing_named F none d e r named);
+  only = λ k there. absurd (never k there);
+}
+
+-- ---- the next number, by those that are named
+
+module _ (F : Stored) (was_met : ℕ → Bool) (are : AreNamed F was_met) where
   pub next_then : (last : ℕ) → was_met last ≡ true → ((q : ℕ) → was_met q ≡ true → q ≤ last) → IsNextOf F (last + 1)
   next_then last there greatest = record {
-    below = λ d e r named. let most = greatest e.number (all_met F w.visited was_met last_pass d e r named) in omega (arith, most);
-    last = let n = named_number F w.visited was_met last_pass last there in inr (n.0, ap (λ k. k + 1) (sym n.1));
+    below = λ d e r named. let most = greatest e.number (are.all d e r named) in omega (arith, most);
+    last = let n = are.only last there in inr (n.0, ap (λ k. k + 1) (sym n.1));
   }
 
   pub least_then : ((q : ℕ) → was_met q ≡ true → ⊥) → IsNextOf F 2
   least_then none = record {
-    below = λ d e r named. absurd (none e.number (all_met F w.visited was_met last_pass d e r named));
+    below = λ d e r named. absurd (none e.number (are.all d e r named));
     last = inl refl;
   }
-
--- without file 1 nothing is named
-pub rootless_next : (F : Stored) → F 1 ≡ None → IsNextOf F 2
-rootless_next F none = record {
-  below = λ d e r named. absurd (nothing_named F none d e r named);
-  last = inl refl;
-}
 
 -- a set of no keys has none
 pub none_in : (ks : List ℕ) (q : ℕ) → (0 < length ks → ⊥) → list_any (is_at (nat_cmp q)) ks ≡ true → ⊥

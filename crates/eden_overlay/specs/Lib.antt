@@ -9,3 +9,4 @@ pub mod Keeping
 pub mod Laws
 pub mod Rescanning
 pub mod Walking
+pub mod Tidying

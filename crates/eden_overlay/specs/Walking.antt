@@ -13,6 +13,7 @@ use Rattle.eden_overlay.specs.declared.rescan.RescanFault.{RescanFault}
 use Rattle.eden_overlay.specs.declared.rescan.RescanFault.TheVariants as fault
 use Rattle.eden_overlay.specs.Files.{Stored}
 use Rattle.eden_overlay.specs.Held.{HoldsContent, HoldsEntries}
+use Rattle.eden_overlay.specs.Rescanning.{LiveEntry}
 use Rattle.eden_overlay.specs.Soundness.{Names, LeadsOn, IsLive, HasOwn}
 
 -- what a get's fault says of the pass, at the file of that number
@@ -81,3 +82,8 @@ pub record Walked (F : Stored) (pending : List Pending) (was_met : ℕ → Bool)
   pub left : List Place
   pub stack : pending ≡ pending_in (map (λ (p : Place). p.entry) left)
   pub pass : Pass F visited left was_met
+
+-- these are the numbers that live directories name
+pub record AreNamed (F : Stored) (was_met : ℕ → Bool) : Type 0 where
+  pub all : (d : ℕ) (e : StoredEntry) → IsLive F d → Names F d e → was_met e.number ≡ true
+  pub only : (k : ℕ) → was_met k ≡ true → (n : LiveEntry F) × (n.entry.number ≡ k)

@@ -7,7 +7,8 @@ ghost use Rattle.eden_overlay.specs.InFolder.{longest_stored, of_folder};
 ghost use Rattle.eden_overlay.specs.declared.files.FilesFault.TheVariants as fault;
 
 use crate::files::{Files, FilesFault, count};
-use crate::names::{file_path, number_named};
+use crate::names::{Sought, file_path, number_sought, unfinished_path};
+use crate::tidy::Removed;
 use eden_files::{FolderFault, Links, entry_in, read_file, read_front, remove_file, replace_file};
 use eden_model::Outside;
 use eden_overlay_format::Head;
@@ -50,6 +51,21 @@ impl<R> FolderFiles<R> {
             folder,
             failures: 0,
         }
+    }
+}
+
+impl<R: rt::Files + Alloc + Clone + Drop> FolderFiles<R> {
+    /// Removes what interrupted stores left: the plain files whose names are a number and `.new`. What else has such a name
+    /// is passed over. Nobody may store in the folder meanwhile.
+    ///
+    /// After an error what was removed by then stays so.
+    pub fn remove_unfinished(&mut self, alloc: Global) -> Result<Removed, FilesFault>
+        ensures counted { Counted (result ≡ Err fault.Device) self.old.failures self.new.failures }
+        ensures path { self.new.path ≡ self.old.path }
+    {
+        let answer = remove_all_unfinished(&self.files, alloc, &self.folder);
+        self.failures = count(self.failures, &answer);
+        answer
     }
 }
 
@@ -113,7 +129,7 @@ impl<R: rt::Files + Alloc + Clone + Drop> Files<Outside> for FolderFiles<R> {
         ensures path { self.new.path ≡ self.old.path }
         ensures rising { IfOk result (λ v. IsStrictlySortedBy nat_cmp v.items) }
     {
-        let answer = list_folder(&self.files, alloc, &self.folder);
+        let answer = list_folder(&self.files, alloc, &self.folder, Sought::Files);
         self.failures = count(self.failures, &answer);
         answer
     }
@@ -193,12 +209,13 @@ fn remove_number<R: rt::Files>(files: &R, folder: &PathBuf, number: u64) -> Resu
     }
 }
 
-// The number that names the entry, if one does. A name that isn't UTF-8 is no number's.
+// The number that the entry's name stands for, if it does. A name that isn't UTF-8 is no number's.
 fn number_in<R: rt::Files + Drop, A: Allocator>(
     item: io::Result<DirEntry<R, A>>,
+    sought: Sought,
 ) -> Result<Option<u64>, FilesFault> {
     match entry_in(item)? {
-        Some(entry) => Ok(number_named(entry.file_name())),
+        Some(entry) => Ok(number_sought(entry.file_name(), sought)),
         None => Ok(None),
     }
 }
@@ -207,16 +224,49 @@ fn list_folder<R: rt::Files + Alloc + Clone + Drop>(
     files: &R,
     alloc: Global,
     folder: &PathBuf,
+    sought: Sought,
 ) -> Result<Vec<u64>, FilesFault>
     ensures { IfOk result (λ v. IsStrictlySortedBy nat_cmp v.items) }
 {
     let mut numbers = BTreeSet::new(alloc);
     for item in fs::read_dir(files, folder.as_path()).map_err(FolderFault::from)? {
-        if let Some(number) = number_in(item)? {
+        if let Some(number) = number_in(item, sought)? {
             numbers.insert(number)?;
         }
     }
     Ok(rising(alloc, &numbers)?)
+}
+
+fn remove_all_unfinished<R: rt::Files + Alloc + Clone + Drop>(
+    files: &R,
+    alloc: Global,
+    folder: &PathBuf,
+) -> Result<Removed, FilesFault> {
+    let mut removed = Removed::nothing();
+    for number in list_folder(files, alloc, folder, Sought::Unfinished)? {
+        removed = removed.and(remove_one_unfinished(files, folder, number)?);
+    }
+    Ok(removed)
+}
+
+// Removes what an interrupted store of the file of that number left, if that is a plain file.
+fn remove_one_unfinished<R: rt::Files>(
+    files: &R,
+    folder: &PathBuf,
+    number: u64,
+) -> Result<Removed, FilesFault> {
+    let path = unfinished_path(folder, number)?;
+    match fs::symlink_metadata(files, path.as_str()).map_err(FolderFault::from) {
+        Ok(found) if found.is_file() => {
+            remove_file(files, path.as_str())?;
+            Ok(Removed {
+                files: 1,
+                bytes: found.len(),
+            })
+        }
+        Ok(_) | Err(FolderFault::Missing) => Ok(Removed::nothing()),
+        Err(fault) => Err(FilesFault::from(fault)),
+    }
 }
 
 fn rising(alloc: Global, numbers: &BTreeSet<u64>) -> Result<Vec<u64>, AllocError>

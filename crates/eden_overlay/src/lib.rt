@@ -13,7 +13,8 @@
 //! `Overlay::rescan` is for files whose state was lost: one pass over the live directories finds the next number, or why
 //! the files aren't sound.
 //!
-//! Strays, files that no live directory names as its own, may be left behind, and nothing removes them.
+//! Strays, files that no live directory names as its own, may be left behind. Those of them that no live directory names at
+//! all are orphans: `Overlay::orphans` finds them, and `Overlay::remove_orphans` removes them, so that the same is shown.
 #![tactic(auto)]
 
 mod content;
@@ -28,6 +29,7 @@ mod overlay;
 mod recent;
 mod rescan;
 mod room;
+mod tidy;
 
 pub use content::Content;
 pub use fault::GetFault;
@@ -38,3 +40,4 @@ pub use laws::overlay_laws;
 pub use memory::MemoryFiles;
 pub use overlay::Overlay;
 pub use rescan::RescanFault;
+pub use tidy::Removed;

@@ -1,5 +1,5 @@
 // The names of a folder's files.
-ghost use Rattle.std.specs.Prelude.{◌≡◌, ◌<◌, ◌≤◌, ◌+◌, ◌^◌, ◌++◌, ◌∷◌, [], if◌then◌else◌, ℕ, Some, IfOk, IfErr, IfSome, IsOk, OnOk, decimal, length};
+ghost use Rattle.std.specs.Prelude.{◌≡◌, ◌<◌, ◌≤◌, ◌+◌, ◌^◌, ◌++◌, ◌∷◌, [], if◌then◌else◌, ℕ, Some, IfOk, IfErr, IfSome, IsOk, OnOk, codes, decimal, length};
 ghost use Rattle.std.specs.Path.{path_buf_bytes, with_separator};
 ghost use Rattle.eden_overlay.specs.InFolder as folder_spec;
 ghost use Rattle.eden_overlay.specs.declared.files.FilesFault.TheVariants as fault;
@@ -27,6 +27,17 @@ pub(crate) fn file_path(folder: &PathBuf, number: u64) -> Result<FilePath, Files
         append(&mut path, "/")?;
     }
     append(&mut path, Buffer::new().format(number))?;
+    Ok(path)
+}
+
+// Where the file of that number is written before it takes its place.
+pub(crate) fn unfinished_path(folder: &PathBuf, number: u64) -> Result<FilePath, FilesFault>
+    ensures ok { IfOk result (λ p.
+        p.bytes ≡ folder_spec.file_path (path_buf_bytes folder.now) number ++ codes ".new") }
+    ensures fault { IfErr result (λ f. f ≡ fault.Device) }
+{
+    let mut path = file_path(folder, number)?;
+    append(&mut path, ".new")?;
     Ok(path)
 }
 
@@ -58,5 +69,31 @@ pub(crate) fn number_named(name: &str) -> Option<u64>
     match name.parse::<u64>() {
         Ok(number) if Buffer::new().format(number) == name => Some(number),
         _ => None,
+    }
+}
+
+// The number whose file is stored by way of that name: its digits, and `.new`.
+pub(crate) fn unfinished_named(name: &str) -> Option<u64>
+    ensures named { IfSome result (λ n. name.now ≡ decimal n ++ codes ".new") }
+    ensures found { (n : ℕ) → n < 2 ^ 64 → name.now ≡ decimal n ++ codes ".new" → result ≡ Some n }
+{
+    match name.strip_suffix(".new") {
+        Some(digits) => number_named(digits),
+        None => None,
+    }
+}
+
+/// Which of a folder's names are looked for: those of files, or those of stores that were interrupted.
+#[derive(Clone, Copy)]
+pub(crate) enum Sought {
+    Files,
+    Unfinished,
+}
+
+// The number that such a name stands for.
+pub(crate) fn number_sought(name: &str, sought: Sought) -> Option<u64> {
+    match sought {
+        Sought::Files => number_named(name),
+        Sought::Unfinished => unfinished_named(name),
     }
 }

@@ -12,6 +12,7 @@ ghost use Rattle.eden_overlay_format.specs.Values.{content_in, state_in, entries
 ghost use Rattle.eden_overlay.specs.Files.{Lists};
 ghost use Rattle.eden_overlay.specs.Held.{HoldsContent, HoldsEntries, HoldsState, TellsLength, with_content, with_entries, with_state, without};
 ghost use Rattle.eden_overlay.specs.Soundness.{AreSound};
+ghost use Rattle.eden_overlay.specs.Tidying.{bytes_at};
 ghost use Rattle.eden_overlay.specs.Getting.{Explains, ExplainsLength, length_of};
 ghost use Rattle.eden_overlay.specs.Keeping.{IsKeptOf};
 ghost use Rattle.eden_overlay.specs.declared.files.FilesFault.TheVariants as files;
@@ -278,6 +279,19 @@ impl<W: World, F: Files<W>> Overlay<W, F> {
         ensures counted { Counted (result ≡ Err files.Device) (F.failures self.old) (F.failures self.new) }
     {
         self.files.list(alloc)
+    }
+
+    /// How many bytes the file of that number has; 0 where there is none. It takes no memory: its one error is the device's.
+    pub fn bytes_at(&mut self, number: u64) -> Result<u64, FilesFault>
+        ensures told { W.honest → IfOk result (λ bytes. bytes ≡ bytes_at (F.stored self.old number)) }
+        ensures fault { IfErr result (λ f. f ≡ files.Device) }
+        ensures unchanged { W.honest → F.stored self.new ≡ F.stored self.old }
+        ensures counted { Counted (result ≡ Err files.Device) (F.failures self.old) (F.failures self.new) }
+    {
+        match self.files.head(number)? {
+            None => Ok(0),
+            Some(head) => Ok(head.len),
+        }
     }
 }
 

@@ -6,7 +6,7 @@ ghost use Rattle.std.specs.BTreeSet.{contains, btree_set_len};
 ghost use Rattle.eden_overlay_format.specs.Directory.{number_least, number_end};
 ghost use Rattle.eden_overlay.specs.Soundness.{AreSound};
 ghost use Rattle.eden_overlay.specs.Rescanning.{IsNextOf, IsOwned, IsRescanFault};
-ghost use Rattle.eden_overlay.specs.Walking.{of_getting, pending_of, pending_in, InRange, AreInRange, HoldsBelow, Walked};
+ghost use Rattle.eden_overlay.specs.Walking.{AreNamed, of_getting, pending_of, pending_in, InRange, AreInRange, HoldsBelow, Walked};
 ghost use Rattle.eden_overlay.specs.declared.rescan.RescanFault.TheVariants as fault;
 
 use crate::fault::GetFault;
@@ -22,7 +22,7 @@ use thiserror::Error;
 const ROOT_NUMBER: u64 = 1;
 
 /// The least number of an entry.
-const LEAST_NUMBER: u64 = 2;
+pub(crate) const LEAST_NUMBER: u64 = 2;
 
 /// Why a pass over the live directories gave no next number: the first that it met. No file has changed then.
 #[derive(Clone, Copy, Debug, PartialEq, Eq, Error)]
@@ -129,19 +129,32 @@ impl<W: World, F: Files<W>> Overlay<W, F> {
         ensures unchanged { W.honest → F.stored self.new ≡ F.stored self.old }
         ensures counted { F.failures self.old ≤ F.failures self.new }
     {
-        let pending = match self.get_dir(alloc, ROOT_NUMBER) {
-            Ok(entries) => pending_entries(alloc, &entries)?,
-            // Without the root's file there is nothing yet, and nothing dangles.
-            Err(fault) => match fault {
-                GetFault::Absent => return Ok(LEAST_NUMBER),
-                _ => return Err(fault_of(ROOT_NUMBER, fault)),
-            },
-        };
-        let met = self.walk(alloc, pending)?;
+        let met = self.named(alloc)?;
         match met.last() {
             Some(last) => Ok(*last + 1),
             None => Ok(LEAST_NUMBER),
         }
+    }
+
+    // The numbers that live directories name, where the files are sound.
+    pub(crate) fn named(&mut self, alloc: Global) -> Result<BTreeSet<u64>, RescanFault>
+        ensures sound { W.honest → OnOk result (AreSound (F.stored self.old)) }
+        ensures all { W.honest → IfOk result (λ met. AreNamed (F.stored self.old) (contains nat_cmp met)) }
+        ensures range { IfOk result (λ met. (k : ℕ) → IsTrue (contains nat_cmp met k) → InRange k) }
+        ensures refused { IfErr result
+            (IsRescanFault W.honest (F.stored self.old) (F.failures self.old) (F.failures self.new)) }
+        ensures unchanged { W.honest → F.stored self.new ≡ F.stored self.old }
+        ensures counted { F.failures self.old ≤ F.failures self.new }
+    {
+        let pending = match self.get_dir(alloc, ROOT_NUMBER) {
+            Ok(entries) => pending_entries(alloc, &entries)?,
+            // Without the root's file there is nothing yet, and nothing dangles.
+            Err(fault) => match fault {
+                GetFault::Absent => return Ok(BTreeSet::new(alloc)),
+                _ => return Err(fault_of(ROOT_NUMBER, fault)),
+            },
+        };
+        self.walk(alloc, pending)
     }
 
     // Visits what is pending, and all that is below it.
