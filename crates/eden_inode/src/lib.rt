@@ -16,3 +16,4 @@ mod unload;
 pub use gone::Gone;
 pub use inodes::Inodes;
 pub use seen::Seen;
+pub use unload::has_none_inside;
