@@ -17,3 +17,4 @@ pub use gone::Gone;
 pub use inodes::Inodes;
 pub use listing::{Listed, save, write_listing};
 pub use seen::Seen;
+pub use unload::has_none_inside;

@@ -17,8 +17,8 @@ use eden_overlay::{Files, FilesFault, Overlay};
 use eden_tree::{Change, Dir, Entry};
 use std::alloc::{Allocator, Global};
 
-/// Whether no entry holds a loaded directory.
-fn has_none_inside<A: Allocator>(dir: &Dir<A>) -> bool
+/// Whether no entry of the directory holds a loaded one: one look at each.
+pub fn has_none_inside<A: Allocator>(dir: &Dir<A>) -> bool
     ensures { IsTrue result ↔ HasNoneInside dir.now }
 {
     for i in 0..dir.count() {

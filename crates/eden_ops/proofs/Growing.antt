@@ -83,7 +83,7 @@ parts (n ∷ p) [] = inl refl
 parts (n ∷ p) (m ∷ q) = parts_by n m p q (bytes_eq n m) refl (parts p q)
 
 -- one path with a name behind it is another with names behind it
-never : (q : Path) (m : Name) (r : Path) → [] ≡ q ++ m ∷ r → ⊥
+pub never : (q : Path) (m : Name) (r : Path) → [] ≡ q ++ m ∷ r → ⊥
 never [] m r is = cc
 never (a ∷ q) m r is = cc
 
@@ -150,7 +150,7 @@ module _ (p : Path) (x y : Row) (d : Directory) (at : row_at p x ≡ Some y) (no
       absurd (none-some (standing y) (sym is ∙ ap (λ (t : Path). standing_at t x) (split ∙ append-nil p) ∙ ap (option_map standing) at))
   absent_by q n loaded is (inr (m ∷ r, (behind, split))) = let f = front_of q p n m r split in absurd (not_below q f.0 loaded f.1)
 
-  grows_edit : Grows x new
+  pub grows_edit : Grows x new
   grows_edit = record { there = λ q v is. there_by q v is (parts p q); absent = λ q n loaded is. absent_by q n loaded is (parts p (q ++ n ∷ [])) }
 
   pub grows_loaded : (clock : ℕ) → Grows x (stamped_along p clock new)

@@ -1,5 +1,5 @@
 -- What an attempt leaves, by its request.
-use Rattle.std.proofs.Common.{◌≡◌, ◌≢◌, ◌≤◌, ◌⊎◌, ◌+◌, ℕ, [], ◌∷◌, inl, inr, refl, ◌∙◌, arith}
+use Rattle.std.proofs.Common.{◌≡◌, ◌≢◌, ◌≤◌, ◌⊎◌, ◌+◌, ℕ, [], ◌∷◌, Result, Ok, Err, inl, inr, refl, sym, ◌∙◌, subst, arith}
 use Rattle.eden_model.specs.declared.attempt.Attempt.{Attempt}
 use Rattle.eden_model.specs.declared.attempt.Attempt.TheVariants.{Finished}
 use Rattle.eden_model.specs.declared.errno.Errno.{Errno}
@@ -12,14 +12,14 @@ use Rattle.eden_model.specs.Requests.{paths_of}
 use Rattle.eden_model.specs.Trees.{Path}
 use Rattle.eden_overlay.specs.declared.files.Files.{Ghosts as Files}
 use Rattle.eden_tree.specs.Directory.{Row}
-use Rattle.eden_tie.specs.Chains.{IsUnsavedAt, NoneMarked, StaysLoaded}
+use Rattle.eden_tie.specs.Chains.{IsLoadedAt, IsUnsavedAt, NoneMarked, StaysLoaded}
 use Rattle.eden_tie.specs.Saving.{IsSavedAbove}
 use Rattle.eden_inode.specs.Tables.{Table}
 use Rattle.eden_ops.specs.Changes.{IsOutside, StaysOrBecomesOwn, SameNames, LeavesOn, Leaves}
 use Rattle.eden_ops.specs.Keeping.{Keeps}
 use Rattle.eden_ops.specs.Leaving.{AreSavedAbove, Gives, IsFault, LeavesAfter, LetsBe, MayMark, given}
 use Rattle.eden_ops.specs.Letting.{LetsGo}
-use Rattle.eden_ops.specs.Relocating.{StaysBeside}
+use Rattle.eden_ops.specs.Relocating.{GoesAlong, Relocates}
 use Rattle.eden_ops.proofs.Going.{goes_marks, loaded_elsewhere}
 use Rattle.eden_ops.proofs.Names.{names_on, names_grown}
 use Rattle.eden_ops.proofs.Roots.{root_left}
@@ -51,8 +51,9 @@ module _ {W F : Type 0} (w : Ghosts W) (f : Files F W) (q : Request) (s t : Tabl
   -- directories were loaded, and no more
   pub leaves_kept : (a : Attempt) → LeavesAfter w f q s t a
   leaves_kept a = record {
-    on = leaves_some f (LetsBe q) s t before;
+    on = leaves_some f (LetsBe q a) s t before;
     gives = record { reached = t; walked = keeps; stays = λ p in_them is. is; no_less = omega arith; no_more = none_given t.next t.next (given q) refl };
+    moved = λ from to is ok loaded. inl (before.everywhere.loaded from tt loaded);
     errs = λ e is. keeps;
     faults = λ e is. names_grown s.root t.root (keeps_entries w f _ s t keeps);
     marked = λ p unsaved. inr (before.marks p unsaved);
@@ -63,35 +64,73 @@ module _ {W F : Type 0} (w : Ghosts W) (f : Files F W) (q : Request) (s t : Tabl
     -- .. and then a change that lets loaded directories be
     pub leaves_changed : Leaves f t u → u.next ≤ t.next + given q → (¬ IsFault a → AreSavedAbove (paths_of q) u.root) → LeavesAfter w f q s u a
     leaves_changed l more stands = record {
-      on = leaves_on f (LetsBe q) s t u (leaves_some f (LetsBe q) s t before) (leaves_some f (LetsBe q) t u l);
-      gives = gives_then (LetsBe q) (given q) u (leaves_some f (LetsBe q) t u l) more;
+      on = leaves_on f (LetsBe q a) s t u (leaves_some f (LetsBe q a) s t before) (leaves_some f (LetsBe q a) t u l);
+      gives = gives_then (LetsBe q a) (given q) u (leaves_some f (LetsBe q a) t u l) more;
+      moved = λ from to is ok loaded. inl (l.everywhere.loaded from tt (before.everywhere.loaded from tt loaded));
       errs = λ e is. absurd (fine e is);
       faults = names_then a u names;
       marked = λ p unsaved. inr (before.marks p (l.marks p unsaved));
       stands = λ no. inr (stands no);
     }
 
--- .. or an entry moved
-module _ {W F : Type 0} (w : Ghosts W) (f : Files F W) (from to : Path) (s t : Table F) (keeps : Keeps w f (from ∷ to ∷ []) s t) (u : Table F) (a : Attempt) (fine : IsNoError a)
-    (names : NamesAfter a t.root u.root) where
+-- .. or an entry moved, or that failed
+module _ {W F : Type 0} (w : Ghosts W) (f : Files F W) (from to : Path) (s t : Table F) (keeps : Keeps w f (from ∷ to ∷ []) s t) (u : Table F) where
   abbrev rename : Request
   rename = ask.Rename from to
 
-  pub leaves_moved : StaysBeside from to t.root u.root → StaysOrBecomesOwn t.root.origin u.root.origin → (u.next ≡ t.next) × (u.clock ≡ t.clock)
-      → f.failures t.files ≤ f.failures u.files
-      → ((p : Path) → IsUnsavedAt p u.root → MayMark rename a p ⊎ IsUnsavedAt p t.root)
-      → (¬ IsFault a → AreSavedAbove (paths_of rename) u.root) → LeavesAfter w f rename s u a
-  leaves_moved stays root rest counted marked stands =
-      let paths = LetsBe rename in
-      let was = before w f rename s t keeps in
-      let l : LeavesOn f paths t u = record { loaded = λ p o. stays p o.0 o.1; root = root; next = no_less t.next u.next rest.0; failures = counted; clock = rest.1 } in
+  was : Leaves f s t
+  was = before w f rename s t keeps
+
+  let_be : (a : Attempt) (r : Result (Unit {0}) Fault) → Relocates w f from to t u r → (a ≢ Finished say.Ok → IsLoadedAt from t.root → IsLoadedAt from u.root)
+      → LeavesOn f (LetsBe rename a) t u
+  let_be a r x held = record {
+    loaded = λ p o now. elim o.1 [
+      | inl off ↦ x.loaded p off o.0 now
+      | inr at ↦ subst (λ (q : Path). IsLoadedAt q u.root) (sym at.0) (held at.1 (subst (λ (q : Path). IsLoadedAt q t.root) at.0 now))
+    ];
+    root = x.root;
+    next = no_less t.next u.next x.next;
+    failures = x.counted;
+    clock = x.clock;
+  }
+
+  -- the directory that went along had its entries before
+  along : GoesAlong from to t.root u.root → IsLoadedAt from s.root → GoesAlong from to s.root u.root
+  along g loaded = record {
+    loaded = g.loaded;
+    entries = λ n. g.entries n ∙ names_grown s.root t.root (keeps_entries w f _ s t keeps) from n loaded (was.everywhere.loaded from tt loaded);
+  }
+
+  pub leaves_moved : Relocates w f from to t u (Ok tt) → AreSavedAbove (paths_of rename) u.root → LeavesAfter w f rename s u (Finished say.Ok)
+  leaves_moved x saved =
+      let a = Finished say.Ok in
+      let l = let_be a (Ok tt) x (λ no. absurd (no refl)) in
       record {
-        on = leaves_on f paths s t u (leaves_some f paths s t was) l;
-        gives = gives_then w f rename s t keeps paths 0 u l (none_given t.next u.next 0 rest.0);
-        errs = λ e is. absurd (fine e is);
-        faults = names_then w f rename s t keeps a u names;
-        marked = λ p unsaved. elim (marked p unsaved) [ inl may ↦ inl may | inr already ↦ inr (was.marks p already) ];
-        stands = λ no. inr (stands no);
+        on = leaves_on f (LetsBe rename a) s t u (leaves_some f (LetsBe rename a) s t was) l;
+        gives = gives_then w f rename s t keeps (LetsBe rename a) 0 u l (none_given t.next u.next 0 x.next);
+        moved = λ old new is ok loaded.
+            (let one : from ≡ old = cc in
+            let other : to ≡ new = cc in
+            let P : Path → Path → Type 0 = λ p q. IsLoadedAt p s.root → GoesAlong p q s.root u.root in
+            inr (subst (λ p. P p new) one (subst (λ q. P from q) other (λ now. along (x.moved (was.everywhere.loaded from tt now)) now)) loaded));
+        errs = λ e is. absurd (cc);
+        faults = λ e is. absurd (cc);
+        marked = λ p unsaved. inr (was.marks p (x.marks p unsaved));
+        stands = λ no. inr saved;
+      }
+
+  pub leaves_unmoved : (e : Fault) → Relocates w f from to t u (Err e) → LeavesAfter w f rename s u (Finished (say.Fault e))
+  leaves_unmoved e x =
+      let a = Finished (say.Fault e) in
+      let l = let_be a (Err e) x (λ no. x.stays) in
+      record {
+        on = leaves_on f (LetsBe rename a) s t u (leaves_some f (LetsBe rename a) s t was) l;
+        gives = gives_then w f rename s t keeps (LetsBe rename a) 0 u l (none_given t.next u.next 0 x.next);
+        moved = λ old new is ok loaded. absurd (cc);
+        errs = λ b is. absurd (cc);
+        faults = names_then w f rename s t keeps a u (λ b is. x.names);
+        marked = λ p unsaved. elim (x.marked p unsaved) [ inl in_it ↦ inl ((e, refl), in_it) | inr already ↦ inr (was.marks p already) ];
+        stands = λ no. absurd (no (e, refl));
       }
 
 -- directories went that stood at and below a path
@@ -105,6 +144,7 @@ module _ {W F : Type 0} (w : Ghosts W) (f : Files F W) (p : Path) (s t u : Table
       record {
         on = leaves_on f (IsOutside p) s t v (leaves_some f (IsOutside p) s t (keeps_leaves w f _ s t keeps)) l;
         gives = gives_then w f (ask.Rmdir p) s t keeps (IsOutside p) 0 v l (none_given t.next v.next 0 next);
+        moved = λ from to is ok loaded. absurd (cc);
         errs = λ e is. absurd (fine e is);
         faults = names_then w f (ask.Rmdir p) s t keeps a v names;
         marked = λ q unsaved. inr ((keeps_leaves w f _ s t keeps).marks q (goes_marks p t.root u.root g q (marks q unsaved)));

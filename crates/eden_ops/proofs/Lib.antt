@@ -33,3 +33,6 @@ pub mod Leaving
 pub mod CallerLemmas
 pub mod Stamps
 mod Settled
+pub mod Carried
+pub mod Readied
+pub mod Clearing

@@ -16,6 +16,7 @@ use Rattle.eden_tie.specs.Chains.{StaysLoaded}
 use Rattle.eden_tie.specs.Laws.{owned}
 use Rattle.eden_tie.specs.Materialising.{kept_mark, owned_along}
 use Rattle.eden_tie.proofs.CallerLemmas.{map_some}
+use Rattle.eden_ops.specs.Carrying.{IsOwnAt}
 use Rattle.eden_ops.specs.Changes.{SameNames}
 use Rattle.eden_ops.proofs.Bare.{Bare, some_pair, bare}
 use Rattle.eden_ops.proofs.Names.{names_same, fewer_same, face, face_at, names_alike, fewer_alike}
@@ -100,10 +101,6 @@ own_names (Err e) p x z ok err = names_same x z err
 pub own_fewer : (a : Result (Unit {0}) Fault) (p : Path) (x z : Row) → OnOk a (z ≡ owned (owned_along p x)) → OnErr a (z ≡ x) → StaysLoaded z x
 own_fewer (Ok u) p x z ok err = subst (λ (y : Row). StaysLoaded y x) (sym ok) (fewer_alike x (owned (owned_along p x)) (λ q. owned_face p q x))
 own_fewer (Err e) p x z ok err = fewer_same x z err
-
--- the entry at a path is its own
-abbrev pub IsOwnAt : Path → Row → Type 0
-IsOwnAt p x = (y : Row) → row_at p x ≡ Some y → y.origin ≡ origin.Own
 
 own_there : (o : Option Bare) (was : Option Row) (y : Row) → was ≡ Some y → option_map bare was ≡ option_map owns o → y.origin ≡ origin.Own
 own_there o was y at is = let b = map_some owns o (bare y) (sym (ap (option_map bare) at) ∙ is) in sym (ap (λ (c : Bare). c.origin) b.1.1)

@@ -1,8 +1,9 @@
--- An entry that goes to another path: both paths are cleared, both directories their own, and then it can move.
-use Rattle.std.proofs.Common.{◌≡◌, ℕ, Bool, true, [], ◌∷◌, ◌++◌, length, Option, Some, None, Result, Ok, Err, IsErr, IfSome, IfErr, refl, sym, ap, ◌∙◌, subst, inl, inr, arith, append_assoc, length-append}
+-- An entry that goes to another path: the steps before, and what can move then.
+use Rattle.std.proofs.Common.{◌≡◌, ◌≤◌, ℕ, Bool, true, [], ◌∷◌, ◌++◌, length, Option, Some, None, Result, Ok, Err, IsErr, IfSome, IfErr, OnErr}
+use Rattle.std.proofs.Common.{refl, sym, ap, ◌∙◌, subst, inl, inr, arith, append_assoc, length-append}
 use Rattle.std.proofs.lemmas.List.{append-nil}
 use Rattle.std.proofs.lemmas.Option.{none-some}
-use Rattle.std.proofs.lemmas.Result.{on_ok_weaker}
+use Rattle.std.proofs.lemmas.Result.{on_ok_weaker, on_err_weaker}
 use Rattle.std.specs.Option.{option_map, option_and_then, is_some}
 use Rattle.std.specs.Result.{IsErrAnd}
 use Rattle.eden_model.specs.declared.fault.Fault.{Fault}
@@ -19,22 +20,20 @@ use Rattle.eden_tree.specs.Paths.{row_at, Standing, standing, standing_at}
 use Rattle.eden_tree.proofs.CallerLemmas.{reads_on, edits_one, steps_down, child_of-with_child}
 use Rattle.eden_tie.specs.Chains.{IsLoadedAt, IsUnsavedAt, StaysLoaded}
 use Rattle.eden_tie.specs.Changing.{MayMove, marked_source}
-use Rattle.eden_tie.specs.Laws.{owned}
-use Rattle.eden_tie.specs.Materialising.{owned_along}
 use Rattle.eden_tie.specs.Moving.{CanMove}
 use Rattle.eden_tie.proofs.CallerLemmas.{map_some, loaded_there, loaded_found, marked_alone}
 use Rattle.eden_inode.specs.Tables.{Table}
 use Rattle.eden_materialise.specs.EntryMoves.{IsUnmoved}
 use Rattle.eden_materialise.specs.Faults.{IsStoreFault}
 use Rattle.eden_ops.specs.Changes.{SameNames}
-use Rattle.eden_ops.specs.Letting.{LetsGo}
-use Rattle.eden_ops.specs.Relocating.{CanRelocate, IsUnloadedAt, IsCleared, StaysBeside, MarksAlone, both_owned, Readies}
+use Rattle.eden_ops.specs.Carrying.{CanCarry, IsOwnAt}
+use Rattle.eden_ops.specs.Relocating.{GoesAlong, IsUnloadedAt, StaysBeside, MarksAlone, Readies, Relocates}
 use Rattle.eden_ops.proofs.Bare.{bare_at, without_stamp, some_pair}
-use Rattle.eden_ops.proofs.Changing.{none_held, is_in}
-use Rattle.eden_ops.proofs.Going.{kept_elsewhere, loaded_elsewhere, stays_there}
+use Rattle.eden_ops.proofs.Changing.{is_in}
 use Rattle.eden_ops.proofs.Names.{names_same, fewer_same, names_on, face, face_at, names_alike, fewer_alike}
-use Rattle.eden_ops.proofs.Owned.{is_held, owned_held, behind_itself, owned_own, owned_still}
+use Rattle.eden_ops.proofs.Owned.{behind_itself}
 use Rattle.eden_ops.proofs.Roots.{comes_on}
+use Rattle.eden_ops.proofs.Saving.{fault_count}
 use Rattle.eden_ops.proofs.Walking.{front_loaded}
 
 -- ---- one step after another
@@ -58,10 +57,60 @@ module _ {W F : Type 0} (w : Ghosts W) (f : Files F W) where
   readies_err s t (Ok x) e is told a = absurd (cc)
   readies_err s t (Err x) e is told a = subst (λ (z : Fault). Readies w f s t (Err z)) (sym told) a
 
+-- ---- a step before, and then the entry goes, or doesn't
+
+on_err_both : {X E : Type 0} (r : Result X E) (P Q S : Type 0) → (P → Q → S) → OnErr r P → OnErr r Q → OnErr r S
+on_err_both (Ok u) P Q S f a b = tt
+on_err_both (Err e) P Q S f a b = f a b
+
+module _ {W F : Type 0} (w : Ghosts W) (f : Files F W) (from to : Path) (s t : Table F) (beside : StaysBeside from to s.root t.root)
+    (there : IsLoadedAt from s.root → IsLoadedAt from t.root) where
+  -- the step failed
+  pub relocates_never : (e : Fault) → Readies w f s t (Err e) → Relocates w f from to s t (Err e)
+  relocates_never e r = record {
+    ok = λ h. tt;
+    err = r.shown;
+    names = r.names;
+    fewer = r.fewer;
+    fault = r.fault;
+    counted = fault_count (f.failures s.files) (f.failures t.files) e r.fault;
+    loaded = beside;
+    moved = λ loaded. tt;
+    stays = there;
+    marks = tt;
+    marked = λ q unsaved. inr (r.marks q unsaved);
+    root = r.root;
+    next = r.next;
+    clock = r.clock;
+  }
+
+  -- it is done
+  pub relocates_after : (u : Table F) (a : Result (Unit {0}) Fault) → Readies w f s t (Ok tt) → Relocates w f from to t u a → Relocates w f from to s u a
+  relocates_after u a r x = record {
+    ok = λ h. on_ok_weaker a (λ is. is ∙ ap (λ (T : Tree). move T from to) (r.shown h)) (x.ok h);
+    err = λ h. on_err_weaker a (λ is. is ∙ r.shown h) (x.err h);
+    names = on_err_both a (SameNames t.root u.root) (StaysLoaded u.root t.root) (SameNames s.root u.root)
+        (λ names fewer. names_on s.root t.root u.root (λ p was now. fewer p now) r.names names) x.names x.fewer;
+    fewer = on_err_weaker a (λ fewer p now. r.fewer p (fewer p now)) x.fewer;
+    fault = subst (λ (k : ℕ). IfErr a (IsStoreFault k (f.failures u.files))) r.counted x.fault;
+    counted = subst (λ (k : ℕ). k ≤ f.failures u.files) r.counted x.counted;
+    loaded = λ p off other loaded. x.loaded p off other (beside p off other loaded);
+    moved = λ loaded. on_ok_weaker a (λ g. along g loaded) (x.moved (there loaded));
+    stays = λ loaded. x.stays (there loaded);
+    marks = on_ok_weaker a (λ marks q unsaved. r.marks q (marks q unsaved)) x.marks;
+    marked = λ q unsaved. elim (x.marked q unsaved) [ inl in_it ↦ inl in_it | inr was ↦ inr (r.marks q was) ];
+    root = comes_on s.root.origin t.root.origin u.root.origin r.root x.root;
+    next = x.next ∙ r.next;
+    clock = x.clock ∙ r.clock;
+  }
+    where
+      along : GoesAlong from to t.root u.root → IsLoadedAt from s.root → GoesAlong from to s.root u.root
+      along g loaded = record { loaded = g.loaded; entries = λ n. g.entries n ∙ r.names from n loaded (there loaded) }
+
 -- ---- fronts of paths
 
 -- what isn't a front of a path isn't one of the path without its last name
-not_front : (front q : Path) (k : Name) → behind_of front (q ++ k ∷ []) ≡ None → behind_of front q ≡ None
+pub not_front : (front q : Path) (k : Name) → behind_of front (q ++ k ∷ []) ≡ None → behind_of front q ≡ None
 not_front front q k none = by (behind_of front q) refl where
   by : (o : Option Path) → behind_of front q ≡ o → o ≡ None
   by None is = refl
@@ -70,7 +119,7 @@ not_front front q k none = by (behind_of front q) refl where
       ∙ ap (behind_of front) (append_assoc front r (k ∷ [])) ∙ behind_back front (r ++ k ∷ [])))
 
 -- .. which doesn't begin with the whole of it
-not_whole : (q : Path) (k : Name) → behind_of (q ++ k ∷ []) q ≡ None
+pub not_whole : (q : Path) (k : Name) → behind_of (q ++ k ∷ []) q ≡ None
 not_whole q k = by (behind_of (q ++ k ∷ []) q) refl where
   by : (o : Option Path) → behind_of (q ++ k ∷ []) q ≡ o → o ≡ None
   by None is = refl
@@ -78,7 +127,7 @@ not_whole q k = by (behind_of (q ++ k ∷ []) q) refl where
       let l : length q ≡ length ((q ++ k ∷ []) ++ r) = ap length (behind_sound (q ++ k ∷ []) q r is) in
       absurd (omega (arith, l, length-append (q ++ k ∷ []) r, length-append q (k ∷ [])))
 
--- ---- both paths are cleared
+-- ---- what isn't loaded
 
 abbrev mark_of : Directory → ℕ × Bool
 mark_of d = (d.stamp, d.unsaved)
@@ -87,44 +136,10 @@ no_mark : (o : Option Directory) → option_map mark_of o ≡ None → o ≡ Non
 no_mark None is = refl
 no_mark (Some d) is = cc
 
-away_kept : (q : Path) (x z : Row) → standing_at q z ≡ standing_at q x → IsUnloadedAt q x → IsUnloadedAt q z
+pub away_kept : (q : Path) (x z : Row) → standing_at q z ≡ standing_at q x → IsUnloadedAt q x → IsUnloadedAt q z
 away_kept q x z same none w at =
     let y = map_some standing (row_at q x) (standing w) (sym (ap (option_map standing) at) ∙ same) in
     no_mark (child_of w) (sym (ap (λ (s : Standing). s.loaded) y.1.1) ∙ ap (option_map mark_of) (none y.0 y.1.0))
-
-module _ (from to : Path) where
-  pub first_cleared : (x z : Row) → LetsGo from x z → CanRelocate x from to → CanRelocate z from to
-  first_cleared x z g may =
-      let v = stays_there from x z g may.row may.there in
-      record {
-        row = v.0;
-        there = v.1.0;
-        above = λ p n is. loaded_elsewhere from x z g p (not_front from p n (ap (behind_of from) (sym is) ∙ may.not_below)) (may.above p n is);
-        not_below = may.not_below;
-        not_above = may.not_above;
-      }
-
-  pub second_cleared : (x z : Row) → LetsGo to x z → CanRelocate x from to → IsUnloadedAt from x → IsUnloadedAt to z → IsCleared z from to
-  second_cleared x z g may from_away to_away =
-      let same = kept_elsewhere to x z g from may.not_above in
-      let v = map_some standing (row_at from z) (standing may.row) (sym (same ∙ ap (option_map standing) may.there)) in
-      record {
-        can = record {
-          row = v.0;
-          there = v.1.0;
-          above = λ p n is. loaded_elsewhere to x z g p (ap (λ (q : Path). behind_of q p) is ∙ not_whole p n) (may.above p n is);
-          not_below = may.not_below;
-          not_above = may.not_above;
-        };
-        from_unloaded = away_kept from x z same from_away;
-        to_unloaded = to_away;
-      }
-
-  pub first_stays : (x z : Row) → LetsGo from x z → StaysBeside from to x z
-  first_stays x z g q off other is = loaded_elsewhere from x z g q off is
-
-  pub second_stays : (x y z : Row) → LetsGo from x y → LetsGo to y z → StaysBeside from to x z
-  second_stays x y z a b q off other is = loaded_elsewhere to y z b q other (loaded_elsewhere from x y a q off is)
 
 -- ---- what can move
 
@@ -134,54 +149,64 @@ above_loaded x y from p n split at =
     let h = front_loaded x p n [] y (sym (ap (λ (q : Path). row_at q x) split) ∙ at) in
     loaded_there p x h.0 h.1.1.0 h.1.0 h.1.1.1
 
-module _ (x : Row) (p : Path) (n : Name) (q : Path) (m : Name) (c : IsCleared x (p ++ n ∷ []) (q ++ m ∷ [])) where
-  abbrev half : Row
-  half = owned (owned_along p x)
+-- entries that stand alike are alike the mount's own
+own_kept : (q : Path) (x z : Row) → standing_at q z ≡ standing_at q x → IsOwnAt q x → IsOwnAt q z
+own_kept q x z same own w at =
+    let y = map_some standing (row_at q x) (standing w) (sym (ap (option_map standing) at) ∙ same) in
+    sym (ap (λ (s : Standing). s.origin) y.1.1) ∙ own y.0 y.1.0
 
-  abbrev z : Row
-  z = both_owned p q x
+-- an entry that can go, in a table where it isn't loaded and all else stands as before
+module _ (x : Row) (p : Path) (n : Name) (q : Path) (m : Name) (c : CanCarry x (p ++ n ∷ []) (q ++ m ∷ [])) (z : Row)
+    (alike : (r : Path) → behind_of (p ++ n ∷ []) r ≡ None → standing_at r z ≡ standing_at r x)
+    (w : Row) (at : row_at (p ++ n ∷ []) z ≡ Some w) (shut : child_of w ≡ None) (loaded : IsLoadedAt q z) where
+  to_behind : behind_of (p ++ n ∷ []) q ≡ None
+  to_behind = not_front (p ++ n ∷ []) q m c.can.not_below
 
-  held_alike : (r : Path) → option_map is_held (row_at r z) ≡ option_map is_held (row_at r x)
-  held_alike r = owned_held q r half ∙ owned_held p r x
+  may_go_there : (d : Directory) (y : Row) → row_at q z ≡ Some y → child_of y ≡ Some d → (o : Option Row) → find_row m d.rows ≡ o → IfSome o (λ v. child_of v ≡ None)
+  may_go_there d y here holds None found = tt
+  may_go_there d y here holds (Some v) found =
+      away_kept (q ++ m ∷ []) x z (alike (q ++ m ∷ []) c.can.not_below) c.to_unloaded v
+      (reads_on q (m ∷ []) z ∙ ap (option_and_then (row_at (m ∷ []))) here ∙ steps_down m [] y v d holds found)
 
-  still_away : (r : Path) → IsUnloadedAt r x → IsUnloadedAt r z
-  still_away r none w at =
-      let y = map_some is_held (row_at r x) (is_held w) (sym (ap (option_map is_held) at) ∙ held_alike r) in
-      none_held (child_of w) (sym y.1.1 ∙ ap is_some (none y.0 y.1.0))
-
-  may_go_there : (d : Directory) (y : Row) → row_at q z ≡ Some y → child_of y ≡ Some d → (o : Option Row) → find_row m d.rows ≡ o → IfSome o (λ w. child_of w ≡ None)
-  may_go_there d y at holds None found = tt
-  may_go_there d y at holds (Some w) found =
-      still_away (q ++ m ∷ []) c.to_unloaded w (reads_on q (m ∷ []) z ∙ ap (option_and_then (row_at (m ∷ []))) at ∙ steps_down m [] y w d holds found)
-
-  can_so : IsLoadedAt q z → CanMove z p n q m
-  can_so loaded =
-      let w = map_some is_held (row_at (p ++ n ∷ []) z) (is_held c.can.row) (sym (held_alike (p ++ n ∷ []) ∙ ap (option_map is_held) c.can.there)) in
-      let h = is_in (p ++ n ∷ []) p n z w.0 refl w.1.0 in
+  can_so : CanMove z p n q m
+  can_so =
+      let h = is_in (p ++ n ∷ []) p n z w refl at in
       let t = loaded_found q z loaded in
       record {
         from = h.row;
         source = h.directory;
-        entry = w.0;
+        entry = w;
         at_from = h.at;
         holds_source = h.holds;
-        own_from = owned_still q p half (owned_own p x) h.row h.at;
+        own_from = own_kept p x z (alike p (not_whole p n)) (c.own_from p n refl) h.row h.at;
         there = h.there;
-        unloaded = still_away (p ++ n ∷ []) c.from_unloaded w.0 w.1.0;
+        unloaded = shut;
         to = t.row;
         target = t.directory;
         at_to = t.at;
         holds_target = t.holds;
-        own_to = owned_own q half t.row t.at;
+        own_to = own_kept q x z (alike q to_behind) (c.own_to q m refl) t.row t.at;
         may_go = may_go_there t.directory t.row t.at t.holds (find_row m t.directory.rows) refl;
         other = λ is. none-some [] (sym c.can.not_below ∙ ap (behind_of (p ++ n ∷ [])) (sym is) ∙ behind_itself (p ++ n ∷ []));
       }
 
-pub can_move : (x y : Row) (from to p : Path) (n : Name) (q : Path) (m : Name) → from ≡ p ++ n ∷ [] → to ≡ q ++ m ∷ [] → IsCleared x from to → y ≡ both_owned p q x → IsLoadedAt q y
-    → CanMove y p n q m
-can_move x y from to p n q m split cut c is loaded =
-    subst (λ (a : Row). CanMove a p n q m) (sym is)
-    (can_so x p n q m (subst (λ (r : Path). IsCleared x r (q ++ m ∷ [])) split (subst (IsCleared x from) cut c)) (subst (IsLoadedAt q) is loaded))
+pub can_move : (x : Row) (from to p : Path) (n : Name) (q : Path) (m : Name) → from ≡ p ++ n ∷ [] → to ≡ q ++ m ∷ [] → CanCarry x from to → (z : Row)
+    → ((r : Path) → behind_of from r ≡ None → standing_at r z ≡ standing_at r x) → (w : Row) → row_at from z ≡ Some w → child_of w ≡ None → IsLoadedAt q z
+    → CanMove z p n q m
+can_move x from to p n q m split cut c z alike w at shut loaded =
+    let P : Path → Type 0 = λ r. CanCarry x r (q ++ m ∷ []) in
+    let Q : Path → Type 0 = λ r. (s : Path) → behind_of r s ≡ None → standing_at s z ≡ standing_at s x in
+    can_so x p n q m (subst P split (subst (CanCarry x from) cut c)) z (subst Q split alike) w (ap (λ (r : Path). row_at r z) (sym split) ∙ at) shut loaded
+
+-- .. as one is that holds no directory
+pub can_move_bare : (x : Row) (from to p : Path) (n : Name) (q : Path) (m : Name) → from ≡ p ++ n ∷ [] → to ≡ q ++ m ∷ [] → CanCarry x from to → IsUnloadedAt from x
+    → CanMove x p n q m
+can_move_bare x from to p n q m split cut c away =
+    can_move x from to p n q m split cut c x (λ r off. refl) c.can.row c.can.there (away c.can.row c.can.there) (c.can.above q m cut)
+
+-- what isn't loaded there isn't
+pub bare_apart : (p : Path) (x : Row) → IsUnloadedAt p x → IsLoadedAt p x → ⊥
+bare_apart p x away loaded = let l = loaded_found p x loaded in none-some l.directory (sym (away l.row l.at) ∙ l.holds)
 
 -- what is shown once it moved, in the words of both paths
 pub moves_shown : (now before old : Tree) (from to p q : Path) → now ≡ move before p q → before ≡ old → from ≡ p → to ≡ q → now ≡ move old from to
@@ -207,7 +232,7 @@ module _ (x : Row) (p : Path) (n : Name) (q : Path) (m : Name) where
         ∙ ap (option_map standing) (sym (reads_on p (k ∷ s) x))
 
     -- each entry has its number and its kind, and is loaded where it was
-    marked_face : (r : Path) → face_at r (marked_source x p n q m may) ≡ face_at r x
+    pub marked_face : (r : Path) → face_at r (marked_source x p n q m may) ≡ face_at r x
     marked_face r =
         ap (option_map face) (sym (bare_at (row_at r (marked_source x p n q m may))) ∙ ap (option_map without_stamp) (edits_one p (with_child (Some marked)) x may.from r may.at_from))
         ∙ by (behind_of p r) refl ∙ ap (option_map face) (bare_at (row_at r x))

@@ -41,6 +41,17 @@ loaded_marks p x y d clock there fresh q unsaved =
     none_marked_with p x y d there (λ m v found. inr (none_inside d fresh.unloaded m v found)) fresh.saved q
     (stamps_mark p clock (edit_row p (with_child (Some d)) x) q unsaved)
 
+-- ---- what grew holds what was loaded
+
+pub grows_loads : (x z : Row) → Grows x z → StaysLoaded x z
+grows_loads x z g p is =
+    let l = loaded_found p x is in
+    let v = g.there p (standing l.row) (ap (option_map standing) l.at) in
+    let m = v.1.1.loaded l.directory.stamp l.directory.unsaved (ap (option_map (λ (e : Directory). (e.stamp, e.unsaved))) l.holds) in
+    let y = map_some standing (row_at p z) v.0 (sym v.1.0) in
+    let d = map_some (λ (e : Directory). (e.stamp, e.unsaved)) (child_of y.0) (m.0, l.directory.unsaved) (sym (ap (λ (s : Standing). s.loaded) y.1.1 ∙ m.1)) in
+    loaded_there p z y.0 d.0 y.1.0 d.1.0
+
 -- ---- the steps
 
 module _ {W F : Type 0} (w : Ghosts W) (f : Files F W) where
@@ -61,15 +72,6 @@ module _ {W F : Type 0} (w : Ghosts W) (f : Files F W) where
   steps_marks : (ps : List Path) (s t : Table F) → Keeps w f ps s t → NoneMarked s.root t.root
   steps_marks ps s _ same q unsaved = unsaved
   steps_marks ps s _ (on t u k step) q unsaved = steps_marks ps s t k q (step_marks t u step q unsaved)
-
-  grows_loads : (x z : Row) → Grows x z → StaysLoaded x z
-  grows_loads x z g p is =
-      let l = loaded_found p x is in
-      let v = g.there p (standing l.row) (ap (option_map standing) l.at) in
-      let m = v.1.1.loaded l.directory.stamp l.directory.unsaved (ap (option_map (λ (e : Directory). (e.stamp, e.unsaved))) l.holds) in
-      let y = map_some standing (row_at p z) v.0 (sym v.1.0) in
-      let d = map_some (λ (e : Directory). (e.stamp, e.unsaved)) (child_of y.0) (m.0, l.directory.unsaved) (sym (ap (λ (s : Standing). s.loaded) y.1.1 ∙ m.1)) in
-      loaded_there p z y.0 d.0 y.1.0 d.1.0
 
   pub keeps_leaves : KeepsLeaves w f
   keeps_leaves ps s t k =

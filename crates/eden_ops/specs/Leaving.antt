@@ -1,5 +1,5 @@
 -- What an attempt of any request leaves of a table.
-use Rattle.std.specs.Prelude.{◌≡◌, ◌≤◌, ◌⊎◌, ◌+◌, ℕ, List, [], ◌∷◌}
+use Rattle.std.specs.Prelude.{◌≡◌, ◌≢◌, ◌≤◌, ◌⊎◌, ◌+◌, ℕ, List, [], ◌∷◌}
 use Rattle.eden_model.specs.declared.attempt.Attempt.{Attempt}
 use Rattle.eden_model.specs.declared.attempt.Attempt.TheVariants.{Finished}
 use Rattle.eden_model.specs.declared.errno.Errno.{Errno}
@@ -17,14 +17,14 @@ use Rattle.eden_tie.specs.Saving.{IsSavedAbove}
 use Rattle.eden_inode.specs.Tables.{Table}
 use Rattle.eden_ops.specs.Changes.{IsOutside, SameNames, LeavesOn}
 use Rattle.eden_ops.specs.Keeping.{Keeps}
-use Rattle.eden_ops.specs.Relocating.{StandsIn}
-use Rattle.eden_ops.specs.Renames.{IsBeside}
+use Rattle.eden_ops.specs.Relocating.{GoesAlong, StandsIn}
 
--- the paths on which a request lets loaded directories be
-abbrev pub LetsBe : Request → Path → Type 0
-LetsBe (ask.Rmdir p) q = IsOutside p q
-LetsBe (ask.Rename from to) q = IsBeside from to q
-LetsBe _ q = Unit {0}
+-- the paths on which a request that ends so lets loaded directories be: a rename not those below the entry that it moves, nor
+-- those at and below the path to which that goes, nor, once it is Ok, the one that it moves
+abbrev pub LetsBe : Request → Attempt → Path → Type 0
+LetsBe (ask.Rmdir p) a q = IsOutside p q
+LetsBe (ask.Rename from to) a q = IsOutside to q × (IsOutside from q ⊎ ((q ≡ from) × (a ≢ Finished say.Ok)))
+LetsBe _ a q = Unit {0}
 
 -- how many numbers a request gives at most, beside those of the entries that it loads
 abbrev pub given : Request → ℕ
@@ -41,6 +41,11 @@ IsFault a = (e : Fault) × (a ≡ Finished (say.Fault e))
 abbrev pub MayMark : Request → Attempt → Path → Type 0
 MayMark (ask.Rename from to) a p = IsFault a × StandsIn from p
 MayMark _ a p = ⊥
+
+-- the loaded directory that a rename moves is so at the new path once it is Ok, with its entries and their numbers; or where it
+-- was, as where both paths are one
+abbrev pub StaysMoved : Request → Attempt → Row → Row → Type 0
+StaysMoved q a x z = (from to : Path) → q ≡ ask.Rename from to → a ≡ Finished say.Ok → IsLoadedAt from x → IsLoadedAt from z ⊎ GoesAlong from to x z
 
 -- no directory above one of the paths is unsaved
 abbrev pub AreSavedAbove : List Path → Row → Type 0
@@ -60,8 +65,9 @@ module _ {W F : Type 0} (w : Ghosts W) (f : Files F W) where
   -- An error changes nothing, but that directories are loaded on the way. A fault changes no name and no kind in a directory
   -- that stays loaded. What is unsaved then was so before, unless the request may mark it.
   pub record LeavesAfter (q : Request) (s t : Table F) (a : Attempt) : Type 0 where
-    pub on : LeavesOn f (LetsBe q) s t
-    pub gives : Gives (paths_of q) (LetsBe q) (given q) s t
+    pub on : LeavesOn f (LetsBe q a) s t
+    pub gives : Gives (paths_of q) (LetsBe q a) (given q) s t
+    pub moved : StaysMoved q a s.root t.root
     pub errs : (e : Errno) → a ≡ Finished (say.Err e) → Keeps w f (paths_of q) s t
     pub faults : (e : Fault) → a ≡ Finished (say.Fault e) → SameNames s.root t.root
     pub marked : (p : Path) → IsUnsavedAt p t.root → MayMark q a p ⊎ IsUnsavedAt p s.root

@@ -17,3 +17,4 @@ pub mod Relocating
 pub mod Renames
 pub mod Leaving
 pub mod Settling
+pub mod Carrying

@@ -18,13 +18,8 @@ use Rattle.eden_inode.specs.Tables.{Table, shows}
 use Rattle.eden_ops.specs.declared.answer.Stop.{Stop}
 use Rattle.eden_ops.specs.declared.answer.Stop.TheVariants as stop
 use Rattle.eden_ops.specs.Attempts.{Wants}
-use Rattle.eden_ops.specs.Changes.{IsOutside}
 use Rattle.eden_ops.specs.Faults.{IsCaused}
 use Rattle.eden_ops.specs.Known.{known, place_on}
-
--- a path that is neither at or below the one nor at or below the other
-abbrev pub IsBeside : Path → Path → Path → Type 0
-IsBeside from to q = IsOutside from q × IsOutside to q
 
 -- what was seen is a directory, or isn't
 pub record IsTold (seen : Seen) (dir : Bool) : Type 0 where

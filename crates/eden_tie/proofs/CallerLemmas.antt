@@ -2,7 +2,7 @@
 pub use Rattle.eden_tie.proofs.Rows.{contains_mapped, mapped_from, full_rising, stored_rising, gone_after, own_loaded, as_is, entry_as_is, own_full, by_child, by_origin, map_some, and_then_some}
 pub use Rattle.eden_tie.proofs.Edits.{find_set, find_other, map_set}
 -- places in loaded directories
-pub use Rattle.eden_tie.proofs.Places.{rising_of, one_loaded, one_row}
+pub use Rattle.eden_tie.proofs.Places.{rising_of, one_loaded, one_row, away_row}
 pub use Rattle.eden_tie.proofs.Follows.{below_top, place_cases}
 pub use Rattle.eden_tie.proofs.Chain.{place_at, at_changed, origin_kept, root_loaded}
 pub use Rattle.eden_tie.proofs.Loops.{loaded_above, place_on}
@@ -18,16 +18,19 @@ pub use Rattle.eden_tie.proofs.Moved.{changes_kept, moves_kept}
 -- an entry that moves, and soundness of what it leaves
 pub use Rattle.eden_tie.proofs.Sound.{ties_sound}
 pub use Rattle.eden_tie.proofs.Between.{moves_there, replaces_there}
-pub use Rattle.eden_tie.proofs.Moving.{moved_table, moved_kept, moved_shown, replaced_tied, replaced_kept, replaced_shown}
+pub use Rattle.eden_tie.proofs.Moving.{moved_table, moved_kept, moved_shown, replaced_tied, replaced_kept, replaced_shown, replaced_other}
 pub use Rattle.eden_tie.proofs.Marked.{marked_table, marked_kept, marked_shown}
+pub use Rattle.eden_tie.proofs.Taken.{IsLeaf, back_kept, back_marked, went_kept, went_cleared}
 pub use Rattle.eden_tie.proofs.Staying.{moved_stays, marked_stays, moved_marks, marked_alone, left_elsewhere, moved_elsewhere}
 -- what loads, and directories that go, keep of a table's invariant, beside `kept_laws`
-pub use Rattle.eden_tie.proofs.Tables.{own_loads_table, unloads_table}
+pub use Rattle.eden_tie.proofs.Tables.{put_table, own_loads_table, unloads_table}
 pub use Rattle.eden_tie.proofs.KeptLemmas.{next_rises, own_loads_kept, unloads_kept, tables_unload}
 pub use Rattle.eden_tie.proofs.Gone.{goes_kept}
+pub use Rattle.eden_tie.proofs.Loaded.{own_loaded_kept}
 -- what a directory would be loaded from, and what is shown once it is, or goes
 pub use Rattle.eden_tie.proofs.Objects.{none_inside, object_from, empty_from}
 pub use Rattle.eden_tie.proofs.Listed.{own_from, other_from}
+pub use Rattle.eden_tie.proofs.Alike.{loads_alike}
 pub use Rattle.eden_tie.proofs.LoadsShown.{own_loads_alike}
 pub use Rattle.eden_tie.proofs.UnloadsShown.{unloads_alike}
 -- files that are stored, and not seen

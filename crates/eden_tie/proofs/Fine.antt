@@ -61,7 +61,7 @@ pub record IsFine (R : Repository) (F full : Stored) (w : Row) (e : Directory) :
   pub agrees : w.origin ≢ origin.Own → IsFrom R no_files w e
 
 -- and the invariant, where it holds of each
-pub kept_from : (R : Repository) (F full : Stored) (x : Row) (next : ℕ) → x.number ≡ 1 → AreSound full
+unfoldable pub kept_from : (R : Repository) (F full : Stored) (x : Row) (next : ℕ) → x.number ≡ 1 → AreSound full
     → ((c : ℕ) (e : StoredEntry) → IsLive full c → Names full c e → e.number < next)
     → ((w : Row) (e : Directory) → Place x w → child_of w ≡ Some e → IsFine R F full w e)
     → ((c : ℕ) (e : StoredEntry) → IsLive full c → Names full c e → e.origin ≡ origin.Own → IsAway x e.number → SameFile F full e.number)

@@ -1,5 +1,6 @@
 -- Directories that go, and what stays tied.
-use Rattle.std.proofs.Common.{◌≡◌, ◌≢◌, ◌<◌, ◌⊎◌, ℕ, Bool, true, false, List, [], Some, None, Contains, refl, sym, ap, ◌∙◌, subst, inl, inr}
+use Rattle.std.proofs.Common.{◌≡◌, ◌≢◌, ◌<◌, ◌⊎◌, ℕ, Bool, true, false, List, [], Some, None, Contains, refl, sym, ap, ◌∙◌, subst, inl, inr, arith}
+use Rattle.std.proofs.lemmas.Option.{same_Some, none-some}
 use Rattle.eden_model.specs.declared.kind.Origin.TheVariants as origin
 use Rattle.eden_model.specs.Repository.{Repository, no_files}
 use Rattle.eden_model.specs.Trees.{Path}
@@ -7,9 +8,10 @@ use Rattle.eden_overlay_format.specs.declared.stored_entry.StoredEntry.{StoredEn
 use Rattle.eden_overlay_format.specs.Directory.{AreStorable}
 use Rattle.eden_overlay.specs.Files.{Stored, put}
 use Rattle.eden_overlay.specs.Held.{HoldsEntries}
-use Rattle.eden_overlay.specs.Soundness.{Names, IsLive, AreSound}
-use Rattle.eden_overlay.proofs.CallerLemmas.{put_here, rootless_sound, entries_held, apart, one_held}
+use Rattle.eden_overlay.specs.Soundness.{Names, here, below, IsLive, AreSound}
+use Rattle.eden_overlay.proofs.CallerLemmas.{put_here, rootless_sound, entries_held, apart, one_held, numbers_from_two}
 use Rattle.eden_tree.specs.Directory.{Row, Directory, child_of, with_child}
+use Rattle.eden_tree.specs.Rows.{find_row}
 use Rattle.eden_tree.specs.Paths.{row_at, edit_row}
 use Rattle.eden_tie.specs.Listings.{stored_entry, full_entry, full_listing, Place}
 use Rattle.eden_tie.specs.Ties.{IsAway, SameFile, Ties}
@@ -18,12 +20,12 @@ use Rattle.eden_tie.specs.Shown.{IsFrom}
 use Rattle.eden_tie.specs.Unloading.{HasNoneInside, Goes}
 use Rattle.eden_tie.proofs.Rows.{full_rising, by_origin}
 use Rattle.eden_tie.proofs.Edits.{map_set}
-use Rattle.eden_tie.proofs.Places.{named_full, place_counts}
+use Rattle.eden_tie.proofs.Places.{named_full, place_counts, one_loaded}
 use Rattle.eden_tie.proofs.Chain.{place_at, root_loaded}
 use Rattle.eden_tie.proofs.Going.{goes_tied}
 use Rattle.eden_tie.proofs.Changing.{full_are}
 use Rattle.eden_tie.proofs.Entries.{each_entry}
-use Rattle.eden_tie.proofs.Grown.{nothing_named, shrunk, shrunk_sound, shrunk_found}
+use Rattle.eden_tie.proofs.Grown.{AreFree, nothing_named, shrunk, shrunk_sound, shrunk_found}
 use Rattle.eden_tie.proofs.Steps.{Above, above, leaf_cases, edited_number, edited_origin, edited_forth, now_parent, now_row, Apart, place_parent, at_row, row_holds, forth, back, parent_was}
 use Rattle.eden_tie.proofs.Fine.{IsFine, from_alike, kept_from, was_fine, twin_held}
 use Rattle.eden_tie.proofs.Loaded.{same_after}
@@ -142,6 +144,38 @@ module _ (R : Repository) (F : Stored) (x : Row) (next : ℕ) (table : IsTable x
         (λ none. absurd (root_loaded then (now_row k.full x next t.fits p y None up) listed (at_row k.full x next t.fits p y None up) (row_holds k.full x next t.fits p y None up) none))
         (λ o. t.rootless (λ own. o (edited_origin p None x ∙ own)))
         (λ own. t.rooted (sym (edited_origin p None x) ∙ own))
+
+    -- nothing live names what it named
+
+    on_y : Place x y
+    on_y = place_at p x y at
+
+    live_y : IsLive k.full y.number
+    live_y = place_counts k.full x next t.fits y d on_y holds
+
+    -- the directory above is another
+    up_apart : u.number ≢ y.number
+    up_apart is =
+        let one = one_loaded k.full x next t.fits u y up.directory d on_u up.holds on_y holds is in
+        let dir : up.directory ≡ d = same_Some up.directory d (sym up.holds ∙ ap child_of one ∙ holds) in
+        none-some d (sym (bare up.name y (ap (λ (a : Directory). find_row up.name a.rows) (sym dir) ∙ up.there)) ∙ holds)
+
+    -- and it isn't live itself
+    dead_y : (c : ℕ) → IsLive full2 c → c ≢ y.number
+    dead_y c here is = let least = numbers_from_two k.full u.number (full_entry (up.name, y)) names_y in absurd (omega (arith, least, is))
+    dead_y c (below b g r n leads) is = other (ap (λ (s : StoredEntry). s.origin) (sym (names_then g b r n is)) ∙ leads.1)
+
+    free_up : AreFree full2 (full_listing d)
+    free_up f there c e r n is =
+        let names_f : Names k.full y.number f = record { entries = full_listing d; held = t.fits.held y d on_y holds; there = there } in
+        elim (found2 c e r n) [
+          | inl same ↦ up_apart (t.fits.sound.once u.number y.number (full_entry (up.name, y)) f counts_u live_y names_y names_f (sym (ap (λ (s : StoredEntry). s.number) same) ∙ is)).0
+          | inr old ↦ dead_y c r (t.fits.sound.once c y.number e f old.0 live_y old.1 names_f is).0
+        ]
+
+    pub gone_free : (z : IsKept R F then next) × AreFree z.full (full_listing d)
+    unfolding gone_up kept_from
+    gone_free = (gone_up, free_up)
 
   -- ---- the root
 

@@ -1,5 +1,5 @@
 -- Sound files that come to have a directory, or where one is no longer its own.
-use Rattle.std.proofs.Common.{◌≡◌, ◌≢◌, ◌≤◌, ◌<◌, ◌⊎◌, ℕ, List, [], Some, None, Contains, refl, sym, ap, ◌∙◌, subst, inl, inr, arith}
+use Rattle.std.proofs.Common.{◌≡◌, ◌≢◌, ◌<◌, ◌⊎◌, ℕ, List, [], Option, Some, None, Contains, refl, sym, ap, ◌∙◌, subst, inl, inr, arith}
 use Rattle.std.specs.List.Sorted.{IsStrictlySortedBy}
 use Rattle.eden_model.specs.declared.kind.Kind.{Kind}
 use Rattle.eden_model.specs.declared.kind.Kind.TheVariants as kind
@@ -8,11 +8,12 @@ use Rattle.eden_overlay_format.specs.declared.header.Identifier.TheVariants as i
 use Rattle.eden_overlay_format.specs.declared.stored_entry.StoredEntry.{StoredEntry}
 use Rattle.eden_overlay_format.specs.Stored.{written}
 use Rattle.eden_overlay_format.specs.Directory.{AreStorable, directory_body}
-use Rattle.eden_overlay.specs.Files.{Stored}
+use Rattle.eden_overlay.specs.Files.{Stored, put}
 use Rattle.eden_overlay.specs.Held.{HoldsEntries, with_entries}
 use Rattle.eden_overlay.specs.Soundness.{Names, LeadsOn, here, below, IsLive, HoldsKind, AreSound}
 use Rattle.eden_overlay.specs.Laws.{IsStray, IsFresh}
-use Rattle.eden_overlay.proofs.CallerLemmas.{same_or_apart, names_moved, one_held, nothing_there, apart, named, entries_held, numbers_from_two, strays_stay, live_stay, rootless_sound, added_stay}
+use Rattle.eden_overlay.proofs.CallerLemmas.{put_apart, same_or_apart, names_moved, one_held, nothing_there, apart, named, entries_held}
+use Rattle.eden_overlay.proofs.CallerLemmas.{numbers_from_two, strays_stay, live_stay, rootless_sound, added_stay}
 use Rattle.eden_tie.proofs.Follows.{held_moved}
 
 -- a stray isn't live
@@ -88,10 +89,20 @@ pub record AreGrown (full : Stored) (k u : ℕ) (child : StoredEntry) (entries n
   pub elsewhere : (c : ℕ) → c ≢ k → c ≢ u → G c ≡ full c
   pub named : (c : ℕ) (f : StoredEntry) → IsLive G c → Names G c f → Contains new f ⊎ ((f ≡ child) ⊎ (IsLive full c × Names full c f))
 
--- entries of numbers from `next` on, below `after`, each once, and none its own
-pub record AreFresh (next after : ℕ) (new : List StoredEntry) : Type 0 where
+-- numbers of entries that nothing live names
+abbrev pub AreFree : Stored → List StoredEntry → Type 0
+AreFree full new = (f : StoredEntry) → Contains new f → (c : ℕ) (e : StoredEntry) → IsLive full c → Names full c e → e.number ≢ f.number
+
+-- so they are where the file of a stray is another
+pub free_put : (full : Stored) (k : ℕ) (w : Option (List ℕ)) → IsStray full k → (new : List StoredEntry) → AreFree full new → AreFree (put full k w) new
+free_put full k w stray new free f there c e r n =
+    let was = (live_stay full k w stray c).0 r in
+    free f there c e was (names_moved (put full k w) full c e (put_apart full k c w (λ is. live_apart full k stray c was (sym is))) n)
+
+-- entries of numbers that nothing live names, below `after`, each once, and none its own
+pub record AreFresh (full : Stored) (after : ℕ) (new : List StoredEntry) : Type 0 where
   pub quiet : (f : StoredEntry) → Contains new f → f.origin ≢ origin.Own
-  pub least : (f : StoredEntry) → Contains new f → next ≤ f.number
+  pub free : AreFree full new
   pub most : (f : StoredEntry) → Contains new f → f.number < after
   pub distinct : (e f : StoredEntry) → Contains new e → Contains new f → e.number ≡ f.number → e ≡ f
 
@@ -157,8 +168,7 @@ module _ (full : Stored) (sound : AreSound full) (u : ℕ) (live : IsLive full u
 
   module _ (are : AreStorable entries) (not_own : was.origin ≢ origin.Own) (dir : child.kind ≡ kind.Dir) (own : child.origin ≡ origin.Own)
       (there : Contains entries child) (kept : (f : StoredEntry) → Names full u f → f.origin ≡ origin.Own → Contains entries f)
-      (next after : ℕ) (given : (c : ℕ) (f : StoredEntry) → IsLive full c → Names full c f → f.number < next)
-      (new : List StoredEntry) (new_are : AreStorable new) (fresh_new : AreFresh next after new) where
+      (after : ℕ) (new : List StoredEntry) (new_are : AreStorable new) (fresh_new : AreFresh full after new) where
     abbrev k : ℕ
     k = was.number
 
@@ -243,15 +253,12 @@ module _ (full : Stored) (sound : AreSound full) (u : ℕ) (live : IsLive full u
     abbrev grown : Stored
     grown = with_entries B k new
 
-    k_given : k < next
-    k_given = given u was live names
-
-    b_below : (c : ℕ) (f : StoredEntry) → IsLive B c → Names B c f → f.number < next
-    b_below c f r n = elim (found full u k live child number entries each B [] (λ g h. absurd (none_in g h)) b_at_k b_at_u b_elsewhere c f r n) [
+    b_free : AreFree B new
+    b_free e in_e c f r n is = elim (found full u k live child number entries each B [] (λ g h. absurd (none_in g h)) b_at_k b_at_u b_elsewhere c f r n) [
       | inl h ↦ absurd (none_in f h)
       | inr other ↦ elim other [
-        | inl is ↦ subst (λ j. j < next) (sym (ap (λ (s : StoredEntry). s.number) is ∙ number)) k_given
-        | inr old ↦ given c f old.0 old.1
+        | inl same ↦ fresh_new.free e in_e u was live names (sym number ∙ sym (ap (λ (s : StoredEntry). s.number) same) ∙ is)
+        | inr old ↦ fresh_new.free e in_e c f old.0 old.1 is
       ]
     ]
 
@@ -259,7 +266,7 @@ module _ (full : Stored) (sound : AreSound full) (u : ℕ) (live : IsLive full u
     grown_sound = added_stay B k new k_live new_are fresh_new.distinct
         (λ e in_e. inr (record {
           own = λ mine. absurd (fresh_new.quiet e in_e mine);
-          free = λ c f r n is. (let less = b_below c f r n in let more = fresh_new.least e in_e in absurd (omega (arith, less, more, is)));
+          free = λ c f r n is. absurd (b_free e in_e c f r n is);
           empty = λ leads. absurd (fresh_new.quiet e in_e leads.1);
         })) b_sound
 
@@ -280,7 +287,7 @@ module _ (full : Stored) (sound : AreSound full) (u : ℕ) (live : IsLive full u
 
 -- ---- where no file 1 stands, the root's comes to be, of new entries that aren't their own
 
-module _ (full : Stored) (none : full 1 ≡ None) (next after : ℕ) (new : List StoredEntry) (are : AreStorable new) (fresh : AreFresh next after new) where
+module _ (full : Stored) (none : full 1 ≡ None) (after : ℕ) (new : List StoredEntry) (are : AreStorable new) (fresh : AreFresh full after new) where
   abbrev pub rooted : Stored
   rooted = with_entries full 1 new
 

@@ -44,7 +44,7 @@ object_loads_kept R F clock next x p id es z after table k a tree l are =
     let other : a.row.origin ≢ origin.Own = λ own. let both : origin.Object id ≡ origin.Own = sym a.origin ∙ own in absurd (cc) in
     let loaded : IsKept R F (edit_row p (with_child (Some d)) x) (next + length es) =
     other_loaded_kept R F x next table k p a.row d a.there a.kind a.unloaded l.new.saved (none_inside d l.new.unloaded) are (next + length es)
-    other (object_fresh next es d l.has are) (object_from R next id es a.row d a.origin tree l.has) (omega arith) in
+    other (object_fresh next es d l.has are k.full k.ties.fits.below) (object_from R next id es a.row d a.origin tree l.has) (omega arith) in
     let P : Row → Type 0 = λ r. IsKept R F r after in
     let Q : ℕ → Type 0 = λ i. IsKept R F (edit_row p (with_child (Some d)) x) i in
     subst P (sym l.is) (stamped_kept R F (edit_row p (with_child (Some d)) x) after (subst Q (sym l.gives) loaded) p clock)
@@ -64,7 +64,7 @@ own_loads_kept honest R F clock next x p z h table k either l are =
       | inr a ↦
           (let rows = l.empty a.row a.there a.origin in
           other_loaded_kept R F x next table k p a.row d a.there a.kind a.unloaded l.new.saved (none_inside d l.new.unloaded) are next
-          (λ own. let both : origin.Empty ≡ origin.Own = sym a.origin ∙ own in absurd (cc)) (empty_fresh next d rows) (empty_from R a.row d a.origin rows) (omega arith))
+          (λ own. let both : origin.Empty ≡ origin.Own = sym a.origin ∙ own in absurd (cc)) (empty_fresh k.full next d rows) (empty_from R a.row d a.origin rows) (omega arith))
     ] in
     subst P (sym l.is) (stamped_kept R F v next loaded p clock)
 

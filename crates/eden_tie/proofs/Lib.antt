@@ -34,6 +34,7 @@ pub mod Changed
 pub mod Between
 pub mod Moving
 pub mod Marked
+pub mod Taken
 pub mod Chained
 pub mod ChainKept
 pub mod Strays

@@ -147,7 +147,7 @@ module _ (R : Repository) (F : Stored) (x : Row) (next : ℕ) (table : IsTable x
 
     -- else the full files grow
 
-    module _ (after : ℕ) (other : y.origin ≢ origin.Own) (fresh : AreFresh next after (listing_of d)) (from : IsFrom R no_files y d) (rises : next ≤ after) where
+    module _ (after : ℕ) (other : y.origin ≢ origin.Own) (fresh : AreFresh k.full after (listing_of d)) (from : IsFrom R no_files y d) (rises : next ≤ after) where
       listed_are : AreStorable (full_listing listed)
       listed_are =
           let P : List StoredEntry → Type 0 = λ es. AreStorable es in
@@ -165,7 +165,7 @@ module _ (R : Repository) (F : Stored) (x : Row) (next : ℕ) (table : IsTable x
           listed_are (λ own. other (sym (as_is y shut) ∙ own)) dir child_own
           (entry_there k.full x next t.fits u up.directory up.name y new up.directory.stamp on_u up.holds up.there)
           (own_stays k.full x next t.fits u up.directory up.name y new up.directory.stamp on_u up.holds up.there shut other)
-          next after t.fits.below (listing_of d) are fresh
+          after (listing_of d) are fresh
 
       abbrev full2 : Stored
       full2 = growth.0
@@ -225,7 +225,7 @@ module _ (R : Repository) (F : Stored) (x : Row) (next : ℕ) (table : IsTable x
         (fine_root k.full (record { held = held_full k.full y.number mine; own = λ o. held; from = λ other. absurd (other own) }))
         (λ c e r n o away. t.same c e r n o (λ w a q h is. absurd (root_loaded x w a q h root_shut)))
 
-    module _ (after : ℕ) (other : y.origin ≢ origin.Own) (fresh : AreFresh next after (listing_of d)) (from : IsFrom R no_files y d) where
+    module _ (after : ℕ) (other : y.origin ≢ origin.Own) (fresh : AreFresh k.full after (listing_of d)) (from : IsFrom R no_files y d) where
       no_file : F 1 ≡ None
       no_file = t.rootless (λ own. other (ap (λ (c : Row). c.origin) (sym is_root.1) ∙ own))
 
@@ -237,21 +237,21 @@ module _ (R : Repository) (F : Stored) (x : Row) (next : ℕ) (table : IsTable x
       nothing = none_full (t.same_root root_shut)
 
       abbrev full3 : Stored
-      full3 = rooted k.full nothing next after (listing_of d) are fresh
+      full3 = rooted k.full nothing after (listing_of d) are fresh
 
       at_y : HoldsEntries full3 y.number (listing_of d)
       at_y = let P : ℕ → Type 0 = λ j. HoldsEntries full3 j (listing_of d) in subst P (sym one) (entries_held k.full 1 (listing_of d) are)
 
       other_root : IsKept R F then after
-      other_root = then_kept full3 after (rooted_sound k.full nothing next after (listing_of d) are fresh)
-          (λ c e r n. fresh.most e (rooted_found k.full nothing next after (listing_of d) are fresh c e r n))
+      other_root = then_kept full3 after (rooted_sound k.full nothing after (listing_of d) are fresh)
+          (λ c e r n. fresh.most e (rooted_found k.full nothing after (listing_of d) are fresh c e r n))
           (fine_root full3 (record { held = held_full full3 y.number at_y; own = λ own. absurd (other own); from = λ o. from }))
-          (λ c e r n own away. absurd (fresh.quiet e (rooted_found k.full nothing next after (listing_of d) are fresh c e r n) own))
+          (λ c e r n own away. absurd (fresh.quiet e (rooted_found k.full nothing after (listing_of d) are fresh c e r n) own))
 
   -- ---- either
 
   pub own_loaded_kept : y.origin ≡ origin.Own → HoldsEntries F y.number (listing_of d) → IsKept R F then next
   own_loaded_kept own held = elim (above p x y at) [ inl is ↦ own_root is own held | inr up ↦ own_up up own held ]
 
-  pub other_loaded_kept : (after : ℕ) → y.origin ≢ origin.Own → AreFresh next after (listing_of d) → IsFrom R no_files y d → next ≤ after → IsKept R F then after
+  pub other_loaded_kept : (after : ℕ) → y.origin ≢ origin.Own → AreFresh k.full after (listing_of d) → IsFrom R no_files y d → next ≤ after → IsKept R F then after
   other_loaded_kept after other fresh from rises = elim (above p x y at) [ inl is ↦ other_root is after other fresh from | inr up ↦ other_up up after other fresh from rises ]

@@ -62,7 +62,7 @@ loose_alike R F x next j w table k loose =
 -- ---- the file of a number that nothing names may be taken out
 
 module _ (F full : Stored) (x : Row) (next : ℕ) (t : Ties F full x next) (j : ℕ) (least : 2 ≤ j) (unnamed : IsUnnamed full j) where
-  unnamed_stray : IsStray full j
+  pub unnamed_stray : IsStray full j
   unnamed_stray = record { not_root = λ is. omega (arith, least, is); not_own = λ c e r m o. unnamed c e r m }
 
   unnamed_away : IsAway x j

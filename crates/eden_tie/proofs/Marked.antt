@@ -1,8 +1,9 @@
 -- A directory that was stored with an entry left out, and is marked unsaved.
-use Rattle.std.proofs.Common.{◌≡◌, ℕ, true, Some, None, refl, sym, ◌∙◌, subst}
+use Rattle.std.proofs.Common.{◌≡◌, ℕ, true, List, Some, None, refl, sym, ◌∙◌, subst}
 use Rattle.eden_model.specs.Trees.{Name, Path}
 use Rattle.eden_model.specs.Repository.{no_files, Repository}
 use Rattle.eden_overlay_format.specs.Directory.{AreStorable}
+use Rattle.eden_overlay_format.specs.declared.stored_entry.StoredEntry.{StoredEntry}
 use Rattle.eden_overlay.specs.Files.{Stored}
 use Rattle.eden_overlay.proofs.CallerLemmas.{apart}
 use Rattle.eden_tree.specs.Directory.{Row, Directory, child_of, with_child}
@@ -17,7 +18,9 @@ use Rattle.eden_tie.proofs.Fine.{from_alike}
 use Rattle.eden_tie.proofs.Alike.{directories_alike, edited_alike}
 use Rattle.eden_tie.proofs.ShownFull.{backs_tied}
 use Rattle.eden_tie.proofs.Backed.{backs_loaded, backed_alike}
-use Rattle.eden_tie.proofs.Moved.{moves_kept}
+use Rattle.eden_tie.proofs.Changing.{left_out_tied}
+use Rattle.eden_tie.proofs.Grown.{AreFree}
+use Rattle.eden_tie.proofs.Moved.{some_left}
 use Rattle.eden_tie.proofs.Remarked.{before}
 
 module _ (x : Row) (next : ℕ) (p : Path) (n : Name) (q : Path) (m : Name) (a : MayMove x p n q m) where
@@ -49,14 +52,23 @@ MarkedKept = (R : Repository) (F : Stored) (x : Row) (next : ℕ) (p : Path) (n 
 
 pub marked_kept : MarkedKept
 marked_kept R F x next p n q m k a =
-    let tied = (moves_kept F x next p n q m (k.full, k.ties) a).marked in
     record {
-      full = tied.0;
-      ties = tied.1;
+      full = k.full;
+      ties = left_out_tied F k.full x next k.ties p a.from a.source (listing_of (changed a.source n None)) a.at_from a.holds_source a.own_from a.entries_left (some_left a.source n);
       agrees = λ w e r h other.
           (let b = before x p a.from a.source a.at_from a.holds_source true w e r h in
           from_alike R no_files w b.row e b.directory b.number b.origin b.listing (k.agrees b.row b.directory b.place b.holds (λ own. other (b.origin ∙ own))));
     }
+
+-- .. and free numbers are so as before
+abbrev pub MarkedFree : Type 0
+MarkedFree = (R : Repository) (F : Stored) (x : Row) (next : ℕ) (p : Path) (n : Name) (q : Path) (m : Name) → (k : IsKept R F x next)
+    → (may : MayMove x p n q m) → (es : List StoredEntry) → AreFree k.full es
+    → (z : IsKept R (files_left x p n q m may F) (marked_source x p n q m may) next) × AreFree z.full es
+
+pub marked_free : MarkedFree
+unfolding marked_kept
+marked_free R F x next p n q m k a es free = (marked_kept R F x next p n q m k a, free)
 
 abbrev pub MarkedShown : Type 0
 MarkedShown = (R : Repository) (F : Stored) (x : Row) (next : ℕ) (p : Path) (n : Name) (q : Path) (m : Name) → Tied F x next

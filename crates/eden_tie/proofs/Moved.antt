@@ -27,6 +27,7 @@ use Rattle.eden_tie.proofs.Places.{rising_of, named_full, place_counts, away_row
 use Rattle.eden_tie.proofs.Follows.{held_moved, Back}
 use Rattle.eden_tie.proofs.Chain.{place_at, stored_moved}
 use Rattle.eden_tie.proofs.Forward.{forward}
+use Rattle.eden_tie.proofs.Grown.{AreFree}
 use Rattle.eden_tie.proofs.Changing.{full_are, same_moved, changes_tied, left_out_tied}
 use Rattle.eden_tie.proofs.Sound.{ties_sound}
 
@@ -318,6 +319,13 @@ module _ (F full : Stored) (x : Row) (next : ℕ) (t : Ties F full x next) (p : 
             subst P (sym is) (λ l. below y.number left counts_y names_left (leads_left l)) leads)
       ]
 
+      -- numbers that nothing live named are free as before
+      pub free_moved : (es : List StoredEntry) → AreFree full es → AreFree full2 es
+      free_moved es free f there c e r k = elim (named_now c e k) [
+        | inl was ↦ free f there c e (live_before c r) (named_then c e was)
+        | inr is ↦ λ same. free f there y.number left counts_y names_left (sym (ap (λ (s : StoredEntry). s.number) is) ∙ same)
+      ]
+
       -- the entry w that is replaced
       module _ (w : Row) (stood : find_row m e.rows ≡ Some w) where
         abbrev replaced : StoredEntry
@@ -401,7 +409,7 @@ new_file_tied F full x next t k w stray away = new_file F full x next t k w stra
 
 -- ---- both stores of a move
 
-some_left : (d : Directory) (n : Name) (e : StoredEntry) → Contains (listing_of (changed d n None)) e → Contains (listing_of d) e
+pub some_left : (d : Directory) (n : Name) (e : StoredEntry) → Contains (listing_of (changed d n None)) e → Contains (listing_of d) e
 some_left d n e there =
     let from = mapped_from stored_entry (drop_row n d.rows) e there in
     subst (λ s. Contains (listing_of d) s) from.1.1 (contains_mapped stored_entry d.rows from.0 (left_there n d.rows from.0 from.1.0))

@@ -1,32 +1,34 @@
 -- An entry that moves: what it keeps of a table's invariant, and what is shown then.
-use Rattle.std.proofs.Common.{◌≡◌, ◌≤◌, ℕ, [], ◌∷◌, ◌++◌, Option, Some, None, IfSome, refl, sym, ap, ◌∙◌, subst}
+use Rattle.std.proofs.Common.{◌≡◌, ◌≤◌, ◌≢◌, ℕ, Bool, cond, List, [], ◌∷◌, ◌++◌, Option, Some, None, IfSome, refl, sym, ap, ◌∙◌, subst}
 use Rattle.std.proofs.Math.Path.{fun_ext}
 use Rattle.std.specs.Option.{option_and_then}
 use Rattle.eden_model.specs.Operations.{move}
 use Rattle.eden_model.specs.Repository.{Repository}
 use Rattle.eden_model.specs.Trees.{Name, Path, Tree, graft}
+use Rattle.eden_overlay_format.specs.declared.stored_entry.StoredEntry.{StoredEntry}
 use Rattle.eden_overlay.specs.Files.{Stored, put}
 use Rattle.eden_overlay.specs.Held.{with_entries, without}
 use Rattle.eden_overlay.specs.Laws.{IsUnnamed}
 use Rattle.eden_overlay.proofs.CallerLemmas.{apart, numbers_from_two}
-use Rattle.eden_tree.specs.Directory.{Row, Directory, child_of}
+use Rattle.eden_tree.specs.Directory.{Row, Directory, child_of, with_child}
 use Rattle.eden_tree.specs.Rows.{find_row}
 use Rattle.eden_tree.specs.Paths.{row_at}
-use Rattle.eden_tree.proofs.CallerLemmas.{reads_on}
+use Rattle.eden_tree.proofs.CallerLemmas.{reads_on, same-refl, child_of-with_child}
 use Rattle.eden_tie.specs.Listings.{stored_entry, full_entry, listing_of, full_listing, Place, inside}
 use Rattle.eden_tie.specs.Changing.{MayGo, MayMove, changed, with_listing, moved_in, files_left, files_moved, IsCarried}
 use Rattle.eden_tie.specs.Kept.{IsTable, IsKept}
 use Rattle.eden_tie.specs.Shown.{shown_in}
 use Rattle.eden_tie.specs.Ties.{Ties, Tied}
 use Rattle.eden_tie.proofs.Rows.{entry_as_is}
-use Rattle.eden_tie.proofs.Places.{named_full}
-use Rattle.eden_tie.proofs.Chain.{place_at}
+use Rattle.eden_tie.proofs.Places.{rising_of, named_full, place_counts}
+use Rattle.eden_tie.proofs.Chain.{place_at, at_changed}
 use Rattle.eden_tie.proofs.Follows.{Back}
 use Rattle.eden_tie.proofs.Below.{shows_below}
 use Rattle.eden_tie.proofs.ShownFull.{Backs, backs_tied}
 use Rattle.eden_tie.proofs.Backed.{backs_loaded, backed_alike}
-use Rattle.eden_tie.proofs.LooseFiles.{taken_tied, taken_alike}
-use Rattle.eden_tie.proofs.Moved.{drop_tied, move_tied, carried_full, unnamed, loaded_before, MayChange}
+use Rattle.eden_tie.proofs.Grown.{AreFree, free_put}
+use Rattle.eden_tie.proofs.LooseFiles.{unnamed_stray, taken_tied, taken_alike}
+use Rattle.eden_tie.proofs.Moved.{find_with, free_moved, drop_tied, move_tied, carried_full, unnamed, loaded_before, MayChange}
 use Rattle.eden_tie.proofs.Changed.{listing_table, listing_kept, listing_grafts}
 
 -- a move is an entry left out, and then one put in
@@ -137,6 +139,11 @@ module _ (honest : Type 0) (F : Stored) (x : Row) (next : ℕ) (p : Path) (n : N
           ∙ ap (graft (q ++ m ∷ []) (λ rest. shown_in R F x ((p ++ n ∷ []) ++ rest)))
           (listing_grafts honest R F x next p n None h table leaving (files_left x p n q m a F) refl)
 
+  -- numbers that nothing live named are free as before
+  pub free_then : (h : honest) (es : List StoredEntry) → AreFree (t h).0 es → AreFree (full_then h) es
+  free_then h = free_moved F (t h).0 x next (t h).1 p a.from a.source n a.entry a.at_from a.holds_source a.own_from a.there a.unloaded a.entries_left
+      m q a.to a.target a.at_to a.holds_target a.own_to a.may_go a.entries_put
+
   module _ (h : honest) (w : Row) (stood : find_row m a.target.rows ≡ Some w) where
     unnamed_then : IsUnnamed (full_then h) w.number
     unnamed_then = unnamed F (t h).0 x next (t h).1 p a.from a.source n a.entry a.at_from a.holds_source a.own_from a.there a.unloaded a.entries_left
@@ -146,8 +153,34 @@ module _ (honest : Type 0) (F : Stored) (x : Row) (next : ℕ) (p : Path) (n : N
     least = numbers_from_two (full_between h) a.to.number (full_entry (m, w))
         (named_full (full_between h) between next (tied_between h).fits a.to a.target m w (place_at q between a.to a.at_to) a.holds_target stood)
 
+    -- it isn't the entry that came in its place
+    other_number : w.number ≢ a.entry.number
+    other_number is =
+        unnamed_then a.to.number (full_entry (m, a.entry)) (place_counts (full_then h) (moved_in x p n q m a) next (tied_then h).fits then_row then_dir then_place then_holds)
+        (named_full (full_then h) (moved_in x p n q m a) next (tied_then h).fits then_row then_dir m a.entry then_place then_holds then_there) (sym is)
+      where
+        then_dir : Directory
+        then_dir = changed a.target m (Some a.entry)
+
+        then_row : Row
+        then_row = with_child (Some then_dir) a.to
+
+        then_place : Place (moved_in x p n q m a) then_row
+        then_place = place_at q (moved_in x p n q m a) then_row (at_changed q (with_child (Some then_dir)) between a.to a.at_to)
+
+        then_holds : child_of then_row ≡ Some then_dir
+        then_holds = child_of-with_child (Some then_dir) a.to
+
+        then_there : find_row m then_dir.rows ≡ Some a.entry
+        then_there = find_with m m (Some a.entry) a.target.rows (rising_of (full_between h) between next (tied_between h).fits a.to a.target (place_at q between a.to a.at_to) a.holds_target)
+            ∙ ap (λ (b : Bool). cond b (Some a.entry) (find_row m a.target.rows)) (same-refl m)
+
     removed : Ties (without (files_moved x p n q m a F) w.number) (put (full_then h) w.number None) (moved_in x p n q m a) next
     removed = taken_tied (files_moved x p n q m a F) (full_then h) (moved_in x p n q m a) next (tied_then h) w.number least unnamed_then
+
+    free_removed : (es : List StoredEntry) → AreFree (full_then h) es → AreFree (put (full_then h) w.number None) es
+    free_removed = free_put (full_then h) w.number None
+        (unnamed_stray (files_moved x p n q m a F) (full_then h) (moved_in x p n q m a) next (tied_then h) w.number least unnamed_then)
 
     removed_shown : (R : Repository) → shown_in R (without (files_moved x p n q m a F) w.number) (moved_in x p n q m a) ≡ shown_in R (files_moved x p n q m a F) (moved_in x p n q m a)
     removed_shown R = taken_alike (files_moved x p n q m a F) (full_then h) (moved_in x p n q m a) next (tied_then h) w.number least unnamed_then R
@@ -203,3 +236,39 @@ ReplacedShown = (R : Repository) (F : Stored) (x : Row) (next : ℕ) (p : Path) 
 
 pub replaced_shown : ReplacedShown
 replaced_shown R F x next p n q m t a w stood = removed_shown (Unit {0}) F x next p n q m a (λ h. t) tt w stood R
+
+-- what was replaced isn't the entry that moved
+abbrev pub ReplacedOther : Type 0
+ReplacedOther = (F : Stored) (x : Row) (next : ℕ) (p : Path) (n : Name) (q : Path) (m : Name) → Tied F x next → (may : MayMove x p n q m)
+    → (w : Row) → find_row m may.target.rows ≡ Some w → w.number ≢ may.entry.number
+
+pub replaced_other : ReplacedOther
+replaced_other F x next p n q m t a w stood = other_number (Unit {0}) F x next p n q m a (λ h. t) tt w stood
+
+-- numbers that nothing live named stay free, in the files as they would be
+abbrev pub MovedFree : Type 0
+MovedFree = (R : Repository) (F : Stored) (x : Row) (next : ℕ) (p : Path) (n : Name) (q : Path) (m : Name) → IsTable x next → (k : IsKept R F x next)
+    → (may : MayMove x p n q m) → (es : List StoredEntry) → AreFree k.full es
+    → (z : IsKept R (files_moved x p n q m may F) (moved_in x p n q m may) next) × AreFree z.full es
+
+pub moved_free : MovedFree
+moved_free R F x next p n q m table k a es free = (
+  record {
+    full = full_then (Unit {0}) F x next p n q m a (λ h. (k.full, k.ties)) tt;
+    ties = tied_then (Unit {0}) F x next p n q m a (λ h. (k.full, k.ties)) tt;
+    agrees = (moved_kept R F x next p n q m table k a).agrees;
+  },
+  free_then (Unit {0}) F x next p n q m a (λ h. (k.full, k.ties)) tt es free,
+)
+
+abbrev pub ReplacedFree : Type 0
+ReplacedFree = (R : Repository) (F : Stored) (x : Row) (next : ℕ) (p : Path) (n : Name) (q : Path) (m : Name) → IsTable x next → (k : IsKept R F x next)
+    → (may : MayMove x p n q m) → (w : Row) → find_row m may.target.rows ≡ Some w → (es : List StoredEntry) → AreFree k.full es
+    → (z : IsKept R (without (files_moved x p n q m may F) w.number) (moved_in x p n q m may) next) × AreFree z.full es
+
+pub replaced_free : ReplacedFree
+unfolding replaced_kept
+replaced_free R F x next p n q m table k a w stood es free = (
+  replaced_kept R F x next p n q m table k a w stood,
+  free_removed (Unit {0}) F x next p n q m a (λ h. (k.full, k.ties)) tt w stood es (free_then (Unit {0}) F x next p n q m a (λ h. (k.full, k.ties)) tt es free),
+)

@@ -1,16 +1,20 @@
 -- The rows of a directory as it was loaded.
-use Rattle.std.proofs.Common.{◌≡◌, ◌≢◌, ◌≤◌, ◌<◌, ◌+◌, ℕ, zero, suc, List, [], ◌∷◌, length, map, Some, None, Contains, sym, ap, ◌∙◌, subst, arith}
+use Rattle.std.proofs.Common.{◌≡◌, ◌≢◌, ◌≤◌, ◌<◌, ◌+◌, ℕ, zero, suc, List, [], ◌∷◌, length, map, Some, None, Contains, refl, sym, ap, ◌∙◌, subst, arith}
 use Rattle.std.specs.Option.{option_map}
+use Rattle.std.proofs.lemmas.Option.{same_Some, none-some}
 use Rattle.eden_model.specs.declared.id.Id.{Id}
 use Rattle.eden_model.specs.declared.kind.Mode.{Mode}
 use Rattle.eden_model.specs.declared.kind.Mode.TheVariants as mode
+use Rattle.eden_model.specs.declared.kind.Origin.{Origin}
 use Rattle.eden_model.specs.declared.kind.Origin.TheVariants as origin
 use Rattle.eden_model.specs.declared.tree_entry.TreeEntry.{TreeEntry}
 use Rattle.eden_model.specs.Trees.{Name}
-use Rattle.eden_model.specs.Shown.{Item}
+use Rattle.eden_model.specs.Shown.{Item, Items}
 use Rattle.eden_model.specs.Repository.{Repository, Source, Own, source_of, item_by, entry_named, items_of, entries_with, no_files}
 use Rattle.eden_overlay_format.specs.declared.stored_entry.StoredEntry.{StoredEntry}
 use Rattle.eden_overlay_format.specs.Directory.{AreStorable}
+use Rattle.eden_overlay.specs.Files.{Stored}
+use Rattle.eden_overlay.specs.Soundness.{Names, IsLive}
 use Rattle.eden_tree.specs.Directory.{Row, Directory, directory_in, child_of}
 use Rattle.eden_tree.specs.Rows.{find_row}
 use Rattle.eden_tree.proofs.CallerLemmas.{find_row-Contains, Contains-find_row}
@@ -76,16 +80,17 @@ module _ (next : ℕ) (es : List TreeEntry) (d : Directory) (has : HasObject nex
       let from = map_some (λ (e : TreeEntry). item_by e.mode e.id) (entry_named n es) (item_away z) (ap (option_map item_away) (sym f) ∙ has.items n) in
       not_own_by from.0.mode from.0.id z.number (ap (λ (i : Item Source). i.source) from.1.1 ∙ ap (λ o. source_of z.number o) own)
 
-  pub object_fresh : AreFresh next (next + length es) (listing_of d)
-  object_fresh = record {
+  pub object_fresh : (full : Stored) → ((c : ℕ) (e : StoredEntry) → IsLive full c → Names full c e → e.number < next) → AreFresh full (next + length es) (listing_of d)
+  object_fresh full below = record {
     quiet = λ f there own.
         (let from = mapped_from stored_entry d.rows f there in
         not_own from.0.0 from.0.1 (find_row-Contains from.0.0 d.rows from.0.1 (stored_rising d are) from.1.0) (ap (λ (e : StoredEntry). e.origin) from.1.1 ∙ own));
-    least = λ f there.
+    free = λ f there c e r n same.
         (let from = mapped_from stored_entry d.rows f there in
         let at = (numbered_at next d.rows has.numbered from.0 from.1.0).0 in
         let is : from.0.1.number ≡ f.number = ap (λ (e : StoredEntry). e.number) from.1.1 in
-        omega (arith, at, is));
+        let less = below c e r n in
+        absurd (omega (arith, at, is, less, same)));
     most = λ f there.
         (let from = mapped_from stored_entry d.rows f there in
         let at = (numbered_at next d.rows has.numbered from.0 from.1.0).1 in
@@ -108,14 +113,37 @@ object_from R k id es y d is tree has = record {
   each = has.items;
 }
 
+-- ---- what is loaded from no file
+
+-- no entry of it is its own
+not_own_from : (R : Repository) (k : ℕ) (o : Origin) → o ≢ origin.Own → (items : Items Source) → entries_with R no_files (source_of k o) ≡ Some items
+    → (n : Name) (i : Item Source) → items n ≡ Some i → (j : ℕ) → i.source ≡ Own j → ⊥
+not_own_from R k (origin.Object id) other items had n i is j own =
+    let t = map_some items_of (R.tree id) items (sym had) in
+    let e = map_some (λ (a : TreeEntry). item_by a.mode a.id) (entry_named n t.0) i (sym is ∙ ap (λ (es : Items Source). es n) (sym t.1.1)) in
+    not_own_by e.0.mode e.0.id j (ap (λ (s : Item Source). s.source) e.1.1 ∙ own)
+not_own_from R k origin.Own other items had n i is j own = other refl
+not_own_from R k origin.Empty other items had n i is j own =
+    none-some i (ap (λ (es : Items Source). es n) (same_Some (λ m. None) items had) ∙ is)
+
+pub none_own : (R : Repository) (y : Row) (d : Directory) → AreStorable (listing_of d) → y.origin ≢ origin.Own → IsFrom R no_files y d
+    → (f : StoredEntry) → Contains (listing_of d) f → f.origin ≢ origin.Own
+none_own R y d are other from f there own =
+    let a = mapped_from stored_entry d.rows f there in
+    let z = a.0.1 in
+    let found : find_row a.0.0 d.rows ≡ Some z = find_row-Contains a.0.0 d.rows z (stored_rising d are) a.1.0 in
+    let mine : z.origin ≡ origin.Own = ap (λ (e : StoredEntry). e.origin) a.1.1 ∙ own in
+    not_own_from R y.number y.origin other from.items from.had a.0.0 (item_away z) (sym (from.each a.0.0) ∙ ap (option_map item_away) found) z.number
+    (ap (λ (o : Origin). source_of z.number o) mine)
+
 -- ---- an empty directory
 
-pub empty_fresh : (next : ℕ) (d : Directory) → d.rows ≡ [] → AreFresh next next (listing_of d)
-empty_fresh next d is =
-    let P : List StoredEntry → Type 0 = λ es. AreFresh next next es in
+pub empty_fresh : (full : Stored) (next : ℕ) (d : Directory) → d.rows ≡ [] → AreFresh full next (listing_of d)
+empty_fresh full next d is =
+    let P : List StoredEntry → Type 0 = λ es. AreFresh full next es in
     subst P (sym (ap (map stored_entry) is)) (record {
       quiet = λ f there. absurd (none_in f there);
-      least = λ f there. absurd (none_in f there);
+      free = λ f there. absurd (none_in f there);
       most = λ f there. absurd (none_in f there);
       distinct = λ e f there. absurd (none_in e there);
     })

@@ -50,12 +50,15 @@ edited_table x next p o t new = record {
   most = t.most;
 }
 
--- a table with a directory loaded that can be stored
+-- a table with a directory at a path that can be stored, and holds none
+pub put_table : (x : Row) (next : ℕ) (p : Path) (d : Directory) → IsTable x next → HasNoneInside d → AreStorable (listing_of d) → IsTable (edit_row p (with_child (Some d)) x) next
+put_table x next p d t bare are =
+    edited_table x next p (Some d) t (λ y a b r k. (let P : Directory → Type 0 = λ c. AreStorable (listing_of c) in
+    subst P (sym (leaf_cases (with_child (Some d) y) a d b (child_of-with_child (Some d) y) bare r k).1) are))
+
+-- .. that was loaded
 loaded_table : (x : Row) (next : ℕ) (p : Path) (clock : ℕ) (d : Directory) → IsTable x next → HasNoneInside d → AreStorable (listing_of d) → IsTable (with_loaded p clock d x) next
-loaded_table x next p clock d t bare are =
-    stamps_table next clock (edit_row p (with_child (Some d)) x) p
-    (edited_table x next p (Some d) t (λ y a b r k. (let P : Directory → Type 0 = λ c. AreStorable (listing_of c) in
-    subst P (sym (leaf_cases (with_child (Some d) y) a d b (child_of-with_child (Some d) y) bare r k).1) are)))
+loaded_table x next p clock d t bare are = stamps_table next clock (edit_row p (with_child (Some d)) x) p (put_table x next p d t bare are)
 
 pub object_loads_table : ObjectLoadsTable
 object_loads_table clock next x p es z after t l are ends =

@@ -9,7 +9,7 @@ use Rattle.eden_ops.specs.Attempts.{Attempts, MeetsShown}
 use Rattle.eden_ops.specs.Keeping.{same}
 use Rattle.eden_ops.proofs.Answering.{first_ended, first_absent}
 use Rattle.eden_ops.proofs.TwoPaths.{moves, starts_rename, begins, plain_told, land_stopped, can_go, went, stayed}
-use Rattle.eden_ops.proofs.Leaving.{leaves_kept, leaves_moved}
+use Rattle.eden_ops.proofs.Leaving.{leaves_kept, leaves_moved, leaves_unmoved}
 use Rattle.eden_ops.proofs.Steps.{keeps_first, keeps_both}
 use Rattle.eden_ops.proofs.renaming.rename.Goals as goal
 
@@ -86,7 +86,7 @@ returns-in-Ok-relocate-clause-attempts g c =
     (sym c.is_root-else-is_root.ensures ∙ c.if-is_root-2.false) e.meets e.shown e.same e.keeps e.cache c.is_dir-dir.ensures in
     let l = c.in-Ok.ensures in
     went g.W.World g.F.Files c.args.from.now c.args.to.now s t c.args.cache.now c.meet.new.cache c.in-Ok-Some.seen c.is_dir-dir.result began c.in-None.ensures c.land.new.inodes c.land.new.cache l.same
-    l.keeps l.cache c.relocate.new.inodes l.shown c.in-Ok-relocate.ensures.ok
+    l.keeps l.cache c.relocate.new.inodes l.shown c.in-Ok-relocate.ensures.relocates.ok
 
 pub returns-in-Err-relocate-clause-attempts : goal.returns-in-Err-relocate-clause-attempts
 returns-in-Err-relocate-clause-attempts g c =
@@ -97,7 +97,7 @@ returns-in-Err-relocate-clause-attempts g c =
     (sym c.is_root.ensures ∙ c.if-is_root.false)
     (sym c.is_root-else-is_root.ensures ∙ c.if-is_root-2.false) e.meets e.shown e.same e.keeps e.cache c.is_dir-dir.ensures in
     let l = c.in-Ok.ensures in
-    let x = c.in-Err-relocate.ensures in
+    let x = c.in-Err-relocate.ensures.relocates in
     stayed g.W.World g.F.Files c.args.from.now c.args.to.now s t c.args.cache.now c.meet.new.cache c.in-Ok-Some.seen c.is_dir-dir.result began c.in-None.ensures c.land.new.inodes c.land.new.cache
     l.same l.keeps l.cache c.relocate.new.inodes c.in-Err-relocate.fault x.fault x.err
 
@@ -123,10 +123,18 @@ returns-in-Err-land-clause-leaves g c =
 pub returns-in-Ok-relocate-clause-leaves : goal.returns-in-Ok-relocate-clause-leaves
 returns-in-Ok-relocate-clause-leaves g c =
     let x = c.in-Ok-relocate.ensures in
-    leaves_moved g.W.World g.F.Files c.args.from.now c.args.to.now c.args.inodes.now c.land.new.inodes (keeps_both g.W.World g.F.Files c.args.from.now c.args.to.now c.args.inodes.now c.meet.new.inodes c.land.new.inodes c.meet.ensures.keeps c.land.ensures.keeps) c.relocate.new.inodes (Finished say.Ok) (λ e is. cc) (λ e is. cc) x.loaded x.root x.rest x.counted (λ q unsaved. inr (x.marks q unsaved)) (λ no. (x.saved.0, (x.saved.1, tt)))
+    let from = c.args.from.now in
+    let to = c.args.to.now in
+    let s = c.args.inodes.now in
+    let t = c.land.new.inodes in
+    leaves_moved g.W.World g.F.Files from to s t (keeps_both g.W.World g.F.Files from to s c.meet.new.inodes t c.meet.ensures.keeps c.land.ensures.keeps) c.relocate.new.inodes
+    x.relocates (x.saved.0, (x.saved.1, tt))
 
 pub returns-in-Err-relocate-clause-leaves : goal.returns-in-Err-relocate-clause-leaves
 returns-in-Err-relocate-clause-leaves g c =
-    let x = c.in-Err-relocate.ensures in
-    leaves_moved g.W.World g.F.Files c.args.from.now c.args.to.now c.args.inodes.now c.land.new.inodes (keeps_both g.W.World g.F.Files c.args.from.now c.args.to.now c.args.inodes.now c.meet.new.inodes c.land.new.inodes c.meet.ensures.keeps c.land.ensures.keeps) c.relocate.new.inodes (Finished (say.Fault c.in-Err-relocate.fault)) (λ e is. cc) (λ e is. x.names) x.loaded x.root x.rest x.counted
-    (λ q unsaved. elim (x.marked q unsaved) [ inl in_it ↦ inl ((c.in-Err-relocate.fault, refl), in_it) | inr was ↦ inr was ]) (λ no. absurd (no (c.in-Err-relocate.fault, refl)))
+    let from = c.args.from.now in
+    let to = c.args.to.now in
+    let s = c.args.inodes.now in
+    let t = c.land.new.inodes in
+    leaves_unmoved g.W.World g.F.Files from to s t (keeps_both g.W.World g.F.Files from to s c.meet.new.inodes t c.meet.ensures.keeps c.land.ensures.keeps) c.relocate.new.inodes
+    c.in-Err-relocate.fault c.in-Err-relocate.ensures.relocates

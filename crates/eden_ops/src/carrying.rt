@@ -1,0 +1,170 @@
+//! A loaded directory that goes along with its entry, to another path.
+ghost use Rattle.std.specs.Prelude.{◌≡◌, Some, None, IsSome};
+ghost use Rattle.std.specs.Option.{option_map};
+ghost use Rattle.eden_model.specs.declared.kind.Kind.TheVariants as kind;
+ghost use Rattle.eden_tree.specs.Directory.{Row, child_of, with_child};
+ghost use Rattle.eden_tree.specs.Paths.{row_at};
+ghost use Rattle.eden_tie.specs.Chains.{IsLoadedAt};
+ghost use Rattle.eden_tie.specs.Changing.{with_listing};
+ghost use Rattle.eden_inode.specs.Tables.{shows};
+ghost use Rattle.eden_materialise.specs.Puts.{AtDirectory};
+ghost use Rattle.eden_ops.specs.Carrying.{CanCarry, CanHold, IsReady, Takes, without_at};
+ghost use Rattle.eden_ops.specs.Relocating.{Relocates};
+
+use eden_inode::Inodes;
+use eden_materialise::move_entry;
+use eden_model::{Fault, Name, World};
+use eden_overlay::{Files, Overlay};
+use eden_tree::{Change, Dir, Entry};
+use std::alloc::{Allocator, Global};
+
+/// The loaded directory of an entry is taken out.
+#[derive(Drop)]
+struct Detaching;
+
+impl<A: Allocator> Change<A, ()> for Detaching {
+    type Output = Option<Box<Dir<A>, A>>;
+
+    ghost may = { λ detaching s x. Unit {0} };
+
+    ghost does = { λ detaching s x t z answer.
+        (z ≡ with_child None x)
+        × ((option_map (λ b. b.value) answer ≡ child_of x) × (IsSome (child_of x) → x.kind ≡ kind.Dir)) };
+
+    fn change(self, _: &mut (), entry: &mut Entry<A>) -> Option<Box<Dir<A>, A>> {
+        entry.child.take()
+    }
+}
+
+/// The loaded directory at a path is taken out.
+#[derive(Drop)]
+struct Taking<'a> {
+    path: &'a [Name],
+}
+
+impl<A: Allocator, W: World, F: Files<W>> Change<A, Overlay<W, F>> for Taking<'_> {
+    type Output = Option<Box<Dir<A>, A>>;
+
+    ghost may = { λ taking overlay x. IsSome (row_at taking.path.now x) };
+
+    ghost does = { λ taking old x new z answer.
+        (new ≡ old) × Takes taking.path.now x z (option_map (λ b. b.value) answer) };
+
+    fn change(self, _: &mut Overlay<W, F>, entry: &mut Entry<A>) -> Option<Box<Dir<A>, A>> {
+        match entry.change_at(self.path, &mut (), Detaching) {
+            None => None,
+            Some(taken) => taken,
+        }
+    }
+}
+
+/// Takes out the loaded directory at a path, which is ready for that. The tree that is shown is as before.
+fn take<A: Allocator + Clone, W: World, F: Files<W>>(
+    inodes: &mut Inodes<A, W, F>,
+    path: &[Name],
+) -> Box<Dir<A>, A>
+    requires { IsReady path.now inodes.old.root }
+    ensures taken { AtDirectory path.now inodes.old.root (λ y d. (result.value ≡ d) × (y.kind ≡ kind.Dir)) }
+    ensures root { inodes.new.root ≡ without_at path.now inodes.old.root }
+    ensures files { inodes.new.files ≡ inodes.old.files }
+    ensures shown { W.honest → shows W.World F.Files inodes.new ≡ shows W.World F.Files inodes.old }
+    ensures rest { (inodes.new.next ≡ inodes.old.next) × (inodes.new.clock ≡ inodes.old.clock) }
+{
+    inodes.holds();
+    match inodes.change(Taking { path }) {
+        Some(child) => child,
+        None => unreachable!(),
+    }
+}
+
+/// A directory that an entry holds from then on.
+#[derive(Drop)]
+struct Holding<A: Allocator> {
+    child: Box<Dir<A>, A>,
+}
+
+impl<A: Allocator> Change<A, ()> for Holding<A> {
+    type Output = ();
+
+    ghost may = { λ holding s x. x.kind ≡ kind.Dir };
+
+    ghost does = { λ holding s x t z answer. z ≡ with_child (Some holding.child.value) x };
+
+    fn change(self, _: &mut (), entry: &mut Entry<A>) {
+        let Holding { child } = self;
+        entry.child = Some(child);
+    }
+}
+
+/// A directory that the entry at a path holds from then on.
+#[derive(Drop)]
+struct Putting<'a, A: Allocator> {
+    path: &'a [Name],
+    child: Box<Dir<A>, A>,
+}
+
+impl<A: Allocator, W: World, F: Files<W>> Change<A, Overlay<W, F>> for Putting<'_, A> {
+    type Output = ();
+
+    ghost may = { λ putting overlay x. (y : Row) → row_at putting.path.now x ≡ Some y → y.kind ≡ kind.Dir };
+
+    ghost does = { λ putting old x new z answer.
+        (new ≡ old) × (z ≡ with_listing putting.path.now putting.child.value x) };
+
+    fn change(self, _: &mut Overlay<W, F>, entry: &mut Entry<A>) {
+        let Putting { path, child } = self;
+        let _ = entry.change_at(path, &mut (), Holding { child });
+    }
+}
+
+/// Puts a directory that was taken out under the entry at a path. The tree that is shown is as before.
+fn put_back<A: Allocator + Clone, W: World, F: Files<W>>(
+    inodes: &mut Inodes<A, W, F>,
+    path: &[Name],
+    child: Box<Dir<A>, A>,
+)
+    requires { CanHold W.honest W.repository (F.stored inodes.old.files) inodes.old.next path.now inodes.old.root
+        child.value }
+    ensures root { inodes.new.root ≡ with_listing path.now child.value inodes.old.root }
+    ensures files { inodes.new.files ≡ inodes.old.files }
+    ensures shown { W.honest → shows W.World F.Files inodes.new ≡ shows W.World F.Files inodes.old }
+    ensures rest { (inodes.new.next ≡ inodes.old.next) × (inodes.new.clock ≡ inodes.old.clock) }
+{
+    inodes.holds();
+    inodes.change(Putting { path, child });
+}
+
+/// Moves an entry that holds a directory to another path, in place of what stands there. The directory stays loaded,
+/// with its listing: at the new path, or where the move failed at the old one.
+///
+/// Nothing is stored of the directory itself, and it goes in and out without any call that can fail.
+pub(crate) fn move_dir<A: Allocator + Clone, W: World, F: Files<W>>(
+    inodes: &mut Inodes<A, W, F>,
+    alloc: Global,
+    from: &[Name],
+    to: &[Name],
+) -> Result<(), Fault>
+    requires may { CanCarry inodes.old.root from.now to.now }
+    requires loaded { IsLoadedAt from.now inodes.old.root }
+    ensures { Relocates W.World F.Files from.now to.now inodes.old inodes.new result }
+{
+    inodes.holds();
+    let Some((name, above)) = from.split_last() else {
+        unreachable!()
+    };
+    let Some((new_name, new_above)) = to.split_last() else {
+        unreachable!()
+    };
+    let child = take(inodes, from);
+    inodes.holds();
+    match move_entry(inodes, alloc, above, name, new_above, new_name) {
+        Ok(()) => {
+            put_back(inodes, to, child);
+            Ok(())
+        }
+        Err(fault) => {
+            put_back(inodes, from, child);
+            Err(fault)
+        }
+    }
+}
