@@ -12,11 +12,13 @@ use Rattle.eden_shared.specs.Passes.{Carried}
 use Rattle.eden_wire.specs.declared.request.Item.{Item}
 use Rattle.eden_wire.specs.declared.request.Item.TheVariants.{Asks, Refuses, Bad}
 use Rattle.eden_wire.specs.declared.session_fault.SessionFault.{SessionFault}
+use Rattle.eden_wire.specs.declared.session_fault.SessionFault.TheVariants.{Memory}
 use Rattle.eden_wire.specs.Serving.{Session, Serves}
 use Rattle.eden_host.specs.Guests.{GuestAnswers}
-use Rattle.eden_host.specs.Sessions.{AreAttended, IsAttended, first_fault}
+use Rattle.eden_host.specs.Sessions.{AreAttended, AreHosted, IsSeated, gathered}
 use Rattle.eden_host.specs.declared.fault.HostFault.{HostFault}
 use Rattle.eden_host.specs.declared.fault.HostFault.TheVariants.{Listen}
+use Rattle.eden_host.specs.declared.fault.HostFault.TheVariants as host
 
 module _ (honest : Type 0) (opening : Tree) where
   -- whose pass it is
@@ -40,18 +42,28 @@ module _ (honest : Type 0) (opening : Tree) where
     -- a session over a guest was its pass's
     pub attended : (p p' : Carried) (reader unread : I) (writer written : O) (said : Result ⊤ SessionFault)
         → Session (GuestAnswers honest opening) (p, p') (i.remaining reader, i.remaining unread) (o.contents writer, o.contents written) said
-        → IsAttended i o honest opening p p' reader writer said
+        → IsSeated i o honest opening p p' (Some said)
     attended p p' reader unread writer written said s =
         let stays = numbers_stay (s.items ++ s.last) s.given p p' s.served in
-        record { number = ap (λ (x : Terms × ℕ). x.1) stays; terms = ap (λ (x : Terms × ℕ). x.0) stays; unread = unread; written = written; session = s }
+        let number : p'.number ≡ p.number = ap (λ (x : Terms × ℕ). x.1) stays in
+        let terms : p'.terms ≡ p.terms = ap (λ (x : Terms × ℕ). x.0) stays in
+        (reader, writer, record { number = number; terms = terms; unread = unread; written = written; session = s })
 
     -- nobody could connect any more
-    pub unattended : (ps : List Carried) → 0 < length ps → AreAttended i o honest opening ps ps (Err Listen)
+    pub unattended : (ps : List Carried) → 0 < length ps → AreAttended i o honest opening ps ps (Some (Err Listen))
     unattended [] some = absurd (omega (arith, some))
     unattended (p ∷ ps) some = inr (refl, refl, refl)
 
-    -- one session, and those after it
-    pub attended_more : (p p' : Carried) (ps ps' : List Carried) (reader : I) (writer : O) (said : Result ⊤ SessionFault) (later : Result ⊤ HostFault)
-        → IsAttended i o honest opening p p' reader writer said → AreAttended i o honest opening ps ps' later
-        → AreAttended i o honest opening (p ∷ ps) (p' ∷ ps') (first_fault said later)
-    attended_more p p' ps ps' reader writer said later first rest = inl (reader, writer, said, later, first, rest, refl)
+    -- one pass, and those after it
+    pub attended_more : (p p' : Carried) (ps ps' : List Carried) (said : Option (Result ⊤ SessionFault)) (later : Option (Result ⊤ HostFault))
+        → IsSeated i o honest opening p p' said → AreAttended i o honest opening ps ps' later
+        → AreAttended i o honest opening (p ∷ ps) (p' ∷ ps') (gathered said later)
+    attended_more p p' ps ps' said later first rest = inl (said, later, first, rest, refl)
+
+    none_attended : (ps : List Carried) → AreAttended i o honest opening ps ps None
+    none_attended [] = refl
+    none_attended (p ∷ ps) = inl (None, None, refl, none_attended ps, refl)
+
+    -- no session began
+    pub unhosted : (ps : List Carried) → AreHosted i o honest opening ps ps (Err (host.Session Memory))
+    unhosted ps = (None, none_attended ps, refl)

@@ -1,5 +1,5 @@
 -- What guests' sessions make of their passes.
-use Rattle.std.specs.Prelude.{◌≡◌, ◌⊎◌, List, [], ◌∷◌, Result, Ok, Err, ⊤}
+use Rattle.std.specs.Prelude.{◌≡◌, ◌⊎◌, List, [], ◌∷◌, Option, Some, None, Result, Ok, Err, ⊤}
 use Rattle.std.specs.declared.io.Read.{Ghosts as Read}
 use Rattle.std.specs.declared.io.Write.{Ghosts as Write}
 use Rattle.eden_model.specs.Trees.{Tree}
@@ -19,6 +19,17 @@ first_fault (Ok _) (Err (host.Session later)) = Err (host.Session later)
 first_fault (Err fault) (Ok _) = Err (host.Session fault)
 first_fault (Ok _) (Ok _) = Ok tt
 
+-- what a pass's session and the passes after it come to: where it had no session, what those come to
+abbrev pub gathered : Option (Result ⊤ SessionFault) → Option (Result ⊤ HostFault) → Option (Result ⊤ HostFault)
+gathered None later = later
+gathered (Some said) None = Some (first_fault said (Ok tt))
+gathered (Some said) (Some later) = Some (first_fault said later)
+
+-- what is told of all passes: where none had a session, want of memory
+abbrev pub outcome_of : Option (Result ⊤ HostFault) → Result ⊤ HostFault
+outcome_of None = Err (host.Session Memory)
+outcome_of (Some outcome) = outcome
+
 module _ {I O : Type 0} (i : Read I) (o : Write O) (honest : Type 0) (opening : Tree) where
   -- a session was served with the pass, over what this reader gave and what this writer took, and ended so
   pub record IsAttended (p p' : Carried) (reader : I) (writer : O) (said : Result ⊤ SessionFault) : Type 0 where
@@ -28,17 +39,22 @@ module _ {I O : Type 0} (i : Read I) (o : Write O) (honest : Type 0) (opening : 
     pub written : O
     pub session : Session (GuestAnswers honest opening) (p, p') (i.remaining reader, i.remaining unread) (o.contents writer, o.contents written) said
 
-  -- each pass in turn had a session over a connection, and the first fault is told; or from one on they stayed as they
-  -- were, since listening failed
-  abbrev pub AreAttended : List Carried → List Carried → Result ⊤ HostFault → Type 0
-  AreAttended [] [] outcome = outcome ≡ Ok tt
+  -- the pass had a session over a connection; or it had none, and was told nothing
+  abbrev pub IsSeated : Carried → Carried → Option (Result ⊤ SessionFault) → Type 0
+  IsSeated p p' None = p' ≡ p
+  IsSeated p p' (Some said) = (reader : I) × (writer : O) × IsAttended p p' reader writer said
+
+  -- each pass in turn had its session or none, and the first fault is told; or from one on they stayed as they were, since
+  -- listening failed
+  abbrev pub AreAttended : List Carried → List Carried → Option (Result ⊤ HostFault) → Type 0
+  AreAttended [] [] outcome = outcome ≡ None
   AreAttended [] (p' ∷ ps') outcome = ⊥
   AreAttended (p ∷ ps) [] outcome = ⊥
   AreAttended (p ∷ ps) (p' ∷ ps') outcome =
-      ((reader : I) × (writer : O) × (said : Result ⊤ SessionFault) × (later : Result ⊤ HostFault) × IsAttended p p' reader writer said
-      × AreAttended ps ps' later × (outcome ≡ first_fault said later))
-      ⊎ ((p' ≡ p) × (ps' ≡ ps) × (outcome ≡ Err host.Listen))
+      ((said : Option (Result ⊤ SessionFault)) × (later : Option (Result ⊤ HostFault)) × IsSeated p p' said
+      × AreAttended ps ps' later × (outcome ≡ gathered said later))
+      ⊎ ((p' ≡ p) × (ps' ≡ ps) × (outcome ≡ Some (Err host.Listen)))
 
-  -- .. or no session began, for want of memory
+  -- .. and that is told of all
   abbrev pub AreHosted : List Carried → List Carried → Result ⊤ HostFault → Type 0
-  AreHosted ps ps' outcome = AreAttended ps ps' outcome ⊎ ((ps' ≡ ps) × (outcome ≡ Err (host.Session Memory)))
+  AreHosted ps ps' outcome = (sessions : Option (Result ⊤ HostFault)) × AreAttended ps ps' sessions × (outcome ≡ outcome_of sessions)

@@ -1,13 +1,14 @@
 //! The sessions of a shared mount's guests, each in a thread of its own.
-ghost use Rattle.std.specs.Prelude.{◌≡◌, ◌≤◌, vec_capacity, vec_len};
+ghost use Rattle.std.specs.Prelude.{◌≡◌, ◌≤◌, IfOk, IfErr, vec_capacity, vec_len};
 ghost use Rattle.std.specs.Thread.{IsSync};
 ghost use denote.Param.Send.{Frees, IsSend};
 ghost use Rattle.eden_host.specs.Guests.{HasLearntNothing, HaveLearntNothing};
-ghost use Rattle.eden_host.specs.Sessions.{AreAttended, IsAttended, first_fault};
+ghost use Rattle.eden_host.specs.Sessions.{AreAttended, AreHosted, IsSeated, first_fault, gathered, outcome_of};
 
 use crate::accepts::Accepts;
 use crate::fault::HostFault;
 use crate::guest::Guest;
+use crate::threads::small_stack;
 use crate::unloading::Unloading;
 use eden_model::World;
 use eden_mount::Attempts;
@@ -15,19 +16,33 @@ use eden_shared::{Naming, Pass, Shared};
 use eden_wire::{SessionFault, session};
 use std::alloc::{Allocator, Global};
 use std::io::{Read, Write};
-use std::marker::{Send, Sync};
+use std::marker::{PhantomData, Send, Sync};
+use std::snapshot::Snapshot;
 use std::sync::Wait;
-use std::thread::{Threads, join};
+use std::sync::atomic::{AtomicUsize, Ordering};
+use std::thread::{self, Promise, PromisedHandle, Scope, Threads};
 
-/// A guest's pass after its session, and how the session ended.
+/// A guest's pass after its session, and how the session ended. None where there was none, since no thread could be
+/// made for it.
 #[derive(Drop)]
 pub(crate) struct Attended<J: Naming> {
-    pub(crate) pass: Pass<J>,
-    pub(crate) said: Result<(), SessionFault>,
+    pass: Pass<J>,
+    said: Option<Result<(), SessionFault>>,
+}
+
+/// That a pass has its session, or none.
+#[derive(Drop)]
+struct Seat<W: World, J: Naming, I: Read, O: Write> {
+    pass: Snapshot<Pass<J>>,
+    connection: PhantomData<(W, I, O)>,
+}
+
+impl<W: World, J: Naming, I: Read, O: Write> Promise<Attended<J>> for Seat<W, J, I, O> {
+    ghost kept_by = { λ s a. IsSeated I.Read O.Write W.honest W.opening s.pass.value a.pass a.said };
 }
 
 /// Answers each line that a client says, with that pass.
-pub(crate) fn attend<
+fn attend<
     W: World,
     T: Attempts<W> + Drop,
     A: Allocator,
@@ -45,14 +60,68 @@ pub(crate) fn attend<
     writer: O,
 ) -> Attended<J>
     requires { HasLearntNothing pass }
-    ensures { IsAttended I.Read O.Write W.honest W.opening pass result.pass reader writer result.said }
+    ensures { IsSeated I.Read O.Write W.honest W.opening pass result.pass result.said }
 {
     let (mut reader, mut writer) = (reader, writer);
     let mut guest = Guest::new(rt, alloc, shared, pass, unloading);
     let said = session(alloc, &mut reader, &mut writer, &mut guest);
     Attended {
         pass: guest.into_pass(),
-        said,
+        said: Some(said),
+    }
+}
+
+/// Begins a session over a connection in a thread of its own. Where none can be made the connection is closed, and the
+/// pass comes back as it was.
+///
+/// `place` is a number of this session alone, and `closed` is 0 or that of a session that was given no thread.
+fn begin<
+    's,
+    E: 's,
+    W: World + Send,
+    T: Attempts<W> + Send + Drop,
+    A: Allocator + Send,
+    J: Naming + Send,
+    I: Read + Send + Drop + 's,
+    O: Write + Send + Drop + 's,
+    R: Threads + Wait + Sync,
+>(
+    scope: &Scope<'s, E>,
+    rt: &'s R,
+    alloc: Global,
+    shared: &'s Shared<W, T, A, J>,
+    closed: &'s AtomicUsize,
+    place: usize,
+    pass: Pass<J>,
+    unloading: Unloading,
+    connection: (I, O),
+) -> Result<PromisedHandle<Attended<J>, Seat<W, J, I, O>>, Attended<J>>
+    requires { HasLearntNothing pass }
+    ensures ok { IfOk result (λ h. h.promise.pass.value ≡ pass) }
+    ensures err { IfErr result (λ a. IsSeated I.Read O.Write W.honest W.opening pass a.pass a.said) }
+{
+    let (reader, writer) = connection;
+    let seat = Seat {
+        pass: Snapshot::of(&pass),
+        connection: PhantomData,
+    };
+    // What was to run in the thread comes back where none can be made, and then does no more than to give the pass back.
+    let attend_guest = move || -> Attended<J>
+        requires { HasLearntNothing pass }
+        ensures { IsSeated I.Read O.Write W.honest W.opening pass result.pass result.said }
+    {
+        if closed.load(Ordering::SeqCst) == place {
+            Attended { pass, said: None }
+        } else {
+            attend(rt, alloc, shared, pass, unloading, reader, writer)
+        }
+    };
+    match small_stack().spawn_scoped_with(scope, seat, attend_guest) {
+        Ok(thread) => Ok(thread),
+        Err(refused) => {
+            closed.store(place, Ordering::SeqCst);
+            Err((refused.value)())
+        }
     }
 }
 
@@ -70,9 +139,85 @@ fn first_fault(
     }
 }
 
-/// Takes a connection for each pass, and answers each in a thread of its own, or after the later ones where none can be
-/// made. The passes after their sessions, and the first fault. After a failed `accept` no more connections are taken.
-#[cycle(attend)]
+/// What a pass's session and the passes after it come to.
+fn gathered(
+    said: Option<Result<(), SessionFault>>,
+    later: Option<Result<(), HostFault>>,
+) -> Option<Result<(), HostFault>>
+    ensures { result ≡ gathered said later }
+{
+    match (said, later) {
+        (None, later) => later,
+        (Some(said), None) => Some(first_fault(said, Ok(()))),
+        (Some(said), Some(later)) => Some(first_fault(said, later)),
+    }
+}
+
+/// What is told of all passes.
+fn outcome_of(sessions: Option<Result<(), HostFault>>) -> Result<(), HostFault>
+    ensures { result ≡ outcome_of sessions }
+{
+    sessions.unwrap_or(Err(HostFault::Session(SessionFault::Memory)))
+}
+
+/// Takes a connection for each pass, and answers each in a thread of its own, or closes it where none can be made. The
+/// passes after their sessions, and the first fault, where there was a session. After a failed `accept` no more
+/// connections are taken.
+fn attend_each<
+    's,
+    E: 's,
+    W: World + Send,
+    T: Attempts<W> + Send + Drop,
+    A: Allocator + Send,
+    J: Naming + Send,
+    I: Read + Send + Drop + 's,
+    O: Write + Send + Drop + 's,
+    L: Accepts<I, O> + Drop,
+    R: Threads + Wait + Sync,
+>(
+    scope: &Scope<'s, E>,
+    rt: &'s R,
+    alloc: Global,
+    shared: &'s Shared<W, T, A, J>,
+    closed: &'s AtomicUsize,
+    listener: L,
+    passes: Vec<Pass<J>>,
+    unloading: Unloading,
+) -> (Vec<Pass<J>>, Option<Result<(), HostFault>>)
+    requires learnt { HaveLearntNothing passes.items }
+    ensures passes { AreAttended I.Read O.Write W.honest W.opening passes.items result.0.items result.1 }
+    ensures len { vec_len result.0 ≡ vec_len passes }
+    ensures room { vec_capacity passes ≤ vec_capacity result.0 }
+{
+    let (mut listener, mut passes) = (listener, passes);
+    if passes.is_empty() {
+        return (passes, None);
+    }
+    let Some(connection) = listener.accept() else {
+        return (passes, Some(Err(HostFault::Listen)));
+    };
+    let place = passes.len();
+    let pass = passes.remove(0);
+    let begun = begin(
+        scope, rt, alloc, shared, closed, place, pass, unloading, connection,
+    );
+    if begun.is_err() {
+        listener.close_unserved();
+    }
+    let (mut passes, later) = attend_each(
+        scope, rt, alloc, shared, closed, listener, passes, unloading,
+    );
+    let Attended { pass, said } = match begun {
+        Ok(thread) => thread.join(rt),
+        Err(unserved) => unserved,
+    };
+    let Ok(()) = passes.insert(0, pass) else {
+        unreachable!()
+    };
+    (passes, gathered(said, later))
+}
+
+/// Serves the sessions of all passes, and gives the passes back when all have ended.
 pub(crate) fn attend_all<
     W: World + Send,
     T: Attempts<W> + Send + Drop,
@@ -91,34 +236,22 @@ pub(crate) fn attend_all<
     unloading: Unloading,
 ) -> (Vec<Pass<J>>, Result<(), HostFault>)
     requires learnt { HaveLearntNothing passes.items }
-    ensures passes { AreAttended I.Read O.Write W.honest W.opening passes.items result.0.items result.1 }
-    ensures len { vec_len result.0 ≡ vec_len passes }
-    ensures room { vec_capacity passes ≤ vec_capacity result.0 }
+    ensures { AreHosted I.Read O.Write W.honest W.opening passes.items result.0.items result.1 }
 {
-    let (mut listener, mut passes) = (listener, passes);
-    if passes.is_empty() {
-        return (passes, Ok(()));
-    }
-    let Some((reader, writer)) = listener.accept() else {
-        return (passes, Err(HostFault::Listen));
-    };
-    let pass = passes.remove(0);
-    let front = move || -> Attended<J>
-        requires { HasLearntNothing pass }
-        ensures { IsAttended I.Read O.Write W.honest W.opening pass result.pass reader writer result.said }
-    { attend(rt, alloc, shared, pass, unloading, reader, writer) };
-    let back = move || -> (Vec<Pass<J>>, Result<(), HostFault>)
-        requires { IsSync R.row × IsSend W.row × IsSend T.row × IsSend A.row × IsSend J.row × IsSend I.row
-            × IsSend O.row × Frees A.Allocator A.dealloc_token × HaveLearntNothing passes.items }
-        ensures passes { AreAttended I.Read O.Write W.honest W.opening passes.items result.0.items result.1 }
-        ensures len { vec_len result.0 ≡ vec_len passes }
-        ensures room { vec_capacity passes ≤ vec_capacity result.0 }
-    { attend_all(rt, alloc, shared, listener, passes, unloading) };
-    let (first, later) = join(rt, front, back);
-    let (mut passes, outcome) = later;
-    let Attended { pass, said } = first;
-    let Ok(()) = passes.insert(0, pass) else {
-        unreachable!()
-    };
-    (passes, first_fault(said, outcome))
+    let closed = AtomicUsize::new(0);
+    let closed = &closed;
+    let (passes, sessions) = thread::scope(
+        thread::scope_env(),
+        rt,
+        move |scope| -> (Vec<Pass<J>>, Option<Result<(), HostFault>>)
+            requires { IsSync R.row × IsSend W.row × IsSend T.row × IsSend A.row × IsSend J.row × IsSend I.row
+                × IsSend O.row × Frees A.Allocator A.dealloc_token × HaveLearntNothing passes.items }
+            ensures { AreAttended I.Read O.Write W.honest W.opening passes.items result.0.items result.1 }
+        {
+            attend_each(
+                scope, rt, alloc, shared, closed, listener, passes, unloading,
+            )
+        },
+    );
+    (passes, outcome_of(sessions))
 }

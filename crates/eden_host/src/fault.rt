@@ -7,7 +7,7 @@ pub enum HostFault {
     /// Listening failed, and no more connections were taken.
     #[error("listening failed")]
     Listen,
-    /// A session ended early, or no thread could be made for the fetchers and no session began.
+    /// A session ended early; or none began, since no thread could be made for any, or for any fetcher.
     #[error("a session ended early")]
     Session(SessionFault),
 }

@@ -11,7 +11,9 @@ use crate::accepts::Accepts;
 use crate::attend::attend_all;
 use crate::fault::HostFault;
 use crate::fetchers::Fetchers;
+use crate::threads::small_stack;
 use crate::unloading::Unloading;
+use core::thread::Anything;
 use eden_model::World;
 use eden_mount::{Attempts, Mount};
 use eden_shared::{Naming, Pass, Shared, Torn};
@@ -21,7 +23,7 @@ use std::alloc::{Allocator, Global};
 use std::io::{Read, Write};
 use std::marker::{Send, Sync};
 use std::sync::Wait;
-use std::thread::{self, Threads};
+use std::thread::{self, Scope, Threads};
 
 /// What is left of a mount that was served to many.
 #[derive(Drop)]
@@ -33,22 +35,26 @@ pub struct Hosted<W: World, T: Attempts<W> + Drop, A: Allocator, J: Naming> {
 }
 
 /// Fetches from each source in a thread of its own, where one can be made, until nothing will be wanted any more.
+/// Whether anybody fetches.
 fn fetch_from_all<
+    's,
+    E: 's,
     W: World + Send,
     T: Attempts<W> + Send + Drop,
     A: Allocator + Send,
     J: Naming + Send,
-    S: Source<W> + Send + Drop,
+    S: Source<W> + Send + Drop + 's,
     R: Threads + Wait + Sync,
->(rt: &R, shared: &Shared<W, T, A, J>, fetchers: Fetchers<S>) {
-    let mut sources = fetchers.into_sources();
-    let threads = sources.len();
-    thread::for_each_mut(
-        rt,
-        sources.as_mut_slice(),
-        threads,
-        &|_, source: &mut S| shared.fetch_all(rt, source),
-    );
+>(scope: &Scope<'s, E>, rt: &'s R, shared: &'s Shared<W, T, A, J>, fetchers: Fetchers<S>) -> bool {
+    let mut fetched = false;
+    for source in fetchers.into_sources() {
+        let mut source = source;
+        let fetch = move || shared.fetch_all(rt, &mut source);
+        fetched |= small_stack()
+            .spawn_scoped_with(scope, Anything, fetch)
+            .is_ok();
+    }
+    fetched
 }
 
 /// Passes that were told nothing learnt nothing.
@@ -60,9 +66,10 @@ fn begin<J: Naming>(passes: &Vec<Pass<J>>)
 
 /// Serves a shared mount: a connection and a thread for each pass, and a fetcher for each source.
 ///
-/// A client that sends nothing, never reads or goes away costs its own session alone. After the last session the mount
-/// is stopped, the fetchers end, and the mount comes back, as its passes were told. Where no thread can be made for the
-/// fetchers, no session begins, and the outcome is want of memory.
+/// A client that sends nothing, never reads or goes away costs its own session alone. One for which no thread can be
+/// made has its connection closed, and no session. After the last session the mount is stopped, the fetchers end, and
+/// the mount comes back, as its passes were told. Where no thread can be made for any fetcher no session begins; where
+/// none began, the outcome is want of memory.
 pub fn host<
     W: World + Send,
     T: Attempts<W> + Send + Drop,
@@ -142,9 +149,7 @@ fn beside_fetchers<
     ensures { (b : Bool) × G.post sessions b result }
 {
     thread::scope(thread::scope_env(), rt, move |scope| {
-        let fetched = scope
-            .spawn(move || fetch_from_all(rt, shared, fetchers))
-            .is_ok();
+        let fetched = fetch_from_all(scope, rt, shared, fetchers);
         let served = sessions(fetched);
         shared.stop(rt);
         served

@@ -15,6 +15,7 @@ mod guest;
 mod hosting;
 mod port;
 mod sharing;
+mod threads;
 mod unloading;
 
 pub use accepts::Accepts;

@@ -1,19 +1,19 @@
 //! Connections on a port of this machine.
 use crate::accepts::Accepts;
-use std::io::{self, ErrorKind, Print};
+use std::io::{self, Eprint, ErrorKind, Print};
 use std::net::{Ipv4Addr, Net, OpenListener, OpenStream, SocketAddr, TcpListener};
 
 /// A port of 127.0.0.1, which is bound at the first `accept` or `next_stream`: until then nobody can connect.
 ///
 /// `accept` answers a connection as two handles of one stream, and it is closed once both are dropped.
 #[derive(Drop)]
-pub struct Port<R: Net + Print + Drop> {
+pub struct Port<R: Net + Print + Eprint + Drop> {
     rt: R,
     number: u16,
     listener: Option<R::Listener>,
 }
 
-impl<R: Net + Print + Drop> Port<R> {
+impl<R: Net + Print + Eprint + Drop> Port<R> {
     /// The port of this number, or for 0 one that the machine chooses.
     pub fn new(rt: R, number: u16) -> Port<R> {
         Port {
@@ -64,11 +64,15 @@ fn is_passing(kind: ErrorKind) -> bool {
     matches!(kind, ErrorKind::ConnectionAborted | ErrorKind::Interrupted)
 }
 
-impl<R: Net + Print + Drop> Accepts<R::Stream, R::Stream> for Port<R> {
+impl<R: Net + Print + Eprint + Drop> Accepts<R::Stream, R::Stream> for Port<R> {
     /// None where the port can't be bound or told, or no connection can be taken.
     fn accept(&mut self) -> Option<(R::Stream, R::Stream)> {
         let stream = self.next_stream().ok()?;
         let again = stream.try_clone().ok()?;
         Some((stream, again))
+    }
+    /// Tells it on standard error.
+    fn close_unserved(&mut self) {
+        let _ = eprintln!(self.rt; "mountd: no thread for a connection, which was closed");
     }
 }

@@ -172,4 +172,7 @@ impl<'a, R: Wait> Accepts<Asking<'a, R>, Hearing<'a, R>> for Arrivals<'a, R> {
         };
         Some((asking, hearing))
     }
+
+    /// What the client hears then shows it: nothing.
+    fn close_unserved(&mut self) {}
 }

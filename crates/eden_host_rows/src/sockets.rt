@@ -13,7 +13,7 @@ use eden_shared::{Naming, Pass, Ties};
 use eden_source::MemorySource;
 use std::alloc::Global;
 use std::fmt::Display;
-use std::io::{self, ErrorKind, Print, Read, Write};
+use std::io::{self, Eprint, ErrorKind, Print, Read, Write};
 use std::marker::Brand;
 use std::net::{Ipv4Addr, Net, Shutdown, SocketAddr, TcpListener, TcpStream};
 use std::process::Abort;
@@ -60,6 +60,16 @@ impl Print for Bound {
     }
 
     fn write_all(&self, _bytes: &[u8]) -> io::Result<()> {
+        Ok(())
+    }
+}
+
+impl Eprint for Bound {
+    fn eprint<D: Display + Drop>(&self, _value: D) -> io::Result<()> {
+        Ok(())
+    }
+
+    fn eprintln<D: Display + Drop>(&self, _value: D) -> io::Result<()> {
         Ok(())
     }
 }

@@ -14,7 +14,7 @@ pub enum SharedLifeFault {
     /// Listening failed, and no more clients were taken.
     #[error("listening failed")]
     Listen,
-    /// A session ended early, or no session began, since no thread could be made for the fetchers.
+    /// A session ended early; or none began, since no thread could be made for any, or for any fetcher.
     #[error("a session ended early")]
     Session(SessionFault),
     /// The guests were hosted well, and the overlay wasn't closed.
