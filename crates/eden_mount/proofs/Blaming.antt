@@ -185,8 +185,8 @@ module _ {T : Type 0} (A : Table T) (honest : Type 0) (copies : Bool) (opening :
   all_blamed w P m m' (e ∷ es) [] l h r = tt
   all_blamed w P m m' (e ∷ es) (o ∷ os) l h (k, step, kept, more) = (blamed w P m k e o h l step, all_blamed (then_waits w e o) (then_heard w P e o) k m' es os (hears w P m k e o h l step) kept more)
 
-  all_hear : (w : ℕ → Option Key) (P : Blames) (m m' : Core T) (es : List Event) (os : List Outcome) → Hears w P m → IsMount A honest opening m → Runs A honest copies opening m es os m' → (c : ℕ) (k : Key)
-      → IsPass c m'.queue → want_of c m'.queue ≡ Some k → waits_after w es os c ≡ Some k
+  all_hear : (w : ℕ → Option Key) (P : Blames) (m m' : Core T) (es : List Event) (os : List Outcome) → Hears w P m → IsMount A honest opening m → Runs A honest copies opening m es os m'
+      → (c : ℕ) (k : Key) → IsPass c m'.queue → want_of c m'.queue ≡ Some k → waits_after w es os c ≡ Some k
   all_hear w P m m' [] [] l h r c k s e =
       let now : Hears w P m' = same_all w P m m' (ap (λ (x : Core T). x.queue) r) l in
       now.waits c k s e

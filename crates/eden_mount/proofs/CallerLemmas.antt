@@ -60,8 +60,8 @@ module _ {T : Type 0} (A : Table T) where
   replied_next honest copies t u q mark r (failed k x needs marked was) = needs.next
 
   -- a reply leaves the commit, and gives no number again
-  pub replied_stays : (honest : Type 0) (copies : Bool) (t b u : T) (q : Request) (mark : Option Mark) (r : Reply) → A.commit b ≡ A.commit t → A.next b ≡ A.next t → Replied A honest copies b q mark r u
-      → (A.commit u ≡ A.commit t) × (A.next t ≤ A.next u)
+  pub replied_stays : (honest : Type 0) (copies : Bool) (t b u : T) (q : Request) (mark : Option Mark) (r : Reply) → A.commit b ≡ A.commit t → A.next b ≡ A.next t
+      → Replied A honest copies b q mark r u → (A.commit u ≡ A.commit t) × (A.next t ≤ A.next u)
   replied_stays honest copies t b u q mark r commit next replied = (
     replied_commit honest copies b u q mark r replied ∙ commit,
     no_less (A.next t) (A.next b) (A.next u) (same_next (A.next t) (A.next b) next) (replied_next honest copies b u q mark r replied),

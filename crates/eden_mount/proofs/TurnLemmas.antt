@@ -48,8 +48,8 @@ module _ (q : Queue) (c r : ℕ) (h : IsQueue q) (s : IsPass c q) (t : IsPass r 
 
 -- ---- a tick, and the rest of a turn
 
-pub ticked : {T : Type 0} (A : Table T) (honest : Type 0) (copies : Bool) (m : Core T) (t : T) (c : ℕ) (r : Turned) (m' : Core T) → Ticks A m.table t → GoesOn A honest copies (record m { table = t }) c r m'
-    → Turns A honest copies m c r m'
+pub ticked : {T : Type 0} (A : Table T) (honest : Type 0) (copies : Bool) (m : Core T) (t : T) (c : ℕ) (r : Turned) (m' : Core T) → Ticks A m.table t
+    → GoesOn A honest copies (record m { table = t }) c r m' → Turns A honest copies m c r m'
 ticked A honest copies m t c (Done n r) m' ticks done = (done.0, done.1, done.2, done.3, record { begun = t; ticks = ticks; replied = done.4 })
 ticked A honest copies m t c (Wait k) m' ticks waits = (waits.0, waits.1, waits.2, record { begun = t; ticks = ticks; awaits = waits.3 })
 ticked A honest copies m t c Idle m' ticks none = absurd none

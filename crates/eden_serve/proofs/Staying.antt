@@ -1,5 +1,5 @@
 -- What a mount was opened with, through a session, and what its caller may be told.
-use Rattle.std.proofs.Common.{◌≡◌, ◌≤◌, ℕ, List, [], ◌∷◌, Option, Some, None, Result, Ok, Err, inl, inr, sym, ap, ◌∙◌, subst, arith}
+use Rattle.std.proofs.Common.{◌≡◌, ◌≤◌, ℕ, Bool, List, [], ◌∷◌, Option, Some, None, Result, Ok, Err, inl, inr, sym, ap, ◌∙◌, subst, arith}
 use Rattle.std.specs.List.{AllByRecursion}
 use Rattle.eden_model.specs.declared.fault.CallFault.{CallFault}
 use Rattle.eden_model.specs.declared.fault.CallFault.TheVariants as call
@@ -18,16 +18,16 @@ use Rattle.eden_wire.specs.declared.request.Item.TheVariants.{Asks, Refuses, Bad
 use Rattle.eden_wire.specs.Serving.{Serves}
 use Rattle.eden_serve.specs.Calls.{CallAnswers, MayBeTold}
 
-module _ {S : Type 0} (fetched : S → Id → Answer → S → Type 0) {T : Type 0} (A : Table T) (honest : Type 0) where
+module _ {S : Type 0} (fetched : S → Id → Answer → S → Type 0) {T : Type 0} (A : Table T) (honest : Type 0) (copies : Bool) where
   nothing_moved : (d e : Desk T S) → e ≡ d → Stays A d.core e.core
   nothing_moved d e is = subst (λ (x : Desk T S). Stays A d.core x.core) (sym is) (stays_same A d.core)
 
-  call_stays : (d e : Desk T S) (q : Request) (a : Result Reply CallFault) → CallAnswers fetched A honest d q a e → Stays A d.core e.core
+  call_stays : (d e : Desk T S) (q : Request) (a : Result Reply CallFault) → CallAnswers fetched A honest copies d q a e → Stays A d.core e.core
   call_stays d e q (Ok reply) called = called.1.stays
   call_stays d e q (Err fault) called = nothing_moved d e called.2.1
 
   -- from the first line to the last
-  pub serves_stay : (items : List Item) (given : List (Option (Result Reply CallFault))) (d e : Desk T S) → Serves (CallAnswers fetched A honest) d items given e → Stays A d.core e.core
+  pub serves_stay : (items : List Item) (given : List (Option (Result Reply CallFault))) (d e : Desk T S) → Serves (CallAnswers fetched A honest copies) d items given e → Stays A d.core e.core
   serves_stay [] [] d e h = nothing_moved d e (sym h)
   serves_stay [] (a ∷ given) d e h = absurd h
   serves_stay (Asks q ∷ items) [] d e h = absurd h
@@ -42,11 +42,11 @@ module _ {S : Type 0} (fetched : S → Id → Answer → S → Type 0) {T : Type
     pub rest : IsAtRest d.core
     pub full : d.core.limit ≡ limit
 
-  rests : (d e : Desk T S) (q : Request) (a : Result Reply CallFault) → IsAtRest d.core → CallAnswers fetched A honest d q a e → IsAtRest e.core
+  rests : (d e : Desk T S) (q : Request) (a : Result Reply CallFault) → IsAtRest d.core → CallAnswers fetched A honest copies d q a e → IsAtRest e.core
   rests d e q (Ok reply) rest called = called.1.rest
   rests d e q (Err fault) rest called = subst (λ (x : Desk T S). IsAtRest x.core) (sym called.2.1) rest
 
-  stands_on : (limit : ℕ) (d e : Desk T S) (q : Request) (a : Result Reply CallFault) → Stands limit d → CallAnswers fetched A honest d q a e → Stands limit e
+  stands_on : (limit : ℕ) (d e : Desk T S) (q : Request) (a : Result Reply CallFault) → Stands limit d → CallAnswers fetched A honest copies d q a e → Stands limit e
   stands_on limit d e q a h called =
       let s = call_stays d e q a called in
       record { passes = subst (λ n. 1 ≤ n) (sym s.passes) h.passes; rest = rests d e q a h.rest called; full = s.limit ∙ h.full }
@@ -57,11 +57,11 @@ module _ {S : Type 0} (fetched : S → Id → Answer → S → Type 0) {T : Type
   refused_for limit d fault (start.HistoryFull entries) h is refused = inl (is ∙ ap (λ n. call.Start (start.HistoryFull n)) (refused.2 ∙ h.full))
   refused_for limit d fault start.Memory h is refused = inr is
 
-  told_by : (limit : ℕ) (d e : Desk T S) (q : Request) (a : Result Reply CallFault) → Stands limit d → CallAnswers fetched A honest d q a e → MayBeTold limit (Some a)
+  told_by : (limit : ℕ) (d e : Desk T S) (q : Request) (a : Result Reply CallFault) → Stands limit d → CallAnswers fetched A honest copies d q a e → MayBeTold limit (Some a)
   told_by limit d e q (Ok reply) h called = tt
   told_by limit d e q (Err fault) h called = refused_for limit d fault called.0 h called.1 called.2.0
 
-  pub all_told : (limit : ℕ) (items : List Item) (given : List (Option (Result Reply CallFault))) (d e : Desk T S) → Stands limit d → Serves (CallAnswers fetched A honest) d items given e
+  pub all_told : (limit : ℕ) (items : List Item) (given : List (Option (Result Reply CallFault))) (d e : Desk T S) → Stands limit d → Serves (CallAnswers fetched A honest copies) d items given e
       → AllByRecursion (MayBeTold limit) given
   all_told limit [] [] d e h served = tt
   all_told limit [] (a ∷ given) d e h served = absurd served

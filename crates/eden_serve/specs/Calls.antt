@@ -1,5 +1,5 @@
 -- What a session is told of one caller's requests.
-use Rattle.std.specs.Prelude.{◌≡◌, ◌⊎◌, ℕ, Option, Some, None, Result, Ok, Err}
+use Rattle.std.specs.Prelude.{◌≡◌, ◌⊎◌, ℕ, Bool, Option, Some, None, Result, Ok, Err}
 use Rattle.eden_model.specs.declared.fault.CallFault.{CallFault}
 use Rattle.eden_model.specs.declared.fault.CallFault.TheVariants as call
 use Rattle.eden_model.specs.declared.fault.StartFault.{StartFault}
@@ -18,8 +18,8 @@ MayBeTold limit None = Unit {0}
 MayBeTold limit (Some (Ok reply)) = Unit {0}
 MayBeTold limit (Some (Err fault)) = (fault ≡ call.Start (start.HistoryFull limit)) ⊎ (fault ≡ call.Start start.Memory)
 
-module _ {S : Type 0} (fetched : S → Id → Answer → S → Type 0) {T : Type 0} (A : Table T) (honest : Type 0) where
+module _ {S : Type 0} (fetched : S → Id → Answer → S → Type 0) {T : Type 0} (A : Table T) (honest : Type 0) (copies : Bool) where
   -- a request was served, and its reply lies there; or the mount didn't take it, and nothing changed
   abbrev pub CallAnswers : Desk T S → Request → Result Reply CallFault → Desk T S → Type 0
-  CallAnswers old q (Ok reply) new = Lends fetched A honest q old reply new
+  CallAnswers old q (Ok reply) new = Lends fetched A honest copies q old reply new
   CallAnswers old q (Err fault) new = (why : StartFault) × (fault ≡ call.Start why) × Declines old why new

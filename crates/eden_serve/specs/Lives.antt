@@ -1,5 +1,5 @@
 -- A mount's life: the overlay is opened over a commit's tree, one caller's session is served, and the overlay is closed.
-use Rattle.std.specs.Prelude.{◌≡◌, Option, Some, None, Result, Ok, Err, ⊤}
+use Rattle.std.specs.Prelude.{◌≡◌, ℕ, Bool, Option, Some, None, Result, Ok, Err, ⊤}
 use Rattle.std.specs.List.{AllByRecursion}
 use Rattle.eden_model.specs.declared.id.Id.{Id}
 use Rattle.eden_model.specs.declared.world.World.{Ghosts}
@@ -37,7 +37,8 @@ module _ {W F : Type 0} (w : Ghosts W) (f : Files F W) where
     pub source_left : left.backing.source ≡ source
     pub told : left.outcome ≡ first_fault said left.unclosed
 
-  module _ {S : Type 0} (fetched : S → Id → Answer → S → Type 0) where
+  -- the history copies replies or doesn't, and may become so long
+  module _ {S : Type 0} (fetched : S → Id → Answer → S → Type 0) (copies : Bool) (limit : ℕ) where
     -- The overlay wasn't opened, for that fault: nothing was read or written, and the source wasn't asked.
     pub record IsUnserved (base : Base) (backing : Backing F S) (input output : Known × Known) (why : OpenFault) (left : Ending F S) : Type 0 where
       pub files : IsRefused w f base backing.files why left.backing.files
@@ -47,16 +48,16 @@ module _ {W F : Type 0} (w : Ghosts W) (f : Files F W) where
       pub unclosed : left.unclosed ≡ None
 
     -- The overlay was opened, the caller served, and the overlay closed, however the session ended. A request wasn't taken
-    -- for the settings' limit or for want of memory alone, and the files are the same commit's. Where the outside is honest,
+    -- for the history's limit or for want of memory alone, and the files are the same commit's. Where the outside is honest,
     -- the history is one of the opening tree, and what the files show is the tree after it.
     pub record IsLived (base : Base) (settings : Settings) (backing : Backing F S) (input output : Known × Known) (left : Ending F S) : Type 0 where
       pub begun : Desk (Checkout F) S
-      pub begins : Begins (room_for settings) begun.core.table backing.source begun
+      pub begins : Begins (room_for settings) limit begun.core.table backing.source begun
       pub opened : IsOpened w f base settings backing.files begun.core.table
       pub ended : Desk (Checkout F) S
       pub said : Result ⊤ SessionFault
-      pub session : Session (CallAnswers fetched (attempted w f) w.honest) (begun, ended) input output said
-      pub told : AllByRecursion (MayBeTold settings.history) session.given
+      pub session : Session (CallAnswers fetched (attempted w f) w.honest copies) (begun, ended) input output said
+      pub told : AllByRecursion (MayBeTold limit) session.given
       pub stays : Stays (attempted w f) begun.core ended.core
       pub legal : w.honest → Legal w.opening ended.core.history
       pub ends : Ends base.root ended.core.table (replay w.opening ended.core.history) ended.source said left

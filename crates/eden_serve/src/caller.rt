@@ -1,6 +1,7 @@
 //! One caller over a mount.
 ghost use Rattle.std.specs.Prelude.{◌≡◌};
 
+use eden_history::History;
 use eden_model::{CallFault, Reply, Request, World};
 use eden_mount::{Attempts, Local};
 use eden_source::Source;
@@ -12,12 +13,12 @@ use std::marker::Model;
 ///
 /// Contracts see the mount, the source and the last reply.
 #[derive(Drop)]
-pub struct Caller<W: World, S: Source<W> + Drop, T: Attempts<W> + Drop, A: Allocator> {
-    local: Local<W, S, T, A>,
+pub struct Caller<W: World, S: Source<W> + Drop, T: Attempts<W> + Drop, A: Allocator, H: History> {
+    local: Local<W, S, T, A, H>,
 }
 
-impl<W: World, S: Source<W> + Drop, T: Attempts<W> + Drop, A: Allocator> Model
-    for Caller<W, S, T, A> {
+impl<W: World, S: Source<W> + Drop, T: Attempts<W> + Drop, A: Allocator, H: History> Model
+    for Caller<W, S, T, A, H> {
     ghost use Rattle.eden_mount.specs.Serving.{Desk};
 
     ghost Value = { Desk T S };
@@ -25,16 +26,22 @@ impl<W: World, S: Source<W> + Drop, T: Attempts<W> + Drop, A: Allocator> Model
     ghost view = { λ c. c.local };
 }
 
-impl<W: World, S: Source<W> + Drop, T: Attempts<W> + Drop, A: Allocator> Caller<W, S, T, A> {
+impl<W: World, S: Source<W> + Drop, T: Attempts<W> + Drop, A: Allocator, H: History> Caller<
+    W,
+    S,
+    T,
+    A,
+    H,
+> {
     /// Over a mount and its source.
-    pub fn new(local: Local<W, S, T, A>) -> Self
+    pub fn new(local: Local<W, S, T, A, H>) -> Self
         ensures { result ≡ local }
     {
         Caller { local }
     }
 
     /// Gives mount and source back.
-    pub fn into_local(self) -> Local<W, S, T, A>
+    pub fn into_local(self) -> Local<W, S, T, A, H>
         ensures { result ≡ self }
     {
         let Caller { local } = self;
@@ -42,11 +49,11 @@ impl<W: World, S: Source<W> + Drop, T: Attempts<W> + Drop, A: Allocator> Caller<
     }
 }
 
-impl<W: World, S: Source<W> + Drop, T: Attempts<W> + Drop, A: Allocator> Service
-    for Caller<W, S, T, A> {
+impl<W: World, S: Source<W> + Drop, T: Attempts<W> + Drop, A: Allocator, H: History> Service
+    for Caller<W, S, T, A, H> {
     ghost use Rattle.eden_serve.specs.Calls.{CallAnswers};
 
-    ghost answers = { CallAnswers S.fetched T.table W.honest };
+    ghost answers = { CallAnswers S.fetched T.table W.honest H.copies };
 
     fn call(&mut self, request: Request) -> Result<&Reply, CallFault> {
         match self.local.call(request) {

@@ -1,5 +1,5 @@
 //! A mount from its opening over its caller's session to its close.
-ghost use Rattle.std.specs.Prelude.{◌≡◌};
+ghost use Rattle.std.specs.Prelude.{◌≡◌, []};
 ghost use Rattle.eden_inode.specs.Tables.{shows};
 ghost use Rattle.eden_checkout.specs.Opening.{MayOpen};
 ghost use Rattle.eden_serve.specs.Lives.{Lives, Ends, first_fault};
@@ -8,6 +8,7 @@ use crate::fault::LifeFault;
 use crate::opening::{Base, Closed, close, open};
 use crate::serving::{Served, serve_table};
 use eden_checkout::Checkout;
+use eden_history::History;
 use eden_model::World;
 use eden_mount::Config;
 use eden_overlay::{Files, FilesFault};
@@ -76,13 +77,22 @@ fn end<W: World, S: Drop, A: Allocator + Clone, F: Files<W>>(
 /// The session ends where the input does, or at a line that is no request. The overlay is closed after a session's fault
 /// too; only where the close fails are the files left without their state. What was told are the replies of the commit's
 /// whole tree, changed by one request after another, and files that were closed show the tree after them. A request that
-/// isn't taken is told that the history is full at the settings' limit, or that there is no memory.
+/// isn't taken is told that the history is full at its limit, or that there is no memory.
 ///
 /// Errors are told in `outcome`, the first in the order opening, session, close. Where the overlay isn't opened, nothing
 /// is read or written.
-pub fn live<W: World, S: Source<W> + Drop, A: Allocator + Clone, F: Files<W>, R: Read, O: Write>(
+pub fn live<
+    W: World,
+    S: Source<W> + Drop,
+    A: Allocator + Clone,
+    F: Files<W>,
+    H: History,
+    R: Read,
+    O: Write,
+>(
     alloc: Global,
     memory: A,
+    history: H,
     backing: Backing<F, S>,
     base: Base,
     config: &Config,
@@ -90,7 +100,8 @@ pub fn live<W: World, S: Source<W> + Drop, A: Allocator + Clone, F: Files<W>, R:
     writer: &mut O,
 ) -> Ending<F, S>
     requires files { W.honest → MayOpen base.opening W.repository W.opening base.root (F.stored backing.files) }
-    ensures { Lives W.World F.Files S.fetched base config.now backing (R.remaining reader.old, R.remaining reader.new)
+    requires empty { H.entries history ≡ [] }
+    ensures { Lives W.World F.Files S.fetched H.copies (H.limit history) base config.now backing (R.remaining reader.old, R.remaining reader.new)
         (O.contents writer.old, O.contents writer.new) result }
 {
     let Backing { files, source } = backing;
@@ -101,8 +112,8 @@ pub fn live<W: World, S: Source<W> + Drop, A: Allocator + Clone, F: Files<W>, R:
             outcome: Err(LifeFault::Open(fault)),
         },
         Ok((room, table)) => {
-            let served = serve_table::<W, S, Checkout<A, W, F>, A, R, O>(
-                alloc, room, table, source, reader, writer,
+            let served = serve_table::<W, S, Checkout<A, W, F>, A, H, R, O>(
+                alloc, room, table, history, source, reader, writer,
             );
             end::<W, S, A, F>(alloc, served)
         }

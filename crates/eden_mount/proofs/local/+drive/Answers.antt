@@ -13,8 +13,8 @@ pub returns-in-Some : goal.returns-in-Some
 returns-in-Some g t c = λ q driven.
     let turn : Turns g.T.Attempts.table g.W.World.honest g.H.History.copies c.args.mount.now 1 (Wait c.in-Wait.field-0) c.turn.new.self = c.in-Wait.ensures in
     let take : Takes c.turn.new.self (Some c.in-Some.key) c.take_want.new.self = c.in-Some.ensures in
-    round_drives g.S.Source.fetched g.T.Attempts.table g.W.World.honest g.H.History.copies q c.args.mount.now c.turn.new.self c.take_want.new.self c.fetch_one.new.mount c.drive.new.mount c.args.source.now
-    c.fetch_one.new.source c.drive.new.source c.in-Wait.field-0 c.in-Some.key c.drive.result c.holds.ensures.queue c.holds-in-Wait.ensures.queue driven turn take c.fetch_one.ensures
+    round_drives g.S.Source.fetched g.T.Attempts.table g.W.World.honest g.H.History.copies q c.args.mount.now c.turn.new.self c.take_want.new.self c.fetch_one.new.mount c.drive.new.mount
+    c.args.source.now c.fetch_one.new.source c.drive.new.source c.in-Wait.field-0 c.in-Some.key c.drive.result c.holds.ensures.queue c.holds-in-Wait.ensures.queue driven turn take c.fetch_one.ensures
     (λ on. c.drive.ensures q on)
 
 pub drive-requires : goal.drive-requires
@@ -22,8 +22,8 @@ drive-requires g t c =
     let q = c.requires.0 in
     let turn : Turns g.T.Attempts.table g.W.World.honest g.H.History.copies c.args.mount.now 1 (Wait c.in-Wait.field-0) c.turn.new.self = c.in-Wait.ensures in
     let take : Takes c.turn.new.self (Some c.in-Some.key) c.take_want.new.self = c.in-Some.ensures in
-    let on = round_goes g.S.Source.fetched g.T.Attempts.table g.W.World.honest g.H.History.copies q c.args.mount.now c.turn.new.self c.take_want.new.self c.fetch_one.new.mount c.args.source.now c.fetch_one.new.source
-    c.in-Wait.field-0 c.in-Some.key c.holds.ensures.queue c.holds-in-Wait.ensures.queue c.requires.1 turn take c.fetch_one.ensures in
+    let on = round_goes g.S.Source.fetched g.T.Attempts.table g.W.World.honest g.H.History.copies q c.args.mount.now c.turn.new.self c.take_want.new.self c.fetch_one.new.mount c.args.source.now
+    c.fetch_one.new.source c.in-Wait.field-0 c.in-Some.key c.holds.ensures.queue c.holds-in-Wait.ensures.queue c.requires.1 turn take c.fetch_one.ensures in
     let less : drive_size g.T.Attempts.table c.fetch_one.new.mount < drive_size g.T.Attempts.table c.args.mount.now = on.1 in
     let now : drive_size g.T.Attempts.table c.args.mount.now ≡ t = c.decreases in
     let next : drive_size g.T.Attempts.table c.fetch_one.new.mount < t = omega (arith, less, now) in

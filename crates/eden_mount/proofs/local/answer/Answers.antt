@@ -14,5 +14,5 @@ returns-in-Ok g c =
     let honest = g.W.World.honest in
     let step : Starts c.args.mount.now 1 c.args.request (Ok tt) c.start.new.self = c.in-Ok.ensures in
     let driven = started_driven A honest g.W.World.opening c.args.request c.args.mount.now c.start.new.self c.holds.ensures c.requires step.0 step.2 in
-    started_serves A honest g.W.World.opening c.args.request c.args.mount.now c.start.new.self c.holds.ensures c.requires step.0 step.2 g.H.History.copies g.S.Source.fetched c.drive.new.mount c.args.source.now
-    c.drive.new.source c.drive.result g.T.Attempts.few (c.drive.ensures c.args.request driven)
+    started_serves A honest g.W.World.opening c.args.request c.args.mount.now c.start.new.self c.holds.ensures c.requires step.0 step.2 g.H.History.copies g.S.Source.fetched c.drive.new.mount
+    c.args.source.now c.drive.new.source c.drive.result g.T.Attempts.few (c.drive.ensures c.args.request driven)

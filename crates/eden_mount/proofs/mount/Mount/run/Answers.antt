@@ -39,7 +39,8 @@ loop-event-preserved g c =
     }
 
 -- the events were made to happen, one after another
-ran : (g : _) (c : goal.After-holds-2 g) → Runs g.T.Attempts.table g.W.World.honest g.H.History.copies g.W.World.opening c.args.self.now c.args.events.items c.loop-event.outcomes.items c.loop-event.self
+ran : (g : _) (c : goal.After-holds-2 g)
+    → Runs g.T.Attempts.table g.W.World.honest g.H.History.copies g.W.World.opening c.args.self.now c.args.events.items c.loop-event.outcomes.items c.loop-event.self
 ran g c =
     let at = c.loop-event in
     let A = g.T.Attempts.table in
