@@ -50,8 +50,8 @@ nobody_sits (suc n) zero s at = absurd (cc at)
 nobody_sits (suc n) (suc k) s at = nobody_sits n k s at
 
 -- a mount of some settings' room
-pub unused : {T : Type 0} (t : T) (r : Room) (m : Core T) → IsRoom r → m ≡ core_from t r.queue r.seats [] r.limit → IsAtRest m → IsUnused m
-unused t r m room is rest =
+pub unused : {T : Type 0} (t : T) (r : Room) (limit : ℕ) (m : Core T) → IsRoom r → m ≡ core_from t r.queue r.seats [] limit → IsAtRest m → IsUnused m
+unused t r limit m room is rest =
     let seats : m.seats ≡ replicate room.settings.passes None = ap (λ (c : Core _). c.seats) is ∙ ap (λ (x : Room). x.seats) room.is in
     record {
       history = ap (λ (c : Core _). c.history) is;

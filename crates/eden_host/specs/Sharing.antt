@@ -1,5 +1,5 @@
 -- What is left of a mount that was shared.
-use Rattle.std.specs.Prelude.{◌≡◌, List, [], Result, ⊤}
+use Rattle.std.specs.Prelude.{◌≡◌, ℕ, List, [], Result, ⊤}
 use Rattle.std.specs.declared.io.Read.{Ghosts as Read}
 use Rattle.std.specs.declared.io.Write.{Ghosts as Write}
 use Rattle.eden_model.specs.Histories.{Legal, replay}
@@ -15,9 +15,9 @@ use Rattle.eden_host.specs.declared.fault.HostFault.{HostFault}
 use Rattle.eden_host.specs.declared.sharing.HostedTable.{HostedTable}
 use Rattle.eden_host.specs.Sessions.{AreHosted}
 
--- what a mount of that room over that table is opened with
-abbrev pub terms_at : {T : Type 0} → Table T → Room → T → Terms
-terms_at A room table = terms_of A (core_from table room.queue room.seats [] room.limit)
+-- what a mount of that room over that table, whose history has that limit, is opened with
+abbrev pub terms_at : {T : Type 0} → Table T → Room → ℕ → T → Terms
+terms_at A room limit table = terms_of A (core_from table room.queue room.seats [] limit)
 
 module _ {T I O : Type 0} (A : Table T) (i : Read I) (o : Write O) (honest : Type 0) (opening : Tree) where
   -- What is left of a mount that was opened so and shared: guests were hosted with its passes, and the mount's history is what

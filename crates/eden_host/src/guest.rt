@@ -4,6 +4,7 @@ ghost use Rattle.eden_host.specs.Guests.{HasLearntNothing, IsTurnedAway, last_re
 ghost use Rattle.eden_shared.specs.Calls.{Grows};
 
 use crate::unloading::Unloading;
+use eden_history::History;
 use eden_model::{CallFault, Path, Reply, Request, World};
 use eden_mount::Attempts;
 use eden_shared::{Naming, Pass, Shared};
@@ -16,9 +17,17 @@ use std::sync::Wait;
 ///
 /// Contracts see what the pass carries.
 #[derive(Drop)]
-pub struct Guest<'a, W: World, T: Attempts<W> + Drop, A: Allocator, J: Naming, R: Wait> {
+pub struct Guest<
+    'a,
+    W: World,
+    T: Attempts<W> + Drop,
+    A: Allocator,
+    J: Naming,
+    H: History,
+    R: Wait,
+> {
     rt: &'a R,
-    shared: &'a Shared<W, T, A, J>,
+    shared: &'a Shared<W, T, A, J, H>,
     pass: Pass<J>,
     unloading: Unloading,
     root: Path,
@@ -26,8 +35,8 @@ pub struct Guest<'a, W: World, T: Attempts<W> + Drop, A: Allocator, J: Naming, R
     served: u32,
 }
 
-impl<'a, W: World, T: Attempts<W> + Drop, A: Allocator, J: Naming, R: Wait> Model
-    for Guest<'a, W, T, A, J, R> {
+impl<'a, W: World, T: Attempts<W> + Drop, A: Allocator, J: Naming, H: History, R: Wait> Model
+    for Guest<'a, W, T, A, J, H, R> {
     ghost use Rattle.eden_host.specs.Guests.{HasLearntNothing};
     ghost use Rattle.eden_shared.specs.Passes.{Carried};
 
@@ -38,19 +47,20 @@ impl<'a, W: World, T: Attempts<W> + Drop, A: Allocator, J: Naming, R: Wait> Mode
     ghost invariant = { λ g. HasLearntNothing g.pass };
 }
 
-impl<'a, W: World, T: Attempts<W> + Drop, A: Allocator, J: Naming, R: Wait> Guest<
+impl<'a, W: World, T: Attempts<W> + Drop, A: Allocator, J: Naming, H: History, R: Wait> Guest<
     'a,
     W,
     T,
     A,
     J,
+    H,
     R,
 > {
     /// Over a shared mount, with one of its passes. It takes no memory.
     pub fn new(
         rt: &'a R,
         alloc: Global,
-        shared: &'a Shared<W, T, A, J>,
+        shared: &'a Shared<W, T, A, J, H>,
         pass: Pass<J>,
         unloading: Unloading,
     ) -> Self
@@ -109,8 +119,8 @@ impl<'a, W: World, T: Attempts<W> + Drop, A: Allocator, J: Naming, R: Wait> Gues
     }
 }
 
-impl<'a, W: World, T: Attempts<W> + Drop, A: Allocator, J: Naming, R: Wait> Service
-    for Guest<'a, W, T, A, J, R> {
+impl<'a, W: World, T: Attempts<W> + Drop, A: Allocator, J: Naming, H: History, R: Wait> Service
+    for Guest<'a, W, T, A, J, H, R> {
     ghost use Rattle.eden_host.specs.Guests.{GuestAnswers};
 
     ghost answers = { GuestAnswers W.honest W.opening };

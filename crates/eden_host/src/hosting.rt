@@ -14,6 +14,7 @@ use crate::fetchers::Fetchers;
 use crate::threads::small_stack;
 use crate::unloading::Unloading;
 use core::thread::Anything;
+use eden_history::History;
 use eden_model::World;
 use eden_mount::{Attempts, Mount};
 use eden_shared::{Naming, Pass, Shared, Torn};
@@ -27,9 +28,9 @@ use std::thread::{self, Scope, Threads};
 
 /// What is left of a mount that was served to many.
 #[derive(Drop)]
-pub struct Hosted<W: World, T: Attempts<W> + Drop, A: Allocator, J: Naming> {
+pub struct Hosted<W: World, T: Attempts<W> + Drop, A: Allocator, J: Naming, H: History> {
     /// The mount, with nothing pending, where the passes were those of the shared mount.
-    pub mount: Result<Mount<W, T, A>, Torn<W, T, A, J>>,
+    pub mount: Result<Mount<W, T, A, H>, Torn<W, T, A, J, H>>,
     /// The first fault of listening or of a session.
     pub outcome: Result<(), HostFault>,
 }
@@ -43,9 +44,15 @@ fn fetch_from_all<
     T: Attempts<W> + Send + Drop,
     A: Allocator + Send,
     J: Naming + Send,
+    H: History + Send,
     S: Source<W> + Send + Drop + 's,
     R: Threads + Wait + Sync,
->(scope: &Scope<'s, E>, rt: &'s R, shared: &'s Shared<W, T, A, J>, fetchers: Fetchers<S>) -> bool {
+>(
+    scope: &Scope<'s, E>,
+    rt: &'s R,
+    shared: &'s Shared<W, T, A, J, H>,
+    fetchers: Fetchers<S>,
+) -> bool {
     let mut fetched = false;
     for source in fetchers.into_sources() {
         let mut source = source;
@@ -75,6 +82,7 @@ pub fn host<
     T: Attempts<W> + Send + Drop,
     A: Allocator + Send,
     J: Naming + Send,
+    H: History + Send,
     S: Source<W> + Send + Drop,
     I: Read + Send + Drop,
     O: Write + Send + Drop,
@@ -84,11 +92,11 @@ pub fn host<
     rt: &R,
     alloc: Global,
     listener: L,
-    shared: Shared<W, T, A, J>,
+    shared: Shared<W, T, A, J, H>,
     passes: Vec<Pass<J>>,
     fetchers: Fetchers<S>,
     unloading: Unloading,
-) -> Hosted<W, T, A, J>
+) -> Hosted<W, T, A, J, H>
     requires passes { AreNewcomers passes.items (length J.names) }
     ensures told { (left : List Carried)
         × AreHosted I.Read O.Write W.honest W.opening passes.items left result.outcome
@@ -112,6 +120,7 @@ fn attend_fetched<
     T: Attempts<W> + Send + Drop,
     A: Allocator + Send,
     J: Naming + Send,
+    H: History + Send,
     I: Read + Send + Drop,
     O: Write + Send + Drop,
     L: Accepts<I, O> + Drop,
@@ -119,7 +128,7 @@ fn attend_fetched<
 >(
     rt: &R,
     alloc: Global,
-    shared: &Shared<W, T, A, J>,
+    shared: &Shared<W, T, A, J, H>,
     listener: L,
     passes: Vec<Pass<J>>,
     unloading: Unloading,
@@ -140,11 +149,12 @@ fn beside_fetchers<
     T: Attempts<W> + Send + Drop,
     A: Allocator + Send,
     J: Naming + Send,
+    H: History + Send,
     S: Source<W> + Send + Drop,
     R: Threads + Wait + Sync,
     X,
     G: FnOnce(bool) -> X,
->(rt: &R, shared: &Shared<W, T, A, J>, fetchers: Fetchers<S>, sessions: G) -> X
+>(rt: &R, shared: &Shared<W, T, A, J, H>, fetchers: Fetchers<S>, sessions: G) -> X
     requires { (b : Bool) → G.pre sessions b }
     ensures { (b : Bool) × G.post sessions b result }
 {
@@ -162,6 +172,7 @@ fn serve_all<
     T: Attempts<W> + Send + Drop,
     A: Allocator + Send,
     J: Naming + Send,
+    H: History + Send,
     S: Source<W> + Send + Drop,
     I: Read + Send + Drop,
     O: Write + Send + Drop,
@@ -171,7 +182,7 @@ fn serve_all<
     rt: &R,
     alloc: Global,
     listener: L,
-    shared: &Shared<W, T, A, J>,
+    shared: &Shared<W, T, A, J, H>,
     passes: Vec<Pass<J>>,
     fetchers: Fetchers<S>,
     unloading: Unloading,
@@ -180,7 +191,7 @@ fn serve_all<
     ensures passes { AreHosted I.Read O.Write W.honest W.opening passes.items result.0.items result.1 }
 {
     let sessions = move |fetched: bool| -> (Vec<Pass<J>>, Result<(), HostFault>)
-        requires { IsSync R.row × IsSend W.row × IsSend T.row × IsSend A.row × IsSend J.row × IsSend I.row
+        requires { IsSync R.row × IsSend W.row × IsSend T.row × IsSend A.row × IsSend J.row × IsSend H.row × IsSend I.row
             × IsSend O.row × Frees A.Allocator A.dealloc_token × HaveLearntNothing passes.items }
         ensures { AreHosted I.Read O.Write W.honest W.opening passes.items result.0.items result.1 }
     { attend_fetched(rt, alloc, shared, listener, passes, unloading, fetched) };

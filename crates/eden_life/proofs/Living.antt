@@ -1,5 +1,5 @@
 -- A whole life, from its parts.
-use Rattle.std.proofs.Common.{◌≡◌, Option, Some, None, Result, Ok, Err, inr, refl, sym, ◌∙◌, subst}
+use Rattle.std.proofs.Common.{◌≡◌, ℕ, Option, Some, None, Result, Ok, Err, inr, refl, sym, ◌∙◌, subst}
 use Rattle.std.specs.Prelude.{⊤, IfOk, IfErr}
 use Rattle.std.specs.declared.io.Read.{Ghosts as Read}
 use Rattle.std.specs.declared.io.Write.{Ghosts as Write}
@@ -22,9 +22,9 @@ use Rattle.eden_life.specs.Lives.{Ends, IsHosted, LivesShared, LivesSharedBy, fi
 use Rattle.eden_host.specs.Sharing.{HostsTable, terms_at}
 
 module _ {W F I O : Type 0} (w : Ghosts W) (f : Files F W) (r : Read I) (v : Write O)
-    (base : Base) (settings : Settings) (files : F) (left : SharedEnding F) where
+    (limit : ℕ) (base : Base) (settings : Settings) (files : F) (left : SharedEnding F) where
   -- the first fault of hosting guests is none of the opening
-  lived : (hosted : Result ⊤ HostFault) (o : Option FilesFault) → IsHosted w f r v base settings files left → LivesSharedBy w f r v (first_told hosted o) base settings files left
+  lived : (hosted : Result ⊤ HostFault) (o : Option FilesFault) → IsHosted w f r v limit base settings files left → LivesSharedBy w f r v limit (first_told hosted o) base settings files left
   lived (Err host.Listen) o h = h
   lived (Err (host.Session fault)) o h = h
   lived (Ok _) (Some why) h = h
@@ -32,11 +32,11 @@ module _ {W F I O : Type 0} (w : Ghosts W) (f : Files F W) (r : Read I) (v : Wri
 
   -- what was opened was hosted and closed, or closed at once
   pub ended : (t : Checkout F) (room : Room) (hosted : Result (HostedTable (Checkout F)) (Checkout F)) → IsOpened w f base settings files t → room ≡ room_for settings
-      → IfOk hosted (HostsTable (attempted w f) r v w.honest w.opening (terms_at (attempted w f) room t)) → IfErr hosted (λ (u : Checkout F). u ≡ t) → Ends w f hosted left
-      → LivesShared w f r v base settings files left
+      → IfOk hosted (HostsTable (attempted w f) r v w.honest w.opening (terms_at (attempted w f) room limit t)) → IfErr hosted (λ (u : Checkout F). u ≡ t) → Ends w f hosted left
+      → LivesShared w f r v limit base settings files left
   ended t room (Ok x) opened is ok err ends =
-      let hosts = subst (λ (y : Room). HostsTable (attempted w f) r v w.honest w.opening (terms_at (attempted w f) y t) x) is ok in
-      let whole : IsHosted w f r v base settings files left = record {
+      let hosts = subst (λ (y : Room). HostsTable (attempted w f) r v w.honest w.opening (terms_at (attempted w f) y limit t) x) is ok in
+      let whole : IsHosted w f r v limit base settings files left = record {
         begun = t;
         opened = opened;
         hosted = x.outcome;
@@ -46,9 +46,9 @@ module _ {W F I O : Type 0} (w : Ghosts W) (f : Files F W) (r : Read I) (v : Wri
             left.unclosed left.files ends.0;
         told = ends.1;
       } in
-      subst (λ (o : Result ⊤ SharedLifeFault). LivesSharedBy w f r v o base settings files left) (sym ends.1) (lived x.outcome left.unclosed whole)
+      subst (λ (o : Result ⊤ SharedLifeFault). LivesSharedBy w f r v limit o base settings files left) (sym ends.1) (lived x.outcome left.unclosed whole)
   ended t room (Err u) opened is ok err ends =
-      subst (λ (o : Result ⊤ SharedLifeFault). LivesSharedBy w f r v o base settings files left) (sym ends.1) (inr (record {
+      subst (λ (o : Result ⊤ SharedLifeFault). LivesSharedBy w f r v limit o base settings files left) (sym ends.1) (inr (record {
         memory = refl;
         begun = t;
         opened = opened;

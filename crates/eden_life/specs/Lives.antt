@@ -1,5 +1,5 @@
 -- A shared mount's life: the overlay is opened over a commit's tree, its guests are hosted, and the overlay is closed.
-use Rattle.std.specs.Prelude.{◌≡◌, ◌⊎◌, Option, Some, None, Result, Ok, Err, ⊤}
+use Rattle.std.specs.Prelude.{◌≡◌, ◌⊎◌, ℕ, Option, Some, None, Result, Ok, Err, ⊤}
 use Rattle.std.specs.declared.io.Read.{Ghosts as Read}
 use Rattle.std.specs.declared.io.Write.{Ghosts as Write}
 use Rattle.eden_model.specs.declared.world.World.{Ghosts}
@@ -31,9 +31,9 @@ first_told (Err (host.Session fault)) unclosed = Err (life.Session fault)
 first_told (Ok _) (Some fault) = Err (life.Close fault)
 first_told (Ok _) None = Ok tt
 
--- what a mount of these settings over that checkout is opened with
-abbrev pub opened_with : {F : Type 0} → Settings → Checkout F → Terms
-opened_with s t = record { passes = s.passes; limit = s.history; commit = t.root; next = t.inodes.next }
+-- what a mount of these settings over that checkout, whose history has that limit, is opened with
+abbrev pub opened_with : {F : Type 0} → Settings → ℕ → Checkout F → Terms
+opened_with s limit t = record { passes = s.passes; limit = limit; commit = t.root; next = t.inodes.next }
 
 module _ {W F : Type 0} (w : Ghosts W) (f : Files F W) where
   -- a checkout was closed to the files, or it wasn't, and shows what it showed
@@ -58,7 +58,8 @@ module _ {W F : Type 0} (w : Ghosts W) (f : Files F W) where
     pub opened : IsOpened w f base settings files begun
     pub closed : Closes w f base.root begun w.opening left.unclosed left.files
 
-  module _ {I O : Type 0} (i : Read I) (o : Write O) where
+  -- the history may become so long
+  module _ {I O : Type 0} (i : Read I) (o : Write O) (limit : ℕ) where
     -- The overlay was opened, its guests hosted, and the overlay closed, however the sessions ended. The files are the same
     -- commit's, and no inode number was given again. Where the outside is honest, what they show is the tree after what the
     -- guests were told.
@@ -67,7 +68,7 @@ module _ {W F : Type 0} (w : Ghosts W) (f : Files F W) where
       pub opened : IsOpened w f base settings files begun
       pub hosted : Result ⊤ HostFault
       pub ended : Core (Checkout F)
-      pub is : IsLeft (attempted w f) i o w.honest w.opening (opened_with settings begun) hosted ended
+      pub is : IsLeft (attempted w f) i o w.honest w.opening (opened_with settings limit begun) hosted ended
       pub closed : Closes w f base.root ended.table (replay w.opening ended.history) left.unclosed left.files
       pub told : left.outcome ≡ first_told hosted left.unclosed
 

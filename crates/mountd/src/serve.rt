@@ -6,6 +6,7 @@ use crate::report;
 use crate::sources::{folder_fetchers, socket_fetchers};
 use eden_command_line::{MountOptions, Objects, ServeOptions};
 use eden_host::{Fetchers, Port, Unloading};
+use eden_history::Kept;
 use eden_life::live_shared;
 use eden_model::Outside;
 use eden_mount::Config;
@@ -93,12 +94,14 @@ fn serve_fetched<
     let Ok(source) = fetchers else {
         return report::unopened(rt, "Memory");
     };
-    let ending = live_shared::<Outside, _, _, _, _, _, _>(
+    let history = Kept::new(rt.alloc(), limits.history());
+    let ending = live_shared::<Outside, _, _, _, _, _, _, _>(
         threads,
         rt.alloc(),
         Backing { files, source },
         base,
         limits,
+        history,
         port,
         Unloading::usual(),
     );
