@@ -6,3 +6,4 @@ pub mod Sizes
 pub mod Found
 pub mod CacheLaws
 pub mod KeyKinds
+pub mod CallerLemmas

@@ -10,7 +10,7 @@ use std::alloc::{Allocator, Global};
 
 impl<A: Allocator + Clone, W: World, F: Files<W>> Attempts<W> for Checkout<A, W, F> {
     ghost use Rattle.eden_checkout.specs.Attempted.{attempted};
-    ghost use Rattle.eden_ops.proofs.CallerLemmas.{few_are_left};
+    ghost use Rattle.eden_ops.specs.Left.{few_are_left};
 
     ghost table = { attempted W.World F.Files };
 
