@@ -1,6 +1,5 @@
 //! What a mount attempts over a checkout.
 use crate::checkout::Checkout;
-use eden_cache::cache_laws;
 use eden_model::{Attempt, Key, Path, Request, World};
 use eden_mount::Attempts;
 use eden_object::Object;
@@ -27,7 +26,6 @@ impl<A: Allocator + Clone, W: World, F: Files<W>> Attempts<W> for Checkout<A, W,
     }
 
     fn put(&mut self, key: Key, object: Object) -> Result<(), Object> {
-        cache_laws();
         need_laws();
         self.cache.put(key, object)
     }

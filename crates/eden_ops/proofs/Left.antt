@@ -21,7 +21,7 @@ use Rattle.eden_tree.specs.Directory.{Row, Directory, child_of}
 use Rattle.eden_tree.specs.Paths.{row_at, Standing, standing}
 use Rattle.eden_tie.proofs.CallerLemmas.{map_some}
 use Rattle.eden_ops.specs.Attempts.{object_kind, Wants, IsRealNeed}
-use Rattle.eden_ops.specs.Caches.{object_at, FindsTheSame}
+use Rattle.eden_cache.specs.Stock.{object_at, FindsTheSame}
 use Rattle.eden_ops.specs.Known.{known, known_node, is_unlisted, is_silent, place_from, place_on, last_path, place}
 use Rattle.eden_ops.specs.Laws.{Stays, Grows}
 use Rattle.eden_ops.specs.Left.{places_from, is_cached, has_object, spared, left, SomeAreLeft, NeedsStay, LeftFalls}

@@ -16,7 +16,7 @@ use Rattle.eden_cache.specs.Cache.{Cache}
 use Rattle.eden_tree.specs.Directory.{Row}
 use Rattle.eden_tree.specs.Paths.{row_at}
 use Rattle.eden_ops.specs.Attempts.{object_kind, IsRealNeed}
-use Rattle.eden_ops.specs.Caches.{object_at, FindsTheSame}
+use Rattle.eden_cache.specs.Stock.{object_at, FindsTheSame}
 use Rattle.eden_ops.specs.Known.{known, place_on, place}
 use Rattle.eden_ops.specs.Laws.{Grows}
 

@@ -2,7 +2,6 @@
 ghost use Rattle.std.specs.Prelude.{◌≡◌};
 ghost use Rattle.eden_model.specs.declared.request.Request.TheVariants as ask;
 ghost use Rattle.eden_ops.specs.Attempts.{Attempts};
-ghost use Rattle.eden_ops.specs.Caches.{IsStocked};
 ghost use Rattle.eden_ops.specs.Leaving.{LeavesAfter};
 ghost use Rattle.eden_ops.specs.Looks.{IsBeyondLimits};
 
@@ -10,7 +9,7 @@ use crate::contents::{Form, make};
 use crate::end::ended;
 use crate::file::meet_file;
 use crate::fill::fill;
-use eden_cache::ObjectCache;
+use eden_cache::Stock;
 use eden_inode::Inodes;
 use eden_model::{Attempt, Errno, MAX_DATA, MAX_FILE, Path, Reply, World};
 use eden_overlay::Files;
@@ -20,12 +19,11 @@ use std::alloc::{Allocator, Global};
 /// leaves the file as it was.
 pub fn truncate<A: Allocator + Clone, W: World, F: Files<W>, C: Allocator + Clone>(
     inodes: &mut Inodes<A, W, F>,
-    cache: &mut ObjectCache<C>,
+    cache: &mut Stock<W, C>,
     alloc: Global,
     path: &Path,
     size: u64,
 ) -> Attempt
-    requires { IsStocked W.repository W.honest cache.old }
     ensures attempts { Attempts W.World F.Files
         (ask.Truncate path.now size) inodes.old inodes.new cache.old cache.new result }
     ensures leaves { LeavesAfter W.World F.Files (ask.Truncate path.now size) inodes.old inodes.new result }
@@ -58,13 +56,12 @@ pub fn truncate<A: Allocator + Clone, W: World, F: Files<W>, C: Allocator + Clon
 /// isn't fetched and nothing changes. A fault leaves the file as it was.
 pub fn write<A: Allocator + Clone, W: World, F: Files<W>, C: Allocator + Clone>(
     inodes: &mut Inodes<A, W, F>,
-    cache: &mut ObjectCache<C>,
+    cache: &mut Stock<W, C>,
     alloc: Global,
     path: &Path,
     offset: u64,
     bytes: &[u8],
 ) -> Attempt
-    requires { IsStocked W.repository W.honest cache.old }
     ensures attempts { Attempts W.World F.Files
         (ask.Write path.now offset bytes.now) inodes.old inodes.new cache.old cache.new result }
     ensures leaves { LeavesAfter W.World F.Files (ask.Write path.now offset bytes.now) inodes.old inodes.new result }

@@ -11,8 +11,8 @@ use Rattle.eden_ops.proofs.Leaving.{leaves_kept}
 use Rattle.eden_ops.proofs.Looking.{some_at_most}
 use Rattle.eden_ops.proofs.adding.symlink.Goals as goal
 
-pub add-requires-clause-asked : goal.add-requires-clause-asked
-add-requires-clause-asked g c = (ask.Symlink c.args.path.now c.args.target.now, link c.args.target (eqb-false (length c.args.target.now) 0 (sym c.if-is_empty.ensures)) c.if-target-gt-MAX_TARGET.false)
+pub add-requires : goal.add-requires
+add-requires g c = record { asked = (ask.Symlink c.args.path.now c.args.target.now, link c.args.target (eqb-false (length c.args.target.now) 0 (sym c.if-is_empty.ensures)) c.if-target-gt-MAX_TARGET.false) }
 
 pub returns-clause-attempts : goal.returns-clause-attempts
 returns-clause-attempts g c = c.add.ensures.attempts (ask.Symlink c.args.path.now c.args.target.now)

@@ -13,7 +13,7 @@ use Rattle.eden_ops.specs.Requests.{for_truncate}
 use Rattle.eden_ops.proofs.Fetching.{has_content}
 use Rattle.eden_ops.proofs.Filing.{file_tells, file_lacks, is_file, file_fills, file_refused}
 use Rattle.eden_ops.proofs.Filled.{truncates, asks_truncate, truncates_far, truncates_none, truncates_some, truncates_lost, truncated_none, truncated_some}
-use Rattle.eden_ops.proofs.Finding.{still_stocked, finds_same}
+use Rattle.eden_ops.proofs.Finding.{finds_same}
 use Rattle.eden_ops.proofs.Looking.{plain_other}
 use Rattle.eden_ops.proofs.Leaving.{none_given, leaves_kept, leaves_changed}
 use Rattle.eden_ops.proofs.Steps.{keeps_on}
@@ -76,9 +76,6 @@ pub make-requires-clause-content : goal.make-requires-clause-content
 make-requires-clause-content g c =
     let file = c.in-Ok.ensures.file in
     has_content c.args.path.now c.meet_file.new.inodes.root c.in-Ok.seen file.entry c.meet_file.new.inodes.root refl (plain_other c.in-Ok.seen.kind file.plain)
-
-pub make-requires-clause-stocked : goal.make-requires-clause-stocked
-make-requires-clause-stocked g c = still_stocked g.W.World.repository g.W.World.honest c.args.cache.now c.meet_file.new.cache c.meet_file.ensures.cache c.requires
 
 pub returns-in-Err-make-clause-attempts : goal.returns-in-Err-make-clause-attempts
 returns-in-Err-make-clause-attempts g c =
