@@ -32,4 +32,5 @@ pub mod Already
 pub mod Leaving
 pub mod CallerLemmas
 pub mod Stamps
+pub mod Stamped
 mod Settled

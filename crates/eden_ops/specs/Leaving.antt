@@ -1,5 +1,5 @@
 -- What an attempt of any request leaves of a table.
-use Rattle.std.specs.Prelude.{◌≡◌, ◌≤◌, ◌⊎◌, ◌+◌, ℕ, List, [], ◌∷◌}
+use Rattle.std.specs.Prelude.{◌≡◌, ◌≢◌, ◌≤◌, ◌⊎◌, ◌+◌, ℕ, List, [], ◌∷◌}
 use Rattle.eden_model.specs.declared.attempt.Attempt.{Attempt}
 use Rattle.eden_model.specs.declared.attempt.Attempt.TheVariants.{Finished}
 use Rattle.eden_model.specs.declared.errno.Errno.{Errno}
@@ -36,6 +36,10 @@ given _ = 0
 -- the answer is a fault
 abbrev pub IsFault : Attempt → Type 0
 IsFault a = (e : Fault) × (a ≡ Finished (say.Fault e))
+
+-- the answer is no error
+abbrev pub IsNoError : Attempt → Type 0
+IsNoError a = (e : Errno) → a ≢ Finished (say.Err e)
 
 -- the request may mark the directory at a path unsaved: a rename that ends in a fault, the one that its entry stands in
 abbrev pub MayMark : Request → Attempt → Path → Type 0

@@ -6,6 +6,7 @@ ghost use Rattle.eden_ops.specs.Attempts.{Attempts};
 ghost use Rattle.eden_ops.specs.Changes.{IsAdding};
 ghost use Rattle.eden_ops.specs.Leaving.{LeavesAfter};
 ghost use Rattle.eden_ops.specs.Looks.{IsBeyondLimits};
+ghost use Rattle.eden_ops.specs.Stamps.{StampsItsWalk};
 
 use crate::end::ended;
 use crate::laws::keeps_laws;
@@ -32,6 +33,8 @@ fn add<A: Allocator + Clone, W: World, F: Files<W>, C: Allocator + Clone>(
         → Attempts W.World F.Files q inodes.old inodes.new cache.old cache.new result }
     ensures leaves { (q : request.Request) → IsAdding path.now q new.entry
         → LeavesAfter W.World F.Files q inodes.old inodes.new result }
+    ensures stamps { (q : request.Request) → IsAdding path.now q new.entry
+        → StampsItsWalk q inodes.old.clock inodes.old.root inodes.new.root result }
 {
     let Some((name, above)) = path.as_slice().split_last() else {
         return Attempt::Finished(Reply::Err(Errno::EEXIST));
@@ -62,6 +65,7 @@ pub fn create<A: Allocator + Clone, W: World, F: Files<W>, C: Allocator + Clone>
 ) -> Attempt
     ensures attempts { Attempts W.World F.Files (ask.Create path.now) inodes.old inodes.new cache.old cache.new result }
     ensures leaves { LeavesAfter W.World F.Files (ask.Create path.now) inodes.old inodes.new result }
+    ensures stamps { StampsItsWalk (ask.Create path.now) inodes.old.clock inodes.old.root inodes.new.root result }
 {
     add(inodes, cache, alloc, path, NewEntry::File(false, &[]))
 }
@@ -75,6 +79,7 @@ pub fn mkdir<A: Allocator + Clone, W: World, F: Files<W>, C: Allocator + Clone>(
 ) -> Attempt
     ensures attempts { Attempts W.World F.Files (ask.Mkdir path.now) inodes.old inodes.new cache.old cache.new result }
     ensures leaves { LeavesAfter W.World F.Files (ask.Mkdir path.now) inodes.old inodes.new result }
+    ensures stamps { StampsItsWalk (ask.Mkdir path.now) inodes.old.clock inodes.old.root inodes.new.root result }
 {
     add(inodes, cache, alloc, path, NewEntry::Dir)
 }
@@ -90,6 +95,8 @@ pub fn symlink<A: Allocator + Clone, W: World, F: Files<W>, C: Allocator + Clone
     ensures attempts { Attempts W.World F.Files
         (ask.Symlink path.now target.now) inodes.old inodes.new cache.old cache.new result }
     ensures leaves { LeavesAfter W.World F.Files (ask.Symlink path.now target.now) inodes.old inodes.new result }
+    ensures stamps { StampsItsWalk (ask.Symlink path.now target.now)
+        inodes.old.clock inodes.old.root inodes.new.root result }
     ensures refused { IsBeyondLimits (ask.Symlink path.now target.now) → inodes.new ≡ inodes.old }
 {
     if target.is_empty() {

@@ -6,7 +6,7 @@ ghost use Rattle.eden_ops.specs.Attempts.{Attempts};
 ghost use Rattle.eden_ops.specs.Keeping.{Keeps};
 ghost use Rattle.eden_ops.specs.Leaving.{LeavesAfter};
 ghost use Rattle.eden_ops.specs.Looks.{IsLook, IsChange, IsBeyondLimits};
-ghost use Rattle.eden_ops.specs.Stamps.{AreWalked};
+ghost use Rattle.eden_ops.specs.Stamps.{AreWalked, StampsItsWalk};
 
 use crate::adding::{create, mkdir, symlink};
 use crate::emptied::rmdir;
@@ -32,6 +32,7 @@ pub fn change<A: Allocator + Clone, W: World, F: Files<W>, C: Allocator + Clone>
     requires change { IsChange request.now }
     ensures attempts { Attempts W.World F.Files request.now inodes.old inodes.new cache.old cache.new result }
     ensures leaves { LeavesAfter W.World F.Files request.now inodes.old inodes.new result }
+    ensures stamps { StampsItsWalk request.now inodes.old.clock inodes.old.root inodes.new.root result }
     ensures already { IsSoAlready W.World F.Files request.now inodes.old
         → Keeps W.World F.Files (paths_of request.now) inodes.old inodes.new }
     ensures refused { IsBeyondLimits request.now → inodes.new ≡ inodes.old }
@@ -66,6 +67,8 @@ pub fn attempt<A: Allocator + Clone, W: World, F: Files<W>, C: Allocator + Clone
 ) -> Attempt
     ensures attempts { Attempts W.World F.Files request.now inodes.old inodes.new cache.old cache.new result }
     ensures leaves { LeavesAfter W.World F.Files request.now inodes.old inodes.new result }
+    ensures stamps { IsChange request.now
+        → StampsItsWalk request.now inodes.old.clock inodes.old.root inodes.new.root result }
     ensures already { IsSoAlready W.World F.Files request.now inodes.old
         → Keeps W.World F.Files (paths_of request.now) inodes.old inodes.new }
     ensures refused { IsBeyondLimits request.now → inodes.new ≡ inodes.old }

@@ -7,6 +7,7 @@ ghost use Rattle.eden_ops.specs.Attempts.{Attempts};
 ghost use Rattle.eden_ops.specs.Changes.{exec_kind};
 ghost use Rattle.eden_ops.specs.Keeping.{Keeps};
 ghost use Rattle.eden_ops.specs.Leaving.{LeavesAfter};
+ghost use Rattle.eden_ops.specs.Stamps.{StampsItsWalk};
 
 use crate::end::ended;
 use crate::file::meet_file;
@@ -39,6 +40,8 @@ pub fn set_exec<A: Allocator + Clone, W: World, F: Files<W>, C: Allocator + Clon
     ensures attempts { Attempts W.World F.Files
         (ask.SetExec path.now exec) inodes.old inodes.new cache.old cache.new result }
     ensures leaves { LeavesAfter W.World F.Files (ask.SetExec path.now exec) inodes.old inodes.new result }
+    ensures stamps { StampsItsWalk (ask.SetExec path.now exec)
+        inodes.old.clock inodes.old.root inodes.new.root result }
     ensures already { IsSoAlready W.World F.Files (ask.SetExec path.now exec) inodes.old
         → Keeps W.World F.Files (path.now ∷ []) inodes.old inodes.new }
 {

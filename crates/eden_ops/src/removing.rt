@@ -2,6 +2,7 @@
 ghost use Rattle.eden_model.specs.declared.request.Request.TheVariants as ask;
 ghost use Rattle.eden_ops.specs.Attempts.{Attempts};
 ghost use Rattle.eden_ops.specs.Leaving.{LeavesAfter};
+ghost use Rattle.eden_ops.specs.Stamps.{StampsItsWalk};
 
 use crate::end::ended;
 use crate::laws::keeps_laws;
@@ -25,6 +26,7 @@ pub fn unlink<A: Allocator + Clone, W: World, F: Files<W>, C: Allocator + Clone>
 ) -> Attempt
     ensures attempts { Attempts W.World F.Files (ask.Unlink path.now) inodes.old inodes.new cache.old cache.new result }
     ensures leaves { LeavesAfter W.World F.Files (ask.Unlink path.now) inodes.old inodes.new result }
+    ensures stamps { StampsItsWalk (ask.Unlink path.now) inodes.old.clock inodes.old.root inodes.new.root result }
 {
     let Some((name, above)) = path.as_slice().split_last() else {
         return Attempt::Finished(Reply::Err(Errno::EISDIR));

@@ -4,6 +4,7 @@ ghost use Rattle.eden_model.specs.declared.request.Request.TheVariants as ask;
 ghost use Rattle.eden_ops.specs.Attempts.{Attempts};
 ghost use Rattle.eden_ops.specs.Leaving.{LeavesAfter};
 ghost use Rattle.eden_ops.specs.Looks.{IsBeyondLimits};
+ghost use Rattle.eden_ops.specs.Stamps.{StampsItsWalk};
 
 use crate::contents::{Form, make};
 use crate::end::ended;
@@ -27,6 +28,8 @@ pub fn truncate<A: Allocator + Clone, W: World, F: Files<W>, C: Allocator + Clon
     ensures attempts { Attempts W.World F.Files
         (ask.Truncate path.now size) inodes.old inodes.new cache.old cache.new result }
     ensures leaves { LeavesAfter W.World F.Files (ask.Truncate path.now size) inodes.old inodes.new result }
+    ensures stamps { StampsItsWalk (ask.Truncate path.now size)
+        inodes.old.clock inodes.old.root inodes.new.root result }
 {
     let seen = match meet_file(inodes, cache, alloc, path) {
         Err(stop) => return ended(stop),
@@ -65,6 +68,8 @@ pub fn write<A: Allocator + Clone, W: World, F: Files<W>, C: Allocator + Clone>(
     ensures attempts { Attempts W.World F.Files
         (ask.Write path.now offset bytes.now) inodes.old inodes.new cache.old cache.new result }
     ensures leaves { LeavesAfter W.World F.Files (ask.Write path.now offset bytes.now) inodes.old inodes.new result }
+    ensures stamps { StampsItsWalk (ask.Write path.now offset bytes.now)
+        inodes.old.clock inodes.old.root inodes.new.root result }
     ensures refused { IsBeyondLimits (ask.Write path.now offset bytes.now) → inodes.new ≡ inodes.old }
 {
     let count = bytes.len() as u64;

@@ -11,3 +11,6 @@ returns-clause-attempts g c = c.add.ensures.attempts (ask.Create c.args.path.now
 
 pub returns-clause-leaves : goal.returns-clause-leaves
 returns-clause-leaves g c = c.add.ensures.leaves (ask.Create c.args.path.now) (file _ refl)
+
+pub returns-clause-stamps : goal.returns-clause-stamps
+returns-clause-stamps g c = c.add.ensures.stamps (ask.Create c.args.path.now) (file _ refl)

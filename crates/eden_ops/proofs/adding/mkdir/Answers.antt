@@ -10,3 +10,6 @@ returns-clause-attempts g c = c.add.ensures.attempts (ask.Mkdir c.args.path.now)
 
 pub returns-clause-leaves : goal.returns-clause-leaves
 returns-clause-leaves g c = c.add.ensures.leaves (ask.Mkdir c.args.path.now) dir
+
+pub returns-clause-stamps : goal.returns-clause-stamps
+returns-clause-stamps g c = c.add.ensures.stamps (ask.Mkdir c.args.path.now) dir
