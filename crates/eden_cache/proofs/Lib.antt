@@ -6,3 +6,5 @@ pub mod Sizes
 pub mod Found
 pub mod CacheLaws
 pub mod KeyKinds
+pub mod Stocking
+pub mod CallerLemmas

@@ -3,3 +3,4 @@ pub mod Cache
 pub mod Laws
 pub mod Lends
 pub mod Seen
+pub mod Stock

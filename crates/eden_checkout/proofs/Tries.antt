@@ -18,7 +18,7 @@ use Rattle.eden_tree.specs.Directory.{Row}
 use Rattle.eden_inode.specs.Tables.{Table, shows}
 use Rattle.eden_mount.specs.Tables.{Tries, Ticks, Stores, Unloads}
 use Rattle.eden_ops.specs.Attempts.{IsRealNeed}
-use Rattle.eden_ops.specs.Caches.{FindsTheSame, object_at}
+use Rattle.eden_cache.specs.Stock.{FindsTheSame, object_at}
 use Rattle.eden_ops.specs.Laws.{KeepsShown, KeepsEntries}
 use Rattle.eden_ops.specs.Left.{left, SomeAreLeft, NeedsStay, LeftFalls}
 use Rattle.eden_checkout.specs.Attempted.{IsTicked, IsTried, IsPut, IsUnloaded, attempted}

@@ -19,7 +19,7 @@ use Rattle.eden_tie.specs.Unloading.{Unloads, IsSettled}
 use Rattle.eden_inode.specs.Tables.{shows}
 use Rattle.eden_mount.specs.Tables.{Table}
 use Rattle.eden_ops.specs.Attempts.{IsRealNeed, Attempts}
-use Rattle.eden_ops.specs.Caches.{object_at}
+use Rattle.eden_cache.specs.Stock.{object_at}
 use Rattle.eden_ops.specs.Keeping.{Keeps}
 use Rattle.eden_ops.specs.Leaving.{LeavesAfter}
 use Rattle.eden_ops.specs.Left.{left}

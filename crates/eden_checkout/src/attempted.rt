@@ -1,6 +1,5 @@
 //! What a mount attempts over a checkout.
 use crate::checkout::Checkout;
-use eden_cache::cache_laws;
 use eden_model::{Attempt, Key, Path, Request, World};
 use eden_mount::Attempts;
 use eden_object::Object;
@@ -10,7 +9,7 @@ use std::alloc::{Allocator, Global};
 
 impl<A: Allocator + Clone, W: World, F: Files<W>> Attempts<W> for Checkout<A, W, F> {
     ghost use Rattle.eden_checkout.specs.Attempted.{attempted};
-    ghost use Rattle.eden_ops.proofs.CallerLemmas.{few_are_left};
+    ghost use Rattle.eden_ops.specs.Left.{few_are_left};
 
     ghost table = { attempted W.World F.Files };
 
@@ -27,7 +26,6 @@ impl<A: Allocator + Clone, W: World, F: Files<W>> Attempts<W> for Checkout<A, W,
     }
 
     fn put(&mut self, key: Key, object: Object) -> Result<(), Object> {
-        cache_laws();
         need_laws();
         self.cache.put(key, object)
     }

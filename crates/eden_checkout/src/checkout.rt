@@ -11,7 +11,7 @@ ghost use Rattle.eden_checkout.specs.Opening.{CanOpen, MayOpen, StartsAt, Finds,
 use crate::closing::{as_files, store_state};
 use crate::fault::OpenFault;
 use crate::opening::{Opening, Start, begin};
-use eden_cache::ObjectCache;
+use eden_cache::{ObjectCache, Stock};
 use eden_inode::Inodes;
 use eden_model::{Id, World};
 use eden_ops::let_go;
@@ -21,19 +21,16 @@ use std::alloc::{Allocator, Global};
 use std::marker::Model;
 
 /// The loaded part of a commit's tree over an overlay's files, and the objects that came.
-///
-/// Under an honest outside each object that is kept is the repository's.
 #[derive(Drop)]
 pub struct Checkout<A: Allocator + Clone, W: World, F: Files<W>> {
     pub(crate) inodes: Inodes<A, W, F>,
-    pub(crate) cache: ObjectCache<A>,
+    pub(crate) cache: Stock<W, A>,
     root: Id,
 }
 
 impl<A: Allocator + Clone, W: World, F: Files<W>> Model for Checkout<A, W, F> {
     ghost use Rattle.std.specs.Coded.{codes};
     ghost use Rattle.eden_tree.specs.Coding.{child_code};
-    ghost use Rattle.eden_ops.specs.Caches.{IsStocked};
     ghost use Rattle.eden_checkout.specs.Checkouts.{Checkout};
     ghost use Rattle.eden_checkout.specs.Opening.{IsRootOf};
 
@@ -43,7 +40,7 @@ impl<A: Allocator + Clone, W: World, F: Files<W>> Model for Checkout<A, W, F> {
 
     ghost view = { λ c. record { inodes = c.inodes; cache = c.cache; root = c.root } };
 
-    ghost invariant = { λ c. IsStocked W.repository W.honest c.cache × IsRootOf c.root c.inodes.root.origin };
+    ghost invariant = { λ c. IsRootOf c.root c.inodes.root.origin };
 }
 
 impl<A: Allocator + Clone, W: World, F: Files<W>> Checkout<A, W, F> {
@@ -130,7 +127,7 @@ impl<A: Allocator + Clone, W: World, F: Files<W>> Checkout<A, W, F> {
             Err(fault) => Err((fault, overlay.into_files())),
             Ok(Start { origin, next }) => Ok(Checkout {
                 inodes: Inodes::new(dirs, overlay, origin, next),
-                cache,
+                cache: Stock::new(cache),
                 root,
             }),
         }

@@ -35,7 +35,7 @@ use Rattle.eden_materialise.specs.declared.new_entry.NewEntry.{NewEntry}
 use Rattle.eden_materialise.specs.Filing.{node_as, IsShort, LacksEntry, IsAddFault}
 use Rattle.eden_model.specs.declared.attempt.Attempt.TheVariants.{Finished}
 use Rattle.eden_ops.specs.Attempts.{Attempts}
-use Rattle.eden_ops.specs.Caches.{FindsTheSame}
+use Rattle.eden_cache.specs.Stock.{FindsTheSame}
 use Rattle.eden_ops.specs.Changes.{IsAdding, file, dir, link}
 use Rattle.eden_ops.specs.Faults.{Makes, creates, makes_dir, links, IsLawful}
 use Rattle.eden_ops.specs.Keeping.{Keeps}

@@ -1,5 +1,3 @@
 -- What callers' proofs cite beside the laws.
-pub use Rattle.eden_ops.proofs.Left.{few_are_left}
-pub use Rattle.eden_ops.proofs.Finding.{still_stocked}
 pub use Rattle.eden_ops.proofs.Going.{lets_go}
 pub use Rattle.eden_ops.proofs.Roots.{root_left}

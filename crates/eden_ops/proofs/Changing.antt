@@ -40,7 +40,7 @@ use Rattle.eden_materialise.specs.Faults.{IsStoreFault}
 use Rattle.eden_materialise.specs.Removals.{HasEntry}
 use Rattle.eden_model.specs.declared.attempt.Attempt.TheVariants.{Finished}
 use Rattle.eden_ops.specs.Attempts.{Attempts}
-use Rattle.eden_ops.specs.Caches.{FindsTheSame}
+use Rattle.eden_cache.specs.Stock.{FindsTheSame}
 use Rattle.eden_ops.specs.Changes.{exec_kind}
 use Rattle.eden_ops.specs.Faults.{IsLawful}
 use Rattle.eden_ops.specs.Listings.{HasNoEntries, HasEntries}

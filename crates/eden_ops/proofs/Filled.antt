@@ -32,7 +32,7 @@ use Rattle.eden_tree.specs.Paths.{row_at}
 use Rattle.eden_inode.specs.Tables.{Table, shows}
 use Rattle.eden_model.specs.declared.attempt.Attempt.TheVariants.{Finished}
 use Rattle.eden_ops.specs.Attempts.{Attempts, IsShown, shown_node}
-use Rattle.eden_ops.specs.Caches.{FindsTheSame}
+use Rattle.eden_cache.specs.Stock.{FindsTheSame}
 use Rattle.eden_ops.specs.Contents.{IsFileAt}
 use Rattle.eden_ops.proofs.Answering.{Asks, says_at}
 use Rattle.eden_ops.proofs.Changing.{changed_by}

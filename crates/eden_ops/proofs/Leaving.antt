@@ -2,7 +2,6 @@
 use Rattle.std.proofs.Common.{◌≡◌, ◌≢◌, ◌≤◌, ◌⊎◌, ◌+◌, ℕ, [], ◌∷◌, Result, Ok, Err, inl, inr, refl, sym, ◌∙◌, subst, arith}
 use Rattle.eden_model.specs.declared.attempt.Attempt.{Attempt}
 use Rattle.eden_model.specs.declared.attempt.Attempt.TheVariants.{Finished}
-use Rattle.eden_model.specs.declared.errno.Errno.{Errno}
 use Rattle.eden_model.specs.declared.fault.Fault.{Fault}
 use Rattle.eden_model.specs.declared.request.Request.{Request}
 use Rattle.eden_model.specs.declared.request.Request.TheVariants as ask
@@ -17,7 +16,7 @@ use Rattle.eden_tie.specs.Saving.{IsSavedAbove}
 use Rattle.eden_inode.specs.Tables.{Table}
 use Rattle.eden_ops.specs.Changes.{IsOutside, StaysOrBecomesOwn, SameNames, LeavesOn, Leaves}
 use Rattle.eden_ops.specs.Keeping.{Keeps}
-use Rattle.eden_ops.specs.Leaving.{AreSavedAbove, Gives, IsFault, LeavesAfter, LetsBe, MayMark, given}
+use Rattle.eden_ops.specs.Leaving.{AreSavedAbove, Gives, IsFault, IsNoError, LeavesAfter, LetsBe, MayMark, given}
 use Rattle.eden_ops.specs.Letting.{LetsGo}
 use Rattle.eden_ops.specs.Relocating.{GoesAlong, Relocates}
 use Rattle.eden_ops.proofs.Going.{goes_marks, loaded_elsewhere}
@@ -32,10 +31,6 @@ none_given a b n is = omega (arith, is)
 -- where the answer is a fault the names are the same
 abbrev pub NamesAfter : Attempt → Row → Row → Type 0
 NamesAfter a x z = (e : Fault) → a ≡ Finished (say.Fault e) → SameNames x z
-
--- the answer is no error
-abbrev pub IsNoError : Attempt → Type 0
-IsNoError a = (e : Errno) → a ≢ Finished (say.Err e)
 
 module _ {W F : Type 0} (w : Ghosts W) (f : Files F W) (q : Request) (s t : Table F) (keeps : Keeps w f (paths_of q) s t) where
   before : Leaves f s t

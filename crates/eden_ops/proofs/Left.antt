@@ -1,5 +1,5 @@
 -- What a request may still need falls, and never rises.
-use Rattle.std.proofs.Common.{◌≡◌, ◌≢◌, ◌<◌, ◌≤◌, ◌⊎◌, ◌+◌, ◌-◌, ℕ, Bool, true, false, cond, List, [], ◌∷◌, ◌++◌, length, Option, Some, None, sym, refl, ◌∙◌, ap, subst, inl, inr, arith, length-append, sum_by}
+use Rattle.std.proofs.Common.{◌≡◌, ◌≢◌, ◌<◌, ◌≤◌, ◌⊎◌, ◌+◌, ◌-◌, ℕ, Bool, true, false, cond, List, [], ◌∷◌, ◌++◌, length, Option, Some, None, sym, refl, ◌∙◌, ap, subst, inl, inr, arith, length-append}
 use Rattle.std.proofs.lemmas.Bool.{false≢true}
 use Rattle.std.proofs.lemmas.List.Sums.{sum_by-cons}
 use Rattle.std.proofs.lemmas.Option.{same_Some, none-some}
@@ -21,10 +21,10 @@ use Rattle.eden_tree.specs.Directory.{Row, Directory, child_of}
 use Rattle.eden_tree.specs.Paths.{row_at, Standing, standing}
 use Rattle.eden_tie.proofs.CallerLemmas.{map_some}
 use Rattle.eden_ops.specs.Attempts.{object_kind, Wants, IsRealNeed}
-use Rattle.eden_ops.specs.Caches.{object_at, FindsTheSame}
+use Rattle.eden_cache.specs.Stock.{object_at, FindsTheSame}
 use Rattle.eden_ops.specs.Known.{known, known_node, is_unlisted, is_silent, place_from, place_on, last_path, place}
 use Rattle.eden_ops.specs.Laws.{Stays, Grows}
-use Rattle.eden_ops.specs.Left.{places_from, is_cached, has_object, spared, left, FewAreLeft, SomeAreLeft, NeedsStay, LeftFalls}
+use Rattle.eden_ops.specs.Left.{places_from, is_cached, has_object, spared, left, SomeAreLeft, NeedsStay, LeftFalls}
 use Rattle.eden_ops.proofs.Deeper.{place_is_front, place_long}
 use Rattle.eden_ops.proofs.Walking.{front_known, known_loaded, known_unloaded}
 
@@ -244,15 +244,6 @@ some_of x (ask.Symlink p b) = some_places x p []
 some_of x (ask.Unlink p) = some_places x p []
 some_of x (ask.Rmdir p) = some_places x p []
 some_of x (ask.Rename p r) = some_places x p (r ∷ [])
-
-few_places : (x : Row) (ps : List Path) → places_from (known x) ps ≤ sum_by (λ p. length p + 1) ps
-few_places x [] = omega arith
-few_places x (p ∷ ps) =
-    let h = few_places x ps in
-    omega (arith, h, sum_by-cons (λ r. length r + 1) p ps, sum_by-cons (λ r. (length r + 1) - length (place_on (known x) r)) p ps)
-
-pub few_are_left : FewAreLeft
-few_are_left x c q = let h = few_places x (paths_of q) in omega (arith, h)
 
 -- ---- one need, and the next
 

@@ -32,6 +32,7 @@ pub mod Already
 pub mod Leaving
 pub mod CallerLemmas
 pub mod Stamps
+pub mod Stamped
 mod Settled
 pub mod Carried
 pub mod Readied

@@ -24,10 +24,10 @@ use Rattle.eden_ops.proofs.Steps.{leads_front, keeps_counts}
 
 -- ---- by what stands at a path
 
-abbrev stamp_of : Option Standing → Option ℕ
+abbrev pub stamp_of : Option Standing → Option ℕ
 stamp_of o = option_and_then (λ (v : Standing). option_map (λ (l : ℕ × Bool). l.0) v.loaded) o
 
-abbrev stamp_in : Option Row → Option ℕ
+abbrev pub stamp_in : Option Row → Option ℕ
 stamp_in o = option_map (λ (d : Directory). d.stamp) (option_and_then child_of o)
 
 stamp_standing : (o : Option Row) → stamp_of (option_map standing o) ≡ stamp_in o
@@ -38,10 +38,10 @@ stamp_standing (Some y) =
       | Some d ↦ refl
     ]
 
-standing_stamp : (q : Path) (x : Row) (k : ℕ) → stamp_at q x ≡ Some k → stamp_of (standing_at q x) ≡ Some k
+pub standing_stamp : (q : Path) (x : Row) (k : ℕ) → stamp_at q x ≡ Some k → stamp_of (standing_at q x) ≡ Some k
 standing_stamp q x k is = stamp_standing (row_at q x) ∙ is
 
-stamped_standing : (q : Path) (x : Row) (k : ℕ) → stamp_of (standing_at q x) ≡ Some k → stamp_at q x ≡ Some k
+pub stamped_standing : (q : Path) (x : Row) (k : ℕ) → stamp_of (standing_at q x) ≡ Some k → stamp_at q x ≡ Some k
 stamped_standing q x k is = sym (stamp_standing (row_at q x)) ∙ is
 
 -- ---- a path that is stamped

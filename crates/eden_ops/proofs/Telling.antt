@@ -25,7 +25,7 @@ use Rattle.eden_model.specs.declared.attempt.Attempt.TheVariants.{Finished}
 use Rattle.eden_ops.specs.declared.answer.Stop.{Stop}
 use Rattle.eden_ops.specs.declared.answer.Stop.TheVariants as stop
 use Rattle.eden_ops.specs.Attempts.{Attempts, IsSeen, IsShown, IsUnsized, Meets, MeetsShown, Lacks, shown_node, stopped}
-use Rattle.eden_ops.specs.Caches.{FindsTheSame}
+use Rattle.eden_cache.specs.Stock.{FindsTheSame}
 use Rattle.eden_ops.specs.Contents.{HasContent}
 use Rattle.eden_ops.specs.Keeping.{Keeps}
 use Rattle.eden_ops.specs.Known.{known}

@@ -35,7 +35,7 @@ use Rattle.eden_ops.specs.declared.answer.Stop.TheVariants as stop
 use Rattle.eden_ops.specs.declared.answer.Walked.{Walked}
 use Rattle.eden_ops.specs.declared.answer.Walked.TheVariants as walked
 use Rattle.eden_ops.specs.Known.{known, place_on, place}
-use Rattle.eden_ops.specs.Caches.{object_at, size_at, FindsTheSame}
+use Rattle.eden_cache.specs.Stock.{object_at, size_at, FindsTheSame}
 use Rattle.eden_ops.specs.Keeping.{Keeps}
 use Rattle.eden_ops.specs.Faults.{IsCaused, IsLawful}
 

@@ -37,6 +37,10 @@ given _ = 0
 abbrev pub IsFault : Attempt → Type 0
 IsFault a = (e : Fault) × (a ≡ Finished (say.Fault e))
 
+-- the answer is no error
+abbrev pub IsNoError : Attempt → Type 0
+IsNoError a = (e : Errno) → a ≢ Finished (say.Err e)
+
 -- the request may mark the directory at a path unsaved: a rename that ends in a fault, the one that its entry stands in
 abbrev pub MayMark : Request → Attempt → Path → Type 0
 MayMark (ask.Rename from to) a p = IsFault a × StandsIn from p

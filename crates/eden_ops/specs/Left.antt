@@ -2,6 +2,8 @@
 use Rattle.std.specs.Prelude.{◌≡◌, ◌<◌, ◌≤◌, ◌+◌, ◌-◌, ◌⊎◌, ℕ, Bool, true, false, List, length, Option, Some, None}
 use Rattle.std.specs.List.{sum_by}
 use Rattle.std.specs.Option.{is_some}
+use Rattle.std.proofs.Math.Nat.{le_trans, sub-le}
+use Rattle.std.proofs.lemmas.List.Sums.{sum_by-le-sum_by}
 use Rattle.eden_model.specs.declared.id.Key.{Key}
 use Rattle.eden_model.specs.declared.kind.Kind.{Kind}
 use Rattle.eden_model.specs.declared.kind.Origin.{Origin}
@@ -14,7 +16,7 @@ use Rattle.eden_cache.specs.Cache.{Cache}
 use Rattle.eden_tree.specs.Directory.{Row}
 use Rattle.eden_tree.specs.Paths.{row_at}
 use Rattle.eden_ops.specs.Attempts.{object_kind, IsRealNeed}
-use Rattle.eden_ops.specs.Caches.{object_at, FindsTheSame}
+use Rattle.eden_cache.specs.Stock.{object_at, FindsTheSame}
 use Rattle.eden_ops.specs.Known.{known, place_on, place}
 use Rattle.eden_ops.specs.Laws.{Grows}
 
@@ -44,6 +46,13 @@ left x c q = places_from (known x) (paths_of q) - spared (has_object c (row_at (
 -- no more than one for each place of its paths
 abbrev pub FewAreLeft : Type 0
 FewAreLeft = (x : Row) (c : Cache) (q : Request) → left x c q ≤ most_objects q
+
+-- .. as a table of a mount says of itself
+pub few_are_left : FewAreLeft
+few_are_left x c q =
+    le_trans (sub-le (places_from (known x) (paths_of q)) (spared (has_object c (row_at (place (known x) q) x))))
+    (sum_by-le-sum_by (λ p. (length p + 1) - length (place_on (known x) p)) (λ p. length p + 1) (paths_of q)
+    (λ p. sub-le (length p + 1) (length (place_on (known x) p))))
 
 -- while something is needed some are left, and never more than before
 abbrev pub SomeAreLeft : Type 0

@@ -1,5 +1,4 @@
 pub mod Known
-pub mod Caches
 pub mod Keeping
 pub mod Stamps
 pub mod Faults

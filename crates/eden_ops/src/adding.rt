@@ -3,16 +3,16 @@ ghost use Rattle.std.specs.Prelude.{◌≡◌};
 ghost use Rattle.eden_model.specs.declared.request.Request as request;
 ghost use Rattle.eden_model.specs.declared.request.Request.TheVariants as ask;
 ghost use Rattle.eden_ops.specs.Attempts.{Attempts};
-ghost use Rattle.eden_ops.specs.Caches.{IsStocked};
 ghost use Rattle.eden_ops.specs.Changes.{IsAdding};
 ghost use Rattle.eden_ops.specs.Leaving.{LeavesAfter};
 ghost use Rattle.eden_ops.specs.Looks.{IsBeyondLimits};
+ghost use Rattle.eden_ops.specs.Stamps.{StampsItsWalk};
 
 use crate::end::ended;
 use crate::laws::keeps_laws;
 use crate::meet::meet;
 use crate::settling::settle;
-use eden_cache::ObjectCache;
+use eden_cache::Stock;
 use eden_inode::Inodes;
 use eden_materialise::{NewEntry, add_entry};
 use eden_model::{Attempt, Errno, MAX_TARGET, Path, Reply, World};
@@ -23,17 +23,18 @@ use std::alloc::{Allocator, Global};
 /// Adds an entry at a path.
 fn add<A: Allocator + Clone, W: World, F: Files<W>, C: Allocator + Clone>(
     inodes: &mut Inodes<A, W, F>,
-    cache: &mut ObjectCache<C>,
+    cache: &mut Stock<W, C>,
     alloc: Global,
     path: &Path,
     new: NewEntry<'_>,
 ) -> Attempt
-    requires stocked { IsStocked W.repository W.honest cache.old }
     requires asked { (q : request.Request) × IsAdding path.now q new }
     ensures attempts { (q : request.Request) → IsAdding path.now q new.entry
         → Attempts W.World F.Files q inodes.old inodes.new cache.old cache.new result }
     ensures leaves { (q : request.Request) → IsAdding path.now q new.entry
         → LeavesAfter W.World F.Files q inodes.old inodes.new result }
+    ensures stamps { (q : request.Request) → IsAdding path.now q new.entry
+        → StampsItsWalk q inodes.old.clock inodes.old.root inodes.new.root result }
 {
     let Some((name, above)) = path.as_slice().split_last() else {
         return Attempt::Finished(Reply::Err(Errno::EEXIST));
@@ -58,13 +59,13 @@ fn add<A: Allocator + Clone, W: World, F: Files<W>, C: Allocator + Clone>(
 /// Makes an empty file.
 pub fn create<A: Allocator + Clone, W: World, F: Files<W>, C: Allocator + Clone>(
     inodes: &mut Inodes<A, W, F>,
-    cache: &mut ObjectCache<C>,
+    cache: &mut Stock<W, C>,
     alloc: Global,
     path: &Path,
 ) -> Attempt
-    requires { IsStocked W.repository W.honest cache.old }
     ensures attempts { Attempts W.World F.Files (ask.Create path.now) inodes.old inodes.new cache.old cache.new result }
     ensures leaves { LeavesAfter W.World F.Files (ask.Create path.now) inodes.old inodes.new result }
+    ensures stamps { StampsItsWalk (ask.Create path.now) inodes.old.clock inodes.old.root inodes.new.root result }
 {
     add(inodes, cache, alloc, path, NewEntry::File(false, &[]))
 }
@@ -72,13 +73,13 @@ pub fn create<A: Allocator + Clone, W: World, F: Files<W>, C: Allocator + Clone>
 /// Makes a directory without entries.
 pub fn mkdir<A: Allocator + Clone, W: World, F: Files<W>, C: Allocator + Clone>(
     inodes: &mut Inodes<A, W, F>,
-    cache: &mut ObjectCache<C>,
+    cache: &mut Stock<W, C>,
     alloc: Global,
     path: &Path,
 ) -> Attempt
-    requires { IsStocked W.repository W.honest cache.old }
     ensures attempts { Attempts W.World F.Files (ask.Mkdir path.now) inodes.old inodes.new cache.old cache.new result }
     ensures leaves { LeavesAfter W.World F.Files (ask.Mkdir path.now) inodes.old inodes.new result }
+    ensures stamps { StampsItsWalk (ask.Mkdir path.now) inodes.old.clock inodes.old.root inodes.new.root result }
 {
     add(inodes, cache, alloc, path, NewEntry::Dir)
 }
@@ -86,15 +87,16 @@ pub fn mkdir<A: Allocator + Clone, W: World, F: Files<W>, C: Allocator + Clone>(
 /// Makes a link to a target of 1 to 4,095 bytes.
 pub fn symlink<A: Allocator + Clone, W: World, F: Files<W>, C: Allocator + Clone>(
     inodes: &mut Inodes<A, W, F>,
-    cache: &mut ObjectCache<C>,
+    cache: &mut Stock<W, C>,
     alloc: Global,
     path: &Path,
     target: &[u8],
 ) -> Attempt
-    requires { IsStocked W.repository W.honest cache.old }
     ensures attempts { Attempts W.World F.Files
         (ask.Symlink path.now target.now) inodes.old inodes.new cache.old cache.new result }
     ensures leaves { LeavesAfter W.World F.Files (ask.Symlink path.now target.now) inodes.old inodes.new result }
+    ensures stamps { StampsItsWalk (ask.Symlink path.now target.now)
+        inodes.old.clock inodes.old.root inodes.new.root result }
     ensures refused { IsBeyondLimits (ask.Symlink path.now target.now) → inodes.new ≡ inodes.old }
 {
     if target.is_empty() {

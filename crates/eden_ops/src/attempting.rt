@@ -3,11 +3,10 @@ ghost use Rattle.std.specs.Prelude.{◌≡◌};
 ghost use Rattle.eden_model.specs.Requests.{paths_of};
 ghost use Rattle.eden_ops.specs.Already.{IsSoAlready};
 ghost use Rattle.eden_ops.specs.Attempts.{Attempts};
-ghost use Rattle.eden_ops.specs.Caches.{IsStocked};
 ghost use Rattle.eden_ops.specs.Keeping.{Keeps};
 ghost use Rattle.eden_ops.specs.Leaving.{LeavesAfter};
 ghost use Rattle.eden_ops.specs.Looks.{IsLook, IsChange, IsBeyondLimits};
-ghost use Rattle.eden_ops.specs.Stamps.{AreWalked};
+ghost use Rattle.eden_ops.specs.Stamps.{AreWalked, StampsItsWalk};
 
 use crate::adding::{create, mkdir, symlink};
 use crate::emptied::rmdir;
@@ -17,7 +16,7 @@ use crate::looks::look;
 use crate::removing::unlink;
 use crate::renaming::rename;
 use crate::writing::{truncate, write};
-use eden_cache::ObjectCache;
+use eden_cache::Stock;
 use eden_inode::Inodes;
 use eden_model::{Attempt, Request, World};
 use eden_overlay::Files;
@@ -26,14 +25,14 @@ use std::alloc::{Allocator, Global};
 /// One attempt of a change at one path: a `write`, `truncate`, `create`, `setexec`, `mkdir`, `symlink`, `unlink` or `rmdir`.
 pub fn change<A: Allocator + Clone, W: World, F: Files<W>, C: Allocator + Clone>(
     inodes: &mut Inodes<A, W, F>,
-    cache: &mut ObjectCache<C>,
+    cache: &mut Stock<W, C>,
     alloc: Global,
     request: &Request,
 ) -> Attempt
     requires change { IsChange request.now }
-    requires stocked { IsStocked W.repository W.honest cache.old }
     ensures attempts { Attempts W.World F.Files request.now inodes.old inodes.new cache.old cache.new result }
     ensures leaves { LeavesAfter W.World F.Files request.now inodes.old inodes.new result }
+    ensures stamps { StampsItsWalk request.now inodes.old.clock inodes.old.root inodes.new.root result }
     ensures already { IsSoAlready W.World F.Files request.now inodes.old
         → Keeps W.World F.Files (paths_of request.now) inodes.old inodes.new }
     ensures refused { IsBeyondLimits request.now → inodes.new ≡ inodes.old }
@@ -62,13 +61,14 @@ pub fn change<A: Allocator + Clone, W: World, F: Files<W>, C: Allocator + Clone>
 /// needs an object that the cache lacks. Nothing is fetched. Where it asks for what is so already nothing is stored.
 pub fn attempt<A: Allocator + Clone, W: World, F: Files<W>, C: Allocator + Clone>(
     inodes: &mut Inodes<A, W, F>,
-    cache: &mut ObjectCache<C>,
+    cache: &mut Stock<W, C>,
     alloc: Global,
     request: &Request,
 ) -> Attempt
-    requires { IsStocked W.repository W.honest cache.old }
     ensures attempts { Attempts W.World F.Files request.now inodes.old inodes.new cache.old cache.new result }
     ensures leaves { LeavesAfter W.World F.Files request.now inodes.old inodes.new result }
+    ensures stamps { IsChange request.now
+        → StampsItsWalk request.now inodes.old.clock inodes.old.root inodes.new.root result }
     ensures already { IsSoAlready W.World F.Files request.now inodes.old
         → Keeps W.World F.Files (paths_of request.now) inodes.old inodes.new }
     ensures refused { IsBeyondLimits request.now → inodes.new ≡ inodes.old }

@@ -4,12 +4,12 @@ ghost use Rattle.eden_model.specs.declared.id.ObjKind.TheVariants as objects;
 ghost use Rattle.eden_object.specs.Trees.{NamesDiffer};
 ghost use Rattle.eden_tie.specs.Loading.{IsAt};
 ghost use Rattle.eden_ops.specs.Attempts.{Lacks};
-ghost use Rattle.eden_ops.specs.Caches.{IsStocked, FindsTheSame, object_at};
+ghost use Rattle.eden_cache.specs.Stock.{FindsTheSame, object_at};
 ghost use Rattle.eden_ops.specs.Keeping.{Keeps};
 ghost use Rattle.eden_ops.specs.Known.{IsLoadedAt};
 
 use crate::answer::Stop;
-use eden_cache::{ObjectCache, cache_laws};
+use eden_cache::{Stock, cache_laws};
 use eden_inode::Inodes;
 use eden_model::{Id, Key, Name, ObjKind, Origin, TreeEntry, World};
 use eden_overlay::Files;
@@ -17,11 +17,10 @@ use std::alloc::{AllocError, Allocator, Global};
 
 /// The entries of a tree object, where it is cached.
 fn cached_tree<W: World, C: Allocator + Clone>(
-    cache: &mut ObjectCache<C>,
+    cache: &mut Stock<W, C>,
     alloc: Global,
     id: Id,
 ) -> Result<Option<Vec<TreeEntry>>, AllocError>
-    requires { IsStocked W.repository W.honest cache.old }
     ensures finds { FindsTheSame cache.old cache.new }
     ensures entries { IfOk result
         (λ o. MatchOption o (object_at cache.old (record { kind = objects.Tree; id = id }) ≡ None)
@@ -39,13 +38,12 @@ fn cached_tree<W: World, C: Allocator + Clone>(
 /// empty one.
 pub(crate) fn bring<A: Allocator + Clone, W: World, F: Files<W>, C: Allocator + Clone>(
     inodes: &mut Inodes<A, W, F>,
-    cache: &mut ObjectCache<C>,
+    cache: &mut Stock<W, C>,
     alloc: Global,
     path: &[Name],
     origin: Origin,
 ) -> Result<(), Stop>
     requires at { IsAt path.now inodes.old.root origin }
-    requires stocked { IsStocked W.repository W.honest cache.old }
     ensures ok { OnOk result (IsLoadedAt path.now inodes.new.root) }
     ensures err { OnErr result (inodes.new.root ≡ inodes.old.root) }
     ensures lacks { IfErr result (Lacks W.World F.Files path.now inodes.old inodes.new cache.new) }
@@ -54,7 +52,7 @@ pub(crate) fn bring<A: Allocator + Clone, W: World, F: Files<W>, C: Allocator + 
 {
     match origin {
         Origin::Own | Origin::Empty => inodes.load(alloc, path, None)?,
-        Origin::Object(id) => match cached_tree::<W, C>(cache, alloc, id)? {
+        Origin::Object(id) => match cached_tree(cache, alloc, id)? {
             None => {
                 let kind = ObjKind::Tree;
                 return Err(Stop::Needs(Key { kind, id }));

@@ -5,13 +5,13 @@ ghost use Rattle.eden_model.specs.Limits.{most_file};
 ghost use Rattle.eden_model.specs.Operations.{resized, written};
 ghost use Rattle.eden_inode.specs.Tables.{shows};
 ghost use Rattle.eden_ops.specs.Attempts.{Lacks};
-ghost use Rattle.eden_ops.specs.Caches.{IsStocked, FindsTheSame, object_at};
+ghost use Rattle.eden_cache.specs.Stock.{FindsTheSame, object_at};
 ghost use Rattle.eden_ops.specs.Contents.{HasContent, Fits, made, IsMade};
 ghost use Rattle.eden_ops.specs.Keeping.{Keeps};
 
 use crate::answer::Stop;
 use crate::laws::keeps_laws;
-use eden_cache::{ObjectCache, cache_laws};
+use eden_cache::{Stock, cache_laws};
 use eden_inode::Inodes;
 use eden_model::{Bytes, Id, Key, ObjKind, Origin, Path, World, change_laws};
 use eden_overlay::Files;
@@ -84,13 +84,12 @@ fn made(alloc: Global, content: &[u8], form: Form<'_>) -> Result<Bytes, AllocErr
 
 /// What is made of the content of a blob, where it is cached.
 fn cached_form<W: World, C: Allocator + Clone>(
-    cache: &mut ObjectCache<C>,
+    cache: &mut Stock<W, C>,
     alloc: Global,
     id: Id,
     form: Form<'_>,
 ) -> Result<Option<Bytes>, AllocError>
     requires fits { Fits form }
-    requires stocked { IsStocked W.repository W.honest cache.old }
     ensures finds { FindsTheSame cache.old cache.new }
     ensures made { IfOk result
         (λ o. MatchOption o (object_at cache.old (record { kind = objects.Blob; id = id }) ≡ None)
@@ -109,7 +108,7 @@ fn cached_form<W: World, C: Allocator + Clone>(
 /// What is made of the content of the file or link at a path, which comes from that origin.
 pub(crate) fn make<A: Allocator + Clone, W: World, F: Files<W>, C: Allocator + Clone>(
     inodes: &mut Inodes<A, W, F>,
-    cache: &mut ObjectCache<C>,
+    cache: &mut Stock<W, C>,
     alloc: Global,
     path: &Path,
     origin: Origin,
@@ -117,7 +116,6 @@ pub(crate) fn make<A: Allocator + Clone, W: World, F: Files<W>, C: Allocator + C
 ) -> Result<Bytes, Stop>
     requires content { HasContent path.now inodes.old.root origin }
     requires fits { Fits form }
-    requires stocked { IsStocked W.repository W.honest cache.old }
     ensures ok { IfOk result (IsMade W.World F.Files path.now inodes.old form.entry) }
     ensures lacks { IfErr result (Lacks W.World F.Files path.now inodes.old inodes.new cache.new) }
     ensures still { inodes.new.root ≡ inodes.old.root }
@@ -135,7 +133,7 @@ pub(crate) fn make<A: Allocator + Clone, W: World, F: Files<W>, C: Allocator + C
             inodes.keep(path.as_slice(), content);
             Ok(bytes)
         }
-        Origin::Object(id) => match cached_form::<W, C>(cache, alloc, id, form)? {
+        Origin::Object(id) => match cached_form(cache, alloc, id, form)? {
             None => {
                 let kind = ObjKind::Blob;
                 Err(Stop::Needs(Key { kind, id }))

@@ -4,16 +4,16 @@ ghost use Rattle.eden_model.specs.declared.kind.Kind.TheVariants as kinds;
 ghost use Rattle.eden_model.specs.declared.request.Request.TheVariants as ask;
 ghost use Rattle.eden_ops.specs.Already.{IsSoAlready};
 ghost use Rattle.eden_ops.specs.Attempts.{Attempts};
-ghost use Rattle.eden_ops.specs.Caches.{IsStocked};
 ghost use Rattle.eden_ops.specs.Changes.{exec_kind};
 ghost use Rattle.eden_ops.specs.Keeping.{Keeps};
 ghost use Rattle.eden_ops.specs.Leaving.{LeavesAfter};
+ghost use Rattle.eden_ops.specs.Stamps.{StampsItsWalk};
 
 use crate::end::ended;
 use crate::file::meet_file;
 use crate::laws::keeps_laws;
 use crate::settling::settle;
-use eden_cache::ObjectCache;
+use eden_cache::Stock;
 use eden_inode::Inodes;
 use eden_materialise::set_kind;
 use eden_model::{Attempt, Kind, Path, Reply, World};
@@ -32,15 +32,16 @@ fn exec_kind(exec: bool) -> Kind
 /// is stored, and nothing changes.
 pub fn set_exec<A: Allocator + Clone, W: World, F: Files<W>, C: Allocator + Clone>(
     inodes: &mut Inodes<A, W, F>,
-    cache: &mut ObjectCache<C>,
+    cache: &mut Stock<W, C>,
     alloc: Global,
     path: &Path,
     exec: bool,
 ) -> Attempt
-    requires { IsStocked W.repository W.honest cache.old }
     ensures attempts { Attempts W.World F.Files
         (ask.SetExec path.now exec) inodes.old inodes.new cache.old cache.new result }
     ensures leaves { LeavesAfter W.World F.Files (ask.SetExec path.now exec) inodes.old inodes.new result }
+    ensures stamps { StampsItsWalk (ask.SetExec path.now exec)
+        inodes.old.clock inodes.old.root inodes.new.root result }
     ensures already { IsSoAlready W.World F.Files (ask.SetExec path.now exec) inodes.old
         → Keeps W.World F.Files (path.now ∷ []) inodes.old inodes.new }
 {

@@ -5,7 +5,7 @@ ghost use Rattle.eden_model.specs.Trees.{reach};
 ghost use Rattle.eden_tree.specs.Paths.{row_at};
 ghost use Rattle.eden_inode.specs.Tables.{shows};
 ghost use Rattle.eden_ops.specs.Attempts.{Attempts, IsShown, stopped};
-ghost use Rattle.eden_ops.specs.Caches.{IsStocked, FindsTheSame};
+ghost use Rattle.eden_cache.specs.Stock.{FindsTheSame};
 ghost use Rattle.eden_ops.specs.Requests.{IsForFile, IsFileSeen};
 ghost use Rattle.eden_ops.specs.Keeping.{Keeps};
 ghost use Rattle.eden_ops.specs.Stamps.{IsWalked};
@@ -13,7 +13,7 @@ ghost use Rattle.eden_ops.specs.Stamps.{IsWalked};
 use crate::answer::Stop;
 use crate::meet::meet;
 use crate::what::what;
-use eden_cache::ObjectCache;
+use eden_cache::Stock;
 use eden_inode::{Inodes, Seen};
 use eden_model::{Errno, Kind, Path, World};
 use eden_overlay::Files;
@@ -22,11 +22,10 @@ use std::alloc::{Allocator, Global};
 /// The file at a path, or how the attempt of a request for it ends where it isn't met.
 pub(crate) fn meet_file<A: Allocator + Clone, W: World, F: Files<W>, C: Allocator + Clone>(
     inodes: &mut Inodes<A, W, F>,
-    cache: &mut ObjectCache<C>,
+    cache: &mut Stock<W, C>,
     alloc: Global,
     path: &Path,
 ) -> Result<Seen, Stop>
-    requires { IsStocked W.repository W.honest cache.old }
     ensures file { IfOk result (IsFileSeen path.now inodes.new.root) }
     ensures shown { W.honest
         → OnOk result (IsShown W.repository (F.stored inodes.new.files) (row_at path.now inodes.new.root)

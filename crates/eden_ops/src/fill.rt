@@ -9,6 +9,7 @@ ghost use Rattle.eden_tie.specs.Saving.{IsSavedAbove};
 ghost use Rattle.eden_tree.specs.Directory.{Row};
 ghost use Rattle.eden_ops.specs.Changes.{SameNames, Leaves};
 ghost use Rattle.eden_ops.specs.Contents.{IsFileAt};
+ghost use Rattle.eden_ops.specs.Stamps.{NoneStamped};
 
 use crate::settling::settle;
 use eden_inode::Inodes;
@@ -36,6 +37,7 @@ pub(crate) fn fill<A: Allocator + Clone, W: World, F: Files<W>>(
     ensures names { OnErr result (SameNames inodes.old.root inodes.new.root) }
     ensures fault { IfErr result (IsStoreFault (F.failures inodes.old.files) (F.failures inodes.new.files)) }
     ensures leaves { Leaves F.Files inodes.old inodes.new }
+    ensures stamps { NoneStamped inodes.old.root inodes.new.root }
     ensures next { inodes.new.next ≡ inodes.old.next }
     ensures saved { OnOk result (IsSavedAbove path.now inodes.new.root) }
 {

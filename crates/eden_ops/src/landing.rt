@@ -1,7 +1,7 @@
 //! What may go to a path.
 ghost use Rattle.std.specs.Prelude.{◌≡◌, ◌∷◌, []};
 ghost use Rattle.eden_inode.specs.Tables.{shows};
-ghost use Rattle.eden_ops.specs.Caches.{IsStocked, FindsTheSame};
+ghost use Rattle.eden_cache.specs.Stock.{FindsTheSame};
 ghost use Rattle.eden_ops.specs.Keeping.{Keeps};
 ghost use Rattle.eden_ops.specs.Renames.{Lands, LandsShown};
 
@@ -10,7 +10,7 @@ use crate::emptied::is_empty;
 use crate::listing::bring_seen;
 use crate::meet::meet;
 use crate::what::what;
-use eden_cache::ObjectCache;
+use eden_cache::Stock;
 use eden_inode::Inodes;
 use eden_model::{Errno, Kind, Path, World};
 use eden_overlay::Files;
@@ -22,12 +22,11 @@ use std::alloc::{Allocator, Global};
 /// or a link over a directory, and `ENOTEMPTY` for a directory over one with entries, which is loaded for that.
 pub(crate) fn land<A: Allocator + Clone, W: World, F: Files<W>, C: Allocator + Clone>(
     inodes: &mut Inodes<A, W, F>,
-    cache: &mut ObjectCache<C>,
+    cache: &mut Stock<W, C>,
     alloc: Global,
     path: &Path,
     dir: bool,
 ) -> Result<(), Stop>
-    requires { IsStocked W.repository W.honest cache.old }
     ensures lands { Lands W.World F.Files path.now dir inodes.old inodes.new cache.new result }
     ensures shown { W.honest → LandsShown W.World F.Files path.now dir inodes.old result }
     ensures same { W.honest → shows W.World F.Files inodes.new ≡ shows W.World F.Files inodes.old }

@@ -4,7 +4,7 @@ ghost use Rattle.eden_model.specs.declared.kind.Kind.TheVariants as kind;
 ghost use Rattle.eden_model.specs.declared.request.Request.TheVariants as ask;
 ghost use Rattle.eden_inode.specs.Tables.{shows};
 ghost use Rattle.eden_ops.specs.Attempts.{Attempts, IsSeen, Lacks};
-ghost use Rattle.eden_ops.specs.Caches.{IsStocked, FindsTheSame};
+ghost use Rattle.eden_cache.specs.Stock.{FindsTheSame};
 ghost use Rattle.eden_ops.specs.Keeping.{Keeps};
 ghost use Rattle.eden_ops.specs.Known.{IsLoadedAt};
 ghost use Rattle.eden_ops.specs.Looks.{IsBeyondLimits};
@@ -17,7 +17,7 @@ use crate::laws::keeps_laws;
 use crate::meet::meet;
 use crate::pages::page_at;
 use crate::what::what;
-use eden_cache::ObjectCache;
+use eden_cache::Stock;
 use eden_inode::{Inodes, Seen};
 use eden_model::{Attempt, Errno, Fault, Kind, MAX_ENTRIES, Name, Path, Reply, World};
 use eden_overlay::Files;
@@ -26,14 +26,13 @@ use std::alloc::{Allocator, Global};
 /// Loads the directory that was seen at a path, unless it is loaded.
 pub(crate) fn bring_seen<A: Allocator + Clone, W: World, F: Files<W>, C: Allocator + Clone>(
     inodes: &mut Inodes<A, W, F>,
-    cache: &mut ObjectCache<C>,
+    cache: &mut Stock<W, C>,
     alloc: Global,
     path: &Path,
     seen: Seen,
 ) -> Result<(), Stop>
     requires seen { IsSeen path.now inodes.old.root seen }
     requires dir { (seen.loaded ≡ true) ⊎ (seen.kind ≡ kind.Dir) }
-    requires stocked { IsStocked W.repository W.honest cache.old }
     ensures ok { OnOk result (IsLoadedAt path.now inodes.new.root) }
     ensures away { OnErr result (seen.loaded ≡ false) }
     ensures still { OnErr result (inodes.new.root ≡ inodes.old.root) }
@@ -53,13 +52,12 @@ pub(crate) fn bring_seen<A: Allocator + Clone, W: World, F: Files<W>, C: Allocat
 /// whether others come after them.
 pub fn list<A: Allocator + Clone, W: World, F: Files<W>, C: Allocator + Clone>(
     inodes: &mut Inodes<A, W, F>,
-    cache: &mut ObjectCache<C>,
+    cache: &mut Stock<W, C>,
     alloc: Global,
     path: &Path,
     after: &Option<Name>,
     limit: u64,
 ) -> Attempt
-    requires { IsStocked W.repository W.honest cache.old }
     ensures attempts { Attempts W.World F.Files
         (ask.List path.now after.now limit) inodes.old inodes.new cache.old cache.new result }
     ensures keeps { Keeps W.World F.Files (path.now ∷ []) inodes.old inodes.new }

@@ -2,7 +2,6 @@
 ghost use Rattle.std.specs.Prelude.{◌≡◌};
 ghost use Rattle.eden_model.specs.Requests.{paths_of};
 ghost use Rattle.eden_ops.specs.Attempts.{Attempts};
-ghost use Rattle.eden_ops.specs.Caches.{IsStocked};
 ghost use Rattle.eden_ops.specs.Keeping.{Keeps};
 ghost use Rattle.eden_ops.specs.Looks.{IsLook, IsBeyondLimits};
 ghost use Rattle.eden_ops.specs.Stamps.{AreWalked};
@@ -12,7 +11,7 @@ use crate::links::readlink;
 use crate::listing::list;
 use crate::reading::read;
 use crate::sizes::stat;
-use eden_cache::ObjectCache;
+use eden_cache::Stock;
 use eden_inode::Inodes;
 use eden_model::{Attempt, Request, World};
 use eden_overlay::Files;
@@ -21,12 +20,11 @@ use std::alloc::{Allocator, Global};
 /// One attempt of a request that changes nothing: a `kind`, `stat`, `read`, `readlink` or `list`.
 pub fn look<A: Allocator + Clone, W: World, F: Files<W>, C: Allocator + Clone>(
     inodes: &mut Inodes<A, W, F>,
-    cache: &mut ObjectCache<C>,
+    cache: &mut Stock<W, C>,
     alloc: Global,
     request: &Request,
 ) -> Attempt
     requires look { IsLook request.now }
-    requires stocked { IsStocked W.repository W.honest cache.old }
     ensures attempts { Attempts W.World F.Files request.now inodes.old inodes.new cache.old cache.new result }
     ensures keeps { Keeps W.World F.Files (paths_of request.now) inodes.old inodes.new }
     ensures refused { IsBeyondLimits request.now → inodes.new ≡ inodes.old }

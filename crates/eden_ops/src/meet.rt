@@ -2,14 +2,14 @@
 ghost use Rattle.std.specs.Prelude.{◌≡◌, ◌∷◌, []};
 ghost use Rattle.eden_inode.specs.Tables.{shows};
 ghost use Rattle.eden_ops.specs.Attempts.{Meets, MeetsShown};
-ghost use Rattle.eden_ops.specs.Caches.{IsStocked, FindsTheSame};
+ghost use Rattle.eden_cache.specs.Stock.{FindsTheSame};
 ghost use Rattle.eden_ops.specs.Keeping.{Keeps};
 ghost use Rattle.eden_ops.specs.Stamps.{IsWalked};
 
 use crate::answer::Stop;
 use crate::bring::bring;
 use crate::laws::keeps_laws;
-use eden_cache::ObjectCache;
+use eden_cache::Stock;
 use eden_inode::{Inodes, Seen};
 use eden_model::{Errno, Kind, Name, Path, World};
 use eden_overlay::Files;
@@ -22,11 +22,10 @@ use std::alloc::{Allocator, Global};
 /// One look over the whole path, and one more for each directory that is loaded.
 fn pass<A: Allocator + Clone, W: World, F: Files<W>, C: Allocator + Clone>(
     inodes: &mut Inodes<A, W, F>,
-    cache: &mut ObjectCache<C>,
+    cache: &mut Stock<W, C>,
     alloc: Global,
     path: &[Name],
 ) -> Result<Option<Seen>, Stop>
-    requires { IsStocked W.repository W.honest cache.old }
     ensures meets { Meets W.World F.Files path.now inodes.old inodes.new cache.new result }
     ensures keeps { Keeps W.World F.Files (path.now ∷ []) inodes.old inodes.new }
     ensures cache { FindsTheSame cache.old cache.new }
@@ -56,11 +55,10 @@ fn pass<A: Allocator + Clone, W: World, F: Files<W>, C: Allocator + Clone>(
 /// What `pass` answers, and what that says of the tree that is shown.
 pub(crate) fn meet<A: Allocator + Clone, W: World, F: Files<W>, C: Allocator + Clone>(
     inodes: &mut Inodes<A, W, F>,
-    cache: &mut ObjectCache<C>,
+    cache: &mut Stock<W, C>,
     alloc: Global,
     path: &Path,
 ) -> Result<Option<Seen>, Stop>
-    requires { IsStocked W.repository W.honest cache.old }
     ensures meets { Meets W.World F.Files path.now inodes.old inodes.new cache.new result }
     ensures shown { W.honest → MeetsShown W.World F.Files path.now inodes.old inodes.new result }
     ensures same { W.honest → shows W.World F.Files inodes.new ≡ shows W.World F.Files inodes.old }

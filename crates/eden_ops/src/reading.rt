@@ -2,7 +2,6 @@
 ghost use Rattle.std.specs.Prelude.{◌≡◌, [], ◌∷◌};
 ghost use Rattle.eden_model.specs.declared.request.Request.TheVariants as ask;
 ghost use Rattle.eden_ops.specs.Attempts.{Attempts};
-ghost use Rattle.eden_ops.specs.Caches.{IsStocked};
 ghost use Rattle.eden_ops.specs.Keeping.{Keeps};
 ghost use Rattle.eden_ops.specs.Looks.{IsBeyondLimits};
 ghost use Rattle.eden_ops.specs.Stamps.{IsWalked};
@@ -10,7 +9,7 @@ ghost use Rattle.eden_ops.specs.Stamps.{IsWalked};
 use crate::contents::{Form, make};
 use crate::end::ended;
 use crate::file::meet_file;
-use eden_cache::ObjectCache;
+use eden_cache::Stock;
 use eden_inode::Inodes;
 use eden_model::{Attempt, Bytes, Errno, MAX_DATA, Path, Reply, World};
 use eden_overlay::Files;
@@ -19,13 +18,12 @@ use std::alloc::{Allocator, Global};
 /// The bytes of a file from the offset on, at most so many; over 65,536 is refused.
 pub fn read<A: Allocator + Clone, W: World, F: Files<W>, C: Allocator + Clone>(
     inodes: &mut Inodes<A, W, F>,
-    cache: &mut ObjectCache<C>,
+    cache: &mut Stock<W, C>,
     alloc: Global,
     path: &Path,
     offset: u64,
     count: u64,
 ) -> Attempt
-    requires { IsStocked W.repository W.honest cache.old }
     ensures attempts { Attempts W.World F.Files
         (ask.Read path.now offset count) inodes.old inodes.new cache.old cache.new result }
     ensures keeps { Keeps W.World F.Files (path.now ∷ []) inodes.old inodes.new }

@@ -1,15 +1,15 @@
 //! Entries that are removed.
 ghost use Rattle.eden_model.specs.declared.request.Request.TheVariants as ask;
 ghost use Rattle.eden_ops.specs.Attempts.{Attempts};
-ghost use Rattle.eden_ops.specs.Caches.{IsStocked};
 ghost use Rattle.eden_ops.specs.Leaving.{LeavesAfter};
+ghost use Rattle.eden_ops.specs.Stamps.{StampsItsWalk};
 
 use crate::end::ended;
 use crate::laws::keeps_laws;
 use crate::meet::meet;
 use crate::settling::settle;
 use crate::what::what;
-use eden_cache::ObjectCache;
+use eden_cache::Stock;
 use eden_inode::Inodes;
 use eden_materialise::remove_entry;
 use eden_model::{Attempt, Errno, Kind, Path, Reply, World};
@@ -20,13 +20,13 @@ use std::alloc::{Allocator, Global};
 /// Removes a file or a link.
 pub fn unlink<A: Allocator + Clone, W: World, F: Files<W>, C: Allocator + Clone>(
     inodes: &mut Inodes<A, W, F>,
-    cache: &mut ObjectCache<C>,
+    cache: &mut Stock<W, C>,
     alloc: Global,
     path: &Path,
 ) -> Attempt
-    requires { IsStocked W.repository W.honest cache.old }
     ensures attempts { Attempts W.World F.Files (ask.Unlink path.now) inodes.old inodes.new cache.old cache.new result }
     ensures leaves { LeavesAfter W.World F.Files (ask.Unlink path.now) inodes.old inodes.new result }
+    ensures stamps { StampsItsWalk (ask.Unlink path.now) inodes.old.clock inodes.old.root inodes.new.root result }
 {
     let Some((name, above)) = path.as_slice().split_last() else {
         return Attempt::Finished(Reply::Err(Errno::EISDIR));

@@ -3,7 +3,6 @@ ghost use Rattle.std.specs.Prelude.{◌≡◌};
 ghost use Rattle.eden_model.specs.declared.request.Request.TheVariants as ask;
 ghost use Rattle.eden_model.specs.Operations.{is_front};
 ghost use Rattle.eden_ops.specs.Attempts.{Attempts};
-ghost use Rattle.eden_ops.specs.Caches.{IsStocked};
 ghost use Rattle.eden_ops.specs.Leaving.{LeavesAfter};
 ghost use Rattle.eden_ops.specs.Renames.{IsTold, IsByPaths};
 
@@ -12,7 +11,7 @@ use crate::landing::land;
 use crate::meet::meet;
 use crate::relocating::relocate;
 use crate::what::what;
-use eden_cache::ObjectCache;
+use eden_cache::Stock;
 use eden_inode::{Inodes, Seen};
 use eden_model::{Attempt, Errno, Kind, Name, Path, Reply, World};
 use eden_overlay::Files;
@@ -71,12 +70,11 @@ fn by_paths(from: &Path, to: &Path, dir: bool) -> Option<Reply>
 /// After a fault the directory above the entry may be left unsaved.
 pub fn rename<A: Allocator + Clone, W: World, F: Files<W>, C: Allocator + Clone>(
     inodes: &mut Inodes<A, W, F>,
-    cache: &mut ObjectCache<C>,
+    cache: &mut Stock<W, C>,
     alloc: Global,
     from: &Path,
     to: &Path,
 ) -> Attempt
-    requires { IsStocked W.repository W.honest cache.old }
     ensures attempts { Attempts W.World F.Files
         (ask.Rename from.now to.now) inodes.old inodes.new cache.old cache.new result }
     ensures leaves { LeavesAfter W.World F.Files (ask.Rename from.now to.now) inodes.old inodes.new result }

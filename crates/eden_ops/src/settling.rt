@@ -1,5 +1,6 @@
 //! What an earlier fault left unsaved, stored before a change.
 ghost use Rattle.std.specs.Prelude.{◌≡◌, OnOk};
+ghost use Rattle.eden_tie.specs.Kept.{IsTable};
 ghost use Rattle.eden_tie.specs.Saving.{IsSavedAbove};
 ghost use Rattle.eden_ops.specs.Settling.{Settles};
 
@@ -21,6 +22,9 @@ pub(crate) fn settle<A: Allocator + Clone, W: World, F: Files<W>>(
     ensures settles { Settles W.World F.Files inodes.old inodes.new result }
     ensures saved { OnOk result (IsSavedAbove path.now inodes.new.root) }
     ensures idle { IsSavedAbove path.now inodes.old.root → inodes.new ≡ inodes.old }
+    ensures table { IsTable inodes.new.root inodes.new.next }
 {
-    save_above(inodes, alloc, path)
+    let saved = save_above(inodes, alloc, path);
+    inodes.holds();
+    saved
 }

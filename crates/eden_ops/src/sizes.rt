@@ -6,7 +6,7 @@ ghost use Rattle.eden_model.specs.declared.request.Request.TheVariants as ask;
 ghost use Rattle.eden_inode.specs.Tables.{shows};
 ghost use Rattle.eden_ops.specs.declared.answer.Stop.TheVariants as stops;
 ghost use Rattle.eden_ops.specs.Attempts.{Attempts, Lacks};
-ghost use Rattle.eden_ops.specs.Caches.{IsStocked, FindsTheSame, IsSize, object_at, size_at};
+ghost use Rattle.eden_cache.specs.Stock.{FindsTheSame, IsSize, object_at, size_at};
 ghost use Rattle.eden_ops.specs.Contents.{HasContent, HasLength};
 ghost use Rattle.eden_ops.specs.Keeping.{Keeps};
 ghost use Rattle.eden_ops.specs.Stamps.{IsWalked};
@@ -16,15 +16,14 @@ use crate::end::ended;
 use crate::laws::keeps_laws;
 use crate::meet::meet;
 use crate::what::what;
-use eden_cache::{ObjectCache, cache_laws};
+use eden_cache::{Stock, cache_laws};
 use eden_inode::Inodes;
 use eden_model::{Attempt, Errno, Id, Key, Kind, ObjKind, Origin, Path, Reply, World};
 use eden_overlay::Files;
 use std::alloc::{Allocator, Global};
 
 /// The length of a cached blob.
-fn blob_size<W: World, C: Allocator + Clone>(cache: &mut ObjectCache<C>, id: Id) -> Option<u64>
-    requires { IsStocked W.repository W.honest cache.old }
+fn blob_size<W: World, C: Allocator + Clone>(cache: &mut Stock<W, C>, id: Id) -> Option<u64>
     ensures finds { FindsTheSame cache.old cache.new }
     ensures size { MatchOption result (object_at cache.old (record { kind = objects.Blob; id = id }) ≡ None)
         (λ n. W.honest → IsSize W.repository id n) }
@@ -38,8 +37,7 @@ fn blob_size<W: World, C: Allocator + Clone>(cache: &mut ObjectCache<C>, id: Id)
 }
 
 /// The length of a blob that is kept.
-fn kept_size<W: World, C: Allocator + Clone>(cache: &mut ObjectCache<C>, id: Id) -> Option<u64>
-    requires { IsStocked W.repository W.honest cache.old }
+fn kept_size<W: World, C: Allocator + Clone>(cache: &mut Stock<W, C>, id: Id) -> Option<u64>
     ensures finds { FindsTheSame cache.old cache.new }
     ensures size { MatchOption result (size_at cache.old id ≡ None) (λ n. W.honest → IsSize W.repository id n) }
 {
@@ -48,21 +46,17 @@ fn kept_size<W: World, C: Allocator + Clone>(cache: &mut ObjectCache<C>, id: Id)
 }
 
 /// The length of a blob, kept or cached. The only stop is the want of it.
-fn object_size<W: World, C: Allocator + Clone>(
-    cache: &mut ObjectCache<C>,
-    id: Id,
-) -> Result<u64, Stop>
-    requires { IsStocked W.repository W.honest cache.old }
+fn object_size<W: World, C: Allocator + Clone>(cache: &mut Stock<W, C>, id: Id) -> Result<u64, Stop>
     ensures finds { FindsTheSame cache.old cache.new }
     ensures ok { W.honest → IfOk result (IsSize W.repository id) }
     ensures err { IfErr result (λ z. z ≡ stops.Needs (record { kind = objects.Blob; id = id })) }
     ensures lacks { OnErr result (object_at cache.new (record { kind = objects.Blob; id = id }) ≡ None) }
     ensures unkept { OnErr result (size_at cache.new id ≡ None) }
 {
-    if let Some(size) = kept_size::<W, C>(cache, id) {
+    if let Some(size) = kept_size(cache, id) {
         return Ok(size);
     }
-    match blob_size::<W, C>(cache, id) {
+    match blob_size(cache, id) {
         Some(size) => Ok(size),
         None => {
             let kind = ObjKind::Blob;
@@ -74,12 +68,11 @@ fn object_size<W: World, C: Allocator + Clone>(
 /// The length of the content of the file or link at a path, which comes from that origin. No body of an own file is read.
 fn size<A: Allocator + Clone, W: World, F: Files<W>, C: Allocator + Clone>(
     inodes: &mut Inodes<A, W, F>,
-    cache: &mut ObjectCache<C>,
+    cache: &mut Stock<W, C>,
     path: &Path,
     origin: Origin,
 ) -> Result<u64, Stop>
     requires content { HasContent path.now inodes.old.root origin }
-    requires stocked { IsStocked W.repository W.honest cache.old }
     ensures ok { IfOk result (HasLength W.World F.Files path.now inodes.old) }
     ensures lacks { IfErr result (Lacks W.World F.Files path.now inodes.old inodes.new cache.new) }
     ensures unkept { (k : key.Key) → result ≡ Err (stops.Needs k) → size_at cache.new k.id ≡ None }
@@ -93,18 +86,17 @@ fn size<A: Allocator + Clone, W: World, F: Files<W>, C: Allocator + Clone>(
     match origin {
         Origin::Empty => unreachable!(),
         Origin::Own => Ok(inodes.content_len(path.as_slice())?),
-        Origin::Object(id) => object_size::<W, C>(cache, id),
+        Origin::Object(id) => object_size(cache, id),
     }
 }
 
 /// What stands at the path, and the length of its content; 0 for a directory.
 pub fn stat<A: Allocator + Clone, W: World, F: Files<W>, C: Allocator + Clone>(
     inodes: &mut Inodes<A, W, F>,
-    cache: &mut ObjectCache<C>,
+    cache: &mut Stock<W, C>,
     alloc: Global,
     path: &Path,
 ) -> Attempt
-    requires { IsStocked W.repository W.honest cache.old }
     ensures attempts { Attempts W.World F.Files (ask.Stat path.now) inodes.old inodes.new cache.old cache.new result }
     ensures keeps { Keeps W.World F.Files (path.now ∷ []) inodes.old inodes.new }
     ensures walked { IsWalked path.now inodes.new.clock inodes.new.root }

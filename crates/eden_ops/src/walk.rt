@@ -1,11 +1,10 @@
 //! The walk over the directories above a path.
 ghost use Rattle.eden_ops.specs.Attempts.{Reaches, EndsShown};
-ghost use Rattle.eden_ops.specs.Caches.{IsStocked};
 ghost use Rattle.eden_ops.specs.Stamps.{IsWalked};
 
 use crate::answer::{Stop, Walked};
 use crate::meet::meet;
-use eden_cache::ObjectCache;
+use eden_cache::Stock;
 use eden_inode::Inodes;
 use eden_model::{Path, World};
 use eden_overlay::Files;
@@ -16,11 +15,10 @@ use std::alloc::{Allocator, Global};
 /// Where they are loaded already, it takes one look-up for each name and no memory.
 pub fn reach<A: Allocator + Clone, W: World, F: Files<W>, C: Allocator + Clone>(
     inodes: &mut Inodes<A, W, F>,
-    cache: &mut ObjectCache<C>,
+    cache: &mut Stock<W, C>,
     alloc: Global,
     path: &Path,
 ) -> Walked
-    requires { IsStocked W.repository W.honest cache.old }
     ensures reaches { Reaches W.World F.Files path.now inodes.old inodes.new cache.old cache.new result }
     ensures shown { W.honest → EndsShown W.World F.Files path.now inodes.old result }
     ensures walked { IsWalked path.now inodes.new.clock inodes.new.root }

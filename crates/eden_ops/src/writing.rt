@@ -2,15 +2,15 @@
 ghost use Rattle.std.specs.Prelude.{◌≡◌};
 ghost use Rattle.eden_model.specs.declared.request.Request.TheVariants as ask;
 ghost use Rattle.eden_ops.specs.Attempts.{Attempts};
-ghost use Rattle.eden_ops.specs.Caches.{IsStocked};
 ghost use Rattle.eden_ops.specs.Leaving.{LeavesAfter};
 ghost use Rattle.eden_ops.specs.Looks.{IsBeyondLimits};
+ghost use Rattle.eden_ops.specs.Stamps.{StampsItsWalk};
 
 use crate::contents::{Form, make};
 use crate::end::ended;
 use crate::file::meet_file;
 use crate::fill::fill;
-use eden_cache::ObjectCache;
+use eden_cache::Stock;
 use eden_inode::Inodes;
 use eden_model::{Attempt, Errno, MAX_DATA, MAX_FILE, Path, Reply, World};
 use eden_overlay::Files;
@@ -20,15 +20,16 @@ use std::alloc::{Allocator, Global};
 /// leaves the file as it was.
 pub fn truncate<A: Allocator + Clone, W: World, F: Files<W>, C: Allocator + Clone>(
     inodes: &mut Inodes<A, W, F>,
-    cache: &mut ObjectCache<C>,
+    cache: &mut Stock<W, C>,
     alloc: Global,
     path: &Path,
     size: u64,
 ) -> Attempt
-    requires { IsStocked W.repository W.honest cache.old }
     ensures attempts { Attempts W.World F.Files
         (ask.Truncate path.now size) inodes.old inodes.new cache.old cache.new result }
     ensures leaves { LeavesAfter W.World F.Files (ask.Truncate path.now size) inodes.old inodes.new result }
+    ensures stamps { StampsItsWalk (ask.Truncate path.now size)
+        inodes.old.clock inodes.old.root inodes.new.root result }
 {
     let seen = match meet_file(inodes, cache, alloc, path) {
         Err(stop) => return ended(stop),
@@ -58,16 +59,17 @@ pub fn truncate<A: Allocator + Clone, W: World, F: Files<W>, C: Allocator + Clon
 /// isn't fetched and nothing changes. A fault leaves the file as it was.
 pub fn write<A: Allocator + Clone, W: World, F: Files<W>, C: Allocator + Clone>(
     inodes: &mut Inodes<A, W, F>,
-    cache: &mut ObjectCache<C>,
+    cache: &mut Stock<W, C>,
     alloc: Global,
     path: &Path,
     offset: u64,
     bytes: &[u8],
 ) -> Attempt
-    requires { IsStocked W.repository W.honest cache.old }
     ensures attempts { Attempts W.World F.Files
         (ask.Write path.now offset bytes.now) inodes.old inodes.new cache.old cache.new result }
     ensures leaves { LeavesAfter W.World F.Files (ask.Write path.now offset bytes.now) inodes.old inodes.new result }
+    ensures stamps { StampsItsWalk (ask.Write path.now offset bytes.now)
+        inodes.old.clock inodes.old.root inodes.new.root result }
     ensures refused { IsBeyondLimits (ask.Write path.now offset bytes.now) → inodes.new ≡ inodes.old }
 {
     let count = bytes.len() as u64;

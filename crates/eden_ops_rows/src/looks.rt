@@ -1,6 +1,6 @@
 //! Requests that change nothing: what each needs, and its reply once that is cached.
 
-use crate::mount::{Mount, is_stocked, key_of};
+use crate::mount::{Mount, key_of};
 use crate::paths::path;
 use crate::steps::{Ask, D, Names, ROOT, Row, Step, TEST, Want, check_all};
 use eden_model::{Errno, Kind, Path};
@@ -154,7 +154,6 @@ fn looks_need_objects_and_are_answered(rt: HostRuntime) {
 
 /// How far a walk to a path comes.
 fn walk(mount: &mut Mount, at: &Path) -> Walked {
-    is_stocked(&mount.cache);
     reach(&mut mount.table, &mut mount.cache, mount.alloc, at)
 }
 

@@ -1,9 +1,6 @@
 //! A table over files that stop, with its object cache, and one attempt of any request on it.
 
-ghost use Rattle.eden_model.specs.Repository.{Repository};
-ghost use Rattle.eden_ops.specs.Caches.{IsStocked};
-
-use eden_cache::ObjectCache;
+use eden_cache::{ObjectCache, Stock};
 use eden_inode::Inodes;
 use eden_model::{Attempt, Key, Origin, Outside, Reply, Request};
 use eden_object::Object;
@@ -35,7 +32,7 @@ pub(crate) type Table = Inodes<Global, Outside, StopFiles<MemoryFiles<Outside>>>
 pub(crate) struct Mount {
     pub(crate) alloc: Global,
     pub(crate) table: Table,
-    pub(crate) cache: ObjectCache<Global>,
+    pub(crate) cache: Stock<Outside, Global>,
     pub(crate) calls: Rc<Cell<u64>>,
 }
 
@@ -44,13 +41,6 @@ pub(crate) fn key_of(object: Sample) -> Key {
         kind: object.kind,
         id: object.id,
     }
-}
-
-/// Of an outside that is never honest nothing has to be known of what is cached.
-pub(crate) fn is_stocked(cache: &ObjectCache<Global>)
-    ensures { (R : Repository) → IsStocked R ⊥ cache.now }
-{
-    let _ = cache.usage();
 }
 
 /// The object of a key.
@@ -82,16 +72,16 @@ impl Mount {
         let shared = calls.clone().expect(rt, "memory");
         let files = StopFiles::new(MemoryFiles::<Outside>::new(alloc), shared);
         let overlay = Overlay::new(files).keeping(kept);
+        let cache = ObjectCache::new(alloc, objects, 1 << 20, 8).expect(rt, "memory");
         Mount {
             alloc,
             table: Inodes::new(alloc, overlay, Origin::Object(root.id), 2),
-            cache: ObjectCache::new(alloc, objects, 1 << 20, 8).expect(rt, "memory"),
+            cache: Stock::new(cache),
             calls,
         }
     }
 
     pub(crate) fn attempt(&mut self, request: &Request) -> Attempt {
-        is_stocked(&self.cache);
         attempt(&mut self.table, &mut self.cache, self.alloc, request)
     }
 

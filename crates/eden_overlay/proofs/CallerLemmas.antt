@@ -1,4 +1,12 @@
 -- What callers' proofs cite beside `overlay_laws`.
+use denote.RattleType.{RattleType}
+use denote.Param.Send.{IsSend}
+use Rattle.eden_model.specs.declared.world.World.{Ghosts}
+use Rattle.eden_overlay.specs.declared.files.Files.{Ghosts as Files}
+use Rattle.eden_overlay.specs.contracts.memory.MemoryFiles
+use Rattle.eden_overlay.specs.contracts.overlay.Overlay
+use Rattle.eden_overlay.proofs.memory.MemoryFiles.TheSendSync as memory
+use Rattle.eden_overlay.proofs.overlay.Overlay.TheSendSync as overlay
 pub use Rattle.eden_overlay.proofs.Puts.{put_here, put_apart, same_or_apart, moved, names_moved, kind_moved, one_held, one_kind, held_storable, nothing_there}
 pub use Rattle.eden_overlay.proofs.Directories.{apart, named, kind_kept, was_named}
 pub use Rattle.eden_overlay.proofs.Cycles.{joined, no_cycle}
@@ -16,3 +24,12 @@ pub use Rattle.eden_overlay.proofs.Lengths.{length_held, no_length}
 pub use Rattle.eden_overlay.proofs.Tidied.{root_stays, named_stays, live_before, named_before, still_sound}
 -- a count that rose later rose
 pub use Rattle.eden_overlay.proofs.Accusing.{risen}
+
+module _ (W : RattleType) (w : Ghosts W.Denot) where
+  -- an overlay may go to another thread where its files may
+  pub Overlay-send : (F : RattleType) (f : Files F.Denot W.Denot) → IsSend F → IsSend (Overlay.the_row W F w f)
+  Overlay-send F f = overlay.the_send W F w f
+
+  -- files in memory may
+  pub MemoryFiles-send : IsSend (MemoryFiles.the_row W w)
+  MemoryFiles-send = memory.the_send W w

@@ -1,4 +1,10 @@
 -- What callers' proofs cite of a directory, its rows and its paths.
+use denote.Param.Send.{IsSend, sendable}
+use Rattle.std.proofs.Crossing
+use Rattle.std.specs.contracts.alloc.Global as Heap
+use Rattle.std.specs.contracts.impls.GlobalAllocator.TheImpl.{ghosts}
+use Rattle.eden_tree.specs.contracts.dir.Entry
+use Rattle.eden_tree.proofs.dir.Dir.TheLaws.TheKnot as knot
 pub use Rattle.eden_tree.proofs.NameOrder.{order, same-≡, same-≢, same-refl, same-sym, same-both}
 -- an entry's directory, as its field has it
 pub use Rattle.eden_tree.proofs.Children.{held, held_some, held_none, row_size-held, child_of-with_child, with_child-child_of}
@@ -16,3 +22,7 @@ pub use Rattle.eden_tree.proofs.Edits.{steps_down, steps_back, put_back, row_at-
 pub use Rattle.eden_tree.proofs.Positions.{row_size-slice_get, row_size-find_row, directory_size-child_of}
 -- stamps
 pub use Rattle.eden_tree.proofs.Edits.{stamps_along, stamped_along-unloaded, stamped_along-end, stamped_along-absent, stamped_along-found}
+
+-- an entry at the heap, with all that is loaded in it, may go to another thread
+pub Entry-send : IsSend (Entry.the_row Heap.the_row ghosts)
+Entry-send = search (knot.crosses, Crossing.crosses, sendable) depth 60

@@ -27,6 +27,8 @@ use Rattle.eden_ops.proofs.Leaving.{none_given, leaves_kept, leaves_changed}
 use Rattle.eden_ops.proofs.Saving.{leaves_by, no_less}
 use Rattle.eden_ops.proofs.Settled.{row_none, walk_still, settles_leaves, leaves_then, saved_on}
 use Rattle.eden_ops.proofs.Seeing.{kept_dirs}
+use Rattle.eden_ops.specs.Stamps.{AreWalked}
+use Rattle.eden_ops.proofs.Stamped.{stamps_on, stamps_same, alike_stamps, chained_stamps, stamps_refused, stamps_then, stamps_kept}
 use Rattle.eden_ops.proofs.adding.add.Goals as goal
 
 pub returns-in-Err-clause-attempts : goal.returns-in-Err-clause-attempts
@@ -180,3 +182,50 @@ returns-in-Ok-Some-clause-attempts g c q adding =
 
 pub returns-in_default-clause-leaves : goal.returns-in_default-clause-leaves
 returns-in_default-clause-leaves g c q adding = leaves_kept g.W.World g.F.Files q c.args.inodes.now c.args.inodes.now same _
+
+pub returns-in-Err-clause-stamps : goal.returns-in-Err-clause-stamps
+returns-in-Err-clause-stamps g c q adding = stamps_kept g.W.World g.F.Files q c.args.inodes.now c.meet.new.inodes
+    (adds_keeps g.W.World g.F.Files c.args.path.now q c.args.new adding c.args.inodes.now c.meet.new.inodes c.meet.ensures.keeps)
+    (subst (λ (ps : List Path). AreWalked ps c.meet.new.inodes.clock c.meet.new.inodes.root) (sym (adds_path c.args.path.now q c.args.new adding)) (c.meet.ensures.walked, tt)) _
+
+pub returns-in-Ok-Some-clause-stamps : goal.returns-in-Ok-Some-clause-stamps
+returns-in-Ok-Some-clause-stamps g c q adding = stamps_kept g.W.World g.F.Files q c.args.inodes.now c.meet.new.inodes
+    (adds_keeps g.W.World g.F.Files c.args.path.now q c.args.new adding c.args.inodes.now c.meet.new.inodes c.meet.ensures.keeps)
+    (subst (λ (ps : List Path). AreWalked ps c.meet.new.inodes.clock c.meet.new.inodes.root) (sym (adds_path c.args.path.now q c.args.new adding)) (c.meet.ensures.walked, tt)) _
+
+pub returns-in-Err-settle-clause-stamps : goal.returns-in-Err-settle-clause-stamps
+returns-in-Err-settle-clause-stamps g c q adding = stamps_then g.W.World g.F.Files q c.args.inodes.now c.meet.new.inodes
+    (adds_keeps g.W.World g.F.Files c.args.path.now q c.args.new adding c.args.inodes.now c.meet.new.inodes c.meet.ensures.keeps)
+    (subst (λ (ps : List Path). AreWalked ps c.meet.new.inodes.clock c.meet.new.inodes.root) (sym (adds_path c.args.path.now q c.args.new adding))
+    (c.meet.ensures.walked, tt)) c.settle.new.inodes _ (alike_stamps c.meet.new.inodes.root c.settle.new.inodes.root c.in-Err-settle.ensures.settles.alike)
+
+pub returns-in-Ok-clause-stamps : goal.returns-in-Ok-clause-stamps
+returns-in-Ok-clause-stamps g c q adding =
+    let t = c.meet.new.inodes in
+    let v = c.settle.new.inodes in
+    let u = c.add_entry.new.inodes in
+    let p = c.args.path.now in
+    let above = c.in-Some.above.now in
+    let name = c.in-Some.name.now in
+    let st = c.settle.ensures.settles in
+    let met = subst (λ (o : Option Seen). Meets g.W.World g.F.Files p c.args.inodes.now t c.meet.new.cache (Ok o)) c.in-Ok-None.field-0-is c.in-Ok-None.ensures.meets in
+    let lacks = lacks_entry p above name v.root (sym c.as_slice.ensures ∙ c.in-Some.ensures.cases.0) (walk_still t.root v.root st.alike p ∙ met.0) (row_none t.root v.root st.alike p met.1) in
+    let none = chained_stamps v.root v.next c.settle.ensures.table above name (Some (own_row v.next c.args.new)) refl lacks.row lacks.directory lacks.at lacks.holds u.root
+    (c.in-Ok.ensures.ok lacks.row lacks.directory lacks.at lacks.holds) in
+    stamps_then g.W.World g.F.Files q c.args.inodes.now c.meet.new.inodes
+    (adds_keeps g.W.World g.F.Files c.args.path.now q c.args.new adding c.args.inodes.now c.meet.new.inodes c.meet.ensures.keeps)
+    (subst (λ (ps : List Path). AreWalked ps c.meet.new.inodes.clock c.meet.new.inodes.root) (sym (adds_path c.args.path.now q c.args.new adding)) (c.meet.ensures.walked, tt)) u _
+    (stamps_on t.root v.root u.root (alike_stamps t.root v.root st.alike) none)
+
+pub returns-in-Err-add_entry-clause-stamps : goal.returns-in-Err-add_entry-clause-stamps
+returns-in-Err-add_entry-clause-stamps g c q adding =
+    let t = c.meet.new.inodes in
+    let v = c.settle.new.inodes in
+    let u = c.add_entry.new.inodes in
+    stamps_then g.W.World g.F.Files q c.args.inodes.now c.meet.new.inodes
+    (adds_keeps g.W.World g.F.Files c.args.path.now q c.args.new adding c.args.inodes.now c.meet.new.inodes c.meet.ensures.keeps)
+    (subst (λ (ps : List Path). AreWalked ps c.meet.new.inodes.clock c.meet.new.inodes.root) (sym (adds_path c.args.path.now q c.args.new adding)) (c.meet.ensures.walked, tt)) u _
+    (stamps_on t.root v.root u.root (alike_stamps t.root v.root c.settle.ensures.settles.alike) (stamps_same v.root u.root c.in-Err-add_entry.ensures.err))
+
+pub returns-in_default-clause-stamps : goal.returns-in_default-clause-stamps
+returns-in_default-clause-stamps g c q adding = stamps_refused g.W.World g.F.Files q c.args.inodes.now c.args.inodes.now same _ EEXIST refl

@@ -1,6 +1,6 @@
 use Rattle.std.proofs.Common.{length, sym, refl, ◌∙◌}
 use Rattle.std.proofs.lemmas.Bool.{eqb-false}
-use Rattle.eden_model.specs.declared.errno.Errno.TheVariants.{ENOENT}
+use Rattle.eden_model.specs.declared.errno.Errno.TheVariants.{ENAMETOOLONG, ENOENT}
 use Rattle.eden_model.specs.declared.reply.Reply.TheVariants as say
 use Rattle.eden_model.specs.declared.request.Request.TheVariants as ask
 use Rattle.eden_ops.specs.Changes.{link}
@@ -9,10 +9,12 @@ use Rattle.eden_ops.proofs.Answering.{answered}
 use Rattle.eden_ops.proofs.Finding.{finds_same}
 use Rattle.eden_ops.proofs.Leaving.{leaves_kept}
 use Rattle.eden_ops.proofs.Looking.{some_at_most}
+use Rattle.eden_ops.proofs.Stamped.{stamps_refused}
 use Rattle.eden_ops.proofs.adding.symlink.Goals as goal
 
-pub add-requires-clause-asked : goal.add-requires-clause-asked
-add-requires-clause-asked g c = (ask.Symlink c.args.path.now c.args.target.now, link c.args.target (eqb-false (length c.args.target.now) 0 (sym c.if-is_empty.ensures)) c.if-target-gt-MAX_TARGET.false)
+pub add-requires : goal.add-requires
+add-requires g c =
+    record { asked = (ask.Symlink c.args.path.now c.args.target.now, link c.args.target (eqb-false (length c.args.target.now) 0 (sym c.if-is_empty.ensures)) c.if-target-gt-MAX_TARGET.false) }
 
 pub returns-clause-attempts : goal.returns-clause-attempts
 returns-clause-attempts g c = c.add.ensures.attempts (ask.Symlink c.args.path.now c.args.target.now)
@@ -37,3 +39,13 @@ returns-then-is_empty-clause-attempts g c =
 
 pub returns-clause-refused : goal.returns-clause-refused
 returns-clause-refused g c beyond = absurd (some_at_most (length c.args.target.now) 4095 (eqb-false (length c.args.target.now) 0 (sym c.if-is_empty.ensures)) c.if-target-gt-MAX_TARGET.false beyond)
+
+pub returns-clause-stamps : goal.returns-clause-stamps
+returns-clause-stamps g c = c.add.ensures.stamps (ask.Symlink c.args.path.now c.args.target.now)
+    (link c.args.target (eqb-false (length c.args.target.now) 0 (sym c.if-is_empty.ensures)) c.if-target-gt-MAX_TARGET.false)
+
+pub returns-then-is_empty-clause-stamps : goal.returns-then-is_empty-clause-stamps
+returns-then-is_empty-clause-stamps g c = stamps_refused g.W.World g.F.Files (ask.Symlink c.args.path.now c.args.target.now) c.args.inodes.now c.args.inodes.now same _ ENOENT refl
+
+pub returns-then-target-gt-MAX_TARGET-clause-stamps : goal.returns-then-target-gt-MAX_TARGET-clause-stamps
+returns-then-target-gt-MAX_TARGET-clause-stamps g c = stamps_refused g.W.World g.F.Files (ask.Symlink c.args.path.now c.args.target.now) c.args.inodes.now c.args.inodes.now same _ ENAMETOOLONG refl

@@ -1,5 +1,5 @@
 use Rattle.std.proofs.Common.{le_trans, ◌≡◌, true, Option, Some, None, Ok, sym, refl, subst, ap, ◌∙◌}
-use Rattle.eden_model.specs.declared.errno.Errno.TheVariants.{ENOTDIR, ENOTEMPTY}
+use Rattle.eden_model.specs.declared.errno.Errno.TheVariants.{EBUSY, ENOTDIR, ENOTEMPTY}
 use Rattle.eden_model.specs.declared.node.Node.{Node}
 use Rattle.eden_model.specs.declared.node.Node.TheVariants.{Dir}
 use Rattle.eden_model.specs.declared.reply.Reply.TheVariants as say
@@ -38,6 +38,8 @@ use Rattle.eden_ops.proofs.Steps.{keeps_on, keeps_counts}
 use Rattle.eden_ops.proofs.Settled.{row_still, settles_leaves, leaves_then, saved_on}
 use Rattle.eden_ops.proofs.Telling.{met_tells}
 use Rattle.eden_ops.proofs.Walking.{known_unloaded}
+use Rattle.eden_ops.proofs.Stamped.{stamps_on, stamps_same, alike_stamps, left_stamps, chained_stamps, stamps_refused, stamps_then, stamps_kept}
+use Rattle.eden_ops.proofs.Stamps.{walked_on}
 use Rattle.eden_ops.proofs.emptied.rmdir.Goals as goal
 
 -- ---- the walk ends before, or nothing is there
@@ -84,6 +86,7 @@ returns-in-File g c =
           (asks_rmdir p (not_root p c.in-Some.above.now c.in-Some.name.now split)) c.args.cache.now e.same e.keeps e.cache e.shown (say.Err ENOTDIR) refl (λ T. refl)
           (λ k a listed is on. lists_other (IfEmpty (shows g.W.World g.F.Files s) p) k a listed (λ dir. no_dir c.what.result c.in-File.is (sym other.1 ∙ sym is ∙ dir)));
       leaves = leaves_kept g.W.World g.F.Files (ask.Rmdir p) s t e.keeps _;
+      stamps = stamps_kept g.W.World g.F.Files (ask.Rmdir p) s t e.keeps (e.walked, tt) _;
     }
 
 pub returns-in-Err-bring_seen-clause-attempts : goal.returns-in-Err-bring_seen-clause-attempts
@@ -291,3 +294,78 @@ returns-in-Err-remove_entry-clause-leaves g c =
 
 pub returns-in_default-clause-leaves : goal.returns-in_default-clause-leaves
 returns-in_default-clause-leaves g c = leaves_kept g.W.World g.F.Files (ask.Rmdir c.args.path.now) c.args.inodes.now c.args.inodes.now same _
+
+pub returns-in-Err-clause-stamps : goal.returns-in-Err-clause-stamps
+returns-in-Err-clause-stamps g c = stamps_kept g.W.World g.F.Files (ask.Rmdir c.args.path.now) c.args.inodes.now c.meet.new.inodes c.meet.ensures.keeps (c.meet.ensures.walked, tt) _
+
+pub returns-in-Ok-None-clause-stamps : goal.returns-in-Ok-None-clause-stamps
+returns-in-Ok-None-clause-stamps g c = stamps_kept g.W.World g.F.Files (ask.Rmdir c.args.path.now) c.args.inodes.now c.meet.new.inodes c.meet.ensures.keeps (c.meet.ensures.walked, tt) _
+
+pub returns-in-Err-bring_seen-clause-stamps : goal.returns-in-Err-bring_seen-clause-stamps
+returns-in-Err-bring_seen-clause-stamps g c =
+    stamps_kept g.W.World g.F.Files (ask.Rmdir c.args.path.now) c.args.inodes.now c.bring_seen.new.inodes
+    (keeps_on g.W.World g.F.Files c.args.inodes.now c.meet.new.inodes c.bring_seen.new.inodes c.meet.ensures.keeps c.bring_seen.ensures.keeps)
+    (walked_on g.W.World g.F.Files c.args.path.now c.meet.new.inodes c.bring_seen.new.inodes c.meet.ensures.walked c.bring_seen.ensures.keeps, tt) _
+
+pub returns-then-not-is_empty-clause-stamps : goal.returns-then-not-is_empty-clause-stamps
+returns-then-not-is_empty-clause-stamps g c =
+    stamps_kept g.W.World g.F.Files (ask.Rmdir c.args.path.now) c.args.inodes.now c.bring_seen.new.inodes
+    (keeps_on g.W.World g.F.Files c.args.inodes.now c.meet.new.inodes c.bring_seen.new.inodes c.meet.ensures.keeps c.bring_seen.ensures.keeps)
+    (walked_on g.W.World g.F.Files c.args.path.now c.meet.new.inodes c.bring_seen.new.inodes c.meet.ensures.walked c.bring_seen.ensures.keeps, tt) _
+
+pub returns-in-Err-let_go-clause-stamps : goal.returns-in-Err-let_go-clause-stamps
+returns-in-Err-let_go-clause-stamps g c =
+    let u = c.bring_seen.new.inodes in
+    let v = c.let_go.new.inodes in
+    let goes = subst (λ (q : Path). LetsGo q u.root v.root) c.as_slice-2.ensures c.let_go.ensures.goes in
+    stamps_then g.W.World g.F.Files (ask.Rmdir c.args.path.now) c.args.inodes.now c.bring_seen.new.inodes
+    (keeps_on g.W.World g.F.Files c.args.inodes.now c.meet.new.inodes c.bring_seen.new.inodes c.meet.ensures.keeps c.bring_seen.ensures.keeps)
+    (walked_on g.W.World g.F.Files c.args.path.now c.meet.new.inodes c.bring_seen.new.inodes c.meet.ensures.walked c.bring_seen.ensures.keeps, tt) v _ (left_stamps c.args.path.now u.root v.root goes)
+
+pub returns-in-Err-settle-clause-stamps : goal.returns-in-Err-settle-clause-stamps
+returns-in-Err-settle-clause-stamps g c =
+    let u = c.bring_seen.new.inodes in
+    let v = c.let_go.new.inodes in
+    let goes = subst (λ (q : Path). LetsGo q u.root v.root) c.as_slice-2.ensures c.let_go.ensures.goes in
+    let w = c.settle.new.inodes in
+    stamps_then g.W.World g.F.Files (ask.Rmdir c.args.path.now) c.args.inodes.now c.bring_seen.new.inodes
+    (keeps_on g.W.World g.F.Files c.args.inodes.now c.meet.new.inodes c.bring_seen.new.inodes c.meet.ensures.keeps c.bring_seen.ensures.keeps)
+    (walked_on g.W.World g.F.Files c.args.path.now c.meet.new.inodes c.bring_seen.new.inodes c.meet.ensures.walked c.bring_seen.ensures.keeps, tt) w _ (stamps_on u.root v.root w.root
+    (left_stamps c.args.path.now u.root v.root goes) (alike_stamps v.root w.root c.in-Err-settle.ensures.settles.alike))
+
+pub returns-in-Ok-clause-stamps : goal.returns-in-Ok-clause-stamps
+returns-in-Ok-clause-stamps g c =
+    let p = c.args.path.now in
+    let u = c.bring_seen.new.inodes in
+    let v = c.let_go.new.inodes in
+    let goes = subst (λ (q : Path). LetsGo q u.root v.root) c.as_slice-2.ensures c.let_go.ensures.goes in
+    let w = c.settle.new.inodes in
+    let z = c.remove_entry.new.inodes in
+    let above = c.in-Some.above.now in
+    let name = c.in-Some.name.now in
+    let alike = c.settle.ensures.settles.alike in
+    let y = map_some known_node (row_at p u.root) (Dir true) (sym c.in_default-bring_seen.ensures.ok) in
+    let there = stays_there p u.root v.root goes y.0 y.1.0 in
+    let off = c.in_default-let_go.ensures.away there.0 (ap (λ (q : Path). row_at q v.root) c.as_slice-2.ensures ∙ there.1.0) in
+    let has = has_entry p above name w.root there.0 (sym c.as_slice.ensures ∙ c.in-Some.ensures.cases.0) (row_still v.root w.root alike p there.0 there.1.0 off) off in
+    let none = chained_stamps w.root w.next c.settle.ensures.table above name None tt has.row has.directory has.at has.holds z.root (c.in-Ok.ensures.ok has.row has.directory has.at has.holds) in
+    stamps_then g.W.World g.F.Files (ask.Rmdir c.args.path.now) c.args.inodes.now c.bring_seen.new.inodes
+    (keeps_on g.W.World g.F.Files c.args.inodes.now c.meet.new.inodes c.bring_seen.new.inodes c.meet.ensures.keeps c.bring_seen.ensures.keeps)
+    (walked_on g.W.World g.F.Files c.args.path.now c.meet.new.inodes c.bring_seen.new.inodes c.meet.ensures.walked c.bring_seen.ensures.keeps, tt) z _ (stamps_on u.root v.root z.root
+    (left_stamps p u.root v.root goes) (stamps_on v.root w.root z.root (alike_stamps v.root w.root alike) none))
+
+pub returns-in-Err-remove_entry-clause-stamps : goal.returns-in-Err-remove_entry-clause-stamps
+returns-in-Err-remove_entry-clause-stamps g c =
+    let u = c.bring_seen.new.inodes in
+    let v = c.let_go.new.inodes in
+    let goes = subst (λ (q : Path). LetsGo q u.root v.root) c.as_slice-2.ensures c.let_go.ensures.goes in
+    let w = c.settle.new.inodes in
+    let z = c.remove_entry.new.inodes in
+    stamps_then g.W.World g.F.Files (ask.Rmdir c.args.path.now) c.args.inodes.now c.bring_seen.new.inodes
+    (keeps_on g.W.World g.F.Files c.args.inodes.now c.meet.new.inodes c.bring_seen.new.inodes c.meet.ensures.keeps c.bring_seen.ensures.keeps)
+    (walked_on g.W.World g.F.Files c.args.path.now c.meet.new.inodes c.bring_seen.new.inodes c.meet.ensures.walked c.bring_seen.ensures.keeps, tt) z _ (stamps_on u.root v.root z.root
+    (left_stamps c.args.path.now u.root v.root goes)
+    (stamps_on v.root w.root z.root (alike_stamps v.root w.root c.settle.ensures.settles.alike) (stamps_same w.root z.root c.in-Err-remove_entry.ensures.err)))
+
+pub returns-in_default-clause-stamps : goal.returns-in_default-clause-stamps
+returns-in_default-clause-stamps g c = stamps_refused g.W.World g.F.Files (ask.Rmdir c.args.path.now) c.args.inodes.now c.args.inodes.now same _ EBUSY refl

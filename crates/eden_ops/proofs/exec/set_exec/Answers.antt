@@ -35,6 +35,7 @@ use Rattle.eden_ops.proofs.Saving.{leaves_by, fault_count, no_less}
 use Rattle.eden_ops.proofs.Settled.{row_still, settles_leaves, leaves_then, saved_on}
 use Rattle.eden_ops.proofs.Seeing.{kept_dirs, shown_there}
 use Rattle.eden_ops.proofs.Steps.{keeps_counts}
+use Rattle.eden_ops.proofs.Stamped.{stamps_on, stamps_same, alike_stamps, chained_stamps, stamps_then, stamps_kept}
 use Rattle.eden_ops.proofs.exec.set_exec.Goals as goal
 
 pub returns-in-Err-clause-attempts : goal.returns-in-Err-clause-attempts
@@ -210,3 +211,44 @@ returns-in-Err-set_kind-clause-leaves g c =
     leaves_changed g.W.World g.F.Files (ask.SetExec c.args.path.now c.args.exec) c.args.inodes.now t c.meet_file.ensures.keeps u (Finished (say.Fault c.in-Err-set_kind.fault)) (λ e is. cc) (λ e is. subst (SameNames t.root) (sym x.err) st.readies.names)
     (leaves_then g.W.World g.F.Files t v u (settles_leaves g.W.World g.F.Files t v _ st) l)
     (none_given t.next u.next 0 (x.rest.0 ∙ st.readies.next)) (λ no. absurd (no (c.in-Err-set_kind.fault, refl)))
+
+pub returns-in-Err-clause-stamps : goal.returns-in-Err-clause-stamps
+returns-in-Err-clause-stamps g c =
+    stamps_kept g.W.World g.F.Files (ask.SetExec c.args.path.now c.args.exec) c.args.inodes.now c.meet_file.new.inodes c.meet_file.ensures.keeps (c.meet_file.ensures.walked, tt) _
+
+pub returns-then-eq-clause-stamps : goal.returns-then-eq-clause-stamps
+returns-then-eq-clause-stamps g c =
+    stamps_kept g.W.World g.F.Files (ask.SetExec c.args.path.now c.args.exec) c.args.inodes.now c.meet_file.new.inodes c.meet_file.ensures.keeps (c.meet_file.ensures.walked, tt) _
+
+pub returns-in-Err-settle-clause-stamps : goal.returns-in-Err-settle-clause-stamps
+returns-in-Err-settle-clause-stamps g c =
+    stamps_then g.W.World g.F.Files (ask.SetExec c.args.path.now c.args.exec) c.args.inodes.now c.meet_file.new.inodes c.meet_file.ensures.keeps
+    (c.meet_file.ensures.walked, tt) c.settle.new.inodes _ (alike_stamps c.meet_file.new.inodes.root c.settle.new.inodes.root c.in-Err-settle.ensures.settles.alike)
+
+pub returns-in-Ok-set_kind-clause-stamps : goal.returns-in-Ok-set_kind-clause-stamps
+returns-in-Ok-set_kind-clause-stamps g c =
+    let e = c.in-Ok.ensures in
+    let p = c.args.path.now in
+    let t = c.meet_file.new.inodes in
+    let v = c.settle.new.inodes in
+    let u = c.set_kind.new.inodes in
+    let st = c.settle.ensures.settles in
+    let above = c.in-Some.above.now in
+    let name = c.in-Some.name.now in
+    let seen = e.file.entry in
+    let plain = subst IsPlain seen.kind e.file.plain in
+    let off = away p t.root c.in-Ok.seen seen e.file.away in
+    let still = row_still t.root v.root st.alike p seen.row seen.there off in
+    let has = has_file p above name v.root seen.row (sym c.as_slice-2.ensures ∙ c.in-Some.ensures.cases.0) still off (plain_other seen.row.kind plain) in
+    let none = chained_stamps v.root v.next c.settle.ensures.table above name (Some (of_kind c.exec_kind-kind.result seen.row)) off has.row has.directory has.at has.holds u.root
+    (c.in-Ok-set_kind.ensures.ok seen.row has has.row has.directory has.at has.holds) in
+    stamps_then g.W.World g.F.Files (ask.SetExec c.args.path.now c.args.exec) c.args.inodes.now c.meet_file.new.inodes c.meet_file.ensures.keeps (c.meet_file.ensures.walked, tt) u _
+    (stamps_on t.root v.root u.root (alike_stamps t.root v.root st.alike) none)
+
+pub returns-in-Err-set_kind-clause-stamps : goal.returns-in-Err-set_kind-clause-stamps
+returns-in-Err-set_kind-clause-stamps g c =
+    let t = c.meet_file.new.inodes in
+    let v = c.settle.new.inodes in
+    let u = c.set_kind.new.inodes in
+    stamps_then g.W.World g.F.Files (ask.SetExec c.args.path.now c.args.exec) c.args.inodes.now c.meet_file.new.inodes c.meet_file.ensures.keeps (c.meet_file.ensures.walked, tt) u _
+    (stamps_on t.root v.root u.root (alike_stamps t.root v.root c.settle.ensures.settles.alike) (stamps_same v.root u.root c.in-Err-set_kind.ensures.err))

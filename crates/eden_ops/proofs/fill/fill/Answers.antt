@@ -15,6 +15,7 @@ use Rattle.eden_ops.proofs.Roots.{root_filled}
 use Rattle.eden_ops.proofs.Saving.{leaves_by, no_less, stored_count}
 use Rattle.eden_ops.proofs.Settled.{row_still, settles_leaves, leaves_then, saved_on, on_ok}
 use Rattle.eden_ops.proofs.Seeing.{kept_dirs}
+use Rattle.eden_ops.proofs.Stamped.{stamps_on, alike_stamps, filled_stamps}
 use Rattle.eden_ops.proofs.fill.fill.Goals as goal
 
 -- ---- the directories above weren't stored
@@ -102,3 +103,23 @@ returns-clause-saved g c =
     let t = c.store_content.new.inodes in
     let saved = subst (λ (q : Path). IsSavedAbove q v.root) c.as_slice-2.ensures c.in_default-settle.ensures.saved in
     on_ok c.store_content.result _ (saved_on c.args.path.now v.root t.root saved c.store_content.ensures.marks)
+
+pub returns-in-Err-clause-stamps : goal.returns-in-Err-clause-stamps
+returns-in-Err-clause-stamps g c = alike_stamps c.args.inodes.now.root c.settle.new.inodes.root c.in-Err.ensures.settles.alike
+
+pub returns-clause-stamps : goal.returns-clause-stamps
+returns-clause-stamps g c =
+    let s = c.args.inodes.now in
+    let v = c.settle.new.inodes in
+    let t = c.store_content.new.inodes in
+    let x = c.store_content.ensures in
+    let above = c.in-Some.above.now in
+    let name = c.in-Some.name.now in
+    let h = c.requires.there in
+    let p = c.args.path.now in
+    let alike = c.settle.ensures.settles.alike in
+    let there = row_still s.root v.root alike p h.0 h.1.there h.1.unloaded in
+    let file = has_file p above name v.root h.0 (sym c.as_slice.ensures ∙ c.in-Some.ensures.cases.0) there h.1.unloaded h.1.file in
+    stamps_on s.root v.root t.root (alike_stamps s.root v.root alike)
+    (filled_stamps v.root v.next c.settle.ensures.table above name (Some (owned h.0)) h.1.unloaded file.row file.directory file.at file.holds c.store_content.result (is_own h.0.origin) t.root
+    (x.ok h.0 file file.row file.directory file.at file.holds) x.err)

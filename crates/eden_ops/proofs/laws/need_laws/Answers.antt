@@ -1,4 +1,5 @@
-use Rattle.eden_ops.proofs.Left.{few_are_left, some_are_left, needs_stay, left_falls}
+use Rattle.eden_ops.specs.Left.{few_are_left}
+use Rattle.eden_ops.proofs.Left.{some_are_left, needs_stay, left_falls}
 use Rattle.eden_ops.proofs.laws.need_laws.Goals as goal
 
 pub returns : goal.returns

@@ -12,7 +12,6 @@ use Rattle.eden_inode.specs.declared.seen.Seen.{Seen}
 use Rattle.eden_model.specs.declared.attempt.Attempt.{Attempt}
 use Rattle.eden_ops.specs.Attempts.{Attempts, MeetsShown, shown_node}
 use Rattle.eden_ops.proofs.Answering.{walk_ended, says_absent}
-use Rattle.eden_ops.proofs.Finding.{still_stocked}
 use Rattle.eden_ops.proofs.Telling.{as_dir, met_content, met_tells, content_tells, content_lacks}
 use Rattle.eden_ops.proofs.Looking.{reads_target, asks_target, target_other, target_some, target_lost}
 use Rattle.eden_ops.proofs.Stamps.{walked_on}
@@ -103,9 +102,6 @@ make-requires-clause-content g c =
     let other = c.what.ensures.other (link_not_dir c.what.result c.in-Link.is) in
     met_content g.W.World g.F.Files c.args.path.now c.args.inodes.now c.meet.new.inodes c.meet.new.cache _ c.in-Ok-Some.seen c.in-Ok-Some.field-0-is e.meets
     (λ dir. link_not_dir c.what.result c.in-Link.is (sym other.1 ∙ dir))
-
-pub make-requires-clause-stocked : goal.make-requires-clause-stocked
-make-requires-clause-stocked g c = still_stocked g.W.World.repository g.W.World.honest c.args.cache.now c.meet.new.cache c.meet.ensures.cache c.requires
 
 pub returns-in-Err-make-clause-walked : goal.returns-in-Err-make-clause-walked
 returns-in-Err-make-clause-walked g c = walked_on g.W.World g.F.Files c.args.path.now c.meet.new.inodes c.make.new.inodes c.meet.ensures.walked c.make.ensures.keeps

@@ -14,10 +14,10 @@ returns-then-seen-clause-ok g c = is_loaded c.args.path.now c.args.inodes.now.ro
 pub returns-then-seen-clause-keeps : goal.returns-then-seen-clause-keeps
 returns-then-seen-clause-keeps g c = same
 
-pub bring-requires-clause-at : goal.bring-requires-clause-at
-bring-requires-clause-at g c =
+pub bring-requires : goal.bring-requires
+bring-requires g c =
     let x = c.args.inodes.now.root in
-    subst (λ (q : Path). IsAt q x c.args.seen.origin) (sym c.as_slice.ensures) (is_away c.args.path.now x c.args.seen c.requires.seen c.if-seen.false c.requires.dir)
+    record { at = subst (λ (q : Path). IsAt q x c.args.seen.origin) (sym c.as_slice.ensures) (is_away c.args.path.now x c.args.seen c.requires.seen c.if-seen.false c.requires.dir) }
 
 pub returns-clause-ok : goal.returns-clause-ok
 returns-clause-ok g c = subst (λ (q : Path). OnOk c.bring.result (IsLoadedAt q c.bring.new.inodes.root)) c.as_slice.ensures c.bring.ensures.ok

@@ -67,12 +67,12 @@ returns-in-File g c =
       walked = walked_after g.W.World g.F.Files c.args.path.now c.fronts.inodes c.look-seen.new.self c.look-seen.ensures.stamped;
     }
 
-pub bring-requires-clause-at : goal.bring-requires-clause-at
-bring-requires-clause-at g c =
+pub bring-requires : goal.bring-requires
+bring-requires g c =
     let last = last_after g.W.World g.F.Files c.args.path.now c.fronts.inodes c.look-seen.new.self c.look-seen.result c.look-seen.ensures.stamped c.look-seen.ensures.last in
     let le = last.names in
     let a = c.if-seen-path.false in
-    is_at c.args.path.now c.look-seen.new.self.root c.look-seen.result last c.if-seen.false (omega (arith, le, a)) c.in-Dir.is
+    record { at = is_at c.args.path.now c.look-seen.new.self.root c.look-seen.result last c.if-seen.false (omega (arith, le, a)) c.in-Dir.is }
 
 pub returns-in_err-bring-in-Dir-clause-meets : goal.returns-in_err-bring-in-Dir-clause-meets
 returns-in_err-bring-in-Dir-clause-meets g c =

@@ -1,6 +1,6 @@
 use Rattle.std.proofs.Common.{◌≡◌, ◌≤◌, ◌+◌, ◌-◌, ℕ, [], ◌∷◌, length, take}
 use Rattle.eden_model.specs.Trees.{Unlisted, walk}
-use Rattle.eden_ops.specs.Caches.{FindsTheSame}
+use Rattle.eden_cache.specs.Stock.{FindsTheSame}
 use Rattle.eden_ops.specs.Keeping.{Keeps}
 use Rattle.eden_ops.specs.Known.{known, IsLoadedAt}
 use Rattle.eden_ops.proofs.meet.pass.Given as goal

@@ -12,7 +12,6 @@ use Rattle.eden_ops.specs.Keeping.{same}
 use Rattle.eden_ops.specs.Requests.{for_read}
 use Rattle.eden_ops.proofs.Fetching.{has_content}
 use Rattle.eden_ops.proofs.Filing.{file_tells, file_lacks}
-use Rattle.eden_ops.proofs.Finding.{still_stocked}
 use Rattle.eden_ops.proofs.Looking.{IsPlain, not_more, reads, asks_read, plain_other, reads_none, reads_some, reads_lost}
 use Rattle.eden_ops.proofs.Stamps.{walked_on}
 use Rattle.eden_ops.proofs.Steps.{keeps_on}
@@ -42,9 +41,6 @@ pub make-requires-clause-content : goal.make-requires-clause-content
 make-requires-clause-content g c =
     let file = c.in-Ok.ensures.file in
     has_content c.args.path.now c.meet_file.new.inodes.root c.in-Ok.seen file.entry c.meet_file.new.inodes.root refl (plain_other c.in-Ok.seen.kind file.plain)
-
-pub make-requires-clause-stocked : goal.make-requires-clause-stocked
-make-requires-clause-stocked g c = still_stocked g.W.World.repository g.W.World.honest c.args.cache.now c.meet_file.new.cache c.meet_file.ensures.cache c.requires
 
 pub returns-in-Err-make-clause-attempts : goal.returns-in-Err-make-clause-attempts
 returns-in-Err-make-clause-attempts g c =

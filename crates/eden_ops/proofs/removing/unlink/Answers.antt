@@ -28,6 +28,7 @@ use Rattle.eden_ops.proofs.Saving.{leaves_by, fault_count, no_less}
 use Rattle.eden_ops.proofs.Settled.{row_still, settles_leaves, leaves_then, saved_on}
 use Rattle.eden_ops.proofs.Seeing.{kept_dirs}
 use Rattle.eden_ops.proofs.Telling.{as_dir, met_tells}
+use Rattle.eden_ops.proofs.Stamped.{stamps_on, stamps_same, alike_stamps, chained_stamps, stamps_refused, stamps_then, stamps_kept}
 use Rattle.eden_ops.proofs.removing.unlink.Goals as goal
 
 file_not_dir : (told : Kind) → (told ≡ kind.File) ⊎ ((told ≡ kind.Exec) ⊎ (told ≡ kind.Link)) → told ≢ kind.Dir
@@ -185,3 +186,45 @@ returns-in-Err-remove_entry-clause-leaves g c =
 
 pub returns-in_default-clause-leaves : goal.returns-in_default-clause-leaves
 returns-in_default-clause-leaves g c = leaves_kept g.W.World g.F.Files (ask.Unlink c.args.path.now) c.args.inodes.now c.args.inodes.now same _
+
+pub returns-in-Err-clause-stamps : goal.returns-in-Err-clause-stamps
+returns-in-Err-clause-stamps g c = stamps_kept g.W.World g.F.Files (ask.Unlink c.args.path.now) c.args.inodes.now c.meet.new.inodes c.meet.ensures.keeps (c.meet.ensures.walked, tt) _
+
+pub returns-in-Ok-None-clause-stamps : goal.returns-in-Ok-None-clause-stamps
+returns-in-Ok-None-clause-stamps g c = stamps_kept g.W.World g.F.Files (ask.Unlink c.args.path.now) c.args.inodes.now c.meet.new.inodes c.meet.ensures.keeps (c.meet.ensures.walked, tt) _
+
+pub returns-in-Dir-clause-stamps : goal.returns-in-Dir-clause-stamps
+returns-in-Dir-clause-stamps g c = stamps_kept g.W.World g.F.Files (ask.Unlink c.args.path.now) c.args.inodes.now c.meet.new.inodes c.meet.ensures.keeps (c.meet.ensures.walked, tt) _
+
+pub returns-in-Err-settle-clause-stamps : goal.returns-in-Err-settle-clause-stamps
+returns-in-Err-settle-clause-stamps g c =
+    stamps_then g.W.World g.F.Files (ask.Unlink c.args.path.now) c.args.inodes.now c.meet.new.inodes c.meet.ensures.keeps (c.meet.ensures.walked, tt) c.settle.new.inodes _
+    (alike_stamps c.meet.new.inodes.root c.settle.new.inodes.root c.in-Err-settle.ensures.settles.alike)
+
+pub returns-in-Ok-clause-stamps : goal.returns-in-Ok-clause-stamps
+returns-in-Ok-clause-stamps g c =
+    let p = c.args.path.now in
+    let t = c.meet.new.inodes in
+    let v = c.settle.new.inodes in
+    let u = c.remove_entry.new.inodes in
+    let st = c.settle.ensures.settles in
+    let above = c.in-Some.above.now in
+    let name = c.in-Some.name.now in
+    let seen = seen_at g.W.World g.F.Files p c.args.inodes.now t c.meet.new.cache _ c.in-Ok-Some.seen c.in-Ok-Some.field-0-is c.in-Ok-Some.ensures.meets in
+    let other = c.what.ensures.other (file_not_dir c.what.result c.in-File.is) in
+    let away = none_held (child_of seen.row) (sym seen.loaded ∙ other.0) in
+    let has = has_entry p above name v.root seen.row (sym c.as_slice.ensures ∙ c.in-Some.ensures.cases.0) (row_still t.root v.root st.alike p seen.row seen.there away) away in
+    let none = chained_stamps v.root v.next c.settle.ensures.table above name None tt has.row has.directory has.at has.holds u.root (c.in-Ok.ensures.ok has.row has.directory has.at has.holds) in
+    stamps_then g.W.World g.F.Files (ask.Unlink c.args.path.now) c.args.inodes.now c.meet.new.inodes c.meet.ensures.keeps (c.meet.ensures.walked, tt) u _ (stamps_on t.root v.root u.root
+    (alike_stamps t.root v.root st.alike) none)
+
+pub returns-in-Err-remove_entry-clause-stamps : goal.returns-in-Err-remove_entry-clause-stamps
+returns-in-Err-remove_entry-clause-stamps g c =
+    let t = c.meet.new.inodes in
+    let v = c.settle.new.inodes in
+    let u = c.remove_entry.new.inodes in
+    stamps_then g.W.World g.F.Files (ask.Unlink c.args.path.now) c.args.inodes.now c.meet.new.inodes c.meet.ensures.keeps (c.meet.ensures.walked, tt) u _
+    (stamps_on t.root v.root u.root (alike_stamps t.root v.root c.settle.ensures.settles.alike) (stamps_same v.root u.root c.in-Err-remove_entry.ensures.err))
+
+pub returns-in_default-clause-stamps : goal.returns-in_default-clause-stamps
+returns-in_default-clause-stamps g c = stamps_refused g.W.World g.F.Files (ask.Unlink c.args.path.now) c.args.inodes.now c.args.inodes.now same _ EISDIR refl

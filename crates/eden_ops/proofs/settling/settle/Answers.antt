@@ -3,9 +3,9 @@ use Rattle.eden_ops.proofs.settling.settle.Goals as goal
 
 pub returns-clause-settles : goal.returns-clause-settles
 returns-clause-settles g c =
-    let x = c.save_above.ensures in
+    let x = c.save_above-saved.ensures in
     let s = c.args.inodes.now in
-    let t = c.save_above.new.inodes in
+    let t = c.save_above-saved.new.inodes in
     let honest = g.W.World.honest in
     let alike = alike_above honest c.args.path.now (g.F.Files.stored s.files) s.root (g.F.Files.stored t.files) t.root x.saves in
     let marks = marks_above honest c.args.path.now (g.F.Files.stored s.files) s.root (g.F.Files.stored t.files) t.root x.saves in

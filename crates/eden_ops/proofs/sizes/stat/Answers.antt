@@ -11,7 +11,6 @@ use Rattle.eden_inode.specs.declared.seen.Seen.{Seen}
 use Rattle.eden_model.specs.declared.attempt.Attempt.{Attempt}
 use Rattle.eden_ops.specs.Attempts.{Attempts, MeetsShown, shown_node}
 use Rattle.eden_ops.proofs.Answering.{walk_ended, says_absent}
-use Rattle.eden_ops.proofs.Finding.{still_stocked}
 use Rattle.eden_ops.proofs.Telling.{as_dir, met_content, met_tells, content_tells, content_lacks}
 use Rattle.eden_ops.proofs.Looking.{no_dir, stats, asks_stat, stats_dir, stats_some, stats_lost}
 use Rattle.eden_ops.proofs.Stamps.{walked_on}
@@ -77,15 +76,14 @@ returns-in-Ok-clause-attempts g c =
     subst (λ (r : Reply). Stats (shown_node R F y listed) r) (ap (λ (k : Kind). say.Stat k (length has.0)) (sym told) ∙ ap (say.Stat c.what-kind.result) (sym has.1.1))
     (stats_some y.kind (content_with R (own_files F) (source_of y.number y.origin)) listed has.0 (λ dir. no_dir c.what-kind.result c.in-File.is (told ∙ dir)) has.1.0))
 
-pub size-requires-clause-content : goal.size-requires-clause-content
-size-requires-clause-content g c =
+pub size-requires : goal.size-requires
+size-requires g c =
     let e = c.in-Ok-Some.ensures in
     let other = c.what-kind.ensures.other (no_dir c.what-kind.result c.in-File.is) in
-    met_content g.W.World g.F.Files c.args.path.now c.args.inodes.now c.meet.new.inodes c.meet.new.cache _ c.in-Ok-Some.seen c.in-Ok-Some.field-0-is e.meets
-    (λ dir. no_dir c.what-kind.result c.in-File.is (sym other.1 ∙ dir))
-
-pub size-requires-clause-stocked : goal.size-requires-clause-stocked
-size-requires-clause-stocked g c = still_stocked g.W.World.repository g.W.World.honest c.args.cache.now c.meet.new.cache c.meet.ensures.cache c.requires
+    record {
+      content = met_content g.W.World g.F.Files c.args.path.now c.args.inodes.now c.meet.new.inodes c.meet.new.cache _ c.in-Ok-Some.seen c.in-Ok-Some.field-0-is e.meets
+          (λ dir. no_dir c.what-kind.result c.in-File.is (sym other.1 ∙ dir));
+    }
 
 pub returns-in-Err-size-clause-walked : goal.returns-in-Err-size-clause-walked
 returns-in-Err-size-clause-walked g c = walked_on g.W.World g.F.Files c.args.path.now c.meet.new.inodes c.size.new.inodes c.meet.ensures.walked c.size.ensures.keeps

@@ -13,10 +13,12 @@ use Rattle.eden_ops.specs.Requests.{for_truncate}
 use Rattle.eden_ops.proofs.Fetching.{has_content}
 use Rattle.eden_ops.proofs.Filing.{file_tells, file_lacks, is_file, file_fills, file_refused}
 use Rattle.eden_ops.proofs.Filled.{truncates, asks_truncate, truncates_far, truncates_none, truncates_some, truncates_lost, truncated_none, truncated_some}
-use Rattle.eden_ops.proofs.Finding.{still_stocked, finds_same}
+use Rattle.eden_ops.proofs.Finding.{finds_same}
 use Rattle.eden_ops.proofs.Looking.{plain_other}
 use Rattle.eden_ops.proofs.Leaving.{none_given, leaves_kept, leaves_changed}
 use Rattle.eden_ops.proofs.Steps.{keeps_on}
+use Rattle.eden_ops.proofs.Stamped.{stamps_then, stamps_kept}
+use Rattle.eden_ops.proofs.Stamps.{walked_on}
 use Rattle.eden_ops.proofs.writing.truncate.Goals as goal
 
 pub returns-in-Err-clause-attempts : goal.returns-in-Err-clause-attempts
@@ -76,9 +78,6 @@ pub make-requires-clause-content : goal.make-requires-clause-content
 make-requires-clause-content g c =
     let file = c.in-Ok.ensures.file in
     has_content c.args.path.now c.meet_file.new.inodes.root c.in-Ok.seen file.entry c.meet_file.new.inodes.root refl (plain_other c.in-Ok.seen.kind file.plain)
-
-pub make-requires-clause-stocked : goal.make-requires-clause-stocked
-make-requires-clause-stocked g c = still_stocked g.W.World.repository g.W.World.honest c.args.cache.now c.meet_file.new.cache c.meet_file.ensures.cache c.requires
 
 pub returns-in-Err-make-clause-attempts : goal.returns-in-Err-make-clause-attempts
 returns-in-Err-make-clause-attempts g c =
@@ -153,3 +152,37 @@ pub returns-clause-leaves : goal.returns-clause-leaves
 returns-clause-leaves g c =
     leaves_changed g.W.World g.F.Files (ask.Truncate c.args.path.now c.args.size) c.args.inodes.now c.make.new.inodes (keeps_on g.W.World g.F.Files c.args.inodes.now c.meet_file.new.inodes c.make.new.inodes c.meet_file.ensures.keeps c.make.ensures.keeps) c.fill-2.new.inodes (Finished (say.Fault c.in-Err-fill-2.fault)) (λ e is. cc) (λ e is. c.in-Err-fill-2.ensures.names) c.fill-2.ensures.leaves
     (none_given c.make.new.inodes.next c.fill-2.new.inodes.next 0 c.fill-2.ensures.next) (λ no. absurd (no (c.in-Err-fill-2.fault, refl)))
+
+pub returns-in-Err-clause-stamps : goal.returns-in-Err-clause-stamps
+returns-in-Err-clause-stamps g c =
+    stamps_kept g.W.World g.F.Files (ask.Truncate c.args.path.now c.args.size) c.args.inodes.now c.meet_file.new.inodes c.meet_file.ensures.keeps (c.meet_file.ensures.walked, tt) _
+
+pub returns-then-size-gt-MAX_FILE-clause-stamps : goal.returns-then-size-gt-MAX_FILE-clause-stamps
+returns-then-size-gt-MAX_FILE-clause-stamps g c =
+    stamps_kept g.W.World g.F.Files (ask.Truncate c.args.path.now c.args.size) c.args.inodes.now c.meet_file.new.inodes c.meet_file.ensures.keeps (c.meet_file.ensures.walked, tt) _
+
+pub returns-in-Err-make-clause-stamps : goal.returns-in-Err-make-clause-stamps
+returns-in-Err-make-clause-stamps g c =
+    stamps_kept g.W.World g.F.Files (ask.Truncate c.args.path.now c.args.size) c.args.inodes.now c.make.new.inodes
+    (keeps_on g.W.World g.F.Files c.args.inodes.now c.meet_file.new.inodes c.make.new.inodes c.meet_file.ensures.keeps c.make.ensures.keeps)
+    (walked_on g.W.World g.F.Files c.args.path.now c.meet_file.new.inodes c.make.new.inodes c.meet_file.ensures.walked c.make.ensures.keeps, tt) _
+
+pub returns-in-Ok-fill-clause-stamps : goal.returns-in-Ok-fill-clause-stamps
+returns-in-Ok-fill-clause-stamps g c = stamps_then g.W.World g.F.Files (ask.Truncate c.args.path.now c.args.size) c.args.inodes.now c.meet_file.new.inodes c.meet_file.ensures.keeps
+    (c.meet_file.ensures.walked, tt) c.fill.new.inodes _ c.fill.ensures.stamps
+
+pub returns-in-Err-fill-clause-stamps : goal.returns-in-Err-fill-clause-stamps
+returns-in-Err-fill-clause-stamps g c = stamps_then g.W.World g.F.Files (ask.Truncate c.args.path.now c.args.size) c.args.inodes.now c.meet_file.new.inodes c.meet_file.ensures.keeps
+    (c.meet_file.ensures.walked, tt) c.fill.new.inodes _ c.fill.ensures.stamps
+
+pub returns-in-Ok-fill-2-clause-stamps : goal.returns-in-Ok-fill-2-clause-stamps
+returns-in-Ok-fill-2-clause-stamps g c =
+    stamps_then g.W.World g.F.Files (ask.Truncate c.args.path.now c.args.size) c.args.inodes.now c.make.new.inodes
+    (keeps_on g.W.World g.F.Files c.args.inodes.now c.meet_file.new.inodes c.make.new.inodes c.meet_file.ensures.keeps c.make.ensures.keeps)
+    (walked_on g.W.World g.F.Files c.args.path.now c.meet_file.new.inodes c.make.new.inodes c.meet_file.ensures.walked c.make.ensures.keeps, tt) c.fill-2.new.inodes _ c.fill-2.ensures.stamps
+
+pub returns-clause-stamps : goal.returns-clause-stamps
+returns-clause-stamps g c =
+    stamps_then g.W.World g.F.Files (ask.Truncate c.args.path.now c.args.size) c.args.inodes.now c.make.new.inodes
+    (keeps_on g.W.World g.F.Files c.args.inodes.now c.meet_file.new.inodes c.make.new.inodes c.meet_file.ensures.keeps c.make.ensures.keeps)
+    (walked_on g.W.World g.F.Files c.args.path.now c.meet_file.new.inodes c.make.new.inodes c.meet_file.ensures.walked c.make.ensures.keeps, tt) c.fill-2.new.inodes _ c.fill-2.ensures.stamps

@@ -1,7 +1,7 @@
 use Rattle.std.proofs.Common.{◌≤◌, ◌<◌, ◌+◌, ◌-◌, false, ◌==◌, ℕ, length, List, Some, sym, refl, subst, ap, ◌∙◌, arith}
 use Rattle.std.proofs.lemmas.Bool.{lt-ltb, le-ltb, ne_eqb}
 use Rattle.std.specs.Option.{option_map}
-use Rattle.eden_model.specs.declared.errno.Errno.TheVariants.{EFBIG}
+use Rattle.eden_model.specs.declared.errno.Errno.TheVariants.{EFBIG, EINVAL}
 use Rattle.eden_model.specs.declared.reply.Reply.TheVariants as say
 use Rattle.eden_model.specs.declared.request.Request.TheVariants as ask
 use Rattle.eden_model.specs.Operations.{written}
@@ -14,10 +14,11 @@ use Rattle.eden_ops.specs.Requests.{for_write}
 use Rattle.eden_ops.proofs.Fetching.{has_content}
 use Rattle.eden_ops.proofs.Filing.{file_tells, file_lacks, is_file, file_fills, file_refused}
 use Rattle.eden_ops.proofs.Filled.{writes, asks_write, writes_none, writes_far, writes_some, writes_lost, writes_nothing}
-use Rattle.eden_ops.proofs.Finding.{still_stocked}
 use Rattle.eden_ops.proofs.Looking.{plain_other, not_more}
 use Rattle.eden_ops.proofs.Leaving.{none_given, leaves_kept, leaves_changed}
 use Rattle.eden_ops.proofs.Steps.{keeps_on}
+use Rattle.eden_ops.proofs.Stamped.{stamps_refused, stamps_then, stamps_kept}
+use Rattle.eden_ops.proofs.Stamps.{walked_on}
 use Rattle.eden_ops.proofs.writing.write.Goals as goal
 
 within : (offset count : ℕ) → count ≤ 65536 → offset ≤ 1073741824 - count → offset + count ≤ 1073741824
@@ -61,9 +62,6 @@ pub make-requires-clause-content : goal.make-requires-clause-content
 make-requires-clause-content g c =
     let file = c.in-Ok.ensures.file in
     has_content c.args.path.now c.meet_file.new.inodes.root c.in-Ok.seen file.entry c.meet_file.new.inodes.root refl (plain_other c.in-Ok.seen.kind file.plain)
-
-pub make-requires-clause-stocked : goal.make-requires-clause-stocked
-make-requires-clause-stocked g c = still_stocked g.W.World.repository g.W.World.honest c.args.cache.now c.meet_file.new.cache c.meet_file.ensures.cache c.requires
 
 pub returns-in-Err-make-clause-attempts : goal.returns-in-Err-make-clause-attempts
 returns-in-Err-make-clause-attempts g c =
@@ -174,3 +172,36 @@ returns-in-Ok-fill-clause-refused g c beyond = absurd (not_more (length c.args.b
 
 pub returns-clause-refused : goal.returns-clause-refused
 returns-clause-refused g c beyond = absurd (not_more (length c.args.bytes.now) 65536 c.if-count-gt-MAX_DATA.false beyond)
+
+pub returns-in-Err-clause-stamps : goal.returns-in-Err-clause-stamps
+returns-in-Err-clause-stamps g c =
+    stamps_kept g.W.World g.F.Files (ask.Write c.args.path.now c.args.offset c.args.bytes.now) c.args.inodes.now c.meet_file.new.inodes c.meet_file.ensures.keeps (c.meet_file.ensures.walked, tt) _
+
+pub returns-then-count-eq0-clause-stamps : goal.returns-then-count-eq0-clause-stamps
+returns-then-count-eq0-clause-stamps g c =
+    stamps_kept g.W.World g.F.Files (ask.Write c.args.path.now c.args.offset c.args.bytes.now) c.args.inodes.now c.meet_file.new.inodes c.meet_file.ensures.keeps (c.meet_file.ensures.walked, tt) _
+
+pub returns-then-offset-count-clause-stamps : goal.returns-then-offset-count-clause-stamps
+returns-then-offset-count-clause-stamps g c =
+    stamps_kept g.W.World g.F.Files (ask.Write c.args.path.now c.args.offset c.args.bytes.now) c.args.inodes.now c.meet_file.new.inodes c.meet_file.ensures.keeps (c.meet_file.ensures.walked, tt) _
+
+pub returns-in-Err-make-clause-stamps : goal.returns-in-Err-make-clause-stamps
+returns-in-Err-make-clause-stamps g c =
+    stamps_kept g.W.World g.F.Files (ask.Write c.args.path.now c.args.offset c.args.bytes.now) c.args.inodes.now c.make.new.inodes
+    (keeps_on g.W.World g.F.Files c.args.inodes.now c.meet_file.new.inodes c.make.new.inodes c.meet_file.ensures.keeps c.make.ensures.keeps)
+    (walked_on g.W.World g.F.Files c.args.path.now c.meet_file.new.inodes c.make.new.inodes c.meet_file.ensures.walked c.make.ensures.keeps, tt) _
+
+pub returns-in-Ok-fill-clause-stamps : goal.returns-in-Ok-fill-clause-stamps
+returns-in-Ok-fill-clause-stamps g c =
+    stamps_then g.W.World g.F.Files (ask.Write c.args.path.now c.args.offset c.args.bytes.now) c.args.inodes.now c.make.new.inodes
+    (keeps_on g.W.World g.F.Files c.args.inodes.now c.meet_file.new.inodes c.make.new.inodes c.meet_file.ensures.keeps c.make.ensures.keeps)
+    (walked_on g.W.World g.F.Files c.args.path.now c.meet_file.new.inodes c.make.new.inodes c.meet_file.ensures.walked c.make.ensures.keeps, tt) c.fill.new.inodes _ c.fill.ensures.stamps
+
+pub returns-clause-stamps : goal.returns-clause-stamps
+returns-clause-stamps g c =
+    stamps_then g.W.World g.F.Files (ask.Write c.args.path.now c.args.offset c.args.bytes.now) c.args.inodes.now c.make.new.inodes
+    (keeps_on g.W.World g.F.Files c.args.inodes.now c.meet_file.new.inodes c.make.new.inodes c.meet_file.ensures.keeps c.make.ensures.keeps)
+    (walked_on g.W.World g.F.Files c.args.path.now c.meet_file.new.inodes c.make.new.inodes c.meet_file.ensures.walked c.make.ensures.keeps, tt) c.fill.new.inodes _ c.fill.ensures.stamps
+
+pub returns-then-count-gt-MAX_DATA-clause-stamps : goal.returns-then-count-gt-MAX_DATA-clause-stamps
+returns-then-count-gt-MAX_DATA-clause-stamps g c = stamps_refused g.W.World g.F.Files (ask.Write c.args.path.now c.args.offset c.args.bytes.now) c.args.inodes.now c.args.inodes.now same _ EINVAL refl

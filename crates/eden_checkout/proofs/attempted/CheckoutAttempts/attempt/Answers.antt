@@ -1,9 +1,7 @@
-use Rattle.std.proofs.Common.{◌≡◌, ◌∙◌, refl, subst}
-use Rattle.eden_inode.specs.Tables.{Table}
-use Rattle.eden_mount.specs.Tables.{Tries, Ticks, Stores, Unloads}
+use Rattle.std.proofs.Common.{refl, subst}
+use Rattle.eden_mount.specs.Tables.{Tries}
 use Rattle.eden_checkout.specs.Attempted.{attempted}
 use Rattle.eden_checkout.specs.Checkouts.{Checkout}
-use Rattle.eden_ops.proofs.CallerLemmas.{still_stocked}
 use Rattle.eden_checkout.proofs.Closed.{comes_from}
 use Rattle.eden_checkout.proofs.Tries.{tries}
 use Rattle.eden_checkout.proofs.attempted.CheckoutAttempts.attempt.Goals as goal
@@ -11,11 +9,7 @@ use Rattle.eden_checkout.proofs.attempted.CheckoutAttempts.attempt.Goals as goal
 pub invariant_of-self : goal.invariant_of-self
 invariant_of-self g c =
     let x = c.self.inside in
-    let e = c.attempt.ensures in (
-      still_stocked g.W.World.repository g.W.World.honest x.cache c.attempt.new.cache e.attempts.cache c.self.invariant.0,
-      comes_from x.root x.inodes.root.origin c.attempt.new.inodes.root.origin
-          c.self.invariant.1 e.leaves.on.root,
-    )
+    comes_from x.root x.inodes.root.origin c.attempt.new.inodes.root.origin c.self.invariant c.attempt.ensures.leaves.on.root
 
 pub returns : goal.returns
 returns g c =

@@ -1,18 +1,9 @@
-use Rattle.std.proofs.Common.{◌≡◌, OnOk, refl, subst}
+use Rattle.std.proofs.Common.{OnOk, refl, subst}
 use Rattle.eden_mount.specs.Tables.{Stores}
 use Rattle.eden_checkout.specs.Attempted.{attempted}
 use Rattle.eden_checkout.specs.Checkouts.{Checkout}
-use Rattle.eden_checkout.proofs.Stocking.{stocked_by}
 use Rattle.eden_checkout.proofs.Tries.{stores_by}
 use Rattle.eden_checkout.proofs.attempted.CheckoutAttempts.put.Goals as goal
-
-pub invariant_of-self : goal.invariant_of-self
-invariant_of-self g c =
-    let e = c.put.ensures in (
-      stocked_by g.W.World.repository g.W.World.honest c.cache_laws.ensures.others c.cache_laws.ensures.other_sizes c.self.inside.cache c.put.new.self c.args.key c.args.object c.self.invariant.0
-          c.requires c.put.result e.objects e.size e.err,
-      c.self.invariant.1,
-    )
 
 pub returns-clause-ok : goal.returns-clause-ok
 returns-clause-ok g c =

@@ -15,7 +15,7 @@ invariant_of-self g c =
     let goes = lets_go g.W.World.honest x.inodes.clock c.args.older_than (g.F.Files.stored x.inodes.files) x.inodes.root
     (g.F.Files.stored c.unload.new.self.files) c.unload.new.self.root e.unloads.0 e.unloads.1.1 in
     let origin = root_left c.as_slice.result.now x.inodes.root c.unload.new.self.root (goes c.as_slice.result.now e.elsewhere) in
-    (c.self.invariant.0, comes_from x.root x.inodes.root.origin c.unload.new.self.root.origin c.self.invariant.1 origin)
+    comes_from x.root x.inodes.root.origin c.unload.new.self.root.origin c.self.invariant origin
 
 pub returns : goal.returns
 returns g c =

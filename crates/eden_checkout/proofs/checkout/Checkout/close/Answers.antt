@@ -14,20 +14,18 @@ use Rattle.eden_checkout.proofs.Closed.{comes_from, still_root, can_open}
 use Rattle.eden_checkout.proofs.checkout.Checkout.close.Goals as goal
 
 pub invariant_of-self : goal.invariant_of-self
-invariant_of-self g c = (
-  c.self.invariant.0,
-  comes_from c.self.inside.root c.self.inside.inodes.root.origin c.let_go.new.inodes.root.origin c.self.invariant.1
-      (root_left [] c.self.inside.inodes.root c.let_go.new.inodes.root c.let_go.ensures.goes),
-)
+invariant_of-self g c =
+    comes_from c.self.inside.root c.self.inside.inodes.root.origin c.let_go.new.inodes.root.origin c.self.invariant
+    (root_left [] c.self.inside.inodes.root c.let_go.new.inodes.root c.let_go.ensures.goes)
 
 pub returns-in-Err-clause-shown : goal.returns-in-Err-clause-shown
 returns-in-Err-clause-shown g c h = c.let_go.ensures.same h ∙ ap (λ (t : Checkout _). shows g.W.World g.F.Files t.inodes) c.self.view_is
 
 pub invariant_of-self-in-Err-store_state : goal.invariant_of-self-in-Err-store_state
 invariant_of-self-in-Err-store_state g c =
-    let gone = comes_from c.self.inside.root c.self.inside.inodes.root.origin c.let_go.new.inodes.root.origin c.self.invariant.1
+    let gone = comes_from c.self.inside.root c.self.inside.inodes.root.origin c.let_go.new.inodes.root.origin c.self.invariant
     (root_left [] c.self.inside.inodes.root c.let_go.new.inodes.root c.let_go.ensures.goes) in
-    (c.self.invariant.0, still_root c.self.inside.root c.let_go.new.inodes.root.origin c.store_state.new.inodes.root.origin gone (ap (λ (x : Row). x.origin) c.store_state.ensures.root))
+    still_root c.self.inside.root c.let_go.new.inodes.root.origin c.store_state.new.inodes.root.origin gone (ap (λ (x : Row). x.origin) c.store_state.ensures.root)
 
 pub returns-in-Err-store_state-clause-shown : goal.returns-in-Err-store_state-clause-shown
 returns-in-Err-store_state-clause-shown g c h = c.store_state.ensures.same h ∙ c.let_go.ensures.same h ∙ ap (λ (t : Checkout _). shows g.W.World g.F.Files t.inodes) c.self.view_is
@@ -38,7 +36,7 @@ returns-clause-opens g c h =
     let F : Stored = g.F.Files.stored t.files in
     let x : Row = c.store_state.new.inodes.root in
     let root : Id = c.self.inside.root in
-    let gone = comes_from root c.self.inside.inodes.root.origin c.let_go.new.inodes.root.origin c.self.invariant.1
+    let gone = comes_from root c.self.inside.inodes.root.origin c.let_go.new.inodes.root.origin c.self.invariant
     (root_left [] c.self.inside.inodes.root c.let_go.new.inodes.root c.let_go.ensures.goes) in
     let of : IsRootOf root x.origin = still_root root c.let_go.new.inodes.root.origin x.origin gone (ap (λ (y : Row). y.origin) c.store_state.ensures.root) in
     let none : child_of x ≡ None = ap child_of c.store_state.ensures.root ∙ c.in_default.ensures.away c.let_go.new.inodes.root refl in

@@ -19,5 +19,5 @@ returns-clause-shown g c h =
     let x = c.self.inside.inodes in
     subst
     (λ (s : Checkout _). AreSaved s.inodes.root → files_show g.W.World.repository s.root (g.F.Files.stored s.inodes.files) ≡ shows g.W.World g.F.Files s.inodes) c.self.view_is
-    (saved_shown g.W.World.repository (g.F.Files.stored x.files) x.root x.next c.self.inside.root c.holds.ensures.table (c.holds.ensures.kept h) c.self.invariant.1
+    (saved_shown g.W.World.repository (g.F.Files.stored x.files) x.root x.next c.self.inside.root c.holds.ensures.table (c.holds.ensures.kept h) c.self.invariant
     c.shown_laws.ensures.files c.shown_laws.ensures.away)

@@ -1,4 +1,4 @@
--- What is cached: what came for its key.
+-- What is cached: what was fetched for its key.
 use Rattle.std.specs.Prelude.{◌≡◌, ℕ, List, length, Option, Some}
 use Rattle.std.specs.Map.{lookup}
 use Rattle.eden_model.specs.declared.id.Id.{Id}
