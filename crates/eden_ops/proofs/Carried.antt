@@ -1,7 +1,6 @@
 -- A loaded directory that is taken out, and put back where its entry went, or where it was.
-use Rattle.std.proofs.Common.{◌≡◌, ◌≢◌, ◌⊎◌, ℕ, Bool, true, false, cond, if◌then◌else◌, List, [], ◌∷◌, ◌++◌, Option, Some, None, IsSome, IfSome, IfNone}
+use Rattle.std.proofs.Common.{◌≡◌, ◌≢◌, ℕ, Bool, true, false, cond, if◌then◌else◌, List, [], ◌∷◌, ◌++◌, Option, Some, None, IsSome, IfSome, IfNone}
 use Rattle.std.proofs.Common.{refl, sym, ap, ◌∙◌, subst, inl, inr, arith}
-use Rattle.std.proofs.lemmas.List.{append-nil}
 use Rattle.std.proofs.lemmas.Option.{same_Some, none-some}
 use Rattle.std.specs.Option.{option_map, option_and_then}
 use Rattle.eden_model.specs.declared.kind.Kind.{Kind}
@@ -10,7 +9,6 @@ use Rattle.eden_model.specs.declared.kind.Origin.TheVariants as origin
 use Rattle.eden_model.specs.Paths.{behind_of}
 use Rattle.eden_model.specs.Repository.{Repository, no_files}
 use Rattle.eden_model.specs.Trees.{Name, Path, grafted}
-use Rattle.eden_model.proofs.CallerLemmas.{behind_sound}
 use Rattle.eden_overlay_format.specs.Directory.{AreStorable}
 use Rattle.eden_overlay_format.specs.declared.stored_entry.StoredEntry.{StoredEntry}
 use Rattle.eden_overlay.specs.Files.{Stored}
@@ -20,18 +18,18 @@ use Rattle.eden_overlay.proofs.CallerLemmas.{put_apart}
 use Rattle.eden_tree.specs.Changes.{IsChanged}
 use Rattle.eden_tree.specs.Directory.{Row, Directory, child_of, with_child}
 use Rattle.eden_tree.specs.Rows.{find_row}
-use Rattle.eden_tree.specs.Paths.{row_at, edit_row, Standing, standing, standing_at}
+use Rattle.eden_tree.specs.Paths.{row_at, edit_row, Standing, standing_at}
 use Rattle.eden_tree.proofs.CallerLemmas.{reads_on, edits_one, edits_nothing, edits_same, edits_alike, edits_twice, steps_down, child_of-with_child, with_child-same}
 use Rattle.eden_tree.proofs.CallerLemmas.{same-refl, find_row-put_row, find_row-set_row}
-use Rattle.eden_tie.specs.Chains.{IsLoadedAt, IsUnsavedAt, NoneMarked, StaysLoaded}
+use Rattle.eden_tie.specs.Chains.{IsLoadedAt, NoneMarked, StaysLoaded}
 use Rattle.eden_tie.specs.Changing.{MayMove, changed, files_left, files_moved, marked_source, moved_in, placed, with_listing}
 use Rattle.eden_tie.specs.Kept.{IsTable, IsKept}
 use Rattle.eden_tie.specs.Listings.{listing_of, Place}
 use Rattle.eden_tie.specs.Moving.{CanMove}
 use Rattle.eden_tie.specs.Shown.{shown_in, IsFrom}
 use Rattle.eden_tie.specs.Ties.{IsAway, Tied}
-use Rattle.eden_tie.specs.Unloading.{Goes, Unloads, none, one_more, HasNoneInside}
-use Rattle.eden_tie.proofs.CallerLemmas.{place_at, at_changed, away_row, by_origin, left_elsewhere, loads_alike, loaded_found, loaded_there, map_some, moved_elsewhere, none_marked_with}
+use Rattle.eden_tie.specs.Unloading.{Unloads, none, one_more, HasNoneInside}
+use Rattle.eden_tie.proofs.CallerLemmas.{place_at, at_changed, away_row, by_origin, left_elsewhere, loads_alike, loaded_found, loaded_there, moved_elsewhere, none_marked_with}
 use Rattle.eden_tie.proofs.CallerLemmas.{other_from, own_from, own_loaded_kept, put_table, replaced_other, unloads_alike, unloads_kept, unloads_table}
 use Rattle.eden_tie.proofs.CallerLemmas.{IsLeaf, back_kept, back_marked, went_kept, went_cleared}
 use Rattle.eden_tie.proofs.Follows.{held_moved}

@@ -1,5 +1,5 @@
 -- A directory that is made ready to go along with its entry: what stays meanwhile.
-use Rattle.std.proofs.Common.{◌≡◌, ◌⊎◌, ℕ, [], ◌∷◌, ◌++◌, Option, Some, None, Result, Ok, Err, IfErr, OnOk, OnErr, refl, sym, ap, ◌∙◌, subst, inl, inr, append_assoc}
+use Rattle.std.proofs.Common.{◌≡◌, [], ◌∷◌, ◌++◌, Option, Some, None, Result, Ok, Err, IfErr, OnOk, OnErr, refl, sym, ap, ◌∙◌, subst, inl, inr, append_assoc}
 use Rattle.std.proofs.lemmas.Option.{none-some}
 use Rattle.eden_model.specs.declared.fault.Fault.{Fault}
 use Rattle.eden_model.specs.declared.world.World.{Ghosts}
@@ -7,19 +7,18 @@ use Rattle.eden_model.specs.Paths.{behind_of}
 use Rattle.eden_model.specs.Trees.{Name, Path}
 use Rattle.eden_model.proofs.CallerLemmas.{behind_sound, behind_back}
 use Rattle.eden_overlay.specs.declared.files.Files.{Ghosts as Files}
-use Rattle.eden_tree.specs.Directory.{Row, child_of}
-use Rattle.eden_tree.specs.Paths.{row_at}
+use Rattle.eden_tree.specs.Directory.{Row}
 use Rattle.eden_tie.specs.Chains.{IsLoadedAt, NoneMarked, StaysLoaded}
 use Rattle.eden_tie.specs.Laws.{owned}
 use Rattle.eden_tie.specs.Materialising.{owned_along}
 use Rattle.eden_inode.specs.Tables.{Table, shows}
 use Rattle.eden_materialise.specs.Faults.{IsStoreFault}
-use Rattle.eden_ops.specs.Carrying.{IsOwnAt, StaysToThere}
+use Rattle.eden_ops.specs.Carrying.{StaysToThere}
 use Rattle.eden_ops.specs.Letting.{LetsGo}
-use Rattle.eden_ops.specs.Relocating.{Readies, StaysBeside}
+use Rattle.eden_ops.specs.Relocating.{Readies}
 use Rattle.eden_ops.proofs.Going.{goes_fewer, loaded_elsewhere}
 use Rattle.eden_ops.proofs.Names.{names_same, fewer_same}
-use Rattle.eden_ops.proofs.Owned.{own_names, own_fewer, behind_itself}
+use Rattle.eden_ops.proofs.Owned.{own_names, own_fewer}
 use Rattle.eden_ops.proofs.Relocation.{not_whole}
 use Rattle.eden_ops.proofs.Roots.{root_left, root_owned, root_same}
 

@@ -1,6 +1,6 @@
-use Rattle.std.proofs.Common.{◌≡◌, ◌≤◌, ℕ, IfErr, refl, sym, ap, ◌∙◌, subst, inl, inr}
+use Rattle.std.proofs.Common.{◌≤◌, ℕ, sym, ap, ◌∙◌, subst, inr}
 use Rattle.eden_tree.specs.Directory.{Row}
-use Rattle.eden_tie.specs.Chains.{IsLoadedAt, NoneMarked, StaysLoaded}
+use Rattle.eden_tie.specs.Chains.{NoneMarked, StaysLoaded}
 use Rattle.eden_tie.specs.Kept.{IsKept}
 use Rattle.eden_tie.specs.Ties.{Tied}
 use Rattle.eden_inode.specs.Tables.{shows}
@@ -9,7 +9,7 @@ use Rattle.eden_ops.specs.Carrying.{CanHold}
 use Rattle.eden_ops.specs.Changes.{SameNames, StaysOrBecomesOwn}
 use Rattle.eden_ops.specs.Relocating.{GoesAlong, MarksAlone, StaysBeside}
 use Rattle.eden_ops.proofs.Carried.{IsTaken, can_bring, ready_of, hold_there, hold_here, went_stays, went_along, went_marks, went_root}
-use Rattle.eden_ops.proofs.Carried.{back_names, back_fewer, back_stays, back_marks, back_root, held_there}
+use Rattle.eden_ops.proofs.Carried.{back_names, back_fewer, back_stays, back_marks, back_root}
 use Rattle.eden_ops.proofs.Relocation.{moves_shown}
 use Rattle.eden_ops.proofs.Saving.{fault_count}
 use Rattle.eden_ops.proofs.carrying.move_dir.Goals as goal

@@ -1,10 +1,8 @@
-use Rattle.std.proofs.Common.{◌≡◌, false, Option, Ok, inl, inr, sym, refl, subst, ◌∙◌}
+use Rattle.std.proofs.Common.{◌≡◌, false, Option, Ok, sym, subst, ◌∙◌}
 use Rattle.eden_model.specs.declared.request.Request.TheVariants as ask
 use Rattle.eden_model.specs.Paths.{is_root}
 use Rattle.eden_inode.specs.declared.seen.Seen.{Seen}
 use Rattle.eden_model.specs.declared.attempt.Attempt.{Attempt}
-use Rattle.eden_model.specs.declared.attempt.Attempt.TheVariants.{Finished}
-use Rattle.eden_model.specs.declared.reply.Reply.TheVariants as say
 use Rattle.eden_ops.specs.Attempts.{Attempts, MeetsShown}
 use Rattle.eden_ops.specs.Keeping.{same}
 use Rattle.eden_ops.proofs.Answering.{first_ended, first_absent}
