@@ -6,9 +6,11 @@ ROOT := d8329fc1cc938780ffdd9f94e0d364e0ea74f579
 PREFIX ?= /usr/local
 BIN = $(DESTDIR)$(PREFIX)/bin
 LIB = $(DESTDIR)$(PREFIX)/lib/yakembi
-COMMANDS := mount-git git-objects objects-from-git eden-shell
+MAN = $(DESTDIR)$(PREFIX)/share/man/man1
+MANUAL := mountd.1 mount-git.1
+COMMANDS := mount-git git-objects objects-from-git eden-shell check-session
 
-.PHONY: help try run check test wrong-bodies soak bench fmt install uninstall
+.PHONY: help try run check test lint wrong-bodies soak bench fmt install uninstall
 
 help: ## says what each target does
 	@sed -n 's/^\([a-z-]*\): ##/\1:/p' Makefile
@@ -26,6 +28,9 @@ check: ## proves and tests the crates that changed since they last passed, and t
 test: ## proves everything from nothing, and runs every test: docs/GATE.md; its last line counts what passed
 	@scripts/gate
 
+lint: ## looks at layout, columns, types, pages and wrong bodies, and runs the tests that need nothing built, in two minutes
+	@scripts/gate lint
+
 wrong-bodies: ## tries the wrong bodies that the gate leaves out, or those of CRATE=NAME; goes on where it was stopped
 	@scripts/wrong-bodies $(CRATE)
 
@@ -33,38 +38,21 @@ soak: ## a million random requests: the slow oracle beside the second table of o
 	tests/oracle 1000000
 	scripts/soak-rows
 
-bench: ## times the work that grows with its input, at full size
-	@cd crates/eden_bench && rt run -- tree 1000000 timed
-	@cd crates/eden_bench && for count in 100 10000 100000 1000000; do out/eden_bench directory $$count timed; done
-	@cd crates/eden_bench && for count in 10 10000; do out/eden_bench overlay $$count timed; done
-	@cd crates/eden_bench && for count in 100 10000 1000000; do out/eden_bench inodes $$count timed; done
-	@cd crates/eden_bench && for count in 10 10000; do out/eden_bench changes $$count timed; done
-	@cd crates/eden_bench && for count in 10 10000; do \
-	    folder=$$(mktemp -d) && out/eden_bench changes $$count timed $$folder; rm -r $$folder; done
-	@cd crates/eden_bench && for count in 10 10000 100000; do out/eden_bench attempts $$count timed; done
-	@cd crates/eden_bench && for count in 10 10000; do \
-	    folder=$$(mktemp -d) && out/eden_bench attempts $$count timed $$folder; rm -r $$folder; done
-	@cd crates/eden_bench && out/eden_bench large 64 timed
-	@cd crates/eden_bench && folder=$$(mktemp -d) && out/eden_bench large 64 timed $$folder; rm -r $$folder
-	@cd crates/eden_bench && out/eden_bench cache 1000000 timed
-	@cd crates/eden_bench && out/eden_bench lines 100000 timed
-	@scripts/build-mountd
-	@scripts/bench-mountd
-	@scripts/bench-instructions
-	@scripts/bench-remote
-	@scripts/bench-mounted
-	@scripts/bench-serve
+bench: ## times the work that grows with its input, at full size, and writes docs/measured/speed.md
+	@scripts/bench
 
 fmt: ## lays out every source and proof file
 	@for crate in crates/*/; do (cd $$crate && rt fmt) || exit 1; done
 
-install: ## puts mountd, which make run builds, and the commands for Git below PREFIX=DIR, or /usr/local
+install: ## puts mountd, which make run builds, the commands for Git and their manual below PREFIX=DIR, or /usr/local
 	@test -x crates/mountd/out/mountd || { echo "install: mountd isn't built yet: make run" >&2; exit 1; }
 	install -d "$(BIN)" "$(LIB)/yakembi"
 	install crates/mountd/out/mountd "$(BIN)"
 	cd scripts && install $(COMMANDS) "$(LIB)" && install -m 644 yakembi/*.py "$(LIB)/yakembi"
+	install -d "$(MAN)" && cd docs/man && install -m 644 $(MANUAL) "$(MAN)"
 	for command in $(COMMANDS); do ln -sf "../lib/yakembi/$$command" "$(BIN)/$$command"; done
 
 uninstall: ## takes away what make install put below PREFIX=DIR
 	rm -f "$(BIN)/mountd" $(foreach command,$(COMMANDS),"$(BIN)/$(command)")
+	rm -f $(foreach page,$(MANUAL),"$(MAN)/$(page)")
 	rm -rf "$(LIB)"

@@ -12,8 +12,8 @@ from helpers import running
 from helpers.git import git
 from helpers.running import PATIENCE, STILL_RUNNING, ending_of, finished, status_of, watched
 
-__all__ = ["PATIENCE", "STILL_RUNNING", "check", "closing_line", "ending_of", "finished", "git", "make_repository", "skip",
-           "status_of", "watched", "whole_tree"]
+__all__ = ["PATIENCE", "STILL_RUNNING", "check", "closing_line", "ending_of", "finished", "git", "make_repository",
+           "skip", "status_of", "watched", "whole_tree"]
 
 # After so many programs that hang a script ends: there may be thousands of runs left.
 MOST_HUNG = 3

@@ -6,8 +6,7 @@ from collections.abc import Iterator
 import paths  # before what stands in scripts/
 from helpers.clients import ENDED, LONGEST_RUN, NO_REPLY, Client, Service, serving, start_serve
 from protocol import path_text
-from random_requests import MOST_ENTRIES
-from tree_model import LONGEST_DATA
+from yakembi.tree_model import LONGEST_DATA, MOST_ENTRIES, Node, Nodes, Path
 
 __all__ = ["ENDED", "LONGEST_RUN", "NO_REPLY", "Client", "Odd", "Service", "ask_all", "asked_again",
            "leaves_seen_by", "page_of", "rows_of", "seen_by", "serving", "start_serve"]
@@ -20,14 +19,14 @@ class Odd(Exception):
     """A reply that isn't of the kind that what was seen before allows."""
 
 
-def page_of(reply):
+def page_of(reply: bytes) -> bytes:
     """The bytes of a reply of data."""
     if not reply.startswith(b"data "):
         raise Odd(reply)
     return bytes.fromhex(reply.partition(b" ")[2].partition(b" ")[2].decode())
 
 
-def rows_of(reply):
+def rows_of(reply: bytes) -> list[tuple[bytes, bytes]]:
     """The kinds and names of a reply of entries that are all."""
     if not reply.startswith(b"entries ") or not reply.endswith(b" end"):
         raise Odd(reply)
@@ -35,7 +34,7 @@ def rows_of(reply):
     return [(kind, urllib.parse.unquote_to_bytes(name)) for kind, name in zip(fields[::2], fields[1::2])]
 
 
-def ask_all(client, lines):
+def ask_all(client: Client, lines: list[bytes]) -> list[bytes]:
     """The replies to lines that are sent ahead; a line that met a failed fetch is asked again."""
     client.send(*lines)
     replies = client.replies(len(lines))
@@ -43,17 +42,17 @@ def ask_all(client, lines):
             for line, reply in zip(lines, replies)]
 
 
-def asked_again(client, line):
+def asked_again(client: Client, line: bytes) -> bytes:
     reply = b"fault fetch "
     while reply.startswith(b"fault fetch "):
         reply = client.ask(line)
     return reply
 
 
-def seen_by(client):
+def seen_by(client: Client) -> Nodes:
     """The whole tree as a client sees it, one level after another. Its files are shorter than a page."""
-    nodes = {(): ("dir", True)}
-    folders = [()]
+    nodes: Nodes = {(): ("dir", True)}
+    folders: list[Path] = [()]
     while folders:
         lines = [b"list %s - %d" % (path_text(path), MOST_ENTRIES) for path in folders]
         listed = [(path + (name,), kind) for path, reply in zip(folders, ask_all(client, lines))
@@ -64,7 +63,7 @@ def seen_by(client):
     return nodes
 
 
-def leaves_seen_by(client, leaves):
+def leaves_seen_by(client: Client, leaves: list[tuple[Path, bytes]]) -> Iterator[tuple[Path, Node]]:
     lines = [b"readlink " + path_text(path) if kind == b"link" else b"read %s 0 %d" % (path_text(path), LONGEST_DATA)
              for path, kind in leaves]
     for (path, kind), reply in zip(leaves, ask_all(client, lines)):

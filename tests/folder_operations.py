@@ -8,28 +8,37 @@ gives, or the name of an error number.
 import contextlib
 import errno
 import os
+import pathlib
+import random
 import resource
 import stat
+from collections.abc import Callable, Iterator, Sequence
+from typing import Any
 
 from checks import check
 from random_requests import Requests
-from tree_model import LONGEST_DATA, LONGEST_FILE, WholeTree
+from yakembi.tree_model import LONGEST_DATA, LONGEST_FILE, Nodes, Path, Values, WholeTree
+from yakembi.operations import MountOperations
 
 LONGEST_NAME = 255
 LONGEST_PATH = 4_095
 KINDS = {stat.S_IFREG: "file", stat.S_IFDIR: "dir", stat.S_IFLNK: "link"}
 LOOK = os.O_PATH | os.O_DIRECTORY | os.O_NOFOLLOW
 MODES = {False: 0o644, True: 0o755}
+# The kind, the mode, the size and the owner of a node.
+Attributes = tuple[str, int, int | None, tuple[int, int]]
+# Whether a difference is one that is passed over: by the tree before, the operation and the two outcomes.
+LeftOpen = Callable[[WholeTree, str, Values, Any, Any], bool]
 
 
-def outcome(place, word, *fields):
+def outcome(place: "AnyPlace", word: str, *fields: Any) -> Any:
     try:
         return getattr(place, word)(*fields)
     except OSError as refusal:
         return errno.errorcode[refusal.errno]
 
 
-def attributes(mode, size, owner):
+def attributes(mode: int, size: int, owner: tuple[int, int]) -> Attributes:
     """What is compared of a node's: the sizes and the times of folders are a file system's own."""
     kind = KINDS[stat.S_IFMT(mode)]
     return kind, stat.S_IMODE(mode), None if kind == "dir" else size, owner
@@ -38,11 +47,11 @@ def attributes(mode, size, owner):
 class Folder:
     """A folder by calls of the system. Names are looked up one by one from its top, and no link is followed."""
 
-    def __init__(self, top):
+    def __init__(self, top: pathlib.Path) -> None:
         self.top = top
 
     @contextlib.contextmanager
-    def above(self, path):
+    def above(self, path: Path) -> Iterator[int]:
         """The open folder in which the path's last name stands."""
         if sum(len(name) + 1 for name in path) > LONGEST_PATH:
             raise OSError(errno.ENAMETOOLONG, "as where a path is handed over whole")
@@ -56,7 +65,7 @@ class Folder:
             os.close(at)
 
     @contextlib.contextmanager
-    def opened(self, path, flags):
+    def opened(self, path: Path, flags: int) -> Iterator[int]:
         with self.above(path) as at:
             file = os.open(last(path), flags | os.O_NOFOLLOW, MODES[False], dir_fd=at)
         try:
@@ -64,63 +73,63 @@ class Folder:
         finally:
             os.close(file)
 
-    def getattr(self, path):
+    def getattr(self, path: Path) -> Attributes:
         with self.above(path) as at:
             found = os.stat(last(path), dir_fd=at, follow_symlinks=False)
         return attributes(found.st_mode, found.st_size, (found.st_uid, found.st_gid))
 
-    def readdir(self, path):
+    def readdir(self, path: Path) -> list[bytes]:
         with self.opened(path, os.O_DIRECTORY | os.O_RDONLY) as folder:
             return sorted(map(os.fsencode, os.listdir(folder)))
 
-    def read(self, path, offset, length):
+    def read(self, path: Path, offset: int, length: int) -> bytes:
         with self.opened(path, os.O_RDONLY) as file:
             return os.pread(file, length, offset)
 
-    def write(self, path, offset, data):
+    def write(self, path: Path, offset: int, data: bytes) -> int:
         with self.opened(path, os.O_WRONLY) as file:
             return os.pwrite(file, data, offset)
 
-    def truncate(self, path, size):
+    def truncate(self, path: Path, size: int) -> None:
         with self.opened(path, os.O_WRONLY) as file:
             os.ftruncate(file, size)
 
-    def create(self, path):
+    def create(self, path: Path) -> None:
         with self.opened(path, os.O_CREAT | os.O_EXCL | os.O_WRONLY):
             pass
 
-    def chmod(self, path, executable):
+    def chmod(self, path: Path, executable: bool) -> None:
         with self.opened(path, os.O_RDONLY) as file:
             os.fchmod(file, MODES[executable])
 
-    def mkdir(self, path):
+    def mkdir(self, path: Path) -> None:
         with self.above(path) as at:
             os.mkdir(last(path), MODES[True], dir_fd=at)
 
-    def symlink(self, path, target):
+    def symlink(self, path: Path, target: bytes) -> None:
         with contextlib.suppress(FileExistsError):
             os.symlink(target, "/")  # Linux refuses a bad target before it looks up the path
         with self.above(path) as at:
             os.symlink(target, last(path), dir_fd=at)
 
-    def readlink(self, path):
+    def readlink(self, path: Path) -> bytes:
         with self.above(path) as at:
             return os.readlink(last(path), dir_fd=at)
 
-    def unlink(self, path):
+    def unlink(self, path: Path) -> None:
         with self.above(path) as at:
             os.unlink(last(path), dir_fd=at)
 
-    def rmdir(self, path):
+    def rmdir(self, path: Path) -> None:
         with self.above(path) as at:
             os.rmdir(last(path), dir_fd=at)
 
-    def rename(self, source, target):
+    def rename(self, source: Path, target: Path) -> None:
         with self.above(source) as source_at, self.above(target) as target_at:
             os.rename(last(source), last(target), src_dir_fd=source_at, dst_dir_fd=target_at)
 
 
-def last(path):
+def last(path: Path) -> bytes:
     """A path's last name; the folder itself for its top."""
     return path[-1] if path else b"."
 
@@ -128,11 +137,11 @@ def last(path):
 class FileSystem:
     """The same by the methods that FUSE calls, on paths as it spells them."""
 
-    def __init__(self, methods):
+    def __init__(self, methods: MountOperations) -> None:
         self.methods = methods
 
     @contextlib.contextmanager
-    def opened(self, path, flags):
+    def opened(self, path: str, flags: int) -> Iterator[int]:
         file = self.methods.open(path, flags)
         try:
             yield file
@@ -140,64 +149,67 @@ class FileSystem:
             self.methods.flush(path, file)
             self.methods.release(path, file)
 
-    def getattr(self, path):
+    def getattr(self, path: Path) -> Attributes:
         found = self.methods.getattr(spelled(path))
         return attributes(found["st_mode"], found["st_size"], (found["st_uid"], found["st_gid"]))
 
-    def readdir(self, path):
+    def readdir(self, path: Path) -> list[bytes]:
         rows = self.methods.readdir(spelled(path), None)
         names = [row if isinstance(row, str) else row[0] for row in rows]
         return sorted(name.encode("latin-1") for name in names if name not in (".", ".."))
 
-    def read(self, path, offset, length):
+    def read(self, path: Path, offset: int, length: int) -> bytes:
         with self.opened(spelled(path), os.O_RDONLY) as file:
             return self.methods.read(spelled(path), length, offset, file)
 
-    def write(self, path, offset, data):
+    def write(self, path: Path, offset: int, data: bytes) -> int:
         with self.opened(spelled(path), os.O_WRONLY) as file:
             return self.methods.write(spelled(path), data, offset, file)
 
-    def truncate(self, path, size):
+    def truncate(self, path: Path, size: int) -> None:
         self.methods.truncate(spelled(path), size)
 
-    def create(self, path):
+    def create(self, path: Path) -> None:
         file = self.methods.create(spelled(path), stat.S_IFREG | MODES[False])
         self.methods.release(spelled(path), file)
 
-    def chmod(self, path, executable):
+    def chmod(self, path: Path, executable: bool) -> None:
         self.methods.chmod(spelled(path), MODES[executable])
 
-    def mkdir(self, path):
+    def mkdir(self, path: Path) -> None:
         self.methods.mkdir(spelled(path), MODES[True])
 
-    def symlink(self, path, target):
+    def symlink(self, path: Path, target: bytes) -> None:
         self.methods.symlink(spelled(path), target.decode("latin-1"))
 
-    def readlink(self, path):
+    def readlink(self, path: Path) -> bytes:
         return self.methods.readlink(spelled(path)).encode("latin-1")
 
-    def unlink(self, path):
+    def unlink(self, path: Path) -> None:
         self.methods.unlink(spelled(path))
 
-    def rmdir(self, path):
+    def rmdir(self, path: Path) -> None:
         self.methods.rmdir(spelled(path))
 
-    def rename(self, source, target):
+    def rename(self, source: Path, target: Path) -> None:
         self.methods.rename(spelled(source), spelled(target))
 
 
-def spelled(path):
+AnyPlace = Folder | FileSystem
+
+
+def spelled(path: Path) -> str:
     return "/" + "/".join(name.decode("latin-1") for name in path)
 
 
-def shown(place, path=()):
+def shown(place: "AnyPlace", path: Path = ()) -> Nodes:
     """All that a place shows, as a dictionary from paths to nodes like those of `tree_model`."""
     kind, mode, size, _ = place.getattr(path)
     if kind == "file":
         return {path: ("file", bool(mode & 0o100), place.read(path, 0, size) if size else b"")}
     if kind == "link":
         return {path: ("link", place.readlink(path))}
-    nodes = {path: ("dir", True)}
+    nodes: Nodes = {path: ("dir", True)}
     for name in place.readdir(path):
         nodes.update(shown(place, path + (name,)))
     return nodes
@@ -211,7 +223,7 @@ class Operations(Requests):
 
     NAMES_OF_WORDS = {"kind": "getattr", "stat": "getattr", "list": "readdir", "setexec": "chmod"}
 
-    def next(self):
+    def next(self) -> tuple[tuple[str, Values], tuple[str, Values]]:
         """An operation, and the request of the mount that it comes to."""
         word, fields = self.one()
         if word == "rmdir" and fields == ((),):
@@ -219,46 +231,46 @@ class Operations(Requests):
         called = fields[:1] if word == "list" else fields
         return (self.NAMES_OF_WORDS.get(word, word), called), (word, fields)
 
-    def file(self):
+    def file(self) -> Path:
         """A path for reading and writing: half of them are files."""
         files = [path for path, node in self.tree.nodes.items() if node[0] == "file"]
         return self.random.choice(files) if files and self.random.random() < 0.5 else self.path()
 
-    def size(self, longest):
+    def size(self, longest: int) -> int:
         return self.random.choice([0, 1, self.random.randrange(64), self.random.randrange(9_000), longest])
 
-    def offset(self):
+    def offset(self) -> int:
         """Where a file may end, or so far out that no file reaches it."""
         near = [0, 1, self.random.randrange(3_000), self.random.randrange(80_000)]
         return self.random.choice([*near, LONGEST_FILE, 2**62])
 
-    def read(self):
+    def read(self) -> Values:
         return self.file(), self.offset(), self.size(150_000)
 
-    def write(self):
+    def write(self) -> Values:
         return self.file(), self.offset(), self.data()
 
-    def truncate(self):
+    def truncate(self) -> Values:
         return self.file(), self.size(LONGEST_FILE + 1)
 
-    def setexec(self):
+    def setexec(self) -> Values:
         """A folder stays one that can be entered."""
         path = self.file()
         return path, self.tree.nodes.get(path, ("",))[0] == "dir" or self.random.random() < 0.5
 
-    def data(self):
+    def data(self, longest: int = 150_000) -> bytes:
         if self.random.random() < 0.02:
-            return self.random.randbytes(150_000)
+            return self.random.randbytes(longest)
         return self.random.randbytes(self.random.choice([0, 1, 3, 60, 700, 5_000]))
 
-    def symlink(self):
+    def symlink(self) -> Values:
         """A target may be any bytes but NUL; one that names something leads on, and none leads out of the folder."""
         long = self.random.choice([b"t" * 1_000, b"t" * (LONGEST_PATH + 1), b""])
         return self.path(), self.random.choice([b"/".join(self.there()), self.name(), b"no where\n", b"\xff", long])
 
 
 @contextlib.contextmanager
-def short_files():
+def short_files() -> Iterator[None]:
     """Files as long as the mount's at most, by the system's own limit, in the place of its EFBIG."""
     soft, hard = resource.getrlimit(resource.RLIMIT_FSIZE)
     resource.setrlimit(resource.RLIMIT_FSIZE, (LONGEST_FILE, hard))
@@ -275,7 +287,7 @@ NAMES = [b"plain.txt", b"run.sh", b"dir", b"many", b"d0", b"sub", b"link", b"a",
          b"%41", b"-r", b"*", b"with space", b"n" * LONGEST_NAME, b"m" * (LONGEST_NAME + 1)]
 
 
-def note(tree, word, fields):
+def note(tree: WholeTree, word: str, fields: Values) -> None:
     """Does on the dictionary what succeeded, a long write in pieces as long as the mount's requests."""
     if word != "write":
         tree.reply(word, *fields)
@@ -285,7 +297,8 @@ def note(tree, word, fields):
         tree.write(path, offset + start, data[start : start + LONGEST_DATA])
 
 
-def compare(name, generator, asked, plain, left_open=()):
+def compare(name: str, generator: random.Random, asked: AnyPlace, plain: AnyPlace,
+            left_open: Sequence[tuple[str, LeftOpen]] = ()) -> None:
     """Makes random operations in both places, and compares each outcome, and at times all that the places show.
 
     A difference in one of the rows of `left_open`, a reason and a test, is passed over; each row has to come up.

@@ -4,11 +4,14 @@ them, and the client library."""
 import contextlib
 import errno
 import os
+import pathlib
 import random
 import re
 import signal
 import subprocess
 import threading
+from collections.abc import Callable, Iterator, Sequence
+from typing import Any, Self
 
 from checks import PATIENCE, check, git, make_repository, whole_tree
 from folder_operations import FileSystem, Folder, compare, shown
@@ -16,10 +19,12 @@ from mount_folder import checkout
 from programs import GIT_OBJECTS, MOUNTD, SAMPLE_OBJECTS, SAMPLE_ROOT, listening
 
 from helpers.git import DEEP, content_of, make_large_repository
+from yakembi.tree_model import Values, WholeTree
 from yakembi import client
+from yakembi.client import Session
 from yakembi.operations import UTIME_NOW, UTIME_OMIT, Mount, MountOperations
 from yakembi.overlay import OverlayFolder
-from yakembi.pool import Pool, Serving
+from yakembi.pool import Pool, Running, Serving
 from yakembi.times import Times
 
 USERS = 8
@@ -34,9 +39,9 @@ class Starts(Serving):
     """A program that counts how often it is started, and keeps what runs. Those of its runs in `doomed` are killed."""
 
     count = 0
-    doomed = ()
+    doomed: frozenset[int] = frozenset()
 
-    def start(self, history):
+    def start(self, history: int) -> Running:
         self.count += 1
         self.last = super().start(history)
         if self.count in self.doomed:
@@ -45,39 +50,41 @@ class Starts(Serving):
         return self.last
 
 
-class Shown:
+class MountedCommit:
     """A commit behind a class of operations. `said` are the lines that its user sees."""
 
-    def __init__(self, root, source, overlay, *options, **limits):
-        self.said = []
+    def __init__(self, root: str, source: Sequence[object], overlay: pathlib.Path, *options: object,
+                 **limits: int) -> None:
+        self.said: list[str] = []
         self.program = Starts(MOUNTD, root, source, overlay, options)
         self.pool = Pool(self.program, **limits)
         self.operations = MountOperations(Mount(self.pool, self.said.append), Times(0))
 
-    def __enter__(self):
+    def __enter__(self) -> Self:
         return self
 
-    def __exit__(self, *_):
+    def __exit__(self, *_: object) -> None:
         self.program.last.kill()
 
-    def close(self):
+    def close(self) -> str | None:
         return self.pool.close()
 
 
 @contextlib.contextmanager
-def over_git(repository, overlay, *options, **limits):
+def over_git(repository: pathlib.Path, overlay: pathlib.Path, *options: object,
+             **limits: int) -> Iterator[MountedCommit]:
     """A commit of a Git repository, whose objects are fetched as they are touched."""
     with listening([GIT_OBJECTS, repository], stderr=subprocess.DEVNULL) as (_, port):
         root = git(repository, "rev-parse", "HEAD^{tree}")
-        with Shown(root, ["--remote", port], overlay, *options, **limits) as mount:
+        with MountedCommit(root, ["--remote", port], overlay, *options, **limits) as mount:
             yield mount
 
 
-def sample(overlay, *options, **limits):
-    return Shown(SAMPLE_ROOT, ["--objects", SAMPLE_OBJECTS], overlay, *options, **limits)
+def sample(overlay: pathlib.Path, *options: object, **limits: int) -> MountedCommit:
+    return MountedCommit(SAMPLE_ROOT, ["--objects", SAMPLE_OBJECTS], overlay, *options, **limits)
 
 
-def refused(call, *words):
+def refused(call: Callable[..., object], *words: object) -> str | None:
     """The name of the error with which a call is refused; None where it isn't."""
     try:
         call(*words)
@@ -89,17 +96,17 @@ def refused(call, *words):
 # ---- random operations
 
 
-def looks_too_late(tree, word, fields, got, wanted):
+def looks_too_late(tree: WholeTree, word: str, fields: Values, got: Any, wanted: Any) -> bool:
     return got == "ENAMETOOLONG" and wanted in ("ENOENT", "ENOTDIR", "EBUSY")
 
 
-def ends_before_parents(tree, word, fields, got, wanted):
+def ends_before_parents(tree: WholeTree, word: str, fields: Values, got: Any, wanted: Any) -> bool:
     if word != "rename" or not (isinstance(got, str) and wanted in ("ENOENT", "ENOTDIR", "ENAMETOOLONG")):
         return False
     return any(tree.nodes.get(path[:-1], ("",))[0] != "dir" for path in fields)
 
 
-def opens_a_link(tree, word, fields, got, wanted):
+def opens_a_link(tree: WholeTree, word: str, fields: Values, got: Any, wanted: Any) -> bool:
     return wanted == "ELOOP" and tree.nodes[fields[0]][0] == "link" and got in (None, "EINVAL")
 
 
@@ -112,7 +119,7 @@ LEFT_OPEN = [
 ]
 
 
-def check_random_operations(folder, seed):
+def check_random_operations(folder: pathlib.Path, seed: int) -> None:
     repository = make_repository(folder)
     plain = checkout(repository, folder / "plain")
     with over_git(repository, folder / "overlay") as mount:
@@ -162,7 +169,7 @@ REFUSED = [
 ]
 
 
-def check_client(folder):
+def check_client(folder: pathlib.Path) -> None:
     """What can't be spelled is never sent, what is refused has its number, and long reads and listings come whole."""
     words = [MOUNTD, "stdio", "--root", SAMPLE_ROOT, "--objects", SAMPLE_OBJECTS]
     with client.start([str(word) for word in words]) as session:
@@ -179,7 +186,7 @@ def check_client(folder):
         check("client: the child's end", session.close(), 0)
 
 
-def check_client_data(session):
+def check_client_data(session: Session) -> None:
     data = random.Random(1).randbytes(200_001)
     session.create(b"/\xff\n %41")
     check("client: a long write", session.write(b"/\xff\n %41", 70_000, data), len(data))
@@ -203,7 +210,7 @@ def check_client_data(session):
 # ---- faults, and sessions that end
 
 
-def check_lost_object(folder):
+def check_lost_object(folder: pathlib.Path) -> None:
     """A repository that lacks a file's object: EIO and a line that names it, and all else goes on."""
     repository = folder / "lost"
     repository.mkdir()
@@ -215,7 +222,9 @@ def check_lost_object(folder):
     object_id = git(repository, "rev-parse", "HEAD:lost")
     (repository / ".git/objects" / object_id[:2] / object_id[2:]).unlink()
     with over_git(repository, folder / "overlay of the lost") as mount:
-        for call, words in [(mount.operations.getattr, ("/lost",)), (mount.operations.read, ("/lost", 10, 0))]:
+        calls: list[tuple[Callable[..., object], Values]] = [
+            (mount.operations.getattr, ("/lost",)), (mount.operations.read, ("/lost", 10, 0))]
+        for call, words in calls:
             mount.said.clear()
             check("lost: a fault is EIO", refused(call, *words), "EIO")
             check("lost: one line", len(mount.said), 1)
@@ -225,7 +234,7 @@ def check_lost_object(folder):
         check("lost: the end", mount.close(), None)
 
 
-def check_killed_mountd(folder):
+def check_killed_mountd(folder: pathlib.Path) -> None:
     """A request that finds its session ended is EIO; then mountd is there again, with all that was answered."""
     with sample(folder / "overlay of the killed") as mount:
         operations = mount.operations
@@ -244,9 +253,11 @@ def check_killed_mountd(folder):
             check(f"killed for good: EIO, the {time_of_it}", refused(operations.read, "/new", 10, 0), "EIO")
 
 
-def check_killed_after_limit(folder):
+def check_killed_after_limit(folder: pathlib.Path) -> None:
     """A mountd that is killed before its first reply is followed by one more, and if that is killed too by none."""
-    for name, doomed, wanted in [("once", {2}, ["EIO", None, None]), ("twice", {2, 3}, ["EIO", "EIO", "EIO"])]:
+    rows: list[tuple[str, frozenset[int], list[str | None]]] = [
+        ("once", frozenset({2}), ["EIO", None, None]), ("twice", frozenset({2, 3}), ["EIO", "EIO", "EIO"])]
+    for name, doomed, wanted in rows:
         with sample(folder / f"overlay of the killed {name}", most_requests=2) as mount:
             mount.program.doomed = doomed
             mount.operations.create("/new", 0o644)
@@ -255,12 +266,12 @@ def check_killed_after_limit(folder):
             check(f"killed after a limit, {name}", (told, mount.program.count), (wanted, 3))
 
 
-def check_ended_session(folder):
+def check_ended_session(folder: pathlib.Path) -> None:
     """One session of eight that has ended costs the request on it, and then all goes on."""
     with sample(folder / "overlay") as mount:
         mount.operations.create("/new", 0o644)
-        told = mount.program.last.sessions[-1].exchange(b"no request\n")
-        check("ended session: it ends", told, b"err 71 EPROTO")
+        reply = mount.program.last.sessions[-1].exchange(b"no request\n")
+        check("ended session: it ends", reply, b"err 71 EPROTO")
         told = [refused(mount.operations.write, "/new", b"%d" % turn, turn) for turn in range(4)]
         check("ended session: one request", (told, len(mount.said)), (["EIO", None, None, None], 1))
         check("ended session: opened again", mount.program.count, 2)
@@ -271,13 +282,13 @@ def check_ended_session(folder):
 # ---- opened again, unseen
 
 
-def check_limits(folder):
+def check_limits(folder: pathlib.Path) -> None:
     """A mount that is closed and opened again behind so many requests, or bytes, answers as one that never was."""
     check_unseen(folder / "overlay of few requests", 10, most_requests=60)
     check_unseen(folder / "overlay of few bytes", 5, most_bytes=4_000)
 
 
-def check_unseen(overlay, least_starts, **limits):
+def check_unseen(overlay: pathlib.Path, least_starts: int, **limits: int) -> None:
     with sample(overlay, **limits) as mount:
         users = [User(mount.operations, number) for number in range(USERS)]
         for user in users:
@@ -293,14 +304,14 @@ def check_unseen(overlay, least_starts, **limits):
 class User(threading.Thread):
     """Makes, changes and moves files in a folder of its own. `seen` are the contents that it read."""
 
-    def __init__(self, operations, number):
+    def __init__(self, operations: MountOperations, number: int) -> None:
         super().__init__(daemon=True)
         self.operations = operations
         self.folder = f"/{number}"
-        self.seen = []
+        self.seen: list[bytes] = []
         self.start()
 
-    def run(self):
+    def run(self) -> None:
         self.operations.mkdir(self.folder, 0o755)
         for turn in range(TURNS):
             path = f"{self.folder}/{turn}"
@@ -313,7 +324,7 @@ class User(threading.Thread):
 # ---- times
 
 
-def check_times(folder):
+def check_times(folder: pathlib.Path) -> None:
     """A time may be set alone, and the next mount finds in the overlay when what was changed."""
     overlay = folder / "overlay of times"
     with sample(overlay) as mount:
@@ -322,9 +333,9 @@ def check_times(folder):
                                     ("the last read's", (7, UTIME_OMIT), 6), ("both of them again", (8, 8), 8)]:
             operations.utimens("/test.txt", times)
             check(f"times: {name}", operations.getattr("/test.txt")["st_mtime"], wanted)
-        for name, times in [("the clock's", (UTIME_OMIT, UTIME_NOW)), ("the clock's, later", None)]:
+        for name, clock in [("the clock's", (UTIME_OMIT, UTIME_NOW)), ("the clock's, later", None)]:
             before = operations.times.latest
-            operations.utimens("/test.txt", times)
+            operations.utimens("/test.txt", clock)
             check(f"times: {name}", before < operations.getattr("/test.txt")["st_mtime"], True)
         check("times: without a change", found_in(overlay), [])
         operations.mkdir("/folder", 0o755)
@@ -333,7 +344,7 @@ def check_times(folder):
     check("times: what is found", found_in(overlay), ["/", "/folder", "/folder/file"])
 
 
-def found_in(overlay):
+def found_in(overlay: pathlib.Path) -> list[str]:
     """The paths that have the time of a change in the next mount on an overlay."""
     with contextlib.closing(OverlayFolder(overlay)) as folder:
         times = Times(0, folder.changed())
@@ -343,13 +354,14 @@ def found_in(overlay):
 # ---- slow fetches
 
 
-def check_slow_fetch(folder):
+def check_slow_fetch(folder: pathlib.Path) -> None:
     """While a server of objects stands still, whoever needs none of it is answered, and then the others are."""
     repository = make_repository(folder)
     root = git(repository, "rev-parse", "HEAD^{tree}")
     with listening([GIT_OBJECTS, repository], stderr=subprocess.DEVNULL) as (server, port):
-        with Shown(root, ["--remote", port], folder / "overlay") as mount:
-            place, seen = FileSystem(mount.operations), []
+        with MountedCommit(root, ["--remote", port], folder / "overlay") as mount:
+            place = FileSystem(mount.operations)
+            seen: list[bytes] = []
             check("slow: before", place.read((b"plain.txt",), 0, 100), b"plain\n")
             server.send_signal(signal.SIGSTOP)
             goes_on = threading.Timer(PATIENCE, server.send_signal, [signal.SIGCONT])
@@ -375,7 +387,7 @@ class Large:
     content = content_of(DEEP).encode()
     folder = b"d18"
 
-    def __init__(self, folder):
+    def __init__(self, folder: pathlib.Path) -> None:
         self.repository = make_large_repository(folder)
         self.root = git(self.repository, "rev-parse", "HEAD^{tree}")
         rows = whole_tree(self.repository)
@@ -383,11 +395,11 @@ class Large:
         self.beside = {row[1] for path, row in rows.items() if (path + b"/").startswith(self.folder + b"/")}
 
 
-def check_laziness(folder, large):
+def check_laziness(folder: pathlib.Path, large: Large) -> None:
     """Of 50,000 files one file costs the objects on its path, and a look through a folder that folder's."""
     log = folder / "log of the large"
     with open(log, "wb") as errors, listening([GIT_OBJECTS, large.repository, "--log"], stderr=errors) as (_, port):
-        with Shown(large.root, ["--remote", port], folder / "overlay of the large", *ALL_KEPT) as mount:
+        with MountedCommit(large.root, ["--remote", port], folder / "overlay of the large", *ALL_KEPT) as mount:
             place = FileSystem(mount.operations)
             check("lazy: a deep file", place.read(large.path, 0, 1_000), large.content)
             check("lazy: what one file costs", asked_for(log), sorted(large.deep))
@@ -397,6 +409,6 @@ def check_laziness(folder, large):
             check("lazy: the end", (mount.close(), mount.said), (None, []))
 
 
-def asked_for(log):
+def asked_for(log: pathlib.Path) -> list[str]:
     """The ids that an object server was asked for, as often as it was."""
     return sorted(re.findall("get ([0-9a-f]{40})", log.read_text()))

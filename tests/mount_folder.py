@@ -12,14 +12,19 @@ import sys
 import tempfile
 import threading
 import time
+from collections.abc import Callable
+from typing import Self
 
 from checks import PATIENCE, check, git, make_repository, skip
 from helpers.git import environment
 from programs import MOUNT_GIT, MOUNTD
 
 LONGEST_MOUNT = 280
-UNMOUNT = shutil.which("fusermount3") or shutil.which("fusermount")
+UNMOUNT = shutil.which("fusermount3") or shutil.which("fusermount") or ""
 NUMBERS = itertools.count()
+# The status and the lines of a program; the status, the output and the errors of a command.
+Said = tuple[int, list[str]]
+Told = tuple[int | str, bytes, bytes]
 HELLO = {
     "Makefile": "hello: main.o greet.o\n\t$(CC) -o $@ main.o greet.o\n\nmain.o greet.o: greet.h\n",
     "main.c": '#include "greet.h"\n\nint main(void)\n{\n    return greet("needle");\n}\n',
@@ -29,13 +34,13 @@ HELLO = {
 }
 
 
-def missing():
+def missing() -> str | None:
     """What this machine lacks for a mount through FUSE, in words; None where nothing is."""
     try:
         os.close(os.open("/dev/fuse", os.O_RDWR))
     except OSError as problem:
         return f"/dev/fuse can't be opened: {problem.strerror}"
-    if UNMOUNT is None:
+    if not UNMOUNT:
         return "fusermount3, of Debian's fuse3, isn't there"
     programs = filter(None, (sys.executable, shutil.which("python3", path="/usr/bin")))
     if all(subprocess.run([program, "-c", "import fusepy"], capture_output=True).returncode for program in programs):
@@ -43,7 +48,7 @@ def missing():
     return mount_refused()
 
 
-def mount_refused():
+def mount_refused() -> str | None:
     """Why nothing may be mounted here, as in some containers; None where it may. A mount that nobody serves tells."""
     ours, theirs = socket.socketpair()
     with ours, theirs, tempfile.TemporaryDirectory() as folder:
@@ -58,7 +63,7 @@ def mount_refused():
 # ---- a repository, and its checkout
 
 
-def make_project(folder):
+def make_project(folder: pathlib.Path) -> pathlib.Path:
     """A repository of a few hundred files: one of everything, notes, a program in C, and links to files and folders."""
     repository = make_repository(folder)
     for number in range(160):
@@ -70,14 +75,14 @@ def make_project(folder):
     for name, text in HELLO.items():
         (hello / name).write_text(text)
     (repository / "run.sh").write_text('#!/bin/sh\necho "run with $*"; ls\n')
-    for place, target in [("first", "notes/0/0.txt"), ("notes/above", ".."), ("notes/1/other", "../2")]:
-        (repository / place).symlink_to(target)
+    for link, target in [("first", "notes/0/0.txt"), ("notes/above", ".."), ("notes/1/other", "../2")]:
+        (repository / link).symlink_to(target)
     git(repository, "add", "-A")
     git(repository, "commit", "-qm", "project")
     return repository
 
 
-def checkout(repository, folder, revision="HEAD"):
+def checkout(repository: pathlib.Path, folder: pathlib.Path, revision: str = "HEAD") -> pathlib.Path:
     """Writes the commit's files into a folder, as Git does."""
     folder.mkdir()
     git(repository, f"--work-tree={folder}", "checkout", "-qf", revision, "--", ".")
@@ -87,10 +92,10 @@ def checkout(repository, folder, revision="HEAD"):
 # ---- mount-git
 
 
-class Mount:
+class MountGit:
     """A run of `mount-git`, all of whose lines are kept in a file. It is killed where it takes too long."""
 
-    def __init__(self, repository, revision, folder, *options):
+    def __init__(self, repository: pathlib.Path, revision: str, folder: pathlib.Path, *options: object) -> None:
         self.folder = folder
         self.log = folder.parent / f"{folder.name}.{next(NUMBERS)}.log"
         words = [MOUNT_GIT, "--mountd", MOUNTD, *options, repository, revision, folder]
@@ -100,37 +105,37 @@ class Mount:
             self.process = subprocess.Popen([str(word) for word in words], stdin=subprocess.DEVNULL, stdout=log,
                                             stderr=log, start_new_session=True)
 
-    def wait_until_shown(self):
+    def wait_until_shown(self) -> None:
         end = time.monotonic() + PATIENCE
         while f"mounted {self.folder}" not in self.lines():
             if self.process.poll() is not None or time.monotonic() > end:
                 raise RuntimeError(f"mount-git shows nothing: {self.lines()}")
             time.sleep(0.01)
 
-    def lines(self):
+    def lines(self) -> list[str]:
         return self.log.read_text(errors="replace").splitlines()
 
-    def said(self):
+    def said(self) -> list[str]:
         """The lines that tell of something that went wrong."""
         return [line for line in self.lines() if line.startswith("mount-git: ")]
 
-    def is_mounted(self):
+    def is_mounted(self) -> bool:
         """Whether the folder is a mount, be it one that nobody serves any more."""
         return f" {self.folder} " in pathlib.Path("/proc/self/mountinfo").read_text()
 
-    def status(self):
+    def status(self) -> int | None:
         """The status with which it ends by itself; None where it doesn't."""
         try:
             return self.process.wait(PATIENCE)
         except subprocess.TimeoutExpired:
             return None
 
-    def end(self, how):
+    def end(self, how: str) -> int | None:
         """Ends it in one of the ways that `ENDINGS` names, and gives its status."""
         ENDINGS[how](self)
         return self.status()
 
-    def kill(self):
+    def kill(self) -> None:
         """Kills it and all that it started, at once, and leaves the dead mount."""
         if self.process.poll() is not None:
             return
@@ -139,7 +144,7 @@ class Mount:
                 os.kill(process, signal.SIGKILL)
         self.process.wait()
 
-    def __enter__(self):
+    def __enter__(self) -> Self:
         self.watch = threading.Timer(LONGEST_MOUNT, self.kill)
         self.watch.daemon = True
         self.watch.start()
@@ -150,7 +155,7 @@ class Mount:
             raise
         return self
 
-    def __exit__(self, *_):
+    def __exit__(self, *_: object) -> None:
         """Leaves nothing mounted, whatever happened."""
         self.watch.cancel()
         self.kill()
@@ -158,18 +163,18 @@ class Mount:
             unmount("-z", self.folder)
 
 
-def unmount(*words):
+def unmount(*words: object) -> None:
     subprocess.run([UNMOUNT, "-u", *map(str, words)], capture_output=True, timeout=PATIENCE)
 
 
-ENDINGS = {
+ENDINGS: dict[str, Callable[[MountGit], object]] = {
     "Ctrl-C": lambda mount: os.killpg(mount.process.pid, signal.SIGINT),
     "SIGTERM": lambda mount: mount.process.terminate(),
     "fusermount3 -u": lambda mount: unmount(mount.folder),
 }
 
 
-def children(process):
+def children(process: int) -> list[int]:
     """The processes that it started and that are there, and theirs."""
     found = []
     for task in pathlib.Path(f"/proc/{process}/task").glob("*/children"):
@@ -182,7 +187,7 @@ def children(process):
 # ---- programs
 
 
-def said_by(*words):
+def said_by(*words: object) -> Said:
     """The status and the lines of a program."""
     done = subprocess.run([str(word) for word in words], stdin=subprocess.DEVNULL, stdout=subprocess.PIPE,
                           stderr=subprocess.STDOUT, timeout=PATIENCE)
@@ -195,19 +200,20 @@ def said_by(*words):
 class Both:
     """The mounted folder and the plain one. A command finds what it takes at $IN and leaves what it makes at $OUT."""
 
-    def __init__(self, repository, mounted, plain, place):
+    def __init__(self, repository: pathlib.Path, mounted: pathlib.Path, plain: pathlib.Path,
+                 place: pathlib.Path) -> None:
         self.folders = [mounted, plain]
         self.environment = {**environment(), "LC_ALL": "C", "REPOSITORY": str(repository), "IN": str(place / "in")}
         self.outs = [place / "out of the mounted", place / "out of the plain"]
         for out in self.outs:
             out.mkdir()
 
-    def run(self, command):
+    def run(self, command: str) -> list[Told]:
         """What each run of the command says: its status, its output and its errors."""
         return [told(command, folder, {**self.environment, "OUT": str(out)})
                 for folder, out in zip(self.folders, self.outs)]
 
-    def check(self, name, command, program=None):
+    def check(self, name: str, command: str, program: str | None = None) -> None:
         """It succeeds in both, and says the same."""
         if program is not None and shutil.which(program) is None:
             skip(name, f"{program} isn't there")
@@ -217,7 +223,7 @@ class Both:
         check(name, mounted, plain)
 
 
-def told(command, folder, environment):
+def told(command: str, folder: pathlib.Path, environment: dict[str, str]) -> Told:
     try:
         done = subprocess.run(["sh", "-euc", command], cwd=folder, env=environment, stdin=subprocess.DEVNULL,
                               capture_output=True, timeout=PATIENCE)

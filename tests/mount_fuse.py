@@ -10,36 +10,38 @@ import subprocess
 import sys
 import time
 import zlib
+from collections.abc import Callable
 
 from checks import PATIENCE, check, git, make_repository
 from folder_operations import Folder, compare, outcome, shown
-from mount_class import asked_for, refused
-from mount_folder import BUILDS, CHANGES, COPIES, ENDINGS, LOOKS, Both, Mount, checkout, children, said_by
+from mount_class import Large, asked_for, refused
+from mount_folder import BUILDS, CHANGES, COPIES, ENDINGS, LOOKS, Both, MountGit, checkout, children, said_by
 from programs import MOUNT_GIT, MOUNTD
+from yakembi.tree_model import Values
 
 
 # ---- tools
 
 
-def check_tools(folder, repository):
+def check_tools(folder: pathlib.Path, repository: pathlib.Path) -> None:
     """Tools say and make in the mounted folder what they do in a plain one, and the next mount shows it all."""
     plain, given = checkout(repository, folder / "plain"), checkout(repository, folder / "in")
     subprocess.run(["tar", "-cf", given / "notes.tar", "-C", given, "notes"], check=True)
     (given / "bytes").write_bytes(random.Random(1).randbytes(1_000_000))
-    with Mount(repository, "HEAD", folder / "mounted", "--overlay", folder / "overlay") as mount:
+    with MountGit(repository, "HEAD", folder / "mounted", "--overlay", folder / "overlay") as mount:
         both = Both(repository, mount.folder, plain, folder)
         check("diff -r beside a checkout", said_by("diff", "-r", "--no-dereference", mount.folder, plain), (0, []))
         run_tools(both)
         check("tools: what stands at the end", shown(Folder(mount.folder)), shown(Folder(plain)))
         check("tools: what was copied out", shown(Folder(both.outs[0])), shown(Folder(both.outs[1])))
         check("tools: the end, with nothing said", (mount.end("SIGTERM"), mount.said()), (0, []))
-    with Mount(repository, "HEAD", folder / "mounted", "--overlay", folder / "overlay") as mount:
+    with MountGit(repository, "HEAD", folder / "mounted", "--overlay", folder / "overlay") as mount:
         check("tools: mounted again", shown(Folder(mount.folder)), shown(Folder(plain)))
         both.check("tools: a build goes on", "make --no-print-directory -C hello && hello/hello", "cc")
         check("tools: the second end, with nothing said", (mount.end("SIGTERM"), mount.said()), (0, []))
 
 
-def run_tools(both):
+def run_tools(both: Both) -> None:
     for name, command in LOOKS + CHANGES:
         both.check(name, command)
     for name, command in BUILDS:
@@ -48,11 +50,11 @@ def run_tools(both):
         both.check(name, command, "rsync")
 
 
-def check_random_operations(folder, seed):
+def check_random_operations(folder: pathlib.Path, seed: int) -> None:
     """Random operations through FUSE and on a plain folder have the same outcomes, and leave the same."""
     repository = make_repository(folder)
     plain = checkout(repository, folder / "plain")
-    with Mount(repository, "HEAD", folder / "mounted") as mount:
+    with MountGit(repository, "HEAD", folder / "mounted") as mount:
         compare("mounted", random.Random(seed), Folder(mount.folder), Folder(plain))
         check("mounted: the end, with nothing said", (mount.end("SIGTERM"), mount.said()), (0, []))
 
@@ -60,30 +62,30 @@ def check_random_operations(folder, seed):
 # ---- beginnings and ends
 
 
-def check_endings(folder, repository):
+def check_endings(folder: pathlib.Path, repository: pathlib.Path) -> None:
     """Each way to end it, in use or not, leaves an overlay that was closed, nothing mounted and nothing running."""
     overlay = folder / "overlay"
     for number, how in enumerate(ENDINGS):
-        with Mount(repository, "HEAD", folder / "mounted", "--overlay", overlay) as mount:
+        with MountGit(repository, "HEAD", folder / "mounted", "--overlay", overlay) as mount:
             names = sorted(path.name for path in mount.folder.glob("made *"))
             check(f"{how}: what was made before", names, [f"made {before}" for before in range(number)])
             (mount.folder / f"made {number}").write_text(how)
             check_ended(how, mount, overlay)
-    with Mount(repository, "HEAD", folder / "mounted", "--overlay", overlay) as mount:
+    with MountGit(repository, "HEAD", folder / "mounted", "--overlay", overlay) as mount:
         with contextlib.suppress(OSError), open(mount.folder / "made 0", "rb"):
             check_ended("Ctrl-C", mount, overlay)
-    with Mount(repository, "HEAD", folder / "mounted", "--overlay", overlay) as mount:
+    with MountGit(repository, "HEAD", folder / "mounted", "--overlay", overlay) as mount:
         copy = subprocess.Popen(["cp", "-r", mount.folder / "notes", mount.folder / "copy"], stderr=subprocess.DEVNULL)
         wait_for(mount.folder / "copy")
         check_ended("SIGTERM", mount, overlay)
         check("ended in a copy: it fails", copy.wait(PATIENCE) != 0, True)
-    with Mount(repository, "HEAD", folder / "mounted", "--overlay", overlay) as mount:
+    with MountGit(repository, "HEAD", folder / "mounted", "--overlay", overlay) as mount:
         made = [(mount.folder / f"made {number}").read_text() for number in range(len(ENDINGS))]
         check("ended: all is there", made, list(ENDINGS))
         check("ended: the last end", mount.end("SIGTERM"), 0)
 
 
-def check_ended(how, mount, overlay):
+def check_ended(how: str, mount: MountGit, overlay: pathlib.Path) -> None:
     running = children(mount.process.pid)
     check(f"{how}: what runs below", len(running) >= 2, True)
     check(f"{how}: the end, with nothing said", (mount.end(how), mount.said()), (0, []))
@@ -92,7 +94,7 @@ def check_ended(how, mount, overlay):
     check(f"{how}: the overlay is closed", (overlay / "0").exists(), True)
 
 
-def left_of(running):
+def left_of(running: list[int]) -> list[int]:
     """The processes that run on: one whose parent is gone ends with its input, which takes it a moment."""
     end = time.monotonic() + PATIENCE
     while (left := [process for process in running if os.path.exists(f"/proc/{process}")]) and time.monotonic() < end:
@@ -100,26 +102,26 @@ def left_of(running):
     return left
 
 
-def wait_for(path):
+def wait_for(path: pathlib.Path) -> None:
     end = time.monotonic() + PATIENCE
     while not path.exists() and time.monotonic() < end:
         time.sleep(0.001)
 
 
-def check_kills(folder, repository):
+def check_kills(folder: pathlib.Path, repository: pathlib.Path) -> None:
     """A mount that was killed goes on where it was, at the same folder, with all that was answered."""
     overlay = folder / "overlay of the killed"
-    with Mount(repository, "HEAD", folder / "killed", "--overlay", overlay) as mount:
+    with MountGit(repository, "HEAD", folder / "killed", "--overlay", overlay) as mount:
         (mount.folder / "kept").write_text("kept")
         mount.kill()
         check("killed with all below: the overlay isn't closed", (overlay / "0").exists(), False)
         check("killed with all below: its folder", outcome(Folder(mount.folder), "readdir", ()), "ENOTCONN")
-        with Mount(repository, "HEAD", mount.folder, "--overlay", overlay) as again:
+        with MountGit(repository, "HEAD", mount.folder, "--overlay", overlay) as again:
             check("killed with all below: what is there", (again.folder / "kept").read_text(), "kept")
             (again.folder / "kept too").write_text("kept too")
             again.process.kill()
             again.process.wait(PATIENCE)
-            with Mount(repository, "HEAD", mount.folder, "--overlay", overlay) as last:
+            with MountGit(repository, "HEAD", mount.folder, "--overlay", overlay) as last:
                 kept = [(last.folder / name).read_text() for name in ("kept", "kept too")]
                 check("killed alone: what is there", kept, ["kept", "kept too"])
                 check("killed alone: the end", last.end("SIGTERM"), 0)
@@ -127,9 +129,9 @@ def check_kills(folder, repository):
         check("killed: what is said", [mount.said(), again.said(), last.said()], [[], [line], [line]])
 
 
-def check_killed_mountd(folder, repository):
+def check_killed_mountd(folder: pathlib.Path, repository: pathlib.Path) -> None:
     """A mountd that is killed below costs the requests that find it so, which are EIO, and a line each."""
-    with Mount(repository, "HEAD", folder / "mounted", "--overlay", folder / "overlay of a killed mountd") as mount:
+    with MountGit(repository, "HEAD", folder / "mounted", "--overlay", folder / "overlay of a killed mountd") as mount:
         (mount.folder / "made").write_text("kept")
         below = [process for process in children(mount.process.pid) if b"--sessions" in command_of(process)]
         os.kill(below[0], signal.SIGKILL)
@@ -141,14 +143,14 @@ def check_killed_mountd(folder, repository):
         check("mountd killed: the end", mount.end("SIGTERM"), 0)
 
 
-def command_of(process):
+def command_of(process: int) -> list[bytes]:
     return pathlib.Path(f"/proc/{process}/cmdline").read_bytes().split(b"\0")
 
 
-def check_second_mount(folder, repository):
+def check_second_mount(folder: pathlib.Path, repository: pathlib.Path) -> None:
     """An overlay that is mounted is refused to another, in one line."""
     overlay = folder / "overlay of two"
-    with Mount(repository, "HEAD", folder / "mounted", "--overlay", overlay) as mount:
+    with MountGit(repository, "HEAD", folder / "mounted", "--overlay", overlay) as mount:
         line = f"mount-git: the overlay {overlay} is in use by another mount"
         told = said_by(MOUNT_GIT, repository, "HEAD", folder / "second", "--overlay", overlay)
         check("a second mount", told, (1, [line]))
@@ -157,14 +159,14 @@ def check_second_mount(folder, repository):
         check("a second mount: the end of the first", mount.end("SIGTERM"), 0)
 
 
-def check_missing_package(folder):
+def check_missing_package(folder: pathlib.Path) -> None:
     """A Python without fusepy, and no other to go to: one line names the packages."""
     words = ["env", "MOUNT_GIT_HANDED_ON=1", sys.executable, "-S", MOUNT_GIT, folder, "HEAD", folder / "mounted"]
     line = "mount-git: python3-fusepy is missing: apt install python3-fusepy fuse3"
     check("a missing package", said_by(*words), (1, [line]))
 
 
-def check_refusals(folder, repository):
+def check_refusals(folder: pathlib.Path, repository: pathlib.Path) -> None:
     """What can't be mounted is refused in one line."""
     full = folder / "full"
     full.mkdir()
@@ -188,25 +190,25 @@ def check_refusals(folder, repository):
     check("refused: the folder is as it was", list(empty.iterdir()), [])
 
 
-def check_moved_revision(folder):
+def check_moved_revision(folder: pathlib.Path) -> None:
     """An overlay stays on the commit that it was made on, and the next mount says so."""
     repository = make_repository(folder)
     before = git(repository, "rev-parse", "HEAD^{tree}")
-    with Mount(repository, "HEAD", folder / "mounted", "--overlay", folder / "overlay") as mount:
+    with MountGit(repository, "HEAD", folder / "mounted", "--overlay", folder / "overlay") as mount:
         (mount.folder / "made").write_text("made")
         seen = shown(Folder(mount.folder))
         check("moved: the first end", (mount.end("SIGTERM"), mount.said()), (0, []))
     (repository / "plain.txt").write_text("moved on\n")
     git(repository, "commit", "-qam", "moved on")
     after = git(repository, "rev-parse", "HEAD^{tree}")
-    with Mount(repository, "HEAD", folder / "mounted", "--overlay", folder / "overlay") as mount:
+    with MountGit(repository, "HEAD", folder / "mounted", "--overlay", folder / "overlay") as mount:
         check("moved: what is shown", shown(Folder(mount.folder)), seen)
         check("moved: the end", mount.end("SIGTERM"), 0)
         told = [before in line and after in line for line in mount.said()]
         check("moved: one line, with both trees", told, [True])
 
 
-def check_signed_commit(folder):
+def check_signed_commit(folder: pathlib.Path) -> None:
     """A signed commit's time is its own, also where Git's settings have it tell of signatures."""
     repository = make_repository(folder)
     tree = git(repository, "rev-parse", "HEAD^{tree}")
@@ -217,15 +219,15 @@ def check_signed_commit(folder):
     git(repository, "config", "log.showSignature", "true")
     told = git(repository, "show", "-s", "--format=%ct", commit)
     check("signed: Git tells of the signature", told != "1000000000", True)
-    with Mount(repository, commit, folder / "mounted") as mount:
+    with MountGit(repository, commit, folder / "mounted") as mount:
         check("signed: the commit's time", (mount.folder / "plain.txt").stat().st_mtime, 1_000_000_000)
         check("signed: the end, with nothing said", (mount.end("SIGTERM"), mount.said()), (0, []))
 
 
-def check_damaged_repository(folder):
+def check_damaged_repository(folder: pathlib.Path) -> None:
     """A file whose object is lost, or damaged, is EIO and a line that names it; all else goes on."""
     repository = make_repository(folder)
-    with Mount(repository, "HEAD", folder / "mounted") as mount:
+    with MountGit(repository, "HEAD", folder / "mounted") as mount:
         for name, content, cause in [("plain.txt", None, "Missing"), ("run.sh", b"blob 6\0other\n", "BadDigest")]:
             object_id = git(repository, "rev-parse", f"HEAD:{name}")
             place = repository / ".git/objects" / object_id[:2] / object_id[2:]
@@ -240,9 +242,9 @@ def check_damaged_repository(folder):
         check("damaged: the end", mount.end("SIGTERM"), 0)
 
 
-def check_laziness(folder, large):
+def check_laziness(folder: pathlib.Path, large: Large) -> None:
     """Of 50,000 files one file costs the objects on its path, and `grep -r` in a folder that folder's."""
-    with Mount(large.repository, "HEAD", folder / "mounted", "--log") as mount:
+    with MountGit(large.repository, "HEAD", folder / "mounted", "--log") as mount:
         deep = mount.folder.joinpath(*map(os.fsdecode, large.path))
         check("lazily mounted: a deep file", deep.read_bytes(), large.content)
         check("lazily mounted: what one file costs", asked_for(mount.log), sorted(large.deep))
@@ -252,9 +254,9 @@ def check_laziness(folder, large):
         check("lazily mounted: the end", mount.end("SIGTERM"), 0)
 
 
-def check_open_files(folder, repository):
+def check_open_files(folder: pathlib.Path, repository: pathlib.Path) -> None:
     """What programs do with open files and attributes is as docs/MOUNT-GIT.md says."""
-    with Mount(repository, "HEAD", folder / "mounted") as mount:
+    with MountGit(repository, "HEAD", folder / "mounted") as mount:
         top = mount.folder
         (top / "gone").write_text("abc")
         with open(top / "gone", "r+b", buffering=0) as file:
@@ -279,7 +281,7 @@ def check_open_files(folder, repository):
         check("open: the end, with nothing said", (mount.end("SIGTERM"), mount.said()), (0, []))
 
 
-def check_attributes(top, repository):
+def check_attributes(top: pathlib.Path, repository: pathlib.Path) -> None:
     place = Folder(top)
     committed = int(git(repository, "log", "-1", "--format=%ct"))
     check("attributes: a file's time is the commit's", (top / "run.sh").stat().st_mtime, committed)
@@ -298,9 +300,12 @@ def check_attributes(top, repository):
     os.chmod(top / "log", 0o700)
     check("attributes: where it is set", outcome(place, "getattr", (b"log",))[1], 0o755)
     check("attributes: a name's length", os.statvfs(top).f_namemax, 255)
-    for name, call, words in [("a hard link", os.link, (top / "log", top / "other")),
-                              ("a pipe", os.mkfifo, (top / "pipe",)),
-                              ("another owner", os.chown, (top / "log", 12_345, -1))]:
-        check(f"attributes: {name} is EPERM", refused(call, *words), "EPERM")
+    calls: list[tuple[str, Callable[..., object], Values]] = [
+        ("a hard link", os.link, (top / "log", top / "other")),
+        ("a pipe", os.mkfifo, (top / "pipe",)),
+        ("another owner", os.chown, (top / "log", 12_345, -1)),
+    ]
+    for name, call, values in calls:
+        check(f"attributes: {name} is EPERM", refused(call, *values), "EPERM")
     with open(top / "log", "rb") as file:
-        check("attributes: fsync", os.fsync(file.fileno()), None)
+        check("attributes: fsync", refused(os.fsync, file.fileno()), None)

@@ -2,18 +2,20 @@
 
 import contextlib
 import os
+import pathlib
 import pty
 import subprocess
+from collections.abc import Iterator, Sequence
 
-from checks import PATIENCE, check, git, make_repository
-from programs import GIT_OBJECTS, MOUNTD, SAMPLE_OBJECTS, SAMPLE_ROOT, TOP, listening
+from checks import PATIENCE, check, ending_of, git, make_repository
+from helpers.running import Process
+from programs import GIT_OBJECTS, MOUNTD, SAMPLE_OBJECTS, SAMPLE_ROOT, SHELL, listening
 
-SHELL = TOP / "scripts/eden-shell"
 STRICT = {**os.environ, "PYTHONIOENCODING": "utf-8:strict"}
 MARKS = {b"100644": b"", b"100755": b"*", b"120000": b"@", b"040000": b"/", b"160000": b"/"}
 
 
-def shell(mount, *lines):
+def shell(mount: Sequence[object], *lines: bytes) -> tuple[int, bytes, list[bytes]]:
     """Status, output and the lines of errors of a shell on these commands, where texts are strict about their bytes."""
     words = [str(word) for word in [SHELL, *mount]]
     data = b"".join(line + b"\n" for line in lines)
@@ -21,7 +23,7 @@ def shell(mount, *lines):
     return done.returncode, done.stdout, done.stderr.splitlines()
 
 
-def typed(mount, *lines):
+def typed(mount: Sequence[object], *lines: bytes) -> tuple[int, bytes]:
     """The status of such a shell whose commands are typed, and all that its terminal shows."""
     words = [str(word) for word in [SHELL, *mount]]
     ours, theirs = pty.openpty()
@@ -37,7 +39,7 @@ def typed(mount, *lines):
     return process.wait(PATIENCE), shown
 
 
-def listing(repository, folder, sizes=False):
+def listing(repository: pathlib.Path, folder: str, sizes: bool = False) -> bytes:
     """What `ls` says of a folder, by what Git says of it."""
     rows = []
     for row in git(repository, "ls-tree", "-lz", f"HEAD:{folder}", text=False).split(b"\0")[:-1]:
@@ -48,12 +50,12 @@ def listing(repository, folder, sizes=False):
     return b"".join(line for _, line in sorted(rows))
 
 
-def content(repository, path):
+def content(repository: pathlib.Path, path: str) -> bytes:
     return git(repository, "cat-file", "blob", f"HEAD:{path}", text=False)
 
 
 @contextlib.contextmanager
-def served(repository):
+def served(repository: pathlib.Path) -> Iterator[tuple[Process, int]]:
     """The port of a mount for one session, and its process."""
     root = git(repository, "rev-parse", "HEAD^{tree}")
     with listening([GIT_OBJECTS, repository], stderr=subprocess.DEVNULL) as (_, objects):
@@ -62,7 +64,7 @@ def served(repository):
             yield process, port
 
 
-def check_shell(folder):
+def check_shell(folder: pathlib.Path) -> None:
     """A shell says what Git has, changes what it is told to, and says in plain words what can't be done."""
     repository = make_repository(folder)
     with listening([GIT_OBJECTS, repository], stderr=subprocess.DEVNULL) as (_, objects):
@@ -70,7 +72,7 @@ def check_shell(folder):
         check_looks("shell on a program", words, repository)
     with served(repository) as (process, port):
         check_looks("shell on a port", [port], repository)
-        check("shell on a port: the end of mountd", (process.wait(PATIENCE), process.stderr.read()), (0, b""))
+        check("shell on a port: the end of mountd", ending_of(process), (0, b"", b""))
     with served(repository) as (process, port):
         check_changes([port], folder)
     with served(repository) as (process, port):
@@ -79,14 +81,14 @@ def check_shell(folder):
     check("shell: no such program", shell([folder / "nothing"], b"ls")[0], 1)
 
 
-def check_prompt(folder):
+def check_prompt(folder: pathlib.Path) -> None:
     """The prompt tells the folder, also one whose name is no text."""
     words = [MOUNTD, "stdio", "--root", SAMPLE_ROOT, "--objects", SAMPLE_OBJECTS]
     status, shown = typed(words, b"mkdir \xff", b"cd \xff", b"exit")
     check("shell: a prompt that is no text", (status, b"\n/\xff> " in shown), (0, True))
 
 
-def check_looks(name, mount, repository):
+def check_looks(name: str, mount: Sequence[object], repository: pathlib.Path) -> None:
     deep = "/".join(f"d{number}" for number in range(60))
     target = content(repository, "dir/dangling")
     looks = [
@@ -111,7 +113,7 @@ def check_looks(name, mount, repository):
     check(f"{name}: what it says", (status, output, errors), (0, b"".join(wanted for _, wanted in looks), []))
 
 
-def check_changes(mount, folder):
+def check_changes(mount: Sequence[object], folder: pathlib.Path) -> None:
     """Each change, and what is there afterwards."""
     data = bytes(range(256)) * 800
     program = folder / "program"
@@ -129,7 +131,7 @@ def check_changes(mount, folder):
     check("shell: changes", shell(mount, *commands), (0, b"".join(wanted), []))
 
 
-def check_refusals(mount):
+def check_refusals(mount: Sequence[object]) -> None:
     """Each is a line with the command in it, and no more; what follows goes on."""
     commands = [b"cat nothing", b"ls nothing/below", b"cat dir", b"cat link", b"mkdir dir", b"rmdir many", b"rm many",
                 b"cd plain.txt", b"mv dir dir/below", b"rmdir /", b"mkdir " + b"n" * 256, b"put /no/such/file",

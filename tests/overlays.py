@@ -1,13 +1,19 @@
 """A commit as Git has it, runs of the program over an overlay's folder, and what the files of a closed one show."""
 
+import pathlib
 import subprocess
+from collections.abc import Callable, Iterable, Sequence
+from typing import Any, TypeVar
 
 from checks import check, finished, git, whole_tree
-from overlay_files import Damaged, Shown, state_of, stored
+from helpers.running import Process, Status
 from programs import EXPORTER, MOUNTD
 from random_requests import line_of
+from yakembi.overlay_files import Damaged, Shown, state_of, stored
+from yakembi.tree_model import Node, Nodes, Path, Values, WholeTree
 
 CLOSED = (0, b"")
+Read = TypeVar("Read")
 
 
 # ---- the commit, as Git has it
@@ -16,28 +22,29 @@ CLOSED = (0, b"")
 class Commit:
     """A commit's whole tree, and what each of its objects is."""
 
-    def __init__(self, repository):
+    def __init__(self, repository: pathlib.Path) -> None:
         self.root = git(repository, "rev-parse", "HEAD^{tree}")
         rows = whole_tree(repository)
         self.contents = contents_of(repository, {row[1] for row in rows.values() if row[0] in LEAVES})
-        self.nodes = {(): ("dir", True)}
-        self.places = {self.root: ()}
+        self.nodes: Nodes = {(): ("dir", True)}
+        self.places: dict[str, Path] = {self.root: ()}
         for path, (mode, object_id) in rows.items():
             names = tuple(path.split(b"/"))
             self.nodes[names] = LEAVES[mode](self.contents[object_id]) if mode in LEAVES else ("dir", True)
             self.places.setdefault(object_id, names)
 
-    def below(self, tree_id):
+    def below(self, tree_id: str) -> Nodes:
         """What stands below a directory of that tree object, by the paths from there."""
         at = self.places[tree_id]
         return {path[len(at):]: node for path, node in self.nodes.items() if path[: len(at)] == at and path != at}
 
 
-LEAVES = {b"100644": lambda content: ("file", False, content), b"100755": lambda content: ("file", True, content),
+LEAVES: dict[bytes, Callable[[bytes], Node]] = {
+          b"100644": lambda content: ("file", False, content), b"100755": lambda content: ("file", True, content),
           b"120000": lambda content: ("link", content)}
 
 
-def make_commit(folder, files):
+def make_commit(folder: pathlib.Path, files: dict[str, bytes]) -> tuple[Commit, pathlib.Path]:
     """A commit of these files, the last of which is executable, and of a link; and its objects in a folder."""
     repository = folder / "repository"
     for path, content in files.items():
@@ -53,7 +60,7 @@ def make_commit(folder, files):
     return Commit(repository), objects
 
 
-def contents_of(repository, ids):
+def contents_of(repository: pathlib.Path, ids: Iterable[str]) -> dict[str, bytes]:
     return {object_id: git(repository, "cat-file", "blob", object_id, text=False) for object_id in sorted(ids)}
 
 
@@ -63,30 +70,30 @@ def contents_of(repository, ids):
 class Place:
     """A commit with its objects, and the folder of an overlay."""
 
-    def __init__(self, root, objects, overlay):
+    def __init__(self, root: str, objects: pathlib.Path, overlay: pathlib.Path) -> None:
         self.root = root
         self.objects = objects
         self.overlay = overlay
 
-    def words(self, *more):
+    def words(self, *more: str) -> list[str]:
         return [str(MOUNTD), "stdio", "--root", self.root, "--objects", str(self.objects),
                 "--overlay", str(self.overlay), *more]
 
-    def run(self, lines, *more):
+    def run(self, lines: Iterable[bytes], *more: str) -> tuple[Status, bytes, bytes]:
         """Status, output and errors of a session on these lines."""
         data = b"".join(line + b"\n" for line in lines)
         done = finished(self.words(*more), input=data, capture_output=True)
         return done.returncode, done.stdout, done.stderr
 
-    def start(self):
+    def start(self) -> Process:
         return subprocess.Popen(self.words(), stdin=subprocess.PIPE, stdout=subprocess.PIPE, stderr=subprocess.PIPE,
                                 bufsize=0)
 
-    def files(self):
+    def files(self) -> dict[int, bytes]:
         return stored(self.overlay)
 
 
-def check_session(name, place, rows, *more):
+def check_session(name: str, place: Place, rows: Sequence[tuple[bytes, bytes | None]], *more: str) -> None:
     """One session: each line has the reply beside it, and the overlay is closed."""
     status, output, errors = place.run([line for line, _ in rows], *more)
     check(f"{name} ends well", (status, errors), CLOSED)
@@ -96,12 +103,12 @@ def check_session(name, place, rows, *more):
         check(f"{name}: {line!r:.200}", reply, wanted)
 
 
-def replied(tree, requests):
+def replied(tree: WholeTree, requests: Iterable[tuple[str, Values]]) -> list[tuple[bytes, bytes | None]]:
     """The lines of requests and what the dictionary replies."""
     return [(line_of(word, fields), tree.reply(word, *fields)) for word, fields in requests]
 
 
-def as_described(name, read, *words):
+def as_described(name: str, read: Callable[..., Read], *words: Any) -> Read | None:
     """What is read of files; None where one isn't as described."""
     try:
         return read(*words)
@@ -110,7 +117,7 @@ def as_described(name, read, *words):
         return None
 
 
-def check_closed(name, place, commit, tree, kills=0):
+def check_closed(name: str, place: Place, commit: Commit, tree: WholeTree, kills: int = 0) -> int:
     """The files of a closed overlay show that tree, and no number that they name is given again.
 
     Each kill may have left one file beside them that was not put in its place yet.

@@ -3,6 +3,7 @@
 import os
 import pathlib
 import subprocess
+from collections.abc import Iterable
 from typing import Literal, overload
 
 import yakembi.git
@@ -33,6 +34,17 @@ def git(repository: str | pathlib.Path, *words: str, data: bytes | None = None, 
     done = subprocess.run(["git", *SETTINGS, "-C", str(repository), *words], input=data, capture_output=True,
                           check=True, env=environment())
     return done.stdout.decode().strip() if text else done.stdout
+
+
+def make_commit(repository: pathlib.Path, contents: Iterable[tuple[str, bytes]]) -> None:
+    """Makes a repository of one commit, with these files."""
+    for path, content in contents:
+        place = repository / path
+        place.parent.mkdir(parents=True, exist_ok=True)
+        place.write_bytes(content)
+    git(repository, "init", "-q")
+    git(repository, "add", ".")
+    git(repository, "commit", "-qm", "files")
 
 
 def content_of(path: str) -> str:

@@ -66,3 +66,20 @@ def toolchain() -> str:
 def where_and_when() -> str:
     """The date, the commit, the toolchain and the machine, in a line."""
     return f"{datetime.date.today()}, {commit()}, {toolchain()}, {machine()}"
+
+
+# ---- blocks of a page
+
+
+def block_of(command: str) -> re.Pattern[str]:
+    """The block that a command writes: it stands between two comments, of which the first names the command."""
+    return re.compile(rf"(?<=^<!-- made by {re.escape(command)} -->\n).*?(?=^<!-- end -->$)", re.M | re.S)
+
+
+def write_block(page: pathlib.Path, command: str, lines: Iterable[str]) -> None:
+    """Writes the block of the page that the command makes anew."""
+    text = "\n" + "\n".join(lines).strip("\n") + "\n\n"
+    written, count = block_of(command).subn(lambda _: text, page.read_text())
+    if count != 1:
+        raise SystemExit(f"{page} has {count} blocks that are made by {command}")
+    page.write_text(written)

@@ -4,7 +4,7 @@ import contextlib
 import subprocess
 import threading
 from collections.abc import Iterator, Sequence
-from typing import Any
+from typing import IO, Any
 
 # How many seconds anything that is waited for may take: what hangs is found, and a machine whose disk stands still for
 # a while passes.
@@ -29,6 +29,12 @@ def finished(words: Sequence[object], **more: Any) -> subprocess.CompletedProces
         hung += 1
         status: Any = STILL_RUNNING
         return subprocess.CompletedProcess(texts, status, late.stdout or b"", late.stderr or b"")
+
+
+def pipes(process: Process) -> tuple[IO[bytes], IO[bytes]]:
+    """The pipes that a process reads from and writes to."""
+    assert process.stdin is not None and process.stdout is not None
+    return process.stdin, process.stdout
 
 
 def kill_hung(process: Process) -> None:

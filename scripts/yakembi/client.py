@@ -7,7 +7,8 @@
         for name, kind in session.entries(b"/src"):
             print(name, kind)
 
-`start` does the same over a child's pipes, as `start(["mountd", "stdio", "--root", ..])`.
+`start` does the same over a child's pipes, as `start(["mountd", "stdio", "--root", ..])`. `record` keeps what a session
+sends and hears in files, for `scripts/check-session`.
 
 A path is bytes: `/`, or a `/` before each name, and a name is any bytes without `/` and NUL but `.` and `..`, 255 at
 most. What the mount refuses is an `OSError` with Linux's number, so that a path that isn't there is a
@@ -23,6 +24,7 @@ import os
 import re
 import socket
 import subprocess
+import time
 from collections.abc import Callable, Iterator, Sequence
 from typing import Any, BinaryIO, NamedTuple, Self, cast
 from urllib.parse import unquote_to_bytes
@@ -35,6 +37,8 @@ LONGEST_DATA = 65_536
 LONGEST_FILE = 1 << 30
 MOST_ENTRIES = 1_000
 GREATEST_NUMBER = (1 << 64) - 1
+# The longest reply, of 65,536 bytes in hexadecimal digits, is received whole.
+BUFFER = 1 << 18
 
 # What stands at a path: a plain file, an executable one, a link, a directory.
 FILE, EXEC, LINK, DIR = "file", "exec", "link", "dir"
@@ -219,6 +223,33 @@ class Requests(abc.ABC):
 # ---- sessions
 
 
+class Record:
+    """What a session sends and hears, in a folder: NAME.sent and NAME.got, as `tee` would write them, and NAME.times.
+
+    The times have a line for each request: when it was sent and when its reply was heard, in nanoseconds of the clock
+    that all programs of a machine share. A request that was never answered has the first alone.
+    """
+
+    def __init__(self, folder: str | os.PathLike[str], name: str) -> None:
+        os.makedirs(folder, exist_ok=True)
+        paths = (os.path.join(folder, f"{name}.{end}") for end in ("sent", "got", "times"))
+        self.files = [open(path, "wb", buffering=0) for path in paths]
+        self.lines, self.replies, self.times = self.files
+
+    def sent(self, line: bytes) -> None:
+        self.times.write(b"%d" % time.monotonic_ns())
+        self.lines.write(line)
+
+    def heard(self, reply: bytes) -> None:
+        heard = time.monotonic_ns()
+        self.replies.write(reply)
+        self.times.write(b" %d\n" % heard)
+
+    def close(self) -> None:
+        for file in self.files:
+            file.close()
+
+
 class Session(Requests):
     """One session, for one user at a time. `moved` counts the bytes of its lines and replies."""
 
@@ -228,6 +259,11 @@ class Session(Requests):
         self.end = end
         self.usable = True
         self.moved = 0
+        self.kept: Record | None = None
+
+    def record(self, folder: str | os.PathLike[str], name: str) -> None:
+        """Keeps what is sent and heard from now on in files NAME of the folder."""
+        self.kept = Record(folder, name)
 
     def __enter__(self) -> Self:
         return self
@@ -252,6 +288,8 @@ class Session(Requests):
             raise SessionEnded("the session had ended before")
         self.usable = False
         try:
+            if self.kept:
+                self.kept.sent(line)
             self.writer.write(line)
             self.writer.flush()
             reply = self.reader.readline()
@@ -259,6 +297,8 @@ class Session(Requests):
             raise SessionEnded(f"the session ended: {problem.strerror or problem}") from None
         if not reply.endswith(b"\n"):
             raise SessionEnded("the session ended before its reply")
+        if self.kept:
+            self.kept.heard(reply)
         self.usable = True
         self.moved += len(line) + len(reply)
         return reply[:-1]
@@ -271,6 +311,8 @@ class Session(Requests):
                 stream.close()
             except OSError:
                 pass
+        if self.kept:
+            self.kept.close()
         return self.end()
 
 
@@ -278,7 +320,7 @@ def connect(port: int) -> Session:
     """A session with the `mountd serve` that listens on this port."""
     connection = socket.create_connection(("127.0.0.1", port))
     connection.setsockopt(socket.IPPROTO_TCP, socket.TCP_NODELAY, 1)
-    reader, writer = connection.makefile("rb"), connection.makefile("wb")
+    reader, writer = connection.makefile("rb", BUFFER), connection.makefile("wb")
     return Session(cast(BinaryIO, reader), cast(BinaryIO, writer), connection.close)
 
 

@@ -1,8 +1,8 @@
 """Serves the trees, blobs and links of a Git repository, as they are asked for, on a port of 127.0.0.1.
 
 A client sends `get ID` and a line feed, ID being 40 lower-case hexadecimal digits, and is answered `object N`, a line
-feed and the N framed bytes; `missing`; or `fault` where Git can't read the object or it is over 2^30 bytes. Another line
-ends the connection. The first line printed is `listening 127.0.0.1:PORT`. Connections are served side by side.
+feed and the N framed bytes; `missing`; or `fault` where Git can't read the object or it is over 2^30 bytes. Another
+line ends the connection. The first line printed is `listening 127.0.0.1:PORT`. Connections are served side by side.
 
 Every user of this machine can reach the port, and read every object of the repository through it.
 """
@@ -27,7 +27,7 @@ def tell(text: str) -> None:
     print(f"git-objects: {text}", file=sys.stderr, flush=True)
 
 
-class Client(socketserver.StreamRequestHandler):
+class ClientConnection(socketserver.StreamRequestHandler):
     """One connection, and one `git cat-file` behind it."""
 
     disable_nagle_algorithm = True
@@ -93,7 +93,7 @@ class Server(socketserver.ThreadingTCPServer):
     def __init__(self, port: int, repository: Repository, log: bool) -> None:
         self.repository = repository
         self.log = log
-        super().__init__(("127.0.0.1", port), Client)
+        super().__init__(("127.0.0.1", port), ClientConnection)
 
     def handle_error(self, request: object, client_address: object) -> None:
         """A connection that fails costs itself alone."""

@@ -1,7 +1,8 @@
 """Shows a commit of a Git repository as a folder, through FUSE, without checking it out.
 
 What is read is fetched when it is first read. What is changed is kept in the overlay, a folder from which the next
-mount goes on; without one, changes are gone with the mount. Ctrl-C, SIGTERM and `fusermount3 -u FOLDER` end it.
+mount goes on; without one, changes are gone with the mount. Ctrl-C, SIGTERM and `fusermount3 -u FOLDER` end it. What a
+killed mount left on the folder is unmounted first.
 
 It needs Debian's packages python3-fusepy and fuse3, and mountd, which `make run` builds.
 """
@@ -190,7 +191,7 @@ def pool_over(program: Serving, overlay: str) -> Pool:
     raise Refusal(f"mountd didn't start: {word}")
 
 
-class Shown(MountOperations):
+class Announced(MountOperations):
     """The operations of a mount that says when it is there."""
 
     folder: str | None = None
@@ -199,7 +200,7 @@ class Shown(MountOperations):
         print(f"mounted {self.folder}", flush=True)
 
 
-def show(fuse: Callable[..., object], operations: Shown, folder: str) -> None:
+def show(fuse: Callable[..., object], operations: Announced, folder: str) -> None:
     """Serves the mount until it is unmounted, or until a signal, which libfuse takes where Python doesn't."""
     operations.folder = folder
     os.makedirs(folder, exist_ok=True)
@@ -227,7 +228,7 @@ def run(words: argparse.Namespace) -> None:
             pool = pool_over(program, overlay.path)
             try:
                 times = Times(seconds * 10**9, overlay.changed())
-                show(fuse, Shown(Mount(pool), times, overlay.path), folder)
+                show(fuse, Announced(Mount(pool), times, overlay.path), folder)
             finally:
                 problem = pool.close()
     if problem:

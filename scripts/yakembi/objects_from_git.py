@@ -1,9 +1,10 @@
 """Writes the objects of one Git commit into a folder that `mountd --objects` serves.
 
 Each tree, blob and link of the commit becomes the file DIR/xx/yyyy.., framed and uncompressed, where xxyyyy.. is its
-id. A submodule's commit is not written: it shows as an empty directory. An object that is in DIR already is left alone
-where its file is as long as it says; --verify reads it whole and compares its digest. What is cut or damaged is written
-again. REV may also name a tree, as HEAD:folder. The last line printed is the id of the tree, which `mountd --root` takes.
+id. A submodule's commit is not written: it shows as an empty directory. An object that is in DIR already is left
+alone where its file is as long as it says; --verify reads it whole and compares its digest. What is cut or damaged is
+written again. REV may also name a tree, as HEAD:folder. The last line printed is the id of the tree, which `mountd
+--root` takes.
 """
 
 import argparse
@@ -19,7 +20,7 @@ BESIDE = "objects-from-git."
 LONGEST_HEADER = 32
 
 
-class Folder:
+class ObjectFolder:
     """The folder of objects. A file is written beside its place, to the disk, and renamed, so that none is ever cut."""
 
     def __init__(self, path: str, verify: bool) -> None:
@@ -104,7 +105,7 @@ class Progress:
 class Export:
     """One walk over a commit's objects, each written once."""
 
-    def __init__(self, repository: Repository, folder: Folder) -> None:
+    def __init__(self, repository: Repository, folder: ObjectFolder) -> None:
         self.objects = repository.objects()
         self.folder = folder
         self.met: set[str] = set()
@@ -167,7 +168,7 @@ class Export:
 def export(words: argparse.Namespace) -> str:
     repository = Repository(words.repository)
     root = repository.tree_of(words.revision)
-    run = Export(repository, Folder(words.folder, words.verify))
+    run = Export(repository, ObjectFolder(words.folder, words.verify))
     run.run(root)
     run.warn()
     return root
@@ -183,7 +184,8 @@ def parser() -> argparse.ArgumentParser:
     found.add_argument("--verify", action="store_true", help="read each object that is there, and compare its digest")
     found.add_argument("repository", metavar="REPO")
     found.add_argument("revision", metavar="REV")
-    found.add_argument("folder", metavar="DIR", help="the folder of objects (write -- before a name that begins with -)")
+    found.add_argument("folder", metavar="DIR",
+                       help="the folder of objects (write -- before a name that begins with -)")
     return found
 
 

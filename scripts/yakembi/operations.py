@@ -21,8 +21,8 @@ from yakembi.times import Times
 TYPES: dict[str, int] = {FILE: stat.S_IFREG, EXEC: stat.S_IFREG, LINK: stat.S_IFLNK, DIR: stat.S_IFDIR}
 MODES = {FILE: stat.S_IFREG | 0o644, EXEC: stat.S_IFREG | 0o755, LINK: stat.S_IFLNK | 0o777, DIR: stat.S_IFDIR | 0o755}
 BLOCK = 512
-# What stands in the place of a time that is set to the clock's, or that stays. With seconds of 0, as they come, they are
-# times of 1970 too, which nobody can tell from them.
+# What stands in the place of a time that is set to the clock's, or that stays. With seconds of 0, as they come, they
+# are times of 1970 too, which nobody can tell from them.
 UTIME_NOW, UTIME_OMIT = (1 << 30) - 1, (1 << 30) - 2
 CAUSES = {
     "Missing": "the repository lacks it",

@@ -107,6 +107,8 @@ def entries(data: bytes) -> Iterator[tuple[bytes, int, int]]:
         kind, origin, number = ENTRY.unpack_from(data, at)
         at += ENTRY.size + (ID if origin == OBJECT else 0)
         end = at + 1 + data[at] if at < len(data) else at
+        if end == at or end > len(data):
+            return
         if origin == OWN:
             yield data[at + 1 : end], kind, number
         at = end

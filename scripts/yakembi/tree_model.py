@@ -5,9 +5,22 @@ from the repository's own definition, so that the two can be compared. A path is
 
     ("file", executable, content)    ("link", content)    ("dir", listed)
 
-A content is bytes, or None where it is lost. `reply` gives the text of the reply, or None where there is none, since the
-request looks into a lost content or a directory whose entries are not known.
+A content is bytes, or None where it is lost. `reply` gives the text of the reply, or None where there is none, since
+the request looks into a lost content or a directory whose entries are not known.
 """
+
+from collections.abc import Sequence
+from typing import Any
+
+from yakembi.client import name_text
+
+Path = tuple[bytes, ...]
+Node = tuple[Any, ...]
+Nodes = dict[Path, Node]
+# The fields of a request behind its word.
+Values = tuple[Any, ...]
+Names = list[bytes]
+Paths = list[Path]
 
 LONGEST_FILE = 1 << 30
 LONGEST_DATA = 65_536
@@ -26,54 +39,59 @@ class Unknown(Exception):
     """The request looks into what isn't known."""
 
 
-def need(condition, error):
+def need(condition: object, error: str) -> None:
     if not condition:
         raise Refused(error)
 
 
-def known(content):
+def known(content: bytes | None) -> bytes:
     if content is None:
         raise Unknown
     return content
 
 
 class WholeTree:
-    def __init__(self, nodes=None):
-        self.nodes = nodes if nodes is not None else {(): ("dir", True)}
+    def __init__(self, nodes: dict[Path, Node] | None = None) -> None:
+        self.nodes: dict[Path, Node] = nodes if nodes is not None else {(): ("dir", True)}
 
     # ---- looking
 
-    def walk(self, path):
+    def walk(self, path: Path) -> None:
         """Goes over the proper fronts of the path, the shortest first."""
         for count in range(len(path)):
-            node = self.nodes.get(path[:count])
-            need(node is not None, "ENOENT")
+            node = self.node(path[:count])
             need(node[0] == "dir", "ENOTDIR")
             if not node[1]:
                 raise Unknown
 
-    def present(self, path):
+    def present(self, path: Path) -> Node:
         self.walk(path)
-        node = self.nodes.get(path)
-        need(node is not None, "ENOENT")
-        return node
+        return self.node(path)
 
-    def absent(self, path):
+    def node(self, path: Path) -> Node:
+        need(path in self.nodes, "ENOENT")
+        return self.nodes[path]
+
+    def absent(self, path: Path) -> None:
         """For a request that makes something where nothing is."""
         need(path != (), "EEXIST")
         self.walk(path)
         need(path not in self.nodes, "EEXIST")
 
-    def children(self, path):
+    def children(self, path: Path) -> Names:
         """The names in a directory whose entries are known, in byte order."""
         if not self.nodes[path][1]:
             raise Unknown
         return sorted(other[-1] for other in self.nodes if other != () and other[:-1] == path)
 
-    def kind_word(self, node):
-        return b"exec" if node[0] == "file" and node[1] else node[0].encode()
+    def at_and_below(self, path: Path) -> Paths:
+        """The paths of the node there and of all that stand below it."""
+        return [other for other in self.nodes if other[: len(path)] == path]
 
-    def file_at(self, path):
+    def kind_word(self, node: Node) -> bytes:
+        return b"exec" if node[0] == "file" and node[1] else str(node[0]).encode()
+
+    def file_at(self, path: Path) -> Node:
         node = self.present(path)
         need(node[0] != "link", "EINVAL")
         need(node[0] != "dir", "EISDIR")
@@ -81,25 +99,25 @@ class WholeTree:
 
     # ---- requests that change nothing
 
-    def kind(self, path):
+    def kind(self, path: Path) -> bytes:
         return b"kind " + self.kind_word(self.present(path))
 
-    def stat(self, path):
+    def stat(self, path: Path) -> bytes:
         node = self.present(path)
         size = 0 if node[0] == "dir" else len(known(node[-1]))
         return b"stat %s %d" % (self.kind_word(node), size)
 
-    def read(self, path, offset, length):
+    def read(self, path: Path, offset: int, length: int) -> bytes:
         need(length <= LONGEST_DATA, "EINVAL")
         node = self.file_at(path)
         return data_reply(known(node[2])[offset : offset + length] if length else b"")
 
-    def readlink(self, path):
+    def readlink(self, path: Path) -> bytes:
         node = self.present(path)
         need(node[0] == "link", "EINVAL")
         return data_reply(known(node[1]))
 
-    def list(self, path, after, limit):
+    def list(self, path: Path, after: bytes | None, limit: int) -> bytes:
         need(1 <= limit <= MOST_ENTRIES, "EINVAL")
         need(self.present(path)[0] == "dir", "ENOTDIR")
         names = [name for name in self.children(path) if after is None or name > after]
@@ -108,7 +126,7 @@ class WholeTree:
 
     # ---- requests that change one node
 
-    def write(self, path, offset, data):
+    def write(self, path: Path, offset: int, data: bytes) -> bytes:
         need(len(data) <= LONGEST_DATA, "EINVAL")
         _, executable, old = self.file_at(path)
         if not data:
@@ -122,52 +140,52 @@ class WholeTree:
         self.nodes[path] = ("file", executable, bytes(new))
         return b"count %d" % len(data)
 
-    def truncate(self, path, size):
+    def truncate(self, path: Path, size: int) -> bytes:
         _, executable, old = self.file_at(path)
         need(size <= LONGEST_FILE, "EFBIG")
         new = known(old)[:size].ljust(size, b"\0") if size else b""
         self.nodes[path] = ("file", executable, new)
         return b"ok"
 
-    def setexec(self, path, executable):
+    def setexec(self, path: Path, executable: bool) -> bytes:
         content = self.file_at(path)[2]
         self.nodes[path] = ("file", executable, content)
         return b"ok"
 
     # ---- requests that make something
 
-    def make(self, path, node):
+    def make(self, path: Path, node: Node) -> bytes:
         self.absent(path)
         self.nodes[path] = node
         return b"ok"
 
-    def create(self, path):
+    def create(self, path: Path) -> bytes:
         return self.make(path, ("file", False, b""))
 
-    def mkdir(self, path):
+    def mkdir(self, path: Path) -> bytes:
         return self.make(path, ("dir", True))
 
-    def symlink(self, path, target):
+    def symlink(self, path: Path, target: bytes) -> bytes:
         need(target != b"", "ENOENT")
         need(len(target) <= LONGEST_TARGET, "ENAMETOOLONG")
         return self.make(path, ("link", target))
 
     # ---- requests that take something away
 
-    def unlink(self, path):
+    def unlink(self, path: Path) -> bytes:
         need(path != (), "EISDIR")
         need(self.present(path)[0] != "dir", "EISDIR")
         del self.nodes[path]
         return b"ok"
 
-    def rmdir(self, path):
+    def rmdir(self, path: Path) -> bytes:
         need(path != (), "EBUSY")
         need(self.present(path)[0] == "dir", "ENOTDIR")
         need(not self.children(path), "ENOTEMPTY")
         del self.nodes[path]
         return b"ok"
 
-    def rename(self, source, target):
+    def rename(self, source: Path, target: Path) -> bytes:
         need(source != () and target != (), "EBUSY")
         node = self.present(source)
         if source == target:
@@ -184,15 +202,17 @@ class WholeTree:
             else:
                 need(there[0] != "dir", "EISDIR")
             del self.nodes[target]
-        moved = [path for path in self.nodes if path[: len(source)] == source]
-        for path in moved:
-            self.nodes[target + path[len(source) :]] = self.nodes.pop(path)
+        for path in self.at_and_below(source):
+            node = self.nodes[path]
+            del self.nodes[path]
+            self.nodes[target + path[len(source) :]] = node
         return b"ok"
 
-    def reply(self, word, *fields):
+    def reply(self, word: str, *fields: Any) -> bytes | None:
         """The text of the reply to a request; None where there is none."""
         try:
-            return getattr(self, word)(*fields)
+            found: bytes = getattr(self, word)(*fields)
+            return found
         except Refused as refusal:
             name = refusal.args[0]
             return b"err %d %s" % (NUMBERS[name], name.encode())
@@ -200,12 +220,10 @@ class WholeTree:
             return None
 
 
-def data_reply(data):
+def data_reply(data: bytes) -> bytes:
     return b"data %d" % len(data) + (b" " + data.hex().encode() if data else b"")
 
 
-def entries_reply(rows, more):
-    from protocol import name_text
-
+def entries_reply(rows: Sequence[tuple[bytes, bytes]], more: bool) -> bytes:
     body = b"".join(b" %s %s" % (kind, name_text(name)) for kind, name in rows)
     return b"entries %d%s %s" % (len(rows), body, b"more" if more else b"end")

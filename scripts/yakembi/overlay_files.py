@@ -1,12 +1,16 @@
 """The files of an overlay, read by their description alone, and the whole tree that they show over a commit.
 
-A file is a header of 64 bytes and a body, as docs/FORMATS.md has it, in one of two versions. Nothing here was taken from
-the repository's own reader, so that the two can be compared. A file that isn't as described raises `Damaged`.
+A file is a header of 64 bytes and a body, as docs/FORMATS.md has it, in one of two versions. Nothing here was taken
+from the repository's own reader, so that the two can be compared. A file that isn't as described raises `Damaged`.
 """
 
-import collections
 import hashlib
+import pathlib
 import re
+from collections.abc import Mapping
+from typing import NamedTuple, Protocol
+
+from yakembi.tree_model import Node, Nodes, Path
 
 FILE = b"OVFL"
 DIRECTORY = b"OVDR"
@@ -21,57 +25,77 @@ END_OF_NUMBERS = 1 << 63
 PLAIN, EXECUTABLE, LINK, FOLDER = range(4)
 OBJECT, OWN, EMPTY = range(3)
 
-Entry = collections.namedtuple("Entry", "kind origin number object_id name")
+
+class Entry(NamedTuple):
+    """An entry of a directory's file; the id is that of an object's, where it comes from one."""
+
+    kind: int
+    origin: int
+    number: int
+    object_id: str
+    name: bytes
+
+
+class Commit(Protocol):
+    """A commit's tree, the contents of its objects, and what stands below each tree, by the paths from there."""
+
+    @property
+    def root(self) -> str: ...
+
+    @property
+    def contents(self) -> Mapping[str, bytes]: ...
+
+    def below(self, tree_id: str) -> Nodes: ...
 
 
 class Damaged(Exception):
     """What is wrong, and with which file."""
 
 
-def sound(condition, *what):
+def sound(condition: object, *what: object) -> None:
     if not condition:
         raise Damaged(*what)
 
 
-def head_bytes(identifier, length, digest):
+def head_bytes(identifier: bytes, length: int, digest: bytes) -> bytes:
     """The header of a file whose body has that length and that digest."""
     told = VERSION.to_bytes(4, "big") + length.to_bytes(8, "big") + digest
     return identifier + told + bytes(HEADER_BYTES - UNREAD_AT)
 
 
-def file_bytes(identifier, body):
+def file_bytes(identifier: bytes, body: bytes) -> bytes:
     """The file with that body as it is written."""
     return head_bytes(identifier, len(body), hashlib.sha1(body).digest()) + body
 
 
-def old_file_bytes(identifier, body):
+def old_file_bytes(identifier: bytes, body: bytes) -> bytes:
     """The same as version 1 has it, which tells nothing of the body."""
     return identifier + OLD_VERSION.to_bytes(4, "big") + bytes(HEADER_BYTES - LENGTH_AT) + body
 
 
-def entry_bytes(kind, origin, number, name, object_id=b""):
+def entry_bytes(kind: int, origin: int, number: int, name: bytes, object_id: bytes = b"") -> bytes:
     """An entry of a directory's file."""
     return bytes([kind, origin]) + number.to_bytes(8, "big") + object_id + bytes([len(name)]) + name
 
 
-def directory_body(*entries):
+def directory_body(*entries: bytes) -> bytes:
     return len(entries).to_bytes(4, "big") + b"".join(entries)
 
 
-def state_body(root, following):
+def state_body(root: str, following: int) -> bytes:
     return bytes.fromhex(root) + following.to_bytes(8, "big")
 
 
-def state_bytes(root, following):
+def state_bytes(root: str, following: int) -> bytes:
     """File 0, as a clean close leaves it."""
     return file_bytes(FILE, state_body(root, following))
 
 
-def version_of(data):
+def version_of(data: bytes) -> int:
     return int.from_bytes(data[VERSION_AT:LENGTH_AT], "big")
 
 
-def body_of(identifier, data):
+def body_of(identifier: bytes, data: bytes) -> bytes:
     body = data[HEADER_BYTES:]
     sound(len(data) >= HEADER_BYTES and data.startswith(identifier), "a header of", identifier, data[:HEADER_BYTES])
     sound(version_of(data) in (VERSION, OLD_VERSION), "a version", version_of(data))
@@ -84,21 +108,21 @@ def body_of(identifier, data):
 class Fields:
     """The fields of a body, from the front."""
 
-    def __init__(self, body):
+    def __init__(self, body: bytes) -> None:
         self.rest = body
 
-    def take(self, count):
+    def take(self, count: int) -> bytes:
         taken, self.rest = self.rest[:count], self.rest[count:]
         sound(len(taken) == count, "a body that ends early")
         return taken
 
-    def number(self, count):
+    def number(self, count: int) -> int:
         return int.from_bytes(self.take(count), "big")
 
 
-def entry_in(fields):
+def entry_in(fields: Fields) -> Entry:
     kind, origin, number = fields.number(1), fields.number(1), fields.number(8)
-    object_id = fields.take(20).hex() if origin == OBJECT else None
+    object_id = fields.take(20).hex() if origin == OBJECT else ""
     name = fields.take(fields.number(1))
     sound(kind <= FOLDER and origin <= EMPTY, "kind and origin", kind, origin)
     sound(origin != EMPTY or kind == FOLDER, "nothing as the origin of what is no directory", name)
@@ -107,7 +131,7 @@ def entry_in(fields):
     return Entry(kind, origin, number, object_id, name)
 
 
-def entries_of(data):
+def entries_of(data: bytes) -> list[Entry]:
     """The entries of a directory's file."""
     fields = Fields(body_of(DIRECTORY, data))
     entries = [entry_in(fields) for _ in range(fields.number(4))]
@@ -117,7 +141,7 @@ def entries_of(data):
     return entries
 
 
-def state_of(data):
+def state_of(data: bytes) -> tuple[str, int]:
     """What a clean close leaves in file 0: the commit's tree, and the number that is given next."""
     body = body_of(FILE, data)
     sound(len(body) == 28, "the length of a state", len(body))
@@ -129,14 +153,14 @@ def state_of(data):
 # ---- a folder of files
 
 
-def stored(folder):
+def stored(folder: pathlib.Path) -> dict[int, bytes]:
     """The files of a folder by their numbers; other names are passed over."""
     if not folder.exists():
         return {}
     return {int(path.name): path.read_bytes() for path in folder.iterdir() if re.fullmatch("0|[1-9][0-9]*", path.name)}
 
 
-def is_unclean(files):
+def is_unclean(files: Mapping[int, bytes]) -> bool:
     """Whether a mount opened these files, or made them, and was never closed."""
     return bool(files) and 0 not in files
 
@@ -144,27 +168,27 @@ def is_unclean(files):
 class Shown:
     """What an overlay's files show over a commit: `nodes`, and `numbers`, those that stored directories name."""
 
-    def __init__(self, commit, files):
+    def __init__(self, commit: Commit, files: Mapping[int, bytes]) -> None:
         self.commit = commit
         self.files = files
-        self.nodes = {(): ("dir", True)}
-        self.numbers = set()
+        self.nodes: Nodes = {(): ("dir", True)}
+        self.numbers: set[int] = set()
         if 1 in files:
             self.directory((), 1)
         else:
             self.nodes.update(commit.below(commit.root))
 
-    def file(self, number):
+    def file(self, number: int) -> bytes:
         sound(number in self.files, "no file", number)
         return self.files[number]
 
-    def directory(self, path, number):
+    def directory(self, path: Path, number: int) -> None:
         for entry in entries_of(self.file(number)):
             sound(entry.number not in self.numbers, "a number at two places", entry.number)
             self.numbers.add(entry.number)
             self.entry(path + (entry.name,), entry)
 
-    def entry(self, path, entry):
+    def entry(self, path: Path, entry: Entry) -> None:
         if entry.kind != FOLDER:
             self.nodes[path] = self.leaf(entry)
             return
@@ -174,7 +198,7 @@ class Shown:
         elif entry.origin == OBJECT:
             self.nodes.update({path + below: node for below, node in self.commit.below(entry.object_id).items()})
 
-    def leaf(self, entry):
+    def leaf(self, entry: Entry) -> Node:
         own = entry.origin == OWN
         content = body_of(FILE, self.file(entry.number)) if own else self.commit.contents[entry.object_id]
         return ("link", content) if entry.kind == LINK else ("file", entry.kind == EXECUTABLE, content)

@@ -1,0 +1,157 @@
+"""The manual's pages, docs/man/mountd.1 and mount-git.1, from what the help texts are made of and from the pages.
+
+The options of `mountd` and their texts are those of crates/eden_command_line/src/command.rt, which `mountd COMMAND
+--help` prints; its commands, its statuses and its first paragraph are docs/MOUNTD.md's. Those of `mount-git` are its
+parser's, which `mount-git --help` prints. `tests/manual --write` writes both.
+"""
+
+import argparse
+import pathlib
+import re
+import sys
+from collections.abc import Iterator
+from typing import NamedTuple
+
+from crates import TOP
+from yakembi import mount_git
+
+GRAMMAR = TOP / "crates" / "eden_command_line" / "src" / "command.rt"
+PAGE = TOP / "docs" / "MOUNTD.md"
+FOLDER = TOP / "docs" / "man"
+FUNCTION = re.compile(r"^fn (\w+)<'a>\(.*?^}$", re.M | re.S)
+TEXT = re.compile(r'^const (\w+): &str = "(.*)";$', re.M)
+# In the body of a function: an option that is added, or the line that another function makes and adds to.
+STEP = re.compile(r'with_(required|optional|flag)\(\s*alloc,\s*line,\s*(?:\("([\w-]+)", "(\w+)"\)|"([\w-]+)"),\s*'
+                  r'(?:"([^"]*)"|(\w+)),?\s*\)|(mount_line|with_kept_options)\(\s*alloc,')
+ABOUT = re.compile(r'(?:mount_line\(\s*alloc,\s*"(\w+)",\s*|Command::new\(alloc, "(\w+)"\)\s*\.about\(\s*)"([^"]*)"')
+
+
+class Option(NamedTuple):
+    name: str
+    value: str | None
+    text: str
+    is_required: bool
+
+    def usage(self) -> str:
+        word = f"--{self.name}" + (f" {self.value}" if self.value else "")
+        return word if self.is_required else f"[{word}]"
+
+
+class Command(NamedTuple):
+    name: str
+    about: str
+    options: list[Option]
+
+
+# ---- what the help texts are made of
+
+
+def options_of(function: str, bodies: dict[str, str], texts: dict[str, str]) -> Iterator[Option]:
+    """The options that a function adds to a line, those of the functions that it calls among them."""
+    for kind, name, value, flag, text, constant, called in STEP.findall(bodies[function]):
+        if called:
+            yield from options_of(called, bodies, texts)
+        else:
+            yield Option(name or flag, value or None, text or texts[constant], kind == "required")
+
+
+def commands() -> list[Command]:
+    """The commands of `mountd`, each with its options in the order of its help."""
+    source = GRAMMAR.read_text()
+    bodies = {found[1]: found[0].partition("{\n")[2] for found in FUNCTION.finditer(source)}
+    texts = dict(TEXT.findall(source))
+    found = []
+    for called in re.findall(r"= (\w+_line)\(alloc\)\?;", bodies["command_line"]):
+        about = ABOUT.search(bodies[called])
+        if about is None:
+            sys.exit(f"man_pages: {GRAMMAR} has no text for {called}")
+        found.append(Command(about[1] or about[2], about[3], list(options_of(called, bodies, texts))))
+    return found
+
+
+def program_about() -> str:
+    """What the program's own help says first."""
+    found = re.search(r'Command::new\(alloc, "mountd"\)\s*\.about\("([^"]*)"\)', GRAMMAR.read_text())
+    return found[1] if found else ""
+
+
+# ---- what the page says
+
+
+def rows_below(heading: str, page: pathlib.Path = PAGE) -> list[list[str]]:
+    """The rows of the table below a heading of a page, which is docs/MOUNTD.md unless another is named."""
+    text = f"\n{page.read_text()}".partition(f"\n{heading}\n")[2]
+    lines = [line for line in text.partition("\n#")[0].splitlines() if line.startswith("|")]
+    return [[cell.strip() for cell in line.strip("|").split(" | ")] for line in lines[2:]]
+
+
+def first_paragraph() -> str:
+    return re.sub(r" There are \w+ subcommands:$", "", PAGE.read_text().split("\n\n")[1])
+
+
+# ---- pages in roff
+
+
+def escaped(text: str) -> str:
+    text = text.replace("\\", "\\e").replace("-", "\\-")
+    return "\\&" + text if text.startswith((".", "'")) else text
+
+
+def plain(text: str) -> str:
+    """A text in Markdown as roff has it."""
+    text = re.sub(r"\[([^]]*)\]\([^)]*\)", r"\1", escaped(text))
+    return re.sub(r"(`|\*\*)(.+?)\1", r"\\fB\2\\fR", text)
+
+
+def head(name: str, about: str) -> list[str]:
+    return ['.\\" Written by `tests/manual --write`.', f'.TH {escaped(name).upper()} 1 "" "Yakembi"', ".SH NAME",
+            f"{escaped(name)} \\- {escaped(about)}", ".SH SYNOPSIS"]
+
+
+def item(word: str, text: str) -> list[str]:
+    return [".TP", word, text]
+
+
+def bold_option(option: Option) -> str:
+    return f"\\fB{escaped('--' + option.name)}\\fR" + (f" \\fI{option.value}\\fR" if option.value else "")
+
+
+def mountd_page() -> str:
+    lines = head("mountd", program_about())
+    for command in commands():
+        words = " ".join(option.usage() for option in command.options)
+        lines += [f".B mountd {command.name}", escaped(words), ".br"]
+    lines += [".SH DESCRIPTION", plain(first_paragraph()), ".SH COMMANDS"]
+    for name, text in rows_below("# The program `mountd`"):
+        lines += item(plain(name), plain(text))
+    for command in commands():
+        lines += [f".SS mountd {command.name}", escaped(command.about) + "."]
+        for option in command.options:
+            lines += item(bold_option(option), escaped(option.text) + ".")
+    lines += [".SH EXIT STATUS"]
+    for status, text in rows_below("## Statuses"):
+        lines += item(f".B {status}", plain(text))
+    lines += [".SH SEE ALSO", "mount\\-git(1); docs/MOUNTD.md and docs/OPERATIONS.md of its source"]
+    return "\n".join(lines) + "\n"
+
+
+def mount_git_page() -> str:
+    parser = mount_git.parser()
+    about, _, text = (parser.description or "").strip().partition("\n\n")
+    usage = " ".join(parser.format_usage().removeprefix("usage: mount-git [-h] ").split())
+    lines = [*head("mount-git", about.rstrip(".")), ".B mount\\-git", escaped(usage), ".SH DESCRIPTION"]
+    for paragraph in text.split("\n\n"):
+        lines += [".PP", plain(" ".join(paragraph.split()))]
+    lines += [".SH OPTIONS"]
+    for action in parser._actions:
+        if isinstance(action, argparse._HelpAction):
+            continue
+        metavar = f"\\fI{action.metavar}\\fR" if action.metavar else ""
+        words = [f"\\fB{escaped(word)}\\fR" for word in action.option_strings]
+        lines += item(" ".join([*words, *([metavar] if metavar else [])]), plain(action.help or "") + ".")
+    lines += [".SH ENVIRONMENT", *item(".B MOUNTD", "the program to run, unless an option names it"),
+              ".SH SEE ALSO", "mountd(1); docs/MOUNT\\-GIT.md of its source"]
+    return "\n".join(lines) + "\n"
+
+
+PAGES = {"mountd.1": mountd_page, "mount-git.1": mount_git_page}
