@@ -6,6 +6,7 @@ ghost use Rattle.eden_shared.specs.Opening.{IsUnused};
 mod sharing;
 mod shelf;
 
+use eden_history::Kept;
 use eden_model::{Bytes, Cause, Fault, Key, Kind, Outside, Path, Reply, Request, StartFault};
 use eden_mount::{Arrived, Config, Event, Local, Mount, Outcome, Room, Turned};
 use eden_samples::EMPTY_BLOB;
@@ -34,9 +35,9 @@ enum Answer {
     Waits,
     Idle,
     /// With that number, and the object.
-    Reads(u32),
-    IsRoot(u32),
-    Faults(u32, Cause),
+    Reads(u64),
+    IsRoot(u64),
+    Faults(u64, Cause),
     TakesIt,
     TakesNone,
     Arrives(Arrived),
@@ -89,7 +90,7 @@ fn is_reply(answer: &Answer, reply: &Reply) -> bool {
     }
 }
 
-fn is_numbered(answer: &Answer, number: u32) -> bool {
+fn is_numbered(answer: &Answer, number: u64) -> bool {
     match answer {
         Reads(want) => *want == number,
         IsRoot(want) => *want == number,
@@ -128,14 +129,19 @@ fn is_answer(answer: &Answer, outcome: &Outcome) -> bool {
 }
 
 /// A mount of three passes and one object in flight, over a shelf.
-fn mount(rt: &impl Abort, alloc: Global, history: u32, wide: bool) -> Mount<Outside, Shelf, Global>
+fn mount(
+    rt: &impl Abort,
+    alloc: Global,
+    history: u32,
+    wide: bool,
+) -> Mount<Outside, Shelf, Global, Kept>
     ensures rest { IsAtRest result }
     ensures unused { IsUnused result }
     ensures passes { result.queue.passes ≡ 3 }
 {
     let config = Config::new(3, 1, history, 1, 1, 1).expect(rt, "within the limits");
     let room = Room::new(alloc, alloc, &config).expect(rt, "memory");
-    Mount::new(room, Shelf::new(key(), wide))
+    Mount::new(room, Shelf::new(key(), wide), Kept::new(alloc, history))
 }
 
 fn events_of(rt: &impl Abort, alloc: Global, rows: &[(Call, Answer)]) -> Vec<Event> {
@@ -150,7 +156,7 @@ fn events_of(rt: &impl Abort, alloc: Global, rows: &[(Call, Answer)]) -> Vec<Eve
 fn run(
     rt: &impl Abort,
     alloc: Global,
-    mount: &mut Mount<Outside, Shelf, Global>,
+    mount: &mut Mount<Outside, Shelf, Global, Kept>,
     rows: &[(Call, Answer)],
 ) {
     let events = events_of(rt, alloc, rows);
@@ -237,7 +243,7 @@ fn caller(
     rt: &impl Abort,
     alloc: Global,
     framed: &[u8],
-) -> Local<Outside, MemorySource<Outside>, Shelf, Global> {
+) -> Local<Outside, MemorySource<Outside>, Shelf, Global, Kept> {
     let mut source = MemorySource::new(alloc);
     let framed = bytes(rt, alloc, framed).into_vec();
     source.insert(key().id, framed).expect(rt, "memory");

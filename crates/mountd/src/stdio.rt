@@ -3,6 +3,7 @@ use crate::hold::{hold_overlay, opening};
 use crate::report;
 use crate::sources::{folder_source, socket_source};
 use eden_command_line::{MountOptions, Objects};
+use eden_history::Kept;
 use eden_model::Outside;
 use eden_mount::Config;
 use eden_overlay::{Files, FolderFiles, MemoryFiles};
@@ -58,9 +59,11 @@ fn serve<F: Files<Outside>, S: Source<Outside> + Drop>(
     let mut reader = rt.stdin();
     let mut writer = rt.stdout();
     let memory = rt.alloc();
-    let ending = live::<Outside, _, _, _, _, _>(
+    let history = Kept::new(memory, limits.history());
+    let ending = live::<Outside, _, _, _, _, _, _>(
         memory,
         memory,
+        history,
         backing,
         base,
         limits,
