@@ -52,12 +52,12 @@ struct Asked {
 #[derive(Drop)]
 pub(crate) struct Life {
     pub(crate) mount: Mounted,
-    pub(crate) limit: u32,
+    pub(crate) limit: u64,
     /// The pending requests, at most one of a pass.
     asked: Vec<Asked>,
     pub(crate) waits: Waits,
     /// How many requests are finished.
-    pub(crate) done: u32,
+    pub(crate) done: u64,
 }
 
 impl Life {
@@ -72,7 +72,7 @@ impl Life {
         };
         Life {
             mount: open_again(rt, ground.alloc, files, &ground.calls, settings),
-            limit,
+            limit: u64::from(limit),
             asked: Vec::new(ground.alloc),
             waits: Waits::new(ground.alloc),
             done: 0,
@@ -110,7 +110,7 @@ impl Life {
     }
 
     /// A request is finished, as the entry of that number.
-    pub(crate) fn count(&mut self, rt: &impl Abort, number: u32) {
+    pub(crate) fn count(&mut self, rt: &impl Abort, number: u64) {
         self.done = self.done.saturating_add(1);
         assert!(rt; number == self.done);
     }
@@ -133,8 +133,8 @@ impl Life {
         if self.is_busy(pass) {
             return Err(StartFault::Busy);
         }
-        if (self.done as usize).saturating_add(self.asked.len()) == self.limit as usize {
-            return Err(StartFault::HistoryFull(u64::from(self.limit)));
+        if self.done.saturating_add(self.asked.len() as u64) == self.limit {
+            return Err(StartFault::HistoryFull(self.limit));
         }
         Ok(())
     }

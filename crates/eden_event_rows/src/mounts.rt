@@ -5,6 +5,7 @@ ghost use Rattle.std.specs.Prelude.{◌≡◌, []};
 use crate::waits::PASSES;
 use eden_cache::ObjectCache;
 use eden_checkout::{Checkout, OpenFault, Opening};
+use eden_history::Kept;
 use eden_model::{Id, Outside};
 use eden_mount::{Config, Mount, Room};
 use eden_overlay::{FilesFault, MemoryFiles, StopFiles};
@@ -21,7 +22,7 @@ pub(crate) type Stored = MemoryFiles<Outside>;
 
 pub(crate) type Tree = Checkout<Global, Outside, StopFiles<Stored>>;
 
-pub(crate) type Mounted = Mount<Outside, Tree, Global>;
+pub(crate) type Mounted = Mount<Outside, Tree, Global, Kept>;
 
 /// What a mount is opened with: the commit's tree, how its files are opened, how many objects are cached, 1 to 8, and the
 /// history's limit.
@@ -91,7 +92,8 @@ pub(crate) fn open(
     settings: Settings,
 ) -> Result<Mounted, Unopened> {
     let tree = open_tree(rt, alloc, files, calls, settings)?;
-    Ok(Mount::new(room(rt, alloc, settings.history), tree))
+    let history = Kept::new(alloc, settings.history);
+    Ok(Mount::new(room(rt, alloc, settings.history), tree, history))
 }
 
 /// A mount over files that can be opened.

@@ -76,7 +76,7 @@ fn replay_one(rt: &impl Abort, alloc: Global, tree: &mut WholeTree, entry: &Entr
 /// The whole history, from the tree that the mount opened with.
 fn replay(rt: &impl Abort, ground: &Ground, life: &Life, tree: &mut WholeTree) {
     let history = life.mount.history();
-    assert!(rt; history.len() == life.done as usize);
+    assert!(rt; history.len() as u64 == life.done);
     for entry in history {
         replay_one(rt, ground.alloc, tree, entry);
     }

@@ -23,7 +23,7 @@ enum Row {
     /// The pass's turn waits for the object.
     Waits(u32, Sample),
     /// .. or finishes its request as the entry of that number, with that reply.
-    Done(u32, u32, &'static str),
+    Done(u32, u64, &'static str),
     Idle(u32),
     Takes(Sample),
     TakesNone,
@@ -85,7 +85,7 @@ fn event(rt: &impl Abort, alloc: Global, row: Row) -> Event {
     }
 }
 
-fn is_done(rt: &impl Abort, alloc: Global, row: Row, told: u32, reply: &Reply) -> bool {
+fn is_done(rt: &impl Abort, alloc: Global, row: Row, told: u64, reply: &Reply) -> bool {
     match row {
         Done(_, number, line) => told == number && is_reply(rt, alloc, reply, line),
         _ => false,

@@ -101,8 +101,8 @@ pub fn live<
 ) -> Ending<F, S>
     requires files { W.honest → MayOpen base.opening W.repository W.opening base.root (F.stored backing.files) }
     requires empty { H.entries history ≡ [] }
-    ensures { Lives W.World F.Files S.fetched H.copies (H.limit history) base config.now backing (R.remaining reader.old, R.remaining reader.new)
-        (O.contents writer.old, O.contents writer.new) result }
+    ensures { Lives W.World F.Files S.fetched H.copies (H.limit history) base config.now backing
+        (R.remaining reader.old, R.remaining reader.new) (O.contents writer.old, O.contents writer.new) result }
 {
     let Backing { files, source } = backing;
     match open::<W, A, F>(alloc, memory, files, base, config) {

@@ -60,7 +60,7 @@ impl Write for Gone {
 const CHANGE: Life = Life {
     root: ONE_FILE,
     opening: Opening::Closed,
-    history: 1_000,
+    history: Some(1_000),
     input: "write /test.txt 12 21\n",
     said: "count 1\n",
     asked: &[ONE_FILE, VERSION_1],
@@ -70,7 +70,7 @@ const CHANGE: Life = Life {
 const AGAIN: Life = Life {
     root: ONE_FILE,
     opening: Opening::Closed,
-    history: 1_000,
+    history: Some(1_000),
     input: "read /test.txt 0 100\n",
     said: "data 13 76657273696f6e20310a000021\n",
     asked: &[],

@@ -3,6 +3,7 @@ ghost use Rattle.eden_object.specs.Objects.{IsHonest};
 ghost use Rattle.eden_serve_rows.specs.Samples.{sample};
 
 use eden_checkout::{Opening, opening_laws};
+use eden_history::Kept;
 use eden_model::{Id, World};
 use eden_mount::Config;
 use eden_object::{one_frame, one_list};
@@ -67,7 +68,17 @@ fn lived(alloc: Global, input: &str, said: &mut Vec<u8>) -> Result<Life, Fail> {
         opening: Opening::Closed,
     };
     let mut reader = input.as_bytes();
-    Ok(live::<Honest, _, _, _, _, _>(alloc, alloc, backing, base, &limits, &mut reader, said))
+    let history = Kept::new(alloc, limits.history());
+    Ok(live::<Honest, _, _, _, _, _, _>(
+        alloc,
+        alloc,
+        history,
+        backing,
+        base,
+        &limits,
+        &mut reader,
+        said,
+    ))
 }
 
 const INPUT: &str =

@@ -1,6 +1,7 @@
 //! One life of a mount, over files that are there and the objects of the sample commits.
 use crate::objects::{Asked, asked_for, samples};
 use eden_checkout::Opening;
+use eden_history::{Counted, Kept};
 use eden_model::Outside;
 use eden_mount::Config;
 use eden_overlay::{Files, FilesFault, MemoryFiles};
@@ -17,8 +18,8 @@ pub(crate) type Stored = MemoryFiles<Outside>;
 pub(crate) struct Life {
     pub(crate) root: Sample,
     pub(crate) opening: Opening,
-    /// How many entries the history may have.
-    pub(crate) history: u32,
+    /// How many entries the history may have; none where it only counts them.
+    pub(crate) history: Option<u32>,
     pub(crate) input: &'static str,
     pub(crate) said: &'static str,
     pub(crate) asked: &'static [Sample],
@@ -33,12 +34,34 @@ pub(crate) fn ending<F: Files<Outside>, R: Read, O: Write>(
     reader: &mut R,
     writer: &mut O,
 ) -> Ending<F, Asked> {
-    let config = Config::new(1, 16, life.history, 64, 1 << 20, 64).expect(rt, "settings");
+    let most = life.history.unwrap_or(1);
+    let config = Config::new(1, 16, most, 64, 1 << 20, 64).expect(rt, "settings");
     let base = Base {
         root: life.root.id,
         opening: life.opening,
     };
-    live::<Outside, Asked, Global, F, R, O>(alloc, alloc, backing, base, &config, reader, writer)
+    match life.history {
+        Some(limit) => live::<Outside, Asked, Global, F, Kept, R, O>(
+            alloc,
+            alloc,
+            Kept::new(alloc, limit),
+            backing,
+            base,
+            &config,
+            reader,
+            writer,
+        ),
+        None => live::<Outside, Asked, Global, F, Counted, R, O>(
+            alloc,
+            alloc,
+            Counted::new(alloc),
+            backing,
+            base,
+            &config,
+            reader,
+            writer,
+        ),
+    }
 }
 
 /// Those files, and the samples.

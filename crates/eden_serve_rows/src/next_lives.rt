@@ -19,7 +19,7 @@ const UNCHANGED: Row = Row {
     first: Life {
         root: ONE_FILE,
         opening: Opening::Closed,
-        history: 1_000,
+        history: Some(1_000),
         input: "kind /\nkind /test.txt\n",
         said: "kind dir\nkind file\n",
         asked: &[ONE_FILE],
@@ -28,7 +28,7 @@ const UNCHANGED: Row = Row {
     again: Life {
         root: ONE_FILE,
         opening: Opening::Closed,
-        history: 1_000,
+        history: Some(1_000),
         input: "kind /\nkind /test.txt\n",
         said: "kind dir\nkind file\n",
         asked: &[ONE_FILE],
@@ -40,7 +40,7 @@ const PLAIN_ALREADY: Row = Row {
     first: Life {
         root: TWO_FILES,
         opening: Opening::Closed,
-        history: 1_000,
+        history: Some(1_000),
         input: "setexec /new.txt 0\nsetexec /bak/test.txt 0\nkind /new.txt\n",
         said: "ok\nok\nkind file\n",
         asked: &[TWO_FILES, ONE_FILE],
@@ -49,7 +49,7 @@ const PLAIN_ALREADY: Row = Row {
     again: Life {
         root: TWO_FILES,
         opening: Opening::Closed,
-        history: 1_000,
+        history: Some(1_000),
         input: "kind /bak/test.txt\n",
         said: "kind file\n",
         asked: &[TWO_FILES, ONE_FILE],
@@ -61,7 +61,7 @@ const WRITTEN: Row = Row {
     first: Life {
         root: ONE_FILE,
         opening: Opening::Closed,
-        history: 1_000,
+        history: Some(1_000),
         input: "kind /test.txt\nwrite /test.txt 12 21\nread /test.txt 0 100\n",
         said: "kind file\ncount 1\ndata 13 76657273696f6e20310a000021\n",
         asked: &[ONE_FILE, VERSION_1],
@@ -70,7 +70,7 @@ const WRITTEN: Row = Row {
     again: Life {
         root: ONE_FILE,
         opening: Opening::Closed,
-        history: 1_000,
+        history: Some(1_000),
         input: "read /test.txt 0 100\nwrite /test.txt 0 56\nread /test.txt 0 7\n",
         said: "data 13 76657273696f6e20310a000021\ncount 1\ndata 7 56657273696f6e\n",
         asked: &[],
@@ -82,7 +82,7 @@ const WRITTEN_IN_PART: Row = Row {
     first: Life {
         root: TWO_FILES,
         opening: Opening::Closed,
-        history: 1_000,
+        history: Some(1_000),
         input: "write /new.txt 0 4e\n",
         said: "count 1\n",
         asked: &[TWO_FILES, NEW_FILE],
@@ -91,7 +91,7 @@ const WRITTEN_IN_PART: Row = Row {
     again: Life {
         root: TWO_FILES,
         opening: Opening::Closed,
-        history: 1_000,
+        history: Some(1_000),
         input: "read /new.txt 0 9\nread /bak/test.txt 0 7\n",
         said: "data 9 4e65772066696c650a\ndata 7 76657273696f6e\n",
         asked: &[ONE_FILE, VERSION_1],
@@ -103,7 +103,7 @@ const MOVED: Row = Row {
     first: Life {
         root: ONE_FILE,
         opening: Opening::Closed,
-        history: 1_000,
+        history: Some(1_000),
         input: "mkdir /d\nrename /test.txt /d/t\nkind /test.txt\n",
         said: "ok\nok\nerr 2 ENOENT\n",
         asked: &[ONE_FILE],
@@ -112,7 +112,7 @@ const MOVED: Row = Row {
     again: Life {
         root: ONE_FILE,
         opening: Opening::Closed,
-        history: 1_000,
+        history: Some(1_000),
         input: "kind /test.txt\nread /d/t 0 7\n",
         said: "err 2 ENOENT\ndata 7 76657273696f6e\n",
         asked: &[VERSION_1],
@@ -124,7 +124,7 @@ const NO_REQUEST: Row = Row {
     first: Life {
         root: ONE_FILE,
         opening: Opening::Closed,
-        history: 1_000,
+        history: Some(1_000),
         input: "write /test.txt 12 21\nkind /a-b\nunlink /test.txt\n",
         said: "count 1\nerr 71 EPROTO\n",
         asked: &[ONE_FILE, VERSION_1],
@@ -133,7 +133,7 @@ const NO_REQUEST: Row = Row {
     again: Life {
         root: ONE_FILE,
         opening: Opening::Closed,
-        history: 1_000,
+        history: Some(1_000),
         input: "read /test.txt 12 9\n",
         said: "data 1 21\n",
         asked: &[],
@@ -145,7 +145,7 @@ const FULL: Row = Row {
     first: Life {
         root: ONE_FILE,
         opening: Opening::Closed,
-        history: 1,
+        history: Some(1),
         input: "mkdir /d\nmkdir /e\nkind /..\n",
         said: "ok\nfault history 1\nerr 22 EINVAL\n",
         asked: &[ONE_FILE],
@@ -154,7 +154,7 @@ const FULL: Row = Row {
     again: Life {
         root: ONE_FILE,
         opening: Opening::Closed,
-        history: 1,
+        history: Some(1),
         input: "list / - 9\n",
         said: "entries 2 dir d file test.txt end\n",
         asked: &[],

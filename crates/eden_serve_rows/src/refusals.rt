@@ -12,7 +12,7 @@ use std::process::Abort;
 const FIRST: Life = Life {
     root: ONE_FILE,
     opening: Opening::Closed,
-    history: 1_000,
+    history: Some(1_000),
     input: "mkdir /d\n",
     said: "ok\n",
     asked: &[ONE_FILE],

@@ -56,7 +56,7 @@ fn killed(rt: &impl Abort, alloc: Global, damages: &[Damage]) -> Stored {
 const IDLE: Life = Life {
     root: ONE_FILE,
     opening: Opening::Rescan,
-    history: 9,
+    history: Some(9),
     input: "",
     said: "",
     asked: &[],

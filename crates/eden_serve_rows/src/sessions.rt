@@ -11,23 +11,25 @@ use std::process::Abort;
 /// A session on the samples: its root, its lines, what it says, and the objects that it asks for, in order.
 pub(crate) type Session = (Sample, &'static str, &'static str, &'static [Sample]);
 
-/// A life of the session's lines, over no files.
-fn life(session: Session) -> Life {
+/// A life of the session's lines, over no files, with such a history.
+fn life(session: Session, history: Option<u32>) -> Life {
     let (root, input, said, asked) = session;
     Life {
         root,
         opening: Opening::Closed,
-        history: 1_000,
+        history,
         input,
         said,
         asked,
     }
 }
 
-/// Whether the sessions say so, ask for these objects, and end well.
+/// Whether the sessions say so, ask for these objects, and end well, with a history that is kept and one that isn't.
 pub(crate) fn check(rt: &impl Abort, alloc: Global, sessions: &[Session]) {
     for session in sessions {
-        closed(rt, alloc, MemoryFiles::new(alloc), &life(*session));
+        for history in [Some(1_000), None] {
+            closed(rt, alloc, MemoryFiles::new(alloc), &life(*session, history));
+        }
     }
 }
 
@@ -41,7 +43,7 @@ pub(crate) fn said(
 ) -> Vec<u8> {
     let mut said = Vec::new(alloc);
     let files = MemoryFiles::new(alloc);
-    let life = life((root, "", "", &[]));
+    let life = life((root, "", "", &[]), Some(1_000));
     let mut reader = input.as_bytes();
     let ending = ending(
         rt,

@@ -6,4 +6,5 @@ use Rattle.eden_serve_rows.proofs.honest.lived.Goals as goal
 pub live-requires : goal.live-requires
 live-requires c = record {
   files = λ h. c.opening_laws.ensures.fresh sample two_files _ (λ k. ap (λ (rows : List (ℕ × List ℕ)). stored_in rows k) c.new-files.ensures);
+  empty = c.new-history.ensures.entries;
 }
