@@ -10,7 +10,7 @@ use crate::fault::HostFault;
 use crate::guest::Guest;
 use crate::threads::small_stack;
 use crate::unloading::Unloading;
-use eden_history::History;
+use eden_history::Kept;
 use eden_model::World;
 use eden_mount::Attempts;
 use eden_shared::{Naming, Pass, Shared};
@@ -48,14 +48,13 @@ fn attend<
     T: Attempts<W> + Drop,
     A: Allocator,
     J: Naming,
-    H: History,
     I: Read + Drop,
     O: Write + Drop,
     R: Wait,
 >(
     rt: &R,
     alloc: Global,
-    shared: &Shared<W, T, A, J, H>,
+    shared: &Shared<W, T, A, J, Kept>,
     pass: Pass<J>,
     unloading: Unloading,
     reader: I,
@@ -84,7 +83,6 @@ fn begin<
     T: Attempts<W> + Send + Drop,
     A: Allocator + Send,
     J: Naming + Send,
-    H: History + Send,
     I: Read + Send + Drop + 's,
     O: Write + Send + Drop + 's,
     R: Threads + Wait + Sync,
@@ -92,7 +90,7 @@ fn begin<
     scope: &Scope<'s, E>,
     rt: &'s R,
     alloc: Global,
-    shared: &'s Shared<W, T, A, J, H>,
+    shared: &'s Shared<W, T, A, J, Kept>,
     closed: &'s AtomicUsize,
     place: usize,
     pass: Pass<J>,
@@ -173,7 +171,6 @@ fn attend_each<
     T: Attempts<W> + Send + Drop,
     A: Allocator + Send,
     J: Naming + Send,
-    H: History + Send,
     I: Read + Send + Drop + 's,
     O: Write + Send + Drop + 's,
     L: Accepts<I, O> + Drop,
@@ -182,7 +179,7 @@ fn attend_each<
     scope: &Scope<'s, E>,
     rt: &'s R,
     alloc: Global,
-    shared: &'s Shared<W, T, A, J, H>,
+    shared: &'s Shared<W, T, A, J, Kept>,
     closed: &'s AtomicUsize,
     listener: L,
     passes: Vec<Pass<J>>,
@@ -227,7 +224,6 @@ pub(crate) fn attend_all<
     T: Attempts<W> + Send + Drop,
     A: Allocator + Send,
     J: Naming + Send,
-    H: History + Send,
     I: Read + Send + Drop,
     O: Write + Send + Drop,
     L: Accepts<I, O> + Drop,
@@ -235,7 +231,7 @@ pub(crate) fn attend_all<
 >(
     rt: &R,
     alloc: Global,
-    shared: &Shared<W, T, A, J, H>,
+    shared: &Shared<W, T, A, J, Kept>,
     listener: L,
     passes: Vec<Pass<J>>,
     unloading: Unloading,
@@ -249,7 +245,7 @@ pub(crate) fn attend_all<
         thread::scope_env(),
         rt,
         move |scope| -> (Vec<Pass<J>>, Option<Result<(), HostFault>>)
-            requires { IsSync R.row × IsSend W.row × IsSend T.row × IsSend A.row × IsSend J.row × IsSend H.row × IsSend I.row
+            requires { IsSync R.row × IsSend W.row × IsSend T.row × IsSend A.row × IsSend J.row × IsSend I.row
                 × IsSend O.row × Frees A.Allocator A.dealloc_token × HaveLearntNothing passes.items }
             ensures { AreAttended I.Read O.Write W.honest W.opening passes.items result.0.items result.1 }
         {

@@ -4,7 +4,7 @@ ghost use Rattle.eden_host.specs.Guests.{HasLearntNothing, IsTurnedAway, last_re
 ghost use Rattle.eden_shared.specs.Calls.{Grows};
 
 use crate::unloading::Unloading;
-use eden_history::History;
+use eden_history::Kept;
 use eden_model::{CallFault, Path, Reply, Request, World};
 use eden_mount::Attempts;
 use eden_shared::{Naming, Pass, Shared};
@@ -17,17 +17,9 @@ use std::sync::Wait;
 ///
 /// Contracts see what the pass carries.
 #[derive(Drop)]
-pub struct Guest<
-    'a,
-    W: World,
-    T: Attempts<W> + Drop,
-    A: Allocator,
-    J: Naming,
-    H: History,
-    R: Wait,
-> {
+pub struct Guest<'a, W: World, T: Attempts<W> + Drop, A: Allocator, J: Naming, R: Wait> {
     rt: &'a R,
-    shared: &'a Shared<W, T, A, J, H>,
+    shared: &'a Shared<W, T, A, J, Kept>,
     pass: Pass<J>,
     unloading: Unloading,
     root: Path,
@@ -35,8 +27,8 @@ pub struct Guest<
     served: u32,
 }
 
-impl<'a, W: World, T: Attempts<W> + Drop, A: Allocator, J: Naming, H: History, R: Wait> Model
-    for Guest<'a, W, T, A, J, H, R> {
+impl<'a, W: World, T: Attempts<W> + Drop, A: Allocator, J: Naming, R: Wait> Model
+    for Guest<'a, W, T, A, J, R> {
     ghost use Rattle.eden_host.specs.Guests.{HasLearntNothing};
     ghost use Rattle.eden_shared.specs.Passes.{Carried};
 
@@ -47,20 +39,19 @@ impl<'a, W: World, T: Attempts<W> + Drop, A: Allocator, J: Naming, H: History, R
     ghost invariant = { λ g. HasLearntNothing g.pass };
 }
 
-impl<'a, W: World, T: Attempts<W> + Drop, A: Allocator, J: Naming, H: History, R: Wait> Guest<
+impl<'a, W: World, T: Attempts<W> + Drop, A: Allocator, J: Naming, R: Wait> Guest<
     'a,
     W,
     T,
     A,
     J,
-    H,
     R,
 > {
     /// Over a shared mount, with one of its passes. It takes no memory.
     pub fn new(
         rt: &'a R,
         alloc: Global,
-        shared: &'a Shared<W, T, A, J, H>,
+        shared: &'a Shared<W, T, A, J, Kept>,
         pass: Pass<J>,
         unloading: Unloading,
     ) -> Self
@@ -119,8 +110,8 @@ impl<'a, W: World, T: Attempts<W> + Drop, A: Allocator, J: Naming, H: History, R
     }
 }
 
-impl<'a, W: World, T: Attempts<W> + Drop, A: Allocator, J: Naming, H: History, R: Wait> Service
-    for Guest<'a, W, T, A, J, H, R> {
+impl<'a, W: World, T: Attempts<W> + Drop, A: Allocator, J: Naming, R: Wait> Service
+    for Guest<'a, W, T, A, J, R> {
     ghost use Rattle.eden_host.specs.Guests.{GuestAnswers};
 
     ghost answers = { GuestAnswers W.honest W.opening };

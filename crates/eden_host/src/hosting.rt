@@ -14,7 +14,7 @@ use crate::fetchers::Fetchers;
 use crate::threads::small_stack;
 use crate::unloading::Unloading;
 use core::thread::Anything;
-use eden_history::History;
+use eden_history::Kept;
 use eden_model::World;
 use eden_mount::{Attempts, Mount};
 use eden_shared::{Naming, Pass, Shared, Torn};
@@ -28,9 +28,9 @@ use std::thread::{self, Scope, Threads};
 
 /// What is left of a mount that was served to many.
 #[derive(Drop)]
-pub struct Hosted<W: World, T: Attempts<W> + Drop, A: Allocator, J: Naming, H: History> {
+pub struct Hosted<W: World, T: Attempts<W> + Drop, A: Allocator, J: Naming> {
     /// The mount, with nothing pending, where the passes were those of the shared mount.
-    pub mount: Result<Mount<W, T, A, H>, Torn<W, T, A, J, H>>,
+    pub mount: Result<Mount<W, T, A, Kept>, Torn<W, T, A, J, Kept>>,
     /// The first fault of listening or of a session.
     pub outcome: Result<(), HostFault>,
 }
@@ -44,13 +44,12 @@ fn fetch_from_all<
     T: Attempts<W> + Send + Drop,
     A: Allocator + Send,
     J: Naming + Send,
-    H: History + Send,
     S: Source<W> + Send + Drop + 's,
     R: Threads + Wait + Sync,
 >(
     scope: &Scope<'s, E>,
     rt: &'s R,
-    shared: &'s Shared<W, T, A, J, H>,
+    shared: &'s Shared<W, T, A, J, Kept>,
     fetchers: Fetchers<S>,
 ) -> bool {
     let mut fetched = false;
@@ -82,7 +81,6 @@ pub fn host<
     T: Attempts<W> + Send + Drop,
     A: Allocator + Send,
     J: Naming + Send,
-    H: History + Send,
     S: Source<W> + Send + Drop,
     I: Read + Send + Drop,
     O: Write + Send + Drop,
@@ -92,11 +90,11 @@ pub fn host<
     rt: &R,
     alloc: Global,
     listener: L,
-    shared: Shared<W, T, A, J, H>,
+    shared: Shared<W, T, A, J, Kept>,
     passes: Vec<Pass<J>>,
     fetchers: Fetchers<S>,
     unloading: Unloading,
-) -> Hosted<W, T, A, J, H>
+) -> Hosted<W, T, A, J>
     requires passes { AreNewcomers passes.items (length J.names) }
     ensures told { (left : List Carried)
         × AreHosted I.Read O.Write W.honest W.opening passes.items left result.outcome
@@ -120,7 +118,6 @@ fn attend_fetched<
     T: Attempts<W> + Send + Drop,
     A: Allocator + Send,
     J: Naming + Send,
-    H: History + Send,
     I: Read + Send + Drop,
     O: Write + Send + Drop,
     L: Accepts<I, O> + Drop,
@@ -128,7 +125,7 @@ fn attend_fetched<
 >(
     rt: &R,
     alloc: Global,
-    shared: &Shared<W, T, A, J, H>,
+    shared: &Shared<W, T, A, J, Kept>,
     listener: L,
     passes: Vec<Pass<J>>,
     unloading: Unloading,
@@ -149,12 +146,11 @@ fn beside_fetchers<
     T: Attempts<W> + Send + Drop,
     A: Allocator + Send,
     J: Naming + Send,
-    H: History + Send,
     S: Source<W> + Send + Drop,
     R: Threads + Wait + Sync,
     X,
     G: FnOnce(bool) -> X,
->(rt: &R, shared: &Shared<W, T, A, J, H>, fetchers: Fetchers<S>, sessions: G) -> X
+>(rt: &R, shared: &Shared<W, T, A, J, Kept>, fetchers: Fetchers<S>, sessions: G) -> X
     requires { (b : Bool) → G.pre sessions b }
     ensures { (b : Bool) × G.post sessions b result }
 {
@@ -172,7 +168,6 @@ fn serve_all<
     T: Attempts<W> + Send + Drop,
     A: Allocator + Send,
     J: Naming + Send,
-    H: History + Send,
     S: Source<W> + Send + Drop,
     I: Read + Send + Drop,
     O: Write + Send + Drop,
@@ -182,7 +177,7 @@ fn serve_all<
     rt: &R,
     alloc: Global,
     listener: L,
-    shared: &Shared<W, T, A, J, H>,
+    shared: &Shared<W, T, A, J, Kept>,
     passes: Vec<Pass<J>>,
     fetchers: Fetchers<S>,
     unloading: Unloading,
@@ -191,7 +186,7 @@ fn serve_all<
     ensures passes { AreHosted I.Read O.Write W.honest W.opening passes.items result.0.items result.1 }
 {
     let sessions = move |fetched: bool| -> (Vec<Pass<J>>, Result<(), HostFault>)
-        requires { IsSync R.row × IsSend W.row × IsSend T.row × IsSend A.row × IsSend J.row × IsSend H.row × IsSend I.row
+        requires { IsSync R.row × IsSend W.row × IsSend T.row × IsSend A.row × IsSend J.row × IsSend I.row
             × IsSend O.row × Frees A.Allocator A.dealloc_token × HaveLearntNothing passes.items }
         ensures { AreHosted I.Read O.Write W.honest W.opening passes.items result.0.items result.1 }
     { attend_fetched(rt, alloc, shared, listener, passes, unloading, fetched) };

@@ -5,8 +5,8 @@ use crate::hold::{hold_overlay, opening};
 use crate::report;
 use crate::sources::{folder_fetchers, socket_fetchers};
 use eden_command_line::{MountOptions, Objects, ServeOptions};
-use eden_host::{Fetchers, Port, Unloading};
 use eden_history::Kept;
+use eden_host::{Fetchers, Port, Unloading};
 use eden_life::live_shared;
 use eden_model::Outside;
 use eden_mount::Config;
@@ -95,7 +95,7 @@ fn serve_fetched<
         return report::unopened(rt, "Memory");
     };
     let history = Kept::new(rt.alloc(), limits.history());
-    let ending = live_shared::<Outside, _, _, _, _, _, _, _>(
+    let ending = live_shared::<Outside, _, _, _, _, _, _>(
         threads,
         rt.alloc(),
         Backing { files, source },
