@@ -2,6 +2,7 @@ pub mod Puts
 pub mod Chains
 pub mod Moves
 pub mod Faults
+pub mod Atomic
 pub mod Listings
 pub mod EntryMoves
 pub mod Reforms

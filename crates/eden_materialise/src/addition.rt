@@ -1,15 +1,16 @@
 //! An entry added to the table of a mount.
 
-ghost use Rattle.std.specs.Prelude.{◌≡◌, ◌⊎◌, ◌<◌, ◌^◌, ◌∷◌, [], ◌++◌, ◌+◌, min, true, Err, Some, length, MatchBool, IfErr, OnOk, OnErr};
+ghost use Rattle.std.specs.Prelude.{◌≡◌, ◌⊎◌, ◌<◌, ◌^◌, ◌∷◌, [], ◌++◌, ◌+◌, min, true, Err, Some, length, MatchBool, OnOk, OnErr};
 ghost use Rattle.eden_model.specs.declared.fault.Fault.TheVariants as fault;
 ghost use Rattle.eden_model.specs.Trees.{graft};
 ghost use Rattle.eden_overlay_format.specs.Directory.{number_end};
 ghost use Rattle.eden_overlay.specs.Held.{with_entries};
-ghost use Rattle.eden_tie.specs.Chains.{NoneMarked, StaysLoaded, chained, Above};
+ghost use Rattle.eden_tie.specs.Chains.{chained, Above};
 ghost use Rattle.eden_tie.specs.Changing.{HasRoom, changed};
 ghost use Rattle.eden_tie.specs.Filing.{leaf};
 ghost use Rattle.eden_tie.specs.Listings.{listing_of};
 ghost use Rattle.eden_inode.specs.Tables.{shows};
+ghost use Rattle.eden_materialise.specs.Atomic.{IsAtomic};
 ghost use Rattle.eden_materialise.specs.Filing.{node_as, with_own, own_row, IsShort, LacksEntry, MayAdd, FilesEntry, RefusedBy, IsAddFault};
 ghost use Rattle.eden_materialise.specs.Puts.{AtDirectory};
 
@@ -99,13 +100,11 @@ pub fn add_entry<A: Allocator + Clone, W: World, F: Files<W>>(
         (with_entries (with_own (F.stored inodes.old.files) inodes.old.next new.entry) y.number
         (listing_of (changed d name.now (Some (own_row inodes.old.next new.entry))))) inodes.old.root path.now
         (F.stored inodes.new.files))) }
-    ensures err { OnErr result (inodes.new.root ≡ inodes.old.root) }
+    ensures atomic { IsAtomic W.World F.Files (IsAddFault inodes.old.next) inodes.old inodes.new result }
     ensures strays { W.honest
         → OnErr result (RefusedBy (F.stored inodes.old.files)
         (with_own (F.stored inodes.old.files) inodes.old.next new.entry) inodes.old.root path.now
         (F.stored inodes.new.files)) }
-    ensures fault { IfErr result
-        (IsAddFault inodes.old.next (F.failures inodes.old.files) (F.failures inodes.new.files)) }
     ensures numbers { inodes.old.next ≡ number_end
         → AtDirectory path.now inodes.old.root (λ y d. HasRoom d name.now → result ≡ Err fault.Numbers) }
     ensures unused { result ≡ Err fault.Numbers → inodes.new ≡ inodes.old }
@@ -113,15 +112,11 @@ pub fn add_entry<A: Allocator + Clone, W: World, F: Files<W>>(
     ensures shown { W.honest
         → OnOk result (shows W.World F.Files inodes.new ≡ graft (path.now ++ name.now ∷ []) (leaf (node_as new.entry))
         (shows W.World F.Files inodes.old)) }
-    ensures unseen { W.honest → OnErr result (shows W.World F.Files inodes.new ≡ shows W.World F.Files inodes.old) }
-    ensures marks { NoneMarked inodes.old.root inodes.new.root }
-    ensures stays { StaysLoaded inodes.old.root inodes.new.root }
     ensures next { OnOk result (inodes.new.next ≡ inodes.old.next + 1) }
     ensures changes { OnOk result (inodes.new.changes ≡ min (inodes.old.changes + 1) u64.MAX) }
     ensures given { OnErr result
         (((inodes.new.next ≡ inodes.old.next) × (inodes.new.changes ≡ inodes.old.changes))
         ⊎ ((inodes.new.next ≡ inodes.old.next + 1) × (inodes.new.changes ≡ min (inodes.old.changes + 1) u64.MAX))) }
-    ensures rest { inodes.new.clock ≡ inodes.old.clock }
 {
     inodes.holds();
     if !has_room(inodes, path, name) {

@@ -1,18 +1,19 @@
 //! A content stored for a file in the table of a mount.
 
-ghost use Rattle.std.specs.Prelude.{◌≡◌, ◌≤◌, ◌∷◌, [], ◌++◌, ◌+◌, min, false, if◌then◌else◌, Some, MatchBool, length, IfErr, OnOk, OnErr};
+ghost use Rattle.std.specs.Prelude.{◌≡◌, ◌≤◌, ◌∷◌, [], ◌++◌, ◌+◌, min, false, if◌then◌else◌, Some, MatchBool, length, OnOk, OnErr};
 ghost use Rattle.eden_model.specs.Shown.{node_from};
 ghost use Rattle.eden_model.specs.Trees.{graft};
 ghost use Rattle.eden_overlay_format.specs.Content.{content_most};
 ghost use Rattle.eden_overlay.specs.Held.{with_content, with_entries};
 ghost use Rattle.eden_overlay.specs.Walking.{is_own};
 ghost use Rattle.eden_tree.specs.Directory.{Row};
-ghost use Rattle.eden_tie.specs.Chains.{NoneMarked, StaysLoaded, chained, Above};
+ghost use Rattle.eden_tie.specs.Chains.{chained, Above};
 ghost use Rattle.eden_tie.specs.Changing.{changed};
 ghost use Rattle.eden_tie.specs.Filing.{leaf, HasFile};
 ghost use Rattle.eden_tie.specs.Laws.{owned};
 ghost use Rattle.eden_tie.specs.Listings.{listing_of};
 ghost use Rattle.eden_inode.specs.Tables.{shows};
+ghost use Rattle.eden_materialise.specs.Atomic.{IsAtomic};
 ghost use Rattle.eden_materialise.specs.Faults.{IsStoreFault};
 ghost use Rattle.eden_materialise.specs.Filing.{RefusedBy};
 ghost use Rattle.eden_materialise.specs.Fills.{MayFill, FillsFile};
@@ -147,22 +148,18 @@ pub fn store_content<A: Allocator + Clone, W: World, F: Files<W>>(
         (F.stored inodes.new.files ≡ with_content (F.stored inodes.old.files) w.number content.now)
         (Above (with_entries (with_content (F.stored inodes.old.files) w.number content.now) y.number
         (listing_of (changed d name.now (Some (owned w))))) inodes.old.root path.now (F.stored inodes.new.files)))) }
-    ensures err { OnErr result (inodes.new.root ≡ inodes.old.root) }
+    ensures atomic { IsAtomic W.World F.Files IsStoreFault inodes.old inodes.new result }
     ensures strays { W.honest → (w : Row) → HasFile inodes.old.root path.now name.now w
         → OnErr result (RefusedBy (F.stored inodes.old.files)
         (with_content (F.stored inodes.old.files) w.number content.now) inodes.old.root path.now
         (F.stored inodes.new.files)) }
-    ensures fault { IfErr result (IsStoreFault (F.failures inodes.old.files) (F.failures inodes.new.files)) }
     ensures counted { OnOk result (F.failures inodes.new.files ≡ F.failures inodes.old.files) }
     ensures shown { W.honest → (w : Row) → HasFile inodes.old.root path.now name.now w
         → OnOk result (shows W.World F.Files inodes.new ≡ graft (path.now ++ name.now ∷ [])
         (leaf (node_from w.kind (Some content.now) false))
         (shows W.World F.Files inodes.old)) }
-    ensures unseen { W.honest → OnErr result (shows W.World F.Files inodes.new ≡ shows W.World F.Files inodes.old) }
-    ensures marks { NoneMarked inodes.old.root inodes.new.root }
-    ensures stays { StaysLoaded inodes.old.root inodes.new.root }
     ensures changes { inodes.new.changes ≡ min (inodes.old.changes + 1) u64.MAX }
-    ensures rest { (inodes.new.next ≡ inodes.old.next) × (inodes.new.clock ≡ inodes.old.clock) }
+    ensures next { inodes.new.next ≡ inodes.old.next }
 {
     inodes.holds();
     inodes.change(Filling {

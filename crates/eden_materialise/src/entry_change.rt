@@ -1,16 +1,17 @@
 //! One entry of a listing changed in the table of a mount.
 
-ghost use Rattle.std.specs.Prelude.{◌≡◌, ◌∷◌, [], ◌++◌, ◌+◌, min, Err, Some, None, IfErr, OnOk, OnErr};
+ghost use Rattle.std.specs.Prelude.{◌≡◌, ◌∷◌, [], ◌++◌, ◌+◌, min, Err, Some, None, OnOk, OnErr};
 ghost use Rattle.eden_model.specs.Failures.{Counted};
 ghost use Rattle.eden_model.specs.Trees.{graft};
 ghost use Rattle.eden_overlay.specs.Held.{with_entries};
 ghost use Rattle.eden_overlay.specs.declared.files.FilesFault.TheVariants as files;
-ghost use Rattle.eden_tie.specs.Chains.{NoneMarked, StaysLoaded, chained, Above, Refused};
+ghost use Rattle.eden_tie.specs.Chains.{chained, Above, Refused};
 ghost use Rattle.eden_tie.specs.Changing.{changed};
 ghost use Rattle.eden_tie.specs.Listings.{listing_of};
 ghost use Rattle.eden_tie.specs.ShownLaws.{shown_from};
 ghost use Rattle.eden_tie.specs.Standing.{MayStand};
 ghost use Rattle.eden_inode.specs.Tables.{shows};
+ghost use Rattle.eden_materialise.specs.Atomic.{IsAtomic};
 ghost use Rattle.eden_materialise.specs.Faults.{IsStoreFault};
 ghost use Rattle.eden_materialise.specs.Listings.{IsHeldFor, ChangesEntry};
 ghost use Rattle.eden_materialise.specs.Puts.{AtDirectory};
@@ -150,20 +151,16 @@ pub fn change_entry<A: Allocator + Clone, W: World, F: Files<W>>(
         (λ y d. OnOk result (Above
         (with_entries (F.stored inodes.old.files) y.number
         (listing_of (changed d name.now entry))) inodes.old.root path.now (F.stored inodes.new.files))) }
-    ensures err { OnErr result (inodes.new.root ≡ inodes.old.root) }
+    ensures atomic { IsAtomic W.World F.Files IsStoreFault inodes.old inodes.new result }
     ensures strays { W.honest
         → OnErr result (Refused (F.stored inodes.old.files) inodes.old.root path.now (F.stored inodes.new.files)) }
-    ensures fault { IfErr result (IsStoreFault (F.failures inodes.old.files) (F.failures inodes.new.files)) }
     ensures counted { OnOk result (F.failures inodes.new.files ≡ F.failures inodes.old.files) }
     ensures shown { W.honest
         → OnOk result (shows W.World F.Files inodes.new ≡ graft (path.now ++ name.now ∷ [])
         (shown_from W.repository (F.stored inodes.new.files) entry)
         (shows W.World F.Files inodes.old)) }
-    ensures unseen { W.honest → OnErr result (shows W.World F.Files inodes.new ≡ shows W.World F.Files inodes.old) }
-    ensures marks { NoneMarked inodes.old.root inodes.new.root }
-    ensures stays { StaysLoaded inodes.old.root inodes.new.root }
     ensures changes { inodes.new.changes ≡ min (inodes.old.changes + 1) u64.MAX }
-    ensures rest { (inodes.new.next ≡ inodes.old.next) × (inodes.new.clock ≡ inodes.old.clock) }
+    ensures next { inodes.new.next ≡ inodes.old.next }
 {
     inodes.holds();
     inodes.change(EntryChange {

@@ -1,14 +1,15 @@
 //! A file of another kind in the table of a mount.
 
-ghost use Rattle.std.specs.Prelude.{◌≡◌, ◌≢◌, ◌∷◌, [], ◌++◌, ◌+◌, min, false, Some, None, IfErr, OnOk, OnErr};
+ghost use Rattle.std.specs.Prelude.{◌≡◌, ◌≢◌, ◌∷◌, [], ◌++◌, ◌+◌, min, false, Some, None, OnOk};
 ghost use Rattle.eden_model.specs.declared.kind.Kind.TheVariants as kinds;
 ghost use Rattle.eden_model.specs.Shown.{node_from};
 ghost use Rattle.eden_model.specs.Trees.{graft};
 ghost use Rattle.eden_tree.specs.Directory.{Row};
-ghost use Rattle.eden_tie.specs.Chains.{NoneMarked, StaysLoaded, chained};
+ghost use Rattle.eden_tie.specs.Chains.{chained};
 ghost use Rattle.eden_tie.specs.Changing.{changed};
 ghost use Rattle.eden_tie.specs.Filing.{leaf, content_shown, HasFile};
 ghost use Rattle.eden_inode.specs.Tables.{shows};
+ghost use Rattle.eden_materialise.specs.Atomic.{IsAtomic};
 ghost use Rattle.eden_materialise.specs.Faults.{IsStoreFault};
 ghost use Rattle.eden_materialise.specs.Listings.{ChangesEntry};
 ghost use Rattle.eden_materialise.specs.Puts.{AtDirectory};
@@ -93,18 +94,14 @@ pub fn set_kind<A: Allocator + Clone, W: World, F: Files<W>>(
         → AtDirectory path.now inodes.old.root
         (λ y d. OnOk result (inodes.new.root ≡ chained path.now
         (changed d name.now (Some (of_kind kind w))) inodes.old.root)) }
-    ensures err { OnErr result (inodes.new.root ≡ inodes.old.root) }
-    ensures fault { IfErr result (IsStoreFault (F.failures inodes.old.files) (F.failures inodes.new.files)) }
+    ensures atomic { IsAtomic W.World F.Files IsStoreFault inodes.old inodes.new result }
     ensures counted { OnOk result (F.failures inodes.new.files ≡ F.failures inodes.old.files) }
     ensures shown { W.honest → (w : Row) → HasFile inodes.old.root path.now name.now w
         → OnOk result (shows W.World F.Files inodes.new ≡ graft (path.now ++ name.now ∷ [])
         (leaf (node_from kind (content_shown W.repository (F.stored inodes.old.files) w) false))
         (shows W.World F.Files inodes.old)) }
-    ensures unseen { W.honest → OnErr result (shows W.World F.Files inodes.new ≡ shows W.World F.Files inodes.old) }
-    ensures marks { NoneMarked inodes.old.root inodes.new.root }
-    ensures stays { StaysLoaded inodes.old.root inodes.new.root }
     ensures changes { inodes.new.changes ≡ min (inodes.old.changes + 1) u64.MAX }
-    ensures rest { (inodes.new.next ≡ inodes.old.next) × (inodes.new.clock ≡ inodes.old.clock) }
+    ensures next { inodes.new.next ≡ inodes.old.next }
 {
     inodes.holds();
     inodes.change(KindChange {

@@ -1,10 +1,11 @@
 //! An entry removed from the table of a mount.
 
-ghost use Rattle.std.specs.Prelude.{◌≡◌, ◌≤◌, ◌∷◌, [], ◌++◌, ◌+◌, min, None, IfErr, OnOk, OnErr};
+ghost use Rattle.std.specs.Prelude.{◌≡◌, ◌≤◌, ◌∷◌, [], ◌++◌, ◌+◌, min, None, OnOk, OnErr};
 ghost use Rattle.eden_model.specs.Trees.{graft};
-ghost use Rattle.eden_tie.specs.Chains.{NoneMarked, StaysLoaded, chained, Refused};
+ghost use Rattle.eden_tie.specs.Chains.{chained, Refused};
 ghost use Rattle.eden_tie.specs.Changing.{changed};
 ghost use Rattle.eden_inode.specs.Tables.{shows};
+ghost use Rattle.eden_materialise.specs.Atomic.{IsAtomic};
 ghost use Rattle.eden_materialise.specs.Faults.{IsStoreFault};
 ghost use Rattle.eden_materialise.specs.Listings.{IsHeldFor};
 ghost use Rattle.eden_materialise.specs.Puts.{AtDirectory};
@@ -67,19 +68,15 @@ pub fn remove_entry<A: Allocator + Clone, W: World, F: Files<W>>(
     ensures removed { AtDirectory path.now inodes.old.root
         (λ y d. OnOk result (Removes W.honest path.now name.now (F.stored inodes.old.files) inodes.old.root y d
         (F.failures inodes.old.files) (F.stored inodes.new.files) (F.failures inodes.new.files))) }
-    ensures err { OnErr result (inodes.new.root ≡ inodes.old.root) }
+    ensures atomic { IsAtomic W.World F.Files IsStoreFault inodes.old inodes.new result }
     ensures strays { W.honest
         → OnErr result (Refused (F.stored inodes.old.files) inodes.old.root path.now (F.stored inodes.new.files)) }
-    ensures fault { IfErr result (IsStoreFault (F.failures inodes.old.files) (F.failures inodes.new.files)) }
     ensures counted { OnOk result (F.failures inodes.old.files ≤ F.failures inodes.new.files) }
     ensures shown { W.honest
         → OnOk result (shows W.World F.Files inodes.new ≡ graft (path.now ++ name.now ∷ []) (λ below. None)
         (shows W.World F.Files inodes.old)) }
-    ensures unseen { W.honest → OnErr result (shows W.World F.Files inodes.new ≡ shows W.World F.Files inodes.old) }
-    ensures marks { NoneMarked inodes.old.root inodes.new.root }
-    ensures stays { StaysLoaded inodes.old.root inodes.new.root }
     ensures changes { inodes.new.changes ≡ min (inodes.old.changes + 1) u64.MAX }
-    ensures rest { (inodes.new.next ≡ inodes.old.next) × (inodes.new.clock ≡ inodes.old.clock) }
+    ensures next { inodes.new.next ≡ inodes.old.next }
 {
     inodes.holds();
     inodes.change(Removal { alloc, path, name })

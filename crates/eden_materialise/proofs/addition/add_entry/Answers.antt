@@ -1,4 +1,4 @@
-use Rattle.std.proofs.Common.{ap}
+use Rattle.std.proofs.Common.{ap, rules}
 use Rattle.eden_inode.specs.Tables.{Table}
 use Rattle.eden_tie.specs.Shown.{shown_in}
 use Rattle.eden_materialise.proofs.Additions.{adds_may, adds_table, adds_kept, adds_stored, adds_strays, adds_shown, adds_unseen, adds_marks, adds_stay}
@@ -6,9 +6,6 @@ use Rattle.eden_materialise.proofs.addition.add_entry.Goals as goal
 
 pub returns-then-not-has_room-clause-numbers : goal.returns-then-not-has_room-clause-numbers
 returns-then-not-has_room-clause-numbers g c none y d at holds room = absurd (c.if-not-has_room.ensures y d at holds room)
-
-pub returns-in-None-clause-unseen : goal.returns-in-None-clause-unseen
-returns-in-None-clause-unseen g c h = ap (λ (t : Table g.row.F.Denot). shown_in g.W.World.repository (g.F.Files.stored t.files) t.root) c.in-None.ensures.none.1
 
 pub change-requires-clause-may : goal.change-requires-clause-may
 change-requires-clause-may g c =
@@ -57,26 +54,37 @@ returns-in-Some-clause-shown g c h =
     (c.if-not-has_room.ensures l.row l.directory l.at l.holds) c.as_slice.ensures.named c.requires.short c.holds-in-Some.ensures.table (g.F.Files.stored c.change.new.self.files) c.change.new.self.root
     (g.F.Files.failures c.change.new.self.files) c.change.result c.change.ensures.does h
 
-pub returns-in-Some-clause-unseen : goal.returns-in-Some-clause-unseen
-returns-in-Some-clause-unseen g c h =
-    let l = c.requires.lacks in
-    adds_unseen g.row.F.Denot g.F.Files.stored g.F.Files.failures g.W.World.honest g.W.World.repository c.args.path.now c.args.name.now c.args.new c.args.inodes.now c.give_number.new.self
-    c.in-Some.number c.in-Some.ensures.some.1 c.in-Some.ensures.some.0 l c.holds.ensures.table c.holds.ensures.kept
-    (c.if-not-has_room.ensures l.row l.directory l.at l.holds) c.as_slice.ensures.named c.requires.short c.holds-in-Some.ensures.table (g.F.Files.stored c.change.new.self.files) c.change.new.self.root
-    (g.F.Files.failures c.change.new.self.files) c.change.result c.change.ensures.does h
+pub returns-in-None-clause-atomic : goal.returns-in-None-clause-atomic
+returns-in-None-clause-atomic g c = record {
+  err = search rules;
+  fault = search rules;
+  unseen = λ h. ap (λ (t : Table g.row.F.Denot). shown_in g.W.World.repository (g.F.Files.stored t.files) t.root) c.in-None.ensures.none.1;
+  marks = search rules;
+  stays = search rules;
+  clock = search rules;
+}
 
-pub returns-in-Some-clause-marks : goal.returns-in-Some-clause-marks
-returns-in-Some-clause-marks g c =
+pub returns-in-Some-clause-atomic : goal.returns-in-Some-clause-atomic
+returns-in-Some-clause-atomic g c =
     let l = c.requires.lacks in
-    adds_marks g.row.F.Denot g.F.Files.stored g.F.Files.failures g.W.World.honest g.W.World.repository c.args.path.now c.args.name.now c.args.new c.args.inodes.now c.give_number.new.self
-    c.in-Some.number c.in-Some.ensures.some.1 c.in-Some.ensures.some.0 l c.holds.ensures.table c.holds.ensures.kept
-    (c.if-not-has_room.ensures l.row l.directory l.at l.holds) c.as_slice.ensures.named c.requires.short c.holds-in-Some.ensures.table (g.F.Files.stored c.change.new.self.files) c.change.new.self.root
-    (g.F.Files.failures c.change.new.self.files) c.change.result c.change.ensures.does
-
-pub returns-in-Some-clause-stays : goal.returns-in-Some-clause-stays
-returns-in-Some-clause-stays g c =
-    let l = c.requires.lacks in
-    adds_stay g.row.F.Denot g.F.Files.stored g.F.Files.failures g.W.World.honest g.W.World.repository c.args.path.now c.args.name.now c.args.new c.args.inodes.now c.give_number.new.self
-    c.in-Some.number c.in-Some.ensures.some.1 c.in-Some.ensures.some.0 l c.holds.ensures.table c.holds.ensures.kept
-    (c.if-not-has_room.ensures l.row l.directory l.at l.holds) c.as_slice.ensures.named c.requires.short c.holds-in-Some.ensures.table (g.F.Files.stored c.change.new.self.files) c.change.new.self.root
-    (g.F.Files.failures c.change.new.self.files) c.change.result c.change.ensures.does
+    record {
+      err = search rules;
+      fault = search rules;
+      unseen = λ h. adds_unseen g.row.F.Denot g.F.Files.stored g.F.Files.failures g.W.World.honest g.W.World.repository c.args.path.now c.args.name.now c.args.new c.args.inodes.now
+          c.give_number.new.self
+          c.in-Some.number c.in-Some.ensures.some.1 c.in-Some.ensures.some.0 l c.holds.ensures.table c.holds.ensures.kept
+          (c.if-not-has_room.ensures l.row l.directory l.at l.holds) c.as_slice.ensures.named c.requires.short c.holds-in-Some.ensures.table
+          (g.F.Files.stored c.change.new.self.files) c.change.new.self.root
+          (g.F.Files.failures c.change.new.self.files) c.change.result c.change.ensures.does h;
+      marks = adds_marks g.row.F.Denot g.F.Files.stored g.F.Files.failures g.W.World.honest g.W.World.repository c.args.path.now c.args.name.now c.args.new c.args.inodes.now c.give_number.new.self
+          c.in-Some.number c.in-Some.ensures.some.1 c.in-Some.ensures.some.0 l c.holds.ensures.table c.holds.ensures.kept
+          (c.if-not-has_room.ensures l.row l.directory l.at l.holds) c.as_slice.ensures.named c.requires.short c.holds-in-Some.ensures.table
+          (g.F.Files.stored c.change.new.self.files) c.change.new.self.root
+          (g.F.Files.failures c.change.new.self.files) c.change.result c.change.ensures.does;
+      stays = adds_stay g.row.F.Denot g.F.Files.stored g.F.Files.failures g.W.World.honest g.W.World.repository c.args.path.now c.args.name.now c.args.new c.args.inodes.now c.give_number.new.self
+          c.in-Some.number c.in-Some.ensures.some.1 c.in-Some.ensures.some.0 l c.holds.ensures.table c.holds.ensures.kept
+          (c.if-not-has_room.ensures l.row l.directory l.at l.holds) c.as_slice.ensures.named c.requires.short c.holds-in-Some.ensures.table
+          (g.F.Files.stored c.change.new.self.files) c.change.new.self.root
+          (g.F.Files.failures c.change.new.self.files) c.change.result c.change.ensures.does;
+      clock = search rules;
+    }

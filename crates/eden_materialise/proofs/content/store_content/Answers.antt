@@ -41,14 +41,6 @@ returns-clause-stored g c h w has =
     c.holds.ensures.table has c.requires.short (g.F.Files.failures t.files) (g.F.Files.stored then.files) then.root (g.F.Files.failures then.files)
     c.change.result (c.change.ensures.does w has) h
 
-pub returns-clause-err : goal.returns-clause-err
-returns-clause-err g c =
-    let t = c.args.inodes.now in
-    let then = c.change.new.self in
-    fills_err g.W.World.honest g.W.World.repository c.args.path.now c.args.name.now c.requires.there.0 c.args.content.now (g.F.Files.stored t.files) t.root t.next
-    c.holds.ensures.table c.requires.there.1 c.requires.short (g.F.Files.failures t.files) (g.F.Files.stored then.files) then.root (g.F.Files.failures then.files)
-    c.change.result (c.change.ensures.does c.requires.there.0 c.requires.there.1)
-
 pub returns-clause-strays : goal.returns-clause-strays
 returns-clause-strays g c h w has =
     let t = c.args.inodes.now in
@@ -56,14 +48,6 @@ returns-clause-strays g c h w has =
     fills_strays g.W.World.honest g.W.World.repository c.args.path.now c.args.name.now w c.args.content.now (g.F.Files.stored t.files) t.root t.next
     c.holds.ensures.table has c.requires.short (g.F.Files.failures t.files) (g.F.Files.stored then.files) then.root (g.F.Files.failures then.files)
     c.change.result (c.change.ensures.does w has) h
-
-pub returns-clause-fault : goal.returns-clause-fault
-returns-clause-fault g c =
-    let t = c.args.inodes.now in
-    let then = c.change.new.self in
-    fills_fault g.W.World.honest g.W.World.repository c.args.path.now c.args.name.now c.requires.there.0 c.args.content.now (g.F.Files.stored t.files) t.root t.next
-    c.holds.ensures.table c.requires.there.1 c.requires.short (g.F.Files.failures t.files) (g.F.Files.stored then.files) then.root (g.F.Files.failures then.files)
-    c.change.result (c.change.ensures.does c.requires.there.0 c.requires.there.1)
 
 pub returns-clause-counted : goal.returns-clause-counted
 returns-clause-counted g c =
@@ -81,26 +65,26 @@ returns-clause-shown g c h w has =
     c.holds.ensures.table has c.requires.short (g.F.Files.failures t.files) (g.F.Files.stored then.files) then.root (g.F.Files.failures then.files)
     h (c.holds.ensures.kept h) c.change.result (c.change.ensures.does w has)
 
-pub returns-clause-unseen : goal.returns-clause-unseen
-returns-clause-unseen g c h =
+pub returns-clause-atomic : goal.returns-clause-atomic
+returns-clause-atomic g c =
     let t = c.args.inodes.now in
     let then = c.change.new.self in
-    fills_unseen g.W.World.honest g.W.World.repository c.args.path.now c.args.name.now c.requires.there.0 c.args.content.now (g.F.Files.stored t.files) t.root t.next
-    c.holds.ensures.table c.requires.there.1 c.requires.short (g.F.Files.failures t.files) (g.F.Files.stored then.files) then.root (g.F.Files.failures then.files)
-    h (c.holds.ensures.kept h) c.change.result (c.change.ensures.does c.requires.there.0 c.requires.there.1)
-
-pub returns-clause-marks : goal.returns-clause-marks
-returns-clause-marks g c =
-    let t = c.args.inodes.now in
-    let then = c.change.new.self in
-    fills_marks g.W.World.honest g.W.World.repository c.args.path.now c.args.name.now c.requires.there.0 c.args.content.now (g.F.Files.stored t.files) t.root t.next
-    c.holds.ensures.table c.requires.there.1 c.requires.short (g.F.Files.failures t.files) (g.F.Files.stored then.files) then.root (g.F.Files.failures then.files)
-    c.change.result (c.change.ensures.does c.requires.there.0 c.requires.there.1)
-
-pub returns-clause-stays : goal.returns-clause-stays
-returns-clause-stays g c =
-    let t = c.args.inodes.now in
-    let then = c.change.new.self in
-    fills_stay g.W.World.honest g.W.World.repository c.args.path.now c.args.name.now c.requires.there.0 c.args.content.now (g.F.Files.stored t.files) t.root t.next
-    c.holds.ensures.table c.requires.there.1 c.requires.short (g.F.Files.failures t.files) (g.F.Files.stored then.files) then.root (g.F.Files.failures then.files)
-    c.change.result (c.change.ensures.does c.requires.there.0 c.requires.there.1)
+    let does = c.change.ensures.does c.requires.there.0 c.requires.there.1 in
+    record {
+      err = fills_err g.W.World.honest g.W.World.repository c.args.path.now c.args.name.now c.requires.there.0 c.args.content.now (g.F.Files.stored t.files) t.root t.next
+          c.holds.ensures.table c.requires.there.1 c.requires.short (g.F.Files.failures t.files) (g.F.Files.stored then.files) then.root (g.F.Files.failures then.files)
+          c.change.result does;
+      fault = fills_fault g.W.World.honest g.W.World.repository c.args.path.now c.args.name.now c.requires.there.0 c.args.content.now (g.F.Files.stored t.files) t.root t.next
+          c.holds.ensures.table c.requires.there.1 c.requires.short (g.F.Files.failures t.files) (g.F.Files.stored then.files) then.root (g.F.Files.failures then.files)
+          c.change.result does;
+      unseen = λ h. fills_unseen g.W.World.honest g.W.World.repository c.args.path.now c.args.name.now c.requires.there.0 c.args.content.now (g.F.Files.stored t.files) t.root t.next
+          c.holds.ensures.table c.requires.there.1 c.requires.short (g.F.Files.failures t.files) (g.F.Files.stored then.files) then.root (g.F.Files.failures then.files)
+          h (c.holds.ensures.kept h) c.change.result does;
+      marks = fills_marks g.W.World.honest g.W.World.repository c.args.path.now c.args.name.now c.requires.there.0 c.args.content.now (g.F.Files.stored t.files) t.root t.next
+          c.holds.ensures.table c.requires.there.1 c.requires.short (g.F.Files.failures t.files) (g.F.Files.stored then.files) then.root (g.F.Files.failures then.files)
+          c.change.result does;
+      stays = fills_stay g.W.World.honest g.W.World.repository c.args.path.now c.args.name.now c.requires.there.0 c.args.content.now (g.F.Files.stored t.files) t.root t.next
+          c.holds.ensures.table c.requires.there.1 c.requires.short (g.F.Files.failures t.files) (g.F.Files.stored then.files) then.root (g.F.Files.failures then.files)
+          c.change.result does;
+      clock = c.change.ensures.rest.1;
+    }

@@ -20,23 +20,19 @@ returns-clause-shown g c h =
     changes_shown g.W.World.honest g.W.World.repository c.args.path.now c.args.name.now c.args.entry (g.F.Files.stored t.files) t.root (g.F.Files.failures t.files)
     (g.F.Files.stored then.files) then.root (g.F.Files.failures then.files) t.next c.holds.ensures.table c.requires.may h (c.holds.ensures.kept h) c.change.result c.change.ensures.does
 
-pub returns-clause-unseen : goal.returns-clause-unseen
-returns-clause-unseen g c h =
+pub returns-clause-atomic : goal.returns-clause-atomic
+returns-clause-atomic g c =
     let t = c.args.inodes.now in
     let then = c.change.new.self in
-    changes_unseen g.W.World.honest g.W.World.repository c.args.path.now c.args.name.now c.args.entry (g.F.Files.stored t.files) t.root (g.F.Files.failures t.files)
-    (g.F.Files.stored then.files) then.root (g.F.Files.failures then.files) t.next c.holds.ensures.table c.requires.may h (c.holds.ensures.kept h) c.change.result c.change.ensures.does
-
-pub returns-clause-marks : goal.returns-clause-marks
-returns-clause-marks g c =
-    let t = c.args.inodes.now in
-    let then = c.change.new.self in
-    changes_marks g.W.World.honest g.W.World.repository c.args.path.now c.args.name.now c.args.entry (g.F.Files.stored t.files) t.root (g.F.Files.failures t.files)
-    (g.F.Files.stored then.files) then.root (g.F.Files.failures then.files) t.next c.holds.ensures.table c.requires.may c.change.result c.change.ensures.does
-
-pub returns-clause-stays : goal.returns-clause-stays
-returns-clause-stays g c =
-    let t = c.args.inodes.now in
-    let then = c.change.new.self in
-    changes_stay g.W.World.honest g.W.World.repository c.args.path.now c.args.name.now c.args.entry (g.F.Files.stored t.files) t.root (g.F.Files.failures t.files)
-    (g.F.Files.stored then.files) then.root (g.F.Files.failures then.files) t.next c.holds.ensures.table c.requires.may c.change.result c.change.ensures.does
+    let does = c.change.ensures.does in
+    record {
+      err = does.err;
+      fault = does.fault;
+      unseen = λ h. changes_unseen g.W.World.honest g.W.World.repository c.args.path.now c.args.name.now c.args.entry (g.F.Files.stored t.files) t.root (g.F.Files.failures t.files)
+          (g.F.Files.stored then.files) then.root (g.F.Files.failures then.files) t.next c.holds.ensures.table c.requires.may h (c.holds.ensures.kept h) c.change.result does;
+      marks = changes_marks g.W.World.honest g.W.World.repository c.args.path.now c.args.name.now c.args.entry (g.F.Files.stored t.files) t.root (g.F.Files.failures t.files)
+          (g.F.Files.stored then.files) then.root (g.F.Files.failures then.files) t.next c.holds.ensures.table c.requires.may c.change.result does;
+      stays = changes_stay g.W.World.honest g.W.World.repository c.args.path.now c.args.name.now c.args.entry (g.F.Files.stored t.files) t.root (g.F.Files.failures t.files)
+          (g.F.Files.stored then.files) then.root (g.F.Files.failures then.files) t.next c.holds.ensures.table c.requires.may c.change.result does;
+      clock = c.change.ensures.rest.1;
+    }

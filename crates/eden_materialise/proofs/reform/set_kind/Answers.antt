@@ -1,5 +1,4 @@
 use Rattle.std.proofs.Common.{Some}
-use Rattle.eden_tree.specs.Directory.{Row}
 use Rattle.eden_materialise.specs.Reforms.{of_kind}
 use Rattle.eden_materialise.proofs.Listings.{changes_table, changes_marks, changes_stay, changes_kept_then, changes_unseen}
 use Rattle.eden_materialise.proofs.Reforms.{may_reform, reform_shown}
@@ -47,44 +46,28 @@ returns-clause-shown g c h w has =
     reform_shown g.W.World.honest g.W.World.repository c.args.path.now c.args.name.now c.args.kind w (g.F.Files.stored t.files) t.root (g.F.Files.failures t.files)
     (g.F.Files.stored then.files) then.root (g.F.Files.failures then.files) t.next c.holds.ensures.table h (c.holds.ensures.kept h) has c.requires.file c.change.result (c.change.ensures.does w has)
 
-pub returns-clause-unseen : goal.returns-clause-unseen
-returns-clause-unseen g c h =
-    let t = c.args.inodes.now in
-    let then = c.change.new.self in
-    let w = c.requires.there.0 in
-    let F = g.F.Files.stored t.files in
-    let may = may_reform g.W.World.honest g.W.World.repository F t.root t.next c.args.path.now c.args.name.now c.args.kind w c.holds.ensures.table c.requires.there.1 c.requires.file in
-    changes_unseen g.W.World.honest g.W.World.repository c.args.path.now c.args.name.now (Some (of_kind c.args.kind w)) F t.root (g.F.Files.failures t.files)
-    (g.F.Files.stored then.files) then.root (g.F.Files.failures then.files) t.next c.holds.ensures.table may h (c.holds.ensures.kept h) c.change.result (c.change.ensures.does w c.requires.there.1)
-
-pub returns-clause-marks : goal.returns-clause-marks
-returns-clause-marks g c =
-    let t = c.args.inodes.now in
-    let then = c.change.new.self in
-    let w = c.requires.there.0 in
-    let F = g.F.Files.stored t.files in
-    let may = may_reform g.W.World.honest g.W.World.repository F t.root t.next c.args.path.now c.args.name.now c.args.kind w c.holds.ensures.table c.requires.there.1 c.requires.file in
-    changes_marks g.W.World.honest g.W.World.repository c.args.path.now c.args.name.now (Some (of_kind c.args.kind w)) F t.root (g.F.Files.failures t.files)
-    (g.F.Files.stored then.files) then.root (g.F.Files.failures then.files) t.next c.holds.ensures.table may c.change.result (c.change.ensures.does w c.requires.there.1)
-
-pub returns-clause-stays : goal.returns-clause-stays
-returns-clause-stays g c =
-    let t = c.args.inodes.now in
-    let then = c.change.new.self in
-    let w = c.requires.there.0 in
-    let F = g.F.Files.stored t.files in
-    let may = may_reform g.W.World.honest g.W.World.repository F t.root t.next c.args.path.now c.args.name.now c.args.kind w c.holds.ensures.table c.requires.there.1 c.requires.file in
-    changes_stay g.W.World.honest g.W.World.repository c.args.path.now c.args.name.now (Some (of_kind c.args.kind w)) F t.root (g.F.Files.failures t.files)
-    (g.F.Files.stored then.files) then.root (g.F.Files.failures then.files) t.next c.holds.ensures.table may c.change.result (c.change.ensures.does w c.requires.there.1)
-
 pub returns-clause-ok : goal.returns-clause-ok
 returns-clause-ok g c w has = (c.change.ensures.does w has).ok
 
-pub returns-clause-err : goal.returns-clause-err
-returns-clause-err g c = (c.change.ensures.does c.requires.there.0 c.requires.there.1).err
-
-pub returns-clause-fault : goal.returns-clause-fault
-returns-clause-fault g c = (c.change.ensures.does c.requires.there.0 c.requires.there.1).fault
-
 pub returns-clause-counted : goal.returns-clause-counted
 returns-clause-counted g c = (c.change.ensures.does c.requires.there.0 c.requires.there.1).counted
+
+pub returns-clause-atomic : goal.returns-clause-atomic
+returns-clause-atomic g c =
+    let t = c.args.inodes.now in
+    let then = c.change.new.self in
+    let w = c.requires.there.0 in
+    let F = g.F.Files.stored t.files in
+    let may = may_reform g.W.World.honest g.W.World.repository F t.root t.next c.args.path.now c.args.name.now c.args.kind w c.holds.ensures.table c.requires.there.1 c.requires.file in
+    let does = c.change.ensures.does w c.requires.there.1 in
+    record {
+      err = does.err;
+      fault = does.fault;
+      unseen = λ h. changes_unseen g.W.World.honest g.W.World.repository c.args.path.now c.args.name.now (Some (of_kind c.args.kind w)) F t.root (g.F.Files.failures t.files)
+          (g.F.Files.stored then.files) then.root (g.F.Files.failures then.files) t.next c.holds.ensures.table may h (c.holds.ensures.kept h) c.change.result does;
+      marks = changes_marks g.W.World.honest g.W.World.repository c.args.path.now c.args.name.now (Some (of_kind c.args.kind w)) F t.root (g.F.Files.failures t.files)
+          (g.F.Files.stored then.files) then.root (g.F.Files.failures then.files) t.next c.holds.ensures.table may c.change.result does;
+      stays = changes_stay g.W.World.honest g.W.World.repository c.args.path.now c.args.name.now (Some (of_kind c.args.kind w)) F t.root (g.F.Files.failures t.files)
+          (g.F.Files.stored then.files) then.root (g.F.Files.failures then.files) t.next c.holds.ensures.table may c.change.result does;
+      clock = c.change.ensures.rest.1;
+    }

@@ -33,9 +33,6 @@ change-requires-clause-kept g c h files root answer does =
 pub returns-clause-ok : goal.returns-clause-ok
 returns-clause-ok g c = c.change.ensures.does.changes.ok
 
-pub returns-clause-err : goal.returns-clause-err
-returns-clause-err g c = c.change.ensures.does.changes.err
-
 pub returns-clause-removed : goal.returns-clause-removed
 returns-clause-removed g c =
     let t = c.args.inodes.now in
@@ -53,15 +50,6 @@ returns-clause-strays g c h =
     let may = may_remove g.W.World.honest g.W.World.repository F t.root t.next c.args.path.now c.args.name.now c.holds.ensures.table c.requires.there in
     removes_strays g.W.World.honest g.W.World.repository c.args.path.now c.args.name.now F t.root (g.F.Files.failures t.files)
     (g.F.Files.stored then.files) then.root (g.F.Files.failures then.files) t.next c.holds.ensures.table may c.change.result c.change.ensures.does h
-
-pub returns-clause-fault : goal.returns-clause-fault
-returns-clause-fault g c =
-    let t = c.args.inodes.now in
-    let then = c.change.new.self in
-    let F = g.F.Files.stored t.files in
-    let may = may_remove g.W.World.honest g.W.World.repository F t.root t.next c.args.path.now c.args.name.now c.holds.ensures.table c.requires.there in
-    removes_fault g.W.World.honest g.W.World.repository c.args.path.now c.args.name.now F t.root (g.F.Files.failures t.files)
-    (g.F.Files.stored then.files) then.root (g.F.Files.failures then.files) t.next c.holds.ensures.table may c.change.result c.change.ensures.does
 
 pub returns-clause-counted : goal.returns-clause-counted
 returns-clause-counted g c =
@@ -81,29 +69,22 @@ returns-clause-shown g c h =
     removes_shown g.W.World.honest g.W.World.repository c.args.path.now c.args.name.now F t.root (g.F.Files.failures t.files)
     (g.F.Files.stored then.files) then.root (g.F.Files.failures then.files) t.next c.holds.ensures.table may h (c.holds.ensures.kept h) c.change.result c.change.ensures.does
 
-pub returns-clause-unseen : goal.returns-clause-unseen
-returns-clause-unseen g c h =
+pub returns-clause-atomic : goal.returns-clause-atomic
+returns-clause-atomic g c =
     let t = c.args.inodes.now in
     let then = c.change.new.self in
     let F = g.F.Files.stored t.files in
     let may = may_remove g.W.World.honest g.W.World.repository F t.root t.next c.args.path.now c.args.name.now c.holds.ensures.table c.requires.there in
-    removes_unseen g.W.World.honest g.W.World.repository c.args.path.now c.args.name.now F t.root (g.F.Files.failures t.files)
-    (g.F.Files.stored then.files) then.root (g.F.Files.failures then.files) t.next c.holds.ensures.table may h (c.holds.ensures.kept h) c.change.result c.change.ensures.does
-
-pub returns-clause-marks : goal.returns-clause-marks
-returns-clause-marks g c =
-    let t = c.args.inodes.now in
-    let F = g.F.Files.stored t.files in
-    let may = may_remove g.W.World.honest g.W.World.repository F t.root t.next c.args.path.now c.args.name.now c.holds.ensures.table c.requires.there in
-    let done = c.change.ensures.does in
-    changes_marks g.W.World.honest g.W.World.repository c.args.path.now c.args.name.now None F t.root (g.F.Files.failures t.files)
-    done.between c.change.new.self.root done.count t.next c.holds.ensures.table may c.change.result done.changes
-
-pub returns-clause-stays : goal.returns-clause-stays
-returns-clause-stays g c =
-    let t = c.args.inodes.now in
-    let F = g.F.Files.stored t.files in
-    let may = may_remove g.W.World.honest g.W.World.repository F t.root t.next c.args.path.now c.args.name.now c.holds.ensures.table c.requires.there in
-    let done = c.change.ensures.does in
-    changes_stay g.W.World.honest g.W.World.repository c.args.path.now c.args.name.now None F t.root (g.F.Files.failures t.files)
-    done.between c.change.new.self.root done.count t.next c.holds.ensures.table may c.change.result done.changes
+    let does = c.change.ensures.does in
+    record {
+      err = does.changes.err;
+      fault = removes_fault g.W.World.honest g.W.World.repository c.args.path.now c.args.name.now F t.root (g.F.Files.failures t.files)
+          (g.F.Files.stored then.files) then.root (g.F.Files.failures then.files) t.next c.holds.ensures.table may c.change.result does;
+      unseen = λ h. removes_unseen g.W.World.honest g.W.World.repository c.args.path.now c.args.name.now F t.root (g.F.Files.failures t.files)
+          (g.F.Files.stored then.files) then.root (g.F.Files.failures then.files) t.next c.holds.ensures.table may h (c.holds.ensures.kept h) c.change.result does;
+      marks = changes_marks g.W.World.honest g.W.World.repository c.args.path.now c.args.name.now None F t.root (g.F.Files.failures t.files)
+          does.between then.root does.count t.next c.holds.ensures.table may c.change.result does.changes;
+      stays = changes_stay g.W.World.honest g.W.World.repository c.args.path.now c.args.name.now None F t.root (g.F.Files.failures t.files)
+          does.between then.root does.count t.next c.holds.ensures.table may c.change.result does.changes;
+      clock = c.change.ensures.rest.1;
+    }

@@ -121,13 +121,13 @@ returns-in-Ok-clause-leaves g c q adding =
     let met = subst (λ (o : Option Seen). Meets g.W.World g.F.Files p c.args.inodes.now t c.meet.new.cache (Ok o)) c.in-Ok-None.field-0-is c.in-Ok-None.ensures.meets in
     let lacks = lacks_entry p above name v.root (sym c.as_slice.ensures ∙ c.in-Some.ensures.cases.0) (walk_still t.root v.root st.alike p ∙ met.0) (row_none t.root v.root st.alike p met.1) in
     let root = root_chained above v.root u.root (λ d. changed_listing d name (Some (own_row v.next c.args.new))) (loaded_there above v.root lacks.row lacks.directory lacks.at lacks.holds) x.ok in
-    let l = leaves_by g.F.Files v u x.stays root x.marks (one_given v.next u.next x.next) x.rest (no_less (g.F.Files.failures v.files) (g.F.Files.failures u.files) x.counted) in
+    let l = leaves_by g.F.Files v u x.atomic.stays root x.atomic.marks (one_given v.next u.next x.next) x.atomic.clock (no_less (g.F.Files.failures v.files) (g.F.Files.failures u.files) x.counted) in
     let saved = subst (λ (r : Path). IsSavedAbove r v.root) c.as_slice-2.ensures c.in_default-settle.ensures.saved in
     leaves_changed g.W.World g.F.Files q c.args.inodes.now t
     (adds_keeps g.W.World g.F.Files c.args.path.now q c.args.new adding c.args.inodes.now c.meet.new.inodes c.meet.ensures.keeps) u (Finished say.Ok) (λ e is. cc) (λ e is. cc)
     (leaves_then g.W.World g.F.Files t v u (settles_leaves g.W.World g.F.Files t v _ st) l)
     (subst (λ (k : ℕ). u.next ≤ k + given q) st.readies.next (one_more v.next u.next (given q) x.next (adds_one p q c.args.new adding)))
-    (λ no. subst (λ (ps : List Path). AreSavedAbove ps u.root) (sym (adds_path p q c.args.new adding)) (saved_on p v.root u.root saved x.marks, tt))
+    (λ no. subst (λ (ps : List Path). AreSavedAbove ps u.root) (sym (adds_path p q c.args.new adding)) (saved_on p v.root u.root saved x.atomic.marks, tt))
 
 pub returns-in-Err-add_entry-clause-attempts : goal.returns-in-Err-add_entry-clause-attempts
 returns-in-Err-add_entry-clause-attempts g c q adding =
@@ -143,8 +143,8 @@ returns-in-Err-add_entry-clause-attempts g c q adding =
     let met = subst (λ (o : Option Seen). Meets g.W.World g.F.Files p s t c.meet.new.cache (Ok o)) c.in-Ok-None.field-0-is e.meets in
     not_added g.W.World g.F.Files p q c.args.new adding s v u c.args.cache.now c.meet.new.cache (λ h. st.readies.shown h ∙ e.same h)
     (le_trans (c.keeps_laws.ensures.counts _ s t e.keeps).1.1.1 (settles_leaves g.W.World g.F.Files t v _ st).everywhere.failures) e.cache c.in-Err-add_entry.fault
-    (may_add p q c.args.new adding root v.root (walk_still t.root v.root st.alike p ∙ met.0) (row_none t.root v.root st.alike p met.1)) x.fault
-    (λ is. x.unused (ap Err is)) x.unseen
+    (may_add p q c.args.new adding root v.root (walk_still t.root v.root st.alike p ∙ met.0) (row_none t.root v.root st.alike p met.1)) x.atomic.fault
+    (λ is. x.unused (ap Err is)) x.atomic.unseen
 
 pub returns-in-Err-add_entry-clause-leaves : goal.returns-in-Err-add_entry-clause-leaves
 returns-in-Err-add_entry-clause-leaves g c q adding =
@@ -153,10 +153,11 @@ returns-in-Err-add_entry-clause-leaves g c q adding =
     let v = c.settle.new.inodes in
     let u = c.add_entry.new.inodes in
     let st = c.settle.ensures.settles in
-    let counted = add_count v.next (g.F.Files.failures v.files) (g.F.Files.failures u.files) c.in-Err-add_entry.fault x.fault in
-    let l = leaves_by g.F.Files v u x.stays (root_same v.root u.root x.err) x.marks (given_more v.next u.next _ _ x.given) x.rest counted in
+    let counted = add_count v.next (g.F.Files.failures v.files) (g.F.Files.failures u.files) c.in-Err-add_entry.fault x.atomic.fault in
+    let l = leaves_by g.F.Files v u x.atomic.stays (root_same v.root u.root x.atomic.err) x.atomic.marks (given_more v.next u.next _ _ x.given) x.atomic.clock counted in
     leaves_changed g.W.World g.F.Files q c.args.inodes.now t
-    (adds_keeps g.W.World g.F.Files c.args.path.now q c.args.new adding c.args.inodes.now c.meet.new.inodes c.meet.ensures.keeps) u (Finished (say.Fault c.in-Err-add_entry.fault)) (λ e is. cc) (λ e is. subst (SameNames t.root) (sym x.err) st.readies.names) (leaves_then g.W.World g.F.Files t v u (settles_leaves g.W.World g.F.Files t v _ st) l)
+    (adds_keeps g.W.World g.F.Files c.args.path.now q c.args.new adding c.args.inodes.now c.meet.new.inodes c.meet.ensures.keeps) u (Finished (say.Fault c.in-Err-add_entry.fault))
+    (λ e is. cc) (λ e is. subst (SameNames t.root) (sym x.atomic.err) st.readies.names) (leaves_then g.W.World g.F.Files t v u (settles_leaves g.W.World g.F.Files t v _ st) l)
     (subst (λ (k : ℕ). u.next ≤ k + given q) st.readies.next (one_at_most v.next u.next (given q) _ _ x.given (adds_one c.args.path.now q c.args.new adding)))
     (λ no. absurd (no (c.in-Err-add_entry.fault, refl)))
 
@@ -225,7 +226,7 @@ returns-in-Err-add_entry-clause-stamps g c q adding =
     stamps_then g.W.World g.F.Files q c.args.inodes.now c.meet.new.inodes
     (adds_keeps g.W.World g.F.Files c.args.path.now q c.args.new adding c.args.inodes.now c.meet.new.inodes c.meet.ensures.keeps)
     (subst (λ (ps : List Path). AreWalked ps c.meet.new.inodes.clock c.meet.new.inodes.root) (sym (adds_path c.args.path.now q c.args.new adding)) (c.meet.ensures.walked, tt)) u _
-    (stamps_on t.root v.root u.root (alike_stamps t.root v.root c.settle.ensures.settles.alike) (stamps_same v.root u.root c.in-Err-add_entry.ensures.err))
+    (stamps_on t.root v.root u.root (alike_stamps t.root v.root c.settle.ensures.settles.alike) (stamps_same v.root u.root c.in-Err-add_entry.ensures.atomic.err))
 
 pub returns-in_default-clause-stamps : goal.returns-in_default-clause-stamps
 returns-in_default-clause-stamps g c q adding = stamps_refused g.W.World g.F.Files q c.args.inodes.now c.args.inodes.now same _ EEXIST refl

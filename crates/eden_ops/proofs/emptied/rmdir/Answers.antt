@@ -252,10 +252,10 @@ returns-in-Ok-clause-leaves g c =
     let saved = subst (λ (r : Path). IsSavedAbove r w.root) c.as_slice-3.ensures c.in_default-settle.ensures.saved in
     let root = root_chained above w.root c.remove_entry.new.inodes.root (λ d. changed_listing d name None) loaded x.ok in
     let z = c.remove_entry.new.inodes in
-    let l = leaves_by g.F.Files w z x.stays root c.remove_entry.ensures.marks (no_less w.next z.next x.rest.0) x.rest.1 x.counted in
+    let l = leaves_by g.F.Files w z x.atomic.stays root c.remove_entry.ensures.atomic.marks (no_less w.next z.next x.next) x.atomic.clock x.counted in
     leaves_removed g.W.World g.F.Files p s u v (keeps_on g.W.World g.F.Files s c.meet.new.inodes u c.meet.ensures.keeps c.bring_seen.ensures.keeps) goes c.let_go.ensures.rest c.let_go.ensures.counted
-    (Finished say.Ok) (λ e is. cc) z (leaves_then g.W.World g.F.Files v w z (settles_leaves g.W.World g.F.Files v w _ st) l) (x.rest.0 ∙ st.readies.next) (λ e is. absurd (cc))
-    (λ no. saved_on p w.root z.root saved c.remove_entry.ensures.marks)
+    (Finished say.Ok) (λ e is. cc) z (leaves_then g.W.World g.F.Files v w z (settles_leaves g.W.World g.F.Files v w _ st) l) (x.next ∙ st.readies.next) (λ e is. absurd (cc))
+    (λ no. saved_on p w.root z.root saved c.remove_entry.ensures.atomic.marks)
 
 pub returns-in-Err-remove_entry-clause-attempts : goal.returns-in-Err-remove_entry-clause-attempts
 returns-in-Err-remove_entry-clause-attempts g c =
@@ -272,7 +272,7 @@ returns-in-Err-remove_entry-clause-attempts g c =
     let counts = (keeps_counts g.W.World g.F.Files _ s u (keeps_on g.W.World g.F.Files s t u e.keeps b.keeps)).1.1.1 in
     refused g.W.World g.F.Files (ask.Rmdir p) s w c.remove_entry.new.inodes c.args.cache.now c.bring_seen.new.cache (λ h. st.readies.shown h ∙ c.let_go.ensures.same h ∙ b.same h ∙ e.same h)
     (le_trans (le_trans counts c.let_go.ensures.counted) (settles_leaves g.W.World g.F.Files v w _ st).everywhere.failures)
-    (finds_on c.args.cache.now c.meet.new.cache c.bring_seen.new.cache e.cache b.cache) c.in-Err-remove_entry.fault x.fault (λ y is. cc) x.unseen
+    (finds_on c.args.cache.now c.meet.new.cache c.bring_seen.new.cache e.cache b.cache) c.in-Err-remove_entry.fault x.atomic.fault (λ y is. cc) x.atomic.unseen
 
 pub returns-in-Err-remove_entry-clause-leaves : goal.returns-in-Err-remove_entry-clause-leaves
 returns-in-Err-remove_entry-clause-leaves g c =
@@ -285,11 +285,11 @@ returns-in-Err-remove_entry-clause-leaves g c =
     let w = c.settle.new.inodes in
     let st = c.settle.ensures.settles in
     let goes = subst (λ (q : Path). LetsGo q u.root v.root) c.as_slice-2.ensures c.let_go.ensures.goes in
-    let counted = fault_count (g.F.Files.failures w.files) (g.F.Files.failures z.files) c.in-Err-remove_entry.fault x.fault in
-    let l = leaves_by g.F.Files w z x.stays (root_same w.root z.root x.err) c.remove_entry.ensures.marks (no_less w.next z.next x.rest.0) x.rest.1 counted in
+    let counted = fault_count (g.F.Files.failures w.files) (g.F.Files.failures z.files) c.in-Err-remove_entry.fault x.atomic.fault in
+    let l = leaves_by g.F.Files w z x.atomic.stays (root_same w.root z.root x.atomic.err) c.remove_entry.ensures.atomic.marks (no_less w.next z.next x.next) x.atomic.clock counted in
     leaves_removed g.W.World g.F.Files p s u v (keeps_on g.W.World g.F.Files s c.meet.new.inodes u c.meet.ensures.keeps c.bring_seen.ensures.keeps) goes c.let_go.ensures.rest c.let_go.ensures.counted
-    (Finished (say.Fault c.in-Err-remove_entry.fault)) (λ e is. cc) z (leaves_then g.W.World g.F.Files v w z (settles_leaves g.W.World g.F.Files v w _ st) l) (x.rest.0 ∙ st.readies.next)
-    (λ e is. (subst (SameNames v.root) (sym x.err) st.readies.names, subst (λ (r : Row). StaysLoaded r v.root) (sym x.err) st.readies.fewer))
+    (Finished (say.Fault c.in-Err-remove_entry.fault)) (λ e is. cc) z (leaves_then g.W.World g.F.Files v w z (settles_leaves g.W.World g.F.Files v w _ st) l) (x.next ∙ st.readies.next)
+    (λ e is. (subst (SameNames v.root) (sym x.atomic.err) st.readies.names, subst (λ (r : Row). StaysLoaded r v.root) (sym x.atomic.err) st.readies.fewer))
     (λ no. absurd (no (c.in-Err-remove_entry.fault, refl)))
 
 pub returns-in_default-clause-leaves : goal.returns-in_default-clause-leaves
@@ -365,7 +365,7 @@ returns-in-Err-remove_entry-clause-stamps g c =
     (keeps_on g.W.World g.F.Files c.args.inodes.now c.meet.new.inodes c.bring_seen.new.inodes c.meet.ensures.keeps c.bring_seen.ensures.keeps)
     (walked_on g.W.World g.F.Files c.args.path.now c.meet.new.inodes c.bring_seen.new.inodes c.meet.ensures.walked c.bring_seen.ensures.keeps, tt) z _ (stamps_on u.root v.root z.root
     (left_stamps c.args.path.now u.root v.root goes)
-    (stamps_on v.root w.root z.root (alike_stamps v.root w.root c.settle.ensures.settles.alike) (stamps_same w.root z.root c.in-Err-remove_entry.ensures.err)))
+    (stamps_on v.root w.root z.root (alike_stamps v.root w.root c.settle.ensures.settles.alike) (stamps_same w.root z.root c.in-Err-remove_entry.ensures.atomic.err)))
 
 pub returns-in_default-clause-stamps : goal.returns-in_default-clause-stamps
 returns-in_default-clause-stamps g c = stamps_refused g.W.World g.F.Files (ask.Rmdir c.args.path.now) c.args.inodes.now c.args.inodes.now same _ EBUSY refl

@@ -170,7 +170,8 @@ returns-in-Err-set_kind-clause-attempts g c =
     let e = c.in-Ok.ensures in
     let x = c.in-Err-set_kind.ensures in
     refused g.W.World g.F.Files (ask.SetExec p c.args.exec) s v u c.args.cache.now c.meet_file.new.cache (λ h. st.readies.shown h ∙ e.same h)
-    (le_trans (c.keeps_laws.ensures.counts _ s t e.keeps).1.1.1 (settles_leaves g.W.World g.F.Files t v _ st).everywhere.failures) e.cache c.in-Err-set_kind.fault x.fault (λ y is. cc) x.unseen
+    (le_trans (c.keeps_laws.ensures.counts _ s t e.keeps).1.1.1 (settles_leaves g.W.World g.F.Files t v _ st).everywhere.failures) e.cache c.in-Err-set_kind.fault x.atomic.fault
+    (λ y is. cc) x.atomic.unseen
 
 pub returns-in-Err-clause-leaves : goal.returns-in-Err-clause-leaves
 returns-in-Err-clause-leaves g c = leaves_kept g.W.World g.F.Files (ask.SetExec c.args.path.now c.args.exec) c.args.inodes.now c.meet_file.new.inodes c.meet_file.ensures.keeps _
@@ -193,11 +194,11 @@ returns-in-Ok-set_kind-clause-leaves g c =
     let has = has_file p above name v.root seen.row (sym c.as_slice-2.ensures ∙ c.in-Some.ensures.cases.0) still off (plain_other seen.row.kind plain) in
     let root = root_chained above v.root u.root (λ d. changed_listing d name (Some (of_kind c.exec_kind-kind.result seen.row)))
     (loaded_there above v.root has.row has.directory has.at has.holds) (x.ok seen.row has) in
-    let l = leaves_by g.F.Files v u x.stays root x.marks (no_less v.next u.next x.rest.0) x.rest.1 (no_less (g.F.Files.failures v.files) (g.F.Files.failures u.files) x.counted) in
+    let l = leaves_by g.F.Files v u x.atomic.stays root x.atomic.marks (no_less v.next u.next x.next) x.atomic.clock (no_less (g.F.Files.failures v.files) (g.F.Files.failures u.files) x.counted) in
     let saved = subst (λ (r : Path). IsSavedAbove r v.root) c.as_slice.ensures c.in_default.ensures.saved in
     leaves_changed g.W.World g.F.Files (ask.SetExec p c.args.exec) c.args.inodes.now t c.meet_file.ensures.keeps u (Finished say.Ok) (λ e is. cc) (λ e is. cc)
     (leaves_then g.W.World g.F.Files t v u (settles_leaves g.W.World g.F.Files t v _ st) l)
-    (none_given t.next u.next 0 (x.rest.0 ∙ st.readies.next)) (λ no. (saved_on p v.root u.root saved x.marks, tt))
+    (none_given t.next u.next 0 (x.next ∙ st.readies.next)) (λ no. (saved_on p v.root u.root saved x.atomic.marks, tt))
 
 pub returns-in-Err-set_kind-clause-leaves : goal.returns-in-Err-set_kind-clause-leaves
 returns-in-Err-set_kind-clause-leaves g c =
@@ -206,11 +207,12 @@ returns-in-Err-set_kind-clause-leaves g c =
     let v = c.settle.new.inodes in
     let u = c.set_kind.new.inodes in
     let st = c.settle.ensures.settles in
-    let counted = fault_count (g.F.Files.failures v.files) (g.F.Files.failures u.files) c.in-Err-set_kind.fault x.fault in
-    let l = leaves_by g.F.Files v u x.stays (root_same v.root u.root x.err) x.marks (no_less v.next u.next x.rest.0) x.rest.1 counted in
-    leaves_changed g.W.World g.F.Files (ask.SetExec c.args.path.now c.args.exec) c.args.inodes.now t c.meet_file.ensures.keeps u (Finished (say.Fault c.in-Err-set_kind.fault)) (λ e is. cc) (λ e is. subst (SameNames t.root) (sym x.err) st.readies.names)
+    let counted = fault_count (g.F.Files.failures v.files) (g.F.Files.failures u.files) c.in-Err-set_kind.fault x.atomic.fault in
+    let l = leaves_by g.F.Files v u x.atomic.stays (root_same v.root u.root x.atomic.err) x.atomic.marks (no_less v.next u.next x.next) x.atomic.clock counted in
+    leaves_changed g.W.World g.F.Files (ask.SetExec c.args.path.now c.args.exec) c.args.inodes.now t c.meet_file.ensures.keeps u (Finished (say.Fault c.in-Err-set_kind.fault))
+    (λ e is. cc) (λ e is. subst (SameNames t.root) (sym x.atomic.err) st.readies.names)
     (leaves_then g.W.World g.F.Files t v u (settles_leaves g.W.World g.F.Files t v _ st) l)
-    (none_given t.next u.next 0 (x.rest.0 ∙ st.readies.next)) (λ no. absurd (no (c.in-Err-set_kind.fault, refl)))
+    (none_given t.next u.next 0 (x.next ∙ st.readies.next)) (λ no. absurd (no (c.in-Err-set_kind.fault, refl)))
 
 pub returns-in-Err-clause-stamps : goal.returns-in-Err-clause-stamps
 returns-in-Err-clause-stamps g c =
@@ -251,4 +253,4 @@ returns-in-Err-set_kind-clause-stamps g c =
     let v = c.settle.new.inodes in
     let u = c.set_kind.new.inodes in
     stamps_then g.W.World g.F.Files (ask.SetExec c.args.path.now c.args.exec) c.args.inodes.now c.meet_file.new.inodes c.meet_file.ensures.keeps (c.meet_file.ensures.walked, tt) u _
-    (stamps_on t.root v.root u.root (alike_stamps t.root v.root c.settle.ensures.settles.alike) (stamps_same v.root u.root c.in-Err-set_kind.ensures.err))
+    (stamps_on t.root v.root u.root (alike_stamps t.root v.root c.settle.ensures.settles.alike) (stamps_same v.root u.root c.in-Err-set_kind.ensures.atomic.err))

@@ -65,16 +65,16 @@ returns-clause-shown g c h y at =
     (c.store_content.ensures.shown h y (has_file p c.in-Some.above.now c.in-Some.name.now v.root y split still at.unloaded at.file))
 
 pub returns-clause-unseen : goal.returns-clause-unseen
-returns-clause-unseen g c h = on_err_weaker c.store_content.result (λ is. is ∙ c.settle.ensures.settles.readies.shown h) (c.store_content.ensures.unseen h)
+returns-clause-unseen g c h = on_err_weaker c.store_content.result (λ is. is ∙ c.settle.ensures.settles.readies.shown h) (c.store_content.ensures.atomic.unseen h)
 
 pub returns-clause-names : goal.returns-clause-names
 returns-clause-names g c =
-    on_err_weaker c.store_content.result (λ is. subst (SameNames c.args.inodes.now.root) (sym is) c.settle.ensures.settles.readies.names) c.store_content.ensures.err
+    on_err_weaker c.store_content.result (λ is. subst (SameNames c.args.inodes.now.root) (sym is) c.settle.ensures.settles.readies.names) c.store_content.ensures.atomic.err
 
 pub returns-clause-fault : goal.returns-clause-fault
 returns-clause-fault g c =
     subst (λ (k : ℕ). IfErr c.store_content.result (IsStoreFault k (g.F.Files.failures c.store_content.new.inodes.files))) c.in_default-settle.ensures.settles.readies.counted
-    c.store_content.ensures.fault
+    c.store_content.ensures.atomic.fault
 
 pub returns-clause-leaves : goal.returns-clause-leaves
 returns-clause-leaves g c =
@@ -89,20 +89,20 @@ returns-clause-leaves g c =
     let there = row_still s.root v.root c.settle.ensures.settles.alike p h.0 h.1.there h.1.unloaded in
     let file = has_file p above name v.root h.0 (sym c.as_slice.ensures ∙ c.in-Some.ensures.cases.0) there h.1.unloaded h.1.file in
     let root = root_filled c.store_content.result (is_own h.0.origin) above v.root t.root (changed file.directory name (Some (owned h.0)))
-    (x.ok h.0 file file.row file.directory file.at file.holds) x.err in
-    let counted = stored_count c.store_content.result (g.F.Files.failures v.files) (g.F.Files.failures t.files) x.fault x.counted in
+    (x.ok h.0 file file.row file.directory file.at file.holds) x.atomic.err in
+    let counted = stored_count c.store_content.result (g.F.Files.failures v.files) (g.F.Files.failures t.files) x.atomic.fault x.counted in
     leaves_then g.W.World g.F.Files s v t (settles_leaves g.W.World g.F.Files s v _ c.settle.ensures.settles)
-    (leaves_by g.F.Files v t x.stays root x.marks (no_less v.next t.next x.rest.0) x.rest.1 counted)
+    (leaves_by g.F.Files v t x.atomic.stays root x.atomic.marks (no_less v.next t.next x.next) x.atomic.clock counted)
 
 pub returns-clause-next : goal.returns-clause-next
-returns-clause-next g c = c.store_content.ensures.rest.0 ∙ c.settle.ensures.settles.readies.next
+returns-clause-next g c = c.store_content.ensures.next ∙ c.settle.ensures.settles.readies.next
 
 pub returns-clause-saved : goal.returns-clause-saved
 returns-clause-saved g c =
     let v = c.settle.new.inodes in
     let t = c.store_content.new.inodes in
     let saved = subst (λ (q : Path). IsSavedAbove q v.root) c.as_slice-2.ensures c.in_default-settle.ensures.saved in
-    on_ok c.store_content.result _ (saved_on c.args.path.now v.root t.root saved c.store_content.ensures.marks)
+    on_ok c.store_content.result _ (saved_on c.args.path.now v.root t.root saved c.store_content.ensures.atomic.marks)
 
 pub returns-in-Err-clause-stamps : goal.returns-in-Err-clause-stamps
 returns-in-Err-clause-stamps g c = alike_stamps c.args.inodes.now.root c.settle.new.inodes.root c.in-Err.ensures.settles.alike
@@ -122,4 +122,4 @@ returns-clause-stamps g c =
     let file = has_file p above name v.root h.0 (sym c.as_slice.ensures ∙ c.in-Some.ensures.cases.0) there h.1.unloaded h.1.file in
     stamps_on s.root v.root t.root (alike_stamps s.root v.root alike)
     (filled_stamps v.root v.next c.settle.ensures.table above name (Some (owned h.0)) h.1.unloaded file.row file.directory file.at file.holds c.store_content.result (is_own h.0.origin) t.root
-    (x.ok h.0 file file.row file.directory file.at file.holds) x.err)
+    (x.ok h.0 file file.row file.directory file.at file.holds) x.atomic.err)

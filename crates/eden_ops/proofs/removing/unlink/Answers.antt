@@ -121,8 +121,8 @@ returns-in-Err-remove_entry-clause-attempts g c =
     let e = c.in-Ok-Some.ensures in
     let x = c.in-Err-remove_entry.ensures in
     refused g.W.World g.F.Files (ask.Unlink p) s v u c.args.cache.now c.meet.new.cache (λ h. st.readies.shown h ∙ e.same h)
-    (le_trans (c.keeps_laws.ensures.counts _ s t e.keeps).1.1.1 (settles_leaves g.W.World g.F.Files t v _ st).everywhere.failures) e.cache c.in-Err-remove_entry.fault x.fault
-    (λ y is. cc) x.unseen
+    (le_trans (c.keeps_laws.ensures.counts _ s t e.keeps).1.1.1 (settles_leaves g.W.World g.F.Files t v _ st).everywhere.failures) e.cache c.in-Err-remove_entry.fault x.atomic.fault
+    (λ y is. cc) x.atomic.unseen
 
 pub returns-in-Err-settle-clause-attempts : goal.returns-in-Err-settle-clause-attempts
 returns-in-Err-settle-clause-attempts g c =
@@ -165,11 +165,11 @@ returns-in-Ok-clause-leaves g c =
     let loaded = above_loaded v.root seen.row p above name (sym c.as_slice.ensures ∙ c.in-Some.ensures.cases.0) there in
     let root = root_chained above v.root c.remove_entry.new.inodes.root (λ d. changed_listing d name None) loaded x.ok in
     let u = c.remove_entry.new.inodes in
-    let l = leaves_by g.F.Files v u x.stays root x.marks (no_less v.next u.next x.rest.0) x.rest.1 x.counted in
+    let l = leaves_by g.F.Files v u x.atomic.stays root x.atomic.marks (no_less v.next u.next x.next) x.atomic.clock x.counted in
     let saved = subst (λ (r : Path). IsSavedAbove r v.root) c.as_slice-2.ensures c.in_default-settle.ensures.saved in
     leaves_changed g.W.World g.F.Files (ask.Unlink p) c.args.inodes.now t c.meet.ensures.keeps u (Finished say.Ok) (λ e is. cc) (λ e is. cc)
     (leaves_then g.W.World g.F.Files t v u (settles_leaves g.W.World g.F.Files t v _ st) l)
-    (none_given t.next u.next 0 (x.rest.0 ∙ st.readies.next)) (λ no. (saved_on p v.root u.root saved x.marks, tt))
+    (none_given t.next u.next 0 (x.next ∙ st.readies.next)) (λ no. (saved_on p v.root u.root saved x.atomic.marks, tt))
 
 pub returns-in-Err-remove_entry-clause-leaves : goal.returns-in-Err-remove_entry-clause-leaves
 returns-in-Err-remove_entry-clause-leaves g c =
@@ -178,11 +178,12 @@ returns-in-Err-remove_entry-clause-leaves g c =
     let v = c.settle.new.inodes in
     let u = c.remove_entry.new.inodes in
     let st = c.settle.ensures.settles in
-    let counted = fault_count (g.F.Files.failures v.files) (g.F.Files.failures u.files) c.in-Err-remove_entry.fault x.fault in
-    let l = leaves_by g.F.Files v u x.stays (root_same v.root u.root x.err) x.marks (no_less v.next u.next x.rest.0) x.rest.1 counted in
-    leaves_changed g.W.World g.F.Files (ask.Unlink c.args.path.now) c.args.inodes.now t c.meet.ensures.keeps u (Finished (say.Fault c.in-Err-remove_entry.fault)) (λ e is. cc) (λ e is. subst (SameNames t.root) (sym x.err) st.readies.names)
+    let counted = fault_count (g.F.Files.failures v.files) (g.F.Files.failures u.files) c.in-Err-remove_entry.fault x.atomic.fault in
+    let l = leaves_by g.F.Files v u x.atomic.stays (root_same v.root u.root x.atomic.err) x.atomic.marks (no_less v.next u.next x.next) x.atomic.clock counted in
+    leaves_changed g.W.World g.F.Files (ask.Unlink c.args.path.now) c.args.inodes.now t c.meet.ensures.keeps u (Finished (say.Fault c.in-Err-remove_entry.fault)) (λ e is. cc)
+    (λ e is. subst (SameNames t.root) (sym x.atomic.err) st.readies.names)
     (leaves_then g.W.World g.F.Files t v u (settles_leaves g.W.World g.F.Files t v _ st) l)
-    (none_given t.next u.next 0 (x.rest.0 ∙ st.readies.next)) (λ no. absurd (no (c.in-Err-remove_entry.fault, refl)))
+    (none_given t.next u.next 0 (x.next ∙ st.readies.next)) (λ no. absurd (no (c.in-Err-remove_entry.fault, refl)))
 
 pub returns-in_default-clause-leaves : goal.returns-in_default-clause-leaves
 returns-in_default-clause-leaves g c = leaves_kept g.W.World g.F.Files (ask.Unlink c.args.path.now) c.args.inodes.now c.args.inodes.now same _
@@ -224,7 +225,7 @@ returns-in-Err-remove_entry-clause-stamps g c =
     let v = c.settle.new.inodes in
     let u = c.remove_entry.new.inodes in
     stamps_then g.W.World g.F.Files (ask.Unlink c.args.path.now) c.args.inodes.now c.meet.new.inodes c.meet.ensures.keeps (c.meet.ensures.walked, tt) u _
-    (stamps_on t.root v.root u.root (alike_stamps t.root v.root c.settle.ensures.settles.alike) (stamps_same v.root u.root c.in-Err-remove_entry.ensures.err))
+    (stamps_on t.root v.root u.root (alike_stamps t.root v.root c.settle.ensures.settles.alike) (stamps_same v.root u.root c.in-Err-remove_entry.ensures.atomic.err))
 
 pub returns-in_default-clause-stamps : goal.returns-in_default-clause-stamps
 returns-in_default-clause-stamps g c = stamps_refused g.W.World g.F.Files (ask.Unlink c.args.path.now) c.args.inodes.now c.args.inodes.now same _ EISDIR refl
