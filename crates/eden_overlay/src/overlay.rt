@@ -38,8 +38,8 @@ const STATE_NUMBER: u64 = 0;
 /// so. Contracts see the files.
 ///
 /// The content that was last stored, or was got and given back, stays in memory, if it isn't too long. Under an honest
-/// outside it is what its file holds. The room that a file was written in stays too, at most 1 MiB of it for contents and
-/// for directories each: a store that needs no more takes no memory for its file.
+/// outside it is what its file holds. The room that a file was written in stays too, at most 1 MiB of it for contents
+/// and for directories each: a store that needs no more takes no memory for its file.
 #[derive(Drop)]
 pub struct Overlay<W: World, F: Files<W>> {
     files: F,
@@ -141,8 +141,8 @@ impl<W: World, F: Files<W>> Overlay<W, F> {
         self.room.take(alloc)
     }
 
-    /// Stores a directory, whose entries are written already, as the file of that number, in place of any that was there:
-    /// the root's is 1. After an error nothing has changed.
+    /// Stores a directory, whose entries are written already, as the file of that number, in place of any that was
+    /// there: the root's is 1. After an error nothing has changed.
     pub fn put_listing(
         &mut self,
         alloc: Global,

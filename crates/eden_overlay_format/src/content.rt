@@ -22,8 +22,8 @@ pub fn encode_file(alloc: Global, content: &[u8]) -> Result<Vec<u8>, AllocError>
     encode_file_in(Vec::new(alloc), content)
 }
 
-/// The stored file of a content of at most `CONTENT_MOST` bytes, in that room, whose bytes go. The only error is want of
-/// memory, where the room is too small.
+/// The stored file of a content of at most `CONTENT_MOST` bytes, in that room, whose bytes go. The only error is want
+/// of memory, where the room is too small.
 pub fn encode_file_in(room: Vec<u8>, content: &[u8]) -> Result<Vec<u8>, AllocError>
     requires { length content.now ≤ content_most }
     ensures bytes { IfOk result (λ v. v.items ≡ written identifier.File content.now) }

@@ -1,6 +1,7 @@
 //! The header of 64 bytes that each stored file begins with.
 
-ghost use Rattle.std.specs.Prelude.{◌≡◌, ◌≤◌, ◌<◌, ◌+◌, Some, None, length, drop, replicate, IfOk, OnErr, MatchResult, vec_capacity};
+ghost use Rattle.std.specs.Prelude.{◌≡◌, ◌≤◌, ◌<◌, ◌+◌, Some, None, length, drop, replicate, IfOk, OnErr, MatchResult};
+ghost use Rattle.std.specs.Vec.{vec_capacity};
 ghost use Rattle.eden_overlay_format.specs.Stored.{body_in, digest_refusal, head_refusal, header, header_refusal, identifier_bytes, version_refusal, written};
 
 use crate::refusal::Refusal;

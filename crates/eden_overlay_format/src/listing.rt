@@ -43,8 +43,8 @@ impl Model for Listing {
 }
 
 impl Listing {
-    /// A listing without entries in that room, whose bytes go, made fit for so many of usual length. The only error is want
-    /// of memory.
+    /// A listing without entries in that room, whose bytes go, made fit for so many of usual length. The only error is
+    /// want of memory.
     pub fn new(room: Vec<u8>, count: u32) -> Result<Listing, AllocError>
         ensures { IfOk result (λ l. l ≡ []) }
     {
