@@ -20,7 +20,6 @@ import sys
 import tempfile
 import time
 from collections.abc import Callable, Iterator
-from typing import Any
 
 from yakembi.git import Refusal, Repository, last_line
 from yakembi.operations import Mount, MountOperations, tell
