@@ -106,7 +106,7 @@ fn begin<
         pass: Snapshot::of(&pass),
         connection: PhantomData,
     };
-    // What was to run in the thread comes back where none can be made, and then does no more than to give the pass back.
+    // What was to run in the thread comes back where none can be made, and then does no more than give the pass back.
     let attend_guest = move || -> Attended<J>
         requires { HasLearntNothing pass }
         ensures { IsSeated I.Read O.Write W.honest W.opening pass result.pass result.said }
