@@ -46,7 +46,8 @@ fn share<W: World, T: Attempts<W> + Drop, A: Allocator, J: Naming>(
     requires ties { AreTied ties.lanes.items ties.ends.items room.queue.passes }
     requires names { names_of ties.lanes.items ≡ J.names }
     ensures count { length J.names ≡ room.queue.passes }
-    ensures passes { IfOk result (λ o. o.1.items ≡ newcomers (terms_at T.table room history.limit table) 1 room.queue.passes) }
+    ensures passes { IfOk result
+        (λ o. o.1.items ≡ newcomers (terms_at T.table room history.limit table) 1 room.queue.passes) }
     ensures err { IfErr result (λ t. t ≡ table) }
 {
     let mount: Mount<W, T, A, Kept> = Mount::new(room, table, history);
@@ -120,7 +121,8 @@ pub fn host_table<
     requires empty { history.list ≡ [] }
     requires ties { AreTied ties.lanes.items ties.ends.items room.queue.passes }
     requires names { names_of ties.lanes.items ≡ J.names }
-    ensures hosted { IfOk result (HostsTable T.table I.Read O.Write W.honest W.opening (terms_at T.table room history.limit table)) }
+    ensures hosted { IfOk result (HostsTable T.table I.Read O.Write W.honest W.opening
+        (terms_at T.table room history.limit table)) }
     ensures err { IfErr result (λ t. t ≡ table) }
 {
     match share::<W, T, A, J>(alloc, room, table, history, ties) {

@@ -55,8 +55,8 @@ impl<R> FolderFiles<R> {
 }
 
 impl<R: rt::Files + Alloc + Clone + Drop> FolderFiles<R> {
-    /// Removes what interrupted stores left: the plain files whose names are a number and `.new`. What else has such a name
-    /// is passed over. Nobody may store in the folder meanwhile.
+    /// Removes what interrupted stores left: the plain files whose names are a number and `.new`. What else has such a
+    /// name is passed over. Nobody may store in the folder meanwhile.
     ///
     /// After an error what was removed by then stays so.
     pub fn remove_unfinished(&mut self, alloc: Global) -> Result<Removed, FilesFault>

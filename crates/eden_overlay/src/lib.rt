@@ -13,8 +13,9 @@
 //! `Overlay::rescan` is for files whose state was lost: one pass over the live directories finds the next number, or why
 //! the files aren't sound.
 //!
-//! Strays, files that no live directory names as its own, may be left behind. Those of them that no live directory names at
-//! all are orphans: `Overlay::orphans` finds them, and `Overlay::remove_orphans` removes them, so that the same is shown.
+//! Strays, files that no live directory names as its own, may be left behind. Those of them that no live directory
+//! names at all are orphans: `Overlay::orphans` finds them, and `Overlay::remove_orphans` removes them, so that the
+//! same is shown.
 #![tactic(auto)]
 
 mod content;

@@ -281,7 +281,8 @@ impl<W: World, F: Files<W>> Overlay<W, F> {
         self.files.list(alloc)
     }
 
-    /// How many bytes the file of that number has; 0 where there is none. It takes no memory: its one error is the device's.
+    /// How many bytes the file of that number has; 0 where there is none. It takes no memory: its one error is the
+    /// device's.
     pub fn bytes_at(&mut self, number: u64) -> Result<u64, FilesFault>
         ensures told { W.honest → IfOk result (λ bytes. bytes ≡ bytes_at (F.stored self.old number)) }
         ensures fault { IfErr result (λ f. f ≡ files.Device) }

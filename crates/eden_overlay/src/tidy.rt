@@ -1,6 +1,7 @@
 //! Orphans: stored files that no live directory names. They are found, counted and removed.
 
-ghost use Rattle.std.specs.Prelude.{◌≡◌, ◌≤◌, ◌+◌, ◌-◌, ◌^◌, ◌&&◌, Err, All, IfOk, IfErr, OnOk, filter, leb, min, not};
+ghost use Rattle.std.specs.Prelude.{◌≡◌, ◌≤◌, ◌+◌, ◌-◌, ◌^◌, ◌&&◌, Err, All, IfOk, IfErr, OnOk};
+ghost use Rattle.std.specs.Prelude.{filter, leb, min, not};
 ghost use Rattle.std.specs.BTreeSet.{contains};
 ghost use Rattle.std.specs.Ordering.{nat_cmp};
 ghost use Rattle.std.specs.List.Sorted.{IsStrictlySortedBy};
@@ -56,8 +57,8 @@ fn unnamed(mut numbers: Vec<u64>, named: &BTreeSet<u64>) -> Vec<u64>
 }
 
 impl<W: World, F: Files<W>> Overlay<W, F> {
-    /// The numbers of the orphans, rising, where the files are sound: of the stored files that no live directory names, but
-    /// for those of the state and of the root.
+    /// The numbers of the orphans, rising, where the files are sound: of the stored files that no live directory names,
+    /// but for those of the state and of the root.
     ///
     /// One pass over the live directories goes before, as by `rescan`, with its errors.
     pub fn orphans(&mut self, alloc: Global) -> Result<Vec<u64>, RescanFault>
@@ -74,8 +75,8 @@ impl<W: World, F: Files<W>> Overlay<W, F> {
         Ok(unnamed(numbers, &named))
     }
 
-    /// How many bytes the files of these numbers have together, up to 2^64 - 1; one that isn't stored has none. It takes no
-    /// memory: its one error is the device's.
+    /// How many bytes the files of these numbers have together, up to 2^64 - 1; one that isn't stored has none. It
+    /// takes no memory: its one error is the device's.
     pub fn bytes_in(&mut self, numbers: &[u64]) -> Result<u64, FilesFault>
         ensures told { W.honest → IfOk result (λ bytes. bytes ≡ bytes_in (F.stored self.old) numbers.now) }
         ensures fault { IfErr result (λ f. f ≡ files.Device) }
@@ -89,8 +90,8 @@ impl<W: World, F: Files<W>> Overlay<W, F> {
         Ok(bytes)
     }
 
-    /// Removes these orphans, and no other file. It takes no memory: its one error is the device's, and the orphans that were
-    /// removed by then stay so.
+    /// Removes these orphans, and no other file. It takes no memory: its one error is the device's, and the orphans
+    /// that were removed by then stay so.
     pub fn remove_orphans(&mut self, numbers: &[u64]) -> Result<(), FilesFault>
         requires sound { W.honest → AreSound (F.stored self.old) }
         requires orphans { W.honest → All (IsOrphan (F.stored self.old)) numbers.now }
