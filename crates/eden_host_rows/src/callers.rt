@@ -6,6 +6,7 @@ ghost use Rattle.eden_shared.specs.Opening.{AreTied};
 
 use crate::histories::{Note, add_notes, changes, check_notes, check_reopened, replay};
 use crate::mounts::{Held, Mounted, Size, Tree, fetch, open};
+use eden_history::Kept;
 use eden_model::{CallFault, Outside, StartFault};
 use eden_mount::Attempts;
 use eden_random::{Commit, request};
@@ -29,7 +30,7 @@ struct Load {
 #[derive(Drop)]
 struct Race<'a, T: Attempts<Outside> + Drop, J: Naming> {
     alloc: Global,
-    shared: &'a Shared<Outside, T, Global, J>,
+    shared: &'a Shared<Outside, T, Global, J, Kept>,
     commit: &'a Commit,
     load: &'a Load,
 }

@@ -21,7 +21,7 @@ const ONE: Size = Size {
 #[derive(Drop)]
 pub(crate) struct Note {
     pass: u32,
-    number: u32,
+    number: u64,
     text: String,
 }
 

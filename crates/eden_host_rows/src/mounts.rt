@@ -8,6 +8,7 @@ ghost use Rattle.eden_shared.specs.Passes.{AreNewcomers};
 
 use eden_cache::ObjectCache;
 use eden_checkout::Checkout;
+use eden_history::Kept;
 use eden_host::{Accepts, Fetchers, Hosted, Unloading, host};
 use eden_model::{Cause, Id, Outside};
 use eden_mount::{Attempts, Config, Mount, Room};
@@ -25,9 +26,9 @@ pub(crate) type Stored = MemoryFiles<Outside>;
 
 pub(crate) type Tree = Checkout<Global, Outside, Stored>;
 
-pub(crate) type Mounted = Mount<Outside, Tree, Global>;
+pub(crate) type Mounted = Mount<Outside, Tree, Global, Kept>;
 
-pub(crate) type Held<J> = Shared<Outside, Tree, Global, J>;
+pub(crate) type Held<J> = Shared<Outside, Tree, Global, J, Kept>;
 
 /// How large a mount is.
 #[derive(Clone, Copy)]
@@ -63,7 +64,7 @@ pub(crate) fn mount(rt: &impl Abort, alloc: Global, files: Stored, root: Id, siz
     let config = config.expect(rt, "within the limits");
     let room = Room::new(alloc, alloc, &config).expect(rt, "memory");
     let mount = match Checkout::open(alloc, alloc, files, root, cache(rt, alloc, size.objects)) {
-        Ok(tree) => Mount::new(room, tree),
+        Ok(tree) => Mount::new(room, tree, Kept::new(alloc, size.history)),
         Err(_) => rt.abort(),
     };
     match mount.busy() {
@@ -153,7 +154,7 @@ impl<'a> Source<Outside> for Objects<'a> {
 /// Fetches the commit's objects until the mount is stopped and nothing is pending.
 pub(crate) fn fetch<T: Attempts<Outside> + Drop, J: Naming>(
     rt: &impl Wait,
-    shared: &Shared<Outside, T, Global, J>,
+    shared: &Shared<Outside, T, Global, J, Kept>,
     commit: &Commit,
 ) {
     shared.fetch_all(rt, &mut Objects { commit });

@@ -5,6 +5,7 @@ ghost use Rattle.eden_shared.specs.Lanes.{names_of};
 ghost use Rattle.eden_shared.specs.Opening.{AreTied};
 
 use crate::mounts::{Held, Mounted, Size, Tree, fetch, open};
+use eden_history::Kept;
 use eden_model::{CallFault, Entry, Kind, Outside, Path, Reply, Request};
 use eden_mount::Attempts;
 use eden_random::{Commit, path};
@@ -39,7 +40,7 @@ enum Asked {
 struct Call {
     pass: u32,
     asked: Asked,
-    number: u32,
+    number: u64,
 }
 
 const MADE: Call = Call {
@@ -102,7 +103,7 @@ fn is_entry(entry: Option<&Entry>, call: Call) -> bool {
 fn ask<T: Attempts<Outside> + Drop, J: Naming, R: Wait + Abort>(
     rt: &R,
     alloc: Global,
-    shared: &Shared<Outside, T, Global, J>,
+    shared: &Shared<Outside, T, Global, J, Kept>,
     pass: &mut Pass<J>,
     call: Call,
 ) {
@@ -110,14 +111,14 @@ fn ask<T: Attempts<Outside> + Drop, J: Naming, R: Wait + Abort>(
         Ok(told) => assert!(rt; told.number == call.number && is_told(call.asked, &told.reply)),
         Err(_) => rt.abort(),
     }
-    assert!(rt; pass.floor() == u64::from(call.number) + 1);
+    assert!(rt; pass.floor() == call.number.saturating_add(1));
 }
 
 /// The other pass learns of the new file, and sees it. The first pass's floor stays.
 fn tell<T: Attempts<Outside> + Drop, J: Naming, R: Wait + Abort>(
     rt: &R,
     alloc: Global,
-    shared: &Shared<Outside, T, Global, J>,
+    shared: &Shared<Outside, T, Global, J, Kept>,
     first: &mut Pass<J>,
     second: &mut Pass<J>,
 ) {
@@ -132,7 +133,7 @@ fn tell<T: Attempts<Outside> + Drop, J: Naming, R: Wait + Abort>(
 fn stop<T: Attempts<Outside> + Drop, J: Naming, R: Wait + Abort>(
     rt: &R,
     alloc: Global,
-    shared: &Shared<Outside, T, Global, J>,
+    shared: &Shared<Outside, T, Global, J, Kept>,
     pass: &mut Pass<J>,
 ) {
     let root = path(alloc, &[]).expect(rt, "the root");
@@ -146,7 +147,7 @@ fn stop<T: Attempts<Outside> + Drop, J: Naming, R: Wait + Abort>(
 fn play<T: Attempts<Outside> + Drop, J: Naming, R: Wait + Abort>(
     rt: &R,
     alloc: Global,
-    shared: &Shared<Outside, T, Global, J>,
+    shared: &Shared<Outside, T, Global, J, Kept>,
     mut passes: Vec<Pass<J>>,
 ) -> Vec<Pass<J>> {
     let (first, others) = passes.split_first_mut().expect(rt, "a pass");
@@ -165,7 +166,7 @@ fn run<
     rt: &R,
     alloc: Global,
     commit: &Commit,
-    shared: &Shared<Outside, T, Global, J>,
+    shared: &Shared<Outside, T, Global, J, Kept>,
     passes: Vec<Pass<J>>,
 ) -> Vec<Pass<J>> {
     let (_, passes) = join(

@@ -5,6 +5,7 @@ ghost use Rattle.eden_shared.specs.Opening.{AreTied};
 
 use crate::mounts::shelf::Shelf;
 use crate::mounts::{bytes, key, mount, read, root};
+use eden_history::Kept;
 use eden_model::{CallFault, Cause, Outside, Reply, Request};
 use eden_shared::{Fetched, Naming, Pass, Shared, Ties};
 use eden_source::MemorySource;
@@ -15,7 +16,7 @@ use std::sync::Wait;
 use std::thread::{Threads, join, yield_now};
 
 /// A mount of three passes over a shelf, as it is shared.
-type Held<J> = Shared<Outside, Shelf, Global, J>;
+type Held<J> = Shared<Outside, Shelf, Global, J, Kept>;
 
 /// The mount, and its three passes.
 fn open<J: Naming>(rt: &impl Abort, alloc: Global, ties: Ties) -> (Held<J>, Vec<Pass<J>>)
@@ -33,13 +34,13 @@ fn ask_root<J: Naming, R: Wait + Abort>(
     alloc: Global,
     shared: &Held<J>,
     pass: &mut Pass<J>,
-) -> Result<u32, CallFault> {
+) -> Result<u64, CallFault> {
     let told = pass.call(shared, rt, Request::Kind(root(rt, alloc)))?;
     Ok(told.number)
 }
 
 /// The sixth entry is awaited of a history of that length.
-fn awaits_more(length: u64) -> Result<u32, CallFault> {
+fn awaits_more(length: u64) -> Result<u64, CallFault> {
     Err(CallFault::Foreign { floor: 6, length })
 }
 
