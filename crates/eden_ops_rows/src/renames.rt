@@ -4,7 +4,7 @@ use crate::mount::Mount;
 use crate::paths::path;
 use crate::steps::{Ask, D, D_T, E, Names, ROOT, Row, Step, TEST, Want, check_all, is_wanted};
 use eden_model::{Errno, Fault, Kind, Path, Request};
-use eden_samples::{ONE_FILE, TWO_FILES, VERSION_1};
+use eden_samples::{NEW_FILE, ONE_FILE, TWO_FILES, VERSION_1};
 use std::alloc::Global;
 use std::process::Abort;
 
@@ -12,11 +12,15 @@ const A: Names = &[b"a"];
 
 const BAK: Names = &[b"bak"];
 
+const NEW: Names = &[b"new.txt"];
+
 const OLD: Names = &[b"old"];
 
 const OLD_TEST: Names = &[b"old", b"test.txt"];
 
 const D_A: Names = &[b"d", b"a"];
+
+const D_BAK: Names = &[b"d", b"bak"];
 
 const D_E: Names = &[b"d", b"e"];
 
@@ -25,6 +29,9 @@ const D_E_F: Names = &[b"d", b"e", b"f"];
 const E_A: Names = &[b"e", b"a"];
 
 const E_E_F: Names = &[b"e", b"e", b"f"];
+
+/// What `ONE_FILE` lists.
+const TEST_ALONE: Want = Want::Entries(&[(b"test.txt", Kind::File)], false);
 
 /// A file of the commit moves into a new directory, and its content isn't needed for it.
 const BETWEEN: Row = Row {
@@ -177,6 +184,50 @@ const STOPPED: Row = Row {
     files: &[(1, 131), (3, 80), (4, 68), (5, 64)],
 };
 
+/// A loaded directory of the commit stays loaded, of which no object is needed again, and a move is two stores: that of
+/// the directory that loses the entry, and that of the one that gains it. Before them the one that an earlier fault
+/// left unsaved is stored; nothing is stored of what moves.
+const KEPT_LOADED: Row = Row {
+    root: TWO_FILES,
+    objects: 1,
+    steps: &[
+        Step::Need(D, Ask::Mkdir, TWO_FILES),
+        Step::Ask(D, Ask::Mkdir, Want::Ok),
+        Step::Need(BAK, Ask::List(None, 9), ONE_FILE),
+        Step::Ask(BAK, Ask::List(None, 9), TEST_ALONE),
+        Step::Need(NEW, Ask::Read(0, 3), NEW_FILE),
+        Step::Ask(NEW, Ask::Read(0, 3), Want::Data(b"new")),
+        Step::Ask(D, Ask::List(None, 9), Want::Entries(&[], false)),
+        Step::Pass(1),
+        Step::Ask(BAK, Ask::Rename(D_BAK), Want::Fault(Fault::Overlay)),
+        Step::Ask(BAK, Ask::List(None, 9), TEST_ALONE),
+        Step::Pass(3),
+        Step::Ask(BAK, Ask::Rename(D_BAK), Want::Ok),
+        Step::Ask(A, Ask::Create, Want::Fault(Fault::Overlay)),
+        Step::Ask(BAK, Ask::Kind, Want::Err(Errno::ENOENT)),
+        Step::Ask(D_BAK, Ask::List(None, 9), TEST_ALONE),
+    ],
+    files: &[(1, 157), (5, 102)],
+};
+
+/// Within one directory it is one store.
+const KEPT_WITHIN: Row = Row {
+    root: TWO_FILES,
+    objects: 1,
+    steps: &[
+        Step::Need(D, Ask::Mkdir, TWO_FILES),
+        Step::Ask(D, Ask::Mkdir, Want::Ok),
+        Step::Need(BAK, Ask::List(None, 9), ONE_FILE),
+        Step::Ask(BAK, Ask::List(None, 9), TEST_ALONE),
+        Step::Need(NEW, Ask::Read(0, 3), NEW_FILE),
+        Step::Pass(1),
+        Step::Ask(BAK, Ask::Rename(OLD), Want::Ok),
+        Step::Ask(A, Ask::Create, Want::Fault(Fault::Overlay)),
+        Step::Ask(OLD, Ask::List(None, 9), TEST_ALONE),
+    ],
+    files: &[(1, 191), (5, 68)],
+};
+
 const ROWS: &[Row] = &[
     BETWEEN,
     REFUSED,
@@ -186,6 +237,8 @@ const ROWS: &[Row] = &[
     LOADED,
     UNKNOWN,
     STOPPED,
+    KEPT_LOADED,
+    KEPT_WITHIN,
 ];
 
 #[test]
@@ -237,4 +290,31 @@ fn what_is_deep_moves(rt: HostRuntime) {
     assert!(rt; move_deep(&rt, &mut mount, 0));
     assert!(rt; is_dir(&rt, &mut mount, deep(&rt, alloc, b"e", 254)));
     assert!(rt; !is_dir(&rt, &mut mount, deep(&rt, alloc, b"e", 255)));
+}
+
+/// The number of the one entry of the directory that is loaded at a path.
+fn number_inside(rt: &impl Abort, mount: &Mount, at: &Path) -> u64 {
+    let dir = mount
+        .table
+        .directory(at.as_slice())
+        .expect(rt, "a loaded directory");
+    assert_eq!(rt; dir.count(), 1);
+    let (_, entry) = dir.at(0).expect(rt, "an entry");
+    entry.number
+}
+
+/// The root's three entries have the numbers from 2 on, and the one of the directory that is loaded next has 5, also
+/// where that goes.
+#[test]
+fn what_goes_along_keeps_its_numbers(rt: HostRuntime) {
+    let alloc = rt.alloc();
+    let mut mount = Mount::open(&rt, alloc, TWO_FILES, 8);
+    let bak = path(&rt, alloc, BAK);
+    let old = path(&rt, alloc, OLD);
+    let list = Request::List(path(&rt, alloc, BAK), None, 9);
+    assert!(rt; is_wanted(&mount.answer(&rt, &list), TEST_ALONE));
+    assert_eq!(rt; number_inside(&rt, &mount, &bak), 5);
+    let rename = Request::Rename(path(&rt, alloc, BAK), path(&rt, alloc, OLD));
+    assert!(rt; is_ok(&rt, &mut mount, &rename));
+    assert_eq!(rt; number_inside(&rt, &mount, &old), 5);
 }
