@@ -34,9 +34,11 @@ lint: ## looks at layout, columns, types, pages and wrong bodies, and runs the t
 wrong-bodies: ## tries the wrong bodies that the gate leaves out, or those of CRATE=NAME; goes on where it was stopped
 	@scripts/wrong-bodies $(CRATE)
 
-soak: ## a million random requests: the slow oracle beside the second table of operations, attempts beside the slow oracle, and events on mounts; and ten minutes of many clients
+soak: ## a million random requests: the slow oracle beside the second table of operations, attempts beside the slow oracle, and events on mounts; ten minutes of many clients; and many rounds in want of memory and room
 	tests/oracle 1000000
 	scripts/soak-rows
+	@scripts/build-mountd
+	tests/pressure crates/mountd/out/mountd 2000
 
 bench: ## times the work that grows with its input, at full size, and writes docs/measured/speed.md
 	@scripts/bench

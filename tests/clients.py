@@ -50,7 +50,7 @@ def asked_again(client: Client, line: bytes) -> bytes:
 
 
 def seen_by(client: Client) -> Nodes:
-    """The whole tree as a client sees it, one level after another. Its files are shorter than a page."""
+    """The whole tree as a client sees it, one level after another."""
     nodes: Nodes = {(): ("dir", True)}
     folders: list[Path] = [()]
     while folders:
@@ -68,4 +68,17 @@ def leaves_seen_by(client: Client, leaves: list[tuple[Path, bytes]]) -> Iterator
              for path, kind in leaves]
     for (path, kind), reply in zip(leaves, ask_all(client, lines)):
         content = page_of(reply)
+        if kind != b"link" and len(content) == LONGEST_DATA:
+            content += rest_of(client, path)
         yield path, ("link", content) if kind == b"link" else ("file", kind == b"exec", content)
+
+
+def rest_of(client: Client, path: Path) -> bytes:
+    """What stands in a file behind its first page."""
+    content = b""
+    while True:
+        line = b"read %s %d %d" % (path_text(path), LONGEST_DATA + len(content), LONGEST_DATA)
+        page = page_of(ask_all(client, [line])[0])
+        content += page
+        if len(page) < LONGEST_DATA:
+            return content

@@ -70,17 +70,17 @@ class Client:
         self.socket.close()
 
 
-def start_serve(*words: object, **more: Any) -> Process:
-    """The program with these options."""
-    return subprocess.Popen([str(word) for word in [MOUNTD, "serve", *words]], stdin=subprocess.DEVNULL,
+def start_serve(*words: object, before: Sequence[object] = (), **more: Any) -> Process:
+    """The program with these options, started by the words before it."""
+    return subprocess.Popen([str(word) for word in [*before, MOUNTD, "serve", *words]], stdin=subprocess.DEVNULL,
                             stdout=subprocess.PIPE, stderr=subprocess.PIPE, **more)
 
 
 class Service:
     """A run of `mountd serve`, and its clients."""
 
-    def __init__(self, root: str, source: Sequence[object], *more: object) -> None:
-        self.process = start_serve("--root", root, *source, "--port", 0, *more)
+    def __init__(self, root: str, source: Sequence[object], *more: object, before: Sequence[object] = ()) -> None:
+        self.process = start_serve("--root", root, *source, "--port", 0, *more, before=before)
         self.alarm = threading.Timer(LONGEST_RUN, self.process.kill)
         self.alarm.daemon = True
         self.alarm.start()
@@ -109,9 +109,9 @@ class Service:
 
 
 @contextlib.contextmanager
-def serving(root: str, source: Sequence[object], *more: object) -> Iterator[Service]:
+def serving(root: str, source: Sequence[object], *more: object, before: Sequence[object] = ()) -> Iterator[Service]:
     """A run of `mountd serve` that is over with the block."""
-    service = Service(root, source, *more)
+    service = Service(root, source, *more, before=before)
     try:
         yield service
     finally:
