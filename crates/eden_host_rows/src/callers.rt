@@ -5,6 +5,7 @@ ghost use Rattle.eden_shared.specs.Lanes.{names_of};
 ghost use Rattle.eden_shared.specs.Opening.{AreTied};
 
 use crate::histories::{Note, add_notes, changes, check_notes, check_reopened, replay};
+use crate::late::end_late;
 use crate::mounts::{Held, Mounted, Size, Tree, fetch, open};
 use eden_history::Kept;
 use eden_model::{CallFault, Outside, StartFault};
@@ -16,7 +17,7 @@ use std::marker::Brand;
 use std::process::Abort;
 use std::sync::Wait;
 use std::test::Fail;
-use std::thread::{Threads, join, map_vec};
+use std::thread::{self, Threads, join, map_vec};
 
 /// A mount, how often each of its passes calls, and how many of the calls meet a full history.
 #[derive(Clone, Copy)]
@@ -195,6 +196,8 @@ const LOADS: [Load; 2] = [
 
 #[test]
 fn callers_keep_a_history_of_the_oracle(rt: HostRuntime) -> Result<(), Fail> {
+    let late = thread::spawn(&rt, move || end_late(&rt));
+    drop(late);
     let alloc = rt.alloc();
     let mut seed = 1;
     for load in LOADS {

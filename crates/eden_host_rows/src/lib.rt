@@ -12,6 +12,8 @@ mod held_back;
 #[cfg(test)]
 mod histories;
 #[cfg(test)]
+mod late;
+#[cfg(test)]
 mod lines;
 #[cfg(test)]
 mod mounts;

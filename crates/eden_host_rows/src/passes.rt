@@ -4,6 +4,7 @@ ghost use Rattle.std.specs.Prelude.{◌≡◌};
 ghost use Rattle.eden_shared.specs.Lanes.{names_of};
 ghost use Rattle.eden_shared.specs.Opening.{AreTied};
 
+use crate::late::end_late;
 use crate::mounts::{Held, Mounted, Size, Tree, fetch, open};
 use eden_history::Kept;
 use eden_model::{CallFault, Entry, Kind, Outside, Path, Reply, Request};
@@ -15,7 +16,7 @@ use std::marker::Brand;
 use std::process::Abort;
 use std::sync::Wait;
 use std::test::Fail;
-use std::thread::{Threads, join};
+use std::thread::{self, Threads, join};
 
 /// Two passes, which call one after the other.
 const TWO: Size = Size {
@@ -207,6 +208,8 @@ fn check(rt: &impl Abort, mounted: &Mounted) {
 
 #[test]
 fn a_change_is_seen_by_who_learnt_of_it(rt: HostRuntime) -> Result<(), Fail> {
+    let late = thread::spawn(&rt, move || end_late(&rt));
+    drop(late);
     let alloc = rt.alloc();
     let commit = Commit::two_files(alloc).expect(&rt, "a commit");
     let ties = Ties::new(alloc, 2)?;

@@ -1,9 +1,10 @@
-//! Two clients by sockets of this machine, and a server of objects by another, in one process.
+//! Two clients by sockets of this machine, and a server of objects with two connections by others, in one process.
 ghost use Rattle.std.specs.Prelude.{◌≡◌, length};
 ghost use Rattle.eden_shared.specs.Lanes.{names_of};
 ghost use Rattle.eden_shared.specs.Opening.{AreTied};
 ghost use Rattle.eden_shared.specs.Passes.{AreNewcomers};
 
+use crate::late::end_late;
 use crate::mounts::{Held, Mounted, Size, open, serve};
 use eden_host::{Port, Unloading};
 use eden_model::Outside;
@@ -23,6 +24,9 @@ use std::time::Duration;
 
 /// How many clients there are.
 const CLIENTS: u32 = 2;
+
+/// How many fetchers there are, each with a connection of its own once it fetches.
+const FETCHERS: u32 = 2;
 
 /// The requests of examples/first-run.txt.
 const ASKED: &[u8] = b"kind /\nread /test.txt 0 100\nlist / - 10\n";
@@ -119,7 +123,7 @@ fn address(rt: &impl Abort, listener: &TcpListener) -> SocketAddr {
     listener.local_addr().ok().expect(rt, "an address")
 }
 
-/// Serves two clients of a port, with one source, which asks another port.
+/// Serves two clients of a port, with two sources, which ask another port.
 fn serve_port<
     J: Naming + Send + Sync,
     R: Net<Stream = TcpStream, Listener = TcpListener> + Threads + Wait + Abort + Sync,
@@ -134,8 +138,10 @@ fn serve_port<
     requires { AreNewcomers passes.items (length J.names) }
 {
     let mut sources = Vec::new(alloc);
-    let source = SocketSource::new(alloc, rt, from.port(), Duration::from_secs(10));
-    sources.push(source).expect(rt, "memory");
+    for _ in 0..FETCHERS {
+        let source = SocketSource::new(alloc, rt, from.port(), Duration::from_secs(10));
+        sources.push(source).expect(rt, "memory");
+    }
     let port = Port::new(Bound { listener }, 0);
     serve(rt, alloc, port, shared, passes, sources, Unloading::usual())
 }
@@ -150,7 +156,7 @@ fn mount_and_serve<
 {
     let size = Size {
         passes: CLIENTS,
-        flights: 1,
+        flights: FETCHERS,
         history: 6,
         objects: 2,
     };
@@ -160,16 +166,24 @@ fn mount_and_serve<
 
 #[test]
 fn two_clients_by_sockets(rt: HostRuntime) {
+    let late = thread::spawn(&rt, move || end_late(&rt));
+    drop(late);
     let alloc = rt.alloc();
     let (objects, guests) = (listen(&rt, &rt), listen(&rt, &rt));
     let (from, to) = (address(&rt, &objects), address(&rt, &guests));
-    let server = thread::spawn(&rt, move || serve_objects(&rt, alloc, &objects));
+    let again = objects.try_clone().ok().expect(&rt, "a listener");
+    let worker = thread::spawn(&rt, move || serve_objects(&rt, alloc, &objects));
+    let other = thread::spawn(&rt, move || serve_objects(&rt, alloc, &again));
     let first = thread::spawn(&rt, move || ask(&rt, alloc, &rt, to));
     let second = thread::spawn(&rt, move || ask(&rt, alloc, &rt, to));
     let ties = Ties::new(alloc, CLIENTS).ok().expect(&rt, "memory");
     let mount = mount_and_serve::<Brand, HostRuntime>(&rt, alloc, ties, guests, from);
     assert!(rt; mount.history().len() == 6);
-    server.ok().expect(&rt, "a thread").join(&rt);
+    // A fetcher that had nothing to fetch has no connection, and its worker waits for one.
+    let idle = TcpStream::connect(&rt, from);
+    drop(idle);
+    worker.ok().expect(&rt, "a thread").join(&rt);
+    other.ok().expect(&rt, "a thread").join(&rt);
     first.ok().expect(&rt, "a thread").join(&rt);
     second.ok().expect(&rt, "a thread").join(&rt);
 }
