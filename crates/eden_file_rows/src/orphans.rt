@@ -135,13 +135,13 @@ const LEFT: &[(&str, Made)] = &[
     ("4.new", Made::Link("5")),
 ];
 
-// How many names a folder has.
-fn count_names(rt: &HostRuntime, folder: &PathBuf) -> usize {
+// How many names a folder has, if it can be listed.
+fn count_names(rt: &HostRuntime, folder: &PathBuf) -> Option<usize> {
     let mut count: usize = 0;
-    for _ in fs::read_dir(rt, folder.as_path()).expect(rt, "a folder") {
+    for _ in fs::read_dir(rt, folder.as_path()).ok()? {
         count = count.saturating_add(1);
     }
-    count
+    Some(count)
 }
 
 #[test]
@@ -150,7 +150,7 @@ fn what_was_being_stored_is_removed(rt: HostRuntime) {
     let mut files = FolderFiles::new(&rt, folder.clone().expect(&rt, "memory"));
     assert!(rt; files.remove_unfinished(rt.alloc()) == Ok(Removed { files: 2, bytes: 3 }));
     assert!(rt; files.remove_unfinished(rt.alloc()) == Ok(Removed { files: 0, bytes: 0 }));
-    assert!(rt; count_names(&rt, &folder) == LEFT.len() - 2);
+    assert!(rt; count_names(&rt, &folder) == Some(LEFT.len() - 2));
     fs::remove_dir_all(&rt, folder.as_path()).expect(&rt, "a folder");
 }
 
@@ -173,6 +173,6 @@ fn a_failing_removal_is_told_and_counted(rt: HostRuntime) {
     for call in [Call::List, Call::Look, Call::Remove] {
         assert!(rt; is_told(&rt, folder.clone().expect(&rt, "memory"), call));
     }
-    assert!(rt; count_names(&rt, &folder) == LEFT.len());
+    assert!(rt; count_names(&rt, &folder) == Some(LEFT.len()));
     fs::remove_dir_all(&rt, folder.as_path()).expect(&rt, "a folder");
 }
