@@ -1,5 +1,5 @@
 use Rattle.eden_shared.specs.Lanes.{names_of}
-use Rattle.eden_host_rows.proofs.held_back.a_fetch_holds_up_no_other_request.Given as goal
+use Rattle.eden_host_rows.proofs.held_back.a_fetch_holds_up_no_other_client.Given as goal
 
 -- the ties that were just made
 abbrev pub ghosts-race : goal.ghosts-race
