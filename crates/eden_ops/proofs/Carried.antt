@@ -31,8 +31,7 @@ use Rattle.eden_tie.specs.Ties.{IsAway, Tied}
 use Rattle.eden_tie.specs.Unloading.{Unloads, none, one_more, HasNoneInside}
 use Rattle.eden_tie.proofs.CallerLemmas.{place_at, at_changed, away_row, by_origin, left_elsewhere, loads_alike, loaded_found, loaded_there, moved_elsewhere, none_marked_with}
 use Rattle.eden_tie.proofs.CallerLemmas.{other_from, own_from, own_loaded_kept, put_table, replaced_other, unloads_alike, unloads_kept, unloads_table}
-use Rattle.eden_tie.proofs.CallerLemmas.{IsLeaf, back_kept, back_marked, went_kept, went_cleared}
-use Rattle.eden_tie.proofs.Follows.{held_moved}
+use Rattle.eden_tie.proofs.CallerLemmas.{IsLeaf, back_kept, back_marked, held_moved, went_kept, went_cleared}
 use Rattle.eden_materialise.specs.EntryMoves.{own_number, Clears, nothing, removed, failed, IsMoved, IsUnmoved}
 use Rattle.eden_ops.specs.Carrying.{CanCarry, CanHold, IsBareAt, IsReady, Takes, without_at}
 use Rattle.eden_ops.specs.Changes.{SameNames, StaysOrBecomesOwn, numbered_at}

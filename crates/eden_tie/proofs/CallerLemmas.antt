@@ -3,7 +3,7 @@ pub use Rattle.eden_tie.proofs.Rows.{contains_mapped, mapped_from, full_rising, 
 pub use Rattle.eden_tie.proofs.Edits.{find_set, find_other, map_set}
 -- places in loaded directories
 pub use Rattle.eden_tie.proofs.Places.{rising_of, one_loaded, one_row, away_row}
-pub use Rattle.eden_tie.proofs.Follows.{below_top, place_cases}
+pub use Rattle.eden_tie.proofs.Follows.{below_top, place_cases, held_moved}
 pub use Rattle.eden_tie.proofs.Chain.{place_at, at_changed, origin_kept, root_loaded}
 pub use Rattle.eden_tie.proofs.Loops.{loaded_above, place_on}
 pub use Rattle.eden_tie.proofs.Forward.{number_kept, kind_stays}
