@@ -38,6 +38,7 @@ use Rattle.eden_ops.specs.Changes.{SameNames, StaysOrBecomesOwn, numbered_at}
 use Rattle.eden_ops.specs.Laws.{Grows}
 use Rattle.eden_ops.specs.Letting.{LetsGo}
 use Rattle.eden_ops.specs.Relocating.{GoesAlong, MarksAlone, StaysBeside}
+use Rattle.eden_ops.specs.Stamps.{stamp_at, NoneStamped, StampsGoAlong}
 use Rattle.eden_ops.proofs.Bare.{bare, bare_at, without_stamp}
 use Rattle.eden_ops.proofs.Going.{lets_go, goes_marks, kept_elsewhere, loaded_elsewhere}
 use Rattle.eden_ops.proofs.Growing.{grows_edit}
@@ -45,6 +46,8 @@ use Rattle.eden_ops.proofs.Names.{face, face_at, names_alike, fewer_alike}
 use Rattle.eden_ops.proofs.Relocation.{can_move, marked_face, not_front, unmoved_marks}
 use Rattle.eden_ops.proofs.Roots.{comes_on, root_grows, root_left, root_moved, root_unmoved}
 use Rattle.eden_ops.proofs.Saving.{grows_loads}
+use Rattle.eden_ops.proofs.Stamped.{left_stamps}
+use Rattle.eden_ops.proofs.Stamps.{stamp_in, stamp_with}
 
 -- the number and the kind of an entry
 abbrev numbered : Row → ℕ × Kind
@@ -393,6 +396,11 @@ module _ (honest : Type 0) (R : Repository) (F : Stored) (next : ℕ) (x : Row) 
   left_of : LetsGo from x z
   left_of = subst (λ (a : Row). LetsGo from x a) (sym is) (lets_take from x k.ready)
 
+  -- with its stamp
+  stamp_taken : (s : ℕ) → d.stamp ≡ s → stamp_at from x ≡ Some s
+  stamp_taken s is_s =
+      ap stamp_in k.ready.at ∙ ap (option_map (λ (e : Directory). e.stamp)) k.ready.holds ∙ ap (λ (e : Directory). Some e.stamp) (sym k.is) ∙ ap (λ (i : ℕ). Some i) is_s
+
   -- it went
   module _ (old : ℕ) (G : Stored) (u : Row) (new : ℕ) (to : Path) (h : CanHold honest R G next to u d) where
     abbrev v : Row
@@ -408,6 +416,12 @@ module _ (honest : Type 0) (R : Repository) (F : Stored) (next : ℕ) (x : Row) 
           held_entries honest R G next to u d h n ∙ ap (λ (e : Directory). option_map numbered (find_row n e.rows)) k.is
           ∙ sym (entries_at from x k.ready.row k.ready.directory k.ready.at k.ready.holds n);
     }
+
+    pub went_stamps : NoneStamped z u → StampsGoAlong from to x v
+    went_stamps still r s is_s = elim (stamp_with to u h.row d h.at (λ m w found. inr (h.none_inside m w found)) s r is_s) [
+      | inl here ↦ inr (here.0, stamp_taken s here.1)
+      | inr was ↦ inl (left_stamps from x z left_of r s (still r s was))
+    ]
 
     pub went_marks : NoneMarked z u → NoneMarked x v
     went_marks marks r unsaved = goes_marks from x z left_of r (marks r (held_marks honest R G next to u d h r unsaved))
@@ -449,6 +463,12 @@ module _ (honest : Type 0) (R : Repository) (F : Stored) (next : ℕ) (x : Row) 
 
     pub back_stays : StaysLoaded x back
     back_stays = fewer_alike back x (λ r. sym (back_alike r))
+
+    pub back_stamps : NoneStamped z u → NoneStamped x back
+    back_stamps still r s is_s = elim (stamp_with from u h.row d h.at (λ m w found. inr (h.none_inside m w found)) s r is_s) [
+      | inl here ↦ subst (λ (a : Path). stamp_at a x ≡ Some s) (sym here.0) (stamp_taken s here.1)
+      | inr was ↦ left_stamps from x z left_of r s (still r s was)
+    ]
 
     pub back_marks : MarksAlone from x back
     back_marks r unsaved =

@@ -1,5 +1,5 @@
 -- A directory that is made ready to go along with its entry: what stays meanwhile.
-use Rattle.std.proofs.Common.{◌≡◌, [], ◌∷◌, ◌++◌, Option, Some, None, Result, Ok, Err, IfErr, OnOk, OnErr, refl, sym, ap, ◌∙◌, subst, inl, inr, append_assoc}
+use Rattle.std.proofs.Common.{◌≡◌, [], ◌∷◌, ◌++◌, Option, Some, None, Result, Ok, Err, IfErr, OnOk, refl, sym, ap, ◌∙◌, subst, inl, inr, append_assoc}
 use Rattle.std.proofs.lemmas.Option.{none-some}
 use Rattle.eden_model.specs.declared.fault.Fault.{Fault}
 use Rattle.eden_model.specs.declared.world.World.{Ghosts}
@@ -9,8 +9,6 @@ use Rattle.eden_model.proofs.CallerLemmas.{behind_sound, behind_back}
 use Rattle.eden_overlay.specs.declared.files.Files.{Ghosts as Files}
 use Rattle.eden_tree.specs.Directory.{Row}
 use Rattle.eden_tie.specs.Chains.{IsLoadedAt, NoneMarked, StaysLoaded}
-use Rattle.eden_tie.specs.Laws.{owned}
-use Rattle.eden_tie.specs.Materialising.{owned_along}
 use Rattle.eden_inode.specs.Tables.{Table, shows}
 use Rattle.eden_materialise.specs.Faults.{IsStoreFault}
 use Rattle.eden_ops.specs.Carrying.{StaysToThere}
@@ -18,9 +16,9 @@ use Rattle.eden_ops.specs.Letting.{LetsGo}
 use Rattle.eden_ops.specs.Relocating.{Readies}
 use Rattle.eden_ops.proofs.Going.{goes_fewer, loaded_elsewhere}
 use Rattle.eden_ops.proofs.Names.{names_same, fewer_same}
-use Rattle.eden_ops.proofs.Owned.{own_names, own_fewer}
 use Rattle.eden_ops.proofs.Relocation.{not_whole}
-use Rattle.eden_ops.proofs.Roots.{root_left, root_owned, root_same}
+use Rattle.eden_ops.proofs.Roots.{root_left, root_same}
+use Rattle.eden_ops.proofs.Stamped.{left_stamps, stamps_same}
 
 -- ---- what is loaded
 
@@ -58,6 +56,7 @@ module _ {W F : Type 0} (w : Ghosts W) (f : Files F W) (s : Table F) where
     shown = λ h. refl;
     names = names_same s.root s.root refl;
     fewer = fewer_same s.root s.root refl;
+    stamps = stamps_same s.root s.root refl;
     marks = λ q unsaved. unsaved;
     root = root_same s.root s.root refl;
     fault = fault;
@@ -78,22 +77,9 @@ module _ {W F : Type 0} (w : Ghosts W) (f : Files F W) (s : Table F) where
       shown = shown;
       names = g.names;
       fewer = goes_fewer p s.root t.root g;
+      stamps = left_stamps p s.root t.root g;
       marks = marks;
       root = root_left p s.root t.root g;
-      fault = fault;
-      counted = counted;
-      next = rest.0;
-      clock = rest.1;
-    }
-
-    -- .. or became the mount's own
-    pub readies_owned : (p : Path) → OnOk a (t.root ≡ owned (owned_along p s.root)) → OnErr a (t.root ≡ s.root) → Readies w f s t a
-    readies_owned p ok err = record {
-      shown = shown;
-      names = own_names a p s.root t.root ok err;
-      fewer = own_fewer a p s.root t.root ok err;
-      marks = marks;
-      root = root_owned a s.root (owned_along p s.root) t.root ok err;
       fault = fault;
       counted = counted;
       next = rest.0;

@@ -34,6 +34,7 @@ use Rattle.eden_ops.proofs.Names.{names_same, fewer_same, names_on, face, face_a
 use Rattle.eden_ops.proofs.Owned.{behind_itself}
 use Rattle.eden_ops.proofs.Roots.{comes_on}
 use Rattle.eden_ops.proofs.Saving.{fault_count}
+use Rattle.eden_ops.proofs.Stamped.{stamps_on}
 use Rattle.eden_ops.proofs.Walking.{front_loaded}
 
 -- ---- one step after another
@@ -44,6 +45,7 @@ module _ {W F : Type 0} (w : Ghosts W) (f : Files F W) where
     shown = λ h. two.shown h ∙ one.shown h;
     names = names_on s.root t.root u.root (λ p was now. two.fewer p now) one.names two.names;
     fewer = λ p now. one.fewer p (two.fewer p now);
+    stamps = stamps_on s.root t.root u.root one.stamps two.stamps;
     marks = λ q unsaved. one.marks q (two.marks q unsaved);
     root = comes_on s.root.origin t.root.origin u.root.origin one.root two.root;
     fault = subst (λ (k : ℕ). IfErr a (IsStoreFault k (f.failures u.files))) one.counted two.fault;
@@ -75,6 +77,7 @@ module _ {W F : Type 0} (w : Ghosts W) (f : Files F W) (from to : Path) (s t : T
     fault = r.fault;
     counted = fault_count (f.failures s.files) (f.failures t.files) e r.fault;
     loaded = beside;
+    stamps = λ q k is. inl (r.stamps q k is);
     moved = λ loaded. tt;
     stays = there;
     marks = tt;
@@ -95,6 +98,7 @@ module _ {W F : Type 0} (w : Ghosts W) (f : Files F W) (from to : Path) (s t : T
     fault = subst (λ (k : ℕ). IfErr a (IsStoreFault k (f.failures u.files))) r.counted x.fault;
     counted = subst (λ (k : ℕ). k ≤ f.failures u.files) r.counted x.counted;
     loaded = λ p off other loaded. x.loaded p off other (beside p off other loaded);
+    stamps = λ q k is. elim (x.stamps q k is) [ inl was ↦ inl (r.stamps q k was) | inr moved ↦ inr (moved.0, r.stamps from k moved.1) ];
     moved = λ loaded. on_ok_weaker a (λ g. along g loaded) (x.moved (there loaded));
     stays = λ loaded. x.stays (there loaded);
     marks = on_ok_weaker a (λ marks q unsaved. r.marks q (marks q unsaved)) x.marks;

@@ -18,6 +18,7 @@ use Rattle.eden_inode.specs.Tables.{Table}
 use Rattle.eden_ops.specs.Changes.{IsOutside, SameNames, LeavesOn}
 use Rattle.eden_ops.specs.Keeping.{Keeps}
 use Rattle.eden_ops.specs.Relocating.{GoesAlong, StandsIn}
+use Rattle.eden_ops.specs.Stamps.{StampsTowards, IsWalked, AreWalked}
 
 -- the paths on which a request that ends so lets loaded directories be: a rename not those below the entry that it moves, nor
 -- those at and below the path to which that goes, nor, once it is Ok, the one that it moves
@@ -50,6 +51,18 @@ MayMark _ a p = ⊥
 -- was, as where both paths are one
 abbrev pub StaysMoved : Request → Attempt → Row → Row → Type 0
 StaysMoved q a x z = (from to : Path) → q ≡ ask.Rename from to → a ≡ Finished say.Ok → IsLoadedAt from x → IsLoadedAt from z ⊎ GoesAlong from to x z
+
+-- the first of these paths was walked
+abbrev pub IsFirstWalked : List Path → ℕ → Row → Type 0
+IsFirstWalked [] clock x = Unit {0}
+IsFirstWalked (p ∷ ps) clock x = IsWalked p clock x
+
+-- What an attempt stamps, whatever it answers: directories that lead to its request's paths, and no others. Each loaded directory
+-- on the first path has the clock then, unless an error refused the request; and on each path once it is done.
+pub record StampsItsWalk (q : Request) (clock : ℕ) (x z : Row) (a : Attempt) : Type 0 where
+  pub alone : StampsTowards (paths_of q) clock x z
+  pub first : IsNoError a → IsFirstWalked (paths_of q) clock z
+  pub done : a ≡ Finished say.Ok → AreWalked (paths_of q) clock z
 
 -- no directory above one of the paths is unsaved
 abbrev pub AreSavedAbove : List Path → Row → Type 0

@@ -14,6 +14,7 @@ use Rattle.eden_tie.specs.Materialising.{owned_along}
 use Rattle.eden_inode.specs.Tables.{Table, shows}
 use Rattle.eden_materialise.specs.Faults.{IsStoreFault}
 use Rattle.eden_ops.specs.Changes.{StaysOrBecomesOwn, SameNames, numbered_at}
+use Rattle.eden_ops.specs.Stamps.{NoneStamped, StampsGoAlong}
 
 -- The entry at the one path is there, and the directory above the other is loaded; neither path is a front of the other.
 pub record CanRelocate (x : Row) (from to : Path) : Type 0 where
@@ -49,12 +50,13 @@ abbrev pub both_owned : Path → Path → Row → Row
 both_owned p q x = owned (owned_along q (owned (owned_along p x)))
 
 module _ {W F : Type 0} (w : Ghosts W) (f : Files F W) where
-  -- A step before a change: what is shown is as before, what is loaded was so, with the same names, and what is unsaved
-  -- was so. Where it is done, the device did not fail.
+  -- A step before a change: what is shown is as before, what is loaded was so, with the same names and stamps, and what is
+  -- unsaved was so. Where it is done, the device did not fail.
   pub record Readies (s t : Table F) (answer : Result (Unit {0}) Fault) : Type 0 where
     pub shown : w.honest → shows w f t ≡ shows w f s
     pub names : SameNames s.root t.root
     pub fewer : StaysLoaded t.root s.root
+    pub stamps : NoneStamped s.root t.root
     pub marks : NoneMarked s.root t.root
     pub root : StaysOrBecomesOwn s.root.origin t.root.origin
     pub fault : IfErr answer (IsStoreFault (f.failures s.files) (f.failures t.files))
@@ -72,6 +74,7 @@ module _ {W F : Type 0} (w : Ghosts W) (f : Files F W) where
     pub fault : IfErr answer (IsStoreFault (f.failures s.files) (f.failures t.files))
     pub counted : f.failures s.files ≤ f.failures t.files
     pub loaded : StaysBeside from to s.root t.root
+    pub stamps : StampsGoAlong from to s.root t.root
     pub moved : IsLoadedAt from s.root → OnOk answer (GoesAlong from to s.root t.root)
     pub stays : IsLoadedAt from s.root → OnErr answer (IsLoadedAt from t.root)
     pub marks : OnOk answer (NoneMarked s.root t.root)

@@ -1,15 +1,11 @@
 -- The stamps of loaded directories: the clock of the attempt that walked through them last.
 use Rattle.std.specs.Prelude.{◌≡◌, ◌⊎◌, ℕ, true, List, [], ◌∷◌, Option, Some}
 use Rattle.std.specs.Option.{option_map, option_and_then}
-use Rattle.eden_model.specs.declared.attempt.Attempt.{Attempt}
-use Rattle.eden_model.specs.declared.request.Request.{Request}
 use Rattle.eden_model.specs.Operations.{is_front}
-use Rattle.eden_model.specs.Requests.{paths_of}
 use Rattle.eden_model.specs.Trees.{Path}
 use Rattle.eden_tree.specs.Directory.{Row, Directory, child_of}
 use Rattle.eden_tree.specs.Paths.{row_at}
 use Rattle.eden_ops.specs.Keeping.{LeadsTo}
-use Rattle.eden_ops.specs.Leaving.{IsNoError}
 
 -- the stamp of the directory that is loaded at a path
 abbrev pub stamp_at : Path → Row → Option ℕ
@@ -32,8 +28,6 @@ AreWalked (p ∷ ps) clock x = IsWalked p clock x × AreWalked ps clock x
 abbrev pub NoneStamped : Row → Row → Type 0
 NoneStamped x z = (p : Path) (stamp : ℕ) → stamp_at p z ≡ Some stamp → stamp_at p x ≡ Some stamp
 
--- What an attempt stamps, whatever it answers: directories that lead to its request's paths, and no others. If it isn't refused by
--- an error it has walked to them, and each of these directories that is loaded then has the clock.
-pub record StampsItsWalk (q : Request) (clock : ℕ) (x z : Row) (a : Attempt) : Type 0 where
-  pub alone : StampsTowards (paths_of q) clock x z
-  pub walked : IsNoError a → AreWalked (paths_of q) clock z
+-- each loaded directory has the stamp that it had; the one that stands at a path since it came from another has the one it had there
+abbrev pub StampsGoAlong : Path → Path → Row → Row → Type 0
+StampsGoAlong from to x z = (p : Path) (stamp : ℕ) → stamp_at p z ≡ Some stamp → (stamp_at p x ≡ Some stamp) ⊎ ((p ≡ to) × (stamp_at from x ≡ Some stamp))

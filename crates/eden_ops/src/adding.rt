@@ -4,9 +4,8 @@ ghost use Rattle.eden_model.specs.declared.request.Request as request;
 ghost use Rattle.eden_model.specs.declared.request.Request.TheVariants as ask;
 ghost use Rattle.eden_ops.specs.Attempts.{Attempts};
 ghost use Rattle.eden_ops.specs.Changes.{IsAdding};
-ghost use Rattle.eden_ops.specs.Leaving.{LeavesAfter};
+ghost use Rattle.eden_ops.specs.Leaving.{LeavesAfter, StampsItsWalk};
 ghost use Rattle.eden_ops.specs.Looks.{IsBeyondLimits};
-ghost use Rattle.eden_ops.specs.Stamps.{StampsItsWalk};
 
 use crate::end::ended;
 use crate::laws::keeps_laws;

@@ -4,9 +4,9 @@ ghost use Rattle.eden_model.specs.Requests.{paths_of};
 ghost use Rattle.eden_ops.specs.Already.{IsSoAlready};
 ghost use Rattle.eden_ops.specs.Attempts.{Attempts};
 ghost use Rattle.eden_ops.specs.Keeping.{Keeps};
-ghost use Rattle.eden_ops.specs.Leaving.{LeavesAfter};
+ghost use Rattle.eden_ops.specs.Leaving.{LeavesAfter, StampsItsWalk};
 ghost use Rattle.eden_ops.specs.Looks.{IsLook, IsChange, IsBeyondLimits};
-ghost use Rattle.eden_ops.specs.Stamps.{AreWalked, StampsItsWalk};
+ghost use Rattle.eden_ops.specs.Stamps.{AreWalked};
 
 use crate::adding::{create, mkdir, symlink};
 use crate::emptied::rmdir;
@@ -67,7 +67,7 @@ pub fn attempt<A: Allocator + Clone, W: World, F: Files<W>, C: Allocator + Clone
 ) -> Attempt
     ensures attempts { Attempts W.World F.Files request.now inodes.old inodes.new cache.old cache.new result }
     ensures leaves { LeavesAfter W.World F.Files request.now inodes.old inodes.new result }
-    ensures stamps { IsChange request.now
+    ensures stamps { ¬ IsLook request.now
         → StampsItsWalk request.now inodes.old.clock inodes.old.root inodes.new.root result }
     ensures already { IsSoAlready W.World F.Files request.now inodes.old
         → Keeps W.World F.Files (paths_of request.now) inodes.old inodes.new }

@@ -6,9 +6,8 @@ ghost use Rattle.eden_model.specs.Trees.{Here, reach};
 ghost use Rattle.eden_inode.specs.Tables.{shows};
 ghost use Rattle.eden_ops.specs.Attempts.{Attempts};
 ghost use Rattle.eden_ops.specs.Known.{IsLoadedAt};
-ghost use Rattle.eden_ops.specs.Leaving.{LeavesAfter};
+ghost use Rattle.eden_ops.specs.Leaving.{LeavesAfter, StampsItsWalk};
 ghost use Rattle.eden_ops.specs.Listings.{HasNoEntries, HasEntries};
-ghost use Rattle.eden_ops.specs.Stamps.{StampsItsWalk};
 
 use crate::end::ended;
 use crate::letting::let_go;

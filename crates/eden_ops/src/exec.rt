@@ -6,8 +6,7 @@ ghost use Rattle.eden_ops.specs.Already.{IsSoAlready};
 ghost use Rattle.eden_ops.specs.Attempts.{Attempts};
 ghost use Rattle.eden_ops.specs.Changes.{exec_kind};
 ghost use Rattle.eden_ops.specs.Keeping.{Keeps};
-ghost use Rattle.eden_ops.specs.Leaving.{LeavesAfter};
-ghost use Rattle.eden_ops.specs.Stamps.{StampsItsWalk};
+ghost use Rattle.eden_ops.specs.Leaving.{LeavesAfter, StampsItsWalk};
 
 use crate::end::ended;
 use crate::file::meet_file;

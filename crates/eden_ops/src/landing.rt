@@ -4,6 +4,7 @@ ghost use Rattle.eden_inode.specs.Tables.{shows};
 ghost use Rattle.eden_cache.specs.Stock.{FindsTheSame};
 ghost use Rattle.eden_ops.specs.Keeping.{Keeps};
 ghost use Rattle.eden_ops.specs.Renames.{Lands, LandsShown};
+ghost use Rattle.eden_ops.specs.Stamps.{IsWalked};
 
 use crate::answer::Stop;
 use crate::emptied::is_empty;
@@ -32,6 +33,7 @@ pub(crate) fn land<A: Allocator + Clone, W: World, F: Files<W>, C: Allocator + C
     ensures same { W.honest → shows W.World F.Files inodes.new ≡ shows W.World F.Files inodes.old }
     ensures keeps { Keeps W.World F.Files (path.now ∷ []) inodes.old inodes.new }
     ensures cache { FindsTheSame cache.old cache.new }
+    ensures walked { IsWalked path.now inodes.new.clock inodes.new.root }
 {
     let seen = match meet(inodes, cache, alloc, path) {
         Err(stop) => return Err(stop),

@@ -89,6 +89,7 @@ fn move_bare<A: Allocator + Clone, W: World, F: Files<W>>(
     let Some((new_name, new_above)) = to.split_last() else {
         unreachable!()
     };
+    inodes.holds();
     match move_entry(inodes, alloc, above, name, new_above, new_name) {
         Ok(()) => Ok(()),
         Err(fault) => Err(fault),

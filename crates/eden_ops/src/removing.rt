@@ -1,8 +1,7 @@
 //! Entries that are removed.
 ghost use Rattle.eden_model.specs.declared.request.Request.TheVariants as ask;
 ghost use Rattle.eden_ops.specs.Attempts.{Attempts};
-ghost use Rattle.eden_ops.specs.Leaving.{LeavesAfter};
-ghost use Rattle.eden_ops.specs.Stamps.{StampsItsWalk};
+ghost use Rattle.eden_ops.specs.Leaving.{LeavesAfter, StampsItsWalk};
 
 use crate::end::ended;
 use crate::laws::keeps_laws;

@@ -1,9 +1,10 @@
 //! Entries that are renamed.
-ghost use Rattle.std.specs.Prelude.{◌≡◌};
+ghost use Rattle.std.specs.Prelude.{◌≡◌, IfSome};
+ghost use Rattle.eden_model.specs.declared.reply.Reply.TheVariants as say;
 ghost use Rattle.eden_model.specs.declared.request.Request.TheVariants as ask;
 ghost use Rattle.eden_model.specs.Operations.{is_front};
 ghost use Rattle.eden_ops.specs.Attempts.{Attempts};
-ghost use Rattle.eden_ops.specs.Leaving.{LeavesAfter};
+ghost use Rattle.eden_ops.specs.Leaving.{LeavesAfter, StampsItsWalk};
 ghost use Rattle.eden_ops.specs.Renames.{IsTold, IsByPaths};
 
 use crate::end::ended;
@@ -47,7 +48,8 @@ fn is_dir(seen: Seen) -> bool
 
 /// The reply that the two paths alone decide, for a directory, or else a file or a link, at the first.
 fn by_paths(from: &Path, to: &Path, dir: bool) -> Option<Reply>
-    ensures { IsByPaths from.now to.now dir result }
+    ensures told { IsByPaths from.now to.now dir result }
+    ensures one { IfSome result (λ reply. reply ≡ say.Ok → from.now ≡ to.now) }
 {
     if from.as_slice() == to.as_slice() {
         return Some(Reply::Ok);
@@ -78,6 +80,8 @@ pub fn rename<A: Allocator + Clone, W: World, F: Files<W>, C: Allocator + Clone>
     ensures attempts { Attempts W.World F.Files
         (ask.Rename from.now to.now) inodes.old inodes.new cache.old cache.new result }
     ensures leaves { LeavesAfter W.World F.Files (ask.Rename from.now to.now) inodes.old inodes.new result }
+    ensures stamps { StampsItsWalk (ask.Rename from.now to.now)
+        inodes.old.clock inodes.old.root inodes.new.root result }
 {
     if from.is_root() || to.is_root() {
         return Attempt::Finished(Reply::Err(Errno::EBUSY));

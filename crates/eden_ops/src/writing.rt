@@ -2,9 +2,8 @@
 ghost use Rattle.std.specs.Prelude.{◌≡◌};
 ghost use Rattle.eden_model.specs.declared.request.Request.TheVariants as ask;
 ghost use Rattle.eden_ops.specs.Attempts.{Attempts};
-ghost use Rattle.eden_ops.specs.Leaving.{LeavesAfter};
+ghost use Rattle.eden_ops.specs.Leaving.{LeavesAfter, StampsItsWalk};
 ghost use Rattle.eden_ops.specs.Looks.{IsBeyondLimits};
-ghost use Rattle.eden_ops.specs.Stamps.{StampsItsWalk};
 
 use crate::contents::{Form, make};
 use crate::end::ended;

@@ -1,4 +1,4 @@
-use Rattle.std.proofs.Common.{◌≤◌, ℕ, sym, ap, ◌∙◌, subst, inr}
+use Rattle.std.proofs.Common.{◌≤◌, ℕ, sym, ap, ◌∙◌, subst, inl, inr}
 use Rattle.eden_tree.specs.Directory.{Row}
 use Rattle.eden_tie.specs.Chains.{NoneMarked, StaysLoaded}
 use Rattle.eden_tie.specs.Kept.{IsKept}
@@ -8,10 +8,12 @@ use Rattle.eden_materialise.specs.Faults.{IsStoreFault}
 use Rattle.eden_ops.specs.Carrying.{CanHold}
 use Rattle.eden_ops.specs.Changes.{SameNames, StaysOrBecomesOwn}
 use Rattle.eden_ops.specs.Relocating.{GoesAlong, MarksAlone, StaysBeside}
-use Rattle.eden_ops.proofs.Carried.{IsTaken, can_bring, ready_of, hold_there, hold_here, went_stays, went_along, went_marks, went_root}
-use Rattle.eden_ops.proofs.Carried.{back_names, back_fewer, back_stays, back_marks, back_root}
+use Rattle.eden_ops.specs.Stamps.{NoneStamped, StampsGoAlong}
+use Rattle.eden_ops.proofs.Carried.{IsTaken, can_bring, ready_of, hold_there, hold_here, went_stays, went_along, went_marks, went_root, went_stamps}
+use Rattle.eden_ops.proofs.Carried.{back_names, back_fewer, back_stays, back_marks, back_root, back_stamps}
 use Rattle.eden_ops.proofs.Relocation.{moves_shown}
 use Rattle.eden_ops.proofs.Saving.{fault_count}
+use Rattle.eden_ops.proofs.Stamped.{moved_stamps, unmoved_stamps}
 use Rattle.eden_ops.proofs.carrying.move_dir.Goals as goal
 
 pub take-child-requires : goal.take-child-requires
@@ -118,6 +120,9 @@ returns-in-Ok g c =
       counted = subst (λ (k : ℕ). k ≤ fails v.files) (ap fails c.take-child.ensures.files)
           (subst (λ (k : ℕ). fails y.files ≤ k) (sym (ap fails c.put_back.ensures.files)) c.in-Ok.ensures.counted);
       loaded = subst (λ (z : Row). StaysBeside from to x.root z) is (went_stays honest R F x.next x.root from d taken p n q m split y.root out old G u.root new to can c.in-Ok.ensures.loaded);
+      stamps = subst (λ (z : Row). StampsGoAlong from to x.root z) is
+          (went_stamps honest R F x.next x.root from d taken p n q m split y.root out old G u.root new to can
+          (moved_stamps y.root p n q m honest F old G u.root new y.next c.holds-2.ensures.table c.in-Ok.ensures.ok));
       moved = λ loaded. subst (λ (z : Row). GoesAlong from to x.root z) is (went_along honest R F x.next x.root from d taken p n q m split y.root out old G u.root new to can);
       stays = λ loaded. tt;
       marks = marks;
@@ -168,6 +173,8 @@ returns-in-Err g c =
       fault = fault;
       counted = fault_count (fails x.files) (fails v.files) e fault;
       loaded = λ a off other loaded. stays a loaded;
+      stamps = λ r s at. inl (subst (λ (z : Row). NoneStamped x.root z) is
+          (back_stamps honest R F x.next x.root from d taken p n q m split y.root out G u.root c.in-Err.ensures.err can (unmoved_stamps y.root p n q m honest F G u.root c.in-Err.ensures.err)) r s at);
       moved = λ loaded. tt;
       stays = λ loaded. stays from loaded;
       marks = tt;

@@ -9,6 +9,7 @@ use Rattle.eden_ops.specs.Renames.{MayLand}
 use Rattle.eden_ops.proofs.Looking.{no_dir}
 use Rattle.eden_ops.proofs.Reached.{seen_at, shown_at, met_passes}
 use Rattle.eden_ops.proofs.Renames.{land_ended, land_fails, land_over_file, file_refuses, land_over_none, land_over_some, land_lacks, loaded_passes}
+use Rattle.eden_ops.proofs.Stamps.{walked_on}
 use Rattle.eden_ops.proofs.Steps.{keeps_on}
 use Rattle.eden_ops.proofs.landing.land.Goals as goal
 
@@ -36,6 +37,7 @@ returns-in-File g c =
       same = e.same;
       keeps = e.keeps;
       cache = e.cache;
+      walked = e.walked;
     }
 
 pub returns-then-dir : goal.returns-then-dir
@@ -56,6 +58,7 @@ returns-then-dir g c =
       same = e.same;
       keeps = e.keeps;
       cache = e.cache;
+      walked = e.walked;
     }
 
 pub returns-in-Err-bring_seen-clause-lands : goal.returns-in-Err-bring_seen-clause-lands
@@ -103,3 +106,15 @@ returns-clause-same g c h = c.bring_seen.ensures.same h ∙ c.in-Ok-Some.ensures
 
 pub returns-clause-keeps : goal.returns-clause-keeps
 returns-clause-keeps g c = keeps_on g.W.World g.F.Files c.args.inodes.now c.meet.new.inodes c.bring_seen.new.inodes c.in-Ok-Some.ensures.keeps c.bring_seen.ensures.keeps
+
+pub returns-in-Err-bring_seen-clause-walked : goal.returns-in-Err-bring_seen-clause-walked
+returns-in-Err-bring_seen-clause-walked g c =
+    walked_on g.W.World g.F.Files c.args.path.now c.meet.new.inodes c.bring_seen.new.inodes c.in-Ok-Some.ensures.walked c.bring_seen.ensures.keeps
+
+pub returns-then-is_empty-clause-walked : goal.returns-then-is_empty-clause-walked
+returns-then-is_empty-clause-walked g c =
+    walked_on g.W.World g.F.Files c.args.path.now c.meet.new.inodes c.bring_seen.new.inodes c.in-Ok-Some.ensures.walked c.bring_seen.ensures.keeps
+
+pub returns-clause-walked : goal.returns-clause-walked
+returns-clause-walked g c =
+    walked_on g.W.World g.F.Files c.args.path.now c.meet.new.inodes c.bring_seen.new.inodes c.in-Ok-Some.ensures.walked c.bring_seen.ensures.keeps

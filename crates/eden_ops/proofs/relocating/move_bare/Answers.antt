@@ -1,10 +1,11 @@
-use Rattle.std.proofs.Common.{refl, sym, subst, inr}
+use Rattle.std.proofs.Common.{refl, sym, subst, inl, inr}
 use Rattle.eden_model.specs.Trees.{Path}
 use Rattle.eden_inode.specs.Tables.{shows}
 use Rattle.eden_ops.specs.Relocating.{MarksAlone}
 use Rattle.eden_ops.proofs.Relocation.{bare_apart, can_move_bare, moves_shown, unmoved_fewer, unmoved_marks, unmoved_names}
 use Rattle.eden_ops.proofs.Roots.{root_moved, root_unmoved}
 use Rattle.eden_ops.proofs.Saving.{fault_count}
+use Rattle.eden_ops.proofs.Stamped.{moved_stamps, unmoved_stamps}
 use Rattle.eden_ops.proofs.relocating.move_bare.Goals as goal
 
 pub move_entry-requires : goal.move_entry-requires
@@ -27,6 +28,8 @@ returns-in-Ok g c =
       fault = tt;
       counted = e.counted;
       loaded = λ q off other loaded. e.loaded q loaded;
+      stamps = λ r k is. inl (moved_stamps s.root c.in-Some.above.now c.in-Some.name.now c.in-Some-split_last.new_above.now c.in-Some-split_last.new_name.now g.W.World.honest
+          (g.F.Files.stored s.files) (g.F.Files.failures s.files) (g.F.Files.stored t.files) t.root (g.F.Files.failures t.files) s.next c.holds.ensures.table e.ok r k is);
       moved = λ loaded. absurd (bare_apart c.args.from.now s.root c.requires.away loaded);
       stays = λ loaded. tt;
       marks = e.marks;
@@ -57,6 +60,7 @@ returns-in-Err g c =
       fault = e.fault;
       counted = fault_count (g.F.Files.failures s.files) (g.F.Files.failures t.files) c.in-Err.fault e.fault;
       loaded = λ a off other loaded. e.loaded a loaded;
+      stamps = λ r k is. inl (unmoved_stamps s.root p n q m honest F G t.root e.err r k is);
       moved = λ loaded. tt;
       stays = λ loaded. absurd (bare_apart c.args.from.now s.root c.requires.away loaded);
       marks = tt;

@@ -5,6 +5,7 @@ use Rattle.eden_ops.proofs.Names.{names_same, fewer_same}
 use Rattle.eden_ops.proofs.Owned.{own_names, own_fewer}
 use Rattle.eden_ops.proofs.Relocation.{readies_on, readies_err}
 use Rattle.eden_ops.proofs.Roots.{root_same, root_owned}
+use Rattle.eden_ops.proofs.Stamped.{own_stamps, stamps_same}
 use Rattle.eden_ops.proofs.relocating.own_both.Goals as goal
 
 pub returns-in_err-materialise-clause-readies : goal.returns-in_err-materialise-clause-readies
@@ -15,6 +16,7 @@ returns-in_err-materialise-clause-readies g c =
       shown = e.shown;
       names = names_same c.args.inodes.now.root c.materialise.new.inodes.root e.err;
       fewer = fewer_same c.args.inodes.now.root c.materialise.new.inodes.root e.err;
+      stamps = stamps_same c.args.inodes.now.root c.materialise.new.inodes.root e.err;
       marks = e.marks;
       root = root_same c.args.inodes.now.root c.materialise.new.inodes.root e.err;
       fault = e.fault;
@@ -32,6 +34,7 @@ returns-clause-readies g c =
       shown = a.shown;
       names = own_names (Ok tt) c.args.one.now c.args.inodes.now.root c.materialise.new.inodes.root a.ok tt;
       fewer = own_fewer (Ok tt) c.args.one.now c.args.inodes.now.root c.materialise.new.inodes.root a.ok tt;
+      stamps = own_stamps (Ok tt) c.args.one.now c.args.inodes.now.root c.materialise.new.inodes.root a.ok tt;
       marks = a.marks;
       root = inr (ap (λ (r : Row). r.origin) a.ok);
       fault = tt;
@@ -43,6 +46,7 @@ returns-clause-readies g c =
       shown = b.shown;
       names = own_names c.materialise-2.result c.args.other.now c.materialise.new.inodes.root c.materialise-2.new.inodes.root b.ok b.err;
       fewer = own_fewer c.materialise-2.result c.args.other.now c.materialise.new.inodes.root c.materialise-2.new.inodes.root b.ok b.err;
+      stamps = own_stamps c.materialise-2.result c.args.other.now c.materialise.new.inodes.root c.materialise-2.new.inodes.root b.ok b.err;
       marks = b.marks;
       root = root_owned c.materialise-2.result c.materialise.new.inodes.root
           (owned_along c.args.other.now c.materialise.new.inodes.root) c.materialise-2.new.inodes.root b.ok b.err;

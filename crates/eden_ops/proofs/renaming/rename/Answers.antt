@@ -1,15 +1,23 @@
-use Rattle.std.proofs.Common.{◌≡◌, false, Option, Ok, sym, subst, ◌∙◌}
+use Rattle.std.proofs.Common.{◌≡◌, ◌≢◌, false, Option, Ok, sym, refl, subst, ◌∙◌}
+use Rattle.eden_model.specs.declared.errno.Errno.TheVariants.{EBUSY}
+use Rattle.eden_model.specs.declared.reply.Reply.{Reply}
+use Rattle.eden_model.specs.declared.reply.Reply.TheVariants as say
 use Rattle.eden_model.specs.declared.request.Request.TheVariants as ask
 use Rattle.eden_model.specs.Paths.{is_root}
 use Rattle.eden_inode.specs.declared.seen.Seen.{Seen}
 use Rattle.eden_model.specs.declared.attempt.Attempt.{Attempt}
+use Rattle.eden_model.specs.declared.attempt.Attempt.TheVariants.{Finished}
 use Rattle.eden_ops.specs.Attempts.{Attempts, MeetsShown}
 use Rattle.eden_ops.specs.Keeping.{same}
 use Rattle.eden_ops.proofs.Answering.{first_ended, first_absent}
 use Rattle.eden_ops.proofs.TwoPaths.{moves, starts_rename, begins, plain_told, land_stopped, can_go, went, stayed}
 use Rattle.eden_ops.proofs.Leaving.{leaves_kept, leaves_moved, leaves_unmoved}
+use Rattle.eden_ops.proofs.Stamped.{stamps_refused, stamps_met, stamps_one, stamps_landed, stamps_moved, never_done}
 use Rattle.eden_ops.proofs.Steps.{keeps_first, keeps_both}
 use Rattle.eden_ops.proofs.renaming.rename.Goals as goal
+
+done_reply : (r : Reply) → Finished r ≡ Finished say.Ok → r ≡ say.Ok
+done_reply r is = cc
 
 pub returns-in-Err-clause-attempts : goal.returns-in-Err-clause-attempts
 returns-in-Err-clause-attempts g c =
@@ -45,7 +53,7 @@ returns-in-Some-clause-attempts g c =
     let began = begins g.W.World g.F.Files c.args.from.now c.args.to.now s t c.args.cache.now c.meet.new.cache _ c.in-Ok-Some.seen c.is_dir-dir.result c.in-Ok-Some.field-0-is
     (sym c.is_root.ensures ∙ c.if-is_root.false)
     (sym c.is_root-else-is_root.ensures ∙ c.if-is_root-2.false) e.meets e.shown e.same e.keeps e.cache c.is_dir-dir.ensures in
-    plain_told g.W.World g.F.Files c.args.from.now c.args.to.now s t c.args.cache.now c.meet.new.cache c.in-Ok-Some.seen c.is_dir-dir.result began c.in-Some.reply c.in-Some.ensures
+    plain_told g.W.World g.F.Files c.args.from.now c.args.to.now s t c.args.cache.now c.meet.new.cache c.in-Ok-Some.seen c.is_dir-dir.result began c.in-Some.reply c.in-Some.ensures.told
 
 pub returns-in-Err-land-clause-attempts : goal.returns-in-Err-land-clause-attempts
 returns-in-Err-land-clause-attempts g c =
@@ -57,7 +65,7 @@ returns-in-Err-land-clause-attempts g c =
     (sym c.is_root-else-is_root.ensures ∙ c.if-is_root-2.false) e.meets e.shown e.same e.keeps e.cache c.is_dir-dir.ensures in
     let l = c.in-Err-land.ensures in
     subst (λ (a : Attempt). Attempts g.W.World g.F.Files (ask.Rename c.args.from.now c.args.to.now) s c.land.new.inodes c.args.cache.now c.land.new.cache a) (sym c.ended-in-Err-land.ensures)
-    (land_stopped g.W.World g.F.Files c.args.from.now c.args.to.now s t c.args.cache.now c.meet.new.cache c.in-Ok-Some.seen c.is_dir-dir.result began c.in-None.ensures c.land.new.inodes
+    (land_stopped g.W.World g.F.Files c.args.from.now c.args.to.now s t c.args.cache.now c.meet.new.cache c.in-Ok-Some.seen c.is_dir-dir.result began c.in-None.ensures.told c.land.new.inodes
     c.land.new.cache l.same l.keeps l.cache c.in-Err-land.stop l.lands l.shown)
 
 pub relocate-requires : goal.relocate-requires
@@ -70,7 +78,7 @@ relocate-requires g c =
     (sym c.is_root-else-is_root.ensures ∙ c.if-is_root-2.false) e.meets e.shown e.same e.keeps e.cache c.is_dir-dir.ensures in
     let l = c.in-Ok.ensures in
     record {
-      may = can_go g.W.World g.F.Files c.args.from.now c.args.to.now s t c.args.cache.now c.meet.new.cache c.in-Ok-Some.seen c.is_dir-dir.result began c.in-None.ensures c.land.new.inodes
+      may = can_go g.W.World g.F.Files c.args.from.now c.args.to.now s t c.args.cache.now c.meet.new.cache c.in-Ok-Some.seen c.is_dir-dir.result began c.in-None.ensures.told c.land.new.inodes
           c.land.new.cache l.same l.keeps l.cache l.lands;
     }
 
@@ -83,7 +91,7 @@ returns-in-Ok-relocate-clause-attempts g c =
     (sym c.is_root.ensures ∙ c.if-is_root.false)
     (sym c.is_root-else-is_root.ensures ∙ c.if-is_root-2.false) e.meets e.shown e.same e.keeps e.cache c.is_dir-dir.ensures in
     let l = c.in-Ok.ensures in
-    went g.W.World g.F.Files c.args.from.now c.args.to.now s t c.args.cache.now c.meet.new.cache c.in-Ok-Some.seen c.is_dir-dir.result began c.in-None.ensures c.land.new.inodes c.land.new.cache l.same
+    went g.W.World g.F.Files c.args.from.now c.args.to.now s t c.args.cache.now c.meet.new.cache c.in-Ok-Some.seen c.is_dir-dir.result began c.in-None.ensures.told c.land.new.inodes c.land.new.cache l.same
     l.keeps l.cache c.relocate.new.inodes l.shown c.in-Ok-relocate.ensures.relocates.ok
 
 pub returns-in-Err-relocate-clause-attempts : goal.returns-in-Err-relocate-clause-attempts
@@ -96,7 +104,7 @@ returns-in-Err-relocate-clause-attempts g c =
     (sym c.is_root-else-is_root.ensures ∙ c.if-is_root-2.false) e.meets e.shown e.same e.keeps e.cache c.is_dir-dir.ensures in
     let l = c.in-Ok.ensures in
     let x = c.in-Err-relocate.ensures.relocates in
-    stayed g.W.World g.F.Files c.args.from.now c.args.to.now s t c.args.cache.now c.meet.new.cache c.in-Ok-Some.seen c.is_dir-dir.result began c.in-None.ensures c.land.new.inodes c.land.new.cache
+    stayed g.W.World g.F.Files c.args.from.now c.args.to.now s t c.args.cache.now c.meet.new.cache c.in-Ok-Some.seen c.is_dir-dir.result began c.in-None.ensures.told c.land.new.inodes c.land.new.cache
     l.same l.keeps l.cache c.relocate.new.inodes c.in-Err-relocate.fault x.fault x.err
 
 pub returns-then-is_root-clause-leaves : goal.returns-then-is_root-clause-leaves
@@ -136,3 +144,31 @@ returns-in-Err-relocate-clause-leaves g c =
     let t = c.land.new.inodes in
     leaves_unmoved g.W.World g.F.Files from to s t (keeps_both g.W.World g.F.Files from to s c.meet.new.inodes t c.meet.ensures.keeps c.land.ensures.keeps) c.relocate.new.inodes
     c.in-Err-relocate.fault c.in-Err-relocate.ensures.relocates
+
+pub returns-then-is_root-clause-stamps : goal.returns-then-is_root-clause-stamps
+returns-then-is_root-clause-stamps g c =
+    stamps_refused g.W.World g.F.Files (ask.Rename c.args.from.now c.args.to.now) c.args.inodes.now c.args.inodes.now same _ EBUSY refl
+
+pub returns-in-Err-clause-stamps : goal.returns-in-Err-clause-stamps
+returns-in-Err-clause-stamps g c =
+    stamps_met g.W.World g.F.Files c.args.from.now c.args.to.now c.args.inodes.now c.meet.new.inodes c.meet.ensures.keeps c.meet.ensures.walked _ (subst (λ (a : Attempt). a ≢ Finished say.Ok) (sym c.ended.ensures) (never_done c.in-Err.stop))
+
+pub returns-in-Ok-None-clause-stamps : goal.returns-in-Ok-None-clause-stamps
+returns-in-Ok-None-clause-stamps g c =
+    stamps_met g.W.World g.F.Files c.args.from.now c.args.to.now c.args.inodes.now c.meet.new.inodes c.meet.ensures.keeps c.meet.ensures.walked _ (λ is. cc)
+
+pub returns-in-Some-clause-stamps : goal.returns-in-Some-clause-stamps
+returns-in-Some-clause-stamps g c =
+    stamps_one g.W.World g.F.Files c.args.from.now c.args.to.now c.args.inodes.now c.meet.new.inodes c.meet.ensures.keeps c.meet.ensures.walked _ (λ is. c.in-Some.ensures.one (done_reply c.in-Some.reply is))
+
+pub returns-in-Err-land-clause-stamps : goal.returns-in-Err-land-clause-stamps
+returns-in-Err-land-clause-stamps g c =
+    stamps_landed g.W.World g.F.Files c.args.from.now c.args.to.now c.args.inodes.now c.meet.new.inodes c.meet.ensures.keeps c.meet.ensures.walked c.land.new.inodes c.land.ensures.keeps c.land.ensures.walked _ (subst (λ (a : Attempt). a ≢ Finished say.Ok) (sym c.ended-in-Err-land.ensures) (never_done c.in-Err-land.stop))
+
+pub returns-in-Ok-relocate-clause-stamps : goal.returns-in-Ok-relocate-clause-stamps
+returns-in-Ok-relocate-clause-stamps g c =
+    stamps_moved g.W.World g.F.Files c.args.from.now c.args.to.now c.args.inodes.now c.meet.new.inodes c.meet.ensures.keeps c.meet.ensures.walked c.land.new.inodes c.land.ensures.keeps c.land.ensures.walked c.relocate.new.inodes c.in-Ok-relocate.ensures.relocates.stamps _
+
+pub returns-in-Err-relocate-clause-stamps : goal.returns-in-Err-relocate-clause-stamps
+returns-in-Err-relocate-clause-stamps g c =
+    stamps_moved g.W.World g.F.Files c.args.from.now c.args.to.now c.args.inodes.now c.meet.new.inodes c.meet.ensures.keeps c.meet.ensures.walked c.land.new.inodes c.land.ensures.keeps c.land.ensures.walked c.relocate.new.inodes c.in-Err-relocate.ensures.relocates.stamps _

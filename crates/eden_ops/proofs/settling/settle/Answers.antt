@@ -1,4 +1,5 @@
 use Rattle.eden_ops.proofs.Settled.{alike_above, marks_above, alike_names, alike_fewer, alike_root}
+use Rattle.eden_ops.proofs.Stamped.{alike_stamps}
 use Rattle.eden_ops.proofs.settling.settle.Goals as goal
 
 pub returns-clause-settles : goal.returns-clause-settles
@@ -14,6 +15,7 @@ returns-clause-settles g c =
         shown = x.shown;
         names = alike_names s.root t.root alike;
         fewer = alike_fewer s.root t.root alike;
+        stamps = alike_stamps s.root t.root alike;
         marks = marks;
         root = alike_root s.root t.root alike;
         fault = x.fault;
