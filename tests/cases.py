@@ -89,7 +89,10 @@ def main(words: list[str]) -> int:
     """Runs the script's tests, as the words have it, and gives the status."""
     runner = unittest.TextTestRunner(stream=sys.stderr, resultclass=Result)
     ran = unittest.main(argv=[sys.argv[0], *words], testRunner=runner, exit=False)
-    if not ran.result.wasSuccessful():
+    if ran.result.testsRun == 0 and checks.skipped == 0:
+        print(f"FAILED no test has such a name: {' '.join(words)}")
+        checks.failed += 1
+    elif not ran.result.wasSuccessful():
         checks.failed = max(checks.failed, 1)
     with contextlib.suppress(BrokenPipeError):
         sys.stderr.flush()
