@@ -6,6 +6,7 @@ skipped.
 """
 
 import contextlib
+import itertools
 import pathlib
 import sys
 import tempfile
@@ -14,6 +15,15 @@ import unittest
 from typing import Any
 
 import checks
+
+# The script's words that are no options, which stand first: a program, say, and a seed. Then come the options.
+WORDS = list(itertools.takewhile(lambda word: not word.startswith("-"), sys.argv[1:]))
+OPTIONS = sys.argv[1 + len(WORDS) :]
+
+
+def number_at(place: int, default: int) -> int:
+    """The number that is the script's word at that place, the first being 1; the default where there is none."""
+    return int(WORDS[place - 1]) if len(WORDS) >= place else default
 
 
 class Case(unittest.TestCase):
@@ -59,8 +69,15 @@ class Result(unittest.TextTestResult):
         super().addError(test, err)
         self.fail_by(test, err)
 
+    def addSubTest(self, test: unittest.TestCase, subtest: unittest.TestCase, err: Any) -> None:
+        super().addSubTest(test, subtest, err)
+        if err is not None:
+            self.fail_by(test, err)
+
     def fail_by(self, test: unittest.TestCase, err: Any) -> None:
-        """Counts a failure that no check counted."""
+        """Counts a failure that no check counted, and tries no more tests where too many programs hung."""
+        if isinstance(err[1], checks.GivenUp):
+            self.stop()
         if checks.failed == self.before[1]:
             checks.failed += 1
             if isinstance(test, Case):
@@ -68,12 +85,15 @@ class Result(unittest.TextTestResult):
             print(f"FAILED {test}: {''.join(traceback.format_exception_only(*err[:2])).strip()}", flush=True)
 
 
-def main(words: list[str], *more: str) -> int:
-    """Runs the script's tests, as the words have it, and gives the status; `more` is counted in the last line too."""
+def main(words: list[str]) -> int:
+    """Runs the script's tests, as the words have it, and gives the status."""
     runner = unittest.TextTestRunner(stream=sys.stderr, resultclass=Result)
     ran = unittest.main(argv=[sys.argv[0], *words], testRunner=runner, exit=False)
-    if not ran.result.wasSuccessful():
+    if ran.result.testsRun == 0 and checks.skipped == 0:
+        print(f"FAILED no test has such a name: {' '.join(words)}")
+        checks.failed += 1
+    elif not ran.result.wasSuccessful():
         checks.failed = max(checks.failed, 1)
     with contextlib.suppress(BrokenPipeError):
         sys.stderr.flush()
-    return checks.closing_line(*more, *([f"{checks.skipped} skipped"] if checks.skipped else []))
+    return checks.closing_line(*([f"{checks.skipped} skipped"] if checks.skipped else []))

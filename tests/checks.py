@@ -5,15 +5,14 @@ Programs that may hang are `helpers.running`'s, and Git is `helpers.git`'s; test
 
 import os
 import pathlib
-import sys
 
 import paths  # before what stands in scripts/
 from helpers import running
 from helpers.git import git
 from helpers.running import PATIENCE, STILL_RUNNING, ending_of, finished, status_of, watched
 
-__all__ = ["PATIENCE", "STILL_RUNNING", "check", "closing_line", "ending_of", "finished", "git", "make_repository",
-           "skip", "status_of", "watched", "whole_tree"]
+__all__ = ["PATIENCE", "STILL_RUNNING", "GivenUp", "check", "closing_line", "ending_of", "finished", "git",
+           "make_repository", "skip", "status_of", "watched", "whole_tree"]
 
 # After so many programs that hang a script ends: there may be thousands of runs left.
 MOST_HUNG = 3
@@ -21,6 +20,10 @@ MOST_HUNG = 3
 passed = 0
 failed = 0
 skipped = 0
+
+
+class GivenUp(SystemExit):
+    """The script ends, since too many programs hung."""
 
 
 def check(name: str, got: object, wanted: object) -> None:
@@ -31,7 +34,7 @@ def check(name: str, got: object, wanted: object) -> None:
     failed += 1
     print(f"FAILED {name}: got {got!r:.300}, wanted {wanted!r:.300}", flush=True)
     if running.hung >= MOST_HUNG:
-        sys.exit(closing_line(f"given up, since {running.hung} programs hung"))
+        raise GivenUp(closing_line(f"given up, since {running.hung} programs hung"))
 
 
 def skip(name: str, why: str) -> None:

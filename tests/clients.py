@@ -5,11 +5,15 @@ from collections.abc import Iterator
 
 import paths  # before what stands in scripts/
 from helpers.clients import ENDED, LONGEST_RUN, NO_REPLY, Client, Service, serving, start_serve
+from helpers.running import Ending
 from protocol import path_text
 from yakembi.tree_model import LONGEST_DATA, MOST_ENTRIES, Node, Nodes, Path
 
-__all__ = ["ENDED", "LONGEST_RUN", "NO_REPLY", "Client", "Odd", "Service", "ask_all", "asked_again",
+__all__ = ["ENDED", "ENDS_WELL", "LONGEST_RUN", "NO_REPLY", "Client", "Odd", "Service", "ask_all", "asked_again",
            "leaves_seen_by", "page_of", "rows_of", "seen_by", "serving", "start_serve"]
+
+# A good end of `Service.end`.
+ENDS_WELL: Ending = (0, b"", b"")
 
 
 # ---- what a client sees

@@ -16,7 +16,7 @@ from collections.abc import Callable, Iterator, Sequence
 from typing import Any
 
 from checks import check
-from random_requests import Requests
+from random_requests import RandomRequests
 from yakembi.tree_model import LONGEST_DATA, LONGEST_FILE, Nodes, Path, Values, WholeTree
 from yakembi.operations import MountOperations
 
@@ -218,7 +218,7 @@ def shown(place: "AnyPlace", path: Path = ()) -> Nodes:
 # ---- random operations
 
 
-class Operations(Requests):
+class Operations(RandomRequests):
     """Random operations, in the words of the places, most of them about what is there."""
 
     NAMES_OF_WORDS = {"kind": "getattr", "stat": "getattr", "list": "readdir", "setexec": "chmod"}

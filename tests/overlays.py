@@ -2,11 +2,13 @@
 
 import pathlib
 import subprocess
+import tempfile
 from collections.abc import Callable, Iterable, Sequence
-from typing import Any, TypeVar
+from typing import Any, ClassVar, TypeVar
 
+from cases import Case
 from checks import check, finished, git, whole_tree
-from helpers.running import Process, Status
+from helpers.running import Ending, Process
 from programs import EXPORTER, MOUNTD
 from random_requests import line_of
 from yakembi.overlay_files import Damaged, Shown, state_of, stored
@@ -79,8 +81,8 @@ class Place:
         return [str(MOUNTD), "stdio", "--root", self.root, "--objects", str(self.objects),
                 "--overlay", str(self.overlay), *more]
 
-    def run(self, lines: Iterable[bytes], *more: str) -> tuple[Status, bytes, bytes]:
-        """Status, output and errors of a session on these lines."""
+    def run(self, lines: Iterable[bytes], *more: str) -> Ending:
+        """How a session on these lines ends, and its output."""
         data = b"".join(line + b"\n" for line in lines)
         done = finished(self.words(*more), input=data, capture_output=True)
         return done.returncode, done.stdout, done.stderr
@@ -91,6 +93,26 @@ class Place:
 
     def files(self) -> dict[int, bytes]:
         return stored(self.overlay)
+
+
+class WithCommit(Case):
+    """One commit of these files, its repository and its objects for all tests of a class."""
+
+    FILES: ClassVar[dict[str, bytes]]
+    repository: ClassVar[pathlib.Path]
+    commit: ClassVar[Commit]
+    objects: ClassVar[pathlib.Path]
+
+    @classmethod
+    def setUpClass(cls) -> None:
+        super().setUpClass()
+        folder = pathlib.Path(cls.enterClassContext(tempfile.TemporaryDirectory()))
+        cls.commit, cls.objects = make_commit(folder, cls.FILES)
+        cls.repository = folder / "repository"
+
+    def place(self) -> Place:
+        """The commit, and the folder of the test's own overlay."""
+        return Place(self.commit.root, self.objects, self.folder / "changes")
 
 
 def check_session(name: str, place: Place, rows: Sequence[tuple[bytes, bytes | None]], *more: str) -> None:

@@ -14,7 +14,7 @@ LOOKS = ["kind", "stat", "read", "readlink", "list"]
 REMOVING = ["unlink", "rmdir", "rename"]
 
 
-class Requests:
+class RandomRequests:
     """Random requests, most of them about what is there. Past so many nodes they only take away and move."""
 
     def __init__(self, generator: random.Random, tree: WholeTree, names: Sequence[bytes], most_nodes: int) -> None:

@@ -8,7 +8,7 @@ from collections.abc import Callable, Sequence
 
 from checks import check
 from clients import ENDED, Client, Odd, seen_by
-from random_requests import WORDS, Requests, line_of
+from random_requests import WORDS, RandomRequests, line_of
 from yakembi.session_order import Asked, leads
 from yakembi.tree_model import Nodes, Values
 
@@ -20,7 +20,7 @@ NOT_FETCHED = re.compile(rb"fault fetch [0-9a-f]{40} Device")
 class Round:
     """Some requests, several of which are under way at a time, each of another client."""
 
-    def __init__(self, generator: random.Random, clients: Sequence[Client], requests: Requests) -> None:
+    def __init__(self, generator: random.Random, clients: Sequence[Client], requests: RandomRequests) -> None:
         self.random = generator
         self.idle = list(clients)
         self.requests = requests
@@ -55,7 +55,7 @@ class Round:
         return self.asked
 
 
-def check_round(name: str, generator: random.Random, clients: Sequence[Client], requests: Requests,
+def check_round(name: str, generator: random.Random, clients: Sequence[Client], requests: RandomRequests,
                 words: Sequence[str] = WORDS, faults: re.Pattern[bytes] = NOT_FETCHED,
                 look: Callable[[Client], Nodes] = seen_by) -> list[Asked]:
     """The replies of one round are those of some order, or such faults, which leads to the tree that is seen then."""
@@ -74,7 +74,7 @@ def check_round(name: str, generator: random.Random, clients: Sequence[Client], 
     return asked
 
 
-def check_rounds(name: str, generator: random.Random, clients: Sequence[Client], requests: Requests, count: int,
+def check_rounds(name: str, generator: random.Random, clients: Sequence[Client], requests: RandomRequests, count: int,
                  words: Sequence[str] = WORDS) -> list[list[Asked]]:
     """Some rounds, up to one after which the tree can't be seen. What was asked in each."""
     rounds = []

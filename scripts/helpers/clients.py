@@ -10,7 +10,7 @@ from collections.abc import Iterator, Sequence
 from typing import Any
 
 from helpers.programs import MOUNTD
-from helpers.running import PATIENCE, Process, Status, ending_of
+from helpers.running import PATIENCE, Ending, Process, ending_of
 
 # How long a whole run may take, in seconds.
 LONGEST_RUN = 300
@@ -96,8 +96,8 @@ class Service:
     def clients(self, count: int) -> list[Client]:
         return [self.client() for _ in range(count)]
 
-    def end(self, *clients: Client) -> tuple[Status, bytes, bytes]:
-        """Closes these clients, and gives the status, what else was printed, and the errors."""
+    def end(self, *clients: Client) -> Ending:
+        """Closes these clients, and tells how the program ended, and what it printed behind its first line."""
         for client in clients:
             client.close()
         return ending_of(self.process)

@@ -14,6 +14,8 @@ STILL_RUNNING = "still running"
 
 Process = subprocess.Popen[bytes]
 Status = int | str
+# How a program ended: its status, its output and its errors.
+Ending = tuple[Status, bytes, bytes]
 
 # How many programs hung.
 hung = 0
@@ -53,8 +55,8 @@ def status_of(process: Process) -> Status:
         return STILL_RUNNING
 
 
-def ending_of(process: Process) -> tuple[Status, bytes, bytes]:
-    """Status, output and errors of a process that is to end by itself."""
+def ending_of(process: Process) -> Ending:
+    """How a process ends that is to end by itself."""
     try:
         output, errors = process.communicate(timeout=PATIENCE)
     except subprocess.TimeoutExpired:

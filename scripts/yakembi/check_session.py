@@ -51,7 +51,7 @@ class Contents(dict[str, bytes]):
         return self[object_id]
 
 
-class Commit:
+class GitCommit:
     """A commit's whole tree, as Git has it."""
 
     def __init__(self, repository: Repository, revision: str) -> None:
@@ -77,7 +77,7 @@ class Commit:
         return LEAVES[mode](self.contents[object_id])
 
 
-def first_tree(commit: Commit, overlay: pathlib.Path | None) -> dict[Path, Node]:
+def first_tree(commit: GitCommit, overlay: pathlib.Path | None) -> dict[Path, Node]:
     """The nodes that stand before the first request."""
     files = stored(overlay) if overlay else {}
     if 0 in files and state_of(files[0])[0] != commit.root:
@@ -91,7 +91,7 @@ def first_tree(commit: Commit, overlay: pathlib.Path | None) -> dict[Path, Node]
 Times = tuple[int | None, int | None]
 
 
-class Client(NamedTuple):
+class ClientRecord(NamedTuple):
     """A client's lines with their replies, of which the last may lack theirs, and the times of each."""
 
     name: str
@@ -110,7 +110,7 @@ def ended_lines(path: pathlib.Path) -> tuple[list[bytes], bytes]:
     return lines, rest
 
 
-def read_client(path: pathlib.Path) -> Client:
+def read_client(path: pathlib.Path) -> ClientRecord:
     """What the client of that file of sent lines sent and got."""
     lines, rest = ended_lines(path)
     replies, _ = ended_lines(path.with_suffix(".got"))
@@ -118,7 +118,7 @@ def read_client(path: pathlib.Path) -> Client:
     lines += [rest + b"\n"] if rest else []
     if len(replies) > len(lines):
         raise Refusal(f"{path.stem} got {len(replies)} replies to {len(lines)} lines")
-    return Client(path.stem, lines, replies, read_times(path.with_suffix(".times"), len(lines)))
+    return ClientRecord(path.stem, lines, replies, read_times(path.with_suffix(".times"), len(lines)))
 
 
 def read_times(path: pathlib.Path, count: int) -> list[Times]:
@@ -135,7 +135,7 @@ class Wrong(Exception):
     """A reply that no tree gives."""
 
 
-def requests_of(client: Client) -> list[tuple[int, Asked]]:
+def requests_of(client: ClientRecord) -> list[tuple[int, Asked]]:
     """The client's requests that a tree answers, each with the number of its line. Other lines have the reply that they
     can have alone, and behind one that ends the session nothing is read."""
     asked: list[tuple[int, Asked]] = []
@@ -162,14 +162,14 @@ def text(line: bytes) -> str:
     return shown if len(shown) <= SHOWN_BYTES else f"{shown[:SHOWN_BYTES]}.."
 
 
-def told(client: Client, number: int) -> str:
+def told(client: ClientRecord, number: int) -> str:
     """The line of that number, and what the client was told."""
     reply = client.reply(number)
     got = "was not answered" if reply is None else f"was told {text(reply)}"
     return f"{client.name} line {number}: {text(client.lines[number - 1])}: {got}"
 
 
-def judge(clients: list[Client], nodes: dict[Path, Node], options: argparse.Namespace) -> int:
+def judge(clients: list[ClientRecord], nodes: dict[Path, Node], options: argparse.Namespace) -> int:
     asked = [requests_of(client) for client in clients]
     search = Search([[row for _, row in rows] for rows in asked], nodes, most_states=options.states)
     count = sum(len(rows) for rows in asked)
@@ -206,7 +206,7 @@ def main() -> int:
         clients = [read_client(path) for path in sorted(options.record.glob("*.sent"))]
         if not clients:
             raise Refusal(f"{options.record} has no file NAME.sent")
-        commit = Commit(Repository(options.repository), options.revision)
+        commit = GitCommit(Repository(options.repository), options.revision)
         nodes = first_tree(commit, options.overlay)
         commit.contents.objects.end()
         return judge(clients, nodes, options)

@@ -20,6 +20,7 @@ use.
 
 import abc
 import errno
+import functools
 import os
 import re
 import socket
@@ -39,6 +40,8 @@ MOST_ENTRIES = 1_000
 GREATEST_NUMBER = (1 << 64) - 1
 # The longest reply, of 65,536 bytes in hexadecimal digits, is received whole.
 BUFFER = 1 << 18
+# How many paths are kept with their texts, since a file is read in pages.
+KEPT_PATHS = 1_024
 
 # What stands at a path: a plain file, an executable one, a link, a directory.
 FILE, EXEC, LINK, DIR = "file", "exec", "link", "dir"
@@ -115,6 +118,7 @@ def names_of(path: bytes) -> tuple[bytes, ...]:
     return names
 
 
+@functools.lru_cache(KEPT_PATHS)
 def path_field(path: bytes) -> bytes:
     return path_text(names_of(path))
 

@@ -106,7 +106,10 @@ class MountOperations:
         return 0
 
     def readdir(self, path: str, fh: Any = None) -> list[tuple[str, dict[str, int], int]]:
-        """Rows of name and attributes, of which the file's type is the only one."""
+        """Rows of name and attributes, of which the file's type is the only one.
+
+        They are all there at once, since libfuse keeps rows without offsets until it has the last.
+        """
         rows = [(name.decode("latin-1"), {"st_mode": TYPES[kind]}, 0) for name, kind in self.mount.entries(raw(path))]
         folder = {"st_mode": TYPES[DIR]}
         return [(".", folder, 0), ("..", folder, 0), *rows]

@@ -36,7 +36,7 @@ class Entry(NamedTuple):
     name: bytes
 
 
-class Commit(Protocol):
+class CommitTree(Protocol):
     """A commit's tree, the contents of its objects, and what stands below each tree, by the paths from there."""
 
     @property
@@ -168,7 +168,7 @@ def is_unclean(files: Mapping[int, bytes]) -> bool:
 class Shown:
     """What an overlay's files show over a commit: `nodes`, and `numbers`, those that stored directories name."""
 
-    def __init__(self, commit: Commit, files: Mapping[int, bytes]) -> None:
+    def __init__(self, commit: CommitTree, files: Mapping[int, bytes]) -> None:
         self.commit = commit
         self.files = files
         self.nodes: Nodes = {(): ("dir", True)}

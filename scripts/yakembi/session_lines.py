@@ -33,7 +33,7 @@ class NotSpelled(Exception):
     """The line is no request's spelling."""
 
 
-class Refused(Exception):
+class RefusedName(Exception):
     """The request has names that are none."""
 
     def __init__(self, reply: bytes) -> None:
@@ -87,9 +87,9 @@ SHAPES: dict[bytes, list[Callable[[bytes], Field]]] = {
 
 def refuse_name(name: bytes) -> None:
     if name in (b".", b"..") or b"/" in name or b"\0" in name:
-        raise Refused(INVALID)
+        raise RefusedName(INVALID)
     if len(name) > LONGEST_NAME:
-        raise Refused(TOO_LONG)
+        raise RefusedName(TOO_LONG)
 
 
 def refuse_path(path: Path) -> None:
@@ -97,7 +97,7 @@ def refuse_path(path: Path) -> None:
     for name in path:
         refuse_name(name)
     if len(path) > MOST_NAMES or sum(len(name) + 1 for name in path) > LONGEST_PATH:
-        raise Refused(TOO_LONG)
+        raise RefusedName(TOO_LONG)
 
 
 def refuse_field(field: Field, read: Callable[[bytes], Field]) -> None:
@@ -119,6 +119,6 @@ def read_line(line: bytes) -> Line:
             refuse_field(field, read)
     except NotSpelled:
         return Line("", (), BAD_LINE, True)
-    except Refused as refusal:
+    except RefusedName as refusal:
         return Line("", (), refusal.reply)
     return Line(word.decode(), tuple(fields))
