@@ -1,21 +1,20 @@
 //! The sessions of a shared mount's guests, each in a thread of its own.
 ghost use Rattle.std.specs.Prelude.{◌≡◌, ◌≤◌, IfOk, IfErr, vec_capacity, vec_len};
 ghost use Rattle.std.specs.Thread.{IsSync};
-ghost use denote.Param.Send.{Frees, IsSend};
+ghost use denote.Param.Send.{IsSend};
 ghost use Rattle.eden_host.specs.Guests.{HasLearntNothing, HaveLearntNothing};
 ghost use Rattle.eden_host.specs.Sessions.{AreAttended, AreHosted, IsSeated, first_fault, gathered, outcome_of};
 
 use crate::accepts::Accepts;
 use crate::fault::HostFault;
 use crate::guest::Guest;
+use crate::served::Served;
 use crate::threads::small_stack;
 use crate::unloading::Unloading;
-use eden_history::Kept;
 use eden_model::World;
-use eden_mount::Attempts;
-use eden_shared::{Naming, Pass, Shared};
+use eden_shared::{Naming, Pass};
 use eden_wire::{SessionFault, session};
-use std::alloc::{Allocator, Global};
+use std::alloc::Global;
 use std::io::{Read, Write};
 use std::marker::{PhantomData, Send, Sync};
 use std::snapshot::Snapshot;
@@ -43,18 +42,10 @@ impl<W: World, J: Naming, I: Read, O: Write> Promise<Attended<J>> for Seat<W, J,
 }
 
 /// Answers each line that a client says, with that pass.
-fn attend<
-    W: World,
-    T: Attempts<W> + Drop,
-    A: Allocator,
-    J: Naming,
-    I: Read + Drop,
-    O: Write + Drop,
-    R: Wait,
->(
+fn attend<W: World, J: Naming, I: Read + Drop, O: Write + Drop, C: Served<W, J>, R: Wait>(
     rt: &R,
     alloc: Global,
-    shared: &Shared<W, T, A, J, Kept>,
+    shared: &C,
     pass: Pass<J>,
     unloading: Unloading,
     reader: I,
@@ -64,7 +55,7 @@ fn attend<
     ensures { IsSeated I.Read O.Write W.honest W.opening pass result.pass result.said }
 {
     let (mut reader, mut writer) = (reader, writer);
-    let mut guest = Guest::new(rt, alloc, shared, pass, unloading);
+    let mut guest = Guest::<W, J, C, R>::new(rt, alloc, shared, pass, unloading);
     let said = session(alloc, &mut reader, &mut writer, &mut guest);
     Attended {
         pass: guest.into_pass(),
@@ -79,18 +70,17 @@ fn attend<
 fn begin<
     's,
     E: 's,
-    W: World + Send,
-    T: Attempts<W> + Send + Drop,
-    A: Allocator + Send,
-    J: Naming + Send,
+    W: World + Send + 's,
+    J: Naming + Send + 's,
     I: Read + Send + Drop + 's,
     O: Write + Send + Drop + 's,
+    C: Served<W, J> + Sync,
     R: Threads + Wait + Sync,
 >(
     scope: &Scope<'s, E>,
     rt: &'s R,
     alloc: Global,
-    shared: &'s Shared<W, T, A, J, Kept>,
+    shared: &'s C,
     closed: &'s AtomicUsize,
     place: usize,
     pass: Pass<J>,
@@ -114,7 +104,7 @@ fn begin<
         if closed.load(Ordering::SeqCst) == place {
             Attended { pass, said: None }
         } else {
-            attend(rt, alloc, shared, pass, unloading, reader, writer)
+            attend::<W, J, I, O, C, R>(rt, alloc, shared, pass, unloading, reader, writer)
         }
     };
     match small_stack().spawn_scoped_with(scope, seat, attend_guest) {
@@ -167,19 +157,18 @@ fn outcome_of(sessions: Option<Result<(), HostFault>>) -> Result<(), HostFault>
 fn attend_each<
     's,
     E: 's,
-    W: World + Send,
-    T: Attempts<W> + Send + Drop,
-    A: Allocator + Send,
-    J: Naming + Send,
+    W: World + Send + 's,
+    J: Naming + Send + 's,
     I: Read + Send + Drop + 's,
     O: Write + Send + Drop + 's,
     L: Accepts<I, O> + Drop,
+    C: Served<W, J> + Sync,
     R: Threads + Wait + Sync,
 >(
     scope: &Scope<'s, E>,
     rt: &'s R,
     alloc: Global,
-    shared: &'s Shared<W, T, A, J, Kept>,
+    shared: &'s C,
     closed: &'s AtomicUsize,
     listener: L,
     passes: Vec<Pass<J>>,
@@ -199,13 +188,13 @@ fn attend_each<
     };
     let place = passes.len();
     let pass = passes.remove(0);
-    let begun = begin(
+    let begun = begin::<E, W, J, I, O, C, R>(
         scope, rt, alloc, shared, closed, place, pass, unloading, connection,
     );
     if begun.is_err() {
         listener.close_unserved();
     }
-    let (mut passes, later) = attend_each(
+    let (mut passes, later) = attend_each::<E, W, J, I, O, L, C, R>(
         scope, rt, alloc, shared, closed, listener, passes, unloading,
     );
     let Attended { pass, said } = match begun {
@@ -221,17 +210,16 @@ fn attend_each<
 /// Serves the sessions of all passes, and gives the passes back when all have ended.
 pub(crate) fn attend_all<
     W: World + Send,
-    T: Attempts<W> + Send + Drop,
-    A: Allocator + Send,
     J: Naming + Send,
     I: Read + Send + Drop,
     O: Write + Send + Drop,
     L: Accepts<I, O> + Drop,
+    C: Served<W, J> + Sync,
     R: Threads + Wait + Sync,
 >(
     rt: &R,
     alloc: Global,
-    shared: &Shared<W, T, A, J, Kept>,
+    shared: &C,
     listener: L,
     passes: Vec<Pass<J>>,
     unloading: Unloading,
@@ -245,11 +233,11 @@ pub(crate) fn attend_all<
         thread::scope_env(),
         rt,
         move |scope| -> (Vec<Pass<J>>, Option<Result<(), HostFault>>)
-            requires { IsSync R.row × IsSend W.row × IsSend T.row × IsSend A.row × IsSend J.row × IsSend I.row
-                × IsSend O.row × Frees A.Allocator A.dealloc_token × HaveLearntNothing passes.items }
+            requires { IsSend W.row × IsSend J.row × IsSend I.row × IsSend O.row × IsSync C.row × IsSync R.row
+                × HaveLearntNothing passes.items }
             ensures { AreAttended I.Read O.Write W.honest W.opening passes.items result.0.items result.1 }
         {
-            attend_each(
+            attend_each::<_, W, J, I, O, L, C, R>(
                 scope, rt, alloc, shared, closed, listener, passes, unloading,
             )
         },

@@ -3,32 +3,31 @@ ghost use Rattle.std.specs.Prelude.{◌≡◌, ◌<◌, length, MatchResult};
 ghost use Rattle.eden_host.specs.Guests.{HasLearntNothing, IsTurnedAway, last_reply};
 ghost use Rattle.eden_shared.specs.Calls.{Grows};
 
+use crate::served::Served;
 use crate::unloading::Unloading;
-use eden_history::Kept;
 use eden_model::{CallFault, Path, Reply, Request, World};
-use eden_mount::Attempts;
-use eden_shared::{Naming, Pass, Shared};
+use eden_shared::{Naming, Pass};
 use eden_wire::Service;
-use std::alloc::{Allocator, Global};
-use std::marker::Model;
+use std::alloc::Global;
+use std::marker::{Model, PhantomData};
 use std::sync::Wait;
 
 /// A caller of a shared mount, whose requests a session answers. Its pass learns no numbers of other callers.
 ///
 /// Contracts see what the pass carries.
 #[derive(Drop)]
-pub struct Guest<'a, W: World, T: Attempts<W> + Drop, A: Allocator, J: Naming, R: Wait> {
+pub struct Guest<'a, W: World, J: Naming, C: Served<W, J>, R: Wait> {
     rt: &'a R,
-    shared: &'a Shared<W, T, A, J, Kept>,
+    shared: &'a C,
     pass: Pass<J>,
     unloading: Unloading,
     root: Path,
     // how many requests were served since directories were last let go
     served: u32,
+    world: PhantomData<W>,
 }
 
-impl<'a, W: World, T: Attempts<W> + Drop, A: Allocator, J: Naming, R: Wait> Model
-    for Guest<'a, W, T, A, J, R> {
+impl<'a, W: World, J: Naming, C: Served<W, J>, R: Wait> Model for Guest<'a, W, J, C, R> {
     ghost use Rattle.eden_host.specs.Guests.{HasLearntNothing};
     ghost use Rattle.eden_shared.specs.Passes.{Carried};
 
@@ -39,22 +38,9 @@ impl<'a, W: World, T: Attempts<W> + Drop, A: Allocator, J: Naming, R: Wait> Mode
     ghost invariant = { λ g. HasLearntNothing g.pass };
 }
 
-impl<'a, W: World, T: Attempts<W> + Drop, A: Allocator, J: Naming, R: Wait> Guest<
-    'a,
-    W,
-    T,
-    A,
-    J,
-    R,
-> {
+impl<'a, W: World, J: Naming, C: Served<W, J>, R: Wait> Guest<'a, W, J, C, R> {
     /// Over a shared mount, with one of its passes. It takes no memory.
-    pub fn new(
-        rt: &'a R,
-        alloc: Global,
-        shared: &'a Shared<W, T, A, J, Kept>,
-        pass: Pass<J>,
-        unloading: Unloading,
-    ) -> Self
+    pub fn new(rt: &'a R, alloc: Global, shared: &'a C, pass: Pass<J>, unloading: Unloading) -> Self
         requires { HasLearntNothing pass }
         ensures { result ≡ pass }
     {
@@ -65,6 +51,7 @@ impl<'a, W: World, T: Attempts<W> + Drop, A: Allocator, J: Naming, R: Wait> Gues
             unloading,
             root: Path::new(Vec::new(alloc)).unwrap(),
             served: 0,
+            world: PhantomData,
         }
     }
 
@@ -82,8 +69,8 @@ impl<'a, W: World, T: Attempts<W> + Drop, A: Allocator, J: Naming, R: Wait> Gues
         ensures { MatchResult result (λ _. Grows W.honest W.opening self.old request self.new)
             (λ fault. IsTurnedAway W.honest W.opening self.old fault × (self.new ≡ self.old)) }
     {
-        match self.pass.call(self.shared, self.rt, request) {
-            Ok(_) => Ok(()),
+        match self.shared.ask(self.rt, &mut self.pass, request) {
+            Ok(()) => Ok(()),
             Err(fault) => Err(fault),
         }
     }
@@ -97,7 +84,7 @@ impl<'a, W: World, T: Attempts<W> + Drop, A: Allocator, J: Naming, R: Wait> Gues
             return;
         }
         self.served = 0;
-        self.shared.unload(self.rt, &self.root, self.unloading.age);
+        self.shared.let_go(self.rt, &self.root, self.unloading.age);
     }
 
     /// What the pass was told last.
@@ -110,8 +97,7 @@ impl<'a, W: World, T: Attempts<W> + Drop, A: Allocator, J: Naming, R: Wait> Gues
     }
 }
 
-impl<'a, W: World, T: Attempts<W> + Drop, A: Allocator, J: Naming, R: Wait> Service
-    for Guest<'a, W, T, A, J, R> {
+impl<'a, W: World, J: Naming, C: Served<W, J>, R: Wait> Service for Guest<'a, W, J, C, R> {
     ghost use Rattle.eden_host.specs.Guests.{GuestAnswers};
 
     ghost answers = { GuestAnswers W.honest W.opening };

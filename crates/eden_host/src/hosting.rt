@@ -1,7 +1,7 @@
 //! A shared mount served to as many connections as it has passes.
 ghost use Rattle.std.specs.Prelude.{◌≡◌, Bool, List, length, IfOk, IsOk, MatchResult};
 ghost use Rattle.std.specs.Thread.{IsSync};
-ghost use denote.Param.Send.{Frees, IsSend};
+ghost use denote.Param.Send.{IsSend};
 ghost use Rattle.eden_model.specs.Histories.{Legal};
 ghost use Rattle.eden_shared.specs.Passes.{Agrees, AreEach, AreNewcomers, Carried};
 ghost use Rattle.eden_host.specs.Guests.{HaveLearntNothing};
@@ -11,10 +11,11 @@ use crate::accepts::Accepts;
 use crate::attend::attend_all;
 use crate::fault::HostFault;
 use crate::fetchers::Fetchers;
+use crate::served::Served;
 use crate::threads::small_stack;
 use crate::unloading::Unloading;
 use core::thread::Anything;
-use eden_history::Kept;
+use eden_history::History;
 use eden_model::World;
 use eden_mount::{Attempts, Mount};
 use eden_shared::{Naming, Pass, Shared, Torn};
@@ -28,9 +29,9 @@ use std::thread::{self, Scope, Threads};
 
 /// What is left of a mount that was served to many.
 #[derive(Drop)]
-pub struct Hosted<W: World, T: Attempts<W> + Drop, A: Allocator, J: Naming> {
+pub struct Hosted<W: World, T: Attempts<W> + Drop, A: Allocator, J: Naming, H: History> {
     /// The mount, with nothing pending, where the passes were those of the shared mount.
-    pub mount: Result<Mount<W, T, A, Kept>, Torn<W, T, A, J, Kept>>,
+    pub mount: Result<Mount<W, T, A, H>, Torn<W, T, A, J, H>>,
     /// The first fault of listening or of a session.
     pub outcome: Result<(), HostFault>,
 }
@@ -40,22 +41,16 @@ pub struct Hosted<W: World, T: Attempts<W> + Drop, A: Allocator, J: Naming> {
 fn fetch_from_all<
     's,
     E: 's,
-    W: World + Send,
-    T: Attempts<W> + Send + Drop,
-    A: Allocator + Send,
-    J: Naming + Send,
+    W: World + Send + 's,
+    J: Naming + Send + 's,
     S: Source<W> + Send + Drop + 's,
+    C: Served<W, J> + Sync,
     R: Threads + Wait + Sync,
->(
-    scope: &Scope<'s, E>,
-    rt: &'s R,
-    shared: &'s Shared<W, T, A, J, Kept>,
-    fetchers: Fetchers<S>,
-) -> bool {
+>(scope: &Scope<'s, E>, rt: &'s R, shared: &'s C, fetchers: Fetchers<S>) -> bool {
     let mut fetched = false;
     for source in fetchers.into_sources() {
         let mut source = source;
-        let fetch = move || shared.fetch_all(rt, &mut source);
+        let fetch = move || shared.fetch_wanted(rt, &mut source);
         fetched |= small_stack()
             .spawn_scoped_with(scope, Anything, fetch)
             .is_ok();
@@ -81,6 +76,7 @@ pub fn host<
     T: Attempts<W> + Send + Drop,
     A: Allocator + Send,
     J: Naming + Send,
+    H: History + Send,
     S: Source<W> + Send + Drop,
     I: Read + Send + Drop,
     O: Write + Send + Drop,
@@ -90,11 +86,11 @@ pub fn host<
     rt: &R,
     alloc: Global,
     listener: L,
-    shared: Shared<W, T, A, J, Kept>,
+    shared: Shared<W, T, A, J, H>,
     passes: Vec<Pass<J>>,
     fetchers: Fetchers<S>,
     unloading: Unloading,
-) -> Hosted<W, T, A, J>
+) -> Hosted<W, T, A, J, H>
     requires passes { AreNewcomers passes.items (length J.names) }
     ensures told { (left : List Carried)
         × AreHosted I.Read O.Write W.honest W.opening passes.items left result.outcome
@@ -104,7 +100,9 @@ pub fn host<
         (λ t. Legal W.opening t.mount.history) }
 {
     begin(&passes);
-    let served = serve_all(rt, alloc, listener, &shared, passes, fetchers, unloading);
+    let served = serve_all::<W, J, S, I, O, L, Shared<W, T, A, J, H>, R>(
+        rt, alloc, listener, &shared, passes, fetchers, unloading,
+    );
     let (passes, outcome) = served;
     Hosted {
         mount: shared.finish(passes),
@@ -115,17 +113,16 @@ pub fn host<
 /// Serves the sessions, where somebody fetches for them; else none begins.
 fn attend_fetched<
     W: World + Send,
-    T: Attempts<W> + Send + Drop,
-    A: Allocator + Send,
     J: Naming + Send,
     I: Read + Send + Drop,
     O: Write + Send + Drop,
     L: Accepts<I, O> + Drop,
+    C: Served<W, J> + Sync,
     R: Threads + Wait + Sync,
 >(
     rt: &R,
     alloc: Global,
-    shared: &Shared<W, T, A, J, Kept>,
+    shared: &C,
     listener: L,
     passes: Vec<Pass<J>>,
     unloading: Unloading,
@@ -137,27 +134,26 @@ fn attend_fetched<
     if !fetched {
         return (passes, Err(HostFault::Session(SessionFault::Memory)));
     }
-    attend_all(rt, alloc, shared, listener, passes, unloading)
+    attend_all::<W, J, I, O, L, C, R>(rt, alloc, shared, listener, passes, unloading)
 }
 
 /// Serves the sessions beside the fetchers, and then stops these. The sessions are told whether somebody fetches.
 fn beside_fetchers<
     W: World + Send,
-    T: Attempts<W> + Send + Drop,
-    A: Allocator + Send,
     J: Naming + Send,
     S: Source<W> + Send + Drop,
+    C: Served<W, J> + Sync,
     R: Threads + Wait + Sync,
     X,
     G: FnOnce(bool) -> X,
->(rt: &R, shared: &Shared<W, T, A, J, Kept>, fetchers: Fetchers<S>, sessions: G) -> X
+>(rt: &R, shared: &C, fetchers: Fetchers<S>, sessions: G) -> X
     requires { (b : Bool) → G.pre sessions b }
     ensures { (b : Bool) × G.post sessions b result }
 {
     thread::scope(thread::scope_env(), rt, move |scope| {
-        let fetched = fetch_from_all(scope, rt, shared, fetchers);
+        let fetched = fetch_from_all::<_, W, J, S, C, R>(scope, rt, shared, fetchers);
         let served = sessions(fetched);
-        shared.stop(rt);
+        shared.end_calls(rt);
         served
     })
 }
@@ -165,19 +161,18 @@ fn beside_fetchers<
 /// Serves the sessions of all guests.
 fn serve_all<
     W: World + Send,
-    T: Attempts<W> + Send + Drop,
-    A: Allocator + Send,
     J: Naming + Send,
     S: Source<W> + Send + Drop,
     I: Read + Send + Drop,
     O: Write + Send + Drop,
     L: Accepts<I, O> + Drop,
+    C: Served<W, J> + Sync,
     R: Threads + Wait + Sync,
 >(
     rt: &R,
     alloc: Global,
     listener: L,
-    shared: &Shared<W, T, A, J, Kept>,
+    shared: &C,
     passes: Vec<Pass<J>>,
     fetchers: Fetchers<S>,
     unloading: Unloading,
@@ -186,9 +181,13 @@ fn serve_all<
     ensures passes { AreHosted I.Read O.Write W.honest W.opening passes.items result.0.items result.1 }
 {
     let sessions = move |fetched: bool| -> (Vec<Pass<J>>, Result<(), HostFault>)
-        requires { IsSync R.row × IsSend W.row × IsSend T.row × IsSend A.row × IsSend J.row × IsSend I.row
-            × IsSend O.row × Frees A.Allocator A.dealloc_token × HaveLearntNothing passes.items }
+        requires { IsSend W.row × IsSend J.row × IsSend I.row × IsSend O.row × IsSync C.row × IsSync R.row
+            × HaveLearntNothing passes.items }
         ensures { AreHosted I.Read O.Write W.honest W.opening passes.items result.0.items result.1 }
-    { attend_fetched(rt, alloc, shared, listener, passes, unloading, fetched) };
-    beside_fetchers(rt, shared, fetchers, sessions)
+    {
+        attend_fetched::<W, J, I, O, L, C, R>(
+            rt, alloc, shared, listener, passes, unloading, fetched,
+        )
+    };
+    beside_fetchers::<W, J, S, C, R, _, _>(rt, shared, fetchers, sessions)
 }

@@ -12,7 +12,7 @@ use crate::fault::HostFault;
 use crate::fetchers::Fetchers;
 use crate::hosting::{Hosted, host};
 use crate::unloading::Unloading;
-use eden_history::Kept;
+use eden_history::History;
 use eden_model::World;
 use eden_mount::{Attempts, Mount, Room};
 use eden_shared::{Naming, Pass, Shared, Ties};
@@ -33,25 +33,25 @@ pub struct HostedTable<T> {
 
 /// Shares a mount of that room over a table that shows the opening tree. The only error is want of memory, and the
 /// table comes back.
-fn share<W: World, T: Attempts<W> + Drop, A: Allocator, J: Naming>(
+fn share<W: World, T: Attempts<W> + Drop, A: Allocator, J: Naming, H: History>(
     alloc: Global,
     room: Room<A>,
     table: T,
-    history: Kept,
+    history: H,
     ties: Ties,
-) -> Result<(Shared<W, T, A, J, Kept>, Vec<Pass<J>>), T>
+) -> Result<(Shared<W, T, A, J, H>, Vec<Pass<J>>), T>
     requires shown { W.honest → T.table.shown table ≡ W.opening }
     requires room { IsRoom room }
-    requires empty { history.list ≡ [] }
+    requires empty { H.entries history ≡ [] }
     requires ties { AreTied ties.lanes.items ties.ends.items room.queue.passes }
     requires names { names_of ties.lanes.items ≡ J.names }
     ensures count { length J.names ≡ room.queue.passes }
     ensures passes { IfOk result
-        (λ o. o.1.items ≡ newcomers (terms_at T.table room history.limit table) 1 room.queue.passes) }
+        (λ o. o.1.items ≡ newcomers (terms_at T.table room (H.limit history) table) 1 room.queue.passes) }
     ensures err { IfErr result (λ t. t ≡ table) }
 {
-    let mount: Mount<W, T, A, Kept> = Mount::new(room, table, history);
-    match Shared::<W, T, A, J, Kept>::open(alloc, mount, ties) {
+    let mount: Mount<W, T, A, H> = Mount::new(room, table, history);
+    match Shared::<W, T, A, J, H>::open(alloc, mount, ties) {
         Err((_, mount)) => Err(mount.into_table()),
         Ok(opened) => Ok(opened),
     }
@@ -63,6 +63,7 @@ fn host_passes<
     T: Attempts<W> + Send + Drop,
     A: Allocator + Send,
     J: Naming + Send,
+    H: History + Send,
     S: Source<W> + Send + Drop,
     I: Read + Send + Drop,
     O: Write + Send + Drop,
@@ -72,7 +73,7 @@ fn host_passes<
     rt: &R,
     alloc: Global,
     listener: L,
-    shared: Shared<W, T, A, J, Kept>,
+    shared: Shared<W, T, A, J, H>,
     passes: Vec<Pass<J>>,
     fetchers: Fetchers<S>,
     unloading: Unloading,
@@ -100,6 +101,7 @@ pub fn host_table<
     T: Attempts<W> + Send + Drop,
     A: Allocator + Send,
     J: Naming + Send,
+    H: History + Send,
     S: Source<W> + Send + Drop,
     I: Read + Send + Drop,
     O: Write + Send + Drop,
@@ -110,7 +112,7 @@ pub fn host_table<
     alloc: Global,
     room: Room<A>,
     table: T,
-    history: Kept,
+    history: H,
     ties: Ties,
     listener: L,
     fetchers: Fetchers<S>,
@@ -118,14 +120,14 @@ pub fn host_table<
 ) -> Result<HostedTable<T>, T>
     requires shown { W.honest → T.table.shown table ≡ W.opening }
     requires room { IsRoom room }
-    requires empty { history.list ≡ [] }
+    requires empty { H.entries history ≡ [] }
     requires ties { AreTied ties.lanes.items ties.ends.items room.queue.passes }
     requires names { names_of ties.lanes.items ≡ J.names }
     ensures hosted { IfOk result (HostsTable T.table I.Read O.Write W.honest W.opening
-        (terms_at T.table room history.limit table)) }
+        (terms_at T.table room (H.limit history) table)) }
     ensures err { IfErr result (λ t. t ≡ table) }
 {
-    match share::<W, T, A, J>(alloc, room, table, history, ties) {
+    match share::<W, T, A, J, H>(alloc, room, table, history, ties) {
         Err(table) => Err(table),
         Ok(opened) => {
             let (shared, passes) = opened;

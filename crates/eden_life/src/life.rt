@@ -8,7 +8,7 @@ ghost use Rattle.eden_life.specs.Lives.{Ends, LivesShared, first_told};
 
 use crate::fault::SharedLifeFault;
 use eden_checkout::{Checkout, OpenFault};
-use eden_history::Kept;
+use eden_history::History;
 use eden_host::{Accepts, Fetchers, HostFault, HostedTable, Unloading, host_table};
 use eden_model::World;
 use eden_mount::Config;
@@ -91,6 +91,7 @@ fn live_tied<
     J: Naming + Send,
     W: World + Send,
     F: Files<W> + Send,
+    H: History + Send,
     S: Source<W> + Send + Drop,
     I: Read + Send + Drop,
     O: Write + Send + Drop,
@@ -102,16 +103,16 @@ fn live_tied<
     backing: Backing<F, Fetchers<S>>,
     base: Base,
     config: &Config,
-    history: Kept,
+    history: H,
     ties: Ties,
     listener: L,
     unloading: Unloading,
 ) -> SharedEnding<F>
     requires files { W.honest → MayOpen base.opening W.repository W.opening base.root (F.stored backing.files) }
-    requires empty { history.list ≡ [] }
+    requires empty { H.entries history ≡ [] }
     requires ties { AreTied ties.lanes.items ties.ends.items config.now.passes }
     requires names { names_of ties.lanes.items ≡ J.names }
-    ensures { LivesShared W.World F.Files I.Read O.Write history.limit base config.now backing.files result }
+    ensures { LivesShared W.World F.Files I.Read O.Write (H.limit history) base config.now backing.files result }
 {
     let Backing {
         files,
@@ -121,7 +122,7 @@ fn live_tied<
     match open::<W, Global, F>(alloc, alloc, files, base, config) {
         Err((fault, files)) => unopened(fault, files),
         Ok((room, table)) => {
-            let hosted = host_table::<W, Checkout<Global, W, F>, Global, J, S, I, O, L, R>(
+            let hosted = host_table::<W, Checkout<Global, W, F>, Global, J, H, S, I, O, L, R>(
                 rt, alloc, room, table, history, ties, listener, fetchers, unloading,
             );
             end::<W, F>(alloc, hosted)
@@ -143,6 +144,7 @@ fn live_tied<
 pub fn live_shared<
     W: World + Send,
     F: Files<W> + Send,
+    H: History + Send,
     S: Source<W> + Send + Drop,
     I: Read + Send + Drop,
     O: Write + Send + Drop,
@@ -154,18 +156,18 @@ pub fn live_shared<
     backing: Backing<F, Fetchers<S>>,
     base: Base,
     config: &Config,
-    history: Kept,
+    history: H,
     listener: L,
     unloading: Unloading,
 ) -> SharedEnding<F>
     requires files { W.honest → MayOpen base.opening W.repository W.opening base.root (F.stored backing.files) }
-    requires empty { history.list ≡ [] }
-    ensures { LivesShared W.World F.Files I.Read O.Write history.limit base config.now backing.files result }
+    requires empty { H.entries history ≡ [] }
+    ensures { LivesShared W.World F.Files I.Read O.Write (H.limit history) base config.now backing.files result }
 {
     let Ok(ties) = Ties::new(alloc, config.passes()) else {
         return unopened(OpenFault::Memory, backing.files);
     };
-    live_tied::<Brand, W, F, S, I, O, L, R>(
+    live_tied::<Brand, W, F, H, S, I, O, L, R>(
         rt, alloc, backing, base, config, history, ties, listener, unloading,
     )
 }

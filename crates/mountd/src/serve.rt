@@ -95,7 +95,7 @@ fn serve_fetched<
         return report::unopened(rt, "Memory");
     };
     let history = Kept::new(rt.alloc(), limits.history());
-    let ending = live_shared::<Outside, _, _, _, _, _, _>(
+    let ending = live_shared::<Outside, _, _, _, _, _, _, _>(
         threads,
         rt.alloc(),
         Backing { files, source },

@@ -23,11 +23,11 @@ host_table-hosted-requires-clause-ties g c = λ κs within.
 
 pub returns-in-Err : goal.returns-in-Err
 returns-in-Err g c =
-    subst (λ (x : SharedEnding _). LivesShared g.W.World g.F.Files g.I.Read g.O.Write c.args.history.limit c.args.base c.args.config.now c.args.backing.files x) (sym c.unopened.ensures)
+    subst (λ (x : SharedEnding _). LivesShared g.W.World g.F.Files g.I.Read g.O.Write (g.H.History.limit c.args.history) c.args.base c.args.config.now c.args.backing.files x) (sym c.unopened.ensures)
     (inl (record { refused = c.in-Err.ensures.refused; unclosed = refl }))
 
 pub returns-in-Ok : goal.returns-in-Ok
 returns-in-Ok g c =
-    ended g.W.World g.F.Files g.I.Read g.O.Write c.args.history.limit c.args.base c.args.config.now c.args.backing.files c.end.result
+    ended g.W.World g.F.Files g.I.Read g.O.Write (g.H.History.limit c.args.history) c.args.base c.args.config.now c.args.backing.files c.end.result
     c.in-Ok.table c.in-Ok.room c.host_table-hosted.result c.in-Ok.ensures.opened
     c.in-Ok.ensures.room c.host_table-hosted.ensures.hosted c.host_table-hosted.ensures.err c.end.ensures

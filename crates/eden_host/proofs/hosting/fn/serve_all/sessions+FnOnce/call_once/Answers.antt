@@ -3,4 +3,4 @@ use Rattle.eden_host.proofs.hosting.fn.serve_all.sessions+FnOnce.call_once.Goals
 -- The call asks for what the closure was made with, at the lifetimes of the call.
 pub sessions-requires : goal.sessions-requires
 sessions-requires g c =
-    let own = c.requires.1.1.1.1.1.1.1.1.0 in (own.1, (own.2, (own.3, (own.4, (own.5, (own.6, (own.0, (own.7, own))))))))
+    let own = c.requires.1.1.1.1.1.1.1.0 in (own.0, (own.1, (own.2, (own.3, (own.4, (own.5, own))))))
