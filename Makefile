@@ -34,11 +34,13 @@ lint: ## looks at layout, columns, types, pages and wrong bodies, and runs the t
 wrong-bodies: ## tries the wrong bodies that the gate leaves out, or those of CRATE=NAME; goes on where it was stopped
 	@scripts/wrong-bodies $(CRATE)
 
-soak: ## a million random requests: the slow oracle beside the second table of operations, attempts beside the slow oracle, and events on mounts; ten minutes of many clients; and many rounds in want of memory and room
+soak: ## a million random requests: the slow oracle beside the second table of operations, attempts beside the slow oracle, and events on mounts; ten minutes of many clients; many rounds in want of memory and room; and each growth refused on a larger commit
 	tests/oracle 1000000
 	scripts/soak-rows
 	@scripts/build-mountd
 	tests/pressure crates/mountd/out/mountd 2000
+	@cd crates/eden_growths && rt run < stdin | diff - stdout
+	tests/refused-growths large
 
 bench: ## times the work that grows with its input, at full size, and writes docs/measured/speed.md
 	@scripts/bench
