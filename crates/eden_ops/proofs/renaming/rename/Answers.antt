@@ -151,7 +151,8 @@ returns-then-is_root-clause-stamps g c =
 
 pub returns-in-Err-clause-stamps : goal.returns-in-Err-clause-stamps
 returns-in-Err-clause-stamps g c =
-    stamps_met g.W.World g.F.Files c.args.from.now c.args.to.now c.args.inodes.now c.meet.new.inodes c.meet.ensures.keeps c.meet.ensures.walked _ (subst (λ (a : Attempt). a ≢ Finished say.Ok) (sym c.ended.ensures) (never_done c.in-Err.stop))
+    stamps_met g.W.World g.F.Files c.args.from.now c.args.to.now c.args.inodes.now c.meet.new.inodes c.meet.ensures.keeps c.meet.ensures.walked
+    _ (subst (λ (a : Attempt). a ≢ Finished say.Ok) (sym c.ended.ensures) (never_done c.in-Err.stop))
 
 pub returns-in-Ok-None-clause-stamps : goal.returns-in-Ok-None-clause-stamps
 returns-in-Ok-None-clause-stamps g c =
@@ -159,16 +160,20 @@ returns-in-Ok-None-clause-stamps g c =
 
 pub returns-in-Some-clause-stamps : goal.returns-in-Some-clause-stamps
 returns-in-Some-clause-stamps g c =
-    stamps_one g.W.World g.F.Files c.args.from.now c.args.to.now c.args.inodes.now c.meet.new.inodes c.meet.ensures.keeps c.meet.ensures.walked _ (λ is. c.in-Some.ensures.one (done_reply c.in-Some.reply is))
+    stamps_one g.W.World g.F.Files c.args.from.now c.args.to.now c.args.inodes.now c.meet.new.inodes c.meet.ensures.keeps c.meet.ensures.walked
+    _ (λ is. c.in-Some.ensures.one (done_reply c.in-Some.reply is))
 
 pub returns-in-Err-land-clause-stamps : goal.returns-in-Err-land-clause-stamps
 returns-in-Err-land-clause-stamps g c =
-    stamps_landed g.W.World g.F.Files c.args.from.now c.args.to.now c.args.inodes.now c.meet.new.inodes c.meet.ensures.keeps c.meet.ensures.walked c.land.new.inodes c.land.ensures.keeps c.land.ensures.walked _ (subst (λ (a : Attempt). a ≢ Finished say.Ok) (sym c.ended-in-Err-land.ensures) (never_done c.in-Err-land.stop))
+    stamps_landed g.W.World g.F.Files c.args.from.now c.args.to.now c.args.inodes.now c.meet.new.inodes c.meet.ensures.keeps c.meet.ensures.walked
+    c.land.new.inodes c.land.ensures.keeps c.land.ensures.walked _ (subst (λ (a : Attempt). a ≢ Finished say.Ok) (sym c.ended-in-Err-land.ensures) (never_done c.in-Err-land.stop))
 
 pub returns-in-Ok-relocate-clause-stamps : goal.returns-in-Ok-relocate-clause-stamps
 returns-in-Ok-relocate-clause-stamps g c =
-    stamps_moved g.W.World g.F.Files c.args.from.now c.args.to.now c.args.inodes.now c.meet.new.inodes c.meet.ensures.keeps c.meet.ensures.walked c.land.new.inodes c.land.ensures.keeps c.land.ensures.walked c.relocate.new.inodes c.in-Ok-relocate.ensures.relocates.stamps _
+    stamps_moved g.W.World g.F.Files c.args.from.now c.args.to.now c.args.inodes.now c.meet.new.inodes c.meet.ensures.keeps c.meet.ensures.walked
+    c.land.new.inodes c.land.ensures.keeps c.land.ensures.walked c.relocate.new.inodes c.in-Ok-relocate.ensures.relocates.stamps _
 
 pub returns-in-Err-relocate-clause-stamps : goal.returns-in-Err-relocate-clause-stamps
 returns-in-Err-relocate-clause-stamps g c =
-    stamps_moved g.W.World g.F.Files c.args.from.now c.args.to.now c.args.inodes.now c.meet.new.inodes c.meet.ensures.keeps c.meet.ensures.walked c.land.new.inodes c.land.ensures.keeps c.land.ensures.walked c.relocate.new.inodes c.in-Err-relocate.ensures.relocates.stamps _
+    stamps_moved g.W.World g.F.Files c.args.from.now c.args.to.now c.args.inodes.now c.meet.new.inodes c.meet.ensures.keeps c.meet.ensures.walked
+    c.land.new.inodes c.land.ensures.keeps c.land.ensures.walked c.relocate.new.inodes c.in-Err-relocate.ensures.relocates.stamps _
