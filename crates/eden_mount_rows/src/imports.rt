@@ -1,6 +1,7 @@
 use eden_import::{FLIGHTS_LIMIT, Imports, PASSES_LIMIT, Wanted};
 use eden_model::{Cause, Id, Key, ObjKind};
-use std::alloc::Global;
+use linked_list_allocator::LocalHeap;
+use std::alloc::{Allocator, Global};
 use std::process::Abort;
 
 /// A call, and what it must answer. Keys are told apart by a number.
@@ -32,7 +33,7 @@ fn key(number: u8) -> Key {
     }
 }
 
-fn want(rt: &impl Abort, imports: &mut Imports<Global>, key: Key, pass: u32) -> Wanted {
+fn want<A: Allocator>(rt: &impl Abort, imports: &mut Imports<A>, key: Key, pass: u32) -> Wanted {
     assert!(rt; pass >= 1 && pass <= imports.passes());
     match imports.wanted(pass) {
         None => imports.want(key, pass),
@@ -57,33 +58,42 @@ fn failure_of(number: Option<(u8, Cause)>) -> Option<(Key, Cause)> {
     }
 }
 
-fn leave(rt: &impl Abort, imports: &mut Imports<Global>, key: Key, pass: u32) {
+fn leave<A: Allocator>(rt: &impl Abort, imports: &mut Imports<A>, key: Key, pass: u32) {
     assert!(rt; pass >= 1 && pass <= imports.passes());
     imports.leave(key, pass);
 }
 
-fn await_key(rt: &impl Abort, imports: &mut Imports<Global>, key: Key, pass: u32) -> Wanted {
+fn await_key<A: Allocator>(
+    rt: &impl Abort,
+    imports: &mut Imports<A>,
+    key: Key,
+    pass: u32,
+) -> Wanted {
     assert!(rt; pass >= 1 && pass <= imports.passes());
     imports.await_key(key, pass)
 }
 
-fn quit(rt: &impl Abort, imports: &mut Imports<Global>, pass: u32) {
+fn quit<A: Allocator>(rt: &impl Abort, imports: &mut Imports<A>, pass: u32) {
     assert!(rt; pass >= 1 && pass <= imports.passes());
     imports.quit(pass);
 }
 
-fn failure(rt: &impl Abort, imports: &mut Imports<Global>, pass: u32) -> Option<(Key, Cause)> {
+fn failure<A: Allocator>(
+    rt: &impl Abort,
+    imports: &mut Imports<A>,
+    pass: u32,
+) -> Option<(Key, Cause)> {
     assert!(rt; pass >= 1 && pass <= imports.passes());
     imports.failure(pass)
 }
 
-fn wanted(rt: &impl Abort, imports: &Imports<Global>, pass: u32) -> Option<Key> {
+fn wanted<A: Allocator>(rt: &impl Abort, imports: &Imports<A>, pass: u32) -> Option<Key> {
     assert!(rt; pass >= 1 && pass <= imports.passes());
     imports.wanted(pass)
 }
 
 /// Makes a call of a key by a pass, or asks of it: whether the answer is the one that it must be.
-fn make_of_pass(rt: &impl Abort, imports: &mut Imports<Global>, call: &Call) -> bool {
+fn make_of_pass<A: Allocator>(rt: &impl Abort, imports: &mut Imports<A>, call: &Call) -> bool {
     match call {
         Call::Want(number, pass, answer) => { want(rt, imports, key(*number), *pass) == *answer }
         Call::Await(number, pass, answer) => {
@@ -96,7 +106,7 @@ fn make_of_pass(rt: &impl Abort, imports: &mut Imports<Global>, call: &Call) -> 
 }
 
 /// Makes a call: whether the answer is the one that it must be.
-fn make(rt: &impl Abort, imports: &mut Imports<Global>, call: &Call) -> bool {
+fn make<A: Allocator>(rt: &impl Abort, imports: &mut Imports<A>, call: &Call) -> bool {
     match call {
         Call::Leave(number, pass) => {
             leave(rt, imports, key(*number), *pass);
@@ -134,7 +144,7 @@ static JOINED_AND_FAILED: [Call; 16] = [
 ];
 
 /// Makes the calls: each must answer what it says.
-fn make_each(rt: &impl Abort, imports: &mut Imports<Global>, calls: &[Call]) {
+fn make_each<A: Allocator>(rt: &impl Abort, imports: &mut Imports<A>, calls: &[Call]) {
     for (at, call) in calls.iter().enumerate() {
         assert!(rt; make(rt, imports, call), "at {at}");
     }
@@ -182,4 +192,23 @@ fn awaited(rt: HostRuntime) {
     let imports = Imports::new(rt.alloc(), PASSES_LIMIT, FLIGHTS_LIMIT);
     let mut imports = imports.expect(&rt, "memory");
     make_each(&rt, &mut imports, &AWAITED);
+}
+
+/// The smallest heap that has room for a queue of three passes and one flight.
+fn narrowest(rt: &impl Abort, alloc: Global) -> LocalHeap {
+    for blocks in 0..1024usize {
+        let heap = LocalHeap::new(alloc, blocks * 16).expect(rt, "memory");
+        if Imports::new(&heap, 3, 1).is_ok() {
+            return heap;
+        }
+    }
+    None.expect(rt, "a heap")
+}
+
+#[test]
+fn calls_of_a_queue_take_no_memory(rt: HostRuntime) {
+    let heap = narrowest(&rt, rt.alloc());
+    let mut imports = Imports::new(&heap, 3, 1).expect(&rt, "memory");
+    assert!(rt; heap.free() == 0);
+    make_each(&rt, &mut imports, &JOINED_AND_FAILED);
 }

@@ -13,6 +13,7 @@ use std::alloc::Global;
 use std::marker::Brand;
 use std::process::Abort;
 use std::sync::Wait;
+use std::sync::atomic::{AtomicBool, Ordering};
 use std::thread::{Threads, join, yield_now};
 
 /// A mount of three passes over a shelf, as it is shared.
@@ -160,11 +161,12 @@ fn ask<J: Naming, R: Wait + Abort>(rt: &R, alloc: Global, shared: &Held<J>, pass
     }
 }
 
-/// Two callers on threads of their own. Then the mount is stopped.
+/// Two callers on threads of their own. Then the mount is stopped, which is noted first.
 fn ask_twice<J: Naming + Send + Sync, R: Threads + Wait + Abort + Sync>(
     rt: &R,
     alloc: Global,
     shared: &Held<J>,
+    is_stopped: &AtomicBool,
     first: &mut Pass<J>,
     second: &mut Pass<J>,
 ) {
@@ -173,6 +175,7 @@ fn ask_twice<J: Naming + Send + Sync, R: Threads + Wait + Abort + Sync>(
         || ask(rt, alloc, shared, first),
         || ask(rt, alloc, shared, second),
     );
+    is_stopped.store(true, Ordering::SeqCst);
     shared.stop(rt);
 }
 
@@ -186,9 +189,15 @@ fn source(rt: &impl Abort, alloc: Global, has: bool) -> MemorySource<Outside> {
     source
 }
 
-/// Fetches until the mount is stopped, from a source that has the object.
-fn fetch<J: Naming, R: Wait + Abort>(rt: &R, alloc: Global, shared: &Held<J>) {
+/// Fetches until the mount is stopped, and no shorter, from a source that has the object.
+fn fetch<J: Naming, R: Wait + Abort>(
+    rt: &R,
+    alloc: Global,
+    shared: &Held<J>,
+    is_stopped: &AtomicBool,
+) {
     shared.fetch_all(rt, &mut source(rt, alloc, true));
+    assert!(rt; is_stopped.load(Ordering::SeqCst));
 }
 
 /// How often a fetcher asks for a key that a caller is about to want: for seconds.
@@ -228,8 +237,13 @@ fn fetch_twice<J: Naming + Send + Sync, R: Threads + Wait + Abort + Sync>(
     rt: &R,
     alloc: Global,
     shared: &Held<J>,
+    is_stopped: &AtomicBool,
 ) {
-    join(rt, || fetch(rt, alloc, shared), || fetch(rt, alloc, shared));
+    join(
+        rt,
+        || fetch(rt, alloc, shared, is_stopped),
+        || fetch(rt, alloc, shared, is_stopped),
+    );
 }
 
 /// Two callers beside two fetchers, until both callers were told three times.
@@ -245,10 +259,11 @@ fn race<J: Naming + Send + Sync, R: Threads + Wait + Abort + Sync>(
     let mut three = three_of(rt, passes);
     let lock = &shared;
     let (first, second) = (&mut three.first, &mut three.second);
+    let is_stopped = AtomicBool::new(false);
     join(
         rt,
-        || fetch_twice(rt, alloc, lock),
-        || ask_twice(rt, alloc, lock, first, second),
+        || fetch_twice(rt, alloc, lock, &is_stopped),
+        || ask_twice(rt, alloc, lock, &is_stopped, first, second),
     );
     assert!(rt; entries(rt, alloc, shared, three) == 6);
 }
