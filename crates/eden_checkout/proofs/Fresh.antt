@@ -1,11 +1,9 @@
 -- Files that nothing was stored in show the commit's whole tree.
-use Rattle.std.proofs.Common.{◌≡◌, ◌≢◌, ◌⊎◌, ℕ, List, Option, None, sym, refl, ◌∙◌, ap, inl, inr}
+use Rattle.std.proofs.Common.{◌≡◌, ◌≢◌, ◌⊎◌, ℕ, None, refl, ◌∙◌, ap, inl, inr}
 use Rattle.std.proofs.Math.Path.{fun_ext}
-use Rattle.std.specs.Option.{option_and_then}
 use Rattle.eden_model.specs.declared.id.Id.{Id}
 use Rattle.eden_model.specs.declared.kind.Origin.TheVariants as origin
 use Rattle.eden_model.specs.Repository.{Repository, Whole}
-use Rattle.eden_overlay_format.specs.Values.{state_in}
 use Rattle.eden_overlay.specs.Files.{Stored}
 use Rattle.eden_overlay.specs.Held.{without}
 use Rattle.eden_overlay.specs.Laws.{RootlessSound}
@@ -14,7 +12,7 @@ use Rattle.eden_tie.specs.Shown.{shown_in}
 use Rattle.eden_tie.specs.ShownLaws.{ShowsAway}
 use Rattle.eden_inode.specs.Tables.{fresh_root}
 use Rattle.eden_checkout.specs.Laws.{OpensFresh}
-use Rattle.eden_checkout.specs.Opening.{AreNone, CanOpen, files_show, root_from}
+use Rattle.eden_checkout.specs.Opening.{AreNone, files_show, root_from}
 use Rattle.eden_checkout.proofs.Opened.{nothing_named}
 
 abbrev pub nothing : Stored

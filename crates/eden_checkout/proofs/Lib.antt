@@ -2,4 +2,5 @@ pub mod CallerLemmas
 pub mod Opened
 pub mod Fresh
 pub mod Closed
+pub mod Tidied
 pub mod Tries

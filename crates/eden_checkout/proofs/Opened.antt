@@ -1,5 +1,5 @@
 -- A table over files as they are opened.
-use Rattle.std.proofs.Common.{◌≡◌, ◌≢◌, ◌<◌, ◌⊎◌, ℕ, List, Option, Some, None, Result, Ok, Err, IfErr, sym, refl, ◌∙◌, ap, subst, inl, inr, arith}
+use Rattle.std.proofs.Common.{◌≡◌, ◌≢◌, ◌<◌, ◌⊎◌, ℕ, List, Option, Some, None, Result, Ok, Err, IfErr, IsSome, sym, refl, ◌∙◌, ap, subst, inl, inr, arith}
 use Rattle.std.proofs.lemmas.Option.{none-some}
 use Rattle.std.specs.Option.{option_and_then}
 use Rattle.std.specs.Result.{IsErrAnd}
@@ -11,9 +11,13 @@ use Rattle.eden_model.specs.Failures.{Rose}
 use Rattle.eden_model.specs.Repository.{Repository}
 use Rattle.eden_model.specs.Trees.{Tree}
 use Rattle.eden_overlay_format.specs.declared.stored_entry.StoredEntry.{StoredEntry}
-use Rattle.eden_overlay_format.specs.Values.{entries_in}
+use Rattle.eden_overlay_format.specs.declared.header.Identifier.TheVariants as identifier
+use Rattle.eden_overlay_format.specs.declared.state.State.{State}
+use Rattle.eden_overlay_format.specs.Values.{entries_in, state_in}
+use Rattle.eden_overlay.specs.declared.fault.GetFault.TheVariants as get
+use Rattle.eden_overlay.specs.Getting.{Explains}
 use Rattle.eden_overlay.specs.Files.{Stored}
-use Rattle.eden_overlay.specs.Held.{without}
+use Rattle.eden_overlay.specs.Held.{HoldsState, without}
 use Rattle.eden_overlay.specs.Laws.{IsStray}
 use Rattle.eden_overlay.specs.declared.rescan.RescanFault.{RescanFault}
 use Rattle.eden_overlay.specs.declared.rescan.RescanFault.TheVariants as rescan
@@ -29,7 +33,7 @@ use Rattle.eden_checkout.specs.declared.fault.OpenFault.TheVariants as opens
 use Rattle.eden_checkout.specs.declared.opening.Opening.{Opening}
 use Rattle.eden_checkout.specs.declared.opening.Opening.TheVariants as opening
 use Rattle.eden_checkout.specs.declared.opening.Start.{Start}
-use Rattle.eden_checkout.specs.Opening.{root_from, files_show, CanOpen, MayOpen, AreNone, StartsAt, Starts, of_rescan, AreAccused, IsRescanRefusal, IsRefusal}
+use Rattle.eden_checkout.specs.Opening.{root_from, files_show, CanOpen, MayOpen, AreNone, StartsAt, Starts, of_rescan, AreAccused, IsOpenFault, IsRescanRefusal, IsRefusal}
 
 own_stands : (root : Id) (o : Option (List ℕ)) → root_from root o ≢ origin.Own → o ≡ None
 own_stands root None other = refl
@@ -96,18 +100,31 @@ rescan_refused honest F old new (rescan.Damaged k refusal) why = λ h. (why h, a
 rescan_refused honest F old new rescan.Device rose = rose
 rescan_refused honest F old new rescan.Memory none = none
 
--- .. by which the files that were looked at are those that were given
+-- where the files that were looked at are those that were given, and nothing failed before, so is the refusal
+module _ (honest : Type 0) (F G : Stored) (old looked new : ℕ) (same : honest → G ≡ F) (count : looked ≡ old) where
+  pub rescan_over : (fault : OpenFault) → IsRescanRefusal honest G looked new fault → IsRescanRefusal honest F old new fault
+  rescan_over opens.NotClean h = h
+  rescan_over (opens.OtherRoot stored) h = h
+  rescan_over (opens.Damaged k refusal) h = λ outside. subst (λ (H : Stored). AreAccused H (rescan.Damaged k refusal)) (same outside) (h outside)
+  rescan_over opens.Device h = subst (λ n. Rose n new) count h
+  rescan_over opens.Memory h = h
+  rescan_over (opens.Dangling k) h = λ outside. subst (λ (H : Stored). AreAccused H (rescan.Dangling k)) (same outside) (h outside)
+  rescan_over (opens.Twice k) h = λ outside. subst (λ (H : Stored). AreAccused H (rescan.Twice k)) (same outside) (h outside)
+
+  pub state_over : (root : Id) (fault : OpenFault) → IsOpenFault honest root G looked new fault → IsOpenFault honest root F old new fault
+  state_over root opens.NotClean h = λ outside. subst (λ (H : Stored). (H 0 ≡ None) × ((k : ℕ) × IsSome (H k))) (same outside) (h outside)
+  state_over root (opens.OtherRoot stored) h = (h.0, λ outside. subst (λ (H : Stored). (s : State) × (HoldsState H s × (s.root ≡ stored))) (same outside) (h.1 outside))
+  state_over root (opens.Damaged k refusal) h =
+      (h.0, λ outside. subst (λ (H : Stored). Explains identifier.File state_in (H 0) (get.Damaged refusal)) (same outside) (h.1 outside))
+  state_over root opens.Device h = subst (λ n. Rose n new) count h
+  state_over root opens.Memory h = h
+  state_over root (opens.Dangling k) h = h
+  state_over root (opens.Twice k) h = h
+
 pub refused_over : (honest : Type 0) (how : Opening) (root : Id) (F G : Stored) (old looked new : ℕ) (fault : OpenFault) → how ≡ opening.Rescan → (honest → G ≡ F) → looked ≡ old
     → IsRescanRefusal honest G looked new fault → IsRefusal how honest root F old new fault
-refused_over honest how root F G old looked new fault is same count why = subst (λ (o : Opening). IsRefusal o honest root F old new fault) (sym is) (over fault why) where
-  over : (fault : OpenFault) → IsRescanRefusal honest G looked new fault → IsRescanRefusal honest F old new fault
-  over opens.NotClean h = h
-  over (opens.OtherRoot stored) h = h
-  over (opens.Damaged k refusal) h = λ outside. subst (λ (H : Stored). AreAccused H (rescan.Damaged k refusal)) (same outside) (h outside)
-  over opens.Device h = subst (λ n. Rose n new) count h
-  over opens.Memory h = h
-  over (opens.Dangling k) h = λ outside. subst (λ (H : Stored). AreAccused H (rescan.Dangling k)) (same outside) (h outside)
-  over (opens.Twice k) h = λ outside. subst (λ (H : Stored). AreAccused H (rescan.Twice k)) (same outside) (h outside)
+refused_over honest how root F G old looked new fault is same count why =
+    subst (λ (o : Opening). IsRefusal o honest root F old new fault) (sym is) (rescan_over honest F G old looked new same count fault why)
 
 pub handed_up : {X Y : Type 0} (r : Result X Y) (e : Y) (P : Y → Type 0) → IsErrAnd r (λ (x : Y). x ≡ e) → P e → IfErr r P
 handed_up (Ok v) e P is h = tt

@@ -1,5 +1,4 @@
 -- What contracts see of a checkout.
-use Rattle.std.specs.Prelude.{◌≡◌}
 use Rattle.eden_model.specs.declared.id.Id.{Id}
 use Rattle.eden_cache.specs.Cache.{Cache}
 use Rattle.eden_inode.specs.Tables.{Table}

@@ -3,3 +3,4 @@ pub mod Checkouts
 pub mod Closing
 pub mod Attempted
 pub mod Laws
+pub mod Tidying

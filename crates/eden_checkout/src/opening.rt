@@ -1,5 +1,6 @@
 //! What stands in an overlay when it is opened.
 ghost use Rattle.std.specs.Prelude.{◌≡◌, ◌≤◌, ℕ, IsSome, OnOk, OnErr, IfOk, IfErr};
+ghost use Rattle.eden_model.specs.declared.id.Id.{Id};
 ghost use Rattle.eden_overlay_format.specs.Directory.{number_least, number_end};
 ghost use Rattle.eden_overlay_format.specs.State.{IsGoodState};
 ghost use Rattle.eden_overlay.specs.Held.{HoldsState, without};
@@ -38,7 +39,30 @@ pub(crate) struct Start {
     pub(crate) next: u64,
 }
 
-/// The state of an overlay that has files.
+/// The state of an overlay that has files, whatever tree it stands on.
+pub(crate) fn stored_state<W: World, F: Files<W>>(
+    alloc: Global,
+    overlay: &mut Overlay<W, F>,
+) -> Result<State, OpenFault>
+    requires some { W.honest → (k : ℕ) × IsSome (F.stored overlay.old k) }
+    ensures ok { W.honest → IfOk result (HoldsState (F.stored overlay.old)) }
+    ensures good { IfOk result IsGoodState }
+    ensures refused { IfErr result (λ fault. (root : Id)
+        → IsOpenFault W.honest root (F.stored overlay.old) (F.failures overlay.old) (F.failures overlay.new) fault) }
+    ensures unchanged { W.honest → F.stored overlay.new ≡ F.stored overlay.old }
+    ensures unfailed { OnOk result (F.failures overlay.new ≡ F.failures overlay.old) }
+    ensures counted { F.failures overlay.old ≤ F.failures overlay.new }
+{
+    match overlay.get_state(alloc) {
+        Err(GetFault::Absent) => Err(OpenFault::NotClean),
+        Err(GetFault::Damaged(refusal)) => Err(OpenFault::Damaged(STATE_FILE, refusal)),
+        Err(GetFault::Device) => Err(OpenFault::Device),
+        Err(GetFault::Memory) => Err(OpenFault::Memory),
+        Ok(state) => Ok(state),
+    }
+}
+
+/// The state of an overlay that has files, which stands on that tree.
 fn state_of<W: World, F: Files<W>>(
     alloc: Global,
     overlay: &mut Overlay<W, F>,
@@ -53,18 +77,11 @@ fn state_of<W: World, F: Files<W>>(
     ensures unchanged { W.honest → F.stored overlay.new ≡ F.stored overlay.old }
     ensures counted { F.failures overlay.old ≤ F.failures overlay.new }
 {
-    match overlay.get_state(alloc) {
-        Err(GetFault::Absent) => Err(OpenFault::NotClean),
-        Err(GetFault::Damaged(refusal)) => Err(OpenFault::Damaged(STATE_FILE, refusal)),
-        Err(GetFault::Device) => Err(OpenFault::Device),
-        Err(GetFault::Memory) => Err(OpenFault::Memory),
-        Ok(state) => {
-            if state.root != root {
-                return Err(OpenFault::OtherRoot(state.root));
-            }
-            Ok(state)
-        }
+    let state = stored_state(alloc, overlay)?;
+    if state.root != root {
+        return Err(OpenFault::OtherRoot(state.root));
     }
+    Ok(state)
 }
 
 /// The next number by what the directories say.

@@ -2,11 +2,11 @@
 ghost use Rattle.std.specs.Prelude.{◌≡◌, []};
 
 use eden_cache::ObjectCache;
-use eden_checkout::{Checkout, OpenFault};
+use eden_checkout::{Checkout, OpenFault, TidyFault, tidy};
 use eden_model::{Attempt, Bytes, Key, Name, Outside, Path, Reply, Request};
 use eden_mount::Attempts;
 use eden_object::Object;
-use eden_overlay::{Files, MemoryFiles};
+use eden_overlay::{Files, MemoryFiles, Overlay, Removed};
 use eden_overlay_format::Refusal;
 use eden_samples::{ONE_FILE, Sample, TWO_FILES, VERSION_1};
 use std::alloc::Global;
@@ -194,4 +194,50 @@ fn files_with_a_damaged_state_are_refused(rt: HostRuntime) {
     assert!(rt; files.replace(rt.alloc(), 0, b"OVFL").is_ok());
     let fault = refusal(&rt, rt.alloc(), files, ONE_FILE);
     assert!(rt; fault == Some(OpenFault::Damaged(0, Refusal::Short)));
+}
+
+/// What a tidying answers over these files, with an orphan of six bytes beside them, and the files then.
+fn tidied(
+    rt: &impl Abort,
+    alloc: Global,
+    mut files: Stored,
+) -> (Result<Removed, TidyFault>, Stored) {
+    files.replace(alloc, 77, b"orphan").expect(rt, "memory");
+    let mut overlay = Overlay::<Outside, _>::new(files);
+    let answer = tidy(alloc, &mut overlay);
+    (answer, overlay.into_files())
+}
+
+#[test]
+fn closed_files_are_tidied_and_opened_again(rt: HostRuntime) {
+    let (answer, mut files) = tidied(&rt, rt.alloc(), changed(&rt, rt.alloc()));
+    assert!(rt; answer == Ok(Removed { files: 1, bytes: 6 }));
+    for (number, wanted) in SIZES {
+        assert!(rt; size(rt.alloc(), &mut files, *number) == *wanted);
+    }
+    assert!(rt; size(rt.alloc(), &mut files, 77) == 0);
+    live(&rt, rt.alloc(), files, OPENED_AGAIN);
+}
+
+#[test]
+fn files_of_an_open_mount_are_not_tidied(rt: HostRuntime) {
+    let tree = opened(&rt, rt.alloc(), changed(&rt, rt.alloc()));
+    let (answer, mut files) = tidied(&rt, rt.alloc(), tree.abandon());
+    assert!(rt; answer == Err(TidyFault::Open(OpenFault::NotClean)));
+    assert!(rt; size(rt.alloc(), &mut files, 77) == 6);
+}
+
+#[test]
+fn files_with_a_damaged_state_are_not_tidied(rt: HostRuntime) {
+    let mut files = changed(&rt, rt.alloc());
+    assert!(rt; files.replace(rt.alloc(), 0, b"OVFL").is_ok());
+    let (answer, mut files) = tidied(&rt, rt.alloc(), files);
+    assert!(rt; answer == Err(TidyFault::Open(OpenFault::Damaged(0, Refusal::Short))));
+    assert!(rt; size(rt.alloc(), &mut files, 77) == 6);
+}
+
+#[test]
+fn no_files_have_no_orphans(rt: HostRuntime) {
+    let mut overlay = Overlay::<Outside, _>::new(Stored::new(rt.alloc()));
+    assert!(rt; tidy(rt.alloc(), &mut overlay) == Ok(Removed { files: 0, bytes: 0 }));
 }

@@ -1,6 +1,5 @@
-use Rattle.std.proofs.Common.{rules, ◌≡◌, ℕ, sym, ◌∙◌, ap, subst, ◌≤◌}
+use Rattle.std.proofs.Common.{rules, sym, ◌∙◌, ap, subst}
 use Rattle.eden_overlay_format.specs.declared.state.State.{State}
-use Rattle.eden_overlay_format.specs.Directory.{number_least, number_end}
 use Rattle.eden_overlay_format.specs.State.{IsGoodState}
 use Rattle.eden_overlay.specs.Files.{Stored}
 use Rattle.eden_overlay.specs.Held.{HoldsState, with_state}

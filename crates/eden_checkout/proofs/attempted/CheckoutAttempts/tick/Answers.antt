@@ -1,6 +1,6 @@
-use Rattle.std.proofs.Common.{◌≡◌, ◌∙◌, sym, ap, subst}
+use Rattle.std.proofs.Common.{ap, subst}
 use Rattle.eden_inode.specs.Tables.{Table}
-use Rattle.eden_mount.specs.Tables.{Tries, Ticks, Stores, Unloads}
+use Rattle.eden_mount.specs.Tables.{Ticks}
 use Rattle.eden_checkout.specs.Attempted.{attempted}
 use Rattle.eden_checkout.specs.Checkouts.{Checkout}
 use Rattle.eden_checkout.proofs.Tries.{ticks}

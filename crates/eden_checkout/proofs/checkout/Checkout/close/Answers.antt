@@ -1,6 +1,5 @@
 use Rattle.std.proofs.Common.{[], ◌∙◌, ◌≡◌, None, sym, refl, ap, subst}
 use Rattle.eden_model.specs.declared.id.Id.{Id}
-use Rattle.eden_model.specs.declared.kind.Origin.{Origin}
 use Rattle.eden_overlay.specs.Held.{HoldsState}
 use Rattle.eden_model.specs.Trees.{Tree}
 use Rattle.eden_overlay.specs.Files.{Stored}

@@ -1,0 +1,49 @@
+-- What the tidying of an overlay leaves, and why it isn't done.
+use Rattle.std.specs.Prelude.{◌≡◌, ◌⊎◌, ℕ, List, length}
+use Rattle.std.specs.Ordering.{nat_cmp}
+use Rattle.std.specs.List.Sorted.{IsStrictlySortedBy}
+use Rattle.eden_model.specs.declared.id.Id.{Id}
+use Rattle.eden_model.specs.Failures.{Rose}
+use Rattle.eden_model.specs.Repository.{Repository}
+use Rattle.eden_model.specs.Trees.{Tree}
+use Rattle.eden_overlay_format.specs.declared.state.State.{State}
+use Rattle.eden_overlay.specs.declared.files.FilesFault.TheVariants as files
+use Rattle.eden_overlay.specs.declared.tidy.Removed.{Removed}
+use Rattle.eden_overlay.specs.Files.{Stored}
+use Rattle.eden_overlay.specs.Held.{HoldsState}
+use Rattle.eden_overlay.specs.Tidying.{ListsOrphans, IsTidiedInPart, bytes_in}
+use Rattle.eden_checkout.specs.declared.fault.OpenFault.{OpenFault}
+use Rattle.eden_checkout.specs.declared.tidying.TidyFault.{TidyFault}
+use Rattle.eden_checkout.specs.declared.tidying.TidyFault.TheVariants as tidy
+use Rattle.eden_checkout.specs.Opening.{AreNone, files_show, CanOpen, IsOpenFault, IsRescanRefusal}
+
+-- there are no files, or a state among them, which a close stores last and an opening removes
+abbrev pub IsClosed : Stored → Type 0
+IsClosed F = AreNone F ⊎ ((s : State) × HoldsState F s)
+
+-- over whatever commit's tree, the files G show what F show
+abbrev pub ShowsSame : Stored → Stored → Type 0
+ShowsSame F G = (R : Repository) (root : Id) → files_show R root G ≡ files_show R root F
+
+-- .. and are closed where F are
+abbrev pub StaysClosed : Stored → Stored → Type 0
+StaysClosed F G = (R : Repository) (tree : Tree) (root : Id) → CanOpen R tree root F → CanOpen R tree root G
+
+-- what was removed is as many files as F have orphans, and as many bytes as these have together
+pub record CountsOrphans (F : Stored) (removed : Removed) : Type 0 where
+  pub orphans : List ℕ
+  pub listed : ListsOrphans orphans F
+  pub rising : IsStrictlySortedBy nat_cmp orphans
+  pub files : removed.files ≡ length orphans
+  pub bytes : removed.bytes ≡ bytes_in F orphans
+
+-- The overlay isn't one that was closed: as an opening finds on whatever tree, or as a rescan does. F are the files, and the
+-- counts are those of the device's failures before and then.
+abbrev pub IsTidyRefusal : Type 0 → Stored → ℕ → ℕ → OpenFault → Type 0
+IsTidyRefusal honest F old new fault =
+    ((root : Id) → IsOpenFault honest root F old new fault) ⊎ IsRescanRefusal honest F old new fault
+
+-- a refusal leaves the files F, and a removal that failed the files G, which lack some orphans
+abbrev pub IsTidyFault : Type 0 → Stored → Stored → ℕ → ℕ → TidyFault → Type 0
+IsTidyFault honest F G old new (tidy.Open fault) = IsTidyRefusal honest F old new fault × (honest → G ≡ F)
+IsTidyFault honest F G old new (tidy.Remove fault) = (fault ≡ files.Device) × Rose old new × (honest → IsTidiedInPart F G)
