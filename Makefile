@@ -34,11 +34,12 @@ lint: ## looks at layout, columns, types, pages and wrong bodies, and runs the t
 wrong-bodies: ## tries the wrong bodies that the gate leaves out, or those of CRATE=NAME; goes on where it was stopped
 	@scripts/wrong-bodies $(CRATE)
 
-soak: ## a million random requests: the slow oracle beside the second table of operations, attempts beside the slow oracle, and events on mounts; ten minutes of many clients; and many rounds in want of memory and room
+soak: ## a million random requests: the slow oracle beside the second table of operations, attempts beside the slow oracle, and events on mounts; ten minutes of many clients; many rounds in want of memory and room; and eleven million requests of one session
 	tests/oracle 1000000
 	scripts/soak-rows
 	@scripts/build-mountd
 	tests/pressure crates/mountd/out/mountd 2000
+	tests/long-session crates/mountd/out/mountd 10000000 1000000
 
 bench: ## times the work that grows with its input, at full size, and writes docs/measured/speed.md
 	@scripts/bench

@@ -104,7 +104,8 @@ def plain(text: str) -> str:
 
 
 def head(name: str, about: str) -> list[str]:
-    return ['.\\" Written by `tests/manual --write`.', f'.TH {escaped(name).upper()} 1 "" "Yakembi"', ".SH NAME",
+    source = f"Yakembi {(TOP / 'VERSION').read_text().strip()}"
+    return ['.\\" Written by `tests/manual --write`.', f'.TH {escaped(name).upper()} 1 "" "{source}"', ".SH NAME",
             f"{escaped(name)} \\- {escaped(about)}", ".SH SYNOPSIS"]
 
 

@@ -18,11 +18,11 @@ use Rattle.clap.specs.Faults.{fault_of}
 use Rattle.clap.specs.Values.{kind_of}
 use Rattle.clap.specs.declared.error.Error.{Error}
 use Rattle.clap.specs.declared.error.kind.ErrorKind.TheVariants.{OutOfMemory}
-use Rattle.eden_command_line.specs.CommandLine.{IsTaken, NamesNotOne, Refuses, RefusesNumber, RefusesNumbers, RefusesValues, command_name, import, mountd_line, named, objects, serve, stdio, subcommands, value_of}
+use Rattle.eden_command_line.specs.CommandLine.{IsTaken, NamesNotOne, Refuses, RefusesNumber, RefusesNumbers, RefusesValues, command_name, import, mountd_line, named, objects, serve, stdio, subcommands, tidy, value_of}
 use Rattle.eden_command_line.specs.Grammar.{HasRequired, Subcommand, value_in}
-use Rattle.eden_command_line.specs.Numbers.{IsNoNumber, number_name}
+use Rattle.eden_command_line.specs.Numbers.{IsNoNumber, IsNoValue, number_name}
 use Rattle.eden_command_line.specs.declared.numbers.NumberOption.{NumberOption}
-use Rattle.eden_command_line.specs.declared.numbers.NumberOption.TheVariants.{Remote}
+use Rattle.eden_command_line.specs.declared.numbers.NumberOption.TheVariants.{History, Remote}
 use Rattle.eden_command_line.specs.declared.command.MountCommand.{MountCommand}
 use Rattle.eden_command_line.specs.declared.command.MountCommand.TheVariants as by
 use Rattle.eden_command_line.specs.declared.command.OptionsError.{OptionsError}
@@ -105,7 +105,7 @@ required_met (subcommand ∷ rest) one rows apart (inr among) (inl is) =
 required_met (subcommand ∷ rest) one rows apart (inr among) (inr later) = required_met rest one rows apart.1 among later
 
 apart : AreApart subcommands
-apart = ((refl, (refl, (refl, tt))), ((refl, (refl, tt)), ((refl, tt), (tt, tt))))
+apart = ((refl, (refl, (refl, (refl, tt)))), ((refl, (refl, (refl, tt))), ((refl, (refl, tt)), ((refl, tt), (tt, tt)))))
 
 -- what a subcommand requires is there, where it was met
 pub required-taken : (one : Subcommand) (words : List Text) (f : Found) → Includes subcommands one → IsTaken words
@@ -113,17 +113,19 @@ pub required-taken : (one : Subcommand) (words : List Text) (f : Found) → Incl
 required-taken one words f among taken met =
     required_met subcommands one (rows_of f) apart among (subst (Meets subcommands) met (Meets-taken (codes "mountd") subcommands words taken))
 
--- what is neither `stdio` nor `serve` nor `objects` is `import`
+-- what is neither `stdio` nor `serve` nor `objects` nor `tidy` is `import`
 pub import-named : (words : List Text) (m : ArgMatches) → IsTaken words → subcommand_rows_of m ≡ subcommand_of mountd_line words
     → (subcommand_name_of m ≡ Some stdio.0 → false ≡ true) → (subcommand_name_of m ≡ Some serve.0 → false ≡ true)
-    → (subcommand_name_of m ≡ Some objects.0 → false ≡ true) → subcommand_name_of m ≡ Some import.0
-import-named words m taken rows no_stdio no_serve no_objects =
+    → (subcommand_name_of m ≡ Some objects.0 → false ≡ true) → (subcommand_name_of m ≡ Some tidy.0 → false ≡ true)
+    → subcommand_name_of m ≡ Some import.0
+import-named words m taken rows no_stdio no_serve no_objects no_tidy =
     elim (Meets-taken (codes "mountd") subcommands words taken) [
       | inl is ↦ absurd (true≢false (sym (no_stdio (named_by m words stdio.0 is.0 rows is.1))))
       | inr (inl is) ↦ absurd (true≢false (sym (no_serve (named_by m words serve.0 is.0 rows is.1))))
       | inr (inr (inl is)) ↦ absurd (true≢false (sym (no_objects (named_by m words objects.0 is.0 rows is.1))))
       | inr (inr (inr (inl is))) ↦ named_by m words import.0 is.0 rows is.1
-      | inr (inr (inr (inr none))) ↦ absurd none
+      | inr (inr (inr (inr (inl is)))) ↦ absurd (true≢false (sym (no_tidy (named_by m words tidy.0 is.0 rows is.1))))
+      | inr (inr (inr (inr (inr none)))) ↦ absurd none
     ]
 
 pub named-met : (words : List Text) (f : Found) (name : Text) → subcommand_of mountd_line words ≡ Some (name, rows_of f) → named words ≡ Some name
@@ -180,15 +182,19 @@ numbers_refuse words f why taken met refused =
     by_fault (error.Number option) why = (taken, (λ command is. absurd (opens_none command (named words) (named-met words f objects.0 met) is)), why)
     by_fault error.Memory why = tt
 
+-- an option that isn't the history's doesn't take what is no number of it
+pub no_value : (option : NumberOption) (text : Text) → (option ≡ History → ⊥) → IsNoNumber option text → IsNoValue option text
+no_value option text other none = (none, λ says. other says.0)
+
 -- a value that an option was to read as its number
 pub refused_number : (value : Text → Option Text) (option refused : NumberOption) (text : Text) → refused ≡ option
-    → value (number_name option) ≡ Some text → IsNoNumber option text → RefusesNumber value refused
+    → value (number_name option) ≡ Some text → IsNoValue option text → RefusesNumber value refused
 refused_number value option refused text is given none =
     let own : RefusesNumber value option = (text, given, none) in
     subst (RefusesNumber value) (sym is) own
 
 pub refused_if_none : (value : Text → Option Text) (option : NumberOption) (text : Text) (r : Result ℕ NumberOption)
-    → value (number_name option) ≡ Some text → IfErr r (λ refused. (refused ≡ option) × IsNoNumber option text)
+    → value (number_name option) ≡ Some text → IfErr r (λ refused. (refused ≡ option) × IsNoValue option text)
     → IfErr r (RefusesNumber value)
 refused_if_none value option text (Ok number) given none = tt
 refused_if_none value option text (Err refused) given (is, none) = refused_number value option refused text is given none

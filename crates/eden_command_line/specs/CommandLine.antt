@@ -6,11 +6,12 @@ use Rattle.hex.specs.Hex.{encode_lower}
 use Rattle.eden_object.specs.IdText.{IsIdText}
 use Rattle.eden_mount.specs.Settings.{Settings}
 use Rattle.eden_command_line.specs.Grammar.{LineOption, Subcommand, flag, optional, program, required, value_in}
-use Rattle.eden_command_line.specs.Numbers.{GivesNumber, IsNoNumber, SaysNumber, number_name}
+use Rattle.eden_command_line.specs.Numbers.{GivesNumber, IsNoValue, SaysNumber, number_name}
 use Rattle.eden_command_line.specs.declared.numbers.NumberOption.{NumberOption}
 use Rattle.eden_command_line.specs.declared.numbers.NumberOption.TheVariants.{History, CacheEntries, CacheBytes, Remote, Port, Sessions, Fetchers}
 use Rattle.eden_command_line.specs.declared.command.Command.{Command}
 use Rattle.eden_command_line.specs.declared.command.Command.TheVariants as command
+use Rattle.eden_command_line.specs.declared.command.HistoryOption.TheVariants as keeping
 use Rattle.eden_command_line.specs.declared.command.ImportOptions.{ImportOptions}
 use Rattle.eden_command_line.specs.declared.command.MountCommand.{MountCommand}
 use Rattle.eden_command_line.specs.declared.command.MountCommand.TheVariants as by
@@ -21,6 +22,7 @@ use Rattle.eden_command_line.specs.declared.command.ObjectsOptions.{ObjectsOptio
 use Rattle.eden_command_line.specs.declared.command.OptionsError.{OptionsError}
 use Rattle.eden_command_line.specs.declared.command.OptionsError.TheVariants as error
 use Rattle.eden_command_line.specs.declared.command.ServeOptions.{ServeOptions}
+use Rattle.eden_command_line.specs.declared.command.TidyOptions.{TidyOptions}
 
 -- the name of a command that opens a mount
 abbrev pub command_name : MountCommand → Text
@@ -61,8 +63,15 @@ import_options = required (codes "from") ∷ required (codes "objects") ∷ []
 abbrev pub import : Subcommand
 import = (codes "import", import_options)
 
+abbrev pub tidy_options : List LineOption
+tidy_options = required (codes "overlay") ∷ []
+
+-- `tidy --overlay DIR`
+abbrev pub tidy : Subcommand
+tidy = (codes "tidy", tidy_options)
+
 abbrev pub subcommands : List Subcommand
-subcommands = stdio ∷ serve ∷ objects ∷ import ∷ []
+subcommands = stdio ∷ serve ∷ objects ∷ import ∷ tidy ∷ []
 
 abbrev pub mountd_line : App
 mountd_line = program (codes "mountd") subcommands
@@ -78,6 +87,10 @@ value_of words = value_in (subcommand_of mountd_line words)
 -- the flag is given: it has no value of its own, and `clap` says this one
 abbrev pub IsGiven : (Text → Option Text) → Text → Type 0
 IsGiven value name = value name ≡ Some (codes "true")
+
+-- no history is to be kept
+abbrev pub KeepsNone : (Text → Option Text) → Type 0
+KeepsNone value = value (number_name History) ≡ Some (codes "none")
 
 -- how many callers there are of the mount that a command opens
 abbrev pub SaysPasses : MountCommand → (Text → Option Text) → ℕ → Type 0
@@ -122,6 +135,7 @@ pub record IsMount (command : MountCommand) (value : Text → Option Text) (opti
   pub objects : SaysObjects value options.objects
   pub overlay : value (codes "overlay") ≡ option_map string_bytes options.overlay
   pub rescan : IsTrue options.rescan ↔ IsGiven value (codes "rescan")
+  pub history : (options.history ≡ keeping.Counted) ↔ KeepsNone value
   pub limits : SaysLimits command value options.limits
 
 -- what is to be served, where, and with how many fetchers is what these values say
@@ -141,20 +155,30 @@ pub record IsImport (value : Text → Option Text) (options : ImportOptions) : T
   pub from : value (codes "from") ≡ Some (string_bytes options.from)
   pub objects : value (codes "objects") ≡ Some (string_bytes options.objects)
 
+-- which overlay is to be tidied is what these values say
+abbrev pub IsTidy : (Text → Option Text) → TidyOptions → Type 0
+IsTidy value options = value (codes "overlay") ≡ Some (string_bytes options.overlay)
+
+-- the words ask which program this is: behind its name there is `--version` alone, which `clap` never sees
+abbrev pub AsksVersion : List Text → Type 0
+AsksVersion words = (name : Text) × (words ≡ name ∷ codes "--version" ∷ [])
+
 -- the words ask for this
 abbrev pub AsksFor : List Text → Command → Type 0
 AsksFor words (command.Stdio options) = (named words ≡ Some stdio.0) × IsMount by.Stdio (value_of words) options
 AsksFor words (command.Serve options) = (named words ≡ Some serve.0) × IsServed (value_of words) options
 AsksFor words (command.Objects options) = (named words ≡ Some objects.0) × AreServed (value_of words) options
 AsksFor words (command.Import options) = (named words ≡ Some import.0) × IsImport (value_of words) options
+AsksFor words (command.Tidy options) = (named words ≡ Some tidy.0) × IsTidy (value_of words) options
+AsksFor words command.Version = AsksVersion words
 
 -- `clap` takes the words
 abbrev pub IsTaken : List Text → Type 0
 IsTaken words = fault_of mountd_line words ≡ []
 
--- a value is no number that the option takes
+-- a value is none that the option takes
 abbrev pub RefusesNumber : (Text → Option Text) → NumberOption → Type 0
-RefusesNumber value option = (text : Text) × (value (number_name option) ≡ Some text) × IsNoNumber option text
+RefusesNumber value option = (text : Text) × (value (number_name option) ≡ Some text) × IsNoValue option text
 
 -- why `objects` refuses such values
 abbrev pub RefusesNumbers : (Text → Option Text) → OptionsError → Type 0

@@ -1,5 +1,5 @@
 -- The numbers that options take.
-use Rattle.std.specs.Prelude.{◌≡◌, ◌≤◌, ◌^◌, ◌-◌, ℕ, Option, Some, None, codes, decimal}
+use Rattle.std.specs.Prelude.{◌≡◌, ◌≤◌, ◌⊎◌, ◌^◌, ◌-◌, ℕ, Option, Some, None, codes, decimal}
 use Rattle.clap.specs.Words.{Text}
 use Rattle.eden_command_line.specs.declared.numbers.NumberOption.{NumberOption}
 use Rattle.eden_command_line.specs.declared.numbers.NumberOption.TheVariants.{History, CacheEntries, CacheBytes, Remote, Port, Sessions, Fetchers}
@@ -40,12 +40,20 @@ IsNumber option text n = (text ≡ decimal n) × (least_of option ≤ n) × (n �
 abbrev pub IsNoNumber : NumberOption → Text → Type 0
 IsNoNumber option text = (n : ℕ) → IsNumber option text n → ⊥
 
+-- the text stands for no number, as that of the history may
+abbrev pub SaysNone : NumberOption → Text → Type 0
+SaysNone option text = (option ≡ History) × (text ≡ codes "none")
+
+-- the option doesn't take the text
+abbrev pub IsNoValue : NumberOption → Text → Type 0
+IsNoValue option text = IsNoNumber option text × (¬ SaysNone option text)
+
 -- the number of an option that is given
 abbrev pub GivesNumber : NumberOption → Option Text → ℕ → Type 0
 GivesNumber option None n = ⊥
 GivesNumber option (Some text) n = IsNumber option text n
 
--- the number that the option has: its value's, or the default
+-- the number that the option has: its value's, or the default where there is no value or one that stands for none
 abbrev pub SaysNumber : NumberOption → ℕ → Option Text → ℕ → Type 0
 SaysNumber option default None n = n ≡ default
-SaysNumber option default (Some text) n = IsNumber option text n
+SaysNumber option default (Some text) n = IsNumber option text n ⊎ (SaysNone option text × (n ≡ default))

@@ -1,11 +1,12 @@
 //! What the program is asked for.
-ghost use Rattle.std.specs.Prelude.{◌≡◌, ◌≤◌, ◌⊎◌, ◌↔◌, IsTrue, ◌∷◌, [], IfErr, IfOk, OnOk, codes, false, map, option_map, string_bytes};
+ghost use Rattle.std.specs.Prelude.{◌≡◌, ◌≤◌, ◌⊎◌, ◌↔◌, IsTrue, ◌∷◌, [], IfErr, IfOk, OnOk, Ok, Some, codes, false, map, option_map, string_bytes};
 ghost use Rattle.clap.specs.declared.builder.command.Command.TheViews.{out-Command as fields_of};
 ghost use Rattle.clap.specs.declared.error.kind.ErrorKind.TheVariants.{OutOfMemory};
 ghost use Rattle.clap.specs.Words.{app_of, first_value, found_of, kind_of, rows_of, rule_of, shape_of, subcommand_of, subcommand_rows_of};
-ghost use Rattle.eden_command_line.specs.CommandLine.{AreServed, AsksFor, IsGiven, IsImport, IsMount, IsServed, IsTaken, NamesMount, Refuses, RefusesNumber, RefusesNumbers, RefusesObjects, RefusesValues, SaysLimits, SaysObjects, SaysPasses, command_name, import, import_options, kept_options, mount_options, mountd_line, objects, objects_options, serve, serve_options, stdio};
+ghost use Rattle.eden_command_line.specs.CommandLine.{AreServed, AsksFor, AsksVersion, IsGiven, IsImport, IsMount, IsServed, IsTaken, IsTidy, KeepsNone, NamesMount, Refuses, RefusesNumber, RefusesNumbers, RefusesObjects, RefusesValues, SaysLimits, SaysObjects, SaysPasses, command_name, import, import_options, kept_options, mount_options, mountd_line, objects, objects_options, serve, serve_options, stdio, tidy, tidy_options};
 ghost use Rattle.eden_command_line.specs.Grammar.{HasRequired, flag, option_rule, optional, required, subcommand_shape, with_options};
-ghost use Rattle.eden_command_line.specs.Numbers.{IsNoNumber, IsNumber, SaysNumber, least_of, most_of, number_name};
+ghost use Rattle.eden_command_line.specs.Numbers.{IsNoNumber, IsNoValue, IsNumber, SaysNumber};
+ghost use Rattle.eden_command_line.specs.Numbers.{least_of, most_of, number_name};
 ghost use Rattle.eden_command_line.specs.declared.numbers.NumberOption.TheVariants.{Sessions};
 ghost use Rattle.eden_command_line.specs.declared.command.MountCommand.TheVariants as by;
 ghost use Rattle.eden_command_line.specs.declared.command.OptionsError.TheVariants as error;
@@ -81,6 +82,15 @@ impl Display for MountCommand {
     }
 }
 
+/// What becomes of what a mount was asked and told.
+#[derive(Clone, Copy, Debug, PartialEq, Eq)]
+pub enum HistoryOption {
+    /// Each request is kept with its reply, up to the limit of the history.
+    Kept,
+    /// They are counted, and none is kept.
+    Counted,
+}
+
 /// What mount `mountd stdio` or `mountd serve` is asked to open.
 #[derive(Drop)]
 pub struct MountOptions {
@@ -92,6 +102,8 @@ pub struct MountOptions {
     pub overlay: Option<String>,
     /// Whether a folder that wasn't closed is opened by what its files say.
     pub rescan: bool,
+    /// Whether the history is kept, up to its limit, or only counted.
+    pub history: HistoryOption,
     /// The limits of the mount, which has a pass for each caller: one of `stdio`, and one a connection of `serve`.
     pub limits: Config,
 }
@@ -127,6 +139,13 @@ pub struct ImportOptions {
     pub objects: String,
 }
 
+/// What `mountd tidy` is asked to tidy.
+#[derive(Drop)]
+pub struct TidyOptions {
+    /// The folder of a closed overlay.
+    pub overlay: String,
+}
+
 /// What the program is asked for.
 #[derive(Drop)]
 pub enum Command {
@@ -134,6 +153,9 @@ pub enum Command {
     Serve(ServeOptions),
     Objects(ObjectsOptions),
     Import(ImportOptions),
+    Tidy(TidyOptions),
+    /// Which program this is.
+    Version,
 }
 
 /// Why a command line is refused.
@@ -173,12 +195,16 @@ impl From<NumberOption> for OptionsError {
 
 /// Reads the command line, of which the first word is the program's name.
 ///
-/// `Memory` may come at any words.
+/// `Memory` may come at any words but those that ask for the version.
 pub fn options<S: AsStr>(alloc: Global, words: &[S]) -> Result<Command, OptionsError>
-    ensures taken { OnOk result (IsTaken (map S.text words.now)) }
+    ensures version { AsksVersion (map S.text words.now) → result ≡ Ok Command.Version }
+    ensures taken { OnOk result (IsTaken (map S.text words.now) ⊎ AsksVersion (map S.text words.now)) }
     ensures ok { IfOk result (AsksFor (map S.text words.now)) }
     ensures err { IfErr result (Refuses (map S.text words.now)) }
 {
+    if asks_version(words) {
+        return Ok(Command::Version);
+    }
     let matches = matches_of(alloc, words)?;
     if let Some(given) = matches.subcommand_matches("stdio") {
         return Ok(Command::Stdio(mount_options(alloc, given, MountCommand::Stdio)?));
@@ -189,9 +215,22 @@ pub fn options<S: AsStr>(alloc: Global, words: &[S]) -> Result<Command, OptionsE
     if let Some(given) = matches.subcommand_matches("objects") {
         return Ok(Command::Objects(objects_options(alloc, given)?));
     }
+    if let Some(given) = matches.subcommand_matches("tidy") {
+        return Ok(Command::Tidy(tidy_options(alloc, given)?));
+    }
     // `clap` has seen that one of the subcommands is there.
     let given = matches.subcommand_matches("import").unwrap();
     Ok(Command::Import(import_options(alloc, given)?))
+}
+
+/// Whether the words ask which program this is.
+fn asks_version<S: AsStr>(words: &[S]) -> bool
+    ensures { IsTrue result ↔ AsksVersion (map S.text words.now) }
+{
+    match words {
+        [_, word] => word.as_str() == "--version",
+        _ => false,
+    }
 }
 
 /// The mount that the command is to open.
@@ -212,12 +251,14 @@ fn mount_options(
     let objects = objects_of(alloc, given, command)?;
     let overlay = overlay(alloc, given)?;
     let rescan = is_given(given, "rescan");
+    let history = history_of(given);
     let limits = limits(given, command)?;
     Ok(MountOptions {
         root,
         objects,
         overlay,
         rescan,
+        history,
         limits,
     })
 }
@@ -288,6 +329,15 @@ fn import_options(alloc: Global, given: &ArgMatches) -> Result<ImportOptions, Al
     Ok(ImportOptions { from, objects })
 }
 
+fn tidy_options(alloc: Global, given: &ArgMatches) -> Result<TidyOptions, AllocError>
+    requires { HasRequired tidy_options (rows_of (found_of given.now)) }
+    ensures { IfOk result (IsTidy (first_value (found_of given.now))) }
+{
+    let overlay = given.get_str("overlay").unwrap();
+    let overlay = String::from_str(alloc, overlay)?;
+    Ok(TidyOptions { overlay })
+}
+
 /// The value of `--overlay`, where it is given.
 fn overlay(alloc: Global, given: &ArgMatches) -> Result<Option<String>, AllocError>
     ensures { IfOk result (λ overlay.
@@ -304,6 +354,17 @@ fn is_given(given: &ArgMatches, name: &str) -> bool
     ensures { IsTrue result ↔ IsGiven (first_value (found_of given.now)) name.now }
 {
     given.get_str(name) == Some("true")
+}
+
+/// What is to become of the history.
+fn history_of(given: &ArgMatches) -> HistoryOption
+    ensures { (result ≡ HistoryOption.Counted) ↔ KeepsNone (first_value (found_of given.now)) }
+{
+    if given.get_str("history") == Some("none") {
+        HistoryOption::Counted
+    } else {
+        HistoryOption::Kept
+    }
 }
 
 /// The limits of the mount that the command opens.
@@ -331,9 +392,9 @@ fn passes(given: &ArgMatches, command: MountCommand) -> Result<u32, NumberOption
     }
 }
 
-/// The number that an option has: the one that is given, or its default.
+/// The number that an option has: the one that is given, or its default where none is.
 ///
-/// The error names the option, where its value is no number that it takes.
+/// The error names the option, where it doesn't take its value.
 fn number(given: &ArgMatches, option: NumberOption, default: u64) -> Result<u64, NumberOption>
     requires { (least_of option ≤ default) × (default ≤ most_of option) }
     ensures ok { IfOk result (SaysNumber option default (first_value (found_of given.now) (number_name option))) }
@@ -341,9 +402,22 @@ fn number(given: &ArgMatches, option: NumberOption, default: u64) -> Result<u64,
     ensures err { IfErr result (RefusesNumber (first_value (found_of given.now))) }
 {
     match given.get_str(option.name()) {
-        Some(text) => read(text, option),
+        Some(text) => read_or(text, option, default),
         None => Ok(default),
     }
+}
+
+/// The number of an option with this value: the one that it spells, or the default where it stands for none.
+fn read_or(text: &str, option: NumberOption, default: u64) -> Result<u64, NumberOption>
+    requires { (least_of option ≤ default) × (default ≤ most_of option) }
+    ensures ok { IfOk result (SaysNumber option default (Some text.now)) }
+    ensures range { IfOk result (λ n. (least_of option ≤ n) × (n ≤ most_of option)) }
+    ensures err { IfErr result (λ refused. (refused ≡ option) × IsNoValue option text.now) }
+{
+    if option.is_none(text) {
+        return Ok(default);
+    }
+    read(text, option)
 }
 
 /// The number that the text spells for the option, or the option where it is none that it takes.
@@ -400,6 +474,8 @@ fn command_line<'a>(alloc: Global) -> Result<clap::Command<'a>, AllocError>
     let line = line.subcommand(objects)?;
     let import = import_line(alloc)?;
     let line = line.subcommand(import)?;
+    let tidy = tidy_line(alloc)?;
+    let line = line.subcommand(tidy)?;
     Ok(line)
 }
 
@@ -493,6 +569,14 @@ fn import_line<'a>(alloc: Global) -> Result<clap::Command<'a>, AllocError>
     )
 }
 
+fn tidy_line<'a>(alloc: Global) -> Result<clap::Command<'a>, AllocError>
+    ensures shape { IfOk result (λ line. shape_of line ≡ subcommand_shape tidy) }
+    ensures local { IfOk result (λ line. (fields_of line).has_globals ≡ false) }
+{
+    let line = clap::Command::new(alloc, "tidy").about("Removes orphans from a closed overlay");
+    with_required(alloc, line, ("overlay", "DIR"), "The folder of the overlay")
+}
+
 /// The line with the options of what a mount keeps.
 fn with_kept_options<'a>(
     alloc: Global,
@@ -518,7 +602,7 @@ fn with_kept_options<'a>(
         alloc,
         line,
         ("history", "N"),
-        "How many entries the history holds [default: 1000000]",
+        "How many entries the history holds; with none, of stdio, it keeps none [default: 1000000]",
     )?;
     let line = with_optional(
         alloc,

@@ -9,7 +9,7 @@ mod command;
 mod numbers;
 
 pub use command::{
-    Command, ImportOptions, MountCommand, MountOptions, Objects, ObjectsOptions, OptionsError,
-    ServeOptions, options,
+    Command, HistoryOption, ImportOptions, MountCommand, MountOptions, Objects, ObjectsOptions,
+    OptionsError, ServeOptions, TidyOptions, options,
 };
 pub use numbers::NumberOption;

@@ -1,6 +1,6 @@
 //! Options that take a number.
-ghost use Rattle.std.specs.Prelude.{◌≡◌, ◌≤◌, MatchOption};
-ghost use Rattle.eden_command_line.specs.Numbers.{IsNoNumber, IsNumber, least_of, most_of, number_name};
+ghost use Rattle.std.specs.Prelude.{◌≡◌, ◌≤◌, ◌↔◌, IsTrue, MatchOption};
+ghost use Rattle.eden_command_line.specs.Numbers.{IsNoNumber, IsNumber, SaysNone, least_of, most_of, number_name};
 
 use eden_wire::read_number;
 use std::fmt::{self, Display, Formatter, Write};
@@ -69,6 +69,21 @@ impl NumberOption {
         }
     }
 
+    /// Whether the text stands for no number. The history's alone may: with `none` there is none.
+    pub fn is_none(self, text: &str) -> bool
+        ensures { IsTrue result ↔ SaysNone self text.now }
+    {
+        match self {
+            NumberOption::History => text == "none",
+            NumberOption::CacheEntries
+            | NumberOption::CacheBytes
+            | NumberOption::Remote
+            | NumberOption::Port
+            | NumberOption::Sessions
+            | NumberOption::Fetchers => false,
+        }
+    }
+
     /// The number that the text spells, in decimal digits with neither a sign nor a leading zero.
     ///
     /// None exactly where the text spells no number, or one that the option doesn't take.
@@ -92,6 +107,10 @@ impl Display for NumberOption {
             self.name(),
             self.least(),
             self.most()
-        )
+        )?;
+        match self {
+            NumberOption::History => f.write_str(", or none"),
+            _ => Ok(()),
+        }
     }
 }

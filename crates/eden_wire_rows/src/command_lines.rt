@@ -1,5 +1,7 @@
 //! What no clause says: that a good line is taken, and the texts of refusals.
-use eden_command_line::{Command, MountOptions, Objects, OptionsError, ServeOptions, options};
+use eden_command_line::{
+    Command, HistoryOption, MountOptions, Objects, OptionsError, ServeOptions, options,
+};
 use eden_mount::Config;
 use std::alloc::Global;
 use std::process::Abort;
@@ -28,6 +30,18 @@ const FULL: &[&str] = &[
     "--history",
     "1",
     "--rescan",
+    "--objects",
+    FOLDER,
+];
+
+/// A line that asks for no history.
+const UNKEPT: &[&str] = &[
+    "mountd",
+    "stdio",
+    "--history",
+    "none",
+    "--root",
+    ROOT,
     "--objects",
     FOLDER,
 ];
@@ -101,6 +115,7 @@ fn takes_a_good_line(rt: HostRuntime) {
     assert!(rt; given.root.bytes == ROOT_BYTES);
     assert!(rt; lie_in_the_folder(&given.objects));
     assert!(rt; given.overlay.is_none() && !given.rescan);
+    assert!(rt; given.history == HistoryOption::Kept);
     assert!(rt; has_limits(&given.limits, 1_000_000, 1024, 1 << 28));
 }
 
@@ -111,6 +126,13 @@ fn takes_a_line_with_all_options(rt: HostRuntime) {
     assert!(rt; lie_in_the_folder(&given.objects));
     assert!(rt; is_text(&given.overlay, "changes") && given.rescan);
     assert!(rt; has_limits(&given.limits, 1, 65_536, 1 << 40));
+}
+
+#[test]
+fn takes_a_line_without_a_history(rt: HostRuntime) {
+    let given = asked(&rt, rt.alloc(), UNKEPT);
+    assert!(rt; given.history == HistoryOption::Counted);
+    assert!(rt; has_limits(&given.limits, 1_000_000, 1024, 1 << 28));
 }
 
 /// Whether a server has this port and so many fetchers, and its mount so many passes and entries of the history.
@@ -307,7 +329,15 @@ const NO_NUMBERS: &[Refused] = &[
     ),
     (
         &["--history="],
-        "mountd: --history takes a number from 1 to 4294967295",
+        "mountd: --history takes a number from 1 to 4294967295, or none",
+    ),
+    (
+        &["--history", "None"],
+        "mountd: --history takes a number from 1 to 4294967295, or none",
+    ),
+    (
+        &["--cache-entries", "none"],
+        "mountd: --cache-entries takes a number from 1 to 65536",
     ),
     (
         &["--cache-entries", "65537"],

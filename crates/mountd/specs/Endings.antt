@@ -1,9 +1,11 @@
 -- How a run ends: the names of its faults, and its status.
-use Rattle.std.specs.Prelude.{ℕ, List, Result, Ok, Err, ⊤, codes}
+use Rattle.std.specs.Prelude.{◌≡◌, ◌⊎◌, ℕ, List, Result, Ok, Err, ⊤, codes}
 use Rattle.eden_overlay.specs.declared.files.FilesFault.{FilesFault}
 use Rattle.eden_overlay.specs.declared.files.FilesFault.TheVariants as files
 use Rattle.eden_checkout.specs.declared.fault.OpenFault.{OpenFault}
 use Rattle.eden_checkout.specs.declared.fault.OpenFault.TheVariants as opens
+use Rattle.eden_checkout.specs.declared.tidying.TidyFault.{TidyFault}
+use Rattle.eden_checkout.specs.declared.tidying.TidyFault.TheVariants as tidy
 use Rattle.eden_serve.specs.declared.fault.LifeFault.{LifeFault}
 use Rattle.eden_serve.specs.declared.fault.LifeFault.TheVariants as life
 use Rattle.eden_life.specs.declared.fault.SharedLifeFault.{SharedLifeFault}
@@ -72,3 +74,12 @@ first_fault (Ok _) (Ok _) = Ok tt
 abbrev pub import_status : Result ⊤ ImportFault → ℕ
 import_status (Ok _) = 0
 import_status (Err fault) = 5
+
+-- .. and of an overlay that wasn't tidied
+abbrev pub tidy_status : TidyFault → ℕ
+tidy_status (tidy.Open fault) = 3
+tidy_status (tidy.Remove fault) = 4
+
+-- .. and of what was done, and could be told or not
+abbrev pub IsToldStatus : ℕ → Type 0
+IsToldStatus status = (status ≡ 0) ⊎ (status ≡ 4)

@@ -106,6 +106,22 @@ pub fn hold_overlay<R: Files<File = File>>(
     Ok(Some((folder, lock)))
 }
 
+/// Holds a folder that is there. It comes back with its lock.
+///
+/// Errors: those of `hold`, and `Device` where there is no such folder.
+pub fn hold_existing<R: Files<File = File>>(
+    files: &R,
+    alloc: Global,
+    folder: String,
+) -> Result<(PathBuf, File), HoldFault>
+    ensures { IfOk result (λ held. path_buf_bytes held.0 ≡ string_bytes folder) }
+{
+    let folder = PathBuf::from(folder);
+    fs::metadata(files, folder.as_path())?;
+    let lock = hold(files, alloc, &folder)?;
+    Ok((folder, lock))
+}
+
 /// How what a folder keeps is opened.
 pub fn opening(rescan: bool) -> Opening
     ensures { (result ≡ Opening.Rescan) ↔ IsTrue rescan }

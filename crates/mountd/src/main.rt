@@ -7,6 +7,8 @@ mod serve;
 mod server;
 mod sources;
 mod stdio;
+mod tidy;
+mod version;
 
 use eden_command_line::{Command, ImportOptions, options};
 use eden_importer::{ImportFault, Progress, Store};
@@ -19,6 +21,8 @@ use std::process::ExitCode;
 use std::rt::Env;
 use std::{env, io};
 use stdio::stdio;
+use tidy::tidy;
+use version::version;
 
 /// The program's name and the words after it.
 fn words(rt: &(impl Env + Alloc<A = Global>)) -> io::Result<Vec<String>> {
@@ -53,6 +57,8 @@ fn main(rt: HostRuntime) -> ExitCode {
         Ok(Command::Serve(options)) => serve(&rt, &rt, options),
         Ok(Command::Objects(options)) => report::server(&rt, serve_objects(&rt, &rt, &options)),
         Ok(Command::Import(options)) => report::import(&rt, import(&rt, options)),
+        Ok(Command::Tidy(options)) => tidy(&rt, options),
+        Ok(Command::Version) => version(&rt),
         Err(error) => report::command_line(&rt, &error),
     }
 }

@@ -1,16 +1,17 @@
 //! How a run ends: with status 0, or with a line on standard error and another.
 //!
 //! Where standard error can't be written, the status alone tells.
-ghost use Rattle.std.specs.Prelude.{◌≡◌};
+ghost use Rattle.std.specs.Prelude.{◌≡◌, IfErr, IsErr, IsOk};
 ghost use Rattle.std.specs.Process.{exit_status};
-ghost use Rattle.mountd.specs.Endings.{close_name, import_status, open_name, server_status, shared_status, status_of};
+ghost use Rattle.mountd.specs.Endings.{IsToldStatus, close_name, import_status, open_name, server_status};
+ghost use Rattle.mountd.specs.Endings.{shared_status, status_of, tidy_status};
 
 use crate::server::ServerFault;
-use eden_checkout::OpenFault;
-use eden_command_line::OptionsError;
+use eden_checkout::{OpenFault, TidyFault};
+use eden_command_line::{MountCommand, OptionsError};
 use eden_importer::ImportFault;
 use eden_life::SharedLifeFault;
-use eden_overlay::FilesFault;
+use eden_overlay::{FilesFault, Removed};
 use eden_serve::LifeFault;
 use std::io;
 use std::process::ExitCode;
@@ -40,6 +41,14 @@ pub fn command_line<R: Eprint>(rt: &R, error: &OptionsError) -> ExitCode
         OptionsError::Refused(error) => eprint!(rt; "{error}"),
         error => eprintln!(rt; "{error}"),
     };
+    ExitCode::from(REFUSED)
+}
+
+/// Tells that this command keeps its history, though none was to be kept. Status 2.
+pub fn keeps_history<R: Eprint>(rt: &R, command: MountCommand) -> ExitCode
+    ensures { exit_status result ≡ 2 }
+{
+    let _ = eprintln!(rt; "mountd: {command} keeps its history, and takes no --history none");
     ExitCode::from(REFUSED)
 }
 
@@ -101,6 +110,34 @@ pub fn import<R: Eprint>(rt: &R, outcome: Result<(), ImportFault>) -> ExitCode
             let _ = eprintln!(rt; "mountd: import {}", fault.name());
             ExitCode::from(UNIMPORTED)
         }
+    }
+}
+
+/// Tells how much was removed from an overlay, or by which fault it wasn't tidied.
+///
+/// Status 0; 3, where the overlay isn't one that was closed; 4, where a removal failed, or the line can't be written.
+pub fn tidied<R: Print + Eprint>(rt: &R, outcome: Result<Removed, TidyFault>) -> ExitCode
+    ensures told { IsOk outcome → IsToldStatus (exit_status result) }
+    ensures fault { IfErr outcome (λ fault. exit_status result ≡ tidy_status fault) }
+{
+    match outcome {
+        Ok(Removed { files, bytes }) => {
+            let written = println!(rt; "removed {files} files, {bytes} bytes");
+            told(rt, "tidy", written)
+        }
+        Err(TidyFault::Open(fault)) => unopened(rt, open_name(fault)),
+        Err(TidyFault::Remove(fault)) => ended(rt, "tidy", close_name(fault)),
+    }
+}
+
+/// Tells by which fault `what` couldn't be written, where it couldn't be. Status 0, or 4.
+pub fn told<R: Eprint>(rt: &R, what: &str, written: io::Result<()>) -> ExitCode
+    ensures told { IsOk written → exit_status result ≡ 0 }
+    ensures fault { IsErr written → exit_status result ≡ 4 }
+{
+    match written {
+        Ok(()) => ExitCode::SUCCESS,
+        Err(_) => ended(rt, what, "Write"),
     }
 }
 

@@ -1,10 +1,11 @@
 //! Many callers of a mount, over connections to a port.
-ghost use Rattle.std.specs.Prelude.{◌≤◌};
+ghost use Rattle.std.specs.Prelude.{◌≡◌, ◌≤◌};
+ghost use Rattle.std.specs.Process.{exit_status};
 
 use crate::hold::{hold_overlay, opening};
 use crate::report;
 use crate::sources::{folder_fetchers, socket_fetchers};
-use eden_command_line::{MountOptions, Objects, ServeOptions};
+use eden_command_line::{HistoryOption, MountCommand, MountOptions, Objects, ServeOptions};
 use eden_history::Kept;
 use eden_host::{Fetchers, Port, Unloading};
 use eden_life::live_shared;
@@ -21,13 +22,20 @@ use std::thread::Threads;
 
 /// Serves a session to each connection to a port of 127.0.0.1, which is told on standard output, until as many as are
 /// asked for have ended.
+///
+/// It keeps its history, whatever is asked for: that none is to be kept is refused, with status 2, before anything is
+/// opened.
 pub fn serve<R: Threads + Wait + Sync>(
     threads: &R,
     rt: &HostRuntime,
     mut options: ServeOptions,
 ) -> ExitCode
     requires fetchers { 1 ≤ options.fetchers }
+    ensures refused { options.mount.history ≡ HistoryOption.Counted → exit_status result ≡ 2 }
 {
+    if options.mount.history == HistoryOption::Counted {
+        return report::keeps_history(rt, MountCommand::Serve);
+    }
     match hold_overlay(rt, rt.alloc(), options.mount.overlay.take()) {
         Err(fault) => report::unopened(rt, fault.name()),
         Ok(None) => serve_files(threads, rt, options, MemoryFiles::new(rt.alloc())),

@@ -1,10 +1,15 @@
 //! One caller of a mount, over standard input and output.
+ghost use Rattle.std.specs.Prelude.{◌≡◌, []};
+ghost use Rattle.std.specs.Process.{exit_status};
+ghost use Rattle.eden_checkout.specs.Opening.{MayOpen};
+ghost use Rattle.mountd.specs.Runs.{IsRun, copies_of, limit_of};
+
 use crate::hold::{hold_overlay, opening};
 use crate::report;
 use crate::sources::{folder_source, socket_source};
-use eden_command_line::{MountOptions, Objects};
-use eden_history::Kept;
-use eden_model::Outside;
+use eden_command_line::{HistoryOption, MountOptions, Objects};
+use eden_history::{Counted, History, Kept};
+use eden_model::{Outside, World};
 use eden_mount::Config;
 use eden_overlay::{Files, FolderFiles, MemoryFiles};
 use eden_serve::{Backing, Base, live};
@@ -30,6 +35,7 @@ fn serve_files<F: Files<Outside>>(rt: &HostRuntime, options: MountOptions, files
         root,
         objects,
         rescan,
+        history,
         limits,
         ..
     } = options;
@@ -40,27 +46,56 @@ fn serve_files<F: Files<Outside>>(rt: &HostRuntime, options: MountOptions, files
     match objects {
         Objects::Folder(folder) => {
             let source = folder_source(rt, folder);
-            serve(rt, base, &limits, Backing { files, source })
+            run::<Outside, _, _>(rt, base, history, &limits, Backing { files, source })
         }
         Objects::Port(port) => {
             let source = socket_source(rt, port);
-            serve(rt, base, &limits, Backing { files, source })
+            run::<Outside, _, _>(rt, base, history, &limits, Backing { files, source })
         }
     }
 }
 
-/// Serves a session on a mount over these files and objects.
-fn serve<F: Files<Outside>, S: Source<Outside> + Drop>(
+/// Serves a session on a mount over these files and objects, with the history that is asked for.
+fn run<W: World, F: Files<W>, S: Source<W> + Drop>(
     rt: &HostRuntime,
     base: Base,
+    history: HistoryOption,
     limits: &Config,
     backing: Backing<F, S>,
-) -> ExitCode {
+) -> ExitCode
+    requires files { W.honest → MayOpen base.opening W.repository W.opening base.root (F.stored backing.files) }
+    ensures { IsRun W.World F.Files S.fetched (copies_of history) (limit_of history limits.now) base limits.now backing
+        (exit_status result) }
+{
+    let memory = rt.alloc();
+    match history {
+        HistoryOption::Kept => {
+            let history = Kept::new(memory, limits.history());
+            run_with::<W, _, _, _>(rt, base, history, limits, backing)
+        }
+        HistoryOption::Counted => {
+            let history = Counted::new(memory);
+            run_with::<W, _, _, _>(rt, base, history, limits, backing)
+        }
+    }
+}
+
+/// Serves it with that history, in which nothing is yet.
+fn run_with<W: World, F: Files<W>, S: Source<W> + Drop, H: History>(
+    rt: &HostRuntime,
+    base: Base,
+    history: H,
+    limits: &Config,
+    backing: Backing<F, S>,
+) -> ExitCode
+    requires files { W.honest → MayOpen base.opening W.repository W.opening base.root (F.stored backing.files) }
+    requires empty { H.entries history ≡ [] }
+    ensures { IsRun W.World F.Files S.fetched H.copies (H.limit history) base limits.now backing (exit_status result) }
+{
     let mut reader = rt.stdin();
     let mut writer = rt.stdout();
     let memory = rt.alloc();
-    let history = Kept::new(memory, limits.history());
-    let ending = live::<Outside, _, _, _, _, _, _>(
+    let ending = live::<W, _, _, _, _, _, _>(
         memory,
         memory,
         history,

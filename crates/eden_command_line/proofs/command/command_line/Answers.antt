@@ -1,6 +1,6 @@
 use Rattle.std.proofs.Common.{◌≡◌, ◌∙◌, ap, true, [], ◌∷◌, codes}
 use Rattle.clap.specs.Simple.{App, Shape, app_of, app_of_fields, new_app, on_top, shape_of, with_subcommand}
-use Rattle.eden_command_line.specs.CommandLine.{objects, serve, stdio}
+use Rattle.eden_command_line.specs.CommandLine.{import, objects, serve, stdio}
 use Rattle.eden_command_line.specs.Grammar.{program}
 use Rattle.eden_command_line.proofs.command.command_line.Goals as goal
 
@@ -26,6 +26,10 @@ returns c =
     c.in_ok-line-3.ensures.shape c.in_ok-objects.ensures.local
     ∙ (ap (λ (a : App). with_subcommand a (shape_of c.in_ok-objects.objects)) two
     ∙ ap (λ (s : Shape). with_subcommand (program name (stdio ∷ serve ∷ [])) s) c.in_ok-objects.ensures.shape) in
+    let four : app_of c.in_ok-line-4.line ≡ program name (stdio ∷ serve ∷ objects ∷ import ∷ []) =
     c.in_ok-line-4.ensures.shape c.in_ok-import.ensures.local
     ∙ (ap (λ (a : App). with_subcommand a (shape_of c.in_ok-import.import)) three
-    ∙ ap (λ (s : Shape). with_subcommand (program name (stdio ∷ serve ∷ objects ∷ [])) s) c.in_ok-import.ensures.shape)
+    ∙ ap (λ (s : Shape). with_subcommand (program name (stdio ∷ serve ∷ objects ∷ [])) s) c.in_ok-import.ensures.shape) in
+    c.in_ok-line-5.ensures.shape c.in_ok-tidy.ensures.local
+    ∙ (ap (λ (a : App). with_subcommand a (shape_of c.in_ok-tidy.tidy)) four
+    ∙ ap (λ (s : Shape). with_subcommand (program name (stdio ∷ serve ∷ objects ∷ import ∷ [])) s) c.in_ok-tidy.ensures.shape)

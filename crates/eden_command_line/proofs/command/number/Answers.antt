@@ -8,4 +8,4 @@ pub returns-in-Some-clause-err : goal.returns-in-Some-clause-err
 returns-in-Some-clause-err c =
     let value = first_value (found_of c.args.given.now) in
     let given : value (number_name c.args.option) ≡ Some c.in-Some.text.now = search rules in
-    refused_if_none value c.args.option c.in-Some.text.now c.read.result given c.read.ensures.err
+    refused_if_none value c.args.option c.in-Some.text.now c.read_or.result given c.read_or.ensures.err

@@ -3,7 +3,7 @@ use Rattle.clap.specs.Matches.{first_value, found_of}
 use Rattle.eden_command_line.specs.declared.numbers.NumberOption.TheVariants.{Remote}
 use Rattle.eden_command_line.specs.CommandLine.{RefusesObjects}
 use Rattle.eden_command_line.specs.declared.command.OptionsError.TheVariants as error
-use Rattle.eden_command_line.proofs.LineLemmas.{port-one, refused_number}
+use Rattle.eden_command_line.proofs.LineLemmas.{no_value, port-one, refused_number}
 use Rattle.eden_command_line.proofs.command.objects_of.Goals as goal
 
 pub returns-in_err-read-in-Some-port-2-clause-err : goal.returns-in_err-read-in-Some-port-2-clause-err
@@ -12,7 +12,7 @@ returns-in_err-read-in-Some-port-2-clause-err c =
     let text = c.in-Some-port-2.text.now in
     let given : value (codes "remote") ≡ Some text = search rules in
     let read = c.in_err-read-in-Some-port-2 in
-    let why = refused_number value Remote read.field-0.0 text read.ensures.err.0 given read.ensures.err.1 in
+    let why = refused_number value Remote read.field-0.0 text read.ensures.err.0 given (no_value Remote text (λ is. cc) read.ensures.err.1) in
     let none : value (codes "objects") ≡ None = search rules in
     let refused : RefusesObjects c.args.command value (error.Number read.field-0.0) = (port-one value none (ap is_some given), why) in
     search rules

@@ -1,7 +1,7 @@
 use Rattle.std.proofs.Common.{rules, ◌≡◌, refl, inl, inr, Some, map}
 use Rattle.clap.specs.Matches.{found_of, subcommand_name_of}
 use Rattle.clap.specs.Simple.{subcommand_of, subcommand_rows_of}
-use Rattle.eden_command_line.specs.CommandLine.{AreServed, IsImport, IsMount, IsServed, IsTaken, Refuses, import, mountd_line, objects, serve, stdio}
+use Rattle.eden_command_line.specs.CommandLine.{AreServed, IsImport, IsMount, IsServed, IsTaken, IsTidy, Refuses, import, mountd_line, objects, serve, stdio, tidy}
 use Rattle.eden_command_line.specs.declared.command.MountCommand.TheVariants as by
 use Rattle.eden_command_line.proofs.LineLemmas.{by_words, import-named, met-named, named-met, numbers_refuse, required-taken, values_refuse}
 use Rattle.eden_command_line.proofs.command.options.Goals as goal
@@ -99,13 +99,32 @@ returns-in-Some-subcommand_matches-2-clause-ok g c =
     let asked = c.in_ok-objects_options.field-0 in
     (named-met words f objects.0 met, by_words (λ value. AreServed value asked) words f objects.0 met c.in_ok-objects_options.ensures.ok)
 
+pub tidy_options-requires : goal.tidy_options-requires
+tidy_options-requires g c =
+    let words = map g.S.AsStr.text c.args.words.now in
+    let f = found_of c.in-Some-subcommand_matches-3.given.now in
+    let taken : IsTaken words = search rules in
+    let rows : subcommand_rows_of c.in_ok-matches.matches ≡ subcommand_of mountd_line words = search rules in
+    let name : subcommand_name_of c.in_ok-matches.matches ≡ Some tidy.0 = c.in-Some-subcommand_matches-3.ensures.found.0 refl in
+    required-taken tidy words f (inr (inr (inr (inr (inl refl))))) taken (met-named words c.in_ok-matches.matches f tidy.0 rows name c.in-Some-subcommand_matches-3.ensures.rows)
+
+pub returns-in-Some-subcommand_matches-3-clause-ok : goal.returns-in-Some-subcommand_matches-3-clause-ok
+returns-in-Some-subcommand_matches-3-clause-ok g c =
+    let words = map g.S.AsStr.text c.args.words.now in
+    let f = found_of c.in-Some-subcommand_matches-3.given.now in
+    let rows : subcommand_rows_of c.in_ok-matches.matches ≡ subcommand_of mountd_line words = search rules in
+    let name : subcommand_name_of c.in_ok-matches.matches ≡ Some tidy.0 = c.in-Some-subcommand_matches-3.ensures.found.0 refl in
+    let met = met-named words c.in_ok-matches.matches f tidy.0 rows name c.in-Some-subcommand_matches-3.ensures.rows in
+    let asked = c.in_ok-tidy_options.field-0 in
+    (named-met words f tidy.0 met, by_words (λ value. IsTidy value asked) words f tidy.0 met c.in_ok-tidy_options.ensures)
+
 pub unwrap-given-requires : goal.unwrap-given-requires
 unwrap-given-requires g c =
     let words = map g.S.AsStr.text c.args.words.now in
     let taken : IsTaken words = search rules in
     let rows : subcommand_rows_of c.in_ok-matches.matches ≡ subcommand_of mountd_line words = search rules in
-    c.subcommand_matches-4.ensures.found.1 (import-named words c.in_ok-matches.matches taken rows c.in_default.ensures.found.1
-    c.in_default-subcommand_matches.ensures.found.1 c.in_default-subcommand_matches-2.ensures.found.1)
+    c.subcommand_matches-5.ensures.found.1 (import-named words c.in_ok-matches.matches taken rows c.in_default.ensures.found.1
+    c.in_default-subcommand_matches.ensures.found.1 c.in_default-subcommand_matches-2.ensures.found.1 c.in_default-subcommand_matches-3.ensures.found.1)
 
 pub import_options-requires : goal.import_options-requires
 import_options-requires g c =
@@ -113,7 +132,8 @@ import_options-requires g c =
     let f = found_of c.unwrap-given.result.now in
     let taken : IsTaken words = search rules in
     let rows : subcommand_rows_of c.in_ok-matches.matches ≡ subcommand_of mountd_line words = search rules in
-    let name = import-named words c.in_ok-matches.matches taken rows c.in_default.ensures.found.1 c.in_default-subcommand_matches.ensures.found.1 c.in_default-subcommand_matches-2.ensures.found.1 in
+    let name = import-named words c.in_ok-matches.matches taken rows c.in_default.ensures.found.1 c.in_default-subcommand_matches.ensures.found.1
+    c.in_default-subcommand_matches-2.ensures.found.1 c.in_default-subcommand_matches-3.ensures.found.1 in
     required-taken import words f (inr (inr (inr (inl refl)))) taken (met-named words c.in_ok-matches.matches f import.0 rows name (search rules))
 
 pub returns-clause-ok : goal.returns-clause-ok
@@ -122,7 +142,8 @@ returns-clause-ok g c =
     let f = found_of c.unwrap-given.result.now in
     let taken : IsTaken words = search rules in
     let rows : subcommand_rows_of c.in_ok-matches.matches ≡ subcommand_of mountd_line words = search rules in
-    let name = import-named words c.in_ok-matches.matches taken rows c.in_default.ensures.found.1 c.in_default-subcommand_matches.ensures.found.1 c.in_default-subcommand_matches-2.ensures.found.1 in
+    let name = import-named words c.in_ok-matches.matches taken rows c.in_default.ensures.found.1 c.in_default-subcommand_matches.ensures.found.1
+    c.in_default-subcommand_matches-2.ensures.found.1 c.in_default-subcommand_matches-3.ensures.found.1 in
     let met = met-named words c.in_ok-matches.matches f import.0 rows name (search rules) in
     let asked = c.in_ok-import_options.field-0 in
     (named-met words f import.0 met, by_words (λ value. IsImport value asked) words f import.0 met c.in_ok-import_options.ensures)

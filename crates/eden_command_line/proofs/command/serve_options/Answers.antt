@@ -3,7 +3,7 @@ use Rattle.clap.specs.Matches.{first_value, found_of}
 use Rattle.clap.proofs.CallerLemmas.{some_of_text}
 use Rattle.clap.proofs.WalkLemmas.{first_value-rows}
 use Rattle.eden_command_line.specs.declared.numbers.NumberOption.TheVariants.{Port}
-use Rattle.eden_command_line.proofs.LineLemmas.{refused_number}
+use Rattle.eden_command_line.proofs.LineLemmas.{no_value, refused_number}
 use Rattle.eden_command_line.proofs.command.serve_options.Goals as goal
 
 pub unwrap-port-requires : goal.unwrap-port-requires
@@ -15,7 +15,8 @@ pub returns-in_err-port-clause-err : goal.returns-in_err-port-clause-err
 returns-in_err-port-clause-err c =
     let value = first_value (found_of c.args.given.now) in
     let given : value (codes "port") ≡ Some c.unwrap-port.result.now = search rules in
-    let why = refused_number value Port c.in_err-port.field-0.0 c.unwrap-port.result.now c.in_err-port.ensures.err.0 given c.in_err-port.ensures.err.1 in
+    let none = no_value Port c.unwrap-port.result.now (λ is. cc) c.in_err-port.ensures.err.1 in
+    let why = refused_number value Port c.in_err-port.field-0.0 c.unwrap-port.result.now c.in_err-port.ensures.err.0 given none in
     search rules
 
 pub returns-clause-ok : goal.returns-clause-ok

@@ -1,0 +1,35 @@
+-- What a run with one caller is: a mount's life with the history that is asked for, and the status that tells how it ended.
+use Rattle.std.specs.Prelude.{◌≡◌, ◌-◌, ◌^◌, ℕ, Bool, true, false}
+use Rattle.eden_model.specs.declared.id.Id.{Id}
+use Rattle.eden_model.specs.declared.world.World.{Ghosts}
+use Rattle.eden_source.specs.Fetching.{Answer}
+use Rattle.eden_overlay.specs.declared.files.Files.{Ghosts as Files}
+use Rattle.eden_mount.specs.Settings.{Settings}
+use Rattle.eden_wire.specs.Serving.{Known}
+use Rattle.eden_serve.specs.declared.life.Backing.{Backing}
+use Rattle.eden_serve.specs.declared.life.Ending.{Ending}
+use Rattle.eden_serve.specs.declared.opening.Base.{Base}
+use Rattle.eden_serve.specs.Lives.{Lives}
+use Rattle.eden_command_line.specs.declared.command.HistoryOption.{HistoryOption}
+use Rattle.eden_command_line.specs.declared.command.HistoryOption.TheVariants as keeping
+use Rattle.mountd.specs.Endings.{status_of}
+
+-- whether replies are copied to be kept, for which there may be no memory
+abbrev pub copies_of : HistoryOption → Bool
+copies_of keeping.Kept = true
+copies_of keeping.Counted = false
+
+-- how long the history may become: one that is kept as the settings say, and another as far as it can be counted
+abbrev pub limit_of : HistoryOption → Settings → ℕ
+limit_of keeping.Kept settings = settings.history
+limit_of keeping.Counted settings = 2 ^ 64 - 1
+
+module _ {W F S : Type 0} (w : Ghosts W) (f : Files F W) (fetched : S → Id → Answer → S → Type 0) (copies : Bool) (limit : ℕ) where
+  -- A mount lived, whose history copies replies or doesn't and may become so long, and the status tells how that ended. The
+  -- input and the output are the program's own, of which contracts know no bytes.
+  pub record IsRun (base : Base) (settings : Settings) (backing : Backing F S) (status : ℕ) : Type 0 where
+    pub input : Known × Known
+    pub output : Known × Known
+    pub left : Ending F S
+    pub lived : Lives w f fetched copies limit base settings backing input output left
+    pub told : status ≡ status_of left.outcome

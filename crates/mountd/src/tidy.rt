@@ -1,0 +1,37 @@
+//! A closed overlay without what nobody reads.
+use crate::hold::hold_existing;
+use crate::report;
+use eden_checkout::TidyFault;
+use eden_command_line::TidyOptions;
+use eden_model::Outside;
+use eden_overlay::{FolderFiles, Overlay, Removed};
+use std::alloc::{Alloc, Global};
+use std::process::ExitCode;
+use std::rt::Files;
+
+/// Removes the orphans of a closed overlay and what its interrupted stores left, and tells on standard output how much
+/// that was.
+pub fn tidy(rt: &HostRuntime, options: TidyOptions) -> ExitCode {
+    match hold_existing(rt, rt.alloc(), options.overlay) {
+        Err(fault) => report::unopened(rt, fault.name()),
+        Ok((folder, lock)) => {
+            let outcome = tidy_files(rt.alloc(), FolderFiles::new(*rt, folder));
+            drop(lock);
+            report::tidied(rt, outcome)
+        }
+    }
+}
+
+/// Removes them, the orphans first.
+fn tidy_files<R: Files + Alloc + Clone + Drop>(
+    alloc: Global,
+    files: FolderFiles<R>,
+) -> Result<Removed, TidyFault> {
+    let mut overlay = Overlay::<Outside, _>::new(files);
+    let orphans = eden_checkout::tidy(alloc, &mut overlay)?;
+    let mut files = overlay.into_files();
+    match files.remove_unfinished(alloc) {
+        Ok(unfinished) => Ok(orphans.and(unfinished)),
+        Err(fault) => Err(TidyFault::Remove(fault)),
+    }
+}
