@@ -73,7 +73,7 @@ fn nested(rt: &impl Abort, alloc: Global, levels: u64) -> Dir<Global> {
 }
 
 /// The number of what was taken out.
-fn take_number(dir: &mut Dir<Global>, key: &Name) -> Option<u64> {
+fn take_number<A: Allocator>(dir: &mut Dir<A>, key: &Name) -> Option<u64> {
     match dir.remove(key) {
         None => None,
         Some(entry) => Some(entry.number),
@@ -201,9 +201,48 @@ fn fill<A: Allocator>(rt: &impl Abort, alloc: Global, dir: &mut Dir<A>) -> u32 {
     100_000
 }
 
-fn fill_from<A: Allocator>(rt: &impl Abort, alloc: Global, tree: A) -> u32 {
-    let mut dir = Dir::new(tree, 0);
-    fill(rt, alloc, &mut dir)
+/// The number of the first entry, which is replaced and taken out.
+fn take_first<A: Allocator>(rt: &impl Abort, dir: &mut Dir<A>, key: &Name) -> u64 {
+    assert!(rt; dir.get(key).is_some());
+    let was = dir.replace(key, entry(1, None));
+    assert!(rt; dir.detach(key).is_none() && dir.at_mut(0).is_some());
+    assert!(rt; take_number(dir, key) == Some(1));
+    was.number
+}
+
+/// Takes the first entries out of a directory of so many: that needs no room.
+fn take_some<A: Allocator>(rt: &impl Abort, alloc: Global, dir: &mut Dir<A>, count: u32) {
+    let some = u32::min(count, 100);
+    for number in 0..some {
+        let key = name(rt, alloc, number);
+        assert!(rt; dir.get_counted(&key).0 == Some(0) && dir.behind(&key) == 1);
+        assert!(rt; take_first(rt, dir, &key) == u64::from(number));
+    }
+    assert!(rt; dir.count() == count.saturating_sub(some));
+}
+
+/// All that is left of a heap, in its smallest blocks.
+fn rest_of<'h>(rt: &impl Abort, alloc: Global, heap: &'h LocalHeap) -> Vec<Vec<u8, &'h LocalHeap>> {
+    let mut rest = Vec::new(alloc);
+    for _ in 0..heap.size() {
+        match Vec::with_capacity(heap, 1) {
+            Ok(block) => rest.push(block).expect(rt, "memory"),
+            Err(_) => return rest,
+        }
+    }
+    rest
+}
+
+/// Fills a directory until an insertion is refused, and takes entries out once nothing has room any more. How many went
+/// in.
+fn fill_from(rt: &impl Abort, alloc: Global, heap: &LocalHeap) -> u32 {
+    let mut dir = Dir::new(heap, 0);
+    let count = fill(rt, alloc, &mut dir);
+    let rest = rest_of(rt, alloc, heap);
+    assert!(rt; heap.free() == 0);
+    take_some(rt, alloc, &mut dir, count);
+    drop(rest);
+    count
 }
 
 /// How many entries find room in so many bytes, which are all given back.
