@@ -9,12 +9,11 @@ use Rattle.eden_model.specs.Repository.{Repository}
 use Rattle.eden_model.specs.Shown.{node_from}
 use Rattle.eden_model.specs.Trees.{Name, Path, Tree, graft}
 use Rattle.eden_overlay_format.specs.Content.{content_most}
-use Rattle.eden_overlay_format.specs.Directory.{AreStorable, IsStorable}
+use Rattle.eden_overlay_format.specs.Directory.{AreStorable, IsStorable, is_own}
 use Rattle.eden_overlay_format.specs.Values.{content_in}
 use Rattle.eden_overlay.specs.Files.{Stored}
 use Rattle.eden_overlay.specs.Held.{HoldsContent, with_content, with_entries}
 use Rattle.eden_overlay.specs.Soundness.{HoldsKind, AreSound}
-use Rattle.eden_overlay.specs.Walking.{is_own}
 use Rattle.eden_overlay.proofs.CallerLemmas.{moved, contents_held}
 use Rattle.eden_tree.specs.Directory.{Row, child_of}
 use Rattle.eden_tie.specs.Chains.{NoneMarked, StaysLoaded, chained, Above}

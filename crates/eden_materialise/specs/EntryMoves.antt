@@ -3,9 +3,9 @@ use Rattle.std.specs.Prelude.{◌≡◌, ◌≢◌, ◌⊎◌, ℕ, if◌then◌
 use Rattle.eden_model.specs.declared.fault.Fault.{Fault}
 use Rattle.eden_model.specs.Failures.{Rose}
 use Rattle.eden_model.specs.Trees.{Name, Path}
+use Rattle.eden_overlay_format.specs.Directory.{is_own}
 use Rattle.eden_overlay.specs.Files.{Stored}
 use Rattle.eden_overlay.specs.Held.{without}
-use Rattle.eden_overlay.specs.Walking.{is_own}
 use Rattle.eden_tree.specs.Directory.{Row}
 use Rattle.eden_tree.specs.Rows.{find_row}
 use Rattle.eden_tie.specs.Changing.{MayMove, moved_in, marked_source, files_left, files_moved}

@@ -4,8 +4,8 @@ use Rattle.eden_model.specs.declared.fault.Fault.{Fault}
 use Rattle.eden_model.specs.Repository.{Repository}
 use Rattle.eden_model.specs.Trees.{Name, Path}
 use Rattle.eden_overlay_format.specs.Content.{content_most}
+use Rattle.eden_overlay_format.specs.Directory.{is_own}
 use Rattle.eden_overlay.specs.Files.{Stored}
-use Rattle.eden_overlay.specs.Walking.{is_own}
 use Rattle.eden_tree.specs.Directory.{Row}
 use Rattle.eden_tie.specs.Filing.{HasFile}
 use Rattle.eden_tie.specs.Kept.{IsTable, IsKept}

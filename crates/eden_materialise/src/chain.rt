@@ -2,12 +2,11 @@
 
 ghost use Rattle.std.specs.Prelude.{◌≡◌, ◌⊎◌, Bool, Err, Some, false, true, if◌then◌else◌, MatchBool, IfSome, OnOk, OnErr};
 ghost use Rattle.eden_model.specs.Failures.{Counted};
-ghost use Rattle.eden_overlay_format.specs.Directory.{AreStorable};
+ghost use Rattle.eden_overlay_format.specs.Directory.{AreStorable, is_own};
 ghost use Rattle.eden_overlay.specs.Files.{Stored};
 ghost use Rattle.eden_overlay.specs.Held.{with_entries};
 ghost use Rattle.eden_overlay.specs.Soundness.{AreSound};
 ghost use Rattle.eden_overlay.specs.declared.files.FilesFault.TheVariants as files;
-ghost use Rattle.eden_overlay.specs.Walking.{is_own};
 ghost use Rattle.eden_tree.specs.Rows.{find_row};
 ghost use Rattle.eden_tie.specs.Chains.{IsLoadedAt, IsAboveOther, Above, Unfinished, Refused};
 ghost use Rattle.eden_tie.specs.Laws.{owned};

@@ -4,8 +4,8 @@ ghost use Rattle.std.specs.Prelude.{◌≡◌, ◌≤◌, ◌∷◌, [], ◌++�
 ghost use Rattle.eden_model.specs.Shown.{node_from};
 ghost use Rattle.eden_model.specs.Trees.{graft};
 ghost use Rattle.eden_overlay_format.specs.Content.{content_most};
+ghost use Rattle.eden_overlay_format.specs.Directory.{is_own};
 ghost use Rattle.eden_overlay.specs.Held.{with_content, with_entries};
-ghost use Rattle.eden_overlay.specs.Walking.{is_own};
 ghost use Rattle.eden_tree.specs.Directory.{Row};
 ghost use Rattle.eden_tie.specs.Chains.{chained, Above};
 ghost use Rattle.eden_tie.specs.Changing.{changed};

@@ -9,11 +9,10 @@ use Rattle.eden_model.specs.declared.kind.Origin.TheVariants as origin
 use Rattle.eden_model.specs.Paths.{behind_of}
 use Rattle.eden_model.specs.Repository.{Repository, no_files}
 use Rattle.eden_model.specs.Trees.{Name, Path, grafted}
-use Rattle.eden_overlay_format.specs.Directory.{AreStorable}
+use Rattle.eden_overlay_format.specs.Directory.{AreStorable, is_own}
 use Rattle.eden_overlay_format.specs.declared.stored_entry.StoredEntry.{StoredEntry}
 use Rattle.eden_overlay.specs.Files.{Stored}
 use Rattle.eden_overlay.specs.Held.{HoldsEntries, own_files, without}
-use Rattle.eden_overlay.specs.Walking.{is_own}
 use Rattle.eden_overlay.proofs.CallerLemmas.{put_apart}
 use Rattle.eden_tree.specs.Changes.{IsChanged}
 use Rattle.eden_tree.specs.Directory.{Row, Directory, child_of, with_child}

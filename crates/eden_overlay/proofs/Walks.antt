@@ -13,13 +13,13 @@ use Rattle.eden_model.specs.declared.kind.Kind.TheVariants as kind
 use Rattle.eden_model.specs.declared.kind.Origin.{Origin}
 use Rattle.eden_model.specs.declared.kind.Origin.TheVariants as origin
 use Rattle.eden_overlay_format.specs.declared.stored_entry.StoredEntry.{StoredEntry}
-use Rattle.eden_overlay_format.specs.Directory.{number_end}
+use Rattle.eden_overlay_format.specs.Directory.{number_end, is_own}
 use Rattle.eden_overlay.specs.declared.rescan.Pending.{Pending}
 use Rattle.eden_overlay.specs.Files.{Stored}
 use Rattle.eden_overlay.specs.Held.{HoldsEntries}
 use Rattle.eden_overlay.specs.Soundness.{Names, LeadsOn, here, below, IsLive, HoldsKind, HasOwn, AreSound}
 use Rattle.eden_overlay.specs.Rescanning.{LiveEntry, IsNextOf, IsOwned, IsTwice}
-use Rattle.eden_overlay.specs.Walking.{is_own, pending_in, InRange, HoldsBelow, Place, AreApart, Pass, Walked, AreNamed}
+use Rattle.eden_overlay.specs.Walking.{pending_in, InRange, HoldsBelow, Place, AreApart, Pass, Walked, AreNamed}
 use Rattle.eden_overlay.proofs.Held.{is_at-nat_cmp}
 use Rattle.eden_overlay.proofs.Puts.{same_or_apart, one_held, held_storable}
 use Rattle.eden_overlay.proofs.Strays.{numbers_from_two, nothing_named}

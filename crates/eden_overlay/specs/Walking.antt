@@ -1,11 +1,9 @@
 -- How far a pass over the live directories has come.
-use Rattle.std.specs.Prelude.{◌≡◌, ◌⊎◌, ◌≤◌, ◌<◌, ◌∷◌, ℕ, Bool, true, false, List, [], map, reverse, All, Contains}
+use Rattle.std.specs.Prelude.{◌≡◌, ◌⊎◌, ◌≤◌, ◌<◌, ◌∷◌, ℕ, Bool, true, List, [], map, reverse, All, Contains}
 use Rattle.eden_model.specs.declared.kind.Kind.{Kind}
 use Rattle.eden_model.specs.declared.kind.Kind.TheVariants as kind
-use Rattle.eden_model.specs.declared.kind.Origin.{Origin}
-use Rattle.eden_model.specs.declared.kind.Origin.TheVariants as origin
 use Rattle.eden_overlay_format.specs.declared.stored_entry.StoredEntry.{StoredEntry}
-use Rattle.eden_overlay_format.specs.Directory.{number_least, number_end}
+use Rattle.eden_overlay_format.specs.Directory.{number_least, number_end, is_own}
 use Rattle.eden_overlay.specs.declared.fault.GetFault.{GetFault}
 use Rattle.eden_overlay.specs.declared.fault.GetFault.TheVariants as get
 use Rattle.eden_overlay.specs.declared.rescan.Pending.{Pending}
@@ -24,11 +22,6 @@ of_getting k get.Device = fault.Device
 of_getting k get.Memory = fault.Memory
 
 -- ---- entries that are to be visited
-
-abbrev pub is_own : Origin → Bool
-is_own (origin.Object id) = false
-is_own origin.Own = true
-is_own origin.Empty = false
 
 abbrev pub pending_of : StoredEntry → Pending
 pending_of e = record { number = e.number; kind = e.kind; own = is_own e.origin }

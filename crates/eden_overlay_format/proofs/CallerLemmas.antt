@@ -1,15 +1,19 @@
 -- What callers' proofs cite.
-use Rattle.std.proofs.Common.{◌≡◌, ◌≤◌, ℕ, List, Some, length, drop}
+use Rattle.std.proofs.Common.{◌≡◌, ◌≤◌, ℕ, true, List, Some, None, length, take, drop}
+use Rattle.eden_model.specs.declared.id.Id.{Id}
+use Rattle.eden_overlay_format.specs.declared.header.Identifier.{Identifier}
 use Rattle.eden_overlay_format.specs.declared.header.Identifier.TheVariants as identifier
 use Rattle.eden_overlay_format.specs.declared.state.State.{State}
 use Rattle.eden_overlay_format.specs.declared.stored_entry.StoredEntry.{StoredEntry}
-use Rattle.eden_overlay_format.specs.Stored.{written}
+use Rattle.eden_overlay_format.specs.Stored.{identifier_bytes, written}
 use Rattle.eden_overlay_format.specs.Content.{content_most}
 use Rattle.eden_overlay_format.specs.Directory.{AreStorable, directory_body}
+use Rattle.eden_overlay_format.specs.Numbers.{none_is_own, numbers_body}
 use Rattle.eden_overlay_format.specs.State.{IsGoodState, state_body}
-use Rattle.eden_overlay_format.specs.Values.{content_in, state_in, entries_in}
-use Rattle.eden_overlay_format.proofs.Headers.{written_found, behind}
-use Rattle.eden_overlay_format.proofs.Found.{contents_found, states_found, entries_found, never_both}
+use Rattle.eden_overlay_format.specs.Values.{content_in, state_in, entries_in, numbers_in}
+use Rattle.eden_overlay_format.proofs.Headers.{written_found, identified, behind, one_identifier}
+use Rattle.eden_overlay_format.proofs.Found.{contents_found, states_found, entries_found}
+use Rattle.eden_overlay_format.proofs.NumbersFound.{numbers_found, other_has_none}
 -- what a head tells of a content's length
 pub use Rattle.eden_overlay_format.proofs.Lengths.{lengths_told, lengths_none}
 
@@ -24,6 +28,19 @@ state_written s good = (states_found (written identifier.File (state_body s)) s)
 pub entries_written : (es : List StoredEntry) → AreStorable es → entries_in (written identifier.Directory (directory_body es)) ≡ Some es
 entries_written es are = (entries_found (written identifier.Directory (directory_body es)) es).1 (record { stored = written_found identifier.Directory (directory_body es); entries = are })
 
+pub numbers_written : (tree : Id) (es : List StoredEntry) → length tree.bytes ≡ 20 → AreStorable es → none_is_own es ≡ true
+    → numbers_in (written identifier.Numbers (numbers_body tree es)) ≡ Some (tree, es)
+numbers_written tree es id are others = (numbers_found (written identifier.Numbers (numbers_body tree es)) tree es).1
+    (record { stored = written_found identifier.Numbers (numbers_body tree es); id = id; entries = are; others = others })
+
+-- .. and begins with its identifier
+pub written_starts : (i : Identifier) (body : List ℕ) → take 4 (written i body) ≡ identifier_bytes i
+written_starts i body = identified i (written i body) body (written_found i body)
+
+-- a directory's file holds no numbers
+pub directory_has_none : (body : List ℕ) → numbers_in (written identifier.Directory body) ≡ None
+directory_has_none body = other_has_none identifier.Directory (written identifier.Directory body) body (written_found identifier.Directory body) (λ is. absurd (cc))
+
 -- what is found is good
 
 pub content_short : (bytes content : List ℕ) → content_in bytes ≡ Some content → length content ≤ content_most
@@ -37,4 +54,7 @@ pub entries_storable : (bytes : List ℕ) (es : List StoredEntry) → entries_in
 entries_storable bytes es found = ((entries_found bytes es).0 found).entries
 
 pub content_or_entries : (bytes content : List ℕ) (es : List StoredEntry) → content_in bytes ≡ Some content → entries_in bytes ≡ Some es → ⊥
-content_or_entries bytes content es c e = never_both bytes content es c e
+content_or_entries bytes content es c e =
+    let same : identifier.File ≡ identifier.Directory =
+    one_identifier identifier.File identifier.Directory bytes content (directory_body es) ((contents_found bytes content).0 c).stored ((entries_found bytes es).0 e).stored in
+    absurd (cc)

@@ -1,5 +1,5 @@
 -- The functions find what the grammars say.
-use Rattle.std.proofs.Common.{◌≡◌, ℕ, ◌≤◌, ◌==◌, ◌&&◌, true, leb, List, [], length, ◌<◌, Option, Some, None, Result, Ok, Err, IfOk, IfErr, IsSomeAnd, refl, sym, ap, subst, ◌∙◌, arith}
+use Rattle.std.proofs.Common.{◌≡◌, ℕ, ◌==◌, ◌&&◌, true, leb, List, [], length, ◌<◌, Option, Some, None, Result, Ok, Err, IfOk, IfErr, refl, sym, ap, subst, ◌∙◌, arith}
 use Rattle.std.specs.Option.{is_none, unwrap_or}
 use Rattle.std.specs.Int.{w64, to_be_bytes, is_in_range}
 use Rattle.std.proofs.lemmas.Bool.{leb-true, le-leb, lt-leb, and_from, eqb-true}
@@ -17,10 +17,9 @@ use Rattle.eden_overlay_format.specs.Stored.{header_refusal, body_in, first_refu
 use Rattle.eden_overlay_format.specs.Content.{content_most, IsFile}
 use Rattle.eden_overlay_format.specs.Directory.{number_least, number_end, directory_body, AreStorable, IsDirectory}
 use Rattle.eden_overlay_format.specs.State.{state_body, IsGoodState, IsState}
-use Rattle.eden_overlay_format.specs.Reading.{Reaches, Fails, bytes_at, number_at, state_of, count_at, rows_of}
-use Rattle.eden_overlay_format.specs.Values.{content_in, state_in, is_rising, entries_in, FailsWith}
-use Rattle.eden_overlay_format.specs.Laws.{ContentsFound, StatesFound, EntriesFound, NeverBoth}
-use Rattle.eden_overlay_format.proofs.Headers.{not_both}
+use Rattle.eden_overlay_format.specs.Reading.{Reaches, Fails, Gives, bytes_at, number_at, state_of, rows_of}
+use Rattle.eden_overlay_format.specs.Values.{content_in, state_in, is_rising, entries_of, entries_in, ClaimsRows, FailsWith}
+use Rattle.eden_overlay_format.specs.Laws.{ContentsFound, StatesFound, EntriesFound}
 use Rattle.eden_overlay_format.proofs.Agreement.{step, both, bytes_agree, numbers64}
 use Rattle.eden_overlay_format.proofs.Rows.{body_only, body_again}
 use Rattle.eden_overlay_format.proofs.Rising.{IsRising, rises, told, told_not}
@@ -81,28 +80,33 @@ states_found bytes s = (state_only bytes s, state_again bytes s)
 
 -- ---- directories
 
-entries_only : (bytes : List ℕ) (es : List StoredEntry) → entries_in bytes ≡ Some es → IsDirectory bytes es
-unfolding entries_in
-entries_only bytes es e =
-    option_and_then_some _ (body_in identifier.Directory bytes) es e (λ body there e1.
-    option_and_then_some _ (rows_of body) es e1 (λ rows read e2.
-    let kept = cond_some (is_rising rows) rows es e2 in
+pub listed : (body : List ℕ) (es : List StoredEntry) → entries_of body ≡ Some es → (body ≡ directory_body es) × AreStorable es
+unfolding entries_of
+listed body es e = option_and_then_some _ (rows_of body) es e (λ rows read then.
+    let kept = cond_some (is_rising rows) rows es then in
     let found = body_only body rows read in
     let are : AreStorable rows = record { count = found.1; rising = rises rows kept.0; each = found.2 } in
-    subst (IsDirectory bytes) kept.1 (record { stored = there ∙ ap (λ (b : List ℕ). Some b) found.0; entries = are })))
+    subst (λ (es : List StoredEntry). (body ≡ directory_body es) × AreStorable es) kept.1 (found.0, are))
+
+pub listed_again : (es : List StoredEntry) → AreStorable es → entries_of (directory_body es) ≡ Some es
+unfolding entries_of
+listed_again es h =
+    let rising = told es h.rising in
+    let read = body_again es h.count h.each in
+    rw (read, rising) refl
+
+entries_only : (bytes : List ℕ) (es : List StoredEntry) → entries_in bytes ≡ Some es → IsDirectory bytes es
+unfolding entries_in
+entries_only bytes es e = option_and_then_some _ (body_in identifier.Directory bytes) es e (λ body there then.
+    let read = listed body es then in
+    record { stored = there ∙ ap (λ (b : List ℕ). Some b) read.0; entries = read.1 })
 
 entries_again : (bytes : List ℕ) (es : List StoredEntry) → IsDirectory bytes es → entries_in bytes ≡ Some es
 unfolding entries_in
-entries_again bytes es h =
-    let rising = told es h.entries.rising in
-    let read = body_again es h.entries.count h.entries.each in
-    rw (h.stored, read, rising) refl
+entries_again bytes es h = step (body_in identifier.Directory bytes) entries_of (directory_body es) h.stored ∙ listed_again es h.entries
 
 pub entries_found : EntriesFound
 entries_found bytes es = (entries_only bytes es, entries_again bytes es)
-
-pub never_both : NeverBoth
-never_both bytes content es h k = not_both bytes content (directory_body es) (content_only bytes content h).stored (entries_only bytes es k).stored
 
 -- ---- what a decoder answers
 
@@ -142,24 +146,43 @@ module _ (bytes body : List ℕ) (stored : body_in identifier.File bytes ≡ Som
   refused_state (Ok s) read = tt
   refused_state (Err e) read = let none : state_of body ≡ None = read.1 in (rw (stored, none) refl, read.0 ∙ sym (body_left identifier.File bytes body stored))
 
+-- ---- the entries of a body
+
+module _ (body : List ℕ) where
+  pub fails : (f : DecodeFault) → Fails f (rows_of body) → Fails f (entries_of body)
+  unfolding entries_of
+  fails fault.Memory h = tt
+  fails (fault.Refused e) h = let none : rows_of body ≡ None = h.1 in (h.0, rw none refl)
+
+  module _ (rows : List StoredEntry) (read : rows_of body ≡ Some rows) where
+    pub unrisen : ¬ IsRising rows → entries_of body ≡ None
+    unfolding entries_of
+    unrisen none = rw (read, told_not rows none) refl
+
+    pub entries_read : IsRising rows → entries_of body ≡ Some rows
+    unfolding entries_of
+    entries_read rising = rw (read, told rows rising) refl
+
+    pub storable : IsRising rows → AreStorable rows
+    storable rising = let found = body_only body rows read in record { count = found.1; rising = rising; each = found.2 }
+
 pub no_entries : (bytes : List ℕ) (e : Refusal) → header_refusal identifier.Directory bytes ≡ Some e → Refuses identifier.Directory entries_in bytes e
 unfolding entries_in
 no_entries bytes e h = let none = no_body identifier.Directory bytes e h in (rw none.0 refl, none.1)
 
 module _ (bytes body : List ℕ) (stored : body_in identifier.Directory bytes ≡ Some body) where
-  pub fails_with : (f : DecodeFault) → Fails f (rows_of body) → (f ≡ fault.Memory → IsSomeAnd (count_at body) (λ count. 1 ≤ count.0)) → FailsWith bytes f
+  fails_with : (f : DecodeFault) → Fails f (entries_of body) → (f ≡ fault.Memory → ClaimsRows body) → FailsWith identifier.Directory entries_in bytes f
   unfolding entries_in
   fails_with fault.Memory h claims = rw stored (claims refl)
-  fails_with (fault.Refused e) h claims = let none : rows_of body ≡ None = h.1 in (rw (stored, none) refl, h.0 ∙ sym (body_left identifier.Directory bytes body stored))
+  fails_with (fault.Refused e) h claims = let none : entries_of body ≡ None = h.1 in (rw (stored, none) refl, h.0 ∙ sym (body_left identifier.Directory bytes body stored))
 
-  module _ (rows : List StoredEntry) (read : rows_of body ≡ Some rows) where
-    pub unrisen : ¬ IsRising rows → Refuses identifier.Directory entries_in bytes BadBody
-    unfolding entries_in
-    unrisen none = (rw (stored, read, told_not rows none) refl, sym (body_left identifier.Directory bytes body stored))
+  -- what is read of the body is the file's
+  pub entries_refused : {X : Type 0} (view : X → List StoredEntry) (r : Result X DecodeFault) → Gives view r (entries_of body) → IfErr r (λ f. f ≡ fault.Memory → ClaimsRows body)
+      → IfErr r (FailsWith identifier.Directory entries_in bytes)
+  entries_refused view (Ok x) gives claims = tt
+  entries_refused view (Err f) gives claims = fails_with f gives claims
 
-    pub entries_read : IsRising rows → entries_in bytes ≡ Some rows
-    unfolding entries_in
-    entries_read rising = rw (stored, read, told rows rising) refl
-
-    pub storable : IsRising rows → AreStorable rows
-    storable rising = let found = body_only body rows read in record { count = found.1; rising = rising; each = found.2 }
+  pub entries_given : {X : Type 0} (view : X → List StoredEntry) (r : Result X DecodeFault) → Gives view r (entries_of body) → IfOk r (λ x. entries_in bytes ≡ Some (view x))
+  unfolding entries_in
+  entries_given view (Ok x) gives = step (body_in identifier.Directory bytes) entries_of body stored ∙ gives
+  entries_given view (Err f) gives = tt

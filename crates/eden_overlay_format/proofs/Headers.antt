@@ -12,7 +12,7 @@ use Rattle.eden_overlay_format.specs.declared.header.Identifier.TheVariants as i
 use Rattle.eden_overlay_format.specs.declared.refusal.Refusal.{Refusal}
 use Rattle.eden_overlay_format.specs.declared.refusal.Refusal.TheVariants.{Short, BadIdentifier}
 use Rattle.eden_overlay_format.specs.Stored.{identifier_bytes, version_bytes, length_bytes, version_refusal, head_refusal, digest_refusal, header, header_refusal, body_in, written}
-use Rattle.eden_overlay_format.specs.Laws.{WrittenFound}
+use Rattle.eden_overlay_format.specs.Laws.{WrittenFound, OneIdentifier}
 
 pub digest_length : (m : List ℕ) → length (sha1 m) ≡ 20
 unfolding sha1 digest_bytes
@@ -67,6 +67,12 @@ written_found identifier.Directory body =
     let told : length file - 64 ≡ length body = sym (length-drop 64 file) ∙ ap length behind in
     well_headed identifier.Directory file (omega (arith, found_length body)) refl refl (ap length_bytes (sym told)) (found_digest body ∙ ap sha1 (sym behind))
     ∙ ap (λ (b : List ℕ). Some b) behind
+written_found identifier.Numbers body =
+    let file = header identifier.Numbers body ++ body in
+    let behind : drop 64 file ≡ body = found_body body in
+    let told : length file - 64 ≡ length body = sym (length-drop 64 file) ∙ ap length behind in
+    well_headed identifier.Numbers file (omega (arith, found_length body)) refl refl (ap length_bytes (sym told)) (found_digest body ∙ ap sha1 (sym behind))
+    ∙ ap (λ (b : List ℕ). Some b) behind
 
 -- a file whose header is written behind its body
 pub sealed : (i : Identifier) (items body new : List ℕ) → items ≡ replicate 64 0 ++ body → new ≡ written i (drop 64 items) → new ≡ written i body
@@ -87,7 +93,7 @@ module _ (i : Identifier) (bytes body : List ℕ) (found : body_in i bytes ≡ S
   tested =
       passed (nat_lt (length bytes) 64) (bytes_eq (take 4 bytes) (identifier_bytes i)) (version_refusal bytes (length bytes)) (digest_refusal bytes) (drop 64 bytes) body found
 
-  identified : take 4 bytes ≡ identifier_bytes i
+  pub identified : take 4 bytes ≡ identifier_bytes i
   identified = (bytes_eq-Decides (take 4 bytes) (identifier_bytes i)).0 tested.1
 
   -- and is long enough
@@ -95,8 +101,21 @@ module _ (i : Identifier) (bytes body : List ℕ) (found : body_in i bytes ≡ S
   unfolding body_in
   behind = (ltb-false (length bytes) 64 tested.0, (cond_some (is_none (header_refusal i bytes)) (drop 64 bytes) body found).1)
 
-pub not_both : (bytes content entries : List ℕ) → body_in identifier.File bytes ≡ Some content → body_in identifier.Directory bytes ≡ Some entries → ⊥
-not_both bytes content entries h k =
-    let e = sym (identified identifier.File bytes content h) ∙ identified identifier.Directory bytes entries k in
-    let third : get_or (identifier_bytes identifier.File) 2 0 ≡ get_or (identifier_bytes identifier.Directory) 2 0 = ap (λ (bytes : List ℕ). get_or bytes 2 0) e in
-    omega (arith, third)
+-- the last of the four bytes tells them apart
+abbrev last_byte : Identifier → ℕ
+last_byte i = get_or (identifier_bytes i) 3 0
+
+told_apart : (i j : Identifier) → last_byte i ≡ last_byte j → i ≡ j
+told_apart identifier.File identifier.File e = refl
+told_apart identifier.File identifier.Directory e = absurd (omega (arith, e))
+told_apart identifier.File identifier.Numbers e = absurd (omega (arith, e))
+told_apart identifier.Directory identifier.File e = absurd (omega (arith, e))
+told_apart identifier.Directory identifier.Directory e = refl
+told_apart identifier.Directory identifier.Numbers e = absurd (omega (arith, e))
+told_apart identifier.Numbers identifier.File e = absurd (omega (arith, e))
+told_apart identifier.Numbers identifier.Directory e = absurd (omega (arith, e))
+told_apart identifier.Numbers identifier.Numbers e = refl
+
+pub one_identifier : OneIdentifier
+one_identifier i j bytes body other h k =
+    told_apart i j (ap (λ (four : List ℕ). get_or four 3 0) (sym (identified i bytes body h) ∙ identified j bytes other k))

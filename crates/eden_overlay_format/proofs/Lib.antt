@@ -6,4 +6,5 @@ pub mod Rising
 pub mod Loop
 pub mod Listed
 pub mod Found
+pub mod NumbersFound
 mod Lengths

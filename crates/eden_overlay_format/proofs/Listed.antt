@@ -1,13 +1,15 @@
 -- A listing, entry by entry, and the file that it becomes.
-use Rattle.std.proofs.Common.{◌≡◌, ℕ, ◌+◌, List, [], ◌∷◌, ◌++◌, length, drop, replicate, refl, sym, ap, ◌∙◌, append_assoc}
+use Rattle.std.proofs.Common.{◌≡◌, ◌≤◌, ℕ, ◌+◌, ◌-◌, List, [], ◌∷◌, ◌++◌, length, take, drop, replicate, refl, sym, ap, ◌∙◌, append_assoc, arith}
 use Rattle.std.specs.List.{flat_map, AllByRecursion}
 use Rattle.std.specs.Int.{w32, to_be_bytes}
-use Rattle.std.proofs.lemmas.List.{append-nil, length-append, drop_at}
+use Rattle.std.proofs.lemmas.List.{append-nil, length-append, length-take, take-append-drop, take_at, drop_at}
 use Rattle.std.proofs.lemmas.Grind.{flat_map-append}
+use Rattle.eden_model.specs.declared.id.Id.{Id}
 use Rattle.eden_overlay_format.specs.declared.header.Identifier.TheVariants as identifier
 use Rattle.eden_overlay_format.specs.declared.stored_entry.StoredEntry.{StoredEntry}
 use Rattle.eden_overlay_format.specs.Stored.{written}
 use Rattle.eden_overlay_format.specs.Directory.{IsStorable, row, directory_body}
+use Rattle.eden_overlay_format.specs.Numbers.{numbers_body}
 use Rattle.eden_overlay_format.specs.Listing.{rows_read, entries_under_way, IsUnderWay}
 use Rattle.eden_overlay_format.specs.Reading.{rows_at}
 use Rattle.eden_overlay_format.proofs.Headers.{sealed}
@@ -51,13 +53,67 @@ module _ (count : ℕ) (file new : List ℕ) (u : IsUnderWay count file) (e : St
 pub counts : (count : ℕ) (file : List ℕ) → IsUnderWay count file → length (entries_under_way count file) ≡ count
 counts count file u = ap (length {A = StoredEntry}) (seen count file u) ∙ u.counted
 
--- the count and then the header are written in their room
-pub finished : (count : ℕ) (file filled new : List ℕ) → IsUnderWay count file → filled ≡ replicate 64 0 ++ to_be_bytes w32 count ++ drop 68 file → new ≡ written identifier.Directory (drop 64 filled)
-    → new ≡ written identifier.Directory (directory_body (entries_under_way count file))
-finished count file filled new u counted header =
-    let behind : drop 68 file ≡ flat_map row u.entries = ap (drop 68) u.rows ∙ drop_at (replicate 68 0) (flat_map row u.entries) 68 refl in
-    let body : filled ≡ replicate 64 0 ++ directory_body u.entries =
-    counted ∙ ap (λ (n : ℕ). replicate 64 0 ++ to_be_bytes w32 n ++ drop 68 file) (sym u.counted)
-    ∙ ap (λ (rows : List ℕ). replicate 64 0 ++ to_be_bytes w32 (length u.entries) ++ rows) behind in
-    sealed identifier.Directory filled (directory_body u.entries) new body header
-    ∙ ap (λ (es : List StoredEntry). written identifier.Directory (directory_body es)) (sym (seen count file u))
+module _ (count : ℕ) (file filled : List ℕ) (u : IsUnderWay count file) (counted : filled ≡ replicate 64 0 ++ to_be_bytes w32 count ++ drop 68 file) where
+  abbrev entries : List StoredEntry
+  entries = entries_under_way count file
+
+  -- the count is written in its room
+  body : filled ≡ replicate 64 0 ++ directory_body entries
+  body =
+      let behind : drop 68 file ≡ flat_map row u.entries = ap (drop 68) u.rows ∙ drop_at (replicate 68 0) (flat_map row u.entries) 68 refl in
+      counted ∙ ap (λ (n : ℕ). replicate 64 0 ++ to_be_bytes w32 n ++ drop 68 file) (sym u.counted)
+      ∙ ap (λ (rows : List ℕ). replicate 64 0 ++ to_be_bytes w32 (length u.entries) ++ rows) behind
+      ∙ ap (λ (es : List StoredEntry). replicate 64 0 ++ directory_body es) (sym (seen count file u))
+
+  -- and then the header
+  pub finished : (new : List ℕ) → new ≡ written identifier.Directory (drop 64 filled) → new ≡ written identifier.Directory (directory_body entries)
+  finished new header = sealed identifier.Directory filled (directory_body entries) new body header
+
+  -- .. or the id before it
+  pub numbered : (tree : Id) (longer new : List ℕ) → longer ≡ take 64 filled ++ tree.bytes ++ drop 64 filled → new ≡ written identifier.Numbers (drop 64 longer)
+      → new ≡ written identifier.Numbers (numbers_body tree entries)
+  numbered tree longer new inserted header =
+      let front : take 64 filled ≡ replicate 64 0 = ap (take 64) body ∙ take_at (replicate 64 0) (directory_body entries) 64 refl in
+      let behind : drop 64 filled ≡ directory_body entries = ap (drop 64) body ∙ drop_at (replicate 64 0) (directory_body entries) 64 refl in
+      sealed identifier.Numbers longer (numbers_body tree entries) new
+      (inserted ∙ ap (λ (room : List ℕ). room ++ tree.bytes ++ drop 64 filled) front ∙ ap (λ (rest : List ℕ). replicate 64 0 ++ tree.bytes ++ rest) behind) header
+
+-- what was put behind is turned to the front, in the room of the file
+module _ (old id file : List ℕ) (long : 64 ≤ length old) (len : length id ≡ 20) (is : file ≡ old ++ id) where
+  front_length : length (take 64 old) ≡ 64
+  front_length = omega (arith, length-take 64 old, long)
+
+  split : file ≡ take 64 old ++ (drop 64 old ++ id)
+  split = is ∙ ap (λ (all : List ℕ). all ++ id) (sym (take-append-drop 64 old)) ∙ append_assoc (take 64 old) (drop 64 old) id
+
+  front : take 64 file ≡ take 64 old
+  front = ap (take 64) split ∙ take_at (take 64 old) (drop 64 old ++ id) 64 front_length
+
+  behind : drop 64 file ≡ drop 64 old ++ id
+  behind = ap (drop 64) split ∙ drop_at (take 64 old) (drop 64 old ++ id) 64 front_length
+
+  turn : (body turned : List ℕ) → body ≡ drop 64 old ++ id → turned ≡ drop (length body - 20) body ++ take (length body - 20) body → turned ≡ id ++ drop 64 old
+  turn body turned whole h =
+      let at : length body - 20 ≡ length (drop 64 old) = omega (arith, ap length whole, length-append (drop 64 old) id, len) in
+      h ∙ ap (λ (n : ℕ). drop n body ++ take n body) at
+      ∙ ap (λ (b : List ℕ). drop (length (drop 64 old)) b ++ take (length (drop 64 old)) b) whole
+      ∙ ap (λ (last : List ℕ). last ++ take (length (drop 64 old)) (drop 64 old ++ id)) (drop_at (drop 64 old) id (length (drop 64 old)) refl)
+      ∙ ap (λ (rest : List ℕ). id ++ rest) (take_at (drop 64 old) id (length (drop 64 old)) refl)
+
+  pub inserted : (head body turned : List ℕ) (n : ℕ) → n ≡ length file → head ≡ take 64 file → body ≡ drop 64 file → turned ≡ drop (length body - 20) body ++ take (length body - 20) body
+      → take n (head ++ turned ++ drop (length (head ++ turned)) file) ≡ take 64 old ++ id ++ drop 64 old
+  inserted head body turned n all first rest h =
+      let now = turn body turned (rest ∙ behind) h in
+      let parts : head ++ turned ≡ take 64 old ++ (id ++ drop 64 old) = ap (λ (a : List ℕ). a ++ turned) (first ∙ front) ∙ ap (λ (b : List ℕ). take 64 old ++ b) now in
+      let sum : length (head ++ turned) ≡ n =
+      omega (
+        arith,
+        ap length parts,
+        length-append (take 64 old) (id ++ drop 64 old),
+        length-append id (drop 64 old),
+        all,
+        ap length split,
+        length-append (take 64 old) (drop 64 old ++ id),
+        length-append (drop 64 old) id,
+      ) in
+      take_at (head ++ turned) (drop (length (head ++ turned)) file) n sum ∙ parts ∙ sym (append_assoc (take 64 old) id (drop 64 old))

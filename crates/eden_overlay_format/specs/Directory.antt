@@ -1,5 +1,5 @@
 -- Which bytes store the entries of a directory.
-use Rattle.std.specs.Prelude.{◌≡◌, ◌≤◌, ◌<◌, ◌^◌, ◌++◌, ℕ, List, [], ◌∷◌, length, Some, None}
+use Rattle.std.specs.Prelude.{◌≡◌, ◌≤◌, ◌<◌, ◌^◌, ◌++◌, ℕ, Bool, true, false, List, [], ◌∷◌, length, Some, None}
 use Rattle.std.specs.List.{flat_map, AllByRecursion}
 use Rattle.std.specs.Int.{w32, w64, to_be_bytes}
 use Rattle.eden_model.specs.declared.kind.Kind.{Kind}
@@ -43,6 +43,12 @@ row e = (kind_code e.kind ∷ origin_code e.origin ∷ []) ++ to_be_bytes w64 e.
 -- the count of the entries, and their rows
 abbrev pub directory_body : List StoredEntry → List ℕ
 directory_body es = to_be_bytes w32 (length es) ++ flat_map row es
+
+-- the contents are in the overlay's file of the number
+abbrev pub is_own : Origin → Bool
+is_own (origin.Object id) = false
+is_own origin.Own = true
+is_own origin.Empty = false
 
 -- an id has 20 bytes, and `Empty` stands with a directory alone
 abbrev pub HasOrigin : Kind → Origin → Type 0

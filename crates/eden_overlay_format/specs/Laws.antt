@@ -1,5 +1,6 @@
 -- What the grammars promise.
 use Rattle.std.specs.Prelude.{◌≡◌, ◌⊎◌, ◌↔◌, ℕ, List, Some, Ok, Err, length, drop}
+use Rattle.eden_model.specs.declared.id.Id.{Id}
 use Rattle.eden_overlay_format.specs.declared.header.Identifier.{Identifier}
 use Rattle.eden_overlay_format.specs.declared.header.Head.{Head}
 use Rattle.eden_overlay_format.specs.declared.header.Identifier.TheVariants as identifier
@@ -11,7 +12,8 @@ use Rattle.eden_overlay_format.specs.Stored.{written, header_refusal, body_in, R
 use Rattle.eden_overlay_format.specs.Content.{IsFile, IsHead, content_length}
 use Rattle.eden_overlay_format.specs.State.{IsState}
 use Rattle.eden_overlay_format.specs.Directory.{IsDirectory}
-use Rattle.eden_overlay_format.specs.Values.{content_in, state_in, entries_in}
+use Rattle.eden_overlay_format.specs.Numbers.{IsNumbers}
+use Rattle.eden_overlay_format.specs.Values.{content_in, state_in, entries_in, numbers_in}
 
 -- the functions find what the grammars say, and nothing else; so bytes store one value at most
 abbrev pub ContentsFound : Type 0
@@ -23,13 +25,16 @@ StatesFound = (bytes : List ℕ) (s : State) → (state_in bytes ≡ Some s) ↔
 abbrev pub EntriesFound : Type 0
 EntriesFound = (bytes : List ℕ) (es : List StoredEntry) → (entries_in bytes ≡ Some es) ↔ IsDirectory bytes es
 
+abbrev pub NumbersFound : Type 0
+NumbersFound = (bytes : List ℕ) (tree : Id) (es : List StoredEntry) → (numbers_in bytes ≡ Some (tree, es)) ↔ IsNumbers bytes tree es
+
 -- what is written is found
 abbrev pub WrittenFound : Type 0
 WrittenFound = (i : Identifier) (body : List ℕ) → body_in i (written i body) ≡ Some body
 
--- no bytes are a content and a directory
-abbrev pub NeverBoth : Type 0
-NeverBoth = (bytes content : List ℕ) (es : List StoredEntry) → content_in bytes ≡ Some content → ¬ (entries_in bytes ≡ Some es)
+-- .. and under that identifier alone
+abbrev pub OneIdentifier : Type 0
+OneIdentifier = (i j : Identifier) (bytes body other : List ℕ) → body_in i bytes ≡ Some body → body_in j bytes ≡ Some other → i ≡ j
 
 -- ---- what a file's head tells of its content's length
 

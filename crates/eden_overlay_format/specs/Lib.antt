@@ -1,6 +1,7 @@
 pub mod Stored
 pub mod Content
 pub mod Directory
+pub mod Numbers
 pub mod State
 pub mod Reading
 pub mod Listing

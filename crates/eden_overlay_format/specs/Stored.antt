@@ -1,7 +1,7 @@
 -- What every stored file is: a header of 64 bytes, and a body behind it. This alone says what a header is. What is written has
 -- version 2, which tells a damaged body; version 1, which doesn't, is read still.
--- The two identifiers and the header's length are those of EdenFS's overlay files; the rest is this project's own.
-use Rattle.std.specs.Prelude.{◌≡◌, ℕ, ◌-◌, List, ◌++◌, length, take, drop, replicate, codes, nat_lt, if◌then◌else◌, Option, Some, None, unwrap_or}
+-- The first two identifiers and the header's length are those of EdenFS's overlay files; the rest is this project's own.
+use Rattle.std.specs.Prelude.{◌≡◌, ℕ, ◌-◌, Bool, List, ◌++◌, length, take, drop, replicate, codes, nat_lt, if◌then◌else◌, Option, Some, None, unwrap_or}
 use Rattle.std.specs.Option.{is_none, option_or}
 use Rattle.std.specs.Int.{w32, w64, to_be_bytes}
 use Rattle.std.specs.Str.{bytes_eq}
@@ -15,6 +15,11 @@ use Rattle.eden_overlay_format.specs.declared.refusal.Refusal.TheVariants.{Short
 abbrev pub identifier_bytes : Identifier → List ℕ
 identifier_bytes identifier.File = codes "OVFL"
 identifier_bytes identifier.Directory = codes "OVDR"
+identifier_bytes identifier.Numbers = codes "OVDN"
+
+-- the file begins so
+abbrev pub is_a : Identifier → List ℕ → Bool
+is_a i bytes = bytes_eq (take 4 bytes) (identifier_bytes i)
 
 -- bytes 4 to 7
 abbrev pub version_bytes : ℕ → List ℕ
@@ -52,7 +57,7 @@ version_refusal first len =
 unfoldable pub head_refusal : Identifier → List ℕ → ℕ → Option Refusal
 head_refusal i first len =
     if nat_lt len 64 then Some Short
-    else (if bytes_eq (take 4 first) (identifier_bytes i) then version_refusal first len else Some BadIdentifier)
+    else (if is_a i first then version_refusal first len else Some BadIdentifier)
 
 -- in version 2 the body has another digest
 unfoldable pub digest_refusal : List ℕ → Option Refusal

@@ -1,11 +1,11 @@
 //! The entries of a directory.
 
-ghost use Rattle.std.specs.Prelude.{◌≡◌, ◌≤◌, ◌*◌, ◌↔◌, Some, length, IfOk, IfErr, IsOk, IsSomeAnd, IsTrue};
+ghost use Rattle.std.specs.Prelude.{◌≡◌, ◌≤◌, ◌*◌, ◌↔◌, Some, length, IfOk, IfErr, IsOk, IsTrue};
 ghost use Rattle.eden_model.specs.Named.{AreRising};
 ghost use Rattle.eden_overlay_format.specs.Stored.{written};
 ghost use Rattle.eden_overlay_format.specs.Directory.{IsDirectory, AreStorable, directory_body};
-ghost use Rattle.eden_overlay_format.specs.Reading.{Gives, count_at, rows_at, rows_of};
-ghost use Rattle.eden_overlay_format.specs.Values.{entries_in, FailsWith};
+ghost use Rattle.eden_overlay_format.specs.Reading.{Gives, rows_at, rows_of};
+ghost use Rattle.eden_overlay_format.specs.Values.{ClaimsRows, FailsWith, entries_in, entries_of};
 ghost use Rattle.eden_overlay_format.specs.declared.header.Identifier.TheVariants as identifier;
 ghost use Rattle.eden_overlay_format.specs.declared.refusal.DecodeFault.TheVariants as fault;
 
@@ -59,7 +59,7 @@ fn read_rows(
 #[tactic(auto, unfolding(crate::specs::Reading::rows_of, crate::specs::Reading::count_at))]
 fn read_body(alloc: Global, body: &[u8]) -> Result<Vec<StoredEntry>, DecodeFault>
     ensures rows { Gives (λ v. v.items) result (rows_of body.now) }
-    ensures memory { IfErr result (λ f. f ≡ fault.Memory → IsSomeAnd (count_at body.now) (λ count. 1 ≤ count.0)) }
+    ensures memory { IfErr result (λ f. f ≡ fault.Memory → ClaimsRows body.now) }
 {
     let (count, rest) = u32_of(body)?;
     if rest.len() < ROW_LEAST * count as usize {
@@ -72,18 +72,28 @@ fn read_body(alloc: Global, body: &[u8]) -> Result<Vec<StoredEntry>, DecodeFault
     Ok(rows)
 }
 
+/// The entries of a whole body, each name before the next in byte order.
+#[tactic(auto, unfolding(crate::specs::Values::entries_of))]
+pub(crate) fn entries_of(alloc: Global, body: &[u8]) -> Result<Vec<StoredEntry>, DecodeFault>
+    ensures entries { Gives (λ v. v.items) result (entries_of body.now) }
+    ensures storable { IfOk result (λ v. AreStorable v.items) }
+    ensures memory { IfErr result (λ f. f ≡ fault.Memory → ClaimsRows body.now) }
+{
+    let entries = read_body(alloc, body)?;
+    if !is_rising(&entries) {
+        return Err(DecodeFault::Refused(Refusal::BadBody));
+    }
+    Ok(entries)
+}
+
 /// The entries that the bytes store, or the first refusal. Memory is asked for only where a good header stands before
 /// a count of rows that the bytes have room for.
 #[tactic(auto, unfolding(crate::specs::Values::entries_in))]
 pub fn decode_dir(alloc: Global, bytes: &[u8]) -> Result<Vec<StoredEntry>, DecodeFault>
     ensures found { IfOk result (λ v. entries_in bytes.now ≡ Some v.items) }
     ensures storable { IfOk result (λ v. AreStorable v.items) }
-    ensures refused { IfErr result (FailsWith bytes.now) }
+    ensures refused { IfErr result (FailsWith identifier.Directory entries_in bytes.now) }
 {
     let body = body_of(Identifier::Directory, bytes)?;
-    let entries = read_body(alloc, body)?;
-    if !is_rising(&entries) {
-        return Err(DecodeFault::Refused(Refusal::BadBody));
-    }
-    Ok(entries)
+    entries_of(alloc, body)
 }

@@ -24,6 +24,8 @@ pub enum Identifier {
     File,
     /// `OVDR`: the entries of a directory.
     Directory,
+    /// `OVDN`: the numbers of a directory that stands on a tree object.
+    Numbers,
 }
 
 impl Identifier {
@@ -34,6 +36,7 @@ impl Identifier {
         match self {
             Identifier::File => *b"OVFL",
             Identifier::Directory => *b"OVDR",
+            Identifier::Numbers => *b"OVDN",
         }
     }
 }

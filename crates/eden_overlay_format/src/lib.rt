@@ -1,4 +1,5 @@
-//! The files of an overlay as bytes: a header of 64 bytes, and behind it a content, a directory or the state.
+//! The files of an overlay as bytes: a header of 64 bytes, and behind it a content, a directory, the numbers of one
+//! that stands on a tree object, or the state.
 //!
 //! The definitions in `specs/` say which bytes are which value. Each decoder answers a value exactly where its bytes
 //! are one, and otherwise the first refusal, in the order of `Refusal`; what an encoder writes, its decoder reads.
@@ -11,6 +12,7 @@ mod fields;
 mod header;
 mod laws;
 mod listing;
+mod numbers;
 mod refusal;
 mod state;
 mod stored_entry;
@@ -21,6 +23,7 @@ pub use directory::{decode_dir, encode_dir, is_rising};
 pub use header::{HEADER_LEN, Head, Identifier};
 pub use laws::format_laws;
 pub use listing::Listing;
+pub use numbers::{StoredNumbers, decode_numbers, encode_numbers};
 pub use refusal::{DecodeFault, Refusal};
 pub use state::{State, decode_state, encode_state};
 pub use stored_entry::StoredEntry;

@@ -1,20 +1,24 @@
-//! A directory's file while its entries are written.
+//! A directory's file, or that of its numbers, while its entries are written.
 
-ghost use Rattle.std.specs.Prelude.{◌≡◌, ◌≤◌, ◌<◌, ◌++◌, [], ◌∷◌, length, drop, replicate, IfOk};
+ghost use Rattle.std.specs.Prelude.{◌≡◌, ◌≤◌, ◌<◌, ◌++◌, [], ◌∷◌, length, take, drop, replicate, IfOk, OnOk};
 ghost use Rattle.std.specs.Int.{w32, to_be_bytes};
 ghost use Rattle.eden_overlay_format.specs.Stored.{written};
 ghost use Rattle.eden_overlay_format.specs.Directory.{IsStorable, AreStorable, directory_body};
+ghost use Rattle.eden_overlay_format.specs.Numbers.{numbers_body};
 ghost use Rattle.eden_overlay_format.specs.declared.header.Identifier.TheVariants as identifier;
 
 use crate::header::{HEADER_LEN, Identifier, seal, start};
 use crate::stored_entry::StoredEntry;
-use crate::writing::put_row;
-use eden_model::{Kind, Name, Origin};
+use crate::writing::{put_id, put_row};
+use eden_model::{Id, Kind, Name, Origin};
 use std::alloc::AllocError;
 use std::marker::Model;
 
 /// The length of the count before the rows, in bytes.
 const COUNT_LEN: usize = 4;
+
+/// The length of an id, in bytes.
+const ID_LEN: usize = 20;
 
 /// The length of what stands before the rows, in bytes.
 const FRONT_LEN: usize = HEADER_LEN + COUNT_LEN;
@@ -95,6 +99,18 @@ impl Listing {
         seal(Identifier::Directory, &mut file);
         file
     }
+
+    /// The stored file of the numbers that these entries have, of a directory that stands on that tree object. The only
+    /// error is want of memory.
+    pub fn into_numbers(self, tree: Id) -> Result<Vec<u8>, AllocError>
+        ensures { IfOk result (λ v. v.items ≡ written identifier.Numbers (numbers_body tree self)) }
+    {
+        let Listing { mut file, count } = self;
+        put_count(&mut file, count);
+        insert_id(&mut file, tree)?;
+        seal(Identifier::Numbers, &mut file);
+        Ok(file)
+    }
 }
 
 /// What stands before the rows until the header is written: room for it, and the count.
@@ -113,4 +129,15 @@ fn put_count(file: &mut Vec<u8>, count: u32)
 {
     let (front, _) = file.as_mut_slice().split_at_mut(FRONT_LEN);
     front.copy_from_slice(&front_of(count));
+}
+
+/// Puts an id between the header's room and what stands behind it. The only error is want of memory.
+fn insert_id(file: &mut Vec<u8>, id: Id) -> Result<(), AllocError>
+    requires { 64 ≤ length file.old.items }
+    ensures { OnOk result (file.new.items ≡ take 64 file.old.items ++ id.bytes ++ drop 64 file.old.items) }
+{
+    put_id(file, id)?;
+    let (_, body) = file.as_mut_slice().split_at_mut(HEADER_LEN);
+    body.rotate_right(ID_LEN);
+    Ok(())
 }

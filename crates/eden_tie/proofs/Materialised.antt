@@ -5,12 +5,11 @@ use Rattle.std.proofs.lemmas.Bool.{false≢true}
 use Rattle.eden_model.specs.declared.kind.Origin.{Origin}
 use Rattle.eden_model.specs.declared.kind.Origin.TheVariants as origin
 use Rattle.eden_model.specs.Trees.{Name, Path}
-use Rattle.eden_overlay_format.specs.Directory.{AreStorable}
+use Rattle.eden_overlay_format.specs.Directory.{AreStorable, is_own}
 use Rattle.eden_overlay_format.specs.declared.stored_entry.StoredEntry.{StoredEntry}
 use Rattle.eden_overlay.specs.Files.{Stored}
 use Rattle.eden_overlay.specs.Held.{HoldsEntries, with_entries}
 use Rattle.eden_overlay.specs.Soundness.{AreSound}
-use Rattle.eden_overlay.specs.Walking.{is_own}
 use Rattle.eden_overlay.proofs.CallerLemmas.{apart, entries_held, numbers_from_two}
 use Rattle.eden_tree.specs.Directory.{Row, Directory, child_of, with_child}
 use Rattle.eden_tree.specs.Rows.{find_row, change_row, set_row}

@@ -7,7 +7,7 @@ use Rattle.std.proofs.lemmas.Option.{same_Some, none-some}
 use Rattle.eden_model.specs.Paths.{behind_of}
 use Rattle.eden_model.specs.Trees.{Name, Path, grafted}
 use Rattle.eden_model.proofs.CallerLemmas.{behind_sound}
-use Rattle.eden_overlay.specs.Walking.{is_own}
+use Rattle.eden_overlay_format.specs.Directory.{is_own}
 use Rattle.eden_tree.specs.Directory.{Row, Directory, child_of, with_child}
 use Rattle.eden_tree.specs.Rows.{find_row, change_row}
 use Rattle.eden_tree.specs.Paths.{row_at, Standing, standing, standing_at}

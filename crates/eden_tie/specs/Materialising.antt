@@ -4,12 +4,11 @@ use Rattle.std.specs.Str.{bytes_eq}
 use Rattle.eden_model.specs.declared.kind.Origin.TheVariants as origin
 use Rattle.eden_model.specs.Trees.{Name, Path}
 use Rattle.eden_model.specs.Named.{AreRising}
-use Rattle.eden_overlay_format.specs.Directory.{AreStorable}
+use Rattle.eden_overlay_format.specs.Directory.{AreStorable, is_own}
 use Rattle.eden_overlay_format.specs.declared.stored_entry.StoredEntry.{StoredEntry}
 use Rattle.eden_overlay.specs.Files.{Stored}
 use Rattle.eden_overlay.specs.Held.{with_entries}
 use Rattle.eden_overlay.specs.Soundness.{AreSound}
-use Rattle.eden_overlay.specs.Walking.{is_own}
 use Rattle.eden_tree.specs.Directory.{Row, Directory, child_of, change_child}
 use Rattle.eden_tree.specs.Rows.{find_row, change_row}
 use Rattle.eden_tie.specs.Listings.{listing_of}

@@ -1,8 +1,7 @@
 use Rattle.std.proofs.Common.{◌≡◌, false, Option, IfSome, sym, ap, ◌∙◌, subst}
-use Rattle.eden_overlay_format.specs.Directory.{AreStorable}
+use Rattle.eden_overlay_format.specs.Directory.{AreStorable, is_own}
 use Rattle.eden_overlay.specs.Held.{with_entries}
 use Rattle.eden_overlay.specs.Soundness.{AreSound}
-use Rattle.eden_overlay.specs.Walking.{is_own}
 use Rattle.eden_tree.specs.Directory.{Row}
 use Rattle.eden_tie.specs.Listings.{listing_of}
 use Rattle.eden_materialise.specs.Chains.{lowest_of, with_lowest}

@@ -2,7 +2,7 @@ use Rattle.std.proofs.Common.{ℕ, false, Some, IfErr, ◌∙◌, ap, subst, sym
 use Rattle.std.proofs.lemmas.Result.{on_ok_weaker, on_err_weaker}
 use Rattle.eden_model.specs.Shown.{node_from}
 use Rattle.eden_model.specs.Trees.{Path, graft}
-use Rattle.eden_overlay.specs.Walking.{is_own}
+use Rattle.eden_overlay_format.specs.Directory.{is_own}
 use Rattle.eden_tie.specs.Changing.{changed}
 use Rattle.eden_tie.specs.Saving.{IsSavedAbove}
 use Rattle.eden_tie.specs.Filing.{leaf}

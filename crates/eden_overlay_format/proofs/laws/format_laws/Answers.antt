@@ -1,5 +1,6 @@
-use Rattle.eden_overlay_format.proofs.Headers.{written_found}
-use Rattle.eden_overlay_format.proofs.Found.{contents_found, states_found, entries_found, never_both}
+use Rattle.eden_overlay_format.proofs.Headers.{written_found, one_identifier}
+use Rattle.eden_overlay_format.proofs.Found.{contents_found, states_found, entries_found}
+use Rattle.eden_overlay_format.proofs.NumbersFound.{numbers_found}
 use Rattle.eden_overlay_format.proofs.Lengths.{lengths_told, lengths_found, lengths_refused}
 use Rattle.eden_overlay_format.proofs.laws.format_laws.Goals as goal
 
@@ -12,11 +13,14 @@ returns-clause-states c = states_found
 pub returns-clause-entries : goal.returns-clause-entries
 returns-clause-entries c = entries_found
 
+pub returns-clause-numbers : goal.returns-clause-numbers
+returns-clause-numbers c = numbers_found
+
 pub returns-clause-written : goal.returns-clause-written
 returns-clause-written c = written_found
 
-pub returns-clause-never_both : goal.returns-clause-never_both
-returns-clause-never_both c = never_both
+pub returns-clause-one_identifier : goal.returns-clause-one_identifier
+returns-clause-one_identifier c = one_identifier
 
 pub returns-clause-lengths_told : goal.returns-clause-lengths_told
 returns-clause-lengths_told c = lengths_told

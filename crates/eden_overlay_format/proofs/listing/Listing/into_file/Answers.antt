@@ -8,5 +8,5 @@ use Rattle.eden_overlay_format.proofs.listing.Listing.into_file.Goals as goal
 
 pub returns : goal.returns
 returns c =
-    finished c.self.inside.count c.self.inside.file.items c.put_count.new.file.items c.seal.new.file.items c.self.invariant c.put_count.ensures c.seal.ensures
+    finished c.self.inside.count c.self.inside.file.items c.put_count.new.file.items c.self.invariant c.put_count.ensures c.seal.new.file.items c.seal.ensures
     ∙ ap (λ (es : List StoredEntry). written identifier.Directory (directory_body es)) c.self.view_is
