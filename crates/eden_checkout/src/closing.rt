@@ -1,7 +1,7 @@
 //! The state that is left in an overlay when it is closed.
 ghost use Rattle.std.specs.Prelude.{◌≡◌, ◌≤◌, Err, OnOk, OnErr};
+ghost use Rattle.eden_model.specs.Limits.{number_least, number_end};
 ghost use Rattle.eden_model.specs.Failures.{Counted};
-ghost use Rattle.eden_overlay_format.specs.Directory.{number_least, number_end};
 ghost use Rattle.eden_overlay.specs.declared.files.FilesFault.TheVariants as files;
 ghost use Rattle.eden_overlay.specs.Held.{HoldsState, with_state};
 ghost use Rattle.eden_inode.specs.Tables.{shows};

@@ -1,7 +1,7 @@
 //! What stands in an overlay when it is opened.
 ghost use Rattle.std.specs.Prelude.{◌≡◌, ◌≤◌, ℕ, IsSome, OnOk, OnErr, IfOk, IfErr};
 ghost use Rattle.eden_model.specs.declared.id.Id.{Id};
-ghost use Rattle.eden_overlay_format.specs.Directory.{number_least, number_end};
+ghost use Rattle.eden_model.specs.Limits.{number_least, number_end};
 ghost use Rattle.eden_overlay_format.specs.State.{IsGoodState};
 ghost use Rattle.eden_overlay.specs.Held.{HoldsState, without};
 ghost use Rattle.eden_overlay.specs.Rescanning.{IsNextOf};

@@ -19,13 +19,14 @@ use Rattle.eden_model.specs.declared.kind.Origin.TheVariants as origin
 use Rattle.eden_model.specs.declared.kind.Mode.{Mode}
 use Rattle.eden_model.specs.declared.kind.Mode.TheVariants as mode
 use Rattle.eden_model.specs.declared.tree_entry.TreeEntry.{TreeEntry}
+use Rattle.eden_model.specs.Limits.{number_least, number_end}
 use Rattle.eden_model.specs.Names.{name_refusal}
 use Rattle.eden_model.specs.Named.{AreRising}
 use Rattle.eden_model.specs.Operations.{name_lt}
 use Rattle.eden_model.specs.Trees.{Name}
 use Rattle.eden_model.specs.Repository.{Source, Object, Empty, source_of, item_by, entry_named, items_of}
 use Rattle.eden_overlay_format.specs.declared.stored_entry.StoredEntry.{StoredEntry}
-use Rattle.eden_overlay_format.specs.Directory.{number_least, number_end, HasOrigin, IsStorable, AreStorable}
+use Rattle.eden_overlay_format.specs.Directory.{HasOrigin, IsStorable, AreStorable}
 use Rattle.eden_tree.specs.Directory.{Row, Directory}
 use Rattle.eden_tree.specs.Rows.{find_row, put_row}
 use Rattle.eden_tree.proofs.CallerLemmas.{order}

@@ -1,8 +1,8 @@
 -- A table before anything is loaded.
 use Rattle.std.proofs.Common.{◌≡◌, ◌≤◌, ℕ, Some, None, inl, refl, sym, ◌∙◌}
 use Rattle.eden_model.specs.declared.kind.Origin.{Origin}
+use Rattle.eden_model.specs.Limits.{number_least, number_end}
 use Rattle.eden_model.specs.Repository.{Repository}
-use Rattle.eden_overlay_format.specs.Directory.{number_least, number_end}
 use Rattle.eden_overlay.specs.Files.{Stored}
 use Rattle.eden_tree.specs.Directory.{Row, Directory, child_of}
 use Rattle.eden_tie.specs.Listings.{Place, top, inside}

@@ -3,9 +3,10 @@ ghost use Rattle.std.specs.Prelude.{◌≡◌, ◌≤◌, ◌<◌, ◌+◌, ◌^
 ghost use Rattle.std.specs.Ordering.{nat_cmp, is_lt};
 ghost use Rattle.std.specs.Cmp.Lexicographic.{slice_cmp};
 ghost use Rattle.std.specs.List.Sorted.{IsPermutation, IsSortedBy};
+ghost use Rattle.eden_model.specs.Limits.{number_least, number_end};
 ghost use Rattle.eden_model.specs.Named.{AreRising};
 ghost use Rattle.eden_object.specs.Trees.{NamesDiffer};
-ghost use Rattle.eden_overlay_format.specs.Directory.{number_least, number_end, AreStorable};
+ghost use Rattle.eden_overlay_format.specs.Directory.{AreStorable};
 ghost use Rattle.eden_tie.specs.Listings.{listing_of};
 ghost use Rattle.eden_tie.specs.Loading.{IsNew, HasObject};
 ghost use Rattle.eden_inode.specs.Filling.{IsNamed, row_by, numbered, rows_stored};

@@ -7,11 +7,11 @@ use Rattle.eden_model.specs.declared.kind.Kind.TheVariants as kind
 use Rattle.eden_model.specs.declared.kind.Origin.TheVariants as origin
 use Rattle.eden_model.specs.declared.node.Node.{Node}
 use Rattle.eden_model.specs.declared.node.Node.TheVariants as node
+use Rattle.eden_model.specs.Limits.{number_end}
 use Rattle.eden_model.specs.Names.{name_refusal}
 use Rattle.eden_model.specs.Repository.{Repository}
 use Rattle.eden_model.specs.Trees.{Name, Path}
 use Rattle.eden_overlay_format.specs.Content.{content_most}
-use Rattle.eden_overlay_format.specs.Directory.{number_end}
 use Rattle.eden_overlay.specs.Files.{Stored}
 use Rattle.eden_overlay.specs.Held.{with_content, with_entries}
 use Rattle.eden_tree.specs.Directory.{Row, Directory, unloaded, child_of}

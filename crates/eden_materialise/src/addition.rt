@@ -2,8 +2,8 @@
 
 ghost use Rattle.std.specs.Prelude.{◌≡◌, ◌⊎◌, ◌<◌, ◌^◌, ◌∷◌, [], ◌++◌, ◌+◌, min, true, Err, Some, length, MatchBool, OnOk, OnErr};
 ghost use Rattle.eden_model.specs.declared.fault.Fault.TheVariants as fault;
+ghost use Rattle.eden_model.specs.Limits.{number_end};
 ghost use Rattle.eden_model.specs.Trees.{graft};
-ghost use Rattle.eden_overlay_format.specs.Directory.{number_end};
 ghost use Rattle.eden_overlay.specs.Held.{with_entries};
 ghost use Rattle.eden_tie.specs.Chains.{chained, Above};
 ghost use Rattle.eden_tie.specs.Changing.{HasRoom, changed};

@@ -1,39 +1,28 @@
 -- What each change does, path by path.
-use Rattle.std.proofs.Common.{◌≡◌, ◌≢◌, ◌≤◌, ◌⊎◌, ℕ, List, [], ◌∷◌, ◌++◌, length, take, drop, sym, refl, ◌∙◌, ap, subst, inl, inr, Option, Some, None, Bool, true, false, cond, eqb, nat_lt, append_assoc, replicate, ◌-◌, arith, length-append}
+use Rattle.std.proofs.Common.{◌≡◌, ◌≢◌, ◌⊎◌, ℕ, List, [], ◌∷◌, ◌++◌, length, take, drop, sym, refl, ◌∙◌, ap, subst, inl, inr, Option, Some, None, Bool, true, false, cond, eqb, nat_lt, append_assoc, replicate, ◌-◌, arith, length-append}
 use Rattle.std.specs.Prelude.{◌||◌, ◌&&◌}
 use Rattle.std.specs.Str.{bytes_eq}
 use Rattle.std.specs.Option.{is_some, option_map}
-use Rattle.std.proofs.lemmas.Bool.{le-ltb, cases_Bool, eqb-true}
-use Rattle.std.specs.Cmp.Lexicographic.{nat_list_eq_equiv}
+use Rattle.std.proofs.lemmas.Bool.{le-ltb, eqb-true}
 use Rattle.std.proofs.lemmas.List.{append-nil}
 use Rattle.std.proofs.lemmas.Slice.Eq.{bytes_eq-Decides}
 use Rattle.eden_model.specs.declared.errno.Errno.TheVariants.{ENOENT, EINVAL, ENOTEMPTY, EBUSY}
 use Rattle.eden_model.specs.declared.node.Node.{Node}
-use Rattle.eden_model.specs.declared.node.Node.TheVariants.{File, Link, Dir}
+use Rattle.eden_model.specs.declared.node.Node.TheVariants.{File, Dir}
 use Rattle.eden_model.specs.declared.request.Request.{Request}
 use Rattle.eden_model.specs.declared.request.Request.TheVariants as ask
-use Rattle.eden_model.specs.declared.reply.Reply.{Reply}
 use Rattle.eden_model.specs.declared.reply.Reply.TheVariants as say
 use Rattle.eden_model.specs.Limits.{most_data}
 use Rattle.eden_model.specs.Paths.{path_eq, behind_of, is_root}
-use Rattle.eden_model.specs.Trees.{Name, Path, Tree, Walk, Passes, through, walk, walk_from, Reach, reach, ends, grafted, graft, node_at}
+use Rattle.eden_model.specs.Trees.{Name, Path, Tree, Walk, Passes, through, walk, walk_from, Reach, reach, ends, grafted}
 use Rattle.eden_model.specs.Requests.{paths_of}
-use Rattle.eden_model.specs.Operations.{put, done, after, move, is_front, is_dir, written, resized, truncated, Replies, Moves, Meets, Says, Refuses, Whether, Unless, Into, At, Reads, Replaces}
+use Rattle.eden_model.specs.Operations.{put, done, after, move, is_front, is_dir, written, resized, Moves, Meets, Says, Refuses, Whether, Unless, Into, At, Reads, Replaces}
 use Rattle.eden_model.specs.ChangeLaws.{OthersStay, WriteSets, TruncateSets, TruncateEmpties, SetExecSets, CreateAdds, MkdirAdds, SymlinkAdds, UnlinkTakesAway, RmdirTakesAway, RenameMoves, RenameLeavesNothing, RenameKeeps, ReadsBack}
 use Rattle.eden_model.proofs.AfterTrees.{passed, met_here, else_of, here_of, lands}
-use Rattle.eden_model.proofs.Behinds.{path_eq-Decides, behind_sound, behind_back}
+use Rattle.eden_model.proofs.Behinds.{behind_sound}
+use Rattle.eden_model.proofs.Maps.{put_here, other_by, put_there, moved_here, moved_apart, absent_of, kept_beside}
 
 -- ---- one path
-
-put_here : (F : Tree) (p : Path) (o : Option Node) → put F p o p ≡ o
-put_here F p o = ap (λ (b : Bool). cond b o (F p)) ((path_eq-Decides p p).1 refl)
-
-other_by : (p x : Path) (b : Bool) → path_eq p x ≡ b → x ≢ p → b ≡ false
-other_by p x true e other = absurd (other (sym ((path_eq-Decides p x).0 e)))
-other_by p x false e other = refl
-
-put_there : (F : Tree) (p x : Path) (o : Option Node) → x ≢ p → put F p o x ≡ F x
-put_there F p x o other = ap (λ (b : Bool). cond b o (F x)) (other_by p x (path_eq p x) refl other)
 
 one_path : (p r x : Path) → p ∷ [] ≡ r ∷ [] → x ≢ r → x ≢ p
 one_path p r x e other is = other (is ∙ (let same : p ≡ r = cc in same))
@@ -109,32 +98,15 @@ rmdir_takes_away F p = put_here F p None
 different : (F : Tree) (from to : Path) → from ≢ to → after F (ask.Rename from to) say.Ok ≡ move F from to
 different F from to other = ap (λ (b : Bool). cond b F (move F from to)) (other_by from to (path_eq from to) refl (λ e. other (sym e)))
 
-moved_here : (F : Tree) (from to rest : Path) → move F from to (to ++ rest) ≡ F (from ++ rest)
-moved_here F from to rest = ap (λ (o : Option Path). grafted o (λ r. F (from ++ r)) (graft from (λ r. None) F (to ++ rest))) (behind_back to rest)
-
 pub rename_moves : RenameMoves
 rename_moves F from to rest other = ap (λ (G : Tree). G (to ++ rest)) (different F from to other) ∙ moved_here F from to rest
-
-absent_of : {X : Type 0} (o : Option X) → is_some o ≡ false → o ≡ None
-absent_of None e = refl
-absent_of (Some x) e = cc
-
-moved_not : (F : Tree) (from to x : Path) → is_front to x ≡ false → move F from to x ≡ graft from (λ r. None) F x
-moved_not F from to x not = ap (λ (o : Option Path). grafted o (λ r. F (from ++ r)) (graft from (λ r. None) F x)) (absent_of (behind_of to x) not)
 
 left_by : (o : Option Path) (n : Option Node) → is_some o ≡ true → grafted o (λ r. None) n ≡ None
 left_by None n e = cc
 left_by (Some r) n e = refl
 
-stays : (F : Tree) (from to x : Path) → is_front from x ≡ false → is_front to x ≡ false → move F from to x ≡ F x
-stays F from to x a b = moved_not F from to x b ∙ ap (λ (o : Option Path). grafted o (λ r. None) (F x)) (absent_of (behind_of from x) a)
-
-kept_by : (F : Tree) (from to x : Path) (b : Bool) → is_front from x ≡ false → is_front to x ≡ false → cond b F (move F from to) x ≡ F x
-kept_by F from to x true a c = refl
-kept_by F from to x false a c = stays F from to x a c
-
 pub rename_keeps : RenameKeeps
-rename_keeps F from to x a b = kept_by F from to x (path_eq from to) a b
+rename_keeps F from to x a b = kept_beside F from to x (path_eq from to) a b
 
 -- of two fronts of a path one is a front of the other
 either_by : (n m k : Name) (a b x : Path) (c d : Bool) → bytes_eq n k ≡ c → bytes_eq m k ≡ d → is_some (cond c (behind_of a x) None) ≡ true → is_some (cond d (behind_of b x) None) ≡ true
@@ -183,7 +155,7 @@ rename_leaves_nothing F from to x other replied there =
     let here = here_of (reach F from) _ say.Ok refl (else_of (is_root from || is_root to) EBUSY _ say.Ok refl replied).1 in
     let fronts = not_both F from to here.0 other (met_here F from here.0 here.1).1 here.2 in
     ap (λ (G : Tree). G x) (different F from to other)
-    ∙ moved_not F from to x (apart_by from to x (is_front to x) refl there fronts.0 fronts.1) ∙ left_by (behind_of from x) (F x) there
+    ∙ moved_apart F from to x (absent_of (behind_of to x) (apart_by from to x (is_front to x) refl there fronts.0 fronts.1)) ∙ left_by (behind_of from x) (F x) there
 
 -- ---- a read after a write
 

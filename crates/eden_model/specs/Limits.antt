@@ -1,4 +1,4 @@
--- The limits of what a request may carry or ask for. Those of names and paths stand with them.
+-- The limits of what a request may carry or ask for, and of inode numbers. Those of names and paths stand with them.
 use Rattle.std.specs.Prelude.{ℕ, ◌^◌}
 
 -- bytes of a file
@@ -16,3 +16,10 @@ most_target = 4095
 -- entries in one listing
 abbrev pub most_entries : ℕ
 most_entries = 1000
+
+-- the numbers of inodes are at least this one, and below the next; the root's is 1
+abbrev pub number_least : ℕ
+number_least = 2
+
+abbrev pub number_end : ℕ
+number_end = 2 ^ 63

@@ -13,13 +13,12 @@ use Rattle.eden_model.specs.declared.request.Request.TheVariants as ask
 use Rattle.eden_model.specs.declared.reply.Reply.{Reply}
 use Rattle.eden_model.specs.declared.reply.Reply.TheVariants as say
 use Rattle.eden_model.specs.declared.world.World.{Ghosts}
-use Rattle.eden_model.specs.Limits.{most_target}
+use Rattle.eden_model.specs.Limits.{most_target, number_end}
 use Rattle.eden_model.specs.Operations.{Meets as Table_Meets, Says, Unless, Adds, Targets, Replies, put, done}
 use Rattle.eden_model.specs.Paths.{is_root}
 use Rattle.eden_model.specs.Repository.{Repository}
 use Rattle.eden_model.specs.Requests.{paths_of}
 use Rattle.eden_model.specs.Trees.{Name, Path, Tree, Walk, Passes, through, walk_from, walk, Reach, Absent, ends, reach, graft}
-use Rattle.eden_overlay_format.specs.Directory.{number_end}
 use Rattle.eden_overlay.specs.declared.files.Files.{Ghosts as Files}
 use Rattle.eden_overlay.specs.Files.{Stored}
 use Rattle.eden_cache.specs.Cache.{Cache}

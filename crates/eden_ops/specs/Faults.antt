@@ -12,10 +12,10 @@ use Rattle.eden_model.specs.declared.reply.Reply.{Reply}
 use Rattle.eden_model.specs.declared.reply.Reply.TheVariants as say
 use Rattle.eden_model.specs.declared.tree_entry.TreeEntry.{TreeEntry}
 use Rattle.eden_model.specs.declared.world.World.{Ghosts}
+use Rattle.eden_model.specs.Limits.{number_end}
 use Rattle.eden_model.specs.Failures.{Rose}
 use Rattle.eden_model.specs.Operations.{Replies}
 use Rattle.eden_model.specs.Trees.{Path, Unlisted, walk}
-use Rattle.eden_overlay_format.specs.Directory.{number_end}
 use Rattle.eden_overlay.specs.declared.files.Files.{Ghosts as Files}
 use Rattle.eden_overlay.specs.Files.{Stored}
 use Rattle.eden_overlay.specs.Held.{entries_at, content_at}

@@ -9,10 +9,11 @@ use Rattle.std.proofs.lemmas.Map.Keys.{sorted_head, sorted_tail}
 use Rattle.std.proofs.lemmas.Cmp.{nat_list_cmp_total}
 use Rattle.eden_model.specs.Trees.{Name}
 use Rattle.eden_model.specs.Named.{AreRising}
+use Rattle.eden_model.specs.Numbers.{IsNumber}
 use Rattle.eden_overlay_format.specs.declared.stored_entry.StoredEntry.{StoredEntry}
 use Rattle.eden_overlay_format.specs.Directory.{IsStorable, AreStorable}
 use Rattle.eden_overlay.specs.declared.rescan.Pending.{Pending}
-use Rattle.eden_overlay.specs.Walking.{pending_of, pending_in, InRange, AreInRange, Place, AreApart}
+use Rattle.eden_overlay.specs.Walking.{pending_of, pending_in, AreInRange, Place, AreApart}
 
 -- ---- lists
 
@@ -129,6 +130,6 @@ none_left (p ∷ rest) e =
 -- what is pending of a directory's entries is in range
 pub pending_in_range : (es : List StoredEntry) → AreStorable es → AreInRange (pending_in es)
 pending_in_range es are =
-    let Q : StoredEntry → Type 0 = λ e. InRange e.number in
+    let Q : StoredEntry → Type 0 = λ e. IsNumber e.number in
     let each = All-weaker IsStorable Q (λ e s. (s.least, s.most)) es (All-from_recursion IsStorable es are.each) in
-    All-map (λ (p : Pending). InRange p.number) pending_of (reverse es) (All-permutation Q es (reverse es) (IsPermutation-reverse es) each)
+    All-map (λ (p : Pending). IsNumber p.number) pending_of (reverse es) (All-permutation Q es (reverse es) (IsPermutation-reverse es) each)

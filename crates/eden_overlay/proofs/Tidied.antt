@@ -2,8 +2,8 @@
 use Rattle.std.proofs.Common.{◌≡◌, ◌∙◌, ◌&&◌, ℕ, Bool, true, false, cond, not, leb, List, [], ◌∷◌, filter, Contains, None, IsSome, refl, sym, ap, subst, inl, inr, arith}
 use Rattle.std.proofs.lemmas.Bool.{leb-true, le-leb}
 use Rattle.std.proofs.lemmas.List.Elements.{All-contains, All-contains_itself, All-filter, All-weaker, filter_passes}
+use Rattle.eden_model.specs.Limits.{number_least}
 use Rattle.eden_overlay_format.specs.declared.stored_entry.StoredEntry.{StoredEntry}
-use Rattle.eden_overlay_format.specs.Directory.{number_least}
 use Rattle.eden_overlay.specs.Files.{Stored, Lists}
 use Rattle.eden_overlay.specs.Held.{without}
 use Rattle.eden_overlay.specs.Laws.{IsUnnamed}

@@ -12,14 +12,16 @@ use Rattle.eden_model.specs.declared.kind.Kind.{Kind}
 use Rattle.eden_model.specs.declared.kind.Kind.TheVariants as kind
 use Rattle.eden_model.specs.declared.kind.Origin.{Origin}
 use Rattle.eden_model.specs.declared.kind.Origin.TheVariants as origin
+use Rattle.eden_model.specs.Limits.{number_end}
+use Rattle.eden_model.specs.Numbers.{IsNumber}
 use Rattle.eden_overlay_format.specs.declared.stored_entry.StoredEntry.{StoredEntry}
-use Rattle.eden_overlay_format.specs.Directory.{number_end, is_own}
+use Rattle.eden_overlay_format.specs.Directory.{is_own}
 use Rattle.eden_overlay.specs.declared.rescan.Pending.{Pending}
 use Rattle.eden_overlay.specs.Files.{Stored}
 use Rattle.eden_overlay.specs.Held.{HoldsEntries}
 use Rattle.eden_overlay.specs.Soundness.{Names, LeadsOn, here, below, IsLive, HoldsKind, HasOwn, AreSound}
 use Rattle.eden_overlay.specs.Rescanning.{LiveEntry, IsNextOf, IsOwned, IsTwice}
-use Rattle.eden_overlay.specs.Walking.{pending_in, InRange, HoldsBelow, Place, AreApart, Pass, Walked, AreNamed}
+use Rattle.eden_overlay.specs.Walking.{pending_in, HoldsBelow, Place, AreApart, Pass, Walked, AreNamed}
 use Rattle.eden_overlay.proofs.Held.{is_at-nat_cmp}
 use Rattle.eden_overlay.proofs.Puts.{same_or_apart, one_held, held_storable}
 use Rattle.eden_overlay.proofs.Strays.{numbers_from_two, nothing_named}
@@ -392,8 +394,8 @@ pub one_more_key : (s n : BTreeSet ℕ) (k : ℕ) → Updates nat_cmp s n k true
 one_more_key s n k up q = up.0 q ∙ ap (λ b. cond b true (contains nat_cmp s q)) (is_at-nat_cmp k q)
 
 -- they stay in range, and so are few enough to be counted
-pub few_keys : (s n : BTreeSet ℕ) (k : ℕ) → Updates nat_cmp s n k true → IsOrdered nat_cmp n → InRange k
-    → ((q : ℕ) → IsTrue (contains nat_cmp s q) → InRange q) → btree_set_len n ≤ number_end
+pub few_keys : (s n : BTreeSet ℕ) (k : ℕ) → Updates nat_cmp s n k true → IsOrdered nat_cmp n → IsNumber k
+    → ((q : ℕ) → IsTrue (contains nat_cmp s q) → IsNumber q) → btree_set_len n ≤ number_end
 few_keys s n k up ordered own before =
     let within : (q : ℕ) → contains nat_cmp n q ≡ true → q < number_end = λ q has. elim (same_or_apart k q) [
       | inl is ↦ subst (λ m. m < number_end) is own.1

@@ -1,9 +1,10 @@
 -- What a caller needs to know of soundness, to show that an overlay stays sound.
 use Rattle.std.specs.Prelude.{◌≡◌, ◌≢◌, ◌≤◌, ◌⊎◌, ◌↔◌, ℕ, List, [], Option, None, length, Contains}
 use Rattle.eden_model.specs.declared.kind.Origin.TheVariants as origin
+use Rattle.eden_model.specs.Limits.{number_least}
 use Rattle.eden_overlay_format.specs.declared.stored_entry.StoredEntry.{StoredEntry}
 use Rattle.eden_overlay_format.specs.Content.{content_most}
-use Rattle.eden_overlay_format.specs.Directory.{number_least, AreStorable}
+use Rattle.eden_overlay_format.specs.Directory.{AreStorable}
 use Rattle.eden_overlay.specs.Files.{Stored, put}
 use Rattle.eden_overlay.specs.Held.{HoldsContent, HoldsEntries, with_content, with_entries}
 use Rattle.eden_overlay.specs.Soundness.{Names, LeadsOn, Reached, IsLive, HasOwn, AreSound}

@@ -1,6 +1,6 @@
 -- Orphans among stored files, and the files without them.
 use Rattle.std.specs.Prelude.{◌≡◌, ◌⊎◌, ◌≤◌, ◌-◌, ◌^◌, ℕ, min, List, length, Option, Some, None, IsSome, All, Contains, sum_by}
-use Rattle.eden_overlay_format.specs.Directory.{number_least}
+use Rattle.eden_model.specs.Limits.{number_least}
 use Rattle.eden_overlay.specs.Files.{Stored}
 use Rattle.eden_overlay.specs.Laws.{IsUnnamed}
 

@@ -2,8 +2,9 @@
 use Rattle.std.specs.Prelude.{◌≡◌, ◌⊎◌, ◌≤◌, ◌<◌, ◌∷◌, ℕ, Bool, true, List, [], map, reverse, All, Contains}
 use Rattle.eden_model.specs.declared.kind.Kind.{Kind}
 use Rattle.eden_model.specs.declared.kind.Kind.TheVariants as kind
+use Rattle.eden_model.specs.Numbers.{IsNumber}
 use Rattle.eden_overlay_format.specs.declared.stored_entry.StoredEntry.{StoredEntry}
-use Rattle.eden_overlay_format.specs.Directory.{number_least, number_end, is_own}
+use Rattle.eden_overlay_format.specs.Directory.{is_own}
 use Rattle.eden_overlay.specs.declared.fault.GetFault.{GetFault}
 use Rattle.eden_overlay.specs.declared.fault.GetFault.TheVariants as get
 use Rattle.eden_overlay.specs.declared.rescan.Pending.{Pending}
@@ -30,12 +31,8 @@ pending_of e = record { number = e.number; kind = e.kind; own = is_own e.origin 
 abbrev pub pending_in : List StoredEntry → List Pending
 pending_in entries = map pending_of (reverse entries)
 
--- numbers that an entry can have
-abbrev pub InRange : ℕ → Type 0
-InRange number = (number_least ≤ number) × (number < number_end)
-
 abbrev pub AreInRange : List Pending → Type 0
-AreInRange pending = All (λ p. InRange p.number) pending
+AreInRange pending = All (λ p. IsNumber p.number) pending
 
 -- what is to be visited below file k, which is that of an inode of that kind
 abbrev pub HoldsBelow : Stored → ℕ → Kind → List Pending → Type 0

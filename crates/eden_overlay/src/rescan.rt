@@ -3,10 +3,11 @@
 ghost use Rattle.std.specs.Prelude.{◌≡◌, ◌≤◌, ◌++◌, ◌∷◌, ◌+◌, [], false, IfOk, IfErr, OnOk, OnErr, IsTrue, ℕ};
 ghost use Rattle.std.specs.Ordering.{nat_cmp};
 ghost use Rattle.std.specs.BTreeSet.{contains, btree_set_len};
-ghost use Rattle.eden_overlay_format.specs.Directory.{number_least, number_end};
+ghost use Rattle.eden_model.specs.Limits.{number_least, number_end};
+ghost use Rattle.eden_model.specs.Numbers.{IsNumber};
 ghost use Rattle.eden_overlay.specs.Soundness.{AreSound};
 ghost use Rattle.eden_overlay.specs.Rescanning.{IsNextOf, IsOwned, IsRescanFault};
-ghost use Rattle.eden_overlay.specs.Walking.{AreNamed, of_getting, pending_of, pending_in, InRange, AreInRange, HoldsBelow, Walked};
+ghost use Rattle.eden_overlay.specs.Walking.{AreNamed, of_getting, pending_of, pending_in, AreInRange, HoldsBelow, Walked};
 ghost use Rattle.eden_overlay.specs.declared.rescan.RescanFault.TheVariants as fault;
 
 use crate::fault::GetFault;
@@ -140,7 +141,7 @@ impl<W: World, F: Files<W>> Overlay<W, F> {
     pub(crate) fn named(&mut self, alloc: Global) -> Result<BTreeSet<u64>, RescanFault>
         ensures sound { W.honest → OnOk result (AreSound (F.stored self.old)) }
         ensures all { W.honest → IfOk result (λ met. AreNamed (F.stored self.old) (contains nat_cmp met)) }
-        ensures range { IfOk result (λ met. (k : ℕ) → IsTrue (contains nat_cmp met k) → InRange k) }
+        ensures range { IfOk result (λ met. (k : ℕ) → IsTrue (contains nat_cmp met k) → IsNumber k) }
         ensures refused { IfErr result
             (IsRescanFault W.honest (F.stored self.old) (F.failures self.old) (F.failures self.new)) }
         ensures unchanged { W.honest → F.stored self.new ≡ F.stored self.old }
@@ -166,7 +167,7 @@ impl<W: World, F: Files<W>> Overlay<W, F> {
         requires range { AreInRange pending.items }
         requires begun { W.honest → Walked (F.stored self.old) pending.items (λ _. false) }
         ensures all { W.honest → IfOk result (λ met. Walked (F.stored self.old) [] (contains nat_cmp met)) }
-        ensures range { IfOk result (λ met. (k : ℕ) → IsTrue (contains nat_cmp met k) → InRange k) }
+        ensures range { IfOk result (λ met. (k : ℕ) → IsTrue (contains nat_cmp met k) → IsNumber k) }
         ensures refused { IfErr result
             (IsRescanFault W.honest (F.stored self.old) (F.failures self.old) (F.failures self.new)) }
         ensures unchanged { W.honest → F.stored self.new ≡ F.stored self.old }
@@ -187,15 +188,15 @@ impl<W: World, F: Files<W>> Overlay<W, F> {
         pending: &mut Vec<Pending>,
         met: &mut BTreeSet<u64>,
     ) -> Result<(), RescanFault>
-        requires range { InRange entry.number }
+        requires range { IsNumber entry.number }
         requires ranges { AreInRange pending.old.items }
-        requires met { (k : ℕ) → IsTrue (contains nat_cmp met.old k) → InRange k }
+        requires met { (k : ℕ) → IsTrue (contains nat_cmp met.old k) → IsNumber k }
         requires walked { W.honest
             → Walked (F.stored self.old) (pending.old.items ++ entry ∷ []) (contains nat_cmp met.old) }
         ensures walked { W.honest
             → OnOk result (Walked (F.stored self.old) pending.new.items (contains nat_cmp met.new)) }
         ensures ranges { OnOk result (AreInRange pending.new.items) }
-        ensures met { OnOk result ((k : ℕ) → IsTrue (contains nat_cmp met.new k) → InRange k) }
+        ensures met { OnOk result ((k : ℕ) → IsTrue (contains nat_cmp met.new k) → IsNumber k) }
         ensures more { OnOk result (btree_set_len met.new ≡ btree_set_len met.old + 1) }
         ensures few { OnOk result (btree_set_len met.new ≤ number_end) }
         ensures refused { IfErr result

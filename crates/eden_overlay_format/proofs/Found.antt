@@ -5,6 +5,7 @@ use Rattle.std.specs.Int.{w64, to_be_bytes, is_in_range}
 use Rattle.std.proofs.lemmas.Bool.{leb-true, le-leb, lt-leb, and_from, eqb-true}
 use Rattle.std.proofs.lemmas.List.{append-nil, nil_from_length}
 use Rattle.std.proofs.lemmas.Option.{cond_some, option_and_then_some}
+use Rattle.eden_model.specs.Limits.{number_least, number_end}
 use Rattle.eden_overlay_format.specs.declared.header.Identifier.{Identifier}
 use Rattle.eden_overlay_format.specs.declared.header.Identifier.TheVariants as identifier
 use Rattle.eden_overlay_format.specs.declared.refusal.Refusal.{Refusal}
@@ -15,7 +16,7 @@ use Rattle.eden_overlay_format.specs.declared.state.State.{State}
 use Rattle.eden_overlay_format.specs.declared.stored_entry.StoredEntry.{StoredEntry}
 use Rattle.eden_overlay_format.specs.Stored.{header_refusal, body_in, first_refusal, Refuses}
 use Rattle.eden_overlay_format.specs.Content.{content_most, IsFile}
-use Rattle.eden_overlay_format.specs.Directory.{number_least, number_end, directory_body, AreStorable, IsDirectory}
+use Rattle.eden_overlay_format.specs.Directory.{directory_body, AreStorable, IsDirectory}
 use Rattle.eden_overlay_format.specs.State.{state_body, IsGoodState, IsState}
 use Rattle.eden_overlay_format.specs.Reading.{Reaches, Fails, Gives, bytes_at, number_at, state_of, rows_of}
 use Rattle.eden_overlay_format.specs.Values.{content_in, state_in, is_rising, entries_of, entries_in, ClaimsRows, FailsWith}

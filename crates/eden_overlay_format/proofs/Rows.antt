@@ -12,10 +12,12 @@ use Rattle.eden_model.specs.declared.kind.Kind.{Kind}
 use Rattle.eden_model.specs.declared.kind.Kind.TheVariants as kind
 use Rattle.eden_model.specs.declared.kind.Origin.{Origin}
 use Rattle.eden_model.specs.declared.kind.Origin.TheVariants as origin
+use Rattle.eden_model.specs.Limits.{number_least, number_end}
 use Rattle.eden_model.specs.Names.{name_refusal}
+use Rattle.eden_model.specs.Numbers.{IsNumber}
 use Rattle.eden_model.specs.Shown.{if_dir}
 use Rattle.eden_overlay_format.specs.declared.stored_entry.StoredEntry.{StoredEntry}
-use Rattle.eden_overlay_format.specs.Directory.{number_least, number_end, kind_code, origin_code, origin_bytes, row, directory_body, HasOrigin, IsStorable}
+use Rattle.eden_overlay_format.specs.Directory.{kind_code, origin_code, origin_bytes, row, directory_body, HasOrigin, IsStorable}
 use Rattle.eden_overlay_format.specs.Reading.{byte_at, bytes_at, number_at, kind_of_code, kind_at, entry_number_at, origin_at, name_at, row_at, rows_at, count_at, rows_of}
 use Rattle.eden_overlay_format.proofs.Agreement.{IsRead, Agrees, is_read, step, both, bytes_agree, numbers32, numbers64}
 
@@ -46,17 +48,14 @@ kind_again kind.Dir rest = refl
 
 -- ---- the number
 
-abbrev InRange : ℕ → Type 0
-InRange n = (number_least ≤ n) × (n < number_end)
-
-entry_numbers : Agrees entry_number_at (to_be_bytes w64) InRange
+entry_numbers : Agrees entry_number_at (to_be_bytes w64) IsNumber
 unfolding entry_number_at
 entry_numbers = record {
   only = λ bytes x e. option_and_then_some _ (number_at w64 bytes) x e (λ n there then.
       let kept = cond_some (leb number_least n.0 && ltb n.0 number_end) n x then in
       let within = both (leb number_least n.0) (ltb n.0 number_end) kept.0 in
       let front = (numbers64.only bytes n there).front in
-      subst (IsRead (to_be_bytes w64) InRange bytes) kept.1 (record { front = front; good = (leb-true number_least n.0 within.0, ltb-true n.0 number_end within.1) }));
+      subst (IsRead (to_be_bytes w64) IsNumber bytes) kept.1 (record { front = front; good = (leb-true number_least n.0 within.0, ltb-true n.0 number_end within.1) }));
   again = λ n rest h.
       let told : number_at w64 (to_be_bytes w64 n ++ rest) ≡ Some (n, rest) = numbers64.again n rest (omega arith) in
       let within : (leb number_least n && ltb n number_end) ≡ true = and_from _ _ (le-leb _ _ h.0) (lt-ltb _ _ h.1) in

@@ -6,18 +6,12 @@ use Rattle.eden_model.specs.declared.kind.Kind.{Kind}
 use Rattle.eden_model.specs.declared.kind.Kind.TheVariants as kind
 use Rattle.eden_model.specs.declared.kind.Origin.{Origin}
 use Rattle.eden_model.specs.declared.kind.Origin.TheVariants as origin
+use Rattle.eden_model.specs.Limits.{number_least, number_end}
 use Rattle.eden_model.specs.Names.{name_refusal}
 use Rattle.eden_model.specs.Named.{AreRising}
 use Rattle.eden_overlay_format.specs.declared.header.Identifier.TheVariants as identifier
 use Rattle.eden_overlay_format.specs.declared.stored_entry.StoredEntry.{StoredEntry}
 use Rattle.eden_overlay_format.specs.Stored.{body_in}
-
--- the numbers of entries are at least this one, and below the next; the root's is 1
-abbrev pub number_least : ℕ
-number_least = 2
-
-abbrev pub number_end : ℕ
-number_end = 2 ^ 63
 
 abbrev pub kind_code : Kind → ℕ
 kind_code kind.File = 0

@@ -1,10 +1,10 @@
 -- Which bytes store the state of a mount that was closed.
 use Rattle.std.specs.Prelude.{◌≡◌, ◌≤◌, ◌++◌, ℕ, List, Some, length}
 use Rattle.std.specs.Int.{w64, to_be_bytes}
+use Rattle.eden_model.specs.Limits.{number_least, number_end}
 use Rattle.eden_overlay_format.specs.declared.header.Identifier.TheVariants as identifier
 use Rattle.eden_overlay_format.specs.declared.state.State.{State}
 use Rattle.eden_overlay_format.specs.Stored.{body_in}
-use Rattle.eden_overlay_format.specs.Directory.{number_least, number_end}
 
 -- 20 bytes of the root's id, and 8 of the next number
 abbrev pub state_body : State → List ℕ

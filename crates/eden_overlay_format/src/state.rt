@@ -1,8 +1,8 @@
 //! The state that a clean close leaves: file 0.
 
 ghost use Rattle.std.specs.Prelude.{◌≡◌, ◌≤◌, Some, IfOk, IfErr};
+ghost use Rattle.eden_model.specs.Limits.{number_least, number_end};
 ghost use Rattle.eden_overlay_format.specs.Stored.{Refuses, written};
-ghost use Rattle.eden_overlay_format.specs.Directory.{number_least, number_end};
 ghost use Rattle.eden_overlay_format.specs.State.{IsGoodState, IsState, state_body};
 ghost use Rattle.eden_overlay_format.specs.Reading.{Reaches, state_of};
 ghost use Rattle.eden_overlay_format.specs.Values.{state_in};

@@ -1,13 +1,14 @@
 -- What may come to stand in a table that is open to it.
 use Rattle.std.proofs.Common.{◌≡◌, ◌<◌, ◌≤◌, ◌-◌, ◌^◌, ℕ, [], length, Option, IfSome, Some, None, inr, sym, subst, arith}
 use Rattle.std.specs.List.Sorted.{IsStrictlySortedBy}
+use Rattle.eden_model.specs.Limits.{number_end}
 use Rattle.eden_model.specs.Trees.{Name, Path}
 use Rattle.eden_model.specs.Repository.{Repository}
 use Rattle.eden_model.specs.declared.kind.Kind.{Kind}
 use Rattle.eden_model.specs.declared.kind.Origin.{Origin}
 use Rattle.eden_model.specs.declared.kind.Origin.TheVariants as origin
 use Rattle.eden_model.specs.Names.{name_refusal}
-use Rattle.eden_overlay_format.specs.Directory.{HasOrigin, IsStorable, AreStorable, number_end}
+use Rattle.eden_overlay_format.specs.Directory.{HasOrigin, IsStorable, AreStorable}
 use Rattle.eden_overlay.specs.Files.{Stored}
 use Rattle.eden_tree.specs.Directory.{Row, Directory, child_of}
 use Rattle.eden_tie.specs.Listings.{stored_entry, listing_of}

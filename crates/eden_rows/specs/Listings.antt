@@ -2,9 +2,9 @@
 use Rattle.std.specs.Prelude.{◌≡◌, ◌≢◌, ◌<◌, ◌≤◌, ◌^◌, ◌-◌, ℕ, Some, None, length}
 use Rattle.eden_model.specs.declared.kind.Kind.TheVariants as kind
 use Rattle.eden_model.specs.declared.kind.Origin.TheVariants as origin
+use Rattle.eden_model.specs.Limits.{number_least}
 use Rattle.eden_model.specs.Names.{name_refusal}
 use Rattle.eden_model.specs.Trees.{Name, Path}
-use Rattle.eden_overlay_format.specs.Directory.{number_least}
 use Rattle.eden_tree.specs.Directory.{Row, Directory, child_of}
 use Rattle.eden_tree.specs.Paths.{row_at}
 use Rattle.eden_tie.specs.Changing.{MayGo}

@@ -1,7 +1,8 @@
 //! The calls of a table over files in memory, and over files that fail: rows of the sample commit's trees.
 ghost use Rattle.std.specs.Prelude.{◌≤◌};
+ghost use Rattle.eden_model.specs.Limits.{number_least, number_end};
 ghost use Rattle.eden_object.specs.Trees.{NamesDiffer};
-ghost use Rattle.eden_overlay_format.specs.Directory.{number_least, number_end, AreStorable};
+ghost use Rattle.eden_overlay_format.specs.Directory.{AreStorable};
 
 use crate::names::{name, names};
 use eden_inode::Inodes;

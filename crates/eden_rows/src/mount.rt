@@ -2,7 +2,7 @@
 
 ghost use Rattle.std.specs.Prelude.{◌≤◌};
 ghost use Rattle.eden_model.specs.declared.kind.Origin.TheVariants as origin;
-ghost use Rattle.eden_overlay_format.specs.Directory.{number_least, number_end};
+ghost use Rattle.eden_model.specs.Limits.{number_least, number_end};
 ghost use Rattle.eden_tie.specs.Loading.{IsAt};
 
 use crate::calls::{Move, own, remove, rename, turn_into};

@@ -5,8 +5,9 @@ use Rattle.std.proofs.lemmas.Option.{same_Some}
 use Rattle.eden_model.specs.declared.kind.Kind.{Kind}
 use Rattle.eden_model.specs.declared.kind.Kind.TheVariants as kind
 use Rattle.eden_model.specs.declared.kind.Origin.TheVariants as origin
+use Rattle.eden_model.specs.Limits.{number_least}
 use Rattle.eden_model.specs.Trees.{Name, Path}
-use Rattle.eden_overlay_format.specs.Directory.{AreStorable, number_least}
+use Rattle.eden_overlay_format.specs.Directory.{AreStorable}
 use Rattle.eden_overlay_format.specs.declared.stored_entry.StoredEntry.{StoredEntry}
 use Rattle.eden_overlay.specs.Files.{Stored, put}
 use Rattle.eden_overlay.specs.Held.{HoldsEntries, with_entries}

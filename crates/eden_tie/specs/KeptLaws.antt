@@ -3,9 +3,10 @@ use Rattle.std.specs.Prelude.{◌≤◌, ℕ, Some, ◌≡◌, List}
 use Rattle.eden_model.specs.declared.id.Id.{Id}
 use Rattle.eden_model.specs.declared.kind.Origin.TheVariants as origin
 use Rattle.eden_model.specs.declared.tree_entry.TreeEntry.{TreeEntry}
+use Rattle.eden_model.specs.Limits.{number_end}
 use Rattle.eden_model.specs.Trees.{Path}
 use Rattle.eden_model.specs.Repository.{Repository}
-use Rattle.eden_overlay_format.specs.Directory.{AreStorable, number_end}
+use Rattle.eden_overlay_format.specs.Directory.{AreStorable}
 use Rattle.eden_overlay.specs.Files.{Stored}
 use Rattle.eden_tree.specs.Directory.{Row}
 use Rattle.eden_tree.specs.Paths.{stamped_along}

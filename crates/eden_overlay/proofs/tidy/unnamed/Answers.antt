@@ -1,7 +1,7 @@
 use Rattle.std.proofs.Common.{rules, ◌&&◌, leb, not, nat_cmp}
 use Rattle.std.specs.BTreeSet.{contains}
 use Rattle.std.proofs.lemmas.Fn.{filter_same}
-use Rattle.eden_overlay_format.specs.Directory.{number_least}
+use Rattle.eden_model.specs.Limits.{number_least}
 use Rattle.eden_overlay.proofs.tidy.unnamed.Goals as goal
 
 pub returns : goal.returns

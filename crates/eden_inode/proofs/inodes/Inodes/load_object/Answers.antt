@@ -1,6 +1,6 @@
 use Rattle.std.proofs.Common.{◌≤◌, ◌+◌, length, refl, sym, ap, ◌∙◌, subst, arith}
 use Rattle.eden_model.specs.declared.kind.Origin.TheVariants as origin
-use Rattle.eden_overlay_format.specs.Directory.{number_end}
+use Rattle.eden_model.specs.Limits.{number_end}
 use Rattle.eden_tree.specs.Directory.{Row}
 use Rattle.eden_tie.specs.Kept.{IsTable, IsKept}
 use Rattle.eden_tie.specs.Loading.{IsAt, LoadsObject}

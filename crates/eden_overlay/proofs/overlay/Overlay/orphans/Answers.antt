@@ -2,7 +2,7 @@ use Rattle.std.proofs.Common.{◌&&◌, List, ℕ, leb, not, sym, subst, nat_cmp
 use Rattle.std.specs.BTreeSet.{contains}
 use Rattle.std.specs.List.Sorted.{IsStrictlySortedBy}
 use Rattle.std.proofs.lemmas.List.Kept.{IsStrictlySortedBy-filter}
-use Rattle.eden_overlay_format.specs.Directory.{number_least}
+use Rattle.eden_model.specs.Limits.{number_least}
 use Rattle.eden_overlay.specs.Files.{Stored, Lists}
 use Rattle.eden_overlay.specs.Tidying.{ListsOrphans}
 use Rattle.eden_overlay.proofs.Tidied.{orphans_listed}

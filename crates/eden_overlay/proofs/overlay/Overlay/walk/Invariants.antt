@@ -1,7 +1,8 @@
 use Rattle.std.proofs.Common.{◌≡◌, ◌≤◌, ◌-◌, ℕ, IsTrue, nat_cmp, btree_set_len}
 use Rattle.std.specs.BTreeSet.{contains}
-use Rattle.eden_overlay_format.specs.Directory.{number_end}
-use Rattle.eden_overlay.specs.Walking.{InRange, AreInRange, Walked}
+use Rattle.eden_model.specs.Limits.{number_end}
+use Rattle.eden_model.specs.Numbers.{IsNumber}
+use Rattle.eden_overlay.specs.Walking.{AreInRange, Walked}
 use Rattle.eden_overlay.proofs.overlay.Overlay.walk.Given as goal
 
 abbrev pub invariant-loop-entry : goal.invariant-loop-entry
@@ -10,7 +11,7 @@ invariant-loop-entry g l = record {
   counted : g.F.Files.failures l.fn.self ≤ g.F.Files.failures l.self;
   walked : g.W.World.honest → Walked (g.F.Files.stored l.fn.self) l.pending.items (contains nat_cmp l.met);
   ranges : AreInRange l.pending.items;
-  met : (k : ℕ) → IsTrue (contains nat_cmp l.met k) → InRange k;
+  met : (k : ℕ) → IsTrue (contains nat_cmp l.met k) → IsNumber k;
 }
 
 abbrev pub decreases-loop-entry : goal.decreases-loop-entry
