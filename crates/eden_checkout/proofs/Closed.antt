@@ -14,9 +14,9 @@ use Rattle.eden_overlay_format.specs.State.{IsGoodState, state_body}
 use Rattle.eden_overlay_format.proofs.CallerLemmas.{state_written}
 use Rattle.eden_overlay.specs.declared.files.FilesFault.{FilesFault}
 use Rattle.eden_overlay.specs.Files.{Stored}
-use Rattle.eden_overlay.specs.Held.{HoldsState, with_state, without, own_files}
+use Rattle.eden_overlay.specs.Held.{HoldsState, with_state, without, own_files, root_file}
 use Rattle.eden_overlay.specs.Soundness.{HoldsKind}
-use Rattle.eden_overlay.proofs.CallerLemmas.{nothing_there}
+use Rattle.eden_overlay.proofs.CallerLemmas.{nothing_at_root}
 use Rattle.eden_tree.specs.Directory.{Child, unloaded, loaded, Row, directory_in, child_of}
 use Rattle.eden_tie.specs.Chains.{AreSaved}
 use Rattle.eden_tie.specs.Kept.{IsTable, IsKept}
@@ -48,10 +48,10 @@ is_fresh x next table none = let shut = bare x.child none in
     ∙ ap (λ k. record { number = 1; kind = k; origin = x.origin; child = x.child }) table.kind
     ∙ ap (λ c. record { number = 1; kind = kind.Dir; origin = x.origin; child = c }) shut
 
--- file 1 stands where the root is the mount's own, and nowhere else
-root_stands : (root : Id) (F : Stored) (o : Origin) (f : Option (List ℕ)) → F 1 ≡ f → IsRootOf root o → (o ≢ origin.Own → F 1 ≡ None) → (o ≡ origin.Own → HoldsKind F 1 kind.Dir) → root_from root f ≡ o
+-- the root has a file where it is the mount's own, and nowhere else
+root_stands : (root : Id) (F : Stored) (o : Origin) (f : Option (List ℕ)) → root_file F ≡ f → IsRootOf root o → (o ≢ origin.Own → root_file F ≡ None) → (o ≡ origin.Own → HoldsKind F 1 kind.Dir) → root_from root f ≡ o
 root_stands root F o None is (inl object) rootless rooted = sym object
-root_stands root F o None is (inr own) rootless rooted = absurd (nothing_there F 1 kind.Dir is (rooted own))
+root_stands root F o None is (inr own) rootless rooted = absurd (nothing_at_root F kind.Dir is (rooted own))
 root_stands root F o (Some b) is (inr own) rootless rooted = sym own
 root_stands root F o (Some b) is (inl object) rootless rooted = let none : Some b ≡ None = sym is ∙ rootless (λ own. cc) in cc
 
@@ -65,7 +65,7 @@ away_shown R F x next table =
 pub saved_shown : (R : Repository) (F : Stored) (x : Row) (next : ℕ) (root : Id) → IsTable x next → IsKept R F x next → IsRootOf root x.origin → ShowsFiles → ShowsAway
     → AreSaved x → files_show R root F ≡ shown_in R F x
 saved_shown R F x next root table kept of files away saved =
-    ap (λ (o : Origin). shown_in R (without F 0) (fresh_root o)) (root_stands root F x.origin (F 1) refl of kept.ties.rootless kept.ties.rooted)
+    ap (λ (o : Origin). shown_in R (without F 0) (fresh_root o)) (root_stands root F x.origin (root_file F) refl of kept.ties.rootless kept.ties.rooted)
     ∙ away R (without F 0) (fresh_root x.origin) refl
     ∙ away_shown R (without F 0) x next table
     ∙ sym (files R (without F 0) x next table (loose_kept R F x next 0 None table kept (the_state refl)) saved)
@@ -75,7 +75,7 @@ module _ (R : Repository) (F : Stored) (x : Row) (next : ℕ) (root : Id) (table
     (sound : TiesSound) (below : NumbersBelow) where
   pub shows_on : files_show R root F ≡ shown_in R F x
   shows_on =
-      ap (λ (o : Origin). shown_in R (without F 0) (fresh_root o)) (root_stands root F x.origin (F 1) refl of kept.ties.rootless kept.ties.rooted)
+      ap (λ (o : Origin). shown_in R (without F 0) (fresh_root o)) (root_stands root F x.origin (root_file F) refl of kept.ties.rootless kept.ties.rooted)
       ∙ ap (shown_in R (without F 0)) (sym (is_fresh x next table none))
       ∙ loose_alike R F x next 0 None table kept (the_state refl)
 

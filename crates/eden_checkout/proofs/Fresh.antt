@@ -7,7 +7,7 @@ use Rattle.eden_model.specs.Repository.{Repository, Whole}
 use Rattle.eden_overlay.specs.Files.{Stored}
 use Rattle.eden_overlay.specs.Held.{without}
 use Rattle.eden_overlay.specs.Laws.{RootlessSound}
-use Rattle.eden_overlay.proofs.CallerLemmas.{put_here, put_apart, same_or_apart}
+use Rattle.eden_overlay.proofs.CallerLemmas.{put_here, put_apart, same_or_apart, root_same}
 use Rattle.eden_tie.specs.Shown.{shown_in}
 use Rattle.eden_tie.specs.ShownLaws.{ShowsAway}
 use Rattle.eden_inode.specs.Tables.{fresh_root}
@@ -30,13 +30,13 @@ still_none F none = fun_ext at_number where
 module _ (away : ShowsAway) (R : Repository) (root : Id) (F : Stored) (none : AreNone F) where
   whole_shown : files_show R root F ≡ Whole R root
   whole_shown =
-      ap (λ o. shown_in R (without F 0) (fresh_root (root_from root o))) (none 1)
+      ap (λ o. shown_in R (without F 0) (fresh_root (root_from root o))) (root_same F nothing (none 1))
       ∙ ap (λ (G : Stored). shown_in R G (fresh_root (origin.Object root))) (still_none F none)
       ∙ away R nothing (fresh_root (origin.Object root)) refl
 
 pub opens_fresh : RootlessSound → ShowsAway → OpensFresh
 opens_fresh rootless away R root F none = record {
-  sound = rootless F (none 1);
+  sound = rootless F (root_same F nothing (none 1));
   shown = whole_shown away R root F none;
   below = λ s held c e live names. absurd (nothing_named F none c e names);
 }

@@ -17,13 +17,13 @@ use Rattle.eden_overlay_format.specs.Values.{entries_in, state_in}
 use Rattle.eden_overlay.specs.declared.fault.GetFault.TheVariants as get
 use Rattle.eden_overlay.specs.Getting.{Explains}
 use Rattle.eden_overlay.specs.Files.{Stored}
-use Rattle.eden_overlay.specs.Held.{HoldsState, without}
+use Rattle.eden_overlay.specs.Held.{HoldsState, without, root_file}
 use Rattle.eden_overlay.specs.Laws.{IsStray}
 use Rattle.eden_overlay.specs.declared.rescan.RescanFault.{RescanFault}
 use Rattle.eden_overlay.specs.declared.rescan.RescanFault.TheVariants as rescan
 use Rattle.eden_overlay.specs.Rescanning.{IsRescanFault}
 use Rattle.eden_overlay.specs.Soundness.{Names, IsLive, HoldsKind, AreSound}
-use Rattle.eden_overlay.proofs.CallerLemmas.{put_here, put_apart, names_moved, same_or_apart, numbers_from_two, live_stay, state_stays, accused_unsound}
+use Rattle.eden_overlay.proofs.CallerLemmas.{put_here, put_apart, names_moved, same_or_apart, numbers_from_two, live_stay, state_stays, accused_unsound, root_same}
 use Rattle.eden_tree.specs.Directory.{child_of}
 use Rattle.eden_tie.specs.Chains.{AreSaved}
 use Rattle.eden_tie.proofs.CallerLemmas.{place_cases}
@@ -66,14 +66,14 @@ fresh_saved o y d place holds = elim (place_cases (fresh_root o) y place) [
   | inr b ↦ absurd (none-some b.directory b.holds)
 ]
 
-module _ (root : Id) (F : Stored) (sound : AreSound F) (start : Start) (from : start.origin ≡ root_from root (F 1)) where
-  rooted_by : (F 1 ≡ None) ⊎ HoldsKind F 1 kind.Dir → start.origin ≡ origin.Own → HoldsKind F 1 kind.Dir
-  rooted_by (inl none) own = absurd (unowned root (F 1) none (sym from ∙ own))
+module _ (root : Id) (F : Stored) (sound : AreSound F) (start : Start) (from : start.origin ≡ root_from root (root_file F)) where
+  rooted_by : (root_file F ≡ None) ⊎ HoldsKind F 1 kind.Dir → start.origin ≡ origin.Own → HoldsKind F 1 kind.Dir
+  rooted_by (inl none) own = absurd (unowned root (root_file F) none (sym from ∙ own))
   rooted_by (inr held) own = held
 
   can_start_below : ((c : ℕ) (e : StoredEntry) → IsLive F c → Names F c e → e.number < start.next) → CanStart (without F 0) start.origin start.next
   can_start_below below = record {
-    rootless = λ other. own_stands root (F 1) (λ own. other (from ∙ own));
+    rootless = λ other. root_same (without F 0) F (put_apart F 0 1 None (λ is. omega (arith, is))) ∙ own_stands root (root_file F) (λ own. other (from ∙ own));
     rooted = rooted_by sound.top;
     sound = state_stays F None sound;
     below = λ c e live names. below c e ((live_stay F 0 None (state_stray F) c).0 live) (still_named F c e names);

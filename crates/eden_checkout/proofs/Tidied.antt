@@ -4,15 +4,16 @@ use Rattle.std.specs.Option.{option_and_then}
 use Rattle.std.proofs.lemmas.Option.{none-some}
 use Rattle.std.proofs.lemmas.List.Elements.{All-contains, All-from_recursion}
 use Rattle.eden_model.specs.declared.id.Id.{Id}
+use Rattle.eden_model.specs.Limits.{number_end}
 use Rattle.eden_model.specs.Repository.{Repository}
 use Rattle.eden_overlay_format.specs.declared.stored_entry.StoredEntry.{StoredEntry}
-use Rattle.eden_overlay_format.specs.Directory.{number_end, IsStorable}
+use Rattle.eden_overlay_format.specs.Directory.{IsStorable}
 use Rattle.eden_overlay_format.specs.Values.{state_in}
 use Rattle.eden_overlay.specs.Files.{Stored}
-use Rattle.eden_overlay.specs.Held.{without}
+use Rattle.eden_overlay.specs.Held.{without, root_file}
 use Rattle.eden_overlay.specs.Soundness.{Names, AreSound}
 use Rattle.eden_overlay.specs.Tidying.{OthersStay}
-use Rattle.eden_overlay.proofs.CallerLemmas.{put_apart, held_storable, numbers_from_two, root_stays, named_stays, live_before, named_before, still_sound}
+use Rattle.eden_overlay.proofs.CallerLemmas.{put_apart, held_storable, numbers_from_two, root_stays, named_stays, live_before, named_before, still_sound, root_same}
 use Rattle.eden_tree.specs.Directory.{Row, Directory, child_of}
 use Rattle.eden_tie.specs.Listings.{Place, top}
 use Rattle.eden_tie.specs.Shown.{shown_in}
@@ -32,13 +33,13 @@ module _ (F G : Stored) (sound : AreSound F) (stay : OthersStay F G) where
 
   module _ (R : Repository) (root : Id) where
     -- nothing is loaded
-    none_loaded : (y : Row) (d : Directory) → Place (fresh_root (root_from root (F 1))) y → child_of y ≡ Some d → ⊥
-    none_loaded y d place holds = elim (place_cases (fresh_root (root_from root (F 1))) y place) [
+    none_loaded : (y : Row) (d : Directory) → Place (fresh_root (root_from root (root_file F))) y → child_of y ≡ Some d → ⊥
+    none_loaded y d place holds = elim (place_cases (fresh_root (root_from root (root_file F))) y place) [
       | inl is ↦ none-some d (sym (ap child_of is) ∙ holds)
       | inr b ↦ none-some b.directory b.holds
     ]
 
-    fits : Fits F (fresh_root (root_from root (F 1))) number_end
+    fits : Fits F (fresh_root (root_from root (root_file F))) number_end
     fits = record {
       root = refl;
       sound = sound;
@@ -47,14 +48,14 @@ module _ (F G : Stored) (sound : AreSound F) (stay : OthersStay F G) where
       held = λ y d place holds. absurd (none_loaded y d place holds);
     }
 
-    before : Backs (without F 0) F (fresh_root (root_from root (F 1))) number_end
+    before : Backs (without F 0) F (fresh_root (root_from root (root_file F))) number_end
     before = record {
       fits = fits;
       same = λ c e live names own away. inl (put_apart F 0 e.number None (no_state c e names));
       same_root = λ none. inl (put_apart F 0 1 None (λ is. omega (arith, is)));
     }
 
-    after : Backs (without G 0) F (fresh_root (root_from root (F 1))) number_end
+    after : Backs (without G 0) F (fresh_root (root_from root (root_file F))) number_end
     after = record {
       fits = fits;
       same = λ c e live names own away. inl (put_apart G 0 e.number None (no_state c e names) ∙ named_stays F G stay c e live names);
@@ -63,8 +64,8 @@ module _ (F G : Stored) (sound : AreSound F) (stay : OthersStay F G) where
 
     shows_same : files_show R root G ≡ files_show R root F
     shows_same =
-        ap (λ (f : Option (List ℕ)). shown_in R (without G 0) (fresh_root (root_from root f))) (root_stays F G stay)
-        ∙ backed_alike R (without F 0) (without G 0) F (fresh_root (root_from root (F 1))) number_end before after (fresh_root (root_from root (F 1))) top
+        ap (λ (f : Option (List ℕ)). shown_in R (without G 0) (fresh_root (root_from root f))) (root_same G F (root_stays F G stay))
+        ∙ backed_alike R (without F 0) (without G 0) F (fresh_root (root_from root (root_file F))) number_end before after (fresh_root (root_from root (root_file F))) top
 
   pub same_shown : ShowsSame F G
   same_shown R root = shows_same R root

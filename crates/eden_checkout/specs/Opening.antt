@@ -15,7 +15,7 @@ use Rattle.eden_overlay.specs.declared.files.FilesFault.{FilesFault}
 use Rattle.eden_overlay.specs.declared.files.FilesFault.TheVariants as files
 use Rattle.eden_overlay.specs.Files.{Stored}
 use Rattle.eden_overlay.specs.Getting.{Explains}
-use Rattle.eden_overlay.specs.Held.{HoldsState, without}
+use Rattle.eden_overlay.specs.Held.{HoldsState, without, root_file}
 use Rattle.eden_overlay.specs.declared.rescan.RescanFault.{RescanFault}
 use Rattle.eden_overlay.specs.declared.rescan.RescanFault.TheVariants as rescan
 use Rattle.eden_overlay.specs.Rescanning.{IsNextOf, Accuses}
@@ -37,7 +37,7 @@ root_from root (Some bytes) = origin.Own
 
 -- the tree that files show above a commit's, file 0 passed over
 abbrev pub files_show : Repository → Id → Stored → Tree
-files_show R root F = shown_in R (without F 0) (fresh_root (root_from root (F 1)))
+files_show R root F = shown_in R (without F 0) (fresh_root (root_from root (root_file F)))
 
 -- What is known of the files where the outside is honest: no name dangles, they show the opening tree, and where they were
 -- closed each number that is named is below the next one.
@@ -70,7 +70,7 @@ Finds opening.Closed root F next = StartsAt F root next
 Finds opening.Rescan root F next = AreSound F × IsNextOf F next
 
 pub record Starts (how : Opening) (root : Id) (F : Stored) (start : Start) : Type 0 where
-  pub origin : start.origin ≡ root_from root (F 1)
+  pub origin : start.origin ≡ root_from root (root_file F)
   pub next : Finds how root F start.next
 
 -- ---- why an overlay isn't opened

@@ -26,9 +26,6 @@ pub enum Opening {
 /// The number of the state's file.
 const STATE_FILE: u64 = 0;
 
-/// The number of the root's file.
-const ROOT_FILE: u64 = 1;
-
 /// The first number that is given to an inode beside the root.
 const FIRST_NUMBER: u64 = 2;
 
@@ -131,11 +128,11 @@ pub(crate) fn begin<W: World, F: Files<W>>(
         Opening::Closed => state_of(alloc, overlay, root)?.next,
         Opening::Rescan => rescanned(alloc, overlay)?,
     };
-    overlay.remove_state()?;
-    let origin = if numbers.contains(&ROOT_FILE) {
+    let origin = if overlay.is_rooted()? {
         Origin::Own
     } else {
         Origin::Object(root)
     };
+    overlay.remove_state()?;
     Ok(Start { origin, next })
 }

@@ -11,6 +11,8 @@ mod formats;
 #[cfg(test)]
 mod kinds;
 #[cfg(test)]
+mod numbers;
+#[cfg(test)]
 mod orphans;
 #[cfg(test)]
 mod overlays;

@@ -17,7 +17,7 @@ use Rattle.eden_object.specs.Trees.{NamesDiffer}
 use Rattle.eden_overlay_format.specs.declared.stored_entry.StoredEntry.{StoredEntry}
 use Rattle.eden_overlay.specs.declared.files.Files.{Ghosts as Files}
 use Rattle.eden_overlay.specs.Files.{Stored}
-use Rattle.eden_overlay.specs.Held.{HoldsContent, entries_at, content_at}
+use Rattle.eden_overlay.specs.Held.{HoldsContent, entries_at, content_at, root_file}
 use Rattle.eden_overlay.specs.Soundness.{IsLive, Names, HoldsKind, AreSound}
 use Rattle.eden_tree.specs.Directory.{Row, child_of, unloaded}
 use Rattle.eden_tree.specs.Paths.{row_at}
@@ -45,10 +45,10 @@ shows w f t = shown_in w.repository (f.stored t.files) t.root
 abbrev pub fresh_root : Origin → Row
 fresh_root o = record { number = 1; kind = kind.Dir; origin = o; child = unloaded }
 
--- a table may start over these files: its root is file 1 exactly where that is stored, no name dangles, and every number
+-- a table may start over these files: its root is the mount's own exactly where it has a file, no name dangles, and every number
 -- that is named is below the next
 pub record CanStart (F : Stored) (root : Origin) (next : ℕ) : Type 0 where
-  pub rootless : root ≢ origin.Own → F 1 ≡ None
+  pub rootless : root ≢ origin.Own → root_file F ≡ None
   pub rooted : root ≡ origin.Own → HoldsKind F 1 kind.Dir
   pub sound : AreSound F
   pub below : (c : ℕ) (e : StoredEntry) → IsLive F c → Names F c e → e.number < next

@@ -1,6 +1,6 @@
 -- What the fault of a pass over the live directories says of the files.
-use Rattle.std.proofs.Common.{◌≡◌, ◌≤◌, ◌<◌, ◌⊎◌, ◌∙◌, ℕ, List, Option, Some, None, refl, sym, subst, inl, inr, arith, ◌-◌, ◌^◌, Result, Ok, Err, IsErrAnd, IfErr}
-use Rattle.std.specs.Option.{option_and_then}
+use Rattle.std.proofs.Common.{◌≡◌, ◌≤◌, ◌<◌, ◌⊎◌, ◌∙◌, ℕ, true, false, ap, List, Option, Some, None, refl, sym, subst, inl, inr, arith, ◌-◌, ◌^◌, Result, Ok, Err, IsErrAnd, IfErr}
+use Rattle.std.specs.Option.{is_some, option_and_then}
 use Rattle.std.proofs.lemmas.Bool.{cases_lt}
 use Rattle.std.proofs.lemmas.Option.{none-some}
 use Rattle.eden_model.specs.Failures.{Rose}
@@ -19,7 +19,8 @@ use Rattle.eden_overlay.specs.Getting.{Explains}
 use Rattle.eden_overlay.specs.Soundness.{HoldsKind, AreSound}
 use Rattle.eden_overlay.specs.Rescanning.{IsOwned, IsDangling, IsTwice, IsDamaged, ExplainsKind, IsRescanFault, AccusedUnsound}
 use Rattle.eden_overlay.specs.Walking.{of_getting}
-use Rattle.eden_overlay.proofs.Puts.{nothing_there}
+use Rattle.eden_overlay.specs.Held.{root_file}
+use Rattle.eden_overlay.proofs.Puts.{nothing_there, root_holds}
 
 -- a count that rose later rose
 pub risen : (old mid new : ℕ) → old ≤ mid → Rose mid new → Rose old new
@@ -39,13 +40,13 @@ earlier honest F G old mid new (fault.Damaged k r) same up h = λ yes. subst (λ
 earlier honest F G old mid new fault.Device same up h = risen old mid new up h
 earlier honest F G old mid new fault.Memory same up h = tt
 
--- the root's file isn't a directory
-pub root_fault : (honest : Type 0) (F : Stored) (old new : ℕ) (f : GetFault) → (f ≡ get.Absent → ⊥) → (honest → Explains identifier.Directory entries_in (F 1) f)
-    → (f ≡ get.Device → Rose old new) → IsRescanFault honest F old new (of_getting 1 f)
-root_fault honest F old new get.Absent there why rose = absurd (there refl)
-root_fault honest F old new (get.Damaged r) there why rose = λ yes. record { wanted = kind.Dir; asked = inl (refl, refl); why = why yes }
-root_fault honest F old new get.Device there why rose = rose refl
-root_fault honest F old new get.Memory there why rose = tt
+-- the root's file stands, and isn't a directory
+pub root_fault : (honest : Type 0) (F : Stored) (old new : ℕ) (f : GetFault) → (honest → true ≡ is_some (root_file F))
+    → (honest → Explains identifier.Directory entries_in (root_file F) f) → (f ≡ get.Device → Rose old new) → IsRescanFault honest F old new (of_getting 1 f)
+root_fault honest F old new get.Absent stands why rose = λ yes. let wrong : true ≡ false = stands yes ∙ ap is_some (why yes) in absurd (cc)
+root_fault honest F old new (get.Damaged r) stands why rose = λ yes. inl (refl, why yes)
+root_fault honest F old new get.Device stands why rose = rose refl
+root_fault honest F old new get.Memory stands why rose = tt
 
 -- an error that was handed on
 pub handed_on : {T : Type 0} (r : Result T RescanFault) (f : RescanFault) (P : RescanFault → Type 0) → IsErrAnd r (λ z. z ≡ f) → P f → IfErr r P
@@ -71,19 +72,19 @@ owned_there F s k t o =
     let held = s.owned o.place.directory o.place.entry o.place.live o.place.named o.is_own in
     subst (HoldsKind F k) o.has_kind (subst (λ (q : ℕ). HoldsKind F q o.place.entry.kind) o.has_number held)
 
-root_there : (F : Stored) → AreSound F → (r : Refusal) → ExplainsKind F 1 kind.Dir (get.Damaged r) → ⊥
+root_there : (F : Stored) → AreSound F → (r : Refusal) → Explains identifier.Directory entries_in (root_file F) (get.Damaged r) → ⊥
 root_there F s r why = elim s.top [
   | inl none ↦ subst (λ (o : Option (List ℕ)). Explains identifier.Directory entries_in o (get.Damaged r)) none why
-  | inr held ↦ not_held F 1 kind.Dir r why held
+  | inr held ↦ refuses identifier.Directory entries_in (root_file F) r held.0 why (root_holds F held.0 held.1)
 ]
 
 pub accused_unsound : AccusedUnsound
 accused_unsound F (fault.Dangling k) d s = nothing_there F k d.wanted d.absent (owned_there F s k d.wanted d.owned)
 accused_unsound F (fault.Twice k) t s =
     t.apart (s.once t.first.directory t.second.directory t.first.entry t.second.entry t.first.live t.second.live t.first.named t.second.named (t.first_number ∙ sym t.second_number))
-accused_unsound F (fault.Damaged k r) d s = elim d.asked [
-  | inl root ↦ root_there F s r (subst (λ (q : ℕ). ExplainsKind F q kind.Dir (get.Damaged r)) root.0 (subst (λ (t : Kind). ExplainsKind F k t (get.Damaged r)) root.1 d.why))
-  | inr owned ↦ not_held F k d.wanted r d.why (owned_there F s k d.wanted owned)
+accused_unsound F (fault.Damaged k r) d s = elim d [
+  | inl root ↦ root_there F s r root.1
+  | inr own ↦ not_held F k own.wanted r own.why (owned_there F s k own.wanted own.owned)
 ]
 accused_unsound F fault.Device h s = h
 accused_unsound F fault.Memory h s = h

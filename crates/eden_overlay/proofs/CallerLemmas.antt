@@ -7,7 +7,7 @@ use Rattle.eden_overlay.specs.contracts.memory.MemoryFiles
 use Rattle.eden_overlay.specs.contracts.overlay.Overlay
 use Rattle.eden_overlay.proofs.memory.MemoryFiles.TheSendSync as memory
 use Rattle.eden_overlay.proofs.overlay.Overlay.TheSendSync as overlay
-pub use Rattle.eden_overlay.proofs.Puts.{put_here, put_apart, same_or_apart, moved, names_moved, kind_moved, one_held, one_kind, held_storable, nothing_there}
+pub use Rattle.eden_overlay.proofs.Puts.{put_here, put_apart, same_or_apart, root_same, nothing_at_root, entries_at_root, moved, names_moved, kind_moved, one_held, one_kind, held_storable, nothing_there}
 pub use Rattle.eden_overlay.proofs.Directories.{apart, named, kind_kept, was_named}
 pub use Rattle.eden_overlay.proofs.Cycles.{joined, no_cycle}
 -- the clauses of `overlay_laws`, for lemmas
@@ -18,6 +18,9 @@ pub use Rattle.eden_overlay.proofs.Directories.{dropped_stay, dropped_unnamed}
 pub use Rattle.eden_overlay.proofs.Entering.{added_stay, entered_stay}
 pub use Rattle.eden_overlay.proofs.Moving.{renamed_stay, moved_stay}
 pub use Rattle.eden_overlay.proofs.Accusing.{accused_unsound}
+-- what is saved of numbers
+pub use Rattle.eden_overlay.proofs.Saves.{numbers_held, other_tree_has_none, entries_have_none, root_has_numbers}
+pub use Rattle.eden_overlay.proofs.Roots.{root_stands}
 -- the length of a content that a file's head tells
 pub use Rattle.eden_overlay.proofs.Lengths.{length_held, no_length}
 -- files without orphans

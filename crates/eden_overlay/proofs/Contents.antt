@@ -7,10 +7,10 @@ use Rattle.eden_overlay_format.specs.declared.stored_entry.StoredEntry.{StoredEn
 use Rattle.eden_overlay_format.specs.Stored.{written}
 use Rattle.eden_overlay_format.specs.Content.{content_most}
 use Rattle.eden_overlay.specs.Files.{Stored}
-use Rattle.eden_overlay.specs.Held.{HoldsContent, with_content}
+use Rattle.eden_overlay.specs.Held.{HoldsContent, root_file, with_content}
 use Rattle.eden_overlay.specs.Soundness.{Names, here, below, IsLive, HoldsKind, AreSound}
 use Rattle.eden_overlay.specs.Laws.{ContentsStay}
-use Rattle.eden_overlay.proofs.Puts.{put_apart, same_or_apart, names_moved, kind_moved, contents_held, one_kind, nothing_there, top_same}
+use Rattle.eden_overlay.proofs.Puts.{put_apart, same_or_apart, names_moved, kind_moved, contents_held, one_kind, nothing_at_root, top_same}
 
 -- what is there as a kind, though a content is there, is that of a file or a link
 kind_of_content : (F G : Stored) (k : ℕ) (t : Kind) (old new : List ℕ) → HoldsContent F k old → HoldsContent G k new → HoldsKind F k t → HoldsKind G k t
@@ -20,8 +20,8 @@ kind_of_content F G k kind.Exec old new f g h = (new, g)
 kind_of_content F G k kind.Link old new f g h = (new, g)
 
 -- a content isn't the root's directory
-not_top : (F : Stored) (content : List ℕ) → HoldsContent F 1 content → (F 1 ≡ None) ⊎ HoldsKind F 1 kind.Dir → ⊥
-not_top F content h (inl none) = nothing_there F 1 kind.File none (content, h)
+not_top : (F : Stored) (content : List ℕ) → HoldsContent F 1 content → (root_file F ≡ None) ⊎ HoldsKind F 1 kind.Dir → ⊥
+not_top F content h (inl none) = nothing_at_root F kind.File none (content, h)
 not_top F content h (inr top) = one_kind F 1 content top.0 h top.1
 
 module _ (F : Stored) (k : ℕ) (old new : List ℕ) (was : HoldsContent F k old) (short : length new ≤ content_most) where

@@ -3,7 +3,7 @@ use Rattle.std.proofs.Common.{◌≡◌, ◌≢◌, ◌⊎◌, ◌≤◌, ℕ, L
 use Rattle.eden_model.specs.declared.kind.Kind.{Kind}
 use Rattle.eden_overlay_format.specs.declared.stored_entry.StoredEntry.{StoredEntry}
 use Rattle.eden_overlay.specs.Files.{Stored}
-use Rattle.eden_overlay.specs.Held.{HoldsEntries}
+use Rattle.eden_overlay.specs.Held.{HoldsEntries, root_file}
 use Rattle.eden_overlay.specs.Soundness.{Names, LeadsOn, Reached, here, below, IsLive, HoldsKind, AreSound}
 use Rattle.eden_overlay.specs.Laws.{NamedFrom}
 use Rattle.eden_overlay.proofs.Puts.{same_or_apart}
@@ -70,8 +70,11 @@ module _ (F : Stored) (s : AreSound F) (d : ℕ) (g : StoredEntry) (live : IsLiv
 -- ---- what a live directory holds
 
 -- entries, or nothing where it is file 1
-pub directory_there : (F : Stored) → AreSound F → (d : ℕ) → IsLive F d → (F d ≡ None) ⊎ ((es : List StoredEntry) × HoldsEntries F d es)
-directory_there F s d here = s.top
+pub directory_there : (F : Stored) → AreSound F → (d : ℕ) → IsLive F d → ((d ≡ 1) × (root_file F ≡ None)) ⊎ ((es : List StoredEntry) × HoldsEntries F d es)
+directory_there F s d here = elim s.top [
+  | inl none ↦ inl (refl, none)
+  | inr held ↦ inr held
+]
 directory_there F s d (below c e r n leads) =
     let P : Kind → Type 0 = λ t. HoldsKind F e.number t in
     inr (subst P leads.0 (s.owned c e r n leads.1))

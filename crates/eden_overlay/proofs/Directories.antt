@@ -7,7 +7,7 @@ use Rattle.eden_overlay_format.specs.declared.stored_entry.StoredEntry.{StoredEn
 use Rattle.eden_overlay_format.specs.Stored.{written}
 use Rattle.eden_overlay_format.specs.Directory.{AreStorable, directory_body}
 use Rattle.eden_overlay.specs.Files.{Stored}
-use Rattle.eden_overlay.specs.Held.{HoldsEntries, with_entries}
+use Rattle.eden_overlay.specs.Held.{root_file, HoldsEntries, with_entries}
 use Rattle.eden_overlay.specs.Soundness.{Names, here, below, IsLive, HoldsKind, AreSound}
 use Rattle.eden_overlay.specs.Laws.{DroppedStay, DroppedUnnamed}
 use Rattle.eden_overlay.proofs.Puts.{put_apart, same_or_apart, names_moved, kind_moved, entries_held, one_held, one_kind, top_same}
@@ -47,7 +47,7 @@ module _ (F : Stored) (d : ℕ) (new : List StoredEntry) (are : AreStorable new)
     | inr ne ↦ kind_moved F (with_entries F d new) q t (sym (apart q ne)) h
   ]
 
-  pub top_kept : AreSound F → (with_entries F d new 1 ≡ None) ⊎ HoldsKind (with_entries F d new) 1 kind.Dir
+  pub top_kept : AreSound F → (root_file (with_entries F d new) ≡ None) ⊎ HoldsKind (with_entries F d new) 1 kind.Dir
   top_kept s = elim (same_or_apart d 1) [
     | inl is ↦
         (let P : ℕ → Type 0 = λ q. HoldsEntries (with_entries F d new) q new in

@@ -7,7 +7,7 @@ use Rattle.eden_overlay.specs.Files.{Stored}
 use Rattle.eden_overlay.specs.Held.{HoldsEntries, with_entries}
 use Rattle.eden_overlay.specs.Soundness.{Names, LeadsOn, Reached, here, below, IsLive, HasOwn, HoldsKind, AreSound}
 use Rattle.eden_overlay.specs.Laws.{NamedFrom, Brings, MayEnter, IsFresh, EnteredStay, AddedStay}
-use Rattle.eden_overlay.proofs.Puts.{same_or_apart, kind_moved, one_held, nothing_there}
+use Rattle.eden_overlay.proofs.Puts.{same_or_apart, kind_moved, one_held, nothing_at_root}
 use Rattle.eden_overlay.proofs.Strays.{each_at}
 use Rattle.eden_overlay.proofs.Directories.{apart, named, kind_kept, top_kept}
 use Rattle.eden_overlay.proofs.Cycles.{joined, last, not_to_root, named_by, no_cycle, directory_there}
@@ -71,7 +71,7 @@ module _ (F : Stored) (d : ℕ) (new : List StoredEntry) (live : IsLive F d) (ar
   kind_after : (q : ℕ) (t : Kind) → HoldsKind F q t → HoldsKind (with_entries F d new) q t
   kind_after q t h = elim (directory_there F s d live) [
     | inl none ↦ (elim (same_or_apart d q) [
-      | inl is ↦ (let P : ℕ → Type 0 = λ p. F p ≡ None in absurd (nothing_there F q t (subst P is none) h))
+      | inl is ↦ absurd (nothing_at_root F t none.1 (subst (λ (p : ℕ). HoldsKind F p t) (sym is ∙ none.0) h))
       | inr ne ↦ kind_moved F (with_entries F d new) q t (sym (apart F d new are q ne)) h
     ])
     | inr old ↦ kind_kept F d new are old.0 old.1 q t h

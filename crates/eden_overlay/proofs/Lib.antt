@@ -1,6 +1,8 @@
 pub mod CallerLemmas
 pub mod Held
 pub mod Puts
+pub mod Roots
+pub mod Saves
 pub mod Strays
 pub mod Bodies
 pub mod Contents

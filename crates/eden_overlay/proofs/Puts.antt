@@ -1,5 +1,5 @@
 -- The files with one of them put in.
-use Rattle.std.proofs.Common.{◌≡◌, ◌≢◌, ℕ, List, Option, Some, None, cond, eq-eqb, refl, sym, ap, inl, inr, ◌⊎◌, ◌∙◌, subst}
+use Rattle.std.proofs.Common.{◌≡◌, ◌≢◌, ℕ, Bool, false, List, Option, Some, None, cond, eq-eqb, refl, sym, ap, inl, inr, ◌⊎◌, ◌∙◌, subst}
 use Rattle.std.specs.Option.{option_and_then}
 use Rattle.std.proofs.lemmas.Bool.{ne_eqb}
 use Rattle.std.proofs.lemmas.Bool.Decides.{eqb_tells}
@@ -9,11 +9,12 @@ use Rattle.eden_model.specs.declared.kind.Kind.TheVariants as kind
 use Rattle.eden_overlay_format.specs.declared.header.Identifier.TheVariants as identifier
 use Rattle.eden_overlay_format.specs.declared.stored_entry.StoredEntry.{StoredEntry}
 use Rattle.eden_overlay_format.specs.Stored.{written}
+use Rattle.eden_overlay_format.specs.Numbers.{has_numbers}
 use Rattle.eden_overlay_format.specs.Directory.{AreStorable, directory_body}
 use Rattle.eden_overlay_format.specs.Values.{content_in, entries_in}
-use Rattle.eden_overlay_format.proofs.CallerLemmas.{content_written, entries_written, entries_storable, content_or_entries}
+use Rattle.eden_overlay_format.proofs.CallerLemmas.{content_written, entries_written, entries_storable, content_or_entries, content_is_plain, entries_are_plain}
 use Rattle.eden_overlay.specs.Files.{Stored, put}
-use Rattle.eden_overlay.specs.Held.{HoldsContent, HoldsEntries}
+use Rattle.eden_overlay.specs.Held.{HoldsContent, HoldsEntries, unless_numbers, root_file}
 use Rattle.eden_overlay.specs.Soundness.{Names, HoldsKind}
 use Rattle.eden_overlay.specs.Laws.{ContentsHeld, EntriesHeld}
 
@@ -74,7 +75,36 @@ nothing_there F k kind.File none h = none-some h.0 (moved content_in (F k) None 
 nothing_there F k kind.Exec none h = none-some h.0 (moved content_in (F k) None h.0 none h.1)
 nothing_there F k kind.Link none h = none-some h.0 (moved content_in (F k) None h.0 none h.1)
 
+-- ---- the root's file
+
+pub root_same : (F G : Stored) → F 1 ≡ G 1 → root_file F ≡ root_file G
+root_same F G same = ap (option_and_then unless_numbers) same
+
+-- bytes that are no numbers stand
+plain_stands : (bytes : List ℕ) → has_numbers bytes ≡ false → option_and_then unless_numbers (Some bytes) ≡ Some bytes
+plain_stands bytes other = ap (λ (b : Bool). cond b None (Some bytes)) other
+
+pub entries_at_root : (F : Stored) (es : List StoredEntry) → root_file F ≡ None → HoldsEntries F 1 es → ⊥
+entries_at_root F es none h = option_and_then_some entries_in (F 1) es h (λ bytes at found.
+    none-some bytes (sym none ∙ ap (option_and_then unless_numbers) at ∙ plain_stands bytes (entries_are_plain bytes es found)))
+
+-- a directory there is the root's
+pub root_holds : (F : Stored) (es : List StoredEntry) → HoldsEntries F 1 es → option_and_then entries_in (root_file F) ≡ Some es
+root_holds F es h = option_and_then_some entries_in (F 1) es h (λ bytes at found.
+    ap (λ (o : Option (List ℕ)). option_and_then entries_in (option_and_then unless_numbers o)) at
+    ∙ ap (option_and_then entries_in) (plain_stands bytes (entries_are_plain bytes es found)) ∙ found)
+
+content_at_root : (F : Stored) (content : List ℕ) → root_file F ≡ None → HoldsContent F 1 content → ⊥
+content_at_root F content none h = option_and_then_some content_in (F 1) content h (λ bytes at found.
+    none-some bytes (sym none ∙ ap (option_and_then unless_numbers) at ∙ plain_stands bytes (content_is_plain bytes content found)))
+
+pub nothing_at_root : (F : Stored) (t : Kind) → root_file F ≡ None → HoldsKind F 1 t → ⊥
+nothing_at_root F kind.Dir none h = entries_at_root F h.0 none h.1
+nothing_at_root F kind.File none h = content_at_root F h.0 none h.1
+nothing_at_root F kind.Exec none h = content_at_root F h.0 none h.1
+nothing_at_root F kind.Link none h = content_at_root F h.0 none h.1
+
 -- file 1 as it was
-pub top_same : (F G : Stored) → F 1 ≡ G 1 → ((F 1 ≡ None) ⊎ HoldsKind F 1 kind.Dir) → (G 1 ≡ None) ⊎ HoldsKind G 1 kind.Dir
-top_same F G same (inl none) = inl (sym same ∙ none)
+pub top_same : (F G : Stored) → F 1 ≡ G 1 → ((root_file F ≡ None) ⊎ HoldsKind F 1 kind.Dir) → (root_file G ≡ None) ⊎ HoldsKind G 1 kind.Dir
+top_same F G same (inl none) = inl (sym (root_same F G same) ∙ none)
 top_same F G same (inr there) = inr (kind_moved F G 1 kind.Dir same there)

@@ -1,13 +1,13 @@
 -- Files that no live directory names as an entry's own.
 use Rattle.std.proofs.Common.{◌≡◌, ◌≢◌, ◌<◌, ℕ, zero, suc, List, [], ◌∷◌, length, get_or, Option, None, sym, subst, inl, arith}
 use Rattle.std.specs.List.{AllByRecursion}
-use Rattle.eden_model.specs.declared.kind.Kind.TheVariants as kind
 use Rattle.eden_overlay_format.specs.declared.stored_entry.StoredEntry.{StoredEntry}
 use Rattle.eden_overlay_format.specs.Directory.{IsStorable}
 use Rattle.eden_overlay.specs.Files.{Stored, put}
 use Rattle.eden_overlay.specs.Soundness.{Names, here, below, IsLive, AreSound}
 use Rattle.eden_overlay.specs.Laws.{NumbersFromTwo, RootlessSound, IsStray, StraysStay, LiveStay, StateStays}
-use Rattle.eden_overlay.proofs.Puts.{put_apart, names_moved, kind_moved, nothing_there, held_storable, top_same}
+use Rattle.eden_overlay.specs.Held.{root_file}
+use Rattle.eden_overlay.proofs.Puts.{put_apart, names_moved, kind_moved, entries_at_root, held_storable, top_same}
 
 module _ (F : Stored) (k : ℕ) (w : Option (List ℕ)) (stray : IsStray F k) where
   G : Stored
@@ -65,8 +65,8 @@ no_file_zero F = record {
 
 -- ---- no file 1
 
-pub nothing_named : (F : Stored) → F 1 ≡ None → (d : ℕ) (e : StoredEntry) → IsLive F d → Names F d e → ⊥
-nothing_named F none d e here n = nothing_there F 1 kind.Dir none (n.entries, n.held)
+pub nothing_named : (F : Stored) → root_file F ≡ None → (d : ℕ) (e : StoredEntry) → IsLive F d → Names F d e → ⊥
+nothing_named F none d e here n = entries_at_root F n.entries none n.held
 nothing_named F none d e (below c f r m leads) n = nothing_named F none c f r m
 
 pub rootless_sound : RootlessSound

@@ -18,7 +18,7 @@ use Rattle.eden_overlay_format.specs.declared.stored_entry.StoredEntry.{StoredEn
 use Rattle.eden_overlay_format.specs.Directory.{is_own}
 use Rattle.eden_overlay.specs.declared.rescan.Pending.{Pending}
 use Rattle.eden_overlay.specs.Files.{Stored}
-use Rattle.eden_overlay.specs.Held.{HoldsEntries}
+use Rattle.eden_overlay.specs.Held.{HoldsEntries, root_file}
 use Rattle.eden_overlay.specs.Soundness.{Names, LeadsOn, here, below, IsLive, HoldsKind, HasOwn, AreSound}
 use Rattle.eden_overlay.specs.Rescanning.{LiveEntry, IsNextOf, IsOwned, IsTwice}
 use Rattle.eden_overlay.specs.Walking.{pending_in, HoldsBelow, Place, AreApart, Pass, Walked, AreNamed}
@@ -261,8 +261,8 @@ module _ (F G : Stored) (same : G ≡ F) (was_met : ℕ → Bool) (walked : Walk
     only = λ k there. named_number F w.visited was_met last_pass k there;
   }
 
--- without file 1 nothing is named
-pub rootless_named : (F : Stored) (was_met : ℕ → Bool) → F 1 ≡ None → ((k : ℕ) → was_met k ≡ true → ⊥) → AreNamed F was_met
+-- without the root's file nothing is named
+pub rootless_named : (F : Stored) (was_met : ℕ → Bool) → root_file F ≡ None → ((k : ℕ) → was_met k ≡ true → ⊥) → AreNamed F was_met
 rootless_named F was_met none never = record {
   all = λ d e r named. absurd (nothing_named F none d e r named);
   only = λ k there. absurd (never k there);

@@ -1,12 +1,16 @@
 -- Why a stored file gave no value.
-use Rattle.std.specs.Prelude.{◌≡◌, List, ℕ, Option, Some, None, Result, Ok, Err, IsSomeAnd}
+use Rattle.std.specs.Prelude.{◌≡◌, ◌≢◌, ◌⊎◌, List, ℕ, Option, Some, None, Result, Ok, Err, IsSomeAnd}
+use Rattle.eden_model.specs.declared.id.Id.{Id}
 use Rattle.eden_overlay_format.specs.declared.header.Head.{Head}
 use Rattle.eden_overlay_format.specs.declared.header.Identifier.{Identifier}
+use Rattle.eden_overlay_format.specs.declared.header.Identifier.TheVariants as identifier
 use Rattle.eden_overlay_format.specs.declared.refusal.Refusal.{Refusal}
+use Rattle.eden_overlay_format.specs.declared.refusal.Refusal.TheVariants.{BadIdentifier}
 use Rattle.eden_overlay_format.specs.declared.refusal.DecodeFault.{DecodeFault}
 use Rattle.eden_overlay_format.specs.declared.refusal.DecodeFault.TheVariants as decode
 use Rattle.eden_overlay_format.specs.Stored.{Refuses}
 use Rattle.eden_overlay_format.specs.Content.{content_length}
+use Rattle.eden_overlay_format.specs.Values.{numbers_in}
 use Rattle.eden_overlay.specs.declared.files.FilesFault.{FilesFault}
 use Rattle.eden_overlay.specs.declared.files.FilesFault.TheVariants as files
 use Rattle.eden_overlay.specs.declared.fault.GetFault.{GetFault}
@@ -20,6 +24,19 @@ Explains i value file get.Absent = file ≡ None
 Explains i value file (get.Damaged refusal) = IsSomeAnd file (λ bytes. Refuses i value bytes refusal)
 Explains i value file get.Device = Unit {0}
 Explains i value file get.Memory = Unit {0}
+
+-- these are the numbers of another tree object's directory
+abbrev pub AreOfOther : Id → List ℕ → Type 0
+AreOfOther tree bytes = IsSomeAnd (numbers_in bytes) (λ found. found.0 ≢ tree)
+
+-- .. or why it gives no numbers for that tree object: it isn't stored, has another identifier or those of another object; or it
+-- has that first refusal as a file of numbers
+abbrev pub ExplainsNumbers : Id → Option (List ℕ) → GetFault → Type 0
+ExplainsNumbers tree file get.Absent =
+    (file ≡ None) ⊎ IsSomeAnd file (λ bytes. Refuses identifier.Numbers numbers_in bytes BadIdentifier ⊎ AreOfOther tree bytes)
+ExplainsNumbers tree file (get.Damaged refusal) = (refusal ≢ BadIdentifier) × IsSomeAnd file (λ bytes. Refuses identifier.Numbers numbers_in bytes refusal)
+ExplainsNumbers tree file get.Device = Unit {0}
+ExplainsNumbers tree file get.Memory = Unit {0}
 
 -- .. or why a file's head tells no content's length
 abbrev pub ExplainsLength : Option (List ℕ) → GetFault → Type 0

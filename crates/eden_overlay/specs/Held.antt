@@ -1,6 +1,8 @@
 -- What a file holds, and the files with one of them put in or taken out.
-use Rattle.std.specs.Prelude.{◌≡◌, ℕ, List, Option, Some, None, Result, Ok, IsSomeAnd}
+use Rattle.std.specs.Prelude.{◌≡◌, ℕ, List, Option, Some, None, Result, Ok, IsSomeAnd, if◌then◌else◌, true, false}
 use Rattle.std.specs.Option.{option_map, option_and_then}
+use Rattle.eden_model.specs.declared.id.Id.{Id}
+use Rattle.eden_model.specs.Keys.{same_id}
 use Rattle.eden_model.specs.Named.{named}
 use Rattle.eden_model.specs.Shown.{Item, Items}
 use Rattle.eden_model.specs.Repository.{Source, source_of, OwnFiles}
@@ -12,8 +14,9 @@ use Rattle.eden_overlay_format.specs.declared.stored_entry.StoredEntry.{StoredEn
 use Rattle.eden_overlay_format.specs.Stored.{written}
 use Rattle.eden_overlay_format.specs.Content.{IsHead, content_length}
 use Rattle.eden_overlay_format.specs.Directory.{directory_body}
+use Rattle.eden_overlay_format.specs.Numbers.{numbers_body, has_numbers}
 use Rattle.eden_overlay_format.specs.State.{state_body}
-use Rattle.eden_overlay_format.specs.Values.{content_in, state_in, entries_in}
+use Rattle.eden_overlay_format.specs.Values.{content_in, state_in, entries_in, numbers_in}
 use Rattle.eden_overlay.specs.Files.{Stored, put}
 
 -- the content of file k, or none where it isn't stored or is no content; likewise the entries; and the state of file 0
@@ -34,6 +37,25 @@ HoldsEntries F k entries = entries_at F k ≡ Some entries
 
 abbrev pub HoldsState : Stored → State → Type 0
 HoldsState F state = state_at F ≡ Some state
+
+-- bytes, unless they are numbers of a directory that stands on a tree object
+abbrev pub unless_numbers : List ℕ → Option (List ℕ)
+unless_numbers bytes = if has_numbers bytes then None else Some bytes
+
+-- file 1, unless it has numbers alone: the root's, where that is the mount's own
+abbrev pub root_file : Stored → Option (List ℕ)
+root_file F = option_and_then unless_numbers (F 1)
+
+-- the entries, where they are those of that tree object
+abbrev pub of_tree : Id → Id × List StoredEntry → Option (List StoredEntry)
+of_tree tree found = if same_id found.0 tree then Some found.1 else None
+
+abbrev pub numbers_of : Id → List ℕ → Option (List StoredEntry)
+numbers_of tree bytes = option_and_then (of_tree tree) (numbers_in bytes)
+
+-- the entries that were saved as file k, with their numbers, for a directory that stands on that tree object
+abbrev pub saved_at : Stored → ℕ → Id → Option (List StoredEntry)
+saved_at F k tree = option_and_then (numbers_of tree) (F k)
 
 -- the head of a file tells that of its content's length, whatever the content's digest is
 pub record HeadTells (bytes : List ℕ) (told : Result ℕ Refusal) : Type 0 where
@@ -64,6 +86,10 @@ with_content F k content = put F k (Some (written identifier.File content))
 -- with the directory of those entries as file k
 abbrev pub with_entries : Stored → ℕ → List StoredEntry → Stored
 with_entries F k entries = put F k (Some (written identifier.Directory (directory_body entries)))
+
+-- with the numbers of a directory on that tree object as file k
+abbrev pub with_numbers : Stored → ℕ → Id → List StoredEntry → Stored
+with_numbers F k tree entries = put F k (Some (written identifier.Numbers (numbers_body tree entries)))
 
 -- with that state as file 0
 abbrev pub with_state : Stored → State → Stored

@@ -1,12 +1,14 @@
 -- What a caller needs to know of soundness, to show that an overlay stays sound.
-use Rattle.std.specs.Prelude.{◌≡◌, ◌≢◌, ◌≤◌, ◌⊎◌, ◌↔◌, ℕ, List, [], Option, None, length, Contains}
+use Rattle.std.specs.Prelude.{◌≡◌, ◌≢◌, ◌≤◌, ◌⊎◌, ◌↔◌, ℕ, true, List, [], Option, Some, None, length, Contains}
+use Rattle.eden_model.specs.declared.id.Id.{Id}
 use Rattle.eden_model.specs.declared.kind.Origin.TheVariants as origin
 use Rattle.eden_model.specs.Limits.{number_least}
 use Rattle.eden_overlay_format.specs.declared.stored_entry.StoredEntry.{StoredEntry}
 use Rattle.eden_overlay_format.specs.Content.{content_most}
 use Rattle.eden_overlay_format.specs.Directory.{AreStorable}
+use Rattle.eden_overlay_format.specs.Numbers.{none_is_own}
 use Rattle.eden_overlay.specs.Files.{Stored, put}
-use Rattle.eden_overlay.specs.Held.{HoldsContent, HoldsEntries, with_content, with_entries}
+use Rattle.eden_overlay.specs.Held.{HoldsContent, HoldsEntries, root_file, saved_at, with_content, with_entries, with_numbers}
 use Rattle.eden_overlay.specs.Soundness.{Names, LeadsOn, Reached, IsLive, HasOwn, AreSound}
 
 -- what is stored is held
@@ -16,13 +18,30 @@ ContentsHeld = (F : Stored) (k : ℕ) (content : List ℕ) → length content �
 abbrev pub EntriesHeld : Type 0
 EntriesHeld = (F : Stored) (k : ℕ) (entries : List StoredEntry) → AreStorable entries → HoldsEntries (with_entries F k entries) k entries
 
+-- numbers that are saved are held, for that tree object alone
+abbrev pub NumbersHeld : Type 0
+NumbersHeld = (F : Stored) (k : ℕ) (tree : Id) (entries : List StoredEntry) → length tree.bytes ≡ 20 → AreStorable entries → none_is_own entries ≡ true
+    → saved_at (with_numbers F k tree entries) k tree ≡ Some entries
+
+abbrev pub OtherTreeHasNone : Type 0
+OtherTreeHasNone = (F : Stored) (k : ℕ) (tree other : Id) (entries : List StoredEntry) → length tree.bytes ≡ 20 → AreStorable entries
+    → none_is_own entries ≡ true → other ≢ tree → saved_at (with_numbers F k tree entries) k other ≡ None
+
+-- a stored directory has none
+abbrev pub EntriesHaveNone : Type 0
+EntriesHaveNone = (F : Stored) (k : ℕ) (tree : Id) (entries : List StoredEntry) → saved_at (with_entries F k entries) k tree ≡ None
+
+-- where the root's numbers are saved, it has no file of its own
+abbrev pub RootHasNumbers : Type 0
+RootHasNumbers = (F : Stored) (tree : Id) (entries : List StoredEntry) → root_file (with_numbers F 1 tree entries) ≡ None
+
 -- the number of an entry is never the root's, nor the state's
 abbrev pub NumbersFromTwo : Type 0
 NumbersFromTwo = (F : Stored) (d : ℕ) (e : StoredEntry) → Names F d e → number_least ≤ e.number
 
--- without file 1 nothing is named: so no files at all are sound
+-- without the root's file nothing is named: so no files at all are sound
 abbrev pub RootlessSound : Type 0
-RootlessSound = (F : Stored) → F 1 ≡ None → AreSound F
+RootlessSound = (F : Stored) → root_file F ≡ None → AreSound F
 
 -- file k isn't the root's, and no live directory names it as an entry's own
 pub record IsStray (F : Stored) (k : ℕ) : Type 0 where

@@ -17,6 +17,7 @@ use Rattle.eden_overlay.specs.declared.rescan.RescanFault.{RescanFault}
 use Rattle.eden_overlay.specs.declared.rescan.RescanFault.TheVariants as fault
 use Rattle.eden_overlay.specs.Files.{Stored}
 use Rattle.eden_overlay.specs.Getting.{Explains}
+use Rattle.eden_overlay.specs.Held.{root_file}
 use Rattle.eden_overlay.specs.Soundness.{Names, IsLive, AreSound}
 
 -- an entry of a live directory
@@ -60,11 +61,16 @@ abbrev pub ExplainsKind : Stored → ℕ → Kind → GetFault → Type 0
 ExplainsKind F k kind.Dir f = Explains identifier.Directory entries_in (F k) f
 ExplainsKind F k _ f = Explains identifier.File content_in (F k) f
 
--- file 1 is no directory, or what a live directory names as its own is none of its kind; and that is why
-pub record IsDamaged (F : Stored) (k : ℕ) (refusal : Refusal) : Type 0 where
+-- what a live directory names as its own is none of its kind; and that is why
+pub record IsNoneOfKind (F : Stored) (k : ℕ) (refusal : Refusal) : Type 0 where
   pub wanted : Kind
-  pub asked : ((k ≡ 1) × (wanted ≡ kind.Dir)) ⊎ IsOwned F k wanted
+  pub owned : IsOwned F k wanted
   pub why : ExplainsKind F k wanted (get.Damaged refusal)
+
+-- .. or the root's file is no directory
+abbrev pub IsDamaged : Stored → ℕ → Refusal → Type 0
+IsDamaged F k refusal =
+    ((k ≡ 1) × Explains identifier.Directory entries_in (root_file F) (get.Damaged refusal)) ⊎ IsNoneOfKind F k refusal
 
 -- what a fault says of the files, but for the device and memory, which may fail whatever is stored
 abbrev pub Accuses : Stored → RescanFault → Type 0

@@ -5,7 +5,7 @@ use Rattle.eden_model.specs.declared.kind.Kind.TheVariants as kind
 use Rattle.eden_model.specs.declared.kind.Origin.TheVariants as origin
 use Rattle.eden_overlay_format.specs.declared.stored_entry.StoredEntry.{StoredEntry}
 use Rattle.eden_overlay.specs.Files.{Stored}
-use Rattle.eden_overlay.specs.Held.{HoldsContent, HoldsEntries}
+use Rattle.eden_overlay.specs.Held.{HoldsContent, HoldsEntries, root_file}
 
 -- the stored directory d has the entry e, whose number is 2 or more by the directory's grammar
 pub record Names (F : Stored) (d : ℕ) (e : StoredEntry) : Type 0 where
@@ -37,8 +37,8 @@ HasOwn F e = e.origin ≡ origin.Own → HoldsKind F e.number e.kind
 
 -- no name dangles; strays, files that no live directory names as its own, may hold anything
 pub record AreSound (F : Stored) : Type 0 where
-  -- file 1, where it stands, is a directory
-  pub top : (F 1 ≡ None) ⊎ HoldsKind F 1 kind.Dir
+  -- the root's file, where it stands, is a directory
+  pub top : (root_file F ≡ None) ⊎ HoldsKind F 1 kind.Dir
   -- what a live directory names as its own is stored
   pub owned : (d : ℕ) (e : StoredEntry) → IsLive F d → Names F d e → HasOwn F e
   -- no number is named twice

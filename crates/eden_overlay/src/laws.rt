@@ -1,10 +1,15 @@
 ghost use Rattle.eden_overlay.specs.Rescanning.{AccusedUnsound};
 ghost use Rattle.eden_overlay.specs.Laws.{ContentsHeld, EntriesHeld, NumbersFromTwo, RootlessSound, StraysStay, LiveStay, StateStays, ContentsStay, DroppedStay, DroppedUnnamed, AddedStay, EnteredStay, RenamedStay, MovedStay};
+ghost use Rattle.eden_overlay.specs.Laws.{NumbersHeld, OtherTreeHasNone, EntriesHaveNone, RootHasNumbers};
 
 /// What a caller of `Overlay` needs to show that an overlay stays sound.
 pub fn overlay_laws()
     ensures contents_held { ContentsHeld }
     ensures entries_held { EntriesHeld }
+    ensures numbers_held { NumbersHeld }
+    ensures other_tree { OtherTreeHasNone }
+    ensures entries_have_none { EntriesHaveNone }
+    ensures root_has_numbers { RootHasNumbers }
     ensures numbers { NumbersFromTwo }
     ensures rootless { RootlessSound }
     ensures strays { StraysStay }

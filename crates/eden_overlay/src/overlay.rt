@@ -1,6 +1,6 @@
 //! The files of an overlay, stored and got as what they hold.
 
-ghost use Rattle.std.specs.Prelude.{◌≡◌, ◌≢◌, ◌≤◌, Err, length, OnOk, OnErr, IfOk, IfErr};
+ghost use Rattle.std.specs.Prelude.{◌≡◌, ◌≢◌, ◌≤◌, Err, Some, true, length, OnOk, OnErr, IfOk, IfErr};
 ghost use Rattle.std.specs.Ordering.{nat_cmp};
 ghost use Rattle.std.specs.List.Sorted.{IsStrictlySortedBy};
 ghost use Rattle.eden_model.specs.Limits.{number_least, number_end};
@@ -11,10 +11,12 @@ ghost use Rattle.eden_overlay_format.specs.Directory.{AreStorable};
 ghost use Rattle.eden_overlay_format.specs.State.{IsGoodState};
 ghost use Rattle.eden_overlay_format.specs.Values.{content_in, state_in, entries_in};
 ghost use Rattle.eden_overlay.specs.Files.{Lists};
-ghost use Rattle.eden_overlay.specs.Held.{HoldsContent, HoldsEntries, HoldsState, TellsLength, with_content, with_entries, with_state, without};
+ghost use Rattle.eden_overlay.specs.Held.{HoldsContent, HoldsEntries, HoldsState, TellsLength, root_file, saved_at, with_content, with_entries, with_numbers, with_state, without};
 ghost use Rattle.eden_overlay.specs.Soundness.{AreSound};
 ghost use Rattle.eden_overlay.specs.Tidying.{bytes_at};
-ghost use Rattle.eden_overlay.specs.Getting.{Explains, ExplainsLength, length_of};
+ghost use Rattle.eden_overlay.specs.Getting.{Explains, ExplainsLength, ExplainsNumbers, length_of};
+ghost use Rattle.std.specs.Option.{is_some};
+ghost use Rattle.eden_overlay_format.specs.Numbers.{none_is_own};
 ghost use Rattle.eden_overlay.specs.Keeping.{IsKeptOf};
 ghost use Rattle.eden_overlay.specs.declared.files.FilesFault.TheVariants as files;
 ghost use Rattle.eden_overlay.specs.declared.fault.GetFault.TheVariants as get;
@@ -24,16 +26,19 @@ use crate::fault::GetFault;
 use crate::files::{Files, FilesFault};
 use crate::recent::Recent;
 use crate::room::Room;
-use eden_model::World;
+use eden_model::{Id, World};
 use eden_overlay_format::{
-    Head, Listing, State, StoredEntry, content_len, decode_dir, decode_state, encode_file_in,
-    encode_state,
+    DecodeFault, Head, Listing, Refusal, State, StoredEntry, content_len, decode_dir,
+    decode_numbers, decode_state, encode_file_in, encode_state, has_numbers,
 };
 use std::alloc::Global;
 use std::marker::{Model, PhantomData};
 
 /// The number of the state's file.
 const STATE_NUMBER: u64 = 0;
+
+/// The number of the root's file.
+pub(crate) const ROOT_NUMBER: u64 = 1;
 
 /// The stored files of a mount, in which no name dangles: whoever stores or removes a file shows first that it will be
 /// so. Contracts see the files.
@@ -216,6 +221,75 @@ impl<W: World, F: Files<W>> Overlay<W, F> {
         match self.files.read(alloc, number)? {
             Some(directory) => decode_dir(alloc, &directory).map_err(GetFault::from),
             None => Err(GetFault::Absent),
+        }
+    }
+
+    /// Whether the root is the mount's own: file 1 is stored, and doesn't have the numbers of a tree object's directory
+    /// alone. Its first 64 bytes are read. It takes no memory: its one error is the device's.
+    pub fn is_rooted(&mut self) -> Result<bool, FilesFault>
+        ensures told { W.honest → IfOk result (λ b. b ≡ is_some (root_file (F.stored self.old))) }
+        ensures fault { IfErr result (λ f. f ≡ files.Device) }
+        ensures unchanged { W.honest → F.stored self.new ≡ F.stored self.old }
+        ensures counted { Counted (result ≡ Err files.Device) (F.failures self.old) (F.failures self.new) }
+    {
+        match self.files.head(ROOT_NUMBER)? {
+            None => Ok(false),
+            Some(head) => Ok(!has_numbers(&head)),
+        }
+    }
+
+    /// Stores the numbers of a directory on that tree object, whose entries are written already, as the file of that
+    /// number, in place of any that was there: the root's is 1. None of the entries has its contents in the overlay. After
+    /// an error nothing has changed.
+    pub fn put_numbers(
+        &mut self,
+        alloc: Global,
+        number: u64,
+        tree: Id,
+        listing: Listing,
+    ) -> Result<(), FilesFault>
+        requires entries { AreStorable listing }
+        requires others { none_is_own listing ≡ true }
+        requires sound { W.honest → AreSound (with_numbers (F.stored self.old) number tree listing) }
+        ensures ok { W.honest → OnOk result (F.stored self.new ≡ with_numbers (F.stored self.old) number tree listing) }
+        ensures err { W.honest → OnErr result (F.stored self.new ≡ F.stored self.old) }
+        ensures counted { Counted (result ≡ Err files.Device) (F.failures self.old) (F.failures self.new) }
+    {
+        self.recent.forget(number);
+        let bytes = listing.into_numbers(tree)?;
+        let answer = self.files.replace(alloc, number, &bytes);
+        self.room.keep(bytes);
+        answer
+    }
+
+    /// The entries of a directory on that tree object, with the numbers that were stored for it as the file of that number,
+    /// or why there are none: absent are they too where the file has no numbers, or those of another tree object.
+    pub fn get_numbers(
+        &mut self,
+        alloc: Global,
+        number: u64,
+        tree: Id,
+    ) -> Result<Vec<StoredEntry>, GetFault>
+        ensures found { W.honest → IfOk result (λ v. saved_at (F.stored self.old) number tree ≡ Some v.items) }
+        ensures refused { W.honest → IfErr result (ExplainsNumbers tree (F.stored self.old number)) }
+        ensures unchanged { W.honest → F.stored self.new ≡ F.stored self.old }
+        ensures storable { IfOk result (λ v. AreStorable v.items) }
+        ensures others { IfOk result (λ v. none_is_own v.items ≡ true) }
+        ensures counted { Counted (result ≡ Err get.Device) (F.failures self.old) (F.failures self.new) }
+    {
+        let Some(file) = self.files.read(alloc, number)? else {
+            return Err(GetFault::Absent);
+        };
+        match decode_numbers(alloc, &file) {
+            Ok(stored) => {
+                if stored.tree == tree {
+                    Ok(stored.entries)
+                } else {
+                    Err(GetFault::Absent)
+                }
+            }
+            Err(DecodeFault::Refused(Refusal::BadIdentifier)) => Err(GetFault::Absent),
+            Err(fault) => Err(GetFault::from(fault)),
         }
     }
 

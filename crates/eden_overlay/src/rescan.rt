@@ -12,15 +12,12 @@ ghost use Rattle.eden_overlay.specs.declared.rescan.RescanFault.TheVariants as f
 
 use crate::fault::GetFault;
 use crate::files::{Files, FilesFault};
-use crate::overlay::Overlay;
+use crate::overlay::{Overlay, ROOT_NUMBER};
 use eden_model::{Kind, Origin, World};
 use eden_overlay_format::{Refusal, StoredEntry};
 use std::alloc::{AllocError, AllocFailed, Global};
 use std::collections::BTreeSet;
 use thiserror::Error;
-
-/// The number of the root's file.
-const ROOT_NUMBER: u64 = 1;
 
 /// The least number of an entry.
 pub(crate) const LEAST_NUMBER: u64 = 2;
@@ -120,7 +117,7 @@ impl<W: World, F: Files<W>> Overlay<W, F> {
     ///
     /// One pass goes from file 1 down, in the byte order of the names, into a directory as soon as it is met, and reads
     /// each file that is an entry's own. Whatever the files say, it ends. Of an entry it keeps the number, the kind and
-    /// whether it has a file of its own, and never the name. Where file 1 isn't stored, the next number is 2.
+    /// whether it has a file of its own, and never the name. Where the root has no file of its own, the next number is 2.
     pub fn rescan(&mut self, alloc: Global) -> Result<u64, RescanFault>
         ensures sound { W.honest → OnOk result (AreSound (F.stored self.old)) }
         ensures next { W.honest → IfOk result (IsNextOf (F.stored self.old)) }
@@ -147,15 +144,17 @@ impl<W: World, F: Files<W>> Overlay<W, F> {
         ensures unchanged { W.honest → F.stored self.new ≡ F.stored self.old }
         ensures counted { F.failures self.old ≤ F.failures self.new }
     {
-        let pending = match self.get_dir(alloc, ROOT_NUMBER) {
-            Ok(entries) => pending_entries(alloc, &entries)?,
-            // Without the root's file there is nothing yet, and nothing dangles.
-            Err(fault) => match fault {
-                GetFault::Absent => return Ok(BTreeSet::new(alloc)),
-                _ => return Err(fault_of(ROOT_NUMBER, fault)),
-            },
-        };
-        self.walk(alloc, pending)
+        // Without the root's file there is nothing yet, and nothing dangles.
+        if !self.is_rooted()? {
+            return Ok(BTreeSet::new(alloc));
+        }
+        match self.get_dir(alloc, ROOT_NUMBER) {
+            Ok(entries) => {
+                let pending = pending_entries(alloc, &entries)?;
+                self.walk(alloc, pending)
+            }
+            Err(fault) => Err(fault_of(ROOT_NUMBER, fault)),
+        }
     }
 
     // Visits what is pending, and all that is below it.

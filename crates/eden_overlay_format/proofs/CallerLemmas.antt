@@ -1,21 +1,23 @@
 -- What callers' proofs cite.
-use Rattle.std.proofs.Common.{◌≡◌, ◌≤◌, ℕ, true, List, Some, None, length, take, drop}
+use Rattle.std.proofs.Common.{◌≡◌, ◌≤◌, ◌&&◌, ◌∙◌, ℕ, Bool, true, false, List, Some, None, length, take, drop, nat_le, refl, sym, ap, subst, cond}
+use Rattle.std.specs.Str.{bytes_eq}
+use Rattle.std.proofs.Math.Bool.{and-false}
 use Rattle.eden_model.specs.declared.id.Id.{Id}
 use Rattle.eden_overlay_format.specs.declared.header.Identifier.{Identifier}
 use Rattle.eden_overlay_format.specs.declared.header.Identifier.TheVariants as identifier
 use Rattle.eden_overlay_format.specs.declared.state.State.{State}
 use Rattle.eden_overlay_format.specs.declared.stored_entry.StoredEntry.{StoredEntry}
-use Rattle.eden_overlay_format.specs.Stored.{identifier_bytes, written}
+use Rattle.eden_overlay_format.specs.Stored.{identifier_bytes, body_in, written}
 use Rattle.eden_overlay_format.specs.Content.{content_most}
 use Rattle.eden_overlay_format.specs.Directory.{AreStorable, directory_body}
-use Rattle.eden_overlay_format.specs.Numbers.{none_is_own, numbers_body}
+use Rattle.eden_overlay_format.specs.Numbers.{none_is_own, numbers_body, has_numbers}
 use Rattle.eden_overlay_format.specs.State.{IsGoodState, state_body}
 use Rattle.eden_overlay_format.specs.Values.{content_in, state_in, entries_in, numbers_in}
 use Rattle.eden_overlay_format.proofs.Headers.{written_found, identified, behind, one_identifier}
 use Rattle.eden_overlay_format.proofs.Found.{contents_found, states_found, entries_found}
 use Rattle.eden_overlay_format.proofs.NumbersFound.{numbers_found, other_has_none}
--- what a head tells of a content's length
-pub use Rattle.eden_overlay_format.proofs.Lengths.{lengths_told, lengths_none}
+-- what a head tells of a content's length, and of numbers
+pub use Rattle.eden_overlay_format.proofs.Lengths.{lengths_told, lengths_none, head_says}
 
 -- what is written is found
 
@@ -37,9 +39,28 @@ numbers_written tree es id are others = (numbers_found (written identifier.Numbe
 pub written_starts : (i : Identifier) (body : List ℕ) → take 4 (written i body) ≡ identifier_bytes i
 written_starts i body = identified i (written i body) body (written_found i body)
 
+pub written_long : (i : Identifier) (body : List ℕ) → 64 ≤ length (written i body)
+written_long i body = (behind i (written i body) body (written_found i body)).0
+
 -- a directory's file holds no numbers
 pub directory_has_none : (body : List ℕ) → numbers_in (written identifier.Directory body) ≡ None
 directory_has_none body = other_has_none identifier.Directory (written identifier.Directory body) body (written_found identifier.Directory body) (λ is. absurd (cc))
+
+-- a file of another identifier has no numbers
+otherwise : (i : Identifier) (bytes body : List ℕ) → body_in i bytes ≡ Some body → bytes_eq (identifier_bytes i) (identifier_bytes identifier.Numbers) ≡ false
+    → has_numbers bytes ≡ false
+otherwise i bytes body found other =
+    ap (λ (b : Bool). nat_le 64 (length bytes) && b) (ap (λ (four : List ℕ). bytes_eq four (identifier_bytes identifier.Numbers)) (identified i bytes body found) ∙ other)
+    ∙ and-false (nat_le 64 (length bytes))
+
+-- neither a content's file nor a directory's has numbers
+pub content_is_plain : (bytes content : List ℕ) → content_in bytes ≡ Some content → has_numbers bytes ≡ false
+content_is_plain bytes content found =
+    otherwise identifier.File bytes content ((contents_found bytes content).0 found).stored refl
+
+pub entries_are_plain : (bytes : List ℕ) (es : List StoredEntry) → entries_in bytes ≡ Some es → has_numbers bytes ≡ false
+entries_are_plain bytes es found =
+    otherwise identifier.Directory bytes (directory_body es) ((entries_found bytes es).0 found).stored refl
 
 -- what is found is good
 

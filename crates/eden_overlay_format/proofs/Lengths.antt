@@ -1,14 +1,16 @@
 -- What the head of a file tells of its content's length.
-use Rattle.std.proofs.Common.{◌≡◌, ◌≤◌, ◌<◌, ◌-◌, ◌⊎◌, ℕ, Bool, true, false, leb, cond, List, length, take, drop, Option, Some, None, Ok, Err, inl, inr, refl, sym, ap, ◌∙◌, arith}
+use Rattle.std.proofs.Common.{◌≡◌, ◌≤◌, ◌<◌, ◌-◌, ◌⊎◌, ◌&&◌, ℕ, Bool, nat_le, true, false, leb, cond, List, length, take, drop, Option, Some, None, Ok, Err, inl, inr, refl, sym, ap, ◌∙◌, arith}
 use Rattle.std.specs.Option.{is_none, option_or}
-use Rattle.std.proofs.lemmas.Bool.{cases_lt, lt-ltb, leb-true, leb-false, le-leb}
+use Rattle.std.proofs.lemmas.Bool.{cases_lt, lt-ltb, leb-true, leb-false, le-leb, lt-leb}
 use Rattle.std.proofs.lemmas.List.{length-drop, take-take, drop-take}
 use Rattle.eden_overlay_format.specs.declared.header.Head.{Head}
 use Rattle.eden_overlay_format.specs.declared.header.Identifier.{Identifier}
 use Rattle.eden_overlay_format.specs.declared.header.Identifier.TheVariants as identifier
 use Rattle.eden_overlay_format.specs.declared.refusal.Refusal.{Refusal}
 use Rattle.eden_overlay_format.specs.declared.refusal.Refusal.TheVariants.{BadBody, BadDigest}
-use Rattle.eden_overlay_format.specs.Stored.{head_refusal, digest_refusal, header_refusal, body_in}
+use Rattle.std.specs.Str.{bytes_eq}
+use Rattle.eden_overlay_format.specs.Stored.{identifier_bytes, is_a, head_refusal, digest_refusal, header_refusal, body_in}
+use Rattle.eden_overlay_format.specs.Numbers.{numbers_by, has_numbers}
 use Rattle.eden_overlay_format.specs.Content.{content_most, IsHead, bounded, content_length}
 use Rattle.eden_overlay_format.specs.Values.{content_in}
 use Rattle.eden_overlay_format.specs.Laws.{HasBadDigest, LengthsTold, LengthsFound, LengthsRefused}
@@ -43,6 +45,23 @@ module _ (head : Head) (bytes : List ℕ) (h : IsHead head bytes) where
   same_length =
       ap (λ (o : Option Refusal). bounded o (head.len - 64)) same_head
       ∙ ap (bounded told) (ap (λ (n : ℕ). n - 64) h.len ∙ sym (length-drop 64 bytes))
+
+-- ---- a head tells of numbers what the file does
+
+-- the four bytes of a whole file
+numbers_taken : (bytes : List ℕ) (len : ℕ) → numbers_by (take 64 bytes) len ≡ numbers_by bytes len
+numbers_taken bytes len = ap (λ (four : List ℕ). nat_le 64 len && bytes_eq four (identifier_bytes identifier.Numbers)) (take-take 4 64 bytes (omega arith))
+
+numbers_short : (first second : List ℕ) (len : ℕ) → len < 64 → numbers_by first len ≡ numbers_by second len
+numbers_short first second len short =
+    ap (λ (b : Bool). b && is_a identifier.Numbers first) (lt-leb 64 len short)
+    ∙ sym (ap (λ (b : Bool). b && is_a identifier.Numbers second) (lt-leb 64 len short))
+
+pub head_says : (head : Head) (bytes : List ℕ) → IsHead head bytes → numbers_by head.first head.len ≡ has_numbers bytes
+head_says head bytes h = ap (numbers_by head.first) h.len ∙ elim (cases_lt (length bytes) 64) [
+  | inl short ↦ numbers_short head.first bytes (length bytes) short
+  | inr long ↦ ap (λ (f : List ℕ). numbers_by f (length bytes)) (h.first long) ∙ numbers_taken bytes (length bytes)
+]
 
 -- ---- what is told behind a good head, and behind a bad one
 

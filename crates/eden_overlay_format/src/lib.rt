@@ -23,7 +23,7 @@ pub use directory::{decode_dir, encode_dir, is_rising};
 pub use header::{HEADER_LEN, Head, Identifier};
 pub use laws::format_laws;
 pub use listing::Listing;
-pub use numbers::{StoredNumbers, decode_numbers, encode_numbers};
+pub use numbers::{StoredNumbers, decode_numbers, encode_numbers, has_numbers};
 pub use refusal::{DecodeFault, Refusal};
 pub use state::{State, decode_state, encode_state};
 pub use stored_entry::StoredEntry;

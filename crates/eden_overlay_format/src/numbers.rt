@@ -3,13 +3,13 @@
 ghost use Rattle.std.specs.Prelude.{◌≡◌, true, Some, IfOk, IfErr};
 ghost use Rattle.eden_overlay_format.specs.Stored.{written};
 ghost use Rattle.eden_overlay_format.specs.Directory.{AreStorable};
-ghost use Rattle.eden_overlay_format.specs.Numbers.{IsNumbers, none_is_own, numbers_body};
+ghost use Rattle.eden_overlay_format.specs.Numbers.{IsNumbers, none_is_own, numbers_body, numbers_by};
 ghost use Rattle.eden_overlay_format.specs.Values.{numbers_in, FailsWith};
 ghost use Rattle.eden_overlay_format.specs.declared.header.Identifier.TheVariants as identifier;
 
 use crate::directory::entries_of;
 use crate::fields::array_of;
-use crate::header::{Identifier, body_of};
+use crate::header::{HEADER_LEN, Head, Identifier, body_of};
 use crate::listing::Listing;
 use crate::refusal::{DecodeFault, Refusal};
 use crate::stored_entry::StoredEntry;
@@ -45,6 +45,13 @@ pub fn encode_numbers(
     ensures read_again { IfOk result (λ v. IsNumbers v.items tree entries.now) }
 {
     Listing::of(Vec::new(alloc), entries)?.into_numbers(tree)
+}
+
+/// Whether a stored file is one of numbers, by its head. Whether they are good is told by `decode_numbers`.
+pub fn has_numbers(head: &Head) -> bool
+    ensures { result ≡ numbers_by head.now.first head.now.len }
+{
+    head.len >= HEADER_LEN as u64 && &head.first[..4] == Identifier::Numbers.bytes().as_slice()
 }
 
 /// The numbers that the bytes store, or the first refusal. Memory is asked for only where a good header and an id stand

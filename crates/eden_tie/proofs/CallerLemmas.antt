@@ -55,3 +55,5 @@ pub use Rattle.eden_tie.proofs.Contents.{content_sound, content_kept, content_gr
 pub use Rattle.eden_tie.proofs.OwnContents.{own_held}
 -- a directory that is stored again
 pub use Rattle.eden_tie.proofs.Saved.{saves_table, saves_kept, saves_alike, saves_marks, saves_unmarked}
+-- the numbers that a table shows: own directories that are loaded
+pub use Rattle.eden_tie.proofs.NumbersLoaded.{own_load_same, empty_load_same}

@@ -8,8 +8,8 @@ use Rattle.eden_model.specs.Trees.{Name, Path}
 use Rattle.eden_overlay_format.specs.declared.stored_entry.StoredEntry.{StoredEntry}
 use Rattle.eden_overlay_format.specs.Directory.{AreStorable}
 use Rattle.eden_overlay.specs.Files.{Stored}
-use Rattle.eden_overlay.specs.Held.{HoldsEntries, with_entries}
-use Rattle.eden_overlay.proofs.CallerLemmas.{same_or_apart, kind_moved, apart, entries_held, numbers_from_two}
+use Rattle.eden_overlay.specs.Held.{HoldsEntries, with_entries, root_file}
+use Rattle.eden_overlay.proofs.CallerLemmas.{same_or_apart, kind_moved, apart, entries_held, numbers_from_two, root_same}
 use Rattle.eden_tree.specs.Directory.{Row, Directory, child_of, with_child}
 use Rattle.eden_tree.specs.Rows.{find_row}
 use Rattle.eden_tree.specs.Paths.{row_at, edit_row}
@@ -124,7 +124,7 @@ module _ (F full : Stored) (x : Row) (next : ℕ) (t : Ties F full x next) where
     ]
 
     marked_ties : ((k : ℕ) → k ≢ y.number → G k ≡ F k) → (y.origin ≡ origin.Own → HoldsEntries G y.number (listing_of marked_directory))
-        → (y.origin ≢ origin.Own → y.number ≡ 1 → G 1 ≡ None) → Ties G full marked_table next
+        → (y.origin ≢ origin.Own → y.number ≡ 1 → root_file G ≡ None) → Ties G full marked_table next
     marked_ties elsewhere mine unrooted = kept_ties F G full x marked_table next 0 Changed t follows
         (λ w a q h own. stored w a h own (which w a q h) (follows.kept w a q h) q)
         (λ w a q h unsaved. mark w a unsaved (which w a q h))
@@ -133,7 +133,7 @@ module _ (F full : Stored) (x : Row) (next : ℕ) (t : Ties F full x next) where
         (λ none. absurd (root_loaded marked_table (set_child y) marked_directory place_y holds_y none))
         (λ other. elim (same_or_apart y.number 1) [
           | inl is ↦ (let root = is_root y d (place_at p x y at) holds is in unrooted (λ own. other (kept_origin ∙ ap (λ (a : Row). a.origin) root ∙ own)) is)
-          | inr ne ↦ elsewhere 1 (λ is. ne (sym is)) ∙ t.rootless (λ own. other (kept_origin ∙ own))
+          | inr ne ↦ root_same G F (elsewhere 1 (λ is. ne (sym is))) ∙ t.rootless (λ own. other (kept_origin ∙ own))
         ])
         (λ own. elim (same_or_apart y.number 1) [
           | inl is ↦
@@ -177,7 +177,7 @@ module _ (F full : Stored) (x : Row) (next : ℕ) (t : Ties F full x next) where
     marked = t.marked;
     same = λ c e r n own away. same_at e.number (λ is. away y d p h is) (t.same c e r n own away);
     same_root = λ none. absurd (root_loaded x y d p h none);
-    rootless = λ o. apart F y.number entries are 1 ne ∙ t.rootless o;
+    rootless = λ o. root_same (with_entries F y.number entries) F (apart F y.number entries are 1 ne) ∙ t.rootless o;
     rooted = λ o. kind_moved F (with_entries F y.number entries) 1 kind.Dir (sym (apart F y.number entries are 1 ne)) (t.rooted o);
   }
     where

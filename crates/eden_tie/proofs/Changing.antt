@@ -10,9 +10,9 @@ use Rattle.eden_model.specs.Trees.{Name, Path}
 use Rattle.eden_overlay_format.specs.declared.stored_entry.StoredEntry.{StoredEntry}
 use Rattle.eden_overlay_format.specs.Directory.{AreStorable, IsStorable, HasOrigin}
 use Rattle.eden_overlay.specs.Files.{Stored}
-use Rattle.eden_overlay.specs.Held.{HoldsEntries, with_entries}
+use Rattle.eden_overlay.specs.Held.{HoldsEntries, with_entries, root_file}
 use Rattle.eden_overlay.specs.Soundness.{Names, LeadsOn, Reached, here, below, IsLive, HoldsKind, AreSound}
-use Rattle.eden_overlay.proofs.CallerLemmas.{same_or_apart, kind_moved, apart, named, entries_held}
+use Rattle.eden_overlay.proofs.CallerLemmas.{same_or_apart, kind_moved, apart, named, entries_held, root_same}
 use Rattle.eden_tree.specs.Directory.{Child, unloaded, loaded, Row, Directory, child_of, with_child}
 use Rattle.eden_tree.specs.Rows.{find_row}
 use Rattle.eden_tree.specs.Paths.{row_at}
@@ -42,7 +42,7 @@ module _ (F full : Stored) (x : Row) (next : ℕ) (t : Ties F full x next) (p : 
 
   -- of the files and the full ones, that of y alone changes, where y is its own; the root is as it was
   module _ (e : Directory) (G : Stored) (entries : List StoredEntry) (mine : y.origin ≡ origin.Own → HoldsEntries G y.number entries)
-      (unrooted : y.origin ≢ origin.Own → y.number ≡ 1 → G 1 ≡ None) (elsewhere : (k : ℕ) → y.number ≢ k → G k ≡ F k) where
+      (unrooted : y.origin ≢ origin.Own → y.number ≡ 1 → root_file G ≡ None) (elsewhere : (k : ℕ) → y.number ≢ k → G k ≡ F k) where
     is_top : y.number ≡ 1 → x ≡ y
     is_top is = is_root F full x next t y d place_y held is
 
@@ -64,10 +64,10 @@ module _ (F full : Stored) (x : Row) (next : ℕ) (t : Ties F full x next) (p : 
     stays_loaded : child_of (with_listing p e x) ≡ None → ⊥
     stays_loaded none = root_loaded (with_listing p e x) (with_child (Some e) y) e place_now holds_now none
 
-    rootless_now : (with_listing p e x).origin ≢ origin.Own → G 1 ≡ None
+    rootless_now : (with_listing p e x).origin ≢ origin.Own → root_file G ≡ None
     rootless_now other = elim (same_or_apart y.number 1) [
       | inl is ↦ unrooted (λ own. other (same_origin ∙ ap (λ (a : Row). a.origin) (is_top is) ∙ own)) is
-      | inr ne ↦ elsewhere 1 ne ∙ t.rootless (λ o. other (same_origin ∙ o))
+      | inr ne ↦ root_same G F (elsewhere 1 ne) ∙ t.rootless (λ o. other (same_origin ∙ o))
     ]
 
     rooted_now : (with_listing p e x).origin ≡ origin.Own → HoldsKind G 1 kind.Dir
@@ -105,7 +105,7 @@ module _ (F full : Stored) (x : Row) (next : ℕ) (t : Ties F full x next) (p : 
     mine : y.origin ≡ origin.Own → HoldsEntries G y.number entries
     mine o = entries_held F y.number entries are
 
-    unrooted : y.origin ≢ origin.Own → y.number ≡ 1 → G 1 ≡ None
+    unrooted : y.origin ≢ origin.Own → y.number ≡ 1 → root_file G ≡ None
     unrooted other is = absurd (other own)
 
     elsewhere : (k : ℕ) → y.number ≢ k → G k ≡ F k
@@ -153,7 +153,7 @@ module _ (F full : Stored) (x : Row) (next : ℕ) (t : Ties F full x next) (p : 
 
   module _ (e : Directory) (may : MayBecome F full x next d e) (are : AreStorable (listing_of e)) (full_are : AreStorable (full_listing e))
       (sound : AreSound (with_entries full y.number (full_listing e))) (H : Stored) (mine_e : y.origin ≡ origin.Own → HoldsEntries H y.number (listing_of e))
-      (unrooted_e : y.origin ≢ origin.Own → y.number ≡ 1 → H 1 ≡ None) (apart_e : (k : ℕ) → y.number ≢ k → H k ≡ F k) where
+      (unrooted_e : y.origin ≢ origin.Own → y.number ≡ 1 → root_file H ≡ None) (apart_e : (k : ℕ) → y.number ≢ k → H k ≡ F k) where
     abbrev full2 : Stored
     full2 = with_entries full y.number (full_listing e)
 

@@ -18,7 +18,7 @@ use Rattle.eden_overlay.specs.Files.{Stored}
 use Rattle.eden_overlay.specs.Held.{HoldsContent, with_content, with_entries}
 use Rattle.eden_overlay.specs.Laws.{IsUnnamed}
 use Rattle.eden_overlay.specs.Soundness.{Names, here, below, IsLive, HoldsKind}
-use Rattle.eden_overlay.proofs.CallerLemmas.{put_here, put_apart, same_or_apart, names_moved, kind_moved, one_kind, contents_held, contents_stay, numbers_from_two}
+use Rattle.eden_overlay.proofs.CallerLemmas.{put_here, put_apart, same_or_apart, names_moved, kind_moved, one_kind, contents_held, contents_stay, numbers_from_two, root_same}
 use Rattle.eden_tree.specs.Directory.{Row, Directory, child_of, with_child}
 use Rattle.eden_tree.specs.Rows.{find_row}
 use Rattle.eden_tree.specs.Paths.{row_at}
@@ -129,7 +129,7 @@ module _ (R : Repository) (F : Stored) (x : Row) (next : ℕ) (p : Path) (n : Na
       | inr ne ↦ same_moved F files k.full full e.number (beside e.number ne) (beside_full e.number ne) (t.same c e (was_live c r) (was_named c e m) own off)
     ];
     same_root = λ none. absurd (root_loaded x a.row a.directory place a.holds none);
-    rootless = λ other. beside 1 not_one ∙ t.rootless other;
+    rootless = λ other. root_same files F (beside 1 not_one) ∙ t.rootless other;
     rooted = λ own. kind_moved F files 1 kind.Dir (sym (beside 1 not_one)) (t.rooted own);
   }
 

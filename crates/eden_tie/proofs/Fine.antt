@@ -11,7 +11,7 @@ use Rattle.eden_model.specs.Trees.{Name, Path}
 use Rattle.eden_model.specs.Repository.{Repository, OwnFiles, Source, source_of, entries_with, no_files}
 use Rattle.eden_overlay_format.specs.declared.stored_entry.StoredEntry.{StoredEntry}
 use Rattle.eden_overlay.specs.Files.{Stored}
-use Rattle.eden_overlay.specs.Held.{HoldsEntries, item_of, items_of}
+use Rattle.eden_overlay.specs.Held.{HoldsEntries, item_of, items_of, root_file}
 use Rattle.eden_overlay.specs.Soundness.{Names, IsLive, HoldsKind, AreSound}
 use Rattle.eden_tree.specs.Directory.{Row, Directory, child_of}
 use Rattle.eden_tree.specs.Rows.{find_row}
@@ -65,7 +65,7 @@ unfoldable pub kept_from : (R : Repository) (F full : Stored) (x : Row) (next : 
     → ((c : ℕ) (e : StoredEntry) → IsLive full c → Names full c e → e.number < next)
     → ((w : Row) (e : Directory) → Place x w → child_of w ≡ Some e → IsFine R F full w e)
     → ((c : ℕ) (e : StoredEntry) → IsLive full c → Names full c e → e.origin ≡ origin.Own → IsAway x e.number → SameFile F full e.number)
-    → (child_of x ≡ None → SameFile F full 1) → (x.origin ≢ origin.Own → F 1 ≡ None) → (x.origin ≡ origin.Own → HoldsKind F 1 kind.Dir) → IsKept R F x next
+    → (child_of x ≡ None → SameFile F full 1) → (x.origin ≢ origin.Own → root_file F ≡ None) → (x.origin ≡ origin.Own → HoldsKind F 1 kind.Dir) → IsKept R F x next
 kept_from R F full x next root sound below fine same same_root rootless rooted = record {
   full = full;
   ties = record {

@@ -9,7 +9,7 @@ use Rattle.eden_model.specs.Trees.{Name, Path}
 use Rattle.eden_overlay_format.specs.declared.stored_entry.StoredEntry.{StoredEntry}
 use Rattle.eden_overlay_format.specs.Values.{entries_in}
 use Rattle.eden_overlay.specs.Files.{Stored}
-use Rattle.eden_overlay.specs.Held.{HoldsEntries}
+use Rattle.eden_overlay.specs.Held.{HoldsEntries, root_file}
 use Rattle.eden_overlay.specs.Soundness.{Names, IsLive, HoldsKind}
 use Rattle.eden_overlay.proofs.CallerLemmas.{same_or_apart, moved as moved_to}
 use Rattle.eden_tree.specs.Directory.{Row, Directory, child_of, with_child}
@@ -293,7 +293,7 @@ module _ (F G full : Stored) (x v : Row) (next gone : ℕ) (C : ℕ → Type 0) 
       → ((w : Row) (d : Directory) → Place v w → child_of w ≡ Some d → d.unsaved ≡ true → w.origin ≡ origin.Own)
       → ((k : ℕ) → IsAway x k → G k ≡ F k)
       → ((c : ℕ) (e : StoredEntry) → IsLive full c → Names full c e → e.origin ≡ origin.Own → e.number ≡ gone → SameFile G full e.number)
-      → (child_of v ≡ None → SameFile G full 1) → (v.origin ≢ origin.Own → G 1 ≡ None) → (v.origin ≡ origin.Own → HoldsKind G 1 kind.Dir)
+      → (child_of v ≡ None → SameFile G full 1) → (v.origin ≢ origin.Own → root_file G ≡ None) → (v.origin ≡ origin.Own → HoldsKind G 1 kind.Dir)
       → Ties G full v next
   kept_ties stored marked files went same_root rootless rooted = record {
     fits = kept_fits full x v next gone C t.fits f;

@@ -9,7 +9,7 @@ use Rattle.eden_overlay_format.specs.declared.stored_entry.StoredEntry.{StoredEn
 use Rattle.eden_overlay_format.specs.Directory.{AreStorable}
 use Rattle.eden_overlay.specs.Files.{Stored}
 use Rattle.eden_overlay.specs.Held.{HoldsEntries, with_entries}
-use Rattle.eden_overlay.proofs.CallerLemmas.{same_or_apart, kind_moved, apart, entries_held}
+use Rattle.eden_overlay.proofs.CallerLemmas.{same_or_apart, kind_moved, apart, entries_held, root_same}
 use Rattle.eden_tree.specs.Directory.{Row, Directory, child_of, with_child}
 use Rattle.eden_tree.specs.Rows.{find_row}
 use Rattle.eden_tree.specs.Paths.{row_at, edit_row}
@@ -113,7 +113,7 @@ module _ (F G full : Stored) (x : Row) (next : ℕ) (t : Ties F full x next) (p 
       (λ none. (let P : ℕ → Type 0 = λ k. SameFile G full k in subst P (root_gone none) mine_full))
       (λ other. elim (same_or_apart 1 y.number) [
         | inl is ↦ (let root = is_root F full x next t y d place holds (sym is) in absurd (other (same_origin ∙ ap (λ (a : Row). a.origin) root ∙ own)))
-        | inr ne ↦ elsewhere 1 ne ∙ t.rootless (λ o. other (same_origin ∙ o))
+        | inr ne ↦ root_same G F (elsewhere 1 ne) ∙ t.rootless (λ o. other (same_origin ∙ o))
       ])
       (λ o. elim (same_or_apart 1 y.number) [
         | inl is ↦ (let P : ℕ → Type 0 = λ k. HoldsEntries G k (listing_of d) in (listing_of d, subst P (sym is) mine))

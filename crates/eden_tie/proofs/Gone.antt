@@ -7,9 +7,9 @@ use Rattle.eden_model.specs.Trees.{Path}
 use Rattle.eden_overlay_format.specs.declared.stored_entry.StoredEntry.{StoredEntry}
 use Rattle.eden_overlay_format.specs.Directory.{AreStorable}
 use Rattle.eden_overlay.specs.Files.{Stored, put}
-use Rattle.eden_overlay.specs.Held.{HoldsEntries}
+use Rattle.eden_overlay.specs.Held.{HoldsEntries, root_file}
 use Rattle.eden_overlay.specs.Soundness.{Names, here, below, IsLive, AreSound}
-use Rattle.eden_overlay.proofs.CallerLemmas.{put_here, rootless_sound, entries_held, apart, one_held, numbers_from_two}
+use Rattle.eden_overlay.proofs.CallerLemmas.{put_here, rootless_sound, entries_held, apart, one_held, numbers_from_two, root_same}
 use Rattle.eden_tree.specs.Directory.{Row, Directory, child_of, with_child}
 use Rattle.eden_tree.specs.Rows.{find_row}
 use Rattle.eden_tree.specs.Paths.{row_at, edit_row}
@@ -186,21 +186,25 @@ module _ (R : Repository) (F : Stored) (x : Row) (next : ℕ) (table : IsTable x
     then_shut : child_of then ≡ None
     then_shut = ap child_of then_is
 
-    no_file : F 1 ≡ None
+    no_file : root_file F ≡ None
     no_file = t.rootless (λ own. other (ap (λ (c : Row). c.origin) (sym is_root.1) ∙ own))
 
+    -- as file 1 stands, if with numbers alone
     abbrev full3 : Stored
-    full3 = put k.full 1 None
+    full3 = put k.full 1 (F 1)
 
-    none3 : full3 1 ≡ None
-    none3 = put_here k.full 1 1 None refl
+    same3 : full3 1 ≡ F 1
+    same3 = put_here k.full 1 1 (F 1) refl
+
+    none3 : root_file full3 ≡ None
+    none3 = root_same full3 F same3 ∙ no_file
 
     gone_root : IsKept R F then next
     gone_root = kept_from R F full3 then next (edited_number p None x ∙ t.fits.root) (rootless_sound full3 none3)
         (λ c e r n. absurd (nothing_named full3 none3 c e r n))
         (λ w e q h. absurd (root_loaded then w e q h then_shut))
         (λ c e r n own away. absurd (nothing_named full3 none3 c e r n))
-        (λ none. inl (no_file ∙ sym none3))
+        (λ none. inl (sym same3))
         (λ o. no_file)
         (λ own. absurd (other (ap (λ (c : Row). c.origin) (sym is_root.1) ∙ sym (edited_origin p None x) ∙ own)))
 

@@ -9,10 +9,10 @@ use Rattle.eden_overlay_format.specs.declared.stored_entry.StoredEntry.{StoredEn
 use Rattle.eden_overlay_format.specs.Stored.{written}
 use Rattle.eden_overlay_format.specs.Directory.{AreStorable, directory_body}
 use Rattle.eden_overlay.specs.Files.{Stored, put}
-use Rattle.eden_overlay.specs.Held.{HoldsEntries, with_entries}
+use Rattle.eden_overlay.specs.Held.{HoldsEntries, with_entries, root_file}
 use Rattle.eden_overlay.specs.Soundness.{Names, LeadsOn, here, below, IsLive, HoldsKind, AreSound}
 use Rattle.eden_overlay.specs.Laws.{IsStray, IsFresh}
-use Rattle.eden_overlay.proofs.CallerLemmas.{put_apart, same_or_apart, names_moved, one_held, nothing_there, apart, named, entries_held}
+use Rattle.eden_overlay.proofs.CallerLemmas.{put_apart, same_or_apart, names_moved, one_held, apart, named, entries_held, entries_at_root}
 use Rattle.eden_overlay.proofs.CallerLemmas.{numbers_from_two, strays_stay, live_stay, rootless_sound, added_stay}
 use Rattle.eden_tie.proofs.Follows.{held_moved}
 
@@ -30,8 +30,8 @@ pub none_in : (f : StoredEntry) → Contains [] f → ⊥
 none_in f h = let within = h.1 in absurd (omega (arith, within))
 
 -- without file 1 nothing is named
-pub nothing_named : (F : Stored) → F 1 ≡ None → (c : ℕ) (e : StoredEntry) → IsLive F c → Names F c e → ⊥
-nothing_named F none c e here n = nothing_there F 1 kind.Dir none (n.entries, n.held)
+pub nothing_named : (F : Stored) → root_file F ≡ None → (c : ℕ) (e : StoredEntry) → IsLive F c → Names F c e → ⊥
+nothing_named F none c e here n = entries_at_root F n.entries none n.held
 nothing_named F none c e (below b f r m leads) n = nothing_named F none b f r m
 
 -- ---- what is named where the directory k has entries that lead nowhere, and u those, all else as before
@@ -285,9 +285,9 @@ module _ (full : Stored) (sound : AreSound full) (u : ℕ) (live : IsLive full u
     pub grows : (G : Stored) × AreGrown full was.number u child entries new G
     grows = (grown, record { sound = grown_sound; at_k = grown_at_k; at_u = grown_at_u; elsewhere = grown_elsewhere; named = grown_found })
 
--- ---- where no file 1 stands, the root's comes to be, of new entries that aren't their own
+-- ---- where the root has no file, it comes to be, of new entries that aren't their own
 
-module _ (full : Stored) (none : full 1 ≡ None) (after : ℕ) (new : List StoredEntry) (are : AreStorable new) (fresh : AreFresh full after new) where
+module _ (full : Stored) (none : root_file full ≡ None) (after : ℕ) (new : List StoredEntry) (are : AreStorable new) (fresh : AreFresh full after new) where
   abbrev pub rooted : Stored
   rooted = with_entries full 1 new
 

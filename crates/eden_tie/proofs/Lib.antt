@@ -51,3 +51,15 @@ pub mod Contents
 pub mod Remarked
 pub mod Saved
 pub mod OwnContents
+pub mod NumbersRead
+pub mod NumbersStored
+pub mod NumbersGiven
+pub mod NumbersLoaded
+pub mod NumbersChanged
+pub mod NumbersFound
+pub mod NumbersQuiet
+pub mod NumbersResumed
+pub mod NumbersSaved
+pub mod NumbersOver
+pub mod NumbersGone
+pub mod NumbersNodes

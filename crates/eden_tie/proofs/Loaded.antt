@@ -7,9 +7,9 @@ use Rattle.eden_model.specs.Trees.{Path}
 use Rattle.eden_overlay_format.specs.declared.stored_entry.StoredEntry.{StoredEntry}
 use Rattle.eden_overlay_format.specs.Directory.{AreStorable}
 use Rattle.eden_overlay.specs.Files.{Stored}
-use Rattle.eden_overlay.specs.Held.{HoldsEntries}
+use Rattle.eden_overlay.specs.Held.{HoldsEntries, root_file}
 use Rattle.eden_overlay.specs.Soundness.{Names, IsLive, AreSound}
-use Rattle.eden_overlay.proofs.CallerLemmas.{one_held, nothing_there, entries_held}
+use Rattle.eden_overlay.proofs.CallerLemmas.{one_held, entries_held, root_same, entries_at_root}
 use Rattle.eden_tree.specs.Directory.{Row, Directory, child_of, with_child}
 use Rattle.eden_tree.specs.Paths.{row_at, edit_row}
 use Rattle.eden_tree.proofs.CallerLemmas.{child_of-with_child}
@@ -226,14 +226,14 @@ module _ (R : Repository) (F : Stored) (x : Row) (next : ℕ) (table : IsTable x
         (λ c e r n o away. t.same c e r n o (λ w a q h is. absurd (root_loaded x w a q h root_shut)))
 
     module _ (after : ℕ) (other : y.origin ≢ origin.Own) (fresh : AreFresh k.full after (listing_of d)) (from : IsFrom R no_files y d) where
-      no_file : F 1 ≡ None
+      no_file : root_file F ≡ None
       no_file = t.rootless (λ own. other (ap (λ (c : Row). c.origin) (sym is_root.1) ∙ own))
 
-      none_full : SameFile F k.full 1 → k.full 1 ≡ None
-      none_full (inl same) = sym same ∙ no_file
-      none_full (inr s) = absurd (nothing_there F 1 kind.Dir no_file (s.0, s.1.0))
+      none_full : SameFile F k.full 1 → root_file k.full ≡ None
+      none_full (inl same) = sym (root_same F k.full same) ∙ no_file
+      none_full (inr s) = absurd (entries_at_root F s.0 no_file s.1.0)
 
-      abbrev nothing : k.full 1 ≡ None
+      abbrev nothing : root_file k.full ≡ None
       nothing = none_full (t.same_root root_shut)
 
       abbrev full3 : Stored

@@ -12,7 +12,7 @@ use Rattle.eden_overlay.specs.Files.{Stored, put}
 use Rattle.eden_overlay.specs.Held.{HoldsEntries, with_entries}
 use Rattle.eden_overlay.specs.Soundness.{Names, LeadsOn, Reached, here, below, IsLive, HoldsKind, AreSound}
 use Rattle.eden_overlay.specs.Laws.{Brings, IsStray, IsUnnamed, IsFresh, Drops, Moves}
-use Rattle.eden_overlay.proofs.CallerLemmas.{put_here, put_apart, names_moved, kind_moved, one_held, apart, was_named, named, joined}
+use Rattle.eden_overlay.proofs.CallerLemmas.{put_here, put_apart, names_moved, kind_moved, one_held, apart, was_named, named, joined, root_same}
 use Rattle.eden_overlay.proofs.CallerLemmas.{dropped_stay, dropped_unnamed, moved_stay, strays_stay, live_stay, added_stay}
 use Rattle.eden_tree.specs.Directory.{Row, Directory, child_of}
 use Rattle.eden_tree.specs.Rows.{find_row, drop_row}
@@ -400,7 +400,7 @@ module _ (F full : Stored) (x : Row) (next : ℕ) (t : Ties F full x next) (k : 
         let ne : k ≢ e.number = λ is. stray.not_own c e was named o (sym is) in
         same_moved F (put F k w) full (put full k w) e.number (put_apart F k e.number w ne) (put_apart full k e.number w ne) (t.same c e was named o off));
     same_root = λ none. same_moved F (put F k w) full (put full k w) 1 (put_apart F k 1 w stray.not_root) (put_apart full k 1 w stray.not_root) (t.same_root none);
-    rootless = λ o. put_apart F k 1 w stray.not_root ∙ t.rootless o;
+    rootless = λ o. root_same (put F k w) F (put_apart F k 1 w stray.not_root) ∙ t.rootless o;
     rooted = λ o. kind_moved F (put F k w) 1 kind.Dir (sym (put_apart F k 1 w stray.not_root)) (t.rooted o);
   }
 

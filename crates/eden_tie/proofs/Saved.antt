@@ -11,7 +11,7 @@ use Rattle.eden_model.proofs.CallerLemmas.{behind_sound}
 use Rattle.eden_overlay_format.specs.Directory.{AreStorable}
 use Rattle.eden_overlay.specs.Files.{Stored}
 use Rattle.eden_overlay.specs.Held.{HoldsEntries, with_entries}
-use Rattle.eden_overlay.proofs.CallerLemmas.{same_or_apart, kind_moved, apart, entries_held, numbers_from_two}
+use Rattle.eden_overlay.proofs.CallerLemmas.{same_or_apart, kind_moved, apart, entries_held, numbers_from_two, root_same}
 use Rattle.eden_tree.specs.Directory.{Row, Directory, child_of, with_child}
 use Rattle.eden_tree.specs.Rows.{find_row}
 use Rattle.eden_tree.specs.Paths.{row_at, Standing, standing, standing_at}
@@ -132,7 +132,7 @@ module _ (F G full : Stored) (x : Row) (next : ℕ) (t : Ties F full x next) (p 
       (λ none. absurd (root_loaded then new (saved d) place_new new_holds none))
       (λ other. elim (same_or_apart 1 y.number) [
         | inl is ↦ (let root = is_root F full x next t y d place_y holds (sym is) in absurd (other (same_origin ∙ ap (λ (a : Row). a.origin) root ∙ own)))
-        | inr ne ↦ elsewhere 1 ne ∙ t.rootless (λ o. other (same_origin ∙ o))
+        | inr ne ↦ root_same G F (elsewhere 1 ne) ∙ t.rootless (λ o. other (same_origin ∙ o))
       ])
       (λ o. elim (same_or_apart 1 y.number) [
         | inl is ↦ (let P : ℕ → Type 0 = λ k. HoldsEntries G k (listing_of d) in (listing_of d, subst P (sym is) mine))

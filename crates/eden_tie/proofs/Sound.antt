@@ -7,9 +7,9 @@ use Rattle.eden_model.specs.declared.kind.Origin.TheVariants as origin
 use Rattle.eden_model.specs.Trees.{Name}
 use Rattle.eden_overlay_format.specs.declared.stored_entry.StoredEntry.{StoredEntry}
 use Rattle.eden_overlay.specs.Files.{Stored}
-use Rattle.eden_overlay.specs.Held.{HoldsEntries}
+use Rattle.eden_overlay.specs.Held.{HoldsEntries, root_file}
 use Rattle.eden_overlay.specs.Soundness.{Names, LeadsOn, here, below, IsLive, HoldsKind, AreSound}
-use Rattle.eden_overlay.proofs.CallerLemmas.{names_moved, kind_moved, one_kind, one_held, nothing_there, numbers_from_two}
+use Rattle.eden_overlay.proofs.CallerLemmas.{names_moved, kind_moved, one_kind, one_held, numbers_from_two, entries_at_root}
 use Rattle.eden_tree.specs.Directory.{Row, Directory, child_of}
 use Rattle.eden_tree.specs.Rows.{find_row}
 use Rattle.eden_tree.proofs.CallerLemmas.{find_row-Contains}
@@ -58,7 +58,7 @@ module _ (F full : Stored) (x : Row) (next : ℕ) (t : Ties F full x next) where
       loaded_row y d from.0.0 from.0.1 p h (find_row-Contains from.0.0 d.rows from.0.1 (rising_of full x next t.fits y d p h) from.1.0) is from.1.1
   site c e (in_file away r same) n = filed_row away r (names_same F full c e same n)
 
-  root_standing : F 1 ≢ None → Standing 1
+  root_standing : root_file F ≢ None → Standing 1
   root_standing some =
       by_child x (Standing 1)
       (λ none. in_file (λ y d p h is. alone none y d p h) here (t.same_root none))
@@ -86,13 +86,13 @@ module _ (F full : Stored) (x : Row) (next : ℕ) (t : Ties F full x next) where
       let off = away_below full x next t.fits c e r n away in
       in_file off (below c e r n leads) (t.same c e r n leads.1 off)
 
-  standing : (c : ℕ) → IsLive F c → F 1 ≢ None → Standing c
+  standing : (c : ℕ) → IsLive F c → root_file F ≢ None → Standing c
   standing c here some = root_standing some
   standing c (below b e r n leads) some = next_standing b e (site b e (standing b r some) n) leads
 
-  -- where anything is named, file 1 stands
-  stands : (c : ℕ) (e : StoredEntry) → IsLive F c → Names F c e → F 1 ≢ None
-  stands c e here n none = nothing_there F 1 kind.Dir none (n.entries, n.held)
+  -- where anything is named, the root's file stands
+  stands : (c : ℕ) (e : StoredEntry) → IsLive F c → Names F c e → root_file F ≢ None
+  stands c e here n none = entries_at_root F n.entries none n.held
   stands c e (below b f r m leads) n none = stands b f r m none
 
   site_of : (c : ℕ) (e : StoredEntry) → IsLive F c → Names F c e → Site c e
@@ -136,8 +136,8 @@ module _ (F full : Stored) (x : Row) (next : ℕ) (t : Ties F full x next) where
       (t.fits.below y.number (full_entry (n, z)) (place_counts full x next t.fits y d p h) (named_full full x next t.fits y d n z p h f))
   number_below c e (filed_row away r n) = t.fits.below c e r n
 
-  top_is : (F 1 ≡ None) ⊎ HoldsKind F 1 kind.Dir
-  top_is = by_origin x.origin ((F 1 ≡ None) ⊎ HoldsKind F 1 kind.Dir) (λ other. inl (t.rootless other)) (λ own. inr (t.rooted own))
+  top_is : (root_file F ≡ None) ⊎ HoldsKind F 1 kind.Dir
+  top_is = by_origin x.origin ((root_file F ≡ None) ⊎ HoldsKind F 1 kind.Dir) (λ other. inl (t.rootless other)) (λ own. inr (t.rooted own))
 
   tied_sound : AreSound F
   tied_sound = record {

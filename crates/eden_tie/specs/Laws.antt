@@ -6,7 +6,7 @@ use Rattle.eden_model.specs.Trees.{Name, Path}
 use Rattle.eden_overlay_format.specs.declared.stored_entry.StoredEntry.{StoredEntry}
 use Rattle.eden_overlay_format.specs.Directory.{AreStorable}
 use Rattle.eden_overlay.specs.Files.{Stored}
-use Rattle.eden_overlay.specs.Held.{HoldsEntries, with_entries}
+use Rattle.eden_overlay.specs.Held.{HoldsEntries, with_entries, root_file}
 use Rattle.eden_overlay.specs.Soundness.{Names, IsLive, AreSound}
 use Rattle.eden_tree.specs.Directory.{Row, Directory, child_of, with_child}
 use Rattle.eden_tree.specs.Rows.{find_row, set_row}
@@ -59,13 +59,13 @@ abbrev pub with_owned : Directory → Name → Row → Directory
 with_owned d n z = record d { rows = set_row n (owned z) d.rows; unsaved = false }
 
 -- In a directory y a loaded child z that is stored may become its own, once y is stored so where y is its own. Of
--- another y's file nothing is asked, but that the root's isn't there.
+-- another y's file nothing is asked, but that it isn't the root's own.
 abbrev pub ChildrenTied : Type 0
 ChildrenTied = (F full : Stored) (x : Row) (next : ℕ) → Ties F full x next
     → (G : Stored) (p : Path) (y : Row) (d : Directory) (n : Name) (z : Row) (e : Directory) → row_at p x ≡ Some y → child_of y ≡ Some d
     → find_row n d.rows ≡ Some z → child_of z ≡ Some e → IsStoredAs F z.number e
     → ((k : ℕ) → k ≢ y.number → G k ≡ F k) → (y.origin ≡ origin.Own → HoldsEntries G y.number (listing_of (with_owned d n z)))
-    → (y.origin ≢ origin.Own → y.number ≡ 1 → G 1 ≡ None)
+    → (y.origin ≢ origin.Own → y.number ≡ 1 → root_file G ≡ None)
     → Ties G full (edit_row p (with_child (Some (with_owned d n z))) x) next
 
 -- the root may become its own, once file 1 is stored

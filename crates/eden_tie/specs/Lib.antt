@@ -16,3 +16,8 @@ pub mod Standing
 pub mod Loose
 pub mod Filing
 pub mod Saving
+pub mod Numberings
+pub mod NumberLoads
+pub mod NumberSaves
+pub mod NumberChanges
+pub mod NumberNodes

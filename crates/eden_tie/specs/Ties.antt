@@ -4,7 +4,7 @@ use Rattle.eden_model.specs.declared.kind.Kind.TheVariants as kind
 use Rattle.eden_model.specs.declared.kind.Origin.TheVariants as origin
 use Rattle.eden_overlay_format.specs.declared.stored_entry.StoredEntry.{StoredEntry}
 use Rattle.eden_overlay.specs.Files.{Stored}
-use Rattle.eden_overlay.specs.Held.{HoldsEntries}
+use Rattle.eden_overlay.specs.Held.{HoldsEntries, root_file}
 use Rattle.eden_overlay.specs.Soundness.{Names, IsLive, HoldsKind, AreSound}
 use Rattle.eden_tree.specs.Directory.{Row, Directory, child_of}
 use Rattle.eden_tie.specs.Listings.{listing_of, full_listing, Place}
@@ -43,9 +43,9 @@ pub record Ties (F full : Stored) (x : Row) (next : ℕ) : Type 0 where
   pub marked : (y : Row) (d : Directory) → Place x y → child_of y ≡ Some d → d.unsaved ≡ true → y.origin ≡ origin.Own
   -- whatever is its own and isn't loaded is stored alike
   pub same : (c : ℕ) (e : StoredEntry) → IsLive full c → Names full c e → e.origin ≡ origin.Own → IsAway x e.number → SameFile F full e.number
-  -- file 1 stands exactly where the root is its own
+  -- the root's file stands exactly where the root is its own
   pub same_root : child_of x ≡ None → SameFile F full 1
-  pub rootless : x.origin ≢ origin.Own → F 1 ≡ None
+  pub rootless : x.origin ≢ origin.Own → root_file F ≡ None
   pub rooted : x.origin ≡ origin.Own → HoldsKind F 1 kind.Dir
 
 -- the table is tied to the files

@@ -1,5 +1,6 @@
 use Rattle.eden_overlay.proofs.Strays.{numbers_from_two, rootless_sound, strays_stay, live_stay, state_stays}
 use Rattle.eden_overlay.proofs.Puts.{contents_held, entries_held}
+use Rattle.eden_overlay.proofs.Saves.{numbers_held, other_tree_has_none, entries_have_none, root_has_numbers}
 use Rattle.eden_overlay.proofs.Contents.{contents_stay}
 use Rattle.eden_overlay.proofs.Directories.{dropped_stay, dropped_unnamed}
 use Rattle.eden_overlay.proofs.Entering.{added_stay, entered_stay}
@@ -51,3 +52,15 @@ returns-clause-state c = state_stays
 
 pub returns-clause-accused : goal.returns-clause-accused
 returns-clause-accused c = accused_unsound
+
+pub returns-clause-numbers_held : goal.returns-clause-numbers_held
+returns-clause-numbers_held c = numbers_held
+
+pub returns-clause-other_tree : goal.returns-clause-other_tree
+returns-clause-other_tree c = other_tree_has_none
+
+pub returns-clause-entries_have_none : goal.returns-clause-entries_have_none
+returns-clause-entries_have_none c = entries_have_none
+
+pub returns-clause-root_has_numbers : goal.returns-clause-root_has_numbers
+returns-clause-root_has_numbers c = root_has_numbers
