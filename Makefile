@@ -34,13 +34,14 @@ lint: ## looks at layout, columns, types, pages and wrong bodies, and runs the t
 wrong-bodies: ## tries the wrong bodies that the gate leaves out, or those of CRATE=NAME; goes on where it was stopped
 	@scripts/wrong-bodies $(CRATE)
 
-soak: ## a million random requests: the slow oracle beside the second table of operations, attempts beside the slow oracle, and events on mounts; ten minutes of many clients; many rounds in want of memory and room; each growth refused on a larger commit; and eleven million requests of one session
+soak: ## a million random requests: the slow oracle beside the second table of operations, attempts beside the slow oracle, and events on mounts; ten minutes of many clients; many rounds in want of memory and room; each growth refused on a larger commit; remotes of partial clones that fail two hundred times; and eleven million requests of one session
 	tests/oracle 1000000
 	scripts/soak-rows
 	@scripts/build-mountd
 	tests/pressure crates/mountd/out/mountd 2000
 	@cd crates/eden_growths && rt run < stdin | diff - stdout
 	tests/refused-growths large
+	tests/partial-clones 200
 	tests/long-session crates/mountd/out/mountd 10000000 1000000
 
 bench: ## times the work that grows with its input, at full size, and writes docs/measured/speed.md

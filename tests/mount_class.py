@@ -14,6 +14,7 @@ from collections.abc import Callable, Iterator, Sequence
 from typing import Any, Self
 
 from checks import PATIENCE, check, git, make_repository, whole_tree
+from clones import FOLDER, MOST_QUESTIONS, Clone, blobs_in, make_far_repository, trees_on_the_way
 from folder_operations import FileSystem, Folder, compare, shown
 from mount_folder import checkout
 from programs import GIT_OBJECTS, MOUNTD, SAMPLE_OBJECTS, SAMPLE_ROOT, listening
@@ -412,3 +413,23 @@ def check_laziness(folder: pathlib.Path, large: Large) -> None:
 def asked_for(log: pathlib.Path) -> list[str]:
     """The ids that an object server was asked for, as often as it was."""
     return sorted(re.findall("get ([0-9a-f]{40})", log.read_text()))
+
+
+# ---- partial clones
+
+
+def check_partial_clones(folder: pathlib.Path) -> None:
+    """In a clone that lacks its objects a folder of 500 files asks the remote few times, and each comes once."""
+    repository = make_far_repository(folder)
+    root, blobs = git(repository, "rev-parse", "HEAD^{tree}"), blobs_in(repository, FOLDER)
+    for objects, most in MOST_QUESTIONS.items():
+        clone = Clone(repository, folder / objects, objects)
+        words = [GIT_OBJECTS, "--tree", root, clone.path]
+        with listening(words, stderr=subprocess.DEVNULL) as (_, port):
+            with MountedCommit(root, ["--remote", port], folder / f"overlay of {objects}", *ALL_KEPT) as mount:
+                seen = shown(FileSystem(mount.operations), tuple(FOLDER.encode().split(b"/")))
+                check(f"{objects}: what is shown", sum(node[0] == "file" for node in seen.values()), len(blobs))
+                check(f"{objects}: the end", (mount.close(), mount.said), (None, []))
+        wanted = sorted({*blobs, *(trees_on_the_way(repository) if objects == "tree:0" else [])})
+        check(f"{objects}: what came, each once", clone.arrived(), wanted)
+        check(f"{objects}: {clone.questions()} questions", clone.questions() <= most, True)

@@ -13,6 +13,7 @@ import zlib
 from collections.abc import Callable
 
 from checks import PATIENCE, check, git, make_repository
+from clones import FILES, FOLDER, MOST_QUESTIONS, Clone, blobs_in, make_far_repository, trees_on_the_way
 from folder_operations import Folder, compare, outcome, shown
 from mount_class import Large, asked_for, refused
 from mount_folder import BUILDS, CHANGES, COPIES, ENDINGS, LOOKS, Both, MountGit, checkout, children, said_by
@@ -252,6 +253,75 @@ def check_laziness(folder: pathlib.Path, large: Large) -> None:
         check("lazily mounted: grep -r", (status, len(found)), (0, 500))
         check("lazily mounted: what it costs", asked_for(mount.log), sorted([*large.deep, *large.beside]))
         check("lazily mounted: the end", mount.end("SIGTERM"), 0)
+
+
+# ---- partial clones
+
+# A question is two exchanges with the remote, of which each takes 50 ms.
+ROUND_TRIPS = "slow 0.1"
+# How long a search through a folder of 500 files may take, in seconds; on a machine with other work so many times what
+# it takes where nothing is far.
+SEARCH, TIMES = 2.0, 3
+
+
+def check_partial_clones(folder: pathlib.Path) -> None:
+    """In a clone that lacks its objects a folder of 500 files is listed and searched by few questions, and soon."""
+    repository = make_far_repository(folder)
+    with MountGit(repository, "HEAD", folder / "near") as mount:
+        near = search(mount)
+        check("near: the end, with nothing said", (mount.end("SIGTERM"), mount.said()), (0, []))
+    for objects, most in MOST_QUESTIONS.items():
+        clone = Clone(repository, folder / objects, objects)
+        clone.behave(ROUND_TRIPS)
+        with MountGit(clone.path, "HEAD", folder / objects / "mounted") as mount:
+            seconds = search(mount)
+            check(f"{objects}: {seconds:.1f} s, near {near:.1f} s", seconds < max(SEARCH, TIMES * near), True)
+            check(f"{objects}: the end, with nothing said", (mount.end("SIGTERM"), mount.said()), (0, []))
+        check(f"{objects}: {clone.questions()} questions", clone.questions() <= most, True)
+        trees = trees_on_the_way(repository) if objects == "tree:0" else set()
+        check(f"{objects}: what came, each once", clone.arrived(), sorted({*blobs_in(repository, FOLDER), *trees}))
+        check(f"{objects}: what is left", clone.leftovers(), [])
+
+
+def search(mount: MountGit) -> float:
+    """Lists FOLDER and searches through it; how many seconds that takes."""
+    began = time.monotonic()
+    names = os.listdir(mount.folder / FOLDER)
+    status, found = said_by("grep", "-rc", "file", mount.folder / FOLDER)
+    seconds = time.monotonic() - began
+    check("what is searched", (len(names), status, len(found), found[0].endswith(":20")), (FILES, 0, FILES, True))
+    return seconds
+
+
+def check_failing_remote(folder: pathlib.Path) -> None:
+    """A remote that fails is EIO for what it was asked for, and nothing more; a mount ends in its silence too."""
+    repository = make_far_repository(folder)
+    clone = Clone(repository, folder / "clone", "tree:0")
+    with MountGit(clone.path, "HEAD", folder / "mounted", "--overlay", folder / "overlay") as mount:
+        place = Folder(mount.folder)
+        check("failing: before", (mount.folder / "README").read_text(), "README\n" * 20)
+        clone.behave("dead")
+        for name in [b"near/by/there/0", b"long"]:
+            check(f"failing: {name!r} is EIO", outcome(place, "read", tuple(name.split(b"/")), 0, 1), "EIO")
+        check("failing: a line for each", [line for line in mount.said() if "Device" not in line], [])
+        check("failing: a line for each is there", len(mount.said()) >= 2, True)
+        check("failing: the rest goes on", (mount.folder / "README").read_text(), "README\n" * 20)
+        (mount.folder / "made").write_text("made")
+        clone.behave("good")
+        check("failing: after it", (mount.folder / "near/by/there/0").read_text(), "near/by/there/0\n" * 20)
+        clone.behave("silent")
+        asked = clone.questions()
+        reader = subprocess.Popen(["cat", mount.folder / "long"], stdout=subprocess.DEVNULL, stderr=subprocess.DEVNULL)
+        while clone.questions() == asked:
+            time.sleep(0.01)
+        running = children(mount.process.pid)
+        check("silent: the end", (mount.end("SIGTERM"), reader.wait(PATIENCE) != 0), (0, True))
+        check("silent: nothing runs on", left_of(running), [])
+        check("silent: what is left", clone.leftovers(), [])
+    with MountGit(clone.path, "HEAD", folder / "mounted", "--overlay", folder / "overlay") as mount:
+        clone.behave("good")
+        check("silent: mounted again", (mount.folder / "made").read_text(), "made")
+        check("silent: the second end, with nothing said", (mount.end("SIGTERM"), mount.said()), (0, []))
 
 
 def check_open_files(folder: pathlib.Path, repository: pathlib.Path) -> None:

@@ -4,15 +4,21 @@ Git runs free of the caller's GIT_* variables, so that the repository is the nam
 that an id gives the bytes that it names. A refusal carries Git's own last line.
 """
 
+import functools
 import os
 import re
 import subprocess
 from collections.abc import Iterable, Iterator
+from typing import NamedTuple
 
 PIECE = 1 << 20
 MODES = {b"40000", b"040000", b"100644", b"100664", b"100755", b"120000", b"160000"}
 FOLDERS = {b"40000", b"040000"}
 SUBMODULE = b"160000"
+# The head of a commit's text: its tree, and when it was committed.
+COMMIT = re.compile(rb"tree ([0-9a-f]{40})\n(?:.+\n)*?committer .*> (\d+) [+-]\d+\n")
+# How a remote is reached, as far as the caller's environment says it.
+REACHING = re.compile(r"GIT_(SSH|SSH_COMMAND|SSH_VARIANT|ASKPASS|PROXY_COMMAND|ALLOW_PROTOCOL|SSL_\w+|HTTP_\w+)")
 
 
 class Refusal(Exception):
@@ -24,9 +30,19 @@ def environment() -> dict[str, str]:
     return {**clean, "GIT_NO_REPLACE_OBJECTS": "1", "LC_ALL": "C"}
 
 
+def remote_environment() -> dict[str, str]:
+    """The environment in which a remote is asked. Nobody is asked for a password: whoever mounted it may be gone."""
+    reaching = {name: value for name, value in os.environ.items() if REACHING.fullmatch(name)}
+    return {**environment(), **reaching, "GIT_TERMINAL_PROMPT": "0"}
+
+
 def last_line(done: subprocess.CompletedProcess[bytes]) -> str:
     """What Git said went wrong, and its last line, for a refusal."""
-    lines = [line.strip() for line in done.stderr.decode(errors="replace").splitlines() if line.strip()]
+    return said(done.stderr)
+
+
+def said(errors: bytes) -> str:
+    lines = [line.strip() for line in errors.decode(errors="replace").splitlines() if line.strip()]
     said = [line for line in lines if line.startswith(("fatal:", "error:"))][:1] + lines[-1:]
     return "".join(f": {line}" for line in dict.fromkeys(said))
 
@@ -35,6 +51,20 @@ def framed(word: str, length: int, pieces: Iterable[bytes]) -> Iterator[bytes]:
     """An object's bytes, in pieces: its header, and its body."""
     yield f"{word} {length}\0".encode()
     yield from pieces
+
+
+class Commit(NamedTuple):
+    """A commit's tree, and when it was committed, in seconds."""
+
+    tree: str
+    seconds: int
+
+
+class Remote(NamedTuple):
+    """A remote that has what a partial clone lacks, and the filter by which it gives what it is asked for by id."""
+
+    name: str
+    filter: str
 
 
 class Repository:
@@ -53,8 +83,21 @@ class Repository:
         return subprocess.run(["git", "-C", self.path, *words], stdin=subprocess.DEVNULL, capture_output=True,
                               env=environment())
 
+    def commit_of(self, revision: str) -> Commit | None:
+        """The commit that a revision names; None where it names none.
+
+        It is read from the commit's own text: whatever else tells a commit's tree has Git fetch that tree, and in a
+        clone without trees all that lies below it.
+        """
+        named = self.git("rev-parse", "--verify", "--end-of-options", revision)
+        done = self.git("cat-file", "commit", named.stdout.decode().strip()) if named.returncode == 0 else named
+        found = COMMIT.match(done.stdout) if done.returncode == 0 else None
+        return Commit(found[1].decode(), int(found[2])) if found else None
+
     def tree_of(self, revision: str) -> str:
         """The id of a commit's tree, or of a tree that is named itself, as `HEAD:folder`."""
+        if commit := self.commit_of(revision):
+            return commit.tree
         named = self.git("rev-parse", "--verify", "--end-of-options", revision)
         found = named
         if named.returncode == 0:
@@ -63,16 +106,39 @@ class Repository:
             raise Refusal(f"{revision} names no commit or tree of {self.path}{last_line(found)}")
         return found.stdout.decode().strip()
 
+    def remotes(self) -> list[Remote]:
+        """The remotes that have what this repository lacks, in the order in which Git asks them; a whole has none."""
+        rows = self.settings(r"^remote\..*\.promisor$", "--type=bool")
+        names = [key.removeprefix("remote.").removesuffix(".promisor") for key, value in rows if value == "true"]
+        last = [value for _, value in self.settings(r"^extensions\.partialclone$")][-1:]
+        filters = dict(self.settings(r"^remote\..*\.partialclonefilter$"))
+        order = [name for name in dict.fromkeys(names) if name not in last] + last
+        specs = {name: filters.get(f"remote.{name}.partialclonefilter", "") for name in order}
+        # Each is one that the remote took before. By the first what comes is what is named, and nothing below it.
+        return [Remote(name, "tree:0" if "tree" in spec else "blob:none") for name, spec in specs.items()]
+
+    def settings(self, pattern: str, *options: str) -> list[tuple[str, str]]:
+        """Git's settings of such names, in their order."""
+        done = self.git("config", "-z", *options, "--get-regexp", pattern)
+        rows = [row.partition("\n") for row in os.fsdecode(done.stdout).split("\0")[:-1]]
+        return [(key, value) for key, _, value in rows]
+
+    @functools.cached_property
+    def objects_folder(self) -> str:
+        """Where its own objects lie."""
+        done = self.git("rev-parse", "--path-format=absolute", "--git-path", "objects")
+        return os.fsdecode(done.stdout.removesuffix(b"\n"))
+
     def objects(self) -> "Objects":
-        return Objects(self.path)
+        return Objects(self.path, environment())
 
 
 class Objects:
     """One `git cat-file` that is asked for one object after another."""
 
-    def __init__(self, path: str) -> None:
+    def __init__(self, path: str, environment: dict[str, str]) -> None:
         self.process = subprocess.Popen(["git", "-C", path, "cat-file", "--batch"], stdin=subprocess.PIPE,
-                                        stdout=subprocess.PIPE, stderr=subprocess.DEVNULL, env=environment())
+                                        stdout=subprocess.PIPE, stderr=subprocess.DEVNULL, env=environment)
         assert self.process.stdin is not None and self.process.stdout is not None
         self.asks, self.answers = self.process.stdin, self.process.stdout
 

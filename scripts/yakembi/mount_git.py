@@ -22,8 +22,10 @@ import time
 from collections.abc import Callable, Iterator
 
 from yakembi.git import Refusal, Repository, last_line
+from yakembi.git_objects import number_of_bytes
 from yakembi.operations import Mount, MountOperations, tell
 from yakembi.overlay import InUse, OverlayFolder
+from yakembi.partial_clone import AHEAD
 from yakembi.pool import CACHE_ENTRIES, Pool, Serving, Unopened
 from yakembi.times import Times
 
@@ -39,6 +41,8 @@ DEBIAN_PYTHON = "/usr/bin/python3"
 HANDED_ON = "MOUNT_GIT_HANDED_ON"
 # A mountd whose adapter was killed ends by itself, and has the overlay for so long.
 SECONDS_LOCKED = 10
+# How long git-objects may take to end.
+SECONDS_TO_END = 10
 UNOPENED = {
     "Locked": "another program has it open",
     "Damaged": "a file of it is damaged",
@@ -128,7 +132,8 @@ def overlay_at(path: str | None) -> Iterator[OverlayFolder]:
 
 def tree_to_show(repository: Repository, revision: str, overlay: OverlayFolder) -> tuple[str, int]:
     """The tree's id and its commit's time: as the overlay has them, if it was mounted before."""
-    tree, seconds = repository.tree_of(revision), commit_time(repository, revision)
+    commit = repository.commit_of(revision)
+    tree, seconds = commit or (repository.tree_of(revision), int(time.time()))
     if overlay.is_fresh():
         overlay.write_note(tree, seconds)
         return tree, seconds
@@ -137,7 +142,8 @@ def tree_to_show(repository: Repository, revision: str, overlay: OverlayFolder) 
     if root is None:
         raise Refusal(f"the overlay {overlay.path} was left by a killed run, and doesn't say on which tree it stands")
     if root != tree:
-        if repository.git("cat-file", "-e", root).returncode != 0:
+        # What a partial clone lacks its remote may have.
+        if not repository.remotes() and repository.git("cat-file", "-e", root).returncode != 0:
             raise Refusal(f"the overlay {overlay.path} stands on the tree {root}, which the repository lacks")
         tell(f"{revision} is the tree {tree}, but the overlay stands on {root}, and that is shown; "
              "another tree wants another overlay")
@@ -147,29 +153,26 @@ def tree_to_show(repository: Repository, revision: str, overlay: OverlayFolder) 
     return noted
 
 
-def commit_time(repository: Repository, revision: str) -> int:
-    """In seconds; now where the revision is a tree."""
-    # Git's own settings may have it tell of the commit's signature, in front of what is asked for.
-    words = ["show", "-s", "--no-show-signature", "--format=%ct"]
-    done = repository.git(*words, "--end-of-options", revision + "^{commit}")
-    return int(done.stdout) if done.returncode == 0 else int(time.time())
-
-
 @contextlib.contextmanager
-def objects_of(repository: str, log: bool) -> Iterator[int]:
+def objects_of(repository: str, root: str, ahead: int, log: bool) -> Iterator[int]:
     """The port of a git-objects that ends with us, whatever ends us: its input does."""
-    options = ["--with-input", *(["--log"] if log else [])]
+    options = ["--with-input", "--tree", root, "--ahead", str(ahead), *(["--log"] if log else [])]
     words = [sys.executable, str(SCRIPTS / "git-objects"), *options, "--", repository]
     child = subprocess.Popen(words, stdin=subprocess.PIPE, stdout=subprocess.PIPE, start_new_session=True)
+    assert child.stdin is not None and child.stdout is not None
     try:
-        assert child.stdout is not None
         listening = child.stdout.readline().decode()
         if not listening:
             raise Refusal("git-objects ended before it served")
         yield int(listening.rsplit(":", 1)[1])
     finally:
+        # It ends what it has started; where that takes too long it is ended as it stands.
+        child.stdin.close()
+        with contextlib.suppress(subprocess.TimeoutExpired):
+            child.wait(SECONDS_TO_END)
         child.kill()
-        child.communicate()
+        child.stdout.close()
+        child.wait()
 
 
 def pool_over(program: Serving, overlay: str) -> Pool:
@@ -221,7 +224,7 @@ def run(words: argparse.Namespace) -> None:
     check_apart(words.overlay, folder)
     with overlay_at(words.overlay) as overlay:
         root, seconds = tree_to_show(repository, words.revision, overlay)
-        with objects_of(words.repository, words.log) as port:
+        with objects_of(words.repository, root, words.ahead, words.log) as port:
             program = Serving(words.mountd, root, ["--remote", port], overlay.path,
                               more=["--cache-entries", CACHE_ENTRIES])
             pool = pool_over(program, overlay.path)
@@ -243,6 +246,9 @@ def parser() -> argparse.ArgumentParser:
     found.add_argument("--overlay", metavar="DIR", help="where changes are kept")
     found.add_argument("--mountd", metavar="PROGRAM", default=MOUNTD,
                        help="instead of $MOUNTD, or of the one that `make run` builds or `make install` installed")
+    found.add_argument("--ahead", metavar="BYTES", type=number_of_bytes, default=AHEAD,
+                       help="of a partial clone, fetch at most so many bytes before a program asks for them: "
+                       f"subfolders, and other files of a folder whose files are read; 0: none; {AHEAD} if left out")
     found.add_argument("--log", action="store_true", help="tell each object that is fetched on standard error")
     return found
 

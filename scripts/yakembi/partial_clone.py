@@ -1,0 +1,337 @@
+"""A partial clone as a source of objects: what it lacks is asked of its remote, many objects at a time.
+
+What is asked for within some milliseconds goes into one question. What is likely to be asked for next comes along in
+another one beside it: with a tree its subtrees, and once blobs of one folder are asked for one after another, others of
+that folder. Such a guess is bounded in bytes and in time, and what fails of it is asked for like anything else. So a
+remote that fails costs what is asked for alone.
+"""
+
+import contextlib
+import itertools
+import os
+import subprocess
+import tempfile
+import threading
+import time
+from collections.abc import Callable, Iterable, Sequence
+
+from yakembi.fetching import Bounds, Question, TooSlow, Unanswered
+from yakembi.folders import Folder, Folders, trees_below
+from yakembi.git import Objects, Refusal, Remote, Repository, environment
+
+# How long one who asks first waits for others, in seconds.
+GATHERING = 0.005
+# How many bytes a guess may bring; and to how many that falls where guesses take too long.
+AHEAD, LEAST_AHEAD = 16 << 20, 1 << 16
+# How long a remote may say nothing, and how long a guess may take; mountd waits for 30 s. Behind one that took less
+# than the last the next may bring twice as much again.
+SILENCE, LONGEST_GUESS, SHORT_GUESS = 15.0, 8.0, 2.0
+# How long nothing of a folder is guessed after a guess that failed, in seconds.
+REST = 60.0
+# How many guesses are under way at most, and how many objects each has.
+MOST_GUESSES, MOST_GUESSED = 4, 10_000
+# What a tree is taken to have.
+TREE_BYTES = 1_024
+# How many ids are written to Git before its answers are read, so that no pipe is full.
+PIECE = 500
+# Each brings a pack, and after so many Git may put them together, as it does after its own fetches.
+QUESTIONS_BETWEEN_MAINTENANCE = 50
+
+
+class Unreachable(Exception):
+    """The remote can't be asked, which was told already."""
+
+
+class Plain:
+    """A repository's objects as Git reads them without its settings, so that none that is missing is fetched.
+
+    Git up to 2.43 has no other way to say so.
+    """
+
+    def __init__(self, repository: Repository) -> None:
+        self.folder = tempfile.TemporaryDirectory(prefix="git-objects.", ignore_cleanup_errors=True)
+        os.mkdir(os.path.join(self.folder.name, "refs"))
+        with open(os.path.join(self.folder.name, "HEAD"), "w") as head:
+            head.write("ref: refs/heads/none\n")
+        self.environment = {**environment(), "GIT_DIR": self.folder.name,
+                            "GIT_OBJECT_DIRECTORY": repository.objects_folder}
+        self.lock = threading.Lock()
+        self.looking: subprocess.Popen[bytes] | None = None
+
+    def objects(self) -> Objects:
+        return Objects(self.folder.name, self.environment)
+
+    def absent(self, ids: Sequence[str]) -> list[str]:
+        """Those that aren't there."""
+        found: list[str] = []
+        for at in range(0, len(ids), PIECE):
+            with self.lock:
+                found += self.absent_of(ids[at : at + PIECE])
+        return found
+
+    def absent_of(self, ids: Sequence[str]) -> list[str]:
+        if self.looking is None:
+            words = ["git", "-C", self.folder.name, "cat-file", "--batch-check"]
+            self.looking = subprocess.Popen(words, stdin=subprocess.PIPE, stdout=subprocess.PIPE,
+                                            stderr=subprocess.DEVNULL, env=self.environment)
+        assert self.looking.stdin is not None and self.looking.stdout is not None
+        try:
+            self.looking.stdin.write("".join(f"{object_id}\n" for object_id in ids).encode())
+            self.looking.stdin.flush()
+            answers = [self.looking.stdout.readline() for _ in ids]
+        except BrokenPipeError:
+            answers = [b""]
+        if not all(answers):
+            self.end_looking()
+            raise Unanswered("git can't look for objects")
+        return [object_id for object_id, answer in zip(ids, answers) if answer.endswith(b" missing\n")]
+
+    def end_looking(self) -> None:
+        if self.looking is not None:
+            self.looking.kill()
+            self.looking.communicate()
+        self.looking = None
+
+    def end(self) -> None:
+        with self.lock:
+            self.end_looking()
+        self.folder.cleanup()
+
+
+class Want:
+    """An object that is being brought, and for which others wait."""
+
+    def __init__(self) -> None:
+        self.over = threading.Event()
+        # Whether it came; and, of one that was asked for, whether no remote has it.
+        self.came = False
+        self.is_nowhere = False
+
+    def end(self, came: bool, is_nowhere: bool = False) -> None:
+        self.came, self.is_nowhere = came, is_nowhere
+        self.over.set()
+
+
+class PartialClone:
+    """What git-objects serves of a partial clone. Any thread may call it.
+
+    `root` is the tree that is shown, if that is known: by it folders are found that nobody asked for.
+    """
+
+    def __init__(self, repository: Repository, remotes: Sequence[Remote], root: str | None = None, ahead: int = AHEAD,
+                 silence: float = SILENCE, tell: Callable[[str], object] = print,
+                 log: Callable[[str], object] = lambda _: None) -> None:
+        self.repository = repository
+        self.remotes = remotes
+        self.root = root
+        # How much a guess brings: at most the bound, and less where that takes too long.
+        self.most_ahead = self.ahead = ahead
+        self.silence = silence
+        self.tell = tell
+        self.log = log
+        self.plain = Plain(repository)
+        self.lock = threading.Lock()
+        self.folders = Folders()
+        self.wants: dict[str, Want] = {}
+        self.gathered: list[str] = []
+        self.guesses: dict[str, Want] = {}
+        self.guessing = 0
+        self.questions: set[Question] = set()
+        self.asked = 0
+        self.walked = root is None
+        self.is_over = False
+
+    def objects(self) -> Objects:
+        """What is there; a remote is asked by `bring`."""
+        return self.plain.objects()
+
+    # ---- what is asked for
+
+    def bring(self, object_id: str) -> bool:
+        """Brings an object that wasn't there a moment ago; whether a remote may have it.
+
+        One that can't be asked is an Unreachable.
+        """
+        self.guess_others(object_id)
+        while True:
+            with self.lock:
+                guess = self.guesses.get(object_id)
+                if guess is None:
+                    want = self.wants.get(object_id)
+                    leads = want is None and not self.gathered
+                    if want is None:
+                        want = self.wants[object_id] = Want()
+                        self.gathered.append(object_id)
+                    break
+            guess.over.wait()
+            if guess.came:
+                return True
+        if leads:
+            time.sleep(GATHERING)
+            with self.lock:
+                asked, self.gathered = self.gathered, []
+            self.bring_all(asked)
+        want.over.wait()
+        if not want.came and not want.is_nowhere:
+            raise Unreachable
+        return want.came
+
+    def bring_all(self, ids: list[str]) -> None:
+        """Asks each remote in turn for what isn't there, and tells those who wait."""
+        lacking, failed = ids, set(ids)
+        try:
+            # What came by a guess since it was looked for isn't asked for again.
+            lacking, failed = self.plain.absent(ids), set()
+            for remote in self.remotes:
+                lacking = self.ask_for(remote, lacking, failed)
+        except (Unanswered, OSError) as problem:
+            self.tell(f"objects can't be brought: {problem}")
+            failed = set(ids)
+        finally:
+            with self.lock:
+                for object_id in ids:
+                    came = object_id not in lacking
+                    self.wants.pop(object_id).end(came, is_nowhere=not came and object_id not in failed)
+
+    def ask_for(self, remote: Remote, ids: list[str], failed: set[str]) -> list[str]:
+        """Asks a remote, and gives what didn't come. Of that `failed` has what the remote doesn't say that it lacks.
+
+        What a failure names is left out of the next question, so that it costs nothing else.
+        """
+        lacking: list[str] = []
+        while ids:
+            try:
+                self.question(remote, ids, Bounds(self.silence), "")
+                break
+            except Unanswered as problem:
+                self.tell(f"{remote.name} gave none of {len(ids)} objects: {problem}")
+                named = [object_id for object_id in ids if object_id in problem.errors] or ids
+                failed |= {object_id for object_id in named if f"not our ref {object_id}" not in problem.errors}
+                lacking += named
+                ids = [object_id for object_id in ids if object_id not in named]
+        return lacking
+
+    def question(self, remote: Remote, ids: Sequence[str], bounds: Bounds, how: str) -> float:
+        """Asks a remote, and says so in the log; how many seconds it took."""
+        asked = Question(self.repository, remote, ids)
+        with self.lock:
+            if self.is_over:
+                raise Unanswered("the server ends")
+            self.questions.add(asked)
+        began = time.monotonic()
+        try:
+            came = asked.ask(bounds)
+        finally:
+            with self.lock:
+                self.questions.remove(asked)
+                self.asked += 1
+                tidies = self.asked % QUESTIONS_BETWEEN_MAINTENANCE == 0
+        seconds = time.monotonic() - began
+        self.log(f"{remote.name} gave {len(ids)} objects{how}: {came} bytes, {seconds:.3f} s")
+        for object_id in ids:
+            self.log(f"fetched {object_id}{how}")
+        if tidies:
+            self.start(self.repository.git, "maintenance", "run", "--auto", "--quiet")
+        return seconds
+
+    # ---- what is guessed
+
+    def served_tree(self, tree_id: str, body: bytes) -> None:
+        """A tree is about to be served: from now on its subtrees are on their way."""
+        with contextlib.suppress(Refusal):
+            folder = Folder(tree_id, body)
+            with self.lock:
+                folder = self.folders.learn(folder)
+                self.guess(folder, folder.trees, TREE_BYTES)
+
+    def served_blob(self, blob: str, length: int) -> None:
+        with self.lock:
+            if folder := self.folders.of(blob):
+                folder.serve(length)
+
+    def asked_blob(self, blob: str) -> None:
+        """A blob is asked for, be it there or not."""
+        with self.lock:
+            if folder := self.folders.of(blob):
+                folder.ask(blob)
+
+    def guess_others(self, object_id: str) -> None:
+        """Once blobs of a folder are asked for one after another, others of it are on their way."""
+        with self.lock:
+            folder = self.folders.of(object_id)
+            if folder is not None and folder.in_a_row > 1:
+                self.guess(folder, folder.others(object_id), folder.usual_bytes())
+            if folder is not None or self.walked:
+                return
+            self.walked = True
+        self.start(self.walk)
+
+    def guess(self, folder: Folder, ids: Iterable[str], usual_bytes: int) -> None:
+        """Under the lock: a guess is under way from now on, and whoever asks for one of its objects waits for it."""
+        if self.guessing >= MOST_GUESSES or time.monotonic() < folder.rests_until:
+            return
+        free = (object_id for object_id in ids if object_id not in self.guesses and object_id not in self.wants)
+        # Half as many as would fill the bound, since others may be larger.
+        most = min(self.ahead // (2 * usual_bytes), MOST_GUESSED)
+        guess = {object_id: Want() for object_id in itertools.islice(free, most)}
+        if guess:
+            self.guesses.update(guess)
+            self.guessing += 1
+            self.start(self.bring_guess, folder, guess)
+
+    def bring_guess(self, folder: Folder, guess: dict[str, Want]) -> None:
+        try:
+            lacking = self.plain.absent(list(guess))
+            self.end_guess(guess, guess.keys() - lacking, True)
+            if lacking:
+                bounds = Bounds(self.silence, LONGEST_GUESS, self.ahead)
+                if self.question(self.remotes[0], lacking, bounds, " ahead") < SHORT_GUESS:
+                    self.ahead = min(2 * self.ahead, self.most_ahead)
+                self.end_guess(guess, lacking, True)
+        except (Unanswered, OSError) as problem:
+            folder.rests_until = time.monotonic() + REST
+            if isinstance(problem, TooSlow):
+                self.ahead = max(self.ahead // 2, min(LEAST_AHEAD, self.most_ahead))
+            self.log(f"{self.remotes[0].name} gave nothing ahead: {problem}")
+        finally:
+            self.end_guess(guess, list(guess), False)
+            with self.lock:
+                self.guessing -= 1
+
+    def end_guess(self, guess: dict[str, Want], ids: Iterable[str], came: bool) -> None:
+        """These objects of a guess are waited for no longer, and are there if they came."""
+        with self.lock:
+            for object_id in ids:
+                del self.guesses[object_id]
+                guess.pop(object_id).end(came)
+
+    def walk(self) -> None:
+        """Learns the folders of the shown tree that the clone has, for an object of none that was served.
+
+        So it is with a file of a folder that an overlay has: its tree isn't asked for any more.
+        """
+        assert self.root is not None
+        objects = self.objects()
+        with contextlib.suppress(Refusal, OSError):
+            for tree_id, body in trees_below(self.root, objects):
+                folder = Folder(tree_id, body)
+                with self.lock:
+                    self.folders.learn(folder)
+        objects.end()
+
+    # ---- threads
+
+    def start(self, call: Callable[..., object], *words: object) -> None:
+        threading.Thread(target=call, args=words, daemon=True).start()
+
+    def end(self) -> None:
+        """Ends all questions, and waits until nothing is left of them."""
+        with self.lock:
+            self.is_over = True
+            questions = list(self.questions)
+        for question in questions:
+            question.stop()
+        until = time.monotonic() + 5
+        while self.questions and time.monotonic() < until:
+            time.sleep(0.01)
+        self.plain.end()
