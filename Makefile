@@ -39,7 +39,7 @@ soak: ## a million random requests: the slow oracle beside the second table of o
 	scripts/soak-rows
 	@scripts/build-mountd
 	tests/pressure crates/mountd/out/mountd 2000
-	@cd crates/eden_growths && rt run < stdin | diff - stdout
+	@cd crates/test_growths && rt run < stdin | diff - stdout
 	tests/refused-growths large
 	tests/partial-clones 200
 	tests/long-session crates/mountd/out/mountd 10000000 1000000

@@ -1,6 +1,6 @@
 """The manual's pages, docs/man/mountd.1 and mount-git.1, from what the help texts are made of and from the pages.
 
-The options of `mountd` and their texts are those of crates/eden_command_line/src/command.rt, which `mountd COMMAND
+The options of `mountd` and their texts are those of crates/mountd_options/src/command.rt, which `mountd COMMAND
 --help` prints; its commands, its statuses and its first paragraph are docs/MOUNTD.md's. Those of `mount-git` are its
 parser's, which `mount-git --help` prints. `tests/manual --write` writes both.
 """
@@ -15,7 +15,7 @@ from typing import NamedTuple
 from crates import TOP
 from yakembi import mount_git
 
-GRAMMAR = TOP / "crates" / "eden_command_line" / "src" / "command.rt"
+GRAMMAR = TOP / "crates" / "mountd_options" / "src" / "command.rt"
 PAGE = TOP / "docs" / "MOUNTD.md"
 FOLDER = TOP / "docs" / "man"
 FUNCTION = re.compile(r"^fn (\w+)<'a>\(.*?^}$", re.M | re.S)

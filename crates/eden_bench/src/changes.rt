@@ -3,7 +3,7 @@ ghost use Rattle.std.specs.Prelude.{◌≢◌, IsTrue};
 ghost use Rattle.eden_model.specs.declared.kind.Kind.TheVariants as kinds;
 ghost use Rattle.eden_object.specs.Trees.{NamesDiffer};
 ghost use Rattle.eden_tree.specs.Directory.{Row};
-ghost use Rattle.eden_tie.specs.Filing.{HasFile};
+ghost use Rattle.eden_coupling.specs.Filing.{HasFile};
 
 use crate::bench::{Bench, Part};
 use crate::inodes::{Table, entries_of, nest, rounds, tables};

@@ -18,13 +18,13 @@ use Rattle.eden_overlay.specs.Held.{HoldsState, with_state, without, own_files, 
 use Rattle.eden_overlay.specs.Soundness.{HoldsKind}
 use Rattle.eden_overlay.proofs.CallerLemmas.{nothing_at_root}
 use Rattle.eden_tree.specs.Directory.{Child, unloaded, loaded, Row, directory_in, child_of}
-use Rattle.eden_tie.specs.Chains.{AreSaved}
-use Rattle.eden_tie.specs.Kept.{IsTable, IsKept}
-use Rattle.eden_tie.specs.Laws.{TiesSound, NumbersBelow}
-use Rattle.eden_tie.specs.Loose.{the_state}
-use Rattle.eden_tie.specs.Shown.{shown_in, shown_away}
-use Rattle.eden_tie.specs.ShownLaws.{ShowsFiles, ShowsAway}
-use Rattle.eden_tie.proofs.CallerLemmas.{loose_kept, loose_alike}
+use Rattle.eden_coupling.specs.Chains.{AreSaved}
+use Rattle.eden_coupling.specs.Kept.{IsTable, IsKept}
+use Rattle.eden_coupling.specs.Laws.{TiesSound, NumbersBelow}
+use Rattle.eden_coupling.specs.Loose.{the_state}
+use Rattle.eden_coupling.specs.Shown.{shown_in, shown_away}
+use Rattle.eden_coupling.specs.ShownLaws.{ShowsFiles, ShowsAway}
+use Rattle.eden_coupling.proofs.CallerLemmas.{loose_kept, loose_alike}
 use Rattle.eden_inode.specs.Tables.{fresh_root}
 use Rattle.eden_ops.specs.Changes.{StaysOrBecomesOwn}
 use Rattle.eden_checkout.specs.Opening.{root_from, files_show, IsRootOf, CanOpen}
@@ -49,7 +49,8 @@ is_fresh x next table none = let shut = bare x.child none in
     ∙ ap (λ c. record { number = 1; kind = kind.Dir; origin = x.origin; child = c }) shut
 
 -- the root has a file where it is the mount's own, and nowhere else
-root_stands : (root : Id) (F : Stored) (o : Origin) (f : Option (List ℕ)) → root_file F ≡ f → IsRootOf root o → (o ≢ origin.Own → root_file F ≡ None) → (o ≡ origin.Own → HoldsKind F 1 kind.Dir) → root_from root f ≡ o
+root_stands : (root : Id) (F : Stored) (o : Origin) (f : Option (List ℕ)) → root_file F ≡ f → IsRootOf root o → (o ≢ origin.Own → root_file F ≡ None)
+    → (o ≡ origin.Own → HoldsKind F 1 kind.Dir) → root_from root f ≡ o
 root_stands root F o None is (inl object) rootless rooted = sym object
 root_stands root F o None is (inr own) rootless rooted = absurd (nothing_at_root F kind.Dir is (rooted own))
 root_stands root F o (Some b) is (inr own) rootless rooted = sym own

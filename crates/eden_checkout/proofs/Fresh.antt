@@ -8,8 +8,8 @@ use Rattle.eden_overlay.specs.Files.{Stored}
 use Rattle.eden_overlay.specs.Held.{without}
 use Rattle.eden_overlay.specs.Laws.{RootlessSound}
 use Rattle.eden_overlay.proofs.CallerLemmas.{put_here, put_apart, same_or_apart, root_same}
-use Rattle.eden_tie.specs.Shown.{shown_in}
-use Rattle.eden_tie.specs.ShownLaws.{ShowsAway}
+use Rattle.eden_coupling.specs.Shown.{shown_in}
+use Rattle.eden_coupling.specs.ShownLaws.{ShowsAway}
 use Rattle.eden_inode.specs.Tables.{fresh_root}
 use Rattle.eden_checkout.specs.Laws.{OpensFresh}
 use Rattle.eden_checkout.specs.Opening.{AreNone, files_show, root_from}

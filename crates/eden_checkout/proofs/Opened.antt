@@ -25,8 +25,8 @@ use Rattle.eden_overlay.specs.Rescanning.{IsRescanFault}
 use Rattle.eden_overlay.specs.Soundness.{Names, IsLive, HoldsKind, AreSound}
 use Rattle.eden_overlay.proofs.CallerLemmas.{put_here, put_apart, names_moved, same_or_apart, numbers_from_two, live_stay, state_stays, accused_unsound, root_same}
 use Rattle.eden_tree.specs.Directory.{child_of}
-use Rattle.eden_tie.specs.Chains.{AreSaved}
-use Rattle.eden_tie.proofs.CallerLemmas.{place_cases}
+use Rattle.eden_coupling.specs.Chains.{AreSaved}
+use Rattle.eden_coupling.proofs.CallerLemmas.{place_cases}
 use Rattle.eden_inode.specs.Tables.{CanStart, fresh_root}
 use Rattle.eden_checkout.specs.declared.fault.OpenFault.{OpenFault}
 use Rattle.eden_checkout.specs.declared.fault.OpenFault.TheVariants as opens

@@ -15,10 +15,10 @@ use Rattle.eden_overlay.specs.Soundness.{Names, AreSound}
 use Rattle.eden_overlay.specs.Tidying.{OthersStay}
 use Rattle.eden_overlay.proofs.CallerLemmas.{put_apart, held_storable, numbers_from_two, root_stays, named_stays, live_before, named_before, still_sound, root_same}
 use Rattle.eden_tree.specs.Directory.{Row, Directory, child_of}
-use Rattle.eden_tie.specs.Listings.{Place, top}
-use Rattle.eden_tie.specs.Shown.{shown_in}
-use Rattle.eden_tie.specs.Ties.{Fits}
-use Rattle.eden_tie.proofs.CallerLemmas.{Backs, backed_alike, place_cases}
+use Rattle.eden_coupling.specs.Listings.{Place, top}
+use Rattle.eden_coupling.specs.Shown.{shown_in}
+use Rattle.eden_coupling.specs.Ties.{Fits}
+use Rattle.eden_coupling.proofs.CallerLemmas.{Backs, backed_alike, place_cases}
 use Rattle.eden_inode.specs.Tables.{fresh_root}
 use Rattle.eden_checkout.specs.Opening.{root_from, files_show}
 use Rattle.eden_checkout.specs.Tidying.{ShowsSame, StaysClosed}

@@ -15,7 +15,7 @@ use Rattle.eden_overlay.specs.declared.files.FilesFault.TheVariants as files
 use Rattle.eden_cache.specs.Cache.{KeepsObject, KeepsSize}
 use Rattle.eden_tree.specs.Directory.{Row}
 use Rattle.eden_tree.specs.Paths.{row_at, edit_row}
-use Rattle.eden_tie.specs.Unloading.{Unloads, IsSettled}
+use Rattle.eden_coupling.specs.Unloading.{Unloads, IsSettled}
 use Rattle.eden_inode.specs.Tables.{shows}
 use Rattle.eden_mount.specs.Tables.{Table}
 use Rattle.eden_ops.specs.Attempts.{IsRealNeed, Attempts}

@@ -1,6 +1,6 @@
 ghost use Rattle.std.specs.Prelude.{◌≡◌, [], OnOk, IfOk, IfErr};
 ghost use Rattle.eden_inode.specs.Tables.{fresh_root, shows};
-ghost use Rattle.eden_tie.specs.Chains.{AreSaved};
+ghost use Rattle.eden_coupling.specs.Chains.{AreSaved};
 ghost use Rattle.eden_model.specs.Failures.{Rose};
 ghost use Rattle.eden_overlay.specs.declared.files.FilesFault.TheVariants as fault;
 ghost use Rattle.eden_overlay.specs.Held.{HoldsState, without};
@@ -12,11 +12,11 @@ use crate::closing::{as_files, store_state};
 use crate::fault::OpenFault;
 use crate::opening::{Opening, Start, begin};
 use eden_cache::{ObjectCache, Stock};
+use eden_coupling::{shown_laws, tie_laws};
 use eden_inode::Inodes;
 use eden_model::{Id, World};
 use eden_ops::let_go;
 use eden_overlay::{Files, FilesFault, Overlay};
-use eden_tie::{shown_laws, tie_laws};
 use std::alloc::{Allocator, Global};
 use std::marker::Model;
 

@@ -7,11 +7,11 @@ ghost use Rattle.eden_overlay.specs.Held.{HoldsState, with_state};
 ghost use Rattle.eden_inode.specs.Tables.{shows};
 ghost use Rattle.eden_checkout.specs.Closing.{Leaves, as_files};
 
+use eden_coupling::chain_laws;
 use eden_inode::Inodes;
 use eden_model::{Fault, Id, World};
 use eden_overlay::{Files, FilesFault, Overlay};
 use eden_overlay_format::State;
-use eden_tie::chain_laws;
 use eden_tree::{Change, Entry};
 use std::alloc::{Allocator, Global};
 

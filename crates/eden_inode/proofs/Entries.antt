@@ -12,9 +12,9 @@ use Rattle.eden_model.specs.Named.{AreRising}
 use Rattle.eden_overlay_format.specs.declared.stored_entry.StoredEntry.{StoredEntry}
 use Rattle.eden_overlay_format.specs.Directory.{IsStorable, AreStorable}
 use Rattle.eden_tree.specs.Directory.{Row, Directory}
-use Rattle.eden_tie.specs.Listings.{stored_entry}
-use Rattle.eden_tie.specs.Materialising.{marked_entry}
-use Rattle.eden_tie.proofs.CallerLemmas.{rows_without, without_drops}
+use Rattle.eden_coupling.specs.Listings.{stored_entry}
+use Rattle.eden_coupling.specs.Materialising.{marked_entry}
+use Rattle.eden_coupling.proofs.CallerLemmas.{rows_without, without_drops}
 use Rattle.eden_inode.specs.declared.listing.Listed.{Listed}
 use Rattle.eden_inode.specs.declared.listing.Listed.TheVariants.{Whole, Without, Owned}
 use Rattle.eden_inode.specs.Listed.{listed_as, origin_as}

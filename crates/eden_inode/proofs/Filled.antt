@@ -30,9 +30,9 @@ use Rattle.eden_overlay_format.specs.Directory.{HasOrigin, IsStorable, AreStorab
 use Rattle.eden_tree.specs.Directory.{Row, Directory}
 use Rattle.eden_tree.specs.Rows.{find_row, put_row}
 use Rattle.eden_tree.proofs.CallerLemmas.{order}
-use Rattle.eden_tie.specs.Listings.{stored_entry, listing_of}
-use Rattle.eden_tie.specs.Loading.{AreNumbered, AreUnloaded, HasObject}
-use Rattle.eden_tie.specs.Shown.{item_away}
+use Rattle.eden_coupling.specs.Listings.{stored_entry, listing_of}
+use Rattle.eden_coupling.specs.Loading.{AreNumbered, AreUnloaded, HasObject}
+use Rattle.eden_coupling.specs.Shown.{item_away}
 use Rattle.eden_object.specs.Trees.{NamesDiffer}
 use Rattle.eden_inode.proofs.Sorting.{differ_moved, items_moved, rising}
 use Rattle.eden_inode.specs.Filling.{origin_by, row_by, numbered, row_stored, rows_stored, IsNamed}

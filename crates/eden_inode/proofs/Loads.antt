@@ -23,9 +23,9 @@ use Rattle.eden_overlay.proofs.CallerLemmas.{length_held, no_length}
 use Rattle.eden_tree.specs.Directory.{Row}
 use Rattle.eden_tree.specs.Paths.{row_at}
 use Rattle.eden_inode.specs.Faults.{told, IsGetFault}
-use Rattle.eden_tie.specs.Kept.{IsTable, IsKept}
-use Rattle.eden_tie.specs.Loading.{IsAt}
-use Rattle.eden_tie.proofs.CallerLemmas.{place_at, own_held}
+use Rattle.eden_coupling.specs.Kept.{IsTable, IsKept}
+use Rattle.eden_coupling.specs.Loading.{IsAt}
+use Rattle.eden_coupling.proofs.CallerLemmas.{place_at, own_held}
 use Rattle.eden_inode.specs.Tables.{HasNoTree, IsLoadFault, IsContentFault, HoldsLength}
 use Rattle.eden_inode.proofs.Rows.{same_some}
 

@@ -7,7 +7,7 @@ use Rattle.eden_model.specs.Trees.{Name, Path}
 use Rattle.eden_tree.specs.Directory.{Row, Directory, child_of}
 use Rattle.eden_tree.specs.Rows.{find_row, set_at}
 use Rattle.eden_tree.specs.Paths.{row_at}
-use Rattle.eden_tie.proofs.CallerLemmas.{and_then_some}
+use Rattle.eden_coupling.proofs.CallerLemmas.{and_then_some}
 
 pub same_some : {X : Type 0} (x y : X) → Some x ≡ Some y → x ≡ y
 same_some x y e = cc

@@ -5,8 +5,8 @@ use Rattle.eden_model.specs.Limits.{number_least, number_end}
 use Rattle.eden_model.specs.Repository.{Repository}
 use Rattle.eden_overlay.specs.Files.{Stored}
 use Rattle.eden_tree.specs.Directory.{Row, Directory, child_of}
-use Rattle.eden_tie.specs.Listings.{Place, top, inside}
-use Rattle.eden_tie.specs.Kept.{IsTable, IsKept}
+use Rattle.eden_coupling.specs.Listings.{Place, top, inside}
+use Rattle.eden_coupling.specs.Kept.{IsTable, IsKept}
 use Rattle.eden_inode.specs.Tables.{fresh_root, CanStart}
 use Rattle.eden_inode.proofs.Rows.{none_some}
 

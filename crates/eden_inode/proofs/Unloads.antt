@@ -10,8 +10,8 @@ use Rattle.eden_tree.specs.Directory.{Row, Directory, child_of, with_child}
 use Rattle.eden_tree.specs.Rows.{find_row, set_row}
 use Rattle.eden_tree.specs.Paths.{row_at, edit_row}
 use Rattle.eden_tree.proofs.CallerLemmas.{child_of-with_child, put_back, steps_down, steps_back, row_at-unloaded, same-refl, find_row-set_row, change_row-twice}
-use Rattle.eden_tie.specs.Listings.{listing_of}
-use Rattle.eden_tie.specs.Unloading.{HasNoneInside, Goes, Unloads, none, one_more, same_files, IsSettled, MayUnload}
+use Rattle.eden_coupling.specs.Listings.{listing_of}
+use Rattle.eden_coupling.specs.Unloading.{HasNoneInside, Goes, Unloads, none, one_more, same_files, IsSettled, MayUnload}
 use Rattle.eden_inode.proofs.Rows.{same_some, none_some, through}
 
 module _ (Honest : Type 0) (clock age : ℕ) where

@@ -4,7 +4,7 @@ use Rattle.eden_overlay.specs.declared.files.FilesFault.{FilesFault}
 use Rattle.eden_overlay.specs.declared.files.FilesFault.TheVariants as files
 use Rattle.eden_overlay.specs.Files.{Stored}
 use Rattle.eden_tree.specs.Directory.{Row}
-use Rattle.eden_tie.specs.Unloading.{Unloads, IsSettled}
+use Rattle.eden_coupling.specs.Unloading.{Unloads, IsSettled}
 use Rattle.eden_inode.specs.declared.gone.Gone.{Gone}
 
 -- of what was refused twice the device's failure, where one of them is

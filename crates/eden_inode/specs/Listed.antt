@@ -6,9 +6,9 @@ use Rattle.eden_model.specs.declared.kind.Origin.TheVariants as origin
 use Rattle.eden_model.specs.Trees.{Name}
 use Rattle.eden_overlay_format.specs.declared.stored_entry.StoredEntry.{StoredEntry}
 use Rattle.eden_tree.specs.Directory.{Directory}
-use Rattle.eden_tie.specs.Listings.{listing_of}
-use Rattle.eden_tie.specs.Changing.{changed}
-use Rattle.eden_tie.specs.Materialising.{marked_listing}
+use Rattle.eden_coupling.specs.Listings.{listing_of}
+use Rattle.eden_coupling.specs.Changing.{changed}
+use Rattle.eden_coupling.specs.Materialising.{marked_listing}
 use Rattle.eden_inode.specs.declared.listing.Listed.{Listed}
 use Rattle.eden_inode.specs.declared.listing.Listed.TheVariants.{Whole, Without, Owned}
 

@@ -21,8 +21,8 @@ use Rattle.eden_overlay.specs.Held.{HoldsContent, entries_at, content_at, root_f
 use Rattle.eden_overlay.specs.Soundness.{IsLive, Names, HoldsKind, AreSound}
 use Rattle.eden_tree.specs.Directory.{Row, child_of, unloaded}
 use Rattle.eden_tree.specs.Paths.{row_at}
-use Rattle.eden_tie.specs.Loading.{IsAt}
-use Rattle.eden_tie.specs.Shown.{shown_in}
+use Rattle.eden_coupling.specs.Loading.{IsAt}
+use Rattle.eden_coupling.specs.Shown.{shown_in}
 use Rattle.eden_inode.specs.declared.seen.Seen.{Seen}
 
 pub record Table (F : Type 0) : Type 0 where

@@ -7,8 +7,8 @@ ghost use Rattle.eden_model.specs.Limits.{number_least, number_end};
 ghost use Rattle.eden_model.specs.Named.{AreRising};
 ghost use Rattle.eden_object.specs.Trees.{NamesDiffer};
 ghost use Rattle.eden_overlay_format.specs.Directory.{AreStorable};
-ghost use Rattle.eden_tie.specs.Listings.{listing_of};
-ghost use Rattle.eden_tie.specs.Loading.{IsNew, HasObject};
+ghost use Rattle.eden_coupling.specs.Listings.{listing_of};
+ghost use Rattle.eden_coupling.specs.Loading.{IsNew, HasObject};
 ghost use Rattle.eden_inode.specs.Filling.{IsNamed, row_by, numbered, rows_stored};
 
 use eden_model::{Id, TreeEntry};

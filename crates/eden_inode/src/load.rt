@@ -7,8 +7,8 @@ ghost use Rattle.eden_model.specs.declared.kind.Origin.TheVariants as origins;
 ghost use Rattle.eden_overlay_format.specs.Directory.{AreStorable};
 ghost use Rattle.eden_overlay.specs.Held.{HoldsEntries, HoldsContent, TellsLength, entries_at, content_at};
 ghost use Rattle.eden_tree.specs.Directory.{with_child};
-ghost use Rattle.eden_tie.specs.Listings.{listing_of};
-ghost use Rattle.eden_tie.specs.Loading.{IsAt, IsNew, with_loaded};
+ghost use Rattle.eden_coupling.specs.Listings.{listing_of};
+ghost use Rattle.eden_coupling.specs.Loading.{IsAt, IsNew, with_loaded};
 ghost use Rattle.eden_inode.specs.Faults.{told, IsGetFault};
 
 use crate::fill::from_stored;

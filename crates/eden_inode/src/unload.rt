@@ -6,8 +6,8 @@ ghost use Rattle.eden_overlay.specs.Held.{with_entries};
 ghost use Rattle.eden_overlay.specs.Soundness.{AreSound};
 ghost use Rattle.eden_overlay.specs.declared.files.FilesFault.TheVariants as files;
 ghost use Rattle.eden_tree.specs.Directory.{Row, child_of, with_child};
-ghost use Rattle.eden_tie.specs.Listings.{listing_of};
-ghost use Rattle.eden_tie.specs.Unloading.{Unloads, IsSettled, MayUnload, HasNoneInside};
+ghost use Rattle.eden_coupling.specs.Listings.{listing_of};
+ghost use Rattle.eden_coupling.specs.Unloading.{Unloads, IsSettled, MayUnload, HasNoneInside};
 ghost use Rattle.eden_inode.specs.Going.{IsUnloaded};
 
 use crate::gone::{Gone, NOTHING, ONE, both, refusal};

@@ -15,16 +15,16 @@ use Rattle.eden_overlay.proofs.CallerLemmas.{moved, contents_held, entries_held}
 use Rattle.eden_tree.specs.Directory.{Row, Directory, child_of}
 use Rattle.eden_tree.specs.Paths.{row_at}
 use Rattle.eden_inode.specs.Tables.{Table}
-use Rattle.eden_tie.specs.Chains.{NoneMarked, StaysLoaded, Above}
-use Rattle.eden_tie.specs.Changing.{HasRoom, changed}
-use Rattle.eden_tie.specs.Filing.{leaf}
-use Rattle.eden_tie.specs.Kept.{IsTable, IsKept}
-use Rattle.eden_tie.specs.Listings.{stored_entry, listing_of}
-use Rattle.eden_tie.specs.Loose.{IsLoose, never_given}
-use Rattle.eden_tie.specs.Shown.{shown_in}
-use Rattle.eden_tie.specs.ShownLaws.{shown_from}
-use Rattle.eden_tie.specs.Standing.{MayStand, new_number}
-use Rattle.eden_tie.proofs.CallerLemmas.{place_at, next_rises, entry_storable, loose_sound, loose_kept, loose_alike, file_shows, empty_shows, loose_elsewhere}
+use Rattle.eden_coupling.specs.Chains.{NoneMarked, StaysLoaded, Above}
+use Rattle.eden_coupling.specs.Changing.{HasRoom, changed}
+use Rattle.eden_coupling.specs.Filing.{leaf}
+use Rattle.eden_coupling.specs.Kept.{IsTable, IsKept}
+use Rattle.eden_coupling.specs.Listings.{stored_entry, listing_of}
+use Rattle.eden_coupling.specs.Loose.{IsLoose, never_given}
+use Rattle.eden_coupling.specs.Shown.{shown_in}
+use Rattle.eden_coupling.specs.ShownLaws.{shown_from}
+use Rattle.eden_coupling.specs.Standing.{MayStand, new_number}
+use Rattle.eden_coupling.proofs.CallerLemmas.{place_at, next_rises, entry_storable, loose_sound, loose_kept, loose_alike, file_shows, empty_shows, loose_elsewhere}
 use Rattle.eden_materialise.specs.declared.new_entry.NewEntry.{NewEntry}
 use Rattle.eden_materialise.specs.declared.new_entry.NewEntry.TheVariants as new
 use Rattle.eden_materialise.specs.Filing.{kind_as, node_as, with_own, own_row, IsShort, LacksEntry, MayAdd, FilesEntry, RefusedBy}

@@ -11,13 +11,13 @@ use Rattle.eden_overlay.specs.declared.files.FilesFault.{FilesFault}
 use Rattle.eden_overlay.specs.declared.files.FilesFault.TheVariants as files
 use Rattle.eden_tree.specs.Directory.{Row, Directory, child_of}
 use Rattle.eden_tree.specs.Paths.{row_at}
-use Rattle.eden_tie.specs.Chains.{IsLoadedAt, NoneMarked, StaysLoaded, Above, Unfinished, MayStore, left, listed, Refused, at_first, later}
-use Rattle.eden_tie.specs.Kept.{IsTable, IsKept}
-use Rattle.eden_tie.specs.Laws.{owned}
-use Rattle.eden_tie.specs.Listings.{listing_of}
-use Rattle.eden_tie.specs.Materialising.{Chain, lowest_own, lowest, owned_along}
-use Rattle.eden_tie.specs.Shown.{shown_in}
-use Rattle.eden_tie.proofs.CallerLemmas.{place_at, chain_joined, ties_sound, owned_table, owned_stays, owned_marked, owned_kept, owned_alike, refused_kept, refused_alike}
+use Rattle.eden_coupling.specs.Chains.{IsLoadedAt, NoneMarked, StaysLoaded, Above, Unfinished, MayStore, left, listed, Refused, at_first, later}
+use Rattle.eden_coupling.specs.Kept.{IsTable, IsKept}
+use Rattle.eden_coupling.specs.Laws.{owned}
+use Rattle.eden_coupling.specs.Listings.{listing_of}
+use Rattle.eden_coupling.specs.Materialising.{Chain, lowest_own, lowest, owned_along}
+use Rattle.eden_coupling.specs.Shown.{shown_in}
+use Rattle.eden_coupling.proofs.CallerLemmas.{place_at, chain_joined, ties_sound, owned_table, owned_stays, owned_marked, owned_kept, owned_alike, refused_kept, refused_alike}
 use Rattle.eden_materialise.specs.Chains.{lowest_of, with_lowest, StaySound, IsHeld, Owns}
 use Rattle.eden_materialise.specs.Faults.{told, IsStoreFault}
 use Rattle.eden_materialise.specs.Puts.{AtDirectory}

@@ -13,13 +13,13 @@ use Rattle.eden_overlay.specs.Soundness.{AreSound}
 use Rattle.eden_overlay.proofs.CallerLemmas.{put_apart}
 use Rattle.eden_tree.specs.Directory.{Row, Directory, child_of}
 use Rattle.eden_tree.specs.Rows.{find_row}
-use Rattle.eden_tie.specs.Changing.{MayMove, moved_in, marked_source, files_left, files_moved}
-use Rattle.eden_tie.specs.Kept.{IsTable, IsKept}
-use Rattle.eden_tie.specs.Chains.{StaysLoaded, NoneMarked}
-use Rattle.eden_tie.specs.Moving.{CanMove}
-use Rattle.eden_tie.specs.Shown.{shown_in}
-use Rattle.eden_tie.specs.Ties.{IsAway, Tied}
-use Rattle.eden_tie.proofs.CallerLemmas.{ties_sound, replaces_there, moved_table, moved_kept, moved_shown, marked_table, marked_kept, marked_shown, replaced_tied, replaced_kept, replaced_shown, moved_stays, marked_stays, moved_marks, left_elsewhere, moved_elsewhere}
+use Rattle.eden_coupling.specs.Changing.{MayMove, moved_in, marked_source, files_left, files_moved}
+use Rattle.eden_coupling.specs.Kept.{IsTable, IsKept}
+use Rattle.eden_coupling.specs.Chains.{StaysLoaded, NoneMarked}
+use Rattle.eden_coupling.specs.Moving.{CanMove}
+use Rattle.eden_coupling.specs.Shown.{shown_in}
+use Rattle.eden_coupling.specs.Ties.{IsAway, Tied}
+use Rattle.eden_coupling.proofs.CallerLemmas.{ties_sound, replaces_there, moved_table, moved_kept, moved_shown, marked_table, marked_kept, marked_shown, replaced_tied, replaced_kept, replaced_shown, moved_stays, marked_stays, moved_marks, left_elsewhere, moved_elsewhere}
 use Rattle.eden_materialise.specs.EntryMoves.{own_number, Clears, nothing, removed, failed, MovesIn, IsMoved, MovesEntry}
 use Rattle.eden_materialise.specs.Puts.{AtDirectory}
 

@@ -7,13 +7,13 @@ use Rattle.eden_overlay.specs.Files.{Stored}
 use Rattle.eden_overlay.specs.Held.{with_entries}
 use Rattle.eden_tree.specs.Directory.{Row, Directory, child_of}
 use Rattle.eden_tree.specs.Paths.{row_at}
-use Rattle.eden_tie.specs.Chains.{NoneMarked, StaysLoaded, chained, Above, Refused}
-use Rattle.eden_tie.specs.Changing.{changed}
-use Rattle.eden_tie.specs.Kept.{IsTable, IsKept}
-use Rattle.eden_tie.specs.Listings.{listing_of}
-use Rattle.eden_tie.specs.Shown.{shown_in}
-use Rattle.eden_tie.specs.ShownLaws.{shown_from}
-use Rattle.eden_tie.specs.Standing.{MayStand}
+use Rattle.eden_coupling.specs.Chains.{NoneMarked, StaysLoaded, chained, Above, Refused}
+use Rattle.eden_coupling.specs.Changing.{changed}
+use Rattle.eden_coupling.specs.Kept.{IsTable, IsKept}
+use Rattle.eden_coupling.specs.Listings.{listing_of}
+use Rattle.eden_coupling.specs.Shown.{shown_in}
+use Rattle.eden_coupling.specs.ShownLaws.{shown_from}
+use Rattle.eden_coupling.specs.Standing.{MayStand}
 use Rattle.eden_materialise.specs.Faults.{IsStoreFault}
 use Rattle.eden_materialise.specs.Filing.{FilesEntry, not_filed, filed, RefusedBy}
 use Rattle.eden_materialise.specs.Listings.{ChangesEntry}

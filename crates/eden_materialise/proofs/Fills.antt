@@ -16,16 +16,16 @@ use Rattle.eden_overlay.specs.Held.{HoldsContent, with_content, with_entries}
 use Rattle.eden_overlay.specs.Soundness.{HoldsKind, AreSound}
 use Rattle.eden_overlay.proofs.CallerLemmas.{moved, contents_held}
 use Rattle.eden_tree.specs.Directory.{Row, child_of}
-use Rattle.eden_tie.specs.Chains.{NoneMarked, StaysLoaded, chained, Above}
-use Rattle.eden_tie.specs.Changing.{changed}
-use Rattle.eden_tie.specs.Filing.{leaf, HasFile}
-use Rattle.eden_tie.specs.Kept.{IsTable, IsKept}
-use Rattle.eden_tie.specs.Laws.{owned}
-use Rattle.eden_tie.specs.Listings.{stored_entry, listing_of}
-use Rattle.eden_tie.specs.Loose.{IsLoose, other_entry}
-use Rattle.eden_tie.specs.Shown.{shown_in}
-use Rattle.eden_tie.specs.Standing.{MayStand, kept_number}
-use Rattle.eden_tie.proofs.CallerLemmas.{place_at, entry_storable, loose_sound, loose_kept, loose_alike, file_shows, loose_elsewhere, content_sound, content_kept, content_grafts}
+use Rattle.eden_coupling.specs.Chains.{NoneMarked, StaysLoaded, chained, Above}
+use Rattle.eden_coupling.specs.Changing.{changed}
+use Rattle.eden_coupling.specs.Filing.{leaf, HasFile}
+use Rattle.eden_coupling.specs.Kept.{IsTable, IsKept}
+use Rattle.eden_coupling.specs.Laws.{owned}
+use Rattle.eden_coupling.specs.Listings.{stored_entry, listing_of}
+use Rattle.eden_coupling.specs.Loose.{IsLoose, other_entry}
+use Rattle.eden_coupling.specs.Shown.{shown_in}
+use Rattle.eden_coupling.specs.Standing.{MayStand, kept_number}
+use Rattle.eden_coupling.proofs.CallerLemmas.{place_at, entry_storable, loose_sound, loose_kept, loose_alike, file_shows, loose_elsewhere, content_sound, content_kept, content_grafts}
 use Rattle.eden_materialise.specs.Faults.{IsStoreFault}
 use Rattle.eden_materialise.specs.Filing.{not_filed, RefusedBy}
 use Rattle.eden_materialise.specs.Fills.{MayFill, FillsFile}

@@ -11,11 +11,11 @@ use Rattle.eden_tree.specs.Directory.{Row, Directory, child_of, with_child}
 use Rattle.eden_tree.specs.Rows.{find_row}
 use Rattle.eden_tree.specs.Paths.{row_at, edit_row}
 use Rattle.eden_tree.proofs.CallerLemmas.{with_child-same, edits_alike, edits_same, row_at-unloaded}
-use Rattle.eden_tie.specs.Chains.{IsUnsavedAt, NoneMarked}
-use Rattle.eden_tie.specs.Kept.{IsTable, IsKept}
-use Rattle.eden_tie.specs.Saving.{saved, Saves, SavesAbove, none, one_more, same_files, IsSavedAbove}
-use Rattle.eden_tie.specs.Shown.{shown_in}
-use Rattle.eden_tie.proofs.CallerLemmas.{place_at, ties_sound, saves_table, saves_kept, saves_alike, saves_marks}
+use Rattle.eden_coupling.specs.Chains.{IsUnsavedAt, NoneMarked}
+use Rattle.eden_coupling.specs.Kept.{IsTable, IsKept}
+use Rattle.eden_coupling.specs.Saving.{saved, Saves, SavesAbove, none, one_more, same_files, IsSavedAbove}
+use Rattle.eden_coupling.specs.Shown.{shown_in}
+use Rattle.eden_coupling.proofs.CallerLemmas.{place_at, ties_sound, saves_table, saves_kept, saves_alike, saves_marks}
 use Rattle.eden_materialise.specs.Saving.{CanSave, IsIdle, SavesAt}
 
 -- ---- which are unsaved

@@ -10,14 +10,14 @@ use Rattle.eden_overlay.specs.Held.{with_entries}
 use Rattle.eden_tree.specs.Directory.{Row, Directory, child_of, with_child}
 use Rattle.eden_tree.specs.Paths.{row_at, edit_row}
 use Rattle.eden_tree.proofs.CallerLemmas.{child_of-with_child, edits_alike}
-use Rattle.eden_tie.specs.Chains.{IsLoadedAt, NoneMarked, StaysLoaded, chained, Above, Unfinished, listed, Refused, at_first, later}
-use Rattle.eden_tie.specs.Changing.{changed, with_listing}
-use Rattle.eden_tie.specs.Kept.{IsTable, IsKept}
-use Rattle.eden_tie.specs.Listings.{listing_of}
-use Rattle.eden_tie.specs.Shown.{shown_in}
-use Rattle.eden_tie.specs.ShownLaws.{shown_from}
-use Rattle.eden_tie.specs.Standing.{MayStand}
-use Rattle.eden_tie.proofs.CallerLemmas.{at_changed, loaded_there, above_back, unfinished_back, refused_kept, refused_alike, stands_sound, put_sound, stands_table, stands_marks, stands_stays, stands_kept, stands_grafts}
+use Rattle.eden_coupling.specs.Chains.{IsLoadedAt, NoneMarked, StaysLoaded, chained, Above, Unfinished, listed, Refused, at_first, later}
+use Rattle.eden_coupling.specs.Changing.{changed, with_listing}
+use Rattle.eden_coupling.specs.Kept.{IsTable, IsKept}
+use Rattle.eden_coupling.specs.Listings.{listing_of}
+use Rattle.eden_coupling.specs.Shown.{shown_in}
+use Rattle.eden_coupling.specs.ShownLaws.{shown_from}
+use Rattle.eden_coupling.specs.Standing.{MayStand}
+use Rattle.eden_coupling.proofs.CallerLemmas.{at_changed, loaded_there, above_back, unfinished_back, refused_kept, refused_alike, stands_sound, put_sound, stands_table, stands_marks, stands_stays, stands_kept, stands_grafts}
 use Rattle.eden_materialise.specs.Chains.{StaySound}
 use Rattle.eden_materialise.specs.Listings.{IsHeldFor, ChangesEntry}
 use Rattle.eden_materialise.specs.Moves.{changed_in, IsPutAt}

@@ -7,8 +7,8 @@ use Rattle.eden_model.specs.Named.{AreRising}
 use Rattle.eden_tree.specs.Directory.{Row, Directory, child_of, with_child}
 use Rattle.eden_tree.specs.Paths.{row_at, edit_row}
 use Rattle.eden_tree.proofs.CallerLemmas.{child_of-with_child, edits_alike}
-use Rattle.eden_tie.specs.Listings.{listing_of}
-use Rattle.eden_tie.specs.Changing.{changed, with_listing, MayMove, moved_in, marked_source}
+use Rattle.eden_coupling.specs.Listings.{listing_of}
+use Rattle.eden_coupling.specs.Changing.{changed, with_listing, MayMove, moved_in, marked_source}
 use Rattle.eden_materialise.specs.Moves.{changed_in, marked, IsPutAt}
 use Rattle.eden_materialise.proofs.Putting.{put_there}
 use Rattle.eden_materialise.proofs.Order.{changed_held, IsOrdered, order}

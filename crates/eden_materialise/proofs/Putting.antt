@@ -8,8 +8,8 @@ use Rattle.eden_tree.specs.Rows.{find_row, drop_row, set_row}
 use Rattle.eden_tree.specs.Paths.{row_at, edit_row}
 use Rattle.eden_tree.proofs.CallerLemmas.{child_of-with_child, with_child-same, edits_there, edits_same, edits_twice, edits_nothing, edits_alike}
 use Rattle.eden_tree.specs.Changes.{IsChanged}
-use Rattle.eden_tie.specs.Changing.{changed}
-use Rattle.eden_tie.proofs.CallerLemmas.{back_to}
+use Rattle.eden_coupling.specs.Changing.{changed}
+use Rattle.eden_coupling.proofs.CallerLemmas.{back_to}
 use Rattle.eden_materialise.specs.Moves.{IsPut, IsPutAt}
 
 -- a directory as it was, with its rows and its mark taken back

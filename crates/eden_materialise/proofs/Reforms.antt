@@ -19,12 +19,12 @@ use Rattle.eden_overlay.specs.Held.{own_files}
 use Rattle.eden_tree.specs.Directory.{Row, Directory, child_of}
 use Rattle.eden_tree.specs.Rows.{find_row}
 use Rattle.eden_tree.proofs.CallerLemmas.{same-≡}
-use Rattle.eden_tie.specs.Filing.{leaf, content_shown, HasFile}
-use Rattle.eden_tie.specs.Kept.{IsTable, IsKept}
-use Rattle.eden_tie.specs.Listings.{stored_entry, listing_of}
-use Rattle.eden_tie.specs.Shown.{shown_in}
-use Rattle.eden_tie.specs.Standing.{MayStand, kept_number}
-use Rattle.eden_tie.proofs.CallerLemmas.{place_at, entry_storable, content_shows, entry_elsewhere}
+use Rattle.eden_coupling.specs.Filing.{leaf, content_shown, HasFile}
+use Rattle.eden_coupling.specs.Kept.{IsTable, IsKept}
+use Rattle.eden_coupling.specs.Listings.{stored_entry, listing_of}
+use Rattle.eden_coupling.specs.Shown.{shown_in}
+use Rattle.eden_coupling.specs.Standing.{MayStand, kept_number}
+use Rattle.eden_coupling.proofs.CallerLemmas.{place_at, entry_storable, content_shows, entry_elsewhere}
 use Rattle.eden_materialise.specs.Listings.{ChangesEntry}
 use Rattle.eden_materialise.specs.Reforms.{of_kind}
 use Rattle.eden_materialise.proofs.Listings.{changes_shown}

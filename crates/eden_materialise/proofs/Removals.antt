@@ -8,13 +8,13 @@ use Rattle.eden_overlay.specs.Held.{with_entries, without}
 use Rattle.eden_overlay.specs.Soundness.{AreSound}
 use Rattle.eden_tree.specs.Directory.{Row, child_of}
 use Rattle.eden_tree.specs.Rows.{find_row}
-use Rattle.eden_tie.specs.Chains.{Above, Refused}
-use Rattle.eden_tie.specs.Changing.{changed}
-use Rattle.eden_tie.specs.Kept.{IsTable, IsKept}
-use Rattle.eden_tie.specs.Listings.{listing_of}
-use Rattle.eden_tie.specs.Shown.{shown_in}
-use Rattle.eden_tie.specs.Standing.{MayStand}
-use Rattle.eden_tie.proofs.CallerLemmas.{place_at, drop_storable, removed_sound, removed_kept, removed_alike}
+use Rattle.eden_coupling.specs.Chains.{Above, Refused}
+use Rattle.eden_coupling.specs.Changing.{changed}
+use Rattle.eden_coupling.specs.Kept.{IsTable, IsKept}
+use Rattle.eden_coupling.specs.Listings.{listing_of}
+use Rattle.eden_coupling.specs.Shown.{shown_in}
+use Rattle.eden_coupling.specs.Standing.{MayStand}
+use Rattle.eden_coupling.proofs.CallerLemmas.{place_at, drop_storable, removed_sound, removed_kept, removed_alike}
 use Rattle.eden_materialise.specs.EntryMoves.{own_number}
 use Rattle.eden_materialise.specs.Faults.{IsStoreFault}
 use Rattle.eden_materialise.specs.Listings.{IsHeldFor}

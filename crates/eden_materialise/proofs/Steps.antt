@@ -6,9 +6,9 @@ use Rattle.eden_overlay.specs.Files.{Stored}
 use Rattle.eden_tree.specs.Directory.{Row, Directory, child_of, with_child}
 use Rattle.eden_tree.specs.Rows.{find_row, change_row}
 use Rattle.eden_tree.proofs.CallerLemmas.{change_row-absent}
-use Rattle.eden_tie.specs.Laws.{owned}
-use Rattle.eden_tie.specs.Chains.{Above, as_is, again}
-use Rattle.eden_tie.specs.Materialising.{kept_mark, owned_along}
+use Rattle.eden_coupling.specs.Laws.{owned}
+use Rattle.eden_coupling.specs.Chains.{Above, as_is, again}
+use Rattle.eden_coupling.specs.Materialising.{kept_mark, owned_along}
 use Rattle.eden_materialise.specs.Chains.{StoresAgain, were_own, stored_again}
 
 pub above_again : (F : Stored) (x : Row) (d : Directory) (n : Name) (z : Row) (p : Path) (G H : Stored) → child_of x ≡ Some d → find_row n d.rows ≡ Some z → Above F z p G

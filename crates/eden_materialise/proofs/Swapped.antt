@@ -15,9 +15,9 @@ use Rattle.eden_model.specs.Operations.{name_lt}
 use Rattle.eden_tree.specs.Directory.{Row}
 use Rattle.eden_tree.specs.Rows.{find_row, put_row, drop_row, change_row}
 use Rattle.eden_tree.proofs.CallerLemmas.{order, same-≡, same-refl, same-sym, find_row-change_row, find_row-drop_row, change_row-absent}
-use Rattle.eden_tie.specs.Listings.{stored_entry}
-use Rattle.eden_tie.specs.Changing.{rows_with, placed}
-use Rattle.eden_tie.proofs.CallerLemmas.{gone_after}
+use Rattle.eden_coupling.specs.Listings.{stored_entry}
+use Rattle.eden_coupling.specs.Changing.{rows_with, placed}
+use Rattle.eden_coupling.proofs.CallerLemmas.{gone_after}
 
 -- two names of one row are one
 both_there : (a n m : Name) → bytes_eq a n ≡ false → bytes_eq a m ≡ true → bytes_eq n m ≡ true → ⊥

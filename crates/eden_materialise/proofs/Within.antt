@@ -10,8 +10,8 @@ use Rattle.eden_overlay.specs.Held.{with_entries}
 use Rattle.eden_tree.specs.Directory.{Row, Directory, child_of, with_child}
 use Rattle.eden_tree.specs.Paths.{row_at, edit_row}
 use Rattle.eden_tree.proofs.CallerLemmas.{same-≢, child_of-with_child, edits_there, edits_twice, edits_alike}
-use Rattle.eden_tie.specs.Listings.{listing_of}
-use Rattle.eden_tie.specs.Changing.{MayMove, changed, moved_in, files_moved}
+use Rattle.eden_coupling.specs.Listings.{listing_of}
+use Rattle.eden_coupling.specs.Changing.{MayMove, changed, moved_in, files_moved}
 use Rattle.eden_materialise.specs.Moves.{changed_in, IsPutAt}
 use Rattle.eden_materialise.proofs.Order.{changed_held}
 use Rattle.eden_materialise.proofs.Putting.{put_there}

@@ -3,7 +3,7 @@ use Rattle.std.specs.Prelude.{◌≡◌, ℕ, Result, OnErr, IfErr}
 use Rattle.eden_model.specs.declared.fault.Fault.{Fault}
 use Rattle.eden_model.specs.declared.world.World.{Ghosts}
 use Rattle.eden_overlay.specs.declared.files.Files.{Ghosts as Files}
-use Rattle.eden_tie.specs.Chains.{NoneMarked, StaysLoaded}
+use Rattle.eden_coupling.specs.Chains.{NoneMarked, StaysLoaded}
 use Rattle.eden_inode.specs.Tables.{Table, shows}
 
 module _ {W F : Type 0} (w : Ghosts W) (f : Files F W) where

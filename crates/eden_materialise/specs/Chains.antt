@@ -9,11 +9,11 @@ use Rattle.eden_overlay.specs.Files.{Stored}
 use Rattle.eden_overlay.specs.Held.{with_entries}
 use Rattle.eden_overlay.specs.Soundness.{AreSound}
 use Rattle.eden_tree.specs.Directory.{Row, Directory}
-use Rattle.eden_tie.specs.Chains.{IsAboveOther, Above, Unfinished, Refused}
-use Rattle.eden_tie.specs.Kept.{IsTable, IsKept}
-use Rattle.eden_tie.specs.Laws.{owned}
-use Rattle.eden_tie.specs.Listings.{listing_of}
-use Rattle.eden_tie.specs.Materialising.{marked_listing, Chain, owned_along}
+use Rattle.eden_coupling.specs.Chains.{IsAboveOther, Above, Unfinished, Refused}
+use Rattle.eden_coupling.specs.Kept.{IsTable, IsKept}
+use Rattle.eden_coupling.specs.Laws.{owned}
+use Rattle.eden_coupling.specs.Listings.{listing_of}
+use Rattle.eden_coupling.specs.Materialising.{marked_listing, Chain, owned_along}
 use Rattle.eden_inode.specs.declared.listing.Listed.{Listed}
 use Rattle.eden_materialise.specs.Faults.{IsStoreFault}
 use Rattle.eden_inode.specs.Listed.{listed_as}

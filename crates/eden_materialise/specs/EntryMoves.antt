@@ -8,10 +8,10 @@ use Rattle.eden_overlay.specs.Files.{Stored}
 use Rattle.eden_overlay.specs.Held.{without}
 use Rattle.eden_tree.specs.Directory.{Row}
 use Rattle.eden_tree.specs.Rows.{find_row}
-use Rattle.eden_tie.specs.Changing.{MayMove, moved_in, marked_source, files_left, files_moved}
-use Rattle.eden_tie.specs.Kept.{IsTable}
-use Rattle.eden_tie.specs.Moving.{CanMove}
-use Rattle.eden_tie.specs.Ties.{Tied}
+use Rattle.eden_coupling.specs.Changing.{MayMove, moved_in, marked_source, files_left, files_moved}
+use Rattle.eden_coupling.specs.Kept.{IsTable}
+use Rattle.eden_coupling.specs.Moving.{CanMove}
+use Rattle.eden_coupling.specs.Ties.{Tied}
 use Rattle.eden_materialise.specs.Faults.{IsStoreFault}
 
 -- the number of an entry that is its own

@@ -17,9 +17,9 @@ use Rattle.eden_overlay.specs.Held.{with_content, with_entries}
 use Rattle.eden_tree.specs.Directory.{Row, Directory, unloaded, child_of}
 use Rattle.eden_tree.specs.Rows.{find_row}
 use Rattle.eden_tree.specs.Paths.{row_at}
-use Rattle.eden_tie.specs.Chains.{Refused}
-use Rattle.eden_tie.specs.Changing.{HasRoom}
-use Rattle.eden_tie.specs.Kept.{IsTable, IsKept}
+use Rattle.eden_coupling.specs.Chains.{Refused}
+use Rattle.eden_coupling.specs.Changing.{HasRoom}
+use Rattle.eden_coupling.specs.Kept.{IsTable, IsKept}
 use Rattle.eden_materialise.specs.declared.new_entry.NewEntry.{NewEntry}
 use Rattle.eden_materialise.specs.declared.new_entry.NewEntry.TheVariants as new
 use Rattle.eden_materialise.specs.Faults.{IsStoreFault}

@@ -6,11 +6,11 @@ use Rattle.eden_model.specs.Trees.{Name, Path}
 use Rattle.eden_overlay.specs.Files.{Stored}
 use Rattle.eden_overlay.specs.Held.{with_entries}
 use Rattle.eden_tree.specs.Directory.{Row}
-use Rattle.eden_tie.specs.Chains.{chained, Above, Refused}
-use Rattle.eden_tie.specs.Changing.{changed}
-use Rattle.eden_tie.specs.Kept.{IsTable, IsKept}
-use Rattle.eden_tie.specs.Listings.{listing_of}
-use Rattle.eden_tie.specs.Standing.{MayStand}
+use Rattle.eden_coupling.specs.Chains.{chained, Above, Refused}
+use Rattle.eden_coupling.specs.Changing.{changed}
+use Rattle.eden_coupling.specs.Kept.{IsTable, IsKept}
+use Rattle.eden_coupling.specs.Listings.{listing_of}
+use Rattle.eden_coupling.specs.Standing.{MayStand}
 use Rattle.eden_materialise.specs.Faults.{IsStoreFault}
 use Rattle.eden_materialise.specs.Puts.{AtDirectory}
 

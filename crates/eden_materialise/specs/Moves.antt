@@ -4,7 +4,7 @@ use Rattle.eden_model.specs.Trees.{Name, Path}
 use Rattle.eden_tree.specs.Directory.{Row, Directory, child_of, with_child, change_child}
 use Rattle.eden_tree.specs.Rows.{find_row}
 use Rattle.eden_tree.specs.Paths.{row_at, edit_row}
-use Rattle.eden_tie.specs.Changing.{changed}
+use Rattle.eden_coupling.specs.Changing.{changed}
 
 -- an entry with this under a name of its directory, which is saved then, where it holds one
 abbrev pub changed_in : Name → Option Row → Row → Row

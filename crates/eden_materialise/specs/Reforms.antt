@@ -6,7 +6,7 @@ use Rattle.eden_model.specs.Repository.{Repository}
 use Rattle.eden_model.specs.Trees.{Name, Path}
 use Rattle.eden_overlay.specs.Files.{Stored}
 use Rattle.eden_tree.specs.Directory.{Row}
-use Rattle.eden_tie.specs.Filing.{HasFile}
+use Rattle.eden_coupling.specs.Filing.{HasFile}
 use Rattle.eden_materialise.specs.Listings.{IsHeldFor}
 
 -- the entry, of another kind

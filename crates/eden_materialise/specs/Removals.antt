@@ -7,9 +7,9 @@ use Rattle.eden_overlay.specs.Held.{with_entries}
 use Rattle.eden_tree.specs.Directory.{Row, Directory, child_of}
 use Rattle.eden_tree.specs.Rows.{find_row}
 use Rattle.eden_tree.specs.Paths.{row_at}
-use Rattle.eden_tie.specs.Chains.{Above}
-use Rattle.eden_tie.specs.Changing.{changed}
-use Rattle.eden_tie.specs.Listings.{listing_of}
+use Rattle.eden_coupling.specs.Chains.{Above}
+use Rattle.eden_coupling.specs.Changing.{changed}
+use Rattle.eden_coupling.specs.Listings.{listing_of}
 use Rattle.eden_materialise.specs.EntryMoves.{own_number, Clears}
 use Rattle.eden_materialise.specs.Listings.{ChangesEntry}
 use Rattle.eden_materialise.specs.Puts.{AtDirectory}

@@ -8,9 +8,9 @@ ghost use Rattle.eden_overlay.specs.Held.{with_entries};
 ghost use Rattle.eden_overlay.specs.Soundness.{AreSound};
 ghost use Rattle.eden_overlay.specs.declared.files.FilesFault.TheVariants as files;
 ghost use Rattle.eden_tree.specs.Rows.{find_row};
-ghost use Rattle.eden_tie.specs.Chains.{IsLoadedAt, IsAboveOther, Above, Unfinished, Refused};
-ghost use Rattle.eden_tie.specs.Laws.{owned};
-ghost use Rattle.eden_tie.specs.Materialising.{marked_listing, Chain, IsChain, kept_mark, owned_along};
+ghost use Rattle.eden_coupling.specs.Chains.{IsLoadedAt, IsAboveOther, Above, Unfinished, Refused};
+ghost use Rattle.eden_coupling.specs.Laws.{owned};
+ghost use Rattle.eden_coupling.specs.Materialising.{marked_listing, Chain, IsChain, kept_mark, owned_along};
 ghost use Rattle.eden_materialise.specs.Chains.{lowest_of, with_lowest, StoresAgain, StaySound, IsHeld};
 ghost use Rattle.eden_materialise.specs.Puts.{AtDirectory};
 

@@ -2,7 +2,7 @@
 
 ghost use Rattle.std.specs.Prelude.{◌≡◌, Some, false, IsSome, IfSome, IfNone, IfOk, OnOk, OnErr};
 ghost use Rattle.eden_tree.specs.Rows.{find_row, drop_row, set_row};
-ghost use Rattle.eden_tie.specs.Changing.{changed};
+ghost use Rattle.eden_coupling.specs.Changing.{changed};
 
 use eden_model::Name;
 use eden_tree::{Dir, Entry};

@@ -10,10 +10,10 @@ ghost use Rattle.eden_overlay.specs.declared.files.FilesFault.TheVariants as fil
 ghost use Rattle.eden_tree.specs.Directory.{child_of};
 ghost use Rattle.eden_tree.specs.Rows.{find_row};
 ghost use Rattle.eden_tree.specs.Paths.{row_at};
-ghost use Rattle.eden_tie.specs.Changing.{HasRoom, MayMove, moved_in, files_moved};
-ghost use Rattle.eden_tie.specs.Chains.{StaysLoaded, NoneMarked};
-ghost use Rattle.eden_tie.specs.Moving.{CanMove};
-ghost use Rattle.eden_tie.specs.Ties.{IsAway};
+ghost use Rattle.eden_coupling.specs.Changing.{HasRoom, MayMove, moved_in, files_moved};
+ghost use Rattle.eden_coupling.specs.Chains.{StaysLoaded, NoneMarked};
+ghost use Rattle.eden_coupling.specs.Moving.{CanMove};
+ghost use Rattle.eden_coupling.specs.Ties.{IsAway};
 ghost use Rattle.eden_inode.specs.Tables.{shows};
 ghost use Rattle.eden_materialise.specs.EntryMoves.{own_number, Clears, MovesIn, IsMoved, IsUnmoved, MovesEntry};
 ghost use Rattle.eden_materialise.specs.Faults.{IsStoreFault};

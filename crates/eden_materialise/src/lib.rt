@@ -3,7 +3,7 @@
 //!
 //! They work on an entry in memory with what is loaded below it (`eden_tree`) and on the stored files of the mount
 //! (`eden_overlay`). Each owns its stores and its change in memory, so that a contract compares before and after alone;
-//! `eden_tie` has the laws by which files and memory stay tied.
+//! `eden_coupling` has the laws by which files and memory stay tied.
 #![tactic(auto)]
 
 mod addition;

@@ -10,8 +10,8 @@ ghost use Rattle.eden_overlay.specs.declared.files.FilesFault.TheVariants as fil
 ghost use Rattle.eden_tree.specs.Directory.{Row, Directory, child_of};
 ghost use Rattle.eden_tree.specs.Rows.{find_row};
 ghost use Rattle.eden_tree.specs.Paths.{row_at};
-ghost use Rattle.eden_tie.specs.Listings.{listing_of};
-ghost use Rattle.eden_tie.specs.Changing.{MayMove, moved_in, marked_source, files_left, files_moved};
+ghost use Rattle.eden_coupling.specs.Listings.{listing_of};
+ghost use Rattle.eden_coupling.specs.Changing.{MayMove, moved_in, marked_source, files_left, files_moved};
 ghost use Rattle.eden_inode.specs.Listed.{listed_as};
 ghost use Rattle.eden_materialise.specs.Puts.{AtDirectory};
 

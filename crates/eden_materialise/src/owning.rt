@@ -1,9 +1,9 @@
 //! A chain of directories made the mount's own, in the table of a mount.
 
 ghost use Rattle.std.specs.Prelude.{◌≡◌, ◌+◌, min, IfErr, OnOk, OnErr};
-ghost use Rattle.eden_tie.specs.Chains.{IsLoadedAt, NoneMarked, StaysLoaded, Refused};
-ghost use Rattle.eden_tie.specs.Laws.{owned};
-ghost use Rattle.eden_tie.specs.Materialising.{Chain, owned_along};
+ghost use Rattle.eden_coupling.specs.Chains.{IsLoadedAt, NoneMarked, StaysLoaded, Refused};
+ghost use Rattle.eden_coupling.specs.Laws.{owned};
+ghost use Rattle.eden_coupling.specs.Materialising.{Chain, owned_along};
 ghost use Rattle.eden_inode.specs.Tables.{shows};
 ghost use Rattle.eden_materialise.specs.Chains.{IsHeld, Owns};
 ghost use Rattle.eden_materialise.specs.Faults.{IsStoreFault};

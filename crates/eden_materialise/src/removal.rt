@@ -2,8 +2,8 @@
 
 ghost use Rattle.std.specs.Prelude.{◌≡◌, ◌≤◌, ◌∷◌, [], ◌++◌, ◌+◌, min, None, OnOk, OnErr};
 ghost use Rattle.eden_model.specs.Trees.{graft};
-ghost use Rattle.eden_tie.specs.Chains.{chained, Refused};
-ghost use Rattle.eden_tie.specs.Changing.{changed};
+ghost use Rattle.eden_coupling.specs.Chains.{chained, Refused};
+ghost use Rattle.eden_coupling.specs.Changing.{changed};
 ghost use Rattle.eden_inode.specs.Tables.{shows};
 ghost use Rattle.eden_materialise.specs.Atomic.{IsAtomic};
 ghost use Rattle.eden_materialise.specs.Faults.{IsStoreFault};

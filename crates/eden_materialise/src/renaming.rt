@@ -9,8 +9,8 @@ ghost use Rattle.eden_overlay.specs.Soundness.{AreSound};
 ghost use Rattle.eden_overlay.specs.declared.files.FilesFault.TheVariants as files;
 ghost use Rattle.eden_tree.specs.Directory.{child_of};
 ghost use Rattle.eden_tree.specs.Paths.{row_at};
-ghost use Rattle.eden_tie.specs.Listings.{listing_of};
-ghost use Rattle.eden_tie.specs.Changing.{MayMove, changed, moved_in, files_moved};
+ghost use Rattle.eden_coupling.specs.Listings.{listing_of};
+ghost use Rattle.eden_coupling.specs.Changing.{MayMove, changed, moved_in, files_moved};
 ghost use Rattle.eden_materialise.specs.Puts.{AtDirectory};
 
 use crate::memory::{put_at, remove_at, take_back_at};

@@ -2,7 +2,7 @@
 
 ghost use Rattle.std.specs.Prelude.{◌≡◌, [], Some, IsTrue, IsFalse, IfErr, OnOk};
 ghost use Rattle.eden_tree.specs.Directory.{Row, child_of};
-ghost use Rattle.eden_tie.specs.Saving.{SavesAbove, IsSavedAbove};
+ghost use Rattle.eden_coupling.specs.Saving.{SavesAbove, IsSavedAbove};
 ghost use Rattle.eden_inode.specs.Tables.{shows};
 ghost use Rattle.eden_materialise.specs.Faults.{IsStoreFault};
 ghost use Rattle.eden_materialise.specs.Saving.{CanSave, SavesAt};

@@ -26,9 +26,9 @@ use Rattle.eden_tree.specs.Directory.{Row, Directory}
 use Rattle.eden_tree.specs.Rows.{find_row}
 use Rattle.eden_tree.specs.Paths.{row_at}
 use Rattle.eden_tree.proofs.CallerLemmas.{reads_on}
-use Rattle.eden_tie.specs.Filing.{leaf}
-use Rattle.eden_tie.specs.Shown.{shown_in}
-use Rattle.eden_tie.specs.ShownLaws.{AreDirectories, ShowsAbsent}
+use Rattle.eden_coupling.specs.Filing.{leaf}
+use Rattle.eden_coupling.specs.Shown.{shown_in}
+use Rattle.eden_coupling.specs.ShownLaws.{AreDirectories, ShowsAbsent}
 use Rattle.eden_inode.specs.Tables.{Table, shows}
 use Rattle.eden_materialise.specs.declared.new_entry.NewEntry.{NewEntry}
 use Rattle.eden_materialise.specs.Filing.{node_as, IsShort, LacksEntry, IsAddFault}

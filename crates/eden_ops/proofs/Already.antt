@@ -16,7 +16,7 @@ use Rattle.eden_overlay.specs.declared.files.Files.{Ghosts as Files}
 use Rattle.eden_overlay.specs.Held.{own_files}
 use Rattle.eden_tree.specs.Directory.{Child, unloaded, loaded}
 use Rattle.eden_tree.specs.Paths.{row_at, Standing, standing}
-use Rattle.eden_tie.proofs.CallerLemmas.{map_some}
+use Rattle.eden_coupling.proofs.CallerLemmas.{map_some}
 use Rattle.eden_inode.specs.declared.seen.Seen.{Seen}
 use Rattle.eden_inode.specs.Tables.{Table, shows}
 use Rattle.eden_ops.specs.Already.{IsSo, IsSoAlready}

@@ -11,7 +11,7 @@ use Rattle.eden_model.specs.Trees.{Path, Tree, grafted, through, walk_from, walk
 use Rattle.eden_tree.specs.Directory.{Child, unloaded, loaded, Row, child_of, directory_in}
 use Rattle.eden_tree.specs.Paths.{row_at, stamped_along, Standing, standing, standing_at, stamped}
 use Rattle.eden_tree.proofs.CallerLemmas.{stamps_along}
-use Rattle.eden_tie.proofs.CallerLemmas.{map_some}
+use Rattle.eden_coupling.proofs.CallerLemmas.{map_some}
 use Rattle.eden_ops.specs.Known.{known_by, known_node, known}
 
 pub record Bare : Type 0 where

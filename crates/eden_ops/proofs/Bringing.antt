@@ -15,7 +15,7 @@ use Rattle.eden_overlay.specs.Files.{Stored}
 use Rattle.eden_overlay.specs.Held.{entries_at}
 use Rattle.eden_tree.specs.Directory.{Row}
 use Rattle.eden_tree.specs.Paths.{row_at}
-use Rattle.eden_tie.specs.Loading.{IsAt, LoadsObject, LoadsOwn}
+use Rattle.eden_coupling.specs.Loading.{IsAt, LoadsObject, LoadsOwn}
 use Rattle.eden_inode.specs.Tables.{Table, HasTree, HasNoTree, IsLoadFault}
 use Rattle.eden_ops.specs.declared.answer.Stop.{Stop}
 use Rattle.eden_ops.specs.declared.answer.Stop.TheVariants as stop

@@ -20,17 +20,17 @@ use Rattle.eden_tree.specs.Rows.{find_row}
 use Rattle.eden_tree.specs.Paths.{row_at, edit_row, Standing, standing_at}
 use Rattle.eden_tree.proofs.CallerLemmas.{reads_on, edits_one, edits_nothing, edits_same, edits_alike, edits_twice, steps_down, child_of-with_child, with_child-same}
 use Rattle.eden_tree.proofs.CallerLemmas.{same-refl, find_row-put_row, find_row-set_row}
-use Rattle.eden_tie.specs.Chains.{IsLoadedAt, NoneMarked, StaysLoaded}
-use Rattle.eden_tie.specs.Changing.{MayMove, changed, files_left, files_moved, marked_source, moved_in, placed, with_listing}
-use Rattle.eden_tie.specs.Kept.{IsTable, IsKept}
-use Rattle.eden_tie.specs.Listings.{listing_of, Place}
-use Rattle.eden_tie.specs.Moving.{CanMove}
-use Rattle.eden_tie.specs.Shown.{shown_in, IsFrom}
-use Rattle.eden_tie.specs.Ties.{IsAway, Tied}
-use Rattle.eden_tie.specs.Unloading.{Unloads, none, one_more, HasNoneInside}
-use Rattle.eden_tie.proofs.CallerLemmas.{place_at, at_changed, away_row, by_origin, left_elsewhere, loads_alike, loaded_found, loaded_there, moved_elsewhere, none_marked_with}
-use Rattle.eden_tie.proofs.CallerLemmas.{other_from, own_from, own_loaded_kept, put_table, replaced_other, unloads_alike, unloads_kept, unloads_table}
-use Rattle.eden_tie.proofs.CallerLemmas.{IsLeaf, back_kept, back_marked, held_moved, went_kept, went_cleared}
+use Rattle.eden_coupling.specs.Chains.{IsLoadedAt, NoneMarked, StaysLoaded}
+use Rattle.eden_coupling.specs.Changing.{MayMove, changed, files_left, files_moved, marked_source, moved_in, placed, with_listing}
+use Rattle.eden_coupling.specs.Kept.{IsTable, IsKept}
+use Rattle.eden_coupling.specs.Listings.{listing_of, Place}
+use Rattle.eden_coupling.specs.Moving.{CanMove}
+use Rattle.eden_coupling.specs.Shown.{shown_in, IsFrom}
+use Rattle.eden_coupling.specs.Ties.{IsAway, Tied}
+use Rattle.eden_coupling.specs.Unloading.{Unloads, none, one_more, HasNoneInside}
+use Rattle.eden_coupling.proofs.CallerLemmas.{place_at, at_changed, away_row, by_origin, left_elsewhere, loads_alike, loaded_found, loaded_there, moved_elsewhere, none_marked_with}
+use Rattle.eden_coupling.proofs.CallerLemmas.{other_from, own_from, own_loaded_kept, put_table, replaced_other, unloads_alike, unloads_kept, unloads_table}
+use Rattle.eden_coupling.proofs.CallerLemmas.{IsLeaf, back_kept, back_marked, held_moved, went_kept, went_cleared}
 use Rattle.eden_materialise.specs.EntryMoves.{own_number, Clears, nothing, removed, failed, IsMoved, IsUnmoved}
 use Rattle.eden_ops.specs.Carrying.{CanCarry, CanHold, IsBareAt, IsReady, Takes, without_at}
 use Rattle.eden_ops.specs.Changes.{SameNames, StaysOrBecomesOwn, numbered_at}

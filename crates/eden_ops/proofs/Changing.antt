@@ -32,9 +32,9 @@ use Rattle.eden_tree.specs.Directory.{Row, Directory, child_of}
 use Rattle.eden_tree.specs.Rows.{find_row}
 use Rattle.eden_tree.specs.Paths.{row_at}
 use Rattle.eden_tree.proofs.CallerLemmas.{reads_on}
-use Rattle.eden_tie.specs.Filing.{leaf, HasFile}
-use Rattle.eden_tie.specs.Shown.{item_in, table_ground, shown_in}
-use Rattle.eden_tie.specs.ShownLaws.{AreDirectories, ShowsBelow}
+use Rattle.eden_coupling.specs.Filing.{leaf, HasFile}
+use Rattle.eden_coupling.specs.Shown.{item_in, table_ground, shown_in}
+use Rattle.eden_coupling.specs.ShownLaws.{AreDirectories, ShowsBelow}
 use Rattle.eden_inode.specs.Tables.{Table, shows}
 use Rattle.eden_materialise.specs.Faults.{IsStoreFault}
 use Rattle.eden_materialise.specs.Removals.{HasEntry}

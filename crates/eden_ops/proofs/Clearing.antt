@@ -6,10 +6,10 @@ use Rattle.eden_model.specs.Trees.{Name, Path}
 use Rattle.eden_model.specs.declared.kind.Kind.{Kind}
 use Rattle.eden_tree.specs.Directory.{Row, child_of}
 use Rattle.eden_tree.specs.Paths.{row_at}
-use Rattle.eden_tie.specs.Chains.{IsLoadedAt, StaysLoaded}
-use Rattle.eden_tie.specs.Laws.{owned}
-use Rattle.eden_tie.specs.Materialising.{owned_along}
-use Rattle.eden_tie.proofs.CallerLemmas.{map_some}
+use Rattle.eden_coupling.specs.Chains.{IsLoadedAt, StaysLoaded}
+use Rattle.eden_coupling.specs.Laws.{owned}
+use Rattle.eden_coupling.specs.Materialising.{owned_along}
+use Rattle.eden_coupling.proofs.CallerLemmas.{map_some}
 use Rattle.eden_ops.specs.Carrying.{CanCarry, IsBareAt, IsOwnAt, StaysToThere}
 use Rattle.eden_ops.specs.Changes.{SameNames}
 use Rattle.eden_ops.specs.Letting.{LetsGo}

@@ -7,7 +7,7 @@ use Rattle.eden_model.specs.declared.node.Node.TheVariants.{File, Link, Dir}
 use Rattle.eden_model.specs.Trees.{Name, Path, Tree, Unlisted, through, walk_from}
 use Rattle.eden_tree.specs.Directory.{Row, Directory, child_of}
 use Rattle.eden_tree.specs.Paths.{row_at, Standing, standing}
-use Rattle.eden_tie.proofs.CallerLemmas.{map_some}
+use Rattle.eden_coupling.proofs.CallerLemmas.{map_some}
 use Rattle.eden_ops.specs.Known.{known, IsLoadedAt, place_from, is_unlisted}
 use Rattle.eden_ops.specs.Laws.{Grows, PlaceIsFront, NextIsDeeper}
 use Rattle.eden_ops.proofs.Walking.{known_loaded, known_at, known_dir}

@@ -10,7 +10,7 @@ use Rattle.eden_model.specs.Trees.{Path, Reach}
 use Rattle.eden_overlay.specs.Files.{Stored}
 use Rattle.eden_tree.specs.Directory.{Row, child_of}
 use Rattle.eden_tree.specs.Paths.{row_at}
-use Rattle.eden_tie.specs.Loading.{IsAt}
+use Rattle.eden_coupling.specs.Loading.{IsAt}
 use Rattle.eden_inode.specs.declared.seen.Seen.{Seen}
 use Rattle.eden_ops.specs.Attempts.{IsSeen, IsShown}
 use Rattle.eden_ops.specs.Contents.{HasContent}

@@ -11,9 +11,9 @@ use Rattle.eden_tree.specs.Directory.{Row, Directory, child_of, with_child}
 use Rattle.eden_tree.specs.Rows.{find_row}
 use Rattle.eden_tree.specs.Paths.{row_at, edit_row, Standing, standing, standing_at}
 use Rattle.eden_tree.proofs.CallerLemmas.{reads_on, edits_one, edits_there, edits_not_beside, edits_nothing, child_of-with_child, row_at-unloaded}
-use Rattle.eden_tie.specs.Chains.{IsLoadedAt, IsUnsavedAt, NoneMarked, StaysLoaded}
-use Rattle.eden_tie.specs.Unloading.{Unloads, none, one_more, same_files}
-use Rattle.eden_tie.proofs.CallerLemmas.{map_some, loaded_there, Loaded, loaded_found, mark_of, unsaved_standing, standing_unsaved}
+use Rattle.eden_coupling.specs.Chains.{IsLoadedAt, IsUnsavedAt, NoneMarked, StaysLoaded}
+use Rattle.eden_coupling.specs.Unloading.{Unloads, none, one_more, same_files}
+use Rattle.eden_coupling.proofs.CallerLemmas.{map_some, loaded_there, Loaded, loaded_found, mark_of, unsaved_standing, standing_unsaved}
 use Rattle.eden_ops.specs.Changes.{SameNames}
 use Rattle.eden_ops.specs.Letting.{IsLeft, LetsGo}
 use Rattle.eden_ops.proofs.Growing.{front_of}

@@ -11,7 +11,7 @@ use Rattle.eden_model.specs.Trees.{Name, Path, grafted}
 use Rattle.eden_tree.specs.Directory.{Row, Directory, child_of, with_child}
 use Rattle.eden_tree.specs.Paths.{row_at, edit_row, stamped_along, Standing, standing, standing_at, stamped}
 use Rattle.eden_tree.proofs.CallerLemmas.{same-≡, child_of-with_child, edits_one, edits_there, stamps_along}
-use Rattle.eden_tie.proofs.CallerLemmas.{map_some}
+use Rattle.eden_coupling.proofs.CallerLemmas.{map_some}
 use Rattle.eden_ops.specs.Known.{IsLoadedAt}
 use Rattle.eden_ops.specs.Laws.{Stays, Grows}
 use Rattle.eden_ops.proofs.Deeper.{stays_loaded}

@@ -19,7 +19,7 @@ use Rattle.eden_model.specs.Trees.{Name, Path, through, walk_from, walk}
 use Rattle.eden_cache.specs.Cache.{Cache}
 use Rattle.eden_tree.specs.Directory.{Row, Directory, child_of}
 use Rattle.eden_tree.specs.Paths.{row_at, Standing, standing}
-use Rattle.eden_tie.proofs.CallerLemmas.{map_some}
+use Rattle.eden_coupling.proofs.CallerLemmas.{map_some}
 use Rattle.eden_ops.specs.Attempts.{object_kind, Wants, IsRealNeed}
 use Rattle.eden_cache.specs.Stock.{object_at, FindsTheSame}
 use Rattle.eden_ops.specs.Known.{known, known_node, is_unlisted, is_silent, place_from, place_on, last_path, place}

@@ -29,10 +29,10 @@ use Rattle.eden_tree.specs.Directory.{Row, Directory, child_of}
 use Rattle.eden_tree.specs.Rows.{find_row}
 use Rattle.eden_tree.specs.Paths.{row_at}
 use Rattle.eden_tree.proofs.CallerLemmas.{same-refl, reads_on}
-use Rattle.eden_tie.specs.Shown.{shown_in}
-use Rattle.eden_tie.specs.ShownLaws.{AreDirectories, ShowsBelow, ShowsAbsent}
-use Rattle.eden_tie.specs.Kept.{IsKept}
-use Rattle.eden_tie.proofs.CallerLemmas.{and_then_some, place_at, rising_of}
+use Rattle.eden_coupling.specs.Shown.{shown_in}
+use Rattle.eden_coupling.specs.ShownLaws.{AreDirectories, ShowsBelow, ShowsAbsent}
+use Rattle.eden_coupling.specs.Kept.{IsKept}
+use Rattle.eden_coupling.proofs.CallerLemmas.{and_then_some, place_at, rising_of}
 use Rattle.eden_inode.specs.Tables.{Table, shows}
 use Rattle.eden_ops.specs.Listings.{kind_in, kinds_in, HasNoEntries, HasEntries, IsPage}
 use Rattle.eden_ops.proofs.Looking.{kind_node}

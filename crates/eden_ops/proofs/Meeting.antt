@@ -10,8 +10,8 @@ use Rattle.eden_model.specs.Trees.{Name, Path, Passes, Stops, Unlisted, walk_fro
 use Rattle.eden_tree.specs.Directory.{Row, Directory, child_of}
 use Rattle.eden_tree.specs.Rows.{find_row}
 use Rattle.eden_tree.specs.Paths.{row_at, stamped_along}
-use Rattle.eden_tie.specs.Loading.{IsAt}
-use Rattle.eden_tie.proofs.CallerLemmas.{and_then_some}
+use Rattle.eden_coupling.specs.Loading.{IsAt}
+use Rattle.eden_coupling.proofs.CallerLemmas.{and_then_some}
 use Rattle.eden_inode.specs.declared.seen.Seen.{Seen}
 use Rattle.eden_inode.specs.Tables.{IsLast}
 use Rattle.eden_ops.specs.Attempts.{IsSeen}

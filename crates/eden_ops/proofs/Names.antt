@@ -6,8 +6,8 @@ use Rattle.eden_model.specs.declared.node.Node.TheVariants.{Dir}
 use Rattle.eden_model.specs.Trees.{Path}
 use Rattle.eden_tree.specs.Directory.{Row, Directory, child_of}
 use Rattle.eden_tree.specs.Paths.{row_at, Standing, standing, standing_at}
-use Rattle.eden_tie.specs.Chains.{IsLoadedAt, StaysLoaded}
-use Rattle.eden_tie.proofs.CallerLemmas.{map_some, loaded_there, loaded_found}
+use Rattle.eden_coupling.specs.Chains.{IsLoadedAt, StaysLoaded}
+use Rattle.eden_coupling.proofs.CallerLemmas.{map_some, loaded_there, loaded_found}
 use Rattle.eden_ops.specs.Changes.{numbered_at, SameNames}
 use Rattle.eden_ops.specs.Laws.{Stays, Grows}
 use Rattle.eden_ops.proofs.Bare.{Bare, bare}

@@ -11,9 +11,9 @@ use Rattle.eden_overlay_format.specs.Directory.{HasOrigin, IsStorable}
 use Rattle.eden_tree.specs.Directory.{Row}
 use Rattle.eden_tree.specs.Rows.{find_row}
 use Rattle.eden_tree.specs.Paths.{row_at}
-use Rattle.eden_tie.specs.Kept.{IsTable}
-use Rattle.eden_tie.specs.Listings.{Place, top, inside, stored_entry}
-use Rattle.eden_tie.proofs.CallerLemmas.{place_at}
+use Rattle.eden_coupling.specs.Kept.{IsTable}
+use Rattle.eden_coupling.specs.Listings.{Place, top, inside, stored_entry}
+use Rattle.eden_coupling.proofs.CallerLemmas.{place_at}
 
 found_by : (n : Name) (e : Name × Row) (rest : Option Row) (y : Row) (b : Bool) → HasOrigin e.1.kind e.1.origin → (rest ≡ Some y → HasOrigin y.kind y.origin) → cond b (Some e.1) rest ≡ Some y
     → HasOrigin y.kind y.origin

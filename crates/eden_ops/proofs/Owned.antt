@@ -12,10 +12,10 @@ use Rattle.eden_tree.specs.Directory.{Row, Directory, child_of}
 use Rattle.eden_tree.specs.Rows.{find_row, change_row}
 use Rattle.eden_tree.specs.Paths.{row_at}
 use Rattle.eden_tree.proofs.CallerLemmas.{same-≡, child_of-change_child, find_row-change_row}
-use Rattle.eden_tie.specs.Chains.{StaysLoaded}
-use Rattle.eden_tie.specs.Laws.{owned}
-use Rattle.eden_tie.specs.Materialising.{kept_mark, owned_along}
-use Rattle.eden_tie.proofs.CallerLemmas.{map_some}
+use Rattle.eden_coupling.specs.Chains.{StaysLoaded}
+use Rattle.eden_coupling.specs.Laws.{owned}
+use Rattle.eden_coupling.specs.Materialising.{kept_mark, owned_along}
+use Rattle.eden_coupling.proofs.CallerLemmas.{map_some}
 use Rattle.eden_ops.specs.Carrying.{IsOwnAt}
 use Rattle.eden_ops.specs.Changes.{SameNames}
 use Rattle.eden_ops.proofs.Bare.{Bare, some_pair, bare}

@@ -8,7 +8,7 @@ use Rattle.eden_model.specs.Trees.{Name, Path}
 use Rattle.eden_model.proofs.CallerLemmas.{behind_sound, behind_back}
 use Rattle.eden_overlay.specs.declared.files.Files.{Ghosts as Files}
 use Rattle.eden_tree.specs.Directory.{Row}
-use Rattle.eden_tie.specs.Chains.{IsLoadedAt, NoneMarked, StaysLoaded}
+use Rattle.eden_coupling.specs.Chains.{IsLoadedAt, NoneMarked, StaysLoaded}
 use Rattle.eden_inode.specs.Tables.{Table, shows}
 use Rattle.eden_materialise.specs.Faults.{IsStoreFault}
 use Rattle.eden_ops.specs.Carrying.{StaysToThere}

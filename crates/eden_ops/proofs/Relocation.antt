@@ -18,10 +18,10 @@ use Rattle.eden_tree.specs.Directory.{Row, Directory, child_of, with_child}
 use Rattle.eden_tree.specs.Rows.{find_row}
 use Rattle.eden_tree.specs.Paths.{row_at, Standing, standing, standing_at}
 use Rattle.eden_tree.proofs.CallerLemmas.{reads_on, edits_one, steps_down, child_of-with_child}
-use Rattle.eden_tie.specs.Chains.{IsLoadedAt, IsUnsavedAt, StaysLoaded}
-use Rattle.eden_tie.specs.Changing.{MayMove, marked_source}
-use Rattle.eden_tie.specs.Moving.{CanMove}
-use Rattle.eden_tie.proofs.CallerLemmas.{map_some, loaded_there, loaded_found, marked_alone}
+use Rattle.eden_coupling.specs.Chains.{IsLoadedAt, IsUnsavedAt, StaysLoaded}
+use Rattle.eden_coupling.specs.Changing.{MayMove, marked_source}
+use Rattle.eden_coupling.specs.Moving.{CanMove}
+use Rattle.eden_coupling.proofs.CallerLemmas.{map_some, loaded_there, loaded_found, marked_alone}
 use Rattle.eden_inode.specs.Tables.{Table}
 use Rattle.eden_materialise.specs.EntryMoves.{IsUnmoved}
 use Rattle.eden_materialise.specs.Faults.{IsStoreFault}

@@ -7,10 +7,10 @@ use Rattle.eden_model.specs.Trees.{Name, Path}
 use Rattle.eden_overlay.specs.Files.{Stored}
 use Rattle.eden_tree.specs.Directory.{Row, Directory}
 use Rattle.eden_tree.specs.Paths.{Standing, standing}
-use Rattle.eden_tie.specs.Chains.{IsLoadedAt, chained}
-use Rattle.eden_tie.specs.Changing.{with_listing}
-use Rattle.eden_tie.specs.Laws.{owned}
-use Rattle.eden_tie.proofs.CallerLemmas.{loaded_found}
+use Rattle.eden_coupling.specs.Chains.{IsLoadedAt, chained}
+use Rattle.eden_coupling.specs.Changing.{with_listing}
+use Rattle.eden_coupling.specs.Laws.{owned}
+use Rattle.eden_coupling.proofs.CallerLemmas.{loaded_found}
 use Rattle.eden_materialise.specs.EntryMoves.{IsMoved, IsUnmoved}
 use Rattle.eden_materialise.specs.Puts.{AtDirectory}
 use Rattle.eden_ops.specs.Changes.{StaysOrBecomesOwn}

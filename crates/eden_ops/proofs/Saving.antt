@@ -10,9 +10,9 @@ use Rattle.eden_overlay.specs.declared.files.Files.{Ghosts as Files}
 use Rattle.eden_tree.specs.Directory.{Row, Directory, child_of, with_child}
 use Rattle.eden_tree.specs.Paths.{row_at, edit_row, stamped_along, Standing, standing, standing_at, stamped}
 use Rattle.eden_tree.proofs.CallerLemmas.{stamps_along}
-use Rattle.eden_tie.specs.Chains.{NoneMarked, StaysLoaded}
-use Rattle.eden_tie.specs.Loading.{IsNew, LoadsOwn}
-use Rattle.eden_tie.proofs.CallerLemmas.{map_some, none_inside, loaded_there, loaded_found, mark_of, unsaved_standing, standing_unsaved, none_marked_with}
+use Rattle.eden_coupling.specs.Chains.{NoneMarked, StaysLoaded}
+use Rattle.eden_coupling.specs.Loading.{IsNew, LoadsOwn}
+use Rattle.eden_coupling.proofs.CallerLemmas.{map_some, none_inside, loaded_there, loaded_found, mark_of, unsaved_standing, standing_unsaved, none_marked_with}
 use Rattle.eden_inode.specs.Tables.{Table, HasNoTree}
 use Rattle.eden_materialise.specs.Faults.{IsStoreFault}
 use Rattle.eden_ops.specs.Changes.{StaysOrBecomesOwn, LeavesOn, Leaves}

@@ -18,11 +18,11 @@ use Rattle.eden_tree.specs.Directory.{Child, unloaded, loaded, Row, Directory, c
 use Rattle.eden_tree.specs.Rows.{find_row}
 use Rattle.eden_tree.specs.Paths.{row_at}
 use Rattle.eden_tree.proofs.CallerLemmas.{reads_on}
-use Rattle.eden_tie.specs.Kept.{IsKept}
-use Rattle.eden_tie.specs.Listings.{Place}
-use Rattle.eden_tie.specs.Shown.{Away, item_in, table_ground, shown_in}
-use Rattle.eden_tie.specs.ShownLaws.{AreDirectories, ShowsBelow, ShowsAbsent}
-use Rattle.eden_tie.proofs.CallerLemmas.{place_at}
+use Rattle.eden_coupling.specs.Kept.{IsKept}
+use Rattle.eden_coupling.specs.Listings.{Place}
+use Rattle.eden_coupling.specs.Shown.{Away, item_in, table_ground, shown_in}
+use Rattle.eden_coupling.specs.ShownLaws.{AreDirectories, ShowsBelow, ShowsAbsent}
+use Rattle.eden_coupling.proofs.CallerLemmas.{place_at}
 use Rattle.eden_ops.specs.Known.{known_node, known}
 use Rattle.eden_ops.specs.Attempts.{shown_node}
 use Rattle.eden_ops.proofs.Walking.{known_loaded, known_unloaded}

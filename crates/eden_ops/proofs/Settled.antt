@@ -11,9 +11,9 @@ use Rattle.eden_overlay.specs.declared.files.Files.{Ghosts as Files}
 use Rattle.eden_overlay.specs.Files.{Stored}
 use Rattle.eden_tree.specs.Directory.{Child, unloaded, loaded, Row, Directory, child_of, directory_in}
 use Rattle.eden_tree.specs.Paths.{row_at, Standing, standing, standing_at}
-use Rattle.eden_tie.specs.Chains.{StaysLoaded, NoneMarked}
-use Rattle.eden_tie.specs.Saving.{SavesAbove, none, one_more, same_files, IsSavedAbove, unmarked, AreAlikeUnmarked}
-use Rattle.eden_tie.proofs.CallerLemmas.{map_some, saves_marks, saves_unmarked}
+use Rattle.eden_coupling.specs.Chains.{StaysLoaded, NoneMarked}
+use Rattle.eden_coupling.specs.Saving.{SavesAbove, none, one_more, same_files, IsSavedAbove, unmarked, AreAlikeUnmarked}
+use Rattle.eden_coupling.proofs.CallerLemmas.{map_some, saves_marks, saves_unmarked}
 use Rattle.eden_inode.specs.Tables.{Table}
 use Rattle.eden_ops.specs.Changes.{StaysOrBecomesOwn, SameNames, Leaves}
 use Rattle.eden_ops.specs.Known.{known}

@@ -21,13 +21,13 @@ use Rattle.eden_tree.specs.Directory.{Row, Directory, child_of}
 use Rattle.eden_tree.specs.Rows.{find_row, change_row}
 use Rattle.eden_tree.specs.Paths.{row_at, Standing, standing_at}
 use Rattle.eden_tree.proofs.CallerLemmas.{same-≡, steps_down, child_of-change_child, find_row-change_row, find_row-put_row, find_row-drop_row, find_row-set_row}
-use Rattle.eden_tie.specs.Chains.{chained}
-use Rattle.eden_tie.specs.Changing.{MayMove, changed, marked_source, moved_in, placed, rows_with, with_listing}
-use Rattle.eden_tie.specs.Kept.{IsTable}
-use Rattle.eden_tie.specs.Laws.{owned}
-use Rattle.eden_tie.specs.Materialising.{kept_mark, owned_along}
-use Rattle.eden_tie.specs.Saving.{unmarked, AreAlikeUnmarked}
-use Rattle.eden_tie.proofs.CallerLemmas.{place_at, stored_rising}
+use Rattle.eden_coupling.specs.Chains.{chained}
+use Rattle.eden_coupling.specs.Changing.{MayMove, changed, marked_source, moved_in, placed, rows_with, with_listing}
+use Rattle.eden_coupling.specs.Kept.{IsTable}
+use Rattle.eden_coupling.specs.Laws.{owned}
+use Rattle.eden_coupling.specs.Materialising.{kept_mark, owned_along}
+use Rattle.eden_coupling.specs.Saving.{unmarked, AreAlikeUnmarked}
+use Rattle.eden_coupling.proofs.CallerLemmas.{place_at, stored_rising}
 use Rattle.eden_inode.specs.Tables.{Table}
 use Rattle.eden_materialise.specs.EntryMoves.{IsMoved, IsUnmoved}
 use Rattle.eden_ops.specs.declared.answer.Stop.{Stop}

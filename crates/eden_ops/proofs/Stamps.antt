@@ -14,8 +14,8 @@ use Rattle.eden_tree.specs.Directory.{Row, Directory, child_of, with_child}
 use Rattle.eden_tree.specs.Rows.{find_row}
 use Rattle.eden_tree.specs.Paths.{row_at, edit_row, stamped_along, Standing, standing, standing_at, stamped}
 use Rattle.eden_tree.proofs.CallerLemmas.{stamps_along, reads_on, edits_one, row_at-unloaded, child_of-with_child}
-use Rattle.eden_tie.specs.Loading.{IsNew}
-use Rattle.eden_tie.proofs.CallerLemmas.{none_inside}
+use Rattle.eden_coupling.specs.Loading.{IsNew}
+use Rattle.eden_coupling.proofs.CallerLemmas.{none_inside}
 use Rattle.eden_inode.specs.Tables.{Table}
 use Rattle.eden_ops.specs.Keeping.{LeadsTo, Loads, from_object, without, Step, stamps, loads, rests, Keeps, same, on}
 use Rattle.eden_ops.specs.Laws.{KeepsStamps}

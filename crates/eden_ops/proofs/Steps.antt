@@ -11,13 +11,13 @@ use Rattle.eden_model.proofs.CallerLemmas.{behind_sound, behind_back}
 use Rattle.eden_overlay.specs.declared.files.Files.{Ghosts as Files}
 use Rattle.eden_tree.specs.Directory.{Row, with_child}
 use Rattle.eden_tree.specs.Paths.{edit_row, stamped_along}
-use Rattle.eden_tie.specs.Loading.{LoadsObject, LoadsOwn}
-use Rattle.eden_tie.specs.ShownLaws.{StampsAlike, ObjectLoadsAlike}
-use Rattle.eden_tie.proofs.CallerLemmas.{own_loads_alike}
+use Rattle.eden_coupling.specs.Loading.{LoadsObject, LoadsOwn}
+use Rattle.eden_coupling.specs.ShownLaws.{StampsAlike, ObjectLoadsAlike}
+use Rattle.eden_coupling.proofs.CallerLemmas.{own_loads_alike}
 use Rattle.eden_inode.specs.Tables.{Table, HasTree, HasNoTree, shows}
 use Rattle.eden_ops.specs.Keeping.{LeadsTo, Loads, from_object, without, Beside, Step, stamps, loads, rests, Keeps, same, on}
 use Rattle.eden_ops.specs.Laws.{Grows, KeepsShown, KeepsFiles, KeepsEntries, KeepsCounts}
-use Rattle.eden_tie.specs.Shown.{shown_in}
+use Rattle.eden_coupling.specs.Shown.{shown_in}
 use Rattle.eden_overlay.specs.Files.{Stored}
 use Rattle.eden_ops.proofs.Growing.{grows_same, grows_on, grows_stamped, grows_loaded}
 

@@ -27,8 +27,8 @@ use Rattle.eden_overlay.specs.Held.{own_files}
 use Rattle.eden_cache.specs.Cache.{Cache}
 use Rattle.eden_tree.specs.Directory.{Child, unloaded, loaded, Row, Directory, child_of}
 use Rattle.eden_tree.specs.Paths.{row_at, Standing, standing}
-use Rattle.eden_tie.specs.Chains.{IsLoadedAt}
-use Rattle.eden_tie.proofs.CallerLemmas.{map_some, loaded_there}
+use Rattle.eden_coupling.specs.Chains.{IsLoadedAt}
+use Rattle.eden_coupling.proofs.CallerLemmas.{map_some, loaded_there}
 use Rattle.eden_inode.specs.declared.seen.Seen.{Seen}
 use Rattle.eden_inode.specs.Tables.{Table, shows}
 use Rattle.eden_materialise.specs.Faults.{IsStoreFault}

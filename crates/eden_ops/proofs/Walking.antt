@@ -13,7 +13,7 @@ use Rattle.eden_tree.specs.Directory.{Child, unloaded, loaded, Row, Directory, l
 use Rattle.eden_tree.specs.Rows.{find_row}
 use Rattle.eden_tree.specs.Paths.{row_at}
 use Rattle.eden_tree.proofs.CallerLemmas.{reads_on}
-use Rattle.eden_tie.proofs.CallerLemmas.{and_then_some, map_some}
+use Rattle.eden_coupling.proofs.CallerLemmas.{and_then_some, map_some}
 use Rattle.eden_ops.specs.Known.{known_by, known_node, known, is_unlisted, place_from, place_on}
 
 -- ---- one entry

@@ -10,12 +10,12 @@ use Rattle.eden_overlay.specs.Files.{Stored}
 use Rattle.eden_overlay.specs.Held.{HoldsEntries}
 use Rattle.eden_tree.specs.Directory.{Row, Directory, child_of, with_child}
 use Rattle.eden_tree.specs.Paths.{row_at, edit_row}
-use Rattle.eden_tie.specs.Chains.{IsLoadedAt}
-use Rattle.eden_tie.specs.Changing.{with_listing}
-use Rattle.eden_tie.specs.Kept.{IsKept}
-use Rattle.eden_tie.specs.Listings.{listing_of}
-use Rattle.eden_tie.specs.Shown.{IsFrom}
-use Rattle.eden_tie.specs.Unloading.{HasNoneInside}
+use Rattle.eden_coupling.specs.Chains.{IsLoadedAt}
+use Rattle.eden_coupling.specs.Changing.{with_listing}
+use Rattle.eden_coupling.specs.Kept.{IsKept}
+use Rattle.eden_coupling.specs.Listings.{listing_of}
+use Rattle.eden_coupling.specs.Shown.{IsFrom}
+use Rattle.eden_coupling.specs.Unloading.{HasNoneInside}
 use Rattle.eden_materialise.specs.Puts.{AtDirectory}
 use Rattle.eden_ops.specs.Relocating.{CanRelocate, IsUnloadedAt}
 

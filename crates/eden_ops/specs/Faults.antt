@@ -21,7 +21,7 @@ use Rattle.eden_overlay.specs.Files.{Stored}
 use Rattle.eden_overlay.specs.Held.{entries_at, content_at}
 use Rattle.eden_tree.specs.Directory.{Row}
 use Rattle.eden_tree.specs.Paths.{row_at}
-use Rattle.eden_tie.specs.Loading.{IsAt}
+use Rattle.eden_coupling.specs.Loading.{IsAt}
 use Rattle.eden_inode.specs.Tables.{Table}
 use Rattle.eden_ops.specs.Known.{known, place}
 

@@ -8,7 +8,7 @@ use Rattle.eden_model.specs.Operations.{is_front}
 use Rattle.eden_model.specs.Trees.{Path}
 use Rattle.eden_overlay.specs.declared.files.Files.{Ghosts as Files}
 use Rattle.eden_tree.specs.Paths.{stamped_along}
-use Rattle.eden_tie.specs.Loading.{IsAt, LoadsObject, LoadsOwn}
+use Rattle.eden_coupling.specs.Loading.{IsAt, LoadsObject, LoadsOwn}
 use Rattle.eden_inode.specs.Tables.{Table, HasNoTree}
 
 -- the path is one of these, or a front of one

@@ -8,9 +8,9 @@ use Rattle.eden_model.specs.Trees.{Name, Path}
 use Rattle.eden_overlay.specs.declared.files.Files.{Ghosts as Files}
 use Rattle.eden_tree.specs.Directory.{Row, child_of}
 use Rattle.eden_tree.specs.Paths.{row_at}
-use Rattle.eden_tie.specs.Chains.{IsLoadedAt, IsUnsavedAt, NoneMarked, StaysLoaded}
-use Rattle.eden_tie.specs.Laws.{owned}
-use Rattle.eden_tie.specs.Materialising.{owned_along}
+use Rattle.eden_coupling.specs.Chains.{IsLoadedAt, IsUnsavedAt, NoneMarked, StaysLoaded}
+use Rattle.eden_coupling.specs.Laws.{owned}
+use Rattle.eden_coupling.specs.Materialising.{owned_along}
 use Rattle.eden_inode.specs.Tables.{Table, shows}
 use Rattle.eden_materialise.specs.Faults.{IsStoreFault}
 use Rattle.eden_ops.specs.Changes.{StaysOrBecomesOwn, SameNames, numbered_at}

@@ -3,7 +3,7 @@ use Rattle.std.specs.Prelude.{Result}
 use Rattle.eden_model.specs.declared.fault.Fault.{Fault}
 use Rattle.eden_model.specs.declared.world.World.{Ghosts}
 use Rattle.eden_overlay.specs.declared.files.Files.{Ghosts as Files}
-use Rattle.eden_tie.specs.Saving.{AreAlikeUnmarked}
+use Rattle.eden_coupling.specs.Saving.{AreAlikeUnmarked}
 use Rattle.eden_inode.specs.Tables.{Table}
 use Rattle.eden_ops.specs.Relocating.{Readies}
 

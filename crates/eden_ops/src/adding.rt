@@ -12,11 +12,11 @@ use crate::laws::keeps_laws;
 use crate::meet::meet;
 use crate::settling::settle;
 use eden_cache::Stock;
+use eden_coupling::shown_laws;
 use eden_inode::Inodes;
 use eden_materialise::{NewEntry, add_entry};
 use eden_model::{Attempt, Errno, MAX_TARGET, Path, Reply, World};
 use eden_overlay::Files;
-use eden_tie::shown_laws;
 use std::alloc::{Allocator, Global};
 
 /// Adds an entry at a path.

@@ -2,7 +2,7 @@
 ghost use Rattle.std.specs.Prelude.{◌≡◌, None, IfOk, IfErr, OnOk, OnErr, MatchOption, ◌∷◌, []};
 ghost use Rattle.eden_model.specs.declared.id.ObjKind.TheVariants as objects;
 ghost use Rattle.eden_object.specs.Trees.{NamesDiffer};
-ghost use Rattle.eden_tie.specs.Loading.{IsAt};
+ghost use Rattle.eden_coupling.specs.Loading.{IsAt};
 ghost use Rattle.eden_ops.specs.Attempts.{Lacks};
 ghost use Rattle.eden_cache.specs.Stock.{FindsTheSame, object_at};
 ghost use Rattle.eden_ops.specs.Keeping.{Keeps};

@@ -16,11 +16,11 @@ use crate::meet::meet;
 use crate::settling::settle;
 use crate::what::what;
 use eden_cache::Stock;
+use eden_coupling::shown_laws;
 use eden_inode::Inodes;
 use eden_materialise::remove_entry;
 use eden_model::{Attempt, Errno, Kind, Path, Reply, World};
 use eden_overlay::Files;
-use eden_tie::shown_laws;
 use std::alloc::{Allocator, Global};
 
 /// Whether the directory that is loaded at a path has no entries.

@@ -13,11 +13,11 @@ use crate::file::meet_file;
 use crate::laws::keeps_laws;
 use crate::settling::settle;
 use eden_cache::Stock;
+use eden_coupling::shown_laws;
 use eden_inode::Inodes;
 use eden_materialise::set_kind;
 use eden_model::{Attempt, Kind, Path, Reply, World};
 use eden_overlay::Files;
-use eden_tie::shown_laws;
 use std::alloc::{Allocator, Global};
 
 fn exec_kind(exec: bool) -> Kind

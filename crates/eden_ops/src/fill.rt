@@ -5,18 +5,18 @@ ghost use Rattle.eden_model.specs.Operations.{put};
 ghost use Rattle.eden_model.specs.Shown.{node_from};
 ghost use Rattle.eden_inode.specs.Tables.{shows};
 ghost use Rattle.eden_materialise.specs.Faults.{IsStoreFault};
-ghost use Rattle.eden_tie.specs.Saving.{IsSavedAbove};
+ghost use Rattle.eden_coupling.specs.Saving.{IsSavedAbove};
 ghost use Rattle.eden_tree.specs.Directory.{Row};
 ghost use Rattle.eden_ops.specs.Changes.{SameNames, Leaves};
 ghost use Rattle.eden_ops.specs.Contents.{IsFileAt};
 ghost use Rattle.eden_ops.specs.Stamps.{NoneStamped};
 
 use crate::settling::settle;
+use eden_coupling::shown_laws;
 use eden_inode::Inodes;
 use eden_materialise::store_content;
 use eden_model::{Fault, Path, World};
 use eden_overlay::Files;
-use eden_tie::shown_laws;
 use std::alloc::{Allocator, Global};
 
 /// Stores a content of at most 2^30 bytes for the file or link at a path, which isn't loaded. The old content isn't asked for.

@@ -2,9 +2,9 @@ ghost use Rattle.eden_ops.specs.Left.{FewAreLeft, SomeAreLeft, NeedsStay, LeftFa
 ghost use Rattle.eden_ops.specs.Laws.{KeepsShown, KeepsFiles, KeepsEntries, KeepsCounts, KeepsLeaves, KeepsStamps};
 ghost use Rattle.eden_ops.specs.Laws.{PlaceIsFront, NextIsDeeper};
 
+use eden_coupling::shown_laws;
 use eden_model::World;
 use eden_overlay::Files;
-use eden_tie::shown_laws;
 
 /// What an attempt that changes nothing keeps: what is shown, and where the outside is honest the stored files; each entry,
 /// and what is loaded, and no directory becomes unsaved; the clock and the count of changes; and the stamp of each directory

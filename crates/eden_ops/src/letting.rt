@@ -1,6 +1,6 @@
 //! Directories that are let go of.
 ghost use Rattle.std.specs.Prelude.{◌≡◌, ◌≤◌, Some, None, IfErr, OnOk};
-ghost use Rattle.eden_tie.specs.Chains.{NoneMarked};
+ghost use Rattle.eden_coupling.specs.Chains.{NoneMarked};
 ghost use Rattle.eden_tree.specs.Directory.{Row, child_of};
 ghost use Rattle.eden_tree.specs.Paths.{row_at};
 ghost use Rattle.eden_inode.specs.Tables.{shows};

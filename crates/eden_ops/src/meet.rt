@@ -10,10 +10,10 @@ use crate::answer::Stop;
 use crate::bring::bring;
 use crate::laws::keeps_laws;
 use eden_cache::Stock;
+use eden_coupling::shown_laws;
 use eden_inode::{Inodes, Seen};
 use eden_model::{Errno, Kind, Name, Path, World};
 use eden_overlay::Files;
-use eden_tie::shown_laws;
 use std::alloc::{Allocator, Global};
 
 /// The entry at a path, or None where the directory above it has none of that name; else why the walk over the directories

@@ -4,10 +4,10 @@ ghost use Rattle.eden_model.specs.Operations.{is_after, page_of};
 ghost use Rattle.eden_ops.specs.Known.{IsLoadedAt};
 ghost use Rattle.eden_ops.specs.Listings.{kinds_in, IsPage};
 
+use eden_coupling::shown_laws;
 use eden_inode::Inodes;
 use eden_model::{Entries, Kind, Name, Path, Reply, World};
 use eden_overlay::Files;
-use eden_tie::shown_laws;
 use eden_tree::Dir;
 use std::alloc::{AllocError, Allocator, Global};
 

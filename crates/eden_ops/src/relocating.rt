@@ -1,7 +1,7 @@
 //! Entries that go to another path.
 ghost use Rattle.std.specs.Prelude.{◌≡◌, OnOk};
-ghost use Rattle.eden_tie.specs.Chains.{IsLoadedAt, StaysLoaded};
-ghost use Rattle.eden_tie.specs.Saving.{IsSavedAbove};
+ghost use Rattle.eden_coupling.specs.Chains.{IsLoadedAt, StaysLoaded};
+ghost use Rattle.eden_coupling.specs.Saving.{IsSavedAbove};
 ghost use Rattle.eden_ops.specs.Carrying.{CanCarry};
 ghost use Rattle.eden_ops.specs.Relocating.{CanRelocate, IsUnloadedAt, StaysBeside, both_owned, Readies, Relocates};
 ghost use Rattle.eden_ops.specs.Settling.{Settles};

@@ -1,7 +1,7 @@
 //! What an earlier fault left unsaved, stored before a change.
 ghost use Rattle.std.specs.Prelude.{◌≡◌, OnOk};
-ghost use Rattle.eden_tie.specs.Kept.{IsTable};
-ghost use Rattle.eden_tie.specs.Saving.{IsSavedAbove};
+ghost use Rattle.eden_coupling.specs.Kept.{IsTable};
+ghost use Rattle.eden_coupling.specs.Saving.{IsSavedAbove};
 ghost use Rattle.eden_ops.specs.Settling.{Settles};
 
 use eden_inode::Inodes;

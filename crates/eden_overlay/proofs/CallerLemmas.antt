@@ -7,7 +7,8 @@ use Rattle.eden_overlay.specs.contracts.memory.MemoryFiles
 use Rattle.eden_overlay.specs.contracts.overlay.Overlay
 use Rattle.eden_overlay.proofs.memory.MemoryFiles.TheSendSync as memory
 use Rattle.eden_overlay.proofs.overlay.Overlay.TheSendSync as overlay
-pub use Rattle.eden_overlay.proofs.Puts.{put_here, put_apart, same_or_apart, root_same, nothing_at_root, entries_at_root, moved, names_moved, kind_moved, one_held, one_kind, held_storable, nothing_there}
+pub use Rattle.eden_overlay.proofs.Puts.{root_same, nothing_at_root, entries_at_root}
+pub use Rattle.eden_overlay.proofs.Puts.{put_here, put_apart, same_or_apart, moved, names_moved, kind_moved, one_held, one_kind, held_storable, nothing_there}
 pub use Rattle.eden_overlay.proofs.Directories.{apart, named, kind_kept, was_named}
 pub use Rattle.eden_overlay.proofs.Cycles.{joined, no_cycle}
 -- the clauses of `overlay_laws`, for lemmas

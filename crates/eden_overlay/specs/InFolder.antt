@@ -1,8 +1,8 @@
 -- A folder of files that are named by their numbers.
 use Rattle.std.specs.Prelude.{◌+◌, ◌^◌, ℕ, List, ◌++◌, decimal}
 use Rattle.std.specs.Path.{with_separator}
-use Rattle.eden_files.specs.declared.fault.FolderFault.{FolderFault}
-use Rattle.eden_files.specs.declared.fault.FolderFault.TheVariants as folder
+use Rattle.eden_plain_files.specs.declared.fault.FolderFault.{FolderFault}
+use Rattle.eden_plain_files.specs.declared.fault.FolderFault.TheVariants as folder
 use Rattle.eden_overlay.specs.declared.files.FilesFault.{FilesFault}
 use Rattle.eden_overlay.specs.declared.files.FilesFault.TheVariants as fault
 

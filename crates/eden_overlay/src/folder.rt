@@ -9,9 +9,11 @@ ghost use Rattle.eden_overlay.specs.declared.files.FilesFault.TheVariants as fau
 use crate::files::{Files, FilesFault, count};
 use crate::names::{Sought, file_path, number_sought, unfinished_path};
 use crate::tidy::Removed;
-use eden_files::{FolderFault, Links, entry_in, read_file, read_front, remove_file, replace_file};
 use eden_model::Outside;
 use eden_overlay_format::Head;
+use eden_plain_files::{
+    FolderFault, Links, entry_in, read_file, read_front, remove_file, replace_file,
+};
 use std::alloc::{Alloc, AllocError, Allocator, Global};
 use std::collections::BTreeSet;
 use std::fs::{self, DirEntry};
@@ -34,7 +36,7 @@ pub struct FolderFiles<R> {
 
 impl<R> Model for FolderFiles<R> {
     ghost use Rattle.std.specs.Path.{path_buf_bytes};
-    ghost use Rattle.eden_files.specs.Folders.{Folder};
+    ghost use Rattle.eden_plain_files.specs.Folders.{Folder};
 
     ghost Value = { Folder };
 

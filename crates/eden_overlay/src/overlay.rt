@@ -11,7 +11,8 @@ ghost use Rattle.eden_overlay_format.specs.Directory.{AreStorable};
 ghost use Rattle.eden_overlay_format.specs.State.{IsGoodState};
 ghost use Rattle.eden_overlay_format.specs.Values.{content_in, state_in, entries_in};
 ghost use Rattle.eden_overlay.specs.Files.{Lists};
-ghost use Rattle.eden_overlay.specs.Held.{HoldsContent, HoldsEntries, HoldsState, TellsLength, root_file, saved_at, with_content, with_entries, with_numbers, with_state, without};
+ghost use Rattle.eden_overlay.specs.Held.{HoldsContent, HoldsEntries, HoldsState, TellsLength, root_file, saved_at};
+ghost use Rattle.eden_overlay.specs.Held.{with_content, with_entries, with_numbers, with_state, without};
 ghost use Rattle.eden_overlay.specs.Soundness.{AreSound};
 ghost use Rattle.eden_overlay.specs.Tidying.{bytes_at};
 ghost use Rattle.eden_overlay.specs.Getting.{Explains, ExplainsLength, ExplainsNumbers, length_of};
@@ -239,8 +240,8 @@ impl<W: World, F: Files<W>> Overlay<W, F> {
     }
 
     /// Stores the numbers of a directory on that tree object, whose entries are written already, as the file of that
-    /// number, in place of any that was there: the root's is 1. None of the entries has its contents in the overlay. After
-    /// an error nothing has changed.
+    /// number, in place of any that was there: the root's is 1. None of the entries has its contents in the overlay.
+    /// After an error nothing has changed.
     pub fn put_numbers(
         &mut self,
         alloc: Global,
@@ -262,8 +263,8 @@ impl<W: World, F: Files<W>> Overlay<W, F> {
         answer
     }
 
-    /// The entries of a directory on that tree object, with the numbers that were stored for it as the file of that number,
-    /// or why there are none: absent are they too where the file has no numbers, or those of another tree object.
+    /// The entries of a directory on that tree object, with the numbers that were stored for it as the file of that
+    /// number, or why there are none: `Absent` also where the file has no numbers, or those of another tree object.
     pub fn get_numbers(
         &mut self,
         alloc: Global,

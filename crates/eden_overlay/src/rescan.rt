@@ -117,7 +117,7 @@ impl<W: World, F: Files<W>> Overlay<W, F> {
     ///
     /// One pass goes from file 1 down, in the byte order of the names, into a directory as soon as it is met, and reads
     /// each file that is an entry's own. Whatever the files say, it ends. Of an entry it keeps the number, the kind and
-    /// whether it has a file of its own, and never the name. Where the root has no file of its own, the next number is 2.
+    /// whether it has a file of its own, and never the name. Where the root has no file, the next number is 2.
     pub fn rescan(&mut self, alloc: Global) -> Result<u64, RescanFault>
         ensures sound { W.honest → OnOk result (AreSound (F.stored self.old)) }
         ensures next { W.honest → IfOk result (IsNextOf (F.stored self.old)) }

@@ -2,9 +2,9 @@
 use Rattle.std.specs.Prelude.{◌≡◌, ◌≤◌, ℕ, List, length, take, drop, Err, IfOk}
 use Rattle.std.specs.Path.{path_join}
 use Rattle.hex.specs.Hex.{encode_lower}
-use Rattle.eden_files.specs.Folders.{Folder}
-use Rattle.eden_files.specs.declared.fault.FolderFault.{FolderFault}
-use Rattle.eden_files.specs.declared.fault.FolderFault.TheVariants as folder
+use Rattle.eden_plain_files.specs.Folders.{Folder}
+use Rattle.eden_plain_files.specs.declared.fault.FolderFault.{FolderFault}
+use Rattle.eden_plain_files.specs.declared.fault.FolderFault.TheVariants as folder
 use Rattle.eden_model.specs.declared.id.Id.{Id}
 use Rattle.eden_model.specs.declared.fault.Cause.{Cause}
 use Rattle.eden_model.specs.declared.fault.Cause.TheVariants as cause

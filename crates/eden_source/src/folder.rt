@@ -5,8 +5,8 @@ ghost use Rattle.eden_source.specs.Fetching.{IsSourceCause, longest_framed};
 ghost use Rattle.eden_source.specs.InFolder.{object_path, of_folder};
 
 use crate::source::Source;
-use eden_files::{FolderFault, Links, read_file};
 use eden_model::{Cause, Id, Outside};
+use eden_plain_files::{FolderFault, Links, read_file};
 use std::alloc::{AllocError, Global};
 use std::marker::Model;
 use std::path::PathBuf;
@@ -28,7 +28,7 @@ pub struct FolderSource<R> {
 
 impl<R> Model for FolderSource<R> {
     ghost use Rattle.std.specs.Path.{path_buf_bytes};
-    ghost use Rattle.eden_files.specs.Folders.{Folder};
+    ghost use Rattle.eden_plain_files.specs.Folders.{Folder};
 
     ghost Value = { Folder };
 

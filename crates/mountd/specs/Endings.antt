@@ -6,11 +6,11 @@ use Rattle.eden_checkout.specs.declared.fault.OpenFault.{OpenFault}
 use Rattle.eden_checkout.specs.declared.fault.OpenFault.TheVariants as opens
 use Rattle.eden_checkout.specs.declared.tidying.TidyFault.{TidyFault}
 use Rattle.eden_checkout.specs.declared.tidying.TidyFault.TheVariants as tidy
-use Rattle.eden_serve.specs.declared.fault.LifeFault.{LifeFault}
-use Rattle.eden_serve.specs.declared.fault.LifeFault.TheVariants as life
-use Rattle.eden_life.specs.declared.fault.SharedLifeFault.{SharedLifeFault}
-use Rattle.eden_life.specs.declared.fault.SharedLifeFault.TheVariants as shared
-use Rattle.eden_importer.specs.declared.fault.ImportFault.{ImportFault}
+use Rattle.eden_stdio_life.specs.declared.fault.LifeFault.{LifeFault}
+use Rattle.eden_stdio_life.specs.declared.fault.LifeFault.TheVariants as life
+use Rattle.eden_serve_life.specs.declared.fault.SharedLifeFault.{SharedLifeFault}
+use Rattle.eden_serve_life.specs.declared.fault.SharedLifeFault.TheVariants as shared
+use Rattle.eden_object_writer.specs.declared.fault.ImportFault.{ImportFault}
 use Rattle.eden_remote.specs.declared.fault.AnswerFault.{AnswerFault}
 use Rattle.mountd.specs.declared.hold.HoldFault.{HoldFault}
 use Rattle.mountd.specs.declared.hold.HoldFault.TheVariants as hold

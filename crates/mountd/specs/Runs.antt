@@ -6,12 +6,12 @@ use Rattle.eden_source.specs.Fetching.{Answer}
 use Rattle.eden_overlay.specs.declared.files.Files.{Ghosts as Files}
 use Rattle.eden_mount.specs.Settings.{Settings}
 use Rattle.eden_wire.specs.Serving.{Known}
-use Rattle.eden_serve.specs.declared.life.Backing.{Backing}
-use Rattle.eden_serve.specs.declared.life.Ending.{Ending}
-use Rattle.eden_serve.specs.declared.opening.Base.{Base}
-use Rattle.eden_serve.specs.Lives.{Lives}
-use Rattle.eden_command_line.specs.declared.command.HistoryOption.{HistoryOption}
-use Rattle.eden_command_line.specs.declared.command.HistoryOption.TheVariants as keeping
+use Rattle.eden_stdio_life.specs.declared.life.Backing.{Backing}
+use Rattle.eden_stdio_life.specs.declared.life.Ending.{Ending}
+use Rattle.eden_stdio_life.specs.declared.opening.Base.{Base}
+use Rattle.eden_stdio_life.specs.Lives.{Lives}
+use Rattle.mountd_options.specs.declared.command.HistoryOption.{HistoryOption}
+use Rattle.mountd_options.specs.declared.command.HistoryOption.TheVariants as keeping
 use Rattle.mountd.specs.Endings.{status_of}
 
 -- whether replies are copied to be kept, for which there may be no memory

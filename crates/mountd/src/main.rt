@@ -10,8 +10,8 @@ mod stdio;
 mod tidy;
 mod version;
 
-use eden_command_line::{Command, ImportOptions, options};
-use eden_importer::{ImportFault, Progress, Store};
+use eden_object_writer::{ImportFault, Progress, Store};
+use mountd_options::{Command, ImportOptions, options};
 use serve::serve;
 use server::serve_objects;
 use std::alloc::Global;
@@ -40,7 +40,7 @@ fn import(rt: &HostRuntime, options: ImportOptions) -> Result<(), ImportFault> {
     let memory = rt.alloc();
     let from = PathBuf::from(options.from);
     let mut store = Store::new(*rt, PathBuf::from(options.objects), progress);
-    let root = eden_importer::import(memory, &from, &mut store)?;
+    let root = eden_object_writer::import(memory, &from, &mut store)?;
     let digits = hex::encode(memory, root.bytes)?;
     println!(rt; "{digits}")?;
     Ok(())

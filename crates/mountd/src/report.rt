@@ -8,11 +8,11 @@ ghost use Rattle.mountd.specs.Endings.{shared_status, status_of, tidy_status};
 
 use crate::server::ServerFault;
 use eden_checkout::{OpenFault, TidyFault};
-use eden_command_line::{MountCommand, OptionsError};
-use eden_importer::ImportFault;
-use eden_life::SharedLifeFault;
+use eden_object_writer::ImportFault;
 use eden_overlay::{FilesFault, Removed};
-use eden_serve::LifeFault;
+use eden_serve_life::SharedLifeFault;
+use eden_stdio_life::LifeFault;
+use mountd_options::{MountCommand, OptionsError};
 use std::io;
 use std::process::ExitCode;
 

@@ -5,11 +5,11 @@ ghost use Rattle.std.specs.declared.io.ErrorKind.TheVariants as error;
 ghost use Rattle.mountd.specs.Endings.{first_fault, listen_name};
 ghost use Rattle.mountd.specs.declared.server.ListenFault.TheVariants as fault;
 
-use eden_command_line::ObjectsOptions;
 use eden_host::Port;
 use eden_model::Outside;
 use eden_remote::{AnswerFault, answer_objects};
 use eden_source::FolderSource;
+use mountd_options::ObjectsOptions;
 use std::alloc::{Alloc, AllocError, AllocFailed, Global};
 use std::io::{self, ErrorKind};
 use std::net::TcpStream;

@@ -7,13 +7,13 @@ ghost use Rattle.mountd.specs.Runs.{IsRun, copies_of, limit_of};
 use crate::hold::{hold_overlay, opening};
 use crate::report;
 use crate::sources::{folder_source, socket_source};
-use eden_command_line::{HistoryOption, MountOptions, Objects};
 use eden_history::{Counted, History, Kept};
 use eden_model::{Outside, World};
 use eden_mount::Config;
 use eden_overlay::{Files, FolderFiles, MemoryFiles};
-use eden_serve::{Backing, Base, live};
 use eden_source::Source;
+use eden_stdio_life::{Backing, Base, live};
+use mountd_options::{HistoryOption, MountOptions, Objects};
 use std::process::ExitCode;
 
 /// Serves one session over standard input and output.

@@ -2,9 +2,9 @@
 use crate::hold::hold_existing;
 use crate::report;
 use eden_checkout::TidyFault;
-use eden_command_line::TidyOptions;
 use eden_model::Outside;
 use eden_overlay::{FolderFiles, Overlay, Removed};
+use mountd_options::TidyOptions;
 use std::alloc::{Alloc, Global};
 use std::process::ExitCode;
 use std::rt::Files;

@@ -4,8 +4,8 @@ use Rattle.std.proofs.lemmas.Iterator.Adapters.{YieldsList-from_vec}
 use Rattle.std.proofs.lemmas.Iterator.Consumers.{YieldsList-so_far, YieldsList-turn, YieldsList-end}
 use Rattle.eden_tree.specs.Directory.{Directory}
 use Rattle.eden_tree.specs.Rows.{put_row}
-use Rattle.eden_tie.specs.Listings.{stored_entry}
-use Rattle.eden_tie.specs.Loading.{AreUnloaded}
+use Rattle.eden_coupling.specs.Listings.{stored_entry}
+use Rattle.eden_coupling.specs.Loading.{AreUnloaded}
 use Rattle.eden_inode.specs.Filling.{row_stored}
 use Rattle.eden_inode.proofs.Filled.{stored_in, stored_again, stored_unloaded}
 use Rattle.eden_inode.proofs.fill.from_stored.Goals as goal

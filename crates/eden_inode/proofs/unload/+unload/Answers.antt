@@ -9,9 +9,9 @@ use Rattle.eden_model.specs.Trees.{Name}
 use Rattle.eden_tree.specs.Directory.{Row, child_of, with_child, row_size, directory_size}
 use Rattle.eden_tree.specs.Rows.{find_row, set_at}
 use Rattle.eden_tree.proofs.CallerLemmas.{order, child_of-with_child, with_child-same, length-keys, keys_of-set_at, find_row-slice_get, slice_get-find_row, set_at-set_row, slice_get-set_at-other, row_size-slice_get, directory_size-child_of}
-use Rattle.eden_tie.specs.Listings.{listing_of}
-use Rattle.eden_tie.specs.Unloading.{Unloads, none, same_files, IsSettled}
-use Rattle.eden_tie.proofs.CallerLemmas.{map_some}
+use Rattle.eden_coupling.specs.Listings.{listing_of}
+use Rattle.eden_coupling.specs.Unloading.{Unloads, none, same_files, IsSettled}
+use Rattle.eden_coupling.proofs.CallerLemmas.{map_some}
 use Rattle.eden_inode.specs.declared.gone.Gone.{Gone}
 use Rattle.eden_inode.specs.Going.{graver}
 use Rattle.eden_inode.proofs.Refusals.{refused_first, refused_then, Counts, counts_none, counts_of, counts_both}

@@ -3,7 +3,7 @@ use Rattle.std.specs.List.{slice_get}
 use Rattle.std.specs.Map.{keys_of}
 use Rattle.eden_model.specs.Trees as trees
 use Rattle.eden_tree.specs.Directory.{Row, row_size, directory_size, child_of, with_child}
-use Rattle.eden_tie.specs.Unloading.{Unloads, IsSettled}
+use Rattle.eden_coupling.specs.Unloading.{Unloads, IsSettled}
 use Rattle.eden_inode.proofs.Refusals.{Counts}
 use Rattle.eden_inode.proofs.unload.+unload.Given as goal
 

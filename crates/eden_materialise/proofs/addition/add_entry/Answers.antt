@@ -1,6 +1,6 @@
 use Rattle.std.proofs.Common.{ap, rules}
 use Rattle.eden_inode.specs.Tables.{Table}
-use Rattle.eden_tie.specs.Shown.{shown_in}
+use Rattle.eden_coupling.specs.Shown.{shown_in}
 use Rattle.eden_materialise.proofs.Additions.{adds_may, adds_table, adds_kept, adds_stored, adds_strays, adds_shown, adds_unseen, adds_marks, adds_stay}
 use Rattle.eden_materialise.proofs.addition.add_entry.Goals as goal
 

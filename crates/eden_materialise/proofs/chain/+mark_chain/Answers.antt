@@ -2,9 +2,9 @@ use Rattle.std.proofs.Common.{◌≡◌, false, if◌then◌else◌, Some, None,
 use Rattle.eden_model.specs.Trees.{Path}
 use Rattle.eden_tree.specs.Directory.{Row, Directory, with_child}
 use Rattle.eden_tree.specs.Rows.{find_row, set_row}
-use Rattle.eden_tie.specs.Laws.{owned}
-use Rattle.eden_tie.specs.Materialising.{kept_mark, owned_along}
-use Rattle.eden_tie.proofs.CallerLemmas.{along_found}
+use Rattle.eden_coupling.specs.Laws.{owned}
+use Rattle.eden_coupling.specs.Materialising.{kept_mark, owned_along}
+use Rattle.eden_coupling.proofs.CallerLemmas.{along_found}
 use Rattle.eden_materialise.proofs.Steps.{own_below, along_absent}
 use Rattle.eden_materialise.proofs.chain.+mark_chain.Goals as goal
 use Rattle.eden_materialise.proofs.chain.+mark_chain.Goals.{then-becomes_own, else-becomes_own}

@@ -6,9 +6,9 @@ use Rattle.eden_overlay.specs.Held.{with_entries}
 use Rattle.eden_tree.specs.Directory.{child_of}
 use Rattle.eden_tree.specs.Rows.{find_row}
 use Rattle.eden_tree.proofs.CallerLemmas.{no_names}
-use Rattle.eden_tie.specs.Chains.{Above, at_end, again, Unfinished, here, below}
-use Rattle.eden_tie.specs.Materialising.{marked_listing, IsChain}
-use Rattle.eden_tie.proofs.CallerLemmas.{chain_rest, so_far}
+use Rattle.eden_coupling.specs.Chains.{Above, at_end, again, Unfinished, here, below}
+use Rattle.eden_coupling.specs.Materialising.{marked_listing, IsChain}
+use Rattle.eden_coupling.proofs.CallerLemmas.{chain_rest, so_far}
 use Rattle.eden_materialise.specs.Chains.{StaySound}
 use Rattle.eden_materialise.proofs.Steps.{above_again}
 use Rattle.eden_materialise.proofs.chain.+store_above.Goals as goal

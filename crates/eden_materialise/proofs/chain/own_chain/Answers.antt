@@ -1,5 +1,5 @@
-use Rattle.eden_tie.specs.Chains.{Refused}
-use Rattle.eden_tie.proofs.CallerLemmas.{loaded_found, owned_chain}
+use Rattle.eden_coupling.specs.Chains.{Refused}
+use Rattle.eden_coupling.proofs.CallerLemmas.{loaded_found, owned_chain}
 use Rattle.eden_materialise.proofs.Chains.{after_error, held_can, held_chain, held_refused, held_sound}
 use Rattle.eden_materialise.proofs.chain.own_chain.Goals as goal
 

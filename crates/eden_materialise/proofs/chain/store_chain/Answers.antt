@@ -1,6 +1,6 @@
 use Rattle.std.proofs.Common.{sym, subst}
 use Rattle.eden_overlay.specs.Files.{Stored}
-use Rattle.eden_tie.proofs.CallerLemmas.{loaded_found, none_yet}
+use Rattle.eden_coupling.proofs.CallerLemmas.{loaded_found, none_yet}
 use Rattle.eden_materialise.specs.Chains.{lowest_of, with_lowest, StaySound}
 use Rattle.eden_materialise.proofs.chain.store_chain.Goals as goal
 

@@ -3,7 +3,7 @@ use Rattle.eden_overlay_format.specs.Directory.{AreStorable, is_own}
 use Rattle.eden_overlay.specs.Held.{with_entries}
 use Rattle.eden_overlay.specs.Soundness.{AreSound}
 use Rattle.eden_tree.specs.Directory.{Row}
-use Rattle.eden_tie.specs.Listings.{listing_of}
+use Rattle.eden_coupling.specs.Listings.{listing_of}
 use Rattle.eden_materialise.specs.Chains.{lowest_of, with_lowest}
 use Rattle.eden_inode.specs.Listed.{listed_as}
 use Rattle.eden_inode.specs.declared.listing.Listed.{Listed}

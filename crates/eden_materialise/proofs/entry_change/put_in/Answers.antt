@@ -2,11 +2,11 @@ use Rattle.std.proofs.Common.{◌≡◌, ◌⊎◌, Some, sym, ap, ◌∙◌, su
 use Rattle.eden_overlay_format.specs.Directory.{AreStorable}
 use Rattle.eden_overlay.specs.Held.{with_entries}
 use Rattle.eden_tree.specs.Directory.{Row}
-use Rattle.eden_tie.specs.Chains.{IsLoadedAt, Above, Unfinished}
-use Rattle.eden_tie.specs.Laws.{owned}
-use Rattle.eden_tie.specs.Listings.{listing_of}
-use Rattle.eden_tie.specs.Materialising.{IsChain, owned_along}
-use Rattle.eden_tie.proofs.CallerLemmas.{put_can}
+use Rattle.eden_coupling.specs.Chains.{IsLoadedAt, Above, Unfinished}
+use Rattle.eden_coupling.specs.Laws.{owned}
+use Rattle.eden_coupling.specs.Listings.{listing_of}
+use Rattle.eden_coupling.specs.Materialising.{IsChain, owned_along}
+use Rattle.eden_coupling.proofs.CallerLemmas.{put_can}
 use Rattle.eden_materialise.specs.Chains.{StaySound}
 use Rattle.eden_materialise.specs.Puts.{AtDirectory}
 use Rattle.eden_materialise.proofs.Listings.{then_loaded, put_can_be, put_stays_sound, put_above, put_refused, put_is}

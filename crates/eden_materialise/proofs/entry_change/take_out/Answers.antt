@@ -1,9 +1,9 @@
 use Rattle.std.proofs.Common.{◌≡◌, None, ap, ◌∙◌}
 use Rattle.eden_tree.specs.Directory.{Row}
-use Rattle.eden_tie.specs.Chains.{Refused}
-use Rattle.eden_tie.specs.Laws.{owned}
-use Rattle.eden_tie.specs.Materialising.{owned_along}
-use Rattle.eden_tie.proofs.CallerLemmas.{owned_chain}
+use Rattle.eden_coupling.specs.Chains.{Refused}
+use Rattle.eden_coupling.specs.Laws.{owned}
+use Rattle.eden_coupling.specs.Materialising.{owned_along}
+use Rattle.eden_coupling.proofs.CallerLemmas.{owned_chain}
 use Rattle.eden_materialise.proofs.Chains.{after_error}
 use Rattle.eden_materialise.proofs.Listings.{held_loaded, drop_sound, drop_refused, changed_is}
 use Rattle.eden_materialise.proofs.entry_change.take_out.Goals as goal

@@ -3,8 +3,8 @@ use Rattle.std.proofs.lemmas.Result.{on_err_weaker}
 use Rattle.eden_model.specs.Trees.{Path}
 use Rattle.eden_overlay.specs.Files.{Stored}
 use Rattle.eden_tree.specs.Directory.{Row}
-use Rattle.eden_tie.specs.Changing.{MayMove, moved_in, files_moved}
-use Rattle.eden_tie.proofs.CallerLemmas.{place_at, stored_rising, moves_kept}
+use Rattle.eden_coupling.specs.Changing.{MayMove, moved_in, files_moved}
+use Rattle.eden_coupling.proofs.CallerLemmas.{place_at, stored_rising, moves_kept}
 use Rattle.eden_materialise.proofs.entry_move.store_move.Goals as goal
 
 pub move_within-requires-clause-rising : goal.move_within-requires-clause-rising

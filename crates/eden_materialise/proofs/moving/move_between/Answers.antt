@@ -9,9 +9,9 @@ use Rattle.eden_overlay.specs.declared.files.FilesFault.{FilesFault}
 use Rattle.eden_tree.specs.Directory.{Row, Directory, child_of}
 use Rattle.eden_tree.specs.Paths.{edit_row}
 use Rattle.eden_tree.proofs.CallerLemmas.{child_of-with_child}
-use Rattle.eden_tie.specs.Listings.{listing_of}
-use Rattle.eden_tie.specs.Changing.{MayMove, changed, files_left, files_moved}
-use Rattle.eden_tie.proofs.CallerLemmas.{loaded_there}
+use Rattle.eden_coupling.specs.Listings.{listing_of}
+use Rattle.eden_coupling.specs.Changing.{MayMove, changed, files_left, files_moved}
+use Rattle.eden_coupling.proofs.CallerLemmas.{loaded_there}
 use Rattle.eden_materialise.specs.Moves.{marked}
 use Rattle.eden_materialise.proofs.Putting.{put_there}
 use Rattle.eden_materialise.proofs.Moves.{marked_is, ordered, number_at, listing_at, moved_is}

@@ -4,8 +4,8 @@ use Rattle.eden_overlay_format.specs.declared.stored_entry.StoredEntry.{StoredEn
 use Rattle.eden_overlay.specs.Files.{Stored}
 use Rattle.eden_overlay.specs.Held.{with_entries}
 use Rattle.eden_overlay.specs.Soundness.{AreSound}
-use Rattle.eden_tie.specs.Listings.{listing_of}
-use Rattle.eden_tie.proofs.CallerLemmas.{loaded_found}
+use Rattle.eden_coupling.specs.Listings.{listing_of}
+use Rattle.eden_coupling.proofs.CallerLemmas.{loaded_found}
 use Rattle.eden_materialise.proofs.moving.store_both.Goals as goal
 
 pub put_listing-requires-in-Ok-put_listing-clause-entries : goal.put_listing-requires-in-Ok-put_listing-clause-entries

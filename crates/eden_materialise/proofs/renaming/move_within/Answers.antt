@@ -1,8 +1,8 @@
 use Rattle.std.proofs.Common.{Some, sym, ◌∙◌, subst}
 use Rattle.eden_overlay_format.specs.Directory.{AreStorable}
 use Rattle.eden_overlay.specs.Soundness.{AreSound}
-use Rattle.eden_tie.specs.Changing.{changed}
-use Rattle.eden_tie.proofs.CallerLemmas.{loaded_there}
+use Rattle.eden_coupling.specs.Changing.{changed}
+use Rattle.eden_coupling.proofs.CallerLemmas.{loaded_there}
 use Rattle.eden_materialise.proofs.Putting.{put_there}
 use Rattle.eden_materialise.proofs.Within.{holds_both, stored_listing, stored_files, renamed}
 use Rattle.eden_materialise.proofs.renaming.move_within.Goals as goal

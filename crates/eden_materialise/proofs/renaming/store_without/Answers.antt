@@ -2,8 +2,8 @@ use Rattle.std.proofs.Common.{ℕ, None, sym, ap, subst}
 use Rattle.eden_overlay.specs.Held.{with_entries}
 use Rattle.eden_overlay.specs.Soundness.{AreSound}
 use Rattle.eden_tree.specs.Directory.{Row}
-use Rattle.eden_tie.specs.Listings.{listing_of}
-use Rattle.eden_tie.specs.Changing.{changed}
+use Rattle.eden_coupling.specs.Listings.{listing_of}
+use Rattle.eden_coupling.specs.Changing.{changed}
 use Rattle.eden_materialise.proofs.renaming.store_without.Goals as goal
 
 pub save-requires-clause-entries : goal.save-requires-clause-entries

@@ -2,7 +2,7 @@ use Rattle.std.proofs.Common.{◌≡◌, ◌∷◌, sym, ap, ◌∙◌, subst}
 use Rattle.std.proofs.lemmas.Option.{none-some, same_Some}
 use Rattle.eden_model.specs.Trees.{Path}
 use Rattle.eden_tree.specs.Directory.{child_of}
-use Rattle.eden_tie.specs.Saving.{IsSavedAbove}
+use Rattle.eden_coupling.specs.Saving.{IsSavedAbove}
 use Rattle.eden_materialise.proofs.Fronts.{saved_step, saved_away, unsaved_here, unsaved_below}
 use Rattle.eden_materialise.proofs.saving.+has_unsaved.Goals as goal
 

@@ -1,5 +1,5 @@
 use Rattle.std.proofs.Common.{◌<◌, length, refl, ◌∙◌, arith}
-use Rattle.eden_tie.specs.Saving.{none}
+use Rattle.eden_coupling.specs.Saving.{none}
 use Rattle.eden_materialise.proofs.Fronts.{none_yet, one_more_saved, refused_above}
 use Rattle.eden_materialise.proofs.saving.save_above.Goals as goal
 

@@ -5,10 +5,10 @@ use Rattle.eden_model.specs.Operations.{Meets as Table_Meets, Says}
 use Rattle.eden_model.specs.Paths.{is_root}
 use Rattle.eden_model.specs.Trees.{Tree, Path, Reach, reach, graft}
 use Rattle.eden_tree.specs.Paths.{row_at}
-use Rattle.eden_tie.specs.Changing.{changed as changed_listing}
-use Rattle.eden_tie.specs.Filing.{leaf}
-use Rattle.eden_tie.specs.Saving.{IsSavedAbove}
-use Rattle.eden_tie.proofs.CallerLemmas.{loaded_there}
+use Rattle.eden_coupling.specs.Changing.{changed as changed_listing}
+use Rattle.eden_coupling.specs.Filing.{leaf}
+use Rattle.eden_coupling.specs.Saving.{IsSavedAbove}
+use Rattle.eden_coupling.proofs.CallerLemmas.{loaded_there}
 use Rattle.eden_inode.specs.declared.seen.Seen.{Seen}
 use Rattle.eden_inode.specs.Tables.{shows}
 use Rattle.eden_materialise.specs.Filing.{node_as, own_row}

@@ -7,7 +7,7 @@ use Rattle.eden_model.specs.Repository.{Repository}
 use Rattle.eden_model.specs.Trees.{Path}
 use Rattle.eden_object.specs.Trees.{NamesDiffer}
 use Rattle.eden_tree.specs.Directory.{Row}
-use Rattle.eden_tie.specs.Loading.{IsAt, LoadsObject}
+use Rattle.eden_coupling.specs.Loading.{IsAt, LoadsObject}
 use Rattle.eden_inode.specs.Tables.{HasTree, HasNoTree}
 use Rattle.eden_ops.specs.Attempts.{Lacks}
 use Rattle.eden_ops.specs.Keeping.{same}

@@ -1,8 +1,8 @@
 use Rattle.std.proofs.Common.{◌≤◌, ℕ, sym, ap, ◌∙◌, subst, inl, inr}
 use Rattle.eden_tree.specs.Directory.{Row}
-use Rattle.eden_tie.specs.Chains.{NoneMarked, StaysLoaded}
-use Rattle.eden_tie.specs.Kept.{IsKept}
-use Rattle.eden_tie.specs.Ties.{Tied}
+use Rattle.eden_coupling.specs.Chains.{NoneMarked, StaysLoaded}
+use Rattle.eden_coupling.specs.Kept.{IsKept}
+use Rattle.eden_coupling.specs.Ties.{Tied}
 use Rattle.eden_inode.specs.Tables.{shows}
 use Rattle.eden_materialise.specs.Faults.{IsStoreFault}
 use Rattle.eden_ops.specs.Carrying.{CanHold}

@@ -1,7 +1,7 @@
 use Rattle.std.proofs.Common.{sym, ap, ◌∙◌, subst}
 use Rattle.eden_tree.specs.Directory.{Row}
-use Rattle.eden_tie.specs.Kept.{IsTable, IsKept}
-use Rattle.eden_tie.specs.Shown.{shown_in}
+use Rattle.eden_coupling.specs.Kept.{IsTable, IsKept}
+use Rattle.eden_coupling.specs.Shown.{shown_in}
 use Rattle.eden_ops.proofs.Carried.{held_table, held_kept, held_alike}
 use Rattle.eden_ops.proofs.carrying.put_back.Goals as goal
 

@@ -1,6 +1,6 @@
 use Rattle.std.proofs.Common.{sym, ap, ◌∙◌, subst}
-use Rattle.eden_tie.specs.Kept.{IsKept}
-use Rattle.eden_tie.specs.Shown.{shown_in}
+use Rattle.eden_coupling.specs.Kept.{IsKept}
+use Rattle.eden_coupling.specs.Shown.{shown_in}
 use Rattle.eden_ops.proofs.Carried.{taken_table, taken_kept, taken_alike}
 use Rattle.eden_ops.proofs.carrying.take.Goals as goal
 

@@ -8,10 +8,10 @@ use Rattle.eden_model.specs.Operations.{IfEmpty, Removes}
 use Rattle.eden_model.specs.Trees.{Tree, Path, reach, graft}
 use Rattle.eden_tree.specs.Directory.{Row}
 use Rattle.eden_tree.specs.Paths.{row_at}
-use Rattle.eden_tie.specs.Changing.{changed as changed_listing}
-use Rattle.eden_tie.specs.Chains.{StaysLoaded}
-use Rattle.eden_tie.specs.Saving.{IsSavedAbove}
-use Rattle.eden_tie.proofs.CallerLemmas.{map_some}
+use Rattle.eden_coupling.specs.Changing.{changed as changed_listing}
+use Rattle.eden_coupling.specs.Chains.{StaysLoaded}
+use Rattle.eden_coupling.specs.Saving.{IsSavedAbove}
+use Rattle.eden_coupling.proofs.CallerLemmas.{map_some}
 use Rattle.eden_inode.specs.declared.seen.Seen.{Seen}
 use Rattle.eden_model.specs.declared.attempt.Attempt.{Attempt}
 use Rattle.eden_model.specs.declared.attempt.Attempt.TheVariants.{Finished}

@@ -12,10 +12,10 @@ use Rattle.eden_model.specs.Shown.{node_from}
 use Rattle.eden_model.specs.Trees.{Tree, Path, graft}
 use Rattle.eden_overlay.specs.Held.{own_files}
 use Rattle.eden_tree.specs.Paths.{row_at}
-use Rattle.eden_tie.specs.Changing.{changed as changed_listing}
-use Rattle.eden_tie.specs.Filing.{leaf, content_shown}
-use Rattle.eden_tie.specs.Saving.{IsSavedAbove}
-use Rattle.eden_tie.proofs.CallerLemmas.{loaded_there}
+use Rattle.eden_coupling.specs.Changing.{changed as changed_listing}
+use Rattle.eden_coupling.specs.Filing.{leaf, content_shown}
+use Rattle.eden_coupling.specs.Saving.{IsSavedAbove}
+use Rattle.eden_coupling.proofs.CallerLemmas.{loaded_there}
 use Rattle.eden_inode.specs.Tables.{shows}
 use Rattle.eden_materialise.specs.Reforms.{of_kind}
 use Rattle.eden_model.specs.declared.attempt.Attempt.{Attempt}

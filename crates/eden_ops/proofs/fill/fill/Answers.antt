@@ -3,10 +3,10 @@ use Rattle.std.proofs.lemmas.Result.{on_ok_weaker, on_err_weaker}
 use Rattle.eden_model.specs.Shown.{node_from}
 use Rattle.eden_model.specs.Trees.{Path, graft}
 use Rattle.eden_overlay_format.specs.Directory.{is_own}
-use Rattle.eden_tie.specs.Changing.{changed}
-use Rattle.eden_tie.specs.Saving.{IsSavedAbove}
-use Rattle.eden_tie.specs.Filing.{leaf}
-use Rattle.eden_tie.specs.Laws.{owned}
+use Rattle.eden_coupling.specs.Changing.{changed}
+use Rattle.eden_coupling.specs.Saving.{IsSavedAbove}
+use Rattle.eden_coupling.specs.Filing.{leaf}
+use Rattle.eden_coupling.specs.Laws.{owned}
 use Rattle.eden_materialise.specs.Faults.{IsStoreFault}
 use Rattle.eden_ops.specs.Changes.{SameNames}
 use Rattle.eden_inode.specs.Tables.{shows}

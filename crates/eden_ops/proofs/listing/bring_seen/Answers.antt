@@ -1,6 +1,6 @@
 use Rattle.std.proofs.Common.{[], ◌∷◌, sym, subst}
 use Rattle.eden_model.specs.Trees.{Path}
-use Rattle.eden_tie.specs.Loading.{IsAt}
+use Rattle.eden_coupling.specs.Loading.{IsAt}
 use Rattle.std.proofs.Common.{OnOk, IfErr}
 use Rattle.eden_ops.specs.Attempts.{Lacks}
 use Rattle.eden_ops.specs.Keeping.{Keeps, same}

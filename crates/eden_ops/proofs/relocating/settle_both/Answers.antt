@@ -1,7 +1,7 @@
 use Rattle.std.proofs.Common.{subst}
 use Rattle.std.proofs.lemmas.Result.{on_ok_weaker}
 use Rattle.eden_model.specs.Trees.{Path}
-use Rattle.eden_tie.specs.Saving.{IsSavedAbove}
+use Rattle.eden_coupling.specs.Saving.{IsSavedAbove}
 use Rattle.eden_ops.proofs.Settled.{settles_on, saved_on}
 use Rattle.eden_ops.proofs.relocating.settle_both.Goals as goal
 

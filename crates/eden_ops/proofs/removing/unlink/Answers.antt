@@ -9,8 +9,8 @@ use Rattle.eden_model.specs.Trees.{Tree, Path, reach, graft}
 use Rattle.eden_overlay.specs.Held.{own_files}
 use Rattle.eden_tree.specs.Directory.{child_of}
 use Rattle.eden_tree.specs.Paths.{row_at}
-use Rattle.eden_tie.specs.Changing.{changed as changed_listing}
-use Rattle.eden_tie.specs.Saving.{IsSavedAbove}
+use Rattle.eden_coupling.specs.Changing.{changed as changed_listing}
+use Rattle.eden_coupling.specs.Saving.{IsSavedAbove}
 use Rattle.eden_inode.specs.declared.seen.Seen.{Seen}
 use Rattle.eden_model.specs.declared.attempt.Attempt.{Attempt}
 use Rattle.eden_model.specs.declared.attempt.Attempt.TheVariants.{Finished}

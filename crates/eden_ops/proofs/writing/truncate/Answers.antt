@@ -4,7 +4,7 @@ use Rattle.eden_model.specs.declared.errno.Errno.TheVariants.{EFBIG}
 use Rattle.eden_model.specs.declared.reply.Reply.TheVariants as say
 use Rattle.eden_model.specs.declared.request.Request.TheVariants as ask
 use Rattle.eden_model.specs.Operations.{truncated}
-use Rattle.eden_tie.specs.Filing.{content_shown}
+use Rattle.eden_coupling.specs.Filing.{content_shown}
 use Rattle.eden_model.specs.declared.attempt.Attempt.{Attempt}
 use Rattle.eden_model.specs.declared.attempt.Attempt.TheVariants.{Finished}
 use Rattle.eden_ops.specs.Attempts.{Attempts}

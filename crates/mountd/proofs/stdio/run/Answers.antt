@@ -1,6 +1,6 @@
 use Rattle.std.proofs.Common.{◌∙◌, ℕ, true, sym, subst}
 use Rattle.std.specs.Process.{exit_status}
-use Rattle.eden_command_line.specs.declared.command.HistoryOption.{HistoryOption}
+use Rattle.mountd_options.specs.declared.command.HistoryOption.{HistoryOption}
 use Rattle.mountd.specs.Runs.{IsRun, copies_of, limit_of}
 use Rattle.mountd.proofs.stdio.run.Goals as goal
 

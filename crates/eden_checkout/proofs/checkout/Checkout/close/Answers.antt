@@ -4,7 +4,7 @@ use Rattle.eden_overlay.specs.Held.{HoldsState}
 use Rattle.eden_model.specs.Trees.{Tree}
 use Rattle.eden_overlay.specs.Files.{Stored}
 use Rattle.eden_tree.specs.Directory.{Row, child_of}
-use Rattle.eden_tie.specs.Shown.{shown_in}
+use Rattle.eden_coupling.specs.Shown.{shown_in}
 use Rattle.eden_inode.specs.Tables.{Table, shows}
 use Rattle.eden_ops.proofs.CallerLemmas.{root_left}
 use Rattle.eden_checkout.specs.Checkouts.{Checkout}

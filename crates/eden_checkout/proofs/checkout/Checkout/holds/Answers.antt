@@ -1,6 +1,6 @@
 use Rattle.std.proofs.Common.{◌≡◌, subst}
 use Rattle.eden_overlay.specs.Soundness.{AreSound}
-use Rattle.eden_tie.specs.Chains.{AreSaved}
+use Rattle.eden_coupling.specs.Chains.{AreSaved}
 use Rattle.eden_inode.specs.Tables.{shows}
 use Rattle.eden_checkout.specs.Checkouts.{Checkout}
 use Rattle.eden_checkout.specs.Opening.{files_show}

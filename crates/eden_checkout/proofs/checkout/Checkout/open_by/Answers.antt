@@ -2,8 +2,8 @@ use Rattle.std.proofs.Common.{◌∙◌, sym, ap, subst}
 use Rattle.eden_model.specs.declared.kind.Origin.{Origin}
 use Rattle.eden_overlay.specs.Files.{Stored}
 use Rattle.eden_overlay.specs.Held.{without}
-use Rattle.eden_tie.specs.Chains.{AreSaved}
-use Rattle.eden_tie.specs.Shown.{shown_in}
+use Rattle.eden_coupling.specs.Chains.{AreSaved}
+use Rattle.eden_coupling.specs.Shown.{shown_in}
 use Rattle.eden_inode.specs.Tables.{CanStart, Table, fresh_root, shows}
 use Rattle.eden_checkout.specs.Opening.{Starts, Finds}
 use Rattle.eden_checkout.proofs.Opened.{can_start, shown_by, fresh_saved}

@@ -1,6 +1,6 @@
 use Rattle.std.proofs.Common.{sym, subst}
 use Rattle.eden_overlay.specs.Files.{Stored}
-use Rattle.eden_tie.specs.Kept.{IsKept}
+use Rattle.eden_coupling.specs.Kept.{IsKept}
 use Rattle.eden_inode.proofs.inodes.Inodes.content.Goals as goal
 
 pub invariant_of-self : goal.invariant_of-self

@@ -1,6 +1,6 @@
 use Rattle.std.proofs.Common.{◌≡◌, Some, sym, ap, ◌∙◌, subst}
 use Rattle.eden_overlay.specs.Held.{HoldsContent}
-use Rattle.eden_tie.specs.Kept.{IsKept}
+use Rattle.eden_coupling.specs.Kept.{IsKept}
 use Rattle.eden_tree.specs.Directory.{Row}
 use Rattle.eden_tree.specs.Paths.{row_at}
 use Rattle.eden_inode.specs.Tables.{Table}

@@ -2,9 +2,9 @@ use Rattle.std.proofs.Common.{◌≤◌, ◌+◌, length, refl, sym, ap, ◌∙�
 use Rattle.eden_model.specs.declared.kind.Origin.TheVariants as origin
 use Rattle.eden_model.specs.Limits.{number_end}
 use Rattle.eden_tree.specs.Directory.{Row}
-use Rattle.eden_tie.specs.Kept.{IsTable, IsKept}
-use Rattle.eden_tie.specs.Loading.{IsAt, LoadsObject}
-use Rattle.eden_tie.specs.Shown.{shown_in}
+use Rattle.eden_coupling.specs.Kept.{IsTable, IsKept}
+use Rattle.eden_coupling.specs.Loading.{IsAt, LoadsObject}
+use Rattle.eden_coupling.specs.Shown.{shown_in}
 use Rattle.eden_inode.specs.Tables.{Table}
 use Rattle.eden_inode.proofs.inodes.Inodes.load_object.Goals as goal
 

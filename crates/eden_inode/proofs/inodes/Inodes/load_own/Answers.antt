@@ -3,11 +3,11 @@ use Rattle.eden_overlay.specs.Files.{Stored}
 use Rattle.eden_overlay.specs.Held.{HoldsEntries}
 use Rattle.eden_tree.specs.Directory.{Row}
 use Rattle.eden_tree.specs.Paths.{row_at}
-use Rattle.eden_tie.specs.Kept.{IsTable, IsKept}
-use Rattle.eden_tie.specs.Listings.{listing_of}
-use Rattle.eden_tie.specs.Loading.{LoadsOwn}
-use Rattle.eden_tie.specs.Shown.{shown_in}
-use Rattle.eden_tie.proofs.CallerLemmas.{own_loads_table, own_loads_kept, own_loads_alike}
+use Rattle.eden_coupling.specs.Kept.{IsTable, IsKept}
+use Rattle.eden_coupling.specs.Listings.{listing_of}
+use Rattle.eden_coupling.specs.Loading.{LoadsOwn}
+use Rattle.eden_coupling.specs.Shown.{shown_in}
+use Rattle.eden_coupling.proofs.CallerLemmas.{own_loads_table, own_loads_kept, own_loads_alike}
 use Rattle.eden_inode.specs.Tables.{Table, HasNoTree}
 use Rattle.eden_inode.proofs.Rows.{same_some}
 use Rattle.eden_inode.proofs.Loads.{not_object, some_at}

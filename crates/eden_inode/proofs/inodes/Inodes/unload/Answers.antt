@@ -3,9 +3,9 @@ use Rattle.std.specs.Option.{option_map}
 use Rattle.eden_tree.specs.Directory.{Row}
 use Rattle.eden_tree.specs.Paths.{row_at}
 use Rattle.eden_tree.proofs.CallerLemmas.{edits_there, edits_nothing}
-use Rattle.eden_tie.specs.Shown.{shown_in}
-use Rattle.eden_tie.specs.Unloading.{Unloads, none, IsSettled}
-use Rattle.eden_tie.proofs.CallerLemmas.{unloads_table, unloads_kept, tables_unload, unloads_alike}
+use Rattle.eden_coupling.specs.Shown.{shown_in}
+use Rattle.eden_coupling.specs.Unloading.{Unloads, none, IsSettled}
+use Rattle.eden_coupling.proofs.CallerLemmas.{unloads_table, unloads_kept, tables_unload, unloads_alike}
 use Rattle.eden_inode.specs.Tables.{Table}
 use Rattle.eden_inode.proofs.Rows.{same_some}
 use Rattle.eden_inode.proofs.Unloads.{may_at, unloads_at}

@@ -1,7 +1,7 @@
 use Rattle.std.proofs.Common.{Some, Ok, Err, inr, sym, ◌∙◌, subst}
 use Rattle.eden_overlay.specs.Held.{with_content}
 use Rattle.eden_tree.specs.Directory.{Row}
-use Rattle.eden_tie.specs.Laws.{owned}
+use Rattle.eden_coupling.specs.Laws.{owned}
 use Rattle.eden_materialise.specs.Filing.{filed}
 use Rattle.eden_materialise.specs.Listings.{IsHeldFor}
 use Rattle.eden_materialise.proofs.Chains.{told_fault}

@@ -1,5 +1,5 @@
 use Rattle.std.proofs.lemmas.Bool.{not-false}
-use Rattle.eden_tie.proofs.CallerLemmas.{moves_there}
+use Rattle.eden_coupling.proofs.CallerLemmas.{moves_there}
 use Rattle.eden_materialise.proofs.EntryMoves.{clear_sound, move_done}
 use Rattle.eden_materialise.proofs.entry_move.EntryMoveChangeOverlay.change.Goals as goal
 

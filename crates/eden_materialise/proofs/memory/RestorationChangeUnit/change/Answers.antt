@@ -1,6 +1,6 @@
 use Rattle.std.proofs.Common.{false, ap, ◌∙◌}
 use Rattle.eden_tree.specs.Directory.{Directory}
-use Rattle.eden_tie.proofs.CallerLemmas.{back_there}
+use Rattle.eden_coupling.proofs.CallerLemmas.{back_there}
 use Rattle.eden_materialise.proofs.Putting.{restored, put_child, put_undone}
 use Rattle.eden_materialise.proofs.memory.RestorationChangeUnit.change.Goals as goal
 

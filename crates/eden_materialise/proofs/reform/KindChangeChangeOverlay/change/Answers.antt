@@ -1,9 +1,9 @@
 use Rattle.std.proofs.Common.{◌≡◌, Some, sym, ap, ◌∙◌, subst}
 use Rattle.eden_overlay.specs.Held.{with_entries}
 use Rattle.eden_tree.specs.Directory.{Row}
-use Rattle.eden_tie.specs.Chains.{chained, Above}
-use Rattle.eden_tie.specs.Changing.{changed}
-use Rattle.eden_tie.specs.Listings.{listing_of}
+use Rattle.eden_coupling.specs.Chains.{chained, Above}
+use Rattle.eden_coupling.specs.Changing.{changed}
+use Rattle.eden_coupling.specs.Listings.{listing_of}
 use Rattle.eden_materialise.specs.Listings.{IsHeldFor}
 use Rattle.eden_materialise.proofs.Chains.{told_fault}
 use Rattle.eden_materialise.proofs.reform.KindChangeChangeOverlay.change.Goals as goal

@@ -3,7 +3,7 @@ use Rattle.eden_overlay.specs.Held.{with_entries}
 use Rattle.eden_overlay.specs.Soundness.{AreSound}
 use Rattle.eden_tree.specs.Directory.{Row}
 use Rattle.eden_tree.proofs.CallerLemmas.{with_child-same}
-use Rattle.eden_tie.specs.Listings.{listing_of}
+use Rattle.eden_coupling.specs.Listings.{listing_of}
 use Rattle.eden_materialise.proofs.Chains.{told_fault}
 use Rattle.eden_materialise.proofs.Fronts.{idle_here}
 use Rattle.eden_materialise.proofs.saving.SavingChangeOverlay.change.Goals as goal

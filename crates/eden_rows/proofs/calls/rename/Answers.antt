@@ -1,5 +1,0 @@
-use Rattle.eden_rows.proofs.Places.{can_move}
-use Rattle.eden_rows.proofs.calls.rename.Goals as goal
-
-pub move_entry-requires : goal.move_entry-requires
-move_entry-requires g c = record { may = can_move _ _ _ _ _ (c.ask.ensures.so cc) }

@@ -1,5 +1,0 @@
-use Rattle.eden_rows.proofs.Storable.{none_storable}
-use Rattle.eden_rows.proofs.listing.put_empty.Goals as goal
-
-pub put_dir-requires-clause-entries : goal.put_dir-requires-clause-entries
-put_dir-requires-clause-entries g c = none_storable

@@ -1,7 +1,0 @@
-use Rattle.std.proofs.Common.{◌∙◌}
-use Rattle.eden_serve.proofs.opening.open.Goals as goal
-
-pub returns-in-Ok-open_by-clause-opened : goal.returns-in-Ok-open_by-clause-opened
-returns-in-Ok-open_by-clause-opened g c =
-    let o = c.in-Ok-open_by.ensures in
-    record { commit = o.fresh.1.1.1; cache = o.fresh.1.1.0 ∙ c.in-Ok.ensures.cache; next = o.next; shown = o.shown }

@@ -1,8 +1,0 @@
-//! Worked rows of the line protocol and of command lines, so that `eden_wire` and `eden_command_line` aren't proved a
-//! second time for them.
-#![tactic(auto)]
-
-#[cfg(test)]
-mod command_lines;
-#[cfg(test)]
-mod sessions;

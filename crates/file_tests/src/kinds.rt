@@ -1,0 +1,432 @@
+//! The kinds of files that an overlay stands on: in memory, in a folder, and failing ones.
+use crate::folders::{Made, folder_of};
+use eden_model::Outside;
+use eden_overlay::{FailingFiles, Files, FilesFault, FolderFiles, MemoryFiles, StopFiles};
+use eden_overlay_format::Head;
+use std::alloc::Global;
+use std::cell::Cell;
+use std::fs;
+use std::io::ErrorKind;
+use std::path::PathBuf;
+use std::process::Abort;
+use std::rc::Rc;
+use test_samples::{Call as SystemCall, FaultySystem};
+
+#[derive(Clone, Copy)]
+enum Call {
+    Read(u64),
+    Head(u64),
+    Replace(u64, &'static [u8]),
+    Remove(u64),
+    List,
+}
+
+#[derive(Clone, Copy)]
+enum Answer {
+    Bytes(Option<&'static [u8]>),
+    // The first 64 bytes, of a file that has as many, and its length.
+    Head(Option<(&'static [u8], u64)>),
+    Done,
+    Numbers(&'static [u64]),
+    Device,
+}
+
+// Whether the files give that answer to the call.
+fn gives<F: Files<Outside>>(files: &mut F, alloc: Global, call: Call, want: Answer) -> bool {
+    match call {
+        Call::Read(number) => is_read(&files.read(alloc, number), want),
+        Call::Head(number) => is_head(files.head(number), want),
+        Call::Replace(number, bytes) => is_done(files.replace(alloc, number, bytes), want),
+        Call::Remove(number) => is_done(files.remove(number), want),
+        Call::List => is_listed(&files.list(alloc), want),
+    }
+}
+
+fn is_read(answer: &Result<Option<Vec<u8>>, FilesFault>, want: Answer) -> bool {
+    match (answer, want) {
+        (Ok(None), Answer::Bytes(want)) => want.is_none(),
+        (Ok(Some(bytes)), Answer::Bytes(want)) => want == Some(bytes.as_slice()),
+        (Err(FilesFault::Device), Answer::Device) => true,
+        _ => false,
+    }
+}
+
+fn is_head(answer: Result<Option<Head>, FilesFault>, want: Answer) -> bool {
+    match (answer, want) {
+        (Ok(None), Answer::Head(want)) => want.is_none(),
+        (Ok(Some(head)), Answer::Head(Some((first, len)))) => {
+            head.len == len && (len < 64 || head.first.as_slice() == first)
+        }
+        (Err(FilesFault::Device), Answer::Device) => true,
+        _ => false,
+    }
+}
+
+fn is_listed(answer: &Result<Vec<u64>, FilesFault>, want: Answer) -> bool {
+    match (answer, want) {
+        (Ok(numbers), Answer::Numbers(want)) => numbers.as_slice() == want,
+        (Err(FilesFault::Device), Answer::Device) => true,
+        _ => false,
+    }
+}
+
+fn is_done(answer: Result<(), FilesFault>, want: Answer) -> bool {
+    match answer {
+        Ok(()) => matches!(want, Answer::Done),
+        Err(FilesFault::Device) => matches!(want, Answer::Device),
+        Err(FilesFault::Memory) => false,
+    }
+}
+
+// Whether the files give those answers to the calls, made one after another.
+fn gives_all<F: Files<Outside>>(files: &mut F, alloc: Global, calls: &[(Call, Answer)]) -> bool {
+    for (call, want) in calls {
+        if !gives(files, alloc, *call, *want) {
+            return false;
+        }
+    }
+    true
+}
+
+const SIXTY_FOUR: &[u8] = b"0123456789abcdef0123456789abcdef0123456789abcdef0123456789abcdef";
+
+const SIXTY_SIX: &[u8] = b"0123456789abcdef0123456789abcdef0123456789abcdef0123456789abcdef..";
+
+// What every kind of files answers that is empty at first.
+const BEHAVIOUR: &[(Call, Answer)] = &[
+    (Call::List, Answer::Numbers(&[])),
+    (Call::Read(10), Answer::Bytes(None)),
+    (Call::Replace(10, b"ten"), Answer::Done),
+    (Call::Read(10), Answer::Bytes(Some(b"ten"))),
+    (Call::Head(10), Answer::Head(Some((b"", 3)))),
+    (Call::Read(1), Answer::Bytes(None)),
+    (Call::Head(1), Answer::Head(None)),
+    (Call::Replace(5, SIXTY_FOUR), Answer::Done),
+    (Call::Head(5), Answer::Head(Some((SIXTY_FOUR, 64)))),
+    (Call::Replace(5, SIXTY_SIX), Answer::Done),
+    (Call::Head(5), Answer::Head(Some((SIXTY_FOUR, 66)))),
+    (Call::Remove(5), Answer::Done),
+    (Call::Head(5), Answer::Head(None)),
+    (Call::Replace(2, b""), Answer::Done),
+    (Call::Head(2), Answer::Head(Some((b"", 0)))),
+    (Call::Read(2), Answer::Bytes(Some(b""))),
+    (Call::List, Answer::Numbers(&[2, 10])),
+    (Call::Replace(10, b"x"), Answer::Done),
+    (Call::Read(10), Answer::Bytes(Some(b"x"))),
+    (Call::Replace(u64::MAX, b"\0\xff"), Answer::Done),
+    (Call::Replace(0, b"zero"), Answer::Done),
+    (Call::List, Answer::Numbers(&[0, 2, 10, u64::MAX])),
+    (Call::Read(u64::MAX), Answer::Bytes(Some(b"\0\xff"))),
+    (Call::Remove(10), Answer::Done),
+    (Call::Read(10), Answer::Bytes(None)),
+    (Call::Remove(10), Answer::Done),
+    (Call::List, Answer::Numbers(&[0, 2, u64::MAX])),
+    (Call::Read(0), Answer::Bytes(Some(b"zero"))),
+];
+
+// Ten thousand files, of which the last has these bytes.
+fn many(rt: &impl Abort, alloc: Global, last: &[u8]) -> MemoryFiles<Outside> {
+    let mut files = MemoryFiles::new(alloc);
+    for number in 0..10_000 {
+        files
+            .replace(alloc, number, &number.to_be_bytes())
+            .expect(rt, "memory");
+    }
+    files.replace(alloc, 9_999, last).expect(rt, "memory");
+    files
+}
+
+// Ten thousand files, one of them of 100,000 bytes.
+#[test]
+fn memory_keeps_many_files(rt: HostRuntime) {
+    let alloc = rt.alloc();
+    let long = [7; 1000].repeat(alloc, 100).expect(&rt, "memory");
+    let mut files = many(&rt, alloc, long.as_slice());
+    let last = files.read(alloc, 9_999).expect(&rt, "an answer");
+    assert!(rt; last.expect(&rt, "a file") == long);
+    assert!(rt; files.list(alloc).expect(&rt, "numbers").len() == 10_000);
+}
+
+#[test]
+fn memory_behaves(rt: HostRuntime) {
+    let mut files = MemoryFiles::<Outside>::new(rt.alloc());
+    assert!(rt; gives_all(&mut files, rt.alloc(), BEHAVIOUR));
+}
+
+// How many failures files in the folder count that give those answers; none where they give others.
+fn failures_of(rt: &HostRuntime, folder: PathBuf, calls: &[(Call, Answer)]) -> Option<u64> {
+    let mut files = FolderFiles::new(rt, folder);
+    if gives_all(&mut files, rt.alloc(), calls) {
+        Some(files.failures())
+    } else {
+        None
+    }
+}
+
+#[test]
+fn folder_behaves(rt: HostRuntime) {
+    let folder = folder_of(&rt, "overlay-behaves", &[]).expect(&rt, "a folder");
+    let asked = folder.clone().expect(&rt, "memory");
+    assert!(rt; failures_of(&rt, asked, BEHAVIOUR) == Some(0));
+    fs::remove_dir_all(&rt, folder.as_path()).expect(&rt, "a folder");
+}
+
+// Plain files of some names that are numbers and some that aren't, a directory 4, the links 6 and 7, of which one leads
+// nowhere, and a file 8 that is too long.
+const ODD_FILES: &[(&str, Made)] = &[
+    ("3.new", Made::File(b"3.new")),
+    ("5", Made::File(b"5")),
+    ("02", Made::File(b"02")),
+    ("x", Made::File(b"x")),
+    ("+9", Made::File(b"+9")),
+    ("18446744073709551616", Made::File(b"18446744073709551616")),
+    ("4", Made::Folder),
+    ("6", Made::Link("5")),
+    ("7", Made::Link("nothing")),
+    ("8", Made::Long(1_073_741_889)),
+];
+
+const ODD: &[(Call, Answer)] = &[
+    (Call::List, Answer::Numbers(&[4, 5, 6, 7, 8])),
+    (Call::Read(2), Answer::Bytes(None)),
+    (Call::Read(3), Answer::Bytes(None)),
+    (Call::Read(4), Answer::Device),
+    (Call::Read(5), Answer::Bytes(Some(b"5"))),
+    (Call::Read(6), Answer::Device),
+    (Call::Read(7), Answer::Device),
+    (Call::Read(8), Answer::Device),
+    (Call::Read(9), Answer::Bytes(None)),
+    (Call::Head(4), Answer::Device),
+    (Call::Head(5), Answer::Head(Some((b"", 1)))),
+    (Call::Head(6), Answer::Device),
+    (Call::Head(7), Answer::Device),
+    (Call::Head(8), Answer::Device),
+    (Call::Head(9), Answer::Head(None)),
+    (Call::Remove(4), Answer::Device),
+];
+
+#[test]
+fn folder_reads_plain_files_alone(rt: HostRuntime) {
+    let folder = folder_of(&rt, "overlay-odd", ODD_FILES).expect(&rt, "files");
+    let asked = folder.clone().expect(&rt, "memory");
+    assert!(rt; failures_of(&rt, asked, ODD) == Some(9));
+    fs::remove_dir_all(&rt, folder.as_path()).expect(&rt, "a folder");
+}
+
+// A file of 8 MiB, the longest, and one of a byte more.
+const LONG_FILES: &[(&str, Made)] = &[
+    ("5", Made::Long(8_388_608)),
+    ("6", Made::Long(1_073_741_888)),
+    ("7", Made::Long(1_073_741_889)),
+];
+
+// How many bytes the file of that number has, or why it isn't read.
+fn length_of<F: Files<Outside>>(
+    files: &mut F,
+    alloc: Global,
+    number: u64,
+) -> Result<Option<usize>, FilesFault> {
+    match files.read(alloc, number) {
+        Ok(Some(bytes)) => Ok(Some(bytes.len())),
+        Ok(None) => Ok(None),
+        Err(fault) => Err(fault),
+    }
+}
+
+// Reads that find no memory tell which files are read at all, so that none of 2^30 bytes has to be.
+#[test]
+fn folder_reads_long_files(rt: HostRuntime) {
+    let folder = folder_of(&rt, "overlay-long", LONG_FILES).expect(&rt, "files");
+    let mut files = FolderFiles::new(&rt, folder.clone().expect(&rt, "memory"));
+    assert!(rt; length_of(&mut files, rt.alloc(), 5) == Ok(Some(8_388_608)));
+    let system = FaultySystem {
+        files: &rt,
+        call: SystemCall::Read,
+        kind: ErrorKind::OutOfMemory,
+        instead: None,
+    };
+    let mut failing = FolderFiles::new(system, folder.clone().expect(&rt, "memory"));
+    assert!(rt; length_of(&mut failing, rt.alloc(), 6) == Err(FilesFault::Memory));
+    assert!(rt; length_of(&mut failing, rt.alloc(), 7) == Err(FilesFault::Device));
+    fs::remove_dir_all(&rt, folder.as_path()).expect(&rt, "a folder");
+}
+
+const LEFT_OVER: &[(Call, Answer)] = &[
+    (Call::Read(5), Answer::Bytes(None)),
+    (Call::List, Answer::Numbers(&[])),
+    (Call::Replace(5, b"new"), Answer::Done),
+    (Call::Read(5), Answer::Bytes(Some(b"new"))),
+    (Call::List, Answer::Numbers(&[5])),
+];
+
+#[test]
+fn what_a_failure_left_is_no_file(rt: HostRuntime) {
+    let table = [("5.new", Made::File(b"left over"))];
+    let folder = folder_of(&rt, "overlay-left", &table).expect(&rt, "a file");
+    let asked = folder.clone().expect(&rt, "memory");
+    assert!(rt; failures_of(&rt, asked, LEFT_OVER).is_some());
+    let new = folder.join(rt.alloc(), "5.new").expect(&rt, "memory");
+    assert!(rt; !fs::exists(&rt, new.as_path()).expect(&rt, "an answer"));
+    fs::remove_dir_all(&rt, folder.as_path()).expect(&rt, "a folder");
+}
+
+const GONE: &[(Call, Answer)] = &[
+    (Call::Read(1), Answer::Bytes(None)),
+    (Call::Remove(1), Answer::Done),
+    (Call::Replace(1, b""), Answer::Device),
+    (Call::List, Answer::Device),
+];
+
+#[test]
+fn a_missing_folder_fails(rt: HostRuntime) {
+    let folder = folder_of(&rt, "overlay-gone", &[]).expect(&rt, "a folder");
+    fs::remove_dir(&rt, folder.as_path()).expect(&rt, "no folder");
+    let asked = folder.clone().expect(&rt, "memory");
+    assert!(rt; failures_of(&rt, asked, GONE) == Some(2));
+}
+
+#[derive(Clone, Copy)]
+enum Ask {
+    Read,
+    Head,
+    Replace,
+    Remove,
+    List,
+}
+
+// The fault of that call on file 5.
+fn fault_of<F: Files<Outside>>(files: &mut F, alloc: Global, ask: Ask) -> Option<FilesFault> {
+    match ask {
+        Ask::Read => files.read(alloc, 5).err(),
+        Ask::Head => files.head(5).err(),
+        Ask::Replace => files.replace(alloc, 5, b"new").err(),
+        Ask::Remove => files.remove(5).err(),
+        Ask::List => files.list(alloc).err(),
+    }
+}
+
+// No removal, no replacement and no listing that the device refused is told as done.
+const FAILED: [(SystemCall, Ask); 11] = [
+    (SystemCall::Look, Ask::Head),
+    (SystemCall::Open, Ask::Head),
+    (SystemCall::LookAtOpen, Ask::Head),
+    (SystemCall::Look, Ask::Read),
+    (SystemCall::Open, Ask::Read),
+    (SystemCall::Read, Ask::Read),
+    (SystemCall::Open, Ask::Replace),
+    (SystemCall::Write, Ask::Replace),
+    (SystemCall::Rename, Ask::Replace),
+    (SystemCall::Remove, Ask::Remove),
+    (SystemCall::List, Ask::List),
+];
+
+// Whether the call answers `Device`, once and counted, where those of the system fail.
+fn is_told(rt: &HostRuntime, folder: PathBuf, call: SystemCall, ask: Ask) -> bool {
+    let system = FaultySystem {
+        files: rt,
+        call,
+        kind: ErrorKind::ConnectionReset,
+        instead: None,
+    };
+    let mut files = FolderFiles::new(system, folder);
+    fault_of(&mut files, rt.alloc(), ask) == Some(FilesFault::Device) && files.failures() == 1
+}
+
+// Whether file 5 has these bytes.
+fn holds<F: Files<Outside>>(files: &mut F, alloc: Global, bytes: &'static [u8]) -> bool {
+    gives(files, alloc, Call::Read(5), Answer::Bytes(Some(bytes)))
+}
+
+#[test]
+fn a_failing_device_is_told_and_counted(rt: HostRuntime) {
+    let folder = folder_of(&rt, "overlay-failing", &[]).expect(&rt, "a folder");
+    let mut sound = FolderFiles::new(&rt, folder.clone().expect(&rt, "memory"));
+    assert!(rt; sound.replace(rt.alloc(), 5, b"old") == Ok(()));
+    for (call, ask) in FAILED {
+        assert!(rt; is_told(&rt, folder.clone().expect(&rt, "memory"), call, ask));
+        assert!(rt; holds(&mut sound, rt.alloc(), b"old"));
+    }
+    fs::remove_dir_all(&rt, folder.as_path()).expect(&rt, "a folder");
+}
+
+// Stores a file, reads it, removes it, and lists what is left. Which of the four calls fail?
+fn failing<F: Files<Outside>>(files: &mut F, alloc: Global) -> [bool; 4] {
+    [
+        gives(files, alloc, Call::Replace(7, b"a"), Answer::Device),
+        gives(files, alloc, Call::Read(7), Answer::Device),
+        gives(files, alloc, Call::Remove(7), Answer::Device),
+        gives(files, alloc, Call::List, Answer::Device),
+    ]
+}
+
+// The call that fails, which calls fail then, and what is left.
+const ONE_FAILS: &[(u64, [bool; 4], &[u64])] = &[
+    (0, [false, false, false, false], &[]),
+    (1, [true, false, false, false], &[]),
+    (2, [false, true, false, false], &[]),
+    (3, [false, false, true, false], &[7]),
+    (4, [false, false, false, true], &[]),
+    (5, [false, false, false, false], &[]),
+];
+
+// Whether those calls fail where that one does, and are counted.
+fn one_fails(
+    files: &mut FailingFiles<MemoryFiles<Outside>>,
+    alloc: Global,
+    want: [bool; 4],
+) -> bool {
+    failing(files, alloc) == want && (files.failures() == 1) == want.contains(&true)
+}
+
+// Whether those calls fail where that one does, and that is left.
+fn one_fails_and_leaves(alloc: Global, call: u64, want: [bool; 4], left: &'static [u64]) -> bool {
+    let mut files = FailingFiles::new(MemoryFiles::<Outside>::new(alloc), call);
+    one_fails(&mut files, alloc, want)
+        && gives(
+            &mut files.into_files(),
+            alloc,
+            Call::List,
+            Answer::Numbers(left),
+        )
+}
+
+#[test]
+fn one_call_fails(rt: HostRuntime) {
+    for (call, want, left) in ONE_FAILS {
+        assert!(rt; one_fails_and_leaves(rt.alloc(), *call, *want, left));
+    }
+}
+
+// The calls that are allowed, which fail, and the failures so far.
+const STOPS: &[(u64, [bool; 4], u64)] = &[
+    (1, [false, true, true, true], 3),
+    (3, [false, false, false, true], 4),
+    (0, [true, true, true, true], 8),
+    (4, [false, false, false, false], 8),
+];
+
+// Whether those calls fail where so many are allowed, all of which are used up then.
+fn stops(
+    files: &mut StopFiles<MemoryFiles<Outside>>,
+    alloc: Global,
+    allowed: &Cell<u64>,
+    calls: u64,
+    want: [bool; 4],
+) -> bool {
+    allowed.set(calls);
+    failing(files, alloc) == want && allowed.get() == 0
+}
+
+#[test]
+fn files_stop_and_are_mended(rt: HostRuntime) {
+    let alloc = rt.alloc();
+    let allowed = Rc::new(alloc, Cell::new(0)).expect(&rt, "memory");
+    let counted = allowed.clone().expect(&rt, "memory");
+    let mut files = StopFiles::new(MemoryFiles::<Outside>::new(alloc), counted);
+    for (calls, want, failures) in STOPS {
+        assert!(rt; stops(&mut files, alloc, &allowed, *calls, *want));
+        assert!(rt; files.failures() == *failures);
+    }
+    let mut files = files.into_files();
+    assert!(rt; gives(&mut files, alloc, Call::List, Answer::Numbers(&[])));
+}

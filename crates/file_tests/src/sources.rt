@@ -1,0 +1,245 @@
+//! The answers of sources in memory and in folders.
+use crate::folders::{Made, folder_of};
+use eden_model::{Cause, Id, Outside};
+use eden_source::{FolderSource, MemorySource, Source};
+use std::alloc::{AllocError, Global};
+use std::fs;
+use std::io::ErrorKind;
+use std::path::PathBuf;
+use std::process::Abort;
+use test_samples::{Call, FaultySystem, VERSION_1, VERSION_2};
+
+// The id of `VERSION_1` with another first byte.
+fn id_starting(first: u8) -> Id {
+    let mut id = VERSION_1.id;
+    id.bytes[0] = first;
+    id
+}
+
+fn is_answer(answer: &Result<Vec<u8>, Cause>, want: Result<&[u8], Cause>) -> bool {
+    match (answer, want) {
+        (Ok(framed), Ok(want)) => framed.as_slice() == want,
+        (Err(cause), Err(want)) => *cause == want,
+        _ => false,
+    }
+}
+
+// Whether the source gives that answer.
+fn gives<S: Source<Outside>>(
+    source: &mut S,
+    alloc: Global,
+    id: Id,
+    want: Result<&[u8], Cause>,
+) -> bool {
+    is_answer(&source.fetch(alloc, id), want)
+}
+
+// An id of that number.
+fn numbered(number: u32) -> Id {
+    let mut id = VERSION_1.id;
+    id.bytes[..4].copy_from_slice(&number.to_be_bytes());
+    id
+}
+
+fn put(rt: &impl Abort, alloc: Global, source: &mut MemorySource<Outside>, id: Id, framed: &[u8]) {
+    let framed = Vec::from_slice(alloc, framed).expect(rt, "memory");
+    source.insert(id, framed).expect(rt, "memory")
+}
+
+// Ten thousand objects of the same bytes, and then others in the second one's place.
+fn many(rt: &impl Abort, alloc: Global, second: &[u8]) -> MemorySource<Outside> {
+    let mut source = MemorySource::new(alloc);
+    for number in 0..10_000 {
+        put(rt, alloc, &mut source, numbered(number), VERSION_1.framed);
+    }
+    put(rt, alloc, &mut source, numbered(1), second);
+    source
+}
+
+#[test]
+fn memory_gives_what_was_put(rt: HostRuntime) {
+    let alloc = rt.alloc();
+    let long = [7; 1000].repeat(alloc, 100).expect(&rt, "memory");
+    let mut source = many(&rt, alloc, long.as_slice());
+    let version_1 = Ok(VERSION_1.framed);
+    assert!(rt; gives(&mut source, alloc, numbered(0), version_1));
+    assert!(rt; gives(&mut source, alloc, numbered(9_999), version_1));
+    assert!(rt; gives(&mut source, alloc, numbered(1), Ok(long.as_slice())));
+    assert!(rt; gives(&mut source, alloc, numbered(10_000), Err(Cause::Missing)));
+}
+
+#[test]
+fn memory_may_lie(rt: HostRuntime) {
+    let alloc = rt.alloc();
+    let mut source = MemorySource::<Outside>::new(alloc);
+    put(&rt, alloc, &mut source, VERSION_1.id, VERSION_1.framed);
+    put(&rt, alloc, &mut source, VERSION_1.id, VERSION_2.framed);
+    assert!(rt; gives(&mut source, alloc, VERSION_1.id, Ok(VERSION_2.framed)));
+}
+
+// The framed bytes of `VERSION_1`.
+const FRAMED: &[u8] = b"blob 10\0version 1\n";
+
+// What is in a folder of objects. By an id's first byte: 83 has an object, 84 has an empty file, 85 a directory in the
+// file's place, 86 a link to nothing, 87 a plain file in the folder's place, 88 a file that is too large, and 89 another
+// object alone.
+const OBJECTS: &[(&str, Made)] = &[
+    ("83", Made::Folder),
+    ("84", Made::Folder),
+    ("85", Made::Folder),
+    ("86", Made::Folder),
+    ("88", Made::Folder),
+    ("89", Made::Folder),
+    (
+        "83/baae61804e65cc73a7201a7252750c76066a30",
+        Made::File(FRAMED),
+    ),
+    ("84/baae61804e65cc73a7201a7252750c76066a30", Made::File(b"")),
+    ("87", Made::File(FRAMED)),
+    ("89/other", Made::File(FRAMED)),
+    ("85/baae61804e65cc73a7201a7252750c76066a30", Made::Folder),
+    (
+        "86/baae61804e65cc73a7201a7252750c76066a30",
+        Made::Link("nothing"),
+    ),
+    (
+        "88/baae61804e65cc73a7201a7252750c76066a30",
+        Made::Long(1_073_741_841),
+    ),
+];
+
+// The first byte of an id, the answer, and how many failures there are then.
+const ANSWERS: &[(u8, Result<&[u8], Cause>, u64)] = &[
+    (0x83, Ok(FRAMED), 0),
+    (0x84, Ok(b""), 0),
+    (0x85, Err(Cause::Device), 1),
+    (0x86, Err(Cause::Device), 2),
+    (0x87, Err(Cause::Device), 3),
+    (0x88, Err(Cause::TooLarge), 3),
+    (0x89, Err(Cause::Missing), 3),
+    (0x8a, Err(Cause::Missing), 3),
+];
+
+// Whether a source has all those answers, and counts so many failures after each.
+fn gives_all<S: Source<Outside>>(source: &mut S, alloc: Global) -> bool {
+    for (first, want, failures) in ANSWERS {
+        let is_answered = gives(source, alloc, id_starting(*first), *want);
+        if !is_answered || source.failures() != *failures {
+            return false;
+        }
+    }
+    true
+}
+
+#[test]
+fn folder_gives_its_files(rt: HostRuntime) {
+    let folder = folder_of(&rt, "source", OBJECTS).expect(&rt, "objects");
+    let mut source = FolderSource::new(&rt, folder.clone().expect(&rt, "memory"));
+    assert!(rt; gives_all(&mut source, rt.alloc()));
+    fs::remove_dir_all(&rt, folder.as_path()).expect(&rt, "a folder");
+    assert!(rt; gives(&mut source, rt.alloc(), VERSION_1.id, Err(Cause::Missing)));
+}
+
+// By an id's first byte: 83 has an object of 8 MiB, 84 the longest, and 85 one of a byte more.
+const LONG_OBJECTS: &[(&str, Made)] = &[
+    ("83", Made::Folder),
+    ("84", Made::Folder),
+    ("85", Made::Folder),
+    (
+        "83/baae61804e65cc73a7201a7252750c76066a30",
+        Made::Long(8_388_608),
+    ),
+    (
+        "84/baae61804e65cc73a7201a7252750c76066a30",
+        Made::Long(1_073_741_840),
+    ),
+    (
+        "85/baae61804e65cc73a7201a7252750c76066a30",
+        Made::Long(1_073_741_841),
+    ),
+];
+
+// How many bytes the source gives for the id.
+fn given<S: Source<Outside>>(source: &mut S, alloc: Global, first: u8) -> Option<usize> {
+    match source.fetch(alloc, id_starting(first)) {
+        Ok(framed) => Some(framed.len()),
+        Err(_) => None,
+    }
+}
+
+// Reads that fail tell which objects are read at all, so that none of 2^30 bytes has to be.
+#[test]
+fn folder_gives_long_files(rt: HostRuntime) {
+    let folder = folder_of(&rt, "source-long", LONG_OBJECTS).expect(&rt, "objects");
+    let mut source = FolderSource::new(&rt, folder.clone().expect(&rt, "memory"));
+    assert!(rt; given(&mut source, rt.alloc(), 0x83) == Some(8_388_608));
+    let system = FaultySystem {
+        files: &rt,
+        call: Call::Read,
+        kind: ErrorKind::ConnectionReset,
+        instead: None,
+    };
+    let mut failing = FolderSource::new(system, folder.clone().expect(&rt, "memory"));
+    assert!(rt;
+        gives(
+            &mut failing,
+            rt.alloc(),
+            id_starting(0x84),
+            Err(Cause::Device)
+        )
+    );
+    assert!(rt;
+        gives(
+            &mut failing,
+            rt.alloc(),
+            id_starting(0x85),
+            Err(Cause::TooLarge)
+        )
+    );
+    fs::remove_dir_all(&rt, folder.as_path()).expect(&rt, "a folder");
+}
+
+const KINDS: &[(ErrorKind, Cause, u64)] = &[
+    (ErrorKind::ConnectionReset, Cause::Device, 2),
+    (ErrorKind::OutOfMemory, Cause::Memory, 0),
+];
+
+// Whether each of two questions has that answer, and so many failures are counted then.
+fn fails<S: Source<Outside>>(source: &mut S, alloc: Global, want: Cause, failures: u64) -> bool {
+    gives(source, alloc, VERSION_1.id, Err(want))
+        && gives(source, alloc, VERSION_1.id, Err(want))
+        && source.failures() == failures
+}
+
+// Whether each call's failure of that kind is told so.
+fn all_fail(
+    rt: &HostRuntime,
+    folder: &PathBuf,
+    kind: ErrorKind,
+    want: Cause,
+    failures: u64,
+) -> Result<bool, AllocError> {
+    for call in [Call::Look, Call::Open, Call::Read] {
+        let system = FaultySystem {
+            files: rt,
+            call,
+            kind,
+            instead: None,
+        };
+        let mut source = FolderSource::new(system, folder.clone()?);
+        if !fails(&mut source, rt.alloc(), want, failures) {
+            return Ok(false);
+        }
+    }
+    Ok(true)
+}
+
+// A device that fails is no missing object, and is counted; want of memory is neither.
+#[test]
+fn failures_are_counted(rt: HostRuntime) {
+    let folder = folder_of(&rt, "source-failures", OBJECTS).expect(&rt, "objects");
+    for (kind, want, failures) in KINDS {
+        assert!(rt; all_fail(&rt, &folder, *kind, *want, *failures) == Ok(true));
+    }
+    fs::remove_dir_all(&rt, folder.as_path()).expect(&rt, "a folder");
+}

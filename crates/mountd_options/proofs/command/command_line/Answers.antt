@@ -1,0 +1,35 @@
+use Rattle.std.proofs.Common.{◌≡◌, ◌∙◌, ap, true, [], ◌∷◌, codes}
+use Rattle.clap.specs.Simple.{App, Shape, app_of, app_of_fields, new_app, on_top, shape_of, with_subcommand}
+use Rattle.mountd_options.specs.CommandLine.{import, objects, serve, stdio}
+use Rattle.mountd_options.specs.Grammar.{program}
+use Rattle.mountd_options.proofs.command.command_line.Goals as goal
+
+-- a subcommand must be there
+abbrev wants_one : Shape → Shape
+wants_one s = record s { subcommand_required = true }
+
+pub returns : goal.returns
+returns c =
+    let name = codes "mountd" in
+    let about : app_of c.about.result ≡ new_app name = ap app_of_fields c.about.ensures ∙ c.new.ensures.app in
+    let none : app_of c.subcommand_required-line.result ≡ on_top wants_one (new_app name) =
+    ap app_of_fields c.subcommand_required-line.ensures ∙ ap (on_top wants_one) about in
+    let one : app_of c.in_ok-line.line ≡ program name (stdio ∷ []) =
+    c.in_ok-line.ensures.shape c.in_ok-stdio.ensures.local
+    ∙ (ap (λ (a : App). with_subcommand a (shape_of c.in_ok-stdio.stdio)) none
+    ∙ ap (λ (s : Shape). with_subcommand (on_top wants_one (new_app name)) s) c.in_ok-stdio.ensures.shape) in
+    let two : app_of c.in_ok-line-2.line ≡ program name (stdio ∷ serve ∷ []) =
+    c.in_ok-line-2.ensures.shape c.in_ok-serve.ensures.local
+    ∙ (ap (λ (a : App). with_subcommand a (shape_of c.in_ok-serve.serve)) one
+    ∙ ap (λ (s : Shape). with_subcommand (program name (stdio ∷ [])) s) c.in_ok-serve.ensures.shape) in
+    let three : app_of c.in_ok-line-3.line ≡ program name (stdio ∷ serve ∷ objects ∷ []) =
+    c.in_ok-line-3.ensures.shape c.in_ok-objects.ensures.local
+    ∙ (ap (λ (a : App). with_subcommand a (shape_of c.in_ok-objects.objects)) two
+    ∙ ap (λ (s : Shape). with_subcommand (program name (stdio ∷ serve ∷ [])) s) c.in_ok-objects.ensures.shape) in
+    let four : app_of c.in_ok-line-4.line ≡ program name (stdio ∷ serve ∷ objects ∷ import ∷ []) =
+    c.in_ok-line-4.ensures.shape c.in_ok-import.ensures.local
+    ∙ (ap (λ (a : App). with_subcommand a (shape_of c.in_ok-import.import)) three
+    ∙ ap (λ (s : Shape). with_subcommand (program name (stdio ∷ serve ∷ objects ∷ [])) s) c.in_ok-import.ensures.shape) in
+    c.in_ok-line-5.ensures.shape c.in_ok-tidy.ensures.local
+    ∙ (ap (λ (a : App). with_subcommand a (shape_of c.in_ok-tidy.tidy)) four
+    ∙ ap (λ (s : Shape). with_subcommand (program name (stdio ∷ serve ∷ objects ∷ import ∷ [])) s) c.in_ok-tidy.ensures.shape)

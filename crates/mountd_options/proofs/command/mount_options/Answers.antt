@@ -1,0 +1,16 @@
+use Rattle.std.proofs.Common.{rules, ◌∙◌, ap, codes, is_some}
+use Rattle.clap.specs.Matches.{found_of}
+use Rattle.clap.proofs.CallerLemmas.{some_of_text}
+use Rattle.clap.proofs.WalkLemmas.{first_value-rows}
+use Rattle.mountd_options.proofs.command.mount_options.Goals as goal
+
+pub unwrap-root-requires : goal.unwrap-root-requires
+unwrap-root-requires c =
+    some_of_text _ c.get_str.result _ c.get_str.ensures
+    (ap is_some (first_value-rows (found_of c.args.given.now) (codes "root")) ∙ c.requires.0)
+
+pub returns-clause-ok : goal.returns-clause-ok
+returns-clause-ok c = search rules
+
+pub returns-in_err-objects-clause-err : goal.returns-in_err-objects-clause-err
+returns-in_err-objects-clause-err c = search rules

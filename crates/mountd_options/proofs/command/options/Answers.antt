@@ -1,0 +1,149 @@
+use Rattle.std.proofs.Common.{rules, ◌≡◌, refl, inl, inr, Some, map}
+use Rattle.clap.specs.Matches.{found_of, subcommand_name_of}
+use Rattle.clap.specs.Simple.{subcommand_of, subcommand_rows_of}
+use Rattle.mountd_options.specs.CommandLine.{AreServed, IsImport, IsMount, IsServed, IsTaken, IsTidy, Refuses, import, mountd_line, objects, serve, stdio, tidy}
+use Rattle.mountd_options.specs.declared.command.MountCommand.TheVariants as by
+use Rattle.mountd_options.proofs.LineLemmas.{by_words, import-named, met-named, named-met, numbers_refuse, required-taken, values_refuse}
+use Rattle.mountd_options.proofs.command.options.Goals as goal
+
+pub mount_options-requires : goal.mount_options-requires
+mount_options-requires g c =
+    let words = map g.S.AsStr.text c.args.words.now in
+    let f = found_of c.in-Some.given.now in
+    let taken : IsTaken words = search rules in
+    let rows : subcommand_rows_of c.in_ok-matches.matches ≡ subcommand_of mountd_line words = search rules in
+    let name : subcommand_name_of c.in_ok-matches.matches ≡ Some stdio.0 = c.in-Some.ensures.found.0 refl in
+    required-taken stdio words f (inl refl) taken (met-named words c.in_ok-matches.matches f stdio.0 rows name c.in-Some.ensures.rows)
+
+pub returns-in_err-mount_options-clause-err : goal.returns-in_err-mount_options-clause-err
+returns-in_err-mount_options-clause-err g c =
+    let words = map g.S.AsStr.text c.args.words.now in
+    let f = found_of c.in-Some.given.now in
+    let why = c.in_err-mount_options.field-0.0 in
+    let taken : IsTaken words = search rules in
+    let rows : subcommand_rows_of c.in_ok-matches.matches ≡ subcommand_of mountd_line words = search rules in
+    let name : subcommand_name_of c.in_ok-matches.matches ≡ Some stdio.0 = c.in-Some.ensures.found.0 refl in
+    let met = met-named words c.in_ok-matches.matches f stdio.0 rows name c.in-Some.ensures.rows in
+    let refused : Refuses words why = values_refuse by.Stdio words f why taken met c.in_err-mount_options.ensures.err in
+    search rules
+
+pub returns-in-Some-clause-ok : goal.returns-in-Some-clause-ok
+returns-in-Some-clause-ok g c =
+    let words = map g.S.AsStr.text c.args.words.now in
+    let f = found_of c.in-Some.given.now in
+    let rows : subcommand_rows_of c.in_ok-matches.matches ≡ subcommand_of mountd_line words = search rules in
+    let name : subcommand_name_of c.in_ok-matches.matches ≡ Some stdio.0 = c.in-Some.ensures.found.0 refl in
+    let met = met-named words c.in_ok-matches.matches f stdio.0 rows name c.in-Some.ensures.rows in
+    let asked = c.in_ok-mount_options.field-0 in
+    (named-met words f stdio.0 met, by_words (λ value. IsMount by.Stdio value asked) words f stdio.0 met c.in_ok-mount_options.ensures.ok)
+
+pub serve_options-requires : goal.serve_options-requires
+serve_options-requires g c =
+    let words = map g.S.AsStr.text c.args.words.now in
+    let f = found_of c.in-Some-subcommand_matches.given.now in
+    let taken : IsTaken words = search rules in
+    let rows : subcommand_rows_of c.in_ok-matches.matches ≡ subcommand_of mountd_line words = search rules in
+    let name : subcommand_name_of c.in_ok-matches.matches ≡ Some serve.0 = c.in-Some-subcommand_matches.ensures.found.0 refl in
+    required-taken serve words f (inr (inl refl)) taken (met-named words c.in_ok-matches.matches f serve.0 rows name c.in-Some-subcommand_matches.ensures.rows)
+
+pub returns-in_err-serve_options-clause-err : goal.returns-in_err-serve_options-clause-err
+returns-in_err-serve_options-clause-err g c =
+    let words = map g.S.AsStr.text c.args.words.now in
+    let f = found_of c.in-Some-subcommand_matches.given.now in
+    let why = c.in_err-serve_options.field-0.0 in
+    let taken : IsTaken words = search rules in
+    let rows : subcommand_rows_of c.in_ok-matches.matches ≡ subcommand_of mountd_line words = search rules in
+    let name : subcommand_name_of c.in_ok-matches.matches ≡ Some serve.0 = c.in-Some-subcommand_matches.ensures.found.0 refl in
+    let met = met-named words c.in_ok-matches.matches f serve.0 rows name c.in-Some-subcommand_matches.ensures.rows in
+    let refused : Refuses words why = values_refuse by.Serve words f why taken met c.in_err-serve_options.ensures.err in
+    search rules
+
+pub returns-in-Some-subcommand_matches-clause-ok : goal.returns-in-Some-subcommand_matches-clause-ok
+returns-in-Some-subcommand_matches-clause-ok g c =
+    let words = map g.S.AsStr.text c.args.words.now in
+    let f = found_of c.in-Some-subcommand_matches.given.now in
+    let rows : subcommand_rows_of c.in_ok-matches.matches ≡ subcommand_of mountd_line words = search rules in
+    let name : subcommand_name_of c.in_ok-matches.matches ≡ Some serve.0 = c.in-Some-subcommand_matches.ensures.found.0 refl in
+    let met = met-named words c.in_ok-matches.matches f serve.0 rows name c.in-Some-subcommand_matches.ensures.rows in
+    let asked = c.in_ok-serve_options.field-0 in
+    (named-met words f serve.0 met, by_words (λ value. IsServed value asked) words f serve.0 met c.in_ok-serve_options.ensures.ok)
+
+pub objects_options-requires : goal.objects_options-requires
+objects_options-requires g c =
+    let words = map g.S.AsStr.text c.args.words.now in
+    let f = found_of c.in-Some-subcommand_matches-2.given.now in
+    let taken : IsTaken words = search rules in
+    let rows : subcommand_rows_of c.in_ok-matches.matches ≡ subcommand_of mountd_line words = search rules in
+    let name : subcommand_name_of c.in_ok-matches.matches ≡ Some objects.0 = c.in-Some-subcommand_matches-2.ensures.found.0 refl in
+    required-taken objects words f (inr (inr (inl refl))) taken (met-named words c.in_ok-matches.matches f objects.0 rows name c.in-Some-subcommand_matches-2.ensures.rows)
+
+pub returns-in_err-objects_options-clause-err : goal.returns-in_err-objects_options-clause-err
+returns-in_err-objects_options-clause-err g c =
+    let words = map g.S.AsStr.text c.args.words.now in
+    let f = found_of c.in-Some-subcommand_matches-2.given.now in
+    let why = c.in_err-objects_options.field-0.0 in
+    let taken : IsTaken words = search rules in
+    let rows : subcommand_rows_of c.in_ok-matches.matches ≡ subcommand_of mountd_line words = search rules in
+    let name : subcommand_name_of c.in_ok-matches.matches ≡ Some objects.0 = c.in-Some-subcommand_matches-2.ensures.found.0 refl in
+    let met = met-named words c.in_ok-matches.matches f objects.0 rows name c.in-Some-subcommand_matches-2.ensures.rows in
+    let refused : Refuses words why = numbers_refuse words f why taken met c.in_err-objects_options.ensures.err in
+    search rules
+
+pub returns-in-Some-subcommand_matches-2-clause-ok : goal.returns-in-Some-subcommand_matches-2-clause-ok
+returns-in-Some-subcommand_matches-2-clause-ok g c =
+    let words = map g.S.AsStr.text c.args.words.now in
+    let f = found_of c.in-Some-subcommand_matches-2.given.now in
+    let rows : subcommand_rows_of c.in_ok-matches.matches ≡ subcommand_of mountd_line words = search rules in
+    let name : subcommand_name_of c.in_ok-matches.matches ≡ Some objects.0 = c.in-Some-subcommand_matches-2.ensures.found.0 refl in
+    let met = met-named words c.in_ok-matches.matches f objects.0 rows name c.in-Some-subcommand_matches-2.ensures.rows in
+    let asked = c.in_ok-objects_options.field-0 in
+    (named-met words f objects.0 met, by_words (λ value. AreServed value asked) words f objects.0 met c.in_ok-objects_options.ensures.ok)
+
+pub tidy_options-requires : goal.tidy_options-requires
+tidy_options-requires g c =
+    let words = map g.S.AsStr.text c.args.words.now in
+    let f = found_of c.in-Some-subcommand_matches-3.given.now in
+    let taken : IsTaken words = search rules in
+    let rows : subcommand_rows_of c.in_ok-matches.matches ≡ subcommand_of mountd_line words = search rules in
+    let name : subcommand_name_of c.in_ok-matches.matches ≡ Some tidy.0 = c.in-Some-subcommand_matches-3.ensures.found.0 refl in
+    required-taken tidy words f (inr (inr (inr (inr (inl refl))))) taken (met-named words c.in_ok-matches.matches f tidy.0 rows name c.in-Some-subcommand_matches-3.ensures.rows)
+
+pub returns-in-Some-subcommand_matches-3-clause-ok : goal.returns-in-Some-subcommand_matches-3-clause-ok
+returns-in-Some-subcommand_matches-3-clause-ok g c =
+    let words = map g.S.AsStr.text c.args.words.now in
+    let f = found_of c.in-Some-subcommand_matches-3.given.now in
+    let rows : subcommand_rows_of c.in_ok-matches.matches ≡ subcommand_of mountd_line words = search rules in
+    let name : subcommand_name_of c.in_ok-matches.matches ≡ Some tidy.0 = c.in-Some-subcommand_matches-3.ensures.found.0 refl in
+    let met = met-named words c.in_ok-matches.matches f tidy.0 rows name c.in-Some-subcommand_matches-3.ensures.rows in
+    let asked = c.in_ok-tidy_options.field-0 in
+    (named-met words f tidy.0 met, by_words (λ value. IsTidy value asked) words f tidy.0 met c.in_ok-tidy_options.ensures)
+
+pub unwrap-given-requires : goal.unwrap-given-requires
+unwrap-given-requires g c =
+    let words = map g.S.AsStr.text c.args.words.now in
+    let taken : IsTaken words = search rules in
+    let rows : subcommand_rows_of c.in_ok-matches.matches ≡ subcommand_of mountd_line words = search rules in
+    c.subcommand_matches-5.ensures.found.1 (import-named words c.in_ok-matches.matches taken rows c.in_default.ensures.found.1
+    c.in_default-subcommand_matches.ensures.found.1 c.in_default-subcommand_matches-2.ensures.found.1 c.in_default-subcommand_matches-3.ensures.found.1)
+
+pub import_options-requires : goal.import_options-requires
+import_options-requires g c =
+    let words = map g.S.AsStr.text c.args.words.now in
+    let f = found_of c.unwrap-given.result.now in
+    let taken : IsTaken words = search rules in
+    let rows : subcommand_rows_of c.in_ok-matches.matches ≡ subcommand_of mountd_line words = search rules in
+    let name = import-named words c.in_ok-matches.matches taken rows c.in_default.ensures.found.1 c.in_default-subcommand_matches.ensures.found.1
+    c.in_default-subcommand_matches-2.ensures.found.1 c.in_default-subcommand_matches-3.ensures.found.1 in
+    required-taken import words f (inr (inr (inr (inl refl)))) taken (met-named words c.in_ok-matches.matches f import.0 rows name (search rules))
+
+pub returns-clause-ok : goal.returns-clause-ok
+returns-clause-ok g c =
+    let words = map g.S.AsStr.text c.args.words.now in
+    let f = found_of c.unwrap-given.result.now in
+    let taken : IsTaken words = search rules in
+    let rows : subcommand_rows_of c.in_ok-matches.matches ≡ subcommand_of mountd_line words = search rules in
+    let name = import-named words c.in_ok-matches.matches taken rows c.in_default.ensures.found.1 c.in_default-subcommand_matches.ensures.found.1
+    c.in_default-subcommand_matches-2.ensures.found.1 c.in_default-subcommand_matches-3.ensures.found.1 in
+    let met = met-named words c.in_ok-matches.matches f import.0 rows name (search rules) in
+    let asked = c.in_ok-import_options.field-0 in
+    (named-met words f import.0 met, by_words (λ value. IsImport value asked) words f import.0 met c.in_ok-import_options.ensures)

@@ -1,0 +1,218 @@
+-- What the program's command line says.
+use Rattle.std.specs.Prelude.{◌≡◌, ◌↔◌, ◌^◌, IsTrue, ℕ, ⊤, List, [], ◌∷◌, ◌++◌, Option, Some, None, is_some, codes, option_map, string_bytes}
+use Rattle.clap.specs.Kinds.{IsAmong}
+use Rattle.clap.specs.Words.{App, Text, fault_of, kind_of, subcommand_of}
+use Rattle.hex.specs.Hex.{encode_lower}
+use Rattle.eden_object.specs.IdText.{IsIdText}
+use Rattle.eden_mount.specs.Settings.{Settings}
+use Rattle.mountd_options.specs.Grammar.{LineOption, Subcommand, flag, optional, program, required, value_in}
+use Rattle.mountd_options.specs.Numbers.{GivesNumber, IsNoValue, SaysNumber, number_name}
+use Rattle.mountd_options.specs.declared.numbers.NumberOption.{NumberOption}
+use Rattle.mountd_options.specs.declared.numbers.NumberOption.TheVariants.{History, CacheEntries, CacheBytes, Remote, Port, Sessions, Fetchers}
+use Rattle.mountd_options.specs.declared.command.Command.{Command}
+use Rattle.mountd_options.specs.declared.command.Command.TheVariants as command
+use Rattle.mountd_options.specs.declared.command.HistoryOption.TheVariants as keeping
+use Rattle.mountd_options.specs.declared.command.ImportOptions.{ImportOptions}
+use Rattle.mountd_options.specs.declared.command.MountCommand.{MountCommand}
+use Rattle.mountd_options.specs.declared.command.MountCommand.TheVariants as by
+use Rattle.mountd_options.specs.declared.command.MountOptions.{MountOptions}
+use Rattle.mountd_options.specs.declared.command.Objects.{Objects}
+use Rattle.mountd_options.specs.declared.command.Objects.TheVariants as place
+use Rattle.mountd_options.specs.declared.command.ObjectsOptions.{ObjectsOptions}
+use Rattle.mountd_options.specs.declared.command.OptionsError.{OptionsError}
+use Rattle.mountd_options.specs.declared.command.OptionsError.TheVariants as error
+use Rattle.mountd_options.specs.declared.command.ServeOptions.{ServeOptions}
+use Rattle.mountd_options.specs.declared.command.TidyOptions.{TidyOptions}
+
+-- the name of a command that opens a mount
+abbrev pub command_name : MountCommand → Text
+command_name by.Stdio = codes "stdio"
+command_name by.Serve = codes "serve"
+
+-- `[--overlay DIR] [--rescan] [--history N] [--cache-entries N] [--cache-bytes N]`, of what a mount keeps
+abbrev pub kept_options : List LineOption
+kept_options = optional (codes "overlay") ∷ flag (codes "rescan") ∷ optional (number_name History)
+    ∷ optional (number_name CacheEntries) ∷ optional (number_name CacheBytes) ∷ []
+
+-- `--root ID [--objects DIR] [--remote PORT]` with these, of whatever opens a mount
+abbrev pub mount_options : List LineOption
+mount_options = required (codes "root") ∷ optional (codes "objects") ∷ optional (number_name Remote) ∷ kept_options
+
+-- `stdio` with the options of a mount
+abbrev pub stdio : Subcommand
+stdio = (command_name by.Stdio, mount_options)
+
+abbrev pub serve_options : List LineOption
+serve_options = mount_options ++ required (number_name Port) ∷ optional (number_name Sessions) ∷ optional (number_name Fetchers) ∷ []
+
+-- `serve` with the options of a mount, and `--port P [--sessions N] [--fetchers N]`
+abbrev pub serve : Subcommand
+serve = (command_name by.Serve, serve_options)
+
+abbrev pub objects_options : List LineOption
+objects_options = required (codes "dir") ∷ required (number_name Port) ∷ optional (number_name Sessions) ∷ []
+
+-- `objects --dir DIR --port P [--sessions N]`
+abbrev pub objects : Subcommand
+objects = (codes "objects", objects_options)
+
+abbrev pub import_options : List LineOption
+import_options = required (codes "from") ∷ required (codes "objects") ∷ []
+
+-- `import --from DIR --objects DIR`
+abbrev pub import : Subcommand
+import = (codes "import", import_options)
+
+abbrev pub tidy_options : List LineOption
+tidy_options = required (codes "overlay") ∷ []
+
+-- `tidy --overlay DIR`
+abbrev pub tidy : Subcommand
+tidy = (codes "tidy", tidy_options)
+
+abbrev pub subcommands : List Subcommand
+subcommands = stdio ∷ serve ∷ objects ∷ import ∷ tidy ∷ []
+
+abbrev pub mountd_line : App
+mountd_line = program (codes "mountd") subcommands
+
+-- the subcommand that the words name
+abbrev pub named : List Text → Option Text
+named words = option_map (λ met. met.0) (subcommand_of mountd_line words)
+
+-- the value that they give an option of it
+abbrev pub value_of : List Text → Text → Option Text
+value_of words = value_in (subcommand_of mountd_line words)
+
+-- the flag is given: it has no value of its own, and `clap` says this one
+abbrev pub IsGiven : (Text → Option Text) → Text → Type 0
+IsGiven value name = value name ≡ Some (codes "true")
+
+-- no history is to be kept
+abbrev pub KeepsNone : (Text → Option Text) → Type 0
+KeepsNone value = value (number_name History) ≡ Some (codes "none")
+
+-- how many callers there are of the mount that a command opens
+abbrev pub SaysPasses : MountCommand → (Text → Option Text) → ℕ → Type 0
+SaysPasses by.Stdio value n = n ≡ 1
+SaysPasses by.Serve value n = SaysNumber Sessions 1 (value (number_name Sessions)) n
+
+-- the limits of the mount that a command opens are what these values say
+pub record SaysLimits (command : MountCommand) (value : Text → Option Text) (limits : Settings) : Type 0 where
+  pub passes : SaysPasses command value limits.passes
+  pub flights : limits.flights ≡ 16
+  pub history : SaysNumber History 1000000 (value (number_name History)) limits.history
+  pub entries : SaysNumber CacheEntries 1024 (value (number_name CacheEntries)) limits.entries
+  pub bytes : SaysNumber CacheBytes (2 ^ 28) (value (number_name CacheBytes)) limits.bytes
+  pub sizes : limits.sizes ≡ 65536
+
+-- where the objects are to come from: a folder or a server, and these values name one of them
+abbrev pub SaysObjects : (Text → Option Text) → Objects → Type 0
+SaysObjects value (place.Folder folder) =
+    (value (codes "objects") ≡ Some (string_bytes folder)) × (value (number_name Remote) ≡ None)
+SaysObjects value (place.Port port) = (value (codes "objects") ≡ None) × GivesNumber Remote (value (number_name Remote)) port
+
+-- .. they name neither or both
+abbrev pub NamesNotOne : (Text → Option Text) → Type 0
+NamesNotOne value = is_some (value (codes "objects")) ≡ is_some (value (number_name Remote))
+
+-- the root is an id
+abbrev pub NamesRoot : (Text → Option Text) → Type 0
+NamesRoot value = (root : Text) × (value (codes "root") ≡ Some root) × IsIdText root
+
+-- the root is no id
+abbrev pub NamesNoRoot : (Text → Option Text) → Type 0
+NamesNoRoot value = (root : Text) × (value (codes "root") ≡ Some root) × ¬ IsIdText root
+
+-- the root is an id, and one place of objects is named
+pub record NamesMount (value : Text → Option Text) : Type 0 where
+  pub root : NamesRoot value
+  pub one : ¬ NamesNotOne value
+
+-- the mount that a command is to open is what these values say
+pub record IsMount (command : MountCommand) (value : Text → Option Text) (options : MountOptions) : Type 0 where
+  pub root : value (codes "root") ≡ Some (encode_lower options.root.bytes)
+  pub objects : SaysObjects value options.objects
+  pub overlay : value (codes "overlay") ≡ option_map string_bytes options.overlay
+  pub rescan : IsTrue options.rescan ↔ IsGiven value (codes "rescan")
+  pub history : (options.history ≡ keeping.Counted) ↔ KeepsNone value
+  pub limits : SaysLimits command value options.limits
+
+-- what is to be served, where, and with how many fetchers is what these values say
+pub record IsServed (value : Text → Option Text) (options : ServeOptions) : Type 0 where
+  pub mount : IsMount by.Serve value options.mount
+  pub port : GivesNumber Port (value (number_name Port)) options.port
+  pub fetchers : SaysNumber Fetchers 2 (value (number_name Fetchers)) options.fetchers
+
+-- whose objects are to be served, and where, is what these values say
+pub record AreServed (value : Text → Option Text) (options : ObjectsOptions) : Type 0 where
+  pub folder : value (codes "dir") ≡ Some (string_bytes options.folder)
+  pub port : GivesNumber Port (value (number_name Port)) options.port
+  pub sessions : SaysNumber Sessions 2 (value (number_name Sessions)) options.sessions
+
+-- what is to be imported is what these values say
+pub record IsImport (value : Text → Option Text) (options : ImportOptions) : Type 0 where
+  pub from : value (codes "from") ≡ Some (string_bytes options.from)
+  pub objects : value (codes "objects") ≡ Some (string_bytes options.objects)
+
+-- which overlay is to be tidied is what these values say
+abbrev pub IsTidy : (Text → Option Text) → TidyOptions → Type 0
+IsTidy value options = value (codes "overlay") ≡ Some (string_bytes options.overlay)
+
+-- the words ask which program this is: behind its name there is `--version` alone, which `clap` never sees
+abbrev pub AsksVersion : List Text → Type 0
+AsksVersion words = (name : Text) × (words ≡ name ∷ codes "--version" ∷ [])
+
+-- the words ask for this
+abbrev pub AsksFor : List Text → Command → Type 0
+AsksFor words (command.Stdio options) = (named words ≡ Some stdio.0) × IsMount by.Stdio (value_of words) options
+AsksFor words (command.Serve options) = (named words ≡ Some serve.0) × IsServed (value_of words) options
+AsksFor words (command.Objects options) = (named words ≡ Some objects.0) × AreServed (value_of words) options
+AsksFor words (command.Import options) = (named words ≡ Some import.0) × IsImport (value_of words) options
+AsksFor words (command.Tidy options) = (named words ≡ Some tidy.0) × IsTidy (value_of words) options
+AsksFor words command.Version = AsksVersion words
+
+-- `clap` takes the words
+abbrev pub IsTaken : List Text → Type 0
+IsTaken words = fault_of mountd_line words ≡ []
+
+-- a value is none that the option takes
+abbrev pub RefusesNumber : (Text → Option Text) → NumberOption → Type 0
+RefusesNumber value option = (text : Text) × (value (number_name option) ≡ Some text) × IsNoValue option text
+
+-- why `objects` refuses such values
+abbrev pub RefusesNumbers : (Text → Option Text) → OptionsError → Type 0
+RefusesNumbers value (error.Refused why) = ⊥
+RefusesNumbers value error.Root = ⊥
+RefusesNumbers value (error.Source command) = ⊥
+RefusesNumbers value (error.Number option) = RefusesNumber value option
+RefusesNumbers value error.Memory = ⊤
+
+-- why it is refused where the objects are to come from
+abbrev pub RefusesObjects : MountCommand → (Text → Option Text) → OptionsError → Type 0
+RefusesObjects command value (error.Refused why) = ⊥
+RefusesObjects command value error.Root = ⊥
+RefusesObjects command value (error.Source refusing) = (refusing ≡ command) × NamesNotOne value
+RefusesObjects command value (error.Number option) = (¬ NamesNotOne value) × RefusesNumber value option
+RefusesObjects command value error.Memory = ⊤
+
+-- why a command that opens a mount refuses such values: the root first, then where the objects come from, then a number
+abbrev pub RefusesValues : MountCommand → (Text → Option Text) → OptionsError → Type 0
+RefusesValues command value (error.Refused why) = ⊥
+RefusesValues command value error.Root = NamesNoRoot value
+RefusesValues command value (error.Source refusing) = (refusing ≡ command) × NamesRoot value × NamesNotOne value
+RefusesValues command value (error.Number option) = NamesMount value × RefusesNumber value option
+RefusesValues command value error.Memory = ⊤
+
+-- where the command opens a mount, its root is an id, and one place of objects is named
+abbrev pub NamesItsMount : List Text → Type 0
+NamesItsMount words = (command : MountCommand) → named words ≡ Some (command_name command) → NamesMount (value_of words)
+
+-- why the words are refused: what is told says that the words passed what comes before it
+abbrev pub Refuses : List Text → OptionsError → Type 0
+Refuses words (error.Refused why) = IsAmong (kind_of why) (fault_of mountd_line words)
+Refuses words error.Root = IsTaken words × NamesNoRoot (value_of words)
+Refuses words (error.Source command) =
+    IsTaken words × (named words ≡ Some (command_name command)) × NamesRoot (value_of words) × NamesNotOne (value_of words)
+Refuses words (error.Number option) = IsTaken words × NamesItsMount words × RefusesNumber (value_of words) option
+Refuses words error.Memory = ⊤

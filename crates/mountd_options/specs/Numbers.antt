@@ -1,0 +1,59 @@
+-- The numbers that options take.
+use Rattle.std.specs.Prelude.{◌≡◌, ◌≤◌, ◌⊎◌, ◌^◌, ◌-◌, ℕ, Option, Some, None, codes, decimal}
+use Rattle.clap.specs.Words.{Text}
+use Rattle.mountd_options.specs.declared.numbers.NumberOption.{NumberOption}
+use Rattle.mountd_options.specs.declared.numbers.NumberOption.TheVariants.{History, CacheEntries, CacheBytes, Remote, Port, Sessions, Fetchers}
+
+abbrev pub number_name : NumberOption → Text
+number_name History = codes "history"
+number_name CacheEntries = codes "cache-entries"
+number_name CacheBytes = codes "cache-bytes"
+number_name Remote = codes "remote"
+number_name Port = codes "port"
+number_name Sessions = codes "sessions"
+number_name Fetchers = codes "fetchers"
+
+-- the least that each takes
+abbrev pub least_of : NumberOption → ℕ
+least_of History = 1
+least_of CacheEntries = 1
+least_of CacheBytes = 1
+least_of Remote = 1
+least_of Port = 0
+least_of Sessions = 1
+least_of Fetchers = 1
+
+-- .. and the greatest
+abbrev pub most_of : NumberOption → ℕ
+most_of History = 2 ^ 32 - 1
+most_of CacheEntries = 65536
+most_of CacheBytes = 2 ^ 40
+most_of Remote = 65535
+most_of Port = 65535
+most_of Sessions = 64
+most_of Fetchers = 16
+
+-- the text is this number, which the option takes
+abbrev pub IsNumber : NumberOption → Text → ℕ → Type 0
+IsNumber option text n = (text ≡ decimal n) × (least_of option ≤ n) × (n ≤ most_of option)
+
+abbrev pub IsNoNumber : NumberOption → Text → Type 0
+IsNoNumber option text = (n : ℕ) → IsNumber option text n → ⊥
+
+-- the text stands for no number, as that of the history may
+abbrev pub SaysNone : NumberOption → Text → Type 0
+SaysNone option text = (option ≡ History) × (text ≡ codes "none")
+
+-- the option doesn't take the text
+abbrev pub IsNoValue : NumberOption → Text → Type 0
+IsNoValue option text = IsNoNumber option text × (¬ SaysNone option text)
+
+-- the number of an option that is given
+abbrev pub GivesNumber : NumberOption → Option Text → ℕ → Type 0
+GivesNumber option None n = ⊥
+GivesNumber option (Some text) n = IsNumber option text n
+
+-- the number that the option has: its value's, or the default where there is no value or one that stands for none
+abbrev pub SaysNumber : NumberOption → ℕ → Option Text → ℕ → Type 0
+SaysNumber option default None n = n ≡ default
+SaysNumber option default (Some text) n = IsNumber option text n ⊎ (SaysNone option text × (n ≡ default))

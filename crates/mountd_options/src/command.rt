@@ -1,0 +1,673 @@
+//! What the program is asked for.
+ghost use Rattle.std.specs.Prelude.{◌≡◌, ◌≤◌, ◌⊎◌, ◌↔◌, IsTrue, ◌∷◌, [], IfErr, IfOk, OnOk, Ok, Some, codes, false, map, option_map, string_bytes};
+ghost use Rattle.clap.specs.declared.builder.command.Command.TheViews.{out-Command as fields_of};
+ghost use Rattle.clap.specs.declared.error.kind.ErrorKind.TheVariants.{OutOfMemory};
+ghost use Rattle.clap.specs.Words.{app_of, first_value, found_of, kind_of, rows_of, rule_of, shape_of, subcommand_of, subcommand_rows_of};
+ghost use Rattle.mountd_options.specs.CommandLine.{AreServed, AsksFor, AsksVersion, IsGiven, IsImport, IsMount, IsServed, IsTaken, IsTidy, KeepsNone, NamesMount, Refuses, RefusesNumber, RefusesNumbers, RefusesObjects, RefusesValues, SaysLimits, SaysObjects, SaysPasses, command_name, import, import_options, kept_options, mount_options, mountd_line, objects, objects_options, serve, serve_options, stdio, tidy, tidy_options};
+ghost use Rattle.mountd_options.specs.Grammar.{HasRequired, flag, option_rule, optional, required, subcommand_shape, with_options};
+ghost use Rattle.mountd_options.specs.Numbers.{IsNoNumber, IsNoValue, IsNumber, SaysNumber};
+ghost use Rattle.mountd_options.specs.Numbers.{least_of, most_of, number_name};
+ghost use Rattle.mountd_options.specs.declared.numbers.NumberOption.TheVariants.{Sessions};
+ghost use Rattle.mountd_options.specs.declared.command.MountCommand.TheVariants as by;
+ghost use Rattle.mountd_options.specs.declared.command.OptionsError.TheVariants as error;
+
+use crate::numbers::NumberOption;
+use clap::error::ErrorKind;
+use clap::{Arg, ArgAction, ArgMatches};
+use eden_model::Id;
+use eden_mount::Config;
+use eden_object::parse_id;
+use std::alloc::{AllocError, Global};
+use std::convert::AsStr;
+use std::fmt::{self, Display, Formatter, Write};
+use thiserror::Error;
+
+/// How many objects may be asked for and not yet there: as many as the most fetchers.
+const FLIGHTS: u32 = 16;
+
+/// How many entries the history holds, where it isn't said.
+const HISTORY: u64 = 1_000_000;
+
+/// How many objects the cache holds, where it isn't said.
+const CACHE_ENTRIES: u64 = 1_024;
+
+/// How many bytes the cache's objects have together, where it isn't said.
+const CACHE_BYTES: u64 = 1 << 28;
+
+/// How many connections a server of objects takes, where it isn't said.
+const OBJECTS_SESSIONS: u64 = 2;
+
+/// How many connections a mount is served to, where it isn't said.
+const MOUNT_SESSIONS: u64 = 1;
+
+/// How many fetchers a served mount has, where it isn't said.
+const FETCHERS: u64 = 2;
+
+/// How many lengths of contents are kept.
+const SIZES: usize = 65_536;
+
+/// Where the objects of a mount come from.
+#[derive(Drop)]
+pub enum Objects {
+    /// The folder that they lie in.
+    Folder(String),
+    /// The port of a server of this machine.
+    Port(u16),
+}
+
+/// A command that opens a mount.
+#[derive(Clone, Copy, Debug, PartialEq, Eq)]
+pub enum MountCommand {
+    /// One caller, over standard input and output.
+    Stdio,
+    /// A caller for each connection to a port.
+    Serve,
+}
+
+impl MountCommand {
+    /// Its name.
+    pub fn name(self) -> &'static str
+        ensures { result.now ≡ command_name self }
+    {
+        match self {
+            MountCommand::Stdio => "stdio",
+            MountCommand::Serve => "serve",
+        }
+    }
+}
+
+impl Display for MountCommand {
+    fn fmt<W: Write>(&self, f: &mut Formatter<W>) -> fmt::Result {
+        f.write_str(self.name())
+    }
+}
+
+/// What becomes of what a mount was asked and told.
+#[derive(Clone, Copy, Debug, PartialEq, Eq)]
+pub enum HistoryOption {
+    /// Each request is kept with its reply, up to the limit of the history.
+    Kept,
+    /// They are counted, and none is kept.
+    Counted,
+}
+
+/// What mount `mountd stdio` or `mountd serve` is asked to open.
+#[derive(Drop)]
+pub struct MountOptions {
+    /// The root directory's tree.
+    pub root: Id,
+    /// Where the objects come from.
+    pub objects: Objects,
+    /// The folder that keeps the changes, where they are not to stay in memory alone.
+    pub overlay: Option<String>,
+    /// Whether a folder that wasn't closed is opened by what its files say.
+    pub rescan: bool,
+    /// Whether the history is kept, up to its limit, or only counted.
+    pub history: HistoryOption,
+    /// The limits of the mount, which has a pass for each caller: one of `stdio`, and one a connection of `serve`.
+    pub limits: Config,
+}
+
+/// What `mountd serve` is asked to serve, and where.
+#[derive(Drop)]
+pub struct ServeOptions {
+    /// The mount, which has as many passes as connections are served.
+    pub mount: MountOptions,
+    /// The port, or 0 for one that the machine chooses.
+    pub port: u16,
+    /// How many objects are asked for at once.
+    pub fetchers: u32,
+}
+
+/// Whose objects `mountd objects` is asked to serve, and where.
+#[derive(Drop)]
+pub struct ObjectsOptions {
+    /// The folder that the objects lie in.
+    pub folder: String,
+    /// The port, or 0 for one that the machine chooses.
+    pub port: u16,
+    /// How many connections are served.
+    pub sessions: u32,
+}
+
+/// What `mountd import` is asked to import.
+#[derive(Drop)]
+pub struct ImportOptions {
+    /// The folder whose files become objects.
+    pub from: String,
+    /// The folder that the objects come to lie in.
+    pub objects: String,
+}
+
+/// What `mountd tidy` is asked to tidy.
+#[derive(Drop)]
+pub struct TidyOptions {
+    /// The folder of a closed overlay.
+    pub overlay: String,
+}
+
+/// What the program is asked for.
+#[derive(Drop)]
+pub enum Command {
+    Stdio(MountOptions),
+    Serve(ServeOptions),
+    Objects(ObjectsOptions),
+    Import(ImportOptions),
+    Tidy(TidyOptions),
+    /// Which program this is.
+    Version,
+}
+
+/// Why a command line is refused.
+#[derive(Debug, Drop, Error)]
+pub enum OptionsError {
+    /// The words are no command line, or ask for help; the text is `clap`'s and ends its own last line.
+    #[error("{0}")]
+    Refused(clap::Error),
+    /// The value of `--root` is no id.
+    #[error("mountd: --root takes 40 lower-case hexadecimal digits")]
+    Root,
+    /// This command is given neither or both of what objects may come from.
+    #[error("mountd: {0} takes one of --objects and --remote")]
+    Source(MountCommand),
+    /// The value of this option is no number that it takes.
+    #[error("mountd: {0}")]
+    Number(NumberOption),
+    #[error("mountd: out of memory")]
+    Memory,
+}
+
+impl From<AllocError> for OptionsError {
+    ghost from_gives = { λ _ e. e ≡ error.Memory };
+
+    fn from(_error: AllocError) -> OptionsError {
+        OptionsError::Memory
+    }
+}
+
+impl From<NumberOption> for OptionsError {
+    ghost from_gives = { λ option e. e ≡ error.Number option };
+
+    fn from(option: NumberOption) -> OptionsError {
+        OptionsError::Number(option)
+    }
+}
+
+/// Reads the command line, of which the first word is the program's name.
+///
+/// `Memory` may come at any words but those that ask for the version.
+pub fn options<S: AsStr>(alloc: Global, words: &[S]) -> Result<Command, OptionsError>
+    ensures version { AsksVersion (map S.text words.now) → result ≡ Ok Command.Version }
+    ensures taken { OnOk result (IsTaken (map S.text words.now) ⊎ AsksVersion (map S.text words.now)) }
+    ensures ok { IfOk result (AsksFor (map S.text words.now)) }
+    ensures err { IfErr result (Refuses (map S.text words.now)) }
+{
+    if asks_version(words) {
+        return Ok(Command::Version);
+    }
+    let matches = matches_of(alloc, words)?;
+    if let Some(given) = matches.subcommand_matches("stdio") {
+        return Ok(Command::Stdio(mount_options(alloc, given, MountCommand::Stdio)?));
+    }
+    if let Some(given) = matches.subcommand_matches("serve") {
+        return Ok(Command::Serve(serve_options(alloc, given)?));
+    }
+    if let Some(given) = matches.subcommand_matches("objects") {
+        return Ok(Command::Objects(objects_options(alloc, given)?));
+    }
+    if let Some(given) = matches.subcommand_matches("tidy") {
+        return Ok(Command::Tidy(tidy_options(alloc, given)?));
+    }
+    // `clap` has seen that one of the subcommands is there.
+    let given = matches.subcommand_matches("import").unwrap();
+    Ok(Command::Import(import_options(alloc, given)?))
+}
+
+/// Whether the words ask which program this is.
+fn asks_version<S: AsStr>(words: &[S]) -> bool
+    ensures { IsTrue result ↔ AsksVersion (map S.text words.now) }
+{
+    match words {
+        [_, word] => word.as_str() == "--version",
+        _ => false,
+    }
+}
+
+/// The mount that the command is to open.
+///
+/// Of several errors the root's is told, then that of where the objects come from, then a number's.
+fn mount_options(
+    alloc: Global,
+    given: &ArgMatches,
+    command: MountCommand,
+) -> Result<MountOptions, OptionsError>
+    requires { HasRequired mount_options (rows_of (found_of given.now)) }
+    ensures ok { IfOk result (IsMount command (first_value (found_of given.now))) }
+    ensures opened { OnOk result (NamesMount (first_value (found_of given.now))) }
+    ensures err { IfErr result (RefusesValues command (first_value (found_of given.now))) }
+{
+    let root = given.get_str("root").unwrap();
+    let root = parse_id(root).ok_or(OptionsError::Root)?;
+    let objects = objects_of(alloc, given, command)?;
+    let overlay = overlay(alloc, given)?;
+    let rescan = is_given(given, "rescan");
+    let history = history_of(given);
+    let limits = limits(given, command)?;
+    Ok(MountOptions {
+        root,
+        objects,
+        overlay,
+        rescan,
+        history,
+        limits,
+    })
+}
+
+/// Where the objects come from.
+fn objects_of(
+    alloc: Global,
+    given: &ArgMatches,
+    command: MountCommand,
+) -> Result<Objects, OptionsError>
+    ensures ok { IfOk result (SaysObjects (first_value (found_of given.now))) }
+    ensures err { IfErr result (RefusesObjects command (first_value (found_of given.now))) }
+{
+    let port = given.get_str("remote");
+    match given.get_str("objects") {
+        Some(folder) => match port {
+            Some(_) => Err(OptionsError::Source(command)),
+            None => Ok(Objects::Folder(String::from_str(alloc, folder)?)),
+        },
+        None => match port {
+            Some(text) => Ok(Objects::Port(read(text, NumberOption::Remote)? as u16)),
+            None => Err(OptionsError::Source(command)),
+        },
+    }
+}
+
+fn serve_options(alloc: Global, given: &ArgMatches) -> Result<ServeOptions, OptionsError>
+    requires { HasRequired serve_options (rows_of (found_of given.now)) }
+    ensures ok { IfOk result (IsServed (first_value (found_of given.now))) }
+    ensures err { IfErr result (RefusesValues by.Serve (first_value (found_of given.now))) }
+{
+    let mount = mount_options(alloc, given, MountCommand::Serve)?;
+    let port = given.get_str("port").unwrap();
+    let port = read(port, NumberOption::Port)? as u16;
+    let fetchers = number(given, NumberOption::Fetchers, FETCHERS)? as u32;
+    Ok(ServeOptions {
+        mount,
+        port,
+        fetchers,
+    })
+}
+
+fn objects_options(alloc: Global, given: &ArgMatches) -> Result<ObjectsOptions, OptionsError>
+    requires { HasRequired objects_options (rows_of (found_of given.now)) }
+    ensures ok { IfOk result (AreServed (first_value (found_of given.now))) }
+    ensures err { IfErr result (RefusesNumbers (first_value (found_of given.now))) }
+{
+    let folder = given.get_str("dir").unwrap();
+    let port = given.get_str("port").unwrap();
+    let folder = String::from_str(alloc, folder)?;
+    let port = read(port, NumberOption::Port)? as u16;
+    let sessions = number(given, NumberOption::Sessions, OBJECTS_SESSIONS)? as u32;
+    Ok(ObjectsOptions {
+        folder,
+        port,
+        sessions,
+    })
+}
+
+fn import_options(alloc: Global, given: &ArgMatches) -> Result<ImportOptions, AllocError>
+    requires { HasRequired import_options (rows_of (found_of given.now)) }
+    ensures { IfOk result (IsImport (first_value (found_of given.now))) }
+{
+    let from = given.get_str("from").unwrap();
+    let objects = given.get_str("objects").unwrap();
+    let from = String::from_str(alloc, from)?;
+    let objects = String::from_str(alloc, objects)?;
+    Ok(ImportOptions { from, objects })
+}
+
+fn tidy_options(alloc: Global, given: &ArgMatches) -> Result<TidyOptions, AllocError>
+    requires { HasRequired tidy_options (rows_of (found_of given.now)) }
+    ensures { IfOk result (IsTidy (first_value (found_of given.now))) }
+{
+    let overlay = given.get_str("overlay").unwrap();
+    let overlay = String::from_str(alloc, overlay)?;
+    Ok(TidyOptions { overlay })
+}
+
+/// The value of `--overlay`, where it is given.
+fn overlay(alloc: Global, given: &ArgMatches) -> Result<Option<String>, AllocError>
+    ensures { IfOk result (λ overlay.
+        first_value (found_of given.now) (codes "overlay") ≡ option_map string_bytes overlay) }
+{
+    match given.get_str("overlay") {
+        Some(folder) => Ok(Some(String::from_str(alloc, folder)?)),
+        None => Ok(None),
+    }
+}
+
+/// Whether the flag of this name is given.
+fn is_given(given: &ArgMatches, name: &str) -> bool
+    ensures { IsTrue result ↔ IsGiven (first_value (found_of given.now)) name.now }
+{
+    given.get_str(name) == Some("true")
+}
+
+/// What is to become of the history.
+fn history_of(given: &ArgMatches) -> HistoryOption
+    ensures { (result ≡ HistoryOption.Counted) ↔ KeepsNone (first_value (found_of given.now)) }
+{
+    if given.get_str("history") == Some("none") {
+        HistoryOption::Counted
+    } else {
+        HistoryOption::Kept
+    }
+}
+
+/// The limits of the mount that the command opens.
+fn limits(given: &ArgMatches, command: MountCommand) -> Result<Config, NumberOption>
+    ensures ok { IfOk result (SaysLimits command (first_value (found_of given.now))) }
+    ensures err { IfErr result (RefusesNumber (first_value (found_of given.now))) }
+{
+    let passes = passes(given, command)?;
+    let history = number(given, NumberOption::History, HISTORY)? as u32;
+    let entries = number(given, NumberOption::CacheEntries, CACHE_ENTRIES)? as usize;
+    let bytes = number(given, NumberOption::CacheBytes, CACHE_BYTES)?;
+    // What an option takes, a mount takes.
+    Ok(Config::new(passes, FLIGHTS, history, entries, bytes, SIZES).unwrap())
+}
+
+/// How many callers there are of the mount that the command opens.
+fn passes(given: &ArgMatches, command: MountCommand) -> Result<u32, NumberOption>
+    ensures ok { IfOk result (SaysPasses command (first_value (found_of given.now))) }
+    ensures range { IfOk result (λ n. (1 ≤ n) × (n ≤ most_of Sessions)) }
+    ensures err { IfErr result (RefusesNumber (first_value (found_of given.now))) }
+{
+    match command {
+        MountCommand::Stdio => Ok(1),
+        MountCommand::Serve => Ok(number(given, NumberOption::Sessions, MOUNT_SESSIONS)? as u32),
+    }
+}
+
+/// The number that an option has: the one that is given, or its default where none is.
+///
+/// The error names the option, where it doesn't take its value.
+fn number(given: &ArgMatches, option: NumberOption, default: u64) -> Result<u64, NumberOption>
+    requires { (least_of option ≤ default) × (default ≤ most_of option) }
+    ensures ok { IfOk result (SaysNumber option default (first_value (found_of given.now) (number_name option))) }
+    ensures range { IfOk result (λ n. (least_of option ≤ n) × (n ≤ most_of option)) }
+    ensures err { IfErr result (RefusesNumber (first_value (found_of given.now))) }
+{
+    match given.get_str(option.name()) {
+        Some(text) => read_or(text, option, default),
+        None => Ok(default),
+    }
+}
+
+/// The number of an option with this value: the one that it spells, or the default where it stands for none.
+fn read_or(text: &str, option: NumberOption, default: u64) -> Result<u64, NumberOption>
+    requires { (least_of option ≤ default) × (default ≤ most_of option) }
+    ensures ok { IfOk result (SaysNumber option default (Some text.now)) }
+    ensures range { IfOk result (λ n. (least_of option ≤ n) × (n ≤ most_of option)) }
+    ensures err { IfErr result (λ refused. (refused ≡ option) × IsNoValue option text.now) }
+{
+    if option.is_none(text) {
+        return Ok(default);
+    }
+    read(text, option)
+}
+
+/// The number that the text spells for the option, or the option where it is none that it takes.
+fn read(text: &str, option: NumberOption) -> Result<u64, NumberOption>
+    ensures ok { IfOk result (IsNumber option text.now) }
+    ensures range { IfOk result (λ n. (least_of option ≤ n) × (n ≤ most_of option)) }
+    ensures err { IfErr result (λ refused. (refused ≡ option) × IsNoNumber option text.now) }
+{
+    match option.read(text) {
+        Some(number) => Ok(number),
+        None => Err(option),
+    }
+}
+
+/// What `clap` finds in the words.
+fn matches_of<'a, S: AsStr>(alloc: Global, words: &'a [S]) -> Result<ArgMatches<'a>, OptionsError>
+    ensures taken { OnOk result (IsTaken (map S.text words.entry.now)) }
+    ensures subcommand { IfOk result (λ matches.
+        subcommand_rows_of matches ≡ subcommand_of mountd_line (map S.text words.entry.now)) }
+    ensures err { IfErr result (Refuses (map S.text words.entry.now)) }
+{
+    match command_line(alloc)?.try_get_matches_from(words) {
+        Ok(matches) => Ok(matches),
+        Err(error) => Err(refusal(error)),
+    }
+}
+
+fn refusal(reason: clap::Error) -> OptionsError
+    ensures memory { kind_of reason ≡ OutOfMemory → result ≡ error.Memory }
+    ensures one { (result ≡ error.Refused reason) ⊎ ((result ≡ error.Memory) × (kind_of reason ≡ OutOfMemory)) }
+{
+    if reason.kind() == ErrorKind::OutOfMemory {
+        OptionsError::Memory
+    } else {
+        OptionsError::Refused(reason)
+    }
+}
+
+const PORT_HELP: &str = "The port of 127.0.0.1; 0 lets the machine choose";
+
+/// The program's grammar.
+fn command_line<'a>(alloc: Global) -> Result<clap::Command<'a>, AllocError>
+    ensures { IfOk result (λ command. app_of command ≡ mountd_line) }
+{
+    let line = clap::Command::new(alloc, "mountd")
+        .about("Answers requests on the files of a Git commit")
+        .subcommand_required(true);
+    // Each is made when it is added, so that no more than one is there beside the line.
+    let stdio = stdio_line(alloc)?;
+    let line = line.subcommand(stdio)?;
+    let serve = serve_line(alloc)?;
+    let line = line.subcommand(serve)?;
+    let objects = objects_line(alloc)?;
+    let line = line.subcommand(objects)?;
+    let import = import_line(alloc)?;
+    let line = line.subcommand(import)?;
+    let tidy = tidy_line(alloc)?;
+    let line = line.subcommand(tidy)?;
+    Ok(line)
+}
+
+fn stdio_line<'a>(alloc: Global) -> Result<clap::Command<'a>, AllocError>
+    ensures shape { IfOk result (λ line. shape_of line ≡ subcommand_shape stdio) }
+    ensures local { IfOk result (λ line. (fields_of line).has_globals ≡ false) }
+{
+    mount_line(
+        alloc,
+        "stdio",
+        "Serves one session over standard input and output",
+    )
+}
+
+fn serve_line<'a>(alloc: Global) -> Result<clap::Command<'a>, AllocError>
+    ensures shape { IfOk result (λ line. shape_of line ≡ subcommand_shape serve) }
+    ensures local { IfOk result (λ line. (fields_of line).has_globals ≡ false) }
+{
+    let line = mount_line(
+        alloc,
+        "serve",
+        "Serves a session to each connection to a port",
+    )?;
+    let line = with_required(alloc, line, ("port", "P"), PORT_HELP)?;
+    let line = with_optional(
+        alloc,
+        line,
+        ("sessions", "N"),
+        "How many connections are served [default: 1]",
+    )?;
+    with_optional(
+        alloc,
+        line,
+        ("fetchers", "N"),
+        "How many objects are asked for at once [default: 2]",
+    )
+}
+
+/// The line of a command that opens a mount, with the options of whatever does.
+fn mount_line<'a>(
+    alloc: Global,
+    name: &'a str,
+    about: &'a str,
+) -> Result<clap::Command<'a>, AllocError>
+    ensures shape { IfOk result (λ line. shape_of line ≡ subcommand_shape (name.entry.now, mount_options)) }
+    ensures local { IfOk result (λ line. (fields_of line).has_globals ≡ false) }
+{
+    let line = clap::Command::new(alloc, name).about(about);
+    let line = with_required(
+        alloc,
+        line,
+        ("root", "ID"),
+        "The root directory's tree: 40 lower-case hexadecimal digits",
+    )?;
+    let line = with_optional(alloc, line, ("objects", "DIR"), "The folder of Git objects")?;
+    let line = with_optional(
+        alloc,
+        line,
+        ("remote", "PORT"),
+        "The port of a server of Git objects, in the place of --objects",
+    )?;
+    with_kept_options(alloc, line)
+}
+
+fn objects_line<'a>(alloc: Global) -> Result<clap::Command<'a>, AllocError>
+    ensures shape { IfOk result (λ line. shape_of line ≡ subcommand_shape objects) }
+    ensures local { IfOk result (λ line. (fields_of line).has_globals ≡ false) }
+{
+    let line = clap::Command::new(alloc, "objects").about("Serves a folder of Git objects");
+    let line = with_required(alloc, line, ("dir", "DIR"), "The folder of Git objects")?;
+    let line = with_required(alloc, line, ("port", "P"), PORT_HELP)?;
+    with_optional(
+        alloc,
+        line,
+        ("sessions", "N"),
+        "How many connections are served [default: 2]",
+    )
+}
+
+fn import_line<'a>(alloc: Global) -> Result<clap::Command<'a>, AllocError>
+    ensures shape { IfOk result (λ line. shape_of line ≡ subcommand_shape import) }
+    ensures local { IfOk result (λ line. (fields_of line).has_globals ≡ false) }
+{
+    let line = clap::Command::new(alloc, "import").about("Makes a folder's files Git objects");
+    let line = with_required(alloc, line, ("from", "DIR"), "The folder to import")?;
+    with_required(
+        alloc,
+        line,
+        ("objects", "DIR"),
+        "The folder of Git objects that it is imported into",
+    )
+}
+
+fn tidy_line<'a>(alloc: Global) -> Result<clap::Command<'a>, AllocError>
+    ensures shape { IfOk result (λ line. shape_of line ≡ subcommand_shape tidy) }
+    ensures local { IfOk result (λ line. (fields_of line).has_globals ≡ false) }
+{
+    let line = clap::Command::new(alloc, "tidy").about("Removes orphans from a closed overlay");
+    with_required(alloc, line, ("overlay", "DIR"), "The folder of the overlay")
+}
+
+/// The line with the options of what a mount keeps.
+fn with_kept_options<'a>(
+    alloc: Global,
+    line: clap::Command<'a>,
+) -> Result<clap::Command<'a>, AllocError>
+    requires { (fields_of line).has_globals ≡ false }
+    ensures shape { IfOk result (λ more. shape_of more ≡ with_options (shape_of line.entry) kept_options) }
+    ensures local { IfOk result (λ more. (fields_of more).has_globals ≡ false) }
+{
+    let line = with_optional(
+        alloc,
+        line,
+        ("overlay", "DIR"),
+        "The folder that keeps the changes [default: they stay in memory]",
+    )?;
+    let line = with_flag(
+        alloc,
+        line,
+        "rescan",
+        "Opens an overlay that wasn't closed, by what its files say",
+    )?;
+    let line = with_optional(
+        alloc,
+        line,
+        ("history", "N"),
+        "How many entries the history holds; with none, of stdio, it keeps none [default: 1000000]",
+    )?;
+    let line = with_optional(
+        alloc,
+        line,
+        ("cache-entries", "N"),
+        "How many objects the cache holds [default: 1024]",
+    )?;
+    with_optional(
+        alloc,
+        line,
+        ("cache-bytes", "N"),
+        "How many bytes the cache's objects have together [default: 268435456]",
+    )
+}
+
+/// The line with an option more, of this name and value, that must be given.
+fn with_required<'a>(
+    alloc: Global,
+    line: clap::Command<'a>,
+    name: (&'a str, &'a str),
+    help: &'a str,
+) -> Result<clap::Command<'a>, AllocError>
+    requires { (fields_of line).has_globals ≡ false }
+    ensures shape { IfOk result (λ more.
+        shape_of more ≡ with_options (shape_of line.entry) (required name.entry.0.now ∷ [])) }
+    ensures local { IfOk result (λ more. (fields_of more).has_globals ≡ false) }
+{
+    line.arg(option(alloc, name).required(true).help(help))
+}
+
+/// The line with an option more, of this name and value, that may be left out.
+fn with_optional<'a>(
+    alloc: Global,
+    line: clap::Command<'a>,
+    name: (&'a str, &'a str),
+    help: &'a str,
+) -> Result<clap::Command<'a>, AllocError>
+    requires { (fields_of line).has_globals ≡ false }
+    ensures shape { IfOk result (λ more.
+        shape_of more ≡ with_options (shape_of line.entry) (optional name.entry.0.now ∷ [])) }
+    ensures local { IfOk result (λ more. (fields_of more).has_globals ≡ false) }
+{
+    line.arg(option(alloc, name).help(help))
+}
+
+/// The line with a flag more, of this name.
+fn with_flag<'a>(
+    alloc: Global,
+    line: clap::Command<'a>,
+    name: &'a str,
+    help: &'a str,
+) -> Result<clap::Command<'a>, AllocError>
+    requires { (fields_of line).has_globals ≡ false }
+    ensures shape { IfOk result (λ more.
+        shape_of more ≡ with_options (shape_of line.entry) (flag name.entry.now ∷ [])) }
+    ensures local { IfOk result (λ more. (fields_of more).has_globals ≡ false) }
+{
+    let flag = Arg::new(alloc, name).long(name).action(ArgAction::SetTrue);
+    line.arg(flag.help(help))
+}
+
+fn option<'a>(alloc: Global, name: (&'a str, &'a str)) -> Arg<'a>
+    ensures rule { rule_of result ≡ option_rule (optional name.entry.0.now) }
+    ensures local { result.global ≡ false }
+{
+    let (name, value) = name;
+    Arg::new(alloc, name).long(name).value_name(value)
+}

@@ -1,0 +1,101 @@
+//! Own files that are read and written in pieces: how often their contents are asked of the files.
+
+use crate::mount::KEPT;
+use crate::steps::{Ask, Names, Row, Step, Want, check};
+use eden_model::{Fault, Kind};
+use test_samples::ONE_FILE;
+
+const A: Names = &[b"a"];
+
+const B: Names = &[b"b"];
+
+/// Two pages and the length are one read. Another file's turn drops the content, also a turn that fails.
+const IN_PAGES: Row = Row {
+    root: ONE_FILE,
+    objects: 8,
+    steps: &[
+        Step::Need(A, Ask::Create, ONE_FILE),
+        Step::Ask(A, Ask::Create, Want::Ok),
+        Step::Ask(A, Ask::Write(0, b"content of a"), Want::Count(12)),
+        Step::Ask(B, Ask::Create, Want::Ok),
+        Step::Ask(B, Ask::Write(0, b"of b"), Want::Count(4)),
+        Step::Pass(1),
+        Step::Ask(A, Ask::Read(0, 7), Want::Data(b"content")),
+        Step::Ask(A, Ask::Read(7, 7), Want::Data(b" of a")),
+        Step::Ask(A, Ask::Stat, Want::Stat(Kind::File, 12)),
+        Step::Ask(B, Ask::Read(0, 9), Want::Fault(Fault::Overlay)),
+        Step::Ask(A, Ask::Read(0, 7), Want::Fault(Fault::Overlay)),
+    ],
+    files: &[(1, 131), (3, 76), (4, 68)],
+};
+
+/// A piece that is written is one store and no read, and is read without one. What couldn't be written isn't read, and of a
+/// file that has gone nothing is.
+const WRITTEN_IN_PIECES: Row = Row {
+    root: ONE_FILE,
+    objects: 8,
+    steps: &[
+        Step::Need(A, Ask::Create, ONE_FILE),
+        Step::Ask(A, Ask::Create, Want::Ok),
+        Step::Pass(1),
+        Step::Ask(A, Ask::Write(0, b"content"), Want::Count(7)),
+        Step::Ask(A, Ask::Read(0, 9), Want::Data(b"content")),
+        Step::Pass(2),
+        Step::Ask(A, Ask::Write(0, b"C"), Want::Count(1)),
+        Step::Ask(A, Ask::Truncate(9), Want::Ok),
+        Step::Ask(A, Ask::Read(0, 9), Want::Data(b"Content\0\0")),
+        Step::Ask(A, Ask::Write(0, b"x"), Want::Fault(Fault::Overlay)),
+        Step::Pass(1),
+        Step::Ask(A, Ask::Read(0, 9), Want::Data(b"Content\0\0")),
+        Step::Ask(A, Ask::Read(7, 9), Want::Data(b"\0\0")),
+        Step::Pass(u64::MAX),
+        Step::Ask(A, Ask::Unlink, Want::Ok),
+        Step::Ask(A, Ask::Create, Want::Ok),
+        Step::Ask(A, Ask::Read(0, 9), Want::Data(b"")),
+    ],
+    files: &[(1, 119), (4, 64)],
+};
+
+/// A content stays where its directory goes: only that is read again.
+const UNLOADED_BETWEEN: Row = Row {
+    root: ONE_FILE,
+    objects: 8,
+    steps: &[
+        Step::Need(A, Ask::Create, ONE_FILE),
+        Step::Ask(A, Ask::Create, Want::Ok),
+        Step::Ask(A, Ask::Write(0, b"content"), Want::Count(7)),
+        Step::Unload(1),
+        Step::Pass(1),
+        Step::Ask(A, Ask::Read(0, 9), Want::Data(b"content")),
+        Step::Ask(A, Ask::Stat, Want::Stat(Kind::File, 7)),
+    ],
+    files: &[(1, 119), (3, 71)],
+};
+
+/// With room for four bytes, a content of five is read each time, and one of four once.
+const TOO_LONG: Row = Row {
+    root: ONE_FILE,
+    objects: 8,
+    steps: &[
+        Step::Need(A, Ask::Create, ONE_FILE),
+        Step::Ask(A, Ask::Create, Want::Ok),
+        Step::Ask(A, Ask::Write(0, b"abcde"), Want::Count(5)),
+        Step::Ask(B, Ask::Create, Want::Ok),
+        Step::Ask(B, Ask::Write(0, b"abcd"), Want::Count(4)),
+        Step::Pass(1),
+        Step::Ask(A, Ask::Read(0, 2), Want::Data(b"ab")),
+        Step::Ask(A, Ask::Read(2, 2), Want::Fault(Fault::Overlay)),
+        Step::Pass(1),
+        Step::Ask(B, Ask::Read(0, 2), Want::Data(b"ab")),
+        Step::Ask(B, Ask::Read(2, 2), Want::Data(b"cd")),
+    ],
+    files: &[(1, 131), (3, 69), (4, 68)],
+};
+
+#[test]
+fn a_content_that_was_read_or_stored_is_not_read_again(rt: HostRuntime) {
+    for row in [IN_PAGES, WRITTEN_IN_PIECES, UNLOADED_BETWEEN] {
+        check(&rt, rt.alloc(), row, KEPT);
+    }
+    check(&rt, rt.alloc(), TOO_LONG, 4);
+}

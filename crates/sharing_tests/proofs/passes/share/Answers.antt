@@ -1,0 +1,7 @@
+use denote.Exit.{yes}
+use denote.Param.Send.{arg_send, param_send}
+use Rattle.sharing_tests.proofs.Sending.{Tree-send}
+use Rattle.sharing_tests.proofs.passes.share.Goals as goal
+
+pub run-passes-requires-send-T : goal.run-passes-requires-send-T
+run-passes-requires-send-T g c = λ κs within. param_send 0 _ (arg_send _ yes _ Tree-send)
