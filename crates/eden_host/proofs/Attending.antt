@@ -14,7 +14,7 @@ use Rattle.eden_wire.specs.declared.request.Item.TheVariants.{Asks, Refuses, Bad
 use Rattle.eden_wire.specs.declared.session_fault.SessionFault.{SessionFault}
 use Rattle.eden_wire.specs.declared.session_fault.SessionFault.TheVariants.{Memory}
 use Rattle.eden_wire.specs.Serving.{Session, Serves}
-use Rattle.eden_host.specs.Guests.{GuestAnswers}
+use Rattle.eden_host.specs.Guests.{GuestAnswers, Visit, VisitAnswers}
 use Rattle.eden_host.specs.Sessions.{AreAttended, AreHosted, IsSeated, gathered}
 use Rattle.eden_host.specs.declared.fault.HostFault.{HostFault}
 use Rattle.eden_host.specs.declared.fault.HostFault.TheVariants.{Listen}
@@ -38,16 +38,44 @@ module _ (honest : Type 0) (opening : Tree) where
   numbers_stay (Refuses r ∷ items) given p p' h = numbers_stay items given p p' h
   numbers_stay (Bad ∷ items) given p p' h = numbers_stay items given p p' h
 
+  -- a guest's session was its pass's
+  pass_serves : (items : List Item) (given : List (Option (Result Reply CallFault))) (g g' : Visit) → Serves (VisitAnswers honest opening) g items given g'
+      → Serves (GuestAnswers honest opening) g.pass items given g'.pass
+  pass_serves [] [] g g' h = ap (λ (x : Visit). x.pass) h
+  pass_serves [] (a ∷ given) g g' h = absurd h
+  pass_serves (Asks q ∷ items) [] g g' h = absurd h
+  pass_serves (Asks q ∷ items) (None ∷ given) g g' h = pass_serves items given g g' h
+  pass_serves (Asks q ∷ items) (Some a ∷ given) g g' h = (h.0.pass, h.1, pass_serves items given h.0 g' h.2)
+  pass_serves (Refuses r ∷ items) given g g' h = pass_serves items given g g' h
+  pass_serves (Bad ∷ items) given g g' h = pass_serves items given g g' h
+
   module _ {I O : Type 0} (i : Read I) (o : Write O) where
-    -- a session over a guest was its pass's
-    pub attended : (p p' : Carried) (reader unread : I) (writer written : O) (said : Result ⊤ SessionFault)
-        → Session (GuestAnswers honest opening) (p, p') (i.remaining reader, i.remaining unread) (o.contents writer, o.contents written) said
-        → IsSeated i o honest opening p p' (Some said)
-    attended p p' reader unread writer written said s =
-        let stays = numbers_stay (s.items ++ s.last) s.given p p' s.served in
-        let number : p'.number ≡ p.number = ap (λ (x : Terms × ℕ). x.1) stays in
-        let terms : p'.terms ≡ p.terms = ap (λ (x : Terms × ℕ). x.0) stays in
-        (reader, writer, record { number = number; terms = terms; unread = unread; written = written; session = s })
+    pub attended : (g g' : Visit) (reader unread : I) (writer written : O) (said : Result ⊤ SessionFault)
+        → Session (VisitAnswers honest opening) (g, g') (i.remaining reader, i.remaining unread) (o.contents writer, o.contents written) said
+        → IsSeated i o honest opening g.pass g'.pass (Some said)
+    attended g g' reader unread writer written said s =
+        let serves = pass_serves (s.items ++ s.last) s.given g g' s.served in
+        let stays = numbers_stay (s.items ++ s.last) s.given g.pass g'.pass serves in (
+          reader,
+          writer,
+          record {
+            number = ap (λ (x : Terms × ℕ). x.1) stays;
+            terms = ap (λ (x : Terms × ℕ). x.0) stays;
+            unread = unread;
+            written = written;
+            session = record {
+              read = s.read;
+              items = s.items;
+              last = s.last;
+              given = s.given;
+              rest = s.rest;
+              consumed = s.consumed;
+              lines = s.lines;
+              served = serves;
+              said = s.said;
+            };
+          },
+        )
 
     -- nobody could connect any more
     pub unattended : (ps : List Carried) → 0 < length ps → AreAttended i o honest opening ps ps (Some (Err Listen))

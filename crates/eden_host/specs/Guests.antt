@@ -18,6 +18,13 @@ HasLearntNothing p = p.floor ≡ last_told p.told + 1
 pub record HaveLearntNothing (passes : List Carried) : Type 0 where
   pub each : AllByRecursion HasLearntNothing passes
 
+-- what contracts see of a guest
+pub record Visit : Type 0 where
+  -- what its pass carries
+  pub pass : Carried
+  -- the last reply
+  pub reply : Reply
+
 -- the reply that was told last
 abbrev pub last_reply : List Told → Reply → Type 0
 last_reply ts r = (t : Told) × (slice_get ts (length ts - 1) ≡ Some t) × (r ≡ t.reply)
@@ -33,3 +40,7 @@ module _ (honest : Type 0) (opening : Tree) where
   abbrev pub GuestAnswers : Carried → Request → Result Reply CallFault → Carried → Type 0
   GuestAnswers old q (Ok reply) new = Grows honest opening old q new × last_reply new.told reply
   GuestAnswers old q (Err fault) new = IsTurnedAway old fault × (new ≡ old)
+
+  -- .. by what the guest's pass carries
+  abbrev pub VisitAnswers : Visit → Request → Result Reply CallFault → Visit → Type 0
+  VisitAnswers g q answer g' = GuestAnswers g.pass q answer g'.pass

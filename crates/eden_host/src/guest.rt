@@ -1,11 +1,11 @@
 //! One of the callers of a shared mount.
-ghost use Rattle.std.specs.Prelude.{◌≡◌, ◌<◌, length, MatchResult};
+ghost use Rattle.std.specs.Prelude.{◌≡◌, IfErr, OnErr, OnOk};
 ghost use Rattle.eden_host.specs.Guests.{HasLearntNothing, IsTurnedAway, last_reply};
 ghost use Rattle.eden_shared.specs.Calls.{Grows};
 
 use crate::served::Served;
 use crate::unloading::Unloading;
-use eden_model::{CallFault, Path, Reply, Request, World};
+use eden_model::{CallFault, Fault, Path, Reply, Request, World};
 use eden_shared::{Naming, Pass};
 use eden_wire::Service;
 use std::alloc::Global;
@@ -14,12 +14,13 @@ use std::sync::Wait;
 
 /// A caller of a shared mount, whose requests a session answers. Its pass learns no numbers of other callers.
 ///
-/// Contracts see what the pass carries.
+/// Contracts see what the pass carries, and the last reply.
 #[derive(Drop)]
 pub struct Guest<'a, W: World, J: Naming, C: Served<W, J>, R: Wait> {
     rt: &'a R,
     shared: &'a C,
     pass: Pass<J>,
+    reply: Reply,
     unloading: Unloading,
     root: Path,
     // how many requests were served since directories were last let go
@@ -28,12 +29,11 @@ pub struct Guest<'a, W: World, J: Naming, C: Served<W, J>, R: Wait> {
 }
 
 impl<'a, W: World, J: Naming, C: Served<W, J>, R: Wait> Model for Guest<'a, W, J, C, R> {
-    ghost use Rattle.eden_host.specs.Guests.{HasLearntNothing};
-    ghost use Rattle.eden_shared.specs.Passes.{Carried};
+    ghost use Rattle.eden_host.specs.Guests.{HasLearntNothing, Visit};
 
-    ghost Value = { Carried };
+    ghost Value = { Visit };
 
-    ghost view = { λ g. g.pass };
+    ghost view = { λ g. record { pass = g.pass; reply = g.reply } };
 
     ghost invariant = { λ g. HasLearntNothing g.pass };
 }
@@ -42,12 +42,13 @@ impl<'a, W: World, J: Naming, C: Served<W, J>, R: Wait> Guest<'a, W, J, C, R> {
     /// Over a shared mount, with one of its passes. It takes no memory.
     pub fn new(rt: &'a R, alloc: Global, shared: &'a C, pass: Pass<J>, unloading: Unloading) -> Self
         requires { HasLearntNothing pass }
-        ensures { result ≡ pass }
+        ensures { result.pass ≡ pass }
     {
         Guest {
             rt,
             shared,
             pass,
+            reply: Reply::Fault(Fault::Memory),
             unloading,
             root: Path::new(Vec::new(alloc)).unwrap(),
             served: 0,
@@ -57,21 +58,26 @@ impl<'a, W: World, J: Naming, C: Served<W, J>, R: Wait> Guest<'a, W, J, C, R> {
 
     /// Gives the pass back.
     pub fn into_pass(self) -> Pass<J>
-        ensures same { result ≡ self.entry }
+        ensures same { result ≡ self.entry.pass }
         ensures learnt { HasLearntNothing result }
     {
         let Guest { pass, .. } = self;
         pass
     }
 
-    /// Asks a request, and waits for its reply; or the pass stays as it was.
+    /// Asks a request, and waits for its reply, which lies here from then on; or the pass stays as it was.
     fn ask(&mut self, request: Request) -> Result<(), CallFault>
-        ensures { MatchResult result (λ _. Grows W.honest W.opening self.old request self.new)
-            (λ fault. IsTurnedAway W.honest W.opening self.old fault × (self.new ≡ self.old)) }
+        ensures grows { OnOk result (Grows W.honest W.opening self.old.pass request self.new.pass) }
+        ensures reply { OnOk result (last_reply self.new.pass.told self.new.reply) }
+        ensures same { OnErr result (self.new.pass ≡ self.old.pass) }
+        ensures why { IfErr result (IsTurnedAway W.honest W.opening self.old.pass) }
     {
         match self.shared.ask(self.rt, &mut self.pass, request) {
-            Ok(()) => Ok(()),
             Err(fault) => Err(fault),
+            Ok(answer) => {
+                self.reply = answer.reply;
+                Ok(())
+            }
         }
     }
 
@@ -87,20 +93,18 @@ impl<'a, W: World, J: Naming, C: Served<W, J>, R: Wait> Guest<'a, W, J, C, R> {
         self.shared.let_go(self.rt, &self.root, self.unloading.age);
     }
 
-    /// What the pass was told last.
+    /// The last reply.
     fn reply(&self) -> &Reply
-        requires { 0 < length self.now.told }
-        ensures { last_reply self.now.told result.now }
+        ensures { result.now ≡ self.now.reply }
     {
-        let told = self.pass.told();
-        &told[told.len() - 1].reply
+        &self.reply
     }
 }
 
 impl<'a, W: World, J: Naming, C: Served<W, J>, R: Wait> Service for Guest<'a, W, J, C, R> {
-    ghost use Rattle.eden_host.specs.Guests.{GuestAnswers};
+    ghost use Rattle.eden_host.specs.Guests.{VisitAnswers};
 
-    ghost answers = { GuestAnswers W.honest W.opening };
+    ghost answers = { VisitAnswers W.honest W.opening };
 
     fn call(&mut self, request: Request) -> Result<&Reply, CallFault> {
         match self.ask(request) {

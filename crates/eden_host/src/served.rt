@@ -1,10 +1,10 @@
 ghost use Rattle.std.specs.Prelude.{◌≡◌, MatchResult};
-ghost use Rattle.eden_shared.specs.Calls.{Grows, IsLawful};
+ghost use Rattle.eden_shared.specs.Calls.{Gives, IsLawful};
 
 use eden_history::History;
 use eden_model::{CallFault, Path, Request, World};
 use eden_mount::Attempts;
-use eden_shared::{Naming, Pass, Shared};
+use eden_shared::{Answered, Naming, Pass, Shared};
 use eden_source::Source;
 use std::alloc::Allocator;
 use std::sync::Wait;
@@ -13,8 +13,13 @@ use std::sync::Wait;
 /// are.
 pub trait Served<W: World, J: Naming> {
     /// Asks a request with that pass, and waits for its reply; or the pass stays as it was.
-    fn ask<R: Wait>(&self, rt: &R, pass: &mut Pass<J>, request: Request) -> Result<(), CallFault>
-        ensures { MatchResult result (λ _. Grows W.honest W.opening pass.old request pass.new)
+    fn ask<R: Wait>(
+        &self,
+        rt: &R,
+        pass: &mut Pass<J>,
+        request: Request,
+    ) -> Result<Answered, CallFault>
+        ensures { MatchResult result (λ a. Gives W.honest W.opening pass.old request a pass.new)
             (λ fault. IsLawful W.honest W.opening pass.old fault × (pass.new ≡ pass.old)) };
 
     /// Lets go of the loaded directories at and below the path that weren't used for so many turns. How many went.
@@ -29,11 +34,13 @@ pub trait Served<W: World, J: Naming> {
 
 impl<W: World, T: Attempts<W> + Drop, A: Allocator, J: Naming, H: History> Served<W, J>
     for Shared<W, T, A, J, H> {
-    fn ask<R: Wait>(&self, rt: &R, pass: &mut Pass<J>, request: Request) -> Result<(), CallFault> {
-        match pass.call(self, rt, request) {
-            Ok(_) => Ok(()),
-            Err(fault) => Err(fault),
-        }
+    fn ask<R: Wait>(
+        &self,
+        rt: &R,
+        pass: &mut Pass<J>,
+        request: Request,
+    ) -> Result<Answered, CallFault> {
+        pass.call(self, rt, request)
     }
 
     fn let_go<R: Wait>(&self, rt: &R, path: &Path, older_than: u64) -> u64 {

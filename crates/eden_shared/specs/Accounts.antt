@@ -11,6 +11,10 @@ use Rattle.eden_shared.specs.declared.account.Told.{Told}
 abbrev pub told : ℕ → Request → Reply → Told
 told n q r = record { number = n; request = q; reply = r }
 
+-- a request that is pending, and how long the history was at its start
+abbrev pub pended : Request → ℕ → Pending
+pended q n = record { request = q; since = n }
+
 abbrev pub account : Terms → Option Pending → List Told → Account
 account terms s ts = record { terms = terms; pending = s; told = ts }
 

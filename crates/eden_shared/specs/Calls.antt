@@ -71,6 +71,10 @@ module _ (honest : Type 0) (opening : Tree) where
     pub stands : StandsIn number p.number q reply
     pub is : p' ≡ carried p.terms p.number (number + 1) (p.told ++ told number q reply ∷ [])
 
+  -- .. and its number and its reply are the answer
+  abbrev pub Gives : Carried → Request → Answered → Carried → Type 0
+  Gives p q a p' = (grown : Grows p q p') × (a.number ≡ grown.number) × (a.reply ≡ grown.reply)
+
   -- .. which is lent
   abbrev pub Lends : Carried → Request → Told → Carried → Type 0
   Lends p q t p' = Grows p q p' × (slice_get p'.told (length p'.told - 1) ≡ Some t)

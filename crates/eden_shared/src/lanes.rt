@@ -5,9 +5,10 @@ ghost use Rattle.eden_shared.specs.Lanes.{names_of, values_of};
 use crate::account::Account;
 use crate::ends::{Begins, Far, Near, Turns, turn};
 use eden_history::History;
-use eden_model::{Reply, World};
-use eden_mount::{Attempts, Mount, Pending};
+use eden_model::{Reply, Request, World};
+use eden_mount::{Attempts, Mount};
 use std::alloc::Allocator;
+use std::snapshot::Snapshot;
 
 /// The end of a tie that lies under the lock. The byte is there since a row of values without bytes gets no proof.
 #[derive(Drop)]
@@ -46,14 +47,21 @@ impl Turns<(), Account> for Same {
     ghost after = { λ _ a. a };
 }
 
+/// A request that was started, which only contracts see, and how long the history was then.
+#[derive(Drop)]
+pub(crate) struct Begun {
+    pub(crate) request: Snapshot<Request>,
+    pub(crate) since: u64,
+}
+
 /// A request is pending.
 pub(crate) struct Starts;
 
-impl Turns<Pending, Account> for Starts {
+impl Turns<Begun, Account> for Starts {
     ghost use Rattle.std.specs.Prelude.{Some};
-    ghost use Rattle.eden_shared.specs.Accounts.{account};
+    ghost use Rattle.eden_shared.specs.Accounts.{account, pended};
 
-    ghost after = { λ s a. account a.terms (Some s) a.told };
+    ghost after = { λ b a. account a.terms (Some (pended b.request.value b.since)) a.told };
 }
 
 /// A reply, and its entry's number.

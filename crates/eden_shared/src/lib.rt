@@ -14,11 +14,14 @@ mod lanes;
 mod locked;
 mod opening;
 mod pass;
+mod recording;
 mod shared;
 
 pub use account::{Naming, Terms, Told};
 pub use fetching::Fetched;
 pub use finishing::Torn;
+pub use lanes::Answered;
 pub use opening::Ties;
 pub use pass::Pass;
+pub use recording::Recording;
 pub use shared::Shared;

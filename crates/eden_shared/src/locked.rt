@@ -4,7 +4,7 @@ ghost use Rattle.eden_object.specs.Objects.{IsHonest};
 ghost use Rattle.eden_mount.specs.Core.{Pends};
 ghost use Rattle.eden_mount.specs.Steps.{IsRefused};
 ghost use Rattle.eden_mount.specs.declared.seats.Pending as declared;
-ghost use Rattle.eden_shared.specs.Accounts.{account};
+ghost use Rattle.eden_shared.specs.Accounts.{account, pended};
 ghost use Rattle.eden_shared.specs.Answers.{after_answer};
 ghost use Rattle.eden_shared.specs.Calls.{AnswersTo, IsHeldBack, IsLawful, IsRefusal};
 ghost use Rattle.eden_shared.specs.Lanes.{HasName};
@@ -15,13 +15,14 @@ ghost use Rattle.eden_shared.specs.Passes.{Agrees, AreEach, Carried, Has, IsKnow
 use crate::account::{Account, Naming};
 use crate::ends::Far;
 use crate::gathered::have_each;
-use crate::lanes::{Answered, Finishes, Lane, Starts, change, look};
+use crate::lanes::{Answered, Begun, Finishes, Lane, Starts, change, look};
 use crate::pass::Pass;
 use eden_history::History;
 use eden_model::{CallFault, Cause, Key, Path, Request, StartFault, World};
-use eden_mount::{Arrived, Attempts, Mount, Pending, Turned};
+use eden_mount::{Arrived, Attempts, Mount, Turned};
 use std::alloc::Allocator;
 use std::marker::{Model, PhantomData};
+use std::snapshot::Snapshot;
 
 /// Contracts see the mount, and whether it was stopped. What the ends hold are its seats, the entries of each pass, and
 /// what the mount was opened with.
@@ -45,23 +46,20 @@ impl<W: World, T: Attempts<W> + Drop, A: Allocator, J: Naming, H: History> Model
 }
 
 impl<W: World, T: Attempts<W> + Drop, A: Allocator, J: Naming, H: History> Locked<W, T, A, J, H> {
-    /// Starts the request, of which `kept` is a copy. What is pending then.
+    /// Starts the request. How long the history was then.
     pub(crate) fn start(
         &mut self,
         number: u32,
         known: u64,
         end: &mut Far<Account>,
         request: Request,
-        kept: Request,
-    ) -> Result<Pending, CallFault>
+    ) -> Result<u64, CallFault>
         requires lane { HasName J.names number end.old.name }
         requires free { end.old.value.pending ≡ None }
-        requires kept { kept ≡ request }
         ensures name { end.new.name ≡ end.old.name }
-        ensures request { IfOk result (λ s. s.request ≡ request) }
-        ensures known { IfOk result (λ s. known ≤ s.since) }
-        ensures pending { IfOk result (λ s. end.new.value
-            ≡ account end.old.value.terms (Some s) end.old.value.told) }
+        ensures known { IfOk result (λ n. known ≤ n) }
+        ensures pending { IfOk result (λ n. end.new.value
+            ≡ account end.old.value.terms (Some (pended request n)) end.old.value.told) }
         ensures err { OnErr result (end.new.value ≡ end.old.value) }
         ensures why { IfErr result (IsLawful W.honest W.opening
             (carried end.old.value.terms number (known + 1) end.old.value.told)) }
@@ -70,20 +68,12 @@ impl<W: World, T: Attempts<W> + Drop, A: Allocator, J: Naming, H: History> Locke
             Ok(since) => since,
             Err(fault) => {
                 drop(request);
-                drop(kept);
                 return Err(fault);
             }
         };
-        let pending = Pending {
-            request: kept,
-            since,
-        };
-        match self.begin(number, end, request, &pending) {
-            Ok(()) => Ok(pending),
-            Err(fault) => {
-                drop(pending);
-                Err(CallFault::Start(fault))
-            }
+        match self.begin(number, end, request, since) {
+            Ok(()) => Ok(since),
+            Err(fault) => Err(CallFault::Start(fault)),
         }
     }
 
@@ -119,15 +109,14 @@ impl<W: World, T: Attempts<W> + Drop, A: Allocator, J: Naming, H: History> Locke
         number: u32,
         end: &mut Far<Account>,
         request: Request,
-        pending: &Pending,
+        since: u64,
     ) -> Result<(), StartFault>
         requires lane { HasName J.names number end.old.name }
         requires free { end.old.value.pending ≡ None }
-        requires request { pending.now.request ≡ request }
-        requires since { pending.now.since ≡ length self.old.mount.history }
+        requires since { since ≡ length self.old.mount.history }
         ensures name { end.new.name ≡ end.old.name }
         ensures ok { OnOk result (end.new.value
-            ≡ account end.old.value.terms (Some pending.now) end.old.value.told) }
+            ≡ account end.old.value.terms (Some (pended request since)) end.old.value.told) }
         ensures err { OnErr result (end.new.value ≡ end.old.value) }
         ensures refused { IfErr result (IsRefused self.old.mount number) }
         ensures why { IfErr result (IsRefusal W.honest W.opening
@@ -136,10 +125,15 @@ impl<W: World, T: Attempts<W> + Drop, A: Allocator, J: Naming, H: History> Locke
         let at = number as usize - 1;
         look(&mut self.lanes, at, end);
         self.mount.holds();
+        let asked = Snapshot::of(&request);
         match self.mount.start(number, request) {
             Err(fault) => Err(fault),
             Ok(()) => {
-                change::<Pending, Starts>(&mut self.lanes, at, end, pending);
+                let begun = Begun {
+                    request: asked,
+                    since,
+                };
+                change::<Begun, Starts>(&mut self.lanes, at, end, &begun);
                 Ok(())
             }
         }

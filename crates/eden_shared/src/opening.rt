@@ -70,7 +70,6 @@ fn hand_out<W: World, T: Attempts<W> + Drop, A: Allocator, J: Naming, H: History
         passes.push(Pass {
             number: place as u32 + 1,
             known: 0,
-            told: Vec::new(alloc),
             end: far,
             names: PhantomData,
         })?;

@@ -10,7 +10,7 @@ use crate::mounts::{Held, Mounted, Size, Tree, fetch, open};
 use eden_history::Kept;
 use eden_model::{CallFault, Outside, StartFault};
 use eden_mount::Attempts;
-use eden_shared::{Naming, Pass, Shared, Ties};
+use eden_shared::{Naming, Pass, Recording, Shared, Ties};
 use std::alloc::Global;
 use std::marker::Brand;
 use std::process::Abort;
@@ -39,17 +39,26 @@ struct Race<'a, T: Attempts<Outside> + Drop, J: Naming> {
 /// A pass that has called, and how many of its calls met a full history.
 #[derive(Drop)]
 struct Caller<J: Naming> {
-    pass: Pass<J>,
+    pass: Recording<J>,
     refused: u32,
+}
+
+/// The pass, which keeps what it is told from now on.
+fn record<J: Naming>(rt: &impl Abort, alloc: Global, pass: Pass<J>) -> Recording<J> {
+    match Recording::new(alloc, pass) {
+        Ok(pass) => pass,
+        Err(_) => rt.abort(),
+    }
 }
 
 /// Random requests of any kind, of a tree in which only this pass changes something.
 fn ask<T: Attempts<Outside> + Drop, J: Naming, R: Wait + Abort>(
     rt: &R,
     race: &Race<'_, T, J>,
-    mut pass: Pass<J>,
+    pass: Pass<J>,
 ) -> Caller<J> {
     let mut seed = u64::from(pass.number());
+    let mut pass = record(rt, race.alloc, pass);
     let mut tree = race.commit.whole(race.alloc).expect(rt, "a tree");
     let full = CallFault::Start(StartFault::HistoryFull(u64::from(race.load.size.history)));
     let mut refused = 0u32;
@@ -121,9 +130,9 @@ fn end<J: Naming>(
     let mut passes = Vec::new(alloc);
     let mut all_refused = 0u32;
     for Caller { pass, refused } in callers {
-        add_notes(rt, alloc, &mut notes, pass.number(), pass.told());
+        add_notes(rt, alloc, &mut notes, pass.pass().number(), pass.told());
         all_refused = all_refused.saturating_add(refused);
-        passes.push(pass).expect(rt, "memory");
+        passes.push(pass.into_pass()).expect(rt, "memory");
     }
     let mounted = shared.finish(passes).ok().expect(rt, "each pass");
     Ending {

@@ -109,7 +109,9 @@ fn ask<T: Attempts<Outside> + Drop, J: Naming, R: Wait + Abort>(
     call: Call,
 ) {
     match pass.call(shared, rt, request(rt, alloc, call.asked)) {
-        Ok(told) => assert!(rt; told.number == call.number && is_told(call.asked, &told.reply)),
+        Ok(answer) => {
+            assert!(rt; answer.number == call.number && is_told(call.asked, &answer.reply));
+        }
         Err(_) => rt.abort(),
     }
     assert!(rt; pass.floor() == call.number.saturating_add(1));

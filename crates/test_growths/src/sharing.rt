@@ -13,7 +13,7 @@ use eden_history::Kept;
 use eden_model::{CallFault, Cause, Id, Outside, Request, StartFault};
 use eden_mount::{Attempts, Mount, Room};
 use eden_object::id_of;
-use eden_shared::{Naming, Pass, Shared, Ties};
+use eden_shared::{Naming, Pass, Recording, Shared, Ties};
 use eden_source::Source;
 use std::alloc::Global;
 use std::marker::{Brand, Send, Sync};
@@ -36,7 +36,7 @@ fn call<T: Attempts<Outside> + Drop, J: Naming, R: Wait>(
     rt: &R,
     teller: &mut Teller,
     shared: &Held<T, J>,
-    pass: &mut Pass<J>,
+    pass: &mut Recording<J>,
     request: Request,
 ) {
     teller.begin("call");
@@ -47,11 +47,11 @@ fn call<T: Attempts<Outside> + Drop, J: Naming, R: Wait>(
 }
 
 /// How many calls the pass was told of, which takes no memory.
-fn look<J: Naming>(teller: &mut Teller, pass: &mut Pass<J>) {
+fn look<J: Naming>(teller: &mut Teller, pass: &mut Recording<J>) {
     teller.begin("told");
     pass.learn(0);
     let count = pass.told().len() as u64;
-    if count < pass.floor() && pass.number() == 1 {
+    if count < pass.pass().floor() && pass.pass().number() == 1 {
         teller.end_number(count);
     } else {
         teller.end("another");
@@ -64,7 +64,7 @@ fn ask<T: Attempts<Outside> + Drop, J: Naming, R: Wait>(
     alloc: Global,
     teller: &mut Teller,
     shared: &Held<T, J>,
-    pass: &mut Pass<J>,
+    pass: &mut Recording<J>,
     line: &[u8],
 ) -> bool {
     let Some(request) = request_in(alloc, line) else {
@@ -106,7 +106,7 @@ fn step<T: Attempts<Outside> + Drop, J: Naming, R: Wait>(
     alloc: Global,
     teller: &mut Teller,
     shared: &Held<T, J>,
-    pass: &mut Pass<J>,
+    pass: &mut Recording<J>,
     line: &[u8],
 ) -> bool {
     match line {
@@ -123,7 +123,7 @@ fn steps<T: Attempts<Outside> + Drop, J: Naming, R: Wait>(
     teller: &mut Teller,
     script: &mut Script,
     shared: &Held<T, J>,
-    pass: &mut Pass<J>,
+    pass: &mut Recording<J>,
 ) -> Came {
     for _ in 0..u64::MAX {
         let Some(line) = script.next_line() else {
@@ -198,7 +198,30 @@ fn beside_fetcher<
     })
 }
 
-/// Goes through the steps of the one pass, if there is a fetcher.
+/// Goes through the steps of the one pass, which is recorded, and comes back.
+fn record<T: Attempts<Outside> + Drop, J: Naming, R: Wait>(
+    rt: &R,
+    alloc: Global,
+    teller: &mut Teller,
+    script: &mut Script,
+    shared: &Held<T, J>,
+    passes: &mut Vec<Pass<J>>,
+) -> Came {
+    let Some(pass) = passes.pop() else {
+        return Came::Nowhere;
+    };
+    let Ok(mut pass) = Recording::new(alloc, pass) else {
+        return Came::Nowhere;
+    };
+    let came = steps(rt, alloc, teller, script, shared, &mut pass);
+    // There is room, since it came from there.
+    match passes.push(pass.into_pass()) {
+        Ok(()) => came,
+        Err(_) => Came::Nowhere,
+    }
+}
+
+/// Goes through the steps, if there is a fetcher.
 fn play<T: Attempts<Outside> + Drop, J: Naming, R: Wait>(
     rt: &R,
     alloc: Global,
@@ -209,9 +232,10 @@ fn play<T: Attempts<Outside> + Drop, J: Naming, R: Wait>(
     is_made: bool,
 ) -> Came {
     teller.end(if is_made { "ok" } else { "Memory" });
-    let came = match passes.first_mut() {
-        Some(pass) if is_made => steps(rt, alloc, teller, script, shared, pass),
-        _ => Came::Nowhere,
+    let came = if is_made {
+        record(rt, alloc, teller, script, shared, passes)
+    } else {
+        Came::Nowhere
     };
     stop(rt, teller, shared);
     came

@@ -7,7 +7,7 @@ use crate::mounts::shelf::Shelf;
 use crate::mounts::{bytes, key, mount, read, root};
 use eden_history::Kept;
 use eden_model::{CallFault, Cause, Outside, Reply, Request};
-use eden_shared::{Fetched, Naming, Pass, Shared, Ties};
+use eden_shared::{Fetched, Naming, Pass, Recording, Shared, Ties};
 use eden_source::MemorySource;
 use std::alloc::Global;
 use std::marker::Brand;
@@ -30,14 +30,33 @@ fn open<J: Naming>(rt: &impl Abort, alloc: Global, ties: Ties) -> (Held<J>, Vec<
     }
 }
 
+/// The pass, which keeps what it is told from now on.
+fn recording<J: Naming>(rt: &impl Abort, alloc: Global, pass: Option<Pass<J>>) -> Recording<J> {
+    match Recording::new(alloc, pass.expect(rt, "a pass")) {
+        Ok(pass) => pass,
+        Err(_) => rt.abort(),
+    }
+}
+
 fn ask_root<J: Naming, R: Wait + Abort>(
+    rt: &R,
+    alloc: Global,
+    shared: &Held<J>,
+    pass: &mut Recording<J>,
+) -> Result<u64, CallFault> {
+    let told = pass.call(shared, rt, Request::Kind(root(rt, alloc)))?;
+    Ok(told.number)
+}
+
+/// As `ask_root`, with a pass that keeps nothing.
+fn ask_root_unkept<J: Naming, R: Wait + Abort>(
     rt: &R,
     alloc: Global,
     shared: &Held<J>,
     pass: &mut Pass<J>,
 ) -> Result<u64, CallFault> {
-    let told = pass.call(shared, rt, Request::Kind(root(rt, alloc)))?;
-    Ok(told.number)
+    let answer = pass.call(shared, rt, Request::Kind(root(rt, alloc)))?;
+    Ok(answer.number)
 }
 
 /// The sixth entry is awaited of a history of that length.
@@ -52,7 +71,7 @@ fn learn<J: Naming, R: Wait + Abort>(rt: &R, alloc: Global, ties: Ties)
     requires names { names_of ties.lanes.items ≡ J.names }
 {
     let (shared, passes) = open::<J>(rt, alloc, ties);
-    let mut three = three_of(rt, passes);
+    let mut three = three_of(rt, alloc, passes);
     ask_before_it_is_known(rt, alloc, &shared, &mut three.first, &mut three.second);
     assert!(rt; entries(rt, alloc, shared, three) == 1);
 }
@@ -62,31 +81,31 @@ fn ask_before_it_is_known<J: Naming, R: Wait + Abort>(
     rt: &R,
     alloc: Global,
     shared: &Held<J>,
-    first: &mut Pass<J>,
-    second: &mut Pass<J>,
+    first: &mut Recording<J>,
+    second: &mut Recording<J>,
 ) {
     second.learn(5);
-    assert!(rt; second.floor() == 6);
+    assert!(rt; second.pass().floor() == 6);
     assert!(rt; ask_root(rt, alloc, shared, second) == awaits_more(0));
     assert!(rt; ask_root(rt, alloc, shared, first) == Ok(1));
     assert!(rt; ask_root(rt, alloc, shared, second) == awaits_more(1));
     shared.stop(rt);
     assert!(rt; ask_root(rt, alloc, shared, first) == Err(CallFault::Stopped));
-    assert!(rt; first.told().len() == 1 && first.floor() == 2);
+    assert!(rt; first.told().len() == 1 && first.pass().floor() == 2);
 }
 
 /// The passes of a mount.
 #[derive(Drop)]
 struct Three<J: Naming> {
-    first: Pass<J>,
-    second: Pass<J>,
-    third: Pass<J>,
+    first: Recording<J>,
+    second: Recording<J>,
+    third: Recording<J>,
 }
 
-fn three_of<J: Naming>(rt: &impl Abort, mut passes: Vec<Pass<J>>) -> Three<J> {
-    let third = passes.pop().expect(rt, "a pass");
-    let second = passes.pop().expect(rt, "a pass");
-    let first = passes.pop().expect(rt, "a pass");
+fn three_of<J: Naming>(rt: &impl Abort, alloc: Global, mut passes: Vec<Pass<J>>) -> Three<J> {
+    let third = recording(rt, alloc, passes.pop());
+    let second = recording(rt, alloc, passes.pop());
+    let first = recording(rt, alloc, passes.pop());
     Three {
         first,
         second,
@@ -97,9 +116,9 @@ fn three_of<J: Naming>(rt: &impl Abort, mut passes: Vec<Pass<J>>) -> Three<J> {
 /// The passes, the last one first.
 fn backwards<J: Naming>(rt: &impl Abort, alloc: Global, three: Three<J>) -> Vec<Pass<J>> {
     let mut passes = Vec::new(alloc);
-    passes.push(three.third).expect(rt, "memory");
-    passes.push(three.second).expect(rt, "memory");
-    passes.push(three.first).expect(rt, "memory");
+    passes.push(three.third.into_pass()).expect(rt, "memory");
+    passes.push(three.second.into_pass()).expect(rt, "memory");
+    passes.push(three.first.into_pass()).expect(rt, "memory");
     passes
 }
 
@@ -110,33 +129,35 @@ fn entries<J: Naming>(rt: &impl Abort, alloc: Global, shared: Held<J>, three: Th
 }
 
 /// Nothing is fetched that nobody waits for. Where one pass was dropped and another is kept, mount and pass come back
-/// as they were.
+/// as they were. One that learnt a number isn't recorded.
 fn tear<J: Naming, R: Wait + Abort>(rt: &R, alloc: Global, ties: Ties)
     requires ties { AreTied ties.lanes.items ties.ends.items 3 }
     requires names { names_of ties.lanes.items ≡ J.names }
 {
     let (shared, mut passes) = open::<J>(rt, alloc, ties);
-    let kept = passes.pop().expect(rt, "a pass");
+    let mut kept = passes.pop().expect(rt, "a pass");
     drop(passes.pop());
     let first = passes.first_mut().expect(rt, "a pass");
-    assert!(rt; ask_root(rt, alloc, &shared, first) == Ok(1));
+    assert!(rt; ask_root_unkept(rt, alloc, &shared, first) == Ok(1));
     let fetched = shared.fetch_one(rt, &mut MemorySource::<Outside>::new(alloc));
     assert!(rt; fetched == Fetched::Nothing);
     check_torn(rt, shared, passes);
-    assert!(rt; is_told(Some(&kept), 0));
+    assert!(rt; has_floor(Some(&kept), 1));
+    kept.learn(1);
+    assert!(rt; Recording::new(alloc, kept).is_err());
 }
 
 /// The one pass that is left comes back, and the mount with its one entry.
 fn check_torn<J: Naming>(rt: &impl Abort, shared: Held<J>, passes: Vec<Pass<J>>) {
     let torn = shared.finish(passes).err().expect(rt, "no whole mount");
     assert!(rt; torn.mount.history().len() == 1 && torn.passes.len() == 1);
-    assert!(rt; is_told(torn.passes.first(), 1));
+    assert!(rt; has_floor(torn.passes.first(), 2));
 }
 
-/// Whether there is the pass, and it was told of so many calls.
-fn is_told<J: Naming>(pass: Option<&Pass<J>>, count: usize) -> bool {
+/// Whether there is the pass, and its next entry is to have that number or a later one.
+fn has_floor<J: Naming>(pass: Option<&Pass<J>>, floor: u64) -> bool {
     match pass {
-        Some(pass) => pass.told().len() == count,
+        Some(pass) => pass.floor() == floor,
         None => false,
     }
 }
@@ -146,7 +167,7 @@ fn reads<J: Naming, R: Wait + Abort>(
     rt: &R,
     alloc: Global,
     shared: &Held<J>,
-    pass: &mut Pass<J>,
+    pass: &mut Recording<J>,
 ) -> bool {
     match pass.call(shared, rt, read(rt, alloc)) {
         Ok(told) => matches!(told.reply, Reply::Data(_)),
@@ -155,7 +176,12 @@ fn reads<J: Naming, R: Wait + Abort>(
 }
 
 /// Asks three times for the object, and looks at each reply.
-fn ask<J: Naming, R: Wait + Abort>(rt: &R, alloc: Global, shared: &Held<J>, pass: &mut Pass<J>) {
+fn ask<J: Naming, R: Wait + Abort>(
+    rt: &R,
+    alloc: Global,
+    shared: &Held<J>,
+    pass: &mut Recording<J>,
+) {
     for count in 1..4usize {
         assert!(rt; reads(rt, alloc, shared, pass) && pass.told().len() == count);
     }
@@ -167,8 +193,8 @@ fn ask_twice<J: Naming + Send + Sync, R: Threads + Wait + Abort + Sync>(
     alloc: Global,
     shared: &Held<J>,
     is_stopped: &AtomicBool,
-    first: &mut Pass<J>,
-    second: &mut Pass<J>,
+    first: &mut Recording<J>,
+    second: &mut Recording<J>,
 ) {
     join(
         rt,
@@ -256,7 +282,7 @@ fn race<J: Naming + Send + Sync, R: Threads + Wait + Abort + Sync>(
     requires names { names_of ties.lanes.items ≡ J.names }
 {
     let (shared, passes) = open::<J>(rt, alloc, ties);
-    let mut three = three_of(rt, passes);
+    let mut three = three_of(rt, alloc, passes);
     let lock = &shared;
     let (first, second) = (&mut three.first, &mut three.second);
     let is_stopped = AtomicBool::new(false);
@@ -278,7 +304,7 @@ fn meet<J: Naming + Send + Sync, R: Threads + Wait + Abort + Sync>(
     requires names { names_of ties.lanes.items ≡ J.names }
 {
     let (shared, mut passes) = open::<J>(rt, alloc, ties);
-    let mut pass = passes.pop().expect(rt, "a pass");
+    let mut pass = recording(rt, alloc, passes.pop());
     let lock = &shared;
     let rows = [
         (false, Fetched::Failed(key(), Cause::Missing)),

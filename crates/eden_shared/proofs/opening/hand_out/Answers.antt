@@ -29,8 +29,8 @@ invariant_of-push g c =
     ∙ ap Some (sym c.change.ensures.end.0) in
     let value = c.change.ensures.end.1 in (
       (omega arith, name),
-      value ∙ (λ i. account (sym (ap (λ (x : Account). x.terms) value) i) None (sym c.new.ensures.items i)),
-      subst (λ l. Rises 1 l 1) (sym c.new.ensures.items) (omega arith),
+      ap (λ (x : Account). x.pending) value,
+      subst (λ (x : Account). Rises 1 x.told 1) (sym value) (omega arith),
     )
 
 pub loop-end-preserved : goal.loop-end-preserved
@@ -44,7 +44,8 @@ loop-end-preserved g c =
     let len : vec_len c.push.new.self ≡ length (at.yielded ++ e ∷ []) = (let l = c.in_ok-push.ensures.len in let m = at.invariant.len in omega arith) in
     let all : c.args.ends.items ≡ at.yielded ++ e ∷ rest = at.invariant.ends ∙ ap (λ l. at.yielded ++ l) c.in-Some.ensures.steps.0 in
     let terms = ap (λ (x : Account). x.terms) c.change.ensures.end.1 in
-    let items = c.in_ok-push.ensures.items ∙ (λ i. at.invariant.passes i ++ carried (terms i) (number i) 1 (c.new.ensures.items i) ∷ []) ∙ newcomers_push t 1 n (1 + n) refl in
+    let told = ap (λ (x : Account). x.told) c.change.ensures.end.1 in
+    let items = c.in_ok-push.ensures.items ∙ (λ i. at.invariant.passes i ++ carried (terms i) (number i) 1 (told i) ∷ []) ∙ newcomers_push t 1 n (1 + n) refl in
     let before : length at.passes.items ≡ n = ap length at.invariant.passes ∙ newcomers_count t 1 n in
     let after : length c.push.new.self.items ≡ length at.passes.items + 1 = ap length items ∙ newcomers_count t 1 (suc n) ∙ omega (arith, before) in
     let set : values_of c.change.new.lanes.items ≡ slice_set (values_of at.lanes.items) (length at.passes.items) (account t None []) = c.change.ensures.values

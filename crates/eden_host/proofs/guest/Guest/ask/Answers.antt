@@ -1,11 +1,8 @@
-use Rattle.eden_host.proofs.Learning.{learnt_more}
-use Rattle.eden_host.proofs.guest.Guest.ask.Goals.{in-Ok, in-Err}
+use Rattle.eden_host.proofs.Learning.{answered_last, learnt_more}
 use Rattle.eden_host.proofs.guest.Guest.ask.Goals as goal
 
-pub invariant_of-self : goal.invariant_of-self
-invariant_of-self g c =
-    let after = c.ask.ensures in
-    elim c.match-ask.branch [
-      | in-Ok w ↦ (let grown = rw w.in-Ok.is at after in learnt_more g.W.World.honest g.W.World.opening _ _ c.args.request grown)
-      | in-Err w ↦ (let told = rw w.in-Err.is at after in rw told.1 c.self.invariant)
-    ]
+pub invariant_of-self-in-Ok : goal.invariant_of-self-in-Ok
+invariant_of-self-in-Ok g c = learnt_more g.W.World.honest g.W.World.opening _ _ c.args.request c.in-Ok.ensures.0
+
+pub returns-in-Ok-clause-reply : goal.returns-in-Ok-clause-reply
+returns-in-Ok-clause-reply g c = answered_last g.W.World.honest g.W.World.opening _ _ c.args.request _ c.in-Ok.ensures

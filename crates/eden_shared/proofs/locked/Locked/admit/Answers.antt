@@ -1,4 +1,4 @@
-use Rattle.std.proofs.Common.{◌+◌, ◌<◌, length, refl, sym, ap, subst, arith}
+use Rattle.std.proofs.Common.{◌+◌, ◌<◌, length, sym, subst, arith}
 use Rattle.eden_shared.specs.Calls.{last_told}
 use Rattle.eden_shared.proofs.Accounting.{told_last}
 use Rattle.eden_shared.proofs.Holding.{known}

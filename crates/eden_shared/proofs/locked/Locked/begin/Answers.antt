@@ -1,5 +1,6 @@
 use Rattle.std.proofs.Common.{◌∙◌, length, sym, ap}
 use Rattle.eden_mount.proofs.CallerLemmas.{start_stays}
+use Rattle.eden_shared.specs.Accounts.{pended}
 use Rattle.eden_shared.proofs.Holding.{refusal, started, tied_on}
 use Rattle.eden_shared.proofs.locked.Locked.begin.Goals as goal
 
@@ -14,5 +15,5 @@ invariant_of-self-in-Ok g c =
     tied_on A g.J.Naming.names c.self.inside.lanes.items c.change.new.lanes.items m c.start.new.self (start_stays A m c.start.new.self c.args.number c.args.request _ c.start.ensures)
     c.self.invariant (c.change.ensures.names ∙ c.look.ensures.names)
     (started m _ c.self.invariant.terms c.args.number c.look.new.end.value c.requires.lane.0
-    (c.look.ensures.values ∙ c.self.invariant.valued) c.change.ensures.lane c.args.pending.now c.args.request c.start.new.self _ c.requires.request
+    (c.look.ensures.values ∙ c.self.invariant.valued) c.change.ensures.lane (pended c.of-asked.result.value c.args.since) c.args.request c.start.new.self _ c.of-asked.ensures
     (c.requires.since ∙ sym (ap (λ l. length l.mount.history) c.self.view_is)) c.in-Ok.ensures.2 c.change.ensures.values)
