@@ -3,6 +3,7 @@ them, and the client library."""
 
 import contextlib
 import errno
+import functools
 import os
 import pathlib
 import random
@@ -11,6 +12,7 @@ import signal
 import subprocess
 import threading
 from collections.abc import Callable, Iterator, Sequence
+from concurrent.futures import ThreadPoolExecutor
 from typing import Any, Self
 
 from checks import PATIENCE, check, git, make_repository, whole_tree
@@ -20,6 +22,7 @@ from mount_folder import checkout
 from programs import GIT_OBJECTS, MOUNTD, SAMPLE_OBJECTS, SAMPLE_ROOT, listening
 
 from helpers.git import DEEP, content_of, make_large_repository
+from helpers.running import most_memory
 from yakembi.tree_model import Values, WholeTree
 from yakembi import client
 from yakembi.client import Session
@@ -29,7 +32,8 @@ from yakembi.pool import Pool, Running, Serving
 from yakembi.times import Times
 
 USERS = 8
-TURNS = 25
+# Of a turn of each user.
+CHANGES, READS = 3, 5
 ALL_KEPT = ["--cache-entries", 65_536]
 
 
@@ -42,9 +46,9 @@ class Starts(Serving):
     count = 0
     doomed: frozenset[int] = frozenset()
 
-    def start(self, history: int) -> Running:
+    def start(self) -> Running:
         self.count += 1
-        self.last = super().start(history)
+        self.last = super().start()
         if self.count in self.doomed:
             self.last.kill()
             self.last.child.wait(PATIENCE)
@@ -54,11 +58,10 @@ class Starts(Serving):
 class MountedCommit:
     """A commit behind a class of operations. `said` are the lines that its user sees."""
 
-    def __init__(self, root: str, source: Sequence[object], overlay: pathlib.Path, *options: object,
-                 **limits: int) -> None:
+    def __init__(self, root: str, source: Sequence[object], overlay: pathlib.Path, *options: object) -> None:
         self.said: list[str] = []
         self.program = Starts(MOUNTD, root, source, overlay, options)
-        self.pool = Pool(self.program, **limits)
+        self.pool = Pool(self.program)
         self.operations = MountOperations(Mount(self.pool, self.said.append), Times(0))
 
     def __enter__(self) -> Self:
@@ -72,17 +75,16 @@ class MountedCommit:
 
 
 @contextlib.contextmanager
-def over_git(repository: pathlib.Path, overlay: pathlib.Path, *options: object,
-             **limits: int) -> Iterator[MountedCommit]:
+def over_git(repository: pathlib.Path, overlay: pathlib.Path, *options: object) -> Iterator[MountedCommit]:
     """A commit of a Git repository, whose objects are fetched as they are touched."""
     with listening([GIT_OBJECTS, repository], stderr=subprocess.DEVNULL) as (_, port):
         root = git(repository, "rev-parse", "HEAD^{tree}")
-        with MountedCommit(root, ["--remote", port], overlay, *options, **limits) as mount:
+        with MountedCommit(root, ["--remote", port], overlay, *options) as mount:
             yield mount
 
 
-def sample(overlay: pathlib.Path, *options: object, **limits: int) -> MountedCommit:
-    return MountedCommit(SAMPLE_ROOT, ["--objects", SAMPLE_OBJECTS], overlay, *options, **limits)
+def sample(overlay: pathlib.Path, *options: object) -> MountedCommit:
+    return MountedCommit(SAMPLE_ROOT, ["--objects", SAMPLE_OBJECTS], overlay, *options)
 
 
 def refused(call: Callable[..., object], *words: object) -> str | None:
@@ -174,10 +176,10 @@ def check_client(folder: pathlib.Path) -> None:
     """What can't be spelled is never sent, what is refused has its number, and long reads and listings come whole."""
     words = [MOUNTD, "stdio", "--root", SAMPLE_ROOT, "--objects", SAMPLE_OBJECTS]
     with client.start([str(word) for word in words]) as session:
+        session.record(folder, "client")
         for name, word, fields, error in UNSPOKEN:
-            moved = session.moved
             told = refused(getattr(session, word), *fields)
-            check(f"client: {name}, unsent", (told, session.moved), (error, moved))
+            check(f"client: {name}, unsent", (told, (folder / "client.sent").read_bytes()), (error, b""))
         for name, word, fields, error in REFUSED:
             check(f"client: {name}", refused(getattr(session, word), *fields), error)
         check_client_data(session)
@@ -254,17 +256,17 @@ def check_killed_mountd(folder: pathlib.Path) -> None:
             check(f"killed for good: EIO, the {time_of_it}", refused(operations.read, "/new", 10, 0), "EIO")
 
 
-def check_killed_after_limit(folder: pathlib.Path) -> None:
+def check_killed_at_once(folder: pathlib.Path) -> None:
     """A mountd that is killed before its first reply is followed by one more, and if that is killed too by none."""
     rows: list[tuple[str, frozenset[int], list[str | None]]] = [
-        ("once", frozenset({2}), ["EIO", None, None]), ("twice", frozenset({2, 3}), ["EIO", "EIO", "EIO"])]
+        ("once", frozenset(), ["EIO", None, None]), ("twice", frozenset({2}), ["EIO", "EIO", "EIO"])]
     for name, doomed, wanted in rows:
-        with sample(folder / f"overlay of the killed {name}", most_requests=2) as mount:
+        with sample(folder / f"overlay of the killed {name}") as mount:
             mount.program.doomed = doomed
-            mount.operations.create("/new", 0o644)
-            mount.operations.write("/new", b"kept", 0)
-            told = [refused(mount.operations.read, "/new", 10, 0) for _ in wanted]
-            check(f"killed after a limit, {name}", (told, mount.program.count), (wanted, 3))
+            mount.program.last.kill()
+            mount.program.last.child.wait(PATIENCE)
+            told = [refused(mount.operations.read, "/test.txt", 10, 0) for _ in wanted]
+            check(f"killed at once, {name}", (told, mount.program.count), (wanted, 2))
 
 
 def check_ended_session(folder: pathlib.Path) -> None:
@@ -280,46 +282,39 @@ def check_ended_session(folder: pathlib.Path) -> None:
         check("ended session: the end", mount.close(), None)
 
 
-# ---- opened again, unseen
+# ---- many requests
 
 
-def check_limits(folder: pathlib.Path) -> None:
-    """A mount that is closed and opened again behind so many requests, or bytes, answers as one that never was."""
-    check_unseen(folder / "overlay of few requests", 10, most_requests=60)
-    check_unseen(folder / "overlay of few bytes", 5, most_bytes=4_000)
+def use(operations: MountOperations, home: str, turns: range) -> list[bytes]:
+    """Makes, changes, moves and reads a file in a folder, turn by turn. What is read and wasn't written just before."""
+    odd = []
+    for turn in turns:
+        path, moved, content = f"{home}/{turn}", f"{home}/moved", b"%d" % turn
+        operations.create(path, 0o644)
+        operations.write(path, content, 0)
+        operations.rename(path, moved)
+        odd += [read for _ in range(READS) if (read := operations.read(moved, 10, 0)) != content]
+    return odd
 
 
-def check_unseen(overlay: pathlib.Path, least_starts: int, **limits: int) -> None:
-    with sample(overlay, **limits) as mount:
-        users = [User(mount.operations, number) for number in range(USERS)]
-        for user in users:
-            user.join(PATIENCE)
-        wanted = [b"%d" % turn for turn in range(TURNS)]
-        check("limits: what each user reads back", [user.seen for user in users], [wanted] * USERS)
+def check_long_mount(folder: pathlib.Path, requests: int) -> None:
+    """Users ask so many requests of a mount. One mountd serves them, in no more memory than the first third of them."""
+    homes = [f"/{number}" for number in range(USERS)]
+    turns = requests // (USERS * (CHANGES + READS))
+    with sample(folder / "overlay of the long mount") as mount, ThreadPoolExecutor(USERS) as users:
+        for home in homes:
+            mount.operations.mkdir(home, 0o755)
+        memory = []
+        for part in (range(turns // 3), range(turns // 3, turns)):
+            odd = users.map(functools.partial(use, mount.operations, turns=part), homes)
+            check(f"long: what each user reads in {part}", list(odd), [[]] * USERS)
+            memory.append(most_memory(mount.program.last.child))
         names = sorted(name for name, *_ in mount.operations.readdir("/"))
-        check("limits: each user's folder", names, sorted([".", "..", "test.txt", *map(str, range(USERS))]))
-        check(f"limits: opened again ({mount.program.count})", mount.program.count >= least_starts, True)
-        check("limits: nobody saw it", (mount.close(), mount.said), (None, []))
-
-
-class User(threading.Thread):
-    """Makes, changes and moves files in a folder of its own. `seen` are the contents that it read."""
-
-    def __init__(self, operations: MountOperations, number: int) -> None:
-        super().__init__(daemon=True)
-        self.operations = operations
-        self.folder = f"/{number}"
-        self.seen: list[bytes] = []
-        self.start()
-
-    def run(self) -> None:
-        self.operations.mkdir(self.folder, 0o755)
-        for turn in range(TURNS):
-            path = f"{self.folder}/{turn}"
-            self.operations.create(path, 0o644)
-            self.operations.write(path, b"%d" % turn, 0)
-            self.operations.rename(path, f"{self.folder}/moved")
-            self.seen.append(self.operations.read(f"{self.folder}/moved", 10, 0))
+        check("long: each user's folder", names, sorted([".", "..", "test.txt", *map(str, range(USERS))]))
+        print(f"a mount of {requests:,} requests: {memory[0]:,} bytes, and at the end {memory[1]:,}")
+        check("long: no more memory, within 5 %", 0 < memory[1] * 100 <= memory[0] * 105, True)
+        check("long: one mountd", mount.program.count, 1)
+        check("long: the end", (mount.close(), mount.said), (None, []))
 
 
 # ---- times

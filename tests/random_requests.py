@@ -12,6 +12,8 @@ WORDS = ["kind", "stat", "read", "readlink", "list", "write", "truncate", "creat
          "unlink", "rmdir", "rename", "create", "create", "mkdir", "mkdir", "symlink", "write"]
 LOOKS = ["kind", "stat", "read", "readlink", "list"]
 REMOVING = ["unlink", "rmdir", "rename"]
+# How many nodes a home has at most.
+HOME_NODES = 30
 
 
 class RandomRequests:
@@ -80,6 +82,31 @@ class RandomRequests:
 
     def rename(self) -> Values:
         return self.path(), self.path()
+
+
+class HomeRequests(RandomRequests):
+    """Random requests of a client that changes only what stands in its home, and looks there and at shared paths."""
+
+    def __init__(self, generator: random.Random, tree: WholeTree, names: Sequence[bytes], home: Path,
+                 shared: Sequence[Path]) -> None:
+        super().__init__(generator, tree, names, len(tree.nodes) + HOME_NODES)
+        self.home = home
+        self.shared = shared
+        self.is_home = True
+
+    def one(self, words: Sequence[str] = WORDS) -> tuple[str, Values]:
+        self.is_home = self.random.random() < 0.7
+        if self.is_home:
+            return super().one(words)
+        word = self.random.choice(LOOKS)
+        return word, getattr(self, word)()
+
+    def path(self) -> Path:
+        if not self.is_home:
+            return self.random.choice(self.shared)
+        place = self.random.choice([path for path in self.tree.nodes if path[:1] == self.home])
+        stays = place != self.home and self.random.random() < 0.6
+        return place if stays else place + (self.name(),)
 
 
 def field_text(field: Any) -> bytes:

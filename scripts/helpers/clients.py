@@ -77,11 +77,12 @@ def start_serve(*words: object, before: Sequence[object] = (), **more: Any) -> P
 
 
 class Service:
-    """A run of `mountd serve`, and its clients."""
+    """A run of `mountd serve` that takes so many seconds at most, and its clients."""
 
-    def __init__(self, root: str, source: Sequence[object], *more: object, before: Sequence[object] = ()) -> None:
+    def __init__(self, root: str, source: Sequence[object], *more: object, before: Sequence[object] = (),
+                 longest: float = LONGEST_RUN) -> None:
         self.process = start_serve("--root", root, *source, "--port", 0, *more, before=before)
-        self.alarm = threading.Timer(LONGEST_RUN, self.process.kill)
+        self.alarm = threading.Timer(longest, self.process.kill)
         self.alarm.daemon = True
         self.alarm.start()
         assert self.process.stdout is not None
@@ -109,9 +110,10 @@ class Service:
 
 
 @contextlib.contextmanager
-def serving(root: str, source: Sequence[object], *more: object, before: Sequence[object] = ()) -> Iterator[Service]:
+def serving(root: str, source: Sequence[object], *more: object, before: Sequence[object] = (),
+            longest: float = LONGEST_RUN) -> Iterator[Service]:
     """A run of `mountd serve` that is over with the block."""
-    service = Service(root, source, *more, before=before)
+    service = Service(root, source, *more, before=before, longest=longest)
     try:
         yield service
     finally:

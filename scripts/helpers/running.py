@@ -1,6 +1,8 @@
 """Programs that may hang: each is waited for as long as `PATIENCE` says, and then killed."""
 
 import contextlib
+import pathlib
+import re
 import subprocess
 import threading
 from collections.abc import Iterator, Sequence
@@ -37,6 +39,12 @@ def pipes(process: Process) -> tuple[IO[bytes], IO[bytes]]:
     """The pipes that a process reads from and writes to."""
     assert process.stdin is not None and process.stdout is not None
     return process.stdin, process.stdout
+
+
+def most_memory(process: Process) -> int:
+    """The most memory that a process has had, in bytes."""
+    found = re.search(r"^VmHWM:\s+(\d+) kB$", pathlib.Path(f"/proc/{process.pid}/status").read_text(), re.M)
+    return int(found[1]) * 1024 if found else 0
 
 
 def kill_hung(process: Process) -> None:

@@ -255,14 +255,13 @@ class Record:
 
 
 class Session(Requests):
-    """One session, for one user at a time. `moved` counts the bytes of its lines and replies."""
+    """One session, for one user at a time."""
 
     def __init__(self, reader: BinaryIO, writer: BinaryIO, end: Callable[[], int | None]) -> None:
         self.reader = reader
         self.writer = writer
         self.end = end
         self.usable = True
-        self.moved = 0
         self.kept: Record | None = None
 
     def record(self, folder: str | os.PathLike[str], name: str) -> None:
@@ -304,7 +303,6 @@ class Session(Requests):
         if self.kept:
             self.kept.heard(reply)
         self.usable = True
-        self.moved += len(line) + len(reply)
         return reply[:-1]
 
     def close(self) -> int | None:

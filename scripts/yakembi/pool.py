@@ -1,7 +1,6 @@
 """A pool of sessions with one `mountd`, which many threads share.
 
-`mountd` keeps a history of all that it served, in memory and up to a limit. So the pool closes it before that is full,
-and opens it again on the same overlay; requests wait meanwhile, and nobody sees it.
+That `mountd` keeps no history, so that it serves for as long as it is wanted.
 """
 
 import os
@@ -16,8 +15,6 @@ from yakembi.client import Fields, Session, SessionEnded
 SESSIONS = 8
 FETCHERS = 4
 CACHE_ENTRIES = 65_536
-MOST_REQUESTS = 1_000_000
-MOST_BYTES = 512 << 20
 # The statuses of mountd that come with a line on standard error.
 WITH_A_LINE = (2, 3, 4)
 # How long a mountd whose sessions are closed may take to close its overlay.
@@ -61,9 +58,9 @@ def last_words(child: subprocess.Popen[bytes]) -> str:
 
 
 class Program(Protocol):
-    """What can be started to take so many requests, again and again."""
+    """What can be started again and again."""
 
-    def start(self, history: int) -> Running: ...
+    def start(self) -> Running: ...
 
 
 class Serving:
@@ -75,21 +72,20 @@ class Serving:
         """`source` is `["--remote", PORT]` or `["--objects", FOLDER]`, `more` are further options of mountd."""
         self.mountd = os.fspath(mountd)
         self.sessions = sessions
-        words = ["--root", root, *source, "--overlay", os.fspath(overlay), "--port", 0, "--sessions", sessions,
-                 "--fetchers", fetchers, *more]
+        words = ["--root", root, *source, "--overlay", os.fspath(overlay), "--history", "none", "--port", 0,
+                 "--sessions", sessions, "--fetchers", fetchers, *more]
         self.words = [str(word) for word in words]
 
-    def start(self, history: int) -> Running:
-        """A mountd that runs, and takes so many requests. What a killed one left is rescanned."""
-        limit = ["--history", str(history)]
+    def start(self) -> Running:
+        """A mountd that runs. What a killed one left is rescanned."""
         try:
-            return self.run(limit)
+            return self.run()
         except Unopened as refusal:
             if str(refusal) != "NotClean":
                 raise
-            return self.run([*limit, "--rescan"])
+            return self.run("--rescan")
 
-    def run(self, more: list[str]) -> Running:
+    def run(self, *more: str) -> Running:
         """In a session of its own, so that a terminal's Ctrl-C doesn't reach it."""
         child = subprocess.Popen([self.mountd, "serve", *self.words, *more], stdin=subprocess.DEVNULL,
                                  stdout=subprocess.PIPE, stderr=subprocess.PIPE, start_new_session=True)
@@ -112,32 +108,27 @@ class Pool(client.Requests):
     once: where not a single request is served after that, all are refused by `SessionEnded` from then on.
     """
 
-    def __init__(self, program: Program, most_requests: int = MOST_REQUESTS, most_bytes: int = MOST_BYTES) -> None:
+    def __init__(self, program: Program) -> None:
         self.program = program
-        self.most_requests = most_requests
-        self.most_bytes = most_bytes
         self.changed = threading.Condition()
         self.busy = 0
         self.gone = False
-        # Whether the mountd that runs was started because the one before it failed.
+        # Whether the mountd that runs was started because the one before it ended.
         self.is_retry = False
         self.open()
 
     def open(self) -> None:
-        self.running = self.program.start(self.most_requests)
+        self.running = self.program.start()
         self.idle = list(self.running.sessions)
-        self.requests = 0
-        self.bytes = 0
         self.served = 0
         self.ended = False
 
     def ask(self, head: bytes, *fields: bytes) -> Fields:
         session = self.take()
-        before = session.moved
         try:
             return session.ask(head, *fields)
         finally:
-            self.give(session, session.moved - before)
+            self.give(session)
 
     def take(self) -> Session:
         """A free session, for one request."""
@@ -145,20 +136,18 @@ class Pool(client.Requests):
             while True:
                 if self.gone:
                     raise SessionEnded("mountd is gone")
-                if self.is_over():
+                if self.ended:
                     if self.busy == 0:
                         self.open_again()
                         continue
                 elif self.idle:
                     self.busy += 1
-                    self.requests += 1
                     return self.idle.pop()
                 self.changed.wait()
 
-    def give(self, session: Session, moved: int) -> None:
+    def give(self, session: Session) -> None:
         with self.changed:
             self.busy -= 1
-            self.bytes += moved
             if session.usable:
                 self.served += 1
                 self.idle.append(session)
@@ -166,18 +155,14 @@ class Pool(client.Requests):
                 self.ended = True
             self.changed.notify_all()
 
-    def is_over(self) -> bool:
-        """Whether this mountd takes no more requests."""
-        return self.ended or self.requests >= self.most_requests or self.bytes >= self.most_bytes
-
     def open_again(self) -> None:
         """Ends mountd and starts it again on the same overlay, while all who have a request wait."""
         self.gone = True
         self.changed.notify_all()
         problem = self.running.close()
-        if self.is_retry and self.ended and self.served == 0:
+        if self.is_retry and self.served == 0:
             raise SessionEnded(problem or "mountd ends each session before its first reply")
-        self.is_retry = self.ended
+        self.is_retry = True
         try:
             self.open()
         except (Unopened, OSError) as refusal:

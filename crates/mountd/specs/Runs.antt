@@ -1,5 +1,7 @@
--- What a run with one caller is: a mount's life with the history that is asked for, and the status that tells how it ended.
+-- What a run is: a mount's life with the history that is asked for, and the status that tells how it ended.
 use Rattle.std.specs.Prelude.{◌≡◌, ◌-◌, ◌^◌, ℕ, Bool, true, false}
+use Rattle.std.specs.declared.io.Read.{Ghosts as Read}
+use Rattle.std.specs.declared.io.Write.{Ghosts as Write}
 use Rattle.eden_model.specs.declared.id.Id.{Id}
 use Rattle.eden_model.specs.declared.world.World.{Ghosts}
 use Rattle.eden_source.specs.Fetching.{Answer}
@@ -10,9 +12,11 @@ use Rattle.eden_stdio_life.specs.declared.life.Backing.{Backing}
 use Rattle.eden_stdio_life.specs.declared.life.Ending.{Ending}
 use Rattle.eden_stdio_life.specs.declared.opening.Base.{Base}
 use Rattle.eden_stdio_life.specs.Lives.{Lives}
+use Rattle.eden_serve_life.specs.declared.life.SharedEnding.{SharedEnding}
+use Rattle.eden_serve_life.specs.Lives.{LivesShared}
 use Rattle.mountd_options.specs.declared.command.HistoryOption.{HistoryOption}
 use Rattle.mountd_options.specs.declared.command.HistoryOption.TheVariants as keeping
-use Rattle.mountd.specs.Endings.{status_of}
+use Rattle.mountd.specs.Endings.{shared_status, status_of}
 
 -- whether replies are copied to be kept, for which there may be no memory
 abbrev pub copies_of : HistoryOption → Bool
@@ -25,11 +29,18 @@ limit_of keeping.Kept settings = settings.history
 limit_of keeping.Counted settings = 2 ^ 64 - 1
 
 module _ {W F S : Type 0} (w : Ghosts W) (f : Files F W) (fetched : S → Id → Answer → S → Type 0) (copies : Bool) (limit : ℕ) where
-  -- A mount lived, whose history copies replies or doesn't and may become so long, and the status tells how that ended. The
-  -- input and the output are the program's own, of which contracts know no bytes.
+  -- A mount of one caller lived, whose history copies replies or doesn't and may become so long, and the status tells how
+  -- that ended. The input and the output are the program's own, of which contracts know no bytes.
   pub record IsRun (base : Base) (settings : Settings) (backing : Backing F S) (status : ℕ) : Type 0 where
     pub input : Known × Known
     pub output : Known × Known
     pub left : Ending F S
     pub lived : Lives w f fetched copies limit base settings backing input output left
     pub told : status ≡ status_of left.outcome
+
+module _ {W F I O : Type 0} (w : Ghosts W) (f : Files F W) (i : Read I) (o : Write O) (limit : ℕ) where
+  -- a mount of many callers lived, whose history may become so long, and the status tells how that ended
+  pub record IsSharedRun (base : Base) (settings : Settings) (files : F) (status : ℕ) : Type 0 where
+    pub left : SharedEnding F
+    pub lived : LivesShared w f i o limit base settings files left
+    pub told : status ≡ shared_status left.outcome

@@ -12,7 +12,7 @@ use eden_object_writer::ImportFault;
 use eden_overlay::{FilesFault, Removed};
 use eden_serve_life::SharedLifeFault;
 use eden_stdio_life::LifeFault;
-use mountd_options::{MountCommand, OptionsError};
+use mountd_options::OptionsError;
 use std::io;
 use std::process::ExitCode;
 
@@ -41,14 +41,6 @@ pub fn command_line<R: Eprint>(rt: &R, error: &OptionsError) -> ExitCode
         OptionsError::Refused(error) => eprint!(rt; "{error}"),
         error => eprintln!(rt; "{error}"),
     };
-    ExitCode::from(REFUSED)
-}
-
-/// Tells that this command keeps its history, though none was to be kept. Status 2.
-pub fn keeps_history<R: Eprint>(rt: &R, command: MountCommand) -> ExitCode
-    ensures { exit_status result ≡ 2 }
-{
-    let _ = eprintln!(rt; "mountd: {command} keeps its history, and takes no --history none");
     ExitCode::from(REFUSED)
 }
 

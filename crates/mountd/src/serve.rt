@@ -1,20 +1,23 @@
 //! Many callers of a mount, over connections to a port.
-ghost use Rattle.std.specs.Prelude.{◌≡◌, ◌≤◌};
+ghost use Rattle.std.specs.Prelude.{◌≡◌, ◌≤◌, []};
 ghost use Rattle.std.specs.Process.{exit_status};
+ghost use Rattle.eden_checkout.specs.Opening.{MayOpen};
+ghost use Rattle.mountd.specs.Runs.{IsSharedRun, limit_of};
 
 use crate::hold::{hold_overlay, opening};
 use crate::report;
 use crate::sources::{folder_fetchers, socket_fetchers};
-use eden_history::Kept;
-use eden_host::{Fetchers, Port, Unloading};
-use eden_model::Outside;
+use eden_history::{Counted, History, Kept};
+use eden_host::{Accepts, Fetchers, Port, Unloading};
+use eden_model::{Outside, World};
 use eden_mount::Config;
 use eden_overlay::{Files, FolderFiles, MemoryFiles};
 use eden_serve_life::live_shared;
 use eden_source::Source;
 use eden_stdio_life::{Backing, Base};
-use mountd_options::{HistoryOption, MountCommand, MountOptions, Objects, ServeOptions};
+use mountd_options::{HistoryOption, MountOptions, Objects, ServeOptions};
 use std::alloc::AllocError;
+use std::io::{Read, Write};
 use std::marker::{Send, Sync};
 use std::process::ExitCode;
 use std::sync::Wait;
@@ -22,20 +25,13 @@ use std::thread::Threads;
 
 /// Serves a session to each connection to a port of 127.0.0.1, which is told on standard output, until as many as are
 /// asked for have ended.
-///
-/// It keeps its history, whatever is asked for: that none is to be kept is refused, with status 2, before anything is
-/// opened.
 pub fn serve<R: Threads + Wait + Sync>(
     threads: &R,
     rt: &HostRuntime,
     mut options: ServeOptions,
 ) -> ExitCode
     requires fetchers { 1 ≤ options.fetchers }
-    ensures refused { options.mount.history ≡ HistoryOption.Counted → exit_status result ≡ 2 }
 {
-    if options.mount.history == HistoryOption::Counted {
-        return report::keeps_history(rt, MountCommand::Serve);
-    }
     match hold_overlay(rt, rt.alloc(), options.mount.overlay.take()) {
         Err(fault) => report::unopened(rt, fault.name()),
         Ok(None) => serve_files(threads, rt, options, MemoryFiles::new(rt.alloc())),
@@ -65,6 +61,7 @@ fn serve_files<R: Threads + Wait + Sync, F: Files<Outside> + Send>(
         root,
         objects,
         rescan,
+        history,
         limits,
         ..
     } = mount;
@@ -76,11 +73,11 @@ fn serve_files<R: Threads + Wait + Sync, F: Files<Outside> + Send>(
     match objects {
         Objects::Folder(folder) => {
             let fetchers = folder_fetchers(rt, folder.as_str(), fetchers);
-            serve_fetched(threads, rt, base, &limits, files, fetchers, port)
+            serve_fetched(threads, rt, base, history, &limits, files, fetchers, port)
         }
         Objects::Port(server) => {
             let fetchers = socket_fetchers(rt, server, fetchers);
-            serve_fetched(threads, rt, base, &limits, files, fetchers, port)
+            serve_fetched(threads, rt, base, history, &limits, files, fetchers, port)
         }
     }
 }
@@ -94,6 +91,7 @@ fn serve_fetched<
     threads: &R,
     rt: &HostRuntime,
     base: Base,
+    history: HistoryOption,
     limits: &Config,
     files: F,
     fetchers: Result<Fetchers<S>, AllocError>,
@@ -102,15 +100,81 @@ fn serve_fetched<
     let Ok(source) = fetchers else {
         return report::unopened(rt, "Memory");
     };
-    let history = Kept::new(rt.alloc(), limits.history());
-    let ending = live_shared::<Outside, _, _, _, _, _, _, _>(
+    let backing = Backing { files, source };
+    run::<Outside, _, _, _, _, _, _>(threads, rt, base, history, limits, backing, port)
+}
+
+/// Serves sessions on a mount over these files and fetchers, with the history that is asked for.
+fn run<
+    W: World + Send,
+    F: Files<W> + Send,
+    S: Source<W> + Send + Drop,
+    I: Read + Send + Drop,
+    O: Write + Send + Drop,
+    L: Accepts<I, O> + Drop,
+    R: Threads + Wait + Sync,
+>(
+    threads: &R,
+    rt: &HostRuntime,
+    base: Base,
+    history: HistoryOption,
+    limits: &Config,
+    backing: Backing<F, Fetchers<S>>,
+    listener: L,
+) -> ExitCode
+    requires files { W.honest → MayOpen base.opening W.repository W.opening base.root (F.stored backing.files) }
+    ensures { IsSharedRun W.World F.Files I.Read O.Write (limit_of history limits.now) base limits.now backing.files
+        (exit_status result) }
+{
+    let memory = rt.alloc();
+    match history {
+        HistoryOption::Kept => {
+            let history = Kept::new(memory, limits.history());
+            run_with::<W, F, _, S, I, O, L, R>(
+                threads, rt, base, history, limits, backing, listener,
+            )
+        }
+        HistoryOption::Counted => {
+            let history = Counted::new(memory);
+            run_with::<W, F, _, S, I, O, L, R>(
+                threads, rt, base, history, limits, backing, listener,
+            )
+        }
+    }
+}
+
+/// Serves them with that history, in which nothing is yet.
+fn run_with<
+    W: World + Send,
+    F: Files<W> + Send,
+    H: History + Send,
+    S: Source<W> + Send + Drop,
+    I: Read + Send + Drop,
+    O: Write + Send + Drop,
+    L: Accepts<I, O> + Drop,
+    R: Threads + Wait + Sync,
+>(
+    threads: &R,
+    rt: &HostRuntime,
+    base: Base,
+    history: H,
+    limits: &Config,
+    backing: Backing<F, Fetchers<S>>,
+    listener: L,
+) -> ExitCode
+    requires files { W.honest → MayOpen base.opening W.repository W.opening base.root (F.stored backing.files) }
+    requires empty { H.entries history ≡ [] }
+    ensures { IsSharedRun W.World F.Files I.Read O.Write (H.limit history) base limits.now backing.files
+        (exit_status result) }
+{
+    let ending = live_shared::<W, F, H, S, I, O, L, R>(
         threads,
         rt.alloc(),
-        Backing { files, source },
+        backing,
         base,
         limits,
         history,
-        port,
+        listener,
         Unloading::usual(),
     );
     report::shared_ending(rt, ending.outcome)
