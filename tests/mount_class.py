@@ -15,7 +15,7 @@ from collections.abc import Callable, Iterator, Sequence
 from concurrent.futures import ThreadPoolExecutor
 from typing import Any, Self
 
-from checks import PATIENCE, check, git, make_repository, whole_tree
+from checks import PATIENCE, check, git, make_repository, status_of, whole_tree
 from clones import FOLDER, MOST_QUESTIONS, Clone, blobs_in, make_far_repository, trees_on_the_way
 from folder_operations import FileSystem, Folder, compare, shown
 from mount_folder import checkout
@@ -420,11 +420,13 @@ def check_partial_clones(folder: pathlib.Path) -> None:
     for objects, most in MOST_QUESTIONS.items():
         clone = Clone(repository, folder / objects, objects)
         words = [GIT_OBJECTS, "--tree", root, clone.path]
-        with listening(words, stderr=subprocess.DEVNULL) as (_, port):
+        with listening(words, stderr=subprocess.DEVNULL) as (server, port):
             with MountedCommit(root, ["--remote", port], folder / f"overlay of {objects}", *ALL_KEPT) as mount:
                 seen = shown(FileSystem(mount.operations), tuple(FOLDER.encode().split(b"/")))
                 check(f"{objects}: what is shown", sum(node[0] == "file" for node in seen.values()), len(blobs))
                 check(f"{objects}: the end", (mount.close(), mount.said), (None, []))
+            server.terminate()
+            check(f"{objects}: the server's end", status_of(server), 0)
         wanted = sorted({*blobs, *(trees_on_the_way(repository) if objects == "tree:0" else [])})
         check(f"{objects}: what came, each once", clone.arrived(), wanted)
         check(f"{objects}: {clone.questions()} questions", clone.questions() <= most, True)

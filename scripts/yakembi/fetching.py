@@ -22,7 +22,7 @@ from yakembi.git import Remote, Repository, remote_environment, said
 # As `git fetch` names what it keeps apart; `git gc` removes what is old and begins so.
 APART = "tmp_objdir-git-objects-"
 # By ids alone: no reference is read or written, nothing is told of what is there, and no one else's work is done.
-FETCH = ["-c", "protocol.version=2", "-c", "fetch.negotiationAlgorithm=noop", "-c", "core.alternateRefsCommand=:",
+FETCH = ["-c", "protocol.version=2", "-c", "fetch.negotiationAlgorithm=noop", "-c", "core.alternateRefsCommand=true",
          "fetch", "--no-tags", "--no-prune", "--no-write-fetch-head", "--no-recurse-submodules",
          "--no-auto-maintenance", "--no-write-commit-graph"]
 # How often it is looked how much has come, in seconds.

@@ -1,13 +1,17 @@
 """Which blobs lie in one folder, as the trees tell that went through a server of objects, or that a clone has."""
 
+import bisect
 import collections
+import threading
 import time
-from collections.abc import Iterator
+from collections.abc import Iterable
 
-from yakembi.git import FOLDERS, SUBMODULE, Objects, entries
+from yakembi.git import FOLDERS, SUBMODULE, Objects, Refusal, entries
 
 # How many names are known at a time; the folder that was learned first is forgotten first.
 MOST_NAMES = 1 << 18
+# How many bytes of a clone's trees are looked through: those of some 1,500,000 files.
+MOST_BYTES = 1 << 26
 # Blobs of a folder are asked for one after another if no more seconds lie between two of them.
 ONE_AFTER_ANOTHER = 10.0
 # What a blob is taken to have, if none of its folder is known, and what it has at least.
@@ -57,42 +61,91 @@ class Folders:
     def __init__(self, most_names: int = MOST_NAMES) -> None:
         self.most_names = most_names
         self.known: collections.OrderedDict[str, Folder] = collections.OrderedDict()
+        # The folder in which a blob or a tree was seen last.
         self.by_blob: dict[str, Folder] = {}
+        self.by_tree: dict[str, Folder] = {}
         self.names = 0
 
     def learn(self, folder: Folder) -> Folder:
         """The folder, or the one of the same tree that is known already; it is known from now on."""
         found = self.known.setdefault(folder.tree_id, folder)
         if found is folder:
-            self.names += len(found.blobs)
+            self.names += len(found.blobs) + len(found.trees)
             while self.names > self.most_names and len(self.known) > 1:
                 self.forget(self.known.popitem(last=False)[1])
-        # A blob that lies in two is taken to be asked for in the one that was seen last.
         self.by_blob.update(dict.fromkeys(found.blobs, found))
+        self.by_tree.update(dict.fromkeys(found.trees, found))
         return found
 
     def forget(self, folder: Folder) -> None:
-        self.names -= len(folder.blobs)
-        for blob in folder.blobs:
-            if self.by_blob.get(blob) is folder:
-                del self.by_blob[blob]
+        self.names -= len(folder.blobs) + len(folder.trees)
+        for ids, known in [(folder.blobs, self.by_blob), (folder.trees, self.by_tree)]:
+            for object_id in ids:
+                if known.get(object_id) is folder:
+                    del known[object_id]
 
     def of(self, blob: str) -> Folder | None:
+        """The folder of a blob, the last that was learned if it lies in several."""
         return self.by_blob.get(blob)
 
+    def knows_tree(self, object_id: str) -> bool:
+        """Whether it is the tree of a folder in one that is known."""
+        return object_id in self.by_tree
 
-def trees_below(root: str, objects: Objects, most_names: int = MOST_NAMES) -> Iterator[tuple[str, bytes]]:
-    """The trees of a commit that a clone has, from the top: each with its body, until they have so many names."""
-    waiting, met, names = collections.deque([root]), {root}, 0
-    while waiting and names < most_names:
-        tree_id = waiting.popleft()
-        answer = objects.ask(tree_id)
-        if answer is None:
-            continue
-        body = b"".join(objects.pieces(answer[1]))
-        yield tree_id, body
-        for mode, _, below in entries(tree_id, body):
-            names += 1
-            if mode in FOLDERS and below not in met:
-                met.add(below)
-                waiting.append(below)
+
+class Trees:
+    """Trees that a clone has, to look a blob's folder up in: as many as have so many bytes. Any thread may use it."""
+
+    def __init__(self, most_bytes: int = MOST_BYTES) -> None:
+        self.most_bytes = most_bytes
+        self.lock = threading.Lock()
+        # The trees one behind the other: the id of each, where it begins, and their bytes.
+        self.ids: list[str] = []
+        self.starts: list[int] = []
+        self.bodies = bytearray()
+
+    def read(self, tops: Iterable[str], objects: Objects) -> None:
+        """Reads these trees and those below them, as far as they are there; those above first."""
+        waiting, known = collections.deque(tops), set(self.ids)
+        while waiting and len(self.bodies) < self.most_bytes:
+            tree_id = waiting.popleft()
+            answer = None if tree_id in known else objects.ask(tree_id)
+            known.add(tree_id)
+            if answer is not None:
+                body = b"".join(objects.pieces(answer[1]))
+                if answer[0] == "tree":
+                    self.add(tree_id, body)
+                    waiting += folders_in(tree_id, body)
+
+    def add(self, tree_id: str, body: bytes) -> None:
+        with self.lock:
+            self.ids.append(tree_id)
+            self.starts.append(len(self.bodies))
+            self.bodies += body
+
+    def folder_of(self, blob: str) -> Folder | None:
+        """The first folder in which it lies."""
+        name, at = bytes.fromhex(blob), -1
+        with self.lock:
+            while (at := self.bodies.find(name, at + 1)) >= 0:
+                number = bisect.bisect_right(self.starts, at) - 1
+                end = self.starts[number + 1] if number + 1 < len(self.starts) else len(self.bodies)
+                found = folder_or_none(self.ids[number], bytes(self.bodies[self.starts[number] : end]))
+                # The same bytes may stand in a name, say.
+                if found is not None and blob in found.blobs:
+                    return found
+        return None
+
+
+def folder_or_none(tree_id: str, body: bytes) -> Folder | None:
+    """A tree's folder; None where it is damaged."""
+    try:
+        return Folder(tree_id, body)
+    except Refusal:
+        return None
+
+
+def folders_in(tree_id: str, body: bytes) -> list[str]:
+    """The trees that a tree names; a damaged one names none."""
+    found = folder_or_none(tree_id, body)
+    return [] if found is None else found.trees

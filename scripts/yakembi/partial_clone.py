@@ -16,7 +16,7 @@ import time
 from collections.abc import Callable, Iterable, Sequence
 
 from yakembi.fetching import Bounds, Question, TooSlow, Unanswered
-from yakembi.folders import Folder, Folders, trees_below
+from yakembi.folders import Folder, Folders, Trees
 from yakembi.git import Objects, Refusal, Remote, Repository, environment
 
 # How long one who asks first waits for others, in seconds.
@@ -115,7 +115,7 @@ class Want:
 class PartialClone:
     """What git-objects serves of a partial clone. Any thread may call it.
 
-    `root` is the tree that is shown, if that is known: by it folders are found that nobody asked for.
+    `root` is the tree that is shown, if that is known: below it folders are found whose trees nobody asked for.
     """
 
     def __init__(self, repository: Repository, remotes: Sequence[Remote], root: str | None = None, ahead: int = AHEAD,
@@ -123,7 +123,6 @@ class PartialClone:
                  log: Callable[[str], object] = lambda _: None) -> None:
         self.repository = repository
         self.remotes = remotes
-        self.root = root
         # How much a guess brings: at most the bound, and less where that takes too long.
         self.most_ahead = self.ahead = ahead
         self.silence = silence
@@ -138,7 +137,11 @@ class PartialClone:
         self.guessing = 0
         self.questions: set[Question] = set()
         self.asked = 0
-        self.walked = root is None
+        # The trees that are there, and those that came since: they are read once something is asked for whose folder
+        # isn't known.
+        self.trees = Trees()
+        self.root = root
+        self.unread = [] if root is None else [root]
         self.is_over = False
 
     def objects(self) -> Objects:
@@ -174,6 +177,8 @@ class PartialClone:
         want.over.wait()
         if not want.came and not want.is_nowhere:
             raise Unreachable
+        # Its folder may have been found meanwhile.
+        self.folder_of(object_id)
         return want.came
 
     def bring_all(self, ids: list[str]) -> None:
@@ -257,14 +262,39 @@ class PartialClone:
 
     def guess_others(self, object_id: str) -> None:
         """Once blobs of a folder are asked for one after another, others of it are on their way."""
+        folder = self.folder_of(object_id)
+        if folder is not None and folder.in_a_row > 1:
+            with self.lock:
+                self.guess(folder, folder.others(object_id), folder.usual_bytes())
+
+    def folder_of(self, object_id: str) -> Folder | None:
+        """The folder of a blob that is asked for. Where that is found only now it counts as asked for now."""
         with self.lock:
             folder = self.folders.of(object_id)
-            if folder is not None and folder.in_a_row > 1:
-                self.guess(folder, folder.others(object_id), folder.usual_bytes())
-            if folder is not None or self.walked:
-                return
-            self.walked = True
-        self.start(self.walk)
+            is_tree = object_id == self.root or self.folders.knows_tree(object_id)
+        if folder is None and not is_tree and (folder := self.look_up(object_id)):
+            with self.lock:
+                folder = self.folders.learn(folder)
+                folder.ask(object_id)
+        return folder
+
+    def look_up(self, object_id: str) -> Folder | None:
+        """The folder of a blob in the trees that are there; those that weren't read yet are from now on.
+
+        So it is with a file of a folder that an overlay has, or whose tree was read by somebody else: nobody asks here
+        for that tree.
+        """
+        with self.lock:
+            unread, self.unread = self.unread, []
+        if unread:
+            self.start(self.read_trees, unread)
+        return self.trees.folder_of(object_id)
+
+    def read_trees(self, tops: list[str]) -> None:
+        objects = self.objects()
+        with contextlib.suppress(Refusal, OSError):
+            self.trees.read(tops, objects)
+        objects.end()
 
     def guess(self, folder: Folder, ids: Iterable[str], usual_bytes: int) -> None:
         """Under the lock: a guess is under way from now on, and whoever asks for one of its objects waits for it."""
@@ -287,6 +317,8 @@ class PartialClone:
                 bounds = Bounds(self.silence, LONGEST_GUESS, self.ahead)
                 if self.question(self.remotes[0], lacking, bounds, " ahead") < SHORT_GUESS:
                     self.ahead = min(2 * self.ahead, self.most_ahead)
+                with self.lock:
+                    self.unread += set(folder.trees).intersection(lacking)
                 self.end_guess(guess, lacking, True)
         except (Unanswered, OSError) as problem:
             folder.rests_until = time.monotonic() + REST
@@ -304,20 +336,6 @@ class PartialClone:
             for object_id in ids:
                 del self.guesses[object_id]
                 guess.pop(object_id).end(came)
-
-    def walk(self) -> None:
-        """Learns the folders of the shown tree that the clone has, for an object of none that was served.
-
-        So it is with a file of a folder that an overlay has: its tree isn't asked for any more.
-        """
-        assert self.root is not None
-        objects = self.objects()
-        with contextlib.suppress(Refusal, OSError):
-            for tree_id, body in trees_below(self.root, objects):
-                folder = Folder(tree_id, body)
-                with self.lock:
-                    self.folders.learn(folder)
-        objects.end()
 
     # ---- threads
 
