@@ -183,20 +183,20 @@ class PartialClone:
 
     def bring_all(self, ids: list[str]) -> None:
         """Asks each remote in turn for what isn't there, and tells those who wait."""
-        lacking, failed = ids, set(ids)
+        lacking, nowhere = ids, set[str]()
         try:
             # What came by a guess since it was looked for isn't asked for again.
-            lacking, failed = self.plain.absent(ids), set()
+            lacking = self.plain.absent(ids)
+            failed: set[str] = set()
             for remote in self.remotes:
                 lacking = self.ask_for(remote, lacking, failed)
+            nowhere = set(lacking) - failed
         except (Unanswered, OSError) as problem:
             self.tell(f"objects can't be brought: {problem}")
-            failed = set(ids)
         finally:
             with self.lock:
                 for object_id in ids:
-                    came = object_id not in lacking
-                    self.wants.pop(object_id).end(came, is_nowhere=not came and object_id not in failed)
+                    self.wants.pop(object_id).end(object_id not in lacking, object_id in nowhere)
 
     def ask_for(self, remote: Remote, ids: list[str], failed: set[str]) -> list[str]:
         """Asks a remote, and gives what didn't come. Of that `failed` has what the remote doesn't say that it lacks.
@@ -305,9 +305,11 @@ class PartialClone:
         most = min(self.ahead // (2 * usual_bytes), MOST_GUESSED)
         guess = {object_id: Want() for object_id in itertools.islice(free, most)}
         if guess:
-            self.guesses.update(guess)
-            self.guessing += 1
-            self.start(self.bring_guess, folder, guess)
+            # Its thread waits for the lock before it ends what is waited for. Without one nothing is guessed.
+            with contextlib.suppress(RuntimeError):
+                self.start(self.bring_guess, folder, guess)
+                self.guesses.update(guess)
+                self.guessing += 1
 
     def bring_guess(self, folder: Folder, guess: dict[str, Want]) -> None:
         try:
