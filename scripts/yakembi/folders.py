@@ -4,7 +4,7 @@ import bisect
 import collections
 import threading
 import time
-from collections.abc import Iterable
+from collections.abc import Collection, Iterable, Iterator
 
 from yakembi.git import FOLDERS, SUBMODULE, Objects, Refusal, entries
 
@@ -14,6 +14,8 @@ MOST_NAMES = 1 << 18
 MOST_BYTES = 1 << 26
 # Blobs of a folder are asked for one after another if no more seconds lie between two of them.
 ONE_AFTER_ANOTHER = 10.0
+# How many places may lie between the end of a guess and what is asked for next.
+NEAR = 8
 # What a blob is taken to have, if none of its folder is known, and what it has at least.
 USUAL_BYTES, LEAST_BYTES = 4_096, 64
 
@@ -23,22 +25,37 @@ class Folder:
 
     def __init__(self, tree_id: str, body: bytes) -> None:
         self.tree_id = tree_id
-        rows = [(mode, below) for mode, _, below in entries(tree_id, body)]
-        self.trees = list(dict.fromkeys(below for mode, below in rows if mode in FOLDERS))
-        self.blobs = list(dict.fromkeys(below for mode, below in rows if mode not in FOLDERS and mode != SUBMODULE))
-        self.last_asked, self.last_time = "", 0.0
+        rows = [(mode in FOLDERS, below) for mode, _, below in entries(tree_id, body) if mode != SUBMODULE]
+        self.trees = list(dict.fromkeys(below for is_tree, below in rows if is_tree))
+        self.blobs = list(dict.fromkeys(below for is_tree, below in rows if not is_tree))
+        # Its last entry.
+        self.ends_in_tree, self.end = rows[-1] if rows else (False, "")
+        # When it was asked for itself, one of its blobs, and its last entry.
+        self.listed_at = self.asked_at = self.ended_at = 0.0
+        self.last_asked = ""
         # How many of its blobs were asked for one after another.
         self.in_a_row = 0
         self.served, self.bytes = 0, 0
         # Until then nothing of it is guessed, after a guess that brought nothing.
         self.rests_until = 0.0
+        # From which of its blobs on nothing was guessed while they are asked for in a row; and from which of its
+        # folders on, for the folders in these (True) and for their blobs.
+        self.next_blob = 0
+        self.next_folder = {True: 0, False: 0}
 
     def ask(self, blob: str) -> None:
         """Notes that a blob of it is asked for."""
-        now = time.monotonic()
-        if blob != self.last_asked:
-            self.in_a_row = self.in_a_row + 1 if now - self.last_time <= ONE_AFTER_ANOTHER else 1
-        self.last_asked, self.last_time = blob, now
+        if not is_now(self.asked_at):
+            self.in_a_row, self.next_blob = 1, 0
+        elif blob != self.last_asked:
+            self.in_a_row += 1
+        self.last_asked, self.asked_at = blob, time.monotonic()
+        if blob == self.end:
+            self.ended_at = self.asked_at
+
+    def look_into(self) -> None:
+        """Notes that it is asked for itself."""
+        self.listed_at = time.monotonic()
 
     def serve(self, length: int) -> None:
         """Notes a blob's length."""
@@ -50,9 +67,26 @@ class Folder:
         return max(self.bytes // self.served, LEAST_BYTES) if self.served else USUAL_BYTES
 
     def others(self, blob: str) -> list[str]:
-        """Its other blobs: those behind this one, and then those before it."""
+        """Its other blobs: those behind this one, and then those before it.
+
+        None, if others were guessed while it is read, and it isn't read on from where these end: a guess that isn't
+        followed is the last.
+        """
         at = self.blobs.index(blob)
+        if self.next_blob and not 0 <= at - self.next_blob <= NEAR:
+            return []
         return self.blobs[at + 1 :] + self.blobs[:at]
+
+    def guessed(self, blob: str, others: Collection[str]) -> None:
+        """Notes which of the others of a blob were guessed."""
+        if others:
+            at = self.blobs.index(blob)
+            self.next_blob = at + 1 + len(set(self.blobs[at + 1 :]).intersection(others))
+
+
+def is_now(at: float) -> bool:
+    """Whether what is asked for follows on what was asked for at that time."""
+    return time.monotonic() - at <= ONE_AFTER_ANOTHER
 
 
 class Folders:
@@ -87,6 +121,31 @@ class Folders:
     def of(self, blob: str) -> Folder | None:
         """The folder of a blob, the last that was learned if it lies in several."""
         return self.by_blob.get(blob)
+
+    def above(self, folder: Folder) -> tuple[Folder, int] | None:
+        """The folder in which it lies, and at which place there."""
+        found = self.by_tree.get(folder.tree_id)
+        return None if found is None else (found, found.trees.index(folder.tree_id))
+
+    def walks(self, folder: Folder, are_trees: bool) -> Iterator[tuple[Folder, int]]:
+        """The folders that are gone through from one below to the next, each with the place that was come to.
+
+        So it is where the folder just before that place was gone through to its end, be it by the trees below it or by
+        the blobs.
+        """
+        while found := self.above(folder):
+            folder, place = found
+            if place > 0 and self.is_ended(folder.trees[place - 1], are_trees):
+                yield folder, place
+
+    def is_ended(self, tree_id: str, are_trees: bool) -> bool:
+        while (folder := self.known.get(tree_id)) and (not are_trees or is_now(folder.listed_at)):
+            if are_trees and not folder.trees:
+                return True
+            if not are_trees and not folder.ends_in_tree:
+                return is_now(folder.ended_at)
+            tree_id = folder.trees[-1]
+        return False
 
     def knows_tree(self, object_id: str) -> bool:
         """Whether it is the tree of a folder in one that is known."""

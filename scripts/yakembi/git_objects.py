@@ -1,7 +1,8 @@
 """Serves the trees, blobs and links of a Git repository, as they are asked for, on a port of 127.0.0.1.
 
-What a partial clone lacks is fetched from its remote, many objects at once. With a tree its subtrees come along, and
-once files of one folder are asked for one after another its other files, up to so many bytes (--ahead).
+What a partial clone lacks is fetched from its remote, many objects at once. With a tree its subtrees come along; once
+files of one folder are asked for one after another its other files; and once folders are gone through side by side what
+lies behind them: each time up to so many bytes (--ahead).
 
 A client sends `get ID` and a line feed, ID being 40 lower-case hexadecimal digits, and is answered `object N`, a line
 feed and the N framed bytes; `missing`; or `fault` where Git can't read the object or it is over 2^30 bytes. Another

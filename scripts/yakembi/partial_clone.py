@@ -1,9 +1,10 @@
 """A partial clone as a source of objects: what it lacks is asked of its remote, many objects at a time.
 
 What is asked for within some milliseconds goes into one question. What is likely to be asked for next comes along in
-another one beside it: with a tree its subtrees, and once blobs of one folder are asked for one after another, others of
-that folder. Such a guess is bounded in bytes and in time, and what fails of it is asked for like anything else. So a
-remote that fails costs what is asked for alone.
+another one beside it: with a tree its subtrees; once blobs of one folder are asked for one after another, others of
+that folder; and once folders that lie side by side are gone through, what is below those behind them. Such a guess is
+bounded in bytes and in time, and what fails of it is asked for like anything else. So a remote that fails costs what is
+asked for alone.
 """
 
 import contextlib
@@ -30,6 +31,8 @@ SILENCE, LONGEST_GUESS, SHORT_GUESS = 15.0, 8.0, 2.0
 REST = 60.0
 # How many guesses are under way at most, and how many objects each has.
 MOST_GUESSES, MOST_GUESSED = 4, 10_000
+# How many folders are looked into for one guess.
+MOST_LOOKED_INTO = 2_000
 # What a tree is taken to have.
 TREE_BYTES = 1_024
 # How many ids are written to Git before its answers are read, so that no pipe is full.
@@ -247,7 +250,9 @@ class PartialClone:
             folder = Folder(tree_id, body)
             with self.lock:
                 folder = self.folders.learn(folder)
+                folder.look_into()
                 self.guess(folder, folder.trees, TREE_BYTES)
+                self.guess_behind(folder, True)
 
     def served_blob(self, blob: str, length: int) -> None:
         with self.lock:
@@ -262,10 +267,57 @@ class PartialClone:
 
     def guess_others(self, object_id: str) -> None:
         """Once blobs of a folder are asked for one after another, others of it are on their way."""
-        folder = self.folder_of(object_id)
-        if folder is not None and folder.in_a_row > 1:
+        if folder := self.folder_of(object_id):
             with self.lock:
-                self.guess(folder, folder.others(object_id), folder.usual_bytes())
+                if self.guess_behind(folder, False) or folder.in_a_row > 1:
+                    chosen = self.guess(folder, folder.others(object_id), folder.usual_bytes())
+                    folder.guessed(object_id, chosen)
+
+    def guess_behind(self, folder: Folder, are_trees: bool) -> bool:
+        """Under the lock: whether folders that lie side by side are gone through, and this one is the next.
+
+        Then the trees or blobs below it and below those behind it will be on their way.
+        """
+        walks = list(self.folders.walks(folder, are_trees)) if self.ahead else []
+        for above, place in walks:
+            if place >= above.next_folder[are_trees] and time.monotonic() >= above.rests_until:
+                above.next_folder[are_trees] = len(above.trees)
+                # The trees of this one are guessed already.
+                words = (place + 1, True, TREE_BYTES) if are_trees else (place, False, folder.usual_bytes())
+                with contextlib.suppress(RuntimeError):
+                    self.start(self.look_behind, above, *words)
+        return walks != []
+
+    def look_behind(self, above: Folder, start: int, are_trees: bool, usual_bytes: int) -> None:
+        """Guesses the missing trees, or the blobs, below the folders from a place on, as many as a guess may have.
+
+        It is looked again from the place at which trees are missing, which may be there by then.
+        """
+        most, ids, met, again = self.most_guessed(usual_bytes), list[str](), set[str](), len(above.trees)
+        ahead = [(tree_id, at) for at, tree_id in enumerate(above.trees)][start:]
+        objects = self.objects()
+        with contextlib.suppress(Refusal, OSError):
+            while ahead:
+                tree_id, at = ahead.pop(0)
+                if len(ids) >= most or len(met) >= MOST_LOOKED_INTO:
+                    again = min(again, at)
+                    break
+                if tree_id in met:
+                    continue
+                met.add(tree_id)
+                if answer := objects.ask(tree_id):
+                    folder = Folder(tree_id, b"".join(objects.pieces(answer[1])))
+                    ids += [] if are_trees else folder.blobs
+                    ahead[:0] = [(below, at) for below in folder.trees]
+                    continue
+                again = min(again, at)
+                if not are_trees:
+                    break
+                ids.append(tree_id)
+        objects.end()
+        with self.lock:
+            above.next_folder[are_trees] = again
+            self.guess(above, ids, usual_bytes)
 
     def folder_of(self, object_id: str) -> Folder | None:
         """The folder of a blob that is asked for. Where that is found only now it counts as asked for now."""
@@ -296,20 +348,25 @@ class PartialClone:
             self.trees.read(tops, objects)
         objects.end()
 
-    def guess(self, folder: Folder, ids: Iterable[str], usual_bytes: int) -> None:
-        """Under the lock: a guess is under way from now on, and whoever asks for one of its objects waits for it."""
+    def most_guessed(self, usual_bytes: int) -> int:
+        """How many objects a guess has at most: half as many as would fill the bound, since others may be larger."""
+        return min(self.ahead // (2 * usual_bytes), MOST_GUESSED)
+
+    def guess(self, folder: Folder, ids: Iterable[str], usual_bytes: int) -> list[str]:
+        """Under the lock: a guess of these is under way from now on, and whoever asks for one of them waits for it."""
         if self.guessing >= MOST_GUESSES or time.monotonic() < folder.rests_until:
-            return
+            return []
         free = (object_id for object_id in ids if object_id not in self.guesses and object_id not in self.wants)
-        # Half as many as would fill the bound, since others may be larger.
-        most = min(self.ahead // (2 * usual_bytes), MOST_GUESSED)
-        guess = {object_id: Want() for object_id in itertools.islice(free, most)}
+        guess = {object_id: Want() for object_id in itertools.islice(free, self.most_guessed(usual_bytes))}
+        chosen = list(guess)
         if guess:
             # Its thread waits for the lock before it ends what is waited for. Without one nothing is guessed.
             with contextlib.suppress(RuntimeError):
                 self.start(self.bring_guess, folder, guess)
                 self.guesses.update(guess)
                 self.guessing += 1
+                return chosen
+        return []
 
     def bring_guess(self, folder: Folder, guess: dict[str, Want]) -> None:
         try:
