@@ -86,8 +86,8 @@ class Repository:
     def commit_of(self, revision: str) -> Commit | None:
         """The commit that a revision names; None where it names none.
 
-        It is read from the commit's own text: whatever else tells a commit's tree has Git fetch that tree, and in a
-        clone without trees all that lies below it.
+        It is read from the commit's own text: `rev-parse` and `show` have Git fetch the tree, and in a clone without
+        trees all that lies below it.
         """
         named = self.git("rev-parse", "--verify", "--end-of-options", revision)
         done = self.git("cat-file", "commit", named.stdout.decode().strip()) if named.returncode == 0 else named

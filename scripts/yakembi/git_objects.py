@@ -34,7 +34,9 @@ POLL = 0.1
 
 
 def tell(text: str) -> None:
-    print(f"git-objects: {text}", file=sys.stderr, flush=True)
+    """In one piece, since threads tell side by side."""
+    sys.stderr.write(f"git-objects: {text}\n")
+    sys.stderr.flush()
 
 
 class ClientConnection(socketserver.StreamRequestHandler):
