@@ -1,0 +1,5 @@
+pub mod Members
+pub mod Opcodes
+pub mod Structs
+pub mod Asked
+pub mod Messages
