@@ -1,18 +1,13 @@
 //! The numbers of a directory that stands on a tree object: what is written, read and refused, and how an overlay has
 //! them.
-ghost use Rattle.std.specs.Prelude.{◌≡◌, true};
-ghost use Rattle.eden_overlay_format.specs.Directory.{AreStorable};
-ghost use Rattle.eden_overlay_format.specs.Numbers.{none_is_own};
 
-use crate::formats::{NEW_DIRECTORY, NEW_FILE, cut, name, stored, told};
+use crate::formats::{NEW_DIRECTORY, NEW_FILE, cut, stored, told};
 use eden_model::{Id, Kind, Origin, Outside};
 use eden_overlay::{Files, GetFault, MemoryFiles, Overlay};
 use eden_overlay_format::{
-    DecodeFault, Listing, Refusal, StoredEntry, decode_dir, decode_file, decode_numbers,
-    encode_numbers,
+    DecodeFault, Refusal, StoredEntry, decode_dir, decode_file, decode_numbers,
 };
 use std::alloc::Global;
-use std::process::Abort;
 
 /// How stored numbers of version 1 begin, and those of version 2.
 const NUMBERS: [u8; 8] = [0x4f, 0x56, 0x44, 0x4e, 0, 0, 0, 1];
@@ -42,29 +37,6 @@ const DIGEST: [u8; 20] = [
     0x77, 0x18, 0x8c, 0xd3, 0x88, 0x36, 0xaf, 0xa6, 0xf7, 0xcb, 0x43, 0xb2, 0xb1, 0x1f, 0xc2, 0x18,
     0x6a, 0xfa, 0x23, 0x1f,
 ];
-
-/// The tree's entries, with that number.
-fn entries(rt: &impl Abort, alloc: Global) -> Vec<StoredEntry>
-    ensures storable { AreStorable result.items }
-    ensures others { none_is_own result.items ≡ true }
-{
-    let entry = StoredEntry {
-        name: name(rt, alloc, b"test.txt"),
-        kind: Kind::File,
-        origin: Origin::Object(Id { bytes: BLOB }),
-        number: 2,
-    };
-    Vec::from_array(alloc, [entry]).expect(rt, "memory")
-}
-
-#[test]
-fn numbers_are_written(rt: HostRuntime) {
-    let entries = entries(&rt, rt.alloc());
-    let tree = Id { bytes: TREE };
-    let file = encode_numbers(rt.alloc(), tree, &entries).expect(&rt, "memory");
-    assert!(rt; file == told(&rt, rt.alloc(), &NEW_NUMBERS, &DIGEST, 0, BODY));
-    assert!(rt; file.len() == 127);
-}
 
 fn is_test_txt(entry: &StoredEntry) -> bool {
     entry.name.as_slice() == b"test.txt".as_slice()
@@ -133,25 +105,6 @@ fn no_entries(rt: HostRuntime) {
 
 type InMemory = Overlay<Outside, MemoryFiles<Outside>>;
 
-/// An overlay in which the root's numbers are stored, and nothing else.
-fn numbered(rt: &impl Abort, alloc: Global) -> InMemory {
-    let entries = entries(rt, alloc);
-    let mut overlay = Overlay::<Outside, _>::new(MemoryFiles::<Outside>::new(alloc));
-    let listing = Listing::of(overlay.room(alloc), &entries).expect(rt, "memory");
-    overlay
-        .put_numbers(alloc, 1, Id { bytes: TREE }, listing)
-        .expect(rt, "memory");
-    overlay
-}
-
-#[test]
-fn numbers_are_stored(rt: HostRuntime) {
-    let mut files = numbered(&rt, rt.alloc()).into_files();
-    let want = told(&rt, rt.alloc(), &NEW_NUMBERS, &DIGEST, 0, BODY);
-    let bytes = files.read(rt.alloc(), 1).expect(&rt, "memory");
-    assert!(rt; bytes.is_some_and(|bytes| bytes == want));
-}
-
 /// Why no numbers of that tree are got, under a number.
 fn fault_of(
     overlay: &mut InMemory,
@@ -164,7 +117,10 @@ fn fault_of(
 
 #[test]
 fn numbers_are_got_for_their_tree(rt: HostRuntime) {
-    let mut overlay = numbered(&rt, rt.alloc());
+    let mut files = MemoryFiles::<Outside>::new(rt.alloc());
+    let stored = told(&rt, rt.alloc(), &NEW_NUMBERS, &DIGEST, 0, BODY);
+    files.replace(rt.alloc(), 1, &stored).expect(&rt, "memory");
+    let mut overlay = Overlay::<Outside, _>::new(files);
     let tree = Id { bytes: TREE };
     let found = overlay
         .get_numbers(rt.alloc(), 1, tree)
@@ -173,11 +129,8 @@ fn numbers_are_got_for_their_tree(rt: HostRuntime) {
     assert!(rt; is_test_txt(&found[0]));
     assert!(rt; fault_of(&mut overlay, rt.alloc(), 1, BLOB) == Some(GetFault::Absent));
     assert!(rt; fault_of(&mut overlay, rt.alloc(), 2, TREE) == Some(GetFault::Absent));
-    let entries = entries(&rt, rt.alloc());
-    overlay
-        .put_dir(rt.alloc(), 1, &entries)
-        .expect(&rt, "memory");
-    assert!(rt; fault_of(&mut overlay, rt.alloc(), 1, TREE) == Some(GetFault::Absent));
+    assert!(rt; overlay.is_rooted() == Ok(false));
+    assert!(rt; overlay.rescan(rt.alloc()) == Ok(2));
 }
 
 #[test]
@@ -189,15 +142,4 @@ fn damaged_numbers_are_told(rt: HostRuntime) {
     let damaged = Some(GetFault::Damaged(Refusal::BadDigest));
     assert!(rt; fault_of(&mut overlay, rt.alloc(), 1, TREE) == damaged);
     assert!(rt; fault_of(&mut overlay, rt.alloc(), 1, BLOB) == damaged);
-}
-
-#[test]
-fn numbers_make_no_root(rt: HostRuntime) {
-    let mut overlay = numbered(&rt, rt.alloc());
-    assert!(rt; overlay.is_rooted() == Ok(false));
-    assert!(rt; overlay.rescan(rt.alloc()) == Ok(2));
-    overlay.remove(1).expect(&rt, "removed");
-    assert!(rt; overlay.is_rooted() == Ok(false));
-    overlay.put_dir(rt.alloc(), 1, &[]).expect(&rt, "memory");
-    assert!(rt; overlay.is_rooted() == Ok(true));
 }
