@@ -1,6 +1,7 @@
 //! The files of an overlay as bytes: what is written, read and refused.
-ghost use Rattle.std.specs.Prelude.{◌≡◌};
-ghost use Rattle.eden_overlay_format.specs.Directory.{AreStorable, HasOrigin};
+ghost use Rattle.std.specs.Prelude.{◌≡◌, ◌&&◌, not, true};
+ghost use Rattle.eden_overlay_format.specs.Directory.{AreStorable, HasOrigin, is_own};
+ghost use Rattle.eden_overlay_format.specs.Numbers.{none_is_own};
 ghost use Rattle.eden_model.specs.declared.kind.Kind.TheVariants as kind;
 
 use eden_model::{Id, Kind, Name, Origin};
@@ -226,7 +227,8 @@ pub fn name(rt: &impl Abort, alloc: Global, bytes: &[u8]) -> Name
 /// A directory with the file `test.txt` alone, number 2.
 pub fn one_file(rt: &impl Abort, alloc: Global, origin: Origin) -> Vec<StoredEntry>
     requires { HasOrigin kind.File origin }
-    ensures { AreStorable result.items }
+    ensures storable { AreStorable result.items }
+    ensures others { none_is_own result.items ≡ not (is_own origin) && true }
 {
     let entry = StoredEntry {
         name: name(rt, alloc, b"test.txt"),

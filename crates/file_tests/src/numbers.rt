@@ -1,11 +1,12 @@
 //! The numbers of a directory that stands on a tree object: what is written, read and refused, and how an overlay has
 //! them.
 
-use crate::formats::{NEW_DIRECTORY, NEW_FILE, cut, stored, told};
+use crate::formats::{NEW_DIRECTORY, NEW_FILE, cut, one_file, stored, told};
 use eden_model::{Id, Kind, Origin, Outside};
 use eden_overlay::{Files, GetFault, MemoryFiles, Overlay};
 use eden_overlay_format::{
-    DecodeFault, Refusal, StoredEntry, decode_dir, decode_file, decode_numbers,
+    DecodeFault, Listing, Refusal, StoredEntry, decode_dir, decode_file, decode_numbers,
+    encode_numbers,
 };
 use std::alloc::Global;
 
@@ -142,4 +143,21 @@ fn damaged_numbers_are_told(rt: HostRuntime) {
     let damaged = Some(GetFault::Damaged(Refusal::BadDigest));
     assert!(rt; fault_of(&mut overlay, rt.alloc(), 1, TREE) == damaged);
     assert!(rt; fault_of(&mut overlay, rt.alloc(), 1, BLOB) == damaged);
+}
+
+#[test]
+fn numbers_are_written_and_stored(rt: HostRuntime) {
+    let entries = one_file(&rt, rt.alloc(), Origin::Object(Id { bytes: BLOB }));
+    let tree = Id { bytes: TREE };
+    let want = told(&rt, rt.alloc(), &NEW_NUMBERS, &DIGEST, 0, BODY);
+    let file = encode_numbers(rt.alloc(), tree, &entries).expect(&rt, "memory");
+    assert!(rt; file == want);
+    let mut overlay = Overlay::<Outside, _>::new(MemoryFiles::<Outside>::new(rt.alloc()));
+    let listing = Listing::of(overlay.room(rt.alloc()), &entries).expect(&rt, "memory");
+    overlay
+        .put_numbers(rt.alloc(), 1, tree, listing)
+        .expect(&rt, "memory");
+    let mut files = overlay.into_files();
+    let bytes = files.read(rt.alloc(), 1).expect(&rt, "memory");
+    assert!(rt; bytes.is_some_and(|bytes| bytes == want));
 }
