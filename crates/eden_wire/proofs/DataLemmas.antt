@@ -1,12 +1,10 @@
 -- Lemmas on bytes in lower-case hexadecimal: a text spells one list of bytes.
-use Rattle.std.proofs.Common.{◌==◌, ◌≡◌, ◌≢◌, ℕ, ◌+◌, ◌-◌, ◌*◌, ◌/◌, ◌%◌, ◌<◌, ◌≤◌, ◌&&◌, List, [], ◌∷◌, length, Bool, true, false, cond, zero, suc, codes, sym, ap, ◌∙◌, subst, refl, get_or, take, Ok, arith}
+use Rattle.std.proofs.Common.{◌==◌, ◌≡◌, ◌≢◌, ℕ, ◌+◌, ◌-◌, ◌*◌, ◌/◌, ◌%◌, ◌<◌, ◌≤◌, ◌&&◌, List, [], ◌∷◌, length, Bool, true, false, cond, zero, suc, codes, sym, ap, ◌∙◌, subst, refl, Ok, MatchBool, arith}
 use Rattle.std.specs.Prelude.{nat_lt, slice_index}
-use Rattle.std.specs.List.{All, AllByRecursion}
+use Rattle.std.specs.List.{AllByRecursion, list_all}
 use Rattle.std.specs.Str.{bytes_eq}
-use Rattle.std.proofs.lemmas.Bool.{false≢true}
+use Rattle.std.proofs.lemmas.Bool.{false≢true, and_parts}
 use Rattle.std.proofs.lemmas.Bool.Decides.{Decides-below_and, Decides-eqb, nat_tests}
-use Rattle.std.proofs.lemmas.List.Elements.{All-get_or, All-from_recursion, recursion_from_All}
-use Rattle.std.proofs.lemmas.List.{take_all}
 use Rattle.hex.specs.Hex.{encode_lower, encode_with, lower_digits, decode_of, IsBytes}
 use Rattle.hex.proofs.HexLemmas.{length-encode_with, decode_of-encode_lower}
 use Rattle.eden_wire.specs.Names.{AreBytes}
@@ -74,9 +72,9 @@ text_digits [] small = tt
 text_digits (b ∷ bytes) small = let low = small.0 in (digit_passes (b / 16) (omega arith), (digit_passes (b % 16) (omega arith), text_digits bytes small.1))
 
 -- digits, two a byte and some
-pub spells_data : (text : List ℕ) (i : ℕ) → length text ≤ i → 0 < length text → length text % 2 ≡ 0 → All IsDigit (take i text) → SpellsData text
-spells_data text i all some even digits =
-    let found = paired (length text / 2) text (omega arith) (recursion_from_All IsDigit text (subst (All IsDigit) (take_all i text all) digits)) in
+spells_data : (text : List ℕ) → 0 < length text → length text % 2 ≡ 0 → AllByRecursion IsDigit text → SpellsData text
+spells_data text some even digits =
+    let found = paired (length text / 2) text (omega arith) digits in
     at found.0 found.1 found.2
   where
     at : (bytes : List ℕ) → AreBytes bytes → text ≡ encode_lower bytes → SpellsData text
@@ -100,11 +98,19 @@ odd_data text not odd = no_data text not (λ bytes small some e. let size = ap l
 pub empty_data : (text : List ℕ) → (text ≡ codes "-" → ⊥) → length text ≡ 0 → SpellsNoData text
 empty_data text not empty = no_data text not (λ bytes small some e. let size = ap length e ∙ length-encode_with lower_digits bytes in omega arith)
 
-pub other_data : (text : List ℕ) (i : ℕ) → (text ≡ codes "-" → ⊥) → i < length text → is_lower_digit (get_or text i 0) ≡ false → SpellsNoData text
-other_data text i not inside other =
-    no_data text not (λ bytes small some e.
-    let all = All-from_recursion IsDigit text (subst (AllByRecursion IsDigit) (sym e) (text_digits bytes small)) in
-    false≢true (sym other ∙ All-get_or IsDigit text i 0 inside all))
+passed : (text : List ℕ) → list_all is_lower_digit text ≡ true → AllByRecursion IsDigit text
+passed [] h = tt
+passed (c ∷ text) h = let parts = and_parts (is_lower_digit c) (list_all is_lower_digit text) h in (parts.0, passed text parts.1)
+
+all_pass : (text : List ℕ) → AllByRecursion IsDigit text → list_all is_lower_digit text ≡ true
+all_pass [] h = refl
+all_pass (c ∷ text) h = rw (h.0, all_pass text h.1) refl
+
+-- an even number of bytes is data where all are digits
+pub digits_or_not : (text : List ℕ) (r : Bool) → (text ≡ codes "-" → ⊥) → 0 < length text → length text % 2 ≡ 0 → r ≡ list_all is_lower_digit text
+    → MatchBool r (SpellsData text) (SpellsNoData text)
+digits_or_not text true not some even e = spells_data text some even (passed text (sym e))
+digits_or_not text false not some even e = no_data text not (λ bytes small long h. false≢true (e ∙ all_pass text (subst (AllByRecursion IsDigit) (sym h) (text_digits bytes small))))
 
 are_bytes : (xs : List ℕ) → AreBytes xs → IsBytes xs
 are_bytes [] h i = omega arith
@@ -114,16 +120,22 @@ are_bytes (x ∷ xs) h (suc i) = are_bytes xs h.1 i
 pub decoded : (text bytes : List ℕ) → AreBytes bytes → text ≡ encode_lower bytes → decode_of text ≡ Ok bytes
 decoded text bytes small e = ap decode_of e ∙ decode_of-encode_lower bytes (are_bytes bytes small)
 
--- what a text that spells data decodes to
-pub read_is : (text found : List ℕ) → (text ≡ codes "-" → ⊥) → SpellsData text → decode_of text ≡ Ok found → AreBytes found × (text ≡ hex_text found)
-read_is text found not spells e = at spells.0 spells.1 spells.2
+-- data has two digits a byte
+pub data_even : (text : List ℕ) → (text ≡ codes "-" → ⊥) → SpellsData text → length text ≡ 2 * (length text / 2)
+data_even text not spells = at spells.0 spells.2
+  where
+    at : (bytes : List ℕ) → text ≡ hex_text bytes → length text ≡ 2 * (length text / 2)
+    at [] h = absurd (not h)
+    at (b ∷ bytes) h = let size = ap length h ∙ length-encode_with lower_digits (b ∷ bytes) in omega arith
+
+-- what was read of a text that spells data
+pub read_is : (text found : List ℕ) → (text ≡ codes "-" → ⊥) → SpellsData text → ((bytes : List ℕ) → AreBytes bytes → text ≡ encode_lower bytes → found ≡ bytes)
+    → AreBytes found × (text ≡ hex_text found)
+read_is text found not spells reads = at spells.0 spells.1 spells.2
   where
     at : (bytes : List ℕ) → AreBytes bytes → text ≡ hex_text bytes → AreBytes found × (text ≡ hex_text found)
     at [] small h = absurd (not h)
-    at (b ∷ bytes) small h =
-        let both : Ok (b ∷ bytes) ≡ Ok found = sym (decoded text (b ∷ bytes) small h) ∙ e in
-        let same : b ∷ bytes ≡ found = cc in
-        subst (λ l. AreBytes l × (text ≡ hex_text l)) same (small, h)
+    at (b ∷ bytes) small h = subst (λ l. AreBytes l × (text ≡ hex_text l)) (sym (reads (b ∷ bytes) small h)) (small, h)
 
 -- a text spells one list of bytes
 pub hex_same : (a b : List ℕ) → AreBytes a → AreBytes b → hex_text a ≡ hex_text b → a ≡ b

@@ -3,6 +3,7 @@ pub mod Growing
 pub mod NumberLemmas
 pub mod Escapes
 pub mod HexPieces
+pub mod HexDigits
 pub mod NameLemmas
 pub mod PathLemmas
 pub mod Scanning

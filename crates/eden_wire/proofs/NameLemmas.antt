@@ -1,9 +1,10 @@
 -- Lemmas on the text of a name: it spells one name.
-use Rattle.std.proofs.Common.{◌≡◌, ◌≢◌, ℕ, ◌+◌, ◌/◌, ◌%◌, ◌<◌, List, [], ◌∷◌, ◌++◌, length, Bool, true, false, cond, Decides, sym, ap, ◌∙◌, subst, refl, append_assoc, append-nil, arith}
-use Rattle.std.proofs.lemmas.Bool.{false≢true}
+use Rattle.std.proofs.Common.{◌≡◌, ◌==◌, ◌≢◌, ℕ, ◌+◌, ◌/◌, ◌%◌, ◌<◌, List, [], ◌∷◌, ◌++◌, length, Bool, true, false, cond, Decides, sym, ap, ◌∙◌, subst, refl, append_assoc, append-nil, arith}
+use Rattle.std.proofs.lemmas.Bool.{false≢true, and_parts, or_from, ne_eqb}
 use Rattle.std.proofs.lemmas.Bool.Decides.{nat_tests, same_from_decides}
 use Rattle.std.proofs.lemmas.Slice.Eq.{bytes_eq-Decides}
 use Rattle.std.specs.Prelude.{nat_lt}
+use Rattle.std.specs.List.{list_all, list_any}
 use Rattle.std.specs.Str.{bytes_eq}
 use Rattle.eden_wire.specs.Names.{is_plain, byte_text, name_text, upper_digit, AreBytes}
 
@@ -94,3 +95,27 @@ same_test a b c d forth back =
 -- a text is that of a name exactly where the name is that
 pub text_test : (m n : List ℕ) → AreBytes m → AreBytes n → bytes_eq (name_text m) (name_text n) ≡ bytes_eq m n
 text_test m n small little = same_test (name_text m) (name_text n) m n (name_same m n small little) (ap name_text)
+
+-- ---- bytes that stand for themselves
+
+pub plain_text : (bytes : List ℕ) → list_all is_plain bytes ≡ true → name_text bytes ≡ bytes
+plain_text [] h = refl
+plain_text (b ∷ bytes) h =
+    let parts = and_parts (is_plain b) (list_all is_plain bytes) h in
+    rw parts.0 (ap (λ l. b ∷ l) (plain_text bytes parts.1))
+
+pub plain_are_bytes : (bytes : List ℕ) → list_all is_plain bytes ≡ true → AreBytes bytes
+plain_are_bytes [] h = tt
+plain_are_bytes (b ∷ bytes) h =
+    let parts = and_parts (is_plain b) (list_all is_plain bytes) h in
+    (is_byte b parts.0, plain_are_bytes bytes parts.1)
+  where
+    is_byte : (b : ℕ) → is_plain b ≡ true → b < 256
+    is_byte b plain = grind (arith, nat_tests)
+
+-- what isn't plain isn't among them
+pub plain_lack : (mark : ℕ) → is_plain mark ≡ false → (bytes : List ℕ) → list_all is_plain bytes ≡ true → list_any (λ b. b == mark) bytes ≡ false
+plain_lack mark odd [] h = refl
+plain_lack mark odd (b ∷ bytes) h =
+    let parts = and_parts (is_plain b) (list_all is_plain bytes) h in
+    or_from (b == mark) (list_any (λ b. b == mark) bytes) (ne_eqb b mark (λ e. false≢true (sym odd ∙ ap is_plain (sym e) ∙ parts.0))) (plain_lack mark odd bytes parts.1)

@@ -1,21 +1,21 @@
 -- Lemmas on texts that are looked through: what is known of a name's text, and of a path's, up to a place in it.
 use Rattle.std.proofs.Common.{◌≡◌, ℕ, ◌+◌, ◌<◌, ◌≤◌, ◌||◌, ◌==◌, List, [], ◌∷◌, ◌++◌, length, Bool, false}
-use Rattle.std.proofs.Common.{Option, None, sym, ap, ◌∙◌, subst, append_assoc, append-nil, length-append, arith}
-use Rattle.std.specs.List.{list_any}
+use Rattle.std.proofs.Common.{true, take, drop, take-append-drop, length-take-le, length-drop, refl, Option, None, sym, ap, ◌∙◌, subst, append_assoc, append-nil, length-append, arith}
+use Rattle.std.specs.List.{list_any, list_all}
 use Rattle.std.specs.Option.{option_or}
 use Rattle.std.specs.Str.{bytes_eq}
-use Rattle.std.proofs.lemmas.Bool.{ne_eqb}
+use Rattle.std.proofs.lemmas.Bool.{ne_eqb, or_from}
 use Rattle.std.proofs.lemmas.List.Concat.{flat_map-append}
 use Rattle.std.proofs.lemmas.List.Folds.{list_any-append}
 use Rattle.std.proofs.lemmas.List.Sums.{sum_by-append}
 use Rattle.eden_model.specs.Names.{is_no_name, name_refusal}
 use Rattle.eden_model.specs.Paths.{path_len, path_refusal}
 use Rattle.eden_model.specs.declared.errno.Errno.{Errno}
-use Rattle.eden_wire.specs.Names.{byte_text, name_text, path_text, IsComponent, AreBytes, SpellsName}
+use Rattle.eden_wire.specs.Names.{is_plain, byte_text, name_text, path_text, IsComponent, AreBytes, SpellsName}
 use Rattle.eden_wire.specs.Fields.{names_refusal}
 use Rattle.eden_wire.specs.Splits.{IsCutAt, IsPart}
 use Rattle.eden_wire.specs.Scans.{is_dots, refusal_by, ScansName, SpellsNoName}
-use Rattle.eden_wire.proofs.NameLemmas.{are_bytes-append, text_test, spells_nothing, name_same}
+use Rattle.eden_wire.proofs.NameLemmas.{plain_text, plain_are_bytes, plain_lack, are_bytes-append, text_test, spells_nothing, name_same}
 use Rattle.eden_wire.proofs.PathLemmas.{AreComponents, parts_text, parts-append, next_at, cut_parts, no_part}
 
 -- whether a `/` or a NUL stands among the bytes
@@ -37,6 +37,17 @@ bar_more p q r s = grind arith
 
 byte_some : (b : ℕ) (more : List ℕ) → 1 + length more ≤ length (byte_text b ++ more)
 byte_some b more = grind arith
+
+-- the bytes at the front stand for themselves
+pub plain_front : (text rest : List ℕ) (n : ℕ) → n ≤ length text → list_all is_plain (take n text) ≡ true → rest ≡ drop n text → NameSoFar text rest n false
+plain_front text rest n within plain rest_is = record {
+  done = take n text;
+  are_bytes = plain_are_bytes (take n text) plain;
+  whole = sym (take-append-drop n text) ∙ ap (λ l. take n text ++ l) (sym rest_is) ∙ ap (λ l. l ++ rest) (sym (plain_text (take n text) plain));
+  len_is = sym (length-take-le n text within);
+  barred_is = sym (or_from _ _ (plain_lack 47 refl (take n text) plain) (plain_lack 0 refl (take n text) plain));
+  fits = omega (arith, ap length rest_is, length-drop n text);
+}
 
 -- one byte more was looked through
 pub name_more : {text rest more : List ℕ} {len : ℕ} {barred bars : Bool} (b : ℕ) → NameSoFar text rest len barred → b < 256 → rest ≡ byte_text b ++ more

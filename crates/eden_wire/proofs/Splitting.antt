@@ -1,7 +1,7 @@
 -- Lemmas on bytes that are cut at a mark.
-use Rattle.std.proofs.Common.{◌≡◌, ◌≢◌, ℕ, ◌+◌, ◌<◌, ◌≤◌, List, ◌∷◌, ◌++◌, take, drop, length, suc, sym, ap, ◌∙◌, subst, append_assoc, take-append-drop, get_or, get_or-take, length-take-le, length-drop, drop-cons, arith}
+use Rattle.std.proofs.Common.{inl, inr, ◌≡◌, ◌≢◌, ℕ, ◌+◌, ◌<◌, ◌≤◌, List, ◌∷◌, ◌++◌, take, drop, length, suc, sym, ap, ◌∙◌, subst, append_assoc, take-append-drop, get_or, get_or-take, length-take-le, length-drop, drop-cons, arith}
 use Rattle.std.proofs.Math.Seq.{drop-length, take-add}
-use Rattle.std.proofs.lemmas.Bool.{eq-eqb, eqb-true}
+use Rattle.std.proofs.lemmas.Bool.{eq-eqb, eqb-true, cases_lt}
 use Rattle.std.proofs.lemmas.List.{drop-drop}
 use Rattle.std.proofs.lemmas.List.Elements.{All-from_get_or, recursion_from_All}
 use Rattle.memchr.specs.Find.{Nowhere, NoneBefore, Passes, is_byte}
@@ -37,6 +37,49 @@ whole_part mark bytes none = record {
   plain = front_lacks mark bytes (length bytes) (omega arith) (λ k low e. none k (omega arith) low (eq-eqb (get_or bytes k 0) mark e));
   cut = subst (IsCutAt mark) (sym (drop-length bytes)) tt;
 }
+
+-- a mark within the bytes that were looked at one by one, and none among all of them
+pub found_near : (mark : ℕ) (bytes : List ℕ) (i : ℕ) → i < length bytes → ((k : ℕ) → k < i → get_or bytes k 0 ≢ mark) → get_or bytes i 0 ≡ mark → IsFirstPart bytes mark i
+found_near mark bytes i inside before here = record {
+  within = omega arith;
+  plain = front_lacks mark bytes i (omega arith) before;
+  cut = subst (IsCutAt mark) (sym (drop-cons bytes i 0 inside)) here;
+}
+
+pub none_near : (mark : ℕ) (bytes : List ℕ) (i : ℕ) → length bytes ≤ i → ((k : ℕ) → k < i → get_or bytes k 0 ≢ mark) → IsFirstPart bytes mark (length bytes)
+none_near mark bytes i all before = record {
+  within = omega arith;
+  plain = front_lacks mark bytes (length bytes) (omega arith) (λ k low. before k (omega arith));
+  cut = subst (IsCutAt mark) (sym (drop-length bytes)) tt;
+}
+
+pub near_more : (mark : ℕ) (bytes : List ℕ) (i : ℕ) → ((k : ℕ) → k < i → get_or bytes k 0 ≢ mark) → get_or bytes i 0 ≢ mark → (k : ℕ) → k < i + 1 → get_or bytes k 0 ≢ mark
+near_more mark bytes i before here k low = elim (cases_lt k i) [
+  | inl below ↦ before k below
+  | inr top ↦ let e : i ≡ k = omega arith in subst (λ j. get_or bytes j 0 ≢ mark) e here
+]
+
+-- a part that ends behind the bytes that were looked at
+pub far_part : (mark : ℕ) (bytes slice : List ℕ) (s n : ℕ) → s ≤ length bytes → slice ≡ drop s bytes → ((k : ℕ) → k < s → get_or bytes k 0 ≢ mark) → IsFirstPart slice mark n
+    → IsFirstPart bytes mark (s + n)
+far_part mark bytes slice s n within e before part =
+    let size = ap length e in
+    let rest = length-drop s bytes in
+    let inside = part.within in
+    let front = front_lacks mark bytes s within before in
+    record {
+      within = omega arith;
+      plain = subst (Lacks mark) (sym (take-add s n bytes ∙ ap (λ l. take s bytes ++ take n l) (sym e))) (lacks-append mark (take s bytes) (take n slice) front part.plain);
+      cut = subst (IsCutAt mark) (ap (drop n) e ∙ drop-drop n s bytes ∙ ap (λ k. drop k bytes) (omega arith)) part.cut;
+    }
+
+pub far_none : (mark : ℕ) (bytes slice : List ℕ) (s : ℕ) → s ≤ length bytes → slice ≡ drop s bytes → ((k : ℕ) → k < s → get_or bytes k 0 ≢ mark)
+    → Nowhere (Passes (is_byte mark) slice) 0 (length slice) → IsFirstPart bytes mark (length bytes)
+far_none mark bytes slice s within e before none =
+    let size = ap length e in
+    let rest = length-drop s bytes in
+    let all : s + length slice ≡ length bytes = omega arith in
+    subst (IsFirstPart bytes mark) all (far_part mark bytes slice s (length slice) within e before (whole_part mark slice none))
 
 -- the first line feed, of which the first bytes were searched before
 pub line_none : (bytes slice : List ℕ) (s : ℕ) → slice ≡ drop s bytes → IsOneLine (take s bytes) → Nowhere (Passes (is_byte 10) slice) 0 (length slice) → IsOneLine bytes

@@ -9,5 +9,6 @@ pub mod Reading
 pub mod Serving
 pub mod Faults
 pub mod Splits
+pub mod Digits
 pub mod Scans
 pub mod Turns

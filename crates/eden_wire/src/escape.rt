@@ -1,4 +1,5 @@
-ghost use Rattle.std.specs.Prelude.{◌≡◌, ◌<◌, ◌++◌, List, [], ◌∷◌, ℕ, MatchOption};
+ghost use Rattle.std.specs.Prelude.{◌≡◌, ◌≤◌, ◌<◌, ◌++◌, List, [], ◌∷◌, ℕ, length, take, true, MatchOption};
+ghost use Rattle.std.specs.List.{list_all};
 ghost use Rattle.eden_wire.specs.Names.{is_plain, upper_digit, byte_text};
 
 /// Whether a byte of a name stands for itself: a letter, a digit, `.` or `_`.
@@ -6,6 +7,19 @@ fn is_plain(b: u8) -> bool
     ensures { result ≡ is_plain b }
 {
     matches!(b, b'0'..=b'9' | b'A'..=b'Z' | b'a'..=b'z' | b'.' | b'_')
+}
+
+/// How many bytes at the front stand for themselves.
+pub(crate) fn plain_len(text: &[u8]) -> usize
+    ensures within { result ≤ length text.now }
+    ensures plain { list_all is_plain (take result text.now) ≡ true }
+{
+    'bytes: for i in 0..text.len() {
+        if !is_plain(text[i]) {
+            return i;
+        }
+    }
+    text.len()
 }
 
 /// The digit's number, if it is one in upper case.

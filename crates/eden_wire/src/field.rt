@@ -3,8 +3,9 @@ ghost use Rattle.eden_wire.specs.Names.{AreBytes};
 ghost use Rattle.eden_wire.specs.Fields.{bit_text, hex_text};
 ghost use Rattle.eden_wire.specs.Fields.Field.{of_path, of_number, of_bit, of_data, of_after};
 ghost use Rattle.eden_wire.specs.declared.word.Sort.TheVariants as sort;
-ghost use Rattle.eden_wire.specs.Scans.{is_lower_digit, SpellsNo, Scans, SpellNoFields, ScansFields, SpellsData, NextIs, Takes};
+ghost use Rattle.eden_wire.specs.Scans.{SpellsNo, Scans, SpellNoFields, ScansFields, SpellsData, NextIs, Takes};
 
+use crate::hex_text::{are_digits, decode};
 use crate::name_text::{read_after, scan_after};
 use crate::number::read_number;
 use crate::path_text::{read_path, scan_path};
@@ -23,12 +24,6 @@ fn read_bit(text: &[u8]) -> Option<bool>
     }
 }
 
-fn is_lower_digit(b: u8) -> bool
-    ensures { result ≡ is_lower_digit b }
-{
-    matches!(b, b'0'..=b'9' | b'a'..=b'f')
-}
-
 /// Whether the text is `-`, or two lower-case digits a byte for at least one byte.
 fn is_data(text: &[u8]) -> bool
     ensures { MatchBool result (SpellsData text.now) ((bytes : List ℕ) → AreBytes bytes → text.now ≢ hex_text bytes) }
@@ -39,12 +34,7 @@ fn is_data(text: &[u8]) -> bool
     if text.is_empty() || text.len() % 2 != 0 {
         return false;
     }
-    'digits: for b in text {
-        if !is_lower_digit(*b) {
-            return false;
-        }
-    }
-    true
+    are_digits(text)
 }
 
 /// The bytes that the text spells. The only error is want of memory.
@@ -55,10 +45,9 @@ fn read_data(alloc: Global, text: &[u8]) -> Result<Bytes, AllocError>
     if text == b"-".as_slice() {
         return Ok(Bytes::new(Vec::new(alloc)));
     }
-    match hex::decode(alloc, text) {
-        Ok(bytes) => Ok(Bytes::new(bytes)),
-        Err(_) => Err(AllocError),
-    }
+    let mut bytes = Vec::from_elem(alloc, 0, text.len() / 2)?;
+    decode(text, bytes.as_mut_slice());
+    Ok(Bytes::new(bytes))
 }
 
 /// Looks through the text of a field, and says why it is refused; none where it spells no field of that sort.

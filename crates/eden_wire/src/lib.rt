@@ -7,6 +7,7 @@
 
 mod escape;
 mod field;
+mod hex_text;
 mod input;
 mod laws;
 mod name_text;

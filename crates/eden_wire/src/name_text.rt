@@ -1,9 +1,9 @@
-ghost use Rattle.std.specs.Prelude.{◌≡◌, ◌||◌, ◌==◌, MatchOption, IfOk};
-ghost use Rattle.eden_wire.specs.Names.{name_text, IsComponent, SpellsName};
+ghost use Rattle.std.specs.Prelude.{◌≡◌, ◌||◌, ◌==◌, ℕ, List, MatchOption, IfOk};
+ghost use Rattle.eden_wire.specs.Names.{name_text, AreBytes, IsComponent, SpellsName};
 ghost use Rattle.eden_wire.specs.Scans.{is_dots, refusal_by, ScansName, SpellsNoName, ScansAfter, SpellsAfter, SpellsNoAfter};
 ghost use Rattle.eden_wire.specs.Fields.{IsAfter, after_text};
 
-use crate::escape::first_byte;
+use crate::escape::{first_byte, plain_len};
 use eden_model::{Errno, Name};
 use percent_encoding::percent_decode;
 use std::alloc::{AllocError, Global};
@@ -48,9 +48,9 @@ pub(crate) fn scan_name(text: &[u8]) -> Option<ScannedName>
     if text.is_empty() {
         return None;
     }
-    let mut len = 0;
+    let mut len = plain_len(text);
     let mut barred = false;
-    let mut rest = text;
+    let mut rest = &text[len..];
     'bytes: while !rest.is_empty() {
         let (b, more) = first_byte(rest)?;
         barred = is_barred(barred, b);
@@ -61,14 +61,24 @@ pub(crate) fn scan_name(text: &[u8]) -> Option<ScannedName>
     Some(ScannedName { len, refusal })
 }
 
+// The bytes that the text spells. The only error is want of memory.
+fn spelled(alloc: Global, text: &[u8]) -> Result<Vec<u8>, AllocError>
+    ensures { IfOk result (λ v. (name : List ℕ) → AreBytes name → text.now ≡ name_text name → v.items ≡ name) }
+{
+    if plain_len(text) == text.len() {
+        return Vec::from_slice(alloc, text);
+    }
+    let mut bytes = Vec::new(alloc);
+    percent_decode(text).append_to(&mut bytes)?;
+    Ok(bytes)
+}
+
 /// The name that the text spells. The only error is want of memory.
 pub(crate) fn read_name(alloc: Global, text: &[u8]) -> Result<Name, AllocError>
     requires { SpellsName text.now }
     ensures { IfOk result (λ n. IsComponent n × (text.now ≡ name_text n)) }
 {
-    let mut bytes = Vec::new(alloc);
-    percent_decode(text).append_to(&mut bytes)?;
-    Ok(Name::new(bytes).unwrap())
+    Ok(Name::new(spelled(alloc, text)?).unwrap())
 }
 
 /// Looks through the field AFTER, and says why it is refused; none where it is neither `-` nor the text of a component.

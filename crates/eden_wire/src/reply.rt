@@ -1,10 +1,13 @@
-ghost use Rattle.std.specs.Prelude.{◌≡◌, ◌≤◌, ◌++◌, length, decimal, IfOk};
+ghost use Rattle.std.specs.Prelude.{◌≡◌, ◌≤◌, ◌++◌, length, codes, decimal};
+ghost use Rattle.eden_wire.specs.declared.reply.TheConstants.{PIECE};
 ghost use Rattle.std.specs.List.{flat_map};
 ghost use Rattle.hex.specs.Hex.{encode_lower};
 ghost use Rattle.eden_wire.specs.Writing.{Writes, Grows};
 ghost use Rattle.eden_wire.specs.Names.{name_text};
 ghost use Rattle.eden_wire.specs.Replies.{kind_word, data_field, entry_text, more_word, line_feed, kind_text, stat_text, count_text, data_text, entries_text, error_text, cause_word, fetch_text, fault_text, call_fault_text, history_text, foreign_text, start_fault_text, reply_text};
 
+use crate::escape::plain_len;
+use crate::hex_text::encode;
 use crate::output::{Output, WriteFailed};
 use eden_model::{CallFault, Cause, Entries, Errno, Fault, Id, Kind, Name, Reply, StartFault};
 use itoa::Buffer;
@@ -14,6 +17,9 @@ use std::io::Write;
 
 /// All but letters, digits, `.` and `_`.
 const ESCAPED: AsciiSet = ascii_set!(NON_ALPHANUMERIC.remove(b'.').remove(b'_'));
+
+// So many bytes are made hexadecimal at once.
+const PIECE: usize = 1024;
 
 // An escaped name of 255 bytes.
 const LONGEST_NAME: usize = 765;
@@ -42,58 +48,63 @@ fn put_number<W: Write>(output: &mut Output, writer: &mut W, n: u64)
 fn put_name<W: Write>(output: &mut Output, writer: &mut W, name: &[u8])
     ensures { Grows (W.contents writer.old) (W.contents writer.new) output.old output.new (name_text name.now) }
 {
+    if plain_len(name) == name.len() {
+        output.put(writer, name);
+        return;
+    }
     'pieces: for piece in percent_encode(name, ESCAPED) {
         output.put(writer, piece.as_bytes());
     }
 }
 
-// Two lower-case digits a byte, 256 bytes at a time.
+// Two lower-case digits a byte, 1,024 bytes at a time.
 fn put_hex<W: Write>(output: &mut Output, writer: &mut W, bytes: &[u8])
     ensures { Grows (W.contents writer.old) (W.contents writer.new) output.old output.new (encode_lower bytes.now) }
 {
     let mut rest = bytes;
     'pieces: while !rest.is_empty() {
-        let (piece, more) = rest.split_at(rest.len().min(256));
+        let (piece, more) = rest.split_at(rest.len().min(PIECE));
         put_piece(output, writer, piece);
         rest = more;
     }
 }
 
 fn put_piece<W: Write>(output: &mut Output, writer: &mut W, piece: &[u8])
-    requires { length piece.now ≤ 256 }
+    requires { length piece.now ≤ PIECE }
     ensures { Grows (W.contents writer.old) (W.contents writer.new) output.old output.new (encode_lower piece.now) }
 {
-    let mut digits = [0; 512];
+    let mut digits = [0; 2 * PIECE];
     let text = &mut digits[..2 * piece.len()];
-    hex::encode_to_slice(piece, text).unwrap();
+    encode(piece, text);
     output.put(writer, text);
 }
 
-fn put_kind_word<W: Write>(output: &mut Output, writer: &mut W, kind: Kind)
-    ensures { Grows (W.contents writer.old) (W.contents writer.new) output.old output.new (kind_word kind) }
+fn kind_line(kind: Kind) -> &'static [u8]
+    ensures { result.now ≡ kind_text kind }
 {
     match kind {
-        Kind::File => output.put(writer, b"file"),
-        Kind::Exec => output.put(writer, b"exec"),
-        Kind::Link => output.put(writer, b"link"),
-        Kind::Dir => output.put(writer, b"dir"),
+        Kind::File => b"kind file\n",
+        Kind::Exec => b"kind exec\n",
+        Kind::Link => b"kind link\n",
+        Kind::Dir => b"kind dir\n",
     }
 }
 
-fn put_kind<W: Write>(output: &mut Output, writer: &mut W, kind: Kind)
-    ensures { Grows (W.contents writer.old) (W.contents writer.new) output.old output.new (kind_text kind) }
+fn stat_front(kind: Kind) -> &'static [u8]
+    ensures { result.now ≡ codes "stat " ++ kind_word kind ++ codes " " }
 {
-    output.put(writer, b"kind ");
-    put_kind_word(output, writer, kind);
-    output.put(writer, b"\n");
+    match kind {
+        Kind::File => b"stat file ",
+        Kind::Exec => b"stat exec ",
+        Kind::Link => b"stat link ",
+        Kind::Dir => b"stat dir ",
+    }
 }
 
 fn put_stat<W: Write>(output: &mut Output, writer: &mut W, kind: Kind, size: u64)
     ensures { Grows (W.contents writer.old) (W.contents writer.new) output.old output.new (stat_text kind size) }
 {
-    output.put(writer, b"stat ");
-    put_kind_word(output, writer, kind);
-    output.put(writer, b" ");
+    output.put(writer, stat_front(kind));
     put_number(output, writer, size);
     output.put(writer, b"\n");
 }
@@ -126,13 +137,22 @@ fn put_data<W: Write>(output: &mut Output, writer: &mut W, bytes: &[u8])
     output.put(writer, b"\n");
 }
 
+fn entry_front(kind: Kind) -> &'static [u8]
+    ensures { result.now ≡ codes " " ++ kind_word kind ++ codes " " }
+{
+    match kind {
+        Kind::File => b" file ",
+        Kind::Exec => b" exec ",
+        Kind::Link => b" link ",
+        Kind::Dir => b" dir ",
+    }
+}
+
 fn put_entry<W: Write>(output: &mut Output, writer: &mut W, entry: &(Name, Kind))
     ensures { Grows (W.contents writer.old) (W.contents writer.new) output.old output.new (entry_text entry.now) }
 {
     let (name, kind) = entry;
-    output.put(writer, b" ");
-    put_kind_word(output, writer, *kind);
-    output.put(writer, b" ");
+    output.put(writer, entry_front(*kind));
     put_name(output, writer, name.as_slice());
 }
 
@@ -204,11 +224,19 @@ fn cause_line(cause: Cause) -> &'static [u8]
     }
 }
 
+fn put_id<W: Write>(output: &mut Output, writer: &mut W, id: Id)
+    ensures { Grows (W.contents writer.old) (W.contents writer.new) output.old output.new (encode_lower id.bytes) }
+{
+    let mut digits = [0; 40];
+    hex::encode_to_slice(&id.bytes, &mut digits).unwrap();
+    output.put(writer, &digits);
+}
+
 fn put_fetch<W: Write>(output: &mut Output, writer: &mut W, id: Id, cause: Cause)
     ensures { Grows (W.contents writer.old) (W.contents writer.new) output.old output.new (fetch_text id.bytes cause) }
 {
     output.put(writer, b"fault fetch ");
-    put_piece(output, writer, &id.bytes);
+    put_id(output, writer, id);
     output.put(writer, b" ");
     output.put(writer, cause_line(cause));
 }
@@ -270,7 +298,7 @@ pub(crate) fn put_reply<W: Write>(output: &mut Output, writer: &mut W, reply: &R
 {
     match reply {
         Reply::Ok => output.put(writer, b"ok\n"),
-        Reply::Kind(kind) => put_kind(output, writer, *kind),
+        Reply::Kind(kind) => output.put(writer, kind_line(*kind)),
         Reply::Stat(kind, size) => put_stat(output, writer, *kind, *size),
         Reply::Data(bytes) => put_data(output, writer, bytes.as_slice()),
         Reply::Count(count) => put_count(output, writer, *count),

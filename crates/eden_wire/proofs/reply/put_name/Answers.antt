@@ -2,6 +2,7 @@ use Rattle.std.proofs.Common.{◌<◌, ◌++◌, [], sym, ap, ◌∙◌, append_
 use Rattle.std.proofs.lemmas.List.Elements.{All-from_get_or, recursion_from_All}
 use Rattle.percent_encoding.specs.Iter.{encoded_text}
 use Rattle.eden_wire.proofs.Escapes.{escape_is}
+use Rattle.eden_wire.proofs.Decoding.{stand}
 use Rattle.eden_wire.proofs.Growing.{grows_none, grows_then, grows_as}
 use Rattle.eden_wire.proofs.reply.put_name.Goals as goal
 
@@ -18,5 +19,8 @@ pieces-preserved g c =
       so.0 ++ piece,
       so.1 ∙ ap (λ l. so.0 ++ l) c.in-Some.ensures.steps ∙ sym (append_assoc so.0 piece (encoded_text c.next.new.self)),
       grows_then so.2
-          (grows_as c.as_bytes.ensures.value c.put.ensures),
+          (grows_as c.as_bytes.ensures.value c.put-in-pieces.ensures),
     )
+
+pub returns-then-plain_len-name : goal.returns-then-plain_len-name
+returns-then-plain_len-name g c = grows_as (sym (stand c.args.name.now c.plain_len.result c.if-plain_len-name.true c.plain_len.ensures.plain)) c.put.ensures
