@@ -1,0 +1,61 @@
+// The header of a framed object.
+ghost use Rattle.std.specs.Prelude.{◌≡◌, ◌≤◌, ◌^◌, ◌++◌, length, OnOk, IfOk, IfErr};
+ghost use Rattle.eden_object.specs.Frames.{word_text};
+ghost use Rattle.eden_git.specs.Framing as spec;
+ghost use Rattle.eden_git.specs.Framing.{IsReadingCause};
+
+use eden_model::Cause;
+use eden_object::Word;
+use itoa::Buffer;
+use std::alloc::AllocError;
+use std::str;
+
+/// The most bytes that a body may have.
+pub(crate) const BODY_MOST: usize = 1 << 30;
+
+const WORDS: [Word; 4] = [Word::Blob, Word::Tree, Word::Commit, Word::Tag];
+
+pub(crate) fn text_of(word: Word) -> &'static [u8]
+    ensures { result.now ≡ word_text word }
+{
+    match word {
+        Word::Blob => b"blob",
+        Word::Tree => b"tree",
+        Word::Commit => b"commit",
+        Word::Tag => b"tag",
+    }
+}
+
+/// Appends the header of an object of that word, whose body has so many bytes.
+pub(crate) fn push_header(framed: &mut Vec<u8>, word: Word, size: usize) -> Result<(), AllocError>
+    ensures { OnOk result (framed.new.items ≡ framed.old.items ++ spec.header word size) }
+{
+    framed.extend_from_slice(text_of(word))?;
+    framed.push(b' ')?;
+    framed.extend_from_slice(Buffer::new().format(size).as_bytes())?;
+    framed.push(0)?;
+    Ok(())
+}
+
+/// What an object's first bytes say of its word and its body's size, within the limit. The number is read leniently.
+pub(crate) fn read_header(front: &[u8]) -> Result<(Word, usize), Cause>
+    ensures short { IfOk result (λ head. head.1 ≤ 2 ^ 30) }
+    ensures causes { IfErr result IsReadingCause }
+{
+    let word = WORDS
+        .into_iter()
+        .find(|word| front.starts_with(text_of(*word)))
+        .ok_or(Cause::Device)?;
+    let size = read_size(&front[text_of(word).len()..]).ok_or(Cause::Device)?;
+    if size > BODY_MOST {
+        return Err(Cause::TooLarge);
+    }
+    Ok((word, size))
+}
+
+// The number behind the space and before the NUL.
+fn read_size(text: &[u8]) -> Option<usize> {
+    let number = text.strip_prefix(b" ")?;
+    let end = number.iter().position(|byte| *byte == 0)?;
+    str::from_utf8(&number[..end]).ok()?.parse::<usize>().ok()
+}
