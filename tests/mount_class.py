@@ -77,9 +77,9 @@ class MountedCommit:
 @contextlib.contextmanager
 def over_git(repository: pathlib.Path, overlay: pathlib.Path, *options: object) -> Iterator[MountedCommit]:
     """A commit of a Git repository, whose objects are fetched as they are touched."""
-    with listening([GIT_OBJECTS, repository], stderr=subprocess.DEVNULL) as (_, port):
+    with listening([GIT_OBJECTS, repository], stderr=subprocess.DEVNULL) as (_, address):
         root = git(repository, "rev-parse", "HEAD^{tree}")
-        with MountedCommit(root, ["--remote", port], overlay, *options) as mount:
+        with MountedCommit(root, ["--remote", address], overlay, *options) as mount:
             yield mount
 
 
@@ -354,8 +354,8 @@ def check_slow_fetch(folder: pathlib.Path) -> None:
     """While a server of objects stands still, whoever needs none of it is answered, and then the others are."""
     repository = make_repository(folder)
     root = git(repository, "rev-parse", "HEAD^{tree}")
-    with listening([GIT_OBJECTS, repository], stderr=subprocess.DEVNULL) as (server, port):
-        with MountedCommit(root, ["--remote", port], folder / "overlay") as mount:
+    with listening([GIT_OBJECTS, repository], stderr=subprocess.DEVNULL) as (server, address):
+        with MountedCommit(root, ["--remote", address], folder / "overlay") as mount:
             place = FileSystem(mount.operations)
             seen: list[bytes] = []
             check("slow: before", place.read((b"plain.txt",), 0, 100), b"plain\n")
@@ -394,8 +394,8 @@ class Large:
 def check_laziness(folder: pathlib.Path, large: Large) -> None:
     """Of 50,000 files one file costs the objects on its path, and a look through a folder that folder's."""
     log = folder / "log of the large"
-    with open(log, "wb") as errors, listening([GIT_OBJECTS, large.repository, "--log"], stderr=errors) as (_, port):
-        with MountedCommit(large.root, ["--remote", port], folder / "overlay of the large", *ALL_KEPT) as mount:
+    with open(log, "wb") as errors, listening([GIT_OBJECTS, large.repository, "--log"], stderr=errors) as (_, address):
+        with MountedCommit(large.root, ["--remote", address], folder / "overlay of the large", *ALL_KEPT) as mount:
             place = FileSystem(mount.operations)
             check("lazy: a deep file", place.read(large.path, 0, 1_000), large.content)
             check("lazy: what one file costs", asked_for(log), sorted(large.deep))
@@ -420,8 +420,8 @@ def check_partial_clones(folder: pathlib.Path) -> None:
     for objects, most in MOST_QUESTIONS.items():
         clone = Clone(repository, folder / objects, objects)
         words = [GIT_OBJECTS, "--tree", root, clone.path]
-        with listening(words, stderr=subprocess.DEVNULL) as (server, port):
-            with MountedCommit(root, ["--remote", port], folder / f"overlay of {objects}", *ALL_KEPT) as mount:
+        with listening(words, stderr=subprocess.DEVNULL) as (server, address):
+            with MountedCommit(root, ["--remote", address], folder / f"overlay of {objects}", *ALL_KEPT) as mount:
                 seen = shown(FileSystem(mount.operations), tuple(FOLDER.encode().split(b"/")))
                 check(f"{objects}: what is shown", sum(node[0] == "file" for node in seen.values()), len(blobs))
                 check(f"{objects}: the end", (mount.close(), mount.said), (None, []))

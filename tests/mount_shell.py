@@ -10,6 +10,7 @@ from collections.abc import Iterator, Sequence
 from checks import PATIENCE, check, ending_of, git, make_repository
 from helpers.running import Process
 from programs import GIT_OBJECTS, MOUNTD, SAMPLE_OBJECTS, SAMPLE_ROOT, SHELL, listening
+from yakembi.addresses import Address
 
 STRICT = {**os.environ, "PYTHONIOENCODING": "utf-8:strict"}
 MARKS = {b"100644": b"", b"100755": b"*", b"120000": b"@", b"040000": b"/", b"160000": b"/"}
@@ -55,13 +56,13 @@ def content(repository: pathlib.Path, path: str) -> bytes:
 
 
 @contextlib.contextmanager
-def served(repository: pathlib.Path) -> Iterator[tuple[Process, int]]:
-    """The port of a mount for one session, and its process."""
+def served(repository: pathlib.Path, at: Sequence[object] | None = None) -> Iterator[tuple[Process, Address]]:
+    """The address of a mount for one session, and its process."""
     root = git(repository, "rev-parse", "HEAD^{tree}")
     with listening([GIT_OBJECTS, repository], stderr=subprocess.DEVNULL) as (_, objects):
-        words = ["serve", "--root", root, "--remote", objects, "--port", 0, "--sessions", 1]
-        with listening([MOUNTD, *words], stderr=subprocess.PIPE) as (process, port):
-            yield process, port
+        words = ["serve", "--root", root, "--remote", objects, "--sessions", 1]
+        with listening([MOUNTD, *words], at, stderr=subprocess.PIPE) as (process, address):
+            yield process, address
 
 
 def check_shell(folder: pathlib.Path) -> None:
@@ -70,13 +71,14 @@ def check_shell(folder: pathlib.Path) -> None:
     with listening([GIT_OBJECTS, repository], stderr=subprocess.DEVNULL) as (_, objects):
         words = [MOUNTD, "stdio", "--root", git(repository, "rev-parse", "HEAD^{tree}"), "--remote", objects]
         check_looks("shell on a program", words, repository)
-    with served(repository) as (process, port):
-        check_looks("shell on a port", [port], repository)
-        check("shell on a port: the end of mountd", ending_of(process), (0, b"", b""))
-    with served(repository) as (process, port):
-        check_changes([port], folder)
-    with served(repository) as (process, port):
-        check_refusals([port])
+    for name, at in [("shell on a port", ["--port", 0]), ("shell on a socket", None)]:
+        with served(repository, at) as (process, address):
+            check_looks(name, [address], repository)
+            check(f"{name}: the end of mountd", ending_of(process), (0, b"", b""))
+    with served(repository) as (process, address):
+        check_changes([address], folder)
+    with served(repository) as (process, address):
+        check_refusals([address])
     check("shell: no such port", shell([1], b"ls")[0], 1)
     check("shell: no such program", shell([folder / "nothing"], b"ls")[0], 1)
 

@@ -1,15 +1,15 @@
 """A client of an object server."""
 
 import hashlib
-import socket
 
 import paths  # before what stands in scripts/
 from helpers.running import PATIENCE
+from yakembi.addresses import Address, connected
 
 
 class ObjectClient:
-    def __init__(self, port: int) -> None:
-        self.socket = socket.create_connection(("127.0.0.1", port), timeout=PATIENCE)
+    def __init__(self, address: Address) -> None:
+        self.socket = connected(address, PATIENCE)
         self.file = self.socket.makefile("rwb")
 
     def get(self, line: bytes) -> bytes:

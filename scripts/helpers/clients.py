@@ -2,7 +2,6 @@
 
 import contextlib
 import select
-import socket
 import subprocess
 import threading
 import time
@@ -11,6 +10,7 @@ from typing import Any
 
 from helpers.programs import MOUNTD
 from helpers.running import PATIENCE, Ending, Process, ending_of
+from yakembi.addresses import Address, connected, socket_path, told
 
 # How long a whole run may take, in seconds.
 LONGEST_RUN = 300
@@ -21,13 +21,8 @@ ENDED = b"(the session ended)"
 class Client:
     """One session over a socket."""
 
-    def __init__(self, port: int, receive_bytes: int | None = None) -> None:
-        self.socket = socket.socket()
-        if receive_bytes is not None:
-            self.socket.setsockopt(socket.SOL_SOCKET, socket.SO_RCVBUF, receive_bytes)
-        self.socket.settimeout(PATIENCE)
-        self.socket.connect(("127.0.0.1", port))
-        self.socket.setsockopt(socket.IPPROTO_TCP, socket.TCP_NODELAY, 1)
+    def __init__(self, address: Address) -> None:
+        self.socket = connected(address, PATIENCE)
         self.heard = bytearray()
 
     def send(self, *lines: bytes) -> None:
@@ -79,20 +74,20 @@ def start_serve(*words: object, before: Sequence[object] = (), **more: Any) -> P
 class Service:
     """A run of `mountd serve` that takes so many seconds at most, and its clients."""
 
-    def __init__(self, root: str, source: Sequence[object], *more: object, before: Sequence[object] = (),
-                 longest: float = LONGEST_RUN) -> None:
-        self.process = start_serve("--root", root, *source, "--port", 0, *more, before=before)
+    def __init__(self, root: str, source: Sequence[object], *more: object, at: Sequence[object],
+                 before: Sequence[object] = (), longest: float = LONGEST_RUN) -> None:
+        self.process = start_serve("--root", root, *source, *at, *more, before=before)
         self.alarm = threading.Timer(longest, self.process.kill)
         self.alarm.daemon = True
         self.alarm.start()
         assert self.process.stdout is not None
         line = self.process.stdout.readline().decode()
-        if not line.startswith("listening 127.0.0.1:"):
-            raise SystemExit(f"mountd serve said {line!r}, and then {self.end()}")
-        self.port = int(line.rsplit(":", 1)[1])
+        if not line:
+            raise SystemExit(f"mountd serve said nothing, and then {self.end()}")
+        self.address = told(line)
 
-    def client(self, **more: Any) -> Client:
-        return Client(self.port, **more)
+    def client(self) -> Client:
+        return Client(self.address)
 
     def clients(self, count: int) -> list[Client]:
         return [self.client() for _ in range(count)]
@@ -110,11 +105,13 @@ class Service:
 
 
 @contextlib.contextmanager
-def serving(root: str, source: Sequence[object], *more: object, before: Sequence[object] = (),
-            longest: float = LONGEST_RUN) -> Iterator[Service]:
-    """A run of `mountd serve` that is over with the block."""
-    service = Service(root, source, *more, before=before, longest=longest)
-    try:
-        yield service
-    finally:
-        service.kill()
+def serving(root: str, source: Sequence[object], *more: object, at: Sequence[object] | None = None,
+            before: Sequence[object] = (), longest: float = LONGEST_RUN) -> Iterator[Service]:
+    """A run of `mountd serve` that is over with the block: at a socket of its own, unless `at` says where."""
+    with socket_path() as path:
+        at = ["--socket", path] if at is None else at
+        service = Service(root, source, *more, at=at, before=before, longest=longest)
+        try:
+            yield service
+        finally:
+            service.kill()

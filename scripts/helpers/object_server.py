@@ -3,11 +3,12 @@
 import contextlib
 import hashlib
 import pathlib
-import socketserver
 import threading
 import time
 from collections.abc import Callable, Iterator
 from contextlib import AbstractContextManager
+
+from yakembi.addresses import Address, AddressServer, ConnectionHandler, socket_path
 
 # How long an object is held back at most, in seconds: mountd takes 30 of silence for a failure.
 LONGEST_HELD = 25
@@ -21,34 +22,38 @@ def blob_id(content: bytes) -> str:
     return hashlib.sha1(b"blob %d\0" % len(content) + content).hexdigest()
 
 
-class Answers(socketserver.ThreadingTCPServer):
-    """A server on this machine."""
+class Answers:
+    """A server on this machine. What it answers may be changed meanwhile."""
 
-    allow_reuse_address = True
-    daemon_threads = True
-
-    def __init__(self, answer: Answer, port: int = 0) -> None:
+    def __init__(self, answer: Answer) -> None:
         self.answer: Answer = answer
-        super().__init__(("127.0.0.1", port), Connection)
 
     @contextlib.contextmanager
-    def served(self) -> Iterator[int]:
-        threading.Thread(target=self.serve_forever, args=(0.01,), daemon=True).start()
-        try:
-            yield self.server_address[1]
-        finally:
-            self.shutdown()
-            self.server_close()
+    def served(self) -> Iterator[Address]:
+        """Its address, which nobody else can reach."""
+        with socket_path() as path:
+            server = Server(path, self)
+            threading.Thread(target=server.serve_forever, args=(0.01,), daemon=True).start()
+            try:
+                yield path
+            finally:
+                server.shutdown()
+                server.server_close()
 
 
-class Connection(socketserver.StreamRequestHandler):
-    disable_nagle_algorithm = True
-    server: Answers
+class Server(AddressServer):
+    def __init__(self, path: str, answers: Answers) -> None:
+        self.answers = answers
+        super().__init__(path, Connection)
+
+
+class Connection(ConnectionHandler):
+    server: Server
 
     def handle(self) -> None:
         with contextlib.suppress(ConnectionError):
             while line := self.rfile.readline(64):
-                answer, goes_on = self.server.answer(line[4:-1].decode())
+                answer, goes_on = self.server.answers.answer(line[4:-1].decode())
                 self.wfile.write(answer)
                 if not goes_on:
                     return
@@ -66,7 +71,7 @@ class Stored:
         self.held: dict[str, threading.Event] = {}
         self.lock = threading.Lock()
 
-    def served(self) -> AbstractContextManager[int]:
+    def served(self) -> AbstractContextManager[Address]:
         return Answers(self.answer).served()
 
     def hold(self, object_id: str) -> threading.Event:

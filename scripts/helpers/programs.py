@@ -11,6 +11,7 @@ from collections.abc import Iterator, Sequence
 from typing import Any
 
 from helpers.running import Process, watched
+from yakembi.addresses import Address, socket_path, told
 
 TOP = pathlib.Path(__file__).resolve().parents[2]
 BUILT = TOP / "crates/mountd/out/mountd"
@@ -25,14 +26,17 @@ SAMPLE_OBJECTS = EXAMPLES / "objects"
 
 
 @contextlib.contextmanager
-def listening(words: Sequence[object], **more: Any) -> Iterator[tuple[Process, int]]:
-    """A program that serves a port which it prints, and the port."""
-    process = subprocess.Popen([str(word) for word in words], stdout=subprocess.PIPE, **more)
-    try:
-        with watched(process):
-            assert process.stdout is not None
-            line = process.stdout.readline().decode()
-        yield process, int(line.rsplit(":", 1)[1])
-    finally:
-        process.kill()
-        process.communicate()
+def listening(words: Sequence[object], at: Sequence[object] | None = None,
+              **more: Any) -> Iterator[tuple[Process, Address]]:
+    """A server, and the address that it prints: a socket that nobody else can reach, unless `at` says another."""
+    with socket_path() as path:
+        texts = [str(word) for word in [*words, *(["--socket", path] if at is None else at)]]
+        process = subprocess.Popen(texts, stdout=subprocess.PIPE, **more)
+        try:
+            with watched(process):
+                assert process.stdout is not None
+                line = process.stdout.readline().decode()
+            yield process, told(line)
+        finally:
+            process.kill()
+            process.communicate()

@@ -2,7 +2,7 @@
 
     from yakembi import client
 
-    with client.connect(4711) as session:        # the port that `mountd serve` told
+    with client.connect(4711) as session:        # the port that `mountd serve` told, or its socket's path
         session.write(b"/src/new.txt", 0, b"text")
         for name, kind in session.entries(b"/src"):
             print(name, kind)
@@ -23,12 +23,13 @@ import errno
 import functools
 import os
 import re
-import socket
 import subprocess
 import time
 from collections.abc import Callable, Iterator, Sequence
 from typing import Any, BinaryIO, NamedTuple, Self, cast
 from urllib.parse import unquote_to_bytes
+
+from yakembi.addresses import Address, connected
 
 LONGEST_NAME = 255
 MOST_NAMES = 256
@@ -318,10 +319,9 @@ class Session(Requests):
         return self.end()
 
 
-def connect(port: int) -> Session:
-    """A session with the `mountd serve` that listens on this port."""
-    connection = socket.create_connection(("127.0.0.1", port))
-    connection.setsockopt(socket.IPPROTO_TCP, socket.TCP_NODELAY, 1)
+def connect(address: Address) -> Session:
+    """A session with the `mountd serve` that listens at this port, or at the socket of this path."""
+    connection = connected(address)
     reader, writer = connection.makefile("rb", BUFFER), connection.makefile("wb")
     return Session(cast(BinaryIO, reader), cast(BinaryIO, writer), connection.close)
 

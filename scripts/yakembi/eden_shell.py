@@ -1,6 +1,6 @@
 """A small shell on a mount.
 
-    eden-shell PORT                     on the `mountd serve` that listens there
+    eden-shell PORT|SOCKET              on the `mountd serve` that listens at the port, or at the socket of that path
     eden-shell PROGRAM [WORD ..]        on a session with a program, as `mountd stdio --root ID --objects DIR`
 
 Commands come from standard input, one a line, with quotes as in a shell; a line that begins with # is passed over.
@@ -19,6 +19,7 @@ from collections.abc import Iterable
 from typing import Any
 
 from yakembi import client
+from yakembi.addresses import is_socket
 from yakembi.client import DIR, EXEC, FILE, LINK, LONGEST_DATA, Session
 
 WORDS = {
@@ -262,9 +263,9 @@ def joined(names: Iterable[bytes]) -> bytes:
 
 
 def session_with(mount: str, words: list[str]) -> Session:
-    """A session on a port, or with a program that the terminal's Ctrl-C doesn't reach."""
-    if mount.isdigit() and not words:
-        return client.connect(int(mount))
+    """A session on a port or a socket, or with a program that the terminal's Ctrl-C doesn't reach."""
+    if not words and (mount.isdigit() or is_socket(mount)):
+        return client.connect(int(mount) if mount.isdigit() else mount)
     return client.start([mount, *words], start_new_session=True)
 
 
@@ -280,7 +281,7 @@ def complete_whole_paths() -> None:
 def parser() -> argparse.ArgumentParser:
     found = argparse.ArgumentParser(prog="eden-shell", description=__doc__,
                                     formatter_class=argparse.RawDescriptionHelpFormatter)
-    found.add_argument("mount", metavar="PORT|PROGRAM")
+    found.add_argument("mount", metavar="PORT|SOCKET|PROGRAM")
     found.add_argument("words", metavar="WORD", nargs=argparse.REMAINDER)
     return found
 

@@ -1,4 +1,4 @@
-"""Serves the trees, blobs and links of a Git repository, as they are asked for, on a port of 127.0.0.1.
+"""Serves the trees, blobs and links of a Git repository, as they are asked for.
 
 What a partial clone lacks is fetched from its remote, many objects at once. With a tree its subtrees come along; once
 files of one folder are asked for one after another its other files; and once folders are gone through side by side what
@@ -6,20 +6,22 @@ lies behind them: each time up to so many bytes (--ahead).
 
 A client sends `get ID` and a line feed, ID being 40 lower-case hexadecimal digits, and is answered `object N`, a line
 feed and the N framed bytes; `missing`; or `fault` where Git can't read the object or it is over 2^30 bytes. Another
-line ends the connection. The first line printed is `listening 127.0.0.1:PORT`. Connections are served side by side.
+line ends the connection. The first line printed is `listening 127.0.0.1:PORT`, or `listening PATH` with --socket.
+Connections are served side by side.
 
-Every user of this machine can reach the port, and read every object of the repository through it.
+Every user of this machine can reach the port, and read every object of the repository through it. A socket is this
+user's alone.
 """
 
 import argparse
 import os
 import re
 import signal
-import socketserver
 import sys
 import threading
 from collections.abc import Iterable
 
+from yakembi.addresses import AddressServer, ConnectionHandler
 from yakembi.git import Objects, Refusal, Repository, framed
 from yakembi.partial_clone import AHEAD, SILENCE, PartialClone, Unreachable
 
@@ -39,10 +41,9 @@ def tell(text: str) -> None:
     sys.stderr.flush()
 
 
-class ClientConnection(socketserver.StreamRequestHandler):
+class ClientConnection(ConnectionHandler):
     """One connection, and one `git cat-file` behind it."""
 
-    disable_nagle_algorithm = True
     wbufsize = 1 << 16
     server: "Server"
 
@@ -124,15 +125,12 @@ class ClientConnection(socketserver.StreamRequestHandler):
         return pieces
 
 
-class Server(socketserver.ThreadingTCPServer):
-    allow_reuse_address = True
-    daemon_threads = True
-
+class Server(AddressServer):
     def __init__(self, words: argparse.Namespace) -> None:
         self.repository = Repository(words.repository)
         self.log: bool = words.log
         self.clone = clone_of(self.repository, words)
-        super().__init__(("127.0.0.1", words.port), ClientConnection)
+        super().__init__(words.port if words.socket is None else words.socket, ClientConnection)
 
     def objects(self) -> Objects:
         return self.repository.objects() if self.clone is None else self.clone.objects()
@@ -194,7 +192,9 @@ def parser() -> argparse.ArgumentParser:
     found = argparse.ArgumentParser(prog="git-objects", description=__doc__,
                                     formatter_class=argparse.RawDescriptionHelpFormatter)
     found.add_argument("repository", metavar="REPO")
-    found.add_argument("--port", type=port_number, default=0, help="0, the default, lets the machine choose")
+    address = found.add_mutually_exclusive_group()
+    address.add_argument("--port", type=port_number, default=0, help="0, the default, lets the machine choose")
+    address.add_argument("--socket", metavar="PATH", help="a socket for this user alone, in the place of --port")
     found.add_argument("--tree", metavar="ID", type=tree_id, help="the id of the tree that is shown, if it is known")
     found.add_argument("--ahead", metavar="BYTES", type=number_of_bytes, default=AHEAD,
                        help=f"fetch at most so many bytes before they are asked for; 0: none; {AHEAD} if left out")
@@ -217,7 +217,7 @@ def main() -> int:
         signal.signal(number, lambda *_: threading.Thread(target=server.shutdown).start())
     if words.with_input:
         threading.Thread(target=end_with_input, args=(server,), daemon=True).start()
-    print("listening 127.0.0.1:%d" % server.server_address[1], flush=True)
+    print(server.says(), flush=True)
     server.serve_forever(POLL)
     server.server_close()
     return 0

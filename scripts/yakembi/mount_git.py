@@ -21,6 +21,7 @@ import tempfile
 import time
 from collections.abc import Callable, Iterator
 
+from yakembi.addresses import socket_path
 from yakembi.git import Refusal, Repository, last_line
 from yakembi.git_objects import number_of_bytes
 from yakembi.operations import Mount, MountOperations, tell
@@ -154,17 +155,16 @@ def tree_to_show(repository: Repository, revision: str, overlay: OverlayFolder) 
 
 
 @contextlib.contextmanager
-def objects_of(repository: str, root: str, ahead: int, log: bool) -> Iterator[int]:
-    """The port of a git-objects that ends with us, whatever ends us: its input does."""
-    options = ["--with-input", "--tree", root, "--ahead", str(ahead), *(["--log"] if log else [])]
+def objects_at(path: str, repository: str, root: str, ahead: int, log: bool) -> Iterator[str]:
+    """The socket of a git-objects that ends with us, whatever ends us: its input does."""
+    options = ["--socket", path, "--with-input", "--tree", root, "--ahead", str(ahead), *(["--log"] if log else [])]
     words = [sys.executable, str(SCRIPTS / "git-objects"), *options, "--", repository]
     child = subprocess.Popen(words, stdin=subprocess.PIPE, stdout=subprocess.PIPE, start_new_session=True)
     assert child.stdin is not None and child.stdout is not None
     try:
-        listening = child.stdout.readline().decode()
-        if not listening:
+        if not child.stdout.readline():
             raise Refusal("git-objects ended before it served")
-        yield int(listening.rsplit(":", 1)[1])
+        yield path
     finally:
         # It ends what it has started; where that takes too long it is ended as it stands.
         child.stdin.close()
@@ -224,8 +224,8 @@ def run(words: argparse.Namespace) -> None:
     check_apart(words.overlay, folder)
     with overlay_at(words.overlay) as overlay:
         root, seconds = tree_to_show(repository, words.revision, overlay)
-        with objects_of(words.repository, root, words.ahead, words.log) as port:
-            program = Serving(words.mountd, root, ["--remote", port], overlay.path,
+        with socket_path() as path, objects_at(path, words.repository, root, words.ahead, words.log) as server:
+            program = Serving(words.mountd, root, ["--remote", server], overlay.path,
                               more=["--cache-entries", CACHE_ENTRIES])
             pool = pool_over(program, overlay.path)
             try:

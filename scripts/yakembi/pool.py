@@ -10,6 +10,7 @@ from collections.abc import Sequence
 from typing import Protocol
 
 from yakembi import client
+from yakembi.addresses import socket_path
 from yakembi.client import Fields, Session, SessionEnded
 
 SESSIONS = 8
@@ -69,11 +70,11 @@ class Serving:
     def __init__(self, mountd: str | os.PathLike[str], root: str, source: Sequence[object],
                  overlay: str | os.PathLike[str], more: Sequence[object] = (), sessions: int = SESSIONS,
                  fetchers: int = FETCHERS) -> None:
-        """`source` is `["--remote", PORT]` or `["--objects", FOLDER]`, `more` are further options of mountd."""
+        """`source` is `["--remote", ADDRESS]` or `["--objects", FOLDER]`, `more` are further options of mountd."""
         self.mountd = os.fspath(mountd)
         self.sessions = sessions
-        words = ["--root", root, *source, "--overlay", os.fspath(overlay), "--history", "none", "--port", 0,
-                 "--sessions", sessions, "--fetchers", fetchers, *more]
+        words = ["--root", root, *source, "--overlay", os.fspath(overlay), "--history", "none", "--sessions", sessions,
+                 "--fetchers", fetchers, *more]
         self.words = [str(word) for word in words]
 
     def start(self) -> Running:
@@ -87,18 +88,19 @@ class Serving:
 
     def run(self, *more: str) -> Running:
         """In a session of its own, so that a terminal's Ctrl-C doesn't reach it."""
-        child = subprocess.Popen([self.mountd, "serve", *self.words, *more], stdin=subprocess.DEVNULL,
-                                 stdout=subprocess.PIPE, stderr=subprocess.PIPE, start_new_session=True)
-        assert child.stdout is not None
-        listening = child.stdout.readline().decode()
-        if not listening:
-            raise Unopened(last_words(child).removeprefix("mountd: open "))
-        port = int(listening.rsplit(":", 1)[1])
-        try:
-            return Running(child, [client.connect(port) for _ in range(self.sessions)])
-        except OSError as problem:
-            child.kill()
-            raise Unopened(f"its port {port} can't be reached: {problem.strerror}; {last_words(child)}") from None
+        # Once all sessions are connected nobody wants the socket any more.
+        with socket_path() as path:
+            words = [self.mountd, "serve", *self.words, "--socket", path, *more]
+            child = subprocess.Popen(words, stdin=subprocess.DEVNULL, stdout=subprocess.PIPE, stderr=subprocess.PIPE,
+                                     start_new_session=True)
+            assert child.stdout is not None
+            if not child.stdout.readline():
+                raise Unopened(last_words(child).removeprefix("mountd: open "))
+            try:
+                return Running(child, [client.connect(path) for _ in range(self.sessions)])
+            except OSError as problem:
+                child.kill()
+                raise Unopened(f"its socket can't be reached: {problem.strerror}; {last_words(child)}") from None
 
 
 class Pool(client.Requests):

@@ -7,15 +7,16 @@ use Rattle.hex.specs.Hex.{encode_lower}
 use Rattle.eden_model.specs.declared.id.Id.{Id}
 use Rattle.eden_model.specs.declared.fault.Cause.TheVariants as cause
 use Rattle.eden_model.specs.Failures.{one_more}
+use Rattle.eden_sockets.specs.declared.address.Address.{Address}
 use Rattle.eden_source.specs.Fetching.{Answer, longest_framed}
 use Rattle.eden_remote.specs.Protocol.{Known, get_line}
 use Rattle.eden_remote.specs.Receiving.{Hears}
 use Rattle.eden_remote.specs.declared.refusal.Refusal.{Refusal}
 use Rattle.eden_remote.specs.declared.refusal.Refusal.TheVariants as refusal
 
--- its port, whether there is a connection to it, and how often it failed
+-- its address, whether there is a connection to it, and how often it failed
 pub record Server : Type 0 where
-  pub port : ℕ
+  pub address : Address
   pub connected : Bool
   pub failures : ℕ
 
@@ -38,7 +39,7 @@ AsksAndHears {C} written left id old r new =
 
 -- what is known of a real server: it stays where it is, each failure is counted once, and no answer is over the bound
 pub record FetchedFromServer (old : Server) (id : Id) (answer : Answer) (new : Server) : Type 0 where
-  pub port : new.port ≡ old.port
+  pub address : new.address ≡ old.address
   pub connected : new.connected ≡ keeps_connection answer
   pub counted : answer ≡ Err cause.Device → new.failures ≡ one_more old.failures
   pub bounded : IfOk answer (λ framed. length framed ≤ longest_framed)

@@ -8,24 +8,25 @@ use crate::receiving::read_answer;
 use crate::refusal::Refusal;
 use crate::sending::ask;
 use eden_model::{Cause, Id, Outside};
+use eden_sockets::{Address, Stream};
 use eden_source::Source;
 use std::alloc::Global;
 use std::io::{BufReader, Read, Write};
 use std::marker::Model;
-use std::net::{Ipv4Addr, Net, OpenStream, SocketAddr, TcpStream};
+use std::net::Net;
 use std::time::Duration;
 
-/// Framed objects from an object server on a port of this machine.
+/// Framed objects from an object server of this machine.
 ///
 /// It keeps one connection. After everything but the bytes and `Missing` it drops it, and the next fetch connects anew.
 ///
-/// Contracts see the port, whether there is a connection, and the count of failures.
+/// Contracts see the server's address, whether there is a connection, and the count of failures.
 #[derive(Drop)]
 pub struct SocketSource<R: Net> {
     net: R,
-    port: u16,
+    address: Address,
     patience: Duration,
-    connection: Option<BufReader<R::Stream>>,
+    connection: Option<BufReader<Stream<R::Stream>>>,
     failures: u64,
 }
 
@@ -35,20 +36,20 @@ impl<R: Net> Model for SocketSource<R> {
 
     ghost Value = { Server };
 
-    ghost view = { λ s. record { port = s.port; connected = is_some s.connection; failures = s.failures } };
+    ghost view = { λ s. record { address = s.address; connected = is_some s.connection; failures = s.failures } };
 }
 
 impl<R: Net> SocketSource<R> {
-    /// The objects of the server on that port of 127.0.0.1. It is connected to at once, or where that fails by the next
-    /// fetch. A connection, or a read, that waits longer than that has failed; no time at all is never enough.
-    pub fn new(alloc: Global, net: R, port: u16, patience: Duration) -> Self
-        ensures port { result.port ≡ port }
+    /// The objects of the server at that address. It is connected to at once, or where that fails by the next fetch. A
+    /// read that waits longer than that has failed, and so has a connection to a port; no time at all is never enough.
+    pub fn new(alloc: Global, net: R, address: Address, patience: Duration) -> Self
+        ensures address { result.address ≡ address }
         ensures failures { result.failures ≡ 0 }
     {
-        let connection = connect(&net, alloc, port, patience).ok();
+        let connection = connect(&net, alloc, &address, patience).ok();
         SocketSource {
             net,
-            port,
+            address,
             patience,
             connection,
             failures: 0,
@@ -70,7 +71,7 @@ impl<R: Net> Source<Outside> for SocketSource<R> {
     fn fetch(&mut self, alloc: Global, id: Id) -> Result<Vec<u8>, Cause> {
         let connection = match self.connection.take() {
             Some(connection) => Ok(connection),
-            None => connect(&self.net, alloc, self.port, self.patience),
+            None => connect(&self.net, alloc, &self.address, self.patience),
         };
         let (answer, connection) = match connection {
             Ok(connection) => exchange(alloc, connection, id),
@@ -88,16 +89,12 @@ impl<R: Net> Source<Outside> for SocketSource<R> {
 fn connect<R: Net>(
     net: &R,
     alloc: Global,
-    port: u16,
+    address: &Address,
     patience: Duration,
-) -> Result<BufReader<R::Stream>, Cause>
+) -> Result<BufReader<Stream<R::Stream>>, Cause>
     ensures { IfErr result (λ e. (e ≡ Cause.Device) ⊎ (e ≡ Cause.Memory)) }
 {
-    let server = SocketAddr::from((Ipv4Addr::LOCALHOST, port));
-    let stream = TcpStream::connect_timeout(net, &server, patience).map_err(|_| Cause::Device)?;
-    stream
-        .set_read_timeout(Some(patience))
-        .map_err(|_| Cause::Device)?;
+    let stream = Stream::connect(net, address, patience).map_err(|_| Cause::Device)?;
     BufReader::new(alloc, stream).map_err(|_| Cause::Memory)
 }
 

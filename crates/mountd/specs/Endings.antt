@@ -14,8 +14,6 @@ use Rattle.eden_object_writer.specs.declared.fault.ImportFault.{ImportFault}
 use Rattle.eden_remote.specs.declared.fault.AnswerFault.{AnswerFault}
 use Rattle.mountd.specs.declared.hold.HoldFault.{HoldFault}
 use Rattle.mountd.specs.declared.hold.HoldFault.TheVariants as hold
-use Rattle.mountd.specs.declared.server.ListenFault.{ListenFault}
-use Rattle.mountd.specs.declared.server.ListenFault.TheVariants as listen
 use Rattle.mountd.specs.declared.server.ServerFault.{ServerFault}
 use Rattle.mountd.specs.declared.server.ServerFault.TheVariants as server
 
@@ -34,16 +32,11 @@ abbrev pub close_name : FilesFault → List ℕ
 close_name files.Device = codes "Device"
 close_name files.Memory = codes "Memory"
 
--- .. of why the folder isn't held
+-- .. of why the folder, or the address, isn't held
 abbrev pub hold_name : HoldFault → List ℕ
 hold_name hold.Locked = codes "Locked"
 hold_name hold.Device = codes "Device"
 hold_name hold.Memory = codes "Memory"
-
--- .. of why a connection isn't taken
-abbrev pub listen_name : ListenFault → List ℕ
-listen_name listen.Device = codes "Device"
-listen_name listen.Memory = codes "Memory"
 
 -- the status of a life that ended so
 abbrev pub status_of : Result ⊤ LifeFault → ℕ
@@ -65,7 +58,7 @@ abbrev pub server_status : Result ⊤ ServerFault → ℕ
 server_status (Ok _) = 0
 server_status (Err fault) = 4
 
-abbrev pub first_fault : Result ⊤ ListenFault → Result ⊤ AnswerFault → Result ⊤ ServerFault
+abbrev pub first_fault : Result ⊤ HoldFault → Result ⊤ AnswerFault → Result ⊤ ServerFault
 first_fault (Err fault) served = Err (server.Listen fault)
 first_fault (Ok _) (Err fault) = Err (server.Session fault)
 first_fault (Ok _) (Ok _) = Ok tt

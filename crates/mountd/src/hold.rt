@@ -1,25 +1,36 @@
-//! The folder that keeps the changes, which one program has open at a time.
+//! What one program has at a time: the folder that keeps the changes, and the path that it listens at.
 ghost use Rattle.std.specs.Prelude.{◌≡◌, ◌↔◌, IfOk, IsTrue, option_map, string_bytes};
+ghost use Rattle.std.specs.Option.{is_some};
 ghost use Rattle.std.specs.Path.{path_buf_bytes};
+ghost use Rattle.eden_sockets.specs.Addresses.{is_socket};
 ghost use Rattle.mountd.specs.Endings.{hold_name};
 ghost use Rattle.mountd.specs.Holding.{IsDeviceFault, IsLockFault};
 ghost use Rattle.mountd.specs.declared.hold.HoldFault.TheVariants as fault;
 
 use eden_checkout::Opening;
+use eden_sockets::{Address, remove_left};
 use std::alloc::{AllocError, Global};
 use std::fs::{self, File, OpenOptions, TryLockError};
 use std::io::{self, ErrorKind};
-use std::path::PathBuf;
+use std::net::Net;
+use std::os::unix::fs::OpenOptionsExt;
+use std::path::{Path, PathBuf};
 use std::rt::Files;
 
-/// Why a folder can't be held.
+/// Whoever may come to the folder may hold it.
+const FOR_ALL: u32 = 0o666;
+
+/// Nobody else may hold a path that this user listens at.
+const FOR_ONE: u32 = 0o600;
+
+/// Why a folder, or an address, can't be held.
 #[derive(Clone, Copy, Debug, PartialEq, Eq)]
 pub enum HoldFault {
     /// Another program holds it.
     Locked,
-    /// The device failed.
+    /// The device failed, or the machine doesn't let the address be listened at.
     Device,
-    /// No memory.
+    /// No memory, or no thread.
     Memory,
 }
 
@@ -78,12 +89,18 @@ fn hold<R: Files<File = File>>(
 ) -> Result<File, HoldFault> {
     fs::create_dir_all(files, folder.as_path())?;
     let path = folder.join(alloc, "lock")?;
+    locked(files, path.as_path(), FOR_ALL)
+}
+
+/// Makes the file where it isn't there, with this mode, and locks it.
+fn locked<R: Files<File = File>>(files: &R, path: Path<'_>, mode: u32) -> Result<File, HoldFault> {
     // Opening for reading and writing doesn't wait, should there be a pipe of that name.
     let lock = OpenOptions::new()
         .read(true)
         .write(true)
         .create(true)
-        .open(files, path.as_path())?;
+        .mode(mode)
+        .open(files, path)?;
     lock.try_lock()?;
     Ok(lock)
 }
@@ -120,6 +137,47 @@ pub fn hold_existing<R: Files<File = File>>(
     fs::metadata(files, folder.as_path())?;
     let lock = hold(files, alloc, &folder)?;
     Ok((folder, lock))
+}
+
+/// A path that is held for its server.
+#[derive(Drop)]
+pub struct HeldPath {
+    path: String,
+    lock: File,
+}
+
+/// Holds the path that is to be listened at, where it is one and no port: locks the file beside it that is named as it
+/// with `.lock` behind, and removes the socket of a program that left one there.
+///
+/// `Locked`, where another program listens there; `Device` and `Memory`, where those failed, or the lock can't be made.
+pub fn hold_address<R: Files<File = File> + Net>(
+    rt: &R,
+    alloc: Global,
+    address: &Address,
+) -> Result<Option<HeldPath>, HoldFault>
+    ensures { IfOk result (λ held. is_some held ≡ is_socket address.now) }
+{
+    let Address::Socket(path) = address else {
+        return Ok(None);
+    };
+    let path = String::from_str(alloc, path.as_str())?;
+    let mut beside = String::from_str(alloc, path.as_str())?;
+    beside.push_str(".lock")?;
+    let lock = locked(rt, Path::new(beside.as_str()), FOR_ONE)?;
+    if remove_left(rt, path.as_str())? {
+        return Err(HoldFault::Locked);
+    }
+    Ok(Some(HeldPath { path, lock }))
+}
+
+/// Lets a path go, and removes its socket, at which nobody listens any more.
+pub fn let_go<R: Files + Net>(rt: &R, held: Option<HeldPath>) {
+    let Some(HeldPath { path, lock }) = held else {
+        return;
+    };
+    // What can't be removed is left for the next, as after a kill.
+    let _ = remove_left(rt, path.as_str());
+    drop(lock);
 }
 
 /// How what a folder keeps is opened.

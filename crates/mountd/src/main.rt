@@ -55,7 +55,7 @@ fn main(rt: HostRuntime) -> ExitCode {
         Ok(Command::Stdio(options)) => stdio(&rt, options),
         // Outside `main`, only a type parameter may have threads and wait: so the runtime is passed for it, too.
         Ok(Command::Serve(options)) => serve(&rt, &rt, options),
-        Ok(Command::Objects(options)) => report::server(&rt, serve_objects(&rt, &rt, &options)),
+        Ok(Command::Objects(options)) => report::server(&rt, serve_objects(&rt, &rt, options)),
         Ok(Command::Import(options)) => report::import(&rt, import(&rt, options)),
         Ok(Command::Tidy(options)) => tidy(&rt, options),
         Ok(Command::Version) => version(&rt),

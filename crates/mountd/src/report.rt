@@ -52,6 +52,13 @@ pub fn unopened<R: Eprint>(rt: &R, name: &str) -> ExitCode
     ExitCode::from(UNOPENED)
 }
 
+/// Tells by which fault, called `name`, nobody listens. Status 4.
+pub fn unheard<R: Eprint>(rt: &R, name: &str) -> ExitCode
+    ensures { exit_status result ≡ 4 }
+{
+    ended(rt, "listen", name)
+}
+
 /// Tells how a mount's life ended, where it didn't end well: by which fault, without the fault's values.
 ///
 /// Status 0; 3, where the overlay wasn't opened; 4, where the session or the close ended in a fault.
@@ -75,7 +82,7 @@ pub fn shared_ending<R: Eprint>(rt: &R, outcome: Result<(), SharedLifeFault>) ->
     match outcome {
         Ok(()) => ExitCode::SUCCESS,
         Err(SharedLifeFault::Open(fault)) => unopened(rt, open_name(fault)),
-        Err(SharedLifeFault::Listen) => ended(rt, "listen", "Device"),
+        Err(SharedLifeFault::Listen) => unheard(rt, "Device"),
         Err(SharedLifeFault::Session(fault)) => ended(rt, "session", fault.name()),
         Err(SharedLifeFault::Close(fault)) => ended(rt, "close", close_name(fault)),
     }
@@ -87,7 +94,7 @@ pub fn server<R: Eprint>(rt: &R, outcome: Result<(), ServerFault>) -> ExitCode
 {
     match outcome {
         Ok(()) => ExitCode::SUCCESS,
-        Err(ServerFault::Listen(fault)) => ended(rt, "listen", fault.name()),
+        Err(ServerFault::Listen(fault)) => unheard(rt, fault.name()),
         Err(ServerFault::Session(fault)) => ended(rt, "session", fault.name()),
     }
 }

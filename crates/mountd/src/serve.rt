@@ -1,18 +1,19 @@
-//! Many callers of a mount, over connections to a port.
+//! Many callers of a mount, each over a connection.
 ghost use Rattle.std.specs.Prelude.{◌≡◌, ◌≤◌, []};
 ghost use Rattle.std.specs.Process.{exit_status};
 ghost use Rattle.eden_checkout.specs.Opening.{MayOpen};
 ghost use Rattle.mountd.specs.Runs.{IsSharedRun, limit_of};
 
-use crate::hold::{hold_overlay, opening};
+use crate::hold::{hold_address, hold_overlay, let_go, opening};
 use crate::report;
 use crate::sources::{folder_fetchers, socket_fetchers};
 use eden_history::{Counted, History, Kept};
-use eden_host::{Accepts, Fetchers, Port, Unloading};
+use eden_host::{Accepts, Fetchers, Unloading};
 use eden_model::{Outside, World};
 use eden_mount::Config;
 use eden_overlay::{Files, FolderFiles, MemoryFiles};
 use eden_serve_life::live_shared;
+use eden_sockets::Listener;
 use eden_source::Source;
 use eden_stdio_life::{Backing, Base};
 use mountd_options::{HistoryOption, MountOptions, Objects, ServeOptions};
@@ -23,9 +24,27 @@ use std::process::ExitCode;
 use std::sync::Wait;
 use std::thread::Threads;
 
-/// Serves a session to each connection to a port of 127.0.0.1, which is told on standard output, until as many as are
-/// asked for have ended.
+/// Serves a session to each connection to an address, which is told on standard output, until as many as are asked for
+/// have ended. A path is held before anything is opened.
 pub fn serve<R: Threads + Wait + Sync>(
+    threads: &R,
+    rt: &HostRuntime,
+    options: ServeOptions,
+) -> ExitCode
+    requires fetchers { 1 ≤ options.fetchers }
+{
+    match hold_address(rt, rt.alloc(), &options.address) {
+        Err(fault) => report::unheard(rt, fault.name()),
+        Ok(held) => {
+            let status = serve_held(threads, rt, options);
+            let_go(rt, held);
+            status
+        }
+    }
+}
+
+/// Serves sessions at an address that nobody else has, over an overlay that nobody else has.
+fn serve_held<R: Threads + Wait + Sync>(
     threads: &R,
     rt: &HostRuntime,
     mut options: ServeOptions,
@@ -54,7 +73,7 @@ fn serve_files<R: Threads + Wait + Sync, F: Files<Outside> + Send>(
 {
     let ServeOptions {
         mount,
-        port,
+        address,
         fetchers,
     } = options;
     let MountOptions {
@@ -69,15 +88,19 @@ fn serve_files<R: Threads + Wait + Sync, F: Files<Outside> + Send>(
         root,
         opening: opening(rescan),
     };
-    let port = Port::new(*rt, port);
+    let listener = Listener::new(*rt, *rt, address);
     match objects {
         Objects::Folder(folder) => {
             let fetchers = folder_fetchers(rt, folder.as_str(), fetchers);
-            serve_fetched(threads, rt, base, history, &limits, files, fetchers, port)
+            serve_fetched(
+                threads, rt, base, history, &limits, files, fetchers, listener,
+            )
         }
-        Objects::Port(server) => {
-            let fetchers = socket_fetchers(rt, server, fetchers);
-            serve_fetched(threads, rt, base, history, &limits, files, fetchers, port)
+        Objects::Server(server) => {
+            let fetchers = socket_fetchers(rt, &server, fetchers);
+            serve_fetched(
+                threads, rt, base, history, &limits, files, fetchers, listener,
+            )
         }
     }
 }
@@ -95,13 +118,13 @@ fn serve_fetched<
     limits: &Config,
     files: F,
     fetchers: Result<Fetchers<S>, AllocError>,
-    port: Port<HostRuntime>,
+    listener: Listener<HostRuntime, HostRuntime>,
 ) -> ExitCode {
     let Ok(source) = fetchers else {
         return report::unopened(rt, "Memory");
     };
     let backing = Backing { files, source };
-    run::<Outside, _, _, _, _, _, _>(threads, rt, base, history, limits, backing, port)
+    run::<Outside, _, _, _, _, _, _>(threads, rt, base, history, limits, backing, listener)
 }
 
 /// Serves sessions on a mount over these files and fetchers, with the history that is asked for.

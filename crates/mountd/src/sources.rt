@@ -3,6 +3,7 @@ ghost use Rattle.std.specs.Prelude.{◌≡◌, ◌≤◌, IfOk, length};
 
 use eden_host::Fetchers;
 use eden_remote::SocketSource;
+use eden_sockets::Address;
 use eden_source::FolderSource;
 use std::alloc::AllocError;
 use std::path::PathBuf;
@@ -16,9 +17,9 @@ pub fn folder_source(rt: &HostRuntime, folder: String) -> FolderSource<HostRunti
     FolderSource::new(*rt, PathBuf::from(folder))
 }
 
-/// A source over the server at this port.
-pub fn socket_source(rt: &HostRuntime, port: u16) -> SocketSource<HostRuntime> {
-    SocketSource::new(rt.alloc(), *rt, port, Duration::from_secs(PATIENCE))
+/// A source over the server at this address.
+pub fn socket_source(rt: &HostRuntime, server: Address) -> SocketSource<HostRuntime> {
+    SocketSource::new(rt.alloc(), *rt, server, Duration::from_secs(PATIENCE))
 }
 
 /// Fetchers from a folder, so many. The only error is want of memory.
@@ -38,10 +39,11 @@ pub fn folder_fetchers(
     Ok(Fetchers::new(sources))
 }
 
-/// Fetchers from the server at this port, so many, each with a connection of its own. The only error is want of memory.
+/// Fetchers from the server at this address, so many, each with a connection of its own. The only error is want of
+/// memory.
 pub fn socket_fetchers(
     rt: &HostRuntime,
-    port: u16,
+    server: &Address,
     count: u32,
 ) -> Result<Fetchers<SocketSource<HostRuntime>>, AllocError>
     requires some { 1 ≤ count }
@@ -49,7 +51,8 @@ pub fn socket_fetchers(
 {
     let mut sources = Vec::new(rt.alloc());
     for _made in 0..count {
-        sources.push(socket_source(rt, port))?;
+        let server = server.copy(rt.alloc())?;
+        sources.push(socket_source(rt, server))?;
     }
     Ok(Fetchers::new(sources))
 }

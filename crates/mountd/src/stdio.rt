@@ -48,8 +48,8 @@ fn serve_files<F: Files<Outside>>(rt: &HostRuntime, options: MountOptions, files
             let source = folder_source(rt, folder);
             run::<Outside, _, _>(rt, base, history, &limits, Backing { files, source })
         }
-        Objects::Port(port) => {
-            let source = socket_source(rt, port);
+        Objects::Server(server) => {
+            let source = socket_source(rt, server);
             run::<Outside, _, _>(rt, base, history, &limits, Backing { files, source })
         }
     }

@@ -1,5 +1,5 @@
 -- What the matches of the program's command line say.
-use Rattle.std.proofs.Common.{◌≡◌, ◌∙◌, ap, sym, subst, inl, inr, ◌⊎◌, refl, true, false, true≢false, List, [], ◌∷◌, Option, Some, None, Result, Ok, Err, IfErr, ℕ, codes, is_some, option_map}
+use Rattle.std.proofs.Common.{◌≡◌, ◌∙◌, ap, sym, subst, inl, inr, ◌⊎◌, refl, true, false, true≢false, List, [], ◌∷◌, Option, Some, None, Result, Ok, Err, IfErr, ℕ, codes, option_map}
 use Rattle.std.proofs.Math.Path.{fun_ext}
 use Rattle.std.specs.Prelude.{Box}
 use Rattle.std.specs.Box.{box_value}
@@ -18,13 +18,14 @@ use Rattle.clap.specs.Faults.{fault_of}
 use Rattle.clap.specs.Values.{kind_of}
 use Rattle.clap.specs.declared.error.Error.{Error}
 use Rattle.clap.specs.declared.error.kind.ErrorKind.TheVariants.{OutOfMemory}
-use Rattle.mountd_options.specs.CommandLine.{IsTaken, NamesNotOne, Refuses, RefusesNumber, RefusesNumbers, RefusesValues, command_name, import, mountd_line, named, objects, serve, stdio, subcommands, tidy, value_of}
+use Rattle.mountd_options.specs.CommandLine.{IsTaken, NamesItsMount, NamesMount, Refuses, RefusesNumber, RefusesServer, RefusesValues, command_name, import, mountd_line, named, objects, serve, server_name, stdio, subcommands, tidy, value_of}
 use Rattle.mountd_options.specs.Grammar.{HasRequired, Subcommand, value_in}
 use Rattle.mountd_options.specs.Numbers.{IsNoNumber, IsNoValue, number_name}
 use Rattle.mountd_options.specs.declared.numbers.NumberOption.{NumberOption}
-use Rattle.mountd_options.specs.declared.numbers.NumberOption.TheVariants.{History, Remote}
+use Rattle.mountd_options.specs.declared.numbers.NumberOption.TheVariants.{History}
 use Rattle.mountd_options.specs.declared.command.MountCommand.{MountCommand}
 use Rattle.mountd_options.specs.declared.command.MountCommand.TheVariants as by
+use Rattle.mountd_options.specs.declared.command.ServerCommand.TheVariants as server
 use Rattle.mountd_options.specs.declared.command.OptionsError.{OptionsError}
 use Rattle.mountd_options.specs.declared.command.OptionsError.TheVariants as error
 use Rattle.mountd_options.proofs.MetLines.{Meets, Meets-taken}
@@ -139,11 +140,7 @@ by_words P words f name met h =
     first_value-rows f option ∙ sym (ap (λ (o : Option (Text × List Row)). value_in o option) met)) in
     subst P same h
 
--- ---- where the objects come from
-
--- a server's port, and no folder
-pub port-one : (value : Text → Option Text) → value (codes "objects") ≡ None → is_some (value (number_name Remote)) ≡ true → NamesNotOne value → ⊥
-port-one value none some alike = true≢false (sym some ∙ sym alike ∙ ap is_some none)
+-- ---- refusals
 
 -- values that a command refuses which opens a mount
 pub values_refuse : (command : MountCommand) (words : List Text) (f : Found) (why : OptionsError) → IsTaken words
@@ -157,6 +154,10 @@ values_refuse command words f why taken met refused =
     by_fault (error.Source refusing) why =
         let named_so : named words ≡ Some (command_name refusing) = named-met words f (command_name command) met ∙ ap (λ c. Some (command_name c)) (sym why.0) in
         (taken, named_so, why.1, why.2)
+    by_fault (error.Place refusing) why =
+        let named_so : named words ≡ Some (server_name refusing) = named-met words f (command_name command) met ∙ ap (λ n. Some n) (sym why.0) in
+        (taken, named_so, (λ _ _. why.1), why.2)
+    by_fault (error.Address option) why = (taken, (λ _ _. why.0), why.1)
     by_fault (error.Number option) why = (taken, (λ _ _. why.0), why.1)
     by_fault error.Memory why = tt
 
@@ -170,17 +171,35 @@ opens_none by.Serve name is named =
     differ objects.0 (command_name by.Serve) refl same
 
 -- .. and what it refuses
-pub numbers_refuse : (words : List Text) (f : Found) (why : OptionsError) → IsTaken words
-    → subcommand_of mountd_line words ≡ Some (objects.0, rows_of f) → RefusesNumbers (first_value f) why → Refuses words why
-numbers_refuse words f why taken met refused =
-    by_fault why (by_words (λ value. RefusesNumbers value why) words f objects.0 met refused)
+pub objects_refuse : (words : List Text) (f : Found) (why : OptionsError) → IsTaken words
+    → subcommand_of mountd_line words ≡ Some (objects.0, rows_of f) → RefusesServer server.Objects (first_value f) why → Refuses words why
+objects_refuse words f why taken met refused =
+    by_fault why (by_words (λ value. RefusesServer server.Objects value why) words f objects.0 met refused)
   where
-    by_fault : (e : OptionsError) → RefusesNumbers (value_of words) e → Refuses words e
+    none_opened : NamesItsMount words
+    none_opened = λ command is. absurd (opens_none command (named words) (named-met words f objects.0 met) is)
+
+    by_fault : (e : OptionsError) → RefusesServer server.Objects (value_of words) e → Refuses words e
     by_fault (error.Refused reason) why = absurd why
     by_fault error.Root why = absurd why
     by_fault (error.Source command) why = absurd why
-    by_fault (error.Number option) why = (taken, (λ command is. absurd (opens_none command (named words) (named-met words f objects.0 met) is)), why)
+    by_fault (error.Place refusing) why =
+        let named_so : named words ≡ Some (server_name refusing) = named-met words f objects.0 met ∙ ap (λ c. Some (server_name c)) (sym why.0) in
+        (taken, named_so, none_opened, why.1)
+    by_fault (error.Address option) why = (taken, none_opened, why)
+    by_fault (error.Number option) why = (taken, none_opened, why)
     by_fault error.Memory why = tt
+
+-- what `serve` refuses of its own, where its mount is named
+pub serve_refuses : (value : Text → Option Text) (why : OptionsError) → NamesMount value → RefusesServer server.Serve value why
+    → RefusesValues by.Serve value why
+serve_refuses value (error.Refused reason) mount why = why
+serve_refuses value error.Root mount why = absurd why
+serve_refuses value (error.Source refusing) mount why = absurd why
+serve_refuses value (error.Place refusing) mount why = (ap server_name why.0, mount, why.1)
+serve_refuses value (error.Address option) mount why = (mount, why)
+serve_refuses value (error.Number option) mount why = (mount, why)
+serve_refuses value error.Memory mount why = tt
 
 -- an option that isn't the history's doesn't take what is no number of it
 pub no_value : (option : NumberOption) (text : Text) → (option ≡ History → ⊥) → IsNoNumber option text → IsNoValue option text

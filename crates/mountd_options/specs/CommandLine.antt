@@ -5,10 +5,15 @@ use Rattle.clap.specs.Words.{App, Text, fault_of, kind_of, subcommand_of}
 use Rattle.hex.specs.Hex.{encode_lower}
 use Rattle.eden_object.specs.IdText.{IsIdText}
 use Rattle.eden_mount.specs.Settings.{Settings}
+use Rattle.eden_sockets.specs.declared.address.Address.{Address}
+use Rattle.eden_sockets.specs.declared.address.Address.TheVariants as at
+use Rattle.mountd_options.specs.Addresses.{GivesAddress, IsNoAddress, address_name}
+use Rattle.mountd_options.specs.declared.addresses.AddressOption.{AddressOption}
+use Rattle.mountd_options.specs.declared.addresses.AddressOption.TheVariants.{Socket, Remote}
 use Rattle.mountd_options.specs.Grammar.{LineOption, Subcommand, flag, optional, program, required, value_in}
 use Rattle.mountd_options.specs.Numbers.{GivesNumber, IsNoValue, SaysNumber, number_name}
 use Rattle.mountd_options.specs.declared.numbers.NumberOption.{NumberOption}
-use Rattle.mountd_options.specs.declared.numbers.NumberOption.TheVariants.{History, CacheEntries, CacheBytes, Remote, Port, Sessions, Fetchers}
+use Rattle.mountd_options.specs.declared.numbers.NumberOption.TheVariants.{History, CacheEntries, CacheBytes, Port, Sessions, Fetchers}
 use Rattle.mountd_options.specs.declared.command.Command.{Command}
 use Rattle.mountd_options.specs.declared.command.Command.TheVariants as command
 use Rattle.mountd_options.specs.declared.command.HistoryOption.TheVariants as keeping
@@ -22,6 +27,8 @@ use Rattle.mountd_options.specs.declared.command.ObjectsOptions.{ObjectsOptions}
 use Rattle.mountd_options.specs.declared.command.OptionsError.{OptionsError}
 use Rattle.mountd_options.specs.declared.command.OptionsError.TheVariants as error
 use Rattle.mountd_options.specs.declared.command.ServeOptions.{ServeOptions}
+use Rattle.mountd_options.specs.declared.command.ServerCommand.{ServerCommand}
+use Rattle.mountd_options.specs.declared.command.ServerCommand.TheVariants as server
 use Rattle.mountd_options.specs.declared.command.TidyOptions.{TidyOptions}
 
 -- the name of a command that opens a mount
@@ -29,30 +36,37 @@ abbrev pub command_name : MountCommand → Text
 command_name by.Stdio = codes "stdio"
 command_name by.Serve = codes "serve"
 
+-- .. and of one that listens
+abbrev pub server_name : ServerCommand → Text
+server_name server.Serve = codes "serve"
+server_name server.Objects = codes "objects"
+
 -- `[--overlay DIR] [--rescan] [--history N] [--cache-entries N] [--cache-bytes N]`, of what a mount keeps
 abbrev pub kept_options : List LineOption
 kept_options = optional (codes "overlay") ∷ flag (codes "rescan") ∷ optional (number_name History)
     ∷ optional (number_name CacheEntries) ∷ optional (number_name CacheBytes) ∷ []
 
--- `--root ID [--objects DIR] [--remote PORT]` with these, of whatever opens a mount
+-- `--root ID [--objects DIR] [--remote SERVER]` with these, of whatever opens a mount
 abbrev pub mount_options : List LineOption
-mount_options = required (codes "root") ∷ optional (codes "objects") ∷ optional (number_name Remote) ∷ kept_options
+mount_options = required (codes "root") ∷ optional (codes "objects") ∷ optional (address_name Remote) ∷ kept_options
 
 -- `stdio` with the options of a mount
 abbrev pub stdio : Subcommand
 stdio = (command_name by.Stdio, mount_options)
 
 abbrev pub serve_options : List LineOption
-serve_options = mount_options ++ required (number_name Port) ∷ optional (number_name Sessions) ∷ optional (number_name Fetchers) ∷ []
+serve_options = mount_options ++ optional (number_name Port) ∷ optional (address_name Socket) ∷ optional (number_name Sessions)
+    ∷ optional (number_name Fetchers) ∷ []
 
--- `serve` with the options of a mount, and `--port P [--sessions N] [--fetchers N]`
+-- `serve` with the options of a mount, and `[--port P] [--socket PATH] [--sessions N] [--fetchers N]`
 abbrev pub serve : Subcommand
 serve = (command_name by.Serve, serve_options)
 
 abbrev pub objects_options : List LineOption
-objects_options = required (codes "dir") ∷ required (number_name Port) ∷ optional (number_name Sessions) ∷ []
+objects_options = required (codes "dir") ∷ optional (number_name Port) ∷ optional (address_name Socket)
+    ∷ optional (number_name Sessions) ∷ []
 
--- `objects --dir DIR --port P [--sessions N]`
+-- `objects --dir DIR [--port P] [--socket PATH] [--sessions N]`
 abbrev pub objects : Subcommand
 objects = (codes "objects", objects_options)
 
@@ -109,12 +123,24 @@ pub record SaysLimits (command : MountCommand) (value : Text → Option Text) (l
 -- where the objects are to come from: a folder or a server, and these values name one of them
 abbrev pub SaysObjects : (Text → Option Text) → Objects → Type 0
 SaysObjects value (place.Folder folder) =
-    (value (codes "objects") ≡ Some (string_bytes folder)) × (value (number_name Remote) ≡ None)
-SaysObjects value (place.Port port) = (value (codes "objects") ≡ None) × GivesNumber Remote (value (number_name Remote)) port
+    (value (codes "objects") ≡ Some (string_bytes folder)) × (value (address_name Remote) ≡ None)
+SaysObjects value (place.Server address) =
+    (value (codes "objects") ≡ None) × GivesAddress Remote (value (address_name Remote)) address
 
 -- .. they name neither or both
 abbrev pub NamesNotOne : (Text → Option Text) → Type 0
-NamesNotOne value = is_some (value (codes "objects")) ≡ is_some (value (number_name Remote))
+NamesNotOne value = is_some (value (codes "objects")) ≡ is_some (value (address_name Remote))
+
+-- where a server is to listen: at a port or at a socket, and these values name one of them
+abbrev pub SaysPlace : (Text → Option Text) → Address → Type 0
+SaysPlace value (at.Port port) =
+    GivesNumber Port (value (number_name Port)) port × (value (address_name Socket) ≡ None)
+SaysPlace value (at.Socket path) =
+    (value (number_name Port) ≡ None) × GivesAddress Socket (value (address_name Socket)) (at.Socket path)
+
+-- .. they name neither or both
+abbrev pub NamesNotOnePlace : (Text → Option Text) → Type 0
+NamesNotOnePlace value = is_some (value (number_name Port)) ≡ is_some (value (address_name Socket))
 
 -- the root is an id
 abbrev pub NamesRoot : (Text → Option Text) → Type 0
@@ -141,13 +167,13 @@ pub record IsMount (command : MountCommand) (value : Text → Option Text) (opti
 -- what is to be served, where, and with how many fetchers is what these values say
 pub record IsServed (value : Text → Option Text) (options : ServeOptions) : Type 0 where
   pub mount : IsMount by.Serve value options.mount
-  pub port : GivesNumber Port (value (number_name Port)) options.port
+  pub place : SaysPlace value options.address
   pub fetchers : SaysNumber Fetchers 2 (value (number_name Fetchers)) options.fetchers
 
 -- whose objects are to be served, and where, is what these values say
 pub record AreServed (value : Text → Option Text) (options : ObjectsOptions) : Type 0 where
   pub folder : value (codes "dir") ≡ Some (string_bytes options.folder)
-  pub port : GivesNumber Port (value (number_name Port)) options.port
+  pub place : SaysPlace value options.address
   pub sessions : SaysNumber Sessions 2 (value (number_name Sessions)) options.sessions
 
 -- what is to be imported is what these values say
@@ -180,27 +206,39 @@ IsTaken words = fault_of mountd_line words ≡ []
 abbrev pub RefusesNumber : (Text → Option Text) → NumberOption → Type 0
 RefusesNumber value option = (text : Text) × (value (number_name option) ≡ Some text) × IsNoValue option text
 
--- why `objects` refuses such values
-abbrev pub RefusesNumbers : (Text → Option Text) → OptionsError → Type 0
-RefusesNumbers value (error.Refused why) = ⊥
-RefusesNumbers value error.Root = ⊥
-RefusesNumbers value (error.Source command) = ⊥
-RefusesNumbers value (error.Number option) = RefusesNumber value option
-RefusesNumbers value error.Memory = ⊤
+-- .. no address that it takes
+abbrev pub RefusesAddress : (Text → Option Text) → AddressOption → Type 0
+RefusesAddress value option = (text : Text) × (value (address_name option) ≡ Some text) × IsNoAddress option text
+
+-- why a server refuses such values: where it is to listen first, then a number
+abbrev pub RefusesServer : ServerCommand → (Text → Option Text) → OptionsError → Type 0
+RefusesServer command value (error.Refused why) = ⊥
+RefusesServer command value error.Root = ⊥
+RefusesServer command value (error.Source refusing) = ⊥
+RefusesServer command value (error.Place refusing) = (refusing ≡ command) × NamesNotOnePlace value
+RefusesServer command value (error.Address option) = RefusesAddress value option
+RefusesServer command value (error.Number option) = RefusesNumber value option
+RefusesServer command value error.Memory = ⊤
 
 -- why it is refused where the objects are to come from
 abbrev pub RefusesObjects : MountCommand → (Text → Option Text) → OptionsError → Type 0
 RefusesObjects command value (error.Refused why) = ⊥
 RefusesObjects command value error.Root = ⊥
 RefusesObjects command value (error.Source refusing) = (refusing ≡ command) × NamesNotOne value
-RefusesObjects command value (error.Number option) = (¬ NamesNotOne value) × RefusesNumber value option
+RefusesObjects command value (error.Place refusing) = ⊥
+RefusesObjects command value (error.Address option) = (¬ NamesNotOne value) × RefusesAddress value option
+RefusesObjects command value (error.Number option) = ⊥
 RefusesObjects command value error.Memory = ⊤
 
--- why a command that opens a mount refuses such values: the root first, then where the objects come from, then a number
+-- why a command that opens a mount refuses such values: the root first, then where the objects come from, then where it is to
+-- listen, if it does, or a number
 abbrev pub RefusesValues : MountCommand → (Text → Option Text) → OptionsError → Type 0
 RefusesValues command value (error.Refused why) = ⊥
 RefusesValues command value error.Root = NamesNoRoot value
 RefusesValues command value (error.Source refusing) = (refusing ≡ command) × NamesRoot value × NamesNotOne value
+RefusesValues command value (error.Place refusing) =
+    (server_name refusing ≡ command_name command) × NamesMount value × NamesNotOnePlace value
+RefusesValues command value (error.Address option) = NamesMount value × RefusesAddress value option
 RefusesValues command value (error.Number option) = NamesMount value × RefusesNumber value option
 RefusesValues command value error.Memory = ⊤
 
@@ -214,5 +252,8 @@ Refuses words (error.Refused why) = IsAmong (kind_of why) (fault_of mountd_line 
 Refuses words error.Root = IsTaken words × NamesNoRoot (value_of words)
 Refuses words (error.Source command) =
     IsTaken words × (named words ≡ Some (command_name command)) × NamesRoot (value_of words) × NamesNotOne (value_of words)
+Refuses words (error.Place command) =
+    IsTaken words × (named words ≡ Some (server_name command)) × NamesItsMount words × NamesNotOnePlace (value_of words)
+Refuses words (error.Address option) = IsTaken words × NamesItsMount words × RefusesAddress (value_of words) option
 Refuses words (error.Number option) = IsTaken words × NamesItsMount words × RefusesNumber (value_of words) option
 Refuses words error.Memory = ⊤

@@ -1,3 +1,4 @@
+pub mod Addresses
 pub mod CommandLine
 pub mod Grammar
 pub mod Numbers

@@ -2,13 +2,12 @@
 use Rattle.std.specs.Prelude.{◌≡◌, ◌≤◌, ◌⊎◌, ◌^◌, ◌-◌, ℕ, Option, Some, None, codes, decimal}
 use Rattle.clap.specs.Words.{Text}
 use Rattle.mountd_options.specs.declared.numbers.NumberOption.{NumberOption}
-use Rattle.mountd_options.specs.declared.numbers.NumberOption.TheVariants.{History, CacheEntries, CacheBytes, Remote, Port, Sessions, Fetchers}
+use Rattle.mountd_options.specs.declared.numbers.NumberOption.TheVariants.{History, CacheEntries, CacheBytes, Port, Sessions, Fetchers}
 
 abbrev pub number_name : NumberOption → Text
 number_name History = codes "history"
 number_name CacheEntries = codes "cache-entries"
 number_name CacheBytes = codes "cache-bytes"
-number_name Remote = codes "remote"
 number_name Port = codes "port"
 number_name Sessions = codes "sessions"
 number_name Fetchers = codes "fetchers"
@@ -18,7 +17,6 @@ abbrev pub least_of : NumberOption → ℕ
 least_of History = 1
 least_of CacheEntries = 1
 least_of CacheBytes = 1
-least_of Remote = 1
 least_of Port = 0
 least_of Sessions = 1
 least_of Fetchers = 1
@@ -28,14 +26,20 @@ abbrev pub most_of : NumberOption → ℕ
 most_of History = 2 ^ 32 - 1
 most_of CacheEntries = 65536
 most_of CacheBytes = 2 ^ 40
-most_of Remote = 65535
 most_of Port = 65535
 most_of Sessions = 64
 most_of Fetchers = 16
 
+-- the text is this number, within these bounds
+abbrev pub IsWithin : ℕ → ℕ → Text → ℕ → Type 0
+IsWithin least most text n = (text ≡ decimal n) × (least ≤ n) × (n ≤ most)
+
+abbrev pub NoneWithin : ℕ → ℕ → Text → Type 0
+NoneWithin least most text = (n : ℕ) → IsWithin least most text n → ⊥
+
 -- the text is this number, which the option takes
 abbrev pub IsNumber : NumberOption → Text → ℕ → Type 0
-IsNumber option text n = (text ≡ decimal n) × (least_of option ≤ n) × (n ≤ most_of option)
+IsNumber option text n = IsWithin (least_of option) (most_of option) text n
 
 abbrev pub IsNoNumber : NumberOption → Text → Type 0
 IsNoNumber option text = (n : ℕ) → IsNumber option text n → ⊥

@@ -3,20 +3,24 @@ ghost use Rattle.std.specs.Prelude.{◌≡◌, ◌≤◌, ◌⊎◌, ◌↔◌, 
 ghost use Rattle.clap.specs.declared.builder.command.Command.TheViews.{out-Command as fields_of};
 ghost use Rattle.clap.specs.declared.error.kind.ErrorKind.TheVariants.{OutOfMemory};
 ghost use Rattle.clap.specs.Words.{app_of, first_value, found_of, kind_of, rows_of, rule_of, shape_of, subcommand_of, subcommand_rows_of};
-ghost use Rattle.mountd_options.specs.CommandLine.{AreServed, AsksFor, AsksVersion, IsGiven, IsImport, IsMount, IsServed, IsTaken, IsTidy, KeepsNone, NamesMount, Refuses, RefusesNumber, RefusesNumbers, RefusesObjects, RefusesValues, SaysLimits, SaysObjects, SaysPasses, command_name, import, import_options, kept_options, mount_options, mountd_line, objects, objects_options, serve, serve_options, stdio, tidy, tidy_options};
+ghost use Rattle.mountd_options.specs.Addresses.{IsAddress, IsNoAddress, address_name};
+ghost use Rattle.mountd_options.specs.CommandLine.{AreServed, AsksFor, AsksVersion, IsGiven, IsImport, IsMount, IsServed, IsTaken, IsTidy, KeepsNone, NamesMount, Refuses, RefusesAddress, RefusesNumber, RefusesObjects, RefusesServer, RefusesValues, SaysLimits, SaysObjects, SaysPasses, SaysPlace, command_name, import, import_options, kept_options, mount_options, mountd_line, objects, objects_options, serve, serve_options, server_name, stdio, tidy, tidy_options};
 ghost use Rattle.mountd_options.specs.Grammar.{HasRequired, flag, option_rule, optional, required, subcommand_shape, with_options};
 ghost use Rattle.mountd_options.specs.Numbers.{IsNoNumber, IsNoValue, IsNumber, SaysNumber};
 ghost use Rattle.mountd_options.specs.Numbers.{least_of, most_of, number_name};
 ghost use Rattle.mountd_options.specs.declared.numbers.NumberOption.TheVariants.{Sessions};
 ghost use Rattle.mountd_options.specs.declared.command.MountCommand.TheVariants as by;
 ghost use Rattle.mountd_options.specs.declared.command.OptionsError.TheVariants as error;
+ghost use Rattle.mountd_options.specs.declared.command.ServerCommand.TheVariants as server;
 
+use crate::addresses::AddressOption;
 use crate::numbers::NumberOption;
 use clap::error::ErrorKind;
 use clap::{Arg, ArgAction, ArgMatches};
 use eden_model::Id;
 use eden_mount::Config;
 use eden_object::parse_id;
+use eden_sockets::Address;
 use std::alloc::{AllocError, Global};
 use std::convert::AsStr;
 use std::fmt::{self, Display, Formatter, Write};
@@ -51,8 +55,8 @@ const SIZES: usize = 65_536;
 pub enum Objects {
     /// The folder that they lie in.
     Folder(String),
-    /// The port of a server of this machine.
-    Port(u16),
+    /// A server of this machine.
+    Server(Address),
 }
 
 /// A command that opens a mount.
@@ -60,7 +64,7 @@ pub enum Objects {
 pub enum MountCommand {
     /// One caller, over standard input and output.
     Stdio,
-    /// A caller for each connection to a port.
+    /// A caller for each connection.
     Serve,
 }
 
@@ -77,6 +81,33 @@ impl MountCommand {
 }
 
 impl Display for MountCommand {
+    fn fmt<W: Write>(&self, f: &mut Formatter<W>) -> fmt::Result {
+        f.write_str(self.name())
+    }
+}
+
+/// A command that listens.
+#[derive(Clone, Copy, Debug, PartialEq, Eq)]
+pub enum ServerCommand {
+    /// It serves a mount.
+    Serve,
+    /// It serves a folder of objects.
+    Objects,
+}
+
+impl ServerCommand {
+    /// Its name.
+    pub fn name(self) -> &'static str
+        ensures { result.now ≡ server_name self }
+    {
+        match self {
+            ServerCommand::Serve => "serve",
+            ServerCommand::Objects => "objects",
+        }
+    }
+}
+
+impl Display for ServerCommand {
     fn fmt<W: Write>(&self, f: &mut Formatter<W>) -> fmt::Result {
         f.write_str(self.name())
     }
@@ -113,8 +144,8 @@ pub struct MountOptions {
 pub struct ServeOptions {
     /// The mount, which has as many passes as connections are served.
     pub mount: MountOptions,
-    /// The port, or 0 for one that the machine chooses.
-    pub port: u16,
+    /// Where it is to listen.
+    pub address: Address,
     /// How many objects are asked for at once.
     pub fetchers: u32,
 }
@@ -124,8 +155,8 @@ pub struct ServeOptions {
 pub struct ObjectsOptions {
     /// The folder that the objects lie in.
     pub folder: String,
-    /// The port, or 0 for one that the machine chooses.
-    pub port: u16,
+    /// Where it is to listen.
+    pub address: Address,
     /// How many connections are served.
     pub sessions: u32,
 }
@@ -170,6 +201,12 @@ pub enum OptionsError {
     /// This command is given neither or both of what objects may come from.
     #[error("mountd: {0} takes one of --objects and --remote")]
     Source(MountCommand),
+    /// This command is given neither or both of what it may listen at.
+    #[error("mountd: {0} takes one of --port and --socket")]
+    Place(ServerCommand),
+    /// The value of this option is no address that it takes.
+    #[error("mountd: {0}")]
+    Address(AddressOption),
     /// The value of this option is no number that it takes.
     #[error("mountd: {0}")]
     Number(NumberOption),
@@ -272,16 +309,49 @@ fn objects_of(
     ensures ok { IfOk result (SaysObjects (first_value (found_of given.now))) }
     ensures err { IfErr result (RefusesObjects command (first_value (found_of given.now))) }
 {
-    let port = given.get_str("remote");
+    let server = given.get_str("remote");
     match given.get_str("objects") {
-        Some(folder) => match port {
+        Some(folder) => match server {
             Some(_) => Err(OptionsError::Source(command)),
             None => Ok(Objects::Folder(String::from_str(alloc, folder)?)),
         },
-        None => match port {
-            Some(text) => Ok(Objects::Port(read(text, NumberOption::Remote)? as u16)),
+        None => match server {
+            Some(text) => Ok(Objects::Server(read_address(alloc, text, AddressOption::Remote)?)),
             None => Err(OptionsError::Source(command)),
         },
+    }
+}
+
+/// Where the command is to listen.
+fn place_of(
+    alloc: Global,
+    given: &ArgMatches,
+    command: ServerCommand,
+) -> Result<Address, OptionsError>
+    ensures ok { IfOk result (SaysPlace (first_value (found_of given.now))) }
+    ensures err { IfErr result (RefusesServer command (first_value (found_of given.now))) }
+{
+    let socket = given.get_str("socket");
+    match given.get_str("port") {
+        Some(port) => match socket {
+            Some(_) => Err(OptionsError::Place(command)),
+            None => Ok(Address::Port(read(port, NumberOption::Port)? as u16)),
+        },
+        None => match socket {
+            Some(text) => read_address(alloc, text, AddressOption::Socket),
+            None => Err(OptionsError::Place(command)),
+        },
+    }
+}
+
+/// The address that the text says for the option, or the option where it says none that it takes.
+fn read_address(alloc: Global, text: &str, option: AddressOption) -> Result<Address, OptionsError>
+    ensures ok { IfOk result (IsAddress option text.now) }
+    ensures err { IfErr result (λ e. (e ≡ error.Memory) ⊎ ((e ≡ error.Address option) × IsNoAddress option text.now)) }
+{
+    match option.read(alloc, text)? {
+        Some(address) => Ok(address),
+        None => Err(OptionsError::Address(option)),
     }
 }
 
@@ -291,12 +361,11 @@ fn serve_options(alloc: Global, given: &ArgMatches) -> Result<ServeOptions, Opti
     ensures err { IfErr result (RefusesValues by.Serve (first_value (found_of given.now))) }
 {
     let mount = mount_options(alloc, given, MountCommand::Serve)?;
-    let port = given.get_str("port").unwrap();
-    let port = read(port, NumberOption::Port)? as u16;
+    let address = place_of(alloc, given, ServerCommand::Serve)?;
     let fetchers = number(given, NumberOption::Fetchers, FETCHERS)? as u32;
     Ok(ServeOptions {
         mount,
-        port,
+        address,
         fetchers,
     })
 }
@@ -304,16 +373,15 @@ fn serve_options(alloc: Global, given: &ArgMatches) -> Result<ServeOptions, Opti
 fn objects_options(alloc: Global, given: &ArgMatches) -> Result<ObjectsOptions, OptionsError>
     requires { HasRequired objects_options (rows_of (found_of given.now)) }
     ensures ok { IfOk result (AreServed (first_value (found_of given.now))) }
-    ensures err { IfErr result (RefusesNumbers (first_value (found_of given.now))) }
+    ensures err { IfErr result (RefusesServer server.Objects (first_value (found_of given.now))) }
 {
     let folder = given.get_str("dir").unwrap();
-    let port = given.get_str("port").unwrap();
     let folder = String::from_str(alloc, folder)?;
-    let port = read(port, NumberOption::Port)? as u16;
+    let address = place_of(alloc, given, ServerCommand::Objects)?;
     let sessions = number(given, NumberOption::Sessions, OBJECTS_SESSIONS)? as u32;
     Ok(ObjectsOptions {
         folder,
-        port,
+        address,
         sessions,
     })
 }
@@ -458,6 +526,8 @@ fn refusal(reason: clap::Error) -> OptionsError
 
 const PORT_HELP: &str = "The port of 127.0.0.1; 0 lets the machine choose";
 
+const SOCKET_HELP: &str = "The path of a socket for this user alone, in the place of --port";
+
 /// The program's grammar.
 fn command_line<'a>(alloc: Global) -> Result<clap::Command<'a>, AllocError>
     ensures { IfOk result (λ command. app_of command ≡ mountd_line) }
@@ -494,12 +564,9 @@ fn serve_line<'a>(alloc: Global) -> Result<clap::Command<'a>, AllocError>
     ensures shape { IfOk result (λ line. shape_of line ≡ subcommand_shape serve) }
     ensures local { IfOk result (λ line. (fields_of line).has_globals ≡ false) }
 {
-    let line = mount_line(
-        alloc,
-        "serve",
-        "Serves a session to each connection to a port",
-    )?;
-    let line = with_required(alloc, line, ("port", "P"), PORT_HELP)?;
+    let line = mount_line(alloc, "serve", "Serves a session to each connection")?;
+    let line = with_optional(alloc, line, ("port", "P"), PORT_HELP)?;
+    let line = with_optional(alloc, line, ("socket", "PATH"), SOCKET_HELP)?;
     let line = with_optional(
         alloc,
         line,
@@ -534,8 +601,8 @@ fn mount_line<'a>(
     let line = with_optional(
         alloc,
         line,
-        ("remote", "PORT"),
-        "The port of a server of Git objects, in the place of --objects",
+        ("remote", "SERVER"),
+        "A server of Git objects, in the place of --objects: its port, or its socket's path with a slash",
     )?;
     with_kept_options(alloc, line)
 }
@@ -546,7 +613,8 @@ fn objects_line<'a>(alloc: Global) -> Result<clap::Command<'a>, AllocError>
 {
     let line = clap::Command::new(alloc, "objects").about("Serves a folder of Git objects");
     let line = with_required(alloc, line, ("dir", "DIR"), "The folder of Git objects")?;
-    let line = with_required(alloc, line, ("port", "P"), PORT_HELP)?;
+    let line = with_optional(alloc, line, ("port", "P"), PORT_HELP)?;
+    let line = with_optional(alloc, line, ("socket", "PATH"), SOCKET_HELP)?;
     with_optional(
         alloc,
         line,

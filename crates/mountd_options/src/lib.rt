@@ -5,11 +5,13 @@
 //! and a server take.
 #![tactic(auto)]
 
+mod addresses;
 mod command;
 mod numbers;
 
+pub use addresses::AddressOption;
 pub use command::{
     Command, HistoryOption, ImportOptions, MountCommand, MountOptions, Objects, ObjectsOptions,
-    OptionsError, ServeOptions, TidyOptions, options,
+    OptionsError, ServeOptions, ServerCommand, TidyOptions, options,
 };
 pub use numbers::NumberOption;

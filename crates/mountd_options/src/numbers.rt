@@ -1,6 +1,7 @@
 //! Options that take a number.
 ghost use Rattle.std.specs.Prelude.{◌≡◌, ◌≤◌, ◌↔◌, IsTrue, MatchOption};
-ghost use Rattle.mountd_options.specs.Numbers.{IsNoNumber, IsNumber, SaysNone, least_of, most_of, number_name};
+ghost use Rattle.mountd_options.specs.Numbers.{IsNoNumber, IsNumber, IsWithin, NoneWithin, SaysNone};
+ghost use Rattle.mountd_options.specs.Numbers.{least_of, most_of, number_name};
 
 use eden_wire::read_number;
 use std::fmt::{self, Display, Formatter, Write};
@@ -14,8 +15,6 @@ pub enum NumberOption {
     CacheEntries,
     /// How many bytes the cache's objects have together.
     CacheBytes,
-    /// The port of the server that objects are asked of.
-    Remote,
     /// The port of a server; 0 lets the machine choose one.
     Port,
     /// How many connections a server takes.
@@ -33,7 +32,6 @@ impl NumberOption {
             NumberOption::History => "history",
             NumberOption::CacheEntries => "cache-entries",
             NumberOption::CacheBytes => "cache-bytes",
-            NumberOption::Remote => "remote",
             NumberOption::Port => "port",
             NumberOption::Sessions => "sessions",
             NumberOption::Fetchers => "fetchers",
@@ -49,7 +47,6 @@ impl NumberOption {
             NumberOption::History
             | NumberOption::CacheEntries
             | NumberOption::CacheBytes
-            | NumberOption::Remote
             | NumberOption::Sessions
             | NumberOption::Fetchers => 1,
         }
@@ -63,7 +60,7 @@ impl NumberOption {
             NumberOption::History => u32::MAX as u64,
             NumberOption::CacheEntries => 65_536,
             NumberOption::CacheBytes => 1 << 40,
-            NumberOption::Remote | NumberOption::Port => u16::MAX as u64,
+            NumberOption::Port => u16::MAX as u64,
             NumberOption::Sessions => 64,
             NumberOption::Fetchers => 16,
         }
@@ -77,7 +74,6 @@ impl NumberOption {
             NumberOption::History => text == "none",
             NumberOption::CacheEntries
             | NumberOption::CacheBytes
-            | NumberOption::Remote
             | NumberOption::Port
             | NumberOption::Sessions
             | NumberOption::Fetchers => false,
@@ -90,12 +86,19 @@ impl NumberOption {
     pub fn read(self, text: &str) -> Option<u64>
         ensures { MatchOption result (IsNoNumber self text.now) (IsNumber self text.now) }
     {
-        let number = read_number(text.as_bytes())?;
-        if number < self.least() || number > self.most() {
-            return None;
-        }
-        Some(number)
+        read_within(text, self.least(), self.most())
     }
+}
+
+/// The number within these bounds that the text spells, in decimal digits with neither a sign nor a leading zero.
+pub(crate) fn read_within(text: &str, least: u64, most: u64) -> Option<u64>
+    ensures { MatchOption result (NoneWithin least most text.now) (IsWithin least most text.now) }
+{
+    let number = read_number(text.as_bytes())?;
+    if number < least || number > most {
+        return None;
+    }
+    Some(number)
 }
 
 /// What the option takes.

@@ -3,6 +3,7 @@ use crate::answers::is_heard;
 use crate::lines::samples;
 use eden_model::{Cause, Id, Outside};
 use eden_remote::{Refusal, SocketSource, answer_objects, ask, read_answer};
+use eden_sockets::Address;
 use eden_source::Source;
 use std::alloc::Global;
 use std::cell::Cell;
@@ -128,7 +129,7 @@ fn is_answer(answer: &Result<Vec<u8>, Cause>, want: &Result<&[u8], Cause>) -> bo
 #[test]
 fn a_source_connects_anew_after_a_fault(rt: HostRuntime) {
     let lines = Lines(Cell::new(0));
-    let mut source = SocketSource::new(rt.alloc(), lines, 1, Duration::from_secs(1));
+    let mut source = SocketSource::new(rt.alloc(), lines, Address::Port(1), Duration::from_secs(1));
     for (number, (want, failures)) in ANSWERS.iter().enumerate() {
         let answer = source.fetch(rt.alloc(), VERSION_1.id);
         assert!(rt; is_answer(&answer, want), "number {number}");
@@ -185,7 +186,12 @@ fn fails(alloc: Global, source: &mut impl Source<Outside>) -> bool {
 fn a_silent_server_is_a_failure(rt: HostRuntime) {
     let listener = TcpListener::bind(&rt, "127.0.0.1:0").expect(&rt, "a port");
     let port = listener.local_addr().expect(&rt, "an address").port();
-    let mut source = SocketSource::new(rt.alloc(), &rt, port, Duration::from_millis(20));
+    let mut source = SocketSource::new(
+        rt.alloc(),
+        &rt,
+        Address::Port(port),
+        Duration::from_millis(20),
+    );
     assert!(rt; fails(rt.alloc(), &mut source));
     assert!(rt; source.failures() == 1);
     drop(listener);

@@ -6,13 +6,15 @@ ghost use Rattle.eden_shared.specs.Passes.{AreNewcomers};
 
 use crate::late::end_late;
 use crate::mounts::{Held, Mounted, Size, open, serve};
-use eden_host::{Port, Unloading};
+use eden_host::Unloading;
 use eden_model::Outside;
 use eden_remote::{SocketSource, answer_objects};
 use eden_shared::{Naming, Pass, Ties};
+use eden_sockets::{Address, Listener};
 use eden_source::MemorySource;
 use std::alloc::Global;
 use std::fmt::Display;
+use std::fs::Files;
 use std::io::{self, Eprint, ErrorKind, Print, Read, Write};
 use std::marker::Brand;
 use std::net::{Ipv4Addr, Net, Shutdown, SocketAddr, TcpListener, TcpStream};
@@ -126,7 +128,7 @@ fn address(rt: &impl Abort, listener: &TcpListener) -> SocketAddr {
 /// Serves two clients of a port, with two sources, which ask another port.
 fn serve_port<
     J: Naming + Send + Sync,
-    R: Net<Stream = TcpStream, Listener = TcpListener> + Threads + Wait + Abort + Sync,
+    R: Net<Stream = TcpStream, Listener = TcpListener> + Files + Threads + Wait + Abort + Sync,
 >(
     rt: &R,
     alloc: Global,
@@ -139,17 +141,26 @@ fn serve_port<
 {
     let mut sources = Vec::new(alloc);
     for _ in 0..FETCHERS {
-        let source = SocketSource::new(alloc, rt, from.port(), Duration::from_secs(10));
+        let server = Address::Port(from.port());
+        let source = SocketSource::new(alloc, rt, server, Duration::from_secs(10));
         sources.push(source).expect(rt, "memory");
     }
-    let port = Port::new(Bound { listener }, 0);
-    serve(rt, alloc, port, shared, passes, sources, Unloading::usual())
+    let listener = Listener::new(Bound { listener }, rt, Address::Port(0));
+    serve(
+        rt,
+        alloc,
+        listener,
+        shared,
+        passes,
+        sources,
+        Unloading::usual(),
+    )
 }
 
 /// Serves them over a mount of the commit of one file.
 fn mount_and_serve<
     J: Naming + Send + Sync,
-    R: Net<Stream = TcpStream, Listener = TcpListener> + Threads + Wait + Abort + Sync,
+    R: Net<Stream = TcpStream, Listener = TcpListener> + Files + Threads + Wait + Abort + Sync,
 >(rt: &R, alloc: Global, ties: Ties, listener: TcpListener, from: SocketAddr) -> Mounted
     requires ties { AreTied ties.lanes.items ties.ends.items CLIENTS }
     requires names { names_of ties.lanes.items ≡ J.names }

@@ -1,5 +1,6 @@
 //! What no clause says: that a good line is taken, and the texts of refusals.
 use eden_mount::Config;
+use eden_sockets::Address;
 use mountd_options::{
     Command, HistoryOption, MountOptions, Objects, OptionsError, ServeOptions, options,
 };
@@ -93,7 +94,7 @@ fn served(rt: &impl Abort, alloc: Global, words: &[&str]) -> ServeOptions {
 fn lie_in_the_folder(objects: &Objects) -> bool {
     match objects {
         Objects::Folder(folder) => folder.as_str() == FOLDER,
-        Objects::Port(_) => false,
+        Objects::Server(_) => false,
     }
 }
 
@@ -138,7 +139,7 @@ fn takes_a_line_without_a_history(rt: HostRuntime) {
 /// Whether a server has this port and so many fetchers, and its mount so many passes and entries of the history.
 fn has_numbers(given: &ServeOptions, port: u16, fetchers: u32, passes: u32, history: u32) -> bool {
     let limits = &given.mount.limits;
-    given.port == port
+    given.address == Address::Port(port)
         && given.fetchers == fetchers
         && limits.passes() == passes
         && limits.history() == history
@@ -154,7 +155,7 @@ fn takes_a_line_that_serves(rt: HostRuntime) {
 #[test]
 fn takes_a_full_line_that_serves(rt: HostRuntime) {
     let given = served(&rt, rt.alloc(), SERVED_FULL);
-    assert!(rt; matches!(given.mount.objects, Objects::Port(1)));
+    assert!(rt; matches!(given.mount.objects, Objects::Server(Address::Port(1))));
     assert!(rt; has_numbers(&given, 65_535, 16, 64, 1));
 }
 
@@ -231,7 +232,7 @@ const NO_LINES: &[Refused] = &[
     ),
     (
         &["mountd", "serve", "--root", ROOT, "--objects", FOLDER],
-        "error: the following required arguments were not provided:\n  --port <P>",
+        "mountd: serve takes one of --port and --socket",
     ),
     (
         &["mountd", "serve", "--port", "65536", "--root", "0"],
@@ -271,7 +272,7 @@ const STDIO_HELP: &str =
     "Serves one session over standard input and output\n\nUsage: mountd stdio [OPTIONS] --root <ID>\n";
 
 const SERVE_HELP: &str =
-    "Serves a session to each connection to a port\n\nUsage: mountd serve [OPTIONS] --root <ID> --port <P>\n";
+    "Serves a session to each connection\n\nUsage: mountd serve [OPTIONS] --root <ID>\n";
 
 const HELP: &[Refused] = &[
     (&["mountd", "--help"], TOP_HELP),
@@ -361,6 +362,28 @@ const NO_NUMBERS: &[Refused] = &[
     ),
 ];
 
+/// 108 bytes.
+const LONG_PATH: &str =
+    "/23456789/123456789/123456789/123456789/123456789/123456789/123456789/123456789/123456789/123456789/12345678";
+
+/// Servers that are none.
+const NO_SERVERS: &[&str] = &["0", "65536", "01", "x", "", LONG_PATH];
+
+const NO_SERVER: &str =
+    "mountd: --remote takes a number from 1 to 65535, or a path with a slash, of at most 107 bytes";
+
+#[test]
+fn refuses_what_is_no_server(rt: HostRuntime) {
+    for server in NO_SERVERS {
+        assert!(rt; is_no_server(&rt, rt.alloc(), server));
+    }
+}
+
+fn is_no_server(rt: &impl Abort, alloc: Global, server: &str) -> bool {
+    let words = ["mountd", "stdio", "--root", ROOT, "--remote", server];
+    refusal(rt, alloc, words.as_slice()).as_str() == NO_SERVER
+}
+
 /// .. and a good line of `serve`.
 const NO_SERVED_NUMBERS: &[Refused] = &[
     (
@@ -389,7 +412,19 @@ const NO_SERVED_NUMBERS: &[Refused] = &[
     ),
 ];
 
-const NO_PORTS: &[Refused] = &[
+const NO_PLACES: &[Refused] = &[
+    (
+        &["--port", "1", "--socket", "socket"],
+        "mountd: serve takes one of --port and --socket",
+    ),
+    (
+        &["--socket", ""],
+        "mountd: --socket takes a path of 1 to 107 bytes",
+    ),
+    (
+        &["--socket", LONG_PATH],
+        "mountd: --socket takes a path of 1 to 107 bytes",
+    ),
     (
         &["--port", "65536"],
         "mountd: --port takes a number from 0 to 65535",
@@ -429,5 +464,35 @@ fn refuses_what_is_no_number(rt: HostRuntime) {
 fn refuses_what_is_no_number_of_a_server(rt: HostRuntime) {
     check_behind(&rt, rt.alloc(), SERVED, NO_SERVED_NUMBERS);
     // All of the line but the last two words, which are the port.
-    check_behind(&rt, rt.alloc(), &SERVED[..6], NO_PORTS);
+    check_behind(&rt, rt.alloc(), &SERVED[..6], NO_PLACES);
+}
+
+/// The words of `objects` at a socket.
+const AT_A_SOCKET: &[&str] = &["mountd", "objects", "--dir", FOLDER, "--socket", "socket"];
+
+#[test]
+fn takes_a_socket_to_listen_at(rt: HostRuntime) {
+    match options(rt.alloc(), AT_A_SOCKET) {
+        Ok(Command::Objects(given)) => assert!(rt; is_path(&given.address, "socket")),
+        _ => rt.abort(),
+    }
+}
+
+/// A line that asks a server at a socket.
+const FROM_A_SOCKET: &[&str] = &["mountd", "stdio", "--root", ROOT, "--remote", "./1"];
+
+#[test]
+fn takes_a_socket_to_ask(rt: HostRuntime) {
+    let given = asked(&rt, rt.alloc(), FROM_A_SOCKET);
+    match &given.objects {
+        Objects::Server(address) => assert!(rt; is_path(address, "./1")),
+        Objects::Folder(_) => rt.abort(),
+    }
+}
+
+fn is_path(address: &Address, want: &str) -> bool {
+    match address {
+        Address::Socket(path) => path.as_str() == want,
+        Address::Port(_) => false,
+    }
 }

@@ -3,7 +3,7 @@ use Rattle.clap.specs.Matches.{found_of, subcommand_name_of}
 use Rattle.clap.specs.Simple.{subcommand_of, subcommand_rows_of}
 use Rattle.mountd_options.specs.CommandLine.{AreServed, IsImport, IsMount, IsServed, IsTaken, IsTidy, Refuses, import, mountd_line, objects, serve, stdio, tidy}
 use Rattle.mountd_options.specs.declared.command.MountCommand.TheVariants as by
-use Rattle.mountd_options.proofs.LineLemmas.{by_words, import-named, met-named, named-met, numbers_refuse, required-taken, values_refuse}
+use Rattle.mountd_options.proofs.LineLemmas.{by_words, import-named, met-named, named-met, objects_refuse, required-taken, values_refuse}
 use Rattle.mountd_options.proofs.command.options.Goals as goal
 
 pub mount_options-requires : goal.mount_options-requires
@@ -86,7 +86,7 @@ returns-in_err-objects_options-clause-err g c =
     let rows : subcommand_rows_of c.in_ok-matches.matches ≡ subcommand_of mountd_line words = search rules in
     let name : subcommand_name_of c.in_ok-matches.matches ≡ Some objects.0 = c.in-Some-subcommand_matches-2.ensures.found.0 refl in
     let met = met-named words c.in_ok-matches.matches f objects.0 rows name c.in-Some-subcommand_matches-2.ensures.rows in
-    let refused : Refuses words why = numbers_refuse words f why taken met c.in_err-objects_options.ensures.err in
+    let refused : Refuses words why = objects_refuse words f why taken met c.in_err-objects_options.ensures.err in
     search rules
 
 pub returns-in-Some-subcommand_matches-2-clause-ok : goal.returns-in-Some-subcommand_matches-2-clause-ok
