@@ -2,7 +2,8 @@
 use eden_inflate::Refusal;
 
 /// What each of `OF_TEXT` gives.
-pub(crate) const TEXT: &[u8] = b"A directory is read as its entries come; an entry is read as its object comes. \
+pub(crate) const TEXT: &[u8] =
+    b"A directory is read as its entries come; an entry is read as its object comes. \
     What was read once is kept, and what is kept isn't asked for again, until it is the oldest.\n";
 
 /// By several levels, strategies and flushes, in hexadecimal digits.
