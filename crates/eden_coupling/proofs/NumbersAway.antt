@@ -1,5 +1,5 @@
 -- What directories that are put away and go leave of a table and its numbers.
-use Rattle.std.proofs.Common.{◌≡◌, ◌≢◌, ◌≤◌, ◌-◌, ℕ, Bool, true, false, cond, List, [], ◌∷◌, Option, Some, None, inl, inr, refl, sym, ap, subst, ◌∙◌}
+use Rattle.std.proofs.Common.{◌≡◌, ◌≢◌, ◌≤◌, ◌-◌, ℕ, Bool, true, false, cond, List, [], ◌∷◌, Option, Some, None, inl, inr, refl, sym, ap, subst, ◌∙◌, arith}
 use Rattle.std.proofs.lemmas.Option.{same_Some, none-some}
 use Rattle.std.specs.Option.{option_map}
 use Rattle.eden_model.specs.declared.id.Id.{Id}
@@ -24,7 +24,7 @@ use Rattle.eden_coupling.specs.NumberKept.{KeepsNumbers, SameNumbers}
 use Rattle.eden_coupling.specs.NumberNodes.{ListsTree, ListTrees}
 use Rattle.eden_coupling.specs.Numberings.{NumberFiles, in_files, entries_by, stored_below, numbers}
 use Rattle.eden_coupling.specs.NumberSaves.{HasStored, IsSameOver}
-use Rattle.eden_coupling.specs.NumberUnloads.{IsPutAway, own_stored, own_before, empty, numbers_saved, numbers_before, GoesAway, UnloadsAway, none, one_more, same_files}
+use Rattle.eden_coupling.specs.NumberUnloads.{PutAwayKeeps, IsPutAway, own_stored, own_before, empty, numbers_saved, numbers_before, GoesAway, UnloadsAway, none, one_more, same_files}
 use Rattle.eden_coupling.specs.Shown.{item_away, IsFrom}
 use Rattle.eden_coupling.specs.Ties.{IsAway}
 use Rattle.eden_coupling.specs.Unloading.{Goes, HasNoneInside, none as none_went, one_more as one_went}
@@ -183,6 +183,10 @@ module _ (R : Repository) (F : Stored) (x : Row) (next : ℕ) (table : IsTable x
         let held : saved_at G y.number id ≡ Some (listing_of d) = ap (λ (H : Stored). saved_at H y.number id) is ∙ had in
         over_by (λ _. is) (λ mark. absurd (other (kept.ties.marked y d place holds mark)))
         (numbers_by (unchanged is) (inl (stored_is (in_files G) y (origin.Object id) dir object ∙ held)) (object_lists G id object held))
+
+pub put_away_keeps : PutAwayKeeps
+put_away_keeps R F G x y next p d table kept k at holds inside_none away =
+    either_way R F x next table kept k y p d at holds inside_none 0 0 G (edit_row p (with_child None) x) (omega arith) refl away
 
 -- a directory that is put away and goes: the table is kept, its numbers too, and the same is shown
 abbrev pub GoesAwayKeeps : Type 1

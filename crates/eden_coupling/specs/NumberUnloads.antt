@@ -2,12 +2,16 @@
 use Rattle.std.specs.Prelude.{◌≡◌, ◌≤◌, ◌-◌, ◌+◌, ℕ, true, false, length, Some, None}
 use Rattle.eden_model.specs.declared.id.Id.{Id}
 use Rattle.eden_model.specs.declared.kind.Origin.TheVariants as origin
+use Rattle.eden_model.specs.Repository.{Repository}
 use Rattle.eden_model.specs.Trees.{Path}
 use Rattle.eden_overlay.specs.Files.{Stored}
 use Rattle.eden_overlay.specs.Held.{saved_at, with_entries, with_numbers}
 use Rattle.eden_tree.specs.Directory.{Row, Directory, child_of, with_child}
 use Rattle.eden_tree.specs.Paths.{row_at, edit_row}
+use Rattle.eden_coupling.specs.Kept.{IsTable, IsKept}
 use Rattle.eden_coupling.specs.Listings.{listing_of}
+use Rattle.eden_coupling.specs.NumberKept.{KeepsNumbers}
+use Rattle.eden_coupling.specs.NumberSaves.{IsSameOver}
 use Rattle.eden_coupling.specs.Unloading.{HasNoneInside}
 
 -- The files once the loaded directory of that entry may go. One that is the mount's own was stored where it was marked
@@ -38,3 +42,9 @@ pub data UnloadsAway (honest : Type 0) (clock age : ℕ) (F : Stored) (x : Row) 
   one_more : (G : Stored) (y : Row) (c : ℕ) (H : Stored) (z : Row) → UnloadsAway honest clock age F x G y c → GoesAway honest clock age G y H z
       → UnloadsAway honest clock age F x H z (c + 1)
   same_files : (G : Stored) (y : Row) (c : ℕ) (H : Stored) → UnloadsAway honest clock age F x G y c → (honest → H ≡ G) → UnloadsAway honest clock age F x H y c
+
+-- a directory with none inside that is put away may go: the table and its numbers are kept, and it shows the same
+abbrev pub PutAwayKeeps : Type 0
+PutAwayKeeps = (R : Repository) (F G : Stored) (x y : Row) (next : ℕ) (p : Path) (d : Directory) → IsTable x next → IsKept R F x next → KeepsNumbers R F x next
+    → row_at p x ≡ Some y → child_of y ≡ Some d → HasNoneInside d → IsPutAway F y d G
+    → IsSameOver R F G x (edit_row p (with_child None) x) next × KeepsNumbers R G (edit_row p (with_child None) x) next

@@ -12,6 +12,7 @@ ghost use Rattle.eden_coupling.specs.NumberSaves.{SaveUnseen, GoneSame, ManyGone
 ghost use Rattle.eden_coupling.specs.NumberSaves.{OtherFileTied, OtherFileKept, OtherFileAlike, SavedSameOver};
 ghost use Rattle.eden_coupling.specs.NumberSaves.{GoneSameOver, BlankRises};
 ghost use Rattle.eden_coupling.specs.NumberSaves.{BlankSaved, BlankStored};
+ghost use Rattle.eden_coupling.specs.NumberUnloads.{PutAwayKeeps};
 ghost use Rattle.eden_coupling.specs.Numberings.{NumbersOfEntries, NumbersFromEntry, EntryGrafts, NameGrafts};
 ghost use Rattle.eden_coupling.specs.Numberings.{StampsUnseen};
 
@@ -87,4 +88,5 @@ pub fn number_kept_laws()
     ensures add { AddKeeps }
     ensures replace { ReplaceKeeps }
     ensures moves { MoveKeeps }
+    ensures put_away { PutAwayKeeps }
 {}

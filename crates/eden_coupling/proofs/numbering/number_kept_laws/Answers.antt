@@ -1,3 +1,4 @@
+use Rattle.eden_coupling.proofs.NumbersAway.{put_away_keeps}
 use Rattle.eden_coupling.proofs.NumbersEdited.{mark_keeps, drop_keeps, add_keeps, replace_keeps, move_keeps}
 use Rattle.eden_coupling.proofs.NumbersFiles.{loaded_files_keep, not_shown_unseen, file_unseen, loaded_unseen, other_not_shown, unseen_file_keeps, chain_keeps, refused_keeps}
 use Rattle.eden_coupling.proofs.NumbersKept.{fresh_keeps, next_keeps, stamps_keep, object_load_keeps, saved_load_keeps, saved_load_from}
@@ -24,4 +25,5 @@ returns c = record {
   add = add_keeps;
   replace = replace_keeps;
   moves = move_keeps;
+  put_away = put_away_keeps;
 }
