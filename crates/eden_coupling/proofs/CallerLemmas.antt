@@ -57,3 +57,9 @@ pub use Rattle.eden_coupling.proofs.OwnContents.{own_held}
 pub use Rattle.eden_coupling.proofs.Saved.{saves_table, saves_kept, saves_alike, saves_marks, saves_unmarked}
 -- the numbers that a table shows: own directories that are loaded
 pub use Rattle.eden_coupling.proofs.NumbersLoaded.{own_load_same, empty_load_same}
+-- .. what keeps a table's numbers: loads, files, a chain, changes, and directories that are put away and go
+pub use Rattle.eden_coupling.proofs.NumbersKept.{fresh_keeps, next_keeps, stamps_keep, object_load_keeps, saved_load_keeps, saved_load_from, own_load_keeps}
+pub use Rattle.eden_coupling.proofs.NumbersFiles.{loaded_files_keep, not_shown_unseen, loaded_unseen, other_not_shown, unseen_file_keeps, same_then, chain_keeps, refused_keeps}
+pub use Rattle.eden_coupling.proofs.NumbersFiles.{file_unseen as entry_unseen}
+pub use Rattle.eden_coupling.proofs.NumbersEdited.{mark_keeps, drop_keeps, add_keeps, replace_keeps, move_keeps}
+pub use Rattle.eden_coupling.proofs.NumbersAway.{put_away_keeps, goes_away_keeps, unloads_away_table, unloads_away_keep}

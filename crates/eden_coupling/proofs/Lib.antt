@@ -63,3 +63,9 @@ pub mod NumbersSaved
 pub mod NumbersOver
 pub mod NumbersGone
 pub mod NumbersNodes
+pub mod NumbersListed
+pub mod NumbersShown
+pub mod NumbersKept
+pub mod NumbersFiles
+pub mod NumbersEdited
+pub mod NumbersAway

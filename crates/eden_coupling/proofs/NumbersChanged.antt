@@ -23,14 +23,14 @@ change_grafts M p n o x y d q at holds rising =
     ∙ ap (λ (v : Option Row). grafted (behind_of (p ++ n ∷ []) q) (numbers_from M v) (numbers M x q)) (find_with n n o d.rows rising ∙ ap (λ (b : Bool). cond b o (find_row n d.rows)) (same-refl n))
 
 -- what stands under a name of a loaded directory
-named_there : (M : NumberFiles) (p : Path) (n : Name) (o : Option Row) (x y : Row) (d : Directory) (r : Path) → row_at p x ≡ Some y → child_of y ≡ Some d → find_row n d.rows ≡ o
+pub named_there : (M : NumberFiles) (p : Path) (n : Name) (o : Option Row) (x y : Row) (d : Directory) (r : Path) → row_at p x ≡ Some y → child_of y ≡ Some d → find_row n d.rows ≡ o
     → numbers M x ((p ++ n ∷ []) ++ r) ≡ numbers_from M o r
 named_there M p n o x y d r at holds found =
     ap (numbers M x) (append_assoc p (n ∷ []) r)
     ∙ numbers_from_entry M x y p (n ∷ r) at
     ∙ ap (λ (v : Option Row). numbers_from M v r) (below_loaded M y d n holds ∙ found)
 
-bare_below : (M : NumberFiles) (w : Row) (k : Name) (r : Path) → IsBare M w → numbers M w (k ∷ r) ≡ None
+pub bare_below : (M : NumberFiles) (w : Row) (k : Name) (r : Path) → IsBare M w → numbers M w (k ∷ r) ≡ None
 bare_below M w k r bare = ap (λ (v : Option Row). numbers_from M v r) (bare k)
 
 -- a part that is one path at most is put there

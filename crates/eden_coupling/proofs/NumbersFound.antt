@@ -58,7 +58,7 @@ row_there es e are there =
 
 -- ---- paths
 
-entry_on : (M : NumberFiles) (x : Row) (a r : Path) → entry_at M x (a ++ r) ≡ option_and_then (λ z. entry_at M z r) (entry_at M x a)
+pub entry_on : (M : NumberFiles) (x : Row) (a r : Path) → entry_at M x (a ++ r) ≡ option_and_then (λ z. entry_at M z r) (entry_at M x a)
 entry_on M x [] r = refl
 entry_on M x (n ∷ a) r = below_by (entry_below M x n) (λ z. entry_on M z a r)
   where

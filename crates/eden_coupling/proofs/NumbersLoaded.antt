@@ -30,7 +30,7 @@ use Rattle.eden_coupling.proofs.NumbersGiven.{within, once, not_own, nothing_bel
 
 -- ---- what is stored is loaded
 
-stored_at : (M : NumberFiles) (p : Path) (x : Row) (o : Origin) (at : IsAt p x o) → stored_below M at.row ≡ entries_by M at.row.number o
+pub stored_at : (M : NumberFiles) (p : Path) (x : Row) (o : Origin) (at : IsAt p x o) → stored_below M at.row ≡ entries_by M at.row.number o
 stored_at M p x o at = ap (λ k. if_dir k (entries_by M at.row.number at.row.origin)) at.kind ∙ ap (entries_by M at.row.number) at.origin
 
 -- an entry is what its loaded directory leaves

@@ -77,13 +77,13 @@ other_file_alike R F G x y d next k place holds but =
 -- ---- a chain that is materialised
 
 -- a place in loaded directories is that of a path
-path_to : (x y : Row) → Place x y → (p : Path) × (row_at p x ≡ Some y)
+pub path_to : (x y : Row) → Place x y → (p : Path) × (row_at p x ≡ Some y)
 path_to x y top = ([], refl)
 path_to x y (inside v d n z place holds found) =
     let above = path_to x v place in
     (above.0 ++ n ∷ [], reads_on above.0 (n ∷ []) x ∙ ap (option_and_then (row_at (n ∷ []))) above.1 ∙ steps_down n [] v y d holds found)
 
-chain_elsewhere : (F : Stored) (x : Row) (p : Path) (G : Stored) (k : ℕ) → Chain F x p G → IsAway x k → G k ≡ F k
+pub chain_elsewhere : (F : Stored) (x : Row) (p : Path) (G : Stored) (k : ℕ) → Chain F x p G → IsAway x k → G k ≡ F k
 chain_elsewhere F x p G k (lowest_own z own) away = refl
 chain_elsewhere F x p G k (lowest z d holds other) away = put_apart F z.number k _ (away z d top holds)
 chain_elsewhere F x p G k (both_own v d n z r H holds found chain own also) away =
@@ -98,7 +98,7 @@ chain_by F G saved left k (origin.Object id) same kept = kept id
 chain_by F G saved left k origin.Own same kept = ap (option_and_then entries_in) same
 chain_by F G saved left k origin.Empty same kept = refl
 
-along_alike : (M : NumberFiles) (p : Path) (x y : Row) (d : Directory) → row_at p x ≡ Some y → child_of y ≡ Some d → (q : Path) → numbers M (owned (owned_along p x)) q ≡ numbers M x q
+pub along_alike : (M : NumberFiles) (p : Path) (x y : Row) (d : Directory) → row_at p x ≡ Some y → child_of y ≡ Some d → (q : Path) → numbers M (owned (owned_along p x)) q ≡ numbers M x q
 along_alike M [] x y d at holds q = owned_alike M x d (ap child_of (same_Some x y at) ∙ holds) q
 along_alike M (n ∷ p) x y d at holds q =
     option_and_then_some (λ (c : Directory). option_and_then (row_at p) (find_row n c.rows)) (child_of x) y at (λ c loaded rest.

@@ -27,7 +27,7 @@ module _ (M K : NumberFiles) where
   abbrev pub SeesSame : Row → Type 0
   SeesSame x = (p : Path) (z : Row) → entry_at M x p ≡ Some z → child_of z ≡ None → stored_below K z ≡ stored_below M z
 
-  from_alike : (o : Option Directory) (s t : Option (List StoredEntry)) (n : Name) → (o ≡ None → s ≡ t) → entry_from o s n ≡ entry_from o t n
+  pub from_alike : (o : Option Directory) (s t : Option (List StoredEntry)) (n : Name) → (o ≡ None → s ≡ t) → entry_from o s n ≡ entry_from o t n
   from_alike (Some d) s t n same = refl
   from_alike None s t n same = ap (option_and_then (row_named n)) (same refl)
 
@@ -91,7 +91,7 @@ as_is (Some z) away = ap (λ (w : Row). Some w) (ap (λ (c : Option Directory). 
 pub listed_entry : (d : Directory) (n : Name) → HasNoneInside d → row_named n (listing_of d) ≡ find_row n d.rows
 listed_entry d n away = listing_found n d.rows ∙ as_is (find_row n d.rows) (λ z found. away n z found)
 
-stored_entry_by : (K : NumberFiles) (y : Row) (d : Directory) (n : Name) → HasNoneInside d → HasStored K y d → option_and_then (row_named n) (stored_below K y) ≡ find_row n d.rows
+pub stored_entry_by : (K : NumberFiles) (y : Row) (d : Directory) (n : Name) → HasNoneInside d → HasStored K y d → option_and_then (row_named n) (stored_below K y) ≡ find_row n d.rows
 stored_entry_by K y d n away (inl had) = ap (option_and_then (row_named n)) had ∙ listed_entry d n away
 stored_entry_by K y d n away (inr had) = ap (option_and_then (row_named n)) had.0 ∙ sym (ap (find_row n) had.1)
 

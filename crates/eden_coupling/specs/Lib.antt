@@ -21,3 +21,5 @@ pub mod NumberLoads
 pub mod NumberSaves
 pub mod NumberChanges
 pub mod NumberNodes
+pub mod NumberKept
+pub mod NumberUnloads

@@ -1,5 +1,10 @@
 ghost use Rattle.eden_coupling.specs.NumberChanges.{ChangeGrafts, DropIsEdit, PutIsEdit, MoveIsEdit};
 ghost use Rattle.eden_coupling.specs.NumberChanges.{BareSame, UnseenSame};
+ghost use Rattle.eden_coupling.specs.NumberKept.{FreshKeeps, NextKeeps, StampsKeep, ObjectLoadKeeps};
+ghost use Rattle.eden_coupling.specs.NumberKept.{SavedLoadKeeps, SavedLoadFrom, LoadedFilesKeep};
+ghost use Rattle.eden_coupling.specs.NumberKept.{NotShownUnseen, FileUnseen, LoadedUnseen, OtherNotShown};
+ghost use Rattle.eden_coupling.specs.NumberKept.{UnseenFileKeeps, ChainKeeps, RefusedKeeps, MarkKeeps};
+ghost use Rattle.eden_coupling.specs.NumberKept.{DropKeeps, AddKeeps, ReplaceKeeps, MoveKeeps};
 ghost use Rattle.eden_coupling.specs.NumberLoads.{ObjectLoadGains, SavedLoadSame, NamesAreShown, SavedAreUnnamed};
 ghost use Rattle.eden_coupling.specs.NumberLoads.{SavedLoadKept};
 ghost use Rattle.eden_coupling.specs.NumberNodes.{NumbersAreNodes};
@@ -7,6 +12,7 @@ ghost use Rattle.eden_coupling.specs.NumberSaves.{SaveUnseen, GoneSame, ManyGone
 ghost use Rattle.eden_coupling.specs.NumberSaves.{OtherFileTied, OtherFileKept, OtherFileAlike, SavedSameOver};
 ghost use Rattle.eden_coupling.specs.NumberSaves.{GoneSameOver, BlankRises};
 ghost use Rattle.eden_coupling.specs.NumberSaves.{BlankSaved, BlankStored};
+ghost use Rattle.eden_coupling.specs.NumberUnloads.{PutAwayKeeps};
 ghost use Rattle.eden_coupling.specs.Numberings.{NumbersOfEntries, NumbersFromEntry, EntryGrafts, NameGrafts};
 ghost use Rattle.eden_coupling.specs.Numberings.{StampsUnseen};
 
@@ -55,4 +61,32 @@ pub fn number_change_laws()
     ensures moves { MoveIsEdit }
     ensures bare { BareSame }
     ensures unseen { UnseenSame }
+{}
+
+/// What each step of a mount keeps of numbers: none is shown at two paths, all are below the next one, none is saved
+/// under one that is yet to be given, and what is saved for a directory lists its tree object's entries.
+///
+/// What own directories that are loaded do, and loaded ones that go, is said over an outside that may be honest: those
+/// are lemmas, `own_load_keeps`, `goes_away_keeps` and `unloads_away_keep` (`proofs/CallerLemmas`).
+pub fn number_kept_laws()
+    ensures fresh { FreshKeeps }
+    ensures next { NextKeeps }
+    ensures stamps { StampsKeep }
+    ensures object_load { ObjectLoadKeeps }
+    ensures saved_load { SavedLoadKeeps }
+    ensures saved_from { SavedLoadFrom }
+    ensures loaded_files { LoadedFilesKeep }
+    ensures not_shown { NotShownUnseen }
+    ensures file_unseen { FileUnseen }
+    ensures loaded_unseen { LoadedUnseen }
+    ensures other_not_shown { OtherNotShown }
+    ensures unseen_file { UnseenFileKeeps }
+    ensures chain { ChainKeeps }
+    ensures refused { RefusedKeeps }
+    ensures mark { MarkKeeps }
+    ensures drop { DropKeeps }
+    ensures add { AddKeeps }
+    ensures replace { ReplaceKeeps }
+    ensures moves { MoveKeeps }
+    ensures put_away { PutAwayKeeps }
 {}
