@@ -62,4 +62,5 @@ pub use Rattle.eden_coupling.proofs.NumbersKept.{fresh_keeps, next_keeps, stamps
 pub use Rattle.eden_coupling.proofs.NumbersFiles.{loaded_files_keep, not_shown_unseen, loaded_unseen, other_not_shown, unseen_file_keeps, same_then, chain_keeps, refused_keeps}
 pub use Rattle.eden_coupling.proofs.NumbersFiles.{file_unseen as entry_unseen}
 pub use Rattle.eden_coupling.proofs.NumbersEdited.{mark_keeps, drop_keeps, add_keeps, replace_keeps, move_keeps}
+pub use Rattle.eden_coupling.proofs.NumbersRestored.{saved_load_over}
 pub use Rattle.eden_coupling.proofs.NumbersAway.{put_away_keeps, goes_away_keeps, unloads_away_table, unloads_away_keep}

@@ -69,3 +69,4 @@ pub mod NumbersKept
 pub mod NumbersFiles
 pub mod NumbersEdited
 pub mod NumbersAway
+pub mod NumbersRestored

@@ -11,6 +11,7 @@ use Rattle.eden_model.specs.Numbers.{Numbering}
 use Rattle.eden_model.specs.Operations.{put, move}
 use Rattle.eden_model.specs.Repository.{Repository, no_files}
 use Rattle.eden_model.specs.Trees.{Name, Path}
+use Rattle.eden_overlay_format.specs.Directory.{AreStorable}
 use Rattle.eden_overlay.specs.Files.{Stored, put as with_file}
 use Rattle.eden_overlay.specs.Held.{saved_at}
 use Rattle.eden_tree.specs.Directory.{Row, Directory, child_of}
@@ -18,6 +19,7 @@ use Rattle.eden_tree.specs.Rows.{find_row}
 use Rattle.eden_tree.specs.Paths.{row_at, stamped_along}
 use Rattle.eden_coupling.specs.Chains.{Refused}
 use Rattle.eden_coupling.specs.Changing.{changed, with_listing, MayMove, moved_in}
+use Rattle.eden_coupling.specs.Kept.{IsTable, IsKept}
 use Rattle.eden_coupling.specs.Laws.{owned}
 use Rattle.eden_coupling.specs.Listings.{listing_of}
 use Rattle.eden_coupling.specs.Loading.{IsAt, IsNew, LoadsObject, with_loaded}
@@ -25,6 +27,7 @@ use Rattle.eden_coupling.specs.Materialising.{Chain, owned_along}
 use Rattle.eden_coupling.specs.NumberChanges.{IsBare}
 use Rattle.eden_coupling.specs.NumberLoads.{AreBlank}
 use Rattle.eden_coupling.specs.NumberNodes.{ListTrees}
+use Rattle.eden_coupling.specs.NumberSaves.{IsSameOver}
 use Rattle.eden_coupling.specs.Numberings.{in_files, entries_by, numbers, entry_at}
 use Rattle.eden_coupling.specs.Shown.{IsFrom}
 use Rattle.eden_coupling.specs.Ties.{IsAway}
@@ -84,6 +87,12 @@ SavedLoadKeeps = (R : Repository) (F : Stored) (clock next : ℕ) (x : Row) (p :
 abbrev pub SavedLoadFrom : Type 0
 SavedLoadFrom = (R : Repository) (F : Stored) (clock next : ℕ) (x : Row) (p : Path) (id : Id) (d : Directory) → KeepsNumbers R F x next
     → (at : IsAt p x (origin.Object id)) → saved_at F at.row.number id ≡ Some (listing_of d) → IsNew clock d → IsFrom R no_files at.row d
+
+-- .. so a kept table stays so, and shows the same
+abbrev pub SavedLoadOver : Type 0
+SavedLoadOver = (R : Repository) (F : Stored) (clock next : ℕ) (x : Row) (p : Path) (id : Id) (d : Directory) → IsTable x next → IsKept R F x next
+    → KeepsNumbers R F x next → (at : IsAt p x (origin.Object id)) → saved_at F at.row.number id ≡ Some (listing_of d) → IsNew clock d
+    → AreStorable (listing_of d) → IsSameOver R F F x (with_loaded p clock d x) next
 
 -- ---- files
 

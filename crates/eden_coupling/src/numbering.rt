@@ -1,7 +1,8 @@
 ghost use Rattle.eden_coupling.specs.NumberChanges.{ChangeGrafts, DropIsEdit, PutIsEdit, MoveIsEdit};
 ghost use Rattle.eden_coupling.specs.NumberChanges.{BareSame, UnseenSame};
 ghost use Rattle.eden_coupling.specs.NumberKept.{FreshKeeps, NextKeeps, StampsKeep, ObjectLoadKeeps};
-ghost use Rattle.eden_coupling.specs.NumberKept.{SavedLoadKeeps, SavedLoadFrom, LoadedFilesKeep};
+ghost use Rattle.eden_coupling.specs.NumberKept.{SavedLoadKeeps, SavedLoadFrom, SavedLoadOver};
+ghost use Rattle.eden_coupling.specs.NumberKept.{LoadedFilesKeep};
 ghost use Rattle.eden_coupling.specs.NumberKept.{NotShownUnseen, FileUnseen, LoadedUnseen, OtherNotShown};
 ghost use Rattle.eden_coupling.specs.NumberKept.{UnseenFileKeeps, ChainKeeps, RefusedKeeps, MarkKeeps};
 ghost use Rattle.eden_coupling.specs.NumberKept.{DropKeeps, AddKeeps, ReplaceKeeps, MoveKeeps};
@@ -75,6 +76,7 @@ pub fn number_kept_laws()
     ensures object_load { ObjectLoadKeeps }
     ensures saved_load { SavedLoadKeeps }
     ensures saved_from { SavedLoadFrom }
+    ensures saved_over { SavedLoadOver }
     ensures loaded_files { LoadedFilesKeep }
     ensures not_shown { NotShownUnseen }
     ensures file_unseen { FileUnseen }

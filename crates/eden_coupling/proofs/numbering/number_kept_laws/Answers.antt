@@ -2,6 +2,7 @@ use Rattle.eden_coupling.proofs.NumbersAway.{put_away_keeps}
 use Rattle.eden_coupling.proofs.NumbersEdited.{mark_keeps, drop_keeps, add_keeps, replace_keeps, move_keeps}
 use Rattle.eden_coupling.proofs.NumbersFiles.{loaded_files_keep, not_shown_unseen, file_unseen, loaded_unseen, other_not_shown, unseen_file_keeps, chain_keeps, refused_keeps}
 use Rattle.eden_coupling.proofs.NumbersKept.{fresh_keeps, next_keeps, stamps_keep, object_load_keeps, saved_load_keeps, saved_load_from}
+use Rattle.eden_coupling.proofs.NumbersRestored.{saved_load_over}
 use Rattle.eden_coupling.proofs.numbering.number_kept_laws.Goals as goal
 
 pub returns : goal.returns
@@ -12,6 +13,7 @@ returns c = record {
   object_load = object_load_keeps;
   saved_load = saved_load_keeps;
   saved_from = saved_load_from;
+  saved_over = saved_load_over;
   loaded_files = loaded_files_keep;
   not_shown = not_shown_unseen;
   file_unseen = file_unseen;
