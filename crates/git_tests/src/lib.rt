@@ -1,0 +1,7 @@
+//! Worked rows of the objects that Git wrote, so that `eden_git` isn't proved a second time for them.
+#![tactic(auto)]
+
+#[cfg(test)]
+mod loose;
+#[cfg(test)]
+mod written;
