@@ -1,1 +1,3 @@
 mod MemberLemmas
+mod SpellingLemmas
+mod MessageLemmas

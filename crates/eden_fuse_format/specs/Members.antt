@@ -1,7 +1,9 @@
 -- Members of the kernel's structs. Each lies behind the one before it, with its least byte first.
-use Rattle.std.specs.Prelude.{ℕ, ◌+◌, ◌==◌, nat_le, List, length, take, drop, Option, Some, None, option_map, option_and_then, if◌then◌else◌}
-use Rattle.std.specs.Int.{w32, w64, from_le_bytes}
-use Rattle.std.specs.List.{position}
+use Rattle.std.specs.Prelude.{ℕ, ◌+◌, ◌<◌, ◌^◌, ◌==◌, nat_le, List, length, take, drop, Option, Some, None, option_map, option_and_then, if◌then◌else◌}
+use Rattle.std.specs.Int.{w16, w32, w64, from_le_bytes, to_le_bytes}
+use Rattle.std.specs.List.{position, flat_map}
+use Rattle.eden_fuse_format.specs.declared.members.Member.{Member}
+use Rattle.eden_fuse_format.specs.declared.members.Member.TheVariants.{U16, U32, U64}
 
 -- ---- members that are read, by their offsets
 
@@ -32,3 +34,20 @@ name_in bytes = option_and_then (λ x. if length x.1 == 0 then Some x.0 else Non
 -- two names, and nothing behind them
 abbrev pub names_in : List ℕ → Option (List ℕ × List ℕ)
 names_in bytes = option_and_then (λ x. option_map (λ y. (x.0, y)) (name_in x.1)) (cut bytes)
+
+-- ---- members that are written
+
+abbrev pub member_text : Member → List ℕ
+member_text (U16 n) = to_le_bytes w16 n
+member_text (U32 n) = to_le_bytes w32 n
+member_text (U64 n) = to_le_bytes w64 n
+
+-- one behind the other
+unfoldable pub members_text : List Member → List ℕ
+members_text ms = flat_map member_text ms
+
+-- the number is one of the member's type
+abbrev pub Fits : Member → Type 0
+Fits (U16 n) = n < 2 ^ 16
+Fits (U32 n) = n < 2 ^ 32
+Fits (U64 n) = n < 2 ^ 64

@@ -1,6 +1,15 @@
-// Members of structs: numbers at their offsets, and names that a NUL ends.
-ghost use Rattle.std.specs.Prelude.{◌≡◌, ◌≤◌, ◌<◌, ◌+◌, ◌==◌, length, option_map, position, IfSome};
+// Members of structs: numbers at their offsets, names that a NUL ends, and numbers that are written one by one.
+ghost use Rattle.std.specs.Prelude.{◌≡◌, ◌≤◌, ◌<◌, ◌+◌, ◌==◌, ◌++◌, length, option_map, position, IfSome, vec_capacity};
 ghost use Rattle.eden_fuse_format.specs.Members.{u32_at, u64_at, behind, cut, name_in, names_in};
+ghost use Rattle.eden_fuse_format.specs.Members.{member_text, members_text};
+
+/// A number with the width of its type.
+#[derive(Clone, Copy)]
+pub(crate) enum Member {
+    U16(u16),
+    U32(u32),
+    U64(u64),
+}
 
 /// The number of four bytes at this offset.
 pub(crate) fn u32_at(bytes: &[u8], offset: usize) -> u32
@@ -71,4 +80,29 @@ pub(crate) fn names_in(bytes: &[u8]) -> Option<(&[u8], &[u8])>
     let (first, rest) = cut(bytes)?;
     let second = name_in(rest)?;
     Some((first, second))
+}
+
+// Appends one number, for which there is room.
+fn put_member(out: &mut Vec<u8>, member: Member)
+    requires { length out.old.items + length (member_text member) ≤ vec_capacity out.old }
+    ensures items { out.new.items ≡ out.old.items ++ member_text member }
+    ensures room { vec_capacity out.old ≤ vec_capacity out.new }
+{
+    match member {
+        Member::U16(number) => out.extend_from_slice(&number.to_le_bytes()).unwrap(),
+        Member::U32(number) => out.extend_from_slice(&number.to_le_bytes()).unwrap(),
+        Member::U64(number) => out.extend_from_slice(&number.to_le_bytes()).unwrap(),
+    }
+}
+
+/// Appends numbers, for which there is room.
+#[tactic(auto, unfolding(crate::specs::Members::members_text))]
+pub(crate) fn put_members(out: &mut Vec<u8>, members: &[Member])
+    requires { length out.old.items + length (members_text members.now) ≤ vec_capacity out.old }
+    ensures items { out.new.items ≡ out.old.items ++ members_text members.now }
+    ensures room { vec_capacity out.old ≤ vec_capacity out.new }
+{
+    for member in members {
+        put_member(out, *member);
+    }
 }
