@@ -1,0 +1,18 @@
+//! What the kernel's messages mean, in requests of a mount.
+//!
+//! A message asks a mount for one thing after another, each by what was replied to the one before, and comes to an
+//! outcome. `first` is what it begins with, `next` what is made of a reply; `specs/Steps.antt` is the table of both,
+//! line by line. The path of a message's node is given. What an outcome makes of the table of nodes, and the bytes of
+//! the answer, aren't said here. Nothing here asks a mount.
+#![tactic(auto)]
+
+mod beginning;
+mod going_on;
+mod laws;
+mod paths;
+mod step;
+
+pub use beginning::first;
+pub use going_on::next;
+pub use laws::meaning_laws;
+pub use step::{Outcome, Owner, Step, Then};
