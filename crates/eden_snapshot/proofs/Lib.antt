@@ -1,0 +1,4 @@
+pub mod Found
+pub mod Thinned
+pub mod Wholes
+pub mod Joined

@@ -1,0 +1,4 @@
+pub mod Sinks
+pub mod Pruning
+pub mod Written
+pub mod Showing

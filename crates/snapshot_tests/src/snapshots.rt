@@ -1,0 +1,140 @@
+//! Snapshots of stored files. The ids are those that `git add` and `git write-tree` give for the same files.
+use eden_model::{Id, Outside};
+use eden_object::{id_of, parse_id};
+use eden_overlay::{Files, MemoryFiles, Overlay};
+use eden_overlay_format::Refusal;
+use eden_snapshot::{MemorySink, SnapshotFault, snapshot};
+use std::alloc::Global;
+use std::process::Abort;
+
+type InMemory = Overlay<Outside, MemoryFiles<Outside>>;
+
+// The tree of the commit that the overlay stands on.
+const COMMIT: &str = "67bd02dc8f2ccc1fdf90bc8c0d4ee5a8fb1a1d51";
+
+const EMPTY_TREE: &str = "4b825dc642cb6eb9a060e54bf8d69288fbee4904";
+
+// The headers of version 1, which tells no digest.
+const CONTENT: &[u8] = b"OVFL\0\0\0\x01";
+const DIRECTORY: &[u8] = b"OVDR\0\0\0\x01";
+
+// The object of the file `kept`, whose content is a line.
+const KEPT: &[u8] =
+    b"\xbd\x93\x00\x95\x36\x36\x0a\x2d\x96\xf2\xb0\x97\xac\x88\xb2\x8f\x1f\xc8\xcd\xb4";
+
+// The entries of the root: an executable file of its own, directories and a file of its own, an empty directory of its
+// own, an object and a submodule.
+const ROOT: &[&[u8]] = &[
+    b"\0\0\0\x07",
+    b"\x01\x01\0\0\0\0\0\0\0\x02\x01a",
+    b"\x03\x01\0\0\0\0\0\0\0\x03\x01b",
+    b"\0\x01\0\0\0\0\0\0\0\x04\x05b.txt",
+    b"\x03\x01\0\0\0\0\0\0\0\x05\x01d",
+    b"\x03\x01\0\0\0\0\0\0\0\x06\x01e",
+    b"\0\0\0\0\0\0\0\0\0\x07",
+    KEPT,
+    b"\x04kept",
+    b"\x03\x02\0\0\0\0\0\0\0\x08\x03sub",
+];
+
+// Each blob and tree that is the mount's own, in the order in which they are handed in.
+const HANDED: &[&str] = &[
+    "ce013625030ba8dba906f756967f9e9ca394464a",
+    "f76734a0a899b875526543122b2ce7a24ae87c86",
+    "a28ae8f0c77e607bdc2e17716f689b939bec94d2",
+    "a2373c722dedbf05f6669eba1ea044484213d03d",
+    "1de565933b05f74c75ff9a6520af5f9f8a5a2f1d",
+    "167f07b1dc29e8455b827e1f94253279500fcf26",
+    "f964f86521e6f6659c4b6caf0f832cc5856faf10",
+];
+
+// The file of that number, of a header and these parts behind it.
+fn put(
+    rt: &(impl AllocGlobal + Abort),
+    files: &mut MemoryFiles<Outside>,
+    number: u64,
+    head: &[u8],
+    parts: &[&[u8]],
+) {
+    let alloc = rt.alloc();
+    let mut bytes = Vec::from_slice(alloc, head).expect(rt, "memory");
+    bytes.extend_from_slice(&[0; 56]).expect(rt, "memory");
+    for part in parts {
+        bytes.extend_from_slice(part).expect(rt, "memory");
+    }
+    files.replace(alloc, number, &bytes).expect(rt, "memory");
+}
+
+fn changed(rt: &(impl AllocGlobal + Abort)) -> MemoryFiles<Outside> {
+    let mut files = MemoryFiles::<Outside>::new(rt.alloc());
+    put(rt, &mut files, 1, DIRECTORY, ROOT);
+    put(rt, &mut files, 2, CONTENT, &[b"hello\n"]);
+    put(rt, &mut files, 3, DIRECTORY, &[b"\0\0\0\x01\0\x01\0\0\0\0\0\0\0\x09\x01f"]);
+    put(rt, &mut files, 9, CONTENT, &[b"in b\n"]);
+    put(rt, &mut files, 4, CONTENT, &[b"dot\n"]);
+    put(rt, &mut files, 5, DIRECTORY, &[b"\0\0\0\x01\x02\x01\0\0\0\0\0\0\0\x0a\x01x"]);
+    put(rt, &mut files, 10, CONTENT, &[b"target"]);
+    put(rt, &mut files, 6, DIRECTORY, &[b"\0\0\0\0"]);
+    files
+}
+
+fn named(rt: &(impl AllocGlobal + Abort), text: &str) -> Id {
+    let id = parse_id(text);
+    assert!(rt; id.is_some(), "{}", text);
+    id.unwrap_or(Id { bytes: [0; 20] })
+}
+
+// The answer over these files, and the objects that were handed in.
+fn taken(
+    rt: &(impl AllocGlobal + Abort),
+    files: MemoryFiles<Outside>,
+) -> (Result<Id, SnapshotFault>, MemorySink) {
+    let mut overlay: InMemory = Overlay::<Outside, _>::new(files);
+    let mut sink = MemorySink::new(rt.alloc());
+    let answer = snapshot(rt.alloc(), named(rt, COMMIT), &mut overlay, &mut sink);
+    (answer, sink)
+}
+
+#[test]
+fn what_is_shown_is_written_as_git_writes_it(rt: HostRuntime) {
+    let (answer, sink) = taken(&rt, changed(&rt));
+    assert!(rt; answer == Ok(named(&rt, HANDED[6])));
+    assert!(rt; sink.objects().len() == HANDED.len());
+    for (object, id) in sink.objects().iter().zip(HANDED) {
+        assert!(rt; id_of(object) == named(&rt, id), "{}", id);
+    }
+}
+
+#[test]
+fn an_untouched_tree_is_the_commits(rt: HostRuntime) {
+    let (answer, sink) = taken(&rt, MemoryFiles::<Outside>::new(rt.alloc()));
+    assert!(rt; answer == Ok(named(&rt, COMMIT)));
+    assert!(rt; sink.objects().is_empty());
+}
+
+#[test]
+fn an_empty_root_is_the_empty_tree(rt: HostRuntime) {
+    let mut files = MemoryFiles::<Outside>::new(rt.alloc());
+    put(&rt, &mut files, 1, DIRECTORY, &[b"\0\0\0\0"]);
+    let (answer, sink) = taken(&rt, files);
+    assert!(rt; answer == Ok(named(&rt, EMPTY_TREE)));
+    assert!(rt; sink.objects().len() == 1);
+}
+
+#[test]
+fn files_that_are_missing_or_damaged_are_named(rt: HostRuntime) {
+    let mut files = changed(&rt);
+    files.remove(9).expect(&rt, "memory");
+    assert!(rt; taken(&rt, files).0 == Err(SnapshotFault::Dangling(9)));
+    let mut files = changed(&rt);
+    put(&rt, &mut files, 5, CONTENT, &[b"no directory"]);
+    assert!(rt; taken(&rt, files).0 == Err(SnapshotFault::Damaged(5, Refusal::BadIdentifier)));
+}
+
+#[test]
+fn a_directory_in_itself_lies_too_deep(rt: HostRuntime) {
+    let mut files = MemoryFiles::<Outside>::new(rt.alloc());
+    put(&rt, &mut files, 1, DIRECTORY, &[b"\0\0\0\x01\x03\x01\0\0\0\0\0\0\0\x02\x01d"]);
+    put(&rt, &mut files, 2, DIRECTORY, &[b"\0\0\0\x01\x03\x01\0\0\0\0\0\0\0\x02\x01d"]);
+    assert!(rt; taken(&rt, files).0 == Err(SnapshotFault::TooDeep(2)));
+}
