@@ -11,7 +11,7 @@ use Rattle.eden_overlay_format.specs.declared.stored_entry.StoredEntry.{StoredEn
 use Rattle.eden_overlay.specs.Files.{Stored}
 use Rattle.eden_overlay.specs.Held.{root_file}
 use Rattle.eden_snapshot.specs.Sinks.{Handed}
-use Rattle.eden_snapshot.specs.Written.{entry_with, entries_with, Written, nothing, object, content, directory, bare, empty, Writes, WritesDirectory, WritesTop, own, HandedTree, HandedContent}
+use Rattle.eden_snapshot.specs.Written.{entry_with, Written, nothing, object, content, directory, bare, empty, Writes, WritesDirectory, WritesTop, own, HandedTree, HandedContent}
 
 module _ (F : Stored) (fs : List StoredEntry) (us : List TreeEntry) (after : Handed) (then_written : Written F fs us after) where
   -- the same, were the objects handed in grouped otherwise

@@ -2,3 +2,4 @@ pub mod Found
 pub mod Thinned
 pub mod Wholes
 pub mod Joined
+pub mod Ordered

@@ -2,10 +2,8 @@
 use Rattle.std.proofs.Common.{◌≡◌, ◌≢◌, Bool, true, false, cond, ℕ, List, [], ◌∷◌, ◌++◌, Option, Some, None, refl, sym, ap, ◌∙◌, subst}
 use Rattle.std.specs.Option.{option_map, option_and_then, is_some}
 use Rattle.std.specs.Str.{bytes_eq}
-use Rattle.std.specs.List.Sorted.{IsPermutation}
 use Rattle.std.proofs.lemmas.List.Sorted.{IsPermutation-sym}
 use Rattle.std.proofs.lemmas.Slice.Eq.{bytes_eq-Decides}
-use Rattle.sha1.specs.Sha1.{sha1}
 use Rattle.eden_model.specs.declared.id.Id.{Id}
 use Rattle.eden_model.specs.declared.kind.Kind.{Kind}
 use Rattle.eden_model.specs.declared.kind.Kind.TheVariants as kind
@@ -18,18 +16,16 @@ use Rattle.eden_model.specs.Trees.{Name, Path, Tree}
 use Rattle.eden_model.specs.Shown.{Item, Items, Ground, node_of, shown, shown_at}
 use Rattle.eden_model.specs.Repository.{Repository, Source, Object, Own, Empty, source_of, item_by, entry_named, entries_with, content_with, ground_with, root_of, Whole}
 use Rattle.eden_model.specs.Repository as repository
-use Rattle.eden_object.specs.declared.word.Word.TheVariants as word
 use Rattle.eden_object.specs.Encoding.{IsEncoded, tree_text}
-use Rattle.eden_object.specs.Frames.{frame}
 use Rattle.eden_object.proofs.EncodeLemmas.{same_differ}
 use Rattle.eden_overlay_format.specs.declared.stored_entry.StoredEntry.{StoredEntry}
 use Rattle.eden_overlay_format.specs.Directory.{HasOrigin}
 use Rattle.eden_overlay.specs.Files.{Stored}
-use Rattle.eden_overlay.specs.Held.{HoldsContent, HoldsEntries, item_of, items_of, own_files, content_at, entries_at, root_file}
+use Rattle.eden_overlay.specs.Held.{HoldsContent, HoldsEntries, item_of, items_of, own_files, root_file}
 use Rattle.eden_overlay.proofs.CallerLemmas.{held_storable}
 use Rattle.eden_snapshot.specs.Sinks.{Handed, HasObject, HasAll}
-use Rattle.eden_snapshot.specs.Pruning.{IsEmptyAt, IsPruned}
-use Rattle.eden_snapshot.specs.Written.{mode_of, entry_with, IsIdOf, Written, nothing, object, content, directory, bare, empty, Writes, WritesDirectory, WritesTop, untouched, own}
+use Rattle.eden_snapshot.specs.Pruning.{IsPruned}
+use Rattle.eden_snapshot.specs.Written.{mode_of, entry_with, IsIdOf, Written, nothing, object, content, directory, bare, empty, WritesTop, untouched, own}
 use Rattle.eden_snapshot.specs.Showing.{root_item, FilesShow}
 use Rattle.eden_snapshot.proofs.Found.{stored_named, AreFine, fine, permuted}
 use Rattle.eden_snapshot.proofs.Wholes.{whole_alike, none_below}

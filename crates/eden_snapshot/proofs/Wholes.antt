@@ -1,15 +1,13 @@
 -- What is no own file's shows the same, whatever own files there are.
-use Rattle.std.proofs.Common.{◌≡◌, List, [], ◌∷◌, ◌++◌, Option, Some, None, refl, sym, ap, ◌∙◌}
-use Rattle.std.specs.Option.{option_map, option_and_then, is_some}
+use Rattle.std.proofs.Common.{◌≡◌, List, [], ◌∷◌, ◌++◌, Option, Some, None, refl}
+use Rattle.std.specs.Option.{option_map, option_and_then}
 use Rattle.eden_model.specs.declared.id.Id.{Id}
-use Rattle.eden_model.specs.declared.kind.Kind.{Kind}
-use Rattle.eden_model.specs.declared.kind.Kind.TheVariants as kind
 use Rattle.eden_model.specs.declared.kind.Mode.{Mode}
 use Rattle.eden_model.specs.declared.kind.Mode.TheVariants as mode
 use Rattle.eden_model.specs.declared.tree_entry.TreeEntry.{TreeEntry}
 use Rattle.eden_model.specs.Trees.{Name, Path}
-use Rattle.eden_model.specs.Shown.{Item, Items, Ground, node_from, if_dir, entry_in, shown, shown_at}
-use Rattle.eden_model.specs.Repository.{Repository, Source, Object, Own, Empty, OwnFiles, no_files, item_by, entry_named, items_of, entries_with, content_with, ground_with, ground_of, root_of, Whole}
+use Rattle.eden_model.specs.Shown.{Item, Items, Ground, entry_in, shown, shown_at}
+use Rattle.eden_model.specs.Repository.{Repository, Source, OwnFiles, item_by, entry_named, items_of, ground_with, ground_of, root_of, Whole}
 
 module _ (R : Repository) (own : OwnFiles) where
   below : (p : Path) (o : Option TreeEntry) → ((m : Mode) (id : Id) → shown (ground_with R own) (item_by m id) p ≡ shown (ground_of R) (item_by m id) p)

@@ -2,3 +2,4 @@ pub mod Sinks
 pub mod Pruning
 pub mod Written
 pub mod Showing
+pub mod Ordering

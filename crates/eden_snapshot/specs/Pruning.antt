@@ -1,5 +1,5 @@
 -- A tree without empty directories.
-use Rattle.std.specs.Prelude.{◌≡◌, true, List, [], ◌++◌, Some, None}
+use Rattle.std.specs.Prelude.{◌≡◌, true, [], ◌++◌, Some, None}
 use Rattle.eden_model.specs.declared.node.Node.{Node}
 use Rattle.eden_model.specs.declared.node.Node.TheVariants.{Dir}
 use Rattle.eden_model.specs.Trees.{Path, Tree}

@@ -4,6 +4,7 @@ ghost use Rattle.std.specs.Prelude.{◌≡◌, ◌∷◌, ◌++◌, [], None, So
 ghost use Rattle.eden_model.specs.Repository.{Repository, Whole};
 ghost use Rattle.eden_object.specs.Encoding.{IsEncoded};
 ghost use Rattle.eden_overlay.specs.Held.{HoldsEntries};
+ghost use Rattle.eden_snapshot.specs.Ordering.{GrowsInOrder};
 ghost use Rattle.eden_snapshot.specs.Pruning.{IsPruned};
 ghost use Rattle.eden_snapshot.specs.Showing.{FilesShow};
 ghost use Rattle.eden_snapshot.specs.Sinks.{HasAll};
@@ -36,6 +37,8 @@ pub fn snapshot<W: World, F: Files<W>, S: Sink<W>>(
         → IsPruned (FilesShow R root (F.stored overlay.old)) (Whole R id)) }
     ensures written { W.honest → IfOk result
         (λ id. WritesTop (F.stored overlay.old) root id (S.kept sink.old) (S.kept sink.new)) }
+    ensures ordered { W.honest → IfOk result
+        (λ _. GrowsInOrder (F.stored overlay.old) (S.kept sink.old) (S.kept sink.new)) }
     ensures unchanged { W.honest → F.stored overlay.new ≡ F.stored overlay.old }
 {
     if !overlay.is_rooted()? {

@@ -1,8 +1,7 @@
-use Rattle.std.proofs.Common.{◌≡◌, ◌≢◌, ◌∷◌, ◌++◌, [], None, Some, List, refl, sym, ap, ◌∙◌, subst, append-nil, length, arith, eqb-true}
+use Rattle.std.proofs.Common.{◌≡◌, ◌≢◌, ◌∷◌, ◌++◌, [], List, refl, sym, ap, ◌∙◌, subst, append-nil, length, arith, eqb-true}
 use Rattle.std.proofs.lemmas.Bool.{eqb-false}
 use Rattle.eden_model.specs.declared.kind.Mode.{Mode}
 use Rattle.eden_model.specs.declared.tree_entry.TreeEntry.{TreeEntry}
-use Rattle.eden_snapshot.specs.Written as spec
 use Rattle.eden_snapshot.specs.Written.{Writes, WritesDirectory, HandedTree, entries_with}
 use Rattle.eden_snapshot.proofs.Joined.{none_yet, goes_on, alone_object, alone_empty, alone_content, alone_directory, alone_bare, empty_list}
 use Rattle.eden_snapshot.proofs.walk.+walk.Goals as goal

@@ -1,9 +1,10 @@
-use Rattle.std.proofs.Common.{rules, ◌≡◌, None, true, false, sym, ap, ◌∙◌}
+use Rattle.std.proofs.Common.{rules, ◌≡◌, true, false}
 use Rattle.std.specs.Option.{is_some}
 use Rattle.std.proofs.lemmas.Result.{IfOk-weaker}
 use Rattle.eden_overlay.specs.Held.{root_file}
-use Rattle.eden_snapshot.specs.Written.{WritesTop, untouched}
+use Rattle.eden_snapshot.specs.Written.{untouched}
 use Rattle.eden_snapshot.proofs.Joined.{own_top, none_there}
+use Rattle.eden_snapshot.proofs.Ordered.{top_ordered}
 use Rattle.eden_snapshot.proofs.Thinned.{top_pruned}
 use Rattle.eden_snapshot.proofs.walk.snapshot.Goals as goal
 
@@ -47,4 +48,26 @@ returns-clause-shown g c = λ h.
     (own_top F (g.F.Files.stored c.is_rooted.new.self) c.args.root id c.in_ok-entries.entries.items c.as_slice.result.now old
     (g.S.Sink.kept c.directory.new.sink) new (c.is_rooted.ensures.unchanged h) some (c.in_ok-entries.ensures.written h) c.as_slice.ensures.value e)
     has)
+    (c.hand_tree.ensures h)
+
+pub returns-then-not-branch-clause-ordered : goal.returns-then-not-branch-clause-ordered
+returns-then-not-branch-clause-ordered g c = λ h.
+    let F = g.F.Files.stored c.args.overlay.now in
+    let kept = g.S.Sink.kept c.args.sink.now in
+    let told = c.in_ok-is_rooted.ensures.told h in
+    let none : is_some (root_file F) ≡ false = first_of (cc, search rules) in
+    top_ordered F c.args.root c.args.root kept kept (untouched kept (none_there (root_file F) none))
+
+pub returns-clause-ordered : goal.returns-clause-ordered
+returns-clause-ordered g c = λ h.
+    let F = g.F.Files.stored c.args.overlay.now in
+    let old = g.S.Sink.kept c.args.sink.now in
+    let new = g.S.Sink.kept c.hand_tree.new.sink in
+    let told = c.in_ok-is_rooted.ensures.told h in
+    let some : is_some (root_file F) ≡ true = first_of (cc, search rules) in
+    IfOk-weaker c.hand_tree.result _ _
+    (λ id e.
+        top_ordered F c.args.root id old new
+        (own_top F (g.F.Files.stored c.is_rooted.new.self) c.args.root id c.in_ok-entries.entries.items c.as_slice.result.now old
+        (g.S.Sink.kept c.directory.new.sink) new (c.is_rooted.ensures.unchanged h) some (c.in_ok-entries.ensures.written h) c.as_slice.ensures.value e))
     (c.hand_tree.ensures h)
