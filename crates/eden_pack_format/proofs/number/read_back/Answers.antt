@@ -1,4 +1,4 @@
-use Rattle.std.proofs.Common.{◌≡◌, ◌≤◌, ◌<◌, ◌^◌, ◌+◌, ◌*◌, ◌%◌, refl, arith}
+use Rattle.std.proofs.Common.{◌≡◌, ◌^◌, refl, arith}
 use Rattle.eden_pack_format.proofs.NumberLemmas.{back-begin, back-end, back-found, back-next, back-done, worth-next, worth-most}
 use Rattle.eden_pack_format.proofs.number.read_back.Goals as goal
 

@@ -1,4 +1,4 @@
-use Rattle.std.proofs.Common.{rules, ◌≡◌, ◌≤◌, ◌<◌, ◌^◌, ◌+◌, ◌*◌, ◌%◌, ◌∙◌, refl, sym, ap, arith}
+use Rattle.std.proofs.Common.{◌%◌, refl, arith}
 use Rattle.eden_pack_format.proofs.NumberLemmas.{reads-begin, reads-end, reads-last, reads-more, reads-over, worth-next, worth-most, product-most}
 use Rattle.eden_pack_format.proofs.number.read_size.Goals as goal
 
