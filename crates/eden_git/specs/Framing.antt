@@ -1,7 +1,5 @@
 -- Objects of a Git repository as they are handed on: framed, and within the limit.
 use Rattle.std.specs.Prelude.{◌≡◌, ◌≤◌, ◌^◌, ℕ, List, [], ◌∷◌, ◌++◌, length, decimal}
-use Rattle.eden_model.specs.declared.fault.Cause.{Cause}
-use Rattle.eden_model.specs.declared.fault.Cause.TheVariants as cause
 use Rattle.eden_object.specs.declared.word.Word.{Word}
 use Rattle.eden_object.specs.Frames.{frame, word_text}
 
@@ -15,13 +13,3 @@ pub record IsFramedObject (framed : List ℕ) : Type 0 where
   pub body : List ℕ
   pub is : framed ≡ frame word body
   pub short : length body ≤ 2 ^ 30
-
--- why bytes that are there give no object
-abbrev pub IsReadingCause : Cause → Type 0
-IsReadingCause cause.Missing = ⊥
-IsReadingCause cause.Device = Unit {0}
-IsReadingCause cause.BadDigest = ⊥
-IsReadingCause cause.Malformed = ⊥
-IsReadingCause cause.WrongKind = ⊥
-IsReadingCause cause.TooLarge = Unit {0}
-IsReadingCause cause.Memory = Unit {0}

@@ -1,17 +1,23 @@
 // The header of a framed object.
 ghost use Rattle.std.specs.Prelude.{◌≡◌, ◌≤◌, ◌^◌, ◌++◌, length, OnOk, IfOk, IfErr};
 ghost use Rattle.eden_object.specs.Frames.{word_text};
+ghost use Rattle.eden_source.specs.Fetching.{longest_framed};
 ghost use Rattle.eden_git.specs.Framing as spec;
-ghost use Rattle.eden_git.specs.Framing.{IsReadingCause};
+ghost use Rattle.eden_git.specs.Framing.{IsFramedObject};
+ghost use Rattle.eden_pack_format.specs.Causes.{IsReadingCause};
 
 use eden_model::Cause;
 use eden_object::Word;
+use eden_source::LONGEST_FRAMED;
 use itoa::Buffer;
-use std::alloc::AllocError;
+use std::alloc::{AllocError, Global};
 use std::str;
 
 /// The most bytes that a body may have.
 pub(crate) const BODY_MOST: usize = 1 << 30;
+
+/// No header is longer.
+const HEADER_MOST: usize = 32;
 
 const WORDS: [Word; 4] = [Word::Blob, Word::Tree, Word::Commit, Word::Tag];
 
@@ -35,6 +41,24 @@ pub(crate) fn push_header(framed: &mut Vec<u8>, word: Word, size: usize) -> Resu
     framed.extend_from_slice(Buffer::new().format(size).as_bytes())?;
     framed.push(0)?;
     Ok(())
+}
+
+/// The framed object of that word and body. `TooLarge`, where a source may not give so much; `Memory`.
+pub(crate) fn frame(alloc: Global, word: Word, body: &[u8]) -> Result<Vec<u8>, Cause>
+    ensures framed { IfOk result (λ v. IsFramedObject v.items) }
+    ensures bounded { IfOk result (λ v. length v.items ≤ longest_framed) }
+    ensures causes { IfErr result IsReadingCause }
+{
+    if body.len() > BODY_MOST {
+        return Err(Cause::TooLarge);
+    }
+    let mut framed = Vec::with_capacity(alloc, body.len() + HEADER_MOST)?;
+    push_header(&mut framed, word, body.len())?;
+    framed.extend_from_slice(body)?;
+    if framed.len() as u64 > LONGEST_FRAMED {
+        return Err(Cause::TooLarge);
+    }
+    Ok(framed)
 }
 
 /// What an object's first bytes say of its word and its body's size, within the limit. The number is read leniently.

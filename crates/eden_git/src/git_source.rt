@@ -5,9 +5,12 @@ ghost use Rattle.eden_model.specs.Failures.{one_more};
 ghost use Rattle.eden_source.specs.Fetching.{IsSourceCause, longest_framed};
 ghost use Rattle.eden_git.specs.Framing.{IsFramedObject};
 
+use crate::bases::Bases;
 use crate::fault::GitFault;
-use crate::loose_source::LooseSource;
+use crate::pack::Tools;
 use crate::repository::objects_directory;
+use crate::store::{Store, framed_in, look_at_all, open_stores};
+use eden_inflate::Decoder;
 use eden_model::{Cause, Id, Outside};
 use eden_source::Source;
 use std::alloc::{Alloc, Global};
@@ -15,13 +18,19 @@ use std::marker::Model;
 use std::path::PathBuf;
 use std::rt::Files;
 
-/// The objects of a Git repository.
+/// The objects of a Git repository: packed ones, loose ones, and those of the directories that it names as alternates.
+///
+/// If an object is in none of the packs that were seen and isn't loose, the directories of packs are listed again, since
+/// Git packs objects while others read.
 ///
 /// Contracts see the repository's path and the count of failures.
 #[derive(Drop)]
 pub struct GitSource<R: Files> {
+    files: R,
     repository: PathBuf,
-    loose: LooseSource<R>,
+    stores: Vec<Store<R>>,
+    tools: Tools,
+    packs: u64,
     failures: u64,
 }
 
@@ -44,12 +53,40 @@ impl<R: Files + Alloc + Clone + Drop> GitSource<R> {
         ensures { IfOk result (λ s. s ≡ record { path = path_buf_bytes repository; failures = 0 }) }
     {
         let objects = objects_directory(&files, alloc, &repository)?;
-        let loose = LooseSource::new(alloc, files, objects)?;
+        let mut packs = 0;
+        let stores = open_stores(&files, alloc, objects, &mut packs)?;
+        let tools = Tools {
+            alloc,
+            decoder: Box::new(alloc, Decoder::new()).map_err(|_| GitFault::Memory)?,
+            bases: Bases::new(alloc),
+        };
         Ok(GitSource {
+            files,
             repository,
-            loose,
+            stores,
+            tools,
+            packs,
             failures: 0,
         })
+    }
+
+    fn read(&mut self, id: Id) -> Result<Vec<u8>, Cause>
+        ensures path { self.new.path ≡ self.old.path }
+        ensures failures { self.new.failures ≡ self.old.failures }
+        ensures framed { IfOk result (λ v. IsFramedObject v.items) }
+        ensures bounded { IfOk result (λ v. length v.items ≤ longest_framed) }
+        ensures causes { IfErr result IsSourceCause }
+    {
+        let answer = framed_in(&mut self.stores, &mut self.tools, id);
+        if answer != Err(Cause::Missing) {
+            return answer;
+        }
+        let alloc = self.tools.alloc;
+        if look_at_all(&self.files, alloc, &mut self.stores, &mut self.packs)? {
+            framed_in(&mut self.stores, &mut self.tools, id)
+        } else {
+            Err(Cause::Missing)
+        }
     }
 }
 
@@ -64,8 +101,8 @@ impl<R: Files + Alloc + Clone + Drop> Source<Outside> for GitSource<R> {
         self.failures
     }
 
-    fn fetch(&mut self, alloc: Global, id: Id) -> Result<Vec<u8>, Cause> {
-        let answer = self.loose.fetch(alloc, id);
+    fn fetch(&mut self, _alloc: Global, id: Id) -> Result<Vec<u8>, Cause> {
+        let answer = self.read(id);
         if answer == Err(Cause::Device) {
             self.failures = self.failures.saturating_add(1);
         }

@@ -6,13 +6,20 @@
 //! is not looked at here: whoever asked compares its SHA-1.
 #![tactic(auto)]
 
+mod alternates;
+mod bases;
 mod config;
 mod fault;
 mod framing;
 mod git_source;
+mod index;
 mod loose;
 mod loose_source;
+mod pack;
+mod packs;
+mod pieces;
 mod repository;
+mod store;
 
 pub use fault::GitFault;
 pub use git_source::GitSource;

@@ -1,7 +1,8 @@
 // A loose object: one framed object as a zlib stream.
 ghost use Rattle.std.specs.Prelude.{◌≡◌, ◌≤◌, length, IfOk, IfErr};
 ghost use Rattle.eden_source.specs.Fetching.{longest_framed};
-ghost use Rattle.eden_git.specs.Framing.{IsFramedObject, IsReadingCause};
+ghost use Rattle.eden_pack_format.specs.Causes.{IsReadingCause};
+ghost use Rattle.eden_git.specs.Framing.{IsFramedObject};
 
 use crate::framing::{push_header, read_header};
 use eden_inflate::{Decoder, Refusal};

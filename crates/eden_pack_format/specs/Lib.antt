@@ -1,0 +1,4 @@
+pub mod Numbers
+pub mod Entries
+pub mod Deltas
+pub mod Causes
