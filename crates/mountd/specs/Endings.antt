@@ -6,6 +6,8 @@ use Rattle.eden_checkout.specs.declared.fault.OpenFault.{OpenFault}
 use Rattle.eden_checkout.specs.declared.fault.OpenFault.TheVariants as opens
 use Rattle.eden_checkout.specs.declared.tidying.TidyFault.{TidyFault}
 use Rattle.eden_checkout.specs.declared.tidying.TidyFault.TheVariants as tidy
+use Rattle.eden_git.specs.declared.fault.GitFault.{GitFault}
+use Rattle.eden_git.specs.declared.fault.GitFault.TheVariants as git
 use Rattle.eden_stdio_life.specs.declared.fault.LifeFault.{LifeFault}
 use Rattle.eden_stdio_life.specs.declared.fault.LifeFault.TheVariants as life
 use Rattle.eden_serve_life.specs.declared.fault.SharedLifeFault.{SharedLifeFault}
@@ -27,7 +29,14 @@ open_name opens.Memory = codes "Memory"
 open_name (opens.Dangling number) = codes "Dangling"
 open_name (opens.Twice number) = codes "Twice"
 
--- .. of why it wasn't closed
+-- .. of why the repository of its objects wasn't
+abbrev pub repository_name : GitFault → List ℕ
+repository_name git.Missing = codes "Missing"
+repository_name git.Format = codes "Format"
+repository_name git.Device = codes "Device"
+repository_name git.Memory = codes "Memory"
+
+-- .. of why the overlay wasn't closed
 abbrev pub close_name : FilesFault → List ℕ
 close_name files.Device = codes "Device"
 close_name files.Memory = codes "Memory"
@@ -56,7 +65,9 @@ shared_status (Err (shared.Close fault)) = 4
 -- .. and of a server of objects; how it ended, by how its connections were taken and served
 abbrev pub server_status : Result ⊤ ServerFault → ℕ
 server_status (Ok _) = 0
-server_status (Err fault) = 4
+server_status (Err (server.Open fault)) = 3
+server_status (Err (server.Listen fault)) = 4
+server_status (Err (server.Session fault)) = 4
 
 abbrev pub first_fault : Result ⊤ HoldFault → Result ⊤ AnswerFault → Result ⊤ ServerFault
 first_fault (Err fault) served = Err (server.Listen fault)

@@ -3,11 +3,12 @@
 //! Where standard error can't be written, the status alone tells.
 ghost use Rattle.std.specs.Prelude.{◌≡◌, IfErr, IsErr, IsOk};
 ghost use Rattle.std.specs.Process.{exit_status};
-ghost use Rattle.mountd.specs.Endings.{IsToldStatus, close_name, import_status, open_name, server_status};
+ghost use Rattle.mountd.specs.Endings.{IsToldStatus, close_name, import_status, open_name, repository_name, server_status};
 ghost use Rattle.mountd.specs.Endings.{shared_status, status_of, tidy_status};
 
 use crate::server::ServerFault;
 use eden_checkout::{OpenFault, TidyFault};
+use eden_git::GitFault;
 use eden_object_writer::ImportFault;
 use eden_overlay::{FilesFault, Removed};
 use eden_serve_life::SharedLifeFault;
@@ -44,7 +45,7 @@ pub fn command_line<R: Eprint>(rt: &R, error: &OptionsError) -> ExitCode
     ExitCode::from(REFUSED)
 }
 
-/// Tells by which fault, called `name`, the overlay wasn't opened. Status 3.
+/// Tells by which fault, called `name`, the overlay or the repository of its objects wasn't opened. Status 3.
 pub fn unopened<R: Eprint>(rt: &R, name: &str) -> ExitCode
     ensures { exit_status result ≡ 3 }
 {
@@ -88,12 +89,15 @@ pub fn shared_ending<R: Eprint>(rt: &R, outcome: Result<(), SharedLifeFault>) ->
     }
 }
 
-/// Tells how a server of objects ended, where it didn't end well. Status 0, or 4.
+/// Tells how a server of objects ended, where it didn't end well.
+///
+/// Status 0; 3, where the repository wasn't opened; 4, where listening or a session ended in a fault.
 pub fn server<R: Eprint>(rt: &R, outcome: Result<(), ServerFault>) -> ExitCode
     ensures { exit_status result ≡ server_status outcome }
 {
     match outcome {
         Ok(()) => ExitCode::SUCCESS,
+        Err(ServerFault::Open(fault)) => unopened(rt, repository_name(fault)),
         Err(ServerFault::Listen(fault)) => unheard(rt, fault.name()),
         Err(ServerFault::Session(fault)) => ended(rt, "session", fault.name()),
     }
@@ -160,6 +164,18 @@ fn open_name(fault: OpenFault) -> &'static str
         OpenFault::Memory => "Memory",
         OpenFault::Dangling(_) => "Dangling",
         OpenFault::Twice(_) => "Twice",
+    }
+}
+
+/// The name of why a repository wasn't opened.
+pub fn repository_name(fault: GitFault) -> &'static str
+    ensures { result.now ≡ repository_name fault }
+{
+    match fault {
+        GitFault::Missing => "Missing",
+        GitFault::Format => "Format",
+        GitFault::Device => "Device",
+        GitFault::Memory => "Memory",
     }
 }
 

@@ -1,12 +1,14 @@
 //! Many callers of a mount, each over a connection.
-ghost use Rattle.std.specs.Prelude.{◌≡◌, ◌≤◌, []};
+ghost use Rattle.std.specs.Prelude.{◌≡◌, ◌≤◌, IfErr, IfOk, [], length};
 ghost use Rattle.std.specs.Process.{exit_status};
 ghost use Rattle.eden_checkout.specs.Opening.{MayOpen};
 ghost use Rattle.mountd.specs.Runs.{IsSharedRun, limit_of};
 
 use crate::hold::{hold_address, hold_overlay, let_go, opening};
 use crate::report;
-use crate::sources::{folder_fetchers, socket_fetchers};
+use crate::report::repository_name;
+use crate::sources::{folder_sources, git_sources, shared_sources, socket_sources};
+use eden_git::GitFault;
 use eden_history::{Counted, History, Kept};
 use eden_host::{Accepts, Fetchers, Unloading};
 use eden_model::{Outside, World};
@@ -17,7 +19,6 @@ use eden_sockets::Listener;
 use eden_source::Source;
 use eden_stdio_life::{Backing, Base};
 use mountd_options::{HistoryOption, MountOptions, Objects, ServeOptions};
-use std::alloc::AllocError;
 use std::io::{Read, Write};
 use std::marker::{Send, Sync};
 use std::process::ExitCode;
@@ -91,21 +92,35 @@ fn serve_files<R: Threads + Wait + Sync, F: Files<Outside> + Send>(
     let listener = Listener::new(*rt, *rt, address);
     match objects {
         Objects::Folder(folder) => {
-            let fetchers = folder_fetchers(rt, folder.as_str(), fetchers);
+            let sources = folder_sources(rt, folder.as_str(), fetchers);
+            let sources = sources.map_err(|_| GitFault::Memory);
             serve_fetched(
-                threads, rt, base, history, &limits, files, fetchers, listener,
+                threads, rt, base, history, &limits, files, sources, listener,
             )
         }
         Objects::Server(server) => {
-            let fetchers = socket_fetchers(rt, &server, fetchers);
+            let sources = socket_sources(rt, &server, fetchers);
+            let sources = sources.map_err(|_| GitFault::Memory);
             serve_fetched(
-                threads, rt, base, history, &limits, files, fetchers, listener,
+                threads, rt, base, history, &limits, files, sources, listener,
+            )
+        }
+        Objects::Repository(repository) => {
+            let sources = git_sources(rt, repository.as_str(), fetchers);
+            serve_fetched(
+                threads, rt, base, history, &limits, files, sources, listener,
+            )
+        }
+        Objects::RepositoryAndServer(repository, server) => {
+            let sources = shared_sources(rt, repository.as_str(), &server, fetchers);
+            serve_fetched(
+                threads, rt, base, history, &limits, files, sources, listener,
             )
         }
     }
 }
 
-/// Serves sessions on a mount over these files, where there was memory for its fetchers.
+/// Serves sessions on a mount over these files, where the sources of its fetchers could be made.
 fn serve_fetched<
     R: Threads + Wait + Sync,
     F: Files<Outside> + Send,
@@ -117,14 +132,20 @@ fn serve_fetched<
     history: HistoryOption,
     limits: &Config,
     files: F,
-    fetchers: Result<Fetchers<S>, AllocError>,
+    sources: Result<Vec<S>, GitFault>,
     listener: Listener<HostRuntime, HostRuntime>,
-) -> ExitCode {
-    let Ok(source) = fetchers else {
-        return report::unopened(rt, "Memory");
-    };
-    let backing = Backing { files, source };
-    run::<Outside, _, _, _, _, _, _>(threads, rt, base, history, limits, backing, listener)
+) -> ExitCode
+    requires some { IfOk sources (λ sources. 1 ≤ length sources.items) }
+    ensures { IfErr sources (λ _. exit_status result ≡ 3) }
+{
+    match sources {
+        Ok(sources) => {
+            let source = Fetchers::new(sources);
+            let backing = Backing { files, source };
+            run::<Outside, _, _, _, _, _, _>(threads, rt, base, history, limits, backing, listener)
+        }
+        Err(fault) => report::unopened(rt, repository_name(fault)),
+    }
 }
 
 /// Serves sessions on a mount over these files and fetchers, with the history that is asked for.

@@ -1,12 +1,14 @@
 //! One caller of a mount, over standard input and output.
-ghost use Rattle.std.specs.Prelude.{◌≡◌, []};
+ghost use Rattle.std.specs.Prelude.{◌≡◌, IfErr, []};
 ghost use Rattle.std.specs.Process.{exit_status};
 ghost use Rattle.eden_checkout.specs.Opening.{MayOpen};
 ghost use Rattle.mountd.specs.Runs.{IsRun, copies_of, limit_of};
 
 use crate::hold::{hold_overlay, opening};
 use crate::report;
-use crate::sources::{folder_source, socket_source};
+use crate::report::repository_name;
+use crate::sources::{folder_source, git_source, shared_source, socket_source};
+use eden_git::GitFault;
 use eden_history::{Counted, History, Kept};
 use eden_model::{Outside, World};
 use eden_mount::Config;
@@ -52,6 +54,31 @@ fn serve_files<F: Files<Outside>>(rt: &HostRuntime, options: MountOptions, files
             let source = socket_source(rt, server);
             run::<Outside, _, _>(rt, base, history, &limits, Backing { files, source })
         }
+        Objects::Repository(repository) => {
+            let source = git_source(rt, repository);
+            run_opened(rt, base, history, &limits, files, source)
+        }
+        Objects::RepositoryAndServer(repository, server) => {
+            let source = shared_source(rt, repository, server);
+            run_opened(rt, base, history, &limits, files, source)
+        }
+    }
+}
+
+/// Serves a session on a mount over these files, where its objects' repository could be opened.
+fn run_opened<F: Files<Outside>, S: Source<Outside> + Drop>(
+    rt: &HostRuntime,
+    base: Base,
+    history: HistoryOption,
+    limits: &Config,
+    files: F,
+    source: Result<S, GitFault>,
+) -> ExitCode
+    ensures { IfErr source (λ _. exit_status result ≡ 3) }
+{
+    match source {
+        Ok(source) => run::<Outside, _, _>(rt, base, history, limits, Backing { files, source }),
+        Err(fault) => report::unopened(rt, repository_name(fault)),
     }
 }
 

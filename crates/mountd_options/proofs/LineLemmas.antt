@@ -18,7 +18,7 @@ use Rattle.clap.specs.Faults.{fault_of}
 use Rattle.clap.specs.Values.{kind_of}
 use Rattle.clap.specs.declared.error.Error.{Error}
 use Rattle.clap.specs.declared.error.kind.ErrorKind.TheVariants.{OutOfMemory}
-use Rattle.mountd_options.specs.CommandLine.{IsTaken, NamesItsMount, NamesMount, Refuses, RefusesNumber, RefusesServer, RefusesValues, command_name, import, mountd_line, named, objects, serve, server_name, stdio, subcommands, tidy, value_of}
+use Rattle.mountd_options.specs.CommandLine.{IsTaken, NamesItsSource, NamesMount, NamesServed, Refuses, RefusesNumber, RefusesServed, RefusesServer, RefusesValues, command_name, import, mountd_line, named, objects, serve, server_name, stdio, subcommands, tidy, value_of}
 use Rattle.mountd_options.specs.Grammar.{HasRequired, Subcommand, value_in}
 use Rattle.mountd_options.specs.Numbers.{IsNoNumber, IsNoValue, number_name}
 use Rattle.mountd_options.specs.declared.numbers.NumberOption.{NumberOption}
@@ -142,25 +142,6 @@ by_words P words f name met h =
 
 -- ---- refusals
 
--- values that a command refuses which opens a mount
-pub values_refuse : (command : MountCommand) (words : List Text) (f : Found) (why : OptionsError) → IsTaken words
-    → subcommand_of mountd_line words ≡ Some (command_name command, rows_of f) → RefusesValues command (first_value f) why → Refuses words why
-values_refuse command words f why taken met refused =
-    by_fault why (by_words (λ value. RefusesValues command value why) words f (command_name command) met refused)
-  where
-    by_fault : (e : OptionsError) → RefusesValues command (value_of words) e → Refuses words e
-    by_fault (error.Refused reason) why = absurd why
-    by_fault error.Root why = (taken, why)
-    by_fault (error.Source refusing) why =
-        let named_so : named words ≡ Some (command_name refusing) = named-met words f (command_name command) met ∙ ap (λ c. Some (command_name c)) (sym why.0) in
-        (taken, named_so, why.1, why.2)
-    by_fault (error.Place refusing) why =
-        let named_so : named words ≡ Some (server_name refusing) = named-met words f (command_name command) met ∙ ap (λ n. Some n) (sym why.0) in
-        (taken, named_so, (λ _ _. why.1), why.2)
-    by_fault (error.Address option) why = (taken, (λ _ _. why.0), why.1)
-    by_fault (error.Number option) why = (taken, (λ _ _. why.0), why.1)
-    by_fault error.Memory why = tt
-
 -- `objects` opens no mount
 opens_none : (command : MountCommand) (name : Option Text) → name ≡ Some objects.0 → name ≡ Some (command_name command) → ⊥
 opens_none by.Stdio name is named =
@@ -170,25 +151,72 @@ opens_none by.Serve name is named =
     let same : objects.0 ≡ command_name by.Serve = cc in
     differ objects.0 (command_name by.Serve) refl same
 
--- .. and what it refuses
-pub objects_refuse : (words : List Text) (f : Found) (why : OptionsError) → IsTaken words
-    → subcommand_of mountd_line words ≡ Some (objects.0, rows_of f) → RefusesServer server.Objects (first_value f) why → Refuses words why
-objects_refuse words f why taken met refused =
-    by_fault why (by_words (λ value. RefusesServer server.Objects value why) words f objects.0 met refused)
+-- values that a command refuses which opens a mount
+pub values_refuse : (command : MountCommand) (words : List Text) (f : Found) (why : OptionsError) → IsTaken words
+    → subcommand_of mountd_line words ≡ Some (command_name command, rows_of f) → RefusesValues command (first_value f) why → Refuses words why
+values_refuse command words f why taken met refused =
+    by_fault why (by_words (λ value. RefusesValues command value why) words f (command_name command) met refused)
   where
-    none_opened : NamesItsMount words
-    none_opened = λ command is. absurd (opens_none command (named words) (named-met words f objects.0 met) is)
+    sources : NamesMount (value_of words) → NamesItsSource words
+    sources mount = record {
+      mount = λ _ _. mount;
+      served = λ is. absurd (opens_none command (named words) is (named-met words f (command_name command) met));
+    }
 
-    by_fault : (e : OptionsError) → RefusesServer server.Objects (value_of words) e → Refuses words e
+    by_fault : (e : OptionsError) → RefusesValues command (value_of words) e → Refuses words e
+    by_fault (error.Refused reason) why = absurd why
+    by_fault error.Root why = (taken, why)
+    by_fault (error.Source refusing) why =
+        let named_so : named words ≡ Some (command_name refusing) = named-met words f (command_name command) met ∙ ap (λ c. Some (command_name c)) (sym why.0) in
+        (taken, named_so, why.1, why.2)
+    by_fault (error.Repository refusing) why =
+        let named_so : named words ≡ Some (command_name refusing) = named-met words f (command_name command) met ∙ ap (λ c. Some (command_name c)) (sym why.0) in
+        (taken, named_so, why.1, why.2)
+    by_fault error.Served why = absurd why
+    by_fault (error.Place refusing) why =
+        let named_so : named words ≡ Some (server_name refusing) = named-met words f (command_name command) met ∙ ap (λ n. Some n) (sym why.0) in
+        (taken, named_so, sources why.1, why.2)
+    by_fault (error.Address option) why = (taken, sources why.0, why.1)
+    by_fault (error.Number option) why = (taken, sources why.0, why.1)
+    by_fault error.Memory why = tt
+
+-- .. and that `objects` refuses
+pub objects_refuse : (words : List Text) (f : Found) (why : OptionsError) → IsTaken words
+    → subcommand_of mountd_line words ≡ Some (objects.0, rows_of f) → RefusesServed (first_value f) why → Refuses words why
+objects_refuse words f why taken met refused =
+    by_fault why (by_words (λ value. RefusesServed value why) words f objects.0 met refused)
+  where
+    sources : NamesServed (value_of words) → NamesItsSource words
+    sources one = record {
+      mount = λ command is. absurd (opens_none command (named words) (named-met words f objects.0 met) is);
+      served = λ _. one;
+    }
+
+    by_fault : (e : OptionsError) → RefusesServed (value_of words) e → Refuses words e
     by_fault (error.Refused reason) why = absurd why
     by_fault error.Root why = absurd why
     by_fault (error.Source command) why = absurd why
+    by_fault (error.Repository command) why = absurd why
+    by_fault error.Served why = (taken, named-met words f objects.0 met, why)
     by_fault (error.Place refusing) why =
         let named_so : named words ≡ Some (server_name refusing) = named-met words f objects.0 met ∙ ap (λ c. Some (server_name c)) (sym why.0) in
-        (taken, named_so, none_opened, why.1)
-    by_fault (error.Address option) why = (taken, none_opened, why)
-    by_fault (error.Number option) why = (taken, none_opened, why)
+        (taken, named_so, sources why.1, why.2)
+    by_fault (error.Address option) why = (taken, sources why.0, why.1)
+    by_fault (error.Number option) why = (taken, sources why.0, why.1)
     by_fault error.Memory why = tt
+
+-- what `objects` refuses of where it is to listen, where it is named whose objects
+pub served_refuses : (value : Text → Option Text) (why : OptionsError) → NamesServed value → RefusesServer server.Objects value why
+    → RefusesServed value why
+served_refuses value (error.Refused reason) one why = why
+served_refuses value error.Root one why = absurd why
+served_refuses value (error.Source refusing) one why = absurd why
+served_refuses value (error.Repository refusing) one why = absurd why
+served_refuses value error.Served one why = absurd why
+served_refuses value (error.Place refusing) one why = (why.0, one, why.1)
+served_refuses value (error.Address option) one why = (one, why)
+served_refuses value (error.Number option) one why = (one, why)
+served_refuses value error.Memory one why = tt
 
 -- what `serve` refuses of its own, where its mount is named
 pub serve_refuses : (value : Text → Option Text) (why : OptionsError) → NamesMount value → RefusesServer server.Serve value why
@@ -196,6 +224,8 @@ pub serve_refuses : (value : Text → Option Text) (why : OptionsError) → Name
 serve_refuses value (error.Refused reason) mount why = why
 serve_refuses value error.Root mount why = absurd why
 serve_refuses value (error.Source refusing) mount why = absurd why
+serve_refuses value (error.Repository refusing) mount why = absurd why
+serve_refuses value error.Served mount why = absurd why
 serve_refuses value (error.Place refusing) mount why = (ap server_name why.0, mount, why.1)
 serve_refuses value (error.Address option) mount why = (mount, why)
 serve_refuses value (error.Number option) mount why = (mount, why)

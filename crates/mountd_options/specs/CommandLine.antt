@@ -1,5 +1,5 @@
 -- What the program's command line says.
-use Rattle.std.specs.Prelude.{◌≡◌, ◌↔◌, ◌^◌, IsTrue, ℕ, ⊤, List, [], ◌∷◌, ◌++◌, Option, Some, None, is_some, codes, option_map, string_bytes}
+use Rattle.std.specs.Prelude.{◌≡◌, ◌↔◌, ◌^◌, IsTrue, true, ℕ, ⊤, List, [], ◌∷◌, ◌++◌, Option, Some, None, is_some, codes, option_map, string_bytes}
 use Rattle.clap.specs.Kinds.{IsAmong}
 use Rattle.clap.specs.Words.{App, Text, fault_of, kind_of, subcommand_of}
 use Rattle.hex.specs.Hex.{encode_lower}
@@ -27,6 +27,8 @@ use Rattle.mountd_options.specs.declared.command.ObjectsOptions.{ObjectsOptions}
 use Rattle.mountd_options.specs.declared.command.OptionsError.{OptionsError}
 use Rattle.mountd_options.specs.declared.command.OptionsError.TheVariants as error
 use Rattle.mountd_options.specs.declared.command.ServeOptions.{ServeOptions}
+use Rattle.mountd_options.specs.declared.command.Served.{Served}
+use Rattle.mountd_options.specs.declared.command.Served.TheVariants as of
 use Rattle.mountd_options.specs.declared.command.ServerCommand.{ServerCommand}
 use Rattle.mountd_options.specs.declared.command.ServerCommand.TheVariants as server
 use Rattle.mountd_options.specs.declared.command.TidyOptions.{TidyOptions}
@@ -46,9 +48,10 @@ abbrev pub kept_options : List LineOption
 kept_options = optional (codes "overlay") ∷ flag (codes "rescan") ∷ optional (number_name History)
     ∷ optional (number_name CacheEntries) ∷ optional (number_name CacheBytes) ∷ []
 
--- `--root ID [--objects DIR] [--remote SERVER]` with these, of whatever opens a mount
+-- `--root ID [--objects DIR] [--git DIR] [--remote SERVER]` with these, of whatever opens a mount
 abbrev pub mount_options : List LineOption
-mount_options = required (codes "root") ∷ optional (codes "objects") ∷ optional (address_name Remote) ∷ kept_options
+mount_options = required (codes "root") ∷ optional (codes "objects") ∷ optional (codes "git") ∷ optional (address_name Remote)
+    ∷ kept_options
 
 -- `stdio` with the options of a mount
 abbrev pub stdio : Subcommand
@@ -63,10 +66,10 @@ abbrev pub serve : Subcommand
 serve = (command_name by.Serve, serve_options)
 
 abbrev pub objects_options : List LineOption
-objects_options = required (codes "dir") ∷ optional (number_name Port) ∷ optional (address_name Socket)
+objects_options = optional (codes "dir") ∷ optional (codes "git") ∷ optional (number_name Port) ∷ optional (address_name Socket)
     ∷ optional (number_name Sessions) ∷ []
 
--- `objects --dir DIR [--port P] [--socket PATH] [--sessions N]`
+-- `objects [--dir DIR] [--git DIR] [--port P] [--socket PATH] [--sessions N]`
 abbrev pub objects : Subcommand
 objects = (codes "objects", objects_options)
 
@@ -120,16 +123,43 @@ pub record SaysLimits (command : MountCommand) (value : Text → Option Text) (l
   pub bytes : SaysNumber CacheBytes (2 ^ 28) (value (number_name CacheBytes)) limits.bytes
   pub sizes : limits.sizes ≡ 65536
 
--- where the objects are to come from: a folder or a server, and these values name one of them
+-- where the objects are to come from: a folder or a server, and these values name one of them; or a repository, which they name
+-- with a server or without one
 abbrev pub SaysObjects : (Text → Option Text) → Objects → Type 0
 SaysObjects value (place.Folder folder) =
-    (value (codes "objects") ≡ Some (string_bytes folder)) × (value (address_name Remote) ≡ None)
+    (value (codes "git") ≡ None) × (value (codes "objects") ≡ Some (string_bytes folder)) × (value (address_name Remote) ≡ None)
 SaysObjects value (place.Server address) =
-    (value (codes "objects") ≡ None) × GivesAddress Remote (value (address_name Remote)) address
+    (value (codes "git") ≡ None) × (value (codes "objects") ≡ None) × GivesAddress Remote (value (address_name Remote)) address
+SaysObjects value (place.Repository folder) =
+    (value (codes "git") ≡ Some (string_bytes folder)) × (value (codes "objects") ≡ None) × (value (address_name Remote) ≡ None)
+SaysObjects value (place.RepositoryAndServer folder address) =
+    (value (codes "git") ≡ Some (string_bytes folder)) × (value (codes "objects") ≡ None)
+    × GivesAddress Remote (value (address_name Remote)) address
+
+-- .. they name no repository, and neither or both of the others
+pub record NamesNotOne (value : Text → Option Text) : Type 0 where
+  pub plain : value (codes "git") ≡ None
+  pub alike : is_some (value (codes "objects")) ≡ is_some (value (address_name Remote))
+
+-- .. they name a repository, and a folder of objects beside it
+pub record NamesBoth (value : Text → Option Text) : Type 0 where
+  pub git : is_some (value (codes "git")) ≡ true
+  pub objects : is_some (value (codes "objects")) ≡ true
+
+-- whose objects are to be served: a folder's or a repository's, and these values name one of them
+abbrev pub SaysServed : (Text → Option Text) → Served → Type 0
+SaysServed value (of.Folder folder) =
+    (value (codes "dir") ≡ Some (string_bytes folder)) × (value (codes "git") ≡ None)
+SaysServed value (of.Repository folder) =
+    (value (codes "dir") ≡ None) × (value (codes "git") ≡ Some (string_bytes folder))
 
 -- .. they name neither or both
-abbrev pub NamesNotOne : (Text → Option Text) → Type 0
-NamesNotOne value = is_some (value (codes "objects")) ≡ is_some (value (address_name Remote))
+abbrev pub NamesNotOneServed : (Text → Option Text) → Type 0
+NamesNotOneServed value = is_some (value (codes "dir")) ≡ is_some (value (codes "git"))
+
+-- .. they name one
+abbrev pub NamesServed : (Text → Option Text) → Type 0
+NamesServed value = ¬ NamesNotOneServed value
 
 -- where a server is to listen: at a port or at a socket, and these values name one of them
 abbrev pub SaysPlace : (Text → Option Text) → Address → Type 0
@@ -150,10 +180,11 @@ NamesRoot value = (root : Text) × (value (codes "root") ≡ Some root) × IsIdT
 abbrev pub NamesNoRoot : (Text → Option Text) → Type 0
 NamesNoRoot value = (root : Text) × (value (codes "root") ≡ Some root) × ¬ IsIdText root
 
--- the root is an id, and one place of objects is named
+-- the root is an id, and it is named where the objects come from
 pub record NamesMount (value : Text → Option Text) : Type 0 where
   pub root : NamesRoot value
   pub one : ¬ NamesNotOne value
+  pub apart : ¬ NamesBoth value
 
 -- the mount that a command is to open is what these values say
 pub record IsMount (command : MountCommand) (value : Text → Option Text) (options : MountOptions) : Type 0 where
@@ -172,7 +203,7 @@ pub record IsServed (value : Text → Option Text) (options : ServeOptions) : Ty
 
 -- whose objects are to be served, and where, is what these values say
 pub record AreServed (value : Text → Option Text) (options : ObjectsOptions) : Type 0 where
-  pub folder : value (codes "dir") ≡ Some (string_bytes options.folder)
+  pub objects : SaysServed value options.objects
   pub place : SaysPlace value options.address
   pub sessions : SaysNumber Sessions 2 (value (number_name Sessions)) options.sessions
 
@@ -215,18 +246,34 @@ abbrev pub RefusesServer : ServerCommand → (Text → Option Text) → OptionsE
 RefusesServer command value (error.Refused why) = ⊥
 RefusesServer command value error.Root = ⊥
 RefusesServer command value (error.Source refusing) = ⊥
+RefusesServer command value (error.Repository refusing) = ⊥
+RefusesServer command value error.Served = ⊥
 RefusesServer command value (error.Place refusing) = (refusing ≡ command) × NamesNotOnePlace value
 RefusesServer command value (error.Address option) = RefusesAddress value option
 RefusesServer command value (error.Number option) = RefusesNumber value option
 RefusesServer command value error.Memory = ⊤
+
+-- why `objects` refuses such values: whose objects first, then where it is to listen, or a number
+abbrev pub RefusesServed : (Text → Option Text) → OptionsError → Type 0
+RefusesServed value (error.Refused why) = ⊥
+RefusesServed value error.Root = ⊥
+RefusesServed value (error.Source refusing) = ⊥
+RefusesServed value (error.Repository refusing) = ⊥
+RefusesServed value error.Served = NamesNotOneServed value
+RefusesServed value (error.Place refusing) = (refusing ≡ server.Objects) × NamesServed value × NamesNotOnePlace value
+RefusesServed value (error.Address option) = NamesServed value × RefusesAddress value option
+RefusesServed value (error.Number option) = NamesServed value × RefusesNumber value option
+RefusesServed value error.Memory = ⊤
 
 -- why it is refused where the objects are to come from
 abbrev pub RefusesObjects : MountCommand → (Text → Option Text) → OptionsError → Type 0
 RefusesObjects command value (error.Refused why) = ⊥
 RefusesObjects command value error.Root = ⊥
 RefusesObjects command value (error.Source refusing) = (refusing ≡ command) × NamesNotOne value
+RefusesObjects command value (error.Repository refusing) = (refusing ≡ command) × NamesBoth value
+RefusesObjects command value error.Served = ⊥
 RefusesObjects command value (error.Place refusing) = ⊥
-RefusesObjects command value (error.Address option) = (¬ NamesNotOne value) × RefusesAddress value option
+RefusesObjects command value (error.Address option) = (¬ NamesNotOne value) × (¬ NamesBoth value) × RefusesAddress value option
 RefusesObjects command value (error.Number option) = ⊥
 RefusesObjects command value error.Memory = ⊤
 
@@ -236,15 +283,18 @@ abbrev pub RefusesValues : MountCommand → (Text → Option Text) → OptionsEr
 RefusesValues command value (error.Refused why) = ⊥
 RefusesValues command value error.Root = NamesNoRoot value
 RefusesValues command value (error.Source refusing) = (refusing ≡ command) × NamesRoot value × NamesNotOne value
+RefusesValues command value (error.Repository refusing) = (refusing ≡ command) × NamesRoot value × NamesBoth value
+RefusesValues command value error.Served = ⊥
 RefusesValues command value (error.Place refusing) =
     (server_name refusing ≡ command_name command) × NamesMount value × NamesNotOnePlace value
 RefusesValues command value (error.Address option) = NamesMount value × RefusesAddress value option
 RefusesValues command value (error.Number option) = NamesMount value × RefusesNumber value option
 RefusesValues command value error.Memory = ⊤
 
--- where the command opens a mount, its root is an id, and one place of objects is named
-abbrev pub NamesItsMount : List Text → Type 0
-NamesItsMount words = (command : MountCommand) → named words ≡ Some (command_name command) → NamesMount (value_of words)
+-- where the command opens a mount, its root is an id, and it is named where the objects come from; where it serves objects, whose
+pub record NamesItsSource (words : List Text) : Type 0 where
+  pub mount : (command : MountCommand) → named words ≡ Some (command_name command) → NamesMount (value_of words)
+  pub served : named words ≡ Some objects.0 → NamesServed (value_of words)
 
 -- why the words are refused: what is told says that the words passed what comes before it
 abbrev pub Refuses : List Text → OptionsError → Type 0
@@ -252,8 +302,11 @@ Refuses words (error.Refused why) = IsAmong (kind_of why) (fault_of mountd_line 
 Refuses words error.Root = IsTaken words × NamesNoRoot (value_of words)
 Refuses words (error.Source command) =
     IsTaken words × (named words ≡ Some (command_name command)) × NamesRoot (value_of words) × NamesNotOne (value_of words)
+Refuses words (error.Repository command) =
+    IsTaken words × (named words ≡ Some (command_name command)) × NamesRoot (value_of words) × NamesBoth (value_of words)
+Refuses words error.Served = IsTaken words × (named words ≡ Some objects.0) × NamesNotOneServed (value_of words)
 Refuses words (error.Place command) =
-    IsTaken words × (named words ≡ Some (server_name command)) × NamesItsMount words × NamesNotOnePlace (value_of words)
-Refuses words (error.Address option) = IsTaken words × NamesItsMount words × RefusesAddress (value_of words) option
-Refuses words (error.Number option) = IsTaken words × NamesItsMount words × RefusesNumber (value_of words) option
+    IsTaken words × (named words ≡ Some (server_name command)) × NamesItsSource words × NamesNotOnePlace (value_of words)
+Refuses words (error.Address option) = IsTaken words × NamesItsSource words × RefusesAddress (value_of words) option
+Refuses words (error.Number option) = IsTaken words × NamesItsSource words × RefusesNumber (value_of words) option
 Refuses words error.Memory = ⊤

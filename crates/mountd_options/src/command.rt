@@ -4,7 +4,7 @@ ghost use Rattle.clap.specs.declared.builder.command.Command.TheViews.{out-Comma
 ghost use Rattle.clap.specs.declared.error.kind.ErrorKind.TheVariants.{OutOfMemory};
 ghost use Rattle.clap.specs.Words.{app_of, first_value, found_of, kind_of, rows_of, rule_of, shape_of, subcommand_of, subcommand_rows_of};
 ghost use Rattle.mountd_options.specs.Addresses.{IsAddress, IsNoAddress, address_name};
-ghost use Rattle.mountd_options.specs.CommandLine.{AreServed, AsksFor, AsksVersion, IsGiven, IsImport, IsMount, IsServed, IsTaken, IsTidy, KeepsNone, NamesMount, Refuses, RefusesAddress, RefusesNumber, RefusesObjects, RefusesServer, RefusesValues, SaysLimits, SaysObjects, SaysPasses, SaysPlace, command_name, import, import_options, kept_options, mount_options, mountd_line, objects, objects_options, serve, serve_options, server_name, stdio, tidy, tidy_options};
+ghost use Rattle.mountd_options.specs.CommandLine.{AreServed, AsksFor, AsksVersion, IsGiven, IsImport, IsMount, IsServed, IsTaken, IsTidy, KeepsNone, NamesMount, NamesServed, Refuses, RefusesAddress, RefusesNumber, RefusesObjects, RefusesServed, RefusesServer, RefusesValues, SaysLimits, SaysObjects, SaysPasses, SaysPlace, SaysServed, command_name, import, import_options, kept_options, mount_options, mountd_line, objects, serve, serve_options, server_name, stdio, tidy, tidy_options};
 ghost use Rattle.mountd_options.specs.Grammar.{HasRequired, flag, option_rule, optional, required, subcommand_shape, with_options};
 ghost use Rattle.mountd_options.specs.Numbers.{IsNoNumber, IsNoValue, IsNumber, SaysNumber};
 ghost use Rattle.mountd_options.specs.Numbers.{least_of, most_of, number_name};
@@ -57,6 +57,19 @@ pub enum Objects {
     Folder(String),
     /// A server of this machine.
     Server(Address),
+    /// A Git repository: the folder that has it, or its `.git`.
+    Repository(String),
+    /// A Git repository, and for what it lacks a server of this machine.
+    RepositoryAndServer(String, Address),
+}
+
+/// Whose objects are served to other mounts.
+#[derive(Drop)]
+pub enum Served {
+    /// Those of the folder that they lie in.
+    Folder(String),
+    /// A Git repository's: the folder that has it, or its `.git`.
+    Repository(String),
 }
 
 /// A command that opens a mount.
@@ -91,7 +104,7 @@ impl Display for MountCommand {
 pub enum ServerCommand {
     /// It serves a mount.
     Serve,
-    /// It serves a folder of objects.
+    /// It serves objects.
     Objects,
 }
 
@@ -153,8 +166,8 @@ pub struct ServeOptions {
 /// Whose objects `mountd objects` is asked to serve, and where.
 #[derive(Drop)]
 pub struct ObjectsOptions {
-    /// The folder that the objects lie in.
-    pub folder: String,
+    /// Where the objects lie.
+    pub objects: Served,
     /// Where it is to listen.
     pub address: Address,
     /// How many connections are served.
@@ -198,9 +211,15 @@ pub enum OptionsError {
     /// The value of `--root` is no id.
     #[error("mountd: --root takes 40 lower-case hexadecimal digits")]
     Root,
-    /// This command is given neither or both of what objects may come from.
+    /// This command is given no repository, and neither or both of what else objects may come from.
     #[error("mountd: {0} takes one of --objects and --remote")]
     Source(MountCommand),
+    /// This command is given a repository, and a folder of objects beside it.
+    #[error("mountd: {0} takes one of --objects and --git")]
+    Repository(MountCommand),
+    /// `objects` is given neither or both of what it may serve.
+    #[error("mountd: objects takes one of --dir and --git")]
+    Served,
     /// This command is given neither or both of what it may listen at.
     #[error("mountd: {0} takes one of --port and --socket")]
     Place(ServerCommand),
@@ -309,6 +328,49 @@ fn objects_of(
     ensures ok { IfOk result (SaysObjects (first_value (found_of given.now))) }
     ensures err { IfErr result (RefusesObjects command (first_value (found_of given.now))) }
 {
+    match given.get_str("git") {
+        Some(repository) => repository_of(alloc, given, command, repository),
+        None => plain_objects_of(alloc, given, command),
+    }
+}
+
+/// Where they come from where that begins with this repository.
+fn repository_of(
+    alloc: Global,
+    given: &ArgMatches,
+    command: MountCommand,
+    repository: &str,
+) -> Result<Objects, OptionsError>
+    requires { first_value (found_of given.now) (codes "git") ≡ Some repository.now }
+    ensures ok { IfOk result (SaysObjects (first_value (found_of given.now))) }
+    ensures err { IfErr result (RefusesObjects command (first_value (found_of given.now))) }
+{
+    let server = given.get_str("remote");
+    match given.get_str("objects") {
+        Some(_) => Err(OptionsError::Repository(command)),
+        None => {
+            let repository = String::from_str(alloc, repository)?;
+            match server {
+                Some(text) => {
+                    let server = read_address(alloc, text, AddressOption::Remote)?;
+                    Ok(Objects::RepositoryAndServer(repository, server))
+                }
+                None => Ok(Objects::Repository(repository)),
+            }
+        }
+    }
+}
+
+/// Where they come from where that is no repository.
+fn plain_objects_of(
+    alloc: Global,
+    given: &ArgMatches,
+    command: MountCommand,
+) -> Result<Objects, OptionsError>
+    requires { first_value (found_of given.now) (codes "git") ≡ None }
+    ensures ok { IfOk result (SaysObjects (first_value (found_of given.now))) }
+    ensures err { IfErr result (RefusesObjects command (first_value (found_of given.now))) }
+{
     let server = given.get_str("remote");
     match given.get_str("objects") {
         Some(folder) => match server {
@@ -371,19 +433,36 @@ fn serve_options(alloc: Global, given: &ArgMatches) -> Result<ServeOptions, Opti
 }
 
 fn objects_options(alloc: Global, given: &ArgMatches) -> Result<ObjectsOptions, OptionsError>
-    requires { HasRequired objects_options (rows_of (found_of given.now)) }
     ensures ok { IfOk result (AreServed (first_value (found_of given.now))) }
-    ensures err { IfErr result (RefusesServer server.Objects (first_value (found_of given.now))) }
+    ensures err { IfErr result (RefusesServed (first_value (found_of given.now))) }
 {
-    let folder = given.get_str("dir").unwrap();
-    let folder = String::from_str(alloc, folder)?;
+    let objects = served_of(alloc, given)?;
     let address = place_of(alloc, given, ServerCommand::Objects)?;
     let sessions = number(given, NumberOption::Sessions, OBJECTS_SESSIONS)? as u32;
     Ok(ObjectsOptions {
-        folder,
+        objects,
         address,
         sessions,
     })
+}
+
+/// Whose objects are to be served.
+fn served_of(alloc: Global, given: &ArgMatches) -> Result<Served, OptionsError>
+    ensures ok { IfOk result (SaysServed (first_value (found_of given.now))) }
+    ensures named { OnOk result (NamesServed (first_value (found_of given.now))) }
+    ensures err { IfErr result (RefusesServed (first_value (found_of given.now))) }
+{
+    let repository = given.get_str("git");
+    match given.get_str("dir") {
+        Some(folder) => match repository {
+            Some(_) => Err(OptionsError::Served),
+            None => Ok(Served::Folder(String::from_str(alloc, folder)?)),
+        },
+        None => match repository {
+            Some(folder) => Ok(Served::Repository(String::from_str(alloc, folder)?)),
+            None => Err(OptionsError::Served),
+        },
+    }
 }
 
 fn import_options(alloc: Global, given: &ArgMatches) -> Result<ImportOptions, AllocError>
@@ -601,6 +680,12 @@ fn mount_line<'a>(
     let line = with_optional(
         alloc,
         line,
+        ("git", "DIR"),
+        "A Git repository, in the place of --objects; with --remote, which has what it lacks",
+    )?;
+    let line = with_optional(
+        alloc,
+        line,
         ("remote", "SERVER"),
         "A server of Git objects, in the place of --objects: its port, or its socket's path with a slash",
     )?;
@@ -611,8 +696,16 @@ fn objects_line<'a>(alloc: Global) -> Result<clap::Command<'a>, AllocError>
     ensures shape { IfOk result (λ line. shape_of line ≡ subcommand_shape objects) }
     ensures local { IfOk result (λ line. (fields_of line).has_globals ≡ false) }
 {
-    let line = clap::Command::new(alloc, "objects").about("Serves a folder of Git objects");
-    let line = with_required(alloc, line, ("dir", "DIR"), "The folder of Git objects")?;
+    let line = clap::Command::new(alloc, "objects").about(
+        "Serves the Git objects of a folder or a repository",
+    );
+    let line = with_optional(alloc, line, ("dir", "DIR"), "The folder of Git objects")?;
+    let line = with_optional(
+        alloc,
+        line,
+        ("git", "DIR"),
+        "A Git repository, in the place of --dir",
+    )?;
     let line = with_optional(alloc, line, ("port", "P"), PORT_HELP)?;
     let line = with_optional(alloc, line, ("socket", "PATH"), SOCKET_HELP)?;
     with_optional(

@@ -12,6 +12,6 @@ mod numbers;
 pub use addresses::AddressOption;
 pub use command::{
     Command, HistoryOption, ImportOptions, MountCommand, MountOptions, Objects, ObjectsOptions,
-    OptionsError, ServeOptions, ServerCommand, TidyOptions, options,
+    OptionsError, ServeOptions, Served, ServerCommand, TidyOptions, options,
 };
 pub use numbers::NumberOption;

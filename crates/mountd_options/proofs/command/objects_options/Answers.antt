@@ -1,10 +1,12 @@
-use Rattle.std.proofs.Common.{◌∙◌, ap, codes, is_some}
-use Rattle.clap.specs.Matches.{found_of}
-use Rattle.clap.proofs.CallerLemmas.{some_of_text}
-use Rattle.clap.proofs.WalkLemmas.{first_value-rows}
+use Rattle.std.proofs.Common.{rules}
+use Rattle.clap.specs.Matches.{first_value, found_of}
+use Rattle.mountd_options.specs.CommandLine.{RefusesServed}
+use Rattle.mountd_options.proofs.LineLemmas.{served_refuses}
 use Rattle.mountd_options.proofs.command.objects_options.Goals as goal
 
-pub unwrap-folder-requires : goal.unwrap-folder-requires
-unwrap-folder-requires c =
-    some_of_text _ c.get_str.result _ c.get_str.ensures
-    (ap is_some (first_value-rows (found_of c.args.given.now) (codes "dir")) ∙ c.requires.0)
+pub returns-in_err-address-clause-err : goal.returns-in_err-address-clause-err
+returns-in_err-address-clause-err c =
+    let value = first_value (found_of c.args.given.now) in
+    let why = c.in_err-address.field-0.0 in
+    let refused : RefusesServed value why = served_refuses value why c.in_ok-objects.ensures.named c.in_err-address.ensures.err in
+    search rules

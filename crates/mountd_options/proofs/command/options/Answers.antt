@@ -68,15 +68,6 @@ returns-in-Some-subcommand_matches-clause-ok g c =
     let asked = c.in_ok-serve_options.field-0 in
     (named-met words f serve.0 met, by_words (λ value. IsServed value asked) words f serve.0 met c.in_ok-serve_options.ensures.ok)
 
-pub objects_options-requires : goal.objects_options-requires
-objects_options-requires g c =
-    let words = map g.S.AsStr.text c.args.words.now in
-    let f = found_of c.in-Some-subcommand_matches-2.given.now in
-    let taken : IsTaken words = search rules in
-    let rows : subcommand_rows_of c.in_ok-matches.matches ≡ subcommand_of mountd_line words = search rules in
-    let name : subcommand_name_of c.in_ok-matches.matches ≡ Some objects.0 = c.in-Some-subcommand_matches-2.ensures.found.0 refl in
-    required-taken objects words f (inr (inr (inl refl))) taken (met-named words c.in_ok-matches.matches f objects.0 rows name c.in-Some-subcommand_matches-2.ensures.rows)
-
 pub returns-in_err-objects_options-clause-err : goal.returns-in_err-objects_options-clause-err
 returns-in_err-objects_options-clause-err g c =
     let words = map g.S.AsStr.text c.args.words.now in

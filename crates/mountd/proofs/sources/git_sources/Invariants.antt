@@ -1,5 +1,5 @@
 use Rattle.std.specs.Prelude.{◌≡◌, length}
-use Rattle.mountd.proofs.sources.folder_fetchers.Given as goal
+use Rattle.mountd.proofs.sources.git_sources.Given as goal
 
 -- the sources so far
 abbrev pub invariant-loop-made : goal.invariant-loop-made
