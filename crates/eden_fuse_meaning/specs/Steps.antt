@@ -107,7 +107,8 @@ renames flags p q =
     if flags == 0 then Ask (ask.Rename p q) after.Finish
     else (if flags == 1 then Ask (ask.Kind q) (after.Free p q) else refuse 22)
 
--- A read or a write of over 65,536 bytes is the mount's to refuse: at the start less is agreed on. `at` is the path of
+-- A read or a write of over 65,536 bytes is the mount's to refuse: at the start no more is agreed on, nor that an opening cuts a
+-- file, which the kernel then asks for by a message of its own. Times that are set aren't the mount's. `at` is the path of
 -- the message's node, `to` that of the other directory of a rename, `last` the name after which a directory is read on.
 -- EPERM is 1, ENOSYS 38
 abbrev pub first : Owner → Result Path ℕ → Result Path ℕ → Option Name → Asked → Step
