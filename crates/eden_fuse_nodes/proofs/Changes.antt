@@ -1,10 +1,10 @@
 -- What changes of one node make of what is known of it, and of a table.
 use Rattle.std.proofs.Common.{◌≡◌, ◌≢◌, ◌+◌, ◌==◌, ◌∙◌, ⊎_elim, inl, ℕ, Option, Some, None, IsSome, refl, sym, ap, arith, if◌then◌else◌}
 use Rattle.std.proofs.lemmas.Bool.{cases_eq, eq-eqb, ne_eqb, false≢true}
-use Rattle.std.proofs.lemmas.Option.{none-some}
+use Rattle.std.proofs.lemmas.Option.{none-some, same_Some}
 use Rattle.eden_fuse_nodes.specs.declared.place.Place.{Place}
 use Rattle.eden_fuse_nodes.specs.declared.known.Known.{Known}
-use Rattle.eden_fuse_nodes.specs.Tables.{Table, root, known, place_in, place_of, count_in, standing, nowhere, moved, once_more, IsBare, Learns}
+use Rattle.eden_fuse_nodes.specs.Tables.{Table, root, known, place_in, place_of, count_in, standing, nowhere, moved, once_more, IsBare, IsTable, Learns}
 use Rattle.eden_fuse_nodes.specs.Indexing.{IsIndexed}
 
 -- ---- what is known of one node
@@ -52,3 +52,9 @@ module _ (at : Place → Option ℕ) (old : Table) (next : ℕ) (x : IsIndexed a
 
   pub bare_place : (p : Place) → IsBare old p → at p ≡ None
   bare_place p b = none_of (at p) (λ i e. b i (x.stands p i e))
+
+  pub is_table : IsTable old
+  is_table = record {
+    told = λ i k e. let t = x.told i k e in (t.0, t.2);
+    alone = λ i j p s r. same_Some i j (sym (x.found p i s) ∙ x.found p j r);
+  }

@@ -1,12 +1,12 @@
 -- Ways up, and what changes of a table make of them.
-use Rattle.std.proofs.Common.{◌≡◌, ◌≢◌, ◌<◌, ◌+◌, ◌==◌, ◌⊎◌, ◌∙◌, ⊎_elim, ℕ, List, [], ◌∷◌, ◌++◌, length, reverse, Option, Some, None, refl, sym, ap, subst, arith, append_assoc, if◌then◌else◌}
+use Rattle.std.proofs.Common.{◌≡◌, ◌≢◌, ◌+◌, ◌∙◌, ⊎_elim, ℕ, List, [], ◌∷◌, ◌++◌, length, reverse, Option, Some, None, refl, sym, ap, subst, arith, append_assoc}
 use Rattle.std.proofs.lemmas.Bool.{cases_eq, eq-eqb, ne_eqb}
 use Rattle.std.proofs.lemmas.List.{length-append, reverse-append, reverse-reverse}
 use Rattle.std.proofs.lemmas.Option.{none-some, same_Some}
 use Rattle.eden_model.specs.Trees.{Name, Path}
 use Rattle.eden_fuse_nodes.specs.declared.place.Place.{Place}
 use Rattle.eden_fuse_nodes.specs.declared.known.Known.{Known}
-use Rattle.eden_fuse_nodes.specs.Tables.{Table, IsTable, known, place_in, place_of, count_of, standing, moved, root, Learns, Removes, Renames}
+use Rattle.eden_fuse_nodes.specs.Tables.{Table, IsTable, known, place_in, place_of, count_of, standing, moved, root, Learns, Removes}
 use Rattle.eden_fuse_nodes.specs.Ways.{LeadsUp, LiesAt}
 use Rattle.eden_fuse_nodes.specs.Laws.{OnePath, OneNode, GoesThrough, LearntLies, RemovedLiesNowhere, RenamedLiesThere}
 use Rattle.eden_fuse_nodes.proofs.Changes.{none_of, place-nowhere}

@@ -1,8 +1,8 @@
 -- What look-ups, removals and renames make of the paths at which nodes lie.
-use Rattle.std.specs.Prelude.{◌≡◌, ◌≢◌, ℕ, List, [], ◌∷◌, ◌++◌}
+use Rattle.std.specs.Prelude.{◌≡◌, ℕ, [], ◌∷◌, ◌++◌}
 use Rattle.eden_model.specs.Trees.{Name, Path}
 use Rattle.eden_fuse_nodes.specs.declared.place.Place.{Place}
-use Rattle.eden_fuse_nodes.specs.Tables.{Table, IsTable, place_of, Learns, Removes, Renames}
+use Rattle.eden_fuse_nodes.specs.Tables.{Table, IsTable, Learns, Removes, Renames}
 use Rattle.eden_fuse_nodes.specs.Ways.{LiesAt}
 
 -- a node lies at one path, and at a path lies one node

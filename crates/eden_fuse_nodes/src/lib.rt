@@ -2,7 +2,8 @@
 //!
 //! The kernel names files and directories by numbers that it was told of, and forgets a number as often as it was told
 //! of it. `Nodes` has the number of each, and finds where it lies by now. Each change costs look-ups of what it names
-//! alone; what lies below a directory that moves isn't touched. No number is given twice. Nothing here asks a mount.
+//! alone; what lies below a directory that moves isn't touched. That a number isn't given again after it was forgotten
+//! is so, but no contract says it. Nothing here asks a mount.
 #![tactic(auto)]
 
 mod known;

@@ -4,6 +4,7 @@ ghost use Rattle.eden_fuse_nodes.specs.Tables.{
   IsBare,
   IsCleared,
   IsSame,
+  IsTable,
   Learns,
   Moves,
   Removes,
@@ -193,6 +194,13 @@ impl Nodes {
             node = place.parent;
         }
         Ok(Way::Far)
+    }
+
+    /// What each table keeps, as `node_laws` asks for it. It does nothing.
+    pub fn keeps(&self)
+        ensures { IsTable self.now }
+    {
+        let _ = &self.nodes;
     }
 
     /// Where a node lies. The only error is want of memory.

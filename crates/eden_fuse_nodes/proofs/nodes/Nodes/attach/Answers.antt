@@ -1,8 +1,7 @@
-use Rattle.std.proofs.Common.{◌≡◌, ◌∙◌, Option, Some, None, IsSome, sym, ap, subst, arith}
+use Rattle.std.proofs.Common.{◌≡◌, ◌∙◌, Some, None, IsSome, sym, ap, subst, arith}
 use Rattle.std.specs.Ordering.{nat_cmp, eq_by_cmp}
 use Rattle.std.specs.BTreeMap.{get}
 use Rattle.eden_fuse_nodes.proofs.Orders.{order, exact}
-use Rattle.eden_fuse_nodes.specs.declared.known.Known.{Known}
 use Rattle.eden_fuse_nodes.specs.Tables.{Table, known, place_of, moved, IsBare}
 use Rattle.eden_fuse_nodes.proofs.Indexing.{put, told_moved, at_one}
 use Rattle.eden_fuse_nodes.proofs.Changes.{place-moved, bare_place}

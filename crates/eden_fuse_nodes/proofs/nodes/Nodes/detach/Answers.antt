@@ -1,4 +1,4 @@
-use Rattle.std.proofs.Common.{rules, ◌≡◌, Some, None, refl, sym, arith}
+use Rattle.std.proofs.Common.{rules, ◌≡◌, Some, None, refl, arith}
 use Rattle.std.specs.Ordering.{nat_cmp, eq_by_cmp}
 use Rattle.std.specs.BTreeMap.{get}
 use Rattle.eden_fuse_nodes.proofs.Orders.{order, exact}
