@@ -1,11 +1,13 @@
-//! Worked rows of the kernel's FUSE protocol: messages that a kernel sent, messages that are none, and answers, so that
-//! `eden_fuse_format` isn't proved a second time for them.
+//! Worked rows of the kernel's FUSE protocol: messages that a kernel sent, messages that are none, answers, and a table
+//! of nodes over its life, so that the crates aren't proved a second time for them.
 #![tactic(auto)]
 
 #[cfg(test)]
 mod answers;
 #[cfg(test)]
 mod messages;
+#[cfg(test)]
+mod nodes;
 #[cfg(test)]
 mod none;
 #[cfg(test)]

@@ -1,0 +1,5 @@
+mod Indexing
+mod Orders
+mod Changes
+mod Walks
+mod PathLemmas

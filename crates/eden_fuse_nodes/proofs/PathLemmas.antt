@@ -1,0 +1,168 @@
+-- Ways up, and what changes of a table make of them.
+use Rattle.std.proofs.Common.{◌≡◌, ◌≢◌, ◌+◌, ◌∙◌, ⊎_elim, ℕ, List, [], ◌∷◌, ◌++◌, length, reverse, Option, Some, None, refl, sym, ap, subst, arith, append_assoc}
+use Rattle.std.proofs.lemmas.Bool.{cases_eq, eq-eqb, ne_eqb}
+use Rattle.std.proofs.lemmas.List.{length-append, reverse-append, reverse-reverse}
+use Rattle.std.proofs.lemmas.Option.{none-some, same_Some}
+use Rattle.eden_model.specs.Trees.{Name, Path}
+use Rattle.eden_fuse_nodes.specs.declared.place.Place.{Place}
+use Rattle.eden_fuse_nodes.specs.declared.known.Known.{Known}
+use Rattle.eden_fuse_nodes.specs.Tables.{Table, IsTable, known, place_in, place_of, count_of, standing, moved, root, Learns, Removes}
+use Rattle.eden_fuse_nodes.specs.Ways.{LeadsUp, LiesAt}
+use Rattle.eden_fuse_nodes.specs.Laws.{OnePath, OneNode, GoesThrough, LearntLies, RemovedLiesNowhere, RenamedLiesThere}
+use Rattle.eden_fuse_nodes.proofs.Changes.{none_of, place-nowhere}
+
+-- ---- one way from a node, and one node at its end
+
+root_bare : (t : Table) → IsTable t → place_of t root ≡ None
+root_bare t x = ap place_in (none_of (known t root) (λ k e. let b = (x.told root k e).0 in omega (arith, b)))
+
+place_is : (r s : Place) → r ≡ s → (r.parent ≡ s.parent) × (r.name ≡ s.name)
+place_is r s e = (ap (λ (x : Place). x.parent) e, ap (λ (x : Place). x.name) e)
+
+pub one_way : (t : Table) → IsTable t → (i : ℕ) (a b : List Name) → LeadsUp t i a → LeadsUp t i b → a ≡ b
+one_way t x i [] [] l m = refl
+one_way t x i [] (n ∷ b) l m = absurd (none-some _ (sym (ap (place_of t) l ∙ root_bare t x) ∙ m.1))
+one_way t x i (n ∷ a) [] l m = absurd (none-some _ (sym (ap (place_of t) m ∙ root_bare t x) ∙ l.1))
+one_way t x i (n ∷ a) (o ∷ b) l m =
+    let same = place_is _ _ (same_Some _ _ (sym l.1 ∙ m.1)) in
+    let rest : a ≡ b = one_way t x l.0 a b l.2 (subst (λ (j : ℕ). LeadsUp t j b) (sym same.0) m.2) in
+    (λ k. same.1 k ∷ rest k)
+
+pub one_end : (t : Table) → IsTable t → (i j : ℕ) (a : List Name) → LeadsUp t i a → LeadsUp t j a → i ≡ j
+one_end t x i j [] l m = l ∙ sym m
+one_end t x i j (n ∷ a) l m =
+    let up = one_end t x l.0 m.0 a l.2 m.2 in
+    x.alone i j _ l.1 (m.1 ∙ ap (λ k. Some (record { parent = k; name = n })) (sym up))
+
+-- ---- a way that goes through neither of two places, at which alone something changes
+
+longer : {X : Type 0} (b : List X) (x : X) (a : List X) → a ≢ b ++ x ∷ a
+longer b x a e = omega (arith, ap length e, length-append b (x ∷ a))
+
+longer_still : {X : Type 0} (n : X) (b : List X) (x : X) (a : List X) → n ∷ b ++ x ∷ a ≢ x ∷ a
+longer_still n b x a e = omega (arith, ap length e, length-append b (x ∷ a))
+
+module _ (old new : Table) (x : IsTable old) (p q : Place) (same : (i : ℕ) → place_of old i ≢ Some p → place_of old i ≢ Some q → place_of new i ≡ place_of old i)
+    (u v : List Name) (pu : LeadsUp old p.parent u) (qv : LeadsUp old q.parent v) where
+  -- a node that stands at a place has its way
+  at_place : (r : Place) (w : List Name) → LeadsUp old r.parent w → (i : ℕ) (up : List Name) → LeadsUp old i up → place_of old i ≡ Some r → up ≡ r.name ∷ w
+  at_place r w rw_ i up l e = one_way old x i up (r.name ∷ w) l (r.parent, e, rw_)
+
+  pub kept_way : (i : ℕ) (up : List Name) → LeadsUp old i up → ((below : List Name) → up ≢ below ++ p.name ∷ u) → ((below : List Name) → up ≢ below ++ q.name ∷ v)
+      → LeadsUp new i up
+  kept_way i [] l h k = l
+  kept_way i (n ∷ up) l h k =
+      let stays : place_of new i ≡ place_of old i = same i (λ e. h [] (at_place p u pu i (n ∷ up) l e)) (λ e. k [] (at_place q v qv i (n ∷ up) l e)) in
+      (l.0, stays ∙ l.1, kept_way l.0 up l.2 (λ below e. h (n ∷ below) (ap (λ y. n ∷ y) e)) (λ below e. k (n ∷ below) (ap (λ y. n ∷ y) e)))
+
+  -- what stands at the end of such a way stood at the first place
+  stood_there : (i : ℕ) → LeadsUp old i (p.name ∷ u) → place_of old i ≡ Some p
+  stood_there i l = l.1 ∙ ap (λ k. Some (record { parent = k; name = p.name })) (one_end old x l.0 p.parent u l.2 pu)
+
+  stays_below : (i : ℕ) (n : Name) (b : List Name) → LeadsUp old i (n ∷ b ++ p.name ∷ u) → ((below : List Name) → n ∷ b ++ p.name ∷ u ≢ below ++ q.name ∷ v)
+      → place_of new i ≡ place_of old i
+  stays_below i n b l k =
+      same i (λ e. longer_still n b p.name u (at_place p u pu i (n ∷ b ++ p.name ∷ u) l e)) (λ e. k [] (at_place q v qv i (n ∷ b ++ p.name ∷ u) l e))
+
+  pub moved_way : ((i : ℕ) → place_of old i ≡ Some p → place_of new i ≡ Some q) → LeadsUp new q.parent v → (i : ℕ) (b : List Name) → LeadsUp old i (b ++ p.name ∷ u)
+      → ((below : List Name) → b ++ p.name ∷ u ≢ below ++ q.name ∷ v) → LeadsUp new i (b ++ q.name ∷ v)
+  moved_way goes nv i [] l k = (q.parent, goes i (stood_there i l), nv)
+  moved_way goes nv i (n ∷ b) l k =
+      (l.0, stays_below i n b l k ∙ l.1, moved_way goes nv l.0 b l.2 (λ below e. k (n ∷ below) (ap (λ y. n ∷ y) e)))
+
+-- ---- a way that goes through a place at which nothing stands any more
+
+module _ (old new : Table) (x : IsTable old) (p : Place) (r : Removes old new p) (u : List Name) (pu : LeadsUp old p.parent u) where
+  no_root : (i : ℕ) (s : Place) → place_of old i ≡ Some s → i ≢ root
+  no_root i s e t = none-some s (sym (ap (place_of old) t ∙ root_bare old x) ∙ e)
+
+  pub lost_way : (i : ℕ) (b : List Name) → LeadsUp old i (b ++ p.name ∷ u) → (w : List Name) → ¬ LeadsUp new i w
+  lost_way i [] l [] m =
+      no_root i p (stood_there old new x p p (λ j n o. ap place_in (r.kept j n)) u u pu pu i l) m
+  lost_way i [] l (n ∷ w) m =
+      let stood = stood_there old new x p p (λ j n o. ap place_in (r.kept j n)) u u pu pu i l in
+      none-some _ (sym (ap place_in (r.gone i stood) ∙ place-nowhere (known old i)) ∙ m.1)
+  lost_way i (n ∷ b) l [] m = no_root i _ l.1 m
+  lost_way i (n ∷ b) l (o ∷ w) m =
+      let other : place_of old i ≢ Some p = λ e. longer_still n b p.name u (one_way old x i (n ∷ b ++ p.name ∷ u) (p.name ∷ u) l (p.parent, e, pu)) in
+      let stays : place_of new i ≡ place_of old i = ap place_in (r.kept i other) in
+      let up = place_is _ _ (same_Some _ _ (sym l.1 ∙ sym stays ∙ m.1)) in
+      lost_way l.0 b l.2 w (subst (λ (j : ℕ). LeadsUp new j w) (sym up.0) m.2)
+
+-- ---- paths, which are ways from the other end
+
+turned : (above : Path) (n : Name) (rest : Path) → reverse (above ++ n ∷ rest) ≡ reverse rest ++ n ∷ reverse above
+turned above n rest =
+    reverse-append above (n ∷ rest) ∙ ap (λ (y : List Name). y ++ reverse above) (reverse-append (n ∷ []) rest) ∙ append_assoc (reverse rest) (n ∷ []) (reverse above)
+
+turned_back : (path above : Path) (n : Name) (below : List Name) → reverse path ≡ below ++ n ∷ reverse above → GoesThrough path above n
+turned_back path above n below e =
+    (reverse below, sym (reverse-reverse path) ∙ ap reverse e ∙ turned below n (reverse above) ∙ ap (λ (y : List Name). y ++ n ∷ reverse below) (reverse-reverse above))
+
+lies_turned : (t : Table) (i : ℕ) (above : Path) (n : Name) (rest : Path) → LiesAt t i (above ++ n ∷ rest) → LeadsUp t i (reverse rest ++ n ∷ reverse above)
+lies_turned t i above n rest l = subst (λ (y : List Name). LeadsUp t i y) (turned above n rest) l
+
+turned_lies : (t : Table) (i : ℕ) (above : Path) (n : Name) (rest : Path) → LeadsUp t i (reverse rest ++ n ∷ reverse above) → LiesAt t i (above ++ n ∷ rest)
+turned_lies t i above n rest l = subst (λ (y : List Name). LeadsUp t i y) (sym (turned above n rest)) l
+
+pub one_path : OnePath
+one_path t id p q x l m = sym (reverse-reverse p) ∙ ap reverse (one_way t x id (reverse p) (reverse q) l m) ∙ reverse-reverse q
+
+pub one_node : OneNode
+one_node t i j p x l m = one_end t x i j (reverse p) l m
+
+-- ---- a look-up
+
+module _ (old new : Table) (id : ℕ) (p : Place) (h : Learns old new id p) where
+  learnt_place : (i : ℕ) (r : Place) → place_of old i ≡ Some r → place_of new i ≡ Some r
+  learnt_place i r e = ⊎_elim
+      (λ s. let is : known new i ≡ standing (count_of old id + 1) p = h.known i ∙ rw (eq-eqb i id s) refl in ap place_in is ∙ ⊎_elim
+      (λ t. sym t ∙ ap (place_of old) (sym s) ∙ e)
+      (λ t. absurd (none-some r (sym (ap place_in t.0) ∙ ap (place_of old) (sym s) ∙ e)))
+      h.settled)
+      (λ n. let is : known new i ≡ known old i = h.known i ∙ rw (ne_eqb i id n) refl in ap place_in is ∙ e)
+      (cases_eq i id)
+
+  learnt_way : (i : ℕ) (up : List Name) → LeadsUp old i up → LeadsUp new i up
+  learnt_way i [] l = l
+  learnt_way i (n ∷ up) l = (l.0, learnt_place i _ l.1, learnt_way l.0 up l.2)
+
+  learnt_there : place_of new id ≡ Some p
+  learnt_there = let is : known new id ≡ standing (count_of old id + 1) p = h.known id ∙ rw (eq-eqb id id refl) refl in ap place_in is
+
+pub learnt_lies : LearntLies
+learnt_lies old new id p h = record {
+  found = λ above l. turned_lies new id above p.name [] (p.parent, learnt_there old new id p h, learnt_way old new id p h p.parent (reverse above) l);
+  kept = λ i path l. learnt_way old new id p h i (reverse path) l;
+}
+
+-- ---- a removal, a rename
+
+pub removed_lies_nowhere : RemovedLiesNowhere
+removed_lies_nowhere old new p above x r pu =
+    let same : (i : ℕ) → place_of old i ≢ Some p → place_of old i ≢ Some p → place_of new i ≡ place_of old i = λ i n o. ap place_in (r.kept i n) in
+    record {
+      gone = λ i rest path l. lost_way old new x p r (reverse above) pu i (reverse rest) (lies_turned old i above p.name rest l) (reverse path);
+      kept = λ i path l h.
+          let off : (below : List Name) → reverse path ≢ below ++ p.name ∷ reverse above = λ below e. h (turned_back path above p.name below e) in
+          kept_way old new x p p same (reverse above) (reverse above) pu pu i (reverse path) l off off;
+    }
+
+place-moved_to : (o : Option Known) (p q : Place) → place_in o ≡ Some p → place_in (moved q o) ≡ Some q
+place-moved_to None p q e = absurd (none-some p e)
+place-moved_to (Some k) p q e = refl
+
+pub renamed_lies_there : RenamedLiesThere
+renamed_lies_there old new p q from to x r pu qv apart =
+    let same : (i : ℕ) → place_of old i ≢ Some p → place_of old i ≢ Some q → place_of new i ≡ place_of old i = λ i n o. ap place_in (r.kept i n o) in
+    let kept = kept_way old new x p q same (reverse from) (reverse to) pu qv in
+    let nv : LeadsUp new q.parent (reverse to)
+    = kept q.parent (reverse to) qv (λ below e. apart (turned_back to from p.name below e)) (λ below e. longer below q.name (reverse to) e) in
+    record {
+      goes = λ i rest l h. turned_lies new i to q.name rest
+          (moved_way old new x p q same (reverse from) (reverse to) pu qv
+          (λ j e. ap place_in (r.goes j e) ∙ place-moved_to (known old j) p q e) nv i (reverse rest) (lies_turned old i from p.name rest l)
+          (λ below e. h (turned_back (from ++ p.name ∷ rest) to q.name below (turned from p.name rest ∙ e))));
+      kept = λ i path l h k. kept i (reverse path) l
+          (λ below e. h (turned_back path from p.name below e)) (λ below e. k (turned_back path to q.name below e));
+    }

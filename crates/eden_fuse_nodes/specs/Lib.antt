@@ -1,0 +1,4 @@
+pub mod Tables
+pub mod Indexing
+pub mod Ways
+pub mod Laws

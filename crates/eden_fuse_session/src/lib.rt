@@ -1,0 +1,14 @@
+//! Answers the kernel's messages, one at a time, by a service.
+//!
+//! `turn` reads one message, asks the service, and hands the answer to a sender in one piece: exactly one, or none if
+//! the kernel wants none. An operation that isn't known is refused with `ENOSYS` and a malformed message with `EINVAL`,
+//! without the service. What the service answers is its own relation. Nothing here reads or writes a descriptor.
+#![tactic(auto)]
+
+mod sender;
+mod service;
+mod turning;
+
+pub use sender::{NotSent, Sender};
+pub use service::{Said, Service};
+pub use turning::{Turned, turn};
