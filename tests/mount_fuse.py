@@ -88,7 +88,8 @@ def check_endings(folder: pathlib.Path, repository: pathlib.Path) -> None:
 
 def check_ended(how: str, mount: MountGit, overlay: pathlib.Path) -> None:
     running = children(mount.process.pid)
-    check(f"{how}: what runs below", len(running) >= 2, True)
+    # Of a whole repository mountd reads the objects itself, and no other program runs.
+    check(f"{how}: what runs below", [b"--git" in command_of(process) for process in running], [True])
     check(f"{how}: the end, with nothing said", (mount.end(how), mount.said()), (0, []))
     check(f"{how}: nothing is mounted", mount.is_mounted(), False)
     check(f"{how}: nothing runs", left_of(running), [])

@@ -129,6 +129,12 @@ class Repository:
         done = self.git("rev-parse", "--path-format=absolute", "--git-path", "objects")
         return os.fsdecode(done.stdout.removesuffix(b"\n"))
 
+    @functools.cached_property
+    def common_folder(self) -> str:
+        """What all its working trees share: its `.git`, or the bare repository."""
+        done = self.git("rev-parse", "--path-format=absolute", "--git-common-dir")
+        return os.fsdecode(done.stdout.removesuffix(b"\n"))
+
     def objects(self) -> "Objects":
         return Objects(self.path, environment())
 

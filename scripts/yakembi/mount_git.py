@@ -175,6 +175,27 @@ def objects_at(path: str, repository: str, root: str, ahead: int, log: bool) -> 
         child.wait()
 
 
+@contextlib.contextmanager
+def source_of(repository: Repository, words: argparse.Namespace, root: str) -> Iterator[list[str]]:
+    """Where mountd has its objects from: the repository itself; a git-objects, where objects are to be fetched or told,
+    or the repository's path is no text, as mountd's words are."""
+    folder = repository.common_folder
+    if not repository.remotes() and not words.log and is_text(folder):
+        yield ["--git", folder]
+        return
+    with socket_path() as path, objects_at(path, words.repository, root, words.ahead, words.log) as server:
+        yield ["--remote", server]
+
+
+def is_text(path: str) -> bool:
+    """Whether the path's bytes are UTF-8."""
+    try:
+        path.encode()
+    except UnicodeEncodeError:
+        return False
+    return True
+
+
 def pool_over(program: Serving, overlay: str) -> Pool:
     """The sessions; waits a little for a mountd that still has the overlay."""
     end = time.monotonic() + SECONDS_LOCKED
@@ -224,9 +245,8 @@ def run(words: argparse.Namespace) -> None:
     check_apart(words.overlay, folder)
     with overlay_at(words.overlay) as overlay:
         root, seconds = tree_to_show(repository, words.revision, overlay)
-        with socket_path() as path, objects_at(path, words.repository, root, words.ahead, words.log) as server:
-            program = Serving(words.mountd, root, ["--remote", server], overlay.path,
-                              more=["--cache-entries", CACHE_ENTRIES])
+        with source_of(repository, words, root) as source:
+            program = Serving(words.mountd, root, source, overlay.path, more=["--cache-entries", CACHE_ENTRIES])
             pool = pool_over(program, overlay.path)
             try:
                 times = Times(seconds * 10**9, overlay.changed())

@@ -70,7 +70,8 @@ class Serving:
     def __init__(self, mountd: str | os.PathLike[str], root: str, source: Sequence[object],
                  overlay: str | os.PathLike[str], more: Sequence[object] = (), sessions: int = SESSIONS,
                  fetchers: int = FETCHERS) -> None:
-        """`source` is `["--remote", ADDRESS]` or `["--objects", FOLDER]`, `more` are further options of mountd."""
+        """`source` is `["--remote", ADDRESS]`, `["--objects", FOLDER]` or `["--git", FOLDER]`, and `more` are further
+        options of mountd."""
         self.mountd = os.fspath(mountd)
         self.sessions = sessions
         words = ["--root", root, *source, "--overlay", os.fspath(overlay), "--history", "none", "--sessions", sessions,

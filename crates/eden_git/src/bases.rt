@@ -48,8 +48,8 @@ impl Bases {
         Some(base)
     }
 
-    /// Keeps the object, and drops the oldest ones that have no room beside it. It isn't kept where it alone has none, or
-    /// where there is no memory.
+    /// Keeps the object, and drops the oldest ones that have no room beside it. It isn't kept where it alone has none,
+    /// or where there is no memory.
     pub(crate) fn keep(&mut self, mut base: Base) {
         let size = base.body.len();
         if size > BYTES_MOST {

@@ -1,7 +1,7 @@
 // A repository's file `config` (git-config(1), "Syntax"), as far as it says what the ids are.
 
-/// Whether the file names no other ids than SHA-1 (`extensions.objectFormat`), and no version of the repository's format
-/// beyond 1 (`core.repositoryFormatVersion`). It is read leniently: what is no setting says nothing.
+/// Whether the file names no other ids than SHA-1 (`extensions.objectFormat`), and no version of the repository's
+/// format beyond 1 (`core.repositoryFormatVersion`). It is read leniently: what is no setting says nothing.
 pub(crate) fn is_format_known(config: &[u8]) -> bool {
     let mut section: &[u8] = b"";
     for line in config.split(|byte| *byte == b'\n') {

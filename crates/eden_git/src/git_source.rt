@@ -20,8 +20,8 @@ use std::rt::Files;
 
 /// The objects of a Git repository: packed ones, loose ones, and those of the directories that it names as alternates.
 ///
-/// If an object is in none of the packs that were seen and isn't loose, the directories of packs are listed again, since
-/// Git packs objects while others read.
+/// If an object is in none of the packs that were seen and isn't loose, the directories of packs are listed again,
+/// since Git packs objects while others read.
 ///
 /// Contracts see the repository's path and the count of failures.
 #[derive(Drop)]
@@ -47,8 +47,8 @@ impl<R: Files + Alloc + Clone + Drop> GitSource<R> {
     /// The objects of that repository: of a working directory with a `.git`, which may be a file that leads to another
     /// place, of a `.git` itself, or of a bare repository. Nothing has failed yet.
     ///
-    /// `Missing`, where no repository is there; `Format`, where its ids aren't SHA-1 or its format is newer than version
-    /// 1; `Device`, where it can't be read; `Memory`.
+    /// `Missing`, where no repository is there; `Format`, where its ids aren't SHA-1 or its format is newer than
+    /// version 1; `Device`, where it can't be read; `Memory`.
     pub fn open(alloc: Global, files: R, repository: PathBuf) -> Result<Self, GitFault>
         ensures { IfOk result (λ s. s ≡ record { path = path_buf_bytes repository; failures = 0 }) }
     {

@@ -1,5 +1,5 @@
-// The index of a pack (gitformat-pack(5), "Version 2 pack-*.idx files"): how many ids there are up to each first byte, the
-// ids in order, their checksums, their places in the pack, and the places past 2^31.
+// The index of a pack (gitformat-pack(5), "Version 2 pack-*.idx files"): how many ids there are up to each first byte,
+// the ids in order, their checksums, their places in the pack, and the places past 2^31.
 ghost use Rattle.std.specs.Prelude.{◌≡◌, ◌≤◌, ◌<◌, length, IfErr};
 ghost use Rattle.eden_pack_format.specs.Causes.{IsReadingCause};
 

@@ -1,9 +1,10 @@
 //! The objects of a Git repository, read where Git keeps them.
 //!
-//! A `GitSource` is a `Source` over a repository, whose directory of objects it finds; a `LooseSource` is one over such
-//! a directory, where the file `xx/` and 38 digits holds one framed object as a zlib stream. Whatever the files hold, an
-//! answer is a framed object or a cause, and room is taken as bytes come. That the object is the one that was asked for
-//! is not looked at here: whoever asked compares its SHA-1.
+//! A `GitSource` is a `Source` over a repository: over its packs, its loose objects and those of the directories that
+//! it names as alternates. A `LooseSource` is one over a directory of loose objects, where the file `xx/` and 38 digits
+//! holds one framed object as a zlib stream. Whatever the files hold, an answer is a framed object or a cause, and room
+//! is taken as bytes come. Packs are read in pieces where they lie. That the object is the one that was asked for isn't
+//! looked at here: whoever asked compares its SHA-1.
 #![tactic(auto)]
 
 mod alternates;

@@ -1,5 +1,6 @@
 -- What a delta makes of its base (gitformat-pack(5), "Deltified representation").
-use Rattle.std.specs.Prelude.{◌≡◌, ℕ, ◌+◌, ◌/◌, ◌==◌, List, [], ◌∷◌, ◌++◌, length, take, drop, Option, Some, None, option_map, option_and_then, nat_lt, nat_le, if◌then◌else◌}
+use Rattle.std.specs.Prelude.{◌≡◌, ℕ, ◌+◌, ◌/◌, ◌==◌, List, [], ◌∷◌, ◌++◌, length}
+use Rattle.std.specs.Prelude.{take, drop, Option, Some, None, option_map, option_and_then, nat_lt, nat_le, if◌then◌else◌}
 use Rattle.eden_pack_format.specs.Numbers as numbers
 
 -- so many bytes of the base from an offset on, where they are all there
@@ -29,7 +30,8 @@ instruction base (code ∷ text) = if code == 0 then None else if nat_lt code 12
 -- the instructions make that target of the base: one after the other, each adds its piece
 pub data Makes (base : List ℕ) : List ℕ → List ℕ → Type 0 where
   ends : (text target : List ℕ) → text ≡ [] → target ≡ [] → Makes base text target
-  adds : (text target piece rest more : List ℕ) → instruction base text ≡ Some (piece, rest) → target ≡ piece ++ more → Makes base rest more → Makes base text target
+  adds : (text target piece rest more : List ℕ) → instruction base text ≡ Some (piece, rest) → target ≡ piece ++ more → Makes base rest more
+      → Makes base text target
 
 -- the delta says the sizes of the base and of the target, and its instructions make the target
 pub record IsDelta (base delta target : List ℕ) : Type 0 where

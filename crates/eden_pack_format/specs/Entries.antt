@@ -1,5 +1,6 @@
 -- What stands before an entry's stream in a pack (gitformat-pack(5), "pack-*.pack files have the following format").
-use Rattle.std.specs.Prelude.{ℕ, ◌+◌, ◌*◌, ◌/◌, ◌%◌, ◌==◌, List, [], ◌∷◌, length, take, drop, Option, Some, None, option_map, option_and_then, nat_lt, nat_le, if◌then◌else◌}
+use Rattle.std.specs.Prelude.{ℕ, ◌+◌, ◌*◌, ◌/◌, ◌%◌, ◌==◌, List, [], ◌∷◌, length}
+use Rattle.std.specs.Prelude.{take, drop, Option, Some, None, option_map, option_and_then, nat_lt, nat_le, if◌then◌else◌}
 use Rattle.eden_object.specs.declared.word.Word.TheVariants as word
 use Rattle.eden_pack_format.specs.declared.entry.EntryKind.{EntryKind}
 use Rattle.eden_pack_format.specs.declared.entry.EntryKind.TheVariants as entry

@@ -1,12 +1,14 @@
 -- Numbers as entries and deltas write them (gitformat-pack(5), "Size encoding", "Offset encoding" and "Instruction to copy").
-use Rattle.std.specs.Prelude.{ℕ, zero, suc, ◌+◌, ◌*◌, ◌/◌, ◌%◌, ◌==◌, List, [], ◌∷◌, Bool, true, false, Option, Some, None, option_map, option_and_then, nat_lt, if◌then◌else◌}
+use Rattle.std.specs.Prelude.{ℕ, zero, suc, ◌+◌, ◌*◌, ◌/◌, ◌%◌, ◌==◌, List, []}
+use Rattle.std.specs.Prelude.{◌∷◌, Bool, true, false, Option, Some, None, option_map, option_and_then, nat_lt, if◌then◌else◌}
 
 -- Groups of seven bits, the lowest first; a byte from 128 on says that more come, of at most so many. What was read before is
 -- the number, and worth is what the next group's ones stand for. Also the bytes behind the number.
 unfoldable pub groups : ℕ → ℕ → ℕ → List ℕ → Option (ℕ × List ℕ)
 groups zero number worth bytes = None
 groups (suc most) number worth [] = None
-groups (suc most) number worth (b ∷ bytes) = if nat_lt b 128 then Some (number + worth * b, bytes) else groups most (number + worth * (b % 128)) (worth * 128) bytes
+groups (suc most) number worth (b ∷ bytes) =
+    if nat_lt b 128 then Some (number + worth * b, bytes) else groups most (number + worth * (b % 128)) (worth * 128) bytes
 
 -- a size, in at most eight groups
 abbrev pub size : List ℕ → Option (ℕ × List ℕ)
@@ -36,4 +38,5 @@ length_of flags bytes =
 
 -- four bytes
 unfoldable pub offset : ℕ → List ℕ → Option (ℕ × List ℕ)
-offset flags bytes = option_and_then (λ low. option_map (λ high. (low.0 + 16777216 * high.0, high.1)) (byte_if (flags / 8 % 2 == 1) low.1)) (length_of flags bytes)
+offset flags bytes =
+    option_and_then (λ low. option_map (λ high. (low.0 + 16777216 * high.0, high.1)) (byte_if (flags / 8 % 2 == 1) low.1)) (length_of flags bytes)

@@ -38,7 +38,8 @@ pub fn read_entry_head(bytes: &[u8]) -> Option<EntryHead<'_>>
     Some(EntryHead { kind, size, stream })
 }
 
-// The first byte has the lowest four bits of the size, and the bytes behind it the others, if it says that there are any.
+// The first byte has the lowest four bits of the size, and the bytes behind it the others, if it says that there are
+// any.
 fn read_entry_size(first: u8, after: &[u8]) -> Option<(u64, &[u8])>
     ensures { MatchOption result (spec.entry_size first after.now ≡ None)
         (λ r. spec.entry_size first after.now ≡ Some (r.0, r.1.now)) }

@@ -4,7 +4,8 @@ ghost use Rattle.eden_pack_format.specs.Numbers as spec;
 
 /// The size that the bytes begin with, and what is behind it. It has at most eight groups of seven bits.
 pub(crate) fn read_size(bytes: &[u8]) -> Option<(u64, &[u8])>
-    ensures read { MatchOption result (spec.size bytes.now ≡ None) (λ r. spec.size bytes.now ≡ Some (r.0, r.1.now)) }
+    ensures read { MatchOption result (spec.size bytes.now ≡ None)
+        (λ r. spec.size bytes.now ≡ Some (r.0, r.1.now)) }
     ensures bounded { IfSome result (λ r. r.0 < 2 ^ 56) }
     ensures shorter { IfSome result (λ r. length r.1.now < length bytes.now) }
 {
@@ -25,7 +26,8 @@ pub(crate) fn read_size(bytes: &[u8]) -> Option<(u64, &[u8])>
 
 /// How far back a base begins, as the bytes begin with it, and what is behind it. It has at most eight groups.
 pub(crate) fn read_back(bytes: &[u8]) -> Option<(u64, &[u8])>
-    ensures read { MatchOption result (spec.back_by bytes.now ≡ None) (λ r. spec.back_by bytes.now ≡ Some (r.0, r.1.now)) }
+    ensures read { MatchOption result (spec.back_by bytes.now ≡ None)
+        (λ r. spec.back_by bytes.now ≡ Some (r.0, r.1.now)) }
     ensures shorter { IfSome result (λ r. length r.1.now < length bytes.now) }
 {
     let mut number: u64 = 0;
@@ -54,7 +56,8 @@ fn byte_if(is_there: bool, bytes: &[u8]) -> Option<(u8, &[u8])>
     Some((*first, rest))
 }
 
-/// The number of four bytes, the lowest first, of which those are there that the flags' bits say, and what is behind it.
+/// The number of four bytes, the lowest first, of which those are there that the flags' bits say, and what is behind
+/// it.
 #[tactic(auto, unfolding(crate::specs::Numbers::offset))]
 pub(crate) fn read_offset(flags: u8, bytes: &[u8]) -> Option<(usize, &[u8])>
     ensures read { MatchOption result (spec.offset flags bytes.now ≡ None)

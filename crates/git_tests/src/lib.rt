@@ -4,4 +4,10 @@
 #[cfg(test)]
 mod loose;
 #[cfg(test)]
+mod packed;
+#[cfg(test)]
+mod packs;
+#[cfg(test)]
+mod repositories;
+#[cfg(test)]
 mod written;

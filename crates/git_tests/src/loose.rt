@@ -10,7 +10,7 @@ use std::process::Abort;
 use std::{fs, io};
 use test_samples::{VERSION_2, empty_folder};
 
-fn bytes_of(rt: &(impl AllocGlobal + Abort), digits: &str) -> Vec<u8> {
+pub(crate) fn bytes_of(rt: &(impl AllocGlobal + Abort), digits: &str) -> Vec<u8> {
     let bytes = hex::decode(rt.alloc(), digits);
     assert!(rt; bytes.is_ok());
     bytes.unwrap_or(Vec::new(rt.alloc()))
@@ -66,7 +66,7 @@ fn what_is_no_object_is_refused(rt: HostRuntime) {
     }
 }
 
-fn put(rt: &HostRuntime, folder: &PathBuf, place: &str, file: &[u8]) -> io::Result<()> {
+pub(crate) fn put(rt: &HostRuntime, folder: &PathBuf, place: &str, file: &[u8]) -> io::Result<()> {
     let path = folder.join(rt.alloc(), place)?;
     if let Some(directory) = path.as_path().parent() {
         fs::create_dir_all(rt, directory)?;

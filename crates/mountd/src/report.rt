@@ -3,8 +3,8 @@
 //! Where standard error can't be written, the status alone tells.
 ghost use Rattle.std.specs.Prelude.{◌≡◌, IfErr, IsErr, IsOk};
 ghost use Rattle.std.specs.Process.{exit_status};
-ghost use Rattle.mountd.specs.Endings.{IsToldStatus, close_name, import_status, open_name, repository_name, server_status};
-ghost use Rattle.mountd.specs.Endings.{shared_status, status_of, tidy_status};
+ghost use Rattle.mountd.specs.Endings.{IsToldStatus, close_name, import_status, open_name, repository_name};
+ghost use Rattle.mountd.specs.Endings.{server_status, shared_status, status_of, tidy_status};
 
 use crate::server::ServerFault;
 use eden_checkout::{OpenFault, TidyFault};

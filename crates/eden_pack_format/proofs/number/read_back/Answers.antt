@@ -21,7 +21,8 @@ overflow_add-result c = omega (arith, c.loop-done.invariant.number, worth-most c
 pub returns-then-byte-lt128-clause-read : goal.returns-then-byte-lt128-clause-read
 returns-then-byte-lt128-clause-read c =
     let i = c.loop-done.invariant in
-    back-found c.loop-done.done c.loop-done.number c.in_ok-byte.byte.now c.loop-done.rest.now c.in_ok-byte.after.now c.args.bytes.now i.same c.loop-done-test.true c.in_ok-byte.ensures.cases.0 c.if-byte-lt128.true
+    let l = c.loop-done in
+    back-found l.done l.number c.in_ok-byte.byte.now l.rest.now c.in_ok-byte.after.now c.args.bytes.now i.same c.loop-done-test.true c.in_ok-byte.ensures.cases.0 c.if-byte-lt128.true
 
 pub returns-then-byte-lt128-clause-shorter : goal.returns-then-byte-lt128-clause-shorter
 returns-then-byte-lt128-clause-shorter c = omega (arith, c.loop-done.invariant.shorter, c.in_ok-byte.ensures.cases.1)

@@ -23,7 +23,8 @@ overflow_add-result c =
 pub returns-then-byte-lt128-clause-read : goal.returns-then-byte-lt128-clause-read
 returns-then-byte-lt128-clause-read c =
     let i = c.loop-done.invariant in
-    reads-last c.loop-done.done c.loop-done.number c.loop-done.worth c.in_ok-byte.byte.now c.loop-done.rest.now c.in_ok-byte.after.now c.args.bytes.now i.same c.loop-done-test.true c.in_ok-byte.ensures.cases.0 c.if-byte-lt128.true
+    let l = c.loop-done in
+    reads-last l.done l.number l.worth c.in_ok-byte.byte.now l.rest.now c.in_ok-byte.after.now c.args.bytes.now i.same c.loop-done-test.true c.in_ok-byte.ensures.cases.0 c.if-byte-lt128.true
 
 pub returns-then-byte-lt128-clause-bounded : goal.returns-then-byte-lt128-clause-bounded
 returns-then-byte-lt128-clause-bounded c =
@@ -49,9 +50,10 @@ overflow_mul-worth c = omega (arith, c.loop-done.invariant.worth, worth-most c.l
 pub loop-done-preserved : goal.loop-done-preserved
 loop-done-preserved c =
     let i = c.loop-done.invariant in
+    let l = c.loop-done in
     let b = c.in_ok-byte.byte.now in
     record {
-      same = reads-more c.loop-done.done c.loop-done.number c.loop-done.worth b c.loop-done.rest.now c.in_ok-byte.after.now c.args.bytes.now i.same c.in_ok-byte.ensures.cases.0 (omega (arith, c.if-byte-lt128.false));
+      same = reads-more l.done l.number l.worth b l.rest.now c.in_ok-byte.after.now c.args.bytes.now i.same c.in_ok-byte.ensures.cases.0 (omega (arith, c.if-byte-lt128.false));
       worth = omega (arith, i.worth, worth-next c.loop-done.done);
       number = omega (arith, i.number, product-most c.loop-done.worth (b % 128) 127 (omega arith));
       within = omega (arith, c.loop-done-test.true);
