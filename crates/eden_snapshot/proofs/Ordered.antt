@@ -90,7 +90,7 @@ module _ (F : Stored) where
       let here = Contains-append_right below (framed ∷ others) framed (contains_first framed others) in
       one_known (below ++ framed ∷ others) (entry_with e id) us (inl (record { framed = framed; there = here; digest = digest }))
       (λ u there.
-          known_before below (framed ∷ others) u (known_before (framed ∷ []) others u (all_known more us others w (rest_named e more named) u there)))
+      known_before below (framed ∷ others) u (known_before (framed ∷ []) others u (all_known more us others w (rest_named e more named) u there)))
   all_known es ts handed (bare e inside more us below others is at held v w) named =
       λ u there. known_before below others u (all_known more us others w (rest_named e more named) u there)
   all_known es ts handed (empty e more us others is w) named = all_known more us others w (rest_named e more named)

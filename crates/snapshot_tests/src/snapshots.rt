@@ -16,6 +16,7 @@ const EMPTY_TREE: &str = "4b825dc642cb6eb9a060e54bf8d69288fbee4904";
 
 // The headers of version 1, which tells no digest.
 const CONTENT: &[u8] = b"OVFL\0\0\0\x01";
+
 const DIRECTORY: &[u8] = b"OVDR\0\0\0\x01";
 
 // The object of the file `kept`, whose content is a line.
@@ -69,10 +70,22 @@ fn changed(rt: &(impl AllocGlobal + Abort)) -> MemoryFiles<Outside> {
     let mut files = MemoryFiles::<Outside>::new(rt.alloc());
     put(rt, &mut files, 1, DIRECTORY, ROOT);
     put(rt, &mut files, 2, CONTENT, &[b"hello\n"]);
-    put(rt, &mut files, 3, DIRECTORY, &[b"\0\0\0\x01\0\x01\0\0\0\0\0\0\0\x09\x01f"]);
+    put(
+        rt,
+        &mut files,
+        3,
+        DIRECTORY,
+        &[b"\0\0\0\x01\0\x01\0\0\0\0\0\0\0\x09\x01f"],
+    );
     put(rt, &mut files, 9, CONTENT, &[b"in b\n"]);
     put(rt, &mut files, 4, CONTENT, &[b"dot\n"]);
-    put(rt, &mut files, 5, DIRECTORY, &[b"\0\0\0\x01\x02\x01\0\0\0\0\0\0\0\x0a\x01x"]);
+    put(
+        rt,
+        &mut files,
+        5,
+        DIRECTORY,
+        &[b"\0\0\0\x01\x02\x01\0\0\0\0\0\0\0\x0a\x01x"],
+    );
     put(rt, &mut files, 10, CONTENT, &[b"target"]);
     put(rt, &mut files, 6, DIRECTORY, &[b"\0\0\0\0"]);
     files
@@ -134,7 +147,19 @@ fn files_that_are_missing_or_damaged_are_named(rt: HostRuntime) {
 #[test]
 fn a_directory_in_itself_lies_too_deep(rt: HostRuntime) {
     let mut files = MemoryFiles::<Outside>::new(rt.alloc());
-    put(&rt, &mut files, 1, DIRECTORY, &[b"\0\0\0\x01\x03\x01\0\0\0\0\0\0\0\x02\x01d"]);
-    put(&rt, &mut files, 2, DIRECTORY, &[b"\0\0\0\x01\x03\x01\0\0\0\0\0\0\0\x02\x01d"]);
+    put(
+        &rt,
+        &mut files,
+        1,
+        DIRECTORY,
+        &[b"\0\0\0\x01\x03\x01\0\0\0\0\0\0\0\x02\x01d"],
+    );
+    put(
+        &rt,
+        &mut files,
+        2,
+        DIRECTORY,
+        &[b"\0\0\0\x01\x03\x01\0\0\0\0\0\0\0\x02\x01d"],
+    );
     assert!(rt; taken(&rt, files).0 == Err(SnapshotFault::TooDeep(2)));
 }

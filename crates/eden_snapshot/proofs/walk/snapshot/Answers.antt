@@ -67,7 +67,7 @@ returns-clause-ordered g c = λ h.
     let some : is_some (root_file F) ≡ true = first_of (cc, search rules) in
     IfOk-weaker c.hand_tree.result _ _
     (λ id e.
-        top_ordered F c.args.root id old new
-        (own_top F (g.F.Files.stored c.is_rooted.new.self) c.args.root id c.in_ok-entries.entries.items c.as_slice.result.now old
-        (g.S.Sink.kept c.directory.new.sink) new (c.is_rooted.ensures.unchanged h) some (c.in_ok-entries.ensures.written h) c.as_slice.ensures.value e))
+    top_ordered F c.args.root id old new
+    (own_top F (g.F.Files.stored c.is_rooted.new.self) c.args.root id c.in_ok-entries.entries.items c.as_slice.result.now old
+    (g.S.Sink.kept c.directory.new.sink) new (c.is_rooted.ensures.unchanged h) some (c.in_ok-entries.ensures.written h) c.as_slice.ensures.value e))
     (c.hand_tree.ensures h)
