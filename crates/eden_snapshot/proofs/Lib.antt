@@ -3,3 +3,4 @@ pub mod Thinned
 pub mod Wholes
 pub mod Joined
 pub mod Ordered
+pub mod Trails

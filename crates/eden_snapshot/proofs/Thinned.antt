@@ -7,6 +7,7 @@ use Rattle.std.proofs.lemmas.Slice.Eq.{bytes_eq-Decides}
 use Rattle.eden_model.specs.declared.id.Id.{Id}
 use Rattle.eden_model.specs.declared.kind.Kind.{Kind}
 use Rattle.eden_model.specs.declared.kind.Kind.TheVariants as kind
+use Rattle.eden_model.specs.declared.kind.Mode.TheVariants as mode
 use Rattle.eden_model.specs.declared.kind.Origin.{Origin}
 use Rattle.eden_model.specs.declared.kind.Origin.TheVariants as origin
 use Rattle.eden_model.specs.declared.node.Node.{Node}
@@ -23,9 +24,10 @@ use Rattle.eden_overlay_format.specs.Directory.{HasOrigin}
 use Rattle.eden_overlay.specs.Files.{Stored}
 use Rattle.eden_overlay.specs.Held.{HoldsContent, HoldsEntries, item_of, items_of, own_files, root_file}
 use Rattle.eden_overlay.proofs.CallerLemmas.{held_storable}
-use Rattle.eden_snapshot.specs.Sinks.{Handed, HasObject, HasAll}
+use Rattle.eden_snapshot.specs.Sinks.{Handed, Told, Filled, HasObject, HasAll}
 use Rattle.eden_snapshot.specs.Pruning.{IsPruned}
-use Rattle.eden_snapshot.specs.Written.{mode_of, entry_with, IsIdOf, Written, nothing, object, content, directory, bare, empty, WritesTop, untouched, own}
+use Rattle.eden_snapshot.specs.Written.{mode_of, entry_with, submodule_with, IsIdOf, Known, path_of, Written, nothing, object}
+use Rattle.eden_snapshot.specs.Written.{content, directory, bare, submodule, unknown, WritesTop, untouched, own}
 use Rattle.eden_snapshot.specs.Showing.{root_item, FilesShow}
 use Rattle.eden_snapshot.proofs.Found.{stored_named, AreFine, fine, permuted}
 use Rattle.eden_snapshot.proofs.Wholes.{whole_alike, none_below}
@@ -190,13 +192,21 @@ module _ (R : Repository) (F : Stored) where
   void_thins k inside held each = bare_thins G (Own k) (items_of inside) (own_entries k inside held) each
 
   -- one without contents
-  no_contents : (e : StoredEntry) → e.origin ≡ origin.Empty → HasOrigin e.kind e.origin → Thins (shown G (item_of e)) Nowhere
-  no_contents e is has =
+  is_void : (e : StoredEntry) → e.origin ≡ origin.Empty → HasOrigin e.kind e.origin → item_of e ≡ dir G Empty
+  is_void e is has =
       let at_kind : e.kind ≡ kind.Dir = subst (HasOrigin e.kind) is has in
       let at : Kind → Item Source = λ k. record { kind = k; source = Empty } in
-      let same : item_of e ≡ dir G Empty = item_kind e origin.Empty is ∙ ap at at_kind in
-      subst (λ (i : Item Source). Thins (shown G i) Nowhere) (sym same)
+      item_kind e origin.Empty is ∙ ap at at_kind
+
+  no_contents : (e : StoredEntry) → e.origin ≡ origin.Empty → HasOrigin e.kind e.origin → Thins (shown G (item_of e)) Nowhere
+  no_contents e is has =
+      subst (λ (i : Item Source). Thins (shown G i) Nowhere) (sym (is_void e is has))
       (bare_thins G Empty (λ n. None) refl (λ n. same_thins Nowhere Nowhere (λ p. refl)))
+
+  as_submodule : (e : StoredEntry) (id : Id) → e.origin ≡ origin.Empty → HasOrigin e.kind e.origin
+      → Thins (shown G (item_of e)) (shown G (item_by mode.Gitlink id))
+  as_submodule e id is has =
+      same_thins (shown G (item_of e)) (shown G (item_by mode.Gitlink id)) (λ p. ap (λ (i : Item Source). shown G i p) (sym (is_void e is has)))
 
   is_dir : (e : StoredEntry) → e.origin ≡ origin.Own → e.kind ≡ kind.Dir → item_of e ≡ dir G (Own e.number)
   is_dir e is at_kind = let at : Kind → Item Source = λ k. record { kind = k; source = Own e.number } in item_kind e origin.Own is ∙ ap at at_kind
@@ -205,29 +215,34 @@ module _ (R : Repository) (F : Stored) where
   as_dir e id at_kind = ap (λ (k : Kind). item_by (mode_of k) id) at_kind
 
   -- what is written of entries shows what they show
-  pub thinned : (es : List StoredEntry) (ts : List TreeEntry) (handed : Handed) → Written F es ts handed → HasAll R handed → AreFine es
-      → (n : Name) → Stands G es ts n
-  thinned es ts handed nothing has fine_es n = same_thins Nowhere Nowhere (λ p. refl)
-  thinned es ts handed (object e id more us others is w) has fine_es n =
-      kept G (bytes_eq n e.name) e (entry_with e id) (stored_named n more) (entry_named n us) (object_thins e id is) (thinned more us others w has fine_es.2 n)
-  thinned es ts handed (content e bytes id more us others is plain held digest w) has fine_es n =
-      let blob = (has.0 id).blob (sym digest) bytes refl in
-      kept G (bytes_eq n e.name) e (entry_with e id) (stored_named n more) (entry_named n us) (content_thins e bytes id is plain held blob)
-      (thinned more us others w has.1 fine_es.2 n)
-  thinned es ts handed (directory e inside first rest below framed id more us others is at held v encoded digest w) has fine_es n =
-      let halves = split_all R below (framed ∷ others) has in
-      let each = thinned inside (first ∷ rest) below v halves.0 (fine inside (held_storable F e.number inside held)) in
-      let this = tree_thins e.number inside (first ∷ rest) framed id held encoded digest halves.1.0 each in
-      let from = subst (λ (i : Item Source). Thins (shown G i) (shown G (dir G (Object id)))) (sym (is_dir e is at)) this in
-      let both = subst (λ (i : Item Source). Thins (shown G (item_of e)) (shown G i)) (sym (as_dir e id at)) from in
-      kept G (bytes_eq n e.name) e (entry_with e id) (stored_named n more) (entry_named n us) both (thinned more us others w halves.1.1 fine_es.2 n)
-  thinned es ts handed (bare e inside more us below others is at held v w) has fine_es n =
-      let halves = split_all R below others has in
-      let each = thinned inside [] below v halves.0 (fine inside (held_storable F e.number inside held)) in
-      let this = subst (λ (i : Item Source). Thins (shown G i) Nowhere) (sym (is_dir e is at)) (void_thins e.number inside held each) in
-      left G (bytes_eq n e.name) n e more us refl this fine_es.0 (thinned more us others w halves.1 fine_es.2 n)
-  thinned es ts handed (empty e more us others is w) has fine_es n =
-      left G (bytes_eq n e.name) n e more us refl (no_contents e is fine_es.1) fine_es.0 (thinned more us others w has fine_es.2 n)
+  module _ (K : Known) where
+    pub thinned : (front : Path) (es : List StoredEntry) (ts : List TreeEntry) (handed : Handed) (told : Told) → Written F K front es ts handed told
+        → HasAll R handed → AreFine es → (n : Name) → Stands G es ts n
+    thinned front es ts handed told (nothing at) has fine_es n = same_thins Nowhere Nowhere (λ p. refl)
+    thinned front es ts handed told (object at e id more us others heard is w) has fine_es n =
+        kept G (bytes_eq n e.name) e (entry_with e id) (stored_named n more) (entry_named n us) (object_thins e id is)
+        (thinned front more us others heard w has fine_es.2 n)
+    thinned front es ts handed told (content at e bytes id more us others heard is plain held digest w) has fine_es n =
+        let blob = (has.0 id).blob (sym digest) bytes refl in
+        kept G (bytes_eq n e.name) e (entry_with e id) (stored_named n more) (entry_named n us) (content_thins e bytes id is plain held blob)
+        (thinned front more us others heard w has.1 fine_es.2 n)
+    thinned front es ts handed told (directory at e inside first rest below found framed id more us others heard is at_kind held v encoded digest w) has fine_es n =
+        let halves = split_all R below (framed ∷ others) has in
+        let each = thinned (path_of front e) inside (first ∷ rest) below found v halves.0 (fine inside (held_storable F e.number inside held)) in
+        let this = tree_thins e.number inside (first ∷ rest) framed id held encoded digest halves.1.0 each in
+        let from = subst (λ (i : Item Source). Thins (shown G i) (shown G (dir G (Object id)))) (sym (is_dir e is at_kind)) this in
+        let both = subst (λ (i : Item Source). Thins (shown G (item_of e)) (shown G i)) (sym (as_dir e id at_kind)) from in
+        kept G (bytes_eq n e.name) e (entry_with e id) (stored_named n more) (entry_named n us) both (thinned front more us others heard w halves.1.1 fine_es.2 n)
+    thinned front es ts handed told (bare at e inside more us below others found heard is at_kind held v w) has fine_es n =
+        let halves = split_all R below others has in
+        let each = thinned (path_of front e) inside [] below found v halves.0 (fine inside (held_storable F e.number inside held)) in
+        let this = subst (λ (i : Item Source). Thins (shown G i) Nowhere) (sym (is_dir e is at_kind)) (void_thins e.number inside held each) in
+        left G (bytes_eq n e.name) n e more us refl this fine_es.0 (thinned front more us others heard w halves.1 fine_es.2 n)
+    thinned front es ts handed told (submodule at e id more us others heard is known w) has fine_es n =
+        kept G (bytes_eq n e.name) e (submodule_with e id) (stored_named n more) (entry_named n us) (as_submodule e id is fine_es.1)
+        (thinned front more us others heard w has fine_es.2 n)
+    thinned front es ts handed told (unknown at e more us others heard is none w) has fine_es n =
+        left G (bytes_eq n e.name) n e more us refl (no_contents e is fine_es.1) fine_es.0 (thinned front more us others heard w has fine_es.2 n)
 
   -- ---- the whole
 
@@ -248,14 +263,15 @@ module _ (R : Repository) (F : Stored) where
   own_shows root None is some = absurd (cc)
   own_shows root (Some bytes) is some = ap (λ (o : Option (List ℕ)). shown G (root_item root o)) is
 
-  pub top_pruned : (root id : Id) (old new : Handed) → WritesTop F root id old new → HasAll R new → IsPruned (FilesShow R root F) (Whole R id)
-  top_pruned root id old new (untouched kept none) has =
+  pub top_pruned : (K : Known) (root id : Id) (old new : Filled) → WritesTop F K root id old new → HasAll R new.kept → IsPruned (FilesShow R root F) (Whole R id)
+  top_pruned K root id old new (untouched kept none) has =
       let this = prunes (root_of root) (root_of root) (Whole R root) refl (whole_alike R (own_files F) root) (same_thins (shown G (root_of root)) (shown G (root_of root)) (λ p. refl)) in
       subst (λ (T : Tree). IsPruned T (Whole R root)) (sym (commit_shows root none)) this
-  top_pruned root id old new (own ts framed top was below rooted w encoded digest) has =
-      let halves = split_all R below (framed ∷ []) has in
-      let mine = split_all R was w.writes.handed (subst (HasAll R) w.writes.grew halves.0) in
-      let each = thinned w.inside ts w.writes.handed w.writes.written mine.1 (fine w.inside (held_storable F 1 w.inside w.held)) in
+  top_pruned K root id old new (own ts framed top was below rooted w encoded digest) has =
+      let halves = split_all R below.kept (framed ∷ []) has in
+      let grew = ap (λ (f : Filled). f.kept) w.writes.grew in
+      let mine = split_all R was.kept w.writes.handed (subst (HasAll R) grew halves.0) in
+      let each = thinned K [] w.inside ts w.writes.handed w.writes.told w.writes.written mine.1 (fine w.inside (held_storable F 1 w.inside w.held)) in
       let this = tree_thins 1 w.inside ts framed top w.held encoded digest halves.1.0 each in
       let start = at_top G (Own 1) (items_of w.inside) (own_entries 1 w.inside w.held) in
       let end = at_top G (Object top) (repository.items_of encoded.written) (tree_entries top encoded.written (has_tree R ts framed top encoded digest halves.1.0)) in

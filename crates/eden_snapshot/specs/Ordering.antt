@@ -1,6 +1,7 @@
 -- Objects that are handed in after what they name.
-use Rattle.std.specs.Prelude.{◌≡◌, ◌⊎◌, ℕ, List, [], ◌∷◌, ◌++◌, Contains}
+use Rattle.std.specs.Prelude.{◌≡◌, ◌≢◌, ◌⊎◌, ℕ, List, [], ◌∷◌, ◌++◌, Contains}
 use Rattle.eden_model.specs.declared.id.Id.{Id}
+use Rattle.eden_model.specs.declared.kind.Mode.TheVariants as mode
 use Rattle.eden_model.specs.declared.kind.Origin.TheVariants as origin
 use Rattle.eden_model.specs.declared.tree_entry.TreeEntry.{TreeEntry}
 use Rattle.eden_object.specs.declared.word.Word.TheVariants as word
@@ -25,10 +26,10 @@ pub record IsKept (F : Stored) (id : Id) : Type 0 where
   pub named : Names F directory entry
   pub object : entry.origin ≡ origin.Object id
 
--- what a tree names is one of those before it, or was an object before; a blob names nothing
+-- what a tree names is one of those before it, or was an object before, or is a submodule's commit; a blob names nothing
 abbrev pub Follows : Stored → Handed → List ℕ → Type 0
 Follows F before framed = (es : List TreeEntry) (body : List ℕ) → framed ≡ frame word.Tree body → IsTreeBody es body
-    → (t : TreeEntry) → Contains es t → IsAmong before t.id ⊎ IsKept F t.id
+    → (t : TreeEntry) → Contains es t → t.mode ≢ mode.Gitlink → IsAmong before t.id ⊎ IsKept F t.id
 
 -- .. each of these behind those
 abbrev pub AreInOrder : Stored → Handed → Handed → Type 0

@@ -4,6 +4,7 @@ ghost use Rattle.std.specs.Prelude.{◌≡◌};
 ghost use Rattle.eden_snapshot.specs.declared.fault.SnapshotFault.TheVariants as fault;
 
 use crate::sink::SinkFault;
+use eden_model::Cause;
 use eden_overlay::{FilesFault, GetFault};
 use eden_overlay_format::Refusal;
 use std::alloc::{AllocError, AllocFailed};
@@ -25,6 +26,9 @@ pub enum SnapshotFault {
     /// The tree of the directory of that number would have more than 2^30 bytes.
     #[error("directory {0} is too large for a tree")]
     TooLarge(u64),
+    /// Whether the commit has a submodule at a path isn't known, since an object that says so didn't come.
+    #[error("a submodule isn't known: {0}")]
+    Submodule(Cause),
     /// The overlay's device failed.
     #[error("the device failed")]
     Device,

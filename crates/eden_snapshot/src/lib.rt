@@ -2,15 +2,21 @@
 //!
 //! `snapshot` goes over the files of a closed overlay, hands each object of it to a sink, children before parents, and
 //! gives the id of the top tree. What is an object of the commit keeps its id and is asked of nobody. In a repository
-//! with these objects the whole tree of that id is the tree that the files show, without empty directories.
+//! with these objects the whole tree of that id is the tree that the files show, without empty directories, whose paths
+//! the sink is told. A submodule has the commit's id where `Submodules` knows it, and is left out and told where not.
 #![tactic(auto)]
 
 mod fault;
+mod left_out;
 mod memory;
 mod sink;
+mod submodules;
+mod trail;
 mod walk;
 
 pub use fault::SnapshotFault;
+pub use left_out::LeftOut;
 pub use memory::MemorySink;
 pub use sink::{Sink, SinkFault};
+pub use submodules::{NoSubmodules, Submodules};
 pub use walk::{LEVELS, snapshot};

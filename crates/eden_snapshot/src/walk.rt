@@ -1,18 +1,21 @@
 //! A snapshot of closed files.
 
-ghost use Rattle.std.specs.Prelude.{◌≡◌, ◌∷◌, ◌++◌, [], None, Some, IfOk, IfErr, OnOk};
+ghost use Rattle.std.specs.Prelude.{◌≡◌, ◌∷◌, [], IfOk, OnOk};
 ghost use Rattle.eden_model.specs.Repository.{Repository, Whole};
-ghost use Rattle.eden_object.specs.Encoding.{IsEncoded};
 ghost use Rattle.eden_overlay.specs.Held.{HoldsEntries};
 ghost use Rattle.eden_snapshot.specs.Ordering.{GrowsInOrder};
 ghost use Rattle.eden_snapshot.specs.Pruning.{IsPruned};
 ghost use Rattle.eden_snapshot.specs.Showing.{FilesShow};
 ghost use Rattle.eden_snapshot.specs.Sinks.{HasAll};
 ghost use Rattle.eden_snapshot.specs.Written as spec;
-ghost use Rattle.eden_snapshot.specs.Written.{HandedContent, HandedTree, Writes, WritesDirectory, WritesTop, entries_with};
+ghost use Rattle.eden_snapshot.specs.Written.{HandedContent, HandedTree, IsSubmodule, StandsFor};
+ghost use Rattle.eden_snapshot.specs.Written.{Writes, WritesDirectory, WritesTop, entries_with};
 
 use crate::fault::{SnapshotFault, fault_of};
+use crate::left_out::LeftOut;
 use crate::sink::Sink;
+use crate::submodules::Submodules;
+use crate::trail::Trail;
 use eden_model::{Id, Kind, Mode, Origin, TreeEntry, World};
 use eden_object::{encode_blob, encode_tree, id_of, is_encodable};
 use eden_overlay::{Files, Overlay};
@@ -25,26 +28,39 @@ pub const LEVELS: u32 = 1024;
 /// The number of the root's file.
 const ROOT_NUMBER: u64 = 1;
 
-/// The id of a tree of what the files show above the commit's tree `root`, whose objects the sink has then, beside those
-/// of the commit.
-pub fn snapshot<W: World, F: Files<W>, S: Sink<W>>(
+/// The id of a tree of what the files show above the commit's tree `root`. The sink has its objects then, beside those
+/// of the commit, and the paths of the directories that the tree leaves out.
+///
+/// What is an object of the commit is asked of nobody. `submodules` is asked for the paths of submodules alone that lie
+/// in a directory of the mount's own.
+pub fn snapshot<W: World, F: Files<W>, S: Sink<W>, M: Submodules<W>>(
     alloc: Global,
     root: Id,
     overlay: &mut Overlay<W, F>,
     sink: &mut S,
+    submodules: &mut M,
 ) -> Result<Id, SnapshotFault>
-    ensures shown { W.honest → IfOk result (λ id. (R : Repository) → HasAll R (S.kept sink.new)
+    ensures shown { W.honest → IfOk result (λ id. (R : Repository) → HasAll R (S.filled sink.new).kept
         → IsPruned (FilesShow R root (F.stored overlay.old)) (Whole R id)) }
-    ensures written { W.honest → IfOk result
-        (λ id. WritesTop (F.stored overlay.old) root id (S.kept sink.old) (S.kept sink.new)) }
+    ensures written { W.honest → IfOk result (λ id. WritesTop (F.stored overlay.old) (M.known submodules.old) root id
+        (S.filled sink.old) (S.filled sink.new)) }
     ensures ordered { W.honest → IfOk result
-        (λ _. GrowsInOrder (F.stored overlay.old) (S.kept sink.old) (S.kept sink.new)) }
+        (λ _. GrowsInOrder (F.stored overlay.old) (S.filled sink.old).kept (S.filled sink.new).kept) }
     ensures unchanged { W.honest → F.stored overlay.new ≡ F.stored overlay.old }
 {
     if !overlay.is_rooted()? {
         return Ok(root);
     }
-    let entries = directory(alloc, overlay, sink, ROOT_NUMBER, LEVELS)?;
+    let mut trail = Trail::new(alloc);
+    let entries = directory(
+        alloc,
+        overlay,
+        sink,
+        submodules,
+        &mut trail,
+        ROOT_NUMBER,
+        LEVELS,
+    )?;
     hand_tree(alloc, sink, ROOT_NUMBER, entries.as_slice())
 }
 
@@ -67,7 +83,7 @@ fn hand_tree<W: World, S: Sink<W>>(
     number: u64,
     entries: &[TreeEntry],
 ) -> Result<Id, SnapshotFault>
-    ensures { W.honest → IfOk result (λ id. HandedTree entries.now id (S.kept sink.old) (S.kept sink.new)) }
+    ensures { W.honest → IfOk result (λ id. HandedTree entries.now id (S.filled sink.old) (S.filled sink.new)) }
 {
     if !is_encodable(alloc, entries)? {
         return Err(SnapshotFault::TooLarge(number));
@@ -85,7 +101,7 @@ fn hand_content<W: World, F: Files<W>, S: Sink<W>>(
     number: u64,
 ) -> Result<Id, SnapshotFault>
     ensures handed { W.honest → IfOk result
-        (λ id. HandedContent (F.stored overlay.old) number id (S.kept sink.old) (S.kept sink.new)) }
+        (λ id. HandedContent (F.stored overlay.old) number id (S.filled sink.old) (S.filled sink.new)) }
     ensures unchanged { W.honest → F.stored overlay.new ≡ F.stored overlay.old }
 {
     let content = match overlay.get_file(alloc, number) {
@@ -112,65 +128,132 @@ fn stored_entries<W: World, F: Files<W>>(
     }
 }
 
+// What stands for the submodule at the path, or None where the commit has none there.
+fn submodule<W: World, S: Sink<W>, M: Submodules<W>>(
+    alloc: Global,
+    sink: &mut S,
+    submodules: &mut M,
+    trail: &Trail,
+) -> Result<Option<(Mode, Id)>, SnapshotFault>
+    ensures written { W.honest → IfOk result
+        (λ found. IsSubmodule (M.known submodules.old) trail.now found (S.filled sink.old) (S.filled sink.new)) }
+    ensures known { W.honest → M.known submodules.new ≡ M.known submodules.old }
+{
+    match submodules.at(alloc, trail.as_slice()) {
+        Ok(Some(id)) => Ok(Some((Mode::Gitlink, id))),
+        Ok(None) => {
+            sink.leave_out(alloc, trail.as_slice(), LeftOut::Submodule)?;
+            Ok(None)
+        }
+        Err(cause) => Err(SnapshotFault::Submodule(cause)),
+    }
+}
+
 // The entries of the tree of the directory of that number, which lies so many levels above the last one.
 #[cycle(walk)]
-fn directory<W: World, F: Files<W>, S: Sink<W>>(
+fn directory<W: World, F: Files<W>, S: Sink<W>, M: Submodules<W>>(
     alloc: Global,
     overlay: &mut Overlay<W, F>,
     sink: &mut S,
+    submodules: &mut M,
+    trail: &mut Trail,
     number: u64,
     levels: u32,
 ) -> Result<Vec<TreeEntry>, SnapshotFault>
-    ensures written { W.honest → IfOk result
-        (λ v. WritesDirectory (F.stored overlay.old) number v.items (S.kept sink.old) (S.kept sink.new)) }
+    ensures written { W.honest → IfOk result (λ v. WritesDirectory (F.stored overlay.old) (M.known submodules.old)
+        trail.old number v.items (S.filled sink.old) (S.filled sink.new)) }
     ensures unchanged { W.honest → F.stored overlay.new ≡ F.stored overlay.old }
+    ensures known { W.honest → M.known submodules.new ≡ M.known submodules.old }
+    ensures back { OnOk result (trail.new ≡ trail.old) }
 {
     let entries = stored_entries(alloc, overlay, number)?;
     let mut tree = Vec::new(alloc);
     'entries: for entry in entries {
-        if let Some(id) = object_of(alloc, overlay, sink, &entry, levels)? {
+        let found = object_of(alloc, overlay, sink, submodules, trail, &entry, levels)?;
+        if let Some(stands) = found {
             tree.push(TreeEntry {
-                mode: mode_of(entry.kind),
+                mode: stands.0,
                 name: entry.name,
-                id,
+                id: stands.1,
             })?;
         }
     }
     Ok(tree)
 }
 
-// The id of the object that an entry is written as, or None where it is left out.
+// The mode and the id of the object that an entry is written as, or None where it is left out.
 #[cycle(walk)]
-fn object_of<W: World, F: Files<W>, S: Sink<W>>(
+fn object_of<W: World, F: Files<W>, S: Sink<W>, M: Submodules<W>>(
     alloc: Global,
     overlay: &mut Overlay<W, F>,
     sink: &mut S,
+    submodules: &mut M,
+    trail: &mut Trail,
     entry: &StoredEntry,
     levels: u32,
-) -> Result<Option<Id>, SnapshotFault>
-    ensures written { W.honest → IfOk result (λ id. Writes (F.stored overlay.old) (entry.now ∷ [])
-        (entries_with entry.now id) (S.kept sink.old) (S.kept sink.new)) }
+) -> Result<Option<(Mode, Id)>, SnapshotFault>
+    ensures written { W.honest → IfOk result (λ found. Writes (F.stored overlay.old) (M.known submodules.old) trail.old
+        (entry.now ∷ []) (entries_with entry.now found) (S.filled sink.old) (S.filled sink.new)) }
     ensures unchanged { W.honest → F.stored overlay.new ≡ F.stored overlay.old }
+    ensures known { W.honest → M.known submodules.new ≡ M.known submodules.old }
+    ensures back { OnOk result (trail.new ≡ trail.old) }
 {
     match entry.origin {
-        Origin::Object(id) => Ok(Some(id)),
-        Origin::Empty => Ok(None),
+        Origin::Object(id) => Ok(Some((mode_of(entry.kind), id))),
+        Origin::Empty => {
+            trail.enter(alloc, &entry.name)?;
+            let found = submodule(alloc, sink, submodules, trail)?;
+            trail.leave();
+            Ok(found)
+        }
         Origin::Own => match entry.kind {
             Kind::Dir => {
-                if levels == 0 {
-                    return Err(SnapshotFault::TooDeep(entry.number));
-                }
-                let below = directory(alloc, overlay, sink, entry.number, levels - 1)?;
-                if below.is_empty() {
-                    return Ok(None);
-                }
-                let id = hand_tree(alloc, sink, entry.number, below.as_slice())?;
-                Ok(Some(id))
+                trail.enter(alloc, &entry.name)?;
+                let tree = tree_of(
+                    alloc,
+                    overlay,
+                    sink,
+                    submodules,
+                    trail,
+                    entry.number,
+                    levels,
+                )?;
+                trail.leave();
+                Ok(tree)
             }
             _ => {
                 let blob = hand_content(alloc, overlay, sink, entry.number)?;
-                Ok(Some(blob))
+                Ok(Some((mode_of(entry.kind), blob)))
             }
         },
     }
+}
+
+// What the own directory of that number is written as, or None where it is left out.
+#[cycle(walk)]
+fn tree_of<W: World, F: Files<W>, S: Sink<W>, M: Submodules<W>>(
+    alloc: Global,
+    overlay: &mut Overlay<W, F>,
+    sink: &mut S,
+    submodules: &mut M,
+    trail: &mut Trail,
+    number: u64,
+    levels: u32,
+) -> Result<Option<(Mode, Id)>, SnapshotFault>
+    ensures written { W.honest → IfOk result (λ found. StandsFor (F.stored overlay.old) (M.known submodules.old)
+        trail.old number found (S.filled sink.old) (S.filled sink.new)) }
+    ensures unchanged { W.honest → F.stored overlay.new ≡ F.stored overlay.old }
+    ensures known { W.honest → M.known submodules.new ≡ M.known submodules.old }
+    ensures back { OnOk result (trail.new ≡ trail.old) }
+{
+    if levels == 0 {
+        return Err(SnapshotFault::TooDeep(number));
+    }
+    let below = directory(alloc, overlay, sink, submodules, trail, number, levels - 1)?;
+    if below.is_empty() {
+        sink.leave_out(alloc, trail.as_slice(), LeftOut::Empty)?;
+        return Ok(None);
+    }
+    let id = hand_tree(alloc, sink, number, below.as_slice())?;
+    Ok(Some((Mode::Dir, id)))
 }

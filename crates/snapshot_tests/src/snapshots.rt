@@ -1,9 +1,9 @@
 //! Snapshots of stored files. The ids are those that `git add` and `git write-tree` give for the same files.
-use eden_model::{Id, Outside};
+use eden_model::{Cause, Id, Name, Outside};
 use eden_object::{id_of, parse_id};
 use eden_overlay::{Files, MemoryFiles, Overlay};
 use eden_overlay_format::Refusal;
-use eden_snapshot::{MemorySink, SnapshotFault, snapshot};
+use eden_snapshot::{LeftOut, MemorySink, NoSubmodules, SnapshotFault, Submodules, snapshot};
 use std::alloc::Global;
 use std::process::Abort;
 
@@ -38,6 +38,9 @@ const ROOT: &[&[u8]] = &[
     b"\x03\x02\0\0\0\0\0\0\0\x08\x03sub",
 ];
 
+// The directories that are left out where no submodule is known.
+const LEFT_OUT: &[(&[u8], LeftOut)] = &[(b"e", LeftOut::Empty), (b"sub", LeftOut::Submodule)];
+
 // Each blob and tree that is the mount's own, in the order in which they are handed in.
 const HANDED: &[&str] = &[
     "ce013625030ba8dba906f756967f9e9ca394464a",
@@ -48,6 +51,41 @@ const HANDED: &[&str] = &[
     "167f07b1dc29e8455b827e1f94253279500fcf26",
     "f964f86521e6f6659c4b6caf0f832cc5856faf10",
 ];
+
+// The same tree, with the commit of the submodule `sub`.
+const WITH_SUBMODULE: &str = "7bbbb05ab3bfb99897df2c4c747630a08258cc60";
+
+// A commit with that submodule alone.
+#[derive(Drop)]
+struct OneSubmodule;
+
+impl Submodules<Outside> for OneSubmodule {
+    ghost use Rattle.std.specs.Prelude.{None};
+
+    ghost known = { λ _ path. None };
+
+    fn at(&mut self, _alloc: Global, path: &[Name]) -> Result<Option<Id>, Cause> {
+        if path.len() == 1 && path[0].as_slice() == b"sub".as_slice() {
+            Ok(Some(Id { bytes: [0x11; 20] }))
+        } else {
+            Ok(None)
+        }
+    }
+}
+
+// A commit whose trees don't come.
+#[derive(Drop)]
+struct NoTrees;
+
+impl Submodules<Outside> for NoTrees {
+    ghost use Rattle.std.specs.Prelude.{None};
+
+    ghost known = { λ _ path. None };
+
+    fn at(&mut self, _alloc: Global, _path: &[Name]) -> Result<Option<Id>, Cause> {
+        Err(Cause::Missing)
+    }
+}
 
 // The file of that number, of a header and these parts behind it.
 fn put(
@@ -97,20 +135,22 @@ fn named(rt: &(impl AllocGlobal + Abort), text: &str) -> Id {
     id.unwrap_or(Id { bytes: [0; 20] })
 }
 
-// The answer over these files, and the objects that were handed in.
+// The answer over these files, and what the sink has then.
 fn taken(
     rt: &(impl AllocGlobal + Abort),
     files: MemoryFiles<Outside>,
+    submodules: &mut impl Submodules<Outside>,
 ) -> (Result<Id, SnapshotFault>, MemorySink) {
     let mut overlay: InMemory = Overlay::<Outside, _>::new(files);
     let mut sink = MemorySink::new(rt.alloc());
-    let answer = snapshot(rt.alloc(), named(rt, COMMIT), &mut overlay, &mut sink);
+    let commit = named(rt, COMMIT);
+    let answer = snapshot(rt.alloc(), commit, &mut overlay, &mut sink, submodules);
     (answer, sink)
 }
 
 #[test]
 fn what_is_shown_is_written_as_git_writes_it(rt: HostRuntime) {
-    let (answer, sink) = taken(&rt, changed(&rt));
+    let (answer, sink) = taken(&rt, changed(&rt), &mut NoSubmodules);
     assert!(rt; answer == Ok(named(&rt, HANDED[6])));
     assert!(rt; sink.objects().len() == HANDED.len());
     for (object, id) in sink.objects().iter().zip(HANDED) {
@@ -119,8 +159,32 @@ fn what_is_shown_is_written_as_git_writes_it(rt: HostRuntime) {
 }
 
 #[test]
+fn what_is_left_out_is_told(rt: HostRuntime) {
+    let (_, sink) = taken(&rt, changed(&rt), &mut NoSubmodules);
+    let told = sink.omissions();
+    assert!(rt; told.len() == 2);
+    for ((path, why), (name, reason)) in told.iter().zip(LEFT_OUT) {
+        assert!(rt; path.len() == 1 && path[0].as_slice() == *name);
+        assert!(rt; why == reason);
+    }
+}
+
+#[test]
+fn a_submodule_keeps_its_commit(rt: HostRuntime) {
+    let (answer, sink) = taken(&rt, changed(&rt), &mut OneSubmodule);
+    assert!(rt; answer == Ok(named(&rt, WITH_SUBMODULE)));
+    assert!(rt; sink.omissions().len() == 1);
+    let (answer, _) = taken(&rt, changed(&rt), &mut NoTrees);
+    assert!(rt; answer == Err(SnapshotFault::Submodule(Cause::Missing)));
+}
+
+#[test]
 fn an_untouched_tree_is_the_commits(rt: HostRuntime) {
-    let (answer, sink) = taken(&rt, MemoryFiles::<Outside>::new(rt.alloc()));
+    let (answer, sink) = taken(
+        &rt,
+        MemoryFiles::<Outside>::new(rt.alloc()),
+        &mut NoSubmodules,
+    );
     assert!(rt; answer == Ok(named(&rt, COMMIT)));
     assert!(rt; sink.objects().is_empty());
 }
@@ -129,7 +193,7 @@ fn an_untouched_tree_is_the_commits(rt: HostRuntime) {
 fn an_empty_root_is_the_empty_tree(rt: HostRuntime) {
     let mut files = MemoryFiles::<Outside>::new(rt.alloc());
     put(&rt, &mut files, 1, DIRECTORY, &[b"\0\0\0\0"]);
-    let (answer, sink) = taken(&rt, files);
+    let (answer, sink) = taken(&rt, files, &mut NoSubmodules);
     assert!(rt; answer == Ok(named(&rt, EMPTY_TREE)));
     assert!(rt; sink.objects().len() == 1);
 }
@@ -138,10 +202,13 @@ fn an_empty_root_is_the_empty_tree(rt: HostRuntime) {
 fn files_that_are_missing_or_damaged_are_named(rt: HostRuntime) {
     let mut files = changed(&rt);
     files.remove(9).expect(&rt, "memory");
-    assert!(rt; taken(&rt, files).0 == Err(SnapshotFault::Dangling(9)));
+    assert!(rt; taken(&rt, files, &mut NoSubmodules).0 == Err(SnapshotFault::Dangling(9)));
     let mut files = changed(&rt);
     put(&rt, &mut files, 5, CONTENT, &[b"no directory"]);
-    assert!(rt; taken(&rt, files).0 == Err(SnapshotFault::Damaged(5, Refusal::BadIdentifier)));
+    assert!(rt;
+        taken(&rt, files, &mut NoSubmodules).0
+            == Err(SnapshotFault::Damaged(5, Refusal::BadIdentifier))
+    );
 }
 
 #[test]
@@ -161,5 +228,5 @@ fn a_directory_in_itself_lies_too_deep(rt: HostRuntime) {
         DIRECTORY,
         &[b"\0\0\0\x01\x03\x01\0\0\0\0\0\0\0\x02\x01d"],
     );
-    assert!(rt; taken(&rt, files).0 == Err(SnapshotFault::TooDeep(2)));
+    assert!(rt; taken(&rt, files, &mut NoSubmodules).0 == Err(SnapshotFault::TooDeep(2)));
 }
