@@ -1,4 +1,7 @@
 pub mod Rows
+pub mod Names
+pub mod Noting
+pub mod Places
 pub mod Refusals
 pub mod Unloads
 pub mod Sorting

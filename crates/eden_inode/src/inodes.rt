@@ -16,16 +16,19 @@ ghost use Rattle.eden_tree.specs.Paths.{row_at, edit_row, stamped_along};
 ghost use Rattle.eden_coupling.specs.Kept.{IsTable, IsKept};
 ghost use Rattle.eden_coupling.specs.Loading.{IsAt, LoadsObject, LoadsOwn};
 ghost use Rattle.eden_coupling.specs.Unloading.{Unloads, IsSettled};
+ghost use Rattle.eden_inode.specs.Trails.{Leads, Notes};
 ghost use Rattle.eden_inode.specs.Tables.{Table, fresh_root, CanStart, IsLast, HasTree, HasNoTree, IsLoadFault, IsContentFault, HoldsLength, shows};
 
+use crate::along::follow;
 use crate::fill::from_object;
 use crate::gone::{Gone, NOTHING};
 use crate::load::{own_content, own_len, put_loaded, unlisted};
 use crate::look::{look, unloaded};
 use crate::seen::Seen;
+use crate::trail::Trail;
 use crate::unload::Unloading;
 use eden_coupling::{kept_laws, shown_laws};
-use eden_model::{Fault, Key, Kind, Name, ObjKind, Origin, TreeEntry, World};
+use eden_model::{Fault, Key, Kind, MAX_NAMES, Name, ObjKind, Origin, TreeEntry, World};
 use eden_overlay::{Content, Files, Overlay};
 use eden_tree::{Change, Dir, Entry};
 use std::alloc::{Allocator, Global};
@@ -156,6 +159,33 @@ impl<A: Allocator + Clone, W: World, F: Files<W>> Inodes<A, W, F> {
         kept_laws();
         shown_laws();
         look(&mut self.root, path, self.clock)
+    }
+
+    /// `look`, by the positions that are known, without comparing a name, and behind them by names. What it finds is noted.
+    ///
+    /// A path of more names than a trail has room for isn't noted; no `Path` has so many.
+    pub fn look_along(&mut self, path: &[Name], trail: &mut Trail) -> Seen
+        requires { Leads path.now trail.old.positions self.old.root }
+        ensures last { IsLast path.now self.old.root result }
+        ensures stamped { self.new ≡ record self.old { root = stamped_along path.now self.old.clock self.old.root } }
+        ensures shown { W.honest → shows W.World F.Files self.new ≡ shows W.World F.Files self.old }
+        ensures notes { Notes path.now self.new.root result trail.old trail.new }
+    {
+        if path.len() > MAX_NAMES {
+            trail.clear();
+            return self.look(path);
+        }
+        kept_laws();
+        shown_laws();
+        follow(&mut self.root, path, 0, trail, self.clock)
+    }
+
+    /// How often a name came or went, or a directory was unloaded; it stays at 2^64 - 1. While it is the same and below that,
+    /// each loaded directory keeps its names at their positions. A load doesn't change it.
+    pub fn changes(&self) -> u64
+        ensures { result ≡ self.now.changes }
+    {
+        self.changes
     }
 
     /// The number that is given next.

@@ -4,6 +4,8 @@ pub mod Left
 pub mod Growing
 pub mod Names
 pub mod Steps
+pub mod Trailing
+pub mod Resuming
 pub mod Bringing
 pub mod Bare
 pub mod Meeting

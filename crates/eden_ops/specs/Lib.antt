@@ -1,6 +1,7 @@
 pub mod Known
 pub mod Keeping
 pub mod Stamps
+pub mod Trails
 pub mod Faults
 pub mod Contents
 pub mod Listings

@@ -6,6 +6,8 @@ ghost use Rattle.eden_ops.specs.Attempts.{Attempts};
 ghost use Rattle.eden_ops.specs.Changes.{IsAdding};
 ghost use Rattle.eden_ops.specs.Leaving.{LeavesAfter, StampsItsWalk};
 ghost use Rattle.eden_ops.specs.Looks.{IsBeyondLimits};
+ghost use Rattle.eden_ops.specs.Trails.{Counts, LeadsToNeed};
+ghost use Rattle.eden_inode.specs.Trails.{Leads};
 
 use crate::end::ended;
 use crate::laws::keeps_laws;
@@ -13,7 +15,7 @@ use crate::meet::meet;
 use crate::settling::settle;
 use eden_cache::Stock;
 use eden_coupling::shown_laws;
-use eden_inode::Inodes;
+use eden_inode::{Inodes, Trail};
 use eden_materialise::{NewEntry, add_entry};
 use eden_model::{Attempt, Errno, MAX_TARGET, Path, Reply, World};
 use eden_overlay::Files;
@@ -26,19 +28,23 @@ fn add<A: Allocator + Clone, W: World, F: Files<W>, C: Allocator + Clone>(
     alloc: Global,
     path: &Path,
     new: NewEntry<'_>,
+    trail: &mut Trail,
 ) -> Attempt
     requires asked { (q : request.Request) × IsAdding path.now q new }
+    requires leads { Leads path.now trail.old.positions inodes.old.root }
     ensures attempts { (q : request.Request) → IsAdding path.now q new.entry
         → Attempts W.World F.Files q inodes.old inodes.new cache.old cache.new result }
     ensures leaves { (q : request.Request) → IsAdding path.now q new.entry
         → LeavesAfter W.World F.Files q inodes.old inodes.new result }
     ensures stamps { (q : request.Request) → IsAdding path.now q new.entry
         → StampsItsWalk q inodes.old.clock inodes.old.root inodes.new.root result }
+    ensures counts { Counts path.now trail.old trail.new }
+    ensures leads { LeadsToNeed path.now trail.new.positions inodes.new.root result }
 {
     let Some((name, above)) = path.as_slice().split_last() else {
         return Attempt::Finished(Reply::Err(Errno::EEXIST));
     };
-    match meet(inodes, cache, alloc, path) {
+    match meet(inodes, cache, alloc, path, trail) {
         Err(stop) => return ended(stop),
         Ok(Some(_)) => return Attempt::Finished(Reply::Err(Errno::EEXIST)),
         Ok(None) => {}
@@ -61,12 +67,23 @@ pub fn create<A: Allocator + Clone, W: World, F: Files<W>, C: Allocator + Clone>
     cache: &mut Stock<W, C>,
     alloc: Global,
     path: &Path,
+    trail: &mut Trail,
 ) -> Attempt
+    requires leads { Leads path.now trail.old.positions inodes.old.root }
     ensures attempts { Attempts W.World F.Files (ask.Create path.now) inodes.old inodes.new cache.old cache.new result }
     ensures leaves { LeavesAfter W.World F.Files (ask.Create path.now) inodes.old inodes.new result }
     ensures stamps { StampsItsWalk (ask.Create path.now) inodes.old.clock inodes.old.root inodes.new.root result }
+    ensures counts { Counts path.now trail.old trail.new }
+    ensures leads { LeadsToNeed path.now trail.new.positions inodes.new.root result }
 {
-    add(inodes, cache, alloc, path, NewEntry::File(false, &[]))
+    add(
+        inodes,
+        cache,
+        alloc,
+        path,
+        NewEntry::File(false, &[]),
+        trail,
+    )
 }
 
 /// Makes a directory without entries.
@@ -75,12 +92,16 @@ pub fn mkdir<A: Allocator + Clone, W: World, F: Files<W>, C: Allocator + Clone>(
     cache: &mut Stock<W, C>,
     alloc: Global,
     path: &Path,
+    trail: &mut Trail,
 ) -> Attempt
+    requires leads { Leads path.now trail.old.positions inodes.old.root }
     ensures attempts { Attempts W.World F.Files (ask.Mkdir path.now) inodes.old inodes.new cache.old cache.new result }
     ensures leaves { LeavesAfter W.World F.Files (ask.Mkdir path.now) inodes.old inodes.new result }
     ensures stamps { StampsItsWalk (ask.Mkdir path.now) inodes.old.clock inodes.old.root inodes.new.root result }
+    ensures counts { Counts path.now trail.old trail.new }
+    ensures leads { LeadsToNeed path.now trail.new.positions inodes.new.root result }
 {
-    add(inodes, cache, alloc, path, NewEntry::Dir)
+    add(inodes, cache, alloc, path, NewEntry::Dir, trail)
 }
 
 /// Makes a link to a target of 1 to 4,095 bytes.
@@ -90,13 +111,17 @@ pub fn symlink<A: Allocator + Clone, W: World, F: Files<W>, C: Allocator + Clone
     alloc: Global,
     path: &Path,
     target: &[u8],
+    trail: &mut Trail,
 ) -> Attempt
+    requires leads { Leads path.now trail.old.positions inodes.old.root }
     ensures attempts { Attempts W.World F.Files
         (ask.Symlink path.now target.now) inodes.old inodes.new cache.old cache.new result }
     ensures leaves { LeavesAfter W.World F.Files (ask.Symlink path.now target.now) inodes.old inodes.new result }
     ensures stamps { StampsItsWalk (ask.Symlink path.now target.now)
         inodes.old.clock inodes.old.root inodes.new.root result }
     ensures refused { IsBeyondLimits (ask.Symlink path.now target.now) → inodes.new ≡ inodes.old }
+    ensures counts { Counts path.now trail.old trail.new }
+    ensures leads { LeadsToNeed path.now trail.new.positions inodes.new.root result }
 {
     if target.is_empty() {
         return Attempt::Finished(Reply::Err(Errno::ENOENT));
@@ -104,5 +129,5 @@ pub fn symlink<A: Allocator + Clone, W: World, F: Files<W>, C: Allocator + Clone
     if target.len() as u64 > MAX_TARGET {
         return Attempt::Finished(Reply::Err(Errno::ENAMETOOLONG));
     }
-    add(inodes, cache, alloc, path, NewEntry::Link(target))
+    add(inodes, cache, alloc, path, NewEntry::Link(target), trail)
 }

@@ -1,5 +1,8 @@
 //! One attempt of any request.
-ghost use Rattle.std.specs.Prelude.{◌≡◌};
+ghost use Rattle.std.specs.Prelude.{◌≡◌, ◌≤◌, ◌+◌, ◌-◌, ◌*◌, ◌∷◌, [], length, IfSome, None};
+ghost use Rattle.eden_model.specs.declared.attempt.Attempt.TheVariants.{Finished};
+ghost use Rattle.eden_model.specs.declared.reply.Reply as reply;
+ghost use Rattle.eden_model.specs.Trees.{Path};
 ghost use Rattle.eden_model.specs.Requests.{paths_of};
 ghost use Rattle.eden_ops.specs.Already.{IsSoAlready};
 ghost use Rattle.eden_ops.specs.Attempts.{Attempts};
@@ -7,17 +10,20 @@ ghost use Rattle.eden_ops.specs.Keeping.{Keeps};
 ghost use Rattle.eden_ops.specs.Leaving.{LeavesAfter, StampsItsWalk};
 ghost use Rattle.eden_ops.specs.Looks.{IsLook, IsChange, IsBeyondLimits};
 ghost use Rattle.eden_ops.specs.Stamps.{AreWalked};
+ghost use Rattle.eden_ops.specs.Trails.{Counts, LeadsFor, LeadsToNeed, components, first_of, remembered, walked_of};
+ghost use Rattle.eden_inode.specs.Trails.{Leads};
 
 use crate::adding::{create, mkdir, symlink};
 use crate::emptied::rmdir;
 use crate::exec::set_exec;
 use crate::laws::keeps_laws;
 use crate::looks::look;
+use crate::place::{Place, recall};
 use crate::removing::unlink;
 use crate::renaming::rename;
 use crate::writing::{truncate, write};
 use eden_cache::Stock;
-use eden_inode::Inodes;
+use eden_inode::{Inodes, Trail};
 use eden_model::{Attempt, Request, World};
 use eden_overlay::Files;
 use std::alloc::{Allocator, Global};
@@ -28,26 +34,37 @@ pub fn change<A: Allocator + Clone, W: World, F: Files<W>, C: Allocator + Clone>
     cache: &mut Stock<W, C>,
     alloc: Global,
     request: &Request,
+    trail: &mut Trail,
 ) -> Attempt
     requires change { IsChange request.now }
+    requires leads { Leads (first_of (paths_of request.now)) trail.old.positions inodes.old.root }
     ensures attempts { Attempts W.World F.Files request.now inodes.old inodes.new cache.old cache.new result }
     ensures leaves { LeavesAfter W.World F.Files request.now inodes.old inodes.new result }
     ensures stamps { StampsItsWalk request.now inodes.old.clock inodes.old.root inodes.new.root result }
     ensures already { IsSoAlready W.World F.Files request.now inodes.old
         → Keeps W.World F.Files (paths_of request.now) inodes.old inodes.new }
     ensures refused { IsBeyondLimits request.now → inodes.new ≡ inodes.old }
+    ensures counts { Counts (first_of (paths_of request.now)) trail.old trail.new }
+    ensures leads { LeadsToNeed (first_of (paths_of request.now)) trail.new.positions inodes.new.root result }
 {
     match request {
         Request::Write(path, offset, data) => {
-            write(inodes, cache, alloc, path, *offset, data.as_slice())
+            write(inodes, cache, alloc, path, *offset, data.as_slice(), trail)
         }
-        Request::Truncate(path, size) => truncate(inodes, cache, alloc, path, *size),
-        Request::Create(path) => create(inodes, cache, alloc, path),
-        Request::SetExec(path, exec) => set_exec(inodes, cache, alloc, path, *exec),
-        Request::Mkdir(path) => mkdir(inodes, cache, alloc, path),
-        Request::Symlink(path, target) => symlink(inodes, cache, alloc, path, target.as_slice()),
-        Request::Unlink(path) => unlink(inodes, cache, alloc, path),
-        Request::Rmdir(path) => rmdir(inodes, cache, alloc, path),
+        Request::Truncate(path, size) => truncate(inodes, cache, alloc, path, *size, trail),
+        Request::Create(path) => create(inodes, cache, alloc, path, trail),
+        Request::SetExec(path, exec) => set_exec(inodes, cache, alloc, path, *exec, trail),
+        Request::Mkdir(path) => mkdir(inodes, cache, alloc, path, trail),
+        Request::Symlink(path, target) => symlink(
+            inodes,
+            cache,
+            alloc,
+            path,
+            target.as_slice(),
+            trail,
+        ),
+        Request::Unlink(path) => unlink(inodes, cache, alloc, path, trail),
+        Request::Rmdir(path) => rmdir(inodes, cache, alloc, path, trail),
         Request::Kind(_)
         | Request::Stat(_)
         | Request::Read(..)
@@ -76,14 +93,85 @@ pub fn attempt<A: Allocator + Clone, W: World, F: Files<W>, C: Allocator + Clone
         → AreWalked (paths_of request.now) inodes.new.clock inodes.new.root }
     ensures looks { IsLook request.now → Keeps W.World F.Files (paths_of request.now) inodes.old inodes.new }
 {
+    attempt_from(inodes, cache, alloc, request, &mut None, &mut 0)
+}
+
+/// `attempt`, from the place where an earlier one waited, if no name has changed since; any other place is passed over.
+/// Where this one waits is left there; where it ends nothing is. To `compared` it adds how many names it compared on
+/// its paths: at most 32 for each component of the path that the place doesn't lead to.
+pub fn attempt_from<A: Allocator + Clone, W: World, F: Files<W>, C: Allocator + Clone>(
+    inodes: &mut Inodes<A, W, F>,
+    cache: &mut Stock<W, C>,
+    alloc: Global,
+    request: &Request,
+    place: &mut Option<Place>,
+    compared: &mut u32,
+) -> Attempt
+    requires leads { LeadsFor request.now inodes.old.changes inodes.old.root place.old }
+    ensures attempts { Attempts W.World F.Files request.now inodes.old inodes.new cache.old cache.new result }
+    ensures leaves { LeavesAfter W.World F.Files request.now inodes.old inodes.new result }
+    ensures stamps { ¬ IsLook request.now
+        → StampsItsWalk request.now inodes.old.clock inodes.old.root inodes.new.root result }
+    ensures already { IsSoAlready W.World F.Files request.now inodes.old
+        → Keeps W.World F.Files (paths_of request.now) inodes.old inodes.new }
+    ensures refused { IsBeyondLimits request.now → inodes.new ≡ inodes.old }
+    ensures walked { IsLook request.now → ¬ IsBeyondLimits request.now
+        → AreWalked (paths_of request.now) inodes.new.clock inodes.new.root }
+    ensures looks { IsLook request.now → Keeps W.World F.Files (paths_of request.now) inodes.old inodes.new }
+    ensures waits { IfSome place.new (λ p. p.changes ≡ inodes.new.changes) }
+    ensures leads { LeadsFor request.now inodes.new.changes inodes.new.root place.new }
+    ensures ends { (r : reply.Reply) → result ≡ Finished r → place.new ≡ None }
+    ensures counts { compared.new ≤ compared.old + 32 * components (paths_of request.now) }
+    ensures resumes { (p : Path) → paths_of request.now ≡ p ∷ []
+        → compared.new ≤ compared.old + 32 * (length p - length (remembered inodes.old.changes place.old)) }
+{
+    let mut walk = recall(place, inodes.changes());
+    let attempt = attempt_along(inodes, cache, alloc, request, &mut walk);
+    *compared = compared.saturating_add(walk.trail.compared());
+    if let Attempt::Need(_) = &attempt {
+        walk.changes = inodes.changes();
+        *place = Some(walk);
+    }
+    attempt
+}
+
+/// One attempt of a request, along the walk.
+fn attempt_along<A: Allocator + Clone, W: World, F: Files<W>, C: Allocator + Clone>(
+    inodes: &mut Inodes<A, W, F>,
+    cache: &mut Stock<W, C>,
+    alloc: Global,
+    request: &Request,
+    walk: &mut Place,
+) -> Attempt
+    requires leads { Leads (walked_of walk.old.second (paths_of request.now)) walk.old.trail.positions
+        inodes.old.root }
+    ensures attempts { Attempts W.World F.Files request.now inodes.old inodes.new cache.old cache.new result }
+    ensures leaves { LeavesAfter W.World F.Files request.now inodes.old inodes.new result }
+    ensures stamps { ¬ IsLook request.now
+        → StampsItsWalk request.now inodes.old.clock inodes.old.root inodes.new.root result }
+    ensures already { IsSoAlready W.World F.Files request.now inodes.old
+        → Keeps W.World F.Files (paths_of request.now) inodes.old inodes.new }
+    ensures refused { IsBeyondLimits request.now → inodes.new ≡ inodes.old }
+    ensures walked { IsLook request.now → ¬ IsBeyondLimits request.now
+        → AreWalked (paths_of request.now) inodes.new.clock inodes.new.root }
+    ensures looks { IsLook request.now → Keeps W.World F.Files (paths_of request.now) inodes.old inodes.new }
+    ensures leads { LeadsToNeed (walked_of walk.new.second (paths_of request.now)) walk.new.trail.positions
+        inodes.new.root result }
+    ensures counts { walk.new.trail.compared ≤ walk.old.trail.compared + 32 * components (paths_of request.now) }
+    ensures resumes { (p : Path) → paths_of request.now ≡ p ∷ []
+        → Counts p walk.old.trail walk.new.trail }
+{
     keeps_laws::<W, F>();
     match request {
         Request::Kind(_)
         | Request::Stat(_)
         | Request::Read(..)
         | Request::ReadLink(_)
-        | Request::List(..) => look(inodes, cache, alloc, request),
-        Request::Rename(from, to) => rename(inodes, cache, alloc, from, to),
+        | Request::List(..) => {
+            walk.second = false;
+            look(inodes, cache, alloc, request, &mut walk.trail)
+        }
+        Request::Rename(from, to) => rename(inodes, cache, alloc, from, to, walk),
         Request::Write(..)
         | Request::Truncate(..)
         | Request::Create(_)
@@ -91,6 +179,9 @@ pub fn attempt<A: Allocator + Clone, W: World, F: Files<W>, C: Allocator + Clone
         | Request::Mkdir(_)
         | Request::Symlink(..)
         | Request::Unlink(_)
-        | Request::Rmdir(_) => change(inodes, cache, alloc, request),
+        | Request::Rmdir(_) => {
+            walk.second = false;
+            change(inodes, cache, alloc, request, &mut walk.trail)
+        }
     }
 }

@@ -8,6 +8,8 @@ ghost use Rattle.eden_ops.specs.Attempts.{Attempts};
 ghost use Rattle.eden_ops.specs.Known.{IsLoadedAt};
 ghost use Rattle.eden_ops.specs.Leaving.{LeavesAfter, StampsItsWalk};
 ghost use Rattle.eden_ops.specs.Listings.{HasNoEntries, HasEntries};
+ghost use Rattle.eden_ops.specs.Trails.{Counts, LeadsToNeed};
+ghost use Rattle.eden_inode.specs.Trails.{Leads};
 
 use crate::end::ended;
 use crate::letting::let_go;
@@ -17,7 +19,7 @@ use crate::settling::settle;
 use crate::what::what;
 use eden_cache::Stock;
 use eden_coupling::shown_laws;
-use eden_inode::Inodes;
+use eden_inode::{Inodes, Trail};
 use eden_materialise::remove_entry;
 use eden_model::{Attempt, Errno, Kind, Path, Reply, World};
 use eden_overlay::Files;
@@ -48,15 +50,19 @@ pub fn rmdir<A: Allocator + Clone, W: World, F: Files<W>, C: Allocator + Clone>(
     cache: &mut Stock<W, C>,
     alloc: Global,
     path: &Path,
+    trail: &mut Trail,
 ) -> Attempt
+    requires leads { Leads path.now trail.old.positions inodes.old.root }
     ensures attempts { Attempts W.World F.Files (ask.Rmdir path.now) inodes.old inodes.new cache.old cache.new result }
     ensures leaves { LeavesAfter W.World F.Files (ask.Rmdir path.now) inodes.old inodes.new result }
     ensures stamps { StampsItsWalk (ask.Rmdir path.now) inodes.old.clock inodes.old.root inodes.new.root result }
+    ensures counts { Counts path.now trail.old trail.new }
+    ensures leads { LeadsToNeed path.now trail.new.positions inodes.new.root result }
 {
     let Some((name, above)) = path.as_slice().split_last() else {
         return Attempt::Finished(Reply::Err(Errno::EBUSY));
     };
-    let seen = match meet(inodes, cache, alloc, path) {
+    let seen = match meet(inodes, cache, alloc, path, trail) {
         Err(stop) => return ended(stop),
         Ok(None) => return Attempt::Finished(Reply::Err(Errno::ENOENT)),
         Ok(Some(seen)) => seen,

@@ -7,6 +7,8 @@ ghost use Rattle.eden_ops.specs.Attempts.{Attempts};
 ghost use Rattle.eden_ops.specs.Changes.{exec_kind};
 ghost use Rattle.eden_ops.specs.Keeping.{Keeps};
 ghost use Rattle.eden_ops.specs.Leaving.{LeavesAfter, StampsItsWalk};
+ghost use Rattle.eden_ops.specs.Trails.{Counts, LeadsToNeed};
+ghost use Rattle.eden_inode.specs.Trails.{Leads};
 
 use crate::end::ended;
 use crate::file::meet_file;
@@ -14,7 +16,7 @@ use crate::laws::keeps_laws;
 use crate::settling::settle;
 use eden_cache::Stock;
 use eden_coupling::shown_laws;
-use eden_inode::Inodes;
+use eden_inode::{Inodes, Trail};
 use eden_materialise::set_kind;
 use eden_model::{Attempt, Kind, Path, Reply, World};
 use eden_overlay::Files;
@@ -35,7 +37,9 @@ pub fn set_exec<A: Allocator + Clone, W: World, F: Files<W>, C: Allocator + Clon
     alloc: Global,
     path: &Path,
     exec: bool,
+    trail: &mut Trail,
 ) -> Attempt
+    requires leads { Leads path.now trail.old.positions inodes.old.root }
     ensures attempts { Attempts W.World F.Files
         (ask.SetExec path.now exec) inodes.old inodes.new cache.old cache.new result }
     ensures leaves { LeavesAfter W.World F.Files (ask.SetExec path.now exec) inodes.old inodes.new result }
@@ -43,8 +47,10 @@ pub fn set_exec<A: Allocator + Clone, W: World, F: Files<W>, C: Allocator + Clon
         inodes.old.clock inodes.old.root inodes.new.root result }
     ensures already { IsSoAlready W.World F.Files (ask.SetExec path.now exec) inodes.old
         → Keeps W.World F.Files (path.now ∷ []) inodes.old inodes.new }
+    ensures counts { Counts path.now trail.old trail.new }
+    ensures leads { LeadsToNeed path.now trail.new.positions inodes.new.root result }
 {
-    let seen = match meet_file(inodes, cache, alloc, path) {
+    let seen = match meet_file(inodes, cache, alloc, path, trail) {
         Err(stop) => return ended(stop),
         Ok(seen) => seen,
     };

@@ -9,12 +9,14 @@ ghost use Rattle.eden_cache.specs.Stock.{FindsTheSame};
 ghost use Rattle.eden_ops.specs.Requests.{IsForFile, IsFileSeen};
 ghost use Rattle.eden_ops.specs.Keeping.{Keeps};
 ghost use Rattle.eden_ops.specs.Stamps.{IsWalked};
+ghost use Rattle.eden_ops.specs.Trails.{Counts};
+ghost use Rattle.eden_inode.specs.Trails.{Leads};
 
 use crate::answer::Stop;
 use crate::meet::meet;
 use crate::what::what;
 use eden_cache::Stock;
-use eden_inode::{Inodes, Seen};
+use eden_inode::{Inodes, Seen, Trail};
 use eden_model::{Errno, Kind, Path, World};
 use eden_overlay::Files;
 use std::alloc::{Allocator, Global};
@@ -25,7 +27,9 @@ pub(crate) fn meet_file<A: Allocator + Clone, W: World, F: Files<W>, C: Allocato
     cache: &mut Stock<W, C>,
     alloc: Global,
     path: &Path,
+    trail: &mut Trail,
 ) -> Result<Seen, Stop>
+    requires leads { Leads path.now trail.old.positions inodes.old.root }
     ensures file { IfOk result (IsFileSeen path.now inodes.new.root) }
     ensures shown { W.honest
         → OnOk result (IsShown W.repository (F.stored inodes.new.files) (row_at path.now inodes.new.root)
@@ -36,8 +40,10 @@ pub(crate) fn meet_file<A: Allocator + Clone, W: World, F: Files<W>, C: Allocato
     ensures keeps { Keeps W.World F.Files (path.now ∷ []) inodes.old inodes.new }
     ensures walked { IsWalked path.now inodes.new.clock inodes.new.root }
     ensures cache { FindsTheSame cache.old cache.new }
+    ensures counts { Counts path.now trail.old trail.new }
+    ensures leads { Leads path.now trail.new.positions inodes.new.root }
 {
-    let seen = match meet(inodes, cache, alloc, path) {
+    let seen = match meet(inodes, cache, alloc, path, trail) {
         Err(stop) => return Err(stop),
         Ok(None) => return Err(Stop::Errs(Errno::ENOENT)),
         Ok(Some(seen)) => seen,

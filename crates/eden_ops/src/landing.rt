@@ -1,10 +1,12 @@
 //! What may go to a path.
-ghost use Rattle.std.specs.Prelude.{◌≡◌, ◌∷◌, []};
+ghost use Rattle.std.specs.Prelude.{◌≡◌, ◌∷◌, [], OnErr};
 ghost use Rattle.eden_inode.specs.Tables.{shows};
 ghost use Rattle.eden_cache.specs.Stock.{FindsTheSame};
 ghost use Rattle.eden_ops.specs.Keeping.{Keeps};
 ghost use Rattle.eden_ops.specs.Renames.{Lands, LandsShown};
 ghost use Rattle.eden_ops.specs.Stamps.{IsWalked};
+ghost use Rattle.eden_ops.specs.Trails.{Counts};
+ghost use Rattle.eden_inode.specs.Trails.{Leads};
 
 use crate::answer::Stop;
 use crate::emptied::is_empty;
@@ -12,7 +14,7 @@ use crate::listing::bring_seen;
 use crate::meet::meet;
 use crate::what::what;
 use eden_cache::Stock;
-use eden_inode::Inodes;
+use eden_inode::{Inodes, Trail};
 use eden_model::{Errno, Kind, Path, World};
 use eden_overlay::Files;
 use std::alloc::{Allocator, Global};
@@ -27,15 +29,19 @@ pub(crate) fn land<A: Allocator + Clone, W: World, F: Files<W>, C: Allocator + C
     alloc: Global,
     path: &Path,
     dir: bool,
+    trail: &mut Trail,
 ) -> Result<(), Stop>
+    requires leads { Leads path.now trail.old.positions inodes.old.root }
     ensures lands { Lands W.World F.Files path.now dir inodes.old inodes.new cache.new result }
     ensures shown { W.honest → LandsShown W.World F.Files path.now dir inodes.old result }
     ensures same { W.honest → shows W.World F.Files inodes.new ≡ shows W.World F.Files inodes.old }
     ensures keeps { Keeps W.World F.Files (path.now ∷ []) inodes.old inodes.new }
     ensures cache { FindsTheSame cache.old cache.new }
     ensures walked { IsWalked path.now inodes.new.clock inodes.new.root }
+    ensures counts { Counts path.now trail.old trail.new }
+    ensures leads { OnErr result (Leads path.now trail.new.positions inodes.new.root) }
 {
-    let seen = match meet(inodes, cache, alloc, path) {
+    let seen = match meet(inodes, cache, alloc, path, trail) {
         Err(stop) => return Err(stop),
         Ok(None) => return Ok(()),
         Ok(Some(seen)) => seen,

@@ -4,13 +4,15 @@ ghost use Rattle.eden_model.specs.declared.request.Request.TheVariants as ask;
 ghost use Rattle.eden_ops.specs.Attempts.{Attempts};
 ghost use Rattle.eden_ops.specs.Keeping.{Keeps};
 ghost use Rattle.eden_ops.specs.Stamps.{IsWalked};
+ghost use Rattle.eden_ops.specs.Trails.{Counts, LeadsToNeed};
+ghost use Rattle.eden_inode.specs.Trails.{Leads};
 
 use crate::contents::{Form, make};
 use crate::end::ended;
 use crate::meet::meet;
 use crate::what::what;
 use eden_cache::Stock;
-use eden_inode::Inodes;
+use eden_inode::{Inodes, Trail};
 use eden_model::{Attempt, Errno, Kind, MAX_FILE, Path, Reply, World};
 use eden_overlay::Files;
 use std::alloc::{Allocator, Global};
@@ -21,13 +23,17 @@ pub fn readlink<A: Allocator + Clone, W: World, F: Files<W>, C: Allocator + Clon
     cache: &mut Stock<W, C>,
     alloc: Global,
     path: &Path,
+    trail: &mut Trail,
 ) -> Attempt
+    requires leads { Leads path.now trail.old.positions inodes.old.root }
     ensures attempts { Attempts W.World F.Files
         (ask.ReadLink path.now) inodes.old inodes.new cache.old cache.new result }
     ensures keeps { Keeps W.World F.Files (path.now ∷ []) inodes.old inodes.new }
     ensures walked { IsWalked path.now inodes.new.clock inodes.new.root }
+    ensures counts { Counts path.now trail.old trail.new }
+    ensures leads { LeadsToNeed path.now trail.new.positions inodes.new.root result }
 {
-    let seen = match meet(inodes, cache, alloc, path) {
+    let seen = match meet(inodes, cache, alloc, path, trail) {
         Err(stop) => return ended(stop),
         Ok(None) => return Attempt::Finished(Reply::Err(Errno::ENOENT)),
         Ok(Some(seen)) => seen,

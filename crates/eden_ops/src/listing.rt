@@ -9,6 +9,8 @@ ghost use Rattle.eden_ops.specs.Keeping.{Keeps};
 ghost use Rattle.eden_ops.specs.Known.{IsLoadedAt};
 ghost use Rattle.eden_ops.specs.Looks.{IsBeyondLimits};
 ghost use Rattle.eden_ops.specs.Stamps.{IsWalked};
+ghost use Rattle.eden_ops.specs.Trails.{Counts, LeadsToNeed};
+ghost use Rattle.eden_inode.specs.Trails.{Leads};
 
 use crate::answer::Stop;
 use crate::bring::bring;
@@ -18,7 +20,7 @@ use crate::meet::meet;
 use crate::pages::page_at;
 use crate::what::what;
 use eden_cache::Stock;
-use eden_inode::{Inodes, Seen};
+use eden_inode::{Inodes, Seen, Trail};
 use eden_model::{Attempt, Errno, Fault, Kind, MAX_ENTRIES, Name, Path, Reply, World};
 use eden_overlay::Files;
 use std::alloc::{Allocator, Global};
@@ -57,18 +59,22 @@ pub fn list<A: Allocator + Clone, W: World, F: Files<W>, C: Allocator + Clone>(
     path: &Path,
     after: &Option<Name>,
     limit: u64,
+    trail: &mut Trail,
 ) -> Attempt
+    requires leads { Leads path.now trail.old.positions inodes.old.root }
     ensures attempts { Attempts W.World F.Files
         (ask.List path.now after.now limit) inodes.old inodes.new cache.old cache.new result }
     ensures keeps { Keeps W.World F.Files (path.now ∷ []) inodes.old inodes.new }
     ensures walked { ¬ IsBeyondLimits (ask.List path.now after.now limit)
         → IsWalked path.now inodes.new.clock inodes.new.root }
     ensures refused { IsBeyondLimits (ask.List path.now after.now limit) → inodes.new ≡ inodes.old }
+    ensures counts { Counts path.now trail.old trail.new }
+    ensures leads { LeadsToNeed path.now trail.new.positions inodes.new.root result }
 {
     if limit == 0 || limit > MAX_ENTRIES {
         return Attempt::Finished(Reply::Err(Errno::EINVAL));
     }
-    let seen = match meet(inodes, cache, alloc, path) {
+    let seen = match meet(inodes, cache, alloc, path, trail) {
         Err(stop) => return ended(stop),
         Ok(None) => return Attempt::Finished(Reply::Err(Errno::ENOENT)),
         Ok(Some(seen)) => seen,

@@ -5,6 +5,8 @@ ghost use Rattle.eden_ops.specs.Attempts.{Attempts};
 ghost use Rattle.eden_ops.specs.Keeping.{Keeps};
 ghost use Rattle.eden_ops.specs.Looks.{IsLook, IsBeyondLimits};
 ghost use Rattle.eden_ops.specs.Stamps.{AreWalked};
+ghost use Rattle.eden_ops.specs.Trails.{Counts, LeadsToNeed, first_of};
+ghost use Rattle.eden_inode.specs.Trails.{Leads};
 
 use crate::kinds::kind;
 use crate::links::readlink;
@@ -12,7 +14,7 @@ use crate::listing::list;
 use crate::reading::read;
 use crate::sizes::stat;
 use eden_cache::Stock;
-use eden_inode::Inodes;
+use eden_inode::{Inodes, Trail};
 use eden_model::{Attempt, Request, World};
 use eden_overlay::Files;
 use std::alloc::{Allocator, Global};
@@ -23,20 +25,26 @@ pub fn look<A: Allocator + Clone, W: World, F: Files<W>, C: Allocator + Clone>(
     cache: &mut Stock<W, C>,
     alloc: Global,
     request: &Request,
+    trail: &mut Trail,
 ) -> Attempt
     requires look { IsLook request.now }
+    requires leads { Leads (first_of (paths_of request.now)) trail.old.positions inodes.old.root }
     ensures attempts { Attempts W.World F.Files request.now inodes.old inodes.new cache.old cache.new result }
     ensures keeps { Keeps W.World F.Files (paths_of request.now) inodes.old inodes.new }
     ensures refused { IsBeyondLimits request.now → inodes.new ≡ inodes.old }
     ensures walked { ¬ IsBeyondLimits request.now
         → AreWalked (paths_of request.now) inodes.new.clock inodes.new.root }
+    ensures counts { Counts (first_of (paths_of request.now)) trail.old trail.new }
+    ensures leads { LeadsToNeed (first_of (paths_of request.now)) trail.new.positions inodes.new.root result }
 {
     match request {
-        Request::Kind(path) => kind(inodes, cache, alloc, path),
-        Request::Stat(path) => stat(inodes, cache, alloc, path),
-        Request::Read(path, offset, count) => read(inodes, cache, alloc, path, *offset, *count),
-        Request::ReadLink(path) => readlink(inodes, cache, alloc, path),
-        Request::List(path, after, limit) => list(inodes, cache, alloc, path, after, *limit),
+        Request::Kind(path) => kind(inodes, cache, alloc, path, trail),
+        Request::Stat(path) => stat(inodes, cache, alloc, path, trail),
+        Request::Read(path, offset, count) => read(
+            inodes, cache, alloc, path, *offset, *count, trail,
+        ),
+        Request::ReadLink(path) => readlink(inodes, cache, alloc, path, trail),
+        Request::List(path, after, limit) => list(inodes, cache, alloc, path, after, *limit, trail),
         Request::Write(..)
         | Request::Truncate(..)
         | Request::Create(_)

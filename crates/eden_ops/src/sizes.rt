@@ -10,6 +10,8 @@ ghost use Rattle.eden_cache.specs.Stock.{FindsTheSame, IsSize, object_at, size_a
 ghost use Rattle.eden_ops.specs.Contents.{HasContent, HasLength};
 ghost use Rattle.eden_ops.specs.Keeping.{Keeps};
 ghost use Rattle.eden_ops.specs.Stamps.{IsWalked};
+ghost use Rattle.eden_ops.specs.Trails.{Counts, LeadsToNeed};
+ghost use Rattle.eden_inode.specs.Trails.{Leads};
 
 use crate::answer::Stop;
 use crate::end::ended;
@@ -17,7 +19,7 @@ use crate::laws::keeps_laws;
 use crate::meet::meet;
 use crate::what::what;
 use eden_cache::{Stock, cache_laws};
-use eden_inode::Inodes;
+use eden_inode::{Inodes, Trail};
 use eden_model::{Attempt, Errno, Id, Key, Kind, ObjKind, Origin, Path, Reply, World};
 use eden_overlay::Files;
 use std::alloc::{Allocator, Global};
@@ -96,12 +98,16 @@ pub fn stat<A: Allocator + Clone, W: World, F: Files<W>, C: Allocator + Clone>(
     cache: &mut Stock<W, C>,
     alloc: Global,
     path: &Path,
+    trail: &mut Trail,
 ) -> Attempt
+    requires leads { Leads path.now trail.old.positions inodes.old.root }
     ensures attempts { Attempts W.World F.Files (ask.Stat path.now) inodes.old inodes.new cache.old cache.new result }
     ensures keeps { Keeps W.World F.Files (path.now ∷ []) inodes.old inodes.new }
     ensures walked { IsWalked path.now inodes.new.clock inodes.new.root }
+    ensures counts { Counts path.now trail.old trail.new }
+    ensures leads { LeadsToNeed path.now trail.new.positions inodes.new.root result }
 {
-    let seen = match meet(inodes, cache, alloc, path) {
+    let seen = match meet(inodes, cache, alloc, path, trail) {
         Err(stop) => return ended(stop),
         Ok(None) => return Attempt::Finished(Reply::Err(Errno::ENOENT)),
         Ok(Some(seen)) => seen,

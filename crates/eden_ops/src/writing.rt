@@ -4,13 +4,15 @@ ghost use Rattle.eden_model.specs.declared.request.Request.TheVariants as ask;
 ghost use Rattle.eden_ops.specs.Attempts.{Attempts};
 ghost use Rattle.eden_ops.specs.Leaving.{LeavesAfter, StampsItsWalk};
 ghost use Rattle.eden_ops.specs.Looks.{IsBeyondLimits};
+ghost use Rattle.eden_ops.specs.Trails.{Counts, LeadsToNeed};
+ghost use Rattle.eden_inode.specs.Trails.{Leads};
 
 use crate::contents::{Form, make};
 use crate::end::ended;
 use crate::file::meet_file;
 use crate::fill::fill;
 use eden_cache::Stock;
-use eden_inode::Inodes;
+use eden_inode::{Inodes, Trail};
 use eden_model::{Attempt, Errno, MAX_DATA, MAX_FILE, Path, Reply, World};
 use eden_overlay::Files;
 use std::alloc::{Allocator, Global};
@@ -23,14 +25,18 @@ pub fn truncate<A: Allocator + Clone, W: World, F: Files<W>, C: Allocator + Clon
     alloc: Global,
     path: &Path,
     size: u64,
+    trail: &mut Trail,
 ) -> Attempt
+    requires leads { Leads path.now trail.old.positions inodes.old.root }
     ensures attempts { Attempts W.World F.Files
         (ask.Truncate path.now size) inodes.old inodes.new cache.old cache.new result }
     ensures leaves { LeavesAfter W.World F.Files (ask.Truncate path.now size) inodes.old inodes.new result }
     ensures stamps { StampsItsWalk (ask.Truncate path.now size)
         inodes.old.clock inodes.old.root inodes.new.root result }
+    ensures counts { Counts path.now trail.old trail.new }
+    ensures leads { LeadsToNeed path.now trail.new.positions inodes.new.root result }
 {
-    let seen = match meet_file(inodes, cache, alloc, path) {
+    let seen = match meet_file(inodes, cache, alloc, path, trail) {
         Err(stop) => return ended(stop),
         Ok(seen) => seen,
     };
@@ -63,19 +69,23 @@ pub fn write<A: Allocator + Clone, W: World, F: Files<W>, C: Allocator + Clone>(
     path: &Path,
     offset: u64,
     bytes: &[u8],
+    trail: &mut Trail,
 ) -> Attempt
+    requires leads { Leads path.now trail.old.positions inodes.old.root }
     ensures attempts { Attempts W.World F.Files
         (ask.Write path.now offset bytes.now) inodes.old inodes.new cache.old cache.new result }
     ensures leaves { LeavesAfter W.World F.Files (ask.Write path.now offset bytes.now) inodes.old inodes.new result }
     ensures stamps { StampsItsWalk (ask.Write path.now offset bytes.now)
         inodes.old.clock inodes.old.root inodes.new.root result }
     ensures refused { IsBeyondLimits (ask.Write path.now offset bytes.now) → inodes.new ≡ inodes.old }
+    ensures counts { Counts path.now trail.old trail.new }
+    ensures leads { LeadsToNeed path.now trail.new.positions inodes.new.root result }
 {
     let count = bytes.len() as u64;
     if count > MAX_DATA {
         return Attempt::Finished(Reply::Err(Errno::EINVAL));
     }
-    let seen = match meet_file(inodes, cache, alloc, path) {
+    let seen = match meet_file(inodes, cache, alloc, path, trail) {
         Err(stop) => return ended(stop),
         Ok(seen) => seen,
     };

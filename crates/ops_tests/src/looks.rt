@@ -3,6 +3,7 @@
 use crate::mount::{Mount, key_of};
 use crate::paths::path;
 use crate::steps::{Ask, D, Names, ROOT, Row, Step, TEST, Want, check_all};
+use eden_inode::Trail;
 use eden_model::{Errno, Kind, Path};
 use eden_ops::{Walked, reach};
 use test_samples::{
@@ -154,7 +155,8 @@ fn looks_need_objects_and_are_answered(rt: HostRuntime) {
 
 /// How far a walk to a path comes.
 fn walk(mount: &mut Mount, at: &Path) -> Walked {
-    reach(&mut mount.table, &mut mount.cache, mount.alloc, at)
+    let trail = &mut Trail::new();
+    reach(&mut mount.table, &mut mount.cache, mount.alloc, at, trail)
 }
 
 #[test]

@@ -4,7 +4,7 @@ use Rattle.eden_ops.specs.Changes.{file}
 use Rattle.eden_ops.proofs.adding.create.Goals as goal
 
 pub add-requires : goal.add-requires
-add-requires g c = record { asked = (ask.Create c.args.path.now, file _ refl) }
+add-requires g c = record { asked = (ask.Create c.args.path.now, file _ refl); leads = c.requires.leads }
 
 pub returns-clause-attempts : goal.returns-clause-attempts
 returns-clause-attempts g c = c.add.ensures.attempts (ask.Create c.args.path.now) (file _ refl)

@@ -3,7 +3,7 @@ use Rattle.eden_ops.specs.Changes.{dir}
 use Rattle.eden_ops.proofs.adding.mkdir.Goals as goal
 
 pub add-requires : goal.add-requires
-add-requires g c = record { asked = (ask.Mkdir c.args.path.now, dir) }
+add-requires g c = record { asked = (ask.Mkdir c.args.path.now, dir); leads = c.requires.leads }
 
 pub returns-clause-attempts : goal.returns-clause-attempts
 returns-clause-attempts g c = c.add.ensures.attempts (ask.Mkdir c.args.path.now) (dir)

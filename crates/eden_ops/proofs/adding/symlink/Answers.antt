@@ -14,7 +14,10 @@ use Rattle.eden_ops.proofs.adding.symlink.Goals as goal
 
 pub add-requires : goal.add-requires
 add-requires g c =
-    record { asked = (ask.Symlink c.args.path.now c.args.target.now, link c.args.target (eqb-false (length c.args.target.now) 0 (sym c.if-is_empty.ensures)) c.if-target-gt-MAX_TARGET.false) }
+    record {
+      asked = (ask.Symlink c.args.path.now c.args.target.now, link c.args.target (eqb-false (length c.args.target.now) 0 (sym c.if-is_empty.ensures)) c.if-target-gt-MAX_TARGET.false);
+      leads = c.requires.leads;
+    }
 
 pub returns-clause-attempts : goal.returns-clause-attempts
 returns-clause-attempts g c = c.add.ensures.attempts (ask.Symlink c.args.path.now c.args.target.now)

@@ -40,6 +40,7 @@ use Rattle.eden_ops.proofs.Telling.{met_tells}
 use Rattle.eden_ops.proofs.Walking.{known_unloaded}
 use Rattle.eden_ops.proofs.Stamped.{stamps_on, stamps_same, alike_stamps, left_stamps, chained_stamps, stamps_refused, stamps_then, stamps_kept}
 use Rattle.eden_ops.proofs.Stamps.{walked_on}
+use Rattle.eden_inode.specs.Trails.{Leads}
 use Rattle.eden_ops.proofs.emptied.rmdir.Goals as goal
 
 -- ---- the walk ends before, or nothing is there
@@ -87,6 +88,8 @@ returns-in-File g c =
           (λ k a listed is on. lists_other (IfEmpty (shows g.W.World g.F.Files s) p) k a listed (λ dir. no_dir c.what.result c.in-File.is (sym other.1 ∙ sym is ∙ dir)));
       leaves = leaves_kept g.W.World g.F.Files (ask.Rmdir p) s t e.keeps _;
       stamps = stamps_kept g.W.World g.F.Files (ask.Rmdir p) s t e.keeps (e.walked, tt) _;
+      counts = e.counts;
+      leads = λ k is. e.leads;
     }
 
 pub returns-in-Err-bring_seen-clause-attempts : goal.returns-in-Err-bring_seen-clause-attempts
@@ -369,3 +372,6 @@ returns-in-Err-remove_entry-clause-stamps g c =
 
 pub returns-in_default-clause-stamps : goal.returns-in_default-clause-stamps
 returns-in_default-clause-stamps g c = stamps_refused g.W.World g.F.Files (ask.Rmdir c.args.path.now) c.args.inodes.now c.args.inodes.now same _ EBUSY refl
+
+pub returns-in-Err-bring_seen-clause-leads : goal.returns-in-Err-bring_seen-clause-leads
+returns-in-Err-bring_seen-clause-leads g c k is = subst (λ (x : Row). Leads c.args.path.now c.meet.new.trail.positions x) (sym c.in-Err-bring_seen.ensures.still) c.meet.ensures.leads

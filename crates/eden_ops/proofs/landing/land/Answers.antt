@@ -11,6 +11,9 @@ use Rattle.eden_ops.proofs.Reached.{seen_at, shown_at, met_passes}
 use Rattle.eden_ops.proofs.Renames.{land_ended, land_fails, land_over_file, file_refuses, land_over_none, land_over_some, land_lacks, loaded_passes}
 use Rattle.eden_ops.proofs.Stamps.{walked_on}
 use Rattle.eden_ops.proofs.Steps.{keeps_on}
+use Rattle.eden_inode.specs.Trails.{Leads}
+use Rattle.eden_tree.specs.Directory.{Row}
+use Rattle.eden_ops.proofs.Trailing.{leads_on}
 use Rattle.eden_ops.proofs.landing.land.Goals as goal
 
 pub returns-in-Err-clause-lands : goal.returns-in-Err-clause-lands
@@ -38,6 +41,8 @@ returns-in-File g c =
       keeps = e.keeps;
       cache = e.cache;
       walked = e.walked;
+      counts = e.counts;
+      leads = tt;
     }
 
 pub returns-then-dir : goal.returns-then-dir
@@ -59,6 +64,8 @@ returns-then-dir g c =
       keeps = e.keeps;
       cache = e.cache;
       walked = e.walked;
+      counts = e.counts;
+      leads = e.leads;
     }
 
 pub returns-in-Err-bring_seen-clause-lands : goal.returns-in-Err-bring_seen-clause-lands
@@ -118,3 +125,9 @@ returns-then-is_empty-clause-walked g c =
 pub returns-clause-walked : goal.returns-clause-walked
 returns-clause-walked g c =
     walked_on g.W.World g.F.Files c.args.path.now c.meet.new.inodes c.bring_seen.new.inodes c.in-Ok-Some.ensures.walked c.bring_seen.ensures.keeps
+
+pub returns-in-Err-bring_seen-clause-leads : goal.returns-in-Err-bring_seen-clause-leads
+returns-in-Err-bring_seen-clause-leads g c = subst (λ (x : Row). Leads c.args.path.now c.meet.new.trail.positions x) (sym c.in-Err-bring_seen.ensures.still) c.meet.ensures.leads
+
+pub returns-clause-leads : goal.returns-clause-leads
+returns-clause-leads g c = leads_on g.W.World g.F.Files c.args.path.now c.meet.new.trail.positions c.meet.new.inodes c.bring_seen.new.inodes c.bring_seen.ensures.keeps c.meet.ensures.leads

@@ -16,6 +16,8 @@ use Rattle.eden_ops.proofs.Telling.{as_dir, met_content, met_tells, content_tell
 use Rattle.eden_ops.proofs.Looking.{reads_target, asks_target, target_other, target_some, target_lost}
 use Rattle.eden_ops.proofs.Stamps.{walked_on}
 use Rattle.eden_ops.proofs.Steps.{keeps_on}
+use Rattle.eden_inode.specs.Trails.{Leads}
+use Rattle.eden_tree.specs.Directory.{Row}
 use Rattle.eden_ops.proofs.links.readlink.Goals as goal
 
 not_link : (k told : Kind) → k ≡ told → (told ≡ kind.File) ⊎ (told ≡ kind.Exec) → k ≢ kind.Link
@@ -108,3 +110,6 @@ returns-in-Err-make-clause-walked g c = walked_on g.W.World g.F.Files c.args.pat
 
 pub returns-in-Ok-clause-walked : goal.returns-in-Ok-clause-walked
 returns-in-Ok-clause-walked g c = walked_on g.W.World g.F.Files c.args.path.now c.meet.new.inodes c.make.new.inodes c.meet.ensures.walked c.make.ensures.keeps
+
+pub returns-in-Err-make-clause-leads : goal.returns-in-Err-make-clause-leads
+returns-in-Err-make-clause-leads g c k is = subst (λ (x : Row). Leads c.args.path.now c.meet.new.trail.positions x) (sym c.make.ensures.still) c.meet.ensures.leads

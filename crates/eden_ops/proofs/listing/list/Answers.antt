@@ -27,6 +27,8 @@ use Rattle.eden_ops.proofs.Rounds.{lacks_since}
 use Rattle.eden_ops.proofs.Stamps.{walked_on}
 use Rattle.eden_ops.proofs.Steps.{keeps_on}
 use Rattle.eden_ops.proofs.Walking.{known_unloaded}
+use Rattle.eden_inode.specs.Trails.{Leads}
+use Rattle.eden_tree.specs.Directory.{Row}
 use Rattle.eden_ops.proofs.listing.list.Goals as goal
 
 pub returns-then-limit-eq0-clause-keeps : goal.returns-then-limit-eq0-clause-keeps
@@ -69,6 +71,8 @@ returns-in-File g c =
       keeps = e.keeps;
       refused = λ beyond. absurd (some_at_most c.args.limit 1000 c.if-limit-eq0.false c.if-limit-gt-MAX_ENTRIES.false beyond);
       walked = λ within. c.meet.ensures.walked;
+      counts = c.meet.ensures.counts;
+      leads = λ k is. c.meet.ensures.leads;
     }
 
 pub returns-in-Err-bring_seen-clause-attempts : goal.returns-in-Err-bring_seen-clause-attempts
@@ -156,3 +160,6 @@ returns-in-Err-page_at-clause-walked g c within = walked_on g.W.World g.F.Files 
 
 pub returns-in-Ok-clause-walked : goal.returns-in-Ok-clause-walked
 returns-in-Ok-clause-walked g c within = walked_on g.W.World g.F.Files c.args.path.now c.meet.new.inodes c.bring_seen.new.inodes c.meet.ensures.walked c.bring_seen.ensures.keeps
+
+pub returns-in-Err-bring_seen-clause-leads : goal.returns-in-Err-bring_seen-clause-leads
+returns-in-Err-bring_seen-clause-leads g c k is = subst (λ (x : Row). Leads c.args.path.now c.meet.new.trail.positions x) (sym c.in-Err-bring_seen.ensures.still) c.meet.ensures.leads

@@ -1,8 +1,10 @@
-use Rattle.std.proofs.Common.{[], ◌∷◌, subst}
+use Rattle.std.proofs.Common.{[], ◌∷◌, sym, subst}
 use Rattle.eden_model.specs.Trees.{Path}
 use Rattle.eden_ops.specs.Attempts.{Meets}
 use Rattle.eden_ops.specs.Keeping.{Keeps}
 use Rattle.eden_ops.specs.Stamps.{IsWalked}
+use Rattle.eden_ops.specs.Trails.{Counts}
+use Rattle.eden_inode.specs.Trails.{Leads}
 use Rattle.eden_ops.proofs.Reached.{met_shown}
 use Rattle.eden_ops.proofs.Seeing.{kept_dirs}
 use Rattle.eden_ops.proofs.meet.meet.Goals as goal
@@ -27,3 +29,12 @@ returns-clause-shown g c h =
     (kept_dirs g.W.World.repository (g.F.Files.stored t.files) t.root t.next (c.holds.ensures.kept h))
     (c.keeps_laws.ensures.shown _ s t c.pass-met.ensures.keeps h) c.pass-met.result
     (subst (λ (p : Path). Meets g.W.World g.F.Files p s t c.pass-met.new.cache c.pass-met.result) c.as_slice.ensures c.pass-met.ensures.meets)
+
+pub returns-clause-leads : goal.returns-clause-leads
+returns-clause-leads g c = subst (λ (p : Path). Leads p c.pass-met.new.trail.positions c.pass-met.new.inodes.root) c.as_slice.ensures c.pass-met.ensures.leads
+
+pub returns-clause-counts : goal.returns-clause-counts
+returns-clause-counts g c = subst (λ (p : Path). Counts p c.args.trail.now c.pass-met.new.trail) c.as_slice.ensures c.pass-met.ensures.counts
+
+pub pass-met-requires : goal.pass-met-requires
+pass-met-requires g c = record { leads = subst (λ (p : Path). Leads p c.args.trail.now.positions c.args.inodes.now.root) (sym c.as_slice.ensures) c.requires.leads }

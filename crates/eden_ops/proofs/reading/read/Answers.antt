@@ -16,6 +16,8 @@ use Rattle.eden_ops.proofs.Looking.{IsPlain, not_more, reads, asks_read, plain_o
 use Rattle.eden_ops.proofs.Stamps.{walked_on}
 use Rattle.eden_ops.proofs.Steps.{keeps_on}
 use Rattle.eden_ops.proofs.Telling.{content_tells}
+use Rattle.eden_inode.specs.Trails.{Leads}
+use Rattle.eden_tree.specs.Directory.{Row}
 use Rattle.eden_ops.proofs.reading.read.Goals as goal
 
 pub returns-then-count-gt-MAX_DATA-clause-keeps : goal.returns-then-count-gt-MAX_DATA-clause-keeps
@@ -95,3 +97,6 @@ returns-in-Ok-make-clause-walked g c within = walked_on g.W.World g.F.Files c.ar
 
 pub returns-then-count-gt-MAX_DATA-clause-walked : goal.returns-then-count-gt-MAX_DATA-clause-walked
 returns-then-count-gt-MAX_DATA-clause-walked g c within = absurd (within c.if-count-gt-MAX_DATA.true)
+
+pub returns-in-Err-make-clause-leads : goal.returns-in-Err-make-clause-leads
+returns-in-Err-make-clause-leads g c k is = subst (λ (x : Row). Leads c.args.path.now c.meet_file.new.trail.positions x) (sym c.make.ensures.still) c.meet_file.ensures.leads

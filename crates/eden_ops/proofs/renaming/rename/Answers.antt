@@ -1,4 +1,4 @@
-use Rattle.std.proofs.Common.{◌≡◌, ◌≢◌, false, Option, Ok, sym, refl, subst, ◌∙◌}
+use Rattle.std.proofs.Common.{◌≡◌, ◌≢◌, ◌∷◌, [], Bool, true, false, Option, Ok, sym, refl, subst, ◌∙◌, arith}
 use Rattle.eden_model.specs.declared.errno.Errno.TheVariants.{EBUSY}
 use Rattle.eden_model.specs.declared.reply.Reply.{Reply}
 use Rattle.eden_model.specs.declared.reply.Reply.TheVariants as say
@@ -9,6 +9,8 @@ use Rattle.eden_model.specs.declared.attempt.Attempt.{Attempt}
 use Rattle.eden_model.specs.declared.attempt.Attempt.TheVariants.{Finished}
 use Rattle.eden_ops.specs.Attempts.{Attempts, MeetsShown}
 use Rattle.eden_ops.specs.Keeping.{same}
+use Rattle.eden_inode.specs.Trails.{Leads}
+use Rattle.eden_ops.specs.Trails.{walked_of}
 use Rattle.eden_ops.proofs.Answering.{first_ended, first_absent}
 use Rattle.eden_ops.proofs.TwoPaths.{moves, starts_rename, begins, plain_told, land_stopped, can_go, went, stayed}
 use Rattle.eden_ops.proofs.Leaving.{leaves_kept, leaves_moved, leaves_unmoved}
@@ -24,107 +26,107 @@ returns-in-Err-clause-attempts g c =
     let from = c.args.from.now in
     let to = c.args.to.now in
     let s = c.args.inodes.now in
-    let t = c.meet.new.inodes in
+    let t = c.meet_first.new.inodes in
     let e = c.in-Err.ensures in
     let root : is_root from ≡ false = sym c.is_root.ensures ∙ c.if-is_root.false in
     let other : is_root to ≡ false = sym c.is_root-else-is_root.ensures ∙ c.if-is_root-2.false in
-    subst (λ (a : Attempt). Attempts g.W.World g.F.Files (ask.Rename from to) s t c.args.cache.now c.meet.new.cache a) (sym c.ended.ensures)
+    subst (λ (a : Attempt). Attempts g.W.World g.F.Files (ask.Rename from to) s t c.args.cache.now c.meet_first.new.cache a) (sym c.ended.ensures)
     (first_ended g.W.World g.F.Files (ask.Rename from to) from (moves from to)
-    (starts_rename from to root other) s t c.args.cache.now c.meet.new.cache e.same (keeps_first g.W.World g.F.Files from to s t e.keeps) e.cache c.in-Err.stop e.meets e.shown)
+    (starts_rename from to root other) s t c.args.cache.now c.meet_first.new.cache e.same (keeps_first g.W.World g.F.Files from to s t e.keeps) e.cache c.in-Err.stop e.meets e.shown)
 
 pub returns-in-Ok-None-clause-attempts : goal.returns-in-Ok-None-clause-attempts
 returns-in-Ok-None-clause-attempts g c =
     let from = c.args.from.now in
     let to = c.args.to.now in
     let s = c.args.inodes.now in
-    let t = c.meet.new.inodes in
+    let t = c.meet_first.new.inodes in
     let e = c.in-Ok-None.ensures in
     let root : is_root from ≡ false = sym c.is_root.ensures ∙ c.if-is_root.false in
     let other : is_root to ≡ false = sym c.is_root-else-is_root.ensures ∙ c.if-is_root-2.false in
-    first_absent g.W.World g.F.Files (ask.Rename from to) from (moves from to) (starts_rename from to root other) s t c.args.cache.now c.meet.new.cache e.same
+    first_absent g.W.World g.F.Files (ask.Rename from to) from (moves from to) (starts_rename from to root other) s t c.args.cache.now c.meet_first.new.cache e.same
     (keeps_first g.W.World g.F.Files from to s t e.keeps) e.cache
     (λ h. subst (λ (o : Option Seen). MeetsShown g.W.World g.F.Files from s t (Ok o)) c.in-Ok-None.field-0-is (e.shown h))
 
 pub returns-in-Some-clause-attempts : goal.returns-in-Some-clause-attempts
 returns-in-Some-clause-attempts g c =
     let s = c.args.inodes.now in
-    let t = c.meet.new.inodes in
+    let t = c.meet_first.new.inodes in
     let e = c.in-Ok-Some.ensures in
-    let began = begins g.W.World g.F.Files c.args.from.now c.args.to.now s t c.args.cache.now c.meet.new.cache _ c.in-Ok-Some.seen c.is_dir-dir.result c.in-Ok-Some.field-0-is
+    let began = begins g.W.World g.F.Files c.args.from.now c.args.to.now s t c.args.cache.now c.meet_first.new.cache _ c.in-Ok-Some.seen c.is_dir-dir.result c.in-Ok-Some.field-0-is
     (sym c.is_root.ensures ∙ c.if-is_root.false)
     (sym c.is_root-else-is_root.ensures ∙ c.if-is_root-2.false) e.meets e.shown e.same e.keeps e.cache c.is_dir-dir.ensures in
-    plain_told g.W.World g.F.Files c.args.from.now c.args.to.now s t c.args.cache.now c.meet.new.cache c.in-Ok-Some.seen c.is_dir-dir.result began c.in-Some.reply c.in-Some.ensures.told
+    plain_told g.W.World g.F.Files c.args.from.now c.args.to.now s t c.args.cache.now c.meet_first.new.cache c.in-Ok-Some.seen c.is_dir-dir.result began c.in-Some.reply c.in-Some.ensures.told
 
 pub returns-in-Err-land-clause-attempts : goal.returns-in-Err-land-clause-attempts
 returns-in-Err-land-clause-attempts g c =
     let s = c.args.inodes.now in
-    let t = c.meet.new.inodes in
+    let t = c.meet_first.new.inodes in
     let e = c.in-Ok-Some.ensures in
-    let began = begins g.W.World g.F.Files c.args.from.now c.args.to.now s t c.args.cache.now c.meet.new.cache _ c.in-Ok-Some.seen c.is_dir-dir.result c.in-Ok-Some.field-0-is
+    let began = begins g.W.World g.F.Files c.args.from.now c.args.to.now s t c.args.cache.now c.meet_first.new.cache _ c.in-Ok-Some.seen c.is_dir-dir.result c.in-Ok-Some.field-0-is
     (sym c.is_root.ensures ∙ c.if-is_root.false)
     (sym c.is_root-else-is_root.ensures ∙ c.if-is_root-2.false) e.meets e.shown e.same e.keeps e.cache c.is_dir-dir.ensures in
     let l = c.in-Err-land.ensures in
     subst (λ (a : Attempt). Attempts g.W.World g.F.Files (ask.Rename c.args.from.now c.args.to.now) s c.land.new.inodes c.args.cache.now c.land.new.cache a) (sym c.ended-in-Err-land.ensures)
-    (land_stopped g.W.World g.F.Files c.args.from.now c.args.to.now s t c.args.cache.now c.meet.new.cache c.in-Ok-Some.seen c.is_dir-dir.result began c.in-None.ensures.told c.land.new.inodes
+    (land_stopped g.W.World g.F.Files c.args.from.now c.args.to.now s t c.args.cache.now c.meet_first.new.cache c.in-Ok-Some.seen c.is_dir-dir.result began c.in-None.ensures.told c.land.new.inodes
     c.land.new.cache l.same l.keeps l.cache c.in-Err-land.stop l.lands l.shown)
 
 pub relocate-requires : goal.relocate-requires
 relocate-requires g c =
     let s = c.args.inodes.now in
-    let t = c.meet.new.inodes in
+    let t = c.meet_first.new.inodes in
     let e = c.in-Ok-Some.ensures in
-    let began = begins g.W.World g.F.Files c.args.from.now c.args.to.now s t c.args.cache.now c.meet.new.cache _ c.in-Ok-Some.seen c.is_dir-dir.result c.in-Ok-Some.field-0-is
+    let began = begins g.W.World g.F.Files c.args.from.now c.args.to.now s t c.args.cache.now c.meet_first.new.cache _ c.in-Ok-Some.seen c.is_dir-dir.result c.in-Ok-Some.field-0-is
     (sym c.is_root.ensures ∙ c.if-is_root.false)
     (sym c.is_root-else-is_root.ensures ∙ c.if-is_root-2.false) e.meets e.shown e.same e.keeps e.cache c.is_dir-dir.ensures in
     let l = c.in-Ok.ensures in
     record {
-      may = can_go g.W.World g.F.Files c.args.from.now c.args.to.now s t c.args.cache.now c.meet.new.cache c.in-Ok-Some.seen c.is_dir-dir.result began c.in-None.ensures.told c.land.new.inodes
+      may = can_go g.W.World g.F.Files c.args.from.now c.args.to.now s t c.args.cache.now c.meet_first.new.cache c.in-Ok-Some.seen c.is_dir-dir.result began c.in-None.ensures.told c.land.new.inodes
           c.land.new.cache l.same l.keeps l.cache l.lands;
     }
 
 pub returns-in-Ok-relocate-clause-attempts : goal.returns-in-Ok-relocate-clause-attempts
 returns-in-Ok-relocate-clause-attempts g c =
     let s = c.args.inodes.now in
-    let t = c.meet.new.inodes in
+    let t = c.meet_first.new.inodes in
     let e = c.in-Ok-Some.ensures in
-    let began = begins g.W.World g.F.Files c.args.from.now c.args.to.now s t c.args.cache.now c.meet.new.cache _ c.in-Ok-Some.seen c.is_dir-dir.result c.in-Ok-Some.field-0-is
+    let began = begins g.W.World g.F.Files c.args.from.now c.args.to.now s t c.args.cache.now c.meet_first.new.cache _ c.in-Ok-Some.seen c.is_dir-dir.result c.in-Ok-Some.field-0-is
     (sym c.is_root.ensures ∙ c.if-is_root.false)
     (sym c.is_root-else-is_root.ensures ∙ c.if-is_root-2.false) e.meets e.shown e.same e.keeps e.cache c.is_dir-dir.ensures in
     let l = c.in-Ok.ensures in
-    went g.W.World g.F.Files c.args.from.now c.args.to.now s t c.args.cache.now c.meet.new.cache c.in-Ok-Some.seen c.is_dir-dir.result began c.in-None.ensures.told c.land.new.inodes c.land.new.cache l.same
+    went g.W.World g.F.Files c.args.from.now c.args.to.now s t c.args.cache.now c.meet_first.new.cache c.in-Ok-Some.seen c.is_dir-dir.result began c.in-None.ensures.told c.land.new.inodes c.land.new.cache l.same
     l.keeps l.cache c.relocate.new.inodes l.shown c.in-Ok-relocate.ensures.relocates.ok
 
 pub returns-in-Err-relocate-clause-attempts : goal.returns-in-Err-relocate-clause-attempts
 returns-in-Err-relocate-clause-attempts g c =
     let s = c.args.inodes.now in
-    let t = c.meet.new.inodes in
+    let t = c.meet_first.new.inodes in
     let e = c.in-Ok-Some.ensures in
-    let began = begins g.W.World g.F.Files c.args.from.now c.args.to.now s t c.args.cache.now c.meet.new.cache _ c.in-Ok-Some.seen c.is_dir-dir.result c.in-Ok-Some.field-0-is
+    let began = begins g.W.World g.F.Files c.args.from.now c.args.to.now s t c.args.cache.now c.meet_first.new.cache _ c.in-Ok-Some.seen c.is_dir-dir.result c.in-Ok-Some.field-0-is
     (sym c.is_root.ensures ∙ c.if-is_root.false)
     (sym c.is_root-else-is_root.ensures ∙ c.if-is_root-2.false) e.meets e.shown e.same e.keeps e.cache c.is_dir-dir.ensures in
     let l = c.in-Ok.ensures in
     let x = c.in-Err-relocate.ensures.relocates in
-    stayed g.W.World g.F.Files c.args.from.now c.args.to.now s t c.args.cache.now c.meet.new.cache c.in-Ok-Some.seen c.is_dir-dir.result began c.in-None.ensures.told c.land.new.inodes c.land.new.cache
+    stayed g.W.World g.F.Files c.args.from.now c.args.to.now s t c.args.cache.now c.meet_first.new.cache c.in-Ok-Some.seen c.is_dir-dir.result began c.in-None.ensures.told c.land.new.inodes c.land.new.cache
     l.same l.keeps l.cache c.relocate.new.inodes c.in-Err-relocate.fault x.fault x.err
 
 pub returns-then-is_root-clause-leaves : goal.returns-then-is_root-clause-leaves
 returns-then-is_root-clause-leaves g c = leaves_kept g.W.World g.F.Files (ask.Rename c.args.from.now c.args.to.now) c.args.inodes.now c.args.inodes.now same _
 
 pub returns-in-Err-clause-leaves : goal.returns-in-Err-clause-leaves
-returns-in-Err-clause-leaves g c = leaves_kept g.W.World g.F.Files (ask.Rename c.args.from.now c.args.to.now) c.args.inodes.now c.meet.new.inodes
-    (keeps_first g.W.World g.F.Files c.args.from.now c.args.to.now c.args.inodes.now c.meet.new.inodes c.meet.ensures.keeps) _
+returns-in-Err-clause-leaves g c = leaves_kept g.W.World g.F.Files (ask.Rename c.args.from.now c.args.to.now) c.args.inodes.now c.meet_first.new.inodes
+    (keeps_first g.W.World g.F.Files c.args.from.now c.args.to.now c.args.inodes.now c.meet_first.new.inodes c.meet_first.ensures.keeps) _
 
 pub returns-in-Ok-None-clause-leaves : goal.returns-in-Ok-None-clause-leaves
-returns-in-Ok-None-clause-leaves g c = leaves_kept g.W.World g.F.Files (ask.Rename c.args.from.now c.args.to.now) c.args.inodes.now c.meet.new.inodes
-    (keeps_first g.W.World g.F.Files c.args.from.now c.args.to.now c.args.inodes.now c.meet.new.inodes c.meet.ensures.keeps) _
+returns-in-Ok-None-clause-leaves g c = leaves_kept g.W.World g.F.Files (ask.Rename c.args.from.now c.args.to.now) c.args.inodes.now c.meet_first.new.inodes
+    (keeps_first g.W.World g.F.Files c.args.from.now c.args.to.now c.args.inodes.now c.meet_first.new.inodes c.meet_first.ensures.keeps) _
 
 pub returns-in-Some-clause-leaves : goal.returns-in-Some-clause-leaves
-returns-in-Some-clause-leaves g c = leaves_kept g.W.World g.F.Files (ask.Rename c.args.from.now c.args.to.now) c.args.inodes.now c.meet.new.inodes
-    (keeps_first g.W.World g.F.Files c.args.from.now c.args.to.now c.args.inodes.now c.meet.new.inodes c.meet.ensures.keeps) _
+returns-in-Some-clause-leaves g c = leaves_kept g.W.World g.F.Files (ask.Rename c.args.from.now c.args.to.now) c.args.inodes.now c.meet_first.new.inodes
+    (keeps_first g.W.World g.F.Files c.args.from.now c.args.to.now c.args.inodes.now c.meet_first.new.inodes c.meet_first.ensures.keeps) _
 
 pub returns-in-Err-land-clause-leaves : goal.returns-in-Err-land-clause-leaves
 returns-in-Err-land-clause-leaves g c =
-    leaves_kept g.W.World g.F.Files (ask.Rename c.args.from.now c.args.to.now) c.args.inodes.now c.land.new.inodes (keeps_both g.W.World g.F.Files c.args.from.now c.args.to.now c.args.inodes.now c.meet.new.inodes c.land.new.inodes c.meet.ensures.keeps c.land.ensures.keeps) _
+    leaves_kept g.W.World g.F.Files (ask.Rename c.args.from.now c.args.to.now) c.args.inodes.now c.land.new.inodes (keeps_both g.W.World g.F.Files c.args.from.now c.args.to.now c.args.inodes.now c.meet_first.new.inodes c.land.new.inodes c.meet_first.ensures.keeps c.land.ensures.keeps) _
 
 pub returns-in-Ok-relocate-clause-leaves : goal.returns-in-Ok-relocate-clause-leaves
 returns-in-Ok-relocate-clause-leaves g c =
@@ -133,7 +135,7 @@ returns-in-Ok-relocate-clause-leaves g c =
     let to = c.args.to.now in
     let s = c.args.inodes.now in
     let t = c.land.new.inodes in
-    leaves_moved g.W.World g.F.Files from to s t (keeps_both g.W.World g.F.Files from to s c.meet.new.inodes t c.meet.ensures.keeps c.land.ensures.keeps) c.relocate.new.inodes
+    leaves_moved g.W.World g.F.Files from to s t (keeps_both g.W.World g.F.Files from to s c.meet_first.new.inodes t c.meet_first.ensures.keeps c.land.ensures.keeps) c.relocate.new.inodes
     x.relocates (x.saved.0, (x.saved.1, tt))
 
 pub returns-in-Err-relocate-clause-leaves : goal.returns-in-Err-relocate-clause-leaves
@@ -142,7 +144,7 @@ returns-in-Err-relocate-clause-leaves g c =
     let to = c.args.to.now in
     let s = c.args.inodes.now in
     let t = c.land.new.inodes in
-    leaves_unmoved g.W.World g.F.Files from to s t (keeps_both g.W.World g.F.Files from to s c.meet.new.inodes t c.meet.ensures.keeps c.land.ensures.keeps) c.relocate.new.inodes
+    leaves_unmoved g.W.World g.F.Files from to s t (keeps_both g.W.World g.F.Files from to s c.meet_first.new.inodes t c.meet_first.ensures.keeps c.land.ensures.keeps) c.relocate.new.inodes
     c.in-Err-relocate.fault c.in-Err-relocate.ensures.relocates
 
 pub returns-then-is_root-clause-stamps : goal.returns-then-is_root-clause-stamps
@@ -151,29 +153,59 @@ returns-then-is_root-clause-stamps g c =
 
 pub returns-in-Err-clause-stamps : goal.returns-in-Err-clause-stamps
 returns-in-Err-clause-stamps g c =
-    stamps_met g.W.World g.F.Files c.args.from.now c.args.to.now c.args.inodes.now c.meet.new.inodes c.meet.ensures.keeps c.meet.ensures.walked
+    stamps_met g.W.World g.F.Files c.args.from.now c.args.to.now c.args.inodes.now c.meet_first.new.inodes c.meet_first.ensures.keeps c.meet_first.ensures.walked
     _ (subst (λ (a : Attempt). a ≢ Finished say.Ok) (sym c.ended.ensures) (never_done c.in-Err.stop))
 
 pub returns-in-Ok-None-clause-stamps : goal.returns-in-Ok-None-clause-stamps
 returns-in-Ok-None-clause-stamps g c =
-    stamps_met g.W.World g.F.Files c.args.from.now c.args.to.now c.args.inodes.now c.meet.new.inodes c.meet.ensures.keeps c.meet.ensures.walked _ (λ is. cc)
+    stamps_met g.W.World g.F.Files c.args.from.now c.args.to.now c.args.inodes.now c.meet_first.new.inodes c.meet_first.ensures.keeps c.meet_first.ensures.walked _ (λ is. cc)
 
 pub returns-in-Some-clause-stamps : goal.returns-in-Some-clause-stamps
 returns-in-Some-clause-stamps g c =
-    stamps_one g.W.World g.F.Files c.args.from.now c.args.to.now c.args.inodes.now c.meet.new.inodes c.meet.ensures.keeps c.meet.ensures.walked
+    stamps_one g.W.World g.F.Files c.args.from.now c.args.to.now c.args.inodes.now c.meet_first.new.inodes c.meet_first.ensures.keeps c.meet_first.ensures.walked
     _ (λ is. c.in-Some.ensures.one (done_reply c.in-Some.reply is))
 
 pub returns-in-Err-land-clause-stamps : goal.returns-in-Err-land-clause-stamps
 returns-in-Err-land-clause-stamps g c =
-    stamps_landed g.W.World g.F.Files c.args.from.now c.args.to.now c.args.inodes.now c.meet.new.inodes c.meet.ensures.keeps c.meet.ensures.walked
+    stamps_landed g.W.World g.F.Files c.args.from.now c.args.to.now c.args.inodes.now c.meet_first.new.inodes c.meet_first.ensures.keeps c.meet_first.ensures.walked
     c.land.new.inodes c.land.ensures.keeps c.land.ensures.walked _ (subst (λ (a : Attempt). a ≢ Finished say.Ok) (sym c.ended-in-Err-land.ensures) (never_done c.in-Err-land.stop))
 
 pub returns-in-Ok-relocate-clause-stamps : goal.returns-in-Ok-relocate-clause-stamps
 returns-in-Ok-relocate-clause-stamps g c =
-    stamps_moved g.W.World g.F.Files c.args.from.now c.args.to.now c.args.inodes.now c.meet.new.inodes c.meet.ensures.keeps c.meet.ensures.walked
+    stamps_moved g.W.World g.F.Files c.args.from.now c.args.to.now c.args.inodes.now c.meet_first.new.inodes c.meet_first.ensures.keeps c.meet_first.ensures.walked
     c.land.new.inodes c.land.ensures.keeps c.land.ensures.walked c.relocate.new.inodes c.in-Ok-relocate.ensures.relocates.stamps _
 
 pub returns-in-Err-relocate-clause-stamps : goal.returns-in-Err-relocate-clause-stamps
 returns-in-Err-relocate-clause-stamps g c =
-    stamps_moved g.W.World g.F.Files c.args.from.now c.args.to.now c.args.inodes.now c.meet.new.inodes c.meet.ensures.keeps c.meet.ensures.walked
+    stamps_moved g.W.World g.F.Files c.args.from.now c.args.to.now c.args.inodes.now c.meet_first.new.inodes c.meet_first.ensures.keeps c.meet_first.ensures.walked
     c.land.new.inodes c.land.ensures.keeps c.land.ensures.walked c.relocate.new.inodes c.in-Err-relocate.ensures.relocates.stamps _
+
+-- ---- positions
+
+pub land-requires : goal.land-requires
+land-requires g c = record {
+  leads = subst (λ (b : Bool). Leads (walked_of b (c.args.from.now ∷ c.args.to.now ∷ [])) c.meet_first.new.walk.trail.positions c.meet_first.new.inodes.root) c.in-Ok-Some.ensures.second
+      c.meet_first.ensures.leads;
+}
+
+pub returns-in-Err-land-clause-leads : goal.returns-in-Err-land-clause-leads
+returns-in-Err-land-clause-leads g c k is =
+    subst (λ (b : Bool). Leads (walked_of b (c.args.from.now ∷ c.args.to.now ∷ [])) c.land.new.trail.positions c.land.new.inodes.root) (sym c.in-Ok-Some.ensures.second) c.in-Err-land.ensures.leads
+
+pub returns-in-Err-clause-counts : goal.returns-in-Err-clause-counts
+returns-in-Err-clause-counts g c = let a = c.meet_first.ensures.counts in omega (arith, a)
+
+pub returns-in-Ok-None-clause-counts : goal.returns-in-Ok-None-clause-counts
+returns-in-Ok-None-clause-counts g c = let a = c.meet_first.ensures.counts in omega (arith, a)
+
+pub returns-in-Some-clause-counts : goal.returns-in-Some-clause-counts
+returns-in-Some-clause-counts g c = let a = c.meet_first.ensures.counts in omega (arith, a)
+
+pub returns-in-Err-land-clause-counts : goal.returns-in-Err-land-clause-counts
+returns-in-Err-land-clause-counts g c = let a = c.meet_first.ensures.counts in let b = c.land.ensures.counts in omega (arith, a, b)
+
+pub returns-in-Ok-relocate-clause-counts : goal.returns-in-Ok-relocate-clause-counts
+returns-in-Ok-relocate-clause-counts g c = let a = c.meet_first.ensures.counts in let b = c.land.ensures.counts in omega (arith, a, b)
+
+pub returns-in-Err-relocate-clause-counts : goal.returns-in-Err-relocate-clause-counts
+returns-in-Err-relocate-clause-counts g c = let a = c.meet_first.ensures.counts in let b = c.land.ensures.counts in omega (arith, a, b)

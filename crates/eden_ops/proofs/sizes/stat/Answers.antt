@@ -15,6 +15,8 @@ use Rattle.eden_ops.proofs.Telling.{as_dir, met_content, met_tells, content_tell
 use Rattle.eden_ops.proofs.Looking.{no_dir, stats, asks_stat, stats_dir, stats_some, stats_lost}
 use Rattle.eden_ops.proofs.Stamps.{walked_on}
 use Rattle.eden_ops.proofs.Steps.{keeps_on}
+use Rattle.eden_inode.specs.Trails.{Leads}
+use Rattle.eden_tree.specs.Directory.{Row}
 use Rattle.eden_ops.proofs.sizes.stat.Goals as goal
 
 pub returns-in-Err-clause-attempts : goal.returns-in-Err-clause-attempts
@@ -90,3 +92,6 @@ returns-in-Err-size-clause-walked g c = walked_on g.W.World g.F.Files c.args.pat
 
 pub returns-in-Ok-clause-walked : goal.returns-in-Ok-clause-walked
 returns-in-Ok-clause-walked g c = walked_on g.W.World g.F.Files c.args.path.now c.meet.new.inodes c.size.new.inodes c.meet.ensures.walked c.size.ensures.keeps
+
+pub returns-in-Err-size-clause-leads : goal.returns-in-Err-size-clause-leads
+returns-in-Err-size-clause-leads g c k is = subst (λ (x : Row). Leads c.args.path.now c.meet.new.trail.positions x) (sym c.size.ensures.still) c.meet.ensures.leads

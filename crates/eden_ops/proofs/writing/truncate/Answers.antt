@@ -19,6 +19,8 @@ use Rattle.eden_ops.proofs.Leaving.{none_given, leaves_kept, leaves_changed}
 use Rattle.eden_ops.proofs.Steps.{keeps_on}
 use Rattle.eden_ops.proofs.Stamped.{stamps_then, stamps_kept}
 use Rattle.eden_ops.proofs.Stamps.{walked_on}
+use Rattle.eden_inode.specs.Trails.{Leads}
+use Rattle.eden_tree.specs.Directory.{Row}
 use Rattle.eden_ops.proofs.writing.truncate.Goals as goal
 
 pub returns-in-Err-clause-attempts : goal.returns-in-Err-clause-attempts
@@ -186,3 +188,6 @@ returns-clause-stamps g c =
     stamps_then g.W.World g.F.Files (ask.Truncate c.args.path.now c.args.size) c.args.inodes.now c.make.new.inodes
     (keeps_on g.W.World g.F.Files c.args.inodes.now c.meet_file.new.inodes c.make.new.inodes c.meet_file.ensures.keeps c.make.ensures.keeps)
     (walked_on g.W.World g.F.Files c.args.path.now c.meet_file.new.inodes c.make.new.inodes c.meet_file.ensures.walked c.make.ensures.keeps, tt) c.fill-2.new.inodes _ c.fill-2.ensures.stamps
+
+pub returns-in-Err-make-clause-leads : goal.returns-in-Err-make-clause-leads
+returns-in-Err-make-clause-leads g c k is = subst (λ (x : Row). Leads c.args.path.now c.meet_file.new.trail.positions x) (sym c.make.ensures.still) c.meet_file.ensures.leads

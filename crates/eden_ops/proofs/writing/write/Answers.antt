@@ -19,6 +19,8 @@ use Rattle.eden_ops.proofs.Leaving.{none_given, leaves_kept, leaves_changed}
 use Rattle.eden_ops.proofs.Steps.{keeps_on}
 use Rattle.eden_ops.proofs.Stamped.{stamps_refused, stamps_then, stamps_kept}
 use Rattle.eden_ops.proofs.Stamps.{walked_on}
+use Rattle.eden_inode.specs.Trails.{Leads}
+use Rattle.eden_tree.specs.Directory.{Row}
 use Rattle.eden_ops.proofs.writing.write.Goals as goal
 
 within : (offset count : ℕ) → count ≤ 65536 → offset ≤ 1073741824 - count → offset + count ≤ 1073741824
@@ -205,3 +207,6 @@ returns-clause-stamps g c =
 
 pub returns-then-count-gt-MAX_DATA-clause-stamps : goal.returns-then-count-gt-MAX_DATA-clause-stamps
 returns-then-count-gt-MAX_DATA-clause-stamps g c = stamps_refused g.W.World g.F.Files (ask.Write c.args.path.now c.args.offset c.args.bytes.now) c.args.inodes.now c.args.inodes.now same _ EINVAL refl
+
+pub returns-in-Err-make-clause-leads : goal.returns-in-Err-make-clause-leads
+returns-in-Err-make-clause-leads g c k is = subst (λ (x : Row). Leads c.args.path.now c.meet_file.new.trail.positions x) (sym c.make.ensures.still) c.meet_file.ensures.leads
