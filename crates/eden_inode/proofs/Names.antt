@@ -10,7 +10,8 @@ use Rattle.eden_model.specs.Trees.{Name, Path}
 use Rattle.eden_tree.specs.Directory.{Row, Directory, child_of, with_child, change_child, change_rows}
 use Rattle.eden_tree.specs.Rows.{find_row, change_row}
 use Rattle.eden_tree.specs.Paths.{row_at, edit_row, stamped_along}
-use Rattle.eden_tree.proofs.CallerLemmas.{same-≡, same-refl, child_of-change_child, keys_of-change_row, find_row-change_row, find_row-slice_get, set_at-set_row, steps_down, row_at-unloaded, row_at-absent}
+use Rattle.eden_tree.proofs.CallerLemmas.{same-≡, same-refl, child_of-change_child, keys_of-change_row, find_row-change_row}
+use Rattle.eden_tree.proofs.CallerLemmas.{find_row-slice_get, set_at-set_row, steps_down, row_at-unloaded, row_at-absent}
 use Rattle.eden_coupling.specs.Loading.{IsAt, with_loaded}
 use Rattle.eden_inode.specs.Trails.{Stands, Leads, names_at, KeepsNames, Pins}
 use Rattle.eden_inode.proofs.Rows.{same_some, none_some}
@@ -92,7 +93,8 @@ keeps_changed n g f x rows keeps =
           (ap keys_of (rows d) ∙ keys_of-change_row n g d.rows)
           (λ m y there.
           (let found : find_row m (f d).rows ≡ cond (bytes_eq m n) (option_map g (find_row n d.rows)) (find_row m d.rows) = ap (find_row m) (rows d) ∙ find_row-change_row m n g d.rows in
-          elim (bytes_eq m n) as (λ b. bytes_eq m n ≡ b → find_row m (f d).rows ≡ cond b (option_map g (find_row n d.rows)) (find_row m d.rows) → (w : Row) × ((find_row m (f d).rows ≡ Some w) × KeepsNames y w)) [
+          elim (bytes_eq m n) as (λ b. bytes_eq m n ≡ b → find_row m (f d).rows ≡ cond b (option_map g (find_row n d.rows)) (find_row m d.rows)
+          → (w : Row) × ((find_row m (f d).rows ≡ Some w) × KeepsNames y w)) [
             | true ↦ λ same is. (let at : find_row n d.rows ≡ Some y = ap (λ (k : Name). find_row k d.rows) (sym (same-≡ m n same)) ∙ there in
                 (g y, (is ∙ ap (option_map g) at, keeps d y holds at)))
             | false ↦ λ other is. (y, (is ∙ there, keeps_same y))

@@ -31,8 +31,8 @@ fn here<A: Allocator>(entry: &Entry<A>) -> Seen
     }
 }
 
-/// The last entry in memory on a path from this one on, by names. The loaded directories on the way are stamped, and the
-/// positions noted.
+/// The last entry in memory on a path from this one on, by names. The loaded directories on the way are stamped, and
+/// the positions noted.
 pub(crate) fn seek<A: Allocator>(
     entry: &mut Entry<A>,
     path: &[Name],
@@ -69,8 +69,8 @@ pub(crate) fn seek<A: Allocator>(
     }
 }
 
-/// The last entry in memory on a path from this one on: by the positions from that depth on, without comparing a name, and
-/// behind them by names.
+/// The last entry in memory on a path from this one on: by the positions from that depth on, without comparing a name,
+/// and behind them by names.
 pub(crate) fn follow<A: Allocator>(
     entry: &mut Entry<A>,
     path: &[Name],

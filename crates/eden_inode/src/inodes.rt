@@ -161,7 +161,8 @@ impl<A: Allocator + Clone, W: World, F: Files<W>> Inodes<A, W, F> {
         look(&mut self.root, path, self.clock)
     }
 
-    /// `look`, by the positions that are known, without comparing a name, and behind them by names. What it finds is noted.
+    /// `look`, by the positions that are known, without comparing a name, and behind them by names. What it finds is
+    /// noted.
     ///
     /// A path of more names than a trail has room for isn't noted; no `Path` has so many.
     pub fn look_along(&mut self, path: &[Name], trail: &mut Trail) -> Seen
@@ -180,8 +181,8 @@ impl<A: Allocator + Clone, W: World, F: Files<W>> Inodes<A, W, F> {
         follow(&mut self.root, path, 0, trail, self.clock)
     }
 
-    /// How often a name came or went, or a directory was unloaded; it stays at 2^64 - 1. While it is the same and below that,
-    /// each loaded directory keeps its names at their positions. A load doesn't change it.
+    /// How often a name came or went, or a directory was unloaded; it stays at 2^64 - 1. While it is the same and below
+    /// that, each loaded directory keeps its names at their positions. A load doesn't change it.
     pub fn changes(&self) -> u64
         ensures { result ≡ self.now.changes }
     {

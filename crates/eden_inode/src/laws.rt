@@ -1,4 +1,5 @@
-ghost use Rattle.eden_inode.specs.Trails.{LeadOn, StampsKeepNames, LoadsKeepNames, SameKeepsPlaces, PlacesGoOn, RiseKeepsPlaces, UnloadsKeepPlaces};
+ghost use Rattle.eden_inode.specs.Trails.{LeadOn, StampsKeepNames, LoadsKeepNames, SameKeepsPlaces, PlacesGoOn};
+ghost use Rattle.eden_inode.specs.Trails.{RiseKeepsPlaces, UnloadsKeepPlaces};
 
 use eden_model::World;
 use eden_overlay::Files;

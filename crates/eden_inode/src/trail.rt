@@ -9,8 +9,8 @@ use eden_tree::Dir;
 use std::alloc::Allocator;
 use std::marker::Model;
 
-/// The positions of a path's names, each in the directory above it, as far as the path was walked, and how many names were
-/// compared to find them. It takes no memory.
+/// The positions of a path's names, each in the directory above it, as far as the path was walked, and how many names
+/// were compared to find them. It takes no memory.
 ///
 /// What a position is worth is a condition of each look that goes by it: it leads along that path.
 #[derive(Drop)]
