@@ -226,6 +226,20 @@ def check_signed_commit(folder: pathlib.Path) -> None:
         check("signed: the end, with nothing said", (mount.end("SIGTERM"), mount.said()), (0, []))
 
 
+def check_empty_tree(folder: pathlib.Path) -> None:
+    """A commit of the empty tree, which Git knows without storing it, is an empty folder that takes files."""
+    repository = make_repository(folder)
+    tree = "4b825dc642cb6eb9a060e54bf8d69288fbee4904"
+    commit = git(repository, "commit-tree", "-m", "empty", tree)
+    stored = git(repository, "cat-file", "--batch-all-objects", "--batch-check=%(objectname)").split()
+    check("an empty tree: it isn't stored", tree in stored, False)
+    with MountGit(repository, commit, folder / "mounted") as mount:
+        check("an empty tree: what stands in it", os.listdir(mount.folder), [])
+        (mount.folder / "new").write_bytes(b"new")
+        check("an empty tree: with a new file", os.listdir(mount.folder), ["new"])
+        check("an empty tree: the end, with nothing said", (mount.end("SIGTERM"), mount.said()), (0, []))
+
+
 def check_damaged_repository(folder: pathlib.Path) -> None:
     """A file whose object is lost, or damaged, is EIO and a line that names it; all else goes on."""
     repository = make_repository(folder)

@@ -2,7 +2,8 @@
 use eden_mount::Config;
 use eden_sockets::Address;
 use mountd_options::{
-    Command, HistoryOption, MountOptions, Objects, OptionsError, ServeOptions, options,
+    Command, HistoryOption, MountOptions, Objects, ObjectsOptions, OptionsError, ServeOptions,
+    Served, options,
 };
 use std::alloc::Global;
 use std::process::Abort;
@@ -94,7 +95,7 @@ fn served(rt: &impl Abort, alloc: Global, words: &[&str]) -> ServeOptions {
 fn lie_in_the_folder(objects: &Objects) -> bool {
     match objects {
         Objects::Folder(folder) => folder.as_str() == FOLDER,
-        Objects::Server(_) => false,
+        _ => false,
     }
 }
 
@@ -467,6 +468,145 @@ fn refuses_what_is_no_number_of_a_server(rt: HostRuntime) {
     check_behind(&rt, rt.alloc(), &SERVED[..6], NO_PLACES);
 }
 
+/// A line of `stdio` whose objects are a repository's.
+const FROM_A_REPOSITORY: &[&str] = &["mountd", "stdio", "--root", ROOT, "--git", FOLDER];
+
+/// .. and of `serve`, with a server for what the repository lacks.
+const FROM_A_REPOSITORY_AND_A_SERVER: &[&str] = &[
+    "mountd",
+    "serve",
+    "--remote=./1",
+    "--root",
+    ROOT,
+    "--port",
+    "0",
+    "--git",
+    FOLDER,
+];
+
+#[test]
+fn takes_a_repository(rt: HostRuntime) {
+    let given = asked(&rt, rt.alloc(), FROM_A_REPOSITORY);
+    match &given.objects {
+        Objects::Repository(folder) => assert!(rt; folder.as_str() == FOLDER),
+        _ => rt.abort(),
+    }
+}
+
+#[test]
+fn takes_a_server_beside_a_repository(rt: HostRuntime) {
+    let given = served(&rt, rt.alloc(), FROM_A_REPOSITORY_AND_A_SERVER);
+    match &given.mount.objects {
+        Objects::RepositoryAndServer(folder, address) => {
+            assert!(rt; folder.as_str() == FOLDER && is_path(address, "./1"));
+        }
+        _ => rt.abort(),
+    }
+}
+
+/// What follows a line of `stdio` with a repository, and how the text begins that refuses it.
+const NO_PLACES_BESIDE_A_REPOSITORY: &[Refused] = &[
+    (
+        &["--objects", FOLDER],
+        "mountd: stdio takes one of --objects and --git",
+    ),
+    (
+        &["--objects", FOLDER, "--remote", "1"],
+        "mountd: stdio takes one of --objects and --git",
+    ),
+    (
+        &["--objects", FOLDER, "--history", "0"],
+        "mountd: stdio takes one of --objects and --git",
+    ),
+    (&["--remote", "0"], NO_SERVER),
+    (
+        &["--git", FOLDER],
+        "error: the argument '--git <DIR>' cannot be used multiple times",
+    ),
+    (
+        &["--dir", FOLDER],
+        "error: unexpected argument '--dir' found",
+    ),
+];
+
+/// .. a line of `serve`.
+const NO_PLACES_OF_A_SERVER: &[Refused] = &[(
+    &["--git", FOLDER],
+    "mountd: serve takes one of --objects and --git",
+)];
+
+#[test]
+fn refuses_what_lies_beside_a_repository(rt: HostRuntime) {
+    check_behind(
+        &rt,
+        rt.alloc(),
+        FROM_A_REPOSITORY,
+        NO_PLACES_BESIDE_A_REPOSITORY,
+    );
+    check_behind(&rt, rt.alloc(), SERVED, NO_PLACES_OF_A_SERVER);
+}
+
+/// What the words ask `objects` for.
+fn given_out(rt: &impl Abort, alloc: Global, words: &[&str]) -> ObjectsOptions {
+    match options(alloc, words) {
+        Ok(Command::Objects(given)) => given,
+        _ => rt.abort(),
+    }
+}
+
+#[test]
+fn takes_a_folder_to_give_out(rt: HostRuntime) {
+    let given = given_out(&rt, rt.alloc(), AT_A_SOCKET);
+    match &given.objects {
+        Served::Folder(folder) => assert!(rt; folder.as_str() == FOLDER),
+        Served::Repository(_) => rt.abort(),
+    }
+}
+
+/// The words of `objects` with a repository.
+const OF_A_REPOSITORY: &[&str] = &["mountd", "objects", "--port", "1", "--git", FOLDER];
+
+#[test]
+fn takes_a_repository_to_give_out(rt: HostRuntime) {
+    let given = given_out(&rt, rt.alloc(), OF_A_REPOSITORY);
+    assert!(rt; given.address == Address::Port(1));
+    match &given.objects {
+        Served::Repository(folder) => assert!(rt; folder.as_str() == FOLDER),
+        Served::Folder(_) => rt.abort(),
+    }
+}
+
+/// Lines of `objects` that don't say whose, and the texts that refuse them.
+const NOT_ONE_TO_GIVE_OUT: &[Refused] = &[
+    (
+        &["mountd", "objects", "--port", "1"],
+        "mountd: objects takes one of --dir and --git",
+    ),
+    (
+        &[
+            "mountd", "objects", "--port", "1", "--dir", FOLDER, "--git", FOLDER,
+        ],
+        "mountd: objects takes one of --dir and --git",
+    ),
+    (
+        &["mountd", "objects", "--port", "0", "--sessions", "0"],
+        "mountd: objects takes one of --dir and --git",
+    ),
+    (
+        &["mountd", "objects", "--git", FOLDER],
+        "mountd: objects takes one of --port and --socket",
+    ),
+    (
+        &["mountd", "objects", "--git", FOLDER, "--port", "65536"],
+        "mountd: --port takes a number from 0 to 65535",
+    ),
+];
+
+#[test]
+fn refuses_what_says_not_whose_to_give_out(rt: HostRuntime) {
+    check(&rt, rt.alloc(), NOT_ONE_TO_GIVE_OUT);
+}
+
 /// The words of `objects` at a socket.
 const AT_A_SOCKET: &[&str] = &["mountd", "objects", "--dir", FOLDER, "--socket", "socket"];
 
@@ -486,7 +626,7 @@ fn takes_a_socket_to_ask(rt: HostRuntime) {
     let given = asked(&rt, rt.alloc(), FROM_A_SOCKET);
     match &given.objects {
         Objects::Server(address) => assert!(rt; is_path(address, "./1")),
-        Objects::Folder(_) => rt.abort(),
+        _ => rt.abort(),
     }
 }
 
