@@ -1,6 +1,5 @@
 -- One turn: a message of the kernel, and what it was answered.
 use Rattle.std.specs.Prelude.{◌≡◌, ⊤, ℕ, ◌+◌, ◌<◌, ◌^◌, List, [], ◌++◌, length, Option, Some, None}
-use Rattle.eden_fuse_format.specs.declared.answer.Answer.{Answer}
 use Rattle.eden_fuse_format.specs.declared.answer.Answer.TheVariants as answer
 use Rattle.eden_fuse_format.specs.declared.message.Header.{Header}
 use Rattle.eden_fuse_format.specs.declared.message.Message.{Message}

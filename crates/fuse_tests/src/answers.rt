@@ -31,7 +31,7 @@ const ATTR: Attr = Attr {
     blksize: 4096,
 };
 
-const ENTRY: EntryOut = EntryOut {
+pub(crate) const ENTRY: EntryOut = EntryOut {
     nodeid: 0xc1c2c3c4c5c6c7c8,
     entry_valid: 3,
     attr_valid: 4,
@@ -198,13 +198,13 @@ const ROWS: &[(Dirent<'static>, &[&str])] = &[
 ];
 
 // The entry of a row, before it.
-const ENTRY_DIGITS: &[&str] = &[
+pub(crate) const ENTRY_DIGITS: &[&str] = &[
     "c8c7c6c5c4c3c2c1000000000000000003000000000000000400000000000000000000000000000008070605",
     "0403020118171615141312112827262524232221383736353433323158575655545352517877767574737271",
     "444342416463626184838281a481000001000000a4a3a2a1b4b3b2b1000000000010000000000000",
 ];
 
-fn decoded(rt: &(impl AllocGlobal + Abort), pieces: &[&str]) -> Vec<u8> {
+pub(crate) fn decoded(rt: &(impl AllocGlobal + Abort), pieces: &[&str]) -> Vec<u8> {
     let mut bytes = Vec::new(rt.alloc());
     for piece in pieces {
         let more = hex::decode(rt.alloc(), *piece).expect(rt, "digits");

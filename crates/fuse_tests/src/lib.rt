@@ -1,9 +1,12 @@
-//! Worked rows of the kernel's FUSE protocol: messages that a kernel sent, messages that are none, answers, and a table
-//! of nodes over its life, so that the crates aren't proved a second time for them.
+//! Worked rows of the kernel's FUSE protocol: messages that a kernel sent, messages that are none, answers, a table of
+//! nodes over its life, what messages mean, and turns of a session, so that the crates aren't proved a second time for
+//! them.
 #![tactic(auto)]
 
 #[cfg(test)]
 mod answers;
+#[cfg(test)]
+mod meanings;
 #[cfg(test)]
 mod messages;
 #[cfg(test)]
@@ -12,3 +15,5 @@ mod nodes;
 mod none;
 #[cfg(test)]
 mod sent;
+#[cfg(test)]
+mod turns;

@@ -1,0 +1,473 @@
+//! What messages ask of a mount, request by request, and what they come to.
+use eden_fuse_format::{
+    AccessIn, CreateIn, ForgetIn, GetAttrIn, LinkIn, MkDirIn, MkNodIn, OpenIn, Operation, ReadIn,
+    Rename2In, RenameIn, SetAttrIn, WriteIn,
+};
+use eden_fuse_meaning::{Outcome, Owner, Step, first, next};
+use eden_model::{Bytes, Entries, Errno, Fault, Kind, Name, Path, Reply, Request};
+use std::process::Abort;
+
+const OWNER: Owner = Owner { uid: 8, gid: 9 };
+
+fn data(rt: &(impl AllocGlobal + Abort), bytes: &[u8]) -> Vec<u8> {
+    Vec::from_slice(rt.alloc(), bytes).expect(rt, "memory")
+}
+
+fn name(rt: &(impl AllocGlobal + Abort), text: &str) -> Name {
+    Name::new(data(rt, text.as_bytes())).expect(rt, "a name")
+}
+
+// The path of a name in the root, or the root's for none; `?` is nowhere.
+fn path(rt: &(impl AllocGlobal + Abort), text: &str) -> Result<Path, u32> {
+    if text == "?" {
+        return Err(116);
+    }
+    let mut names = Vec::new(rt.alloc());
+    if !text.is_empty() {
+        names.push(name(rt, text)).expect(rt, "memory");
+    }
+    Ok(Path::new(names).expect(rt, "a path"))
+}
+
+fn put(rt: &impl Abort, text: &mut Vec<u8>, word: &[u8]) {
+    text.extend_from_slice(word).expect(rt, "memory");
+}
+
+fn put_number(rt: &(impl AllocGlobal + Abort), text: &mut Vec<u8>, number: u64) {
+    let word = format!(in rt.alloc(); " {number}").expect(rt, "memory");
+    put(rt, text, &word.into_bytes());
+}
+
+// A word, and a path behind it, each name behind a slash.
+fn put_at(rt: &(impl AllocGlobal + Abort), text: &mut Vec<u8>, word: &[u8], path: &Path) {
+    put(rt, text, word);
+    put(rt, text, b" ");
+    for name in path.as_slice() {
+        put(rt, text, b"/");
+        put(rt, text, name.as_slice());
+    }
+}
+
+fn put_request(rt: &(impl AllocGlobal + Abort), text: &mut Vec<u8>, request: &Request) {
+    match request {
+        Request::Kind(path) => put_at(rt, text, b"kind", path),
+        Request::Stat(path) => put_at(rt, text, b"stat", path),
+        Request::Read(path, offset, count) => {
+            put_at(rt, text, b"read", path);
+            put_number(rt, text, *offset);
+            put_number(rt, text, *count);
+        }
+        Request::ReadLink(path) => put_at(rt, text, b"readlink", path),
+        Request::List(path, after, most) => {
+            put_at(rt, text, b"list", path);
+            if let Some(name) = after {
+                put(rt, text, b" after ");
+                put(rt, text, name.as_slice());
+            }
+            put_number(rt, text, *most);
+        }
+        Request::Write(path, offset, bytes) => {
+            put_at(rt, text, b"write", path);
+            put_number(rt, text, *offset);
+            put(rt, text, b" ");
+            put(rt, text, bytes.as_slice());
+        }
+        Request::Truncate(path, size) => {
+            put_at(rt, text, b"truncate", path);
+            put_number(rt, text, *size);
+        }
+        Request::Create(path) => put_at(rt, text, b"create", path),
+        Request::SetExec(path, true) => put_at(rt, text, b"mark", path),
+        Request::SetExec(path, false) => put_at(rt, text, b"unmark", path),
+        Request::Mkdir(path) => put_at(rt, text, b"mkdir", path),
+        Request::Symlink(path, target) => {
+            put_at(rt, text, b"symlink", path);
+            put(rt, text, b" ");
+            put(rt, text, target.as_slice());
+        }
+        Request::Unlink(path) => put_at(rt, text, b"unlink", path),
+        Request::Rmdir(path) => put_at(rt, text, b"rmdir", path),
+        Request::Rename(from, to) => {
+            put_at(rt, text, b"rename", from);
+            put_at(rt, text, b"", to);
+        }
+    }
+    put(rt, text, b"; ");
+}
+
+fn word_of(kind: Kind) -> &'static [u8] {
+    match kind {
+        Kind::File => b" file",
+        Kind::Exec => b" exec",
+        Kind::Link => b" link",
+        Kind::Dir => b" dir",
+    }
+}
+
+fn put_node(
+    rt: &(impl AllocGlobal + Abort),
+    text: &mut Vec<u8>,
+    word: &[u8],
+    kind: Kind,
+    size: u64,
+) {
+    put(rt, text, word);
+    put(rt, text, word_of(kind));
+    put_number(rt, text, size);
+}
+
+fn put_outcome(rt: &(impl AllocGlobal + Abort), text: &mut Vec<u8>, outcome: &Outcome) {
+    match outcome {
+        Outcome::Silent => put(rt, text, b"silent"),
+        Outcome::Refused(errno) => {
+            put(rt, text, b"refused");
+            put_number(rt, text, u64::from(*errno));
+        }
+        Outcome::Done => put(rt, text, b"done"),
+        Outcome::Absent => put(rt, text, b"absent"),
+        Outcome::Found(kind, size) => put_node(rt, text, b"found", *kind, *size),
+        Outcome::Attributes(kind, size) => put_node(rt, text, b"shown", *kind, *size),
+        Outcome::Opened => put(rt, text, b"opened"),
+        Outcome::Made(kind, size) => put_node(rt, text, b"made", *kind, *size),
+        Outcome::Bytes(bytes) => {
+            put(rt, text, b"bytes ");
+            put(rt, text, bytes.as_slice());
+        }
+        Outcome::Written(count) => {
+            put(rt, text, b"written");
+            put_number(rt, text, *count);
+        }
+        Outcome::Rows(entries, more) => {
+            put(rt, text, b"rows");
+            put_number(rt, text, entries.len() as u64);
+            if *more {
+                put(rt, text, b" of more");
+            }
+        }
+        Outcome::Space => put(rt, text, b"space"),
+        Outcome::Started => put(rt, text, b"started"),
+    }
+}
+
+// What stands at a path, by its last name.
+fn kind_at(path: &Path) -> Option<Kind> {
+    match path.as_slice().last() {
+        None => Some(Kind::Dir),
+        Some(name) => match name.as_slice() {
+            b"file" => Some(Kind::File),
+            b"link" => Some(Kind::Link),
+            b"dir" => Some(Kind::Dir),
+            _ => None,
+        },
+    }
+}
+
+fn is_named(path: &Path, name: &[u8]) -> bool {
+    match path.as_slice().last() {
+        None => false,
+        Some(last) => last.as_slice() == name,
+    }
+}
+
+// What a mount replies in which `made` is seen only once it was made, and which fails at `lost`.
+fn reply(rt: &(impl AllocGlobal + Abort), request: &Request) -> Reply {
+    match request {
+        Request::Kind(path) => match kind_at(path) {
+            Some(kind) => Reply::Kind(kind),
+            None => Reply::Err(Errno::ENOENT),
+        },
+        Request::Stat(path) => match kind_at(path) {
+            Some(kind) => Reply::Stat(kind, 5),
+            None if is_named(path, b"made") => Reply::Stat(Kind::Exec, 0),
+            None if is_named(path, b"lost") => Reply::Fault(Fault::Overlay),
+            None => Reply::Err(Errno::ENOENT),
+        },
+        Request::Create(path) if kind_at(path).is_some() => Reply::Err(Errno::EEXIST),
+        Request::Read(_, _, _) => Reply::Data(Bytes::new(data(rt, b"hello"))),
+        Request::ReadLink(_) => Reply::Data(Bytes::new(data(rt, b"target"))),
+        Request::List(_, _, _) => {
+            let mut rows = Vec::new(rt.alloc());
+            rows.push((name(rt, "file"), Kind::File))
+                .expect(rt, "memory");
+            Reply::Entries(Entries::new(rows), true)
+        }
+        Request::Write(_, _, bytes) => Reply::Count(bytes.len() as u64),
+        _ => Reply::Ok,
+    }
+}
+
+// The requests of an operation on the node of that name, and what it comes to. A directory is read on after `file`, and
+// a rename goes to `dir`.
+fn told(rt: &(impl AllocGlobal + Abort), at: &str, operation: &Operation<'_>) -> Vec<u8> {
+    let mut text = Vec::new(rt.alloc());
+    let last = Some(name(rt, "file"));
+    let node = path(rt, at);
+    let to = path(rt, "dir");
+    let mut step = first(rt.alloc(), OWNER, &node, &to, &last, operation).expect(rt, "memory");
+    for _ in 0..8 {
+        step = match step {
+            Step::Tell(outcome) => {
+                put_outcome(rt, &mut text, &outcome);
+                return text;
+            }
+            Step::Ask(request, then) => {
+                put_request(rt, &mut text, &request);
+                next(rt.alloc(), then, reply(rt, &request)).expect(rt, "memory")
+            }
+        };
+    }
+    text
+}
+
+fn setting(valid: u32, mode: u32, uid: u32) -> SetAttrIn {
+    SetAttrIn {
+        valid,
+        fh: 0,
+        size: 3,
+        lock_owner: 0,
+        atime: 0,
+        mtime: 0,
+        ctime: 0,
+        atimensec: 0,
+        mtimensec: 0,
+        ctimensec: 0,
+        mode,
+        uid,
+        gid: 9,
+    }
+}
+
+// What is set of the node of that name, and what that asks and comes to.
+const SET: &[(&str, u32, u32, u32, &str)] = &[
+    (
+        "file",
+        9,
+        0o100755,
+        8,
+        "truncate /file 3; mark /file; stat /file; shown file 5",
+    ),
+    (
+        "file",
+        8,
+        0,
+        8,
+        "truncate /file 3; stat /file; shown file 5",
+    ),
+    (
+        "file",
+        1,
+        0o100644,
+        8,
+        "unmark /file; stat /file; shown file 5",
+    ),
+    ("dir", 1, 0o040755, 8, "stat /dir; shown dir 5"),
+    ("file", 6, 0, 8, "stat /file; shown file 5"),
+    ("file", 2, 0, 7, "refused 1"),
+    ("?", 8, 0, 8, "refused 116"),
+];
+
+#[test]
+fn attributes_are_set(rt: HostRuntime) {
+    for (at, valid, mode, uid, want) in SET {
+        let operation = Operation::SetAttr(setting(*valid, *mode, *uid));
+        assert!(rt;
+            told(&rt, at, &operation).as_slice() == want.as_bytes(),
+            "{want}"
+        );
+    }
+}
+
+const READING: ReadIn = ReadIn {
+    fh: 0,
+    offset: 2,
+    size: 3,
+    read_flags: 0,
+    lock_owner: 0,
+    flags: 0,
+};
+
+const WRITING: WriteIn = WriteIn {
+    fh: 0,
+    offset: 2,
+    size: 3,
+    write_flags: 0,
+    lock_owner: 0,
+    flags: 0,
+};
+
+const OPENING: OpenIn = OpenIn {
+    flags: 0,
+    open_flags: 0,
+};
+
+// O_WRONLY and O_CREAT; with O_EXCL, of an executable file.
+const MAKING: CreateIn = CreateIn {
+    flags: 0o101,
+    mode: 0o100644,
+    umask: 0o022,
+    open_flags: 0,
+};
+
+const MAKING_NEW: CreateIn = CreateIn {
+    flags: 0o301,
+    mode: 0o100755,
+    umask: 0o022,
+    open_flags: 0,
+};
+
+// A file that is executable, and a pipe.
+const FILE: MkNodIn = MkNodIn {
+    mode: 0o100755,
+    rdev: 0,
+    umask: 0o022,
+};
+
+const PIPE: MkNodIn = MkNodIn {
+    mode: 0o010644,
+    rdev: 0,
+    umask: 0o022,
+};
+
+const DIRECTORY: MkDirIn = MkDirIn {
+    mode: 0o755,
+    umask: 0o022,
+};
+
+const MOVING: RenameIn = RenameIn { newdir: 3 };
+
+// RENAME_NOREPLACE, and RENAME_EXCHANGE.
+const MOVING_IF_FREE: Rename2In = Rename2In {
+    newdir: 3,
+    flags: 1,
+};
+
+const EXCHANGING: Rename2In = Rename2In {
+    newdir: 3,
+    flags: 2,
+};
+
+// The name of a node, an operation on it, and what that asks and comes to.
+const TOLD: &[(&str, Operation<'static>, &str)] = &[
+    ("", Operation::Lookup(b"file"), "stat /file; found file 5"),
+    (
+        "dir",
+        Operation::Lookup(b"file"),
+        "stat /dir/file; found file 5",
+    ),
+    ("", Operation::Lookup(b"none"), "stat /none; absent"),
+    ("", Operation::Lookup(b"lost"), "stat /lost; refused 5"),
+    ("", Operation::Lookup(b".."), "refused 22"),
+    ("?", Operation::Lookup(b"file"), "refused 116"),
+    ("link", Operation::ReadLink, "readlink /link; bytes target"),
+    (
+        "",
+        Operation::Symlink(b"made", b"to"),
+        "symlink /made to; stat /made; found exec 0",
+    ),
+    (
+        "",
+        Operation::MkNod(FILE, b"made"),
+        "create /made; mark /made; stat /made; found exec 0",
+    ),
+    ("", Operation::MkNod(PIPE, b"made"), "refused 1"),
+    (
+        "",
+        Operation::MkDir(DIRECTORY, b"made"),
+        "mkdir /made; stat /made; found exec 0",
+    ),
+    ("", Operation::Unlink(b"file"), "unlink /file; done"),
+    ("", Operation::RmDir(b"dir"), "rmdir /dir; done"),
+    (
+        "",
+        Operation::Rename(MOVING, b"file", b"none"),
+        "rename /file /dir/none; done",
+    ),
+    (
+        "",
+        Operation::Rename2(MOVING_IF_FREE, b"file", b"none"),
+        "kind /dir/none; rename /file /dir/none; done",
+    ),
+    (
+        "",
+        Operation::Rename2(MOVING_IF_FREE, b"file", b"link"),
+        "kind /dir/link; refused 17",
+    ),
+    (
+        "",
+        Operation::Rename2(EXCHANGING, b"file", b"link"),
+        "refused 22",
+    ),
+    (
+        "",
+        Operation::Link(LinkIn { oldnodeid: 2 }, b"made"),
+        "refused 1",
+    ),
+    ("file", Operation::Open(OPENING), "kind /file; opened"),
+    ("link", Operation::Open(OPENING), "kind /link; refused 40"),
+    ("dir", Operation::Open(OPENING), "kind /dir; refused 21"),
+    ("none", Operation::Open(OPENING), "kind /none; refused 2"),
+    ("dir", Operation::OpenDir(OPENING), "kind /dir; opened"),
+    (
+        "file",
+        Operation::OpenDir(OPENING),
+        "kind /file; refused 20",
+    ),
+    (
+        "file",
+        Operation::Read(READING),
+        "read /file 2 3; bytes hello",
+    ),
+    (
+        "file",
+        Operation::Write(WRITING, b"xyz"),
+        "write /file 2 xyz; written 3",
+    ),
+    (
+        "dir",
+        Operation::ReadDir(READING),
+        "list /dir after file 1000; rows 1 of more",
+    ),
+    (
+        "",
+        Operation::Create(MAKING_NEW, b"made"),
+        "create /made; mark /made; stat /made; made exec 0",
+    ),
+    (
+        "",
+        Operation::Create(MAKING_NEW, b"file"),
+        "create /file; refused 17",
+    ),
+    (
+        "",
+        Operation::Create(MAKING, b"file"),
+        "create /file; stat /file; made file 5",
+    ),
+    (
+        "",
+        Operation::Create(MAKING, b"dir"),
+        "create /dir; stat /dir; refused 21",
+    ),
+    ("", Operation::StatFs, "space"),
+    ("", Operation::Destroy, "done"),
+    (
+        "file",
+        Operation::Access(AccessIn { mask: 1 }),
+        "refused 38",
+    ),
+    ("file", Operation::Forget(ForgetIn { nlookup: 1 }), "silent"),
+];
+
+#[test]
+fn operations_ask_and_are_told(rt: HostRuntime) {
+    for (at, operation, want) in TOLD {
+        assert!(rt;
+            told(&rt, at, operation).as_slice() == want.as_bytes(),
+            "{want}"
+        );
+    }
+    let node = Operation::GetAttr(GetAttrIn {
+        getattr_flags: 0,
+        fh: 0,
+    });
+    assert!(rt; told(&rt, "", &node).as_slice() == b"stat ; shown dir 5".as_slice());
+}
