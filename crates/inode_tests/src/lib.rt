@@ -18,6 +18,8 @@ mod own;
 #[cfg(test)]
 mod stops;
 #[cfg(test)]
+mod trails;
+#[cfg(test)]
 mod tree;
 #[cfg(test)]
 mod worked;
