@@ -15,6 +15,8 @@ mod paths;
 #[cfg(test)]
 mod renames;
 #[cfg(test)]
+mod resuming;
+#[cfg(test)]
 mod steps;
 #[cfg(test)]
 mod stream;

@@ -1,5 +1,7 @@
 //! A table over files that stop, with its object cache, and one attempt of any request on it.
 
+ghost use Rattle.std.specs.Prelude.{◌≡◌};
+
 use eden_cache::{ObjectCache, Stock};
 use eden_inode::Inodes;
 use eden_model::{Attempt, Key, Origin, Outside, Reply, Request};
@@ -86,7 +88,9 @@ impl Mount {
     }
 
     /// Puts an object into the cache.
-    pub(crate) fn put(&mut self, rt: &impl Abort, object: Sample) {
+    pub(crate) fn put(&mut self, rt: &impl Abort, object: Sample)
+        ensures { self.new.table ≡ self.old.table }
+    {
         let key = key_of(object);
         let framed = object.framed.to_vec(self.alloc).expect(rt, "memory");
         let object = Object::checked(self.alloc, key, framed).expect(rt, "an object");
