@@ -44,8 +44,6 @@ HANDED_ON = "MOUNT_GIT_HANDED_ON"
 SECONDS_LOCKED = 10
 # How long git-objects may take to end.
 SECONDS_TO_END = 10
-# Git knows it where it is stored nowhere, and mountd doesn't.
-EMPTY_TREE = "4b825dc642cb6eb9a060e54bf8d69288fbee4904"
 UNOPENED = {
     "Locked": "another program has it open",
     "Damaged": "a file of it is damaged",
@@ -180,9 +178,9 @@ def objects_at(path: str, repository: str, root: str, ahead: int, log: bool) -> 
 @contextlib.contextmanager
 def source_of(repository: Repository, words: argparse.Namespace, root: str) -> Iterator[list[str]]:
     """Where mountd has its objects from: the repository itself; a git-objects, where objects are to be fetched or told,
-    the repository's path is no text, as mountd's words are, or the tree is one that nobody need store."""
+    or the repository's path is no text, as mountd's words are."""
     folder = repository.common_folder
-    if not repository.remotes() and not words.log and is_text(folder) and root != EMPTY_TREE:
+    if not repository.remotes() and not words.log and is_text(folder):
         yield ["--git", folder]
         return
     with socket_path() as path, objects_at(path, words.repository, root, words.ahead, words.log) as server:

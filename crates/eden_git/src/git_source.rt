@@ -7,21 +7,31 @@ ghost use Rattle.eden_git.specs.Framing.{IsFramedObject};
 
 use crate::bases::Bases;
 use crate::fault::GitFault;
+use crate::framing::frame;
 use crate::pack::Tools;
 use crate::repository::objects_directory;
 use crate::store::{Store, framed_in, look_at_all, open_stores};
 use eden_inflate::Decoder;
 use eden_model::{Cause, Id, Outside};
+use eden_object::Word;
 use eden_source::Source;
 use std::alloc::{Alloc, Global};
 use std::marker::Model;
 use std::path::PathBuf;
 use std::rt::Files;
 
+/// The empty tree, which Git knows without storing it.
+const EMPTY_TREE: Id = Id {
+    bytes: [
+        0x4b, 0x82, 0x5d, 0xc6, 0x42, 0xcb, 0x6e, 0xb9, 0xa0, 0x60, 0xe5, 0x4b, 0xf8, 0xd6, 0x92,
+        0x88, 0xfb, 0xee, 0x49, 0x04,
+    ],
+};
+
 /// The objects of a Git repository: packed ones, loose ones, and those of the directories that it names as alternates.
 ///
 /// If an object is in none of the packs that were seen and isn't loose, the directories of packs are listed again,
-/// since Git packs objects while others read.
+/// since Git packs objects while others read. The empty tree is answered even where it is stored nowhere.
 ///
 /// Contracts see the repository's path and the count of failures.
 #[derive(Drop)]
@@ -71,6 +81,21 @@ impl<R: Files + Alloc + Clone + Drop> GitSource<R> {
     }
 
     fn read(&mut self, id: Id) -> Result<Vec<u8>, Cause>
+        ensures path { self.new.path ≡ self.old.path }
+        ensures failures { self.new.failures ≡ self.old.failures }
+        ensures framed { IfOk result (λ v. IsFramedObject v.items) }
+        ensures bounded { IfOk result (λ v. length v.items ≤ longest_framed) }
+        ensures causes { IfErr result IsSourceCause }
+    {
+        let answer = self.read_stored(id);
+        if answer == Err(Cause::Missing) && id == EMPTY_TREE {
+            return frame(self.tools.alloc, Word::Tree, b"");
+        }
+        answer
+    }
+
+    // The object of that id, where one of the directories has it.
+    fn read_stored(&mut self, id: Id) -> Result<Vec<u8>, Cause>
         ensures path { self.new.path ≡ self.old.path }
         ensures failures { self.new.failures ≡ self.old.failures }
         ensures framed { IfOk result (λ v. IsFramedObject v.items) }

@@ -11,7 +11,7 @@ use eden_source::Source;
 use std::alloc::Global;
 use std::path::PathBuf;
 use std::{fs, io};
-use test_samples::{VERSION_2, empty_folder};
+use test_samples::{EMPTY_BLOB, EMPTY_TREE, VERSION_2, empty_folder};
 
 fn put_pack(rt: &HostRuntime, folder: &PathBuf, pack: &[u8], index: &[u8]) -> io::Result<()> {
     put(rt, folder, "objects/pack/pack-1.pack", pack)?;
@@ -77,6 +77,20 @@ fn what_comes_later_is_seen(rt: HostRuntime) {
     fs::remove_dir_all(&rt, folder.as_path()).expect(&rt, "a folder");
     assert!(rt; gives(&mut source, rt.alloc(), IDS[1]));
     assert!(rt; !gives(&mut source, rt.alloc(), WRITTEN[0].id));
+}
+
+#[test]
+fn the_empty_tree_needs_no_place(rt: HostRuntime) {
+    let folder = empty_folder(&rt, "nothing").expect(&rt, "a folder");
+    put(&rt, &folder, "objects/info/packs", b"").expect(&rt, "a file");
+    let mut source = open(&rt, &folder).expect(&rt, "a repository");
+    let answer = source
+        .fetch(rt.alloc(), EMPTY_TREE.id)
+        .expect(&rt, "an object");
+    assert!(rt; answer.as_slice() == EMPTY_TREE.framed);
+    let missing = source.fetch(rt.alloc(), EMPTY_BLOB.id);
+    assert!(rt; missing == Err(Cause::Missing) && source.failures() == 0);
+    fs::remove_dir_all(&rt, folder.as_path()).expect(&rt, "a folder");
 }
 
 fn put_loose(rt: &HostRuntime, folder: &PathBuf, file: &[u8]) -> io::Result<()> {
