@@ -6,3 +6,4 @@ pub mod Filled
 pub mod Loads
 pub mod Starts
 mod Entries
+pub mod Compared

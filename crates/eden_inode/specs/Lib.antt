@@ -3,3 +3,4 @@ pub mod Filling
 pub mod Faults
 pub mod Going
 pub mod Listed
+pub mod Saved

@@ -10,6 +10,7 @@ mod inodes;
 mod listing;
 mod load;
 mod look;
+mod numbers;
 mod seen;
 mod unload;
 
