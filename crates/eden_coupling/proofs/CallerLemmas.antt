@@ -31,7 +31,7 @@ pub use Rattle.eden_coupling.proofs.Loaded.{own_loaded_kept}
 pub use Rattle.eden_coupling.proofs.Objects.{none_inside, object_from, empty_from}
 pub use Rattle.eden_coupling.proofs.Listed.{own_from, other_from}
 pub use Rattle.eden_coupling.proofs.Alike.{loads_alike}
-pub use Rattle.eden_coupling.proofs.LoadsShown.{own_loads_alike}
+pub use Rattle.eden_coupling.proofs.LoadsShown.{own_loads_alike, resumed_alike}
 pub use Rattle.eden_coupling.proofs.UnloadsShown.{unloads_alike}
 -- files that are stored, and not seen
 pub use Rattle.eden_coupling.proofs.ShownFull.{Backs, backs_tied}
@@ -63,4 +63,8 @@ pub use Rattle.eden_coupling.proofs.NumbersFiles.{loaded_files_keep, not_shown_u
 pub use Rattle.eden_coupling.proofs.NumbersFiles.{file_unseen as entry_unseen}
 pub use Rattle.eden_coupling.proofs.NumbersEdited.{mark_keeps, drop_keeps, add_keeps, replace_keeps, move_keeps}
 pub use Rattle.eden_coupling.proofs.NumbersRestored.{saved_load_over}
-pub use Rattle.eden_coupling.proofs.NumbersAway.{put_away_keeps, goes_away_keeps, unloads_away_table, unloads_away_keep}
+pub use Rattle.eden_coupling.proofs.NumbersAway.{put_away_keeps, goes_away_keeps, unloads_away_table, unloads_away_keep, tables_go_away}
+pub use Rattle.eden_coupling.proofs.NumbersSteps.{leave_keeps, left_not_shown, replaced_not_shown, come_keeps, owned_keeps, hold_keeps}
+-- .. and stores and changes together
+pub use Rattle.eden_coupling.proofs.NumbersDone.{content_numbers, new_content_numbers, new_entries_numbers, state_numbers, stateless_numbers, saves_numbers, owned_numbers}
+pub use Rattle.eden_coupling.proofs.NumbersDone.{then_keeps, chain_numbers, removed_numbers, moved_numbers, replaced_numbers, marked_numbers}

@@ -70,3 +70,5 @@ pub mod NumbersFiles
 pub mod NumbersEdited
 pub mod NumbersAway
 pub mod NumbersRestored
+pub mod NumbersSteps
+pub mod NumbersDone

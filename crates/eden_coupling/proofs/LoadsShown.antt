@@ -1,9 +1,10 @@
 -- A directory that is loaded leaves what is shown.
 use Rattle.std.proofs.Common.{◌≡◌, inl, inr, ℕ, Some, sym, ap, ◌∙◌, ◌⊎◌}
+use Rattle.eden_model.specs.declared.id.Id.{Id}
 use Rattle.eden_model.specs.declared.kind.Origin.{Origin}
 use Rattle.eden_model.specs.declared.kind.Origin.TheVariants as origin
 use Rattle.eden_model.specs.Trees.{Path}
-use Rattle.eden_model.specs.Repository.{Repository}
+use Rattle.eden_model.specs.Repository.{Repository, no_files}
 use Rattle.eden_overlay.specs.Files.{Stored}
 use Rattle.eden_overlay.specs.Held.{own_files}
 use Rattle.eden_tree.specs.Directory.{Row, Directory, with_child}
@@ -41,3 +42,14 @@ own_loads_alike honest R F clock x p z h (inr at) l =
     ap (shown_in R F) l.is
     ∙ new_alike R F clock x p origin.Empty at l.directory l.new
     (other_from R F at.row l.directory (λ own. (let both : origin.Empty ≡ origin.Own = sym at.origin ∙ own in cc)) (empty_from R at.row l.directory at.origin (l.empty at.row at.there at.origin)))
+
+-- .. and so does one on a tree object that is loaded with what its file has, where that is what the object lists
+abbrev pub ResumedAlike : Type 1
+ResumedAlike = (honest : Type 0) (R : Repository) (F : Stored) (clock : ℕ) (x : Row) (p : Path) (z : Row) (id : Id)
+    → (at : IsAt p x (origin.Object id)) → (l : LoadsOwn honest clock F x p z) → IsFrom R no_files at.row l.directory → shown_in R F z ≡ shown_in R F x
+
+pub resumed_alike : ResumedAlike
+resumed_alike honest R F clock x p z id at l from =
+    ap (shown_in R F) l.is
+    ∙ new_alike R F clock x p (origin.Object id) at l.directory l.new
+    (other_from R F at.row l.directory (λ own. (let both : origin.Object id ≡ origin.Own = sym at.origin ∙ own in cc)) from)

@@ -2,6 +2,7 @@
 use Rattle.std.proofs.Common.{◌≡◌, ◌≤◌, ◌≢◌, ℕ, Bool, cond, List, [], ◌∷◌, ◌++◌, Option, Some, None, IfSome, refl, sym, ap, ◌∙◌, subst}
 use Rattle.std.proofs.Math.Path.{fun_ext}
 use Rattle.std.specs.Option.{option_and_then}
+use Rattle.eden_model.specs.Named.{AreRising}
 use Rattle.eden_model.specs.Operations.{move}
 use Rattle.eden_model.specs.Repository.{Repository}
 use Rattle.eden_model.specs.Trees.{Name, Path, Tree, graft}
@@ -19,7 +20,7 @@ use Rattle.eden_coupling.specs.Changing.{MayGo, MayMove, changed, with_listing, 
 use Rattle.eden_coupling.specs.Kept.{IsTable, IsKept}
 use Rattle.eden_coupling.specs.Shown.{shown_in}
 use Rattle.eden_coupling.specs.Ties.{Ties, Tied}
-use Rattle.eden_coupling.proofs.Rows.{entry_as_is}
+use Rattle.eden_coupling.proofs.Rows.{entry_as_is, stored_rising}
 use Rattle.eden_coupling.proofs.Places.{rising_of, named_full, place_counts}
 use Rattle.eden_coupling.proofs.Chain.{place_at, at_changed}
 use Rattle.eden_coupling.proofs.Follows.{Back}
@@ -192,6 +193,13 @@ MovedTable = (x : Row) (next : ℕ) (p : Path) (n : Name) (q : Path) (m : Name) 
 
 pub moved_table : MovedTable
 moved_table x next p n q m table a = table_then ⊥ (λ k. None) x next p n q m a (λ h. absurd h) table
+
+-- the rows of the directory that it goes to rise
+pub rising_target_of : (x : Row) (next : ℕ) (p : Path) (n : Name) (q : Path) (m : Name) → IsTable x next → (may : MayMove x p n q m) → AreRising (λ r. r.0) may.target.rows
+rising_target_of x next p n q m table a =
+    let between = with_listing p (changed a.source n None) x in
+    stored_rising a.target
+    ((table_between ⊥ (λ k. None) x next p n q m a (λ h. absurd h) table).listed a.to a.target (place_at q between a.to a.at_to) a.holds_target)
 
 -- where it is honest: a table is kept, and shows at the new path what stood below the old one, and nothing there
 abbrev pub MovedKept : Type 0

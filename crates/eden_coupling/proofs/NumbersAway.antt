@@ -24,7 +24,7 @@ use Rattle.eden_coupling.specs.NumberKept.{KeepsNumbers, SameNumbers}
 use Rattle.eden_coupling.specs.NumberNodes.{ListsTree, ListTrees}
 use Rattle.eden_coupling.specs.Numberings.{NumberFiles, in_files, entries_by, stored_below, numbers}
 use Rattle.eden_coupling.specs.NumberSaves.{HasStored, IsSameOver}
-use Rattle.eden_coupling.specs.NumberUnloads.{PutAwayKeeps, IsPutAway, own_stored, own_before, empty, numbers_saved, numbers_before, GoesAway, UnloadsAway, none, one_more, same_files}
+use Rattle.eden_coupling.specs.NumberUnloads.{PutAwayKeeps, IsPutAway, own_stored, own_before, empty, numbers_saved, numbers_before, GoesAway, UnloadsAway, none, one_more, same_files, MayGoAway}
 use Rattle.eden_coupling.specs.Shown.{item_away, IsFrom}
 use Rattle.eden_coupling.specs.Ties.{IsAway}
 use Rattle.eden_coupling.specs.Unloading.{Goes, HasNoneInside, none as none_went, one_more as one_went}
@@ -38,6 +38,7 @@ use Rattle.eden_coupling.proofs.NumbersQuiet.{listing_not_own, none_own}
 use Rattle.eden_coupling.proofs.NumbersRead.{edited_alike}
 use Rattle.eden_coupling.proofs.NumbersStored.{away_alike, listed_entry}
 use Rattle.eden_coupling.proofs.Rows.{map_some}
+use Rattle.eden_coupling.proofs.Sound.{ties_sound}
 use Rattle.eden_coupling.proofs.Tables.{unloads_table}
 use Rattle.eden_coupling.proofs.UnloadsShown.{unloads_alike}
 
@@ -234,3 +235,16 @@ unloads_away_keep honest R clock age next F x G z c h table kept k (one_more H y
     (record { kept = step.0.kept; nodes = step.0.nodes ∙ before.0.nodes; same = λ q. step.0.same q ∙ before.0.same q }, step.1)
 unloads_away_keep honest R clock age next F x G z c h table kept k (same_files H y b K u same) =
     subst (λ (I : Stored). IsSameOver R F I x y next × KeepsNumbers R I y next) (sym (same h)) (unloads_away_keep honest R clock age next F x H y b h table kept k u)
+
+-- ---- so they may go
+
+abbrev pub TablesGoAway : Type 1
+TablesGoAway = (honest : Type 0) (R : Repository) (clock age next : ℕ) (F : Stored) (x : Row) → IsTable x next → (honest → IsKept R F x next)
+    → (honest → KeepsNumbers R F x next) → MayGoAway honest clock age F x
+
+pub tables_go_away : TablesGoAway
+tables_go_away honest R clock age next F x table kept k G z c u =
+    let left = unloads_away_table honest clock age next F x G z c table u in (
+      (λ p y d at held. left.listed y d (place_at p z y at) held),
+      (λ h. (let over = (unloads_away_keep honest R clock age next F x G z c h table (kept h) (k h) u).0.kept in ties_sound G over.full z next over.ties)),
+    )

@@ -149,7 +149,7 @@ chain_keeps R F x y next p d G k at holds chain =
     (same_kept R G G x (owned (owned_along p x)) next stored.keeps (λ q. along_alike M p x y d at holds q) stored.keeps.blank
     (trees_chained R M p x y d at holds stored.keeps.trees))
 
-above_elsewhere : (F : Stored) (x : Row) (p : Path) (G : Stored) (k : ℕ) → Above F x p G → IsAway x k → G k ≡ F k
+pub above_elsewhere : (F : Stored) (x : Row) (p : Path) (G : Stored) (k : ℕ) → Above F x p G → IsAway x k → G k ≡ F k
 above_elsewhere F x p G k (at_end z) away = refl
 above_elsewhere F x p G k (as_is v d n z r H holds found rest own also) away =
     above_elsewhere F z r G k rest (λ y e q loaded. away y e (below_top v z y d n holds found q) loaded)

@@ -102,7 +102,7 @@ module _ (honest : Type 0) (R : Repository) (F : Stored) (x : Row) (next : ℕ) 
     stands (kept_number w there number file_w file (inr own)) =
         by_origin w.origin (Stands F x next y d n (Some z)) (λ other. now_own w there number file_w file (own.1 h) other)
         (λ own_w. same_origin w there number file_w file (own.0 ∙ sym own_w))
-    stands (new_number least given kept filed empty) =
+    stands (new_number least given kept numbers filed empty) =
         let old = kept h in
         let t : Ties F old.full x next = ties_rise F old.full x z.number next old.ties (omega (arith, given)) in
         record {

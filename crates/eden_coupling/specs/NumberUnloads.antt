@@ -6,13 +6,14 @@ use Rattle.eden_model.specs.Repository.{Repository}
 use Rattle.eden_model.specs.Trees.{Path}
 use Rattle.eden_overlay.specs.Files.{Stored}
 use Rattle.eden_overlay.specs.Held.{saved_at, with_entries, with_numbers}
+use Rattle.eden_overlay.specs.Soundness.{AreSound}
 use Rattle.eden_tree.specs.Directory.{Row, Directory, child_of, with_child}
 use Rattle.eden_tree.specs.Paths.{row_at, edit_row}
 use Rattle.eden_coupling.specs.Kept.{IsTable, IsKept}
 use Rattle.eden_coupling.specs.Listings.{listing_of}
 use Rattle.eden_coupling.specs.NumberKept.{KeepsNumbers}
 use Rattle.eden_coupling.specs.NumberSaves.{IsSameOver}
-use Rattle.eden_coupling.specs.Unloading.{HasNoneInside}
+use Rattle.eden_coupling.specs.Unloading.{HasNoneInside, AreListed}
 
 -- The files once the loaded directory of that entry may go. One that is the mount's own was stored where it was marked
 -- unsaved. Of one on a tree object the numbers were saved, now or before. An empty one has none.
@@ -42,6 +43,10 @@ pub data UnloadsAway (honest : Type 0) (clock age : ℕ) (F : Stored) (x : Row) 
   one_more : (G : Stored) (y : Row) (c : ℕ) (H : Stored) (z : Row) → UnloadsAway honest clock age F x G y c → GoesAway honest clock age G y H z
       → UnloadsAway honest clock age F x H z (c + 1)
   same_files : (G : Stored) (y : Row) (c : ℕ) (H : Stored) → UnloadsAway honest clock age F x G y c → (honest → H ≡ G) → UnloadsAway honest clock age F x H y c
+
+-- however many go, what is left can be stored, and the files are sound
+abbrev pub MayGoAway : Type 0 → ℕ → ℕ → Stored → Row → Type 0
+MayGoAway honest clock age F x = (G : Stored) (z : Row) (c : ℕ) → UnloadsAway honest clock age F x G z c → AreListed z × (honest → AreSound G)
 
 -- a directory with none inside that is put away may go: the table and its numbers are kept, and it shows the same
 abbrev pub PutAwayKeeps : Type 0

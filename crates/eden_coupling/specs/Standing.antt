@@ -14,6 +14,7 @@ use Rattle.eden_tree.specs.Rows.{find_row}
 use Rattle.eden_tree.specs.Paths.{row_at}
 use Rattle.eden_coupling.specs.Changing.{HasRoom, MayGo, changed}
 use Rattle.eden_coupling.specs.Kept.{IsKept}
+use Rattle.eden_coupling.specs.NumberKept.{KeepsNumbers}
 use Rattle.eden_coupling.specs.Listings.{stored_entry, listing_of}
 
 -- the number of what comes
@@ -21,8 +22,9 @@ pub data IsNumbered (honest : Type 0) (R : Repository) (F : Stored) (x : Row) (n
   -- that of the file or link in whose place it comes: of the same origin, or its own now, once that is stored
   kept_number : (w : Row) → find_row n d.rows ≡ Some w → z.number ≡ w.number → w.kind ≢ kind.Dir → z.kind ≢ kind.Dir
       → (z.origin ≡ w.origin) ⊎ ((z.origin ≡ origin.Own) × (honest → HoldsKind F z.number z.kind)) → IsNumbered honest R F x next d n z
-  -- one that was given since the table was kept, its file stored: a directory's is empty
-  new_number : number_least ≤ z.number → z.number < next → (honest → IsKept R F x z.number) → (honest → HoldsKind F z.number z.kind)
+  -- one that was given since the table and its numbers were kept, its file stored: a directory's is empty
+  new_number : number_least ≤ z.number → z.number < next → (honest → IsKept R F x z.number) → (honest → KeepsNumbers R F x z.number)
+      → (honest → HoldsKind F z.number z.kind)
       → (honest → z.kind ≡ kind.Dir → HoldsEntries F z.number []) → IsNumbered honest R F x next d n z
 
 -- this may stand under a name of the directory at a path: what goes and what comes aren't loaded

@@ -1,5 +1,7 @@
 -- Loaded directories that go.
-use Rattle.std.specs.Prelude.{◌≡◌, ◌≤◌, ◌-◌, ◌+◌, ℕ, true, false, Option, Some, None, IsSome}
+use Rattle.std.specs.Prelude.{◌≡◌, ◌≤◌, ◌-◌, ◌+◌, ◌⊎◌, ℕ, true, false, Option, Some, None, IsSome}
+use Rattle.eden_model.specs.declared.id.Id.{Id}
+use Rattle.eden_model.specs.declared.kind.Origin.TheVariants as origin
 use Rattle.eden_model.specs.Trees.{Name, Path}
 use Rattle.eden_overlay_format.specs.Directory.{AreStorable}
 use Rattle.eden_overlay.specs.declared.files.FilesFault.{FilesFault}
@@ -36,10 +38,14 @@ pub data Unloads (honest : Type 0) (clock age : ℕ) (F : Stored) (x : Row) : St
       → Unloads honest clock age F x H z (c + 1)
   same_files : (G : Stored) (y : Row) (c : ℕ) (H : Stored) → Unloads honest clock age F x G y c → (honest → H ≡ G) → Unloads honest clock age F x H y c
 
--- what is still loaded is too young, has a loaded directory inside, or is unsaved where a store was refused
+-- a directory that is stored before it goes: one that is unsaved, or on a tree object, whose numbers are saved
+abbrev pub IsStoredFirst : Row → Directory → Type 0
+IsStoredFirst y d = (d.unsaved ≡ true) ⊎ ((id : Id) × (y.origin ≡ origin.Object id))
+
+-- what is still loaded is too young, has a loaded directory inside, or had to be stored where a store was refused
 abbrev pub IsSettled : ℕ → ℕ → Option FilesFault → Row → Type 0
 IsSettled clock age refused x = (p : Path) (y : Row) (d : Directory) → row_at p x ≡ Some y → child_of y ≡ Some d
-    → age ≤ clock - d.stamp → HasNoneInside d → (d.unsaved ≡ true) × IsSome refused
+    → age ≤ clock - d.stamp → HasNoneInside d → IsStoredFirst y d × IsSome refused
 
 -- every loaded directory can be stored
 abbrev pub AreListed : Row → Type 0

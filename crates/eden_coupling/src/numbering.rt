@@ -13,6 +13,8 @@ ghost use Rattle.eden_coupling.specs.NumberSaves.{SaveUnseen, GoneSame, ManyGone
 ghost use Rattle.eden_coupling.specs.NumberSaves.{OtherFileTied, OtherFileKept, OtherFileAlike, SavedSameOver};
 ghost use Rattle.eden_coupling.specs.NumberSaves.{GoneSameOver, BlankRises};
 ghost use Rattle.eden_coupling.specs.NumberSaves.{BlankSaved, BlankStored};
+ghost use Rattle.eden_coupling.specs.NumberSteps.{LeaveKeeps, LeftNotShown, ReplacedNotShown, ComeKeeps};
+ghost use Rattle.eden_coupling.specs.NumberSteps.{OwnedKeeps, HoldKeeps};
 ghost use Rattle.eden_coupling.specs.NumberUnloads.{PutAwayKeeps};
 ghost use Rattle.eden_coupling.specs.Numberings.{NumbersOfEntries, NumbersFromEntry, EntryGrafts, NameGrafts};
 ghost use Rattle.eden_coupling.specs.Numberings.{StampsUnseen};
@@ -91,4 +93,10 @@ pub fn number_kept_laws()
     ensures replace { ReplaceKeeps }
     ensures moves { MoveKeeps }
     ensures put_away { PutAwayKeeps }
+    ensures leave { LeaveKeeps }
+    ensures left { LeftNotShown }
+    ensures replaced { ReplacedNotShown }
+    ensures come { ComeKeeps }
+    ensures owned { OwnedKeeps }
+    ensures hold { HoldKeeps }
 {}

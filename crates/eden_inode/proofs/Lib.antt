@@ -9,3 +9,4 @@ pub mod Filled
 pub mod Loads
 pub mod Starts
 mod Entries
+pub mod Compared

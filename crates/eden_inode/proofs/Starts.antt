@@ -24,7 +24,7 @@ fresh_table o next least most = record {
   most = most;
 }
 
-pub fresh_kept : (R : Repository) (F : Stored) (o : Origin) (next : ℕ) → CanStart F o next → IsKept R F (fresh_root o) next
+pub fresh_kept : (R : Repository) (F : Stored) (o : Origin) (next : ℕ) → CanStart R F o next → IsKept R F (fresh_root o) next
 fresh_kept R F o next can = record {
   full = F;
   ties = record {

@@ -4,7 +4,8 @@ use Rattle.eden_overlay.specs.declared.files.FilesFault.{FilesFault}
 use Rattle.eden_overlay.specs.declared.files.FilesFault.TheVariants as files
 use Rattle.eden_overlay.specs.Files.{Stored}
 use Rattle.eden_tree.specs.Directory.{Row}
-use Rattle.eden_coupling.specs.Unloading.{Unloads, IsSettled}
+use Rattle.eden_coupling.specs.NumberUnloads.{UnloadsAway}
+use Rattle.eden_coupling.specs.Unloading.{IsSettled}
 use Rattle.eden_inode.specs.declared.gone.Gone.{Gone}
 
 -- of what was refused twice the device's failure, where one of them is
@@ -18,5 +19,5 @@ graver (Some files.Memory) (Some f) = Some f
 pub record IsUnloaded (honest : Type 0) (clock age : ℕ) (F : Stored) (x : Row) (G : Stored) (z : Row) (gone : Gone) : Type 0 where
   pub count : ℕ
   pub counted : gone.count ≡ min count (2 ^ 64 - 1)
-  pub unloads : Unloads honest clock age F x G z count
+  pub unloads : UnloadsAway honest clock age F x G z count
   pub settled : IsSettled clock age gone.refused z

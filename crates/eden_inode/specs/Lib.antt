@@ -4,3 +4,4 @@ pub mod Faults
 pub mod Going
 pub mod Listed
 pub mod Trails
+pub mod Saved

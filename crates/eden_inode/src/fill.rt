@@ -17,7 +17,7 @@ use eden_tree::{Dir, Entry};
 use std::alloc::{AllocError, Allocator, Global};
 
 /// What holds of every id: it has 20 bytes.
-fn holds(id: &Id)
+pub(crate) fn holds(id: &Id)
     ensures { length id.now.bytes ≡ 20 }
 {
     let _ = id.bytes.as_slice();

@@ -1,10 +1,11 @@
-ghost use Rattle.std.specs.Prelude.{◌≡◌, ◌≢◌, ◌≤◌, ◌+◌, ℕ, min, OnOk, OnErr, IfOk, IfErr, IfSome, IfNone, Option, Some, None, option_map};
+ghost use Rattle.std.specs.Prelude.{◌≡◌, ◌≢◌, ◌≤◌, ◌+◌, ℕ, min, OnOk, OnErr, IfOk, IfErr, IfSome, IfNone, IsTrue, IsFalse, Option, Some, None, option_map};
 ghost use Rattle.eden_model.specs.declared.kind.Kind.TheVariants as kind;
 ghost use Rattle.eden_model.specs.declared.kind.Origin as declared;
 ghost use Rattle.eden_model.specs.declared.kind.Origin.TheVariants as origin;
 ghost use Rattle.eden_model.specs.declared.id.Id as id;
 ghost use Rattle.eden_model.specs.declared.id.ObjKind.TheVariants as object;
 ghost use Rattle.eden_model.specs.Limits.{number_least, number_end};
+ghost use Rattle.eden_model.specs.Backing.{Gains};
 ghost use Rattle.eden_model.specs.Failures.{Counted};
 ghost use Rattle.eden_overlay.specs.Held.{HoldsContent};
 ghost use Rattle.eden_overlay.specs.declared.files.FilesFault.TheVariants as files;
@@ -14,20 +15,26 @@ ghost use Rattle.std.specs.Option.{option_copied, option_and_then};
 ghost use Rattle.eden_tree.specs.Directory.{Row, child_of};
 ghost use Rattle.eden_tree.specs.Paths.{row_at, edit_row, stamped_along};
 ghost use Rattle.eden_coupling.specs.Kept.{IsTable, IsKept};
-ghost use Rattle.eden_coupling.specs.Loading.{IsAt, LoadsObject, LoadsOwn};
-ghost use Rattle.eden_coupling.specs.Unloading.{Unloads, IsSettled};
 ghost use Rattle.eden_inode.specs.Trails.{Leads, Notes};
-ghost use Rattle.eden_inode.specs.Tables.{Table, fresh_root, CanStart, IsLast, HasTree, HasNoTree, IsLoadFault, IsContentFault, HoldsLength, shows};
+ghost use Rattle.eden_coupling.specs.Loading.{IsAt, LoadsObject};
+ghost use Rattle.eden_coupling.specs.NumberKept.{KeepsNumbers};
+ghost use Rattle.eden_coupling.specs.NumberUnloads.{UnloadsAway};
+ghost use Rattle.eden_coupling.specs.Unloading.{IsSettled};
+ghost use Rattle.eden_inode.specs.Saved.{HasNumbers, LacksNumbers};
+ghost use Rattle.eden_inode.specs.Tables.{Table, fresh_root, CanStart, IsLast, HasTree, HasNoTree, LoadsStored};
+ghost use Rattle.eden_inode.specs.Tables.{IsNumberedFault, IsLoadFault, IsContentFault, HoldsLength};
+ghost use Rattle.eden_inode.specs.Tables.{shows, shows_numbers, ShowsSameNumbers};
 
 use crate::along::follow;
 use crate::fill::from_object;
 use crate::gone::{Gone, NOTHING};
-use crate::load::{own_content, own_len, put_loaded, unlisted};
+use crate::load::{own_content, own_len, put_loaded, stored_directory};
 use crate::look::{look, unloaded};
+use crate::numbers::has_numbers;
 use crate::seen::Seen;
 use crate::trail::Trail;
 use crate::unload::Unloading;
-use eden_coupling::{kept_laws, shown_laws};
+use eden_coupling::{kept_laws, number_kept_laws, shown_laws};
 use eden_model::{Fault, Key, Kind, MAX_NAMES, Name, ObjKind, Origin, TreeEntry, World};
 use eden_overlay::{Content, Files, Overlay};
 use eden_tree::{Change, Dir, Entry};
@@ -43,7 +50,8 @@ const ROOT: u64 = 1;
 /// The loaded part of a mount's tree over its stored files.
 ///
 /// Under an honest outside, memory and files stay tied through every call: no name dangles, no number stands twice, and
-/// every number that is named is below the next one. Whatever the outside, every loaded directory can be stored.
+/// every number that is named is below the next one. Each inode number is shown once, in memory and files together, and
+/// is so whatever is loaded, stored or unloaded. Whatever the outside, every loaded directory can be stored.
 #[derive(Drop)]
 pub struct Inodes<A: Allocator, W: World, F: Files<W>> {
     alloc: A,
@@ -63,7 +71,9 @@ impl<A: Allocator, W: World, F: Files<W>> Model for Inodes<A, W, F> {
         record { root = t.root; files = t.overlay; next = t.next; clock = t.clock; changes = t.changes } };
 
     ghost invariant = { λ t.
-        IsTable t.root t.next × (W.honest → IsKept W.repository (F.stored t.overlay) t.root t.next) };
+        IsTable t.root t.next
+        × ((W.honest → IsKept W.repository (F.stored t.overlay) t.root t.next)
+        × (W.honest → KeepsNumbers W.repository (F.stored t.overlay) t.root t.next)) };
 }
 
 impl<A: Allocator + Clone, W: World, F: Files<W>> Inodes<A, W, F> {
@@ -71,7 +81,7 @@ impl<A: Allocator + Clone, W: World, F: Files<W>> Inodes<A, W, F> {
     pub fn new(alloc: A, overlay: Overlay<W, F>, root: Origin, next: u64) -> Self
         requires least { number_least ≤ next }
         requires most { next ≤ number_end }
-        requires starts { W.honest → CanStart (F.stored overlay) root next }
+        requires starts { W.honest → CanStart W.repository (F.stored overlay) root next }
         ensures { result ≡ record { root = fresh_root root; files = overlay; next = next; clock = 0; changes = 0 } }
     {
         Inodes {
@@ -101,6 +111,8 @@ impl<A: Allocator + Clone, W: World, F: Files<W>> Inodes<A, W, F> {
     pub fn holds(&self)
         ensures table { IsTable self.now.root self.now.next }
         ensures kept { W.honest → IsKept W.repository (F.stored self.now.files) self.now.root self.now.next }
+        ensures numbers { W.honest
+            → KeepsNumbers W.repository (F.stored self.now.files) self.now.root self.now.next }
     {
         let _ = &self.root;
     }
@@ -155,9 +167,11 @@ impl<A: Allocator + Clone, W: World, F: Files<W>> Inodes<A, W, F> {
         ensures last { IsLast path.now self.old.root result }
         ensures stamped { self.new ≡ record self.old { root = stamped_along path.now self.old.clock self.old.root } }
         ensures shown { W.honest → shows W.World F.Files self.new ≡ shows W.World F.Files self.old }
+        ensures numbers { W.honest → ShowsSameNumbers F.Files self.old self.new }
     {
         kept_laws();
         shown_laws();
+        number_kept_laws();
         look(&mut self.root, path, self.clock)
     }
 
@@ -206,6 +220,7 @@ impl<A: Allocator + Clone, W: World, F: Files<W>> Inodes<A, W, F> {
             return None;
         }
         kept_laws();
+        number_kept_laws();
         let number = self.next;
         self.next = number + 1;
         Some(number)
@@ -218,25 +233,53 @@ impl<A: Allocator + Clone, W: World, F: Files<W>> Inodes<A, W, F> {
         self.clock = self.clock.saturating_add(1);
     }
 
-    /// Loads a directory: from the entries of its tree object, or where it has none, from its stored file or as an empty one.
+    /// Whether numbers are saved for the tree object of a directory that isn't loaded: then it is loaded with these, and
+    /// without the object. Its file is read. Errors: `Memory`, and `Overlay` where the device failed or the numbers
+    /// can't be read.
+    pub fn numbered(&mut self, alloc: Global, path: &[Name]) -> Result<bool, Fault>
+        requires { (i : id.Id) × IsAt path.now self.old.root (origin.Object i) }
+        ensures saved { IfOk result
+            (λ b. IsTrue b → HasNumbers W.honest (F.stored self.old.files) path.now self.old.root) }
+        ensures none { IfOk result
+            (λ b. IsFalse b → LacksNumbers W.honest (F.stored self.old.files) path.now self.old.root) }
+        ensures fault { IfErr result
+            (IsNumberedFault W.honest (F.failures self.old.files) (F.failures self.new.files)
+            (F.stored self.old.files) path.now self.old.root) }
+        ensures files { W.honest → F.stored self.new.files ≡ F.stored self.old.files }
+        ensures counted { (F.failures self.old.files) ≤ (F.failures self.new.files) }
+        ensures rest { self.new ≡ record self.old { files = self.new.files } }
+    {
+        let Some(entry) = self.root.walk(path) else {
+            unreachable!()
+        };
+        let number = entry.number;
+        match entry.origin {
+            Origin::Object(tree) => has_numbers(alloc, &mut self.overlay, number, tree),
+            Origin::Own | Origin::Empty => unreachable!(),
+        }
+    }
+
+    /// Loads a directory: from the entries of its tree object, for which no numbers are saved; or without, from its
+    /// stored file, its own or with the numbers saved, or as an empty one.
     ///
-    /// The entries of a tree object are given the numbers from the next one on, in byte order of their names; those of an
-    /// own file have theirs. The directories of the path are stamped. Errors: `Numbers` where too few are left, `Memory`,
-    /// and, for one that is the mount's own, `Overlay` where the device failed or its file is no directory. Nothing has changed
-    /// then.
+    /// The entries of a tree object are given the numbers from the next one on, in byte order of their names; those of
+    /// a stored file have theirs. The directories of the path are stamped. Errors: `Numbers` where too few are left,
+    /// `Memory`, and without a tree object `Overlay` where the device failed, or the file of the mount's own is no
+    /// directory. Nothing has changed then.
     pub fn load(
         &mut self,
         alloc: Global,
         path: &[Name],
         entries: Option<&[TreeEntry]>,
     ) -> Result<(), Fault>
-        requires object { IfSome entries (λ es. HasTree W.repository W.honest path.now self.old.root es.now) }
-        requires own { IfNone entries (HasNoTree path.now self.old.root) }
+        requires object { IfSome entries
+            (λ es. HasTree W.repository W.honest (F.stored self.old.files) path.now self.old.root es.now) }
+        requires own { IfNone entries (HasNoTree W.honest (F.stored self.old.files) path.now self.old.root) }
         ensures object { IfSome entries.entry
             (λ es. OnOk result (LoadsObject self.old.clock self.old.next self.old.root path.now es.now self.new.root
             self.new.next)) }
         ensures own { IfNone entries.entry
-            (OnOk result (LoadsOwn W.honest self.old.clock
+            (OnOk result (LoadsStored W.honest self.old.clock
             (F.stored self.old.files) self.old.root path.now self.new.root × (self.new.next ≡ self.old.next))) }
         ensures err { OnErr result ((self.new.root ≡ self.old.root) × (self.new.next ≡ self.old.next)) }
         ensures fault { IfErr result
@@ -245,11 +288,14 @@ impl<A: Allocator + Clone, W: World, F: Files<W>> Inodes<A, W, F> {
         ensures files { W.honest → F.stored self.new.files ≡ F.stored self.old.files }
         ensures counted { (F.failures self.old.files) ≤ (F.failures self.new.files) }
         ensures shown { W.honest → shows W.World F.Files self.new ≡ shows W.World F.Files self.old }
+        ensures gains { W.honest → OnOk result (Gains (shows_numbers F.Files self.old) self.old.next
+            (shows_numbers F.Files self.new) self.new.next) }
+        ensures numbers { W.honest → IfNone entries.entry (OnOk result (ShowsSameNumbers F.Files self.old self.new)) }
         ensures rest { (self.new.clock ≡ self.old.clock) × (self.new.changes ≡ self.old.changes) }
     {
         match entries {
             Some(entries) => self.load_object(alloc, path, entries),
-            None => self.load_own(alloc, path),
+            None => self.load_stored(alloc, path),
         }
     }
 
@@ -260,7 +306,7 @@ impl<A: Allocator + Clone, W: World, F: Files<W>> Inodes<A, W, F> {
         path: &[Name],
         entries: &[TreeEntry],
     ) -> Result<(), Fault>
-        requires { HasTree W.repository W.honest path.now self.old.root entries.now }
+        requires { HasTree W.repository W.honest (F.stored self.old.files) path.now self.old.root entries.now }
         ensures ok { OnOk result
             (LoadsObject self.old.clock self.old.next self.old.root path.now entries.now self.new.root self.new.next) }
         ensures err { OnErr result ((self.new.root ≡ self.old.root) × (self.new.next ≡ self.old.next)) }
@@ -268,6 +314,8 @@ impl<A: Allocator + Clone, W: World, F: Files<W>> Inodes<A, W, F> {
             (IsLoadFault W.honest self.old.next (F.failures self.old.files) (F.failures self.new.files)
             (F.stored self.old.files) path.now self.old.root (Some entries.now)) }
         ensures shown { W.honest → shows W.World F.Files self.new ≡ shows W.World F.Files self.old }
+        ensures gains { W.honest → OnOk result (Gains (shows_numbers F.Files self.old) self.old.next
+            (shows_numbers F.Files self.new) self.new.next) }
         ensures rest { (self.new.files ≡ self.old.files)
             × ((self.new.clock ≡ self.old.clock) × (self.new.changes ≡ self.old.changes)) }
     {
@@ -277,6 +325,7 @@ impl<A: Allocator + Clone, W: World, F: Files<W>> Inodes<A, W, F> {
         }
         kept_laws();
         shown_laws();
+        number_kept_laws();
         let dirs = self.alloc.clone()?;
         let dir = from_object(alloc, dirs, entries, self.next, self.clock)?;
         let boxes = self.alloc.clone()?;
@@ -285,11 +334,11 @@ impl<A: Allocator + Clone, W: World, F: Files<W>> Inodes<A, W, F> {
         Ok(())
     }
 
-    /// Loads a directory that has no tree object.
-    fn load_own(&mut self, alloc: Global, path: &[Name]) -> Result<(), Fault>
-        requires { HasNoTree path.now self.old.root }
+    /// Loads a directory without a tree object.
+    fn load_stored(&mut self, alloc: Global, path: &[Name]) -> Result<(), Fault>
+        requires { HasNoTree W.honest (F.stored self.old.files) path.now self.old.root }
         ensures ok { OnOk result
-            (LoadsOwn W.honest self.old.clock (F.stored self.old.files) self.old.root path.now self.new.root) }
+            (LoadsStored W.honest self.old.clock (F.stored self.old.files) self.old.root path.now self.new.root) }
         ensures err { OnErr result (self.new.root ≡ self.old.root) }
         ensures fault { IfErr result
             (IsLoadFault W.honest self.old.next (F.failures self.old.files) (F.failures self.new.files)
@@ -297,6 +346,9 @@ impl<A: Allocator + Clone, W: World, F: Files<W>> Inodes<A, W, F> {
         ensures files { W.honest → F.stored self.new.files ≡ F.stored self.old.files }
         ensures counted { (F.failures self.old.files) ≤ (F.failures self.new.files) }
         ensures shown { W.honest → shows W.World F.Files self.new ≡ shows W.World F.Files self.old }
+        ensures gains { W.honest → OnOk result (Gains (shows_numbers F.Files self.old) self.old.next
+            (shows_numbers F.Files self.new) self.new.next) }
+        ensures numbers { W.honest → OnOk result (ShowsSameNumbers F.Files self.old self.new) }
         ensures rest { (self.new.next ≡ self.old.next)
             × ((self.new.clock ≡ self.old.clock) × (self.new.changes ≡ self.old.changes)) }
     {
@@ -306,7 +358,7 @@ impl<A: Allocator + Clone, W: World, F: Files<W>> Inodes<A, W, F> {
         let number = entry.number;
         let origin = entry.origin;
         let dirs = self.alloc.clone()?;
-        let dir = unlisted(alloc, dirs, &mut self.overlay, number, origin, self.clock)?;
+        let dir = stored_directory(alloc, dirs, &mut self.overlay, number, origin, self.clock)?;
         let boxes = self.alloc.clone()?;
         put_loaded(boxes, &mut self.root, path, dir, self.clock)?;
         Ok(())
@@ -369,15 +421,16 @@ impl<A: Allocator + Clone, W: World, F: Files<W>> Inodes<A, W, F> {
         }
     }
 
-    /// Lets go of the loaded directories at and below a path that have not been used for so many turns, the leaves first; an
-    /// unsaved one is stored first. How many went, and whether a store was refused.
+    /// Lets go of the loaded directories at and below a path that have not been used for so many turns, the leaves
+    /// first; an unsaved one is stored first, and of one on a tree object the numbers, unless its file has them. How
+    /// many went, and whether a store was refused.
     ///
-    /// A directory with a loaded one left inside stays, and so does an unsaved one where a store was refused, by the device
-    /// or for want of memory.
+    /// A directory with a loaded one left inside stays, and so does one that had to be stored where that was refused,
+    /// by the device or for want of memory.
     pub fn unload(&mut self, alloc: Global, path: &[Name], older_than: u64) -> Gone
         ensures unloads { (c : ℕ)
             × ((result.count ≡ min c u64.MAX)
-            × Unloads W.honest self.old.clock older_than (F.stored self.old.files) self.old.root
+            × UnloadsAway W.honest self.old.clock older_than (F.stored self.old.files) self.old.root
             (F.stored self.new.files) self.new.root c) }
         ensures settled { (y : Row) → row_at path.now self.new.root ≡ Some y
             → IsSettled self.old.clock older_than result.refused y }
@@ -385,6 +438,7 @@ impl<A: Allocator + Clone, W: World, F: Files<W>> Inodes<A, W, F> {
             (F.failures self.new.files) }
         ensures elsewhere { (f : Row) × (self.new.root ≡ edit_row path.now (λ _. f) self.old.root) }
         ensures shown { W.honest → shows W.World F.Files self.new ≡ shows W.World F.Files self.old }
+        ensures numbers { W.honest → ShowsSameNumbers F.Files self.old self.new }
         ensures counted { (F.failures self.old.files) ≤ (F.failures self.new.files) }
         ensures changes { self.new.changes ≡ min (self.old.changes + result.count) u64.MAX }
         ensures rest { (self.new.next ≡ self.old.next) × (self.new.clock ≡ self.old.clock) }
@@ -415,6 +469,9 @@ impl<A: Allocator + Clone, W: World, F: Files<W>> Inodes<A, W, F> {
         requires kept { W.honest → (files : F) → (root : Row) → (answer : C.Output)
             → C.does change self.old.files self.old.root files root answer
             → IsKept W.repository (F.stored files) root self.old.next }
+        requires numbers { W.honest → (files : F) → (root : Row) → (answer : C.Output)
+            → C.does change self.old.files self.old.root files root answer
+            → KeepsNumbers W.repository (F.stored files) root self.old.next }
         ensures does { C.does change self.old.files self.old.root self.new.files self.new.root result }
         ensures changes { self.new.changes ≡ min (self.old.changes + 1) u64.MAX }
         ensures rest { (self.new.next ≡ self.old.next) × (self.new.clock ≡ self.old.clock) }

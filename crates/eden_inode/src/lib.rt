@@ -12,6 +12,7 @@ mod laws;
 mod listing;
 mod load;
 mod look;
+mod numbers;
 mod seen;
 mod trail;
 mod unload;

@@ -5,14 +5,15 @@ ghost use Rattle.eden_model.specs.declared.kind.Kind.TheVariants as kind;
 ghost use Rattle.eden_model.specs.declared.kind.Origin as declared;
 ghost use Rattle.eden_model.specs.declared.kind.Origin.TheVariants as origins;
 ghost use Rattle.eden_overlay_format.specs.Directory.{AreStorable};
-ghost use Rattle.eden_overlay.specs.Held.{HoldsEntries, HoldsContent, TellsLength, entries_at, content_at};
+ghost use Rattle.eden_overlay.specs.Held.{HoldsEntries, HoldsContent, TellsLength, entries_at, content_at, saved_at};
 ghost use Rattle.eden_tree.specs.Directory.{with_child};
 ghost use Rattle.eden_coupling.specs.Listings.{listing_of};
 ghost use Rattle.eden_coupling.specs.Loading.{IsAt, IsNew, with_loaded};
+ghost use Rattle.eden_coupling.specs.Numberings.{in_files, entries_by};
 ghost use Rattle.eden_inode.specs.Faults.{told, IsGetFault};
 
 use crate::fill::from_stored;
-use eden_model::{Fault, Name, Origin, World};
+use eden_model::{Fault, Id, Name, Origin, World};
 use eden_overlay::{Content, Files, GetFault, Overlay};
 use eden_tree::{Change, Dir, Entry};
 use std::alloc::{AllocError, Allocator, Global};
@@ -56,7 +57,7 @@ pub(crate) fn put_loaded<A: Allocator>(
 }
 
 /// What a mount tells of a fault of its overlay.
-fn told(fault: GetFault) -> Fault
+pub(crate) fn told(fault: GetFault) -> Fault
     ensures { result ≡ told fault }
 {
     match fault {
@@ -66,7 +67,7 @@ fn told(fault: GetFault) -> Fault
 }
 
 /// The directory that the file of that number stores.
-pub(crate) fn own_directory<A: Allocator, W: World, F: Files<W>>(
+fn own_directory<A: Allocator, W: World, F: Files<W>>(
     alloc: Global,
     dirs: A,
     overlay: &mut Overlay<W, F>,
@@ -88,9 +89,33 @@ pub(crate) fn own_directory<A: Allocator, W: World, F: Files<W>>(
     }
 }
 
-/// The directory that an entry without a tree object is loaded as: what its file stores, or nothing, for which no file is
-/// read and which never fails.
-pub(crate) fn unlisted<A: Allocator, W: World, F: Files<W>>(
+/// The directory of that tree object, with the numbers that the file of that number has for it.
+fn saved_directory<A: Allocator, W: World, F: Files<W>>(
+    alloc: Global,
+    dirs: A,
+    overlay: &mut Overlay<W, F>,
+    number: u64,
+    tree: Id,
+    clock: u64,
+) -> Result<Dir<A>, Fault>
+    ensures new { IfOk result (IsNew clock) }
+    ensures saved { W.honest → IfOk result (λ d. saved_at (F.stored overlay.old) number tree ≡ Some (listing_of d)) }
+    ensures storable { IfOk result (λ d. AreStorable (listing_of d)) }
+    ensures fault { IfErr result
+        (IsGetFault W.honest (F.failures overlay.old) (F.failures overlay.new)
+        (saved_at (F.stored overlay.old) number tree)) }
+    ensures files { W.honest → F.stored overlay.new ≡ F.stored overlay.old }
+    ensures counted { F.failures overlay.old ≤ F.failures overlay.new }
+{
+    match overlay.get_numbers(alloc, number, tree) {
+        Ok(entries) => Ok(from_stored(dirs, entries, clock)?),
+        Err(fault) => Err(told(fault)),
+    }
+}
+
+/// The directory that an entry of that number and origin is loaded as: what its file stores, its own or with numbers
+/// saved; or nothing, for which no file is read and which never fails.
+pub(crate) fn stored_directory<A: Allocator, W: World, F: Files<W>>(
     alloc: Global,
     dirs: A,
     overlay: &mut Overlay<W, F>,
@@ -98,20 +123,21 @@ pub(crate) fn unlisted<A: Allocator, W: World, F: Files<W>>(
     origin: Origin,
     clock: u64,
 ) -> Result<Dir<A>, Fault>
-    requires { (i : id.Id) → origin ≢ origins.Object i }
     ensures new { IfOk result (IsNew clock) }
     ensures own { W.honest → origin ≡ origins.Own
         → IfOk result (λ d. HoldsEntries (F.stored overlay.old) number (listing_of d)) }
     ensures empty { origin ≡ origins.Empty → IsOkAnd result (λ d. d.rows ≡ []) }
+    ensures saved { W.honest → (i : id.Id) → origin ≡ origins.Object i
+        → IfOk result (λ d. saved_at (F.stored overlay.old) number i ≡ Some (listing_of d)) }
     ensures storable { IfOk result (λ d. AreStorable (listing_of d)) }
     ensures fault { IfErr result
         (IsGetFault W.honest (F.failures overlay.old) (F.failures overlay.new)
-        (entries_at (F.stored overlay.old) number)) }
+        (entries_by (in_files (F.stored overlay.old)) number origin)) }
     ensures files { W.honest → F.stored overlay.new ≡ F.stored overlay.old }
     ensures counted { F.failures overlay.old ≤ F.failures overlay.new }
 {
     match origin {
-        Origin::Object(_) => unreachable!(),
+        Origin::Object(tree) => saved_directory(alloc, dirs, overlay, number, tree, clock),
         Origin::Empty => Ok(Dir::new(dirs, clock)),
         Origin::Own => own_directory(alloc, dirs, overlay, number, clock),
     }

@@ -1,18 +1,23 @@
 //! Loaded directories that go.
-ghost use Rattle.std.specs.Prelude.{◌≡◌, ◌≤◌, ◌-◌, ◌+◌, ◌↔◌, ℕ, Ok, Err, Some, None, OnErr, min, IsTrue, IsFalse, true, false};
+ghost use Rattle.std.specs.Prelude.{◌≡◌, ◌≤◌, ◌-◌, ◌+◌, ◌↔◌, ◌⊎◌, ℕ, Ok, Err, Some, None, OnOk, OnErr, min, IsTrue, IsFalse, true, false};
+ghost use Rattle.eden_model.specs.declared.id.Id as id;
+ghost use Rattle.eden_model.specs.declared.kind.Origin.TheVariants as origins;
 ghost use Rattle.eden_model.specs.Failures.{Counted};
 ghost use Rattle.eden_overlay_format.specs.Directory.{AreStorable};
-ghost use Rattle.eden_overlay.specs.Held.{with_entries};
+ghost use Rattle.eden_overlay.specs.Files.{Stored};
 ghost use Rattle.eden_overlay.specs.Soundness.{AreSound};
 ghost use Rattle.eden_overlay.specs.declared.files.FilesFault.TheVariants as files;
 ghost use Rattle.eden_tree.specs.Directory.{Row, child_of, with_child};
 ghost use Rattle.eden_coupling.specs.Listings.{listing_of};
-ghost use Rattle.eden_coupling.specs.Unloading.{Unloads, IsSettled, MayUnload, HasNoneInside};
+ghost use Rattle.eden_coupling.specs.NumberUnloads.{IsPutAway, UnloadsAway, MayGoAway};
+ghost use Rattle.eden_coupling.specs.Unloading.{IsSettled, HasNoneInside};
 ghost use Rattle.eden_inode.specs.Going.{IsUnloaded};
 
+use crate::fill::holds;
 use crate::gone::{Gone, NOTHING, ONE, both, refusal};
 use crate::listing::{Listed, save};
-use eden_model::World;
+use crate::numbers::save_numbers;
+use eden_model::{Origin, World};
 use eden_overlay::{Files, FilesFault, Overlay};
 use eden_tree::{Change, Dir, Entry};
 use std::alloc::{Allocator, Global};
@@ -34,27 +39,61 @@ pub fn has_none_inside<A: Allocator>(dir: &Dir<A>) -> bool
     true
 }
 
-/// Whether a directory of that number goes: it is old enough, none is left inside, and it is saved or was now; or why that
-/// was refused.
+/// Stores what has to be before a loaded directory of that number and origin goes: one that is the mount's own, where it
+/// is unsaved, and the numbers of one on a tree object, where they aren't saved yet. After an error nothing has changed.
+fn put_away<A: Allocator, W: World, F: Files<W>>(
+    dir: &Dir<A>,
+    number: u64,
+    origin: Origin,
+    overlay: &mut Overlay<W, F>,
+    alloc: Global,
+) -> Result<(), FilesFault>
+    requires entries { AreStorable (listing_of dir.now) }
+    requires sound { (y : Row) × ((y.number ≡ number) × ((y.origin ≡ origin)
+        × (W.honest → (G : Stored) → IsPutAway (F.stored overlay.old) y dir.now G → AreSound G))) }
+    ensures ok { W.honest → (y : Row) → y.number ≡ number → y.origin ≡ origin
+        → OnOk result (IsPutAway (F.stored overlay.old) y dir.now (F.stored overlay.new)) }
+    ensures err { W.honest → OnErr result (F.stored overlay.new ≡ F.stored overlay.old) }
+    ensures refused { OnErr result ((dir.now.unsaved ≡ true) ⊎ ((i : id.Id) × (origin ≡ origins.Object i))) }
+    ensures counted { Counted (result ≡ Err files.Device) (F.failures overlay.old) (F.failures overlay.new) }
+{
+    match origin {
+        Origin::Empty => Ok(()),
+        Origin::Own => {
+            if !dir.unsaved() {
+                return Ok(());
+            }
+            save(alloc, overlay, number, dir, Listed::Whole)
+        }
+        Origin::Object(tree) => {
+            holds(&tree);
+            save_numbers(alloc, overlay, number, tree, dir)
+        }
+    }
+}
+
+/// Whether a directory of that number and origin goes: it is old enough, none is left inside, and what has to be stored
+/// of it is or was now; or why that was refused.
 fn may_go<A: Allocator, W: World, F: Files<W>>(
     dir: &Dir<A>,
     number: u64,
+    origin: Origin,
     overlay: &mut Overlay<W, F>,
     alloc: Global,
     clock: u64,
     age: u64,
 ) -> Result<bool, FilesFault>
     requires entries { AreStorable (listing_of dir.now) }
-    requires sound { W.honest → age ≤ clock - dir.now.stamp → HasNoneInside dir.now → dir.now.unsaved ≡ true
-        → AreSound (with_entries (F.stored overlay.old) number (listing_of dir.now)) }
+    requires sound { (y : Row) × ((y.number ≡ number) × ((y.origin ≡ origin)
+        × (W.honest → age ≤ clock - dir.now.stamp → HasNoneInside dir.now
+        → (G : Stored) → IsPutAway (F.stored overlay.old) y dir.now G → AreSound G))) }
     ensures old { result ≡ Ok true → age ≤ clock - dir.now.stamp }
     ensures inside { result ≡ Ok true → HasNoneInside dir.now }
-    ensures saved { W.honest → result ≡ Ok true → dir.now.unsaved ≡ false → F.stored overlay.new ≡ F.stored overlay.old }
-    ensures stored { W.honest → result ≡ Ok true → dir.now.unsaved ≡ true
-        → F.stored overlay.new ≡ with_entries (F.stored overlay.old) number (listing_of dir.now) }
+    ensures away { W.honest → result ≡ Ok true → (y : Row) → y.number ≡ number → y.origin ≡ origin
+        → IsPutAway (F.stored overlay.old) y dir.now (F.stored overlay.new) }
     ensures stays { result ≡ Ok false → age ≤ clock - dir.now.stamp → ¬ HasNoneInside dir.now }
     ensures unchanged { W.honest → result ≡ Ok false → F.stored overlay.new ≡ F.stored overlay.old }
-    ensures refused { OnErr result (dir.now.unsaved ≡ true) }
+    ensures refused { OnErr result ((dir.now.unsaved ≡ true) ⊎ ((i : id.Id) × (origin ≡ origins.Object i))) }
     ensures left { W.honest → OnErr result (F.stored overlay.new ≡ F.stored overlay.old) }
     ensures counted { Counted (result ≡ Err files.Device) (F.failures overlay.old) (F.failures overlay.new) }
 {
@@ -64,21 +103,19 @@ fn may_go<A: Allocator, W: World, F: Files<W>>(
     if !has_none_inside(dir) {
         return Ok(false);
     }
-    if !dir.unsaved() {
-        return Ok(true);
-    }
-    match save(alloc, overlay, number, dir, Listed::Whole) {
+    match put_away(dir, number, origin, overlay, alloc) {
         Ok(()) => Ok(true),
         Err(fault) => Err(fault),
     }
 }
 
-/// Unloads what is old enough inside a directory of that number, the leaves first: what came of that, and whether it goes
-/// too.
+/// Unloads what is old enough inside a directory of that number and origin, the leaves first: what came of that, and
+/// whether it goes too.
 #[cycle(unload)]
 fn unload_inside<A: Allocator, W: World, F: Files<W>>(
     dir: &mut Dir<A>,
     number: u64,
+    origin: Origin,
     overlay: &mut Overlay<W, F>,
     alloc: Global,
     clock: u64,
@@ -86,14 +123,16 @@ fn unload_inside<A: Allocator, W: World, F: Files<W>>(
 ) -> (Gone, bool)
     requires may { (x : Row)
         × ((x.number ≡ number)
-        × ((child_of x ≡ Some dir.old) × MayUnload W.honest clock age (F.stored overlay.old) x)) }
-    ensures goes { IsTrue result.1 → (x : Row) → x.number ≡ number → child_of x ≡ Some dir.old → (c : ℕ)
+        × ((x.origin ≡ origin)
+        × ((child_of x ≡ Some dir.old) × MayGoAway W.honest clock age (F.stored overlay.old) x))) }
+    ensures goes { IsTrue result.1 → (x : Row) → x.number ≡ number → x.origin ≡ origin → child_of x ≡ Some dir.old
+        → (c : ℕ) × ((result.0.count ≡ min c u64.MAX)
+        × UnloadsAway W.honest clock age (F.stored overlay.old) x (F.stored overlay.new) (with_child None x) (c + 1)) }
+    ensures stays { IsFalse result.1 → (x : Row) → child_of x ≡ Some dir.old → (c : ℕ)
         × ((result.0.count ≡ min c u64.MAX)
-        × Unloads W.honest clock age (F.stored overlay.old) x (F.stored overlay.new) (with_child None x) (c + 1)) }
-    ensures stays { IsFalse result.1 → (x : Row) → x.number ≡ number → child_of x ≡ Some dir.old → (c : ℕ)
-        × ((result.0.count ≡ min c u64.MAX)
-        × Unloads W.honest clock age (F.stored overlay.old) x (F.stored overlay.new) (with_child (Some dir.new) x) c) }
-    ensures settled { IsFalse result.1 → (x : Row)
+        × UnloadsAway W.honest clock age (F.stored overlay.old) x (F.stored overlay.new)
+        (with_child (Some dir.new) x) c) }
+    ensures settled { IsFalse result.1 → (x : Row) → x.origin ≡ origin
         → IsSettled clock age result.0.refused (with_child (Some dir.new) x) }
     ensures counted { Counted (result.0.refused ≡ Some files.Device) (F.failures overlay.old) (F.failures overlay.new) }
 {
@@ -107,7 +146,7 @@ fn unload_inside<A: Allocator, W: World, F: Files<W>>(
             }
         }
     }
-    match may_go(dir, number, overlay, alloc, clock, age) {
+    match may_go(dir, number, origin, overlay, alloc, clock, age) {
         Ok(goes) => (gone, goes),
         Err(fault) => (both(gone, refusal(fault)), false),
     }
@@ -122,15 +161,16 @@ fn unload_entry<A: Allocator, W: World, F: Files<W>>(
     clock: u64,
     age: u64,
 ) -> Gone
-    requires may { MayUnload W.honest clock age (F.stored overlay.old) entry.old }
+    requires may { MayGoAway W.honest clock age (F.stored overlay.old) entry.old }
     ensures unloaded { IsUnloaded W.honest clock age (F.stored overlay.old) entry.old
         (F.stored overlay.new) entry.new result }
     ensures counted { Counted (result.refused ≡ Some files.Device) (F.failures overlay.old) (F.failures overlay.new) }
 {
     let number = entry.number;
+    let origin = entry.origin;
     let (gone, goes) = match entry.directory_mut() {
         None => return NOTHING,
-        Some(dir) => unload_inside(dir, number, overlay, alloc, clock, age),
+        Some(dir) => unload_inside(dir, number, origin, overlay, alloc, clock, age),
     };
     if goes {
         entry.child = None;
@@ -151,7 +191,7 @@ pub(crate) struct Unloading {
 impl<A: Allocator, W: World, F: Files<W>> Change<A, Overlay<W, F>> for Unloading {
     type Output = Gone;
 
-    ghost may = { λ u o x. MayUnload W.honest u.clock u.older_than (F.stored o) x };
+    ghost may = { λ u o x. MayGoAway W.honest u.clock u.older_than (F.stored o) x };
 
     ghost does = { λ u o x p z gone.
         IsUnloaded W.honest u.clock u.older_than (F.stored o) x (F.stored p) z gone

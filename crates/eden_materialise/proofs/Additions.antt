@@ -1,9 +1,10 @@
 -- A new entry, whose own file is stored first: it may stand there, and it shows.
-use Rattle.std.proofs.Common.{◌≡◌, ◌+◌, ℕ, true, false, List, [], ◌∷◌, ◌++◌, Option, Some, None, IfSome, Result, OnOk, OnErr, refl, sym, ap, ◌∙◌, subst, arith}
+use Rattle.std.proofs.Common.{◌≡◌, ◌≤◌, ◌+◌, ℕ, true, false, List, [], ◌∷◌, ◌++◌, Option, Some, None, IfSome, Result, OnOk, OnErr, refl, sym, ap, ◌∙◌, subst, arith}
 use Rattle.std.specs.List.Sorted.{IsStrictlySortedBy}
 use Rattle.eden_model.specs.declared.fault.Fault.{Fault}
 use Rattle.eden_model.specs.declared.kind.Kind.TheVariants as kind
 use Rattle.eden_model.specs.Repository.{Repository}
+use Rattle.eden_model.specs.Limits.{number_end}
 use Rattle.eden_model.specs.Names.{name_refusal}
 use Rattle.eden_model.specs.Trees.{Name, Path, graft}
 use Rattle.eden_overlay_format.specs.Directory.{AreStorable, IsStorable}
@@ -21,14 +22,17 @@ use Rattle.eden_coupling.specs.Filing.{leaf}
 use Rattle.eden_coupling.specs.Kept.{IsTable, IsKept}
 use Rattle.eden_coupling.specs.Listings.{stored_entry, listing_of}
 use Rattle.eden_coupling.specs.Loose.{IsLoose, never_given}
+use Rattle.eden_coupling.specs.NumberKept.{KeepsNumbers}
 use Rattle.eden_coupling.specs.Shown.{shown_in}
 use Rattle.eden_coupling.specs.ShownLaws.{shown_from}
 use Rattle.eden_coupling.specs.Standing.{MayStand, new_number}
+use Rattle.eden_coupling.proofs.CallerLemmas.{next_keeps, new_content_numbers, new_entries_numbers}
 use Rattle.eden_coupling.proofs.CallerLemmas.{place_at, next_rises, entry_storable, loose_sound, loose_kept, loose_alike, file_shows, empty_shows, loose_elsewhere}
 use Rattle.eden_materialise.specs.declared.new_entry.NewEntry.{NewEntry}
 use Rattle.eden_materialise.specs.declared.new_entry.NewEntry.TheVariants as new
 use Rattle.eden_materialise.specs.Filing.{kind_as, node_as, with_own, own_row, IsShort, LacksEntry, MayAdd, FilesEntry, RefusedBy}
 use Rattle.eden_materialise.specs.Puts.{AtDirectory}
+use Rattle.eden_materialise.proofs.Numbered.{files_numbered}
 use Rattle.eden_materialise.proofs.Filing.{files_stored, files_strays, files_table, files_marks, files_stay, files_kept, files_unseen, files_shown}
 
 pub nothing_storable : AreStorable []
@@ -83,6 +87,14 @@ module _ (honest : Type 0) (R : Repository) (F : Stored) (x : Row) (p : Path) (n
   pub filed_kept : honest → IsKept R files x k
   filed_kept h = subst (λ (G : Stored). IsKept R G x k) (sym (own_put F k e).1) (loose_kept R F x k k (own_put F k e).0 may.table (may.kept h) loose)
 
+  numbers_by : (e : NewEntry) → honest → KeepsNumbers R (with_own F k e) x k
+  numbers_by (new.File executable content) h = (new_content_numbers R F x k k (may.numbers h) (omega arith) content.now).keeps
+  numbers_by (new.Link target) h = (new_content_numbers R F x k k (may.numbers h) (omega arith) target.now).keeps
+  numbers_by new.Dir h = (new_entries_numbers R F x k k (may.numbers h) (omega arith) []).keeps
+
+  pub filed_numbers : honest → KeepsNumbers R files x k
+  filed_numbers h = numbers_by e h
+
   pub filed_alike : honest → shown_in R files x ≡ shown_in R F x
   filed_alike h = ap (λ (G : Stored). shown_in R G x) (own_put F k e).1 ∙ loose_alike R F x k k (own_put F k e).0 may.table (may.kept h) loose
 
@@ -106,6 +118,7 @@ module _ (honest : Type 0) (R : Repository) (F : Stored) (x : Row) (p : Path) (n
         unloaded = refl;
         numbered = new_number may.table.least (omega arith)
             (λ h. subst (λ (G : Stored). IsKept R G x k) (sym (is h)) (filed_kept h))
+            (λ h. subst (λ (G : Stored). KeepsNumbers R G x k) (sym (is h)) (filed_numbers h))
             (λ h. subst (λ (G : Stored). HoldsKind G k (kind_as e)) (sym (is h)) (own_held F k e may.short))
             (λ h dir. subst (λ (G : Stored). HoldsEntries G k []) (sym (is h)) (own_empty F k e dir));
       }
@@ -133,7 +146,7 @@ module _ (T : Type 0) (stored : T → Stored) (failures : T → ℕ) (honest : T
 -- it may come there before, and so it may then
 module _ (T : Type 0) (stored : T → Stored) (failures : T → ℕ) (honest : Type 0) (R : Repository) (p : Path) (n : Name) (e : NewEntry) (t u : Table T) (k : ℕ)
     (given : u ≡ record t { next = t.next + 1 }) (is : k ≡ t.next) (lacks : LacksEntry t.root p n) (table : IsTable t.root t.next)
-    (kept : honest → IsKept R (stored t.files) t.root t.next) (room : HasRoom lacks.directory n) (name : name_refusal n ≡ None) (short : IsShort e)
+    (kept : honest → IsKept R (stored t.files) t.root t.next × KeepsNumbers R (stored t.files) t.root t.next) (room : HasRoom lacks.directory n) (name : name_refusal n ≡ None) (short : IsShort e)
     (then : IsTable u.root u.next) where
   next_is : u.next ≡ t.next + 1
   next_is = ap (λ (v : Table T). v.next) given
@@ -142,7 +155,8 @@ module _ (T : Type 0) (stored : T → Stored) (failures : T → ℕ) (honest : T
   may_before = record {
     lacks = lacks;
     table = table;
-    kept = kept;
+    kept = λ h. (kept h).0;
+    numbers = λ h. (kept h).1;
     room = room;
     name = name;
     short = short;
@@ -189,7 +203,7 @@ module _ (T : Type 0) (stored : T → Stored) (failures : T → ℕ) (honest : T
 
     module _ (h : honest) where
       kept_before : IsKept R F t.root (t.next + 1)
-      kept_before = next_rises R F t.root t.next (t.next + 1) (kept h) (omega arith)
+      kept_before = next_rises R F t.root t.next (t.next + 1) (kept h).0 (omega arith)
 
       kept_filed : IsKept R M t.root (t.next + 1)
       kept_filed = kept_given honest R F t.root p n t.next e may_before M (λ hon. refl) h
@@ -197,6 +211,14 @@ module _ (T : Type 0) (stored : T → Stored) (failures : T → ℕ) (honest : T
       pub adds_kept : IsKept R G z u.next
       adds_kept = subst (λ (j : ℕ). IsKept R G z j) (sym next_is)
           (files_kept honest p n w F M t.root (failures t.files) G z now R (t.next + 1) given_table may_stand h kept_before kept_filed answer was_done)
+
+      most : t.next + 1 ≤ number_end
+      most = let one = next_is in let most = then.most in omega (arith, one, most)
+
+      pub adds_numbered : KeepsNumbers R G z u.next
+      adds_numbered = subst (λ (j : ℕ). KeepsNumbers R G z j) (sym next_is)
+          (files_numbered honest p n w F M t.root (failures t.files) G z now (t.next + 1) R given_table may_stand h (next_keeps R F t.root t.next (t.next + 1) (kept h).1 (omega arith) most)
+          kept_filed (next_keeps R M t.root t.next (t.next + 1) (filed_numbers honest R F t.root p n t.next e may_before h) (omega arith) most) answer was_done)
 
       pub adds_unseen : OnErr answer (shown_in R G z ≡ shown_in R F t.root)
       adds_unseen = files_unseen honest p n w F M t.root (failures t.files) G z now R (t.next + 1) given_table may_stand h kept_before kept_filed

@@ -85,7 +85,7 @@ module _ (honest : Type 0) (R : Repository) (p : Path) (n : Name) (w : Row) (con
       | false ↦ λ other. loose_sound R F x next w.number _ table k (loose other)
     ] refl
 
-    filled_kept : IsKept R M x next
+    pub filled_kept : IsKept R M x next
     filled_kept = elim (is_own w.origin) as (λ b. is_own w.origin ≡ b → IsKept R M x next) [
       | true ↦ λ own. content_kept R F x next p n w content table k a (own_then w.origin own) short
       | false ↦ λ other. loose_kept R F x next w.number _ table k (loose other)

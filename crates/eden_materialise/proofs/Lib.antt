@@ -13,3 +13,4 @@ mod Filing
 mod Additions
 mod Fills
 mod Fronts
+pub mod Numbered

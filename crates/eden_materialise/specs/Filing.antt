@@ -20,6 +20,7 @@ use Rattle.eden_tree.specs.Paths.{row_at}
 use Rattle.eden_coupling.specs.Chains.{Refused}
 use Rattle.eden_coupling.specs.Changing.{HasRoom}
 use Rattle.eden_coupling.specs.Kept.{IsTable, IsKept}
+use Rattle.eden_coupling.specs.NumberKept.{KeepsNumbers}
 use Rattle.eden_materialise.specs.declared.new_entry.NewEntry.{NewEntry}
 use Rattle.eden_materialise.specs.declared.new_entry.NewEntry.TheVariants as new
 use Rattle.eden_materialise.specs.Faults.{IsStoreFault}
@@ -67,6 +68,7 @@ pub record MayAdd (honest : Type 0) (R : Repository) (F : Stored) (x : Row) (p :
   pub lacks : LacksEntry x p n
   pub table : IsTable x k
   pub kept : honest → IsKept R F x k
+  pub numbers : honest → KeepsNumbers R F x k
   pub room : HasRoom lacks.directory n
   pub name : name_refusal n ≡ None
   pub short : IsShort e

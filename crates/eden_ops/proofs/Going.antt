@@ -12,7 +12,7 @@ use Rattle.eden_tree.specs.Rows.{find_row}
 use Rattle.eden_tree.specs.Paths.{row_at, edit_row, Standing, standing, standing_at}
 use Rattle.eden_tree.proofs.CallerLemmas.{reads_on, edits_one, edits_there, edits_not_beside, edits_nothing, child_of-with_child, row_at-unloaded}
 use Rattle.eden_coupling.specs.Chains.{IsLoadedAt, IsUnsavedAt, NoneMarked, StaysLoaded}
-use Rattle.eden_coupling.specs.Unloading.{Unloads, none, one_more, same_files}
+use Rattle.eden_coupling.specs.NumberUnloads.{UnloadsAway, none, one_more, same_files}
 use Rattle.eden_coupling.proofs.CallerLemmas.{map_some, loaded_there, Loaded, loaded_found, mark_of, unsaved_standing, standing_unsaved}
 use Rattle.eden_ops.specs.Changes.{SameNames}
 use Rattle.eden_ops.specs.Letting.{IsLeft, LetsGo}
@@ -102,7 +102,7 @@ fewer_left x z left q now =
     by l s y there is (inr gone) = absurd (none-some (l.directory.stamp, l.directory.unsaved) (sym gone ∙ ap (option_map (λ (e : Directory). (e.stamp, e.unsaved))) l.holds))
 
 -- any number of them
-unloads_left : (honest : Type 0) (clock age : ℕ) (F : Stored) (x : Row) (G : Stored) (z : Row) (c : ℕ) → Unloads honest clock age F x G z c
+unloads_left : (honest : Type 0) (clock age : ℕ) (F : Stored) (x : Row) (G : Stored) (z : Row) (c : ℕ) → UnloadsAway honest clock age F x G z c
     → (q : Path) (v : Standing) → standing_at q z ≡ Some v → WasThere x q v
 unloads_left honest clock age F x _ _ _ none q v is = (v, (is, left_same v))
 unloads_left honest clock age F x _ _ _ (one_more G y c H z u g) q v is =
@@ -111,7 +111,7 @@ unloads_left honest clock age F x _ _ _ (one_more G y c H z u g) q v is =
     (b.0, (b.1.0, left_on b.0 a.0 v b.1.1 a.1.1))
 unloads_left honest clock age F x _ _ _ (same_files G y c H u same) q v is = unloads_left honest clock age F x G y c u q v is
 
-unloads_names : (honest : Type 0) (clock age : ℕ) (F : Stored) (x : Row) (G : Stored) (z : Row) (c : ℕ) → Unloads honest clock age F x G z c → SameNames x z
+unloads_names : (honest : Type 0) (clock age : ℕ) (F : Stored) (x : Row) (G : Stored) (z : Row) (c : ℕ) → UnloadsAway honest clock age F x G z c → SameNames x z
 unloads_names honest clock age F x _ _ _ none = names_same x x refl
 unloads_names honest clock age F x _ _ _ (one_more G y c H z u g) =
     let back = fewer_left y z (λ q v is. was_there g.path y g.row g.at q v (sym (ap (standing_at q) g.gone) ∙ is)) in
@@ -119,7 +119,7 @@ unloads_names honest clock age F x _ _ _ (one_more G y c H z u g) =
 unloads_names honest clock age F x _ _ _ (same_files G y c H u same) = unloads_names honest clock age F x G y c u
 
 -- .. at and below a path alone
-pub lets_go : (honest : Type 0) (clock age : ℕ) (F : Stored) (x : Row) (G : Stored) (z : Row) (c : ℕ) → Unloads honest clock age F x G z c
+pub lets_go : (honest : Type 0) (clock age : ℕ) (F : Stored) (x : Row) (G : Stored) (z : Row) (c : ℕ) → UnloadsAway honest clock age F x G z c
     → (p : Path) → (y : Row) × (z ≡ edit_row p (λ w. y) x) → LetsGo p x z
 lets_go honest clock age F x G z c u p one = record { elsewhere = one; left = unloads_left honest clock age F x G z c u; names = unloads_names honest clock age F x G z c u }
 

@@ -1,8 +1,9 @@
 -- What changes nothing marks no directory unsaved.
-use Rattle.std.proofs.Common.{◌≡◌, ◌≤◌, ℕ, Bool, List, Option, Some, None, Result, Ok, Err, OnOk, IfErr, sym, refl, ◌∙◌, ap, subst, inl, inr, arith}
+use Rattle.std.proofs.Common.{◌≡◌, ◌≤◌, ◌⊎◌, ℕ, Bool, List, Option, Some, None, Result, Ok, Err, OnOk, IfErr, sym, refl, ◌∙◌, ap, subst, inl, inr, arith}
 use Rattle.std.specs.Option.{option_map}
 use Rattle.eden_model.specs.declared.fault.Fault.{Fault}
 use Rattle.eden_model.specs.declared.fault.Fault.TheVariants as fault
+use Rattle.eden_model.specs.declared.kind.Origin.TheVariants as origin
 use Rattle.eden_model.specs.declared.world.World.{Ghosts}
 use Rattle.eden_model.specs.Paths.{behind_of}
 use Rattle.eden_model.specs.Trees.{Path, grafted}
@@ -11,12 +12,12 @@ use Rattle.eden_tree.specs.Directory.{Row, Directory, child_of, with_child}
 use Rattle.eden_tree.specs.Paths.{row_at, edit_row, stamped_along, Standing, standing, standing_at, stamped}
 use Rattle.eden_tree.proofs.CallerLemmas.{stamps_along}
 use Rattle.eden_coupling.specs.Chains.{NoneMarked, StaysLoaded}
-use Rattle.eden_coupling.specs.Loading.{IsNew, LoadsOwn}
+use Rattle.eden_coupling.specs.Loading.{IsAt, IsNew, LoadsOwn}
 use Rattle.eden_coupling.proofs.CallerLemmas.{map_some, none_inside, loaded_there, loaded_found, mark_of, unsaved_standing, standing_unsaved, none_marked_with}
-use Rattle.eden_inode.specs.Tables.{Table, HasNoTree}
+use Rattle.eden_inode.specs.Tables.{Table}
 use Rattle.eden_materialise.specs.Faults.{IsStoreFault}
 use Rattle.eden_ops.specs.Changes.{StaysOrBecomesOwn, LeavesOn, Leaves}
-use Rattle.eden_ops.specs.Keeping.{Loads, from_object, without, Step, stamps, loads, rests, Keeps, same, on}
+use Rattle.eden_ops.specs.Keeping.{Loads, from_object, without, resumed, Step, stamps, loads, rests, Keeps, same, on}
 use Rattle.eden_ops.specs.Laws.{Grows, KeepsLeaves}
 use Rattle.eden_ops.proofs.Roots.{comes_on, root_grows}
 use Rattle.eden_ops.proofs.Steps.{keeps_entries, keeps_counts}
@@ -55,14 +56,15 @@ grows_loads x z g p is =
 -- ---- the steps
 
 module _ {W F : Type 0} (w : Ghosts W) (f : Files F W) where
-  own_marks : (s : Table F) (p : Path) (z : Row) → HasNoTree p s.root → (l : LoadsOwn w.honest s.clock (f.stored s.files) s.root p z)
+  own_marks : (s : Table F) (p : Path) (z : Row) → IsAt p s.root origin.Own ⊎ IsAt p s.root origin.Empty → (l : LoadsOwn w.honest s.clock (f.stored s.files) s.root p z)
       → NoneMarked s.root (stamped_along p s.clock (edit_row p (with_child (Some l.directory)) s.root))
   own_marks s p z (inl at) l = loaded_marks p s.root at.row l.directory s.clock at.there l.new
   own_marks s p z (inr at) l = loaded_marks p s.root at.row l.directory s.clock at.there l.new
 
   load_marks : (s t : Table F) (p : Path) → Loads w f p s t → NoneMarked s.root t.root
-  load_marks s t p (from_object id es at tree l) = subst (NoneMarked s.root) (sym l.is) (loaded_marks p s.root at.row l.directory s.clock at.there l.new)
+  load_marks s t p (from_object id es at tree unsaved l) = subst (NoneMarked s.root) (sym l.is) (loaded_marks p s.root at.row l.directory s.clock at.there l.new)
   load_marks s t p (without none l next) = subst (NoneMarked s.root) (sym l.is) (own_marks s p t.root none l)
+  load_marks s t p (resumed id at l had from next) = subst (NoneMarked s.root) (sym l.is) (loaded_marks p s.root at.row l.directory s.clock at.there l.new)
 
   step_marks : {ps : List Path} (s t : Table F) → Step w f ps s t → NoneMarked s.root t.root
   step_marks s _ (stamps p at) = stamps_mark p s.clock s.root

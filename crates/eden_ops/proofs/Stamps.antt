@@ -17,7 +17,7 @@ use Rattle.eden_tree.proofs.CallerLemmas.{stamps_along, reads_on, edits_one, row
 use Rattle.eden_coupling.specs.Loading.{IsNew}
 use Rattle.eden_coupling.proofs.CallerLemmas.{none_inside}
 use Rattle.eden_inode.specs.Tables.{Table}
-use Rattle.eden_ops.specs.Keeping.{LeadsTo, Loads, from_object, without, Step, stamps, loads, rests, Keeps, same, on}
+use Rattle.eden_ops.specs.Keeping.{LeadsTo, Loads, from_object, without, resumed, Step, stamps, loads, rests, Keeps, same, on}
 use Rattle.eden_ops.specs.Laws.{KeepsStamps}
 use Rattle.eden_ops.specs.Stamps.{stamp_at, StampsTowards, IsWalked}
 use Rattle.eden_ops.proofs.Steps.{leads_front, keeps_counts}
@@ -123,9 +123,12 @@ module _ (ps : List Path) (p : Path) (leads : LeadsTo ps p) where
 
 module _ {W F : Type 0} (w : Ghosts W) (f : Files F W) where
   load_stamps : (ps : List Path) (s t : Table F) (p : Path) → LeadsTo ps p → Loads w f p s t → StampsTowards ps s.clock s.root t.root
-  load_stamps ps s t p leads (from_object id es at tree l) = subst (λ (z : Row). StampsTowards ps s.clock s.root z) (sym l.is) (loaded_path ps p leads s.root at.row l.directory s.clock at.there l.new)
+  load_stamps ps s t p leads (from_object id es at tree unsaved l) =
+      subst (λ (z : Row). StampsTowards ps s.clock s.root z) (sym l.is) (loaded_path ps p leads s.root at.row l.directory s.clock at.there l.new)
   load_stamps ps s t p leads (without (inl at) l next) = subst (λ (z : Row). StampsTowards ps s.clock s.root z) (sym l.is) (loaded_path ps p leads s.root at.row l.directory s.clock at.there l.new)
   load_stamps ps s t p leads (without (inr at) l next) = subst (λ (z : Row). StampsTowards ps s.clock s.root z) (sym l.is) (loaded_path ps p leads s.root at.row l.directory s.clock at.there l.new)
+  load_stamps ps s t p leads (resumed id at l had from next) =
+      subst (λ (z : Row). StampsTowards ps s.clock s.root z) (sym l.is) (loaded_path ps p leads s.root at.row l.directory s.clock at.there l.new)
 
   step_stamps : (ps : List Path) (s t : Table F) → Step w f ps s t → StampsTowards ps s.clock s.root t.root
   step_stamps ps s _ (stamps p leads) = stamps_path ps p leads s.clock s.root

@@ -1,7 +1,8 @@
 -- Steps that change nothing, one after the other.
-use Rattle.std.proofs.Common.{◌≡◌, ◌≤◌, ◌++◌, ◌∷◌, ℕ, true, List, [], take, drop, Option, Some, None, sym, refl, ◌∙◌, ap, subst, inl, inr, arith}
+use Rattle.std.proofs.Common.{◌≡◌, ◌≤◌, ◌++◌, ◌∷◌, ℕ, true, List, [], ◌⊎◌, take, drop, Option, Some, None, sym, refl, ◌∙◌, ap, subst, inl, inr, arith}
 use Rattle.std.proofs.lemmas.List.{append-nil, append_assoc, take-append-drop}
 use Rattle.std.specs.Option.{is_some}
+use Rattle.eden_model.specs.declared.kind.Origin.TheVariants as origin
 use Rattle.eden_model.specs.declared.tree_entry.TreeEntry.{TreeEntry}
 use Rattle.eden_model.specs.declared.world.World.{Ghosts}
 use Rattle.eden_model.specs.Operations.{is_front}
@@ -11,14 +12,17 @@ use Rattle.eden_model.proofs.CallerLemmas.{behind_sound, behind_back}
 use Rattle.eden_overlay.specs.declared.files.Files.{Ghosts as Files}
 use Rattle.eden_tree.specs.Directory.{Row, with_child}
 use Rattle.eden_tree.specs.Paths.{edit_row, stamped_along}
-use Rattle.eden_coupling.specs.Loading.{LoadsObject, LoadsOwn}
+use Rattle.eden_coupling.specs.Listings.{listing_of}
+use Rattle.eden_coupling.specs.Loading.{IsAt, LoadsObject, LoadsOwn}
+use Rattle.eden_coupling.specs.NumberKept.{KeepsNumbers}
 use Rattle.eden_coupling.specs.ShownLaws.{StampsAlike, ObjectLoadsAlike}
-use Rattle.eden_coupling.proofs.CallerLemmas.{own_loads_alike}
-use Rattle.eden_inode.specs.Tables.{Table, HasTree, HasNoTree, shows}
-use Rattle.eden_ops.specs.Keeping.{LeadsTo, Loads, from_object, without, Beside, Step, stamps, loads, rests, Keeps, same, on}
+use Rattle.eden_coupling.proofs.CallerLemmas.{own_loads_alike, resumed_alike, saved_load_from}
+use Rattle.eden_inode.specs.Tables.{Table, HasTree, HasNoTree, LoadsStored, shows}
+use Rattle.eden_ops.specs.Keeping.{LeadsTo, Loads, from_object, without, resumed, Beside, Step, stamps, loads, rests, Keeps, same, on}
 use Rattle.eden_ops.specs.Laws.{Grows, KeepsShown, KeepsFiles, KeepsEntries, KeepsCounts}
 use Rattle.eden_coupling.specs.Shown.{shown_in}
 use Rattle.eden_overlay.specs.Files.{Stored}
+use Rattle.eden_overlay.specs.Held.{saved_at}
 use Rattle.eden_ops.proofs.Growing.{grows_same, grows_on, grows_stamped, grows_loaded}
 
 -- ---- which paths lead to others
@@ -84,14 +88,15 @@ module _ {W F : Type 0} (w : Ghosts W) (f : Files F W) where
 
   -- ---- what a step leaves
 
-  own_grows : (s : Table F) (p : Path) (z : Row) → HasNoTree p s.root → (l : LoadsOwn w.honest s.clock (f.stored s.files) s.root p z)
+  own_grows : (s : Table F) (p : Path) (z : Row) → IsAt p s.root origin.Own ⊎ IsAt p s.root origin.Empty → (l : LoadsOwn w.honest s.clock (f.stored s.files) s.root p z)
       → Grows s.root (stamped_along p s.clock (edit_row p (with_child (Some l.directory)) s.root))
   own_grows s p z (inl at) l = grows_loaded p s.root at.row l.directory at.there at.unloaded at.kind s.clock
   own_grows s p z (inr at) l = grows_loaded p s.root at.row l.directory at.there at.unloaded at.kind s.clock
 
   load_grows : (s t : Table F) (p : Path) → Loads w f p s t → Grows s.root t.root
-  load_grows s t p (from_object id es at tree l) = subst (λ (z : Row). Grows s.root z) (sym l.is) (grows_loaded p s.root at.row l.directory at.there at.unloaded at.kind s.clock)
+  load_grows s t p (from_object id es at tree unsaved l) = subst (λ (z : Row). Grows s.root z) (sym l.is) (grows_loaded p s.root at.row l.directory at.there at.unloaded at.kind s.clock)
   load_grows s t p (without none l next) = subst (λ (z : Row). Grows s.root z) (sym l.is) (own_grows s p t.root none l)
+  load_grows s t p (resumed id at l had from next) = subst (λ (z : Row). Grows s.root z) (sym l.is) (grows_loaded p s.root at.row l.directory at.there at.unloaded at.kind s.clock)
 
   step_grows : {ps : List Path} (s t : Table F) → Step w f ps s t → Grows s.root t.root
   step_grows s _ (stamps p at) = grows_stamped p s.clock s.root
@@ -115,8 +120,9 @@ module _ {W F : Type 0} (w : Ghosts W) (f : Files F W) where
   Counts s t = (t.clock ≡ s.clock) × ((t.changes ≡ s.changes) × ((s.next ≤ t.next) × (f.failures s.files ≤ f.failures t.files)))
 
   load_next : (s t : Table F) (p : Path) → Loads w f p s t → s.next ≤ t.next
-  load_next s t p (from_object id es at tree l) = let is = l.gives in omega (arith, is)
+  load_next s t p (from_object id es at tree unsaved l) = let is = l.gives in omega (arith, is)
   load_next s t p (without none l next) = omega (arith, next)
+  load_next s t p (resumed id at l had from next) = omega (arith, next)
 
   step_counts : {ps : List Path} (s t : Table F) → Step w f ps s t → Counts s t
   step_counts s _ (stamps p at) = (refl, (refl, (omega arith, omega arith)))
@@ -133,8 +139,9 @@ module _ {W F : Type 0} (w : Ghosts W) (f : Files F W) where
 
   module _ (stamped : StampsAlike) (object : ObjectLoadsAlike) where
     load_shown : (s t : Table F) (p : Path) → Loads w f p s t → w.honest → shown_in w.repository (f.stored s.files) t.root ≡ shows w f s
-    load_shown s t p (from_object id es at tree l) h = object w.repository (f.stored s.files) s.clock s.next s.root p id es t.root t.next at (tree h) l
+    load_shown s t p (from_object id es at tree unsaved l) h = object w.repository (f.stored s.files) s.clock s.next s.root p id es t.root t.next at (tree h) l
     load_shown s t p (without none l next) h = own_loads_alike w.honest w.repository (f.stored s.files) s.clock s.root p t.root h none l
+    load_shown s t p (resumed id at l had from next) h = resumed_alike w.honest w.repository (f.stored s.files) s.clock s.root p t.root id at l (from h)
 
     step_shown : {ps : List Path} (s t : Table F) → Step w f ps s t → w.honest → shows w f t ≡ shows w f s
     step_shown s _ (stamps p at) h = stamped w.repository (f.stored s.files) p s.clock s.root
@@ -151,12 +158,20 @@ module _ {W F : Type 0} (w : Ghosts W) (f : Files F W) where
   pub looks : (s t : Table F) (p : Path) → t ≡ record s { root = stamped_along p s.clock s.root } → Keeps w f (p ∷ []) s t
   looks s t p is = subst (λ (u : Table F). Keeps w f (p ∷ []) s u) (sym is) (keeps_step s (record s { root = stamped_along p s.clock s.root }) (stamps p (leads_here p)))
 
-  pub loads_object : (s t : Table F) (p : Path) (es : List TreeEntry) → HasTree w.repository w.honest p s.root es → LoadsObject s.clock s.next s.root p es t.root t.next → Beside w f s t
-      → Keeps w f (p ∷ []) s t
-  loads_object s t p es has l b = keeps_step s t (loads t p (leads_here p) (from_object has.id es has.at has.tree l) b)
+  pub loads_object : (s t : Table F) (p : Path) (es : List TreeEntry) → HasTree w.repository w.honest (f.stored s.files) p s.root es
+      → LoadsObject s.clock s.next s.root p es t.root t.next → Beside w f s t → Keeps w f (p ∷ []) s t
+  loads_object s t p es has l b = keeps_step s t (loads t p (leads_here p) (from_object has.id es has.at has.tree has.unsaved l) b)
 
-  pub loads_own : (s t : Table F) (p : Path) → HasNoTree p s.root → LoadsOwn w.honest s.clock (f.stored s.files) s.root p t.root → t.next ≡ s.next → Beside w f s t → Keeps w f (p ∷ []) s t
-  loads_own s t p none l next b = keeps_step s t (loads t p (leads_here p) (without none l next) b)
+  -- what is stored for a directory, where the table's numbers are kept
+  pub loads_stored : (s t : Table F) (p : Path) → (w.honest → KeepsNumbers w.repository (f.stored s.files) s.root s.next) → HasNoTree w.honest (f.stored s.files) p s.root
+      → LoadsStored w.honest s.clock (f.stored s.files) s.root p t.root → t.next ≡ s.next → Beside w f s t → Keeps w f (p ∷ []) s t
+  loads_stored s t p k (inl own) l next b = keeps_step s t (loads t p (leads_here p) (without (inl own) l.loads next) b)
+  loads_stored s t p k (inr (inl empty)) l next b = keeps_step s t (loads t p (leads_here p) (without (inr empty) l.loads next) b)
+  loads_stored s t p k (inr (inr has)) l next b =
+      let had : w.honest → saved_at (f.stored s.files) has.at.row.number has.id ≡ Some (listing_of l.loads.directory) =
+      λ h. l.saved h has.at.row has.id has.at.there has.at.origin in
+      keeps_step s t (loads t p (leads_here p) (resumed has.id has.at l.loads had
+      (λ h. saved_load_from w.repository (f.stored s.files) s.clock s.next s.root p has.id l.loads.directory (k h) has.at (had h) l.loads.new) next) b)
 
   pub loads_none : {ps : List Path} (s t : Table F) → t.root ≡ s.root → t.next ≡ s.next → Beside w f s t → Keeps w f ps s t
   loads_none s t root next b = keeps_step s t (rests t root next b)

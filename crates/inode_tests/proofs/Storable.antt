@@ -41,7 +41,7 @@ not_loaded next (Some z) new = new.unloaded
 
 numbered : (R : Repository) (F : Stored) (x : Row) (next : ℕ) (d : Directory) (n : Name) (o : Option Row) → IfSome o (IsNewOwn next) → IfSome o (IsNumbered ⊥ R F x next d n)
 numbered R F x next d n None new = tt
-numbered R F x next d n (Some z) new = new_number new.least new.given (λ h. absurd h) (λ h. absurd h) (λ h. absurd h)
+numbered R F x next d n (Some z) new = new_number new.least new.given (λ h. absurd h) (λ h. absurd h) (λ h. absurd h) (λ h. absurd h)
 
 -- of an outside that is never honest nothing has to be known
 pub may_stand : (R : Repository) (F : Stored) (x : Row) (next : ℕ) (p : Path) (n : Name) (o : Option Row) → IsTable x next → IsOpenAt p n x → IfSome o (IsNewOwn next)

@@ -1,16 +1,17 @@
-use Rattle.std.proofs.Common.{rules, ◌≡◌, ◌<◌, ◌≤◌, ◌+◌, ℕ, List, Bool, Result, Ok, Option, Some, None, IsSome, false, true, length, refl, sym, ap, ◌∙◌, subst, arith}
+use Rattle.std.proofs.Common.{rules, ◌≡◌, ◌⊎◌, inl, inr, ◌<◌, ◌≤◌, ◌+◌, ℕ, List, Bool, Result, Ok, Option, Some, None, IsSome, false, true, length, refl, sym, ap, ◌∙◌, subst, arith}
 use Rattle.std.specs.List.{slice_get}
 use Rattle.std.specs.List.Sorted.{IsStrictlySortedBy}
 use Rattle.eden_overlay.specs.declared.files.FilesFault.{FilesFault}
-use Rattle.eden_overlay.specs.Held.{with_entries}
-use Rattle.eden_overlay.specs.Soundness.{AreSound}
+use Rattle.eden_model.specs.declared.id.Id.{Id}
+use Rattle.eden_model.specs.declared.kind.Origin.{Origin}
+use Rattle.eden_model.specs.declared.kind.Origin.TheVariants as origin
 use Rattle.eden_model.specs.Named.{AreRising}
 use Rattle.eden_model.specs.Trees.{Name}
-use Rattle.eden_tree.specs.Directory.{Row, child_of, with_child, row_size, directory_size}
+use Rattle.eden_tree.specs.Directory.{Row, Directory, child_of, with_child, row_size, directory_size}
 use Rattle.eden_tree.specs.Rows.{find_row, set_at}
 use Rattle.eden_tree.proofs.CallerLemmas.{order, child_of-with_child, with_child-same, length-keys, keys_of-set_at, find_row-slice_get, slice_get-find_row, set_at-set_row, slice_get-set_at-other, row_size-slice_get, directory_size-child_of}
-use Rattle.eden_coupling.specs.Listings.{listing_of}
-use Rattle.eden_coupling.specs.Unloading.{Unloads, none, same_files, IsSettled}
+use Rattle.eden_coupling.specs.NumberUnloads.{IsPutAway, UnloadsAway, none, same_files}
+use Rattle.eden_coupling.specs.Unloading.{IsStoredFirst, IsSettled}
 use Rattle.eden_coupling.proofs.CallerLemmas.{map_some}
 use Rattle.eden_inode.specs.declared.gone.Gone.{Gone}
 use Rattle.eden_inode.specs.Going.{graver}
@@ -32,6 +33,7 @@ unload_entry-unload_inside-requires g t c κs within =
     let x = c.args.entry.now in
     let holds : child_of x ≡ Some c.in-Some.dir.now = sym c.in-Some.ensures.value in
     let number : x.number ≡ c.entry.inside.number = ap (λ (r : Row). r.number) (sym c.entry.view_is) in
+    let origin : x.origin ≡ c.entry.inside.origin = ap (λ (r : Row). r.origin) (sym c.entry.view_is) in
     let falls = directory_size-child_of x c.in-Some.dir.now holds in
     let smaller : directory_size c.in-Some.dir.now + directory_size c.in-Some.dir.now < row_size x + row_size x + 1 = omega (arith, falls) in
     let may = c.requires.may in
@@ -44,12 +46,13 @@ unload_entry-returns-then-goes-clause-unloaded g t c =
     let H = g.F.Files.stored c.unload_inside.new.overlay in
     let holds : child_of x ≡ Some c.in-Some.dir.now = sym c.in-Some.ensures.value in
     let number : x.number ≡ c.entry.inside.number = ap (λ (r : Row). r.number) (sym c.entry.view_is) in
-    let u = c.unload_inside.ensures.goes c.if-goes.true x number holds in
+    let origin : x.origin ≡ c.entry.inside.origin = ap (λ (r : Row). r.origin) (sym c.entry.view_is) in
+    let u = c.unload_inside.ensures.goes c.if-goes.true x number origin holds in
     let told = u.1.0 in
     record {
       count = u.0 + 1;
       counted = omega (arith, told, c.both.ensures.count);
-      unloads = subst (λ (v : Row). Unloads g.W.World.honest c.args.clock c.args.age F x H (with_child None v) (u.0 + 1)) (sym c.entry-2.view_is) u.1.1;
+      unloads = subst (λ (v : Row). UnloadsAway g.W.World.honest c.args.clock c.args.age F x H (with_child None v) (u.0 + 1)) (sym c.entry-2.view_is) u.1.1;
       settled = settled_none g.W.World.honest c.args.clock c.args.age _ _ refl;
     }
 
@@ -58,13 +61,14 @@ unload_entry-returns-else-goes-clause-unloaded g t c =
     let x = c.args.entry.now in
     let holds : child_of x ≡ Some c.in-Some.dir.now = sym c.in-Some.ensures.value in
     let number : x.number ≡ c.entry.inside.number = ap (λ (r : Row). r.number) (sym c.entry.view_is) in
-    let u = c.unload_inside.ensures.stays c.if-goes.false x number holds in
-    record { count = u.0; counted = u.1.0; unloads = u.1.1; settled = c.unload_inside.ensures.settled c.if-goes.false x }
+    let origin : x.origin ≡ c.entry.inside.origin = ap (λ (r : Row). r.origin) (sym c.entry.view_is) in
+    let u = c.unload_inside.ensures.stays c.if-goes.false x holds in
+    record { count = u.0; counted = u.1.0; unloads = u.1.1; settled = c.unload_inside.ensures.settled c.if-goes.false x origin }
 
 pub unload_inside-loop-i-init : goal.unload_inside-loop-i-init
 unload_inside-loop-i-init g t c =
     let F = g.F.Files.stored c.args.overlay.now in record {
-      went = λ x h. (0, (refl, subst (λ (v : Row). Unloads g.W.World.honest c.args.clock c.args.age F x F v 0) (sym (with_child-same x c.args.dir.now h)) none));
+      went = λ x h. (0, (refl, subst (λ (v : Row). UnloadsAway g.W.World.honest c.args.clock c.args.age F x F v 0) (sym (with_child-same x c.args.dir.now h)) none));
       settled = λ j e lt. absurd (omega (arith, lt));
       left = λ j le. refl;
       names = refl;
@@ -89,13 +93,13 @@ unload_inside-unload_entry-more-requires g t c κs within =
     let row : row_size at.0.1 ≡ row_size c.in-Some.entry.now = ap row_size at.1.1 in
     let smaller : row_size c.in-Some.entry.now + row_size c.in-Some.entry.now + 1 < directory_size c.args.dir.now + directory_size c.args.dir.now = omega (arith, falls, row) in
     let x = c.requires.may.0 in
-    let u = c.loop-i.invariant.went x c.requires.may.1.1.0 in
+    let u = c.loop-i.invariant.went x c.requires.may.1.1.1.0 in
     let F = g.F.Files.stored c.args.overlay.now in
     let G = g.F.Files.stored c.loop-i.overlay in
     let w = with_child (Some c.loop-i.dir) x in
     let there : find_row at.0.0 rows ≡ Some c.in-Some.entry.now = find_row-slice_get rows i at.0 rising at.1.0 ∙ ap Some at.1.1 in
     let may = may_below g.W.World.honest c.args.clock c.args.age w c.loop-i.dir at.0.0 c.in-Some.entry.now (child_of-with_child (Some c.loop-i.dir) x) there G
-    (may_still g.W.World.honest c.args.clock c.args.age F G x w u.0 u.1.1 c.requires.may.1.1.1) in
+    (may_still g.W.World.honest c.args.clock c.args.age F G x w u.0 u.1.1 c.requires.may.1.1.1.1) in
     search rules
 
 pub unload_inside-loop-i-preserved : goal.unload_inside-loop-i-preserved
@@ -127,7 +131,7 @@ unload_inside-loop-i-preserved g t c =
             u.0 + v.count,
             (
               omega (arith, one, two, c.both-gone.ensures.count),
-              subst (λ (l : _). Unloads g.W.World.honest c.args.clock c.args.age F x H (with_child (Some (record c.loop-i.dir { rows = l })) x) (u.0 + v.count))
+              subst (λ (l : _). UnloadsAway g.W.World.honest c.args.clock c.args.age F x H (with_child (Some (record c.loop-i.dir { rows = l })) x) (u.0 + v.count))
                   (sym (set_at-set_row rows i at.0 z rising at.1.0))
                   (joined g.W.World.honest c.args.clock c.args.age F x G w u.0 u.1.1 H _ v.count up),
             ),
@@ -151,35 +155,34 @@ unload_inside-loop-i-preserved g t c =
 pub unload_inside-may_go-requires-clause-entries : goal.unload_inside-may_go-requires-clause-entries
 unload_inside-may_go-requires-clause-entries g t c =
     let x = c.requires.may.0 in
-    let u = c.loop-i.invariant.went x c.requires.may.1.1.0 in
+    let u = c.loop-i.invariant.went x c.requires.may.1.1.1.0 in
     let F = g.F.Files.stored c.args.overlay.now in
     let G = g.F.Files.stored c.loop-i.overlay in
-    may_list g.W.World.honest c.args.clock c.args.age G x c.loop-i.dir (may_still g.W.World.honest c.args.clock c.args.age F G x (with_child (Some c.loop-i.dir) x) u.0 u.1.1 c.requires.may.1.1.1)
+    may_list g.W.World.honest c.args.clock c.args.age G x c.loop-i.dir (may_still g.W.World.honest c.args.clock c.args.age F G x (with_child (Some c.loop-i.dir) x) u.0 u.1.1 c.requires.may.1.1.1.1)
 
 pub unload_inside-may_go-requires-clause-sound : goal.unload_inside-may_go-requires-clause-sound
-unload_inside-may_go-requires-clause-sound g t c honest old inside unsaved =
+unload_inside-may_go-requires-clause-sound g t c =
     let x = c.requires.may.0 in
-    let u = c.loop-i.invariant.went x c.requires.may.1.1.0 in
+    let d = c.loop-i.dir in
+    let u = c.loop-i.invariant.went x c.requires.may.1.1.1.0 in
     let F = g.F.Files.stored c.args.overlay.now in
     let G = g.F.Files.stored c.loop-i.overlay in
-    let may = may_still g.W.World.honest c.args.clock c.args.age F G x (with_child (Some c.loop-i.dir) x) u.0 u.1.1 c.requires.may.1.1.1 in
-    subst (λ k. AreSound (with_entries G k (listing_of c.loop-i.dir))) c.requires.may.1.0
-    (may_store g.W.World.honest c.args.clock c.args.age G x c.loop-i.dir may honest old inside unsaved)
+    let may = may_still g.W.World.honest c.args.clock c.args.age F G x (with_child (Some d) x) u.0 u.1.1 c.requires.may.1.1.1.1 in
+    (with_child (Some d) x, (c.requires.may.1.0, (c.requires.may.1.1.0, λ honest old inside H put. may_store g.W.World.honest c.args.clock c.args.age G H x d may honest old inside put)))
 
 pub unload_inside-returns-in-Ok-clause-goes : goal.unload_inside-returns-in-Ok-clause-goes
-unload_inside-returns-in-Ok-clause-goes g t c goes x number holds =
+unload_inside-returns-in-Ok-clause-goes g t c goes x number origin holds =
     let u = c.loop-i.invariant.went x holds in
+    let d = c.loop-i.dir in
     let F = g.F.Files.stored c.args.overlay.now in
     let G = g.F.Files.stored c.loop-i.overlay in
     let H = g.F.Files.stored c.may_go.new.overlay in
     let told = c.in-Ok.ensures in
     let yes : ◌≡◌ {A = Result Bool FilesFault} (Ok c.in-Ok.goes) (Ok true) = ap (λ b. Ok b) goes in
-    let stored : g.W.World.honest → c.loop-i.dir.unsaved ≡ true
-    → H ≡ with_entries G x.number (listing_of c.loop-i.dir) = λ h w. told.stored h yes w ∙ ap (λ k. with_entries G k (listing_of c.loop-i.dir)) (sym number) in
-    (u.0, (u.1.0, goes_too g.W.World.honest c.args.clock c.args.age F G H x c.loop-i.dir u.0 u.1.1 (told.old yes) (told.inside yes) (λ h w. told.saved h yes w) stored))
+    (u.0, (u.1.0, goes_too g.W.World.honest c.args.clock c.args.age F G H x d u.0 u.1.1 (told.old yes) (told.inside yes) (λ h. told.away h yes (with_child (Some d) x) number origin)))
 
 pub unload_inside-returns-in-Ok-clause-stays : goal.unload_inside-returns-in-Ok-clause-stays
-unload_inside-returns-in-Ok-clause-stays g t c stays x number holds =
+unload_inside-returns-in-Ok-clause-stays g t c stays x holds =
     let u = c.loop-i.invariant.went x holds in
     let G = g.F.Files.stored c.loop-i.overlay in
     let H = g.F.Files.stored c.may_go.new.overlay in
@@ -187,7 +190,7 @@ unload_inside-returns-in-Ok-clause-stays g t c stays x number holds =
     (u.0, (u.1.0, same_files G (with_child (Some c.loop-i.dir) x) u.0 H u.1.1 (λ h. c.in-Ok.ensures.unchanged h no)))
 
 pub unload_inside-returns-in-Err-clause-stays : goal.unload_inside-returns-in-Err-clause-stays
-unload_inside-returns-in-Err-clause-stays g t c stays x number holds =
+unload_inside-returns-in-Err-clause-stays g t c stays x holds =
     let u = c.loop-i.invariant.went x holds in
     let G = g.F.Files.stored c.loop-i.overlay in
     let H = g.F.Files.stored c.may_go.new.overlay in
@@ -206,7 +209,7 @@ inside_settled honest clock age a b rows i all settled more n z f =
     settled_more honest clock age a b z more (settled at.0 (n, z) before at.1.1)
 
 pub unload_inside-returns-in-Ok-clause-settled : goal.unload_inside-returns-in-Ok-clause-settled
-unload_inside-returns-in-Ok-clause-settled g t c stays x =
+unload_inside-returns-in-Ok-clause-settled g t c stays x origin =
     let no : ◌≡◌ {A = Result Bool FilesFault} (Ok c.in-Ok.goes) (Ok false) = ap (λ b. Ok b) stays in
     let refused = c.loop-i.gone.refused in
     let rows = c.loop-i.dir.rows in
@@ -216,8 +219,13 @@ unload_inside-returns-in-Ok-clause-settled g t c stays x =
     (inside_settled g.W.World.honest c.args.clock c.args.age refused refused rows c.loop-i.i all c.loop-i.invariant.settled (λ is. is))
     (λ old inside. absurd (c.in-Ok.ensures.stays no old inside))
 
+-- a directory of that origin is one that is stored first
+stored_first : (y : Row) (d : Directory) (o : Origin) → y.origin ≡ o → (d.unsaved ≡ true) ⊎ ((i : Id) × (o ≡ origin.Object i)) → IsStoredFirst y d
+stored_first y d o is (inl mark) = inl mark
+stored_first y d o is (inr of) = inr (of.0, is ∙ of.1)
+
 pub unload_inside-returns-in-Err-clause-settled : goal.unload_inside-returns-in-Err-clause-settled
-unload_inside-returns-in-Err-clause-settled g t c stays x =
+unload_inside-returns-in-Err-clause-settled g t c stays x origin =
     let refused = c.loop-i.gone.refused in
     let fault = c.refusal.result.refused in
     let then : c.both.result.refused ≡ graver refused fault = c.both.ensures.refused in
@@ -229,7 +237,7 @@ unload_inside-returns-in-Err-clause-settled g t c stays x =
     let P : Option FilesFault → Type 0 = λ o. IsSettled c.args.clock c.args.age o (with_child (Some c.loop-i.dir) x) in
     subst P (sym then) (settled_over g.W.World.honest c.args.clock c.args.age (graver refused fault) x c.loop-i.dir
     (inside_settled g.W.World.honest c.args.clock c.args.age refused (graver refused fault) rows c.loop-i.i all c.loop-i.invariant.settled (refused_first refused fault))
-    (λ old inside. (c.in-Err.ensures.refused, refused_then refused fault some)))
+    (λ old inside. (stored_first x c.loop-i.dir c.args.origin origin c.in-Err.ensures.refused, refused_then refused fault some)))
 
 pub unload_inside-returns-in-Err-clause-counted : goal.unload_inside-returns-in-Err-clause-counted
 unload_inside-returns-in-Err-clause-counted g t c =

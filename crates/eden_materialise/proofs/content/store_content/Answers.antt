@@ -1,4 +1,5 @@
 use Rattle.eden_materialise.proofs.Fills.{fills_ok, fills_stored, fills_err, fills_strays, fills_fault, fills_counted, fills_table, fills_marks, fills_stay, fills_kept, fills_unseen, fills_shown}
+use Rattle.eden_materialise.proofs.Numbered.{fills_numbered}
 use Rattle.eden_materialise.proofs.content.store_content.Goals as goal
 
 pub change-requires-clause-may : goal.change-requires-clause-may
@@ -24,6 +25,13 @@ change-requires-clause-kept g c h files root answer does =
     fills_kept g.W.World.honest g.W.World.repository c.args.path.now c.args.name.now c.requires.there.0 c.args.content.now (g.F.Files.stored t.files) t.root t.next
     c.holds.ensures.table c.requires.there.1 c.requires.short (g.F.Files.failures t.files) (g.F.Files.stored files) root (g.F.Files.failures files)
     h (c.holds.ensures.kept h) answer (does c.requires.there.0 c.requires.there.1)
+
+pub change-requires-clause-numbers : goal.change-requires-clause-numbers
+change-requires-clause-numbers g c h files root answer does =
+    let t = c.args.inodes.now in
+    fills_numbered g.W.World.honest g.W.World.repository c.args.path.now c.args.name.now c.requires.there.0 c.args.content.now (g.F.Files.stored t.files) t.root t.next
+    c.holds.ensures.table c.requires.there.1 c.requires.short (g.F.Files.failures t.files) (g.F.Files.stored files) root (g.F.Files.failures files)
+    h (c.holds.ensures.kept h) (c.holds.ensures.numbers h) answer (does c.requires.there.0 c.requires.there.1)
 
 pub returns-clause-ok : goal.returns-clause-ok
 returns-clause-ok g c w has =

@@ -1,4 +1,5 @@
 use Rattle.eden_materialise.proofs.Listings.{changes_table, changes_marks, changes_stay, changes_kept_then, changes_shown, changes_unseen}
+use Rattle.eden_materialise.proofs.Numbered.{changes_numbered}
 use Rattle.eden_materialise.proofs.entry_change.change_entry.Goals as goal
 
 pub change-requires-clause-table : goal.change-requires-clause-table
@@ -12,6 +13,12 @@ change-requires-clause-kept g c h files root answer does =
     let t = c.args.inodes.now in
     changes_kept_then g.W.World.honest g.W.World.repository c.args.path.now c.args.name.now c.args.entry (g.F.Files.stored t.files) t.root (g.F.Files.failures t.files)
     (g.F.Files.stored files) root (g.F.Files.failures files) t.next c.holds.ensures.table c.requires.may h (c.holds.ensures.kept h) answer does
+
+pub change-requires-clause-numbers : goal.change-requires-clause-numbers
+change-requires-clause-numbers g c h files root answer does =
+    let t = c.args.inodes.now in
+    changes_numbered g.W.World.honest g.W.World.repository c.args.path.now c.args.name.now c.args.entry (g.F.Files.stored t.files) t.root (g.F.Files.failures t.files)
+    (g.F.Files.stored files) root (g.F.Files.failures files) t.next c.holds.ensures.table c.requires.may h (c.holds.ensures.kept h) (c.holds.ensures.numbers h) answer does
 
 pub returns-clause-shown : goal.returns-clause-shown
 returns-clause-shown g c h =

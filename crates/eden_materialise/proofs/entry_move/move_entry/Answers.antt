@@ -1,4 +1,5 @@
 use Rattle.eden_materialise.proofs.EntryMoves.{moves_in, move_table, move_stays, move_marks, move_counted, move_elsewhere, move_kept, move_shown, move_unseen}
+use Rattle.eden_materialise.proofs.Numbered.{move_numbered}
 use Rattle.eden_materialise.proofs.entry_move.move_entry.Goals as goal
 
 pub change-requires-clause-may : goal.change-requires-clause-may
@@ -18,6 +19,12 @@ change-requires-clause-kept g c h files root answer does =
     let t = c.args.inodes.now in
     move_kept g.W.World.honest (g.F.Files.stored t.files) t.root t.next c.args.from.now c.args.name.now c.args.to.now c.args.new_name.now (g.F.Files.failures t.files)
     (g.F.Files.stored files) root (g.F.Files.failures files) c.holds.ensures.table h g.W.World.repository answer (c.holds.ensures.kept h) does
+
+pub change-requires-clause-numbers : goal.change-requires-clause-numbers
+change-requires-clause-numbers g c h files root answer does =
+    let t = c.args.inodes.now in
+    move_numbered g.W.World.honest (g.F.Files.stored t.files) t.root t.next c.args.from.now c.args.name.now c.args.to.now c.args.new_name.now (g.F.Files.failures t.files)
+    (g.F.Files.stored files) root (g.F.Files.failures files) c.holds.ensures.table h g.W.World.repository (c.holds.ensures.kept h) (c.holds.ensures.numbers h) answer does
 
 pub returns-clause-counted : goal.returns-clause-counted
 returns-clause-counted g c =

@@ -1,4 +1,5 @@
 use Rattle.eden_materialise.proofs.Chains.{owns_table, owns_marks, owns_stays, owns_kept, owns_alike}
+use Rattle.eden_materialise.proofs.Numbered.{owns_numbered}
 use Rattle.eden_materialise.proofs.owning.materialise.Goals as goal
 
 pub change-requires-clause-table : goal.change-requires-clause-table
@@ -12,6 +13,12 @@ change-requires-clause-kept g c h files root answer does =
     let t = c.args.inodes.now in
     owns_kept g.W.World.honest c.args.path.now (g.F.Files.stored t.files) t.root (g.F.Files.failures t.files) (g.F.Files.stored files) root (g.F.Files.failures files)
     h g.W.World.repository t.next c.holds.ensures.table (c.holds.ensures.kept h) c.requires.loaded answer does
+
+pub change-requires-clause-numbers : goal.change-requires-clause-numbers
+change-requires-clause-numbers g c h files root answer does =
+    let t = c.args.inodes.now in
+    owns_numbered g.W.World.honest c.args.path.now (g.F.Files.stored t.files) t.root (g.F.Files.failures t.files) (g.F.Files.stored files) root (g.F.Files.failures files)
+    t.next g.W.World.repository h (c.holds.ensures.numbers h) c.requires.loaded answer does
 
 pub returns-clause-shown : goal.returns-clause-shown
 returns-clause-shown g c h =

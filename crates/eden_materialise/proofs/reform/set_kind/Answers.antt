@@ -2,6 +2,7 @@ use Rattle.std.proofs.Common.{Some}
 use Rattle.eden_materialise.specs.Reforms.{of_kind}
 use Rattle.eden_materialise.proofs.Listings.{changes_table, changes_marks, changes_stay, changes_kept_then, changes_unseen}
 use Rattle.eden_materialise.proofs.Reforms.{may_reform, reform_shown}
+use Rattle.eden_materialise.proofs.Numbered.{changes_numbered}
 use Rattle.eden_materialise.proofs.reform.set_kind.Goals as goal
 
 pub change-requires-clause-may : goal.change-requires-clause-may
@@ -38,6 +39,15 @@ change-requires-clause-kept g c h files root answer does =
     let may = may_reform g.W.World.honest g.W.World.repository F t.root t.next c.args.path.now c.args.name.now c.args.kind w c.holds.ensures.table c.requires.there.1 c.requires.file in
     changes_kept_then g.W.World.honest g.W.World.repository c.args.path.now c.args.name.now (Some (of_kind c.args.kind w)) F t.root (g.F.Files.failures t.files)
     (g.F.Files.stored files) root (g.F.Files.failures files) t.next c.holds.ensures.table may h (c.holds.ensures.kept h) answer (does w c.requires.there.1)
+
+pub change-requires-clause-numbers : goal.change-requires-clause-numbers
+change-requires-clause-numbers g c h files root answer does =
+    let t = c.args.inodes.now in
+    let w = c.requires.there.0 in
+    let F = g.F.Files.stored t.files in
+    let may = may_reform g.W.World.honest g.W.World.repository F t.root t.next c.args.path.now c.args.name.now c.args.kind w c.holds.ensures.table c.requires.there.1 c.requires.file in
+    changes_numbered g.W.World.honest g.W.World.repository c.args.path.now c.args.name.now (Some (of_kind c.args.kind w)) F t.root (g.F.Files.failures t.files)
+    (g.F.Files.stored files) root (g.F.Files.failures files) t.next c.holds.ensures.table may h (c.holds.ensures.kept h) (c.holds.ensures.numbers h) answer (does w c.requires.there.1)
 
 pub returns-clause-shown : goal.returns-clause-shown
 returns-clause-shown g c h w has =

@@ -1,6 +1,7 @@
 use Rattle.std.proofs.Common.{None}
 use Rattle.eden_materialise.proofs.Listings.{changes_table, changes_marks, changes_stay}
 use Rattle.eden_materialise.proofs.Removals.{may_remove, removes, removes_strays, removes_fault, removes_counted, removes_kept, removes_shown, removes_unseen}
+use Rattle.eden_materialise.proofs.Numbered.{removes_numbered}
 use Rattle.eden_materialise.proofs.removal.remove_entry.Goals as goal
 
 pub change-requires-clause-may : goal.change-requires-clause-may
@@ -29,6 +30,14 @@ change-requires-clause-kept g c h files root answer does =
     let may = may_remove g.W.World.honest g.W.World.repository F t.root t.next c.args.path.now c.args.name.now c.holds.ensures.table c.requires.there in
     removes_kept g.W.World.honest g.W.World.repository c.args.path.now c.args.name.now F t.root (g.F.Files.failures t.files)
     (g.F.Files.stored files) root (g.F.Files.failures files) t.next c.holds.ensures.table may h (c.holds.ensures.kept h) answer does
+
+pub change-requires-clause-numbers : goal.change-requires-clause-numbers
+change-requires-clause-numbers g c h files root answer does =
+    let t = c.args.inodes.now in
+    let F = g.F.Files.stored t.files in
+    let may = may_remove g.W.World.honest g.W.World.repository F t.root t.next c.args.path.now c.args.name.now c.holds.ensures.table c.requires.there in
+    removes_numbered g.W.World.honest g.W.World.repository c.args.path.now c.args.name.now F t.root (g.F.Files.failures t.files)
+    (g.F.Files.stored files) root (g.F.Files.failures files) t.next c.holds.ensures.table may h (c.holds.ensures.kept h) (c.holds.ensures.numbers h) answer does
 
 pub returns-clause-ok : goal.returns-clause-ok
 returns-clause-ok g c = c.change.ensures.does.changes.ok

@@ -1,4 +1,5 @@
 use Rattle.eden_materialise.proofs.Fronts.{can_save, at_table, at_kept, at_shown}
+use Rattle.eden_materialise.proofs.Numbered.{at_numbered}
 use Rattle.eden_materialise.proofs.saving.save_at.Goals as goal
 
 pub change-requires-clause-may : goal.change-requires-clause-may
@@ -17,6 +18,12 @@ change-requires-clause-kept g c h files root answer does =
     let t = c.args.inodes.now in
     at_kept g.W.World.honest c.args.path.now (g.F.Files.stored t.files) t.root (g.F.Files.failures t.files) (g.F.Files.stored files) root (g.F.Files.failures files)
     t.next c.holds.ensures.table h g.W.World.repository (c.holds.ensures.kept h) answer does
+
+pub change-requires-clause-numbers : goal.change-requires-clause-numbers
+change-requires-clause-numbers g c h files root answer does =
+    let t = c.args.inodes.now in
+    at_numbered g.W.World.honest c.args.path.now (g.F.Files.stored t.files) t.root (g.F.Files.failures t.files) (g.F.Files.stored files) root (g.F.Files.failures files)
+    t.next g.W.World.repository h (c.holds.ensures.numbers h) answer does
 
 pub returns-clause-shown : goal.returns-clause-shown
 returns-clause-shown g c h =

@@ -9,6 +9,7 @@ use Rattle.eden_tree.specs.Paths.{row_at}
 use Rattle.eden_inode.specs.Tables.{Table}
 use Rattle.eden_inode.proofs.Loads.{length_there}
 use Rattle.eden_inode.proofs.Rows.{same_some}
+use Rattle.eden_coupling.specs.NumberKept.{KeepsNumbers}
 use Rattle.eden_inode.proofs.inodes.Inodes.content_len.Goals as goal
 
 pub returns-clause-ok : goal.returns-clause-ok
@@ -21,7 +22,7 @@ returns-clause-ok g c = λ h.
     let own = subst (λ (r : Row). r.origin ≡ origin.Own) same c.requires.1.1.0 in
     let file = subst (λ (r : Row). r.kind ≢ kind.Dir) same c.requires.1.1.1 in
     let table = subst (λ (v : Table _). IsTable v.root v.next) c.self.view_is c.self.invariant.0 in
-    let kept = subst (λ (v : Table _). IsKept R (g.F.Files.stored v.files) v.root v.next) c.self.view_is (c.self.invariant.1 h) in
+    let kept = subst (λ (v : Table _). IsKept R (g.F.Files.stored v.files) v.root v.next) c.self.view_is (c.self.invariant.1.0 h) in
     let told = subst (λ (v : Table _). IfOk c.own_len.result (TellsLength (g.F.Files.stored v.files) c.entry.inside.number)) c.self.view_is (c.own_len.ensures.told h) in
     let number = ap (λ (r : Row). r.number) (sym c.entry.view_is) in
     length_there R (g.F.Files.stored c.args.self.now.files) c.args.self.now.root c.args.self.now.next p y c.own_len.result table kept at file own
@@ -30,5 +31,8 @@ returns-clause-ok g c = λ h.
 pub invariant_of-self : goal.invariant_of-self
 invariant_of-self g c = (
   c.self.invariant.0,
-  λ h. subst (λ (G : Stored). IsKept g.W.World.repository G c.self.inside.root c.self.inside.next) (sym (c.own_len.ensures.files h)) (c.self.invariant.1 h),
+  (
+    λ h. subst (λ (G : Stored). IsKept g.W.World.repository G c.self.inside.root c.self.inside.next) (sym (c.own_len.ensures.files h)) (c.self.invariant.1.0 h),
+    λ h. subst (λ (G : Stored). KeepsNumbers g.W.World.repository G c.self.inside.root c.self.inside.next) (sym (c.own_len.ensures.files h)) (c.self.invariant.1.1 h),
+  ),
 )

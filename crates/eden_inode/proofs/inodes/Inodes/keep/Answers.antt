@@ -1,6 +1,7 @@
 use Rattle.std.proofs.Common.{◌≡◌, Some, sym, ap, ◌∙◌, subst}
 use Rattle.eden_overlay.specs.Held.{HoldsContent}
 use Rattle.eden_coupling.specs.Kept.{IsKept}
+use Rattle.eden_coupling.specs.NumberKept.{KeepsNumbers}
 use Rattle.eden_tree.specs.Directory.{Row}
 use Rattle.eden_tree.specs.Paths.{row_at}
 use Rattle.eden_inode.specs.Tables.{Table}
@@ -18,5 +19,8 @@ keep-requires g c h =
 pub invariant_of-self : goal.invariant_of-self
 invariant_of-self g c = (
   c.self.invariant.0,
-  λ h. subst (λ o. IsKept g.W.World.repository (g.F.Files.stored o) c.self.inside.root c.self.inside.next) (sym c.keep.ensures) (c.self.invariant.1 h),
+  (
+    λ h. subst (λ o. IsKept g.W.World.repository (g.F.Files.stored o) c.self.inside.root c.self.inside.next) (sym c.keep.ensures) (c.self.invariant.1.0 h),
+    λ h. subst (λ o. KeepsNumbers g.W.World.repository (g.F.Files.stored o) c.self.inside.root c.self.inside.next) (sym c.keep.ensures) (c.self.invariant.1.1 h),
+  ),
 )
