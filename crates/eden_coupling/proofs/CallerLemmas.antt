@@ -64,3 +64,5 @@ pub use Rattle.eden_coupling.proofs.NumbersFiles.{file_unseen as entry_unseen}
 pub use Rattle.eden_coupling.proofs.NumbersEdited.{mark_keeps, drop_keeps, add_keeps, replace_keeps, move_keeps}
 pub use Rattle.eden_coupling.proofs.NumbersRestored.{saved_load_over}
 pub use Rattle.eden_coupling.proofs.NumbersAway.{put_away_keeps, goes_away_keeps, unloads_away_table, unloads_away_keep}
+-- .. and what the files of an opening show
+pub use Rattle.eden_coupling.proofs.NumbersOpened.{found_shown, found_blank, found_keeps, state_goes, state_comes, orphans_go}

@@ -70,3 +70,4 @@ pub mod NumbersFiles
 pub mod NumbersEdited
 pub mod NumbersAway
 pub mod NumbersRestored
+pub mod NumbersOpened

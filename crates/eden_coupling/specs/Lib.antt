@@ -23,3 +23,4 @@ pub mod NumberChanges
 pub mod NumberNodes
 pub mod NumberKept
 pub mod NumberUnloads
+pub mod NumberOpenings
