@@ -14,6 +14,7 @@ from yakembi.tree_model import Node, Nodes, Path
 
 FILE = b"OVFL"
 DIRECTORY = b"OVDR"
+NUMBERS = b"OVDN"
 # The version that is written, and the one before it, which is read.
 VERSION, OLD_VERSION = 2, 1
 VERSION_AT, LENGTH_AT, DIGEST_AT, UNREAD_AT = 4, 8, 16, 36
@@ -131,14 +132,32 @@ def entry_in(fields: Fields) -> Entry:
     return Entry(kind, origin, number, object_id, name)
 
 
-def entries_of(data: bytes) -> list[Entry]:
-    """The entries of a directory's file."""
-    fields = Fields(body_of(DIRECTORY, data))
+def rows_of(fields: Fields) -> list[Entry]:
+    """The entries that are the rest of a body."""
     entries = [entry_in(fields) for _ in range(fields.number(4))]
     sound(not fields.rest, "something behind the last entry")
     names = [entry.name for entry in entries]
     sound(names == sorted(set(names)), "the order of the names", names)
     return entries
+
+
+def entries_of(data: bytes) -> list[Entry]:
+    """The entries of a directory's file."""
+    return rows_of(Fields(body_of(DIRECTORY, data)))
+
+
+def has_numbers(data: bytes) -> bool:
+    """Whether a file is one of a tree object's entries with their numbers."""
+    return len(data) >= HEADER_BYTES and data.startswith(NUMBERS)
+
+
+def numbers_of(data: bytes) -> tuple[str, list[Entry]]:
+    """What such a file has: the object's id, and the entries."""
+    fields = Fields(body_of(NUMBERS, data))
+    tree_id = fields.take(20).hex()
+    entries = rows_of(fields)
+    sound(all(entry.origin != OWN for entry in entries), "an entry of its own", tree_id)
+    return tree_id, entries
 
 
 def state_of(data: bytes) -> tuple[str, int]:
@@ -166,17 +185,23 @@ def is_unclean(files: Mapping[int, bytes]) -> bool:
 
 
 class Shown:
-    """What an overlay's files show over a commit: `nodes`, and `numbers`, those that stored directories name."""
+    """What an overlay's files show over a commit: `nodes`, and `numbers`, those of entries in its files that count."""
 
     def __init__(self, commit: CommitTree, files: Mapping[int, bytes]) -> None:
         self.commit = commit
         self.files = files
         self.nodes: Nodes = {(): ("dir", True)}
         self.numbers: set[int] = set()
-        if 1 in files:
+        if 1 in files and not has_numbers(files[1]):
             self.directory((), 1)
         else:
             self.nodes.update(commit.below(commit.root))
+            self.saved(1, commit.root)
+
+    @property
+    def next_number(self) -> int:
+        """What a rescan gives next: one more than each number and than that of each file."""
+        return max([FIRST_NUMBER, *(number + 1 for number in (*self.numbers, *self.files))])
 
     def file(self, number: int) -> bytes:
         sound(number in self.files, "no file", number)
@@ -184,9 +209,22 @@ class Shown:
 
     def directory(self, path: Path, number: int) -> None:
         for entry in entries_of(self.file(number)):
-            sound(entry.number not in self.numbers, "a number at two places", entry.number)
-            self.numbers.add(entry.number)
+            self.named(entry.number)
             self.entry(path + (entry.name,), entry)
+
+    def named(self, number: int) -> None:
+        sound(number not in self.numbers, "a number at two places", number)
+        self.numbers.add(number)
+
+    def saved(self, number: int, tree_id: str) -> None:
+        """The numbers saved for a directory on that tree object, and for those in it; another object's don't count."""
+        if not has_numbers(self.files.get(number, b"")):
+            return
+        of, entries = numbers_of(self.files[number])
+        for entry in entries if of == tree_id else []:
+            self.named(entry.number)
+            if entry.kind == FOLDER and entry.origin == OBJECT:
+                self.saved(entry.number, entry.object_id)
 
     def entry(self, path: Path, entry: Entry) -> None:
         if entry.kind != FOLDER:
@@ -197,6 +235,7 @@ class Shown:
             self.directory(path, entry.number)
         elif entry.origin == OBJECT:
             self.nodes.update({path + below: node for below, node in self.commit.below(entry.object_id).items()})
+            self.saved(entry.number, entry.object_id)
 
     def leaf(self, entry: Entry) -> Node:
         own = entry.origin == OWN

@@ -13,6 +13,7 @@ use Rattle.eden_overlay_format.specs.Stored.{written}
 use Rattle.eden_overlay_format.specs.State.{IsGoodState, state_body}
 use Rattle.eden_overlay_format.proofs.CallerLemmas.{state_written}
 use Rattle.eden_overlay.specs.declared.files.FilesFault.{FilesFault}
+use Rattle.eden_overlay.specs.Counting.{root_from}
 use Rattle.eden_overlay.specs.Files.{Stored}
 use Rattle.eden_overlay.specs.Held.{HoldsState, with_state, without, own_files, root_file}
 use Rattle.eden_overlay.specs.Soundness.{HoldsKind}
@@ -27,7 +28,7 @@ use Rattle.eden_coupling.specs.ShownLaws.{ShowsFiles, ShowsAway}
 use Rattle.eden_coupling.proofs.CallerLemmas.{loose_kept, loose_alike}
 use Rattle.eden_inode.specs.Tables.{fresh_root}
 use Rattle.eden_ops.specs.Changes.{StaysOrBecomesOwn}
-use Rattle.eden_checkout.specs.Opening.{root_from, files_show, IsRootOf, CanOpen}
+use Rattle.eden_checkout.specs.Opening.{files_show, IsRootOf, CanOpen}
 
 pub still_root : (id : Id) (a b : Origin) → IsRootOf id a → b ≡ a → IsRootOf id b
 still_root id a b is same = subst (IsRootOf id) (sym same) is

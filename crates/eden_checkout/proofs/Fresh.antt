@@ -4,6 +4,7 @@ use Rattle.std.proofs.Math.Path.{fun_ext}
 use Rattle.eden_model.specs.declared.id.Id.{Id}
 use Rattle.eden_model.specs.declared.kind.Origin.TheVariants as origin
 use Rattle.eden_model.specs.Repository.{Repository, Whole}
+use Rattle.eden_overlay.specs.Counting.{root_from}
 use Rattle.eden_overlay.specs.Files.{Stored}
 use Rattle.eden_overlay.specs.Held.{without}
 use Rattle.eden_overlay.specs.Laws.{RootlessSound}
@@ -12,7 +13,7 @@ use Rattle.eden_coupling.specs.Shown.{shown_in}
 use Rattle.eden_coupling.specs.ShownLaws.{ShowsAway}
 use Rattle.eden_inode.specs.Tables.{fresh_root}
 use Rattle.eden_checkout.specs.Laws.{OpensFresh}
-use Rattle.eden_checkout.specs.Opening.{AreNone, files_show, root_from}
+use Rattle.eden_checkout.specs.Opening.{AreNone, files_show}
 use Rattle.eden_checkout.proofs.Opened.{nothing_named}
 
 abbrev pub nothing : Stored

@@ -21,9 +21,10 @@ use Rattle.eden_overlay.specs.Held.{HoldsState, without, root_file}
 use Rattle.eden_overlay.specs.Laws.{IsStray}
 use Rattle.eden_overlay.specs.declared.rescan.RescanFault.{RescanFault}
 use Rattle.eden_overlay.specs.declared.rescan.RescanFault.TheVariants as rescan
+use Rattle.eden_overlay.specs.Counting.{root_from}
 use Rattle.eden_overlay.specs.Rescanning.{IsRescanFault}
 use Rattle.eden_overlay.specs.Soundness.{Names, IsLive, HoldsKind, AreSound}
-use Rattle.eden_overlay.proofs.CallerLemmas.{put_here, put_apart, names_moved, same_or_apart, numbers_from_two, live_stay, state_stays, accused_unsound, root_same}
+use Rattle.eden_overlay.proofs.CallerLemmas.{put_here, put_apart, names_moved, same_or_apart, numbers_from_two, live_stay, state_stays, accused_unsound, root_same, live_counted}
 use Rattle.eden_tree.specs.Directory.{child_of}
 use Rattle.eden_coupling.specs.Chains.{AreSaved}
 use Rattle.eden_coupling.proofs.CallerLemmas.{place_cases}
@@ -33,7 +34,7 @@ use Rattle.eden_checkout.specs.declared.fault.OpenFault.TheVariants as opens
 use Rattle.eden_checkout.specs.declared.opening.Opening.{Opening}
 use Rattle.eden_checkout.specs.declared.opening.Opening.TheVariants as opening
 use Rattle.eden_checkout.specs.declared.opening.Start.{Start}
-use Rattle.eden_checkout.specs.Opening.{root_from, files_show, CanOpen, MayOpen, AreNone, StartsAt, Starts, of_rescan, AreAccused, IsOpenFault, IsRescanRefusal, IsRefusal}
+use Rattle.eden_checkout.specs.Opening.{files_show, CanOpen, MayOpen, AreNone, StartsAt, Starts, of_rescan, AreAccused, IsOpenFault, IsRescanRefusal, IsRefusal}
 
 own_stands : (root : Id) (o : Option (List ℕ)) → root_from root o ≢ origin.Own → o ≡ None
 own_stands root None other = refl
@@ -86,30 +87,32 @@ module _ (R : Repository) (tree : Tree) (root : Id) (F : Stored) where
 
   pub can_start : (how : Opening) → MayOpen how R tree root F → (start : Start) → Starts how root F start → CanStart (without F 0) start.origin start.next
   can_start opening.Closed can start starts = can_start_below root F can.sound start starts.origin (below_by can start.next starts.next)
-  can_start opening.Rescan shown start starts = can_start_below root F starts.next.0 start starts.origin starts.next.1.below
+  can_start opening.Rescan shown start starts =
+      can_start_below root F starts.next.0 start starts.origin (λ c e live names. starts.next.2.below (live_counted F root c e live names))
 
   pub shown_by : (how : Opening) → MayOpen how R tree root F → files_show R root F ≡ tree
   shown_by opening.Closed can = can.shown
   shown_by opening.Rescan shown = shown
 
 -- whoever accuses the files shows that they aren't sound
-pub rescan_refused : (honest : Type 0) (F : Stored) (old new : ℕ) (fault : RescanFault) → IsRescanFault honest F old new fault → IsRescanRefusal honest F old new (of_rescan fault)
-rescan_refused honest F old new (rescan.Dangling k) why = λ h. (why h, accused_unsound F (rescan.Dangling k) (why h))
-rescan_refused honest F old new (rescan.Twice k) why = λ h. (why h, accused_unsound F (rescan.Twice k) (why h))
-rescan_refused honest F old new (rescan.Damaged k refusal) why = λ h. (why h, accused_unsound F (rescan.Damaged k refusal) (why h))
-rescan_refused honest F old new rescan.Device rose = rose
-rescan_refused honest F old new rescan.Memory none = none
+pub rescan_refused : (honest : Type 0) (root : Id) (F : Stored) (old new : ℕ) (fault : RescanFault) → IsRescanFault honest F root old new fault
+    → IsRescanRefusal honest root F old new (of_rescan fault)
+rescan_refused honest root F old new (rescan.Dangling k) why = λ h. (why h, accused_unsound F root (rescan.Dangling k) (why h))
+rescan_refused honest root F old new (rescan.Twice k) why = λ h. (why h, accused_unsound F root (rescan.Twice k) (why h))
+rescan_refused honest root F old new (rescan.Damaged k refusal) why = λ h. (why h, accused_unsound F root (rescan.Damaged k refusal) (why h))
+rescan_refused honest root F old new rescan.Device rose = rose
+rescan_refused honest root F old new rescan.Memory none = none
 
 -- where the files that were looked at are those that were given, and nothing failed before, so is the refusal
 module _ (honest : Type 0) (F G : Stored) (old looked new : ℕ) (same : honest → G ≡ F) (count : looked ≡ old) where
-  pub rescan_over : (fault : OpenFault) → IsRescanRefusal honest G looked new fault → IsRescanRefusal honest F old new fault
-  rescan_over opens.NotClean h = h
-  rescan_over (opens.OtherRoot stored) h = h
-  rescan_over (opens.Damaged k refusal) h = λ outside. subst (λ (H : Stored). AreAccused H (rescan.Damaged k refusal)) (same outside) (h outside)
-  rescan_over opens.Device h = subst (λ n. Rose n new) count h
-  rescan_over opens.Memory h = h
-  rescan_over (opens.Dangling k) h = λ outside. subst (λ (H : Stored). AreAccused H (rescan.Dangling k)) (same outside) (h outside)
-  rescan_over (opens.Twice k) h = λ outside. subst (λ (H : Stored). AreAccused H (rescan.Twice k)) (same outside) (h outside)
+  pub rescan_over : (root : Id) (fault : OpenFault) → IsRescanRefusal honest root G looked new fault → IsRescanRefusal honest root F old new fault
+  rescan_over root opens.NotClean h = h
+  rescan_over root (opens.OtherRoot stored) h = h
+  rescan_over root (opens.Damaged k refusal) h = λ outside. subst (λ (H : Stored). AreAccused H root (rescan.Damaged k refusal)) (same outside) (h outside)
+  rescan_over root opens.Device h = subst (λ n. Rose n new) count h
+  rescan_over root opens.Memory h = h
+  rescan_over root (opens.Dangling k) h = λ outside. subst (λ (H : Stored). AreAccused H root (rescan.Dangling k)) (same outside) (h outside)
+  rescan_over root (opens.Twice k) h = λ outside. subst (λ (H : Stored). AreAccused H root (rescan.Twice k)) (same outside) (h outside)
 
   pub state_over : (root : Id) (fault : OpenFault) → IsOpenFault honest root G looked new fault → IsOpenFault honest root F old new fault
   state_over root opens.NotClean h = λ outside. subst (λ (H : Stored). (H 0 ≡ None) × ((k : ℕ) × IsSome (H k))) (same outside) (h outside)
@@ -122,9 +125,9 @@ module _ (honest : Type 0) (F G : Stored) (old looked new : ℕ) (same : honest 
   state_over root (opens.Twice k) h = h
 
 pub refused_over : (honest : Type 0) (how : Opening) (root : Id) (F G : Stored) (old looked new : ℕ) (fault : OpenFault) → how ≡ opening.Rescan → (honest → G ≡ F) → looked ≡ old
-    → IsRescanRefusal honest G looked new fault → IsRefusal how honest root F old new fault
+    → IsRescanRefusal honest root G looked new fault → IsRefusal how honest root F old new fault
 refused_over honest how root F G old looked new fault is same count why =
-    subst (λ (o : Opening). IsRefusal o honest root F old new fault) (sym is) (rescan_over honest F G old looked new same count fault why)
+    subst (λ (o : Opening). IsRefusal o honest root F old new fault) (sym is) (rescan_over honest F G old looked new same count root fault why)
 
 pub handed_up : {X Y : Type 0} (r : Result X Y) (e : Y) (P : Y → Type 0) → IsErrAnd r (λ (x : Y). x ≡ e) → P e → IfErr r P
 handed_up (Ok v) e P is h = tt

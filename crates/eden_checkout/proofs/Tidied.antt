@@ -1,18 +1,20 @@
 -- Files without orphans show the same.
-use Rattle.std.proofs.Common.{◌≡◌, ◌≢◌, ◌<◌, ℕ, Option, Some, None, List, sym, refl, ◌∙◌, ap, inl, inr, arith}
-use Rattle.std.specs.Option.{option_and_then}
-use Rattle.std.proofs.lemmas.Option.{none-some}
+use Rattle.std.proofs.Common.{◌≡◌, ◌≢◌, ◌<◌, ℕ, true, false, Option, Some, None, List, [], All, Contains, sym, refl, ◌∙◌, ap, subst, inl, inr, arith}
+use Rattle.std.specs.Option.{IsSome, option_and_then}
+use Rattle.std.proofs.lemmas.Option.{same_Some, none-some}
 use Rattle.std.proofs.lemmas.List.Elements.{All-contains, All-from_recursion}
 use Rattle.eden_model.specs.declared.id.Id.{Id}
 use Rattle.eden_model.specs.Limits.{number_end}
 use Rattle.eden_model.specs.Repository.{Repository}
+use Rattle.eden_overlay_format.specs.declared.state.State.{State}
 use Rattle.eden_overlay_format.specs.declared.stored_entry.StoredEntry.{StoredEntry}
 use Rattle.eden_overlay_format.specs.Directory.{IsStorable}
 use Rattle.eden_overlay_format.specs.Values.{state_in}
-use Rattle.eden_overlay.specs.Files.{Stored}
-use Rattle.eden_overlay.specs.Held.{without, root_file}
+use Rattle.eden_overlay.specs.Counting.{root_from}
+use Rattle.eden_overlay.specs.Files.{Stored, Lists}
+use Rattle.eden_overlay.specs.Held.{HoldsState, without, root_file}
 use Rattle.eden_overlay.specs.Soundness.{Names, AreSound}
-use Rattle.eden_overlay.specs.Tidying.{OthersStay}
+use Rattle.eden_overlay.specs.Tidying.{IsOrphan, IsTidiedInPart, ListsOrphans, OthersStay}
 use Rattle.eden_overlay.proofs.CallerLemmas.{put_apart, held_storable, numbers_from_two, root_stays, named_stays, live_before, named_before, still_sound, root_same}
 use Rattle.eden_tree.specs.Directory.{Row, Directory, child_of}
 use Rattle.eden_coupling.specs.Listings.{Place, top}
@@ -20,10 +22,10 @@ use Rattle.eden_coupling.specs.Shown.{shown_in}
 use Rattle.eden_coupling.specs.Ties.{Fits}
 use Rattle.eden_coupling.proofs.CallerLemmas.{Backs, backed_alike, place_cases}
 use Rattle.eden_inode.specs.Tables.{fresh_root}
-use Rattle.eden_checkout.specs.Opening.{root_from, files_show}
-use Rattle.eden_checkout.specs.Tidying.{ShowsSame, StaysClosed}
+use Rattle.eden_checkout.specs.Opening.{AreNone, files_show}
+use Rattle.eden_checkout.specs.Tidying.{AreTidied, LackOrphans, IsClosed, IsClosedOver, ShowsSame, StaysClosed}
 
-module _ (F G : Stored) (sound : AreSound F) (stay : OthersStay F G) where
+module _ (F : Stored) (over : Id) (G : Stored) (sound : AreSound F) (stay : OthersStay F over G) where
   numbered : (c : ℕ) (e : StoredEntry) → Names F c e → e.number < number_end
   numbered c e names =
       (All-contains IsStorable names.entries e (All-from_recursion IsStorable names.entries (held_storable F c names.entries names.held).each) names.there).most
@@ -58,13 +60,13 @@ module _ (F G : Stored) (sound : AreSound F) (stay : OthersStay F G) where
     after : Backs (without G 0) F (fresh_root (root_from root (root_file F))) number_end
     after = record {
       fits = fits;
-      same = λ c e live names own away. inl (put_apart G 0 e.number None (no_state c e names) ∙ named_stays F G stay c e live names);
-      same_root = λ none. inl (put_apart G 0 1 None (λ is. omega (arith, is)) ∙ root_stays F G stay);
+      same = λ c e live names own away. inl (put_apart G 0 e.number None (no_state c e names) ∙ named_stays F over G stay c e live names);
+      same_root = λ none. inl (put_apart G 0 1 None (λ is. omega (arith, is)) ∙ root_stays F over G stay);
     }
 
     shows_same : files_show R root G ≡ files_show R root F
     shows_same =
-        ap (λ (f : Option (List ℕ)). shown_in R (without G 0) (fresh_root (root_from root f))) (root_same G F (root_stays F G stay))
+        ap (λ (f : Option (List ℕ)). shown_in R (without G 0) (fresh_root (root_from root f))) (root_same G F (root_stays F over G stay))
         ∙ backed_alike R (without F 0) (without G 0) F (fresh_root (root_from root (root_file F))) number_end before after (fresh_root (root_from root (root_file F))) top
 
   pub same_shown : ShowsSame F G
@@ -72,13 +74,78 @@ module _ (F G : Stored) (sound : AreSound F) (stay : OthersStay F G) where
 
   pub stays_closed : StaysClosed F G
   stays_closed R tree root can = record {
-    sound = still_sound F G stay sound;
+    sound = still_sound F over G stay sound;
     shown = shows_same R root ∙ can.shown;
     below = λ s held c e live names.
         can.below s (ap (option_and_then state_in) (sym (stay 0 (λ orphan. let least = orphan.least in absurd (omega (arith, least))))) ∙ held) c e
-        (live_before F G stay c live) (named_before F G stay c e live names);
+        (live_before F over G stay c live) (named_before F over G stay c e live names);
   }
 
 -- files that are as they were
 pub unchanged_shown : (F G : Stored) → G ≡ F → ShowsSame F G
 unchanged_shown F G same R root = ap (files_show R root) same
+
+-- ---- over which commit's tree
+
+-- that of the state
+pub over_state : (F : Stored) (state : State) → HoldsState F state → (root : Id) → IsClosedOver root F → state.root ≡ root
+over_state F state held root (inl none) = absurd (none-some state (sym (ap (option_and_then state_in) (none 0)) ∙ held))
+over_state F state held root (inr (s, (other, is))) = ap (λ (t : State). t.root) (same_Some state s (sym held ∙ other)) ∙ is
+
+pub closed_over : (F : Stored) → IsClosed F → (root : Id) × IsClosedOver root F
+closed_over F (inl none) = (record { bytes = [] }, inl none)
+closed_over F (inr (s, held)) = (s.root, inr (s, (held, refl)))
+
+-- no numbers are those of no files
+pub none_stored : (F : Stored) (ks : List ℕ) → Lists ks F → ks ≡ [] → AreNone F
+none_stored F ks lists empty k = by_file (F k) refl
+  where
+    by_file : (o : Option (List ℕ)) → F k ≡ o → F k ≡ None
+    by_file None is = is
+    by_file (Some bytes) is =
+        let there = subst (λ (l : List ℕ). Contains l k) empty (lists.all k (subst (λ (o : Option (List ℕ)). IsSome o) (sym is) refl)) in
+        let within = there.1 in
+        absurd (omega (arith, within))
+
+-- where there are no files, there are no orphans
+pub none_listed : (F : Stored) (ks : List ℕ) → AreNone F → ks ≡ [] → (root : Id) → ListsOrphans ks F root
+none_listed F ks none empty root = subst (λ (l : List ℕ). ListsOrphans l F root) (sym empty) (record {
+  each = All-from_recursion (IsOrphan F root) [] tt;
+  all = λ k orphan. let wrong : false ≡ true = subst (λ (o : Option (List ℕ)). IsSome o) (none k) orphan.stored in absurd (cc);
+})
+
+-- the orphans of the state's tree
+pub listed_over : (F : Stored) (ks : List ℕ) (state : State) → HoldsState F state → ListsOrphans ks F state.root → (root : Id) → IsClosedOver root F → ListsOrphans ks F root
+listed_over F ks state held lists root over = subst (ListsOrphans ks F) (over_state F state held root over) lists
+
+-- ---- some orphans less
+
+abbrev pub ListsEach : List ℕ → Stored → Type 0
+ListsEach ks F = (root : Id) → IsClosedOver root F → ListsOrphans ks F root
+
+pub nothing_lacks : (F G : Stored) → G ≡ F → LackOrphans F G
+nothing_lacks F G same root over = record {
+  others = λ k other. ap (λ (X : Stored). X k) same;
+  each = λ k. inl (ap (λ (X : Stored). X k) same);
+}
+
+module _ (F now G : Stored) (ks : List ℕ) (same : now ≡ F) (lists : ListsEach ks F) where
+  pub may_go : IsClosed F → (root : Id) × All (IsOrphan now root) ks
+  may_go closed = let at = closed_over F closed in (at.0, subst (λ (X : Stored). All (IsOrphan X at.0) ks) (sym same) (lists at.0 at.1).each)
+
+  pub lacks : ((root : Id) → All (IsOrphan now root) ks → IsTidiedInPart now root G) → LackOrphans F G
+  lacks part root over =
+      subst (λ (X : Stored). IsTidiedInPart X root G) same (part root (subst (λ (X : Stored). All (IsOrphan X root) ks) (sym same) (lists root over).each))
+
+  pub tidied : LackOrphans F G → All (λ k. G k ≡ None) ks → AreTidied F G
+  tidied lack gone root over = record {
+    others = (lack root over).others;
+    gone = λ k orphan. All-contains (λ j. G j ≡ None) ks k gone ((lists root over).all k orphan);
+  }
+
+module _ (F G : Stored) (sound : AreSound F) (closed : IsClosed F) (lack : LackOrphans F G) where
+  pub lacking_shown : ShowsSame F G
+  lacking_shown = let at = closed_over F closed in same_shown F at.0 G sound (lack at.0 at.1).others
+
+  pub lacking_closed : StaysClosed F G
+  lacking_closed = let at = closed_over F closed in stays_closed F at.0 G sound (lack at.0 at.1).others

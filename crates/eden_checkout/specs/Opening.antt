@@ -1,5 +1,5 @@
 -- Files that a checkout is opened over, and why it isn't.
-use Rattle.std.specs.Prelude.{◌≡◌, ◌≢◌, ◌<◌, ◌⊎◌, ℕ, List, Option, Some, None, IsSome}
+use Rattle.std.specs.Prelude.{◌≡◌, ◌≢◌, ◌<◌, ◌⊎◌, ℕ, None, IsSome}
 use Rattle.eden_model.specs.declared.id.Id.{Id}
 use Rattle.eden_model.specs.declared.kind.Origin.{Origin}
 use Rattle.eden_model.specs.declared.kind.Origin.TheVariants as origin
@@ -18,7 +18,8 @@ use Rattle.eden_overlay.specs.Getting.{Explains}
 use Rattle.eden_overlay.specs.Held.{HoldsState, without, root_file}
 use Rattle.eden_overlay.specs.declared.rescan.RescanFault.{RescanFault}
 use Rattle.eden_overlay.specs.declared.rescan.RescanFault.TheVariants as rescan
-use Rattle.eden_overlay.specs.Rescanning.{IsNextOf, Accuses}
+use Rattle.eden_overlay.specs.Counting.{root_from, NumbersAreSound}
+use Rattle.eden_overlay.specs.Rescanning.{IsNextOf, Accuses, CanRescan}
 use Rattle.eden_overlay.specs.Soundness.{IsLive, Names, AreSound}
 use Rattle.eden_coupling.specs.Shown.{shown_in}
 use Rattle.eden_inode.specs.Tables.{fresh_root}
@@ -29,11 +30,6 @@ use Rattle.eden_checkout.specs.declared.opening.Opening.TheVariants as opening
 use Rattle.eden_checkout.specs.declared.opening.Start.{Start}
 
 -- ---- the tree that files show
-
--- where the root comes from: its file, or where that isn't stored the commit's tree
-abbrev pub root_from : Id → Option (List ℕ) → Origin
-root_from root None = origin.Object root
-root_from root (Some bytes) = origin.Own
 
 -- the tree that files show above a commit's, file 0 passed over
 abbrev pub files_show : Repository → Id → Stored → Tree
@@ -64,10 +60,10 @@ AreNone F = (k : ℕ) → F k ≡ None
 abbrev pub StartsAt : Stored → Id → ℕ → Type 0
 StartsAt F root next = (AreNone F × (next ≡ 2)) ⊎ HoldsState F (record { root = root; next = next })
 
--- what is found in files that are opened: the next number, and by a rescan that they are sound
+-- what is found in files that are opened: the next number, and by a rescan that they are sound, and the numbers in them
 abbrev pub Finds : Opening → Id → Stored → ℕ → Type 0
 Finds opening.Closed root F next = StartsAt F root next
-Finds opening.Rescan root F next = AreSound F × IsNextOf F next
+Finds opening.Rescan root F next = AreSound F × NumbersAreSound F root × IsNextOf F root next
 
 pub record Starts (how : Opening) (root : Id) (F : Stored) (start : Start) : Type 0 where
   pub origin : start.origin ≡ root_from root (root_file F)
@@ -105,20 +101,20 @@ IsOpenFault honest root F old new opens.Memory = Unit {0}
 IsOpenFault honest root F old new (opens.Dangling k) = ⊥
 IsOpenFault honest root F old new (opens.Twice k) = ⊥
 
--- the files are as that fault accuses them, and so aren't sound
-abbrev pub AreAccused : Stored → RescanFault → Type 0
-AreAccused F fault = Accuses F fault × (¬ AreSound F)
+-- the files are as that fault accuses them, and so no rescan opens them
+abbrev pub AreAccused : Stored → Id → RescanFault → Type 0
+AreAccused F root fault = Accuses F root fault × (¬ CanRescan F root)
 
 -- .. and why not by a rescan: the first thing that was met from file 1 down, or the device or memory
-abbrev pub IsRescanRefusal : Type 0 → Stored → ℕ → ℕ → OpenFault → Type 0
-IsRescanRefusal honest F old new opens.NotClean = ⊥
-IsRescanRefusal honest F old new (opens.OtherRoot stored) = ⊥
-IsRescanRefusal honest F old new (opens.Damaged k refusal) = honest → AreAccused F (rescan.Damaged k refusal)
-IsRescanRefusal honest F old new opens.Device = Rose old new
-IsRescanRefusal honest F old new opens.Memory = Unit {0}
-IsRescanRefusal honest F old new (opens.Dangling k) = honest → AreAccused F (rescan.Dangling k)
-IsRescanRefusal honest F old new (opens.Twice k) = honest → AreAccused F (rescan.Twice k)
+abbrev pub IsRescanRefusal : Type 0 → Id → Stored → ℕ → ℕ → OpenFault → Type 0
+IsRescanRefusal honest root F old new opens.NotClean = ⊥
+IsRescanRefusal honest root F old new (opens.OtherRoot stored) = ⊥
+IsRescanRefusal honest root F old new (opens.Damaged k refusal) = honest → AreAccused F root (rescan.Damaged k refusal)
+IsRescanRefusal honest root F old new opens.Device = Rose old new
+IsRescanRefusal honest root F old new opens.Memory = Unit {0}
+IsRescanRefusal honest root F old new (opens.Dangling k) = honest → AreAccused F root (rescan.Dangling k)
+IsRescanRefusal honest root F old new (opens.Twice k) = honest → AreAccused F root (rescan.Twice k)
 
 abbrev pub IsRefusal : Opening → Type 0 → Id → Stored → ℕ → ℕ → OpenFault → Type 0
 IsRefusal opening.Closed honest root F old new fault = IsOpenFault honest root F old new fault
-IsRefusal opening.Rescan honest root F old new fault = IsRescanRefusal honest F old new fault
+IsRefusal opening.Rescan honest root F old new fault = IsRescanRefusal honest root F old new fault

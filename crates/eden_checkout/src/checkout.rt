@@ -4,6 +4,7 @@ ghost use Rattle.eden_coupling.specs.Chains.{AreSaved};
 ghost use Rattle.eden_model.specs.Failures.{Rose};
 ghost use Rattle.eden_overlay.specs.declared.files.FilesFault.TheVariants as fault;
 ghost use Rattle.eden_overlay.specs.Held.{HoldsState, without};
+ghost use Rattle.eden_overlay.specs.Counting.{NumbersAreSound};
 ghost use Rattle.eden_overlay.specs.Rescanning.{IsNextOf};
 ghost use Rattle.eden_overlay.specs.Soundness.{AreSound};
 ghost use Rattle.eden_checkout.specs.Opening.{CanOpen, MayOpen, StartsAt, Finds, files_show, IsOpenFault, IsRescanRefusal, IsRefusal};
@@ -72,12 +73,13 @@ impl<A: Allocator + Clone, W: World, F: Files<W>> Checkout<A, W, F> {
         Self::open_by(alloc, dirs, files, root, cache, Opening::Closed)
     }
 
-    /// Opens an overlay over a commit's tree whatever a run left of it, one that was killed too: what is shown is what the
-    /// directories say that are stored from file 1 down, and the next number is one more than the greatest that they name.
-    /// A state is passed over, and removed as the last act. The cache is as for `open`.
+    /// Opens an overlay over a commit's tree whatever a run left of it, one that was killed too. What is shown is what
+    /// the directories say that are stored from file 1 down. The next number is one more than the greatest that they name,
+    /// and those on tree objects whose numbers were saved, or that a file has. A state is passed over, and removed as the
+    /// last act. The cache is as for `open`.
     ///
-    /// Errors: `Dangling`, `Twice`, and `Damaged` of any file, the first that is met from file 1 down, `Device` and
-    /// `Memory`. The files come back as they were.
+    /// Errors: `Dangling`, `Twice`, and `Damaged` of any file, the first that is met from file 1 down, or if a file's
+    /// number leaves none to give; `Device` and `Memory`. The files come back as they were.
     pub fn open_rescan(
         alloc: Global,
         dirs: A,
@@ -90,12 +92,13 @@ impl<A: Allocator + Clone, W: World, F: Files<W>> Checkout<A, W, F> {
         ensures sound { W.honest → OnOk result (AreSound (F.stored files)) }
         ensures shown { W.honest → IfOk result (λ c. shows W.World F.Files c.inodes ≡ W.opening) }
         ensures stored { W.honest → IfOk result (λ c. F.stored c.inodes.files ≡ without (F.stored files) 0) }
-        ensures next { W.honest → IfOk result (λ c. IsNextOf (F.stored files) c.inodes.next) }
+        ensures numbers { W.honest → OnOk result (NumbersAreSound (F.stored files) root) }
+        ensures next { W.honest → IfOk result (λ c. IsNextOf (F.stored files) root c.inodes.next) }
         ensures fresh { IfOk result
             (λ c. (c.inodes.clock ≡ 0) × ((c.inodes.changes ≡ 0) × ((c.cache ≡ cache) × (c.root ≡ root)))) }
         ensures saved { IfOk result (λ c. AreSaved c.inodes.root) }
         ensures fault { IfErr result
-            (λ e. IsRescanRefusal W.honest (F.stored files) (F.failures files) (F.failures e.1) e.0) }
+            (λ e. IsRescanRefusal W.honest root (F.stored files) (F.failures files) (F.failures e.1) e.0) }
         ensures unchanged { W.honest → IfErr result (λ e. F.stored e.1 ≡ F.stored files) }
     {
         Self::open_by(alloc, dirs, files, root, cache, Opening::Rescan)

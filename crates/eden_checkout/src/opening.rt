@@ -4,6 +4,7 @@ ghost use Rattle.eden_model.specs.declared.id.Id.{Id};
 ghost use Rattle.eden_model.specs.Limits.{number_least, number_end};
 ghost use Rattle.eden_overlay_format.specs.State.{IsGoodState};
 ghost use Rattle.eden_overlay.specs.Held.{HoldsState, without};
+ghost use Rattle.eden_overlay.specs.Counting.{NumbersAreSound};
 ghost use Rattle.eden_overlay.specs.Rescanning.{IsNextOf};
 ghost use Rattle.eden_overlay.specs.Soundness.{AreSound};
 ghost use Rattle.eden_checkout.specs.Opening.{Starts, IsRootOf, IsOpenFault, IsRescanRefusal, IsRefusal};
@@ -85,17 +86,19 @@ fn state_of<W: World, F: Files<W>>(
 fn rescanned<W: World, F: Files<W>>(
     alloc: Global,
     overlay: &mut Overlay<W, F>,
+    root: Id,
 ) -> Result<u64, OpenFault>
     ensures sound { W.honest → OnOk result (AreSound (F.stored overlay.old)) }
-    ensures next { W.honest → IfOk result (IsNextOf (F.stored overlay.old)) }
+    ensures numbers { W.honest → OnOk result (NumbersAreSound (F.stored overlay.old) root) }
+    ensures next { W.honest → IfOk result (IsNextOf (F.stored overlay.old) root) }
     ensures least { IfOk result (λ next. number_least ≤ next) }
     ensures most { IfOk result (λ next. next ≤ number_end) }
     ensures refused { IfErr result
-        (IsRescanRefusal W.honest (F.stored overlay.old) (F.failures overlay.old) (F.failures overlay.new)) }
+        (IsRescanRefusal W.honest root (F.stored overlay.old) (F.failures overlay.old) (F.failures overlay.new)) }
     ensures unchanged { W.honest → F.stored overlay.new ≡ F.stored overlay.old }
     ensures counted { F.failures overlay.old ≤ F.failures overlay.new }
 {
-    match overlay.rescan(alloc) {
+    match overlay.rescan(alloc, root) {
         Ok(next) => Ok(next),
         Err(fault) => Err(OpenFault::from(fault)),
     }
@@ -126,7 +129,7 @@ pub(crate) fn begin<W: World, F: Files<W>>(
     }
     let next = match opening {
         Opening::Closed => state_of(alloc, overlay, root)?.next,
-        Opening::Rescan => rescanned(alloc, overlay)?,
+        Opening::Rescan => rescanned(alloc, overlay, root)?,
     };
     let origin = if overlay.is_rooted()? {
         Origin::Own

@@ -1,11 +1,13 @@
 //! A closed overlay without its orphans.
 ghost use Rattle.std.specs.Prelude.{◌≡◌, ◌≤◌, IfOk, IfErr, OnOk};
+ghost use Rattle.eden_model.specs.declared.id.Id.{Id};
 ghost use Rattle.std.specs.Ordering.{nat_cmp};
 ghost use Rattle.std.specs.List.Sorted.{IsStrictlySortedBy};
 ghost use Rattle.eden_overlay.specs.Soundness.{AreSound};
-ghost use Rattle.eden_overlay.specs.Tidying.{IsTidied, ListsOrphans, OthersStay};
+ghost use Rattle.eden_overlay.specs.Tidying.{ListsOrphans};
 ghost use Rattle.eden_checkout.specs.declared.tidying.TidyFault.TheVariants as tidy;
-ghost use Rattle.eden_checkout.specs.Tidying.{CountsOrphans, IsClosed, IsTidyFault, IsTidyRefusal};
+ghost use Rattle.eden_checkout.specs.Tidying.{AreTidied, LackOrphans, CountsOrphans, IsClosed, IsClosedOver};
+ghost use Rattle.eden_checkout.specs.Tidying.{IsTidyFault, IsTidyRefusal};
 ghost use Rattle.eden_checkout.specs.Tidying.{ShowsSame, StaysClosed};
 
 use crate::fault::OpenFault;
@@ -34,7 +36,8 @@ impl From<OpenFault> for TidyFault {
     }
 }
 
-/// Removes the orphans of an overlay that was closed, or that has no files, and counts them. What is shown is the same,
+/// Removes the orphans of an overlay that was closed, or that has no files, over the commit's tree in its state, and
+/// counts them. What is shown is the same,
 /// and whatever fails, what was closed is closed.
 ///
 /// It is looked at as a rescan looks, from file 1 down, before anything is removed. Errors: `Open`, with `NotClean`
@@ -45,9 +48,10 @@ pub fn tidy<W: World, F: Files<W>>(
     overlay: &mut Overlay<W, F>,
 ) -> Result<Removed, TidyFault>
     ensures was_closed { W.honest → OnOk result (IsClosed (F.stored overlay.old)) }
-    ensures tidied { W.honest → OnOk result (IsTidied (F.stored overlay.old) (F.stored overlay.new)) }
-    ensures counted { W.honest → IfOk result (CountsOrphans (F.stored overlay.old)) }
-    ensures others { W.honest → OthersStay (F.stored overlay.old) (F.stored overlay.new) }
+    ensures tidied { W.honest → OnOk result (AreTidied (F.stored overlay.old) (F.stored overlay.new)) }
+    ensures counted { W.honest → IfOk result (λ removed. (root : Id)
+        → IsClosedOver root (F.stored overlay.old) → CountsOrphans (F.stored overlay.old) root removed) }
+    ensures others { W.honest → LackOrphans (F.stored overlay.old) (F.stored overlay.new) }
     ensures shown { W.honest → ShowsSame (F.stored overlay.old) (F.stored overlay.new) }
     ensures closed { W.honest → StaysClosed (F.stored overlay.old) (F.stored overlay.new) }
     ensures fault { IfErr result (IsTidyFault W.honest (F.stored overlay.old) (F.stored overlay.new)
@@ -74,7 +78,8 @@ fn closed_orphans<W: World, F: Files<W>>(
 ) -> Result<Vec<u64>, OpenFault>
     ensures was_closed { W.honest → OnOk result (IsClosed (F.stored overlay.old)) }
     ensures sound { W.honest → OnOk result (AreSound (F.stored overlay.old)) }
-    ensures all { W.honest → IfOk result (λ v. ListsOrphans v.items (F.stored overlay.old)) }
+    ensures all { W.honest → IfOk result (λ v. (root : Id)
+        → IsClosedOver root (F.stored overlay.old) → ListsOrphans v.items (F.stored overlay.old) root) }
     ensures rising { IfOk result (λ v. IsStrictlySortedBy nat_cmp v.items) }
     ensures refused { IfErr result
         (IsTidyRefusal W.honest (F.stored overlay.old) (F.failures overlay.old) (F.failures overlay.new)) }
@@ -85,6 +90,6 @@ fn closed_orphans<W: World, F: Files<W>>(
     if numbers.is_empty() {
         return Ok(numbers);
     }
-    let _state = stored_state(alloc, overlay)?;
-    Ok(overlay.orphans(alloc)?)
+    let state = stored_state(alloc, overlay)?;
+    Ok(overlay.orphans(alloc, state.root)?)
 }

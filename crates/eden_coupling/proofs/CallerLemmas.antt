@@ -68,3 +68,5 @@ pub use Rattle.eden_coupling.proofs.NumbersSteps.{leave_keeps, left_not_shown, r
 -- .. and stores and changes together
 pub use Rattle.eden_coupling.proofs.NumbersDone.{content_numbers, new_content_numbers, new_entries_numbers, state_numbers, stateless_numbers, saves_numbers, owned_numbers}
 pub use Rattle.eden_coupling.proofs.NumbersDone.{then_keeps, chain_numbers, removed_numbers, moved_numbers, replaced_numbers, marked_numbers}
+-- .. and what the files of an opening show
+pub use Rattle.eden_coupling.proofs.NumbersOpened.{found_shown, found_blank, found_keeps, state_goes, state_comes, orphans_go}

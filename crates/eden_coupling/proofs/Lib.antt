@@ -72,3 +72,4 @@ pub mod NumbersAway
 pub mod NumbersRestored
 pub mod NumbersSteps
 pub mod NumbersDone
+pub mod NumbersOpened

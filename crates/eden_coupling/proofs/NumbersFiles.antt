@@ -39,7 +39,7 @@ use Rattle.eden_coupling.proofs.NumbersStored.{SeesSame, sees_its_own, not_loade
 saved_on : (F G : Stored) (k : ℕ) (id : Id) → G k ≡ F k → saved_at G k id ≡ saved_at F k id
 saved_on F G k id same = ap (option_and_then (numbers_of id)) same
 
-by_on : (F G : Stored) (k : ℕ) (o : Origin) → G k ≡ F k → entries_by (in_files G) k o ≡ entries_by (in_files F) k o
+pub by_on : (F G : Stored) (k : ℕ) (o : Origin) → G k ≡ F k → entries_by (in_files G) k o ≡ entries_by (in_files F) k o
 by_on F G k (origin.Object id) same = saved_on F G k id same
 by_on F G k origin.Own same = ap (option_and_then entries_in) same
 by_on F G k origin.Empty same = refl

@@ -24,3 +24,4 @@ pub mod NumberNodes
 pub mod NumberKept
 pub mod NumberUnloads
 pub mod NumberSteps
+pub mod NumberOpenings

@@ -9,6 +9,7 @@
 mod kept;
 mod laws;
 mod numbering;
+mod opening;
 mod owning;
 mod shown;
 mod storing;
@@ -16,6 +17,7 @@ mod storing;
 pub use kept::kept_laws;
 pub use laws::tie_laws;
 pub use numbering::{number_change_laws, number_kept_laws, number_save_laws, numbering_laws};
+pub use opening::opening_number_laws;
 pub use owning::chain_laws;
 pub use shown::shown_laws;
 pub use storing::file_laws;

@@ -22,10 +22,12 @@ pub use Rattle.eden_overlay.proofs.Accusing.{accused_unsound}
 -- what is saved of numbers
 pub use Rattle.eden_overlay.proofs.Saves.{numbers_held, other_tree_has_none, entries_have_none, root_has_numbers}
 pub use Rattle.eden_overlay.proofs.Roots.{root_stands}
+-- directories that count
+pub use Rattle.eden_overlay.proofs.Counting.{listed_from_two, live_counted, state_has_none}
 -- the length of a content that a file's head tells
 pub use Rattle.eden_overlay.proofs.Lengths.{length_held, no_length}
 -- files without orphans
-pub use Rattle.eden_overlay.proofs.Tidied.{root_stays, named_stays, live_before, named_before, still_sound}
+pub use Rattle.eden_overlay.proofs.Tidied.{root_stays, counted_stays, named_stays, live_before, named_before, still_sound}
 -- a count that rose later rose
 pub use Rattle.eden_overlay.proofs.Accusing.{risen}
 

@@ -1,5 +1,5 @@
 -- Directories stored with entries put in.
-use Rattle.std.proofs.Common.{◌≡◌, ◌≢◌, ◌⊎◌, ◌∙◌, ℕ, List, [], None, Contains, refl, sym, ap, subst, inl, inr, arith}
+use Rattle.std.proofs.Common.{◌≡◌, ◌≢◌, ◌⊎◌, ◌∙◌, ℕ, List, [], Contains, refl, sym, ap, subst, inl, inr, arith}
 use Rattle.eden_model.specs.declared.kind.Kind.{Kind}
 use Rattle.eden_overlay_format.specs.declared.stored_entry.StoredEntry.{StoredEntry}
 use Rattle.eden_overlay_format.specs.Directory.{IsStorable, AreStorable}

@@ -4,6 +4,7 @@ pub mod Puts
 pub mod Roots
 pub mod Saves
 pub mod Strays
+pub mod Counting
 pub mod Bodies
 pub mod Contents
 pub mod Directories
@@ -12,6 +13,7 @@ pub mod Entering
 pub mod Moving
 pub mod Places
 pub mod Walks
+pub mod Nexts
 pub mod Accusing
 pub mod Tidied
 mod Lengths

@@ -7,6 +7,7 @@ use Rattle.std.proofs.lemmas.List.Elements.{All-contains, All-contains_itself, A
 use Rattle.std.proofs.lemmas.List.Sorted.{IsPermutation-reverse, All-permutation}
 use Rattle.std.proofs.lemmas.Map.Keys.{sorted_head, sorted_tail}
 use Rattle.std.proofs.lemmas.Cmp.{nat_list_cmp_total}
+use Rattle.eden_model.specs.declared.kind.Origin.{Origin}
 use Rattle.eden_model.specs.Trees.{Name}
 use Rattle.eden_model.specs.Named.{AreRising}
 use Rattle.eden_model.specs.Numbers.{IsNumber}
@@ -37,28 +38,29 @@ mapped_there f xs x h =
 
 -- ---- places
 
-abbrev pub at : ℕ → StoredEntry → Place
-at d e = record { directory = d; entry = e }
+abbrev pub at : ℕ → Origin → StoredEntry → Place
+at d o e = record { directory = d; from = o; entry = e }
 
-pub same_place : (p q : Place) → p.directory ≡ q.directory → p.entry ≡ q.entry → p ≡ q
-same_place p q d e =
-    let first : p ≡ at q.directory p.entry = ap (λ (k : ℕ). at k p.entry) d in
-    let second : at q.directory p.entry ≡ q = ap (λ (x : StoredEntry). at q.directory x) e in
-    first ∙ second
+pub same_place : (p q : Place) → p.directory ≡ q.directory → p.from ≡ q.from → p.entry ≡ q.entry → p ≡ q
+same_place p q d o e =
+    let first : p ≡ at q.directory p.from p.entry = ap (λ (k : ℕ). at k p.from p.entry) d in
+    let second : at q.directory p.from p.entry ≡ at q.directory q.from p.entry = ap (λ (f : Origin). at q.directory f p.entry) o in
+    let third : at q.directory q.from p.entry ≡ q = ap (λ (x : StoredEntry). at q.directory q.from x) e in
+    first ∙ second ∙ third
 
 -- the entries of a directory, as places
-pub places_there : (d : ℕ) (es : List StoredEntry) (p : Place) → p.directory ≡ d → Contains es p.entry → Contains (map (at d) es) p
-places_there d es p is h =
-    subst (Contains (map (at d) es)) (same_place (at d p.entry) p (sym is) refl) (mapped_there (at d) es p.entry h)
+pub places_there : (d : ℕ) (o : Origin) (es : List StoredEntry) (p : Place) → p.directory ≡ d → p.from ≡ o → Contains es p.entry → Contains (map (at d o) es) p
+places_there d o es p is from h =
+    subst (Contains (map (at d o) es)) (same_place (at d o p.entry) p (sym is) (sym from) refl) (mapped_there (at d o) es p.entry h)
 
-pub places_from : (d : ℕ) (es : List StoredEntry) (p : Place) → Contains (map (at d) es) p → (p.directory ≡ d) × Contains es p.entry
-places_from d es p h =
-    let P : Place → Type 0 = λ q. (q.directory ≡ d) × Contains es q.entry in
-    All-contains P (map (at d) es) p (All-map P (at d) es (All-weaker (Contains es) (λ e. P (at d e)) (λ e there. (refl, there)) es (All-contains_itself es))) h
+pub places_from : (d : ℕ) (o : Origin) (es : List StoredEntry) (p : Place) → Contains (map (at d o) es) p → (p.directory ≡ d) × (p.from ≡ o) × Contains es p.entry
+places_from d o es p h =
+    let P : Place → Type 0 = λ q. (q.directory ≡ d) × (q.from ≡ o) × Contains es q.entry in
+    All-contains P (map (at d o) es) p (All-map P (at d o) es (All-weaker (Contains es) (λ e. P (at d o e)) (λ e there. (refl, refl, there)) es (All-contains_itself es))) h
 
-pub entries_at : (d : ℕ) (es : List StoredEntry) → map (λ (p : Place). p.entry) (map (at d) es) ≡ es
-entries_at d [] = refl
-entries_at d (e ∷ es) = ap (λ l. e ∷ l) (entries_at d es)
+pub entries_at : (d : ℕ) (o : Origin) (es : List StoredEntry) → map (λ (p : Place). p.entry) (map (at d o) es) ≡ es
+entries_at d o [] = refl
+entries_at d o (e ∷ es) = ap (λ l. e ∷ l) (entries_at d o es)
 
 -- names that rise come once
 never_less : (n : Name) → slice_cmp nat_cmp n n ≡ Less → ⊥
@@ -66,14 +68,14 @@ never_less n less =
     let flipped : Less ≡ ordering_reverse Less = sym less ∙ nat_list_cmp_total.antisymm n n ∙ ap ordering_reverse less in
     cc
 
-pub places_apart : (d : ℕ) (es : List StoredEntry) → AreRising (λ (e : StoredEntry). e.name) es → AreApart (map (at d) es)
-places_apart d [] rising = tt
-places_apart d (e ∷ es) rising =
+pub places_apart : (d : ℕ) (o : Origin) (es : List StoredEntry) → AreRising (λ (e : StoredEntry). e.name) es → AreApart (map (at d o) es)
+places_apart d o [] rising = tt
+places_apart d o (e ∷ es) rising =
     let cmp = slice_cmp nat_cmp in
     let name : StoredEntry → Name = λ x. x.name in
     let above = All-from_recursion (λ n. cmp e.name n ≡ Less) (map name es) (sorted_head cmp e.name (map name es) rising) in (
-      λ twice. never_less e.name (All-contains (λ n. cmp e.name n ≡ Less) (map name es) e.name above (mapped_there name es e (places_from d es (at d e) twice).1)),
-      places_apart d es (sorted_tail cmp e.name (map name es) rising),
+      λ twice. never_less e.name (All-contains (λ n. cmp e.name n ≡ Less) (map name es) e.name above (mapped_there name es e (places_from d o es (at d o e) twice).2)),
+      places_apart d o es (sorted_tail cmp e.name (map name es) rising),
     )
 
 pub apart-append : (ps qs : List Place) → AreApart ps → AreApart qs → ((p : Place) → Contains ps p → ¬ Contains qs p) → AreApart (ps ++ qs)

@@ -1,5 +1,5 @@
 -- What the head of file 1 tells of the root.
-use Rattle.std.proofs.Common.{◌≡◌, ◌∙◌, ℕ, Bool, true, false, List, Option, Some, None, cond, not, refl, sym, ap}
+use Rattle.std.proofs.Common.{◌≡◌, ◌∙◌, ℕ, Bool, true, false, List, Option, Some, None, cond, not, refl, ap}
 use Rattle.std.specs.Option.{is_some, option_and_then}
 use Rattle.eden_overlay_format.specs.declared.header.Head.{Head}
 use Rattle.eden_overlay_format.specs.Numbers.{numbers_by, has_numbers}

@@ -1,5 +1,5 @@
 -- The numbers saved for directories that stand on tree objects.
-use Rattle.std.proofs.Common.{◌≡◌, ◌≢◌, ◌&&◌, ℕ, Bool, true, false, cond, List, length, take, Option, Some, None, refl, sym, ap, ◌∙◌}
+use Rattle.std.proofs.Common.{◌≡◌, ◌≢◌, ◌&&◌, ℕ, Bool, true, false, cond, List, length, take, Some, None, refl, sym, ap, ◌∙◌}
 use Rattle.std.specs.Option.{option_and_then}
 use Rattle.std.specs.Str.{bytes_eq}
 use Rattle.std.proofs.lemmas.Bool.{le-leb}
@@ -12,7 +12,6 @@ use Rattle.eden_overlay_format.specs.Stored.{identifier_bytes, written}
 use Rattle.eden_overlay_format.specs.Directory.{directory_body}
 use Rattle.eden_overlay_format.specs.Numbers.{numbers_body, has_numbers}
 use Rattle.eden_overlay_format.proofs.CallerLemmas.{written_starts, written_long, numbers_written, directory_has_none}
-use Rattle.eden_overlay.specs.Files.{Stored, put}
 use Rattle.eden_overlay.specs.Held.{unless_numbers, of_tree, numbers_of}
 use Rattle.eden_overlay.specs.Laws.{NumbersHeld, OtherTreeHasNone, EntriesHaveNone, RootHasNumbers}
 use Rattle.eden_overlay.proofs.Puts.{put_here}

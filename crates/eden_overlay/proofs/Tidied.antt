@@ -1,25 +1,30 @@
 -- Files without orphans.
-use Rattle.std.proofs.Common.{◌≡◌, ◌∙◌, ◌&&◌, ℕ, Bool, true, false, cond, not, leb, List, [], ◌∷◌, filter, Contains, None, IsSome, refl, sym, ap, subst, inl, inr, arith}
+use Rattle.std.proofs.Common.{◌≡◌, ◌≢◌, ◌∙◌, ◌&&◌, ℕ, Bool, true, false, cond, not, leb, List, [], ◌∷◌, filter, Contains, None, IsSome, refl, sym, ap, subst, inl, inr, arith}
 use Rattle.std.proofs.lemmas.Bool.{leb-true, le-leb}
 use Rattle.std.proofs.lemmas.List.Elements.{All-contains, All-contains_itself, All-filter, All-weaker, filter_passes}
+use Rattle.eden_model.specs.declared.id.Id.{Id}
 use Rattle.eden_model.specs.Limits.{number_least}
 use Rattle.eden_overlay_format.specs.declared.stored_entry.StoredEntry.{StoredEntry}
 use Rattle.eden_overlay.specs.Files.{Stored, Lists}
 use Rattle.eden_overlay.specs.Held.{without}
-use Rattle.eden_overlay.specs.Laws.{IsUnnamed}
+use Rattle.eden_overlay.specs.Counting.{Counted}
 use Rattle.eden_overlay.specs.Soundness.{Names, here, below, IsLive, AreSound}
 use Rattle.eden_overlay.specs.Tidying.{IsOrphan, ListsOrphans, OthersStay, IsTidiedInPart}
 use Rattle.eden_overlay.specs.Walking.{AreNamed}
+use Rattle.eden_overlay.proofs.Counting.{live_counted}
 use Rattle.eden_overlay.proofs.Places.{contains_first, contains_rest, contains_cases, contains_none}
 use Rattle.eden_overlay.proofs.Puts.{put_here, put_apart, same_or_apart, names_moved, kind_moved, top_same}
 
 -- what isn't an orphan's is as it was: the root's file, each that a live directory names, and each live directory's
-module _ (F G : Stored) (stay : OthersStay F G) where
+module _ (F : Stored) (root : Id) (G : Stored) (stay : OthersStay F root G) where
   pub root_stays : G 1 ≡ F 1
   root_stays = stay 1 (λ orphan. let least = orphan.least in absurd (omega (arith, least)))
 
+  pub counted_stays : (n : Counted F root) → G n.entry.number ≡ F n.entry.number
+  counted_stays n = stay n.entry.number (λ orphan. orphan.unnamed n refl)
+
   pub named_stays : (d : ℕ) (e : StoredEntry) → IsLive F d → Names F d e → G e.number ≡ F e.number
-  named_stays d e live names = stay e.number (λ orphan. orphan.unnamed d e live names refl)
+  named_stays d e live names = counted_stays (live_counted F root d e live names)
 
   live_stays : (d : ℕ) → IsLive F d → G d ≡ F d
   live_stays d here = root_stays
@@ -44,10 +49,10 @@ module _ (F G : Stored) (stay : OthersStay F G) where
 
 -- ---- one orphan less
 
-module _ (F G : Stored) (k : ℕ) (part : IsTidiedInPart F G) (orphan : IsOrphan F k) where
-  pub one_less : IsTidiedInPart F (without G k)
+module _ (F : Stored) (root : Id) (G : Stored) (k : ℕ) (part : IsTidiedInPart F root G) (orphan : IsOrphan F root k) where
+  pub one_less : IsTidiedInPart F root (without G k)
   one_less = record {
-    others = λ j other. put_apart G k j None (λ is. other (subst (IsOrphan F) is orphan)) ∙ part.others j other;
+    others = λ j other. put_apart G k j None (λ is. other (subst (IsOrphan F root) is orphan)) ∙ part.others j other;
     each = λ j. elim (same_or_apart k j) [
       | inl is ↦ inr (put_here G k j None is)
       | inr ne ↦ elim (part.each j) [
@@ -88,25 +93,25 @@ passes_both true false s t = refl
 passes_both true true s t = cc
 passes_both false b s t = cc
 
-module _ (F : Stored) (was_met : ℕ → Bool) (are : AreNamed F was_met) where
-  unnamed_met : (k : ℕ) → IsUnnamed F k → was_met k ≡ false
+module _ (F : Stored) (root : Id) (was_met : ℕ → Bool) (are : AreNamed F root was_met) where
+  unnamed_met : (k : ℕ) → ((n : Counted F root) → n.entry.number ≢ k) → was_met k ≡ false
   unnamed_met k free = elim (was_met k) as (λ b. was_met k ≡ b → b ≡ false) [
-    | true ↦ λ met. (let n = are.only k met in absurd (free n.0.directory n.0.entry n.0.live n.0.named n.1))
+    | true ↦ λ met. (let n = are.only k met in absurd (free n.0 n.1))
     | false ↦ λ met. refl
   ] refl
 
-  met_unnamed : (k : ℕ) → was_met k ≡ false → IsUnnamed F k
-  met_unnamed k not_met d e live names is = let wrong : true ≡ false = sym (are.all d e live names) ∙ ap was_met is ∙ not_met in cc
+  met_unnamed : (k : ℕ) → was_met k ≡ false → (n : Counted F root) → n.entry.number ≢ k
+  met_unnamed k not_met n is = let wrong : true ≡ false = sym (are.all n) ∙ ap was_met is ∙ not_met in cc
 
   abbrev may_go : ℕ → Bool
   may_go k = leb number_least k && not (was_met k)
 
-  pub orphans_listed : (ks : List ℕ) → Lists ks F → ListsOrphans (filter may_go ks) F
+  pub orphans_listed : (ks : List ℕ) → Lists ks F → ListsOrphans (filter may_go ks) F root
   orphans_listed ks lists =
       let passes = filter_passes may_go ks in
       let there = All-filter may_go (λ k. IsSome (F k)) ks lists.there in
       record {
-        each = All-weaker (Contains (filter may_go ks)) (IsOrphan F) (λ k h.
+        each = All-weaker (Contains (filter may_go ks)) (IsOrphan F root) (λ k h.
             let parts = passed (leb number_least k) (was_met k) (All-contains (λ j. may_go j ≡ true) (filter may_go ks) k passes h) in
             record {
               least = leb-true number_least k parts.0;

@@ -1,15 +1,16 @@
 -- Why a stored file gave no value.
-use Rattle.std.specs.Prelude.{◌≡◌, ◌≢◌, ◌⊎◌, List, ℕ, Option, Some, None, Result, Ok, Err, IsSomeAnd}
+use Rattle.std.specs.Prelude.{◌≡◌, ◌≢◌, ◌⊎◌, List, ℕ, true, false, Option, Some, None, Result, Ok, Err, IsSomeAnd}
 use Rattle.eden_model.specs.declared.id.Id.{Id}
 use Rattle.eden_overlay_format.specs.declared.header.Head.{Head}
 use Rattle.eden_overlay_format.specs.declared.header.Identifier.{Identifier}
 use Rattle.eden_overlay_format.specs.declared.header.Identifier.TheVariants as identifier
 use Rattle.eden_overlay_format.specs.declared.refusal.Refusal.{Refusal}
-use Rattle.eden_overlay_format.specs.declared.refusal.Refusal.TheVariants.{BadIdentifier}
+use Rattle.eden_overlay_format.specs.declared.refusal.Refusal.TheVariants.{Short, BadIdentifier, BadVersion, BadLength, BadDigest, BadBody}
 use Rattle.eden_overlay_format.specs.declared.refusal.DecodeFault.{DecodeFault}
 use Rattle.eden_overlay_format.specs.declared.refusal.DecodeFault.TheVariants as decode
 use Rattle.eden_overlay_format.specs.Stored.{Refuses}
 use Rattle.eden_overlay_format.specs.Content.{content_length}
+use Rattle.eden_overlay_format.specs.Numbers.{has_numbers}
 use Rattle.eden_overlay_format.specs.Values.{numbers_in}
 use Rattle.eden_overlay.specs.declared.files.FilesFault.{FilesFault}
 use Rattle.eden_overlay.specs.declared.files.FilesFault.TheVariants as files
@@ -29,12 +30,11 @@ Explains i value file get.Memory = Unit {0}
 abbrev pub AreOfOther : Id → List ℕ → Type 0
 AreOfOther tree bytes = IsSomeAnd (numbers_in bytes) (λ found. found.0 ≢ tree)
 
--- .. or why it gives no numbers for that tree object: it isn't stored, has another identifier or those of another object; or it
--- has that first refusal as a file of numbers
+-- .. or why it gives no numbers for that tree object: it isn't stored, has no numbers or those of another object; or it has numbers
+-- that are refused first for that
 abbrev pub ExplainsNumbers : Id → Option (List ℕ) → GetFault → Type 0
-ExplainsNumbers tree file get.Absent =
-    (file ≡ None) ⊎ IsSomeAnd file (λ bytes. Refuses identifier.Numbers numbers_in bytes BadIdentifier ⊎ AreOfOther tree bytes)
-ExplainsNumbers tree file (get.Damaged refusal) = (refusal ≢ BadIdentifier) × IsSomeAnd file (λ bytes. Refuses identifier.Numbers numbers_in bytes refusal)
+ExplainsNumbers tree file get.Absent = (file ≡ None) ⊎ IsSomeAnd file (λ bytes. (has_numbers bytes ≡ false) ⊎ AreOfOther tree bytes)
+ExplainsNumbers tree file (get.Damaged refusal) = IsSomeAnd file (λ bytes. (has_numbers bytes ≡ true) × Refuses identifier.Numbers numbers_in bytes refusal)
 ExplainsNumbers tree file get.Device = Unit {0}
 ExplainsNumbers tree file get.Memory = Unit {0}
 
@@ -67,3 +67,16 @@ of_files files.Memory = get.Memory
 abbrev pub of_decoding : DecodeFault → GetFault
 of_decoding (decode.Refused refusal) = get.Damaged refusal
 of_decoding decode.Memory = get.Memory
+
+-- .. and as a get of numbers tells it: a file that is none of numbers is as none
+abbrev pub of_refusal : Refusal → GetFault
+of_refusal Short = get.Absent
+of_refusal BadIdentifier = get.Absent
+of_refusal BadVersion = get.Damaged BadVersion
+of_refusal BadLength = get.Damaged BadLength
+of_refusal BadDigest = get.Damaged BadDigest
+of_refusal BadBody = get.Damaged BadBody
+
+abbrev pub of_numbers : DecodeFault → GetFault
+of_numbers (decode.Refused refusal) = of_refusal refusal
+of_numbers decode.Memory = get.Memory

@@ -4,6 +4,7 @@ pub mod InFolder
 pub mod Gates
 pub mod Held
 pub mod Soundness
+pub mod Counting
 pub mod Getting
 pub mod Keeping
 pub mod Laws

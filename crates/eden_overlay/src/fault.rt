@@ -2,6 +2,7 @@
 
 use crate::files::FilesFault;
 use eden_overlay_format::{DecodeFault, Refusal};
+use std::alloc::AllocError;
 use thiserror::Error;
 
 /// Why a stored file gave no value.
@@ -32,6 +33,17 @@ impl From<FilesFault> for GetFault {
             FilesFault::Device => GetFault::Device,
             FilesFault::Memory => GetFault::Memory,
         }
+    }
+}
+
+impl From<AllocError> for GetFault {
+    ghost use Rattle.std.specs.Prelude.{◌≡◌};
+    ghost use Rattle.eden_overlay.specs.declared.fault.GetFault.TheVariants as get;
+
+    ghost from_gives = { λ _ f. f ≡ get.Memory };
+
+    fn from(_e: AllocError) -> GetFault {
+        GetFault::Memory
     }
 }
 

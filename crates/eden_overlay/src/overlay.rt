@@ -15,7 +15,7 @@ ghost use Rattle.eden_overlay.specs.Held.{HoldsContent, HoldsEntries, HoldsState
 ghost use Rattle.eden_overlay.specs.Held.{with_content, with_entries, with_numbers, with_state, without};
 ghost use Rattle.eden_overlay.specs.Soundness.{AreSound};
 ghost use Rattle.eden_overlay.specs.Tidying.{bytes_at};
-ghost use Rattle.eden_overlay.specs.Getting.{Explains, ExplainsLength, ExplainsNumbers, length_of};
+ghost use Rattle.eden_overlay.specs.Getting.{Explains, ExplainsLength, ExplainsNumbers, length_of, of_numbers};
 ghost use Rattle.std.specs.Option.{is_some};
 ghost use Rattle.eden_overlay_format.specs.Numbers.{none_is_own};
 ghost use Rattle.eden_overlay.specs.Keeping.{IsKeptOf};
@@ -264,7 +264,8 @@ impl<W: World, F: Files<W>> Overlay<W, F> {
     }
 
     /// The entries of a directory on that tree object, with the numbers that were stored for it as the file of that
-    /// number, or why there are none: `Absent` also where the file has no numbers, or those of another tree object.
+    /// number, or why there are none: `Absent` also where the file is none of numbers (so one of under 64 bytes), or has those
+    /// of another tree object.
     pub fn get_numbers(
         &mut self,
         alloc: Global,
@@ -289,8 +290,7 @@ impl<W: World, F: Files<W>> Overlay<W, F> {
                     Err(GetFault::Absent)
                 }
             }
-            Err(DecodeFault::Refused(Refusal::BadIdentifier)) => Err(GetFault::Absent),
-            Err(fault) => Err(GetFault::from(fault)),
+            Err(fault) => Err(no_numbers(fault)),
         }
     }
 
@@ -369,6 +369,21 @@ impl<W: World, F: Files<W>> Overlay<W, F> {
             None => Ok(0),
             Some(head) => Ok(head.len),
         }
+    }
+}
+
+// Why a file that has no good numbers gives none: it is none of numbers, or they are bad.
+fn no_numbers(fault: DecodeFault) -> GetFault
+    ensures { result ≡ of_numbers fault }
+{
+    match fault {
+        DecodeFault::Memory => GetFault::Memory,
+        DecodeFault::Refused(refusal) => match refusal {
+            Refusal::Short | Refusal::BadIdentifier => GetFault::Absent,
+            Refusal::BadVersion | Refusal::BadLength | Refusal::BadDigest | Refusal::BadBody => {
+                GetFault::Damaged(refusal)
+            }
+        },
     }
 }
 

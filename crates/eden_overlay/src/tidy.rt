@@ -1,10 +1,11 @@
-//! Orphans: stored files that no live directory names. They are found, counted and removed.
+//! Orphans: stored files that no directory names which counts. They are found, counted and removed.
 
 ghost use Rattle.std.specs.Prelude.{◌≡◌, ◌≤◌, ◌+◌, ◌-◌, ◌^◌, ◌&&◌, Err, All, IfOk, IfErr, OnOk};
 ghost use Rattle.std.specs.Prelude.{filter, leb, min, not};
 ghost use Rattle.std.specs.BTreeSet.{contains};
 ghost use Rattle.std.specs.Ordering.{nat_cmp};
 ghost use Rattle.std.specs.List.Sorted.{IsStrictlySortedBy};
+ghost use Rattle.eden_model.specs.declared.id.Id.{Id};
 ghost use Rattle.eden_model.specs.Limits.{number_least};
 ghost use Rattle.eden_model.specs.Failures.{Counted};
 ghost use Rattle.eden_overlay.specs.Rescanning.{IsRescanFault};
@@ -15,7 +16,7 @@ ghost use Rattle.eden_overlay.specs.declared.files.FilesFault.TheVariants as fil
 use crate::files::{Files, FilesFault};
 use crate::overlay::Overlay;
 use crate::rescan::{LEAST_NUMBER, RescanFault};
-use eden_model::World;
+use eden_model::{Id, World};
 use std::alloc::Global;
 use std::collections::BTreeSet;
 
@@ -57,20 +58,20 @@ fn unnamed(mut numbers: Vec<u64>, named: &BTreeSet<u64>) -> Vec<u64>
 }
 
 impl<W: World, F: Files<W>> Overlay<W, F> {
-    /// The numbers of the orphans, rising, where the files are sound: of the stored files that no live directory names,
-    /// but for those of the state and of the root.
+    /// The numbers of the orphans over that commit's tree, rising, where the files are sound: of the stored files that
+    /// no directory names which counts, but for those of the state and of the root.
     ///
-    /// One pass over the live directories goes before, as by `rescan`, with its errors.
-    pub fn orphans(&mut self, alloc: Global) -> Result<Vec<u64>, RescanFault>
+    /// One pass over the directories that count goes before, as by `rescan`, with its errors.
+    pub fn orphans(&mut self, alloc: Global, root: Id) -> Result<Vec<u64>, RescanFault>
         ensures sound { W.honest → OnOk result (AreSound (F.stored self.old)) }
-        ensures all { W.honest → IfOk result (λ v. ListsOrphans v.items (F.stored self.old)) }
+        ensures all { W.honest → IfOk result (λ v. ListsOrphans v.items (F.stored self.old) root) }
         ensures rising { IfOk result (λ v. IsStrictlySortedBy nat_cmp v.items) }
         ensures refused { IfErr result
-            (IsRescanFault W.honest (F.stored self.old) (F.failures self.old) (F.failures self.new)) }
+            (IsRescanFault W.honest (F.stored self.old) root (F.failures self.old) (F.failures self.new)) }
         ensures unchanged { W.honest → F.stored self.new ≡ F.stored self.old }
         ensures counted { F.failures self.old ≤ F.failures self.new }
     {
-        let named = self.named(alloc)?;
+        let named = self.named(alloc, root)?;
         let numbers = self.list(alloc)?;
         Ok(unnamed(numbers, &named))
     }
@@ -90,13 +91,14 @@ impl<W: World, F: Files<W>> Overlay<W, F> {
         Ok(bytes)
     }
 
-    /// Removes these orphans, and no other file. It takes no memory: its one error is the device's, and the orphans
-    /// that were removed by then stay so.
+    /// Removes these orphans, whatever the commit's tree is over which they are orphans, and no other file. It takes no
+    /// memory: its one error is the device's, and the orphans that were removed by then stay so.
     pub fn remove_orphans(&mut self, numbers: &[u64]) -> Result<(), FilesFault>
         requires sound { W.honest → AreSound (F.stored self.old) }
-        requires orphans { W.honest → All (IsOrphan (F.stored self.old)) numbers.now }
+        requires orphans { W.honest → (root : Id) × All (IsOrphan (F.stored self.old) root) numbers.now }
         ensures gone { W.honest → OnOk result (All (λ k. F.stored self.new k ≡ None) numbers.now) }
-        ensures others { W.honest → IsTidiedInPart (F.stored self.old) (F.stored self.new) }
+        ensures others { W.honest → (root : Id) → All (IsOrphan (F.stored self.old) root) numbers.now
+            → IsTidiedInPart (F.stored self.old) root (F.stored self.new) }
         ensures sound { W.honest → AreSound (F.stored self.new) }
         ensures fault { IfErr result (λ f. f ≡ files.Device) }
         ensures counted { Counted (result ≡ Err files.Device) (F.failures self.old) (F.failures self.new) }

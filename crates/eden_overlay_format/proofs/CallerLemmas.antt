@@ -1,7 +1,8 @@
 -- What callers' proofs cite.
-use Rattle.std.proofs.Common.{◌≡◌, ◌≤◌, ◌&&◌, ◌∙◌, ℕ, Bool, true, false, List, Some, None, length, take, drop, nat_le, refl, sym, ap, subst, cond}
+use Rattle.std.proofs.Common.{◌≡◌, ◌≤◌, ◌&&◌, ◌∙◌, ℕ, Bool, true, false, List, Some, None, length, take, drop, nat_le, refl, ap}
 use Rattle.std.specs.Str.{bytes_eq}
 use Rattle.std.proofs.Math.Bool.{and-false}
+use Rattle.std.proofs.lemmas.Bool.{le-leb}
 use Rattle.eden_model.specs.declared.id.Id.{Id}
 use Rattle.eden_overlay_format.specs.declared.header.Identifier.{Identifier}
 use Rattle.eden_overlay_format.specs.declared.header.Identifier.TheVariants as identifier
@@ -10,7 +11,7 @@ use Rattle.eden_overlay_format.specs.declared.stored_entry.StoredEntry.{StoredEn
 use Rattle.eden_overlay_format.specs.Stored.{identifier_bytes, body_in, written}
 use Rattle.eden_overlay_format.specs.Content.{content_most}
 use Rattle.eden_overlay_format.specs.Directory.{AreStorable, directory_body}
-use Rattle.eden_overlay_format.specs.Numbers.{none_is_own, numbers_body, has_numbers}
+use Rattle.eden_overlay_format.specs.Numbers.{none_is_own, numbers_body, has_numbers, IsNumbers}
 use Rattle.eden_overlay_format.specs.State.{IsGoodState, state_body}
 use Rattle.eden_overlay_format.specs.Values.{content_in, state_in, entries_in, numbers_in}
 use Rattle.eden_overlay_format.proofs.Headers.{written_found, identified, behind, one_identifier}
@@ -18,6 +19,8 @@ use Rattle.eden_overlay_format.proofs.Found.{contents_found, states_found, entri
 use Rattle.eden_overlay_format.proofs.NumbersFound.{numbers_found, other_has_none}
 -- what a head tells of a content's length, and of numbers
 pub use Rattle.eden_overlay_format.proofs.Lengths.{lengths_told, lengths_none, head_says}
+-- .. and what the first refusal tells
+pub use Rattle.eden_overlay_format.proofs.Numbered.{first_tells}
 
 -- what is written is found
 
@@ -62,6 +65,13 @@ pub entries_are_plain : (bytes : List ℕ) (es : List StoredEntry) → entries_i
 entries_are_plain bytes es found =
     otherwise identifier.Directory bytes (directory_body es) ((entries_found bytes es).0 found).stored refl
 
+-- a file whose numbers are found has numbers
+pub numbers_stand : (bytes : List ℕ) (tree : Id) (es : List StoredEntry) → numbers_in bytes ≡ Some (tree, es) → has_numbers bytes ≡ true
+numbers_stand bytes tree es found =
+    let stored = ((numbers_found bytes tree es).0 found).stored in
+    ap (λ (b : Bool). b && bytes_eq (take 4 bytes) (identifier_bytes identifier.Numbers)) (le-leb 64 (length bytes) (behind identifier.Numbers bytes (numbers_body tree es) stored).0)
+    ∙ ap (λ (four : List ℕ). bytes_eq four (identifier_bytes identifier.Numbers)) (identified identifier.Numbers bytes (numbers_body tree es) stored)
+
 -- what is found is good
 
 pub content_short : (bytes content : List ℕ) → content_in bytes ≡ Some content → length content ≤ content_most
@@ -73,6 +83,9 @@ content_behind bytes content found = behind identifier.File bytes content ((cont
 
 pub entries_storable : (bytes : List ℕ) (es : List StoredEntry) → entries_in bytes ≡ Some es → AreStorable es
 entries_storable bytes es found = ((entries_found bytes es).0 found).entries
+
+pub numbers_good : (bytes : List ℕ) (tree : Id) (es : List StoredEntry) → numbers_in bytes ≡ Some (tree, es) → IsNumbers bytes tree es
+numbers_good bytes tree es found = (numbers_found bytes tree es).0 found
 
 pub content_or_entries : (bytes content : List ℕ) (es : List StoredEntry) → content_in bytes ≡ Some content → entries_in bytes ≡ Some es → ⊥
 content_or_entries bytes content es c e =

@@ -8,3 +8,4 @@ pub mod Listed
 pub mod Found
 pub mod NumbersFound
 mod Lengths
+mod Numbered

@@ -17,6 +17,8 @@ mod orphans;
 #[cfg(test)]
 mod overlays;
 #[cfg(test)]
+mod passes;
+#[cfg(test)]
 mod sources;
 #[cfg(test)]
 mod trees;

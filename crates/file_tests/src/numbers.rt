@@ -11,7 +11,7 @@ use eden_overlay_format::{
 use std::alloc::Global;
 
 /// How stored numbers of version 1 begin, and those of version 2.
-const NUMBERS: [u8; 8] = [0x4f, 0x56, 0x44, 0x4e, 0, 0, 0, 1];
+pub const NUMBERS: [u8; 8] = [0x4f, 0x56, 0x44, 0x4e, 0, 0, 0, 1];
 
 const NEW_NUMBERS: [u8; 8] = [0x4f, 0x56, 0x44, 0x4e, 0, 0, 0, 2];
 
@@ -131,7 +131,8 @@ fn numbers_are_got_for_their_tree(rt: HostRuntime) {
     assert!(rt; fault_of(&mut overlay, rt.alloc(), 1, BLOB) == Some(GetFault::Absent));
     assert!(rt; fault_of(&mut overlay, rt.alloc(), 2, TREE) == Some(GetFault::Absent));
     assert!(rt; overlay.is_rooted() == Ok(false));
-    assert!(rt; overlay.rescan(rt.alloc()) == Ok(2));
+    assert!(rt; overlay.rescan(rt.alloc(), tree) == Ok(3));
+    assert!(rt; overlay.rescan(rt.alloc(), Id { bytes: BLOB }) == Ok(2));
 }
 
 #[test]

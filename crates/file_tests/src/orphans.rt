@@ -1,7 +1,7 @@
 //! Orphans of an overlay, and what interrupted stores left in a folder: what is found, counted and removed.
 use crate::folders::{Made, folder_of};
 use crate::formats::{NEW_DIRECTORY, NEW_FILE, OWN_BODY, OWN_DIGEST, told};
-use eden_model::Outside;
+use eden_model::{Id, Outside};
 use eden_overlay::{
     FailingFiles, Files, FilesFault, FolderFiles, MemoryFiles, Overlay, Removed, RescanFault,
 };
@@ -11,6 +11,9 @@ use std::io::ErrorKind;
 use std::path::PathBuf;
 use std::process::Abort;
 use test_samples::{Call, FaultySystem};
+
+// The commit's tree, of which no numbers are saved.
+const ROOT: Id = Id { bytes: [0x11; 20] };
 
 // The SHA-1 of `hi`.
 const HI: [u8; 20] = [
@@ -48,7 +51,7 @@ fn removed<F: Files<Outside>>(
     overlay: &mut Overlay<Outside, F>,
     alloc: Global,
 ) -> Result<Removed, RescanFault> {
-    let orphans = overlay.orphans(alloc)?;
+    let orphans = overlay.orphans(alloc, ROOT)?;
     let bytes = overlay.bytes_in(&orphans)?;
     overlay.remove_orphans(&orphans)?;
     Ok(Removed {

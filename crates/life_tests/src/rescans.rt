@@ -77,7 +77,7 @@ const CHANGED: Life = Life {
     ..IDLE
 };
 
-/// The commit's own content: what no directory names is passed over.
+/// The commit's own content: what no directory names isn't shown, and its number isn't given again.
 const UNCHANGED: Life = Life {
     input: "read /test.txt 0 100\n",
     said: "data 10 76657273696f6e20310a\n",
@@ -98,7 +98,7 @@ fn check_shown(rt: &impl Abort, alloc: Global, damages: &[Damage], number: u64, 
 #[test]
 fn a_rescan_shows_what_the_directories_say(rt: HostRuntime) {
     check_shown(&rt, rt.alloc(), &[], 3, &CHANGED);
-    check_shown(&rt, rt.alloc(), &[Removed(1)], 2, &UNCHANGED);
+    check_shown(&rt, rt.alloc(), &[Removed(1)], 3, &UNCHANGED);
 }
 
 /// The body of a directory without entries.
@@ -186,6 +186,6 @@ const BOTH_EMPTY: Life = Life {
 #[test]
 fn a_rename_that_was_stopped_half_way_leaves_its_entry_in_neither_directory(rt: HostRuntime) {
     let (next, files) = next(&rt, rt.alloc(), half_moved(&rt, rt.alloc()));
-    assert_eq!(rt; next, 5);
+    assert_eq!(rt; next, 6);
     closed(&rt, rt.alloc(), files, &BOTH_EMPTY);
 }

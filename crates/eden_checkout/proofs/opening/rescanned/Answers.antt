@@ -9,5 +9,5 @@ returns-in-Err-clause-refused g c =
     let F = g.F.Files.stored c.args.overlay.now in
     let old = g.F.Files.failures c.args.overlay.now in
     let new = g.F.Files.failures c.rescan.new.self in
-    subst (λ (e : OpenFault). IsRescanRefusal g.W.World.honest F old new e) (sym c.from.ensures)
-    (rescan_refused g.W.World.honest F old new c.in-Err.fault c.in-Err.ensures.refused)
+    subst (λ (e : OpenFault). IsRescanRefusal g.W.World.honest c.args.root F old new e) (sym c.from.ensures)
+    (rescan_refused g.W.World.honest c.args.root F old new c.in-Err.fault c.in-Err.ensures.refused)

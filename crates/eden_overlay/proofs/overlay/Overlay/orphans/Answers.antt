@@ -11,10 +11,10 @@ use Rattle.eden_overlay.proofs.overlay.Overlay.orphans.Goals as goal
 pub returns-clause-all : goal.returns-clause-all
 returns-clause-all g c = λ honest.
     let F = g.F.Files.stored c.args.self.now in
-    let P : List ℕ → Type 0 = λ ks. ListsOrphans ks F in
+    let P : List ℕ → Type 0 = λ ks. ListsOrphans ks F c.args.root in
     let Q : Stored → Type 0 = λ X. Lists c.in_ok-numbers.numbers.items X in
     subst P (sym c.unnamed.ensures)
-    (orphans_listed F (contains nat_cmp c.in_ok-named.named) (c.in_ok-named.ensures.all honest) c.in_ok-numbers.numbers.items
+    (orphans_listed F c.args.root (contains nat_cmp c.in_ok-named.named) (c.in_ok-named.ensures.all honest) c.in_ok-numbers.numbers.items
     (subst Q (c.named.ensures.unchanged honest) (c.in_ok-numbers.ensures.all honest)))
 
 pub returns-clause-rising : goal.returns-clause-rising

@@ -15,15 +15,17 @@ remove-requires g c = record {
       let F = g.F.Files.stored c.args.self.now in
       let G = g.F.Files.stored c.loop-number.self in
       let k = get_or c.args.numbers.now c.loop-number.number-index 0 in
-      let orphan = All-get_or (IsOrphan F) c.args.numbers.now c.loop-number.number-index 0 c.loop-number-test.true (c.requires.orphans honest) in
-      still_sound F (without G k) (one_less F G k (c.loop-number.invariant.part honest) orphan).others (c.requires.sound honest);
+      let (root, all) = c.requires.orphans honest in
+      let orphan = All-get_or (IsOrphan F root) c.args.numbers.now c.loop-number.number-index 0 c.loop-number-test.true all in
+      still_sound F root (without G k) (one_less F root G k (c.loop-number.invariant.part honest root all) orphan).others (c.requires.sound honest);
 }
 
 pub returns-in_err-remove-clause-sound : goal.returns-in_err-remove-clause-sound
 returns-in_err-remove-clause-sound g c = λ honest.
     let F = g.F.Files.stored c.args.self.now in
+    let (root, all) = c.requires.orphans honest in
     subst AreSound (sym (c.in_err-remove.ensures.err honest))
-    (still_sound F (g.F.Files.stored c.loop-number.self) (c.loop-number.invariant.part honest).others (c.requires.sound honest))
+    (still_sound F root (g.F.Files.stored c.loop-number.self) (c.loop-number.invariant.part honest root all).others (c.requires.sound honest))
 
 pub loop-number-preserved : goal.loop-number-preserved
 loop-number-preserved g c =
@@ -33,9 +35,9 @@ loop-number-preserved g c =
     let i = c.loop-number.number-index in
     let k = get_or ks i 0 in
     record {
-      part = λ honest.
-          let orphan = All-get_or (IsOrphan F) ks i 0 c.loop-number-test.true (c.requires.orphans honest) in
-          subst (IsTidiedInPart F) (sym (c.in_ok-remove.ensures.ok honest)) (one_less F G k (c.loop-number.invariant.part honest) orphan);
+      part = λ honest root all.
+          let orphan = All-get_or (IsOrphan F root) ks i 0 c.loop-number-test.true all in
+          subst (IsTidiedInPart F root) (sym (c.in_ok-remove.ensures.ok honest)) (one_less F root G k (c.loop-number.invariant.part honest root all) orphan);
       gone = λ honest.
           let P : Stored → Type 0 = λ X. All (λ j. X j ≡ None) (take (i + 1) ks) in
           subst P (sym (c.in_ok-remove.ensures.ok honest))
@@ -53,4 +55,9 @@ returns-clause-gone g c = λ honest.
 
 pub returns-clause-sound : goal.returns-clause-sound
 returns-clause-sound g c = λ honest.
-    still_sound (g.F.Files.stored c.args.self.now) (g.F.Files.stored c.loop-number.self) (c.loop-number.invariant.part honest).others (c.requires.sound honest)
+    let (root, all) = c.requires.orphans honest in
+    still_sound (g.F.Files.stored c.args.self.now) root (g.F.Files.stored c.loop-number.self) (c.loop-number.invariant.part honest root all).others (c.requires.sound honest)
+
+pub returns-in_err-remove-clause-others : goal.returns-in_err-remove-clause-others
+returns-in_err-remove-clause-others g c = λ honest root all.
+    subst (IsTidiedInPart (g.F.Files.stored c.args.self.now) root) (sym (c.in_err-remove.ensures.err honest)) (c.loop-number.invariant.part honest root all)
