@@ -63,7 +63,7 @@ pub use Rattle.eden_coupling.proofs.NumbersFiles.{loaded_files_keep, not_shown_u
 pub use Rattle.eden_coupling.proofs.NumbersFiles.{file_unseen as entry_unseen}
 pub use Rattle.eden_coupling.proofs.NumbersEdited.{mark_keeps, drop_keeps, add_keeps, replace_keeps, move_keeps}
 pub use Rattle.eden_coupling.proofs.NumbersRestored.{saved_load_over}
-pub use Rattle.eden_coupling.proofs.NumbersAway.{put_away_keeps, goes_away_keeps, unloads_away_table, unloads_away_keep, tables_go_away}
+pub use Rattle.eden_coupling.proofs.NumbersAway.{empty_rows, stored_is, put_away_keeps, goes_away_keeps, unloads_away_table, unloads_away_keep, tables_go_away}
 pub use Rattle.eden_coupling.proofs.NumbersSteps.{leave_keeps, left_not_shown, replaced_not_shown, come_keeps, owned_keeps, hold_keeps}
 -- .. and stores and changes together
 pub use Rattle.eden_coupling.proofs.NumbersDone.{content_numbers, new_content_numbers, new_entries_numbers, state_numbers, stateless_numbers, saves_numbers, owned_numbers}

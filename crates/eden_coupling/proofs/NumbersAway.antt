@@ -56,7 +56,7 @@ no_rows [] each = refl
 no_rows (e ∷ es) each = absurd (none-some e.1 (sym (each e.0) ∙ ap (λ (b : Bool). cond b (Some e.1) (find_row e.0 es)) (same-refl e.0)))
 
 -- an empty one has no rows
-empty_rows : (R : Repository) (y : Row) (d : Directory) → y.origin ≡ origin.Empty → IsFrom R no_files y d → d.rows ≡ []
+pub empty_rows : (R : Repository) (y : Row) (d : Directory) → y.origin ≡ origin.Empty → IsFrom R no_files y d → d.rows ≡ []
 empty_rows R y d is from =
     no_rows d.rows (λ n. nothing (find_row n d.rows) (from.each n ∙ ap (λ (items : Items Source). items n)
     (same_Some from.items (λ m. None) (sym from.had ∙ ap (λ o. entries_with R no_files (source_of y.number o)) is))))
@@ -79,7 +79,7 @@ module _ (R : Repository) (G : Stored) (x z y : Row) (next : ℕ) (p : Path) (d 
 
 -- ---- from its store on
 
-stored_is : (M : NumberFiles) (y : Row) (o : Origin) → y.kind ≡ kind.Dir → y.origin ≡ o → stored_below M y ≡ entries_by M y.number o
+pub stored_is : (M : NumberFiles) (y : Row) (o : Origin) → y.kind ≡ kind.Dir → y.origin ≡ o → stored_below M y ≡ entries_by M y.number o
 stored_is M y o dir is = ap (λ t. if_dir t (entries_by M y.number y.origin)) dir ∙ ap (entries_by M y.number) is
 
 module _ (R : Repository) (F : Stored) (x : Row) (next : ℕ) (table : IsTable x next) (kept : IsKept R F x next) (k : KeepsNumbers R F x next) (y : Row) (p : Path) (d : Directory)
