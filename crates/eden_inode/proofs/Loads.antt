@@ -1,5 +1,5 @@
 -- Why what is stored isn't had, and what is at a path then.
-use Rattle.std.proofs.Common.{◌≡◌, ◌≢◌, ◌⊎◌, ℕ, Bool, true, false, cond, List, Option, Some, None, IsSome, Result, Ok, Err, IfOk, IsTrue, inl, inr, refl, sym, ap, ◌∙◌, subst, arith}
+use Rattle.std.proofs.Common.{◌≡◌, ◌≢◌, ◌⊎◌, ℕ, Bool, true, false, cond, List, Option, Some, None, IsSome, Result, Ok, Err, IfOk, IfErr, IsTrue, inl, inr, refl, sym, ap, ◌∙◌, subst, arith}
 use Rattle.std.specs.Option.{option_and_then, IsSomeAnd, is_some}
 use Rattle.eden_model.specs.Backing.{AreShown, Gains}
 use Rattle.eden_model.specs.declared.fault.Fault.{Fault}
@@ -17,11 +17,12 @@ use Rattle.eden_model.proofs.CallerLemmas.{same_id-Decides}
 use Rattle.eden_overlay_format.specs.declared.header.Identifier.{Identifier}
 use Rattle.eden_overlay_format.specs.declared.header.Identifier.TheVariants as identifier
 use Rattle.eden_overlay_format.specs.declared.refusal.Refusal.{Refusal}
-use Rattle.eden_overlay_format.specs.declared.refusal.Refusal.TheVariants.{BadIdentifier}
 use Rattle.eden_overlay_format.specs.declared.stored_entry.StoredEntry.{StoredEntry}
 use Rattle.eden_overlay_format.specs.Directory.{AreStorable}
+use Rattle.eden_overlay_format.specs.Numbers.{has_numbers}
 use Rattle.eden_overlay_format.specs.Stored.{Refuses}
 use Rattle.eden_overlay_format.specs.Values.{content_in, numbers_in}
+use Rattle.eden_overlay_format.proofs.CallerLemmas.{numbers_stand}
 use Rattle.eden_overlay.specs.declared.fault.GetFault.{GetFault}
 use Rattle.eden_overlay.specs.declared.fault.GetFault.TheVariants as get
 use Rattle.eden_overlay.specs.Files.{Stored}
@@ -30,7 +31,7 @@ use Rattle.eden_overlay.specs.Getting.{Explains, ExplainsLength, ExplainsNumbers
 use Rattle.eden_overlay.proofs.CallerLemmas.{length_held, no_length}
 use Rattle.eden_tree.specs.Directory.{Row, child_of}
 use Rattle.eden_tree.specs.Paths.{row_at}
-use Rattle.eden_inode.specs.Faults.{told, IsGetFault}
+use Rattle.eden_inode.specs.Faults.{told, IsGetFault, IsNumbersFault, without_numbers}
 use Rattle.eden_coupling.specs.Kept.{IsTable, IsKept}
 use Rattle.eden_coupling.specs.Listings.{listing_of}
 use Rattle.eden_coupling.specs.Loading.{IsAt}
@@ -67,14 +68,20 @@ of_other tree (Some found) apart = other_tree tree found (same_id found.0 tree) 
 none_told : (tree : Id) (bytes : List ℕ) (e : Refusal) → Refuses identifier.Numbers numbers_in bytes e → numbers_of tree bytes ≡ None
 none_told tree bytes e h = ap (option_and_then (of_tree tree)) h.0
 
+no_numbers : (tree : Id) (bytes : List ℕ) → has_numbers bytes ≡ false → numbers_of tree bytes ≡ None
+no_numbers tree bytes plain = elim (numbers_in bytes) as (λ o. numbers_in bytes ≡ o → numbers_of tree bytes ≡ None) [
+  | None ↦ λ none. ap (option_and_then (of_tree tree)) none
+  | Some found ↦ λ is. absurd (let wrong : true ≡ false = sym (numbers_stand bytes found.0 found.1 is) ∙ plain in cc)
+] refl
+
 absent_why : (tree : Id) (file : Option (List ℕ)) → ExplainsNumbers tree file get.Absent → option_and_then (numbers_of tree) file ≡ None
 absent_why tree None h = refl
 absent_why tree (Some bytes) (inl none) = cc
-absent_why tree (Some bytes) (inr (inl other)) = none_told tree bytes BadIdentifier other
+absent_why tree (Some bytes) (inr (inl plain)) = no_numbers tree bytes plain
 absent_why tree (Some bytes) (inr (inr of)) = of_other tree (numbers_in bytes) of
 
 bad_why : (tree : Id) (file : Option (List ℕ)) (e : Refusal) → ExplainsNumbers tree file (get.Damaged e) → option_and_then (numbers_of tree) file ≡ None
-bad_why tree None e h = absurd h.1
+bad_why tree None e h = absurd h
 bad_why tree (Some bytes) e h = none_told tree bytes e h.1
 
 -- what a mount tells of a fault is why there are none
@@ -85,8 +92,20 @@ numbers_why tree file honest old new (get.Damaged e) why rose = inr (λ h. bad_w
 numbers_why tree file honest old new get.Device why rose = inl (rose refl)
 numbers_why tree file honest old new get.Memory why rose = tt
 
-pub none_absent : (tree : Id) (file : Option (List ℕ)) → ExplainsNumbers tree file get.Absent → is_some (option_and_then (numbers_of tree) file) ≡ false
-none_absent tree file why = ap (λ (o : Option (List StoredEntry)). is_some o) (absent_why tree file why)
+-- .. and what it tells of a file without
+pub without_told : (tree : Id) (file : Option (List ℕ)) (f : GetFault) → ExplainsNumbers tree file f
+    → IfOk (without_numbers f) (λ b. b ≡ is_some (option_and_then (numbers_of tree) file))
+without_told tree file get.Absent why = ap (λ (o : Option (List StoredEntry)). is_some o) (sym (absent_why tree file why))
+without_told tree file (get.Damaged e) why = tt
+without_told tree file get.Device why = tt
+without_told tree file get.Memory why = tt
+
+pub without_why : (tree : Id) (file : Option (List ℕ)) (honest : Type 0) (old new : ℕ) (f : GetFault)
+    → (honest → ExplainsNumbers tree file f) → (f ≡ get.Device → Rose old new) → IfErr (without_numbers f) (IsNumbersFault honest old new tree file)
+without_why tree file honest old new get.Absent why rose = tt
+without_why tree file honest old new (get.Damaged e) why rose = inr (λ h. (e, why h))
+without_why tree file honest old new get.Device why rose = inl (rose refl)
+without_why tree file honest old new get.Memory why rose = tt
 
 -- ---- the entry at a path
 

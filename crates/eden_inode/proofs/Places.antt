@@ -2,7 +2,7 @@
 use Rattle.std.proofs.Common.{◌≡◌, ◌≤◌, ◌<◌, ◌+◌, ◌-◌, ◌^◌, ℕ, min, refl, sym, ◌∙◌, subst, arith}
 use Rattle.eden_overlay.specs.Files.{Stored}
 use Rattle.eden_tree.specs.Directory.{Row}
-use Rattle.eden_coupling.specs.Unloading.{Unloads, none, one_more, same_files}
+use Rattle.eden_coupling.specs.NumberUnloads.{UnloadsAway, none, one_more, same_files}
 use Rattle.eden_inode.specs.Tables.{Table}
 use Rattle.eden_inode.specs.Trails.{KeepsNames, KeepsPlaces, SameKeepsPlaces, PlacesGoOn, RiseKeepsPlaces, UnloadsKeepPlaces}
 use Rattle.eden_inode.proofs.Names.{keeps_same, keeps_then}
@@ -20,7 +20,7 @@ pub places_rise : {F : Type 0} → RiseKeepsPlaces F
 places_rise s t is c below before = (omega (arith, below, before, is), λ now. absurd (omega (arith, below, before, is, now)))
 
 -- where none went, nothing changed
-none_gone : (honest : Type 0) (clock age : ℕ) (G : Stored) (x : Row) (H : Stored) (z : Row) (count : ℕ) → Unloads honest clock age G x H z count → count ≡ 0 → z ≡ x
+none_gone : (honest : Type 0) (clock age : ℕ) (G : Stored) (x : Row) (H : Stored) (z : Row) (count : ℕ) → UnloadsAway honest clock age G x H z count → count ≡ 0 → z ≡ x
 none_gone honest clock age G x _ _ _ none is = refl
 none_gone honest clock age G x H z _ (one_more K y c _ _ before goes) is = absurd (omega (arith, is))
 none_gone honest clock age G x H _ c (same_files K y _ _ before same) is = none_gone honest clock age G x K y c before is

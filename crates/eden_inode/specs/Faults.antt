@@ -1,5 +1,5 @@
 -- Why what is stored isn't had, as a mount tells it.
-use Rattle.std.specs.Prelude.{◌≡◌, ◌⊎◌, ℕ, List, Option, None}
+use Rattle.std.specs.Prelude.{◌≡◌, ◌⊎◌, ℕ, Bool, false, List, Option, None, Result, Ok, Err}
 use Rattle.eden_model.specs.declared.fault.Fault.{Fault}
 use Rattle.eden_model.specs.declared.fault.Fault.TheVariants as fault
 use Rattle.eden_model.specs.declared.id.Id.{Id}
@@ -26,6 +26,13 @@ IsGetFault honest old new o fault.Numbers = ⊥
 -- the file has numbers, and they can't be read
 abbrev pub AreBadNumbers : Id → Option (List ℕ) → Type 0
 AreBadNumbers tree file = (refusal : Refusal) × ExplainsNumbers tree file (get.Damaged refusal)
+
+-- a file without numbers is no fault
+abbrev pub without_numbers : GetFault → Result Bool Fault
+without_numbers get.Absent = Ok false
+without_numbers (get.Damaged refusal) = Err fault.Overlay
+without_numbers get.Device = Err fault.Overlay
+without_numbers get.Memory = Err fault.Memory
 
 -- why it isn't told whether a file has numbers for that tree object: no memory; the device failed, or they can't be read
 abbrev pub IsNumbersFault : Type 0 → ℕ → ℕ → Id → Option (List ℕ) → Fault → Type 0

@@ -11,7 +11,7 @@ use Rattle.eden_tree.specs.Rows.{find_row, set_row, set_at}
 use Rattle.eden_tree.specs.Paths.{row_at, stamped_along}
 use Rattle.eden_overlay.specs.Files.{Stored}
 use Rattle.eden_coupling.specs.Loading.{IsAt, with_loaded}
-use Rattle.eden_coupling.specs.Unloading.{Unloads}
+use Rattle.eden_coupling.specs.NumberUnloads.{UnloadsAway}
 use Rattle.eden_inode.specs.Tables.{Table}
 use Rattle.eden_inode.specs.declared.seen.Seen.{Seen}
 
@@ -116,4 +116,4 @@ RiseKeepsPlaces F = (s t : Table F) → t.changes ≡ min (s.changes + 1) (2 ^ 6
 -- .. so by an unload, which raises it by each directory that goes
 abbrev pub UnloadsKeepPlaces : Type 0 → Type 0 → Type 0
 UnloadsKeepPlaces F honest = (s t : Table F) (clock age : ℕ) (G H : Stored) (gone count : ℕ) → gone ≡ min count (2 ^ 64 - 1)
-    → Unloads honest clock age G s.root H t.root count → t.changes ≡ min (s.changes + gone) (2 ^ 64 - 1) → KeepsPlaces s t
+    → UnloadsAway honest clock age G s.root H t.root count → t.changes ≡ min (s.changes + gone) (2 ^ 64 - 1) → KeepsPlaces s t

@@ -184,6 +184,7 @@ impl<A: Allocator + Clone, W: World, F: Files<W>> Inodes<A, W, F> {
         ensures last { IsLast path.now self.old.root result }
         ensures stamped { self.new ≡ record self.old { root = stamped_along path.now self.old.clock self.old.root } }
         ensures shown { W.honest → shows W.World F.Files self.new ≡ shows W.World F.Files self.old }
+        ensures numbers { W.honest → ShowsSameNumbers F.Files self.old self.new }
         ensures notes { Notes path.now self.new.root result trail.old trail.new }
     {
         if path.len() > MAX_NAMES {
@@ -192,6 +193,7 @@ impl<A: Allocator + Clone, W: World, F: Files<W>> Inodes<A, W, F> {
         }
         kept_laws();
         shown_laws();
+        number_kept_laws();
         follow(&mut self.root, path, 0, trail, self.clock)
     }
 

@@ -57,7 +57,7 @@ pub(crate) fn put_loaded<A: Allocator>(
 }
 
 /// What a mount tells of a fault of its overlay.
-pub(crate) fn told(fault: GetFault) -> Fault
+fn told(fault: GetFault) -> Fault
     ensures { result ≡ told fault }
 {
     match fault {

@@ -8,16 +8,26 @@ ghost use Rattle.eden_overlay.specs.Held.{saved_at, with_numbers};
 ghost use Rattle.eden_overlay.specs.Soundness.{AreSound};
 ghost use Rattle.eden_overlay.specs.declared.files.FilesFault.TheVariants as files;
 ghost use Rattle.eden_coupling.specs.Listings.{listing_of, stored_entry};
-ghost use Rattle.eden_inode.specs.Faults.{IsNumbersFault};
+ghost use Rattle.eden_inode.specs.Faults.{IsNumbersFault, without_numbers};
 ghost use Rattle.eden_inode.specs.Saved.{HasSaved};
 
 use crate::listing::{Listed, write_listing};
-use crate::load::told;
 use eden_model::{Fault, Id, Name, Origin, World};
 use eden_overlay::{Files, FilesFault, GetFault, Overlay};
 use eden_overlay_format::StoredEntry;
 use eden_tree::{Dir, Entry};
 use std::alloc::{Allocator, Global};
+
+/// Whether a file has numbers that gave none for that fault: it has none, or that isn't told.
+fn without_numbers(fault: GetFault) -> Result<bool, Fault>
+    ensures { result ≡ without_numbers fault }
+{
+    match fault {
+        GetFault::Absent => Ok(false),
+        GetFault::Damaged(_) | GetFault::Device => Err(Fault::Overlay),
+        GetFault::Memory => Err(Fault::Memory),
+    }
+}
 
 /// Whether the file of that number has numbers for the directory of that tree object.
 pub(crate) fn has_numbers<W: World, F: Files<W>>(
@@ -34,8 +44,7 @@ pub(crate) fn has_numbers<W: World, F: Files<W>>(
 {
     match overlay.get_numbers(alloc, number, tree) {
         Ok(_) => Ok(true),
-        Err(GetFault::Absent) => Ok(false),
-        Err(fault) => Err(told(fault)),
+        Err(fault) => without_numbers(fault),
     }
 }
 
