@@ -7,6 +7,7 @@ pub mod Unloads
 pub mod Sorting
 pub mod Filled
 pub mod Loads
+pub mod Saves
 pub mod Starts
 mod Entries
 pub mod Compared

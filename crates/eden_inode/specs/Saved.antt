@@ -6,8 +6,9 @@ use Rattle.eden_model.specs.Trees.{Path}
 use Rattle.eden_overlay_format.specs.declared.stored_entry.StoredEntry.{StoredEntry}
 use Rattle.eden_overlay.specs.Files.{Stored}
 use Rattle.eden_overlay.specs.Held.{saved_at, with_numbers}
-use Rattle.eden_tree.specs.Directory.{Row}
+use Rattle.eden_tree.specs.Directory.{Row, Directory, child_of}
 use Rattle.eden_tree.specs.Paths.{row_at}
+use Rattle.eden_coupling.specs.Listings.{listing_of}
 use Rattle.eden_coupling.specs.Loading.{IsAt}
 
 -- F became G: these are the numbers that were saved, or they were stored now
@@ -23,3 +24,19 @@ pub record HasNumbers (honest : Type 0) (F : Stored) (p : Path) (x : Row) : Type
 -- .. or has none
 abbrev pub LacksNumbers : Type 0 → Stored → Path → Row → Type 0
 LacksNumbers honest F p x = honest → (y : Row) (id : Id) → row_at p x ≡ Some y → y.origin ≡ origin.Object id → saved_at F y.number id ≡ None
+
+-- of the loaded directory that the entry holds, if it stands on a tree object, the file has the numbers
+abbrev pub AreNumbersSaved : Stored → Row → Type 0
+AreNumbersSaved F y = (d : Directory) (id : Id) → child_of y ≡ Some d → y.origin ≡ origin.Object id → saved_at F y.number id ≡ Some (listing_of d)
+
+-- .. of the entry at the path, if any
+abbrev pub AreSavedAt : Stored → Path → Row → Type 0
+AreSavedAt F p x = (y : Row) → row_at p x ≡ Some y → AreNumbersSaved F y
+
+-- F became G: the numbers were stored of the loaded directory that the entry holds, which stands on a tree object
+pub record StoresNumbers (F : Stored) (y : Row) (G : Stored) : Type 0 where
+  pub directory : Directory
+  pub id : Id
+  pub holds : child_of y ≡ Some directory
+  pub object : y.origin ≡ origin.Object id
+  pub is : G ≡ with_numbers F y.number id (listing_of directory)

@@ -1,4 +1,4 @@
-ghost use Rattle.std.specs.Prelude.{◌≡◌, ◌≢◌, ◌≤◌, ◌+◌, ℕ, min, OnOk, OnErr, IfOk, IfErr, IfSome, IfNone, IsTrue, IsFalse, Option, Some, None, option_map};
+ghost use Rattle.std.specs.Prelude.{◌≡◌, ◌≢◌, ◌≤◌, ◌+◌, ◌⊎◌, ℕ, min, Err, OnOk, OnErr, IfOk, IfErr, IfSome, IfNone, IsTrue, IsFalse, Option, Some, None, option_map};
 ghost use Rattle.eden_model.specs.declared.kind.Kind.TheVariants as kind;
 ghost use Rattle.eden_model.specs.declared.kind.Origin as declared;
 ghost use Rattle.eden_model.specs.declared.kind.Origin.TheVariants as origin;
@@ -20,7 +20,7 @@ ghost use Rattle.eden_coupling.specs.Loading.{IsAt, LoadsObject};
 ghost use Rattle.eden_coupling.specs.NumberKept.{KeepsNumbers};
 ghost use Rattle.eden_coupling.specs.NumberUnloads.{UnloadsAway};
 ghost use Rattle.eden_coupling.specs.Unloading.{IsSettled};
-ghost use Rattle.eden_inode.specs.Saved.{HasNumbers, LacksNumbers};
+ghost use Rattle.eden_inode.specs.Saved.{AreSavedAt, HasNumbers, LacksNumbers, StoresNumbers};
 ghost use Rattle.eden_inode.specs.Tables.{Table, fresh_root, CanStart, IsLast, HasTree, HasNoTree, LoadsStored};
 ghost use Rattle.eden_inode.specs.Tables.{IsNumberedFault, IsLoadFault, IsContentFault, HoldsLength};
 ghost use Rattle.eden_inode.specs.Tables.{shows, shows_numbers, ShowsSameNumbers};
@@ -30,13 +30,13 @@ use crate::fill::from_object;
 use crate::gone::{Gone, NOTHING};
 use crate::load::{own_content, own_len, put_loaded, stored_directory};
 use crate::look::{look, unloaded};
-use crate::numbers::has_numbers;
+use crate::numbers::{has_numbers, save_entry};
 use crate::seen::Seen;
 use crate::trail::Trail;
 use crate::unload::Unloading;
-use eden_coupling::{kept_laws, number_kept_laws, shown_laws};
+use eden_coupling::{kept_laws, number_kept_laws, number_save_laws, shown_laws};
 use eden_model::{Fault, Key, Kind, MAX_NAMES, Name, ObjKind, Origin, TreeEntry, World};
-use eden_overlay::{Content, Files, Overlay};
+use eden_overlay::{Content, Files, FilesFault, Overlay};
 use eden_tree::{Change, Dir, Entry};
 use std::alloc::{Allocator, Global};
 use std::marker::Model;
@@ -456,6 +456,31 @@ impl<A: Allocator + Clone, W: World, F: Files<W>> Inodes<A, W, F> {
                 self.changes = self.changes.saturating_add(gone.count);
                 gone
             }
+        }
+    }
+
+    /// Has the numbers saved of the directory that is loaded at a path, if it stands on a tree object, unless its file
+    /// has them: so it may leave memory, and is loaded with these again. For any other path nothing is stored.
+    ///
+    /// What is loaded stays so, and what is shown stays the same. Errors: `Device` where the device failed, and
+    /// `Memory`: nothing has changed then.
+    pub fn save_numbers(&mut self, alloc: Global, path: &[Name]) -> Result<(), FilesFault>
+        ensures saved { W.honest
+            → OnOk result (AreSavedAt (F.stored self.new.files) path.now self.old.root) }
+        ensures alone { W.honest → (F.stored self.new.files ≡ F.stored self.old.files)
+            ⊎ ((y : Row) × ((row_at path.now self.old.root ≡ Some y)
+            × StoresNumbers (F.stored self.old.files) y (F.stored self.new.files))) }
+        ensures err { W.honest → OnErr result (F.stored self.new.files ≡ F.stored self.old.files) }
+        ensures counted { Counted (result ≡ Err files.Device) (F.failures self.old.files)
+            (F.failures self.new.files) }
+        ensures shown { W.honest → shows W.World F.Files self.new ≡ shows W.World F.Files self.old }
+        ensures numbers { W.honest → ShowsSameNumbers F.Files self.old self.new }
+        ensures rest { self.new ≡ record self.old { files = self.new.files } }
+    {
+        number_save_laws();
+        match self.root.walk(path) {
+            None => Ok(()),
+            Some(entry) => save_entry(alloc, &mut self.overlay, entry),
         }
     }
 

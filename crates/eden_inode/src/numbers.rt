@@ -1,16 +1,20 @@
 //! Numbers of a directory that stands on a tree object, as its file has them.
 ghost use Rattle.std.specs.Prelude.{◌≡◌, ◌↔◌, ◌≤◌, ◌⊎◌, Err, Some, OnOk, OnErr, IfOk, IfErr, IsTrue, true};
 ghost use Rattle.std.specs.Option.{is_some};
+ghost use Rattle.eden_model.specs.declared.id.Id as id;
+ghost use Rattle.eden_model.specs.declared.kind.Origin.TheVariants as origins;
 ghost use Rattle.eden_model.specs.Failures.{Counted};
 ghost use Rattle.eden_overlay_format.specs.Directory.{AreStorable};
 ghost use Rattle.eden_overlay_format.specs.Numbers.{none_is_own};
 ghost use Rattle.eden_overlay.specs.Held.{saved_at, with_numbers};
 ghost use Rattle.eden_overlay.specs.Soundness.{AreSound};
 ghost use Rattle.eden_overlay.specs.declared.files.FilesFault.TheVariants as files;
+ghost use Rattle.eden_tree.specs.Directory.{Directory, child_of};
 ghost use Rattle.eden_coupling.specs.Listings.{listing_of, stored_entry};
 ghost use Rattle.eden_inode.specs.Faults.{IsNumbersFault, without_numbers};
-ghost use Rattle.eden_inode.specs.Saved.{HasSaved};
+ghost use Rattle.eden_inode.specs.Saved.{AreNumbersSaved, HasSaved, StoresNumbers};
 
+use crate::fill::holds;
 use crate::listing::{Listed, write_listing};
 use eden_model::{Fault, Id, Name, Origin, World};
 use eden_overlay::{Files, FilesFault, GetFault, Overlay};
@@ -125,6 +129,7 @@ fn store_numbers<A: Allocator, W: World, F: Files<W>>(
     requires sound { W.honest → AreSound (with_numbers (F.stored overlay.old) number tree (listing_of dir.now)) }
     ensures ok { W.honest
         → OnOk result (F.stored overlay.new ≡ with_numbers (F.stored overlay.old) number tree (listing_of dir.now)) }
+    ensures none_own { OnOk result (none_is_own (listing_of dir.now) ≡ true) }
     ensures err { W.honest → OnErr result (F.stored overlay.new ≡ F.stored overlay.old) }
     ensures counted { Counted (result ≡ Err files.Device) (F.failures overlay.old) (F.failures overlay.new) }
 {
@@ -149,12 +154,42 @@ pub(crate) fn save_numbers<A: Allocator, W: World, F: Files<W>>(
     requires sound { W.honest → AreSound (with_numbers (F.stored overlay.old) number tree (listing_of dir.now)) }
     ensures ok { W.honest
         → OnOk result (HasSaved (F.stored overlay.old) number tree (listing_of dir.now) (F.stored overlay.new)) }
+    ensures saved { W.honest
+        → OnOk result (saved_at (F.stored overlay.new) number tree ≡ Some (listing_of dir.now)) }
     ensures err { W.honest → OnErr result (F.stored overlay.new ≡ F.stored overlay.old) }
     ensures counted { Counted (result ≡ Err files.Device) (F.failures overlay.old) (F.failures overlay.new) }
 {
+    holds(&tree);
     match are_saved(alloc, overlay, number, tree, dir) {
         Err(fault) => Err(fault),
         Ok(true) => Ok(()),
         Ok(false) => store_numbers(alloc, overlay, number, tree, dir),
+    }
+}
+
+/// `save_numbers` of the directory that an entry holds: of one that isn't loaded, or stands on no tree object, nothing
+/// is saved. After an error nothing has changed.
+pub(crate) fn save_entry<A: Allocator, W: World, F: Files<W>>(
+    alloc: Global,
+    overlay: &mut Overlay<W, F>,
+    entry: &Entry<A>,
+) -> Result<(), FilesFault>
+    requires entries { (d : Directory) → child_of entry.now ≡ Some d → AreStorable (listing_of d) }
+    requires sound { W.honest → (d : Directory) → (i : id.Id) → child_of entry.now ≡ Some d
+        → entry.now.origin ≡ origins.Object i
+        → AreSound (with_numbers (F.stored overlay.old) entry.now.number i (listing_of d)) }
+    ensures saved { W.honest → OnOk result (AreNumbersSaved (F.stored overlay.new) entry.now) }
+    ensures alone { W.honest → (F.stored overlay.new ≡ F.stored overlay.old)
+        ⊎ StoresNumbers (F.stored overlay.old) entry.now (F.stored overlay.new) }
+    ensures err { W.honest → OnErr result (F.stored overlay.new ≡ F.stored overlay.old) }
+    ensures counted { Counted (result ≡ Err files.Device) (F.failures overlay.old) (F.failures overlay.new) }
+{
+    let number = entry.number;
+    let Origin::Object(tree) = entry.origin else {
+        return Ok(());
+    };
+    match entry.directory() {
+        None => Ok(()),
+        Some(dir) => save_numbers(alloc, overlay, number, tree, dir),
     }
 }
