@@ -6,7 +6,6 @@ use Rattle.eden_model.specs.Failures.{Rose}
 use Rattle.eden_model.specs.Operations.{move}
 use Rattle.eden_model.specs.Repository.{Repository}
 use Rattle.eden_model.specs.Trees.{Name, Path}
-use Rattle.eden_overlay_format.specs.Directory.{is_own}
 use Rattle.eden_overlay.specs.Files.{Stored}
 use Rattle.eden_overlay.specs.Held.{without}
 use Rattle.eden_overlay.specs.Soundness.{AreSound}
@@ -20,14 +19,14 @@ use Rattle.eden_coupling.specs.Moving.{CanMove}
 use Rattle.eden_coupling.specs.Shown.{shown_in}
 use Rattle.eden_coupling.specs.Ties.{IsAway, Tied}
 use Rattle.eden_coupling.proofs.CallerLemmas.{ties_sound, replaces_there, moved_table, moved_kept, moved_shown, marked_table, marked_kept, marked_shown, replaced_tied, replaced_kept, replaced_shown, moved_stays, marked_stays, moved_marks, left_elsewhere, moved_elsewhere}
-use Rattle.eden_materialise.specs.EntryMoves.{own_number, Clears, nothing, removed, failed, MovesIn, IsMoved, MovesEntry}
+use Rattle.eden_materialise.specs.EntryMoves.{may_have_file, own_number, Clears, nothing, removed, failed, MovesIn, IsMoved, MovesEntry}
 use Rattle.eden_materialise.specs.Puts.{AtDirectory}
 
 -- ---- the file of what was replaced
 
 pub own_is : (o : Option Row) (k : ℕ) → own_number o ≡ Some k → (w : Row) × ((o ≡ Some w) × (w.number ≡ k))
 own_is None k is = absurd (none-some k is)
-own_is (Some w) k is = elim (is_own w.origin) as (λ b. cond b (Some w.number) None ≡ Some k → (v : Row) × ((Some w ≡ Some v) × (v.number ≡ k))) [
+own_is (Some w) k is = elim (may_have_file w.kind w.origin) as (λ b. cond b (Some w.number) None ≡ Some k → (v : Row) × ((Some w ≡ Some v) × (v.number ≡ k))) [
   | true ↦ λ h. (w, (refl, same_Some w.number k h))
   | false ↦ λ h. absurd (none-some k h)
 ] is

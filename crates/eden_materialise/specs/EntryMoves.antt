@@ -1,9 +1,12 @@
 -- An entry that moves in the table of a mount.
-use Rattle.std.specs.Prelude.{◌≡◌, ◌≢◌, ◌⊎◌, ℕ, if◌then◌else◌, Option, Some, None, Result, OnOk, OnErr, IfErr}
+use Rattle.std.specs.Prelude.{◌≡◌, ◌≢◌, ◌⊎◌, ℕ, Bool, true, false, if◌then◌else◌, Option, Some, None, Result, OnOk, OnErr, IfErr}
 use Rattle.eden_model.specs.declared.fault.Fault.{Fault}
+use Rattle.eden_model.specs.declared.kind.Kind.{Kind}
+use Rattle.eden_model.specs.declared.kind.Kind.TheVariants as kind
+use Rattle.eden_model.specs.declared.kind.Origin.{Origin}
+use Rattle.eden_model.specs.declared.kind.Origin.TheVariants as origin
 use Rattle.eden_model.specs.Failures.{Rose}
 use Rattle.eden_model.specs.Trees.{Name, Path}
-use Rattle.eden_overlay_format.specs.Directory.{is_own}
 use Rattle.eden_overlay.specs.Files.{Stored}
 use Rattle.eden_overlay.specs.Held.{without}
 use Rattle.eden_tree.specs.Directory.{Row}
@@ -14,10 +17,19 @@ use Rattle.eden_coupling.specs.Moving.{CanMove}
 use Rattle.eden_coupling.specs.Ties.{Tied}
 use Rattle.eden_materialise.specs.Faults.{IsStoreFault}
 
--- the number of an entry that is its own
+-- a file may be stored under an entry's number: its own, or the numbers of a directory on a tree object
+abbrev pub may_have_file : Kind → Origin → Bool
+may_have_file k origin.Own = true
+may_have_file k origin.Empty = false
+may_have_file kind.Dir (origin.Object id) = true
+may_have_file kind.File (origin.Object id) = false
+may_have_file kind.Exec (origin.Object id) = false
+may_have_file kind.Link (origin.Object id) = false
+
+-- the number of an entry, if a file may be stored under it
 abbrev pub own_number : Option Row → Option ℕ
 own_number None = None
-own_number (Some w) = if is_own w.origin then Some w.number else None
+own_number (Some w) = if may_have_file w.kind w.origin then Some w.number else None
 
 -- F became G: the file of that number was removed, or is left where the device failed at that. The counts of failures of
 -- the device are those before and then.
@@ -33,7 +45,7 @@ pub record MovesIn (honest : Type 0) (F : Stored) (x : Row) (p : Path) (n : Name
   pub tied : honest → Tied F x next
   pub can : CanMove x p n q m
 
--- it moved, both stores done: but for the file of what it replaced, which goes where it is its own
+-- it moved, both stores done: but for the file of what it replaced, which goes where it may have one
 pub record IsMoved (honest : Type 0) (p : Path) (n : Name) (q : Path) (m : Name) (F : Stored) (x : Row) (old : ℕ) (G : Stored) (z : Row)
     (new : ℕ) : Type 0 where
   pub may : MayMove x p n q m

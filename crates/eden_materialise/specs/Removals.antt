@@ -24,8 +24,8 @@ pub record HasEntry (x : Row) (p : Path) (n : Name) : Type 0 where
   pub there : find_row n directory.rows ≡ Some entry
   pub unloaded : child_of entry ≡ None
 
--- F became G: the chain of the directory y was stored without the entry, and then the file of what went, where it was its
--- own, was removed, or is left where the device failed at that
+-- F became G: the chain of the directory y was stored without the entry, and then the file of what went, where it may have
+-- one, was removed, or is left where the device failed at that
 pub record Removes (honest : Type 0) (p : Path) (n : Name) (F : Stored) (x y : Row) (d : Directory) (old : ℕ) (G : Stored) (new : ℕ) : Type 0 where
   pub between : Stored
   pub stored : honest → Above (with_entries F y.number (listing_of (changed d n None))) x p between

@@ -23,7 +23,7 @@ use crate::fault::told;
 use crate::moving::move_between;
 use crate::renaming::move_within;
 use eden_inode::Inodes;
-use eden_model::{Fault, Name, Origin, World};
+use eden_model::{Fault, Kind, Name, Origin, World};
 use eden_overlay::{Files, FilesFault, Overlay};
 use eden_tree::{Change, Entry};
 use std::alloc::{Allocator, Global};
@@ -33,7 +33,7 @@ use std::alloc::{Allocator, Global};
 pub(crate) struct Spot {
     /// Whether the name is there, or one entry more can be.
     pub(crate) has_room: bool,
-    /// The number of an entry that is there and has its own file.
+    /// The number of an entry that is there and may have a file.
     pub(crate) own: Option<u64>,
 }
 
@@ -65,13 +65,17 @@ pub(crate) fn spot_at<A: Allocator>(root: &Entry<A>, path: &[Name], name: &Name)
     }
 }
 
-/// The number of an entry that has its own file.
+/// The number of an entry that may have a file: its own, or that of its numbers.
 fn number_of_own<A: Allocator>(entry: &Entry<A>) -> Option<u64>
     ensures { result ≡ own_number (Some entry.now) }
 {
     match entry.origin {
         Origin::Own => Some(entry.number),
-        Origin::Object(_) | Origin::Empty => None,
+        Origin::Empty => None,
+        Origin::Object(_) => match entry.kind {
+            Kind::Dir => Some(entry.number),
+            Kind::File | Kind::Exec | Kind::Link => None,
+        },
     }
 }
 
@@ -186,8 +190,8 @@ impl<A: Allocator, W: World, F: Files<W>> Change<A, Overlay<W, F>> for EntryMove
 /// Moves an entry that isn't loaded from a name of the directory at one path to a name of that at another, or within
 /// one, in place of one that isn't loaded either. Both directories are loaded and the mount's own: the first is stored
 /// without the entry, then the other with it, and then both are so in memory, saved; one directory is stored once. The
-/// file of an own entry that was replaced is removed last; where the device fails at that it is left, and the answer is Ok
-/// all the same.
+/// file of an entry that was replaced, its own or that of its numbers, is removed last; where the device fails at that it
+/// is left, and the answer is Ok all the same.
 ///
 /// The tree that is shown has at and below the new path what stood at and below the old one, and nothing there. Errors:
 /// `Overlay` where the device failed, and `Memory`, also where a directory has no room for one more entry. Memory and files
