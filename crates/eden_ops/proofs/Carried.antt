@@ -5,14 +5,16 @@ use Rattle.std.proofs.lemmas.Option.{same_Some, none-some}
 use Rattle.std.specs.Option.{option_map, option_and_then}
 use Rattle.eden_model.specs.declared.kind.Kind.{Kind}
 use Rattle.eden_model.specs.declared.kind.Kind.TheVariants as kind
+use Rattle.eden_model.specs.declared.id.Id.{Id}
+use Rattle.eden_model.specs.declared.kind.Origin.{Origin}
 use Rattle.eden_model.specs.declared.kind.Origin.TheVariants as origin
 use Rattle.eden_model.specs.Paths.{behind_of}
 use Rattle.eden_model.specs.Repository.{Repository, no_files}
 use Rattle.eden_model.specs.Trees.{Name, Path, grafted}
-use Rattle.eden_overlay_format.specs.Directory.{AreStorable, is_own}
+use Rattle.eden_overlay_format.specs.Directory.{AreStorable}
 use Rattle.eden_overlay_format.specs.declared.stored_entry.StoredEntry.{StoredEntry}
 use Rattle.eden_overlay.specs.Files.{Stored}
-use Rattle.eden_overlay.specs.Held.{HoldsEntries, own_files, without}
+use Rattle.eden_overlay.specs.Held.{HoldsEntries, numbers_of, own_files, without}
 use Rattle.eden_overlay.proofs.CallerLemmas.{put_apart}
 use Rattle.eden_tree.specs.Changes.{IsChanged}
 use Rattle.eden_tree.specs.Directory.{Row, Directory, child_of, with_child}
@@ -25,13 +27,19 @@ use Rattle.eden_coupling.specs.Changing.{MayMove, changed, files_left, files_mov
 use Rattle.eden_coupling.specs.Kept.{IsTable, IsKept}
 use Rattle.eden_coupling.specs.Listings.{listing_of, Place}
 use Rattle.eden_coupling.specs.Moving.{CanMove}
+use Rattle.eden_coupling.specs.NumberKept.{KeepsNumbers}
+use Rattle.eden_coupling.specs.NumberSaves.{HasStored, IsSameOver}
+use Rattle.eden_coupling.specs.NumberUnloads.{IsPutAway, own_before, empty, numbers_before, UnloadsAway, none, one_more}
+use Rattle.eden_coupling.specs.Numberings.{in_files}
 use Rattle.eden_coupling.specs.Shown.{shown_in, IsFrom}
 use Rattle.eden_coupling.specs.Ties.{IsAway, Tied}
-use Rattle.eden_coupling.specs.Unloading.{Unloads, none, one_more, HasNoneInside}
+use Rattle.eden_coupling.specs.Unloading.{HasNoneInside}
 use Rattle.eden_coupling.proofs.CallerLemmas.{place_at, at_changed, away_row, by_origin, left_elsewhere, loads_alike, loaded_found, loaded_there, moved_elsewhere, none_marked_with}
-use Rattle.eden_coupling.proofs.CallerLemmas.{other_from, own_from, own_loaded_kept, put_table, replaced_other, unloads_alike, unloads_kept, unloads_table}
+use Rattle.eden_coupling.proofs.CallerLemmas.{other_from, own_from, own_loaded_kept, put_table, replaced_other, unloads_away_table}
+use Rattle.eden_coupling.proofs.CallerLemmas.{empty_rows, hold_keeps, put_away_keeps, stored_is}
 use Rattle.eden_coupling.proofs.CallerLemmas.{IsLeaf, back_kept, back_marked, held_moved, went_kept, went_cleared}
-use Rattle.eden_materialise.specs.EntryMoves.{own_number, Clears, nothing, removed, failed, IsMoved, IsUnmoved}
+use Rattle.eden_inode.specs.Saved.{AreSavedAt}
+use Rattle.eden_materialise.specs.EntryMoves.{may_have_file, own_number, Clears, nothing, removed, failed, IsMoved, IsUnmoved}
 use Rattle.eden_ops.specs.Carrying.{CanCarry, CanHold, IsBareAt, IsReady, Takes, without_at}
 use Rattle.eden_ops.specs.Changes.{SameNames, StaysOrBecomesOwn, numbered_at}
 use Rattle.eden_ops.specs.Laws.{Grows}
@@ -67,8 +75,8 @@ entries_at p x y d at holds n =
 -- ---- it is taken out
 
 module _ (p : Path) (x : Row) (r : IsReady p x) where
-  takes : (honest : Type 0) (clock : ℕ) (F : Stored) → Unloads honest clock 0 F x F (without_at p x) 1
-  takes honest clock F = one_more F x 0 F (without_at p x) none (record {
+  takes : (clock : ℕ) (F : Stored) → UnloadsAway ⊥ clock 0 F x F (without_at p x) 1
+  takes clock F = one_more F x 0 F (without_at p x) none (record {
     path = p;
     row = r.row;
     directory = r.directory;
@@ -77,12 +85,19 @@ module _ (p : Path) (x : Row) (r : IsReady p x) where
     old = omega arith;
     none_inside = r.none_inside;
     gone = refl;
-    saved = λ h is. refl;
-    stored = λ h is. (let both : false ≡ true = sym r.saved ∙ is in absurd (cc));
+    put_away = λ h. absurd h;
   })
 
+  -- where its numbers are saved, it is put away
+  is_put_away : (F : Stored) → AreSavedAt F p x → IsPutAway F r.row r.directory F
+  is_put_away F saved = by r.row.origin refl where
+    by : (o : Origin) → r.row.origin ≡ o → IsPutAway F r.row r.directory F
+    by origin.Own is = own_before is r.saved refl
+    by origin.Empty is = empty is refl
+    by (origin.Object id) is = numbers_before id is (saved r.row r.at r.directory id r.holds is) refl
+
   pub lets_take : LetsGo p x (without_at p x)
-  lets_take = lets_go ⊥ 0 0 (λ k. None) x (λ k. None) (without_at p x) 1 (takes ⊥ 0 (λ k. None)) p
+  lets_take = lets_go ⊥ 0 0 (λ k. None) x (λ k. None) (without_at p x) 1 (takes 0 (λ k. None)) p
       (with_child None r.row, sym (edits_alike p (λ w. with_child None r.row) (with_child None) x r.row r.at refl))
 
   -- its entry is there still
@@ -95,7 +110,7 @@ module _ (p : Path) (x : Row) (r : IsReady p x) where
       ∙ edits_same p (λ w. with_child (Some r.directory) (with_child None w)) x r.row r.at (with_child-same r.row r.directory r.holds)
 
   taken_out_table : (next : ℕ) → IsTable x next → IsTable (without_at p x) next
-  taken_out_table next table = unloads_table ⊥ 0 0 next (λ k. None) x (λ k. None) (without_at p x) 1 table (takes ⊥ 0 (λ k. None))
+  taken_out_table next table = unloads_away_table ⊥ 0 0 next (λ k. None) x (λ k. None) (without_at p x) 1 table (takes 0 (λ k. None))
 
   module _ (z : Row) (o : Option Directory) (t : Takes p x z o) where
     pub taken_table : (next : ℕ) → IsTable x next → IsTable z next
@@ -103,14 +118,12 @@ module _ (p : Path) (x : Row) (r : IsReady p x) where
         let P : Row → Type 0 = λ a. IsTable a next in
         subst P (sym t.is) (taken_out_table next table)
 
-    pub taken_kept : (R : Repository) (F : Stored) (next : ℕ) → IsTable x next → IsKept R F x next → IsKept R F z next
-    taken_kept R F next table k =
-        let P : Row → Type 0 = λ a. IsKept R F a next in
-        subst P (sym t.is) (unloads_kept (Unit {0}) R 0 0 next F x F (without_at p x) 1 tt table k (takes (Unit {0}) 0 F))
-
-    pub taken_alike : (R : Repository) (F : Stored) (next : ℕ) → IsTable x next → IsKept R F x next → shown_in R F z ≡ shown_in R F x
-    taken_alike R F next table k =
-        ap (shown_in R F) t.is ∙ unloads_alike (Unit {0}) R 0 0 next F x F (without_at p x) 1 tt table k (takes (Unit {0}) 0 F)
+    -- the table is kept, and its numbers, and it shows the same
+    pub taken_over : (R : Repository) (F : Stored) (next : ℕ) → IsTable x next → IsKept R F x next → KeepsNumbers R F x next → AreSavedAt F p x
+        → IsSameOver R F F x z next × KeepsNumbers R F z next
+    taken_over R F next table k numbers saved =
+        let P : Row → Type 0 = λ a. IsSameOver R F F x a next × KeepsNumbers R F a next in
+        subst P (sym t.is) (put_away_keeps R F F x r.row next p r.directory table k numbers r.at r.holds r.none_inside (is_put_away F saved))
 
     pub taken_some : o ≡ None → ⊥
     taken_some is = none-some r.directory (sym is ∙ (t.taken r.row r.at).0 ∙ r.holds)
@@ -130,6 +143,9 @@ module _ (honest : Type 0) (R : Repository) (F : Stored) (next : ℕ) (p : Path)
   held_kept good table k =
       by_origin h.row.origin (IsKept R F (with_listing p d x) next) (h.kept good)
       (λ own. own_loaded_kept R F x next table k p h.row d h.at h.dir h.empty h.saved h.none_inside h.storable own (h.held good own))
+
+  pub held_numbers : honest → KeepsNumbers R F x next → KeepsNumbers R F (with_listing p d x) next
+  held_numbers good k = (hold_keeps R F x h.row next p d k h.at h.empty h.none_inside (h.numbers good)).keeps
 
   pub held_alike : honest → shown_in R F (with_listing p d x) ≡ shown_in R F x
   held_alike good =
@@ -173,7 +189,7 @@ can_bring x z from to p n q m split cut c r is =
 
 own_some : (o : Option Row) (k : ℕ) → own_number o ≡ Some k → (w : Row) × ((o ≡ Some w) × (w.number ≡ k))
 own_some None k is = absurd (none-some k is)
-own_some (Some w) k is = (w, (refl, by (is_own w.origin) is)) where
+own_some (Some w) k is = (w, (refl, by (may_have_file w.kind w.origin) is)) where
   by : (b : Bool) → (if b then Some w.number else None) ≡ Some k → w.number ≡ k
   by true same = same_Some w.number k same
   by false same = absurd (none-some k same)
@@ -234,7 +250,8 @@ pub record IsTaken (x : Row) (from : Path) (d : Directory) : Type 0 where
   pub is : d ≡ ready.directory
   pub dir : ready.row.kind ≡ kind.Dir
 
-module _ (honest : Type 0) (R : Repository) (F : Stored) (x : Row) (next : ℕ) (from : Path) (d : Directory) (table : IsTable x next) (kept : honest → IsKept R F x next) (k : IsTaken x from d) where
+module _ (honest : Type 0) (R : Repository) (F : Stored) (x : Row) (next : ℕ) (from : Path) (d : Directory) (table : IsTable x next) (kept : honest → IsKept R F x next)
+    (saved : honest → AreSavedAt F from x) (k : IsTaken x from d) where
   abbrev bare_row : Row
   bare_row = with_child None k.ready.row
 
@@ -248,6 +265,33 @@ module _ (honest : Type 0) (R : Repository) (F : Stored) (x : Row) (next : ℕ) 
       let s = (kept h).ties.stored r.row r.directory place r.holds own in
       let P : List StoredEntry → Type 0 = λ es. HoldsEntries F r.row.number es in
       subst P (s.all r.saved ∙ ap listing_of (sym k.is)) s.held
+
+  -- what is stored for its entry is what it has
+  stored_own : (G : Stored) → (G bare_row.number ≡ F bare_row.number) → honest → bare_row.origin ≡ origin.Own → HasStored (in_files G) bare_row d
+  stored_own G same h own =
+      inl (stored_is (in_files G) bare_row origin.Own k.dir own ∙ held_moved F G bare_row.number (listing_of d) (sym same) (listed h own))
+
+  stored_empty : (G : Stored) → honest → bare_row.origin ≡ origin.Empty → HasStored (in_files G) bare_row d
+  stored_empty G h bare =
+      let r = k.ready in
+      let other : r.row.origin ≢ origin.Own = λ own. (let both : origin.Empty ≡ origin.Own = sym bare ∙ own in absurd (cc)) in
+      inr (
+        stored_is (in_files G) bare_row origin.Empty k.dir bare,
+        ap (λ (e : Directory). e.rows) k.is ∙ empty_rows R r.row r.directory bare ((kept h).agrees r.row r.directory place r.holds other),
+      )
+
+  stored_object : (G : Stored) → (G bare_row.number ≡ F bare_row.number) → honest → (id : Id) → bare_row.origin ≡ origin.Object id → HasStored (in_files G) bare_row d
+  stored_object G same h id object =
+      let r = k.ready in
+      inl (stored_is (in_files G) bare_row (origin.Object id) k.dir object ∙ ap (option_and_then (numbers_of id)) same
+      ∙ saved h r.row r.at r.directory id r.holds object ∙ ap (λ (e : Directory). Some (listing_of e)) (sym k.is))
+
+  stored_there : (G : Stored) → (G bare_row.number ≡ F bare_row.number) → honest → HasStored (in_files G) bare_row d
+  stored_there G same h = by bare_row.origin refl where
+    by : (o : Origin) → bare_row.origin ≡ o → HasStored (in_files G) bare_row d
+    by origin.Own is = stored_own G same h is
+    by origin.Empty is = stored_empty G h is
+    by (origin.Object id) is = stored_object G same h id is
 
   pub can_hold : (G : Stored) (p : Path) (z : Row) → row_at p z ≡ Some bare_row → (honest → G bare_row.number ≡ F bare_row.number)
       → (honest → bare_row.origin ≢ origin.Own → IsKept R G (with_listing p k.ready.directory z) next) → CanHold honest R G next p z d
@@ -269,6 +313,7 @@ module _ (honest : Type 0) (R : Repository) (F : Stored) (x : Row) (next : ℕ) 
             (let f = (kept h).agrees r.row r.directory place r.holds other in
             subst T (sym k.is) (record { items = f.items; had = f.had; each = f.each }));
         kept = λ h other. subst Q (sym k.is) (kept_so h other);
+        numbers = λ h. stored_there G (same h) h;
       }
 
   module _ (p : Path) (n : Name) (q : Path) (m : Name) (split : from ≡ p ++ n ∷ []) (z : Row) (is : z ≡ without_at from x) (tied : honest → Tied F z next) where

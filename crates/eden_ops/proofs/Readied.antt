@@ -8,7 +8,7 @@ use Rattle.eden_model.specs.Trees.{Name, Path}
 use Rattle.eden_model.proofs.CallerLemmas.{behind_sound, behind_back}
 use Rattle.eden_overlay.specs.declared.files.Files.{Ghosts as Files}
 use Rattle.eden_tree.specs.Directory.{Row}
-use Rattle.eden_coupling.specs.Chains.{IsLoadedAt, NoneMarked, StaysLoaded}
+use Rattle.eden_coupling.specs.Chains.{IsLoadedAt, IsUnsavedAt, NoneMarked, StaysLoaded}
 use Rattle.eden_inode.specs.Tables.{Table, shows}
 use Rattle.eden_materialise.specs.Faults.{IsStoreFault}
 use Rattle.eden_ops.specs.Carrying.{StaysToThere}
@@ -68,6 +68,24 @@ module _ {W F : Type 0} (w : Ghosts W) (f : Files F W) (s : Table F) where
       on_any : (b : Result (Unit {0}) Fault) → OnOk b (f.failures s.files ≡ f.failures s.files)
       on_any (Ok u) = refl
       on_any (Err e) = tt
+
+  -- what is loaded, marks and all, is as it was: something was stored beside
+  module _ (t : Table F) (a : Result (Unit {0}) Fault) (shown : w.honest → shows w f t ≡ shows w f s) (rest : t ≡ record s { files = t.files }) where
+    pub readies_stored : IfErr a (IsStoreFault (f.failures s.files) (f.failures t.files)) → OnOk a (f.failures t.files ≡ f.failures s.files) → Readies w f s t a
+    readies_stored fault counted =
+        let root = ap (λ (u : Table F). u.root) rest in
+        record {
+          shown = shown;
+          names = names_same s.root t.root root;
+          fewer = fewer_same s.root t.root root;
+          stamps = stamps_same s.root t.root root;
+          marks = λ q unsaved. subst (IsUnsavedAt q) root unsaved;
+          root = root_same s.root t.root root;
+          fault = fault;
+          counted = counted;
+          next = ap (λ (u : Table F). u.next) rest;
+          clock = ap (λ (u : Table F). u.clock) rest;
+        }
 
   module _ (t : Table F) (a : Result (Unit {0}) Fault) (shown : w.honest → shows w f t ≡ shows w f s) (marks : NoneMarked s.root t.root)
       (fault : IfErr a (IsStoreFault (f.failures s.files) (f.failures t.files))) (counted : OnOk a (f.failures t.files ≡ f.failures s.files)) (rest : (t.next ≡ s.next) × (t.clock ≡ s.clock)) where

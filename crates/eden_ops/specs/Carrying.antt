@@ -14,6 +14,8 @@ use Rattle.eden_coupling.specs.Chains.{IsLoadedAt}
 use Rattle.eden_coupling.specs.Changing.{with_listing}
 use Rattle.eden_coupling.specs.Kept.{IsKept}
 use Rattle.eden_coupling.specs.Listings.{listing_of}
+use Rattle.eden_coupling.specs.NumberSaves.{HasStored}
+use Rattle.eden_coupling.specs.Numberings.{in_files}
 use Rattle.eden_coupling.specs.Shown.{IsFrom}
 use Rattle.eden_coupling.specs.Unloading.{HasNoneInside}
 use Rattle.eden_materialise.specs.Puts.{AtDirectory}
@@ -61,7 +63,8 @@ pub record Takes (p : Path) (x z : Row) (o : Option Directory) : Type 0 where
   pub taken : (y : Row) → row_at p x ≡ Some y → (o ≡ child_of y) × (IsSome (child_of y) → y.kind ≡ kind.Dir)
 
 -- The entry at the path is a directory and holds none, and this one may be put there: it is saved, with none loaded inside.
--- Where the outside is honest, the entry's own file lists it; or the entry isn't the mount's own, and the table with it is kept.
+-- Where the outside is honest, the entry's own file lists it; or the entry isn't the mount's own, and the table with it is kept. What
+-- is stored for the entry is what it has, with its numbers.
 pub record CanHold (honest : Type 0) (R : Repository) (F : Stored) (next : ℕ) (p : Path) (x : Row) (d : Directory) : Type 0 where
   pub row : Row
   pub at : row_at p x ≡ Some row
@@ -73,3 +76,4 @@ pub record CanHold (honest : Type 0) (R : Repository) (F : Stored) (next : ℕ) 
   pub held : honest → row.origin ≡ origin.Own → HoldsEntries F row.number (listing_of d)
   pub from : honest → row.origin ≢ origin.Own → IsFrom R no_files row d
   pub kept : honest → row.origin ≢ origin.Own → IsKept R F (with_listing p d x) next
+  pub numbers : honest → HasStored (in_files F) row d

@@ -6,11 +6,13 @@ ghost use Rattle.eden_tree.specs.Directory.{Row, child_of, with_child};
 ghost use Rattle.eden_tree.specs.Paths.{row_at};
 ghost use Rattle.eden_coupling.specs.Chains.{IsLoadedAt};
 ghost use Rattle.eden_coupling.specs.Changing.{with_listing};
+ghost use Rattle.eden_inode.specs.Saved.{AreSavedAt};
 ghost use Rattle.eden_inode.specs.Tables.{shows};
 ghost use Rattle.eden_materialise.specs.Puts.{AtDirectory};
 ghost use Rattle.eden_ops.specs.Carrying.{CanCarry, CanHold, IsReady, Takes, without_at};
 ghost use Rattle.eden_ops.specs.Relocating.{Relocates};
 
+use crate::readying::save_numbers;
 use eden_inode::Inodes;
 use eden_materialise::move_entry;
 use eden_model::{Fault, Name, World};
@@ -58,12 +60,14 @@ impl<A: Allocator, W: World, F: Files<W>> Change<A, Overlay<W, F>> for Taking<'_
     }
 }
 
-/// Takes out the loaded directory at a path, which is ready for that. The tree that is shown is as before.
+/// Takes out the loaded directory at a path, which is ready for that, with its numbers saved. The tree that is shown is as
+/// before.
 fn take<A: Allocator + Clone, W: World, F: Files<W>>(
     inodes: &mut Inodes<A, W, F>,
     path: &[Name],
 ) -> Box<Dir<A>, A>
-    requires { IsReady path.now inodes.old.root }
+    requires ready { IsReady path.now inodes.old.root }
+    requires saved { W.honest → AreSavedAt (F.stored inodes.old.files) path.now inodes.old.root }
     ensures taken { AtDirectory path.now inodes.old.root (λ y d. (result.value ≡ d) × (y.kind ≡ kind.Dir)) }
     ensures root { inodes.new.root ≡ without_at path.now inodes.old.root }
     ensures files { inodes.new.files ≡ inodes.old.files }
@@ -134,11 +138,10 @@ fn put_back<A: Allocator + Clone, W: World, F: Files<W>>(
     inodes.change(Putting { path, child });
 }
 
-/// Moves an entry that holds a directory to another path, in place of what stands there. The directory stays loaded,
-/// with its listing: at the new path, or where the move failed at the old one.
+/// `move_dir` of a directory whose numbers are saved.
 ///
 /// Nothing is stored of the directory itself, and it goes in and out without any call that can fail.
-pub(crate) fn move_dir<A: Allocator + Clone, W: World, F: Files<W>>(
+fn move_saved<A: Allocator + Clone, W: World, F: Files<W>>(
     inodes: &mut Inodes<A, W, F>,
     alloc: Global,
     from: &[Name],
@@ -146,6 +149,7 @@ pub(crate) fn move_dir<A: Allocator + Clone, W: World, F: Files<W>>(
 ) -> Result<(), Fault>
     requires may { CanCarry inodes.old.root from.now to.now }
     requires loaded { IsLoadedAt from.now inodes.old.root }
+    requires saved { W.honest → AreSavedAt (F.stored inodes.old.files) from.now inodes.old.root }
     ensures { Relocates W.World F.Files from.now to.now inodes.old inodes.new result }
 {
     inodes.holds();
@@ -167,4 +171,25 @@ pub(crate) fn move_dir<A: Allocator + Clone, W: World, F: Files<W>>(
             Err(fault)
         }
     }
+}
+
+/// Moves an entry that holds a directory to another path, in place of what stands there. The directory stays loaded,
+/// with its listing: at the new path, or where the move failed at the old one.
+///
+/// The numbers of a directory on a tree object are saved first: while it moves, it is in no table.
+pub(crate) fn move_dir<A: Allocator + Clone, W: World, F: Files<W>>(
+    inodes: &mut Inodes<A, W, F>,
+    alloc: Global,
+    from: &[Name],
+    to: &[Name],
+) -> Result<(), Fault>
+    requires may { CanCarry inodes.old.root from.now to.now }
+    requires loaded { IsLoadedAt from.now inodes.old.root }
+    ensures { Relocates W.World F.Files from.now to.now inodes.old inodes.new result }
+{
+    match save_numbers(inodes, alloc, from) {
+        Ok(()) => {}
+        Err(fault) => return Err(fault),
+    }
+    move_saved(inodes, alloc, from, to)
 }

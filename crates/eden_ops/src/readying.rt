@@ -1,6 +1,7 @@
 //! A directory made ready to go along with its entry.
-ghost use Rattle.std.specs.Prelude.{◌≡◌, ◌∷◌, [], ◌++◌, IsTrue, IfOk, IfSome};
+ghost use Rattle.std.specs.Prelude.{◌≡◌, ◌∷◌, [], ◌++◌, IsTrue, IfOk, IfSome, OnOk};
 ghost use Rattle.eden_model.specs.Trees.{Name};
+ghost use Rattle.eden_inode.specs.Saved.{AreSavedAt};
 ghost use Rattle.eden_ops.specs.Carrying.{IsBareAt, StaysToThere};
 ghost use Rattle.eden_ops.specs.Relocating.{Readies};
 
@@ -8,7 +9,7 @@ use crate::letting::let_go;
 use crate::settling::settle;
 use eden_inode::{Inodes, has_none_inside};
 use eden_model::{Fault, Name, World};
-use eden_overlay::Files;
+use eden_overlay::{Files, FilesFault};
 use std::alloc::{AllocError, Allocator, Global};
 
 /// The path of an entry in the directory at a path.
@@ -130,6 +131,25 @@ pub(crate) fn ready<A: Allocator + Clone, W: World, F: Files<W>>(
         Err(fault) => return Err(fault),
     }
     settle_at(inodes, alloc, path, name)
+}
+
+/// Has the numbers saved of the directory that is loaded at a path, if it stands on a tree object.
+///
+/// Errors: `Overlay` where the device failed, and `Memory`.
+pub(crate) fn save_numbers<A: Allocator + Clone, W: World, F: Files<W>>(
+    inodes: &mut Inodes<A, W, F>,
+    alloc: Global,
+    path: &[Name],
+) -> Result<(), Fault>
+    ensures saved { W.honest → OnOk result (AreSavedAt (F.stored inodes.new.files) path.now inodes.new.root) }
+    ensures root { inodes.new.root ≡ inodes.old.root }
+    ensures readies { Readies W.World F.Files inodes.old inodes.new result }
+{
+    match inodes.save_numbers(alloc, path) {
+        Ok(()) => Ok(()),
+        Err(FilesFault::Device) => Err(Fault::Overlay),
+        Err(FilesFault::Memory) => Err(Fault::Memory),
+    }
 }
 
 /// Whether the directory that is loaded at a path, if any, is saved, with none loaded inside.

@@ -1,8 +1,9 @@
 use Rattle.std.proofs.Common.{sym, ap, ◌∙◌, subst}
 use Rattle.eden_tree.specs.Directory.{Row}
 use Rattle.eden_coupling.specs.Kept.{IsTable, IsKept}
+use Rattle.eden_coupling.specs.NumberKept.{KeepsNumbers}
 use Rattle.eden_coupling.specs.Shown.{shown_in}
-use Rattle.eden_ops.proofs.Carried.{held_table, held_kept, held_alike}
+use Rattle.eden_ops.proofs.Carried.{held_table, held_kept, held_numbers, held_alike}
 use Rattle.eden_ops.proofs.carrying.put_back.Goals as goal
 
 pub change-requires-clause-table : goal.change-requires-clause-table
@@ -18,6 +19,14 @@ change-requires-clause-kept g c h files root answer does =
     subst (λ o. IsKept R (g.F.Files.stored o) root t.next) (sym does.0)
     (subst (λ (r : Row). IsKept R (g.F.Files.stored t.files) r t.next) (sym does.1)
     (held_kept g.W.World.honest R (g.F.Files.stored t.files) t.next c.args.path.now t.root c.args.child.value c.requires h c.holds.ensures.table (c.holds.ensures.kept h)))
+
+pub change-requires-clause-numbers : goal.change-requires-clause-numbers
+change-requires-clause-numbers g c h files root answer does =
+    let t = c.args.inodes.now in
+    let R = g.W.World.repository in
+    subst (λ o. KeepsNumbers R (g.F.Files.stored o) root t.next) (sym does.0)
+    (subst (λ (r : Row). KeepsNumbers R (g.F.Files.stored t.files) r t.next) (sym does.1)
+    (held_numbers g.W.World.honest R (g.F.Files.stored t.files) t.next c.args.path.now t.root c.args.child.value c.requires h (c.holds.ensures.numbers h)))
 
 pub returns-clause-shown : goal.returns-clause-shown
 returns-clause-shown g c h =
