@@ -51,9 +51,9 @@ impl<A: Allocator, W: World, F: Files<W>> Change<A, Overlay<W, F>> for Removal<'
 }
 
 /// Removes an entry that isn't loaded from the loaded directory at a path. The directory is stored without it, and the
-/// chain above it as far as it isn't the mount's own; then memory is so. The entry's file, its own or that of its numbers,
-/// where it may have one, is removed last; where the device fails at that it is left, which nothing shows, and the answer
-/// is Ok all the same.
+/// chain above it as far as it isn't the mount's own; then memory is so. The entry's file, if it may have one, its own or
+/// that of its numbers, is removed last. If the device fails at that it is left, which nothing shows, and the answer is
+/// Ok all the same.
 ///
 /// The tree that is shown has nothing at and below the name, and is as before elsewhere. Errors: `Overlay` where the device
 /// failed, and `Memory`. Memory is as it was then, and so is what is shown.
