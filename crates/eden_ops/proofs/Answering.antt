@@ -31,7 +31,7 @@ use Rattle.eden_inode.specs.Tables.{Table, shows}
 use Rattle.eden_model.specs.declared.attempt.Attempt.TheVariants.{Finished}
 use Rattle.eden_ops.specs.declared.answer.Stop.{Stop}
 use Rattle.eden_ops.specs.declared.answer.Stop.TheVariants as stop
-use Rattle.eden_ops.specs.Attempts.{Attempts, Wants, IsUnsized, Meets, MeetsShown, Lacks, IsShown, shown_node, object_kind, stopped}
+use Rattle.eden_ops.specs.Attempts.{Attempts, IsUnsaved, Wants, IsUnsized, Meets, MeetsShown, Lacks, IsShown, shown_node, object_kind, stopped}
 use Rattle.eden_cache.specs.Stock.{FindsTheSame}
 use Rattle.eden_ops.specs.Faults.{IsDamaged, WantsNumbers, IsCaused, IsLawful, Makes, creates, makes_dir, links}
 use Rattle.eden_ops.specs.Keeping.{Keeps}
@@ -159,9 +159,10 @@ module _ {W F : Type 0} {absent : Reply → Type 0} (w : Ghosts W) (f : Files F 
     answer = record {
       need = record {
         silent = λ r. silent (known t.root) r h.0;
-        wanted = subst (λ (x : Path). Wants (row_at x t.root) d k) (sym (first.at (known t.root) h.0)) h.1;
-        unsized = λ x is blob. let tree = tree_wanted t.root (place_on (known t.root) p) d k (place_dir (known t.root) [] p h.0) h.1 in let no : objects.Blob ≡ objects.Tree = sym blob ∙ tree in cc;
+        wanted = subst (λ (x : Path). Wants (row_at x t.root) d k) (sym (first.at (known t.root) h.0)) h.1.0;
+        unsized = λ x is blob. let tree = tree_wanted t.root (place_on (known t.root) p) d k (place_dir (known t.root) [] p h.0) h.1.0 in let no : objects.Blob ≡ objects.Tree = sym blob ∙ tree in cc;
       };
+      unsaved = subst (λ (x : Path). IsUnsaved w f x t) (sym (first.at (known t.root) h.0)) h.1.1;
       keeps = keeps;
     };
     cache = cache;
@@ -213,7 +214,8 @@ module _ {W F : Type 0} {absent : Reply → Type 0} (w : Ghosts W) (f : Files F 
     lacked (stop.Errs e) other none sized h = absurd h
     lacked (stop.Needs k) other none sized h = record {
       answer = record {
-        need = record { silent = quiet none; wanted = subst (λ (x : Path). Wants (row_at x t.root) d k) (sym place_is) h; unsized = sized k refl };
+        need = record { silent = quiet none; wanted = subst (λ (x : Path). Wants (row_at x t.root) d k) (sym place_is) h.0; unsized = sized k refl };
+        unsaved = subst (λ (x : Path). IsUnsaved w f x t) (sym place_is) h.1;
         keeps = keeps;
       };
       cache = cache;

@@ -1,5 +1,5 @@
 -- What an attempt leaves, by its request.
-use Rattle.std.proofs.Common.{◌≡◌, ◌≢◌, ◌≤◌, ◌⊎◌, ◌+◌, ℕ, [], ◌∷◌, Result, Ok, Err, inl, inr, refl, sym, ◌∙◌, subst, arith}
+use Rattle.std.proofs.Common.{◌≡◌, ◌≢◌, ◌≤◌, ◌+◌, ℕ, [], ◌∷◌, Result, Ok, Err, inl, inr, refl, sym, ◌∙◌, subst, arith}
 use Rattle.eden_model.specs.declared.attempt.Attempt.{Attempt}
 use Rattle.eden_model.specs.declared.attempt.Attempt.TheVariants.{Finished}
 use Rattle.eden_model.specs.declared.fault.Fault.{Fault}
@@ -11,12 +11,12 @@ use Rattle.eden_model.specs.Requests.{paths_of}
 use Rattle.eden_model.specs.Trees.{Path}
 use Rattle.eden_overlay.specs.declared.files.Files.{Ghosts as Files}
 use Rattle.eden_tree.specs.Directory.{Row}
-use Rattle.eden_coupling.specs.Chains.{IsLoadedAt, IsUnsavedAt, NoneMarked, StaysLoaded}
+use Rattle.eden_coupling.specs.Chains.{IsLoadedAt, NoneMarked, StaysLoaded}
 use Rattle.eden_coupling.specs.Saving.{IsSavedAbove}
 use Rattle.eden_inode.specs.Tables.{Table}
-use Rattle.eden_ops.specs.Changes.{IsOutside, StaysOrBecomesOwn, SameNames, LeavesOn, Leaves}
+use Rattle.eden_ops.specs.Changes.{IsOutside, SameNames, LeavesOn, Leaves}
 use Rattle.eden_ops.specs.Keeping.{Keeps}
-use Rattle.eden_ops.specs.Leaving.{AreSavedAbove, Gives, IsFault, IsNoError, LeavesAfter, LetsBe, MayMark, given}
+use Rattle.eden_ops.specs.Leaving.{AreSavedAbove, Gives, IsFault, IsNoError, LeavesAfter, LetsBe, given}
 use Rattle.eden_ops.specs.Letting.{LetsGo}
 use Rattle.eden_ops.specs.Relocating.{GoesAlong, Relocates}
 use Rattle.eden_ops.proofs.Going.{goes_marks, loaded_elsewhere}

@@ -4,6 +4,7 @@ pub mod Left
 pub mod Growing
 pub mod Names
 pub mod Steps
+pub mod Gaining
 pub mod Trailing
 pub mod Resuming
 pub mod Bringing

@@ -25,7 +25,7 @@ use Rattle.eden_inode.specs.declared.seen.Seen.{Seen}
 use Rattle.eden_inode.specs.Tables.{Table, shows}
 use Rattle.eden_ops.specs.declared.answer.Stop.{Stop}
 use Rattle.eden_ops.specs.declared.answer.Stop.TheVariants as stop
-use Rattle.eden_ops.specs.Attempts.{Wants, IsSeen, IsShown, Meets, MeetsShown, Lacks, shown_node}
+use Rattle.eden_ops.specs.Attempts.{IsUnsaved, Wants, IsSeen, IsShown, Meets, MeetsShown, Lacks, shown_node}
 use Rattle.eden_ops.specs.Faults.{IsCaused, IsLawful}
 use Rattle.eden_ops.specs.Keeping.{Keeps}
 use Rattle.eden_ops.specs.Known.{known, place_on, IsLoadedAt}
@@ -130,7 +130,7 @@ module _ {W F : Type 0} (w : Ghosts W) (f : Files F W) (p : Path) (s t u : Table
 
   lacks_by : (z : Stop) → Lacks w f p s u d z → Lands w f p true s u d (Err z)
   lacks_by (stop.Errs e) h = absurd h
-  lacks_by (stop.Needs k) h = (unlisted_there, subst (λ (x : Path). Wants (row_at x u.root) d k) (sym place_still) h)
+  lacks_by (stop.Needs k) h = (unlisted_there, subst (λ (x : Path). Wants (row_at x u.root) d k × IsUnsaved w f x u) (sym place_still) h)
   lacks_by (stop.Faults e) h = (unlisted_there, subst (λ (x : Path). IsCaused w f x s u e) (sym place_still) h)
 
   pub land_lacks : (dir : Bool) → dir ≡ true → Keeps w f (p ∷ []) s t → (z : Stop) → Lacks w f p t u d z → Lands w f p dir s u d (Err z)

@@ -1,5 +1,5 @@
 -- Attempts that go on where an earlier one waited.
-use Rattle.std.proofs.Common.{◌≡◌, ◌≤◌, ◌+◌, ◌-◌, ◌*◌, ℕ, Bool, true, false, List, [], ◌∷◌, length, cond, min, Some, None, inl, inr, sym, refl, ap, subst, arith, ◌⊎◌}
+use Rattle.std.proofs.Common.{◌≡◌, ◌≤◌, ◌+◌, ◌*◌, ℕ, Bool, true, false, List, [], ◌∷◌, length, cond, Some, sym, subst, arith}
 use Rattle.eden_model.specs.declared.request.Request.{Request}
 use Rattle.eden_model.specs.declared.request.Request.TheVariants as ask
 use Rattle.eden_model.specs.Requests.{paths_of}
@@ -8,7 +8,7 @@ use Rattle.eden_tree.specs.Directory.{Row}
 use Rattle.eden_inode.specs.Trails.{Trail, Leads}
 use Rattle.eden_ops.specs.declared.place.Place.{Place}
 use Rattle.eden_ops.specs.Looks.{IsLook, IsChange}
-use Rattle.eden_ops.specs.Trails.{Counts, first_of, second_of, walked_of, is_present, remembered, is_second, LeadsFor, components}
+use Rattle.eden_ops.specs.Trails.{Counts, first_of, walked_of, is_present, remembered, is_second, components}
 
 -- a request of one path goes by the positions of that one
 leads_one : (p : Path) (b : Bool) (is : List ℕ) (x : Row) → Leads (walked_of b (p ∷ [])) is x → Leads p is x

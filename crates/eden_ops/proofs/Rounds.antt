@@ -21,7 +21,7 @@ use Rattle.eden_inode.specs.declared.seen.Seen.{Seen}
 use Rattle.eden_inode.specs.Tables.{Table, IsLast}
 use Rattle.eden_ops.specs.declared.answer.Stop.{Stop}
 use Rattle.eden_ops.specs.declared.answer.Stop.TheVariants as stop
-use Rattle.eden_ops.specs.Attempts.{Wants, Ends, Meets, Lacks, walked_by}
+use Rattle.eden_ops.specs.Attempts.{IsUnsaved, Wants, Ends, Meets, Lacks, walked_by}
 use Rattle.eden_ops.specs.Faults.{IsDamaged, WantsNumbers, IsCaused, IsLawful}
 use Rattle.eden_ops.specs.Keeping.{Keeps}
 use Rattle.eden_ops.specs.Known.{known, place_on, IsLoadedAt}
@@ -67,7 +67,7 @@ module _ {W F : Type 0} (w : Ghosts W) (f : Files F W) (p : Path) where
 
     pub ends_there : (z : Stop) → Lacks w f (take seen.names p) u v e z → Ends w f p s v e (walked_by z)
     ends_there (stop.Errs a) h = absurd h
-    ends_there (stop.Needs k) h = (ends_here, subst (λ (r : Path). Wants (row_at r v.root) e k) (sym place_there) h)
+    ends_there (stop.Needs k) h = (ends_here, subst (λ (r : Path). Wants (row_at r v.root) e k × IsUnsaved w f r v) (sym place_there) h)
     ends_there (stop.Faults a) h = (ends_here, lawful a h)
 
     pub meets_err : (r : Result (Option Seen) Stop) (z : Stop) → IsErr r → IsErrAnd r (λ y. y ≡ z) → Lacks w f (take seen.names p) u v e z → Meets w f p s v e r

@@ -124,7 +124,7 @@ module _ {W F : Type 0} (w : Ghosts W) (f : Files F W) where
   load_next s t p (without none l next) = omega (arith, next)
   load_next s t p (resumed id at l had from next) = omega (arith, next)
 
-  step_counts : {ps : List Path} (s t : Table F) → Step w f ps s t → Counts s t
+  pub step_counts : {ps : List Path} (s t : Table F) → Step w f ps s t → Counts s t
   step_counts s _ (stamps p at) = (refl, (refl, (omega arith, omega arith)))
   step_counts s _ (loads t p at l b) = (b.clock, (b.changes, (load_next s t p l, b.failures)))
   step_counts s _ (rests t root next b) = (b.clock, (b.changes, (omega (arith, next), b.failures)))

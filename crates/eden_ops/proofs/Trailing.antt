@@ -1,29 +1,31 @@
 -- Positions that lead along a path while directories are stamped and loaded, and the names that are compared meanwhile.
-use Rattle.std.proofs.Common.{◌≡◌, ◌≤◌, ◌<◌, ◌+◌, ◌-◌, ◌*◌, ℕ, List, [], ◌∷◌, length, inl, inr, sym, refl, ap, subst, arith, false}
+use Rattle.std.proofs.Common.{◌≡◌, ◌≤◌, ◌<◌, ◌+◌, ◌-◌, ◌*◌, ◌⊎◌, ℕ, List, length, inl, inr, sym, refl, subst, arith, false}
 use Rattle.std.proofs.lemmas.Bool.{cases_lt}
+use Rattle.eden_model.specs.declared.kind.Origin.TheVariants as origin
 use Rattle.eden_model.specs.declared.world.World.{Ghosts}
 use Rattle.eden_model.specs.Trees.{Path}
 use Rattle.eden_overlay.specs.declared.files.Files.{Ghosts as Files}
 use Rattle.eden_tree.specs.Directory.{Row}
-use Rattle.eden_coupling.specs.Loading.{LoadsOwn, with_loaded}
+use Rattle.eden_coupling.specs.Loading.{IsAt, LoadsOwn, with_loaded}
 use Rattle.eden_inode.specs.declared.seen.Seen.{Seen}
-use Rattle.eden_inode.specs.Tables.{Table, HasNoTree}
+use Rattle.eden_inode.specs.Tables.{Table}
 use Rattle.eden_inode.specs.Trails.{Trail, Leads, KeepsNames, Notes}
 use Rattle.eden_inode.proofs.Names.{keeps_same, keeps_then, keeps_stamps, keeps_loaded, leads_kept}
 use Rattle.eden_inode.proofs.Noting.{leads_few}
-use Rattle.eden_ops.specs.Keeping.{Loads, from_object, without, Step, stamps, loads, rests, Keeps, same, on}
+use Rattle.eden_ops.specs.Keeping.{Loads, from_object, without, resumed, Step, stamps, loads, rests, Keeps, same, on}
 use Rattle.eden_ops.specs.Trails.{Counts}
 
 -- ---- names that stay at their positions
 
 module _ {W F : Type 0} (w : Ghosts W) (f : Files F W) where
-  own_names : (s : Table F) (p : Path) (z : Row) → HasNoTree p s.root → (l : LoadsOwn w.honest s.clock (f.stored s.files) s.root p z) → KeepsNames s.root (with_loaded p s.clock l.directory s.root)
+  own_names : (s : Table F) (p : Path) (z : Row) → IsAt p s.root origin.Own ⊎ IsAt p s.root origin.Empty → (l : LoadsOwn w.honest s.clock (f.stored s.files) s.root p z) → KeepsNames s.root (with_loaded p s.clock l.directory s.root)
   own_names s p z (inl at) l = keeps_loaded p s.clock l.directory s.root _ at
   own_names s p z (inr at) l = keeps_loaded p s.clock l.directory s.root _ at
 
   load_names : (s t : Table F) (p : Path) → Loads w f p s t → KeepsNames s.root t.root
-  load_names s t p (from_object id es at tree l) = subst (λ (z : Row). KeepsNames s.root z) (sym l.is) (keeps_loaded p s.clock l.directory s.root _ at)
+  load_names s t p (from_object id es at tree unsaved l) = subst (λ (z : Row). KeepsNames s.root z) (sym l.is) (keeps_loaded p s.clock l.directory s.root _ at)
   load_names s t p (without none l next) = subst (λ (z : Row). KeepsNames s.root z) (sym l.is) (own_names s p t.root none l)
+  load_names s t p (resumed id at l had from next) = subst (λ (z : Row). KeepsNames s.root z) (sym l.is) (keeps_loaded p s.clock l.directory s.root _ at)
 
   step_names : {ps : List Path} (s t : Table F) → Step w f ps s t → KeepsNames s.root t.root
   step_names s _ (stamps p at) = keeps_stamps p s.clock s.root

@@ -35,7 +35,7 @@ use Rattle.eden_materialise.specs.Faults.{IsStoreFault}
 use Rattle.eden_model.specs.declared.attempt.Attempt.TheVariants.{Finished}
 use Rattle.eden_ops.specs.declared.answer.Stop.{Stop}
 use Rattle.eden_ops.specs.declared.answer.Stop.TheVariants as stop
-use Rattle.eden_ops.specs.Attempts.{Attempts, Wants, IsSeen, IsShown, Meets, MeetsShown, shown_node, stopped}
+use Rattle.eden_ops.specs.Attempts.{Attempts, IsUnsaved, Wants, IsSeen, IsShown, Meets, MeetsShown, shown_node, stopped}
 use Rattle.eden_cache.specs.Stock.{FindsTheSame}
 use Rattle.eden_ops.specs.Faults.{IsDamaged, WantsNumbers, IsCaused, IsLawful}
 use Rattle.eden_ops.specs.Keeping.{Keeps}
@@ -254,9 +254,10 @@ module _ {W F : Type 0} (w : Ghosts W) (f : Files F W) (from to : Path) (s t : T
       answer = record {
         need = record {
           silent = λ r x. h.0 r (only r x);
-          wanted = subst (λ (p : Path). Wants (row_at p u.root) e k) (sym place_is) h.1;
+          wanted = subst (λ (p : Path). Wants (row_at p u.root) e k) (sym place_is) h.1.0;
           unsized = λ x is. cc;
         };
+        unsaved = subst (λ (p : Path). IsUnsaved w f p u) (sym place_is) h.1.1;
         keeps = keeps_on w f s t u b.keeps on;
       };
       cache = finds_on c d e b.cache finds;

@@ -2,6 +2,7 @@
 use Rattle.std.specs.Prelude.{◌≡◌, Bool, true, [], ◌∷◌, Option, Some, None, Result, Ok, Err}
 use Rattle.std.specs.Option.{is_some, IsSome}
 use Rattle.eden_model.specs.declared.fault.Fault.{Fault}
+use Rattle.eden_model.specs.declared.id.Id.{Id}
 use Rattle.eden_model.specs.declared.id.Key.{Key}
 use Rattle.eden_model.specs.declared.id.ObjKind.{ObjKind}
 use Rattle.eden_model.specs.declared.id.ObjKind.TheVariants as objects
@@ -22,7 +23,7 @@ use Rattle.eden_model.specs.Shown.{node_from}
 use Rattle.eden_model.specs.Trees.{Path, Passes, Stops, Unlisted, walk, Reach, Fails, Absent, Here, reach}
 use Rattle.eden_overlay.specs.declared.files.Files.{Ghosts as Files}
 use Rattle.eden_overlay.specs.Files.{Stored}
-use Rattle.eden_overlay.specs.Held.{own_files}
+use Rattle.eden_overlay.specs.Held.{own_files, saved_at}
 use Rattle.eden_tree.specs.Directory.{Row, child_of}
 use Rattle.eden_tree.specs.Paths.{row_at}
 use Rattle.eden_cache.specs.Cache.{Cache}
@@ -107,9 +108,15 @@ module _ {W F : Type 0} (w : Ghosts W) (f : Files F W) where
     pub fault : (e : Fault) → r ≡ say.Fault e → IsLawful w f q s t e
     pub shown : w.honest → shows w f t ≡ after (shows w f s) q r
 
-  -- The object is really needed, and nothing changed.
+  -- no numbers are saved for the directory at the path, with which it would be loaded without its tree object
+  abbrev pub IsUnsaved : Path → Table F → Type 0
+  IsUnsaved p t = w.honest → (y : Row) (id : Id) → row_at p t.root ≡ Some y → y.kind ≡ kind.Dir → y.origin ≡ origin.Object id
+      → saved_at (f.stored t.files) y.number id ≡ None
+
+  -- The object is really needed, since nothing else gives what is asked for, and nothing changed.
   pub record Waits (q : Request) (s t : Table F) (d : Cache) (k : Key) : Type 0 where
     pub need : IsRealNeed q t.root d k
+    pub unsaved : IsUnsaved (place (known t.root) q) t
     pub keeps : Keeps w f (paths_of q) s t
 
   abbrev pub Answers : Request → Table F → Table F → Cache → Attempt → Type 0
@@ -126,7 +133,8 @@ module _ {W F : Type 0} (w : Ghosts W) (f : Files F W) where
   abbrev pub Ends : Path → Table F → Table F → Cache → Walked → Type 0
   Ends p s t d walked.Through = walk (known t.root) p ≡ Passes
   Ends p s t d (walked.Errs e) = walk (known t.root) p ≡ Stops e
-  Ends p s t d (walked.Needs k) = (walk (known t.root) p ≡ Unlisted) × Wants (row_at (place_on (known t.root) p) t.root) d k
+  Ends p s t d (walked.Needs k) =
+      (walk (known t.root) p ≡ Unlisted) × (Wants (row_at (place_on (known t.root) p) t.root) d k × IsUnsaved (place_on (known t.root) p) t)
   Ends p s t d (walked.Faults e) = (walk (known t.root) p ≡ Unlisted) × IsLawful w f (ask.Kind p) s t e
 
   -- it ends so over what memory knows now, and nothing changed
@@ -159,5 +167,5 @@ module _ {W F : Type 0} (w : Ghosts W) (f : Files F W) where
   -- why the directory at a path isn't loaded
   abbrev pub Lacks : Path → Table F → Table F → Cache → Stop → Type 0
   Lacks p s t d (stop.Errs e) = ⊥
-  Lacks p s t d (stop.Needs k) = Wants (row_at p t.root) d k
+  Lacks p s t d (stop.Needs k) = Wants (row_at p t.root) d k × IsUnsaved p t
   Lacks p s t d (stop.Faults e) = IsCaused w f p s t e

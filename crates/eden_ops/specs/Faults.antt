@@ -22,6 +22,7 @@ use Rattle.eden_overlay.specs.Held.{entries_at, content_at}
 use Rattle.eden_tree.specs.Directory.{Row}
 use Rattle.eden_tree.specs.Paths.{row_at}
 use Rattle.eden_coupling.specs.Loading.{IsAt}
+use Rattle.eden_inode.specs.Faults.{AreBadNumbers}
 use Rattle.eden_inode.specs.Tables.{Table}
 use Rattle.eden_ops.specs.Known.{known, place}
 
@@ -42,6 +43,12 @@ HoldsNone F kind.Exec k = content_at F k ≡ None
 HoldsNone F kind.Link k = content_at F k ≡ None
 HoldsNone F kind.Dir k = entries_at F k ≡ None
 
+-- What is stored for the entry isn't had. Where it is the mount's own, its file holds nothing of its kind; where it is a directory on a
+-- tree object, its file has numbers that can't be read.
+pub data IsBad (honest : Type 0) (F : Stored) (y : Row) : Type 0 where
+  own : y.origin ≡ origin.Own → (honest → HoldsNone F y.kind y.number) → IsBad honest F y
+  numbers : (id : Id) → y.origin ≡ origin.Object id → y.kind ≡ kind.Dir → (honest → AreBadNumbers id (F y.number)) → IsBad honest F y
+
 -- what memory knows gives the request no reply, and this holds of the place where its checks end
 abbrev pub IsHeldUp : Request → Row → (Path → Type 0) → Type 0
 IsHeldUp q x Holds = ((r : Reply) → ¬ Replies (known x) q r) × Holds (place (known x) q)
@@ -51,12 +58,11 @@ abbrev pub WantsNumber : Request → Row → ℕ → Type 0
 WantsNumber q x next = Makes q × Replies (known x) q say.Ok × (number_end < next + 1)
 
 module _ {W F : Type 0} (w : Ghosts W) (f : Files F W) where
-  -- the stored file of the entry at a path, which is the mount's own, holds nothing
+  -- the stored file of the entry at a path is of no use
   pub record IsDamaged (p : Path) (t : Table F) : Type 0 where
     pub row : Row
     pub there : row_at p t.root ≡ Some row
-    pub from : row.origin ≡ origin.Own
-    pub damaged : w.honest → HoldsNone (f.stored t.files) row.kind row.number
+    pub damaged : IsBad w.honest (f.stored t.files) row
 
   -- the numbers that are left are too few for the entries of the tree object of a directory
   pub record WantsNumbers (p : Path) (t : Table F) : Type 0 where

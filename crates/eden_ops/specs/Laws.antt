@@ -2,11 +2,14 @@
 use Rattle.std.specs.Prelude.{◌≡◌, ◌≢◌, ◌≤◌, ◌<◌, ◌++◌, ◌∷◌, ℕ, Bool, List, [], length, Some, None}
 use Rattle.eden_model.specs.declared.kind.Kind.TheVariants as kinds
 use Rattle.eden_model.specs.declared.world.World.{Ghosts}
+use Rattle.eden_model.specs.Backing.{Gains}
+use Rattle.eden_model.specs.Limits.{number_end}
 use Rattle.eden_model.specs.Trees.{Name, Path, Tree, Unlisted, walk}
 use Rattle.eden_overlay.specs.declared.files.Files.{Ghosts as Files}
 use Rattle.eden_tree.specs.Directory.{Row}
 use Rattle.eden_tree.specs.Paths.{Standing, standing_at}
-use Rattle.eden_inode.specs.Tables.{Table, shows}
+use Rattle.eden_coupling.specs.NumberKept.{KeepsNumbers}
+use Rattle.eden_inode.specs.Tables.{Table, shows, shows_numbers}
 use Rattle.eden_ops.specs.Changes.{Leaves}
 use Rattle.eden_ops.specs.Known.{known, IsLoadedAt, place_on}
 use Rattle.eden_ops.specs.Keeping.{Keeps}
@@ -44,6 +47,12 @@ module _ {W F : Type 0} (w : Ghosts W) (f : Files F W) where
 
   abbrev pub KeepsStamps : Type 0
   KeepsStamps = (paths : List Path) (s t : Table F) → Keeps w f paths s t → StampsTowards paths s.clock s.root t.root
+
+  -- the numbers that were shown are so still, each that is new was given since, and the table's numbers are kept
+  abbrev pub KeepsGains : Type 0
+  KeepsGains = (paths : List Path) (s t : Table F) → Keeps w f paths s t → w.honest → KeepsNumbers w.repository (f.stored s.files) s.root s.next
+      → t.next ≤ number_end
+      → Gains (shows_numbers f s) s.next (shows_numbers f t) t.next × KeepsNumbers w.repository (f.stored t.files) t.root t.next
 
 -- ---- waits that follow each other
 

@@ -17,7 +17,7 @@ use Rattle.eden_inode.specs.declared.seen.Seen.{Seen}
 use Rattle.eden_inode.specs.Tables.{Table, shows}
 use Rattle.eden_ops.specs.declared.answer.Stop.{Stop}
 use Rattle.eden_ops.specs.declared.answer.Stop.TheVariants as stop
-use Rattle.eden_ops.specs.Attempts.{Wants}
+use Rattle.eden_ops.specs.Attempts.{IsUnsaved, Wants}
 use Rattle.eden_ops.specs.Faults.{IsCaused}
 use Rattle.eden_ops.specs.Known.{known, place_on}
 
@@ -54,7 +54,8 @@ module _ {W F : Type 0} (w : Ghosts W) (f : Files F W) where
   abbrev pub Lands : Path → Bool → Table F → Table F → Cache → Result (Unit {0}) Stop → Type 0
   Lands p dir s t d (Ok u) = walk (known t.root) p ≡ Passes
   Lands p dir s t d (Err (stop.Errs e)) = Unit {0}
-  Lands p dir s t d (Err (stop.Needs k)) = ((r : Reply) → ¬ MayLand (known t.root) p dir r) × Wants (row_at (place_on (known t.root) p) t.root) d k
+  Lands p dir s t d (Err (stop.Needs k)) =
+      ((r : Reply) → ¬ MayLand (known t.root) p dir r) × (Wants (row_at (place_on (known t.root) p) t.root) d k × IsUnsaved w f (place_on (known t.root) p) t)
   Lands p dir s t d (Err (stop.Faults e)) = ((r : Reply) → ¬ MayLand (known t.root) p dir r) × IsCaused w f (place_on (known t.root) p) s t e
 
   -- .. and what the table says there of what is shown

@@ -1,9 +1,13 @@
 //! One directory, loaded.
 ghost use Rattle.std.specs.Prelude.{◌≡◌, None, IfOk, IfErr, OnOk, OnErr, MatchOption, ◌∷◌, []};
 ghost use Rattle.eden_model.specs.declared.id.ObjKind.TheVariants as objects;
+ghost use Rattle.eden_model.specs.declared.kind.Origin.TheVariants as origins;
 ghost use Rattle.eden_object.specs.Trees.{NamesDiffer};
 ghost use Rattle.eden_coupling.specs.Loading.{IsAt};
+ghost use Rattle.eden_inode.specs.Saved.{LacksNumbers};
+ghost use Rattle.eden_inode.specs.Tables.{HasTree, HasNoTree};
 ghost use Rattle.eden_ops.specs.Attempts.{Lacks};
+ghost use Rattle.eden_ops.specs.Faults.{IsCaused};
 ghost use Rattle.eden_cache.specs.Stock.{FindsTheSame, object_at};
 ghost use Rattle.eden_ops.specs.Keeping.{Keeps};
 ghost use Rattle.eden_ops.specs.Known.{IsLoadedAt};
@@ -11,7 +15,7 @@ ghost use Rattle.eden_ops.specs.Known.{IsLoadedAt};
 use crate::answer::Stop;
 use eden_cache::{Stock, cache_laws};
 use eden_inode::Inodes;
-use eden_model::{Id, Key, Name, ObjKind, Origin, TreeEntry, World};
+use eden_model::{Fault, Id, Key, Name, ObjKind, Origin, TreeEntry, World};
 use eden_overlay::Files;
 use std::alloc::{AllocError, Allocator, Global};
 
@@ -34,8 +38,91 @@ fn cached_tree<W: World, C: Allocator + Clone>(
     }
 }
 
-/// Loads the directory at a path, which comes from that origin: from its cached tree object, its stored file, or as an
-/// empty one.
+/// Loads the directory at a path without a tree object: from its stored file, with the numbers saved for it, or as an empty one.
+fn bring_stored<A: Allocator + Clone, W: World, F: Files<W>>(
+    inodes: &mut Inodes<A, W, F>,
+    alloc: Global,
+    path: &[Name],
+) -> Result<(), Fault>
+    requires none { HasNoTree W.honest (F.stored inodes.old.files) path.now inodes.old.root }
+    ensures ok { OnOk result (IsLoadedAt path.now inodes.new.root) }
+    ensures err { OnErr result (inodes.new.root ≡ inodes.old.root) }
+    ensures caused { IfErr result (IsCaused W.World F.Files path.now inodes.old inodes.new) }
+    ensures keeps { Keeps W.World F.Files (path.now ∷ []) inodes.old inodes.new }
+{
+    inodes.holds();
+    inodes.load(alloc, path, None)
+}
+
+/// Loads the directory at a path from the entries of its tree object.
+fn bring_object<A: Allocator + Clone, W: World, F: Files<W>>(
+    inodes: &mut Inodes<A, W, F>,
+    alloc: Global,
+    path: &[Name],
+    entries: &[TreeEntry],
+) -> Result<(), Fault>
+    requires tree { HasTree W.repository W.honest (F.stored inodes.old.files) path.now inodes.old.root entries.now }
+    ensures ok { OnOk result (IsLoadedAt path.now inodes.new.root) }
+    ensures err { OnErr result (inodes.new.root ≡ inodes.old.root) }
+    ensures caused { IfErr result (IsCaused W.World F.Files path.now inodes.old inodes.new) }
+    ensures keeps { Keeps W.World F.Files (path.now ∷ []) inodes.old inodes.new }
+{
+    inodes.load(alloc, path, Some(entries))
+}
+
+/// Loads the directory at a path from its tree object, for which no numbers are saved, where that is cached.
+fn bring_cached<A: Allocator + Clone, W: World, F: Files<W>, C: Allocator + Clone>(
+    inodes: &mut Inodes<A, W, F>,
+    cache: &mut Stock<W, C>,
+    alloc: Global,
+    path: &[Name],
+    id: Id,
+) -> Result<(), Stop>
+    requires at { IsAt path.now inodes.old.root (origins.Object id) }
+    requires unsaved { LacksNumbers W.honest (F.stored inodes.old.files) path.now inodes.old.root }
+    ensures ok { OnOk result (IsLoadedAt path.now inodes.new.root) }
+    ensures err { OnErr result (inodes.new.root ≡ inodes.old.root) }
+    ensures lacks { IfErr result (Lacks W.World F.Files path.now inodes.old inodes.new cache.new) }
+    ensures keeps { Keeps W.World F.Files (path.now ∷ []) inodes.old inodes.new }
+    ensures cache { FindsTheSame cache.old cache.new }
+{
+    match cached_tree(cache, alloc, id)? {
+        None => {
+            let kind = ObjKind::Tree;
+            Err(Stop::Needs(Key { kind, id }))
+        }
+        Some(entries) => {
+            bring_object(inodes, alloc, path, entries.as_slice())?;
+            Ok(())
+        }
+    }
+}
+
+/// Loads the directory at a path, which stands on that tree object: with the numbers saved for it, and without the object;
+/// or else from the object, where it is cached.
+fn bring_tree<A: Allocator + Clone, W: World, F: Files<W>, C: Allocator + Clone>(
+    inodes: &mut Inodes<A, W, F>,
+    cache: &mut Stock<W, C>,
+    alloc: Global,
+    path: &[Name],
+    id: Id,
+) -> Result<(), Stop>
+    requires at { IsAt path.now inodes.old.root (origins.Object id) }
+    ensures ok { OnOk result (IsLoadedAt path.now inodes.new.root) }
+    ensures err { OnErr result (inodes.new.root ≡ inodes.old.root) }
+    ensures lacks { IfErr result (Lacks W.World F.Files path.now inodes.old inodes.new cache.new) }
+    ensures keeps { Keeps W.World F.Files (path.now ∷ []) inodes.old inodes.new }
+    ensures cache { FindsTheSame cache.old cache.new }
+{
+    if inodes.numbered(alloc, path)? {
+        bring_stored(inodes, alloc, path)?;
+        return Ok(());
+    }
+    bring_cached(inodes, cache, alloc, path, id)
+}
+
+/// Loads the directory at a path, which comes from that origin: from its stored file, as an empty one, or by its tree
+/// object.
 pub(crate) fn bring<A: Allocator + Clone, W: World, F: Files<W>, C: Allocator + Clone>(
     inodes: &mut Inodes<A, W, F>,
     cache: &mut Stock<W, C>,
@@ -51,14 +138,10 @@ pub(crate) fn bring<A: Allocator + Clone, W: World, F: Files<W>, C: Allocator + 
     ensures cache { FindsTheSame cache.old cache.new }
 {
     match origin {
-        Origin::Own | Origin::Empty => inodes.load(alloc, path, None)?,
-        Origin::Object(id) => match cached_tree(cache, alloc, id)? {
-            None => {
-                let kind = ObjKind::Tree;
-                return Err(Stop::Needs(Key { kind, id }));
-            }
-            Some(entries) => inodes.load(alloc, path, Some(entries.as_slice()))?,
-        },
+        Origin::Own | Origin::Empty => {
+            bring_stored(inodes, alloc, path)?;
+            Ok(())
+        }
+        Origin::Object(id) => bring_tree(inodes, cache, alloc, path, id),
     }
-    Ok(())
 }

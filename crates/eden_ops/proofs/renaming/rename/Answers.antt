@@ -1,4 +1,4 @@
-use Rattle.std.proofs.Common.{◌≡◌, ◌≢◌, ◌∷◌, [], Bool, true, false, Option, Ok, sym, refl, subst, ◌∙◌, arith}
+use Rattle.std.proofs.Common.{◌≡◌, ◌≢◌, ◌∷◌, [], Bool, false, Option, Ok, sym, refl, subst, ◌∙◌, arith}
 use Rattle.eden_model.specs.declared.errno.Errno.TheVariants.{EBUSY}
 use Rattle.eden_model.specs.declared.reply.Reply.{Reply}
 use Rattle.eden_model.specs.declared.reply.Reply.TheVariants as say
