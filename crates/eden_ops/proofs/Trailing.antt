@@ -18,7 +18,8 @@ use Rattle.eden_ops.specs.Trails.{Counts}
 -- ---- names that stay at their positions
 
 module _ {W F : Type 0} (w : Ghosts W) (f : Files F W) where
-  own_names : (s : Table F) (p : Path) (z : Row) → IsAt p s.root origin.Own ⊎ IsAt p s.root origin.Empty → (l : LoadsOwn w.honest s.clock (f.stored s.files) s.root p z) → KeepsNames s.root (with_loaded p s.clock l.directory s.root)
+  own_names : (s : Table F) (p : Path) (z : Row) → IsAt p s.root origin.Own ⊎ IsAt p s.root origin.Empty → (l : LoadsOwn w.honest s.clock (f.stored s.files) s.root p z)
+      → KeepsNames s.root (with_loaded p s.clock l.directory s.root)
   own_names s p z (inl at) l = keeps_loaded p s.clock l.directory s.root _ at
   own_names s p z (inr at) l = keeps_loaded p s.clock l.directory s.root _ at
 

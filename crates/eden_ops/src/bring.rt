@@ -38,7 +38,8 @@ fn cached_tree<W: World, C: Allocator + Clone>(
     }
 }
 
-/// Loads the directory at a path without a tree object: from its stored file, with the numbers saved for it, or as an empty one.
+/// Loads the directory at a path without a tree object: from its stored file, with the numbers saved for it, or as an
+/// empty one.
 fn bring_stored<A: Allocator + Clone, W: World, F: Files<W>>(
     inodes: &mut Inodes<A, W, F>,
     alloc: Global,
@@ -98,8 +99,8 @@ fn bring_cached<A: Allocator + Clone, W: World, F: Files<W>, C: Allocator + Clon
     }
 }
 
-/// Loads the directory at a path, which stands on that tree object: with the numbers saved for it, and without the object;
-/// or else from the object, where it is cached.
+/// Loads the directory at a path, which stands on that tree object: with the numbers saved for it, and without the
+/// object; or else from the object, where it is cached.
 fn bring_tree<A: Allocator + Clone, W: World, F: Files<W>, C: Allocator + Clone>(
     inodes: &mut Inodes<A, W, F>,
     cache: &mut Stock<W, C>,

@@ -60,8 +60,8 @@ impl<A: Allocator, W: World, F: Files<W>> Change<A, Overlay<W, F>> for Taking<'_
     }
 }
 
-/// Takes out the loaded directory at a path, which is ready for that, with its numbers saved. The tree that is shown is as
-/// before.
+/// Takes out the loaded directory at a path, which is ready for that, with its numbers saved. The tree that is shown is
+/// as before.
 fn take<A: Allocator + Clone, W: World, F: Files<W>>(
     inodes: &mut Inodes<A, W, F>,
     path: &[Name],
