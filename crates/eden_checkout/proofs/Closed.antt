@@ -23,12 +23,13 @@ use Rattle.eden_coupling.specs.Chains.{AreSaved}
 use Rattle.eden_coupling.specs.Kept.{IsTable, IsKept}
 use Rattle.eden_coupling.specs.Laws.{TiesSound, NumbersBelow}
 use Rattle.eden_coupling.specs.Loose.{the_state}
+use Rattle.eden_coupling.specs.NumberKept.{KeepsNumbers}
 use Rattle.eden_coupling.specs.Shown.{shown_in, shown_away}
 use Rattle.eden_coupling.specs.ShownLaws.{ShowsFiles, ShowsAway}
-use Rattle.eden_coupling.proofs.CallerLemmas.{loose_kept, loose_alike}
+use Rattle.eden_coupling.proofs.CallerLemmas.{loose_kept, loose_alike, state_comes}
 use Rattle.eden_inode.specs.Tables.{fresh_root}
 use Rattle.eden_ops.specs.Changes.{StaysOrBecomesOwn}
-use Rattle.eden_checkout.specs.Opening.{files_show, IsRootOf, CanOpen}
+use Rattle.eden_checkout.specs.Opening.{files_show, FilesKeep, IsRootOf, CanOpen}
 
 pub still_root : (id : Id) (a b : Origin) → IsRootOf id a → b ≡ a → IsRootOf id b
 still_root id a b is same = subst (IsRootOf id) (sym same) is
@@ -75,19 +76,25 @@ saved_shown R F x next root table kept of files away saved =
 
 module _ (R : Repository) (F : Stored) (x : Row) (next : ℕ) (root : Id) (table : IsTable x next) (kept : IsKept R F x next) (none : child_of x ≡ None) (of : IsRootOf root x.origin)
     (sound : TiesSound) (below : NumbersBelow) where
+  root_there : fresh_root (root_from root (root_file F)) ≡ x
+  root_there = ap fresh_root (root_stands root F x.origin (root_file F) refl of kept.ties.rootless kept.ties.rooted) ∙ sym (is_fresh x next table none)
+
   pub shows_on : files_show R root F ≡ shown_in R F x
   shows_on =
       ap (λ (o : Origin). shown_in R (without F 0) (fresh_root o)) (root_stands root F x.origin (root_file F) refl of kept.ties.rootless kept.ties.rooted)
       ∙ ap (shown_in R (without F 0)) (sym (is_fresh x next table none))
       ∙ loose_alike R F x next 0 None table kept (the_state refl)
 
-  pub can_open : HoldsState F (record { root = root; next = next }) → CanOpen R (shown_in R F x) root F
-  can_open held = record {
+  pub can_open : KeepsNumbers R F x next → HoldsState F (record { root = root; next = next }) → CanOpen R (shown_in R F x) root F
+  can_open keeps held = record {
     sound = sound F kept.full x next kept.ties;
     shown = shows_on;
     below = λ s other c e live names.
         let same : record { root = root; next = next } ≡ s = same_Some (record { root = root; next = next }) s (sym held ∙ other) in
         subst (λ (t : State). e.number < t.next) same (below F kept.full x next kept.ties c e live names);
+    numbers = λ later other.
+        let same : next ≡ later = ap (λ (s : State). s.next) (same_Some (record { root = root; next = next }) (record { root = root; next = later }) (sym held ∙ other)) in
+        subst (FilesKeep R root F) same (subst (λ (y : Row). KeepsNumbers R F y next) (sym root_there) keeps);
   }
 
 pub holds_state : (F : Stored) (s : State) → IsGoodState s → HoldsState (with_state F s) s
@@ -97,6 +104,14 @@ holds_state F s good = state_written s good
 pub on_done : {X Y : Type 0} (r : Result (Unit {0}) FilesFault) → (X → Y) → OnOk r X → OnOk r Y
 on_done (Ok v) f h = f h
 on_done (Err e) f h = h
+
+-- the state has no numbers
+pub state_kept : (R : Repository) (F G : Stored) (x z : Row) (next : ℕ) (s : State) (r : Result (Unit {0}) FilesFault) → KeepsNumbers R F x next → z ≡ x → OnOk r (G ≡ with_state F s)
+    → OnErr r (G ≡ F) → KeepsNumbers R G z next
+state_kept R F G x z next s (Ok v) keeps root ok err =
+    subst (λ (y : Row). KeepsNumbers R G y next) (sym root) (subst (λ (H : Stored). KeepsNumbers R H x next) (sym ok) (state_comes R F x next s keeps).keeps)
+state_kept R F G x z next s (Err e) keeps root ok err =
+    subst (λ (y : Row). KeepsNumbers R G y next) (sym root) (subst (λ (H : Stored). KeepsNumbers R H x next) (sym err) keeps)
 
 -- the state shows nothing
 pub stored_alike : (R : Repository) (F G : Stored) (x z : Row) (next : ℕ) (s : State) (r : Result (Unit {0}) FilesFault) → IsTable x next → IsKept R F x next → z ≡ x → OnOk r (G ≡ with_state F s)

@@ -1,9 +1,12 @@
 -- Files that nothing was stored in show the commit's whole tree.
-use Rattle.std.proofs.Common.{◌≡◌, ◌≢◌, ◌⊎◌, ℕ, None, refl, ◌∙◌, ap, inl, inr}
+use Rattle.std.proofs.Common.{◌≡◌, ◌≢◌, ◌⊎◌, ℕ, None, refl, sym, ◌∙◌, ap, inl, inr}
+use Rattle.std.specs.Option.{option_and_then}
+use Rattle.std.proofs.lemmas.Option.{none-some}
 use Rattle.std.proofs.Math.Path.{fun_ext}
 use Rattle.eden_model.specs.declared.id.Id.{Id}
 use Rattle.eden_model.specs.declared.kind.Origin.TheVariants as origin
 use Rattle.eden_model.specs.Repository.{Repository, Whole}
+use Rattle.eden_overlay_format.specs.Values.{state_in}
 use Rattle.eden_overlay.specs.Counting.{root_from}
 use Rattle.eden_overlay.specs.Files.{Stored}
 use Rattle.eden_overlay.specs.Held.{without}
@@ -40,4 +43,5 @@ opens_fresh rootless away R root F none = record {
   sound = rootless F (root_same F nothing (none 1));
   shown = whole_shown away R root F none;
   below = λ s held c e live names. absurd (nothing_named F none c e names);
+  numbers = λ next held. absurd (none-some (record { root = root; next = next }) (sym (ap (option_and_then state_in) (none 0)) ∙ held));
 }

@@ -1,5 +1,5 @@
 -- A table over files as they are opened.
-use Rattle.std.proofs.Common.{◌≡◌, ◌≢◌, ◌<◌, ◌⊎◌, ℕ, List, Option, Some, None, Result, Ok, Err, IfErr, IsSome, sym, refl, ◌∙◌, ap, subst, inl, inr, arith}
+use Rattle.std.proofs.Common.{◌≡◌, ◌≢◌, ◌<◌, ◌≤◌, ◌⊎◌, ℕ, List, Option, Some, None, Result, Ok, Err, IfErr, IsSome, sym, refl, ◌∙◌, ap, subst, inl, inr, arith}
 use Rattle.std.proofs.lemmas.Option.{none-some}
 use Rattle.std.specs.Option.{option_and_then}
 use Rattle.std.specs.Result.{IsErrAnd}
@@ -8,6 +8,7 @@ use Rattle.eden_model.specs.declared.kind.Kind.TheVariants as kind
 use Rattle.eden_model.specs.declared.kind.Origin.{Origin}
 use Rattle.eden_model.specs.declared.kind.Origin.TheVariants as origin
 use Rattle.eden_model.specs.Failures.{Rose}
+use Rattle.eden_model.specs.Limits.{number_end}
 use Rattle.eden_model.specs.Repository.{Repository}
 use Rattle.eden_model.specs.Trees.{Tree}
 use Rattle.eden_overlay_format.specs.declared.stored_entry.StoredEntry.{StoredEntry}
@@ -17,7 +18,7 @@ use Rattle.eden_overlay_format.specs.Values.{entries_in, state_in}
 use Rattle.eden_overlay.specs.declared.fault.GetFault.TheVariants as get
 use Rattle.eden_overlay.specs.Getting.{Explains}
 use Rattle.eden_overlay.specs.Files.{Stored}
-use Rattle.eden_overlay.specs.Held.{HoldsState, without, root_file}
+use Rattle.eden_overlay.specs.Held.{HoldsState, without, root_file, numbers_of, saved_at}
 use Rattle.eden_overlay.specs.Laws.{IsStray}
 use Rattle.eden_overlay.specs.declared.rescan.RescanFault.{RescanFault}
 use Rattle.eden_overlay.specs.declared.rescan.RescanFault.TheVariants as rescan
@@ -27,14 +28,15 @@ use Rattle.eden_overlay.specs.Soundness.{Names, IsLive, HoldsKind, AreSound}
 use Rattle.eden_overlay.proofs.CallerLemmas.{put_here, put_apart, names_moved, same_or_apart, numbers_from_two, live_stay, state_stays, accused_unsound, root_same, live_counted}
 use Rattle.eden_tree.specs.Directory.{child_of}
 use Rattle.eden_coupling.specs.Chains.{AreSaved}
-use Rattle.eden_coupling.proofs.CallerLemmas.{place_cases}
+use Rattle.eden_coupling.specs.NumberKept.{KeepsNumbers}
+use Rattle.eden_coupling.proofs.CallerLemmas.{place_cases, fresh_keeps, found_keeps, state_goes}
 use Rattle.eden_inode.specs.Tables.{CanStart, fresh_root}
 use Rattle.eden_checkout.specs.declared.fault.OpenFault.{OpenFault}
 use Rattle.eden_checkout.specs.declared.fault.OpenFault.TheVariants as opens
 use Rattle.eden_checkout.specs.declared.opening.Opening.{Opening}
 use Rattle.eden_checkout.specs.declared.opening.Opening.TheVariants as opening
 use Rattle.eden_checkout.specs.declared.opening.Start.{Start}
-use Rattle.eden_checkout.specs.Opening.{files_show, CanOpen, MayOpen, AreNone, StartsAt, Starts, of_rescan, AreAccused, IsOpenFault, IsRescanRefusal, IsRefusal}
+use Rattle.eden_checkout.specs.Opening.{files_show, FilesKeep, CanOpen, MayOpen, AreNone, StartsAt, Starts, of_rescan, AreAccused, IsOpenFault, IsRescanRefusal, IsRefusal}
 
 own_stands : (root : Id) (o : Option (List ℕ)) → root_from root o ≢ origin.Own → o ≡ None
 own_stands root None other = refl
@@ -46,6 +48,16 @@ unowned root (Some b) is = cc
 
 pub nothing_named : (F : Stored) → AreNone F → (c : ℕ) (e : StoredEntry) → ¬ Names F c e
 nothing_named F none c e n = let h : None ≡ Some n.entries = sym (ap (option_and_then entries_in) (none c)) ∙ n.held in cc
+
+-- no files keep no numbers but the root's
+nothing_saved : (F : Stored) → AreNone F → (k : ℕ) (id : Id) → saved_at F k id ≡ None
+nothing_saved F none k id = ap (option_and_then (numbers_of id)) (none k)
+
+pub none_keep : (R : Repository) (root : Id) (F : Stored) → AreNone F → FilesKeep R root F 2
+none_keep R root F none =
+    let from : root_from root (root_file F) ≡ origin.Object root = ap (root_from root) (root_same F (λ k. None) (none 1)) in
+    subst (λ (o : Origin). KeepsNumbers R F (fresh_root o) 2) (sym from)
+    (fresh_keeps R F (fresh_root (origin.Object root)) 2 refl refl (nothing_saved F none 1 root) (λ k id late. nothing_saved F none k id) (omega arith) (omega arith))
 
 state_stray : (F : Stored) → IsStray F 0
 state_stray F = record {
@@ -72,12 +84,15 @@ module _ (root : Id) (F : Stored) (sound : AreSound F) (start : Start) (from : s
   rooted_by (inl none) own = absurd (unowned root (root_file F) none (sym from ∙ own))
   rooted_by (inr held) own = held
 
-  can_start_below : ((c : ℕ) (e : StoredEntry) → IsLive F c → Names F c e → e.number < start.next) → CanStart (without F 0) start.origin start.next
-  can_start_below below = record {
+  can_start_below : (R : Repository) → ((c : ℕ) (e : StoredEntry) → IsLive F c → Names F c e → e.number < start.next) → FilesKeep R root F start.next
+      → CanStart R (without F 0) start.origin start.next
+  can_start_below R below keeps = record {
     rootless = λ other. root_same (without F 0) F (put_apart F 0 1 None (λ is. omega (arith, is))) ∙ own_stands root (root_file F) (λ own. other (from ∙ own));
     rooted = rooted_by sound.top;
     sound = state_stays F None sound;
     below = λ c e live names. below c e ((live_stay F 0 None (state_stray F) c).0 live) (still_named F c e names);
+    numbers = subst (λ (o : Origin). KeepsNumbers R (without F 0) (fresh_root o) start.next) (sym from)
+        (state_goes R F (fresh_root (root_from root (root_file F))) start.next keeps).keeps;
   }
 
 module _ (R : Repository) (tree : Tree) (root : Id) (F : Stored) where
@@ -85,14 +100,22 @@ module _ (R : Repository) (tree : Tree) (root : Id) (F : Stored) where
   below_by can next (inl none) c e live names = absurd (nothing_named F none.0 c e names)
   below_by can next (inr held) c e live names = can.below (record { root = root; next = next }) held c e live names
 
-  pub can_start : (how : Opening) → MayOpen how R tree root F → (start : Start) → Starts how root F start → CanStart (without F 0) start.origin start.next
-  can_start opening.Closed can start starts = can_start_below root F can.sound start starts.origin (below_by can start.next starts.next)
-  can_start opening.Rescan shown start starts =
-      can_start_below root F starts.next.0 start starts.origin (λ c e live names. starts.next.2.below (live_counted F root c e live names))
+  numbers_by : CanOpen R tree root F → (next : ℕ) → StartsAt F root next → FilesKeep R root F next
+  numbers_by can next (inl none) = subst (FilesKeep R root F) (sym none.1) (none_keep R root F none.0)
+  numbers_by can next (inr held) = can.numbers next held
+
+  pub can_start : (how : Opening) → MayOpen how R tree root F → (start : Start) → Starts how root F start → start.next ≤ number_end
+      → CanStart R (without F 0) start.origin start.next
+  can_start opening.Closed can start starts most =
+      can_start_below root F can.sound start starts.origin R (below_by can start.next starts.next) (numbers_by can start.next starts.next)
+  can_start opening.Rescan may start starts most =
+      can_start_below root F starts.next.0 start starts.origin R (λ c e live names. starts.next.2.below (live_counted F root c e live names))
+      (found_keeps R F root (fresh_root (root_from root (root_file F))) start.next (record { number = refl; is_dir = refl; away = refl; from = refl })
+      starts.next.1 starts.next.2 most may.1)
 
   pub shown_by : (how : Opening) → MayOpen how R tree root F → files_show R root F ≡ tree
   shown_by opening.Closed can = can.shown
-  shown_by opening.Rescan shown = shown
+  shown_by opening.Rescan may = may.0
 
 -- whoever accuses the files shows that they aren't sound
 pub rescan_refused : (honest : Type 0) (root : Id) (F : Stored) (old new : ℕ) (fault : RescanFault) → IsRescanFault honest F root old new fault

@@ -18,11 +18,12 @@ use Rattle.eden_overlay.specs.Tidying.{IsOrphan, IsTidiedInPart, ListsOrphans, O
 use Rattle.eden_overlay.proofs.CallerLemmas.{put_apart, held_storable, numbers_from_two, root_stays, named_stays, live_before, named_before, still_sound, root_same}
 use Rattle.eden_tree.specs.Directory.{Row, Directory, child_of}
 use Rattle.eden_coupling.specs.Listings.{Place, top}
+use Rattle.eden_coupling.specs.NumberKept.{KeepsNumbers}
 use Rattle.eden_coupling.specs.Shown.{shown_in}
 use Rattle.eden_coupling.specs.Ties.{Fits}
-use Rattle.eden_coupling.proofs.CallerLemmas.{Backs, backed_alike, place_cases}
+use Rattle.eden_coupling.proofs.CallerLemmas.{Backs, backed_alike, place_cases, orphans_go}
 use Rattle.eden_inode.specs.Tables.{fresh_root}
-use Rattle.eden_checkout.specs.Opening.{AreNone, files_show}
+use Rattle.eden_checkout.specs.Opening.{AreNone, files_show, FilesKeep}
 use Rattle.eden_checkout.specs.Tidying.{AreTidied, LackOrphans, IsClosed, IsClosedOver, ShowsSame, StaysClosed}
 
 module _ (F : Stored) (over : Id) (G : Stored) (sound : AreSound F) (stay : OthersStay F over G) where
@@ -72,13 +73,25 @@ module _ (F : Stored) (over : Id) (G : Stored) (sound : AreSound F) (stay : Othe
   pub same_shown : ShowsSame F G
   same_shown R root = shows_same R root
 
-  pub stays_closed : StaysClosed F G
-  stays_closed R tree root can = record {
+  -- the state is as it was
+  held_before : (s : State) → HoldsState G s → HoldsState F s
+  held_before s held = ap (option_and_then state_in) (sym (stay 0 (λ orphan. let least = orphan.least in absurd (omega (arith, least))))) ∙ held
+
+  -- .. and over its tree, what files show of numbers
+  numbers_kept : (R : Repository) (root : Id) (next : ℕ) → LackOrphans F G → HoldsState F (record { root = root; next = next }) → FilesKeep R root F next → FilesKeep R root G next
+  numbers_kept R root next lack held keeps =
+      let x = fresh_root (root_from root (root_file F)) in
+      subst (λ (o : Option (List ℕ)). KeepsNumbers R G (fresh_root (root_from root o)) next) (sym (root_same G F (root_stays F over G stay)))
+      (orphans_go R F G root x next (record { number = refl; is_dir = refl; away = refl; from = refl })
+      (lack root (inr (record { root = root; next = next }, (held, refl)))) keeps).keeps
+
+  pub stays_closed : LackOrphans F G → StaysClosed F G
+  stays_closed lack R tree root can = record {
     sound = still_sound F over G stay sound;
     shown = shows_same R root ∙ can.shown;
-    below = λ s held c e live names.
-        can.below s (ap (option_and_then state_in) (sym (stay 0 (λ orphan. let least = orphan.least in absurd (omega (arith, least))))) ∙ held) c e
-        (live_before F over G stay c live) (named_before F over G stay c e live names);
+    below = λ s held c e live names. can.below s (held_before s held) c e (live_before F over G stay c live) (named_before F over G stay c e live names);
+    numbers = λ next held.
+        let before = held_before (record { root = root; next = next }) held in numbers_kept R root next lack before (can.numbers next before);
   }
 
 -- files that are as they were
@@ -148,4 +161,4 @@ module _ (F G : Stored) (sound : AreSound F) (closed : IsClosed F) (lack : LackO
   lacking_shown = let at = closed_over F closed in same_shown F at.0 G sound (lack at.0 at.1).others
 
   pub lacking_closed : StaysClosed F G
-  lacking_closed = let at = closed_over F closed in stays_closed F at.0 G sound (lack at.0 at.1).others
+  lacking_closed = let at = closed_over F closed in stays_closed F at.0 G sound (lack at.0 at.1).others lack

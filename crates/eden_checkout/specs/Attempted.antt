@@ -15,7 +15,8 @@ use Rattle.eden_overlay.specs.declared.files.FilesFault.TheVariants as files
 use Rattle.eden_cache.specs.Cache.{KeepsObject, KeepsSize}
 use Rattle.eden_tree.specs.Directory.{Row}
 use Rattle.eden_tree.specs.Paths.{row_at, edit_row}
-use Rattle.eden_coupling.specs.Unloading.{Unloads, IsSettled}
+use Rattle.eden_coupling.specs.NumberUnloads.{UnloadsAway}
+use Rattle.eden_coupling.specs.Unloading.{IsSettled}
 use Rattle.eden_inode.specs.Tables.{shows}
 use Rattle.eden_mount.specs.Tables.{Table}
 use Rattle.eden_ops.specs.Attempts.{IsRealNeed, Attempts}
@@ -52,7 +53,7 @@ module _ {W F : Type 0} (w : Ghosts W) (f : Files F W) where
   pub record IsUnloaded (s : Checkout F) (p : Path) (age gone : ℕ) (t : Checkout F) : Type 0 where
     pub count : ℕ
     pub counted : gone ≡ min count (2 ^ 64 - 1)
-    pub unloads : Unloads w.honest s.inodes.clock age (f.stored s.inodes.files) s.inodes.root (f.stored t.inodes.files) t.inodes.root count
+    pub unloads : UnloadsAway w.honest s.inodes.clock age (f.stored s.inodes.files) s.inodes.root (f.stored t.inodes.files) t.inodes.root count
     pub refused : Option FilesFault
     pub settled : (y : Row) → row_at p t.inodes.root ≡ Some y → IsSettled s.inodes.clock age refused y
     pub failures : Counted (refused ≡ Some files.Device) (f.failures s.inodes.files) (f.failures t.inodes.files)

@@ -21,6 +21,9 @@ use Rattle.eden_overlay.specs.declared.rescan.RescanFault.TheVariants as rescan
 use Rattle.eden_overlay.specs.Counting.{root_from, NumbersAreSound}
 use Rattle.eden_overlay.specs.Rescanning.{IsNextOf, Accuses, CanRescan}
 use Rattle.eden_overlay.specs.Soundness.{IsLive, Names, AreSound}
+use Rattle.eden_coupling.specs.NumberKept.{KeepsNumbers}
+use Rattle.eden_coupling.specs.NumberNodes.{ListTrees}
+use Rattle.eden_coupling.specs.Numberings.{in_files}
 use Rattle.eden_coupling.specs.Shown.{shown_in}
 use Rattle.eden_inode.specs.Tables.{fresh_root}
 use Rattle.eden_checkout.specs.declared.fault.OpenFault.{OpenFault}
@@ -29,23 +32,32 @@ use Rattle.eden_checkout.specs.declared.opening.Opening.{Opening}
 use Rattle.eden_checkout.specs.declared.opening.Opening.TheVariants as opening
 use Rattle.eden_checkout.specs.declared.opening.Start.{Start}
 
--- ---- the tree that files show
+-- ---- what files show
 
 -- the tree that files show above a commit's, file 0 passed over
 abbrev pub files_show : Repository → Id → Stored → Tree
 files_show R root F = shown_in R (without F 0) (fresh_root (root_from root (root_file F)))
 
+-- what the files keep of inode numbers above it, with that next one
+abbrev pub FilesKeep : Repository → Id → Stored → ℕ → Type 0
+FilesKeep R root F next = KeepsNumbers R F (fresh_root (root_from root (root_file F))) next
+
+-- what is saved of numbers lists the entries of the commit's trees
+abbrev pub ListFiles : Repository → Id → Stored → Type 0
+ListFiles R root F = ListTrees R (in_files F) (fresh_root (root_from root (root_file F)))
+
 -- What is known of the files where the outside is honest: no name dangles, they show the opening tree, and where they were
--- closed each number that is named is below the next one.
+-- closed each number that is named is below the next one, and none is shown twice.
 pub record CanOpen (R : Repository) (opening : Tree) (root : Id) (F : Stored) : Type 0 where
   pub sound : AreSound F
   pub shown : files_show R root F ≡ opening
   pub below : (s : State) → HoldsState F s → (c : ℕ) (e : StoredEntry) → IsLive F c → Names F c e → e.number < s.next
+  pub numbers : (next : ℕ) → HoldsState F (record { root = root; next = next }) → FilesKeep R root F next
 
 -- a rescan finds itself whether they are sound
 abbrev pub MayOpen : Opening → Repository → Tree → Id → Stored → Type 0
 MayOpen opening.Closed R tree root F = CanOpen R tree root F
-MayOpen opening.Rescan R tree root F = files_show R root F ≡ tree
+MayOpen opening.Rescan R tree root F = (files_show R root F ≡ tree) × ListFiles R root F
 
 -- ---- what is opened
 

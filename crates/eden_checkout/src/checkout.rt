@@ -7,7 +7,8 @@ ghost use Rattle.eden_overlay.specs.Held.{HoldsState, without};
 ghost use Rattle.eden_overlay.specs.Counting.{NumbersAreSound};
 ghost use Rattle.eden_overlay.specs.Rescanning.{IsNextOf};
 ghost use Rattle.eden_overlay.specs.Soundness.{AreSound};
-ghost use Rattle.eden_checkout.specs.Opening.{CanOpen, MayOpen, StartsAt, Finds, files_show, IsOpenFault, IsRescanRefusal, IsRefusal};
+ghost use Rattle.eden_checkout.specs.Opening.{CanOpen, MayOpen, StartsAt, Finds, files_show, ListFiles};
+ghost use Rattle.eden_checkout.specs.Opening.{IsOpenFault, IsRescanRefusal, IsRefusal};
 
 use crate::closing::{as_files, store_state};
 use crate::fault::OpenFault;
@@ -88,6 +89,7 @@ impl<A: Allocator + Clone, W: World, F: Files<W>> Checkout<A, W, F> {
         cache: ObjectCache<A>,
     ) -> Result<Self, (OpenFault, F)>
         requires files { W.honest → files_show W.repository root (F.stored files) ≡ W.opening }
+        requires trees { W.honest → ListFiles W.repository root (F.stored files) }
         requires cache { (cache.objects ≡ []) × (cache.sizes ≡ []) }
         ensures sound { W.honest → OnOk result (AreSound (F.stored files)) }
         ensures shown { W.honest → IfOk result (λ c. shows W.World F.Files c.inodes ≡ W.opening) }

@@ -3,8 +3,14 @@ use Rattle.eden_overlay_format.specs.declared.state.State.{State}
 use Rattle.eden_overlay_format.specs.State.{IsGoodState}
 use Rattle.eden_overlay.specs.Files.{Stored}
 use Rattle.eden_overlay.specs.Held.{HoldsState, with_state}
-use Rattle.eden_checkout.proofs.Closed.{on_done, holds_state, stored_alike}
+use Rattle.eden_checkout.proofs.Closed.{on_done, holds_state, stored_alike, state_kept}
 use Rattle.eden_checkout.proofs.closing.store_state.Goals as goal
+
+pub change-requires-clause-numbers : goal.change-requires-clause-numbers
+change-requires-clause-numbers g c h files root answer does =
+    let t = c.args.inodes.now in
+    let state : State = record { root = c.args.root; next = c.next_number.result } in
+    state_kept g.W.World.repository (g.F.Files.stored t.files) (g.F.Files.stored files) t.root root t.next state answer (c.holds.ensures.numbers h) does.root (does.ok h) (does.err h)
 
 pub returns-clause-held : goal.returns-clause-held
 returns-clause-held g c h =

@@ -118,7 +118,7 @@ returns-clause-fault g c =
     let device : c.in-Err-remove_orphans.fault ≡ files.Device = c.in-Err-remove_orphans.ensures.fault in
     let failed : c.remove_orphans.result ≡ Err files.Device = c.in-Err-remove_orphans.is ∙ ap Err device in
     let lack : g.W.World.honest → LackOrphans F G = λ h.
-        let same : g.F.Files.stored c.bytes_in.new.self ≡ F = c.bytes_in.ensures.unchanged h ∙ c.closed_orphans.ensures.unchanged h in
-        let lists : ListsEach c.deref-2.result.now F = subst (λ (l : List ℕ). ListsEach l F) (sym c.deref-2.ensures.value) (c.in_ok-orphans.ensures.all h) in
-        lacks F (g.F.Files.stored c.bytes_in.new.self) G c.deref-2.result.now same lists (c.remove_orphans.ensures.others h) in
+    let same : g.F.Files.stored c.bytes_in.new.self ≡ F = c.bytes_in.ensures.unchanged h ∙ c.closed_orphans.ensures.unchanged h in
+    let lists : ListsEach c.deref-2.result.now F = subst (λ (l : List ℕ). ListsEach l F) (sym c.deref-2.ensures.value) (c.in_ok-orphans.ensures.all h) in
+    lacks F (g.F.Files.stored c.bytes_in.new.self) G c.deref-2.result.now same lists (c.remove_orphans.ensures.others h) in
     (device, risen old mid (g.F.Files.failures c.remove_orphans.new.self) up (c.remove_orphans.ensures.counted.rose failed), lack)

@@ -42,7 +42,7 @@ returns-clause-opens g c h =
     let held : HoldsState F (record { root = root; next = t.next }) = subst (λ n. HoldsState F (record { root = root; next = n })) (sym c.store_state.ensures.rest.0)
     (c.in_default-store_state.ensures.held h) in
     let opens : CanOpen g.W.World.repository (shown_in g.W.World.repository F x) root F =
-    can_open g.W.World.repository F x t.next root c.holds.ensures.table (c.holds.ensures.kept h) none of c.tie_laws.ensures.sound c.tie_laws.ensures.numbers_below held in
+    can_open g.W.World.repository F x t.next root c.holds.ensures.table (c.holds.ensures.kept h) none of c.tie_laws.ensures.sound c.tie_laws.ensures.numbers_below (c.holds.ensures.numbers h) held in
     let same : shown_in g.W.World.repository F x ≡ shows g.W.World g.F.Files c.args.self.inodes =
     c.store_state.ensures.same h ∙ c.let_go.ensures.same h ∙ ap (λ (s : Checkout _). shows g.W.World g.F.Files s.inodes) c.self.view_is in
     let now : F ≡ g.F.Files.stored c.into_files.result = ap g.F.Files.stored (sym (c.into_files.ensures ∙ c.into_overlay.ensures)) in

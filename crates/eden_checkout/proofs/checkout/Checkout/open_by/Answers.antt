@@ -14,8 +14,8 @@ new-requires-in-Ok-clause-starts g c h =
     let given = ap g.F.Files.stored (c.keeping-overlay.ensures ∙ c.new.ensures) in
     let starts : Starts c.args.opening c.args.root (g.F.Files.stored c.args.files) c.in-Ok.field-0 = subst (λ (F : Stored). Starts c.args.opening c.args.root F c.in-Ok.field-0) given
     (c.in-Ok.ensures.ok h) in
-    subst (λ (F : Stored). CanStart F c.in-Ok.field-0.origin c.in-Ok.field-0.next) (sym (c.in-Ok.ensures.stored h ∙ ap (λ (F : Stored). without F 0) given))
-    (can_start g.W.World.repository g.W.World.opening c.args.root (g.F.Files.stored c.args.files) c.args.opening (c.requires.files h) c.in-Ok.field-0 starts)
+    subst (λ (F : Stored). CanStart g.W.World.repository F c.in-Ok.field-0.origin c.in-Ok.field-0.next) (sym (c.in-Ok.ensures.stored h ∙ ap (λ (F : Stored). without F 0) given))
+    (can_start g.W.World.repository g.W.World.opening c.args.root (g.F.Files.stored c.args.files) c.args.opening (c.requires.files h) c.in-Ok.field-0 starts c.in-Ok.ensures.most)
 
 pub returns-in-Ok-clause-shown : goal.returns-in-Ok-clause-shown
 returns-in-Ok-clause-shown g c h =
