@@ -99,8 +99,8 @@ fn read_again(alloc: Global, body: &[u8], rounds: u32) -> usize {
     found
 }
 
-/// Loads the directory of a tree object as a mount does: with the numbers saved for it, or from those entries. False where
-/// memory is refused, or the files fail.
+/// Loads the directory of a tree object as a mount does: with the numbers saved for it, or from those entries. False
+/// where memory is refused, or the files fail.
 fn load_either<F: Files<Outside>>(
     alloc: Global,
     table: &mut Table<F>,
