@@ -109,15 +109,16 @@ const TURNED_AND_WRITTEN: Row = Row {
     files: &[(1, 87), (2, 77)],
 };
 
-/// A file of the commit that is plain already, in the root and deeper: over a device that fails it is made plain, and
-/// nothing else, and no file is left.
+/// A file of the commit that is plain already, in the root and deeper: once its directory is loaded it is made plain over
+/// a device that fails, and nothing else, and no file is left.
 const PLAIN_ALREADY: Row = Row {
     root: TWO_FILES,
     objects: 8,
     steps: &[
-        Step::Pass(0),
         Step::Need(BAK_TEST, Ask::SetExec(false), TWO_FILES),
         Step::Need(BAK_TEST, Ask::SetExec(false), ONE_FILE),
+        Step::Ask(BAK_TEST, Ask::Kind, Want::Kind(Kind::File)),
+        Step::Pass(0),
         Step::Ask(BAK_TEST, Ask::SetExec(false), Want::Ok),
         Step::Ask(BAK_TEST, Ask::SetExec(true), Want::Fault(Fault::Overlay)),
         Step::Ask(BAK_TEST, Ask::SetExec(false), Want::Ok),
@@ -197,6 +198,7 @@ const FAILED: Row = Row {
     objects: 8,
     steps: &[
         Step::Need(TEST, Ask::Truncate(0), ONE_FILE),
+        Step::Ask(TEST, Ask::Kind, Want::Kind(Kind::File)),
         Step::Pass(0),
         Step::Ask(TEST, Ask::Truncate(0), Want::Fault(Fault::Overlay)),
         Step::Ask(TEST, Ask::SetExec(true), Want::Fault(Fault::Overlay)),
@@ -209,6 +211,23 @@ const FAILED: Row = Row {
         Step::Ask(TEST, Ask::Stat, Want::Stat(Kind::File, 0)),
     ],
     files: &[(1, 87), (2, 64)],
+};
+
+/// Whether numbers are saved for a directory of the commit can't be told by a device that fails: it isn't loaded then,
+/// though its object is there, and is once it can be told.
+const UNTOLD: Row = Row {
+    root: ONE_FILE,
+    objects: 8,
+    steps: &[
+        Step::Pass(0),
+        Step::Ask(TEST, Ask::Kind, Want::Fault(Fault::Overlay)),
+        Step::Pass(1),
+        Step::Need(TEST, Ask::Kind, ONE_FILE),
+        Step::Ask(TEST, Ask::Kind, Want::Fault(Fault::Overlay)),
+        Step::Pass(1),
+        Step::Ask(TEST, Ask::Kind, Want::Kind(Kind::File)),
+    ],
+    files: &[],
 };
 
 const ROWS: &[Row] = &[
@@ -224,6 +243,7 @@ const ROWS: &[Row] = &[
     COMES,
     GOES,
     FAILED,
+    UNTOLD,
 ];
 
 #[test]

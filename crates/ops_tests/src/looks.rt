@@ -7,7 +7,7 @@ use eden_inode::Trail;
 use eden_model::{Errno, Kind, Path};
 use eden_ops::{Walked, reach};
 use test_samples::{
-    ALL_KINDS, EMPTY_TREE, NEW_FILE, ONE_FILE, ONE_MODULE, TARGET, TWO_FILES, VERSION_1,
+    ALL_KINDS, EMPTY_TREE, NEW_FILE, ONE_FILE, ONE_MODULE, TARGET, TWO_FILES, VERSION_1, VERSION_2,
 };
 
 const BAK: Names = &[b"bak"];
@@ -64,17 +64,32 @@ const READ: Row = Row {
     files: &[],
 };
 
-/// A cache of one object loses the tree for the blob: once the root is unloaded both are needed again.
-const LOST: Row = Row {
+/// A cache of one object loses the tree for the blob. Once the root is unloaded the tree isn't needed again: the numbers
+/// of its entries were saved, and with them it is loaded.
+const SAVED: Row = Row {
     root: ONE_FILE,
     objects: 1,
     steps: &[
         Step::Need(TEST, Ask::Read(0, 10), ONE_FILE),
         Step::Need(TEST, Ask::Read(0, 10), VERSION_1),
         Step::Unload(1),
-        Step::Need(TEST, Ask::Read(0, 10), ONE_FILE),
-        Step::Need(TEST, Ask::Read(0, 10), VERSION_1),
         Step::Ask(TEST, Ask::Read(0, 10), Want::Data(b"version 1\n")),
+        Step::Unload(1),
+        Step::Ask(TEST, Ask::Kind, Want::Kind(Kind::File)),
+    ],
+    files: &[(1, 127)],
+};
+
+/// It loses one blob for the other, which is needed again.
+const LOST: Row = Row {
+    root: TWO_FILES,
+    objects: 1,
+    steps: &[
+        Step::Need(NEW, Ask::Read(0, 3), TWO_FILES),
+        Step::Need(NEW, Ask::Read(0, 3), NEW_FILE),
+        Step::Need(TEST, Ask::Read(0, 9), VERSION_2),
+        Step::Need(NEW, Ask::Read(0, 3), NEW_FILE),
+        Step::Ask(NEW, Ask::Read(0, 3), Want::Data(b"new")),
     ],
     files: &[],
 };
@@ -146,7 +161,7 @@ const MODULE: Row = Row {
     files: &[(1, 82), (2, 80), (3, 64)],
 };
 
-const ROWS: &[Row] = &[TOLD, MEASURED, READ, LOST, LINKED, LISTED, EMPTY, MODULE];
+const ROWS: &[Row] = &[TOLD, MEASURED, READ, SAVED, LOST, LINKED, LISTED, EMPTY, MODULE];
 
 #[test]
 fn looks_need_objects_and_are_answered(rt: HostRuntime) {
