@@ -1,5 +1,8 @@
 // The table of inodes: directories that are loaded, beside the reading of their entries, and unloaded; looks along paths.
 ghost use Rattle.std.specs.Prelude.{IfOk};
+ghost use Rattle.eden_coupling.specs.Loading.{IsAt};
+ghost use Rattle.eden_model.specs.declared.id.Id as id;
+ghost use Rattle.eden_model.specs.declared.kind.Origin.TheVariants as origin;
 ghost use Rattle.eden_object.specs.Trees.{NamesDiffer};
 
 use crate::bench::{Bench, Part};
@@ -96,6 +99,29 @@ fn read_again(alloc: Global, body: &[u8], rounds: u32) -> usize {
     found
 }
 
+/// Loads the directory of a tree object as a mount does: with the numbers saved for it, or from those entries. False
+/// where memory is refused, or the files fail.
+fn load_either<F: Files<Outside>>(
+    alloc: Global,
+    table: &mut Table<F>,
+    path: &[Name],
+    entries: &[TreeEntry],
+) -> bool
+    requires at { (i : id.Id) × IsAt path.now table.old.root (origin.Object i) }
+    requires differ { NamesDiffer entries.now }
+{
+    let saved = match table.numbered(alloc, path) {
+        Ok(saved) => saved,
+        Err(_) => return false,
+    };
+    let loaded = if saved {
+        table.load(alloc, path, None)
+    } else {
+        table.load(alloc, path, Some(entries))
+    };
+    loaded.is_ok()
+}
+
 /// Loads the directory at a path from those entries. False where none is there that a tree object has, or where memory
 /// is refused.
 fn load<F: Files<Outside>>(
@@ -108,7 +134,7 @@ fn load<F: Files<Outside>>(
 {
     match table.missing(path) {
         None => false,
-        Some(_) => table.load(alloc, path, Some(entries)).is_ok(),
+        Some(_) => load_either(alloc, table, path, entries),
     }
 }
 

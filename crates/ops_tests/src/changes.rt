@@ -109,8 +109,8 @@ const TURNED_AND_WRITTEN: Row = Row {
     files: &[(1, 87), (2, 77)],
 };
 
-/// A file of the commit that is plain already, in the root and deeper: once its directory is loaded it is made plain over
-/// a device that fails, and nothing else, and no file is left.
+/// A file of the commit that is plain already, in the root and deeper: once its directory is loaded it is made plain
+/// over a device that fails, and nothing else, and no file is left.
 const PLAIN_ALREADY: Row = Row {
     root: TWO_FILES,
     objects: 8,

@@ -64,8 +64,8 @@ const READ: Row = Row {
     files: &[],
 };
 
-/// A cache of one object loses the tree for the blob. Once the root is unloaded the tree isn't needed again: the numbers
-/// of its entries were saved, and with them it is loaded.
+/// A cache of one object loses the tree for the blob. Once the root is unloaded the tree isn't needed again: the
+/// numbers of its entries were saved, and with them it is loaded.
 const SAVED: Row = Row {
     root: ONE_FILE,
     objects: 1,
@@ -161,7 +161,9 @@ const MODULE: Row = Row {
     files: &[(1, 82), (2, 80), (3, 64)],
 };
 
-const ROWS: &[Row] = &[TOLD, MEASURED, READ, SAVED, LOST, LINKED, LISTED, EMPTY, MODULE];
+const ROWS: &[Row] = &[
+    TOLD, MEASURED, READ, SAVED, LOST, LINKED, LISTED, EMPTY, MODULE,
+];
 
 #[test]
 fn looks_need_objects_and_are_answered(rt: HostRuntime) {

@@ -185,9 +185,9 @@ const STOPPED: Row = Row {
 };
 
 /// A loaded directory of the commit stays loaded, of which no object is needed again. Its numbers are saved, once it is
-/// read that they aren't yet, and then a move is two stores: that of the directory that loses the entry, and that of the
-/// one that gains it. Before them the one that an earlier fault left unsaved is stored, and it is read that the numbers
-/// are saved.
+/// read that they aren't yet, and then a move is two stores: that of the directory that loses the entry, and that of
+/// the one that gains it. Before them the one that an earlier fault left unsaved is stored, and it is read that the
+/// numbers are saved.
 const KEPT_LOADED: Row = Row {
     root: TWO_FILES,
     objects: 1,
