@@ -20,6 +20,8 @@ NUMBERED = re.compile("0|[1-9][0-9]*")
 HEADER = 64
 FILE_HEADS = b"OVFL\0\0\0\1", b"OVFL\0\0\0\2"
 DIRECTORY_HEADS = b"OVDR\0\0\0\1", b"OVDR\0\0\0\2"
+# A file of numbers, which tells of no change.
+NUMBERS = b"OVDN"
 STATE, ROOT = "0", 1
 ENTRY = struct.Struct(">BBQ")
 ID = 20
@@ -79,7 +81,7 @@ class OverlayFolder:
 
         A folder is stored too when something in it is changed first; the rows don't tell that from a change of its own.
         """
-        if when := self.stored(ROOT):
+        if (when := self.stored(ROOT)) and not self.file(ROOT).startswith(NUMBERS):
             yield b"/", when
         folders = [(b"/", ROOT)]
         while folders:

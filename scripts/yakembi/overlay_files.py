@@ -83,6 +83,10 @@ def directory_body(*entries: bytes) -> bytes:
     return len(entries).to_bytes(4, "big") + b"".join(entries)
 
 
+def numbers_body(tree_id: str, *entries: bytes) -> bytes:
+    return bytes.fromhex(tree_id) + directory_body(*entries)
+
+
 def state_body(root: str, following: int) -> bytes:
     return bytes.fromhex(root) + following.to_bytes(8, "big")
 
@@ -185,18 +189,20 @@ def is_unclean(files: Mapping[int, bytes]) -> bool:
 
 
 class Shown:
-    """What an overlay's files show over a commit: `nodes`, and `numbers`, those of entries in its files that count."""
+    """What an overlay's files show over a commit: `nodes`, and the numbers of entries in its files that count, as
+    `numbers` and by their paths as `places`."""
 
     def __init__(self, commit: CommitTree, files: Mapping[int, bytes]) -> None:
         self.commit = commit
         self.files = files
         self.nodes: Nodes = {(): ("dir", True)}
         self.numbers: set[int] = set()
+        self.places: dict[Path, int] = {}
         if 1 in files and not has_numbers(files[1]):
             self.directory((), 1)
         else:
             self.nodes.update(commit.below(commit.root))
-            self.saved(1, commit.root)
+            self.saved((), 1, commit.root)
 
     @property
     def next_number(self) -> int:
@@ -209,22 +215,23 @@ class Shown:
 
     def directory(self, path: Path, number: int) -> None:
         for entry in entries_of(self.file(number)):
-            self.named(entry.number)
+            self.named(path + (entry.name,), entry.number)
             self.entry(path + (entry.name,), entry)
 
-    def named(self, number: int) -> None:
+    def named(self, path: Path, number: int) -> None:
         sound(number not in self.numbers, "a number at two places", number)
         self.numbers.add(number)
+        self.places[path] = number
 
-    def saved(self, number: int, tree_id: str) -> None:
+    def saved(self, path: Path, number: int, tree_id: str) -> None:
         """The numbers saved for a directory on that tree object, and for those in it; another object's don't count."""
         if not has_numbers(self.files.get(number, b"")):
             return
         of, entries = numbers_of(self.files[number])
         for entry in entries if of == tree_id else []:
-            self.named(entry.number)
+            self.named(path + (entry.name,), entry.number)
             if entry.kind == FOLDER and entry.origin == OBJECT:
-                self.saved(entry.number, entry.object_id)
+                self.saved(path + (entry.name,), entry.number, entry.object_id)
 
     def entry(self, path: Path, entry: Entry) -> None:
         if entry.kind != FOLDER:
@@ -235,7 +242,7 @@ class Shown:
             self.directory(path, entry.number)
         elif entry.origin == OBJECT:
             self.nodes.update({path + below: node for below, node in self.commit.below(entry.object_id).items()})
-            self.saved(entry.number, entry.object_id)
+            self.saved(path, entry.number, entry.object_id)
 
     def leaf(self, entry: Entry) -> Node:
         own = entry.origin == OWN

@@ -204,20 +204,35 @@ fn unload_all<A: Allocator + Clone>(rt: &impl Abort, mount: &mut Mount<A>) {
     assert!(rt; !mount.table.look(&[]).loaded);
 }
 
+/// Whether all is shown as it must be. Then the number of each node is noted, which it must keep.
+fn shows_and_notes<A: Allocator + Clone>(
+    rt: &impl Abort,
+    mount: &mut Mount<A>,
+    tree: &mut Tree,
+) -> bool {
+    let shows = mount.shows_all(rt, tree);
+    let numbers = mount.numbers(rt, tree);
+    tree.note(&numbers);
+    shows
+}
+
 /// The files under a new table, which shows what they say. An entry that failed to move is stored again before, by its
-/// directory that is unsaved.
+/// directory that is unsaved: then all directories go, so that all numbers are saved. Else those are lost of entries in
+/// loaded directories of objects.
 fn reopen<A: Allocator + Clone>(
     rt: &impl Abort,
     mount: Mount<A>,
-    tree: &Tree,
+    tree: &mut Tree,
     dirs: &A,
 ) -> Mount<A> {
     let mut mount = mount;
     if mount.has_unsaved(rt, tree) {
         unload_all(rt, &mut mount);
+    } else if mount.table.look(&[]).loaded {
+        tree.forget_numbers();
     }
     let mut again = mount.open_again(rt, dirs.clone().expect(rt, "a heap"));
-    assert!(rt; again.shows_all(rt, tree));
+    assert!(rt; shows_and_notes(rt, &mut again, tree));
     again
 }
 
@@ -290,6 +305,7 @@ fn run<A: Allocator + Clone>(
 ) {
     let mut mount = mount;
     let mut tree = tree;
+    assert!(rt; shows_and_notes(rt, &mut mount, &mut tree));
     for count in 0..steps {
         mount = step(rt, mount, &mut tree, dirs, seed, &mut tally.changed);
         if count % BETWEEN == 0 {
@@ -297,7 +313,7 @@ fn run<A: Allocator + Clone>(
         }
     }
     unload_all(rt, &mut mount);
-    let mount = reopen(rt, mount, &tree, dirs);
+    let mount = reopen(rt, mount, &mut tree, dirs);
     tally.failures = tally.failures.saturating_add(mount.failures);
 }
 

@@ -1,6 +1,9 @@
 //! The calls of a table over files in memory, and over files that fail: rows of the sample commit's trees.
 ghost use Rattle.std.specs.Prelude.{◌≤◌};
+ghost use Rattle.eden_model.specs.declared.id.Id as id;
+ghost use Rattle.eden_model.specs.declared.kind.Origin.TheVariants as origin;
 ghost use Rattle.eden_model.specs.Limits.{number_least, number_end};
+ghost use Rattle.eden_coupling.specs.Loading.{IsAt};
 ghost use Rattle.eden_object.specs.Trees.{NamesDiffer};
 ghost use Rattle.eden_overlay_format.specs.Directory.{AreStorable};
 
@@ -10,7 +13,7 @@ use eden_model::{Fault, Key, Kind, Name, ObjKind, Origin, Outside, TreeEntry};
 use eden_object::Object;
 use eden_overlay::{FailingFiles, Files, MemoryFiles, Overlay};
 use eden_overlay_format::StoredEntry;
-use std::alloc::Global;
+use std::alloc::{Allocator, Global};
 use std::process::Abort;
 use test_samples::{NEW_FILE, ONE_FILE, Sample, TWO_FILES, VERSION_1, VERSION_2};
 
@@ -37,6 +40,8 @@ const END: u64 = 1 << 63;
 enum Step {
     /// A directory is loaded from a tree object: then this number is the next one.
     Load(Names, Sample, u64),
+    /// .. or with the numbers that were saved for it.
+    LoadSaved(Names, Sample, u64),
     /// At the path stands this kind of entry, with this number and that object.
     Look(Names, u64, Kind, Sample),
     Tick,
@@ -52,10 +57,12 @@ const NUMBERED: &[Step] = &[
     Step::Load(BAK, ONE_FILE, 6),
     Step::Look(BAK_TEST, 5, Kind::File, VERSION_1),
     Step::Unload(ROOT, 0, 2),
-    Step::Load(ROOT, TWO_FILES, 9),
-    Step::Look(BAK, 6, Kind::Dir, ONE_FILE),
-    Step::Look(NEW, 7, Kind::File, NEW_FILE),
-    Step::Look(TEST, 8, Kind::File, VERSION_2),
+    Step::LoadSaved(ROOT, TWO_FILES, 6),
+    Step::Look(BAK, 2, Kind::Dir, ONE_FILE),
+    Step::Look(NEW, 3, Kind::File, NEW_FILE),
+    Step::Look(TEST, 4, Kind::File, VERSION_2),
+    Step::LoadSaved(BAK, ONE_FILE, 6),
+    Step::Look(BAK_TEST, 5, Kind::File, VERSION_1),
 ];
 
 const AGED: &[Step] = &[
@@ -93,7 +100,49 @@ pub(crate) fn table(alloc: Global, tree: Sample, next: u64) -> Table
     Inodes::new(alloc, overlay, Origin::Object(tree.id), next)
 }
 
-/// Loads the directory at a path from the entries of that tree, which is its own.
+/// Loads the directory of a tree object: with the numbers that are saved for it, or from these entries. Whether there
+/// are any saved.
+pub(crate) fn load_either<A: Allocator + Clone, F: Files<Outside>>(
+    alloc: Global,
+    table: &mut Inodes<A, Outside, F>,
+    path: &[Name],
+    entries: &[TreeEntry],
+) -> Result<bool, Fault>
+    requires at { (i : id.Id) × IsAt path.now table.old.root (origin.Object i) }
+    requires differ { NamesDiffer entries.now }
+{
+    let saved = match table.numbered(alloc, path) {
+        Ok(saved) => saved,
+        Err(fault) => return Err(fault),
+    };
+    let loaded = if saved {
+        table.load(alloc, path, None)
+    } else {
+        table.load(alloc, path, Some(entries))
+    };
+    match loaded {
+        Ok(()) => Ok(saved),
+        Err(fault) => Err(fault),
+    }
+}
+
+/// Loads the directory at a path, which is of that tree. Whether numbers were saved for it.
+pub(crate) fn load_tree(
+    rt: &impl Abort,
+    alloc: Global,
+    table: &mut Table,
+    path: &[Name],
+    tree: Sample,
+) -> Result<bool, Fault> {
+    let entries = entries(rt, alloc, tree);
+    let key = table
+        .missing(path)
+        .expect(rt, "a directory that isn't loaded");
+    assert!(rt; key.id == tree.id);
+    load_either(alloc, table, path, &entries)
+}
+
+/// .. None were.
 pub(crate) fn load(
     rt: &impl Abort,
     alloc: Global,
@@ -101,12 +150,13 @@ pub(crate) fn load(
     path: &[Name],
     tree: Sample,
 ) -> Result<(), Fault> {
-    let entries = entries(rt, alloc, tree);
-    let key = table
-        .missing(path)
-        .expect(rt, "a directory that isn't loaded");
-    assert!(rt; key.id == tree.id);
-    table.load(alloc, path, Some(&entries))
+    match load_tree(rt, alloc, table, path, tree) {
+        Ok(saved) => {
+            assert!(rt; !saved);
+            Ok(())
+        }
+        Err(fault) => Err(fault),
+    }
 }
 
 /// Whether this stands at a path: an entry of that kind, with that number, whose contents come from there.
@@ -121,16 +171,17 @@ pub(crate) fn shows<F: Files<Outside>>(
     seen.names == path.len() && seen.number == number && seen.kind == kind && seen.origin == origin
 }
 
-/// Whether a directory could be loaded, and what number is the next one then.
+/// Whether a directory could be loaded, with numbers saved or without, and what number is the next one then.
 fn loads(
     rt: &impl Abort,
     alloc: Global,
     table: &mut Table,
     path: &[Name],
     tree: Sample,
+    saved: bool,
     next: u64,
 ) -> bool {
-    load(rt, alloc, table, path, tree).is_ok() && table.next_number() == next
+    load_tree(rt, alloc, table, path, tree) == Ok(saved) && table.next_number() == next
 }
 
 /// Takes a step: whether it answers so.
@@ -138,7 +189,11 @@ fn take(rt: &impl Abort, alloc: Global, table: &mut Table, step: Step) -> bool {
     match step {
         Step::Load(path, tree, next) => {
             let path = names(rt, alloc, path);
-            loads(rt, alloc, table, &path, tree, next)
+            loads(rt, alloc, table, &path, tree, false, next)
+        }
+        Step::LoadSaved(path, tree, next) => {
+            let path = names(rt, alloc, path);
+            loads(rt, alloc, table, &path, tree, true, next)
         }
         Step::Look(path, number, kind, object) => {
             let path = names(rt, alloc, path);
@@ -186,7 +241,7 @@ fn numbers_run_out(rt: HostRuntime) {
 
 /// Whether there are numbers for the one file of the commit and one entry more.
 fn gives_one(rt: &impl Abort, alloc: Global, table: &mut Table) -> bool {
-    loads(rt, alloc, table, &[], ONE_FILE, END - 1)
+    loads(rt, alloc, table, &[], ONE_FILE, false, END - 1)
         && table.give_number() == Some(END - 1)
         && table.give_number().is_none()
 }

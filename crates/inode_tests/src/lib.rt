@@ -16,6 +16,8 @@ mod names;
 #[cfg(test)]
 mod own;
 #[cfg(test)]
+mod saved;
+#[cfg(test)]
 mod stops;
 #[cfg(test)]
 mod trails;

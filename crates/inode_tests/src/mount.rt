@@ -6,7 +6,7 @@ ghost use Rattle.eden_model.specs.Limits.{number_least, number_end};
 ghost use Rattle.eden_coupling.specs.Loading.{IsAt};
 
 use crate::calls::{Move, own, remove, rename, turn_into};
-use crate::inodes::entries;
+use crate::inodes::{entries, load_either};
 use crate::listing::{Own, Question, ask, has_content, put, store, take};
 use crate::names::name;
 use crate::tree::{Node, Tree};
@@ -95,13 +95,14 @@ struct Lists<'a> {
     want: &'a [Wanted],
 }
 
-/// Whether an entry is that node. A directory of an object may have become the mount's own.
+/// Whether an entry is that node, with its number where that is noted. A directory of an object may have become the
+/// mount's own.
 fn is_node<A: Allocator>(entry: &Entry<A>, node: Node) -> bool {
-    if entry.kind != node.kind {
+    if entry.kind != node.kind || (node.number != 0 && entry.number != node.number) {
         return false;
     }
     match node.origin {
-        Origin::Own => entry.origin == Origin::Own && entry.number == node.number,
+        Origin::Own => entry.origin == Origin::Own,
         _ => entry.origin == node.origin || node.kind == Kind::Dir,
     }
 }
@@ -228,12 +229,12 @@ impl<A: Allocator + Clone> Mount<A> {
         }
     }
 
-    /// Loads the directory of an object from the commit's tree.
+    /// Loads the directory of an object, with the numbers saved for it or from the commit's tree.
     fn load_object(&mut self, rt: &impl Abort, path: &[Name], id: Id) -> bool
         requires { IsAt path.now self.old.table.root (origin.Object id) }
     {
         let entries = entries(rt, self.alloc, tree_of(id));
-        self.table.load(self.alloc, path, Some(&entries)).is_ok()
+        load_either(self.alloc, &mut self.table, path, &entries).is_ok()
     }
 
     /// Whether the directory at a path shows what it must.
@@ -270,6 +271,22 @@ impl<A: Allocator + Clone> Mount<A> {
             }
         }
         true
+    }
+
+    /// The number of what stands at a path, which is loaded.
+    fn number(&mut self, rt: &impl Abort, path: &[u8]) -> u64 {
+        let path = names(rt, self.alloc, path);
+        self.table.look(&path).number
+    }
+
+    /// The number of each node, all of which are shown.
+    pub(crate) fn numbers(&mut self, rt: &impl Abort, tree: &Tree) -> Vec<u64> {
+        let mut numbers = Vec::new(self.alloc);
+        for row in tree.rows() {
+            let number = self.number(rt, &row.path);
+            numbers.push(number).expect(rt, "memory");
+        }
+        numbers
     }
 
     /// Whether the directory at a path is loaded and marked unsaved.

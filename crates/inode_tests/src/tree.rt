@@ -4,7 +4,8 @@ use eden_model::{Kind, Origin};
 use std::alloc::Global;
 use std::process::Abort;
 
-/// A directory, a file or a link, and where its contents come from; of an own one its number, and a file's content.
+/// A directory, a file or a link, and where its contents come from; the content of an own file. Its number is 0 if that
+/// of one of an object isn't noted.
 #[derive(Clone, Copy)]
 pub(crate) struct Node {
     pub(crate) kind: Kind,
@@ -66,6 +67,26 @@ impl Tree {
         match self.get(path) {
             None => false,
             Some(node) => node.kind == Kind::Dir,
+        }
+    }
+
+    /// Notes the number of each node, in their order.
+    pub(crate) fn note(&mut self, numbers: &[u64]) {
+        for (i, number) in numbers.iter().enumerate() {
+            if let Some(row) = self.rows.get_mut(i) {
+                row.node.number = *number;
+            }
+        }
+    }
+
+    /// Forgets the numbers of nodes of objects.
+    pub(crate) fn forget_numbers(&mut self) {
+        for i in 0..self.rows.len() {
+            if let Some(row) = self.rows.get_mut(i) {
+                if row.node.origin != Origin::Own {
+                    row.node.number = 0;
+                }
+            }
         }
     }
 

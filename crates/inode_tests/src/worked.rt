@@ -1,14 +1,14 @@
 //! Changes of a table over files in memory: rows of the sample commit's trees, with the files that they leave.
 
 use crate::calls::{Move, fill, own, remove, rename, turn_into};
-use crate::inodes::{BAK, BAK_TEST, Names, ROOT, TEST, Table, load, shows, table};
+use crate::inodes::{BAK, BAK_TEST, Names, ROOT, TEST, Table, load, load_tree, shows, table};
 use crate::listing::{Own, put, store};
 use crate::names::{name, names};
 use eden_model::{Fault, Kind, Name, Origin, Outside};
 use eden_overlay::{Files, MemoryFiles};
 use std::alloc::Global;
 use std::process::Abort;
-use test_samples::{ONE_FILE, Sample, TWO_FILES, VERSION_1};
+use test_samples::{ONE_FILE, Sample, TWO_FILES, VERSION_1, VERSION_2};
 
 /// A directory's path, and a name in it.
 type Place = (Names, &'static [u8]);
@@ -16,6 +16,8 @@ type Place = (Names, &'static [u8]);
 const IN_D: Names = &[b"d"];
 
 const MOVED: Names = &[b"d", b"t"];
+
+const IN_D_TEST: Names = &[b"d", b"test.txt"];
 
 const LINK: Names = &[b"l"];
 
@@ -45,8 +47,9 @@ enum What {
 
 #[derive(Clone, Copy)]
 enum Step {
-    /// A directory is loaded from a tree object, or without one.
+    /// A directory is loaded from a tree object, or with the numbers saved for it, or without a tree object.
     Load(Names, Sample),
+    LoadSaved(Names, Sample),
     LoadOwn(Names),
     /// All directories at and below a path go.
     Unload(Names),
@@ -163,6 +166,69 @@ const REMOVED: &[Step] = &[
     Step::Files(&[(1, 145)]),
 ];
 
+/// Directories of the commit go: their numbers are saved, and a load gives them back. A second unload leaves the same.
+const SAVED: &[Step] = &[
+    Step::Load(ROOT, TWO_FILES),
+    Step::Load(BAK, ONE_FILE),
+    Step::Unload(ROOT),
+    Step::Files(&[(1, 199), (2, 127)]),
+    Step::Give(1),
+    Step::LoadSaved(ROOT, TWO_FILES),
+    Step::Look(BAK, 2, Kind::Dir, Some(ONE_FILE)),
+    Step::Look(TEST, 4, Kind::File, Some(VERSION_2)),
+    Step::LoadSaved(BAK, ONE_FILE),
+    Step::Look(BAK_TEST, 5, Kind::File, Some(VERSION_1)),
+    Step::Unload(ROOT),
+    Step::Files(&[(1, 199), (2, 127)]),
+];
+
+/// A directory whose numbers are saved becomes the mount's own: its entries take the place of its numbers.
+const OWNED_AFTER: &[Step] = &[
+    Step::Load(ROOT, TWO_FILES),
+    Step::Load(BAK, ONE_FILE),
+    Step::Unload(BAK),
+    Step::Files(&[(2, 127)]),
+    Step::LoadSaved(BAK, ONE_FILE),
+    Step::Done(Change::Own(BAK)),
+    Step::Look(BAK_TEST, 5, Kind::File, Some(VERSION_1)),
+    Step::Files(&[(1, 159), (2, 107)]),
+];
+
+/// One whose numbers are saved goes, and so do these.
+const REMOVED_AFTER: &[Step] = &[
+    Step::Load(ROOT, TWO_FILES),
+    Step::Load(BAK, ONE_FILE),
+    Step::Unload(BAK),
+    Step::Done(Change::At((ROOT, b"bak"), What::Remove)),
+    Step::Gone(BAK),
+    Step::Files(&[(1, 145)]),
+];
+
+/// A file of the commit takes its place.
+const REPLACED_AFTER: &[Step] = &[
+    Step::Load(ROOT, TWO_FILES),
+    Step::Load(BAK, ONE_FILE),
+    Step::Unload(BAK),
+    Step::Done(Change::Own(ROOT)),
+    Step::Files(&[(1, 179), (2, 127)]),
+    Step::Done(Change::Move((ROOT, b"test.txt"), (ROOT, b"bak"))),
+    Step::Look(BAK, 4, Kind::File, Some(VERSION_2)),
+    Step::Files(&[(1, 140)]),
+];
+
+/// It is renamed, and is loaded with its numbers under its new name.
+const RENAMED_AFTER: &[Step] = &[
+    Step::Load(ROOT, TWO_FILES),
+    Step::Load(BAK, ONE_FILE),
+    Step::Unload(BAK),
+    Step::Done(Change::Own(ROOT)),
+    Step::Done(Change::Move((ROOT, b"bak"), (ROOT, b"d"))),
+    Step::Gone(BAK),
+    Step::Files(&[(1, 177), (2, 127)]),
+    Step::LoadSaved(IN_D, ONE_FILE),
+    Step::Look(IN_D_TEST, 5, Kind::File, Some(VERSION_1)),
+];
+
 const ROWS: &[&[Step]] = &[
     TURNED,
     FILLED,
@@ -171,6 +237,11 @@ const ROWS: &[&[Step]] = &[
     MOVED_OVER,
     OWNED,
     REMOVED,
+    SAVED,
+    OWNED_AFTER,
+    REMOVED_AFTER,
+    REPLACED_AFTER,
+    RENAMED_AFTER,
 ];
 
 /// What a call answered that was tried.
@@ -273,6 +344,7 @@ fn origin_of(object: Option<Sample>) -> Origin {
 fn path_of(step: Step) -> Names {
     match step {
         Step::Load(path, _)
+        | Step::LoadSaved(path, _)
         | Step::LoadOwn(path)
         | Step::Unload(path)
         | Step::Look(path, _, _, _)
@@ -286,6 +358,7 @@ fn take(rt: &impl Abort, alloc: Global, table: &mut Table, step: Step) -> bool {
     let path = names(rt, alloc, path_of(step));
     match step {
         Step::Load(_, tree) => load(rt, alloc, table, &path, tree).is_ok(),
+        Step::LoadSaved(_, tree) => load_tree(rt, alloc, table, &path, tree) == Ok(true),
         Step::LoadOwn(_) => load_own(alloc, table, &path),
         Step::Unload(_) => table.unload(alloc, &path, 0).count > 0,
         Step::Give(count) => give(table, count),
@@ -344,8 +417,13 @@ fn take_all(rt: &impl Abort, alloc: Global, steps: &[Step]) -> Table {
     table
 }
 
-/// Takes all steps, anew for each look at the files, which ends a table.
-fn check(rt: &impl Abort, alloc: Global, steps: &[Step]) {
+/// Takes all steps of a row.
+fn check_steps(rt: &impl Abort, alloc: Global, steps: &[Step]) {
+    drop(take_all(rt, alloc, steps));
+}
+
+/// Takes the steps before each look at the files, anew each time, since that ends a table.
+fn check_files(rt: &impl Abort, alloc: Global, steps: &[Step]) {
     for (count, step) in steps.iter().enumerate() {
         if let Step::Files(want) = step {
             let table = take_all(rt, alloc, &steps[..count]);
@@ -357,6 +435,7 @@ fn check(rt: &impl Abort, alloc: Global, steps: &[Step]) {
 #[test]
 fn changes_leave_these_files(rt: HostRuntime) {
     for steps in ROWS {
-        check(&rt, rt.alloc(), steps);
+        check_steps(&rt, rt.alloc(), steps);
+        check_files(&rt, rt.alloc(), steps);
     }
 }

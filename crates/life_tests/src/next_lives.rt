@@ -14,15 +14,15 @@ struct Row {
     again: Life,
 }
 
-/// The state alone is left where nothing was changed, and nothing is remembered.
-const UNCHANGED: Row = Row {
+/// Where nothing was loaded the state alone is left.
+const UNTOUCHED: Row = Row {
     first: Life {
         root: ONE_FILE,
         opening: Opening::Closed,
         history: Some(1_000),
-        input: "kind /\nkind /test.txt\n",
-        said: "kind dir\nkind file\n",
-        asked: &[ONE_FILE],
+        input: "kind /\n",
+        said: "kind dir\n",
+        asked: &[],
     },
     files: &[(0, 92)],
     again: Life {
@@ -32,6 +32,27 @@ const UNCHANGED: Row = Row {
         input: "kind /\nkind /test.txt\n",
         said: "kind dir\nkind file\n",
         asked: &[ONE_FILE],
+    },
+};
+
+/// Where nothing was changed the numbers of what was loaded are left beside it, and no tree object is asked for again.
+const UNCHANGED: Row = Row {
+    first: Life {
+        root: ONE_FILE,
+        opening: Opening::Closed,
+        history: Some(1_000),
+        input: "kind /\nkind /test.txt\n",
+        said: "kind dir\nkind file\n",
+        asked: &[ONE_FILE],
+    },
+    files: &[(0, 92), (1, 127)],
+    again: Life {
+        root: ONE_FILE,
+        opening: Opening::Closed,
+        history: Some(1_000),
+        input: "stat /test.txt\n",
+        said: "stat file 10\n",
+        asked: &[VERSION_1],
     },
 };
 
@@ -45,14 +66,14 @@ const PLAIN_ALREADY: Row = Row {
         said: "ok\nok\nkind file\n",
         asked: &[TWO_FILES, ONE_FILE],
     },
-    files: &[(0, 92)],
+    files: &[(0, 92), (1, 199), (2, 127)],
     again: Life {
         root: TWO_FILES,
         opening: Opening::Closed,
         history: Some(1_000),
         input: "kind /bak/test.txt\n",
         said: "kind file\n",
-        asked: &[TWO_FILES, ONE_FILE],
+        asked: &[],
     },
 };
 
@@ -180,7 +201,7 @@ fn changes_are_there_in_the_next_life(rt: HostRuntime) {
 
 #[test]
 fn what_is_not_changed_comes_from_the_commit(rt: HostRuntime) {
-    for row in [UNCHANGED, PLAIN_ALREADY] {
+    for row in [UNTOUCHED, UNCHANGED, PLAIN_ALREADY] {
         check(&rt, rt.alloc(), row);
     }
 }
