@@ -139,6 +139,12 @@ def as_described(name: str, read: Callable[..., Read], *words: Any) -> Read | No
         return None
 
 
+def numbers_at(place: Place, commit: Commit) -> dict[Path, int]:
+    """The numbers that the files of a closed overlay have, by their paths."""
+    shown = as_described("numbers", Shown, commit, place.files())
+    return shown.places if shown else {}
+
+
 def check_closed(name: str, place: Place, commit: Commit, tree: WholeTree, kills: int = 0) -> int:
     """The files of a closed overlay show that tree, and no number that they name is given again.
 
