@@ -113,7 +113,7 @@ fn is_wanted(attempt: &Attempt, want: Want) -> bool {
 
 /// Whether a request is answered so.
 fn answers(alloc: Global, tree: &mut Tree, request: &Request, want: Want) -> bool {
-    is_wanted(&tree.attempt(alloc, request), want)
+    is_wanted(&tree.attempt(alloc, request, &mut None), want)
 }
 
 fn put(rt: &impl Abort, alloc: Global, tree: &mut Tree, object: Sample) -> bool {

@@ -125,7 +125,7 @@ pub fn request(
 
 /// Whether an attempt ends with a reply that is no error and no fault.
 pub fn is_done<F: Files<Outside>>(alloc: Global, tree: &mut Tree<F>, request: &Request) -> bool {
-    match tree.attempt(alloc, request) {
+    match tree.attempt(alloc, request, &mut None) {
         Attempt::Need(_) => false,
         Attempt::Finished(Reply::Err(_) | Reply::Fault(_)) => false,
         Attempt::Finished(_) => true,

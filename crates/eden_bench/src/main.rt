@@ -16,6 +16,7 @@ mod name;
 mod oracle;
 mod overlay;
 mod tree;
+mod waits;
 
 use bench::Bench;
 use eden_model::Outside;
@@ -28,7 +29,7 @@ use std::rt::Env;
 use std::{env, io};
 
 const USAGE: &str =
-    "usage: eden_bench attempts|cache|changes|directory|inodes|large|lines|overlay|tree COUNT [timed], \
+    "usage: eden_bench attempts|cache|changes|directory|inodes|large|lines|overlay|tree|waits COUNT [timed], \
      or eden_bench attempts|changes|large COUNT timed FOLDER, or eden_bench oracle";
 
 /// Runs a workload over the files that are kept there. None where the name is of no such workload.
@@ -55,6 +56,7 @@ fn run(bench: Bench, name: &str, count: u32) -> Option<io::Result<()>> {
         "lines" => Some(lines::run(bench, count)),
         "overlay" => Some(overlay::run(bench, count)),
         "tree" => Some(tree::run(bench, count)),
+        "waits" => Some(waits::run(bench, count)),
         _ => run_over(bench, &InMemory, name, count),
     }
 }

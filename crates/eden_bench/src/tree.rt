@@ -69,6 +69,19 @@ pub fn framed_tree(alloc: Global, order: Order, count: u32) -> Result<Vec<u8>, A
     Ok(framed)
 }
 
+/// The framed tree of a directory with that id and of files behind it, so many entries in all.
+pub fn framed_above(alloc: Global, below: Id, count: u32) -> Result<Vec<u8>, AllocError> {
+    let mut body = format!(in alloc; "40000 file{:010}\0", 0)?.into_bytes();
+    body.extend_from_slice(below.bytes.as_slice())?;
+    for number in 1..count {
+        let entry = format!(in alloc; "100644 file{number:010}\0********************")?;
+        body.extend_from_slice(entry.as_bytes())?;
+    }
+    let mut framed = format!(in alloc; "tree {}\0", body.len())?.into_bytes();
+    framed.extend_from_slice(body.as_slice())?;
+    Ok(framed)
+}
+
 /// Reads the entries of a tree.
 fn read(bench: Bench, tree: &Object) -> io::Result<()>
     requires { tree.now.kind ≡ kinds.Tree }

@@ -91,6 +91,8 @@ pub fn host<
     fetchers: Fetchers<S>,
     unloading: Unloading,
 ) -> Hosted<W, T, A, J, H>
+where
+    T::Place: Send,
     requires passes { AreNewcomers passes.items (length J.names) }
     ensures told { (left : List Carried)
         × AreHosted I.Read O.Write W.honest W.opening passes.items left result.outcome

@@ -78,6 +78,8 @@ fn host_passes<
     fetchers: Fetchers<S>,
     unloading: Unloading,
 ) -> HostedTable<T>
+where
+    T::Place: Send,
     requires passes { AreNewcomers passes.items (length J.names) }
     ensures { (terms : declared.Terms) → passes.items ≡ newcomers terms 1 terms.passes
         → HostsTable T.table I.Read O.Write W.honest W.opening terms result }
@@ -118,6 +120,8 @@ pub fn host_table<
     fetchers: Fetchers<S>,
     unloading: Unloading,
 ) -> Result<HostedTable<T>, T>
+where
+    T::Place: Send,
     requires shown { W.honest → T.table.shown table ≡ W.opening }
     requires room { IsRoom room }
     requires empty { H.entries history ≡ [] }

@@ -70,6 +70,22 @@ module _ {T : Type 0} (A : Table T) (honest : Type 0) (opening : Tree) where
     shown = λ honestly. same honestly ∙ h.shown honestly;
   }
 
+  -- a key that was taken
+  pub take_keeps : (m : Core T) (o : Option Key) (q : Queue) → IsMount A honest opening m → IsQueue q → q ≡ imports.after_take o m.queue → IsMount A honest opening (record m { queue = q })
+  take_keeps m o q h i is = requeue m q h i (ap (λ (y : Queue). y.passes) is ∙ passes o) (λ c free want mark. (ap (want_of c) is ∙ wants c o ∙ want, ap (mark_of c) is ∙ marks c o ∙ mark))
+    where
+      passes : (x : Option Key) → (imports.after_take x m.queue).passes ≡ m.queue.passes
+      passes None = refl
+      passes (Some k) = refl
+
+      wants : (c : ℕ) (x : Option Key) → want_of c (imports.after_take x m.queue) ≡ want_of c m.queue
+      wants c None = refl
+      wants c (Some k) = refl
+
+      marks : (c : ℕ) (x : Option Key) → mark_of c (imports.after_take x m.queue) ≡ mark_of c m.queue
+      marks c None = refl
+      marks c (Some k) = refl
+
   -- another table, and a key that landed
   pub land_keeps : (m : Core T) (k : Key) (t : T) (q : Queue) → IsMount A honest opening m → IsQueue q → q ≡ imports.after_done k m.queue → A.shown t ≡ A.shown m.table
       → IsMount A honest opening (record m { table = t; queue = q })

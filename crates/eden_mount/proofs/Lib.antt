@@ -4,6 +4,7 @@ mod TurnLemmas
 mod Payloads
 mod Keeping
 mod Telling
+mod Placing
 mod Running
 mod Blaming
 mod Driving

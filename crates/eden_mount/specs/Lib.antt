@@ -1,5 +1,6 @@
 pub mod Tables
 pub mod Core
+pub mod Places
 pub mod Replying
 pub mod Steps
 pub mod Kept

@@ -13,6 +13,7 @@ mod events;
 mod laws;
 mod local;
 mod mount;
+mod places;
 mod room;
 mod seats;
 mod settling;

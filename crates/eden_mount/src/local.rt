@@ -154,7 +154,8 @@ impl<W: World, S: Source<W> + Drop, T: Attempts<W> + Drop, A: Allocator, H: Hist
     /// As `serve`, and lends the reply, which lies here until the next call.
     pub fn call(&mut self, request: Request) -> Result<&Reply, StartFault>
         ensures* after { sem 𝓛
-            (Rests (the_row W.row S.row T.row A.row H.row W.World S.Source T.Attempts A.Allocator H.History) self.entry
+            (Rests (the_row W.row S.row T.row A.row H.row T.Place.row W.World S.Source T.Attempts A.Allocator H.History)
+            self.entry
             (λ new. MatchResult result (λ r. Lends S.fetched T.table W.honest H.copies request self.old r.now new)
             (λ fault. Declines self.old fault new))) }
     {

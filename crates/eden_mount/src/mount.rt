@@ -16,7 +16,7 @@ use crate::attempts::Attempts;
 use crate::events::{Arrived, Event, Outcome, Turned};
 use crate::room::Room;
 use crate::seats::{Pending, count, occupy, request_at, vacate};
-use crate::settling::{Settled, settle};
+use crate::settling::{Settled, resume};
 use eden_history::{History, Kept};
 use eden_import::Imports;
 use eden_model::{Cause, Entry, Key, Path, Request, StartFault, World};
@@ -35,6 +35,8 @@ pub struct Mount<W: World, T: Attempts<W> + Drop, A: Allocator, H: History> {
     table: T,
     imports: Imports<A>,
     seats: Vec<Option<Pending>>,
+    /// Where each pass's request waits, as far as there was memory for it.
+    places: Vec<Option<T::Place>>,
     history: H,
     world: PhantomData<W>,
 }
@@ -42,13 +44,15 @@ pub struct Mount<W: World, T: Attempts<W> + Drop, A: Allocator, H: History> {
 impl<W: World, T: Attempts<W> + Drop, A: Allocator, H: History> Model for Mount<W, T, A, H> {
     ghost use Rattle.eden_mount.specs.Core.{Core};
     ghost use Rattle.eden_mount.specs.Kept.{IsHeld, core_from};
+    ghost use Rattle.eden_mount.specs.Places.{AllLead};
 
     ghost Value = { Core T };
 
     ghost view = { λ m. core_from m.table m.imports m.seats.items (H.entries m.history) (H.limit m.history) };
 
     ghost invariant = { λ m. IsHeld T.table W.honest W.opening (H.room m.history)
-        (core_from m.table m.imports m.seats.items (H.entries m.history) (H.limit m.history)) };
+        (core_from m.table m.imports m.seats.items (H.entries m.history) (H.limit m.history))
+        × AllLead T.leads m.table m.seats.items m.places.items };
 }
 
 impl<W: World, T: Attempts<W> + Drop, A: Allocator, H: History> Mount<W, T, A, H> {
@@ -70,6 +74,7 @@ impl<W: World, T: Attempts<W> + Drop, A: Allocator, H: History> Mount<W, T, A, H
             table,
             imports,
             seats,
+            places: Vec::new(alloc),
             history,
             world: PhantomData,
         }
@@ -173,8 +178,10 @@ impl<W: World, T: Attempts<W> + Drop, A: Allocator, H: History> Mount<W, T, A, H
         Ok(pending)
     }
 
-    /// Goes on with the pass's request, from the root: it finishes, and its entry is written, or it waits for a key and
-    /// for no other.
+    /// Goes on with the pass's request: it finishes, and its entry is written, or it waits for a key and for no other.
+    ///
+    /// It goes on at the place where it waited if no name has changed since, and else from the root. A place that finds
+    /// no memory isn't kept.
     ///
     /// The clock goes on first. A mark of a failed key is used now or dropped: where the request still needs that key,
     /// it is told `Fetch`. If the history copies replies, one that finds no memory for its copy is `Memory`, which a
@@ -208,7 +215,8 @@ impl<W: World, T: Attempts<W> + Drop, A: Allocator, H: History> Mount<W, T, A, H
         let seat = pass as usize - 1;
         let mark = self.imports.failure(pass);
         let request = request_at(self.seats.as_slice(), seat);
-        match settle::<W, T>(self.alloc, &mut self.table, request, mark) {
+        let places = &mut self.places;
+        match resume::<W, T>(self.alloc, &mut self.table, request, mark, places, seat) {
             Settled::Waits(key) => {
                 self.imports.await_key(key, pass);
                 Turned::Wait(key)

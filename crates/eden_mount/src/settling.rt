@@ -1,7 +1,10 @@
 // How an attempt of a pending request comes out.
+ghost use Rattle.std.specs.Prelude.{◌≡◌, ◌≢◌, ℕ, IfSome};
+ghost use Rattle.eden_mount.specs.Places.{kept_at, LeadStill, IsKeptFor};
 ghost use Rattle.eden_mount.specs.Replying.{Settles};
 
 use crate::attempts::Attempts;
+use crate::places::{note, recall};
 use eden_model::{Attempt, Cause, Fault, Key, Reply, Request, World};
 use std::alloc::Global;
 
@@ -11,22 +14,54 @@ pub(crate) enum Settled {
     Waits(Key),
 }
 
-/// Attempts the request of a pass that has this mark.
-pub(crate) fn settle<W: World, T: Attempts<W>>(
+/// Attempts the request of a pass that has this mark, from a place where it waited, if there is one.
+fn settle<W: World, T: Attempts<W>>(
     alloc: Global,
     table: &mut T,
     request: &Request,
     mark: Option<(Key, Cause)>,
+    place: &mut Option<T::Place>,
 ) -> Settled
-    ensures { Settles T.table W.honest table.old request.now mark result table.new }
+    requires { IfSome place.old (T.leads table.old request.now) }
+    ensures settles { Settles T.table W.honest table.old request.now mark result table.new }
+    ensures leads { IfSome place.new (T.leads table.new request.now) }
+    ensures places { LeadStill T.leads table.old table.new }
 {
-    match table.attempt(alloc, request) {
+    match table.attempt(alloc, request, place) {
         Attempt::Finished(reply) => Settled::Found(reply),
         Attempt::Need(key) => {
             if let Some((marked, cause)) = mark {
                 if marked == key {
                     return Settled::Found(Reply::Fault(Fault::Fetch(key.id, cause)));
                 }
+            }
+            Settled::Waits(key)
+        }
+    }
+}
+
+/// Attempts the request that is pending at a seat, from the place that is kept there, if there is one. Where it waits
+/// then is kept, if there is memory for it.
+pub(crate) fn resume<W: World, T: Attempts<W>>(
+    alloc: Global,
+    table: &mut T,
+    request: &Request,
+    mark: Option<(Key, Cause)>,
+    places: &mut Vec<Option<T::Place>>,
+    seat: usize,
+) -> Settled
+    requires { IfSome (kept_at seat places.old.items) (T.leads table.old request.now) }
+    ensures settles { Settles T.table W.honest table.old request.now mark result table.new }
+    ensures places { LeadStill T.leads table.old table.new }
+    ensures kept { IsKeptFor T.leads table.new request.now result (kept_at seat places.new.items) }
+    ensures elsewhere { (i : ℕ) → i ≢ seat → kept_at i places.new.items ≡ kept_at i places.old.items }
+{
+    let mut place = recall(places, seat);
+    match settle::<W, T>(alloc, table, request, mark, &mut place) {
+        Settled::Found(reply) => Settled::Found(reply),
+        Settled::Waits(key) => {
+            if let Some(place) = place {
+                note(places, seat, place);
             }
             Settled::Waits(key)
         }

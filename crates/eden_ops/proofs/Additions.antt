@@ -1,5 +1,6 @@
 -- What a request that makes an entry answers, and the tree after it.
-use Rattle.std.proofs.Common.{◌≡◌, ◌≢◌, ◌≤◌, ◌<◌, ◌+◌, ◌⊎◌, ◌==◌, nat_lt, ℕ, Bool, true, false, List, [], ◌∷◌, ◌++◌, length, Option, Some, None, sym, refl, ◌∙◌, ap, subst, inl, inr, arith}
+use Rattle.std.proofs.Common.{◌≡◌, ◌≢◌, ◌≤◌, ◌<◌, ◌+◌, ◌-◌, ◌^◌, min, ◌⊎◌, ◌==◌, nat_lt, ℕ, Bool, true, false, List, [], ◌∷◌, ◌++◌, length, Option, Some, None}
+use Rattle.std.proofs.Common.{sym, refl, ◌∙◌, ap, subst, inl, inr, arith}
 use Rattle.std.proofs.lemmas.List.{append-nil, append_assoc}
 use Rattle.std.proofs.lemmas.Bool.{le-ltb, ne_eqb}
 use Rattle.std.specs.Option.{option_map, option_and_then}
@@ -33,6 +34,9 @@ use Rattle.eden_inode.specs.Tables.{Table, shows}
 use Rattle.eden_materialise.specs.declared.new_entry.NewEntry.{NewEntry}
 use Rattle.eden_materialise.specs.Filing.{node_as, IsShort, LacksEntry, IsAddFault}
 use Rattle.eden_model.specs.declared.attempt.Attempt.TheVariants.{Finished}
+use Rattle.eden_inode.specs.Trails.{KeepsNames, KeepsPlaces}
+use Rattle.eden_inode.proofs.Names.{keeps_same}
+use Rattle.eden_inode.proofs.Places.{places_same, places_rise}
 use Rattle.eden_ops.specs.Attempts.{Attempts}
 use Rattle.eden_cache.specs.Stock.{FindsTheSame}
 use Rattle.eden_ops.specs.Changes.{IsAdding, file, dir, link}
@@ -197,6 +201,12 @@ add_count next a b fault.Numbers h = let same = h.1 in omega (arith, same)
 pub given_more : (a b : ℕ) (X Y : Type 0) → ((b ≡ a) × X) ⊎ ((b ≡ a + 1) × Y) → a ≤ b
 given_more a b X Y (inl h) = let same = h.0 in omega (arith, same)
 given_more a b X Y (inr h) = let one = h.0 in omega (arith, one)
+
+-- .. and so are noted places
+pub given_places : {F : Type 0} (s t : Table F) → t.root ≡ s.root
+    → ((t.next ≡ s.next) × (t.changes ≡ s.changes)) ⊎ ((t.next ≡ s.next + 1) × (t.changes ≡ min (s.changes + 1) (2 ^ 64 - 1))) → KeepsPlaces s t
+given_places s t root (inl h) = places_same s t h.1 (subst (λ (z : Row). KeepsNames s.root z) (sym root) (keeps_same s.root))
+given_places s t root (inr h) = places_rise s t h.1
 
 pub adds_one : (p : Path) (q : Request) (e : NewEntry) → IsAdding p q e → given q ≡ 1
 adds_one p _ _ (file content empty) = refl

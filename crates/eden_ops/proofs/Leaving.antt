@@ -14,6 +14,7 @@ use Rattle.eden_tree.specs.Directory.{Row}
 use Rattle.eden_coupling.specs.Chains.{IsLoadedAt, NoneMarked, StaysLoaded}
 use Rattle.eden_coupling.specs.Saving.{IsSavedAbove}
 use Rattle.eden_inode.specs.Tables.{Table}
+use Rattle.eden_inode.specs.Trails.{KeepsPlaces}
 use Rattle.eden_ops.specs.Changes.{IsOutside, SameNames, LeavesOn, Leaves}
 use Rattle.eden_ops.specs.Keeping.{Keeps}
 use Rattle.eden_ops.specs.Leaving.{AreSavedAbove, Gives, IsFault, IsNoError, LeavesAfter, LetsBe, given}
@@ -87,6 +88,7 @@ module _ {W F : Type 0} (w : Ghosts W) (f : Files F W) (from to : Path) (s t : T
     next = no_less t.next u.next x.next;
     failures = x.counted;
     clock = x.clock;
+    places = x.places;
   }
 
   -- the directory that went along had its entries before
@@ -130,9 +132,16 @@ module _ {W F : Type 0} (w : Ghosts W) (f : Files F W) (from to : Path) (s t : T
 
 -- directories went that stood at and below a path
 module _ {W F : Type 0} (w : Ghosts W) (f : Files F W) (p : Path) (s t u : Table F) (keeps : Keeps w f (p ∷ []) s t) (g : LetsGo p t.root u.root) (rest : (u.next ≡ t.next) × (u.clock ≡ t.clock))
-    (counted : f.failures t.files ≤ f.failures u.files) (a : Attempt) (fine : IsNoError a) where
+    (counted : f.failures t.files ≤ f.failures u.files) (places : KeepsPlaces t u) (a : Attempt) (fine : IsNoError a) where
   gone : LeavesOn f (IsOutside p) t u
-  gone = record { loaded = λ q off is. loaded_elsewhere p t.root u.root g q off is; root = root_left p t.root u.root g; next = no_less t.next u.next rest.0; failures = counted; clock = rest.1 }
+  gone = record {
+    loaded = λ q off is. loaded_elsewhere p t.root u.root g q off is;
+    root = root_left p t.root u.root g;
+    next = no_less t.next u.next rest.0;
+    failures = counted;
+    clock = rest.1;
+    places = places;
+  }
 
   leaves_went : (v : Table F) → LeavesOn f (IsOutside p) t v → v.next ≡ t.next → NoneMarked u.root v.root → NamesAfter a t.root v.root → (¬ IsFault a → IsSavedAbove p v.root) → LeavesAfter w f (ask.Rmdir p) s v a
   leaves_went v l next marks names stands =

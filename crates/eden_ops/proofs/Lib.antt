@@ -6,6 +6,7 @@ pub mod Names
 pub mod Steps
 pub mod Gaining
 pub mod Trailing
+mod GoingOn
 pub mod Resuming
 pub mod Bringing
 pub mod Bare

@@ -10,6 +10,9 @@ use Rattle.eden_overlay.specs.declared.files.Files.{Ghosts as Files}
 use Rattle.eden_tree.specs.Directory.{Row}
 use Rattle.eden_coupling.specs.Chains.{IsLoadedAt, IsUnsavedAt, NoneMarked, StaysLoaded}
 use Rattle.eden_inode.specs.Tables.{Table, shows}
+use Rattle.eden_inode.specs.Trails.{KeepsPlaces}
+use Rattle.eden_inode.proofs.Names.{keeps_same}
+use Rattle.eden_inode.proofs.Places.{places_same}
 use Rattle.eden_materialise.specs.Faults.{IsStoreFault}
 use Rattle.eden_ops.specs.Carrying.{StaysToThere}
 use Rattle.eden_ops.specs.Letting.{LetsGo}
@@ -19,6 +22,7 @@ use Rattle.eden_ops.proofs.Names.{names_same, fewer_same}
 use Rattle.eden_ops.proofs.Relocation.{not_whole}
 use Rattle.eden_ops.proofs.Roots.{root_left, root_same}
 use Rattle.eden_ops.proofs.Stamped.{left_stamps, stamps_same}
+use Rattle.eden_ops.proofs.GoingOn.{places_alike}
 
 -- ---- what is loaded
 
@@ -63,6 +67,7 @@ module _ {W F : Type 0} (w : Ghosts W) (f : Files F W) (s : Table F) where
     counted = on_any a;
     next = refl;
     clock = refl;
+    places = places_same s s refl (keeps_same s.root);
   }
     where
       on_any : (b : Result (Unit {0}) Fault) → OnOk b (f.failures s.files ≡ f.failures s.files)
@@ -85,10 +90,12 @@ module _ {W F : Type 0} (w : Ghosts W) (f : Files F W) (s : Table F) where
           counted = counted;
           next = ap (λ (u : Table F). u.next) rest;
           clock = ap (λ (u : Table F). u.clock) rest;
+          places = places_alike s t root (ap (λ (u : Table F). u.changes) rest);
         }
 
   module _ (t : Table F) (a : Result (Unit {0}) Fault) (shown : w.honest → shows w f t ≡ shows w f s) (marks : NoneMarked s.root t.root)
-      (fault : IfErr a (IsStoreFault (f.failures s.files) (f.failures t.files))) (counted : OnOk a (f.failures t.files ≡ f.failures s.files)) (rest : (t.next ≡ s.next) × (t.clock ≡ s.clock)) where
+      (fault : IfErr a (IsStoreFault (f.failures s.files) (f.failures t.files))) (counted : OnOk a (f.failures t.files ≡ f.failures s.files))
+      (rest : (t.next ≡ s.next) × (t.clock ≡ s.clock)) (places : KeepsPlaces s t) where
     -- directories went
     pub readies_gone : (p : Path) → LetsGo p s.root t.root → Readies w f s t a
     readies_gone p g = record {
@@ -102,4 +109,5 @@ module _ {W F : Type 0} (w : Ghosts W) (f : Files F W) (s : Table F) where
       counted = counted;
       next = rest.0;
       clock = rest.1;
+      places = places;
     }

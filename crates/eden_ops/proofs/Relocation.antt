@@ -23,6 +23,7 @@ use Rattle.eden_coupling.specs.Changing.{MayMove, marked_source}
 use Rattle.eden_coupling.specs.Moving.{CanMove}
 use Rattle.eden_coupling.proofs.CallerLemmas.{map_some, loaded_there, loaded_found, marked_alone}
 use Rattle.eden_inode.specs.Tables.{Table}
+use Rattle.eden_inode.proofs.Places.{places_then}
 use Rattle.eden_materialise.specs.EntryMoves.{IsUnmoved}
 use Rattle.eden_materialise.specs.Faults.{IsStoreFault}
 use Rattle.eden_ops.specs.Changes.{SameNames}
@@ -52,6 +53,7 @@ module _ {W F : Type 0} (w : Ghosts W) (f : Files F W) where
     counted = on_ok_weaker a (λ is. is ∙ one.counted) two.counted;
     next = two.next ∙ one.next;
     clock = two.clock ∙ one.clock;
+    places = places_then s t u one.places two.places;
   }
 
   -- an error that is handed on
@@ -85,6 +87,7 @@ module _ {W F : Type 0} (w : Ghosts W) (f : Files F W) (from to : Path) (s t : T
     root = r.root;
     next = r.next;
     clock = r.clock;
+    places = r.places;
   }
 
   -- it is done
@@ -106,6 +109,7 @@ module _ {W F : Type 0} (w : Ghosts W) (f : Files F W) (from to : Path) (s t : T
     root = comes_on s.root.origin t.root.origin u.root.origin r.root x.root;
     next = x.next ∙ r.next;
     clock = x.clock ∙ r.clock;
+    places = places_then s t u r.places x.places;
   }
     where
       along : GoesAlong from to t.root u.root → IsLoadedAt from s.root → GoesAlong from to s.root u.root

@@ -15,12 +15,15 @@ use Rattle.eden_coupling.specs.Chains.{NoneMarked, StaysLoaded}
 use Rattle.eden_coupling.specs.Loading.{IsAt, IsNew, LoadsOwn}
 use Rattle.eden_coupling.proofs.CallerLemmas.{map_some, none_inside, loaded_there, loaded_found, mark_of, unsaved_standing, standing_unsaved, none_marked_with}
 use Rattle.eden_inode.specs.Tables.{Table}
+use Rattle.eden_inode.specs.Trails.{KeepsPlaces}
+use Rattle.eden_inode.proofs.Places.{places_same, places_then}
 use Rattle.eden_materialise.specs.Faults.{IsStoreFault}
 use Rattle.eden_ops.specs.Changes.{StaysOrBecomesOwn, LeavesOn, Leaves}
 use Rattle.eden_ops.specs.Keeping.{Loads, from_object, without, resumed, Step, stamps, loads, rests, Keeps, same, on}
 use Rattle.eden_ops.specs.Laws.{Grows, KeepsLeaves}
 use Rattle.eden_ops.proofs.Roots.{comes_on, root_grows}
 use Rattle.eden_ops.proofs.Steps.{keeps_entries, keeps_counts}
+use Rattle.eden_ops.proofs.Trailing.{keeps_names}
 
 -- ---- stamps
 
@@ -86,6 +89,7 @@ module _ {W F : Type 0} (w : Ghosts W) (f : Files F W) where
           next = n.1.1.0;
           failures = n.1.1.1;
           clock = n.0;
+          places = places_same s t n.1.0 (keeps_names w f s t k);
         };
         marks = steps_marks ps s t k;
       }
@@ -104,19 +108,23 @@ leaves_on f paths s t u a b =
       failures = omega
           (arith, c, d);
       clock = b.clock ∙ a.clock;
+      places = places_then s t u a.places b.places;
     }
 
 -- what leaves something on every path leaves it on some
 pub leaves_some : {W F : Type 0} (f : Files F W) (paths : Path → Type 0) (s t : Table F) → Leaves f s t → LeavesOn f paths s t
 leaves_some f paths s t l =
     let a = l.everywhere in
-    record { loaded = λ p in_them. a.loaded p tt; root = a.root; next = a.next; failures = a.failures; clock = a.clock }
+    record { loaded = λ p in_them. a.loaded p tt; root = a.root; next = a.next; failures = a.failures; clock = a.clock; places = a.places }
 
 -- a change, by its parts
 pub leaves_by : {W F : Type 0} (f : Files F W) (t u : Table F) → StaysLoaded t.root u.root → StaysOrBecomesOwn t.root.origin u.root.origin → NoneMarked t.root u.root → t.next ≤ u.next
     → u.clock ≡ t.clock
-    → f.failures t.files ≤ f.failures u.files → Leaves f t u
-leaves_by f t u stays root marks next clock counted = record { everywhere = record { loaded = λ p all. stays p; root = root; next = next; failures = counted; clock = clock }; marks = marks }
+    → f.failures t.files ≤ f.failures u.files → KeepsPlaces t u → Leaves f t u
+leaves_by f t u stays root marks next clock counted places = record {
+  everywhere = record { loaded = λ p all. stays p; root = root; next = next; failures = counted; clock = clock; places = places };
+  marks = marks;
+}
 
 pub no_less : (a b : ℕ) → b ≡ a → a ≤ b
 no_less a b is = omega (arith, is)

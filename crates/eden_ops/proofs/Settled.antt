@@ -101,7 +101,7 @@ module _ {W F : Type 0} (w : Ghosts W) (f : Files F W) where
   pub settles_leaves : (s t : Table F) (a : Result (Unit {0}) Fault) → Settles w f s t a → Leaves f s t
   settles_leaves s t a x =
       let r = x.readies in
-      leaves_by f s t (alike_stays s.root t.root x.alike) r.root r.marks (no_less s.next t.next r.next) r.clock (stored_count a (f.failures s.files) (f.failures t.files) r.fault r.counted)
+      leaves_by f s t (alike_stays s.root t.root x.alike) r.root r.marks (no_less s.next t.next r.next) r.clock (stored_count a (f.failures s.files) (f.failures t.files) r.fault r.counted) r.places
 
   -- one change after the other
   pub leaves_then : (s t u : Table F) → Leaves f s t → Leaves f t u → Leaves f s u

@@ -16,6 +16,7 @@ use Rattle.eden_tree.specs.Directory.{Row}
 use Rattle.eden_tree.specs.Paths.{row_at}
 use Rattle.eden_coupling.specs.Chains.{IsLoadedAt, NoneMarked}
 use Rattle.eden_inode.specs.Tables.{Table}
+use Rattle.eden_inode.specs.Trails.{KeepsPlaces}
 use Rattle.eden_materialise.specs.declared.new_entry.NewEntry.{NewEntry}
 use Rattle.eden_materialise.specs.declared.new_entry.NewEntry.TheVariants as new
 
@@ -48,13 +49,14 @@ SameNames x z = (p : Path) (n : Name) → IsLoadedAt p x → IsLoadedAt p z → 
 
 module _ {W F : Type 0} (f : Files F W) where
   -- Whatever was answered: what was loaded on these paths is, the root comes from where it came or is the mount's own, numbers
-  -- are only given, and the device's failures only rise.
+  -- are only given, the device's failures only rise, and a place that was noted is kept or passed over.
   pub record LeavesOn (paths : Path → Type 0) (s t : Table F) : Type 0 where
     pub loaded : (p : Path) → paths p → IsLoadedAt p s.root → IsLoadedAt p t.root
     pub root : StaysOrBecomesOwn s.root.origin t.root.origin
     pub next : s.next ≤ t.next
     pub failures : f.failures s.files ≤ f.failures t.files
     pub clock : t.clock ≡ s.clock
+    pub places : KeepsPlaces s t
 
   -- .. on every path, and what is unsaved was so
   pub record Leaves (s t : Table F) : Type 0 where

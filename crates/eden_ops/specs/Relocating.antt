@@ -12,6 +12,7 @@ use Rattle.eden_coupling.specs.Chains.{IsLoadedAt, IsUnsavedAt, NoneMarked, Stay
 use Rattle.eden_coupling.specs.Laws.{owned}
 use Rattle.eden_coupling.specs.Materialising.{owned_along}
 use Rattle.eden_inode.specs.Tables.{Table, shows}
+use Rattle.eden_inode.specs.Trails.{KeepsPlaces}
 use Rattle.eden_materialise.specs.Faults.{IsStoreFault}
 use Rattle.eden_ops.specs.Changes.{StaysOrBecomesOwn, SameNames, numbered_at}
 use Rattle.eden_ops.specs.Stamps.{NoneStamped, StampsGoAlong}
@@ -63,6 +64,7 @@ module _ {W F : Type 0} (w : Ghosts W) (f : Files F W) where
     pub counted : OnOk answer (f.failures t.files ≡ f.failures s.files)
     pub next : t.next ≡ s.next
     pub clock : t.clock ≡ s.clock
+    pub places : KeepsPlaces s t
 
   -- An entry went to another path, a loaded directory with its listing; or, after a fault, no entry went, and what is loaded is
   -- so still, but for what was let go of before.
@@ -82,3 +84,4 @@ module _ {W F : Type 0} (w : Ghosts W) (f : Files F W) where
     pub root : StaysOrBecomesOwn s.root.origin t.root.origin
     pub next : t.next ≡ s.next
     pub clock : t.clock ≡ s.clock
+    pub places : KeepsPlaces s t

@@ -1,5 +1,5 @@
 -- What an attempt remembers of its walk: positions that lead along a path of its request, and how many names were compared.
-use Rattle.std.specs.Prelude.{◌≡◌, ◌≤◌, ◌+◌, ◌-◌, ◌*◌, ◌^◌, ◌==◌, ◌&&◌, nat_lt, ℕ, Bool, true, false, List, [], ◌∷◌, length}
+use Rattle.std.specs.Prelude.{◌≡◌, ◌≤◌, ◌<◌, ◌+◌, ◌-◌, ◌*◌, ◌^◌, ◌==◌, ◌&&◌, nat_lt, ℕ, Bool, true, false, List, [], ◌∷◌, length}
 use Rattle.std.specs.Prelude.{Option, Some, None, if◌then◌else◌}
 use Rattle.eden_model.specs.declared.attempt.Attempt.{Attempt}
 use Rattle.eden_model.specs.declared.attempt.Attempt.TheVariants.{Need}
@@ -8,6 +8,7 @@ use Rattle.eden_model.specs.declared.request.Request.{Request}
 use Rattle.eden_model.specs.Requests.{paths_of}
 use Rattle.eden_model.specs.Trees.{Path}
 use Rattle.eden_tree.specs.Directory.{Row}
+use Rattle.eden_inode.specs.Tables.{Table}
 use Rattle.eden_inode.specs.Trails.{Trail, Leads}
 use Rattle.eden_ops.specs.declared.place.Place.{Place}
 
@@ -51,6 +52,13 @@ is_second changes (Some p) = if is_present changes p then p.second else false
 -- a place that isn't passed over leads along a path of the request
 abbrev pub LeadsFor : Request → ℕ → Row → Option Place → Type 0
 LeadsFor q changes x o = Leads (walked_of (is_second changes o) (paths_of q)) (remembered changes o) x
+
+module _ {F : Type 0} where
+  -- an attempt of the request may go on at the place: it was noted at no later count of changes, and it leads along a path of the
+  -- request, unless it is passed over
+  pub record MayGoOn (q : Request) (s : Table F) (p : Place) : Type 0 where
+    pub noted : p.changes < 2 ^ 64 - 1 → p.changes ≤ s.changes
+    pub leads : LeadsFor q s.changes s.root (Some p)
 
 -- how many components a request's paths have
 abbrev pub components : List Path → ℕ

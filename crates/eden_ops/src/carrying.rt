@@ -1,5 +1,5 @@
 //! A loaded directory that goes along with its entry, to another path.
-ghost use Rattle.std.specs.Prelude.{◌≡◌, Some, None, IsSome};
+ghost use Rattle.std.specs.Prelude.{◌≡◌, ◌+◌, min, Some, None, IsSome};
 ghost use Rattle.std.specs.Option.{option_map};
 ghost use Rattle.eden_model.specs.declared.kind.Kind.TheVariants as kind;
 ghost use Rattle.eden_tree.specs.Directory.{Row, child_of, with_child};
@@ -72,6 +72,7 @@ fn take<A: Allocator + Clone, W: World, F: Files<W>>(
     ensures root { inodes.new.root ≡ without_at path.now inodes.old.root }
     ensures files { inodes.new.files ≡ inodes.old.files }
     ensures shown { W.honest → shows W.World F.Files inodes.new ≡ shows W.World F.Files inodes.old }
+    ensures changes { inodes.new.changes ≡ min (inodes.old.changes + 1) u64.MAX }
     ensures rest { (inodes.new.next ≡ inodes.old.next) × (inodes.new.clock ≡ inodes.old.clock) }
 {
     inodes.holds();
@@ -132,6 +133,7 @@ fn put_back<A: Allocator + Clone, W: World, F: Files<W>>(
     ensures root { inodes.new.root ≡ with_listing path.now child.value inodes.old.root }
     ensures files { inodes.new.files ≡ inodes.old.files }
     ensures shown { W.honest → shows W.World F.Files inodes.new ≡ shows W.World F.Files inodes.old }
+    ensures changes { inodes.new.changes ≡ min (inodes.old.changes + 1) u64.MAX }
     ensures rest { (inodes.new.next ≡ inodes.old.next) × (inodes.new.clock ≡ inodes.old.clock) }
 {
     inodes.holds();

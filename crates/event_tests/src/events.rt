@@ -7,7 +7,7 @@ use crate::waits::seat;
 use eden_model::{Cause, Fault, Key, Kind, Path, Reply, Request};
 use eden_mount::{Arrived, Turned};
 use std::process::Abort;
-use test_random::{kind_at, path_of, request, some_look};
+use test_random::{kind_at, name_at, path, path_of, request, some_look};
 use test_samples::random;
 
 /// What an event met.
@@ -68,6 +68,42 @@ fn taking_away(rt: &impl Abort, ground: &Ground, life: &Life, seed: &mut u64) ->
     })
 }
 
+/// The path of the first so many of these names, and of that one in their directory.
+fn beside(rt: &impl Abort, ground: &Ground, at: &Path, names: usize, place: u8) -> Path {
+    let mut parts = Vec::new(ground.alloc);
+    for (depth, name) in at.as_slice().iter().enumerate() {
+        if depth < names {
+            parts.push(name.as_slice()).expect(rt, "memory");
+        }
+    }
+    parts.push(name_at(place)).expect(rt, "memory");
+    path(ground.alloc, parts.as_slice()).expect(rt, "a path")
+}
+
+/// A request that changes names on the way to what a pending look is about: one comes or goes in a directory of its
+/// path, so that others get other positions, or one goes elsewhere.
+fn changing_names(
+    rt: &impl Abort,
+    ground: &Ground,
+    life: &Life,
+    seed: &mut u64,
+) -> Option<Request> {
+    let word = random(seed);
+    let at = looked_at(life.asked_at(seat(word))?)?;
+    let names = (word / 8 % 4) as usize;
+    let here = beside(rt, ground, at, names, (word / 32 % 4) as u8);
+    Some(match word / 128 % 6 {
+        0 => Request::Create(here),
+        1 => Request::Mkdir(here),
+        2 => Request::Unlink(here),
+        3 => Request::Rmdir(here),
+        _ => Request::Rename(
+            here,
+            beside(rt, ground, at, names, (word / 1_024 % 4) as u8),
+        ),
+    })
+}
+
 /// A request of any kind, or a look.
 fn some_request(rt: &impl Abort, ground: &mut Ground, seed: &mut u64) -> Request {
     let made = if random(seed) % 2 == 0 {
@@ -80,12 +116,15 @@ fn some_request(rt: &impl Abort, ground: &mut Ground, seed: &mut u64) -> Request
 
 /// A request, now and then one that another pass's request meets.
 fn next_request(rt: &impl Abort, ground: &mut Ground, life: &Life, seed: &mut u64) -> Request {
-    if random(seed) % 3 == 0 {
-        if let Some(request) = taking_away(rt, ground, life, seed) {
-            return request;
-        }
+    let met = match random(seed) % 6 {
+        0..=1 => taking_away(rt, ground, life, seed),
+        2 => changing_names(rt, ground, life, seed),
+        _ => None,
+    };
+    match met {
+        Some(request) => request,
+        None => some_request(rt, ground, seed),
     }
-    some_request(rt, ground, seed)
 }
 
 /// A start of some pass, or of none that there is.

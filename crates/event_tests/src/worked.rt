@@ -182,7 +182,7 @@ fn fresh(rt: &impl Abort, alloc: Global, root: Sample, objects: usize, history: 
 /// A commit, how many objects are cached, and what happens on a mount of it.
 type Worked = (Sample, usize, &'static [Row]);
 
-/// A request that waits looks again from the root once it goes on.
+/// A request that waits looks again from the root once it goes on, if a name has changed meanwhile.
 const MOVED_AWAY: Worked = (
     TWO_FILES,
     4,
@@ -200,7 +200,74 @@ const MOVED_AWAY: Worked = (
     ],
 );
 
-/// .. and needs nothing any more, so that nothing is queued.
+/// .. so it does where a name that came has moved its own to another position.
+const MOVED_ON: Worked = (
+    TWO_FILES,
+    4,
+    &[
+        Start(1, "read /bak/test.txt 0 9"),
+        Waits(1, TWO_FILES),
+        Takes(TWO_FILES),
+        Arrives(TWO_FILES, Arrived::Stored),
+        Waits(1, ONE_FILE),
+        Start(2, "create /aaa"),
+        Done(2, 1, "ok\n"),
+        Takes(ONE_FILE),
+        Arrives(ONE_FILE, Arrived::Stored),
+        Waits(1, VERSION_1),
+        Start(2, "create /bak/aaa"),
+        Done(2, 2, "ok\n"),
+        Takes(VERSION_1),
+        Arrives(VERSION_1, Arrived::Stored),
+        Done(1, 3, "data 9 76657273696f6e2031\n"),
+    ],
+);
+
+/// .. and where a name that went has moved another to its position.
+const MOVED_BACK: Worked = (
+    TWO_FILES,
+    4,
+    &[
+        Start(1, "read /bak/test.txt 0 9"),
+        Waits(1, TWO_FILES),
+        Takes(TWO_FILES),
+        Arrives(TWO_FILES, Arrived::Stored),
+        Waits(1, ONE_FILE),
+        Start(2, "rename /test.txt /new.txt"),
+        Done(2, 1, "ok\n"),
+        Start(2, "rename /new.txt /aaa"),
+        Done(2, 2, "ok\n"),
+        Start(2, "unlink /aaa"),
+        Done(2, 3, "ok\n"),
+        Takes(ONE_FILE),
+        Arrives(ONE_FILE, Arrived::Stored),
+        Waits(1, VERSION_1),
+        Takes(VERSION_1),
+        Arrives(VERSION_1, Arrived::Stored),
+        Done(1, 4, "data 9 76657273696f6e2031\n"),
+    ],
+);
+
+/// A request of two paths goes on along the second.
+const TWO_PATHS: Worked = (
+    TWO_FILES,
+    4,
+    &[
+        Start(1, "rename /new.txt /bak/new.txt"),
+        Waits(1, TWO_FILES),
+        Takes(TWO_FILES),
+        Arrives(TWO_FILES, Arrived::Stored),
+        Waits(1, ONE_FILE),
+        Waits(1, ONE_FILE),
+        Takes(ONE_FILE),
+        Arrives(ONE_FILE, Arrived::Stored),
+        Done(1, 1, "ok\n"),
+        Start(2, "list /bak - 9"),
+        Done(2, 2, "entries 2 file new.txt file test.txt end\n"),
+    ],
+);
+
+/// A request that waited needs nothing any more, so that nothing is queued.
 const WANTS_NO_MORE: Worked = (
     TWO_FILES,
     4,
@@ -314,7 +381,7 @@ const DRIVEN_OUT: Worked = (
     ],
 );
 
-/// What was unloaded is asked for again where its object has left the cache.
+/// What was unloaded is loaded with the numbers that were saved for it, though its object has left the cache.
 const UNLOADED: Worked = (
     ONE_FILE,
     1,
@@ -327,12 +394,6 @@ const UNLOADED: Worked = (
         Takes(VERSION_1),
         Arrives(VERSION_1, Arrived::Stored),
         Unloads(1),
-        Waits(1, ONE_FILE),
-        Takes(ONE_FILE),
-        Arrives(ONE_FILE, Arrived::Stored),
-        Waits(1, VERSION_1),
-        Takes(VERSION_1),
-        Arrives(VERSION_1, Arrived::Stored),
         Done(1, 1, "data 10 76657273696f6e20310a\n"),
     ],
 );
@@ -365,6 +426,13 @@ fn a_waiting_request_looks_again(rt: HostRuntime) {
 }
 
 #[test]
+fn a_waiting_request_finds_its_names_at_other_positions(rt: HostRuntime) {
+    check(&rt, rt.alloc(), MOVED_ON, 3);
+    check(&rt, rt.alloc(), MOVED_BACK, 4);
+    check(&rt, rt.alloc(), TWO_PATHS, 2);
+}
+
+#[test]
 fn a_failure_is_told_to_who_waits(rt: HostRuntime) {
     check(&rt, rt.alloc(), ONE_FAILURE, 3);
     check(&rt, rt.alloc(), COMES_AFTER_ALL, 2);
@@ -377,7 +445,7 @@ fn what_is_driven_out_is_waited_for_again(rt: HostRuntime) {
 }
 
 #[test]
-fn what_is_unloaded_is_fetched_again(rt: HostRuntime) {
+fn what_is_unloaded_is_not_fetched_again(rt: HostRuntime) {
     check(&rt, rt.alloc(), UNLOADED, 1);
 }
 

@@ -238,6 +238,57 @@ fn histories_are_full(rt: HostRuntime) {
     assert!(rt; mount.into_table().turns == 3);
 }
 
+/// What the last turn of these events was handed to go on at.
+fn handed(rt: &impl Abort, alloc: Global, rows: &[(Call, Answer)]) -> Option<u64> {
+    let mut mount = mount(rt, alloc, 9, true);
+    run(rt, alloc, &mut mount, rows);
+    mount.into_table().handed
+}
+
+/// Two passes wait, and go on; the object comes, and each is told; one asks again, and waits for nothing.
+static WAITS: [(Call, Answer); 12] = [
+    (Start(1), Began),
+    (Turn(1), Waits),
+    (Start(2), Began),
+    (Turn(2), Waits),
+    (Turn(1), Waits),
+    (Turn(2), Waits),
+    (Take, TakesIt),
+    (Arrive(b"blob 0\0"), Arrives(Arrived::Stored)),
+    (Turn(1), Reads(1)),
+    (Start(1), Began),
+    (Turn(1), Reads(2)),
+    (Turn(2), Reads(3)),
+];
+
+/// One whose object fails is told so, and waits for it again when it asks again.
+static WAITS_AGAIN: [(Call, Answer); 8] = [
+    (Start(1), Began),
+    (Turn(1), Waits),
+    (Take, TakesIt),
+    (FailKey(Cause::Missing), Fails(true)),
+    (Turn(1), Faults(1, Cause::Missing)),
+    (Start(1), Began),
+    (Turn(1), Waits),
+    (Turn(1), Waits),
+];
+
+/// A turn goes on at the turn at which its own request waited last, if it did.
+#[test]
+fn turns_go_on_where_their_request_waited(rt: HostRuntime) {
+    let alloc = rt.alloc();
+    assert!(rt; handed(&rt, alloc, &WAITS[..2]).is_none());
+    assert!(rt; handed(&rt, alloc, &WAITS[..4]).is_none());
+    assert!(rt; handed(&rt, alloc, &WAITS[..5]) == Some(1));
+    assert!(rt; handed(&rt, alloc, &WAITS[..6]) == Some(2));
+    assert!(rt; handed(&rt, alloc, &WAITS[..9]) == Some(3));
+    assert!(rt; handed(&rt, alloc, &WAITS[..11]).is_none());
+    assert!(rt; handed(&rt, alloc, &WAITS) == Some(4));
+    assert!(rt; handed(&rt, alloc, &WAITS_AGAIN[..5]) == Some(1));
+    assert!(rt; handed(&rt, alloc, &WAITS_AGAIN[..7]).is_none());
+    assert!(rt; handed(&rt, alloc, &WAITS_AGAIN) == Some(3));
+}
+
 /// One caller over a source that has these bytes under the one key.
 fn caller(
     rt: &impl Abort,

@@ -78,7 +78,10 @@ fn ask_all<
     T: Attempts<Outside> + Send + Drop,
     J: Naming + Send + Sync,
     R: Threads + Wait + Abort + Sync,
->(rt: &R, race: &Race<'_, T, J>, passes: Vec<Pass<J>>) -> Vec<Caller<J>> {
+>(rt: &R, race: &Race<'_, T, J>, passes: Vec<Pass<J>>) -> Vec<Caller<J>>
+where
+    T::Place: Send,
+{
     let callers = map_vec(rt, passes, &|pass| ask(rt, race, pass));
     race.shared.stop(rt);
     callers.expect(rt, "memory")
@@ -89,7 +92,10 @@ fn fetch_twice<
     T: Attempts<Outside> + Send + Drop,
     J: Naming + Send + Sync,
     R: Threads + Wait + Sync,
->(rt: &R, race: &Race<'_, T, J>) {
+>(rt: &R, race: &Race<'_, T, J>)
+where
+    T::Place: Send,
+{
     join(
         rt,
         move || fetch(rt, race.shared, race.commit),
@@ -102,7 +108,10 @@ fn run<
     T: Attempts<Outside> + Send + Drop,
     J: Naming + Send + Sync,
     R: Threads + Wait + Abort + Sync,
->(rt: &R, race: &Race<'_, T, J>, passes: Vec<Pass<J>>) -> Vec<Caller<J>> {
+>(rt: &R, race: &Race<'_, T, J>, passes: Vec<Pass<J>>) -> Vec<Caller<J>>
+where
+    T::Place: Send,
+{
     let (_, callers) = join(
         rt,
         move || fetch_twice(rt, race),

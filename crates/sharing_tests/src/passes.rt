@@ -171,7 +171,10 @@ fn run<
     commit: &Commit,
     shared: &Shared<Outside, T, Global, J, Kept>,
     passes: Vec<Pass<J>>,
-) -> Vec<Pass<J>> {
+) -> Vec<Pass<J>>
+where
+    T::Place: Send,
+{
     let (_, passes) = join(
         rt,
         move || fetch(rt, shared, commit),

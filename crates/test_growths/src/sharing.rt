@@ -188,6 +188,8 @@ fn beside_fetcher<
     X,
     G: FnOnce(bool) -> X,
 >(rt: &R, shared: &Held<T, J>, objects: &[Vec<u8>], play: G) -> X
+where
+    T::Place: Send,
     requires { (b : Bool) → G.pre play b }
 {
     thread::scope(thread::scope_env(), rt, move |scope| {

@@ -18,6 +18,8 @@ pub(crate) struct Shelf {
     pub wide: bool,
     pub objects: usize,
     pub turns: u64,
+    /// The place that the last attempt was handed.
+    pub handed: Option<u64>,
 }
 
 impl Shelf {
@@ -27,6 +29,7 @@ impl Shelf {
             wide,
             objects: 0,
             turns: 0,
+            handed: None,
         }
     }
 }
@@ -61,17 +64,24 @@ impl Attempts<Outside> for Shelf {
       unloaded = λ t p age gone u. Unit {0};
     } };
 
+    /// A place is the turn at which a request waited.
+    type Place = u64;
+
+    ghost leads = { λ t q p. p ≤ t.turns };
+
     ghost few = { λ t q. sub-le (most_objects q) t.objects };
 
     fn tick(&mut self) {
         self.turns = self.turns.saturating_add(1);
     }
 
-    fn attempt(&mut self, alloc: Global, request: &Request) -> Attempt {
+    fn attempt(&mut self, alloc: Global, request: &Request, place: &mut Option<u64>) -> Attempt {
+        self.handed = place.take();
         if !may_need(request) {
             return Attempt::Finished(Reply::Kind(Kind::Dir));
         }
         if self.objects == 0 {
+            *place = Some(self.turns);
             return Attempt::Need(self.key);
         }
         Attempt::Finished(Reply::Data(Bytes::new(Vec::new(alloc))))

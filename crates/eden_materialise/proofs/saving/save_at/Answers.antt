@@ -1,3 +1,4 @@
+use Rattle.eden_inode.proofs.Places.{places_rise}
 use Rattle.eden_materialise.proofs.Fronts.{can_save, at_table, at_kept, at_shown}
 use Rattle.eden_materialise.proofs.Numbered.{at_numbered}
 use Rattle.eden_materialise.proofs.saving.save_at.Goals as goal
@@ -31,3 +32,6 @@ returns-clause-shown g c h =
     let then = c.change.new.self in
     at_shown g.W.World.honest c.args.path.now (g.F.Files.stored t.files) t.root (g.F.Files.failures t.files) (g.F.Files.stored then.files) then.root (g.F.Files.failures then.files)
     t.next c.holds.ensures.table h g.W.World.repository (c.holds.ensures.kept h) c.change.result c.change.ensures.does
+
+pub returns-clause-places : goal.returns-clause-places
+returns-clause-places g c = places_rise c.args.inodes.now c.change.new.self c.change.ensures.changes

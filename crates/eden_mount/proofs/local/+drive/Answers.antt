@@ -27,4 +27,4 @@ drive-requires g t c =
     let less : drive_size g.T.Attempts.table c.fetch_one.new.mount < drive_size g.T.Attempts.table c.args.mount.now = on.1 in
     let now : drive_size g.T.Attempts.table c.args.mount.now ≡ t = c.decreases in
     let next : drive_size g.T.Attempts.table c.fetch_one.new.mount < t = omega (arith, less, now) in
-    λ κs h. (next, (h.0, (h.1.0, (h.1.1.0, (h.1.1.1.0, (h.1.1.1.1, (q, on.0)))))))
+    λ κs h. (next, (h.0, (h.1.0, (h.1.1.0, (h.1.1.1.0, (h.1.1.1.1.0, (h.1.1.1.1.1, (q, on.0))))))))

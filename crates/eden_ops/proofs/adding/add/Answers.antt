@@ -14,12 +14,13 @@ use Rattle.eden_inode.specs.Tables.{shows}
 use Rattle.eden_materialise.specs.Filing.{node_as, own_row}
 use Rattle.eden_model.specs.declared.attempt.Attempt.{Attempt}
 use Rattle.eden_model.specs.declared.attempt.Attempt.TheVariants.{Finished}
+use Rattle.eden_inode.proofs.Places.{places_rise}
 use Rattle.eden_ops.specs.Attempts.{Attempts, Meets, MeetsShown, IsShown}
 use Rattle.eden_ops.specs.Keeping.{same}
 use Rattle.eden_ops.specs.Changes.{SameNames}
 use Rattle.eden_ops.specs.Leaving.{AreSavedAbove, given}
 use Rattle.eden_ops.proofs.Additions.{adds, asked_add, short_new, lacks_entry, may_add}
-use Rattle.eden_ops.proofs.Additions.{absent_alone, put_new, not_added, root_refused, add_count, given_more, one_given, adds_one, adds_path, adds_keeps, one_more, one_at_most, no_kind}
+use Rattle.eden_ops.proofs.Additions.{absent_alone, put_new, not_added, root_refused, add_count, given_more, given_places, one_given, adds_one, adds_path, adds_keeps, one_more, one_at_most, no_kind}
 use Rattle.eden_ops.proofs.Answering.{walk_ended, says_here}
 use Rattle.eden_ops.proofs.Changing.{not_root, changed, refused}
 use Rattle.eden_ops.proofs.Roots.{root_same, root_chained}
@@ -121,7 +122,8 @@ returns-in-Ok-clause-leaves g c q adding =
     let met = subst (λ (o : Option Seen). Meets g.W.World g.F.Files p c.args.inodes.now t c.meet.new.cache (Ok o)) c.in-Ok-None.field-0-is c.in-Ok-None.ensures.meets in
     let lacks = lacks_entry p above name v.root (sym c.as_slice.ensures ∙ c.in-Some.ensures.cases.0) (walk_still t.root v.root st.alike p ∙ met.0) (row_none t.root v.root st.alike p met.1) in
     let root = root_chained above v.root u.root (λ d. changed_listing d name (Some (own_row v.next c.args.new))) (loaded_there above v.root lacks.row lacks.directory lacks.at lacks.holds) x.ok in
-    let l = leaves_by g.F.Files v u x.atomic.stays root x.atomic.marks (one_given v.next u.next x.next) x.atomic.clock (no_less (g.F.Files.failures v.files) (g.F.Files.failures u.files) x.counted) in
+    let counted = no_less (g.F.Files.failures v.files) (g.F.Files.failures u.files) x.counted in
+    let l = leaves_by g.F.Files v u x.atomic.stays root x.atomic.marks (one_given v.next u.next x.next) x.atomic.clock counted (places_rise v u x.changes) in
     let saved = subst (λ (r : Path). IsSavedAbove r v.root) c.as_slice-2.ensures c.in_default-settle.ensures.saved in
     leaves_changed g.W.World g.F.Files q c.args.inodes.now t
     (adds_keeps g.W.World g.F.Files c.args.path.now q c.args.new adding c.args.inodes.now c.meet.new.inodes c.meet.ensures.keeps) u (Finished say.Ok) (λ e is. cc) (λ e is. cc)
@@ -154,7 +156,8 @@ returns-in-Err-add_entry-clause-leaves g c q adding =
     let u = c.add_entry.new.inodes in
     let st = c.settle.ensures.settles in
     let counted = add_count v.next (g.F.Files.failures v.files) (g.F.Files.failures u.files) c.in-Err-add_entry.fault x.atomic.fault in
-    let l = leaves_by g.F.Files v u x.atomic.stays (root_same v.root u.root x.atomic.err) x.atomic.marks (given_more v.next u.next _ _ x.given) x.atomic.clock counted in
+    let places = given_places v u x.atomic.err x.given in
+    let l = leaves_by g.F.Files v u x.atomic.stays (root_same v.root u.root x.atomic.err) x.atomic.marks (given_more v.next u.next _ _ x.given) x.atomic.clock counted places in
     leaves_changed g.W.World g.F.Files q c.args.inodes.now t
     (adds_keeps g.W.World g.F.Files c.args.path.now q c.args.new adding c.args.inodes.now c.meet.new.inodes c.meet.ensures.keeps) u (Finished (say.Fault c.in-Err-add_entry.fault))
     (λ e is. cc) (λ e is. subst (SameNames t.root) (sym x.atomic.err) st.readies.names) (leaves_then g.W.World g.F.Files t v u (settles_leaves g.W.World g.F.Files t v _ st) l)

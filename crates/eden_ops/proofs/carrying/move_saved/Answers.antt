@@ -5,6 +5,7 @@ use Rattle.eden_coupling.specs.Kept.{IsKept}
 use Rattle.eden_coupling.specs.Ties.{Tied}
 use Rattle.eden_inode.specs.Saved.{AreSavedAt}
 use Rattle.eden_inode.specs.Tables.{shows}
+use Rattle.eden_inode.proofs.Places.{places_then, places_rise}
 use Rattle.eden_materialise.specs.Faults.{IsStoreFault}
 use Rattle.eden_ops.specs.Carrying.{CanHold}
 use Rattle.eden_ops.specs.Changes.{SameNames, StaysOrBecomesOwn}
@@ -134,6 +135,8 @@ returns-in-Ok g c =
       root = subst (λ (z : Row). StaysOrBecomesOwn x.root.origin z.origin) is (went_root honest R F x.next x.root from d taken p n q m split y.root out old G u.root new to can c.in-Ok.ensures.ok);
       next = c.put_back.ensures.rest.0 ∙ c.in-Ok.ensures.rest.0 ∙ c.take-child.ensures.rest.0;
       clock = c.put_back.ensures.rest.1 ∙ c.in-Ok.ensures.rest.1 ∙ c.take-child.ensures.rest.1;
+      places = places_then x y v (places_rise x y c.take-child.ensures.changes)
+          (places_then y u v (places_rise y u c.in-Ok.ensures.changes) (places_rise u v c.put_back.ensures.changes));
     }
 
 pub returns-in-Err : goal.returns-in-Err
@@ -187,4 +190,6 @@ returns-in-Err g c =
       root = subst (λ (z : Row). StaysOrBecomesOwn x.root.origin z.origin) is (back_root honest R F x.next x.root from d taken p n q m split y.root out G u.root c.in-Err.ensures.err can);
       next = c.put_back-in-Err.ensures.rest.0 ∙ c.in-Err.ensures.rest.0 ∙ c.take-child.ensures.rest.0;
       clock = c.put_back-in-Err.ensures.rest.1 ∙ c.in-Err.ensures.rest.1 ∙ c.take-child.ensures.rest.1;
+      places = places_then x y v (places_rise x y c.take-child.ensures.changes)
+          (places_then y u v (places_rise y u c.in-Err.ensures.changes) (places_rise u v c.put_back-in-Err.ensures.changes));
     }

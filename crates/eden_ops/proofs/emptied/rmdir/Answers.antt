@@ -41,6 +41,7 @@ use Rattle.eden_ops.proofs.Walking.{known_unloaded}
 use Rattle.eden_ops.proofs.Stamped.{stamps_on, stamps_same, alike_stamps, left_stamps, chained_stamps, stamps_refused, stamps_then, stamps_kept}
 use Rattle.eden_ops.proofs.Stamps.{walked_on}
 use Rattle.eden_inode.specs.Trails.{Leads}
+use Rattle.eden_inode.proofs.Places.{places_rise}
 use Rattle.eden_ops.proofs.emptied.rmdir.Goals as goal
 
 -- ---- the walk ends before, or nothing is there
@@ -161,7 +162,8 @@ returns-in-Err-let_go-clause-leaves g c =
     let u = c.bring_seen.new.inodes in
     let v = c.let_go.new.inodes in
     let goes = subst (λ (q : Path). LetsGo q u.root v.root) c.as_slice-2.ensures c.let_go.ensures.goes in
-    leaves_gone g.W.World g.F.Files p s u v (keeps_on g.W.World g.F.Files s c.meet.new.inodes u c.meet.ensures.keeps c.bring_seen.ensures.keeps) goes c.let_go.ensures.rest c.let_go.ensures.counted
+    leaves_gone g.W.World g.F.Files p s u v (keeps_on g.W.World g.F.Files s c.meet.new.inodes u c.meet.ensures.keeps c.bring_seen.ensures.keeps) goes
+    c.let_go.ensures.rest c.let_go.ensures.counted c.let_go.ensures.places
     (Finished (say.Fault c.in-Err-let_go.fault)) (λ e is. cc) (c.in-Err-let_go.fault, refl)
 
 -- ---- it is removed
@@ -189,7 +191,7 @@ returns-in-Err-settle-clause-leaves g c =
     let x = c.in-Err-settle.ensures.settles in
     let goes = subst (λ (q : Path). LetsGo q u.root v.root) c.as_slice-2.ensures c.let_go.ensures.goes in
     leaves_removed g.W.World g.F.Files c.args.path.now s u v (keeps_on g.W.World g.F.Files s c.meet.new.inodes u c.meet.ensures.keeps c.bring_seen.ensures.keeps) goes c.let_go.ensures.rest
-    c.let_go.ensures.counted
+    c.let_go.ensures.counted c.let_go.ensures.places
     (Finished (say.Fault c.in-Err-settle.fault)) (λ e is. cc) w (settles_leaves g.W.World g.F.Files v w _ x) x.readies.next (λ e is. (x.readies.names, x.readies.fewer))
     (λ no. absurd (no (c.in-Err-settle.fault, refl)))
 
@@ -255,8 +257,9 @@ returns-in-Ok-clause-leaves g c =
     let saved = subst (λ (r : Path). IsSavedAbove r w.root) c.as_slice-3.ensures c.in_default-settle.ensures.saved in
     let root = root_chained above w.root c.remove_entry.new.inodes.root (λ d. changed_listing d name None) loaded x.ok in
     let z = c.remove_entry.new.inodes in
-    let l = leaves_by g.F.Files w z x.atomic.stays root c.remove_entry.ensures.atomic.marks (no_less w.next z.next x.next) x.atomic.clock x.counted in
-    leaves_removed g.W.World g.F.Files p s u v (keeps_on g.W.World g.F.Files s c.meet.new.inodes u c.meet.ensures.keeps c.bring_seen.ensures.keeps) goes c.let_go.ensures.rest c.let_go.ensures.counted
+    let l = leaves_by g.F.Files w z x.atomic.stays root c.remove_entry.ensures.atomic.marks (no_less w.next z.next x.next) x.atomic.clock x.counted (places_rise w z x.changes) in
+    leaves_removed g.W.World g.F.Files p s u v (keeps_on g.W.World g.F.Files s c.meet.new.inodes u c.meet.ensures.keeps c.bring_seen.ensures.keeps) goes
+    c.let_go.ensures.rest c.let_go.ensures.counted c.let_go.ensures.places
     (Finished say.Ok) (λ e is. cc) z (leaves_then g.W.World g.F.Files v w z (settles_leaves g.W.World g.F.Files v w _ st) l) (x.next ∙ st.readies.next) (λ e is. absurd (cc))
     (λ no. saved_on p w.root z.root saved c.remove_entry.ensures.atomic.marks)
 
@@ -289,8 +292,10 @@ returns-in-Err-remove_entry-clause-leaves g c =
     let st = c.settle.ensures.settles in
     let goes = subst (λ (q : Path). LetsGo q u.root v.root) c.as_slice-2.ensures c.let_go.ensures.goes in
     let counted = fault_count (g.F.Files.failures w.files) (g.F.Files.failures z.files) c.in-Err-remove_entry.fault x.atomic.fault in
-    let l = leaves_by g.F.Files w z x.atomic.stays (root_same w.root z.root x.atomic.err) c.remove_entry.ensures.atomic.marks (no_less w.next z.next x.next) x.atomic.clock counted in
-    leaves_removed g.W.World g.F.Files p s u v (keeps_on g.W.World g.F.Files s c.meet.new.inodes u c.meet.ensures.keeps c.bring_seen.ensures.keeps) goes c.let_go.ensures.rest c.let_go.ensures.counted
+    let places = places_rise w z x.changes in
+    let l = leaves_by g.F.Files w z x.atomic.stays (root_same w.root z.root x.atomic.err) c.remove_entry.ensures.atomic.marks (no_less w.next z.next x.next) x.atomic.clock counted places in
+    leaves_removed g.W.World g.F.Files p s u v (keeps_on g.W.World g.F.Files s c.meet.new.inodes u c.meet.ensures.keeps c.bring_seen.ensures.keeps) goes
+    c.let_go.ensures.rest c.let_go.ensures.counted c.let_go.ensures.places
     (Finished (say.Fault c.in-Err-remove_entry.fault)) (λ e is. cc) z (leaves_then g.W.World g.F.Files v w z (settles_leaves g.W.World g.F.Files v w _ st) l) (x.next ∙ st.readies.next)
     (λ e is. (subst (SameNames v.root) (sym x.atomic.err) st.readies.names, subst (λ (r : Row). StaysLoaded r v.root) (sym x.atomic.err) st.readies.fewer))
     (λ no. absurd (no (c.in-Err-remove_entry.fault, refl)))

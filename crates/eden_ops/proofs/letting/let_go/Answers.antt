@@ -1,4 +1,5 @@
 use Rattle.std.proofs.Common.{arith}
+use Rattle.eden_inode.proofs.Places.{places_unload}
 use Rattle.eden_ops.proofs.Going.{lets_go, goes_marks}
 use Rattle.eden_ops.proofs.letting.let_go.Goals as goal
 
@@ -22,3 +23,18 @@ returns-clause-marks g c = goes_marks c.args.path.now c.args.inodes.now.root c.u
 
 pub returns-then-failures-clause-fault : goal.returns-then-failures-clause-fault
 returns-then-failures-clause-fault g c = omega (arith, c.if-failures.true, c.failures.ensures, c.failures-failures.ensures)
+
+pub returns-then-is_none-clause-places : goal.returns-then-is_none-clause-places
+returns-then-is_none-clause-places g c =
+    let e = c.unload.ensures in
+    places_unload g.W.World.honest c.args.inodes.now c.unload.new.self _ _ _ _ c.unload.result.count e.unloads.0 e.unloads.1.0 e.unloads.1.1 e.changes
+
+pub returns-then-failures-clause-places : goal.returns-then-failures-clause-places
+returns-then-failures-clause-places g c =
+    let e = c.unload.ensures in
+    places_unload g.W.World.honest c.args.inodes.now c.unload.new.self _ _ _ _ c.unload.result.count e.unloads.0 e.unloads.1.0 e.unloads.1.1 e.changes
+
+pub returns-clause-places : goal.returns-clause-places
+returns-clause-places g c =
+    let e = c.unload.ensures in
+    places_unload g.W.World.honest c.args.inodes.now c.unload.new.self _ _ _ _ c.unload.result.count e.unloads.0 e.unloads.1.0 e.unloads.1.1 e.changes

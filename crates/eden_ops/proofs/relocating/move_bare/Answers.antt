@@ -1,6 +1,7 @@
 use Rattle.std.proofs.Common.{refl, sym, subst, inl, inr}
 use Rattle.eden_model.specs.Trees.{Path}
 use Rattle.eden_inode.specs.Tables.{shows}
+use Rattle.eden_inode.proofs.Places.{places_rise}
 use Rattle.eden_ops.specs.Relocating.{MarksAlone}
 use Rattle.eden_ops.proofs.Relocation.{bare_apart, can_move_bare, moves_shown, unmoved_fewer, unmoved_marks, unmoved_names}
 use Rattle.eden_ops.proofs.Roots.{root_moved, root_unmoved}
@@ -38,6 +39,7 @@ returns-in-Ok g c =
           (g.F.Files.stored s.files) s.root (g.F.Files.failures s.files) (g.F.Files.stored t.files) t.root (g.F.Files.failures t.files) e.ok;
       next = e.rest.0;
       clock = e.rest.1;
+      places = places_rise s t e.changes;
     }
 
 pub returns-in-Err : goal.returns-in-Err
@@ -68,4 +70,5 @@ returns-in-Err g c =
       root = root_unmoved honest p n q m F s.root G t.root e.err;
       next = e.rest.0;
       clock = e.rest.1;
+      places = places_rise s t e.changes;
     }

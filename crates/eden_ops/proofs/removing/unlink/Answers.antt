@@ -15,6 +15,7 @@ use Rattle.eden_inode.specs.declared.seen.Seen.{Seen}
 use Rattle.eden_model.specs.declared.attempt.Attempt.{Attempt}
 use Rattle.eden_model.specs.declared.attempt.Attempt.TheVariants.{Finished}
 use Rattle.eden_inode.specs.Tables.{shows}
+use Rattle.eden_inode.proofs.Places.{places_rise}
 use Rattle.eden_ops.specs.Attempts.{Attempts, MeetsShown, IsShown}
 use Rattle.eden_ops.specs.Changes.{SameNames}
 use Rattle.eden_ops.specs.Keeping.{same}
@@ -165,7 +166,7 @@ returns-in-Ok-clause-leaves g c =
     let loaded = above_loaded v.root seen.row p above name (sym c.as_slice.ensures ∙ c.in-Some.ensures.cases.0) there in
     let root = root_chained above v.root c.remove_entry.new.inodes.root (λ d. changed_listing d name None) loaded x.ok in
     let u = c.remove_entry.new.inodes in
-    let l = leaves_by g.F.Files v u x.atomic.stays root x.atomic.marks (no_less v.next u.next x.next) x.atomic.clock x.counted in
+    let l = leaves_by g.F.Files v u x.atomic.stays root x.atomic.marks (no_less v.next u.next x.next) x.atomic.clock x.counted (places_rise v u x.changes) in
     let saved = subst (λ (r : Path). IsSavedAbove r v.root) c.as_slice-2.ensures c.in_default-settle.ensures.saved in
     leaves_changed g.W.World g.F.Files (ask.Unlink p) c.args.inodes.now t c.meet.ensures.keeps u (Finished say.Ok) (λ e is. cc) (λ e is. cc)
     (leaves_then g.W.World g.F.Files t v u (settles_leaves g.W.World g.F.Files t v _ st) l)
@@ -179,7 +180,7 @@ returns-in-Err-remove_entry-clause-leaves g c =
     let u = c.remove_entry.new.inodes in
     let st = c.settle.ensures.settles in
     let counted = fault_count (g.F.Files.failures v.files) (g.F.Files.failures u.files) c.in-Err-remove_entry.fault x.atomic.fault in
-    let l = leaves_by g.F.Files v u x.atomic.stays (root_same v.root u.root x.atomic.err) x.atomic.marks (no_less v.next u.next x.next) x.atomic.clock counted in
+    let l = leaves_by g.F.Files v u x.atomic.stays (root_same v.root u.root x.atomic.err) x.atomic.marks (no_less v.next u.next x.next) x.atomic.clock counted (places_rise v u x.changes) in
     leaves_changed g.W.World g.F.Files (ask.Unlink c.args.path.now) c.args.inodes.now t c.meet.ensures.keeps u (Finished (say.Fault c.in-Err-remove_entry.fault)) (λ e is. cc)
     (λ e is. subst (SameNames t.root) (sym x.atomic.err) st.readies.names)
     (leaves_then g.W.World g.F.Files t v u (settles_leaves g.W.World g.F.Files t v _ st) l)

@@ -22,6 +22,7 @@ returns-clause-settles g c =
         counted = x.counted;
         next = x.rest.0;
         clock = x.rest.1;
+        places = x.places;
       };
       alike = alike;
     }

@@ -1,4 +1,8 @@
 use Rattle.std.proofs.Common.{refl, subst}
+use Rattle.eden_model.specs.declared.request.Request.{Request}
+use Rattle.eden_ops.specs.declared.place.Place.{Place}
+use Rattle.eden_ops.specs.Trails.{MayGoOn}
+use Rattle.eden_ops.proofs.CallerLemmas.{may_still}
 use Rattle.eden_model.specs.Trees.{Path}
 use Rattle.eden_mount.specs.Tables.{Unloads}
 use Rattle.eden_checkout.specs.Attempted.{attempted}
@@ -17,8 +21,8 @@ invariant_of-self g c =
     let origin = root_left c.as_slice.result.now x.inodes.root c.unload.new.self.root (goes c.as_slice.result.now e.elsewhere) in
     comes_from x.root x.inodes.root.origin c.unload.new.self.root.origin c.self.invariant origin
 
-pub returns : goal.returns
-returns g c =
+pub returns-clause-unloads : goal.returns-clause-unloads
+returns-clause-unloads g c =
     let x = c.self.inside in
     let e = c.unload.ensures in
     let s : Checkout _ = record { inodes = x.inodes; cache = x.cache; root = x.root } in
@@ -37,3 +41,12 @@ returns g c =
     }) e.shown in
     subst (λ (u : Checkout _). Unloads (attempted g.W.World g.F.Files) g.W.World.honest u c.args.path.now c.args.older_than c.unload.result.count t) c.self.view_is
     (subst (λ (p : Path). Unloads (attempted g.W.World g.F.Files) g.W.World.honest s p c.args.older_than c.unload.result.count t) c.as_slice.ensures here)
+
+pub returns-clause-places : goal.returns-clause-places
+returns-clause-places g c =
+    let x = c.self.inside in
+    let t = c.unload.new.self in
+    let e = c.unload.ensures in
+    let P : Checkout _ → Type 0 = λ u. (q : Request) (p : Place) → MayGoOn q u.inodes p → MayGoOn q t p in
+    let kept = c.place_laws.ensures.unloads x.inodes t _ _ _ _ c.unload.result.count e.unloads.0 e.unloads.1.0 e.unloads.1.1 e.changes in
+    subst P c.self.view_is (may_still x.inodes t kept)

@@ -1,9 +1,11 @@
 use Rattle.eden_mount.specs.Kept.{core_from}
 use Rattle.eden_mount.proofs.Keeping.{tick_keeps}
+use Rattle.eden_mount.proofs.Placing.{retabled}
 use Rattle.eden_mount.proofs.mount.Mount.turn.Goals as goal
 
 pub invariant_of-self : goal.invariant_of-self
 invariant_of-self g c =
     let a = c.self.inside in
     let m = core_from a.table a.imports a.seats.items (g.H.History.entries a.history) (g.H.History.limit a.history) in
-    (tick_keeps g.T.Attempts.table g.W.World.honest g.W.World.opening m c.tick.new.self c.self.invariant.0 c.tick.ensures, c.self.invariant.1)
+    let kept = tick_keeps g.T.Attempts.table g.W.World.honest g.W.World.opening m c.tick.new.self c.self.invariant.0.0 c.tick.ensures.ticks in
+    ((kept, c.self.invariant.0.1), retabled g.T.Attempts.leads a.table c.tick.new.self a.seats.items a.places.items c.tick.ensures.places c.self.invariant.1)
