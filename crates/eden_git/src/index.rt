@@ -1,29 +1,27 @@
 // The index of a pack (gitformat-pack(5), "Version 2 pack-*.idx files"): how many ids there are up to each first byte,
 // the ids in order, their checksums, their places in the pack, and the places past 2^31.
-ghost use Rattle.std.specs.Prelude.{◌≡◌, ◌≤◌, ◌<◌, length, IfErr};
+ghost use Rattle.std.specs.Prelude.{◌≡◌, ◌≤◌, ◌<◌, IfErr};
 ghost use Rattle.eden_pack_format.specs.Causes.{IsReadingCause};
 
+use crate::ids::Ids;
 use crate::pieces::Pieces;
 use eden_model::{Cause, Id};
-use eden_pack_format::{FanOut, number_of};
-use std::cmp::Ordering;
+use eden_pack_format::{FanOut, Place, is_index, place_of};
 use std::io::{Read, Seek};
 
-/// Where the ids begin: behind the magic number, the version and 256 counts.
-const IDS: u64 = 8 + 4 * 256;
+/// Where the counts begin: behind the magic number and the version.
+const COUNTS: u64 = 8;
+
+/// Where the ids begin: behind 256 counts.
+const IDS: u64 = COUNTS + 4 * 256;
 
 /// What each object has beside a place past 2^31: an id, a checksum and a place.
 const EACH: u64 = 20 + 4 + 4;
 
-/// So many ids are read at once, and so many bytes they have.
-const BLOCK: u32 = 204;
-
-const BLOCK_BYTES: usize = 4080;
-
 #[derive(Drop)]
 pub(crate) struct Index<F> {
     pieces: Pieces<F>,
-    fan_out: FanOut,
+    ids: Ids,
 }
 
 impl<F: Read + Seek + Drop> Index<F> {
@@ -31,66 +29,55 @@ impl<F: Read + Seek + Drop> Index<F> {
     pub(crate) fn open(mut pieces: Pieces<F>) -> Result<Self, Cause>
         ensures causes { IfErr result IsReadingCause }
     {
-        let mut front = [0; 1032];
+        let mut front = [0; 8];
         pieces.read(0, &mut front)?;
-        let fan_out = FanOut::read(&front).ok_or(Cause::Device)?;
+        if !is_index(&front) {
+            return Err(Cause::Device);
+        }
+        let mut counts = [0; 1024];
+        pieces.read(COUNTS, &mut counts)?;
+        let fan_out = FanOut::read(&counts).ok_or(Cause::Device)?;
         if pieces.len() < IDS + EACH * fan_out.all() as u64 {
             return Err(Cause::Device);
         }
-        Ok(Index { pieces, fan_out })
+        let ids = Ids::new(IDS, fan_out);
+        Ok(Index { pieces, ids })
     }
 
     /// Where the object of that id begins in the pack, if it is in there.
     pub(crate) fn find(&mut self, id: Id) -> Result<Option<u64>, Cause>
         ensures causes { IfErr result IsReadingCause }
     {
-        let (low, high) = self.narrowed(id)?;
-        let count = high.saturating_sub(low).min(BLOCK) as usize;
-        let mut block = [0; BLOCK_BYTES];
-        self.pieces
-            .read(IDS + 20 * low as u64, &mut block[..20 * count])?;
-        match number_of(&block[..20 * count], id) {
-            Some(number) => Ok(Some(self.place(low.saturating_add(number as u32))?)),
+        match self.ids.number_of(&mut self.pieces, id)? {
+            Some(number) => Ok(Some(self.begin_of(number)?)),
             None => Ok(None),
         }
     }
 
-    // Between which numbers the id is, if it is in there: as few as are read at once.
-    fn narrowed(&mut self, id: Id) -> Result<(u32, u32), Cause>
+    // Where the object of that number begins.
+    fn begin_of(&mut self, number: u32) -> Result<u64, Cause>
         ensures causes { IfErr result IsReadingCause }
     {
-        let (mut low, mut high) = self.fan_out.range(id.bytes[0]);
-        let mut here = [0; 20];
-        for _ in 0..32 {
-            if high.saturating_sub(low) <= BLOCK {
-                break;
-            }
-            let middle = low + (high - low) / 2;
-            self.pieces.read(IDS + 20 * middle as u64, &mut here)?;
-            match here.cmp(&id.bytes) {
-                Ordering::Greater => high = middle,
-                _ => low = middle,
-            }
-        }
-        Ok((low, high))
-    }
-
-    // Where the object of that number begins: in four bytes, or, where their highest bit is set, in eight others, whose
-    // number the other bits are.
-    fn place(&mut self, number: u32) -> Result<u64, Cause>
-        ensures causes { IfErr result IsReadingCause }
-    {
-        let count = self.fan_out.all() as u64;
+        let count = self.ids.count();
         let mut short = [0; 4];
-        self.pieces
-            .read(IDS + 24 * count + 4 * number as u64, &mut short)?;
-        let short = u32::from_be_bytes(short) as u64;
-        if short < 1 << 31 {
-            return Ok(short);
+        self.pieces.read(places(count).saturating_add(4 * number as u64), &mut short)?;
+        match place_of(u32::from_be_bytes(short), true) {
+            Place::At(at) => Ok(at),
+            Place::Long(row) => {
+                let mut long = [0; 8];
+                self.pieces.read(long_places(count).saturating_add(8 * row as u64), &mut long)?;
+                Ok(u64::from_be_bytes(long))
+            }
         }
-        let mut long = [0; 8];
-        self.pieces
-            .read(IDS + EACH * count + 8 * (short - (1 << 31)), &mut long)?;
-        Ok(u64::from_be_bytes(long))
     }
+}
+
+// Where the places of so many objects begin: behind their ids and checksums.
+fn places(count: u64) -> u64 {
+    IDS.saturating_add(count.saturating_mul(20 + 4))
+}
+
+// Where the places past 2^31 begin.
+fn long_places(count: u64) -> u64 {
+    IDS.saturating_add(count.saturating_mul(EACH))
 }

@@ -1,11 +1,9 @@
-// A pack and its index.
-ghost use Rattle.std.specs.Prelude.{◌≡◌, ◌≤◌, length, IfOk, IfErr, IfSome};
-ghost use Rattle.eden_source.specs.Fetching.{longest_framed};
+// A pack: the entries that lie in it.
+ghost use Rattle.std.specs.Prelude.{◌≡◌, ◌≤◌, length, IfOk, IfErr};
 ghost use Rattle.eden_pack_format.specs.Causes.{IsReadingCause};
-ghost use Rattle.eden_git.specs.Framing.{IsFramedObject};
 
 use crate::bases::{Base, Bases};
-use crate::framing::{BODY_MOST, frame};
+use crate::framing::BODY_MOST;
 use crate::index::Index;
 use crate::loose::cause_of;
 use crate::pieces::Pieces;
@@ -15,10 +13,6 @@ use eden_object::Word;
 use eden_pack_format::{EntryKind, apply, read_entry_head};
 use std::alloc::Global;
 use std::io::{Read, Seek};
-use std::mem;
-
-/// The longest chain of deltas, Git's own bound. A longer one, or one that comes back to itself, is refused.
-const DEEPEST: usize = 4095;
 
 /// No entry has more bytes before its stream.
 const HEAD_MOST: u64 = 40;
@@ -36,29 +30,29 @@ pub(crate) struct Tools {
 
 /// A zlib stream in a pack: where it begins, and how many bytes it is to give.
 #[derive(Clone, Copy)]
-struct Stream {
+pub(crate) struct Stream {
     at: u64,
     size: usize,
-}
-
-/// An entry that is a delta: where it begins, and its stream.
-#[derive(Clone, Copy)]
-pub(crate) struct Step {
-    at: u64,
-    delta: Stream,
 }
 
 #[derive(Drop)]
 pub(crate) struct Pack<F> {
     /// By which its bases are known among those of other packs.
     number: u64,
-    index: Index<F>,
+    /// Its own index, if it has one.
+    index: Option<Index<F>>,
+    /// Whether a multi-pack index says what is in it.
+    is_in_multi: bool,
     pieces: Pieces<F>,
 }
 
 impl<F: Read + Seek + Drop> Pack<F> {
     /// `Device`, where the file is no pack of version 2 or 3.
-    pub(crate) fn open(number: u64, index: Index<F>, mut pieces: Pieces<F>) -> Result<Self, Cause>
+    pub(crate) fn open(
+        number: u64,
+        index: Option<Index<F>>,
+        mut pieces: Pieces<F>,
+    ) -> Result<Self, Cause>
         ensures causes { IfErr result IsReadingCause }
     {
         let mut head = [0; 8];
@@ -69,62 +63,35 @@ impl<F: Read + Seek + Drop> Pack<F> {
         Ok(Pack {
             number,
             index,
+            is_in_multi: false,
             pieces,
         })
     }
 
-    /// The framed object of that id, if it is in the pack.
-    pub(crate) fn framed(&mut self, tools: &mut Tools, id: Id) -> Result<Option<Vec<u8>>, Cause>
-        ensures framed { IfOk result (λ found. IfSome found (λ v. IsFramedObject v.items)) }
-        ensures bounded { IfOk result (λ found. IfSome found (λ v. length v.items ≤ longest_framed)) }
+    pub(crate) fn number(&self) -> u64 {
+        self.number
+    }
+
+    pub(crate) fn is_in_multi(&self) -> bool {
+        self.is_in_multi
+    }
+
+    pub(crate) fn put_in_multi(&mut self) {
+        self.is_in_multi = true;
+    }
+
+    /// Where the object of that id begins, by the pack's own index, if it has one and the object is in there.
+    pub(crate) fn find(&mut self, id: Id) -> Result<Option<u64>, Cause>
         ensures causes { IfErr result IsReadingCause }
     {
-        match self.index.find(id)? {
-            Some(at) => Ok(Some(self.framed_at(tools, at)?)),
+        match &mut self.index {
+            Some(index) => index.find(id),
             None => Ok(None),
         }
     }
 
-    fn framed_at(&mut self, tools: &mut Tools, at: u64) -> Result<Vec<u8>, Cause>
-        ensures framed { IfOk result (λ v. IsFramedObject v.items) }
-        ensures bounded { IfOk result (λ v. length v.items ≤ longest_framed) }
-        ensures causes { IfErr result IsReadingCause }
-    {
-        let mut steps = Vec::new(tools.alloc);
-        let root = self.root_of(tools, at, &mut steps)?;
-        let base = self.built(tools, &mut steps, root)?;
-        let framed = frame(tools.alloc, base.word, &base.body);
-        if base.is_base {
-            tools.bases.keep(base);
-        }
-        framed
-    }
-
-    // The object that stands whole or is kept, to which the deltas from there lead, which are put on the row of steps.
-    fn root_of(
-        &mut self,
-        tools: &mut Tools,
-        start: u64,
-        steps: &mut Vec<Step>,
-    ) -> Result<Base, Cause>
-        ensures causes { IfErr result IsReadingCause }
-    {
-        let mut at = start;
-        for _ in 0..=DEEPEST {
-            if let Some(base) = tools.bases.take(self.number, at) {
-                return Ok(base);
-            }
-            let (kind, stream) = self.entry_at(tools.alloc, at)?;
-            if let EntryKind::Whole(word) = kind {
-                return self.whole_at(tools, at, word, stream);
-            }
-            steps.push(Step { at, delta: stream })?;
-            at = self.base_of(kind, at)?;
-        }
-        Err(Cause::Device)
-    }
-
-    fn whole_at(
+    /// The object that stands whole there.
+    pub(crate) fn whole_at(
         &mut self,
         tools: &mut Tools,
         at: u64,
@@ -143,49 +110,29 @@ impl<F: Read + Seek + Drop> Pack<F> {
         })
     }
 
-    // Where the base of the delta at that place begins.
-    fn base_of(&mut self, kind: EntryKind, at: u64) -> Result<u64, Cause>
+    /// What the delta there makes of the base.
+    pub(crate) fn next_of(
+        &mut self,
+        tools: &mut Tools,
+        base: &Base,
+        at: u64,
+        delta: Stream,
+    ) -> Result<Base, Cause>
         ensures causes { IfErr result IsReadingCause }
     {
-        match kind {
-            EntryKind::Back(back) => at.checked_sub(back).ok_or(Cause::Device),
-            EntryKind::Named(id) => self.index.find(id)?.ok_or(Cause::Device),
-            EntryKind::Whole(_) => Err(Cause::Device),
-        }
-    }
-
-    // What the deltas make of the object, the last of them first. Each object that one is applied to is kept.
-    fn built(&mut self, tools: &mut Tools, steps: &mut Vec<Step>, root: Base) -> Result<Base, Cause>
-        ensures causes { IfErr result IsReadingCause }
-    {
-        let mut base = root;
-        for _ in 0..=DEEPEST {
-            let Some(step) = steps.pop() else {
-                return Ok(base);
-            };
-            let next = self.next_of(tools, &base, step)?;
-            tools.bases.keep(mem::replace(&mut base, next));
-        }
-        Err(Cause::Device)
-    }
-
-    // What the delta makes of the base.
-    fn next_of(&mut self, tools: &mut Tools, base: &Base, step: Step) -> Result<Base, Cause>
-        ensures causes { IfErr result IsReadingCause }
-    {
-        let delta = self.inflated(tools, step.delta)?;
+        let delta = self.inflated(tools, delta)?;
         let body = apply(tools.alloc, &base.body, &delta)?;
         Ok(Base {
             pack: self.number,
-            at: step.at,
+            at,
             word: base.word,
             body,
             is_base: false,
         })
     }
 
-    // What stands before the stream of the entry there, and the stream.
-    fn entry_at(&mut self, alloc: Global, at: u64) -> Result<(EntryKind, Stream), Cause>
+    /// What stands before the stream of the entry there, and the stream.
+    pub(crate) fn entry_at(&mut self, alloc: Global, at: u64) -> Result<(EntryKind, Stream), Cause>
         ensures causes { IfErr result IsReadingCause }
     {
         let bytes = self.pieces.read_some(alloc, at, HEAD_MOST)?;

@@ -4,26 +4,47 @@ ghost use Rattle.eden_source.specs.Fetching.{longest_framed};
 ghost use Rattle.eden_pack_format.specs.Causes.{IsReadingCause};
 ghost use Rattle.eden_git.specs.Framing.{IsFramedObject};
 
-use crate::index::Index;
+use crate::multi_index::MultiIndex;
 use crate::pack::{Pack, Tools};
-use crate::pieces::open_pieces;
 use eden_model::{Cause, Id};
-use eden_plain_files::{FolderFault, entry_in};
-use std::alloc::{Alloc, Allocator, Global};
-use std::fs::{self, DirEntry};
-use std::io::{self, ErrorKind, Read, Seek};
+use std::alloc::Global;
+use std::io::{Read, Seek};
 use std::path::PathBuf;
-use std::rt::Files;
 
 /// The packs of a directory of objects, as they were when it was last looked at.
 #[derive(Drop)]
 pub(crate) struct Packs<F> {
-    folder: PathBuf,
-    /// The names of their indexes.
-    seen: Vec<String>,
-    open: Vec<Pack<F>>,
+    pub(crate) folder: PathBuf,
+    /// The names of their files and of their indexes, in order.
+    pub(crate) seen: Vec<String>,
+    pub(crate) open: Vec<Pack<F>>,
+    pub(crate) multi: Option<Multi<F>>,
     /// Whether one of them couldn't be opened.
-    is_damaged: bool,
+    pub(crate) is_damaged: bool,
+}
+
+/// A multi-pack index, and for each of its packs which of the open ones it is.
+#[derive(Drop)]
+pub(crate) struct Multi<F> {
+    pub(crate) index: MultiIndex<F>,
+    pub(crate) packs: Vec<Option<usize>>,
+}
+
+/// Where an object lies: in which of the open packs, and where it begins there.
+#[derive(Clone, Copy)]
+pub(crate) struct Spot {
+    pub(crate) pack: usize,
+    pub(crate) at: u64,
+}
+
+/// What a multi-pack index says of an object.
+#[derive(Clone, Copy)]
+pub(crate) enum Told {
+    There(Spot),
+    /// None of its packs has it.
+    Absent,
+    /// There is no such index, or the pack that it names isn't open.
+    Nothing,
 }
 
 impl<F: Read + Seek + Drop> Packs<F> {
@@ -36,24 +57,65 @@ impl<F: Read + Seek + Drop> Packs<F> {
             folder,
             seen: Vec::new(alloc),
             open: Vec::new(alloc),
+            multi: None,
             is_damaged: false,
         })
     }
 
-    /// The framed object of that id, if it is in one of the packs that were seen. A pack that can't be read is passed
-    /// over where another one has the object.
+    /// Marks the open pack of that number as one that the multi-pack index is of.
+    pub(crate) fn put_in_multi(&mut self, number: Option<usize>) {
+        let Some(number) = number else {
+            return;
+        };
+        if let Some(pack) = self.open.get_mut(number) {
+            pack.put_in_multi();
+        }
+    }
+
+    /// The framed object of that id, if it is in one of the packs that were seen. The multi-pack index is asked first,
+    /// then the packs' own indexes: all of them, if it couldn't answer, or else those of the packs that it isn't of.
+    /// What can't be read is passed over where another one has the object.
     pub(crate) fn framed(&mut self, tools: &mut Tools, id: Id) -> Result<Option<Vec<u8>>, Cause>
         ensures framed { IfOk result (λ found. IfSome found (λ v. IsFramedObject v.items)) }
         ensures bounded { IfOk result (λ found. IfSome found (λ v. length v.items ≤ longest_framed)) }
         ensures causes { IfErr result IsReadingCause }
     {
-        let mut failed = if self.is_damaged {
+        let failed = if self.is_damaged {
             Some(Cause::Device)
         } else {
             None
         };
-        for index in 0..self.open.len() {
-            match self.open[index].framed(tools, id) {
+        match self.told_by_multi(id) {
+            Ok(Told::There(spot)) => match self.framed_at(tools, spot) {
+                Ok(framed) => Ok(Some(framed)),
+                Err(cause) => self.framed_by_own(tools, id, false, Some(cause)),
+            },
+            Ok(Told::Absent) => self.framed_by_own(tools, id, true, failed),
+            Ok(Told::Nothing) => self.framed_by_own(tools, id, false, failed),
+            Err(cause) => self.framed_by_own(tools, id, false, Some(cause)),
+        }
+    }
+
+    // The framed object of that id by the packs' own indexes; whether those are passed over of which there is a
+    // multi-pack index, and what failed before.
+    fn framed_by_own(
+        &mut self,
+        tools: &mut Tools,
+        id: Id,
+        is_multi_over: bool,
+        failed: Option<Cause>,
+    ) -> Result<Option<Vec<u8>>, Cause>
+        requires { IfSome failed IsReadingCause }
+        ensures framed { IfOk result (λ found. IfSome found (λ v. IsFramedObject v.items)) }
+        ensures bounded { IfOk result (λ found. IfSome found (λ v. length v.items ≤ longest_framed)) }
+        ensures causes { IfErr result IsReadingCause }
+    {
+        let mut failed = failed;
+        for pack in 0..self.open.len() {
+            if is_multi_over && self.is_in_multi(pack) {
+                continue;
+            }
+            match self.framed_in(tools, pack, id) {
                 Ok(Some(framed)) => return Ok(Some(framed)),
                 Ok(None) => {}
                 Err(cause) => failed = Some(cause),
@@ -64,104 +126,59 @@ impl<F: Read + Seek + Drop> Packs<F> {
             None => Ok(None),
         }
     }
-}
 
-/// Looks at the directory again: where other packs are in it than were seen, all are opened anew. Whether there are.
-pub(crate) fn look_again<R: Files + Alloc + Clone + Drop>(
-    files: &R,
-    alloc: Global,
-    packs: &mut Packs<R::File>,
-    numbers: &mut u64,
-) -> Result<bool, Cause>
-    ensures causes { IfErr result IsReadingCause }
-{
-    let names = index_names(files, alloc, &packs.folder)?;
-    if names == packs.seen {
-        return Ok(false);
-    }
-    packs.is_damaged = false;
-    packs.open = Vec::new(alloc);
-    for name in &names {
-        *numbers = numbers.saturating_add(1);
-        match open_pack(files, alloc, &packs.folder, name, *numbers) {
-            Ok(pack) => packs.open.push(pack)?,
-            Err(FolderFault::Missing) => {}
-            Err(FolderFault::Memory) => return Err(Cause::Memory),
-            Err(_) => packs.is_damaged = true,
+    // Whether the multi-pack index is of the open pack of that number.
+    fn is_in_multi(&self, pack: usize) -> bool {
+        match self.open.get(pack) {
+            Some(pack) => pack.is_in_multi(),
+            None => false,
         }
     }
-    packs.seen = names;
-    Ok(true)
-}
 
-// The names of the indexes in the directory of packs, which need not be there.
-fn index_names<R: Files + Alloc + Clone + Drop>(
-    files: &R,
-    alloc: Global,
-    folder: &PathBuf,
-) -> Result<Vec<String>, Cause>
-    ensures causes { IfErr result IsReadingCause }
-{
-    let mut names = Vec::new(alloc);
-    let items = match fs::read_dir(files, folder.as_path()) {
-        Ok(items) => items,
-        Err(error) if error.kind() == ErrorKind::NotFound => return Ok(names),
-        Err(error) => return Err(cause_of(FolderFault::from(error))),
-    };
-    for item in items {
-        if let Some(name) = index_name(alloc, item)? {
-            names.push(name)?;
+    // The framed object of that id, if it is in that pack by its own index.
+    fn framed_in(
+        &mut self,
+        tools: &mut Tools,
+        pack: usize,
+        id: Id,
+    ) -> Result<Option<Vec<u8>>, Cause>
+        ensures framed { IfOk result (λ found. IfSome found (λ v. IsFramedObject v.items)) }
+        ensures bounded { IfOk result (λ found. IfSome found (λ v. length v.items ≤ longest_framed)) }
+        ensures causes { IfErr result IsReadingCause }
+    {
+        match self.find_in(pack, id)? {
+            Some(at) => Ok(Some(self.framed_at(tools, Spot { pack, at })?)),
+            None => Ok(None),
         }
     }
-    Ok(names)
-}
 
-// The name of the entry, if it is an index's.
-fn index_name<R: Files + Drop, A: Allocator>(
-    alloc: Global,
-    item: io::Result<DirEntry<R, A>>,
-) -> Result<Option<String>, Cause>
-    ensures causes { IfErr result IsReadingCause }
-{
-    match entry_in(item).map_err(cause_of)? {
-        Some(entry) if entry.file_name().ends_with(".idx") => {
-            Ok(Some(String::from_str(alloc, entry.file_name())?))
+    /// Where the object of that id begins in the open pack of that number, by its own index.
+    pub(crate) fn find_in(&mut self, pack: usize, id: Id) -> Result<Option<u64>, Cause>
+        ensures causes { IfErr result IsReadingCause }
+    {
+        match self.open.get_mut(pack) {
+            Some(pack) => pack.find(id),
+            None => Ok(None),
         }
-        _ => Ok(None),
     }
-}
 
-// The pack of that index. `Missing`, where one of the two is gone by now.
-fn open_pack<R: Files + Drop>(
-    files: &R,
-    alloc: Global,
-    folder: &PathBuf,
-    name: &String,
-    number: u64,
-) -> Result<Pack<R::File>, FolderFault> {
-    let index_path = folder.join(alloc, name.as_str())?;
-    let mut pack_path = index_path.clone()?;
-    pack_path.set_extension("pack")?;
-    let index = open_pieces(files, index_path.as_str())?;
-    let pieces = open_pieces(files, pack_path.as_str())?;
-    let index = Index::open(index).map_err(fault_of)?;
-    Pack::open(number, index, pieces).map_err(fault_of)
-}
-
-// Why a pack isn't opened.
-fn fault_of(cause: Cause) -> FolderFault {
-    match cause {
-        Cause::Memory => FolderFault::Memory,
-        _ => FolderFault::Device,
-    }
-}
-
-// What a source answers where a directory can't be listed.
-pub(crate) fn cause_of(fault: FolderFault) -> Cause
-    ensures { IsReadingCause result }
-{
-    match fault {
-        FolderFault::Memory => Cause::Memory,
-        _ => Cause::Device,
+    /// What the multi-pack index says of the object of that id. `Device`, where it names a pack that it isn't of.
+    pub(crate) fn told_by_multi(&mut self, id: Id) -> Result<Told, Cause>
+        ensures causes { IfErr result IsReadingCause }
+    {
+        let Some(multi) = &mut self.multi else {
+            return Ok(Told::Nothing);
+        };
+        let Some(found) = multi.index.find(id)? else {
+            return Ok(Told::Absent);
+        };
+        match multi.packs.get(found.pack as usize) {
+            Some(Some(pack)) => Ok(Told::There(Spot {
+                pack: *pack,
+                at: found.at,
+            })),
+            Some(None) => Ok(Told::Nothing),
+            None => Err(Cause::Device),
+        }
     }
 }

@@ -6,9 +6,10 @@ ghost use Rattle.eden_git.specs.Framing.{IsFramedObject};
 
 use crate::alternates::directories;
 use crate::fault::GitFault;
+use crate::look::look_again;
 use crate::loose::read_loose;
 use crate::pack::Tools;
-use crate::packs::{Packs, look_again};
+use crate::packs::Packs;
 use eden_model::{Cause, Id};
 use eden_source::{FolderSource, Source};
 use std::alloc::{Alloc, Global};

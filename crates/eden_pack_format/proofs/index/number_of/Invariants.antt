@@ -1,5 +1,6 @@
-use Rattle.std.proofs.Common.{◌≤◌, ◌*◌, length}
+use Rattle.std.proofs.Common.{◌≤◌, ℕ}
+use Rattle.eden_pack_format.specs.Indexes.{HasId}
 use Rattle.eden_pack_format.proofs.index.number_of.Given as goal
 
-abbrev pub invariant-loop : goal.invariant-loop
-invariant-loop l = 20 * l.high ≤ length l.ids
+abbrev pub invariant-loop-number : goal.invariant-loop-number
+invariant-loop-number l = (n : ℕ) → HasId l.ids l.id.bytes n → l.number ≤ n
