@@ -3,3 +3,4 @@ pub mod Pruning
 pub mod Written
 pub mod Showing
 pub mod Ordering
+pub mod Closing

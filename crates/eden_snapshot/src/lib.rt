@@ -6,6 +6,7 @@
 //! the sink is told. A submodule has the commit's id where `Submodules` knows it, and is left out and told where not.
 #![tactic(auto)]
 
+mod closed;
 mod fault;
 mod left_out;
 mod memory;
@@ -14,6 +15,7 @@ mod submodules;
 mod trail;
 mod walk;
 
+pub use closed::{ClosedFault, expect_closed};
 pub use fault::SnapshotFault;
 pub use left_out::LeftOut;
 pub use memory::MemorySink;
