@@ -4,3 +4,4 @@ pub mod Written
 pub mod Showing
 pub mod Ordering
 pub mod Closing
+pub mod Commits

@@ -7,6 +7,7 @@
 #![tactic(auto)]
 
 mod closed;
+mod commit;
 mod fault;
 mod left_out;
 mod memory;
@@ -16,6 +17,7 @@ mod trail;
 mod walk;
 
 pub use closed::{ClosedFault, expect_closed};
+pub use commit::CommitSubmodules;
 pub use fault::SnapshotFault;
 pub use left_out::LeftOut;
 pub use memory::MemorySink;
