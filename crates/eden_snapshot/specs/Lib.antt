@@ -5,3 +5,5 @@ pub mod Showing
 pub mod Ordering
 pub mod Closing
 pub mod Commits
+pub mod Rows
+pub mod Changes
