@@ -4,3 +4,5 @@ pub mod Wholes
 pub mod Joined
 pub mod Ordered
 pub mod Trails
+mod Differing
+mod Gathered

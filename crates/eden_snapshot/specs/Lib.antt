@@ -3,3 +3,7 @@ pub mod Pruning
 pub mod Written
 pub mod Showing
 pub mod Ordering
+pub mod Closing
+pub mod Commits
+pub mod Rows
+pub mod Changes

@@ -1,4 +1,4 @@
-//! Why there is no snapshot.
+//! Why there is no snapshot, or why changes aren't told.
 
 ghost use Rattle.std.specs.Prelude.{◌≡◌};
 ghost use Rattle.eden_snapshot.specs.declared.fault.SnapshotFault.TheVariants as fault;
@@ -10,8 +10,8 @@ use eden_overlay_format::Refusal;
 use std::alloc::{AllocError, AllocFailed};
 use thiserror::Error;
 
-/// Why there is no snapshot: the first that was met. The files haven't changed, and the sink may have kept objects that
-/// nothing names.
+/// Why there is no snapshot, or why not all changes were told: the first that was met. The files haven't changed, and the
+/// sink may have kept objects that nothing names.
 #[derive(Clone, Copy, Debug, PartialEq, Eq, Error)]
 pub enum SnapshotFault {
     /// The file of that number is named as an entry's own, and isn't stored.
@@ -26,9 +26,9 @@ pub enum SnapshotFault {
     /// The tree of the directory of that number would have more than 2^30 bytes.
     #[error("directory {0} is too large for a tree")]
     TooLarge(u64),
-    /// Whether the commit has a submodule at a path isn't known, since an object that says so didn't come.
-    #[error("a submodule isn't known: {0}")]
-    Submodule(Cause),
+    /// What the commit has at a path isn't known, since a tree that says so didn't come.
+    #[error("a tree of the commit didn't come: {0}")]
+    Object(Cause),
     /// The overlay's device failed.
     #[error("the device failed")]
     Device,

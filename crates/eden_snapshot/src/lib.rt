@@ -4,16 +4,27 @@
 //! gives the id of the top tree. What is an object of the commit keeps its id and is asked of nobody. In a repository
 //! with these objects the whole tree of that id is the tree that the files show, without empty directories, whose paths
 //! the sink is told. A submodule has the commit's id where `Submodules` knows it, and is left out and told where not.
+//! `expect_closed` sees before that an overlay was closed on a commit's tree. `changes` tells how what the files show
+//! differs from that tree, path by path.
 #![tactic(auto)]
 
+mod change;
+mod closed;
+mod commit;
+mod comparing;
 mod fault;
 mod left_out;
 mod memory;
+mod rows;
 mod sink;
 mod submodules;
 mod trail;
 mod walk;
 
+pub use change::{Change, How};
+pub use closed::{ClosedFault, expect_closed};
+pub use commit::CommitSubmodules;
+pub use comparing::{ChangeSink, changes};
 pub use fault::SnapshotFault;
 pub use left_out::LeftOut;
 pub use memory::MemorySink;

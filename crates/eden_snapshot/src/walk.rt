@@ -26,7 +26,7 @@ use std::alloc::Global;
 pub const LEVELS: u32 = 1024;
 
 /// The number of the root's file.
-const ROOT_NUMBER: u64 = 1;
+pub(crate) const ROOT_NUMBER: u64 = 1;
 
 /// The id of a tree of what the files show above the commit's tree `root`. The sink has its objects then, beside those
 /// of the commit, and the paths of the directories that the tree leaves out.
@@ -65,7 +65,7 @@ pub fn snapshot<W: World, F: Files<W>, S: Sink<W>, M: Submodules<W>>(
 }
 
 // How Git tells that kind.
-fn mode_of(kind: Kind) -> Mode
+pub(crate) fn mode_of(kind: Kind) -> Mode
     ensures { result ≡ spec.mode_of kind }
 {
     match kind {
@@ -114,7 +114,7 @@ fn hand_content<W: World, F: Files<W>, S: Sink<W>>(
 }
 
 // The entries of the directory of that number.
-fn stored_entries<W: World, F: Files<W>>(
+pub(crate) fn stored_entries<W: World, F: Files<W>>(
     alloc: Global,
     overlay: &mut Overlay<W, F>,
     number: u64,
@@ -145,7 +145,7 @@ fn submodule<W: World, S: Sink<W>, M: Submodules<W>>(
             sink.leave_out(alloc, trail.as_slice(), LeftOut::Submodule)?;
             Ok(None)
         }
-        Err(cause) => Err(SnapshotFault::Submodule(cause)),
+        Err(cause) => Err(SnapshotFault::Object(cause)),
     }
 }
 

@@ -175,7 +175,7 @@ fn a_submodule_keeps_its_commit(rt: HostRuntime) {
     assert!(rt; answer == Ok(named(&rt, WITH_SUBMODULE)));
     assert!(rt; sink.omissions().len() == 1);
     let (answer, _) = taken(&rt, changed(&rt), &mut NoTrees);
-    assert!(rt; answer == Err(SnapshotFault::Submodule(Cause::Missing)));
+    assert!(rt; answer == Err(SnapshotFault::Object(Cause::Missing)));
 }
 
 #[test]
