@@ -1,2 +1,3 @@
 pub mod Sending
 pub mod Turns
+pub mod Sessions

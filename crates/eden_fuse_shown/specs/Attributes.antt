@@ -1,0 +1,76 @@
+-- The attributes that the kernel is told of a node, and what is agreed on at the start.
+use Rattle.std.specs.Prelude.{ℕ, ◌+◌, ◌/◌, ◌%◌, ◌==◌, ◌&&◌, nat_le, bit_and, if◌then◌else◌}
+use Rattle.eden_model.specs.declared.kind.Kind.{Kind}
+use Rattle.eden_model.specs.declared.kind.Kind.TheVariants as kinds
+use Rattle.eden_fuse_format.specs.declared.answer.Answer.{Answer}
+use Rattle.eden_fuse_format.specs.declared.answer.Answer.TheVariants as answer
+use Rattle.eden_fuse_format.specs.declared.answer.Attr.{Attr}
+use Rattle.eden_fuse_format.specs.declared.answer.AttrOut.{AttrOut}
+use Rattle.eden_fuse_format.specs.declared.answer.EntryOut.{EntryOut}
+use Rattle.eden_fuse_format.specs.declared.answer.InitOut.{InitOut}
+use Rattle.eden_fuse_format.specs.declared.answer.OpenOut.{OpenOut}
+use Rattle.eden_fuse_format.specs.declared.structs.InitIn.{InitIn}
+use Rattle.eden_fuse_meaning.specs.declared.step.Owner.{Owner}
+use Rattle.eden_fuse_shown.specs.declared.manner.Manner.{Manner}
+use Rattle.eden_fuse_shown.specs.declared.times.Moments.{Moments}
+
+-- octal 100644, 100755, 120777, 40755
+abbrev pub mode_of : Kind → ℕ
+mode_of kinds.File = 33188
+mode_of kinds.Exec = 33261
+mode_of kinds.Link = 41471
+mode_of kinds.Dir = 16877
+
+-- a length in blocks of 512 bytes, the last one counted whole
+abbrev pub blocks_of : ℕ → ℕ
+blocks_of size = size / 512 + (if size % 512 == 0 then 0 else 1)
+
+abbrev pub attr_of : Owner → ℕ → Moments → Kind → ℕ → Attr
+attr_of owner node at kind size = record {
+  ino = node;
+  size = size;
+  blocks = blocks_of size;
+  atime = at.content;
+  mtime = at.content;
+  ctime = at.entry;
+  mode = mode_of kind;
+  nlink = 1;
+  uid = owner.uid;
+  gid = owner.gid;
+  blksize = 65536;
+}
+
+abbrev pub entry_of : Manner → ℕ → Moments → Kind → ℕ → EntryOut
+entry_of m node at kind size =
+    record { nodeid = node; entry_valid = m.keep; attr_valid = m.keep; attr = attr_of m.owner node at kind size }
+
+abbrev pub attributes_of : Manner → ℕ → Moments → Kind → ℕ → AttrOut
+attributes_of m node at kind size = record { attr_valid = m.keep; attr = attr_of m.owner node at kind size }
+
+-- an open file has no handle of its own; the kernel may keep its content (FOPEN_KEEP_CACHE, 2)
+abbrev pub open_file : OpenOut
+open_file = record { fh = 0; open_flags = 2 }
+
+-- an open directory, whose rows the kernel may keep (FOPEN_CACHE_DIR, 8) from one opening to the next
+abbrev pub open_directory : ℕ → OpenOut
+open_directory handle = record { fh = handle; open_flags = 10 }
+
+-- of what the kernel offers: reads side by side (1), writes of over a page (2 ^ 5), look-ups side by side (2 ^ 18), requests of
+-- as many pages as are told (2 ^ 22), and targets of links kept (2 ^ 23)
+abbrev pub wanted : ℕ
+wanted = 12845089
+
+abbrev pub start_of : InitIn → InitOut
+start_of i = record {
+  max_readahead = i.max_readahead;
+  flags = bit_and i.flags wanted;
+  max_background = 16;
+  congestion_threshold = 12;
+  max_write = 65536;
+  time_gran = 1;
+  max_pages = 16;
+}
+
+-- another protocol than 7, from its version 12 on, is refused with EPROTO (71)
+abbrev pub started : InitIn → Answer
+started i = if (i.major == 7) && nat_le 12 i.minor then answer.Started (start_of i) else answer.Refused 71

@@ -1,0 +1,5 @@
+pub mod Running
+pub mod Attributes
+pub mod Naming
+pub mod Listing
+pub mod Showing

@@ -1,0 +1,135 @@
+// What is told of nodes and of the start.
+ghost use Rattle.std.specs.Prelude.{◌≡◌};
+ghost use Rattle.eden_fuse_shown.specs.Attributes.{
+  attributes_of,
+  attr_of,
+  blocks_of,
+  entry_of,
+  mode_of,
+  open_directory,
+  open_file,
+  start_of,
+  started,
+};
+
+use crate::manner::Manner;
+use crate::times::Moments;
+use eden_fuse_format::{Answer, Attr, AttrOut, EntryOut, InitIn, InitOut, OpenOut};
+use eden_fuse_meaning::Owner;
+use eden_model::Kind;
+
+const EPROTO: u32 = 71;
+
+/// What the kernel may do of what it offers.
+const WANTED: u32 = 12_845_089;
+
+fn mode_of(kind: Kind) -> u32
+    ensures { result ≡ mode_of kind }
+{
+    match kind {
+        Kind::File => 0o100644,
+        Kind::Exec => 0o100755,
+        Kind::Link => 0o120777,
+        Kind::Dir => 0o40755,
+    }
+}
+
+fn blocks_of(size: u64) -> u64
+    ensures { result ≡ blocks_of size }
+{
+    if size % 512 == 0 {
+        size / 512
+    } else {
+        size / 512 + 1
+    }
+}
+
+fn attr_of(owner: Owner, node: u64, at: Moments, kind: Kind, size: u64) -> Attr
+    ensures { result ≡ attr_of owner node at kind size }
+{
+    Attr {
+        ino: node,
+        size,
+        blocks: blocks_of(size),
+        atime: at.content,
+        mtime: at.content,
+        ctime: at.entry,
+        mode: mode_of(kind),
+        nlink: 1,
+        uid: owner.uid,
+        gid: owner.gid,
+        blksize: 65_536,
+    }
+}
+
+/// A node that was found.
+pub(crate) fn entry_of(manner: Manner, node: u64, at: Moments, kind: Kind, size: u64) -> EntryOut
+    ensures { result ≡ entry_of manner node at kind size }
+{
+    EntryOut {
+        nodeid: node,
+        entry_valid: manner.keep,
+        attr_valid: manner.keep,
+        attr: attr_of(manner.owner, node, at, kind, size),
+    }
+}
+
+/// Its attributes.
+pub(crate) fn attributes_of(
+    manner: Manner,
+    node: u64,
+    at: Moments,
+    kind: Kind,
+    size: u64,
+) -> AttrOut
+    ensures { result ≡ attributes_of manner node at kind size }
+{
+    AttrOut {
+        attr_valid: manner.keep,
+        attr: attr_of(manner.owner, node, at, kind, size),
+    }
+}
+
+/// An open file.
+pub(crate) fn open_file() -> OpenOut
+    ensures { result ≡ open_file }
+{
+    OpenOut {
+        fh: 0,
+        open_flags: 2,
+    }
+}
+
+/// An open directory.
+pub(crate) fn open_directory(handle: u64) -> OpenOut
+    ensures { result ≡ open_directory handle }
+{
+    OpenOut {
+        fh: handle,
+        open_flags: 10,
+    }
+}
+
+fn start_of(init: &InitIn) -> InitOut
+    ensures { result ≡ start_of init.now }
+{
+    InitOut {
+        max_readahead: init.max_readahead,
+        flags: init.flags & WANTED,
+        max_background: 16,
+        congestion_threshold: 12,
+        max_write: 65_536,
+        time_gran: 1,
+        max_pages: 16,
+    }
+}
+
+/// What is agreed on at the start.
+pub(crate) fn started(init: &InitIn) -> Answer<'static>
+    ensures { result ≡ started init.now }
+{
+    if init.major != 7 || init.minor < 12 {
+        return Answer::Refused(EPROTO);
+    }
+    Answer::Started(start_of(init))
+}

@@ -1,0 +1,275 @@
+// What is answered once it is known what a message came to.
+ghost use Rattle.std.specs.Prelude.{◌≡◌, ℕ, List};
+ghost use Rattle.eden_fuse_format.specs.declared.answer.Answer.TheVariants as answer;
+ghost use Rattle.eden_fuse_format.specs.Answers.{IsBrief};
+ghost use Rattle.eden_fuse_format.specs.Asked.{seen};
+ghost use Rattle.eden_fuse_nodes.specs.Tables.{IsSame};
+ghost use Rattle.eden_fuse_session.specs.Turns.{IsBriefly, told};
+ghost use Rattle.eden_fuse_shown.specs.Attributes.{entry_of, open_file};
+ghost use Rattle.eden_fuse_shown.specs.Naming.{goal_of, named};
+ghost use Rattle.eden_fuse_shown.specs.Showing.{
+  Concludes,
+  Enters,
+  IsListed,
+  IsOpened,
+  Lists,
+  Shuts,
+  count,
+  errno_of,
+  give,
+  refuse,
+  say,
+  start,
+};
+
+use crate::attributes::{attributes_of, entry_of, open_directory, open_file, started};
+use crate::changing::{change, enter};
+use crate::listing::put_rows;
+use crate::manner::Manner;
+use crate::mount::Unheard;
+use crate::pages::{Page, Pages};
+use crate::times::Times;
+use eden_fuse_format::{Answer, Operation, ReadIn, Time};
+use eden_fuse_meaning::Outcome;
+use eden_fuse_nodes::{Nodes, Place};
+use eden_fuse_session::Said;
+use eden_model::{Bytes, Entries, Kind, Name};
+use std::alloc::Global;
+
+const EIO: u32 = 5;
+
+const ENOMEM: u32 = 12;
+
+/// The most entries that may come before a page.
+const MOST_BEFORE: u64 = 1 << 62;
+
+pub(crate) fn refuse(errno: u32) -> Said
+    ensures told { (bytes : List ℕ) → told result bytes ≡ refuse errno }
+    ensures brief { (bytes : List ℕ) → IsBriefly result bytes }
+{
+    Said::Answers(Answer::Refused(errno))
+}
+
+fn errno_of(why: Unheard) -> u32
+    ensures { result ≡ errno_of why }
+{
+    match why {
+        Unheard::Fault(_) => EIO,
+        Unheard::Memory => ENOMEM,
+    }
+}
+
+// When the node was made that a message found: now, but for one that was looked up.
+fn fresh(operation: &Operation<'_>, now: Time) -> Option<Time> {
+    match operation {
+        Operation::Lookup(_) => None,
+        _ => Some(now),
+    }
+}
+
+// The node at the place is found.
+fn found(
+    alloc: Global,
+    manner: Manner,
+    nodes: &mut Nodes,
+    times: &mut Times,
+    fresh: Option<Time>,
+    place: Option<Place>,
+    kind: Kind,
+    size: u64,
+) -> Answer<'static>
+    ensures enters { Enters place (λ id at. answer.Entry (entry_of manner id at kind size))
+        nodes.old nodes.new (say result) }
+    ensures brief { IsBrief result }
+{
+    match enter(alloc, nodes, place) {
+        Err(errno) => Answer::Refused(errno),
+        Ok(id) => {
+            if let Some(now) = fresh {
+                times.change(id, now);
+            }
+            Answer::Entry(entry_of(manner, id, times.of(id), kind, size))
+        }
+    }
+}
+
+// The file at the place was made, and is open.
+fn made(
+    alloc: Global,
+    manner: Manner,
+    nodes: &mut Nodes,
+    times: &mut Times,
+    fresh: Option<Time>,
+    place: Option<Place>,
+    kind: Kind,
+    size: u64,
+) -> Answer<'static>
+    ensures enters { Enters place (λ id at. answer.Created (entry_of manner id at kind size) open_file)
+        nodes.old nodes.new (say result) }
+    ensures brief { IsBrief result }
+{
+    match enter(alloc, nodes, place) {
+        Err(errno) => Answer::Refused(errno),
+        Ok(id) => {
+            if let Some(now) = fresh {
+                times.change(id, now);
+            }
+            Answer::Created(entry_of(manner, id, times.of(id), kind, size), open_file())
+        }
+    }
+}
+
+// A file or a directory is opened.
+fn open(alloc: Global, pages: &mut Pages, operation: &Operation<'_>) -> Answer<'static>
+    ensures opened { IsOpened (seen operation.now) pages.old pages.new (say result) }
+    ensures brief { IsBrief result }
+{
+    match operation {
+        Operation::OpenDir(_) => match pages.open(alloc) {
+            Ok(handle) => Answer::Opened(open_directory(handle)),
+            Err(_) => Answer::Refused(ENOMEM),
+        },
+        _ => Answer::Opened(open_file()),
+    }
+}
+
+fn shut(pages: &mut Pages, operation: &Operation<'_>)
+    ensures { Shuts (seen operation.now) pages.old pages.new }
+{
+    match operation {
+        Operation::ReleaseDir(release) => pages.close(release.fh),
+        _ => {}
+    }
+}
+
+fn start(operation: &Operation<'_>) -> Answer<'static>
+    ensures told { say result ≡ start (seen operation.now) }
+    ensures brief { IsBrief result }
+{
+    match operation {
+        Operation::Init(init) => started(init),
+        _ => Answer::Refused(EIO),
+    }
+}
+
+fn count(written: u64) -> Answer<'static>
+    ensures told { say result ≡ count written }
+    ensures brief { IsBrief result }
+{
+    if written < 1 << 32 {
+        Answer::Written(written as u32)
+    } else {
+        Answer::Refused(EIO)
+    }
+}
+
+// Bytes are left in the room.
+fn give(bytes: Bytes, room: &mut Vec<u8>) -> Said
+    ensures told { told result room.new.items ≡ give bytes }
+    ensures brief { IsBriefly result room.new.items }
+{
+    if bytes.len() >= 1 << 31 {
+        return Said::Answers(Answer::Refused(EIO));
+    }
+    *room = bytes.into_vec();
+    Said::Data
+}
+
+// Entries of an open directory were listed, and become its page.
+fn list_from(
+    pages: &mut Pages,
+    read: &ReadIn,
+    last: Option<Name>,
+    rows: Entries,
+    room: &mut Vec<u8>,
+) -> Said
+    ensures listed { Lists read.now last rows pages.old pages.new (told result room.new.items) }
+    ensures brief { IsBriefly result room.new.items }
+{
+    room.clear();
+    if read.offset >= MOST_BEFORE || rows.len() as u64 >= MOST_BEFORE {
+        return refuse(ENOMEM);
+    }
+    if put_rows(room, read.size as usize, read.offset, rows.as_slice()).is_err() {
+        return refuse(ENOMEM);
+    }
+    if room.len() >= 1 << 31 {
+        return refuse(ENOMEM);
+    }
+    let page = Page {
+        from: read.offset,
+        before: last,
+        rows,
+    };
+    pages.turn(read.fh, page);
+    Said::Data
+}
+
+fn list(
+    pages: &mut Pages,
+    operation: &Operation<'_>,
+    last: Option<Name>,
+    rows: Entries,
+    room: &mut Vec<u8>,
+) -> Said
+    ensures listed { IsListed (seen operation.now) last rows pages.old pages.new (told result room.new.items) }
+    ensures brief { IsBriefly result room.new.items }
+{
+    match operation {
+        Operation::ReadDir(read) => list_from(pages, read, last, rows, room),
+        _ => refuse(EIO),
+    }
+}
+
+/// What is answered to a message that came to that end. What the answer has of bytes is left in the room.
+pub(crate) fn conclude(
+    alloc: Global,
+    manner: Manner,
+    nodes: &mut Nodes,
+    pages: &mut Pages,
+    times: &mut Times,
+    now: Time,
+    node: u64,
+    operation: &Operation<'_>,
+    place: Option<Place>,
+    goal: Option<Place>,
+    last: Option<Name>,
+    end: Result<Outcome, Unheard>,
+    room: &mut Vec<u8>,
+) -> Said
+    requires place { place ≡ named node (seen operation.now) }
+    requires goal { goal ≡ goal_of (seen operation.now) }
+    ensures concludes { Concludes manner node (seen operation.now) last nodes.old nodes.new pages.old pages.new end
+        (told result room.new.items) }
+    ensures brief { IsBriefly result room.new.items }
+{
+    match end {
+        Err(why) => refuse(errno_of(why)),
+        Ok(Outcome::Silent) => Said::Nothing,
+        Ok(Outcome::Refused(errno)) => refuse(errno),
+        Ok(Outcome::Done) => {
+            change(alloc, nodes, node, operation, place, goal);
+            shut(pages, operation);
+            Said::Answers(Answer::Done)
+        }
+        Ok(Outcome::Absent) => Said::Answers(Answer::NoEntry(manner.keep)),
+        Ok(Outcome::Found(kind, size)) => {
+            let fresh = fresh(operation, now);
+            Said::Answers(found(alloc, manner, nodes, times, fresh, place, kind, size))
+        }
+        Ok(Outcome::Attributes(kind, size)) => {
+            let attributes = attributes_of(manner, node, times.of(node), kind, size);
+            Said::Answers(Answer::Attributes(attributes))
+        }
+        Ok(Outcome::Opened) => Said::Answers(open(alloc, pages, operation)),
+        Ok(Outcome::Made(kind, size)) => {
+            let fresh = fresh(operation, now);
+            Said::Answers(made(alloc, manner, nodes, times, fresh, place, kind, size))
+        }
+        Ok(Outcome::Bytes(bytes)) => give(bytes, room),
+        Ok(Outcome::Written(written)) => Said::Answers(count(written)),
+        Ok(Outcome::Rows(rows, _)) => list(pages, operation, last, rows, room),
+        Ok(Outcome::Space) => Said::Answers(Answer::StatFs(manner.space)),
+        Ok(Outcome::Started) => Said::Answers(start(operation)),
+    }
+}

@@ -1,0 +1,28 @@
+//! A mount shown as a folder: the kernel's messages answered by a mount's replies.
+//!
+//! `Shown` is the service of a session. It finds the path at which a message's node lies by now, asks the mount what
+//! the message means there, request after request, and answers what that came to: attributes, entries, bytes, rows of
+//! a directory, or an error's number. Nodes are told of and forgotten as the kernel says, and an open directory is read
+//! on where its last listing has been. Which times are told isn't promised. What is removed while it is open is refused
+//! from then on, and no write waits: each is stored before it is answered. Nothing here reads or writes a descriptor.
+#![tactic(auto)]
+
+mod attributes;
+mod changing;
+mod concluding;
+mod listing;
+mod manner;
+mod mount;
+mod naming;
+mod pages;
+mod running;
+mod shown;
+mod sorts;
+mod times;
+
+pub use manner::Manner;
+pub use mount::{Mount, Unheard};
+pub use pages::{Page, Pages};
+pub use shown::Shown;
+pub use sorts::Sort;
+pub use times::{Moments, Times};

@@ -1,0 +1,103 @@
+// Places and paths of messages.
+ghost use Rattle.std.specs.Prelude.{◌≡◌, IfOk};
+ghost use Rattle.eden_fuse_format.specs.Asked.{seen};
+ghost use Rattle.eden_fuse_shown.specs.Naming.{goal_of, named, other_node, place_at};
+ghost use Rattle.eden_fuse_shown.specs.Showing.{Begins, IsOtherPath, IsPathOf};
+
+use eden_fuse_format::Operation;
+use eden_fuse_meaning::{Owner, Step, first};
+use eden_fuse_nodes::{Nodes, Place};
+use eden_model::{Name, Path};
+use std::alloc::{AllocError, Global};
+
+const ESTALE: u32 = 116;
+
+fn place_at(alloc: Global, node: u64, name: &[u8]) -> Result<Option<Place>, AllocError>
+    ensures { IfOk result (λ p. p ≡ place_at node name.now) }
+{
+    match Name::new(Vec::from_slice(alloc, name)?) {
+        Err(_) => Ok(None),
+        Ok(name) => Ok(Some(Place { parent: node, name })),
+    }
+}
+
+/// The place that a message names in the directory of its node.
+pub(crate) fn named(
+    alloc: Global,
+    node: u64,
+    operation: &Operation<'_>,
+) -> Result<Option<Place>, AllocError>
+    ensures { IfOk result (λ p. p ≡ named node (seen operation.now)) }
+{
+    match operation {
+        Operation::Lookup(name)
+        | Operation::Symlink(name, _)
+        | Operation::MkNod(_, name)
+        | Operation::MkDir(_, name)
+        | Operation::Unlink(name)
+        | Operation::RmDir(name)
+        | Operation::Rename(_, name, _)
+        | Operation::Rename2(_, name, _)
+        | Operation::Create(_, name) => place_at(alloc, node, name),
+        _ => Ok(None),
+    }
+}
+
+/// The place that a rename moves to.
+pub(crate) fn goal_of(alloc: Global, operation: &Operation<'_>) -> Result<Option<Place>, AllocError>
+    ensures { IfOk result (λ p. p ≡ goal_of (seen operation.now)) }
+{
+    match operation {
+        Operation::Rename(head, _, name) => place_at(alloc, head.newdir, name),
+        Operation::Rename2(head, _, name) => place_at(alloc, head.newdir, name),
+        _ => Ok(None),
+    }
+}
+
+fn other_node(operation: &Operation<'_>) -> Option<u64>
+    ensures { result ≡ other_node (seen operation.now) }
+{
+    match operation {
+        Operation::Rename(head, _, _) => Some(head.newdir),
+        Operation::Rename2(head, _, _) => Some(head.newdir),
+        _ => None,
+    }
+}
+
+// The path at which a node lies.
+fn path_of(alloc: Global, nodes: &Nodes, node: u64) -> Result<Result<Path, u32>, AllocError>
+    ensures { IfOk result (λ at. IsPathOf nodes.now node at) }
+{
+    let whereabouts = nodes.find(alloc, node)?;
+    Ok(whereabouts.into_path())
+}
+
+// The path of a rename's other directory.
+fn other_path(
+    alloc: Global,
+    nodes: &Nodes,
+    operation: &Operation<'_>,
+) -> Result<Result<Path, u32>, AllocError>
+    ensures { IfOk result (λ to. IsOtherPath nodes.now (other_node (seen operation.now)) to) }
+{
+    match other_node(operation) {
+        None => Ok(Err(ESTALE)),
+        Some(node) => path_of(alloc, nodes, node),
+    }
+}
+
+/// The step with which a message begins at the paths of its nodes.
+pub(crate) fn begin(
+    alloc: Global,
+    owner: Owner,
+    nodes: &Nodes,
+    node: u64,
+    operation: &Operation<'_>,
+    last: &Option<Name>,
+) -> Result<Step, AllocError>
+    ensures { IfOk result (λ step. Begins owner nodes.now node (seen operation.now) last.now step) }
+{
+    let at = path_of(alloc, nodes, node)?;
+    let to = other_path(alloc, nodes, operation)?;
+    first(alloc, owner, &at, &to, last, operation)
+}

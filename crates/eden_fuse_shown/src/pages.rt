@@ -1,0 +1,127 @@
+// Open directories.
+ghost use Rattle.std.specs.Prelude.{◌≡◌, None, IfOk, OnErr};
+ghost use Rattle.eden_fuse_shown.specs.Listing.{Closes, IsSame, Opens, Turns, last_at, name_at, page_of};
+
+use eden_model::{Entries, Name};
+use std::alloc::{AllocError, Global};
+use std::collections::BTreeMap;
+use std::marker::Model;
+
+/// What an open directory listed last.
+#[derive(Drop)]
+pub struct Page {
+    /// How many of its entries came before.
+    pub from: u64,
+    /// The name of the last of them.
+    pub before: Option<Name>,
+    pub rows: Entries,
+}
+
+/// Directories that are open, by their handles. Contracts see the list of their pages.
+#[derive(Drop)]
+pub struct Pages {
+    pages: BTreeMap<u64, Page>,
+    // No handle from this one on is in use.
+    next: u64,
+}
+
+impl Model for Pages {
+    ghost use Rattle.std.specs.Prelude.{◌≡◌, ◌<◌, ℕ, Some};
+    ghost use Rattle.eden_fuse_shown.specs.Listing.{Table, page_of};
+    ghost use Rattle.eden_fuse_shown.specs.declared.pages.Page.{Page};
+
+    ghost Value = { Table };
+
+    ghost view = { λ p. p.pages.entries };
+
+    ghost invariant = { λ p. (i : ℕ) (page : Page) → page_of p.pages.entries i ≡ Some page → i < p.next };
+}
+
+// The name after which a page is read on.
+fn name_at(alloc: Global, page: &Page, offset: u64) -> Result<Option<Option<Name>>, AllocError>
+    ensures { IfOk result (λ last. last ≡ name_at page.now offset) }
+{
+    if offset == page.from {
+        return match &page.before {
+            None => Ok(Some(None)),
+            Some(name) => Ok(Some(Some(name.copy(alloc)?))),
+        };
+    }
+    if offset < page.from {
+        return Ok(None);
+    }
+    match page.rows.as_slice().get((offset - page.from - 1) as usize) {
+        None => Ok(None),
+        Some((name, _)) => Ok(Some(Some(name.copy(alloc)?))),
+    }
+}
+
+impl Pages {
+    /// None is open.
+    pub fn new(alloc: Global) -> Pages
+        ensures { page_of result ≡ (λ i. None) }
+    {
+        Pages {
+            pages: BTreeMap::new(alloc),
+            next: 1,
+        }
+    }
+
+    /// Opens a directory, by a handle that no other has. Without memory nothing changes.
+    pub fn open(&mut self, alloc: Global) -> Result<u64, AllocError>
+        ensures ok { IfOk result (λ handle. Opens self.old self.new handle) }
+        ensures err { OnErr result (IsSame self.old self.new) }
+    {
+        let handle = self.next;
+        if handle == u64::MAX {
+            return Err(AllocError);
+        }
+        let page = Page {
+            from: 0,
+            before: None,
+            rows: Entries::new(Vec::new(alloc)),
+        };
+        match self.pages.insert(handle, page) {
+            Err(_) => Err(AllocError),
+            Ok(_) => {
+                self.next = handle + 1;
+                Ok(handle)
+            }
+        }
+    }
+
+    /// Closes a directory.
+    pub fn close(&mut self, handle: u64)
+        ensures { Closes self.old self.new handle }
+    {
+        self.pages.remove(&handle);
+    }
+
+    /// The name after which an open directory is read on from the offset, or none where it isn't known. The only error
+    /// is want of memory.
+    pub fn last(
+        &self,
+        alloc: Global,
+        handle: u64,
+        offset: u64,
+    ) -> Result<Option<Option<Name>>, AllocError>
+        ensures { IfOk result (λ last. last ≡ last_at (page_of self.now handle) offset) }
+    {
+        if offset == 0 {
+            return Ok(Some(None));
+        }
+        match self.pages.get(&handle) {
+            None => Ok(None),
+            Some(page) => name_at(alloc, page, offset),
+        }
+    }
+
+    /// An open directory has listed this page.
+    pub fn turn(&mut self, handle: u64, page: Page)
+        ensures { Turns self.old self.new handle page }
+    {
+        if let Some(held) = self.pages.get_mut(&handle) {
+            *held = page;
+        }
+    }
+}
