@@ -1,7 +1,8 @@
 //! The changes that closed files show against a commit's tree.
 
 ghost use Rattle.std.specs.Prelude.{◌≡◌, ◌∷◌, ◌++◌, [], Some, IfOk, OnOk};
-ghost use Rattle.eden_snapshot.specs.Changes.{HasInside, IsBlobOf, StandsAs, StandsBy, Tells, TellsAll, TellsBelow, TellsDirectory, TellsInside};
+ghost use Rattle.eden_snapshot.specs.Changes.{HasInside, IsBlobOf, StandsAs, StandsBy, Tells, TellsAll, TellsBelow};
+ghost use Rattle.eden_snapshot.specs.Changes.{TellsDirectory, TellsInside};
 ghost use Rattle.eden_snapshot.specs.Changes.{own_directory, own_directory_by, told_of};
 
 use crate::change::{Change, Stand, change_of};
@@ -41,14 +42,14 @@ pub trait ChangeSink<W: World> {
         ensures counted { Counted (result ≡ Err Device) (failures self.old) (failures self.new) };
 }
 
-/// Tells how what the files show differs from the commit's tree `root`, path by path: of each directory first itself and
-/// then what is inside, in byte order of names.
+/// Tells how what the files show differs from the commit's tree `root`, path by path: of each directory first itself
+/// and then what is inside, in byte order of names.
 ///
 /// A directory of the mount's own is looked into, and the commit's tree at its path is asked for; nothing else of the
-/// commit is. What isn't the mount's own is told by its top alone: a directory that was moved as one that is removed and
-/// one that is added, and one that stands in the place of another as one that is modified. An own file whose blob has the
-/// id that the commit has there is no change. Empty directories are told too, which a snapshot leaves out, and a submodule
-/// that stands at a path where the commit has one is none.
+/// commit is. What isn't the mount's own is told by its top alone: a directory that was moved as one that is removed
+/// and one that is added, and one that stands in the place of another as one that is modified. An own file whose blob
+/// has the id that the commit has there is no change. Empty directories are told too, which a snapshot leaves out, and
+/// a submodule that stands at a path where the commit has one is none.
 pub fn changes<W: World, F: Files<W>, S: Source<W>, C: ChangeSink<W>>(
     alloc: Global,
     root: Id,
@@ -100,7 +101,8 @@ fn entries_inside<W: World, S: Source<W>>(
     }
 }
 
-// Tells the changes in the own directory of that number, where the commit has these entries, so many levels above the last.
+// Tells the changes in the own directory of that number, which lies so many levels above the last one. The commit has
+// these entries there.
 #[cycle(changes)]
 fn directory<W: World, F: Files<W>, S: Source<W>, C: ChangeSink<W>>(
     alloc: Global,

@@ -10,8 +10,8 @@ use eden_overlay_format::Refusal;
 use std::alloc::{AllocError, AllocFailed};
 use thiserror::Error;
 
-/// Why there is no snapshot, or why not all changes were told: the first that was met. The files haven't changed, and the
-/// sink may have kept objects that nothing names.
+/// Why there is no snapshot, or why not all changes were told: the first that was met. The files haven't changed, and
+/// the sink may have kept objects that nothing names.
 #[derive(Clone, Copy, Debug, PartialEq, Eq, Error)]
 pub enum SnapshotFault {
     /// The file of that number is named as an entry's own, and isn't stored.
