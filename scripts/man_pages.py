@@ -1,6 +1,6 @@
 """The manual's pages, docs/man/mountd.1 and mount-git.1, from what the help texts are made of and from the pages.
 
-The options of `mountd` and their texts are those of crates/mountd_options/src/command.rt, which `mountd COMMAND
+The options of `mountd` and their texts are those of the sources in crates/mountd_options/src, which `mountd COMMAND
 --help` prints; its commands, its statuses and its first paragraph are docs/MOUNTD.md's. Those of `mount-git` are its
 parser's, which `mount-git --help` prints. `tests/manual --write` writes both.
 """
@@ -15,15 +15,16 @@ from typing import NamedTuple
 from crates import TOP
 from yakembi import mount_git
 
-GRAMMAR = TOP / "crates" / "mountd_options" / "src" / "command.rt"
+GRAMMAR = TOP / "crates" / "mountd_options" / "src"
 PAGE = TOP / "docs" / "MOUNTD.md"
 FOLDER = TOP / "docs" / "man"
-FUNCTION = re.compile(r"^fn (\w+)<'a>\(.*?^}$", re.M | re.S)
+FUNCTION = re.compile(r"^(?:pub\(crate\) )?fn (\w+)<'a>\(.*?^}$", re.M | re.S)
 TEXT = re.compile(r'^const (\w+): &str = "(.*)";$', re.M)
 # In the body of a function: an option that is added, or the line that another function makes and adds to.
 STEP = re.compile(r'with_(required|optional|flag)\(\s*alloc,\s*line,\s*(?:\("([\w-]+)", "(\w+)"\)|"([\w-]+)"),\s*'
-                  r'(?:"([^"]*)"|(\w+)),?\s*\)|(mount_line|with_kept_options)\(\s*alloc,')
-ABOUT = re.compile(r'(?:mount_line\(\s*alloc,\s*"(\w+)",\s*|Command::new\(alloc, "(\w+)"\)\s*\.about\(\s*)"([^"]*)"')
+                  r'(?:"([^"]*)"|(\w+)),?\s*\)|(mount_line|closed_line|with_kept_options)\(\s*alloc,')
+ABOUT = re.compile(r'(?:(?:mount|closed)_line\(\s*alloc,\s*"(\w+)",\s*|Command::new\(alloc, "(\w+)"\)\s*'
+                   r'\.about\(\s*)"([^"]*)"')
 
 
 class Option(NamedTuple):
@@ -55,9 +56,13 @@ def options_of(function: str, bodies: dict[str, str], texts: dict[str, str]) -> 
             yield Option(name or flag, value or None, text or texts[constant], kind == "required")
 
 
+def grammar() -> str:
+    return "\n".join(path.read_text() for path in sorted(GRAMMAR.glob("*.rt")))
+
+
 def commands() -> list[Command]:
     """The commands of `mountd`, each with its options in the order of its help."""
-    source = GRAMMAR.read_text()
+    source = grammar()
     bodies = {found[1]: found[0].partition("{\n")[2] for found in FUNCTION.finditer(source)}
     texts = dict(TEXT.findall(source))
     found = []
@@ -71,7 +76,7 @@ def commands() -> list[Command]:
 
 def program_about() -> str:
     """What the program's own help says first."""
-    found = re.search(r'Command::new\(alloc, "mountd"\)\s*\.about\("([^"]*)"\)', GRAMMAR.read_text())
+    found = re.search(r'Command::new\(alloc, "mountd"\)\s*\.about\("([^"]*)"\)', grammar())
     return found[1] if found else ""
 
 
@@ -136,20 +141,35 @@ def mountd_page() -> str:
     return "\n".join(lines) + "\n"
 
 
-def mount_git_page() -> str:
-    parser = mount_git.parser()
-    about, _, text = (parser.description or "").strip().partition("\n\n")
-    usage = " ".join(parser.format_usage().removeprefix("usage: mount-git [-h] ").split())
-    lines = [*head("mount-git", about.rstrip(".")), ".B mount\\-git", escaped(usage), ".SH DESCRIPTION"]
-    for paragraph in text.split("\n\n"):
-        lines += [".PP", plain(" ".join(paragraph.split()))]
-    lines += [".SH OPTIONS"]
+def usage_of(parser: argparse.ArgumentParser) -> str:
+    return escaped(" ".join(parser.format_usage().removeprefix(f"usage: {parser.prog} [-h] ").split()))
+
+
+def paragraphs(text: str) -> list[str]:
+    return [line for paragraph in text.strip().split("\n\n") for line in (".PP", plain(" ".join(paragraph.split())))]
+
+
+def arguments(parser: argparse.ArgumentParser) -> list[str]:
+    lines = []
     for action in parser._actions:
         if isinstance(action, argparse._HelpAction):
             continue
         metavar = f"\\fI{action.metavar}\\fR" if action.metavar else ""
         words = [f"\\fB{escaped(word)}\\fR" for word in action.option_strings]
         lines += item(" ".join([*words, *([metavar] if metavar else [])]), plain(action.help or "") + ".")
+    return lines
+
+
+def mount_git_page() -> str:
+    parser = mount_git.parser()
+    others = [made() for _, made in mount_git.COMMANDS.values()]
+    about, _, text = (parser.description or "").strip().partition("\n\n")
+    lines = [*head("mount-git", about.rstrip(".")), ".B mount\\-git", usage_of(parser)]
+    for other in others:
+        lines += [".br", f".B {escaped(other.prog)}", usage_of(other)]
+    lines += [".SH DESCRIPTION", *paragraphs(text), ".SH OPTIONS", *arguments(parser)]
+    for other in others:
+        lines += [f".SH {escaped(other.prog.upper())}", *paragraphs(other.description or ""), *arguments(other)]
     lines += [".SH ENVIRONMENT", *item(".B MOUNTD", "the program to run, unless an option names it"),
               ".SH SEE ALSO", "mountd(1); docs/MOUNT\\-GIT.md of its source"]
     return "\n".join(lines) + "\n"

@@ -94,6 +94,17 @@ class Repository:
         found = COMMIT.match(done.stdout) if done.returncode == 0 else None
         return Commit(found[1].decode(), int(found[2])) if found else None
 
+    def commit_id(self, revision: str) -> str | None:
+        """The id of the commit that a revision names; None where it names none."""
+        done = self.git("rev-parse", "--verify", "--quiet", "--end-of-options", f"{revision}^{{commit}}")
+        return done.stdout.decode().strip() if done.returncode == 0 else None
+
+    def branch_of(self, revision: str) -> str | None:
+        """The full name of the branch that a revision names, as that of `HEAD`; None where it names none."""
+        done = self.git("rev-parse", "--symbolic-full-name", "--verify", "--quiet", "--end-of-options", revision)
+        name = os.fsdecode(done.stdout.removesuffix(b"\n"))
+        return name if done.returncode == 0 and name.startswith("refs/heads/") else None
+
     def tree_of(self, revision: str) -> str:
         """The id of a commit's tree, or of a tree that is named itself, as `HEAD:folder`."""
         if commit := self.commit_of(revision):

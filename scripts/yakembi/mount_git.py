@@ -19,15 +19,18 @@ import subprocess
 import sys
 import tempfile
 import time
-from collections.abc import Callable, Iterator
+from collections.abc import Callable, Iterator, Sequence
 
+from yakembi import commit_folder, control
 from yakembi.addresses import socket_path
-from yakembi.git import Refusal, Repository, last_line
+from yakembi.client import SessionEnded
+from yakembi.control import Answers, Fields
+from yakembi.git import Refusal, Repository, last_line, said
 from yakembi.git_objects import number_of_bytes
 from yakembi.operations import Mount, MountOperations, tell
-from yakembi.overlay import InUse, OverlayFolder
+from yakembi.overlay import InUse, Noted, OverlayFolder
 from yakembi.partial_clone import AHEAD
-from yakembi.pool import CACHE_ENTRIES, Pool, Serving, Unopened
+from yakembi.pool import CACHE_ENTRIES, Pool, Serving, Unclosed, Unopened
 from yakembi.times import Times
 
 # The folder of the commands, which has the package.
@@ -131,15 +134,17 @@ def overlay_at(path: str | None) -> Iterator[OverlayFolder]:
         yield stack.enter_context(contextlib.closing(overlay))
 
 
-def tree_to_show(repository: Repository, revision: str, overlay: OverlayFolder) -> tuple[str, int]:
-    """The tree's id and its commit's time: as the overlay has them, if it was mounted before."""
+def tree_to_show(repository: Repository, revision: str, overlay: OverlayFolder) -> Noted:
+    """The tree's id, its commit's time and its commit: as the overlay has them, if it was mounted before."""
     commit = repository.commit_of(revision)
     tree, seconds = commit or (repository.tree_of(revision), int(time.time()))
-    if overlay.is_fresh():
-        overlay.write_note(tree, seconds)
-        return tree, seconds
+    named = Noted(tree, seconds, repository.commit_id(revision) if commit else None)
     noted = overlay.noted()
-    root = overlay.state_root() or (noted[0] if noted else None)
+    if overlay.is_fresh():
+        # A folder that was never changed stands on what is mounted now.
+        overlay.write_note(named)
+        return named
+    root = overlay.state_root() or (noted.tree if noted else None)
     if root is None:
         raise Refusal(f"the overlay {overlay.path} was left by a killed run, and doesn't say on which tree it stands")
     if root != tree:
@@ -148,9 +153,11 @@ def tree_to_show(repository: Repository, revision: str, overlay: OverlayFolder) 
             raise Refusal(f"the overlay {overlay.path} stands on the tree {root}, which the repository lacks")
         tell(f"{revision} is the tree {tree}, but the overlay stands on {root}, and that is shown; "
              "another tree wants another overlay")
-    if noted is None or noted[0] != root:
-        noted = root, seconds
-        overlay.write_note(*noted)
+    if noted is None or noted.tree != root:
+        noted = Noted(root, seconds)
+    if noted.commit is None and root == tree:
+        noted = noted._replace(commit=named.commit)
+    overlay.write_note(noted)
     return noted
 
 
@@ -214,6 +221,69 @@ def pool_over(program: Serving, overlay: str) -> Pool:
     raise Refusal(f"mountd didn't start: {word}")
 
 
+class Asked:
+    """What other runs of `mount-git` ask of this one."""
+
+    def __init__(self, pool: Pool, mountd: str | os.PathLike[str], source: Sequence[str], repository: Repository,
+                 revision: str, overlay: OverlayFolder) -> None:
+        self.pool = pool
+        self.mountd = os.fspath(mountd)
+        self.source = source
+        self.repository = repository
+        self.branch = repository.branch_of(revision)
+        self.overlay = overlay
+
+    def answers(self) -> Answers:
+        return {"about": self.about, "snapshot": self.snapshot, "committed": self.committed}
+
+    def noted(self) -> Noted:
+        noted = self.overlay.noted()
+        if noted is None:
+            raise Refusal(f"the overlay {self.overlay.path} doesn't say any more on which tree it stands")
+        return noted
+
+    def about(self, fields: Fields, folder: pathlib.Path) -> Fields:
+        """The repository, and the commit and the branch that the folder stands on."""
+        return {"repository": os.path.abspath(self.repository.path), "commit": self.noted().commit,
+                "branch": self.branch}
+
+    def snapshot(self, fields: Fields, folder: pathlib.Path) -> Fields:
+        """The tree that is shown, the folder with its own objects, and what is left out of it."""
+        into = folder / "objects"
+        done = self.closed("snapshot", "--into", str(into))
+        left_out = [line.removeprefix("mountd: ") for line in done.stderr.decode(errors="replace").splitlines()]
+        return {"tree": done.stdout.decode().strip(), "folder": str(into), "left_out": left_out}
+
+    def closed(self, command: str, *more: str) -> subprocess.CompletedProcess[bytes]:
+        """A run of `mountd` over the closed overlay."""
+        words = [self.mountd, command, "--root", self.noted().tree, *self.source, "--overlay", self.overlay.path, *more]
+        try:
+            done = self.pool.while_closed(lambda: subprocess.run(words, stdin=subprocess.DEVNULL, capture_output=True))
+        except Unclosed as problem:
+            raise Refusal(f"the overlay {self.overlay.path} wasn't closed well: {problem}") from None
+        except (Unopened, SessionEnded, OSError) as problem:
+            raise Refusal(f"mountd wasn't opened again: {problem}") from None
+        if done.returncode != 0:
+            raise Refusal(f"mountd ended with status {done.returncode}{said(done.stderr)}")
+        return done
+
+    def committed(self, fields: Fields, folder: pathlib.Path) -> Fields:
+        """The next commit is put on that one."""
+        self.overlay.write_note(self.noted()._replace(commit=fields["commit"]))
+        return {}
+
+
+@contextlib.contextmanager
+def reachable(folder: str, answers: Answers) -> Iterator[None]:
+    """Answers other runs; where they can't reach this one the folder is shown all the same."""
+    with contextlib.ExitStack() as stack:
+        try:
+            stack.enter_context(control.serving(folder, answers))
+        except (Refusal, OSError) as problem:
+            tell(f"what {folder} shows can't be committed: {problem}")
+        yield
+
+
 class Announced(MountOperations):
     """The operations of a mount that says when it is there."""
 
@@ -244,13 +314,15 @@ def run(words: argparse.Namespace) -> None:
     folder = mount_point(words.folder)
     check_apart(words.overlay, folder)
     with overlay_at(words.overlay) as overlay:
-        root, seconds = tree_to_show(repository, words.revision, overlay)
-        with source_of(repository, words, root) as source:
-            program = Serving(words.mountd, root, source, overlay.path, more=["--cache-entries", CACHE_ENTRIES])
+        noted = tree_to_show(repository, words.revision, overlay)
+        with source_of(repository, words, noted.tree) as source:
+            program = Serving(words.mountd, noted.tree, source, overlay.path, more=["--cache-entries", CACHE_ENTRIES])
             pool = pool_over(program, overlay.path)
+            answers = Asked(pool, words.mountd, source, repository, words.revision, overlay).answers()
             try:
-                times = Times(seconds * 10**9, overlay.changed())
-                show(fuse, Announced(Mount(pool), times, overlay.path), folder)
+                times = Times(noted.seconds * 10**9, overlay.changed())
+                with reachable(folder, answers):
+                    show(fuse, Announced(Mount(pool), times, overlay.path), folder)
             finally:
                 problem = pool.close()
     if problem:
@@ -273,11 +345,18 @@ def parser() -> argparse.ArgumentParser:
     return found
 
 
+# What is done with a folder that another run shows. A repository of such a name is named with its path, as `./commit`.
+COMMANDS: dict[str, tuple[Callable[[argparse.Namespace], None], Callable[[], argparse.ArgumentParser]]] = {
+    "commit": (commit_folder.commit, commit_folder.commit_parser),
+}
+
+
 def main() -> int:
-    words = parser().parse_args()
+    command, parsed = COMMANDS.get("".join(sys.argv[1:2]), (run, parser))
+    words = parsed().parse_args(sys.argv[1 if command is run else 2 :])
     signal.signal(signal.SIGTERM, lambda *_: sys.exit(1))
     try:
-        run(words)
+        command(words)
     except Refusal as refusal:
         tell(str(refusal))
         return 1

@@ -2,8 +2,8 @@
 changed when.
 
 The files whose names are numbers are mountd's, and so is `lock`. The file `mount-git` beside them is ours: who holds
-its lock has the overlay, also while mountd is closed and opened again, and its line tells the tree and the commit's
-time.
+its lock has the overlay, also while mountd is closed and opened again, and its line tells the tree, the commit's time,
+and on which commit the next one of the folder's is put.
 """
 
 import fcntl
@@ -11,9 +11,10 @@ import os
 import re
 import struct
 from collections.abc import Iterator
+from typing import NamedTuple
 
 NOTE = "mount-git"
-NOTE_LINE = re.compile(r"([0-9a-f]{40}) ([0-9]+)\n")
+NOTE_LINE = re.compile(r"([0-9a-f]{40}) ([0-9]+)(?: ([0-9a-f]{40}))?\n")
 NUMBERED = re.compile("0|[1-9][0-9]*")
 
 # Of mountd's files: a header and a body; a directory's body is a count and entries, file 0 begins with the tree's id.
@@ -31,6 +32,15 @@ FOLDER = 3
 
 class InUse(Exception):
     """Another mount has the overlay."""
+
+
+class Noted(NamedTuple):
+    """The tree that an overlay stands on, its commit's time in seconds, and the commit, where one is known: the mounted
+    one, or the last that was made of what the overlay shows."""
+
+    tree: str
+    seconds: int
+    commit: str | None = None
 
 
 class OverlayFolder:
@@ -52,15 +62,15 @@ class OverlayFolder:
     def is_fresh(self) -> bool:
         return not any(NUMBERED.fullmatch(name) for name in os.listdir(self.path))
 
-    def noted(self) -> tuple[str, int] | None:
-        """The tree that the overlay stands on and its commit's time, as we wrote them down; None where we didn't."""
+    def noted(self) -> Noted | None:
+        """What we wrote down; None where we didn't."""
         self.note.seek(0)
         line = NOTE_LINE.fullmatch(self.note.read())
-        return (line[1], int(line[2])) if line else None
+        return Noted(line[1], int(line[2]), line[3]) if line else None
 
-    def write_note(self, root: str, seconds: int) -> None:
+    def write_note(self, noted: Noted) -> None:
         self.note.truncate(0)
-        self.note.write(f"{root} {seconds}\n")
+        self.note.write(" ".join([noted.tree, str(noted.seconds), *([noted.commit] if noted.commit else [])]) + "\n")
         self.note.flush()
 
     def state_root(self) -> str | None:

@@ -6,8 +6,8 @@ That `mountd` keeps no history, so that it serves for as long as it is wanted.
 import os
 import subprocess
 import threading
-from collections.abc import Sequence
-from typing import Protocol
+from collections.abc import Callable, Sequence
+from typing import Protocol, TypeVar
 
 from yakembi import client
 from yakembi.addresses import socket_path
@@ -20,10 +20,15 @@ CACHE_ENTRIES = 65_536
 WITH_A_LINE = (2, 3, 4)
 # How long a mountd whose sessions are closed may take to close its overlay.
 SECONDS_TO_CLOSE = 120
+Done = TypeVar("Done")
 
 
 class Unopened(Exception):
     """mountd's own word for why it didn't open the overlay, as `Locked`, or the line that it ended with."""
+
+
+class Unclosed(Exception):
+    """mountd's own word for why it didn't close the overlay well, or the line that it ended with."""
 
 
 class Running:
@@ -115,6 +120,8 @@ class Pool(client.Requests):
         self.program = program
         self.changed = threading.Condition()
         self.busy = 0
+        # How many want the overlay closed; no request begins meanwhile.
+        self.closing = 0
         self.gone = False
         # Whether the mountd that runs was started because the one before it ended.
         self.is_retry = False
@@ -139,7 +146,9 @@ class Pool(client.Requests):
             while True:
                 if self.gone:
                     raise SessionEnded("mountd is gone")
-                if self.ended:
+                if self.closing:
+                    pass
+                elif self.ended:
                     if self.busy == 0:
                         self.open_again()
                         continue
@@ -171,6 +180,32 @@ class Pool(client.Requests):
         except (Unopened, OSError) as refusal:
             raise SessionEnded(f"mountd wasn't opened again: {refusal}") from None
         self.gone = False
+
+    def while_closed(self, work: Callable[[], Done]) -> Done:
+        """Does the work over the closed overlay: mountd ends, and is started again after it; requests wait."""
+        with self.changed:
+            self.closing += 1
+            try:
+                while self.busy:
+                    self.changed.wait()
+                if self.gone:
+                    raise SessionEnded("mountd is gone")
+                return self.between(work)
+            finally:
+                self.closing -= 1
+                self.changed.notify_all()
+
+    def between(self, work: Callable[[], Done]) -> Done:
+        # So it stays where mountd isn't started again.
+        self.gone = True
+        problem = self.running.close()
+        try:
+            if problem:
+                raise Unclosed(problem)
+            return work()
+        finally:
+            self.open()
+            self.gone = False
 
     def close(self) -> str | None:
         """Waits for requests under way, and ends mountd; what it said, where that wasn't its good end."""

@@ -52,7 +52,7 @@ impl<R: Files + Eprint> Store<R> {
     /// Stores the framed object under its id. What has that id's place already is left as it is.
     ///
     /// `Device` and `Memory`: the object's place is then empty, or what it was.
-    pub(crate) fn put(&mut self, alloc: Global, framed: &[u8]) -> Result<Id, ImportFault>
+    pub fn put(&mut self, alloc: Global, framed: &[u8]) -> Result<Id, ImportFault>
         ensures { IfOk result (λ id. id.bytes ≡ sha1 framed.now) }
     {
         let id = id_of(framed);

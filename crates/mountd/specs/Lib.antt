@@ -1,3 +1,4 @@
 pub mod Endings
 pub mod Holding
 pub mod Runs
+pub mod Snapshots

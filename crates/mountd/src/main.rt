@@ -2,9 +2,12 @@
 #![tactic(auto)]
 
 mod hold;
+mod path_text;
 mod report;
 mod serve;
 mod server;
+mod sink;
+mod snapshot;
 mod sources;
 mod stdio;
 mod tidy;
@@ -14,6 +17,7 @@ use eden_object_writer::{ImportFault, Progress, Store};
 use mountd_options::{Command, ImportOptions, options};
 use serve::serve;
 use server::serve_objects;
+use snapshot::snapshot;
 use std::alloc::Global;
 use std::io::IsTerminal;
 use std::path::PathBuf;
@@ -58,6 +62,7 @@ fn main(rt: HostRuntime) -> ExitCode {
         Ok(Command::Objects(options)) => report::server(&rt, serve_objects(&rt, &rt, options)),
         Ok(Command::Import(options)) => report::import(&rt, import(&rt, options)),
         Ok(Command::Tidy(options)) => tidy(&rt, options),
+        Ok(Command::Snapshot(options)) => snapshot(&rt, options),
         Ok(Command::Version) => version(&rt),
         Err(error) => report::command_line(&rt, &error),
     }

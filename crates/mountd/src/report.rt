@@ -144,8 +144,8 @@ pub fn told<R: Eprint>(rt: &R, what: &str, written: io::Result<()>) -> ExitCode
     }
 }
 
-// Tells what ended by which fault. Status 4.
-fn ended<R: Eprint>(rt: &R, what: &str, name: &str) -> ExitCode
+/// Tells what ended by which fault. Status 4.
+pub fn ended<R: Eprint>(rt: &R, what: &str, name: &str) -> ExitCode
     ensures { exit_status result ≡ 4 }
 {
     let _ = eprintln!(rt; "mountd: {what} {name}");

@@ -14,6 +14,8 @@ use Rattle.mountd_options.specs.Grammar.{LineOption, Subcommand, flag, optional,
 use Rattle.mountd_options.specs.Numbers.{GivesNumber, IsNoValue, SaysNumber, number_name}
 use Rattle.mountd_options.specs.declared.numbers.NumberOption.{NumberOption}
 use Rattle.mountd_options.specs.declared.numbers.NumberOption.TheVariants.{History, CacheEntries, CacheBytes, Port, Sessions, Fetchers}
+use Rattle.mountd_options.specs.declared.closed.ClosedOptions.{ClosedOptions}
+use Rattle.mountd_options.specs.declared.closed.SnapshotOptions.{SnapshotOptions}
 use Rattle.mountd_options.specs.declared.command.Command.{Command}
 use Rattle.mountd_options.specs.declared.command.Command.TheVariants as command
 use Rattle.mountd_options.specs.declared.command.HistoryOption.TheVariants as keeping
@@ -33,10 +35,11 @@ use Rattle.mountd_options.specs.declared.command.ServerCommand.{ServerCommand}
 use Rattle.mountd_options.specs.declared.command.ServerCommand.TheVariants as server
 use Rattle.mountd_options.specs.declared.command.TidyOptions.{TidyOptions}
 
--- the name of a command that opens a mount
+-- the name of a command over a commit's tree
 abbrev pub command_name : MountCommand → Text
 command_name by.Stdio = codes "stdio"
 command_name by.Serve = codes "serve"
+command_name by.Snapshot = codes "snapshot"
 
 -- .. and of one that listens
 abbrev pub server_name : ServerCommand → Text
@@ -87,8 +90,20 @@ tidy_options = required (codes "overlay") ∷ []
 abbrev pub tidy : Subcommand
 tidy = (codes "tidy", tidy_options)
 
+-- `--root ID --overlay DIR [--objects DIR] [--git DIR] [--remote SERVER]`, of whatever looks at a closed overlay
+abbrev pub closed_options : List LineOption
+closed_options = required (codes "root") ∷ required (codes "overlay") ∷ optional (codes "objects") ∷ optional (codes "git")
+    ∷ optional (address_name Remote) ∷ []
+
+abbrev pub snapshot_options : List LineOption
+snapshot_options = closed_options ++ required (codes "into") ∷ []
+
+-- `snapshot` with the options of a closed overlay, and `--into DIR`
+abbrev pub snapshot : Subcommand
+snapshot = (command_name by.Snapshot, snapshot_options)
+
 abbrev pub subcommands : List Subcommand
-subcommands = stdio ∷ serve ∷ objects ∷ import ∷ tidy ∷ []
+subcommands = stdio ∷ serve ∷ objects ∷ import ∷ tidy ∷ snapshot ∷ []
 
 abbrev pub mountd_line : App
 mountd_line = program (codes "mountd") subcommands
@@ -112,6 +127,7 @@ KeepsNone value = value (number_name History) ≡ Some (codes "none")
 -- how many callers there are of the mount that a command opens
 abbrev pub SaysPasses : MountCommand → (Text → Option Text) → ℕ → Type 0
 SaysPasses by.Stdio value n = n ≡ 1
+SaysPasses by.Snapshot value n = n ≡ 1
 SaysPasses by.Serve value n = SaysNumber Sessions 1 (value (number_name Sessions)) n
 
 -- the limits of the mount that a command opens are what these values say
@@ -216,6 +232,17 @@ pub record IsImport (value : Text → Option Text) (options : ImportOptions) : T
 abbrev pub IsTidy : (Text → Option Text) → TidyOptions → Type 0
 IsTidy value options = value (codes "overlay") ≡ Some (string_bytes options.overlay)
 
+-- which closed overlay is to be looked at is what these values say
+pub record IsClosed (value : Text → Option Text) (options : ClosedOptions) : Type 0 where
+  pub root : value (codes "root") ≡ Some (encode_lower options.root.bytes)
+  pub objects : SaysObjects value options.objects
+  pub overlay : value (codes "overlay") ≡ Some (string_bytes options.overlay)
+
+-- .. and where its objects come to lie
+pub record IsSnapshot (value : Text → Option Text) (options : SnapshotOptions) : Type 0 where
+  pub closed : IsClosed value options.closed
+  pub into : value (codes "into") ≡ Some (string_bytes options.into)
+
 -- the words ask which program this is: behind its name there is `--version` alone, which `clap` never sees
 abbrev pub AsksVersion : List Text → Type 0
 AsksVersion words = (name : Text) × (words ≡ name ∷ codes "--version" ∷ [])
@@ -227,6 +254,7 @@ AsksFor words (command.Serve options) = (named words ≡ Some serve.0) × IsServ
 AsksFor words (command.Objects options) = (named words ≡ Some objects.0) × AreServed (value_of words) options
 AsksFor words (command.Import options) = (named words ≡ Some import.0) × IsImport (value_of words) options
 AsksFor words (command.Tidy options) = (named words ≡ Some tidy.0) × IsTidy (value_of words) options
+AsksFor words (command.Snapshot options) = (named words ≡ Some snapshot.0) × IsSnapshot (value_of words) options
 AsksFor words command.Version = AsksVersion words
 
 -- `clap` takes the words
@@ -277,7 +305,7 @@ RefusesObjects command value (error.Address option) = (¬ NamesNotOne value) × 
 RefusesObjects command value (error.Number option) = ⊥
 RefusesObjects command value error.Memory = ⊤
 
--- why a command that opens a mount refuses such values: the root first, then where the objects come from, then where it is to
+-- why a command over a commit's tree refuses such values: the root first, then where the objects come from, then where it is to
 -- listen, if it does, or a number
 abbrev pub RefusesValues : MountCommand → (Text → Option Text) → OptionsError → Type 0
 RefusesValues command value (error.Refused why) = ⊥
@@ -291,7 +319,7 @@ RefusesValues command value (error.Address option) = NamesMount value × Refuses
 RefusesValues command value (error.Number option) = NamesMount value × RefusesNumber value option
 RefusesValues command value error.Memory = ⊤
 
--- where the command opens a mount, its root is an id, and it is named where the objects come from; where it serves objects, whose
+-- where the command is over a commit's tree, its root is an id, and it is named where the objects come from; where it serves objects, whose
 pub record NamesItsSource (words : List Text) : Type 0 where
   pub mount : (command : MountCommand) → named words ≡ Some (command_name command) → NamesMount (value_of words)
   pub served : named words ≡ Some objects.0 → NamesServed (value_of words)

@@ -14,6 +14,7 @@ ghost use Rattle.mountd_options.specs.declared.command.OptionsError.TheVariants 
 ghost use Rattle.mountd_options.specs.declared.command.ServerCommand.TheVariants as server;
 
 use crate::addresses::AddressOption;
+use crate::closed::{SnapshotOptions, snapshot_line, snapshot_options};
 use crate::numbers::NumberOption;
 use clap::error::ErrorKind;
 use clap::{Arg, ArgAction, ArgMatches};
@@ -72,13 +73,15 @@ pub enum Served {
     Repository(String),
 }
 
-/// A command that opens a mount.
+/// A command over a commit's tree, with changes.
 #[derive(Clone, Copy, Debug, PartialEq, Eq)]
 pub enum MountCommand {
-    /// One caller, over standard input and output.
+    /// It opens a mount for one caller, over standard input and output.
     Stdio,
-    /// A caller for each connection.
+    /// It opens a mount for a caller for each connection.
     Serve,
+    /// It makes objects of what a closed overlay shows.
+    Snapshot,
 }
 
 impl MountCommand {
@@ -89,6 +92,7 @@ impl MountCommand {
         match self {
             MountCommand::Stdio => "stdio",
             MountCommand::Serve => "serve",
+            MountCommand::Snapshot => "snapshot",
         }
     }
 }
@@ -198,6 +202,7 @@ pub enum Command {
     Objects(ObjectsOptions),
     Import(ImportOptions),
     Tidy(TidyOptions),
+    Snapshot(SnapshotOptions),
     /// Which program this is.
     Version,
 }
@@ -274,6 +279,9 @@ pub fn options<S: AsStr>(alloc: Global, words: &[S]) -> Result<Command, OptionsE
     if let Some(given) = matches.subcommand_matches("tidy") {
         return Ok(Command::Tidy(tidy_options(alloc, given)?));
     }
+    if let Some(given) = matches.subcommand_matches("snapshot") {
+        return Ok(Command::Snapshot(snapshot_options(alloc, given)?));
+    }
     // `clap` has seen that one of the subcommands is there.
     let given = matches.subcommand_matches("import").unwrap();
     Ok(Command::Import(import_options(alloc, given)?))
@@ -320,7 +328,7 @@ fn mount_options(
 }
 
 /// Where the objects come from.
-fn objects_of(
+pub(crate) fn objects_of(
     alloc: Global,
     given: &ArgMatches,
     command: MountCommand,
@@ -534,7 +542,7 @@ fn passes(given: &ArgMatches, command: MountCommand) -> Result<u32, NumberOption
     ensures err { IfErr result (RefusesNumber (first_value (found_of given.now))) }
 {
     match command {
-        MountCommand::Stdio => Ok(1),
+        MountCommand::Stdio | MountCommand::Snapshot => Ok(1),
         MountCommand::Serve => Ok(number(given, NumberOption::Sessions, MOUNT_SESSIONS)? as u32),
     }
 }
@@ -625,6 +633,8 @@ fn command_line<'a>(alloc: Global) -> Result<clap::Command<'a>, AllocError>
     let line = line.subcommand(import)?;
     let tidy = tidy_line(alloc)?;
     let line = line.subcommand(tidy)?;
+    let snapshot = snapshot_line(alloc)?;
+    let line = line.subcommand(snapshot)?;
     Ok(line)
 }
 
@@ -780,7 +790,7 @@ fn with_kept_options<'a>(
 }
 
 /// The line with an option more, of this name and value, that must be given.
-fn with_required<'a>(
+pub(crate) fn with_required<'a>(
     alloc: Global,
     line: clap::Command<'a>,
     name: (&'a str, &'a str),
@@ -795,7 +805,7 @@ fn with_required<'a>(
 }
 
 /// The line with an option more, of this name and value, that may be left out.
-fn with_optional<'a>(
+pub(crate) fn with_optional<'a>(
     alloc: Global,
     line: clap::Command<'a>,
     name: (&'a str, &'a str),

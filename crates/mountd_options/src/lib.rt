@@ -6,10 +6,12 @@
 #![tactic(auto)]
 
 mod addresses;
+mod closed;
 mod command;
 mod numbers;
 
 pub use addresses::AddressOption;
+pub use closed::{ClosedOptions, SnapshotOptions};
 pub use command::{
     Command, HistoryOption, ImportOptions, MountCommand, MountOptions, Objects, ObjectsOptions,
     OptionsError, ServeOptions, Served, ServerCommand, TidyOptions, options,

@@ -1,0 +1,73 @@
+//! Objects of a snapshot that go into a folder.
+ghost use Rattle.std.specs.Prelude.{◌≡◌, ◌≢◌, Err};
+ghost use Rattle.eden_model.specs.Failures.{one_more};
+ghost use Rattle.eden_snapshot.specs.declared.sink.SinkFault.TheVariants as sink;
+
+use crate::path_text::path_text;
+use eden_model::{Name, Outside};
+use eden_object_writer::{ImportFault, Store};
+use eden_snapshot::{LeftOut, Sink, SinkFault};
+use std::alloc::Global;
+use std::rt::Files;
+
+/// A folder of objects, which is made with the first of them. What is left out is told on standard error.
+#[derive(Drop)]
+pub struct FolderSink<R> {
+    store: Store<R>,
+    rt: R,
+    failures: u64,
+}
+
+impl<R> FolderSink<R> {
+    /// The objects in that store. Nothing has failed yet.
+    pub fn new(rt: R, store: Store<R>) -> Self {
+        FolderSink {
+            store,
+            rt,
+            failures: 0,
+        }
+    }
+}
+
+impl<R: Files + Eprint> Sink<Outside> for FolderSink<R> {
+    ghost use Rattle.std.specs.Prelude.{[]};
+
+    ghost filled = { λ _. record { kept = []; told = [] } };
+
+    ghost failures = { λ s. s.failures };
+
+    fn put(&mut self, alloc: Global, framed: &[u8]) -> Result<(), SinkFault> {
+        let answer = match self.store.put(alloc, framed) {
+            Ok(_) => Ok(()),
+            Err(ImportFault::Memory) => Err(SinkFault::Memory),
+            Err(_) => Err(SinkFault::Device),
+        };
+        self.failures = count(self.failures, &answer);
+        answer
+    }
+
+    /// Where standard error can't be written, nothing is told.
+    fn leave_out(&mut self, alloc: Global, path: &[Name], why: LeftOut) -> Result<(), SinkFault> {
+        let path = path_text(alloc, path)?;
+        let _ = match why {
+            LeftOut::Empty => eprintln!(self.rt; "mountd: left out {path}, an empty directory"),
+            LeftOut::Submodule => {
+                eprintln!(self.rt;
+                    "mountd: left out {path}, a submodule that the commit has elsewhere"
+                )
+            }
+        };
+        Ok(())
+    }
+}
+
+// The count of failures after that answer.
+fn count(failures: u64, answer: &Result<(), SinkFault>) -> u64
+    ensures failed { answer.now ≡ Err sink.Device → result ≡ one_more failures }
+    ensures passed { answer.now ≢ Err sink.Device → result ≡ failures }
+{
+    match answer {
+        Err(SinkFault::Device) => failures.saturating_add(1),
+        _ => failures,
+    }
+}

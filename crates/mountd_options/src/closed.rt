@@ -1,0 +1,123 @@
+//! What the commands are asked for that look at a closed overlay.
+ghost use Rattle.std.specs.Prelude.{◌≡◌, IfErr, IfOk, false};
+ghost use Rattle.clap.specs.declared.builder.command.Command.TheViews.{out-Command as fields_of};
+ghost use Rattle.clap.specs.Words.{first_value, found_of, rows_of, shape_of};
+ghost use Rattle.mountd_options.specs.CommandLine.{IsClosed, IsSnapshot, RefusesValues};
+ghost use Rattle.mountd_options.specs.CommandLine.{closed_options, snapshot, snapshot_options};
+ghost use Rattle.mountd_options.specs.Grammar.{HasRequired, subcommand_shape};
+ghost use Rattle.mountd_options.specs.declared.command.MountCommand.TheVariants as by;
+
+use crate::command::{
+    MountCommand, Objects, OptionsError, objects_of, with_optional, with_required,
+};
+use clap::ArgMatches;
+use eden_model::Id;
+use eden_object::parse_id;
+use std::alloc::{AllocError, Global};
+
+/// Which closed overlay is to be looked at.
+#[derive(Drop)]
+pub struct ClosedOptions {
+    /// The tree of the commit that it stands on.
+    pub root: Id,
+    /// Where the commit's objects come from.
+    pub objects: Objects,
+    /// The folder of the overlay.
+    pub overlay: String,
+}
+
+/// What `mountd snapshot` is asked for.
+#[derive(Drop)]
+pub struct SnapshotOptions {
+    /// The overlay.
+    pub closed: ClosedOptions,
+    /// The folder that the objects come to lie in.
+    pub into: String,
+}
+
+/// The closed overlay that the command is to look at.
+///
+/// Of several errors the root's is told, and then that of where the objects come from.
+pub(crate) fn closed_options(
+    alloc: Global,
+    given: &ArgMatches,
+    command: MountCommand,
+) -> Result<ClosedOptions, OptionsError>
+    requires { HasRequired closed_options (rows_of (found_of given.now)) }
+    ensures ok { IfOk result (IsClosed (first_value (found_of given.now))) }
+    ensures err { IfErr result (RefusesValues command (first_value (found_of given.now))) }
+{
+    let root = given.get_str("root").unwrap();
+    let overlay = given.get_str("overlay").unwrap();
+    let root = parse_id(root).ok_or(OptionsError::Root)?;
+    let objects = objects_of(alloc, given, command)?;
+    let overlay = String::from_str(alloc, overlay)?;
+    Ok(ClosedOptions {
+        root,
+        objects,
+        overlay,
+    })
+}
+
+pub(crate) fn snapshot_options(
+    alloc: Global,
+    given: &ArgMatches,
+) -> Result<SnapshotOptions, OptionsError>
+    requires { HasRequired snapshot_options (rows_of (found_of given.now)) }
+    ensures ok { IfOk result (IsSnapshot (first_value (found_of given.now))) }
+    ensures err { IfErr result (RefusesValues by.Snapshot (first_value (found_of given.now))) }
+{
+    let into = given.get_str("into").unwrap();
+    let closed = closed_options(alloc, given, MountCommand::Snapshot)?;
+    let into = String::from_str(alloc, into)?;
+    Ok(SnapshotOptions { closed, into })
+}
+
+pub(crate) fn snapshot_line<'a>(alloc: Global) -> Result<clap::Command<'a>, AllocError>
+    ensures shape { IfOk result (λ line. shape_of line ≡ subcommand_shape snapshot) }
+    ensures local { IfOk result (λ line. (fields_of line).has_globals ≡ false) }
+{
+    let line = closed_line(
+        alloc,
+        "snapshot",
+        "Makes Git objects of what a closed overlay shows, and prints the tree's id",
+    )?;
+    with_required(
+        alloc,
+        line,
+        ("into", "DIR"),
+        "The folder that the objects come to lie in",
+    )
+}
+
+/// The line of a command that looks at a closed overlay, with the options of whatever does.
+fn closed_line<'a>(
+    alloc: Global,
+    name: &'a str,
+    about: &'a str,
+) -> Result<clap::Command<'a>, AllocError>
+    ensures shape { IfOk result (λ line. shape_of line ≡ subcommand_shape (name.entry.now, closed_options)) }
+    ensures local { IfOk result (λ line. (fields_of line).has_globals ≡ false) }
+{
+    let line = clap::Command::new(alloc, name).about(about);
+    let line = with_required(
+        alloc,
+        line,
+        ("root", "ID"),
+        "The tree that the overlay stands on: 40 lower-case hexadecimal digits",
+    )?;
+    let line = with_required(alloc, line, ("overlay", "DIR"), "The folder of the overlay")?;
+    let line = with_optional(alloc, line, ("objects", "DIR"), "The folder of Git objects")?;
+    let line = with_optional(
+        alloc,
+        line,
+        ("git", "DIR"),
+        "A Git repository, in the place of --objects; with --remote, which has what it lacks",
+    )?;
+    with_optional(
+        alloc,
+        line,
+        ("remote", "SERVER"),
+        "A server of Git objects, in the place of --objects: its port, or its socket's path with a slash",
+    )
+}

@@ -1,0 +1,117 @@
+"""Commits what a folder shows that another run of `mount-git` has mounted.
+
+That run ends `mountd` for a moment, which closes the overlay, has `mountd snapshot` make Git's objects of what is the
+mount's own, and starts `mountd` again. Programs that use the folder wait meanwhile. The objects go into the repository
+by Git's own commands, and the branch is moved only where it still is at the commit that the folder stands on.
+"""
+
+import argparse
+import contextlib
+import os
+import pathlib
+import re
+import subprocess
+import tempfile
+
+from yakembi.control import Connection, Fields
+from yakembi.git import Refusal, Repository, environment, last_line
+from yakembi.operations import tell
+from yakembi.packs import objects_in, write_pack
+
+# Up to so many objects become a file each, as `git receive-pack` does it by itself; more become one pack.
+LOOSE = 100
+# Who commits, and when, as far as the caller's environment says it.
+SIGNING = re.compile(r"GIT_(AUTHOR|COMMITTER)_(NAME|EMAIL|DATE)")
+NO_COMMIT = "0" * 40
+
+
+def commit(words: argparse.Namespace) -> None:
+    with contextlib.closing(Connection(words.folder)) as mount:
+        about = mount.ask("about")
+        repository = Repository(about["repository"])
+        base = base_of(about)
+        branch = branch_of(repository, words.branch, about)
+        was = place_of(repository, branch, base)
+        taken = mount.ask("snapshot")
+        for line in taken["left_out"]:
+            tell(line)
+        if taken["tree"] == repository.tree_of(base):
+            raise Refusal("nothing is changed since the commit that the folder stands on")
+        put(repository, objects_in(pathlib.Path(taken["folder"])))
+        made = committed(repository, taken["tree"], base, words.message)
+        move(repository, branch, made, was, words.message)
+        mount.ask("committed", commit=made)
+    print(f"{made} {branch}", flush=True)
+
+
+def base_of(about: Fields) -> str:
+    """The commit that the folder stands on."""
+    if about["commit"] is None:
+        raise Refusal("the folder shows a tree, and isn't known to stand on a commit")
+    found: str = about["commit"]
+    return found
+
+
+def branch_of(repository: Repository, name: str | None, about: Fields) -> str:
+    """The branch that is to be moved: the one that is named, or else the one that the mounted revision named."""
+    if name is None:
+        named: str | None = about["branch"]
+        if named is None:
+            raise Refusal("the mounted revision names no branch: name one by --branch")
+        return named
+    branch = f"refs/heads/{name}"
+    if repository.git("check-ref-format", branch).returncode != 0:
+        raise Refusal(f"{name} is no name of a branch")
+    return branch
+
+
+def place_of(repository: Repository, branch: str, base: str) -> str:
+    """Where the branch is: at the commit that the folder stands on, or nowhere yet."""
+    found = repository.git("rev-parse", "--verify", "--quiet", "--end-of-options", branch)
+    was = found.stdout.decode().strip() if found.returncode == 0 else NO_COMMIT
+    if was not in (base, NO_COMMIT):
+        raise Refusal(f"{branch} is at {was}, and the folder stands on {base}: nothing is moved")
+    return was
+
+
+def put(repository: Repository, objects: list[pathlib.Path]) -> None:
+    """Puts framed objects into the repository."""
+    if not objects:
+        return
+    words = ["unpack-objects", "-q"] if len(objects) <= LOOSE else ["index-pack", "--stdin"]
+    with tempfile.TemporaryFile() as pack:
+        write_pack(pack, objects)
+        pack.seek(0)
+        done = subprocess.run(["git", "-C", repository.path, *words], stdin=pack, capture_output=True,
+                              env=environment())
+    if done.returncode != 0:
+        raise Refusal(f"the objects can't be put into the repository{last_line(done)}")
+
+
+def committed(repository: Repository, tree: str, base: str, message: str) -> str:
+    """The commit of that tree."""
+    signing = {name: value for name, value in os.environ.items() if SIGNING.fullmatch(name)}
+    done = subprocess.run(["git", "-C", repository.path, "commit-tree", tree, "-p", base],
+                          input=os.fsencode(message.rstrip("\n") + "\n"), capture_output=True,
+                          env={**environment(), **signing})
+    if done.returncode != 0:
+        raise Refusal(f"there is no commit{last_line(done)}")
+    return done.stdout.decode().strip()
+
+
+def move(repository: Repository, branch: str, made: str, was: str, message: str) -> None:
+    """Moves the branch, where it still is where it was."""
+    first = next(iter(message.splitlines()), "")
+    done = repository.git("update-ref", "-m", f"commit: {first}", branch, made, was)
+    if done.returncode != 0:
+        raise Refusal(f"{branch} isn't moved, and the commit is {made}{last_line(done)}")
+
+
+def commit_parser() -> argparse.ArgumentParser:
+    found = argparse.ArgumentParser(prog="mount-git commit", description=__doc__,
+                                    formatter_class=argparse.RawDescriptionHelpFormatter)
+    found.add_argument("folder", metavar="FOLDER", help="a folder that `mount-git` shows, or one below it")
+    found.add_argument("-m", "--message", metavar="TEXT", required=True, help="the commit's message")
+    found.add_argument("--branch", metavar="NAME",
+                       help="the branch that is moved, or made; else the one that the mounted revision named")
+    return found

@@ -1,0 +1,142 @@
+"""What another run of `mount-git` may ask of the one that shows a folder, over a socket of the folder's own.
+
+The socket lies in a folder that its user alone may enter, under a name that is reckoned from the shown folder's path,
+so that whoever is told the folder finds it. Requests and replies are lines of JSON. What a request makes is there until
+its connection ends.
+"""
+
+import contextlib
+import hashlib
+import json
+import os
+import pathlib
+import socket
+import stat
+import tempfile
+import threading
+from collections.abc import Callable, Iterator
+from typing import Any
+
+from yakembi.addresses import LONGEST_NAME, LONGEST_PATH, AddressServer, ConnectionHandler, connected
+from yakembi.git import Refusal
+
+Fields = dict[str, Any]
+# What answers a request, by its name. The folder is the connection's own.
+Answers = dict[str, Callable[[Fields, pathlib.Path], Fields]]
+LONGEST_LINE = 1 << 20
+# A commit of many changed files takes its time.
+SECONDS_TO_ANSWER = 3_600
+
+
+def places() -> list[str]:
+    """Where the folder of this user's sockets may lie: the run that shows a folder and another one may have other
+    variables."""
+    above = [f"/run/user/{os.getuid()}", os.environ.get("XDG_RUNTIME_DIR", ""), tempfile.gettempdir(), "/tmp"]
+    found = [os.path.join(place, f"mount-git.{os.getuid()}") for place in dict.fromkeys(above) if os.path.isdir(place)]
+    return [place for place in found if len(os.fsencode(place)) <= LONGEST_PATH - LONGEST_NAME]
+
+
+def is_ours(place: str) -> bool:
+    """Whether the folder is there, and nobody else may enter it."""
+    try:
+        found = os.lstat(place)
+    except OSError:
+        return False
+    return stat.S_ISDIR(found.st_mode) and found.st_uid == os.getuid() and stat.S_IMODE(found.st_mode) == 0o700
+
+
+def made_place() -> str:
+    """The first such folder that can be made, or is there."""
+    for place in places():
+        with contextlib.suppress(OSError):
+            os.mkdir(place, 0o700)
+        if is_ours(place):
+            return place
+    raise Refusal(f"no folder can be made for this user's sockets, as {places()[-1]}")
+
+
+def name_for(folder: str) -> str:
+    """The name of that folder's socket."""
+    return hashlib.sha256(os.fsencode(os.path.realpath(folder))).hexdigest()[:32]
+
+
+class Server(AddressServer):
+    """Answers one request at a time."""
+
+    def __init__(self, path: str, answers: Answers) -> None:
+        self.answers = answers
+        self.turn = threading.Lock()
+        super().__init__(path, Asked)
+
+
+class Asked(ConnectionHandler):
+    """One connection, and a folder for what its requests make."""
+
+    server: Server
+
+    def handle(self) -> None:
+        with tempfile.TemporaryDirectory(prefix="mount-git.", ignore_cleanup_errors=True) as name:
+            with contextlib.suppress(ConnectionError):
+                while line := self.rfile.readline(LONGEST_LINE):
+                    self.wfile.write(json.dumps(self.answer(line, pathlib.Path(name))).encode() + b"\n")
+
+    def answer(self, line: bytes, folder: pathlib.Path) -> Fields:
+        fields = json.loads(line)
+        with self.server.turn:
+            try:
+                return self.server.answers[fields["do"]](fields, folder)
+            except Refusal as refusal:
+                return {"refusal": str(refusal)}
+
+
+@contextlib.contextmanager
+def serving(folder: str, answers: Answers) -> Iterator[None]:
+    """Answers what is asked at the folder's socket, until the block ends."""
+    server = Server(os.path.join(made_place(), name_for(folder)), answers)
+    thread = threading.Thread(target=server.serve_forever, kwargs={"poll_interval": 0.05}, daemon=True)
+    thread.start()
+    try:
+        yield
+    finally:
+        server.shutdown()
+        server.server_close()
+        thread.join()
+
+
+class Connection:
+    """A connection to the run that shows a folder."""
+
+    def __init__(self, folder: str) -> None:
+        self.folder = folder
+        self.socket = reached(folder)
+        self.lines = self.socket.makefile("rb")
+
+    def ask(self, what: str, **fields: str) -> Fields:
+        """The reply to that request. A Refusal, where there is one, or none comes."""
+        try:
+            self.socket.sendall(json.dumps({"do": what, **fields}).encode() + b"\n")
+            line = self.lines.readline()
+        except OSError as problem:
+            raise Refusal(f"the mount at {self.folder} doesn't answer: {problem.strerror or problem}") from None
+        if not line.endswith(b"\n"):
+            raise Refusal(f"the mount at {self.folder} ended before it answered")
+        found: Fields = json.loads(line)
+        if "refusal" in found:
+            raise Refusal(found["refusal"])
+        return found
+
+    def close(self) -> None:
+        self.lines.close()
+        self.socket.close()
+
+
+def reached(folder: str) -> socket.socket:
+    """The socket of the folder, or of the nearest one above it that has one."""
+    at = os.path.realpath(folder)
+    while True:
+        for place in filter(is_ours, places()):
+            with contextlib.suppress(FileNotFoundError, ConnectionRefusedError):
+                return connected(os.path.join(place, name_for(at)), SECONDS_TO_ANSWER)
+        if os.path.dirname(at) == at:
+            raise Refusal(f"no mount-git shows {folder}")
+        at = os.path.dirname(at)
