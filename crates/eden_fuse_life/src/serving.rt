@@ -1,0 +1,72 @@
+//! A session with the kernel over a table.
+ghost use Rattle.std.specs.Prelude.{◌≡◌, []};
+ghost use Rattle.eden_fuse_life.specs.Serving.{ServesFolder, line_of};
+
+use crate::asking::Asking;
+use eden_fuse_format::Time;
+use eden_fuse_session::{Receiver, Sender, SessionFault, session};
+use eden_fuse_shown::{Manner, Shown, Times};
+use eden_history::History;
+use eden_model::World;
+use eden_mount::{Attempts, Local, Mount, Room};
+use eden_source::Source;
+use std::alloc::{Allocator, Global};
+use std::rt::Clock;
+
+/// How a folder looks, and since when.
+#[derive(Clone, Copy)]
+pub struct Look {
+    pub manner: Manner,
+    /// When all was changed that the session doesn't change.
+    pub since: Time,
+}
+
+/// What is left of a mount whose folder was served: its table and its source, and how the session ended.
+#[derive(Drop)]
+pub struct ServedFolder<T, S> {
+    pub table: T,
+    pub source: S,
+    pub said: Result<(), SessionFault>,
+}
+
+/// Shows a table that shows the opening tree, in a mount of that room, with an empty history, until no more messages
+/// come.
+pub fn serve_folder<
+    W: World,
+    S: Source<W> + Drop,
+    T: Attempts<W> + Drop,
+    A: Allocator,
+    H: History,
+    K: Clock + Drop,
+    V: Receiver,
+    C: Sender,
+>(
+    alloc: Global,
+    room: Room<A>,
+    table: T,
+    history: H,
+    source: S,
+    look: Look,
+    clock: K,
+    receiver: &mut V,
+    sender: &mut C,
+) -> ServedFolder<T, S>
+    requires shown { W.honest → T.table.shown table ≡ W.opening }
+    requires empty { H.entries history ≡ [] }
+    ensures { ServesFolder S.fetched T.table W.honest H.copies (H.limit history) W.opening look.manner room table source
+        (line_of C.Sender sender.old) (line_of C.Sender sender.new)
+        (V.waiting receiver.old) (V.waiting receiver.new) result }
+{
+    let mount: Mount<W, T, A, H> = Mount::new(room, table, history);
+    let asking = Asking::new(alloc, Local::new(alloc, mount, source));
+    let times = Times::new(alloc, look.since);
+    let mut shown = Shown::new(alloc, asking, clock, look.manner, times);
+    let said = session(alloc, receiver, sender, &mut shown);
+    let (mount, source) = shown.into_mount().into_local().into_parts();
+    mount.holds();
+    ServedFolder {
+        table: mount.into_table(),
+        source,
+        said,
+    }
+}
