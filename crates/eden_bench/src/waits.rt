@@ -56,7 +56,7 @@ struct Ground {
 }
 
 /// A table of a commit of that root. None where there is no memory for a cache.
-fn ground(alloc: Global, root: Id) -> Option<Ground> {
+fn fresh(alloc: Global, root: Id) -> Option<Ground> {
     let overlay = Overlay::new(MemoryFiles::new(alloc));
     let cache = ObjectCache::new(alloc, 8, CACHE_BYTES, 8).ok()?;
     Some(Ground {
@@ -143,7 +143,7 @@ fn measure_chain(bench: Bench, trees: &[Vec<u8>], way: Way, what: &str) -> io::R
     let (Some(root), Some(path)) = (trees.first(), deep(alloc, DEEPEST)?) else {
         return Ok(());
     };
-    let Some(mut ground) = ground(alloc, id_of(root.as_slice())) else {
+    let Some(mut ground) = fresh(alloc, id_of(root.as_slice())) else {
         return Ok(());
     };
     let start = bench.start();
@@ -207,7 +207,7 @@ fn time_at_their_places(
     let mut mount: Mount<Outside, Tree<MemoryFiles<Outside>>, Global, Counted> = Mount::new(
         room,
         tree,
-        Counted::new(),
+        Counted::new(alloc),
     );
     let mut pass = 0u32;
     for read in reads {
