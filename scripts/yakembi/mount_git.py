@@ -21,7 +21,7 @@ import tempfile
 import time
 from collections.abc import Callable, Iterator, Sequence
 
-from yakembi import commit_folder, control
+from yakembi import commit_folder, control, kernel
 from yakembi.addresses import socket_path
 from yakembi.client import SessionEnded
 from yakembi.control import Answers, Fields
@@ -216,9 +216,7 @@ def pool_over(program: Serving, overlay: str) -> Pool:
         if word != "Locked" or time.monotonic() > end:
             break
         time.sleep(0.1)
-    if word in UNOPENED:
-        raise Refusal(f"the overlay {overlay} can't be opened: {word}, {UNOPENED[word]}")
-    raise Refusal(f"mountd didn't start: {word}")
+    raise unopened(word, overlay)
 
 
 class Asked:
@@ -307,24 +305,63 @@ def show(fuse: Callable[..., object], operations: Announced, folder: str) -> Non
             signal.signal(number, signal.SIG_IGN)
 
 
+def check_kernel() -> None:
+    if not kernel.can_mount():
+        raise Refusal("fuse3 is missing: apt install fuse3")
+    if not os.path.exists("/dev/fuse"):
+        raise Refusal("this system has no /dev/fuse")
+
+
+def show_by_kernel(words: argparse.Namespace, root: str, source: list[str], overlay: str, folder: str) -> str | None:
+    """Shows the folder by `mountd fuse`; what it said where it didn't end well."""
+    os.makedirs(folder, exist_ok=True)
+    try:
+        return kernel.show(words.mountd, root, source, overlay, folder, SECONDS_LOCKED)
+    except Unopened as refusal:
+        word = str(refusal)
+    except FileNotFoundError as problem:
+        raise Refusal(f"{words.mountd} can't be run ({problem.strerror}): `make run` builds it") from None
+    raise unopened(word, overlay)
+
+
+def unopened(word: str, overlay: str) -> Refusal:
+    if word in UNOPENED:
+        return Refusal(f"the overlay {overlay} can't be opened: {word}, {UNOPENED[word]}")
+    return Refusal(f"mountd didn't start: {word}")
+
+
+def show_by_pool(fuse: Callable[..., object], words: argparse.Namespace, repository: Repository, noted: Noted,
+                 source: list[str], overlay: OverlayFolder, folder: str) -> str | None:
+    """Shows the folder by fusepy and the sessions of a `mountd serve`; what that said where it didn't end well."""
+    program = Serving(words.mountd, noted.tree, source, overlay.path, more=["--cache-entries", CACHE_ENTRIES])
+    pool = pool_over(program, overlay.path)
+    answers = Asked(pool, words.mountd, source, repository, words.revision, overlay).answers()
+    problem = None
+    try:
+        times = Times(noted.seconds * 10**9, overlay.changed())
+        with reachable(folder, answers):
+            show(fuse, Announced(Mount(pool), times, overlay.path), folder)
+    finally:
+        problem = pool.close()
+    return problem
+
+
 def run(words: argparse.Namespace) -> None:
-    fuse = fuse_class()
-    check_fuse()
+    fuse = None if words.kernel else fuse_class()
+    if words.kernel:
+        check_kernel()
+    else:
+        check_fuse()
     repository = Repository(words.repository)
     folder = mount_point(words.folder)
     check_apart(words.overlay, folder)
     with overlay_at(words.overlay) as overlay:
         noted = tree_to_show(repository, words.revision, overlay)
         with source_of(repository, words, noted.tree) as source:
-            program = Serving(words.mountd, noted.tree, source, overlay.path, more=["--cache-entries", CACHE_ENTRIES])
-            pool = pool_over(program, overlay.path)
-            answers = Asked(pool, words.mountd, source, repository, words.revision, overlay).answers()
-            try:
-                times = Times(noted.seconds * 10**9, overlay.changed())
-                with reachable(folder, answers):
-                    show(fuse, Announced(Mount(pool), times, overlay.path), folder)
-            finally:
-                problem = pool.close()
+            if fuse is None:
+                problem = show_by_kernel(words, noted.tree, source, overlay.path, folder)
+            else:
+                problem = show_by_pool(fuse, words, repository, noted, source, overlay, folder)
     if problem:
         raise Refusal(f"the overlay {overlay.path} wasn't closed well: {problem}")
 
@@ -341,6 +378,8 @@ def parser() -> argparse.ArgumentParser:
     found.add_argument("--ahead", metavar="BYTES", type=number_of_bytes, default=AHEAD,
                        help="of a partial clone, fetch at most so many bytes before a program asks for them: "
                        f"subfolders, and other files of a folder whose files are read; 0: none; {AHEAD} if left out")
+    found.add_argument("--kernel", action="store_true",
+                       help="let mountd speak the kernel's protocol itself, without fusepy; one request at a time")
     found.add_argument("--log", action="store_true", help="tell each object that is fetched on standard error")
     return found
 

@@ -6,6 +6,10 @@ use Rattle.eden_checkout.specs.declared.fault.OpenFault.{OpenFault}
 use Rattle.eden_checkout.specs.declared.fault.OpenFault.TheVariants as opens
 use Rattle.eden_checkout.specs.declared.tidying.TidyFault.{TidyFault}
 use Rattle.eden_checkout.specs.declared.tidying.TidyFault.TheVariants as tidy
+use Rattle.eden_fuse_life.specs.declared.fault.FolderFault.{FolderFault}
+use Rattle.eden_fuse_life.specs.declared.fault.FolderFault.TheVariants as folder
+use Rattle.eden_fuse_session.specs.declared.serving.SessionFault.{SessionFault}
+use Rattle.eden_fuse_session.specs.declared.serving.SessionFault.TheVariants as session
 use Rattle.eden_git.specs.declared.fault.GitFault.{GitFault}
 use Rattle.eden_git.specs.declared.fault.GitFault.TheVariants as git
 use Rattle.eden_stdio_life.specs.declared.fault.LifeFault.{LifeFault}
@@ -61,6 +65,17 @@ shared_status (Err (shared.Open fault)) = 3
 shared_status (Err shared.Listen) = 4
 shared_status (Err (shared.Session fault)) = 4
 shared_status (Err (shared.Close fault)) = 4
+
+-- .. of a folder's, and the name of why the session with the kernel ended early
+abbrev pub folder_status : Result ⊤ FolderFault → ℕ
+folder_status (Ok _) = 0
+folder_status (Err (folder.Open fault)) = 3
+folder_status (Err (folder.Session fault)) = 4
+folder_status (Err (folder.Close fault)) = 4
+
+abbrev pub session_name : SessionFault → List ℕ
+session_name session.Receive = codes "Receive"
+session_name session.Memory = codes "Memory"
 
 -- .. and of a server of objects; how it ended, by how its connections were taken and served
 abbrev pub server_status : Result ⊤ ServerFault → ℕ

@@ -8,6 +8,11 @@ use Rattle.eden_source.specs.Fetching.{Answer}
 use Rattle.eden_overlay.specs.declared.files.Files.{Ghosts as Files}
 use Rattle.eden_mount.specs.Settings.{Settings}
 use Rattle.eden_wire.specs.Serving.{Known}
+use Rattle.eden_fuse_session.specs.Sending.{Known as Messages}
+use Rattle.eden_fuse_session.specs.Turns.{Line}
+use Rattle.eden_fuse_shown.specs.declared.manner.Manner.{Manner}
+use Rattle.eden_fuse_life.specs.declared.life.FolderEnding.{FolderEnding}
+use Rattle.eden_fuse_life.specs.Lives.{LivesFolder}
 use Rattle.eden_stdio_life.specs.declared.life.Backing.{Backing}
 use Rattle.eden_stdio_life.specs.declared.life.Ending.{Ending}
 use Rattle.eden_stdio_life.specs.declared.opening.Base.{Base}
@@ -16,7 +21,7 @@ use Rattle.eden_serve_life.specs.declared.life.SharedEnding.{SharedEnding}
 use Rattle.eden_serve_life.specs.Lives.{LivesShared}
 use Rattle.mountd_options.specs.declared.command.HistoryOption.{HistoryOption}
 use Rattle.mountd_options.specs.declared.command.HistoryOption.TheVariants as keeping
-use Rattle.mountd.specs.Endings.{shared_status, status_of}
+use Rattle.mountd.specs.Endings.{folder_status, shared_status, status_of}
 
 -- whether replies are copied to be kept, for which there may be no memory
 abbrev pub copies_of : HistoryOption → Bool
@@ -37,6 +42,17 @@ module _ {W F S : Type 0} (w : Ghosts W) (f : Files F W) (fetched : S → Id →
     pub left : Ending F S
     pub lived : Lives w f fetched copies limit base settings backing input output left
     pub told : status ≡ status_of left.outcome
+
+  -- A mount was shown as a folder. The messages and their answers are the kernel's, of which contracts know none.
+  pub record IsFolderRun (base : Base) (settings : Settings) (backing : Backing F S) (status : ℕ) : Type 0 where
+    pub manner : Manner
+    pub line : Line
+    pub line' : Line
+    pub waiting : Messages
+    pub unread : Messages
+    pub left : FolderEnding F S
+    pub lived : LivesFolder w f fetched copies limit base settings backing manner line line' waiting unread left
+    pub told : status ≡ folder_status left.outcome
 
 module _ {W F I O : Type 0} (w : Ghosts W) (f : Files F W) (i : Read I) (o : Write O) (limit : ℕ) where
   -- a mount of many callers lived, whose history may become so long, and the status tells how that ended

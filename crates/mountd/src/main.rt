@@ -1,7 +1,9 @@
 //! The program `mountd`: answers requests on the files of a Git commit, and keeps what they change.
 #![tactic(auto)]
 
+mod folder;
 mod hold;
+mod kernel;
 mod path_text;
 mod report;
 mod serve;
@@ -14,6 +16,7 @@ mod tidy;
 mod version;
 
 use eden_object_writer::{ImportFault, Progress, Store};
+use folder::folder;
 use mountd_options::{Command, ImportOptions, options};
 use serve::serve;
 use server::serve_objects;
@@ -59,6 +62,7 @@ fn main(rt: HostRuntime) -> ExitCode {
         Ok(Command::Stdio(options)) => stdio(&rt, options),
         // Outside `main`, only a type parameter may have threads and wait: so the runtime is passed for it, too.
         Ok(Command::Serve(options)) => serve(&rt, &rt, options),
+        Ok(Command::Fuse(options)) => folder(&rt, options),
         Ok(Command::Objects(options)) => report::server(&rt, serve_objects(&rt, &rt, options)),
         Ok(Command::Import(options)) => report::import(&rt, import(&rt, options)),
         Ok(Command::Tidy(options)) => tidy(&rt, options),

@@ -3,11 +3,14 @@
 //! Where standard error can't be written, the status alone tells.
 ghost use Rattle.std.specs.Prelude.{◌≡◌, IfErr, IsErr, IsOk};
 ghost use Rattle.std.specs.Process.{exit_status};
-ghost use Rattle.mountd.specs.Endings.{IsToldStatus, close_name, import_status, open_name, repository_name};
+ghost use Rattle.mountd.specs.Endings.{IsToldStatus, close_name, folder_status, import_status, open_name};
+ghost use Rattle.mountd.specs.Endings.{repository_name, session_name};
 ghost use Rattle.mountd.specs.Endings.{server_status, shared_status, status_of, tidy_status};
 
 use crate::server::ServerFault;
 use eden_checkout::{OpenFault, TidyFault};
+use eden_fuse_life::FolderFault;
+use eden_fuse_session::SessionFault;
 use eden_git::GitFault;
 use eden_object_writer::ImportFault;
 use eden_overlay::{FilesFault, Removed};
@@ -86,6 +89,30 @@ pub fn shared_ending<R: Eprint>(rt: &R, outcome: Result<(), SharedLifeFault>) ->
         Err(SharedLifeFault::Listen) => unheard(rt, "Device"),
         Err(SharedLifeFault::Session(fault)) => ended(rt, "session", fault.name()),
         Err(SharedLifeFault::Close(fault)) => ended(rt, "close", close_name(fault)),
+    }
+}
+
+/// Tells how a folder's life ended, where it didn't end well: by which fault, without the fault's values.
+///
+/// Status 0; 3, where the overlay wasn't opened; 4, where the session or the close ended in a fault.
+pub fn folder_ending<R: Eprint>(rt: &R, outcome: Result<(), FolderFault>) -> ExitCode
+    ensures { exit_status result ≡ folder_status outcome }
+{
+    match outcome {
+        Ok(()) => ExitCode::SUCCESS,
+        Err(FolderFault::Open(fault)) => unopened(rt, open_name(fault)),
+        Err(FolderFault::Session(fault)) => ended(rt, "session", session_name(fault)),
+        Err(FolderFault::Close(fault)) => ended(rt, "close", close_name(fault)),
+    }
+}
+
+// The name of why a session with the kernel ended early.
+fn session_name(fault: SessionFault) -> &'static str
+    ensures { result.now ≡ session_name fault }
+{
+    match fault {
+        SessionFault::Receive => "Receive",
+        SessionFault::Memory => "Memory",
     }
 }
 

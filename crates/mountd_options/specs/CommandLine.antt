@@ -1,5 +1,5 @@
 -- What the program's command line says.
-use Rattle.std.specs.Prelude.{◌≡◌, ◌↔◌, ◌^◌, IsTrue, true, ℕ, ⊤, List, [], ◌∷◌, ◌++◌, Option, Some, None, is_some, codes, option_map, string_bytes}
+use Rattle.std.specs.Prelude.{◌≡◌, ◌⊎◌, ◌↔◌, ◌^◌, IsTrue, true, ℕ, ⊤, List, [], ◌∷◌, ◌++◌, Option, Some, None, is_some, codes, option_map, string_bytes}
 use Rattle.clap.specs.Kinds.{IsAmong}
 use Rattle.clap.specs.Words.{App, Text, fault_of, kind_of, subcommand_of}
 use Rattle.hex.specs.Hex.{encode_lower}
@@ -40,6 +40,7 @@ abbrev pub command_name : MountCommand → Text
 command_name by.Stdio = codes "stdio"
 command_name by.Serve = codes "serve"
 command_name by.Snapshot = codes "snapshot"
+command_name by.Fuse = codes "fuse"
 
 -- .. and of one that listens
 abbrev pub server_name : ServerCommand → Text
@@ -102,8 +103,12 @@ snapshot_options = closed_options ++ required (codes "into") ∷ []
 abbrev pub snapshot : Subcommand
 snapshot = (command_name by.Snapshot, snapshot_options)
 
+-- `fuse` with the options of a mount
+abbrev pub fuse : Subcommand
+fuse = (command_name by.Fuse, mount_options)
+
 abbrev pub subcommands : List Subcommand
-subcommands = stdio ∷ serve ∷ objects ∷ import ∷ tidy ∷ snapshot ∷ []
+subcommands = stdio ∷ serve ∷ objects ∷ import ∷ tidy ∷ snapshot ∷ fuse ∷ []
 
 abbrev pub mountd_line : App
 mountd_line = program (codes "mountd") subcommands
@@ -120,14 +125,16 @@ value_of words = value_in (subcommand_of mountd_line words)
 abbrev pub IsGiven : (Text → Option Text) → Text → Type 0
 IsGiven value name = value name ≡ Some (codes "true")
 
--- no history is to be kept
-abbrev pub KeepsNone : (Text → Option Text) → Type 0
-KeepsNone value = value (number_name History) ≡ Some (codes "none")
+-- no history is to be kept: that is said; or nothing is, and the command keeps none by itself
+abbrev pub KeepsNone : MountCommand → (Text → Option Text) → Type 0
+KeepsNone by.Fuse value = (value (number_name History) ≡ Some (codes "none")) ⊎ (value (number_name History) ≡ None)
+KeepsNone command value = value (number_name History) ≡ Some (codes "none")
 
 -- how many callers there are of the mount that a command opens
 abbrev pub SaysPasses : MountCommand → (Text → Option Text) → ℕ → Type 0
 SaysPasses by.Stdio value n = n ≡ 1
 SaysPasses by.Snapshot value n = n ≡ 1
+SaysPasses by.Fuse value n = n ≡ 1
 SaysPasses by.Serve value n = SaysNumber Sessions 1 (value (number_name Sessions)) n
 
 -- the limits of the mount that a command opens are what these values say
@@ -208,7 +215,7 @@ pub record IsMount (command : MountCommand) (value : Text → Option Text) (opti
   pub objects : SaysObjects value options.objects
   pub overlay : value (codes "overlay") ≡ option_map string_bytes options.overlay
   pub rescan : IsTrue options.rescan ↔ IsGiven value (codes "rescan")
-  pub history : (options.history ≡ keeping.Counted) ↔ KeepsNone value
+  pub history : (options.history ≡ keeping.Counted) ↔ KeepsNone command value
   pub limits : SaysLimits command value options.limits
 
 -- what is to be served, where, and with how many fetchers is what these values say
@@ -251,6 +258,7 @@ AsksVersion words = (name : Text) × (words ≡ name ∷ codes "--version" ∷ [
 abbrev pub AsksFor : List Text → Command → Type 0
 AsksFor words (command.Stdio options) = (named words ≡ Some stdio.0) × IsMount by.Stdio (value_of words) options
 AsksFor words (command.Serve options) = (named words ≡ Some serve.0) × IsServed (value_of words) options
+AsksFor words (command.Fuse options) = (named words ≡ Some fuse.0) × IsMount by.Fuse (value_of words) options
 AsksFor words (command.Objects options) = (named words ≡ Some objects.0) × AreServed (value_of words) options
 AsksFor words (command.Import options) = (named words ≡ Some import.0) × IsImport (value_of words) options
 AsksFor words (command.Tidy options) = (named words ≡ Some tidy.0) × IsTidy (value_of words) options

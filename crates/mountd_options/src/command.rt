@@ -4,7 +4,7 @@ ghost use Rattle.clap.specs.declared.builder.command.Command.TheViews.{out-Comma
 ghost use Rattle.clap.specs.declared.error.kind.ErrorKind.TheVariants.{OutOfMemory};
 ghost use Rattle.clap.specs.Words.{app_of, first_value, found_of, kind_of, rows_of, rule_of, shape_of, subcommand_of, subcommand_rows_of};
 ghost use Rattle.mountd_options.specs.Addresses.{IsAddress, IsNoAddress, address_name};
-ghost use Rattle.mountd_options.specs.CommandLine.{AreServed, AsksFor, AsksVersion, IsGiven, IsImport, IsMount, IsServed, IsTaken, IsTidy, KeepsNone, NamesMount, NamesServed, Refuses, RefusesAddress, RefusesNumber, RefusesObjects, RefusesServed, RefusesServer, RefusesValues, SaysLimits, SaysObjects, SaysPasses, SaysPlace, SaysServed, command_name, import, import_options, kept_options, mount_options, mountd_line, objects, serve, serve_options, server_name, stdio, tidy, tidy_options};
+ghost use Rattle.mountd_options.specs.CommandLine.{AreServed, AsksFor, AsksVersion, IsGiven, IsImport, IsMount, IsServed, IsTaken, IsTidy, KeepsNone, NamesMount, NamesServed, Refuses, RefusesAddress, RefusesNumber, RefusesObjects, RefusesServed, RefusesServer, RefusesValues, SaysLimits, SaysObjects, SaysPasses, SaysPlace, SaysServed, command_name, fuse, import, import_options, kept_options, mount_options, mountd_line, objects, serve, serve_options, server_name, stdio, tidy, tidy_options};
 ghost use Rattle.mountd_options.specs.Grammar.{HasRequired, flag, option_rule, optional, required, subcommand_shape, with_options};
 ghost use Rattle.mountd_options.specs.Numbers.{IsNoNumber, IsNoValue, IsNumber, SaysNumber};
 ghost use Rattle.mountd_options.specs.Numbers.{least_of, most_of, number_name};
@@ -82,6 +82,8 @@ pub enum MountCommand {
     Serve,
     /// It makes objects of what a closed overlay shows.
     Snapshot,
+    /// The kernel, over its FUSE protocol.
+    Fuse,
 }
 
 impl MountCommand {
@@ -93,6 +95,7 @@ impl MountCommand {
             MountCommand::Stdio => "stdio",
             MountCommand::Serve => "serve",
             MountCommand::Snapshot => "snapshot",
+            MountCommand::Fuse => "fuse",
         }
     }
 }
@@ -199,6 +202,7 @@ pub struct TidyOptions {
 pub enum Command {
     Stdio(MountOptions),
     Serve(ServeOptions),
+    Fuse(MountOptions),
     Objects(ObjectsOptions),
     Import(ImportOptions),
     Tidy(TidyOptions),
@@ -282,6 +286,9 @@ pub fn options<S: AsStr>(alloc: Global, words: &[S]) -> Result<Command, OptionsE
     if let Some(given) = matches.subcommand_matches("snapshot") {
         return Ok(Command::Snapshot(snapshot_options(alloc, given)?));
     }
+    if let Some(given) = matches.subcommand_matches("fuse") {
+        return Ok(Command::Fuse(mount_options(alloc, given, MountCommand::Fuse)?));
+    }
     // `clap` has seen that one of the subcommands is there.
     let given = matches.subcommand_matches("import").unwrap();
     Ok(Command::Import(import_options(alloc, given)?))
@@ -315,7 +322,7 @@ fn mount_options(
     let objects = objects_of(alloc, given, command)?;
     let overlay = overlay(alloc, given)?;
     let rescan = is_given(given, "rescan");
-    let history = history_of(given);
+    let history = history_of(given, command);
     let limits = limits(given, command)?;
     Ok(MountOptions {
         root,
@@ -512,13 +519,22 @@ fn is_given(given: &ArgMatches, name: &str) -> bool
 }
 
 /// What is to become of the history.
-fn history_of(given: &ArgMatches) -> HistoryOption
-    ensures { (result ≡ HistoryOption.Counted) ↔ KeepsNone (first_value (found_of given.now)) }
+fn history_of(given: &ArgMatches, command: MountCommand) -> HistoryOption
+    ensures { (result ≡ HistoryOption.Counted) ↔ KeepsNone command (first_value (found_of given.now)) }
 {
-    if given.get_str("history") == Some("none") {
-        HistoryOption::Counted
-    } else {
-        HistoryOption::Kept
+    match given.get_str("history") {
+        None => match command {
+            MountCommand::Fuse => HistoryOption::Counted,
+            MountCommand::Stdio | MountCommand::Serve | MountCommand::Snapshot =>
+                HistoryOption::Kept,
+        },
+        Some(text) => {
+            if text == "none" {
+                HistoryOption::Counted
+            } else {
+                HistoryOption::Kept
+            }
+        }
     }
 }
 
@@ -542,7 +558,7 @@ fn passes(given: &ArgMatches, command: MountCommand) -> Result<u32, NumberOption
     ensures err { IfErr result (RefusesNumber (first_value (found_of given.now))) }
 {
     match command {
-        MountCommand::Stdio | MountCommand::Snapshot => Ok(1),
+        MountCommand::Stdio | MountCommand::Snapshot | MountCommand::Fuse => Ok(1),
         MountCommand::Serve => Ok(number(given, NumberOption::Sessions, MOUNT_SESSIONS)? as u32),
     }
 }
@@ -635,6 +651,8 @@ fn command_line<'a>(alloc: Global) -> Result<clap::Command<'a>, AllocError>
     let line = line.subcommand(tidy)?;
     let snapshot = snapshot_line(alloc)?;
     let line = line.subcommand(snapshot)?;
+    let fuse = fuse_line(alloc)?;
+    let line = line.subcommand(fuse)?;
     Ok(line)
 }
 
@@ -646,6 +664,17 @@ fn stdio_line<'a>(alloc: Global) -> Result<clap::Command<'a>, AllocError>
         alloc,
         "stdio",
         "Serves one session over standard input and output",
+    )
+}
+
+fn fuse_line<'a>(alloc: Global) -> Result<clap::Command<'a>, AllocError>
+    ensures shape { IfOk result (λ line. shape_of line ≡ subcommand_shape fuse) }
+    ensures local { IfOk result (λ line. (fields_of line).has_globals ≡ false) }
+{
+    mount_line(
+        alloc,
+        "fuse",
+        "Shows a folder over standard input and output, which are the kernel's FUSE protocol",
     )
 }
 

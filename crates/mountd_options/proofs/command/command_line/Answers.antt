@@ -1,6 +1,6 @@
 use Rattle.std.proofs.Common.{◌≡◌, ◌∙◌, ap, true, [], ◌∷◌, codes}
 use Rattle.clap.specs.Simple.{App, Shape, app_of, app_of_fields, new_app, on_top, shape_of, with_subcommand}
-use Rattle.mountd_options.specs.CommandLine.{import, objects, serve, stdio, tidy}
+use Rattle.mountd_options.specs.CommandLine.{import, objects, serve, snapshot, stdio, tidy}
 use Rattle.mountd_options.specs.Grammar.{program}
 use Rattle.mountd_options.proofs.command.command_line.Goals as goal
 
@@ -34,6 +34,10 @@ returns c =
     c.in_ok-line-5.ensures.shape c.in_ok-tidy.ensures.local
     ∙ (ap (λ (a : App). with_subcommand a (shape_of c.in_ok-tidy.tidy)) four
     ∙ ap (λ (s : Shape). with_subcommand (program name (stdio ∷ serve ∷ objects ∷ import ∷ [])) s) c.in_ok-tidy.ensures.shape) in
+    let six : app_of c.in_ok-line-6.line ≡ program name (stdio ∷ serve ∷ objects ∷ import ∷ tidy ∷ snapshot ∷ []) =
     c.in_ok-line-6.ensures.shape c.in_ok-snapshot.ensures.local
     ∙ (ap (λ (a : App). with_subcommand a (shape_of c.in_ok-snapshot.snapshot)) five
-    ∙ ap (λ (s : Shape). with_subcommand (program name (stdio ∷ serve ∷ objects ∷ import ∷ tidy ∷ [])) s) c.in_ok-snapshot.ensures.shape)
+    ∙ ap (λ (s : Shape). with_subcommand (program name (stdio ∷ serve ∷ objects ∷ import ∷ tidy ∷ [])) s) c.in_ok-snapshot.ensures.shape) in
+    c.in_ok-line-7.ensures.shape c.in_ok-fuse.ensures.local
+    ∙ (ap (λ (a : App). with_subcommand a (shape_of c.in_ok-fuse.fuse)) six
+    ∙ ap (λ (s : Shape). with_subcommand (program name (stdio ∷ serve ∷ objects ∷ import ∷ tidy ∷ snapshot ∷ [])) s) c.in_ok-fuse.ensures.shape)

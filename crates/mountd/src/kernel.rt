@@ -1,0 +1,82 @@
+//! The kernel's messages over standard input and output.
+ghost use Rattle.std.specs.Prelude.{◌≡◌};
+
+use eden_fuse_session::{NotSent, Received, Receiver, Sender};
+use std::io::{Read, Stdin, Stdout, Write};
+
+/// The message is gone before it was read.
+const ENOENT: i32 = 2;
+
+const EINTR: i32 = 4;
+
+const EAGAIN: i32 = 11;
+
+/// The folder is unmounted.
+const ENODEV: i32 = 19;
+
+/// Standard input, of which each read gives one whole message. No contract knows its messages.
+#[derive(Drop)]
+pub struct KernelInput {
+    input: Stdin,
+}
+
+impl KernelInput {
+    pub fn new(input: Stdin) -> KernelInput {
+        KernelInput { input }
+    }
+}
+
+impl Receiver for KernelInput {
+    ghost use Rattle.std.specs.Prelude.{None};
+
+    ghost waiting = { λ _. None };
+
+    fn receive(&mut self, room: &mut [u8]) -> Received {
+        match self.input.read(room) {
+            Ok(0) => Received::End,
+            Ok(len) => Received::Message(len),
+            Err(error) => match error.raw_os_error() {
+                Some(ENODEV) => Received::End,
+                Some(ENOENT | EINTR | EAGAIN) => Received::Nothing,
+                _ => Received::Failed,
+            },
+        }
+    }
+}
+
+/// Standard output, of which each write takes one whole message. No contract knows its messages.
+#[derive(Drop)]
+pub struct KernelOutput {
+    output: Stdout,
+    failures: u64,
+}
+
+impl KernelOutput {
+    pub fn new(output: Stdout) -> KernelOutput {
+        KernelOutput {
+            output,
+            failures: 0,
+        }
+    }
+}
+
+impl Sender for KernelOutput {
+    ghost use Rattle.std.specs.Prelude.{None};
+
+    ghost sent = { λ _. None };
+
+    ghost failures = { λ o. o.failures };
+
+    fn send(&mut self, message: &[u8]) -> Result<(), NotSent> {
+        let taken = match self.output.write(message) {
+            Ok(len) => len == message.len(),
+            Err(_) => false,
+        };
+        // The count stays once it can't rise.
+        if taken || self.failures == u64::MAX {
+            return Ok(());
+        }
+        self.failures += 1;
+        Err(NotSent)
+    }
+}

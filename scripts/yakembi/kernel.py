@@ -1,0 +1,146 @@
+"""A mount whose messages `mountd fuse` answers itself, over the descriptor of /dev/fuse that it is given.
+
+Root mounts by mount(2), and others by fusermount3, which hands the descriptor over. No copy of it is kept here, so that
+the kernel ends the mount when mountd does; once the folder is unmounted mountd closes the overlay and ends.
+"""
+
+import array
+import contextlib
+import ctypes
+import os
+import shutil
+import signal
+import socket
+import subprocess
+import time
+from collections.abc import Iterator, Sequence
+
+from yakembi.pool import CACHE_ENTRIES, WITH_A_LINE, Unopened
+
+MS_NOSUID, MS_NODEV, MNT_DETACH = 2, 4, 2
+# A read has at most what the mount takes in one, and the kernel looks at permissions.
+OPTIONS = ["default_permissions", "max_read=65536"]
+ENDED = (signal.SIGTERM, signal.SIGINT, signal.SIGHUP)
+LIBC = ctypes.CDLL(None, use_errno=True)
+
+
+def mount(folder: str) -> int:
+    """Mounts the folder, and the descriptor by which its messages come."""
+    return mount_as_root(folder) if os.geteuid() == 0 else mount_by_helper(folder)
+
+
+def mount_as_root(folder: str) -> int:
+    descriptor = os.open("/dev/fuse", os.O_RDWR | os.O_CLOEXEC)
+    words = [f"fd={descriptor}", "rootmode=40000", f"user_id={os.getuid()}", f"group_id={os.getgid()}", *OPTIONS]
+    if LIBC.mount(b"mount-git", os.fsencode(folder), b"fuse.mount-git", MS_NOSUID | MS_NODEV,
+                  ",".join(words).encode()) != 0:
+        number = ctypes.get_errno()
+        os.close(descriptor)
+        raise OSError(number, os.strerror(number), folder)
+    return descriptor
+
+
+def mount_by_helper(folder: str) -> int:
+    ours, theirs = socket.socketpair()
+    with ours, theirs:
+        words = ["fusermount3", "-o", ",".join([*OPTIONS, "subtype=mount-git", "fsname=mount-git"]), "--", folder]
+        done = subprocess.run(words, env={**os.environ, "_FUSE_COMMFD": str(theirs.fileno())},
+                              pass_fds=[theirs.fileno()], capture_output=True)
+        if done.returncode != 0:
+            raise OSError(1, "fusermount3 couldn't mount it", folder)
+        descriptors = array.array("i")
+        _, rows, _, _ = ours.recvmsg(1, socket.CMSG_LEN(descriptors.itemsize))
+        for level, kind, data in rows:
+            if level == socket.SOL_SOCKET and kind == socket.SCM_RIGHTS:
+                descriptors.frombytes(data[:descriptors.itemsize])
+        return descriptors[0]
+
+
+def unmount(folder: str) -> None:
+    """Takes the folder's mount away, also where it is in use or dead; what isn't mounted stays as it is."""
+    if os.geteuid() == 0:
+        LIBC.umount2(os.fsencode(folder), MNT_DETACH)
+    else:
+        subprocess.run(["fusermount3", "-u", "-z", "--", folder], capture_output=True)
+
+
+def can_mount() -> bool:
+    return os.geteuid() == 0 or shutil.which("fusermount3") is not None
+
+
+class Shown:
+    """One `mountd fuse` that shows a folder."""
+
+    def __init__(self, words: Sequence[str], folder: str) -> None:
+        """In a session of its own, so that a terminal's Ctrl-C doesn't reach it. `Unopened`, if it opens nothing."""
+        self.folder = folder
+        descriptor = mount(folder)
+        try:
+            self.child = subprocess.Popen(words, stdin=descriptor, stdout=descriptor, stderr=subprocess.PIPE,
+                                          start_new_session=True)
+        except OSError:
+            unmount(folder)
+            raise
+        finally:
+            os.close(descriptor)
+        try:
+            # It is answered once the mount is open, or fails once mountd ended.
+            os.stat(folder)
+        except OSError:
+            unmount(folder)
+            raise Unopened(self.last_words().removeprefix("mountd: open ")) from None
+
+    def last_words(self) -> str:
+        assert self.child.stderr is not None
+        with self.child.stderr:
+            lines = self.child.stderr.read().decode(errors="replace").splitlines()
+        status = self.child.wait()
+        return lines[-1] if status in WITH_A_LINE and lines else f"mountd ended with status {status}"
+
+    def wait(self) -> str | None:
+        """Waits until it ended, after an unmount or without; what it said, where that wasn't its good end."""
+        said = self.last_words()
+        unmount(self.folder)
+        return None if self.child.returncode == 0 else said
+
+    def end(self) -> None:
+        """Unmounts the folder, upon which mountd closes the overlay and ends."""
+        unmount(self.folder)
+
+
+@contextlib.contextmanager
+def ended_by_signals(shown: Shown) -> Iterator[None]:
+    """Signals unmount the folder."""
+    before = [signal.signal(number, lambda *_: shown.end()) for number in ENDED]
+    try:
+        yield
+    finally:
+        for number, handler in zip(ENDED, before):
+            signal.signal(number, handler)
+
+
+def show(mountd: str | os.PathLike[str], root: str, source: Sequence[object], overlay: str, folder: str,
+         seconds_locked: float) -> str | None:
+    """Shows the folder until it is unmounted; what mountd said, where it didn't end well.
+
+    What a killed one left is rescanned. It waits a little for a mountd that still has the overlay. `Unopened`, with
+    mountd's own word, if the overlay isn't opened.
+    """
+    words = [os.fspath(mountd), "fuse", "--root", root, *[str(word) for word in source], "--overlay", overlay,
+             "--cache-entries", str(CACHE_ENTRIES)]
+    end = time.monotonic() + seconds_locked
+    more: list[str] = []
+    while True:
+        try:
+            shown = Shown([*words, *more], folder)
+            break
+        except Unopened as refusal:
+            if str(refusal) == "NotClean" and not more:
+                more = ["--rescan"]
+            elif str(refusal) != "Locked" or time.monotonic() > end:
+                raise
+            else:
+                time.sleep(0.1)
+    with ended_by_signals(shown):
+        print(f"mounted {folder}", flush=True)
+        return shown.wait()
