@@ -6,7 +6,7 @@ import random
 import shutil
 import struct
 import zlib
-from collections.abc import Callable, Iterable, Sequence
+from collections.abc import Callable, Iterable, Mapping, Sequence
 from typing import NamedTuple
 
 from checks import git
@@ -121,6 +121,16 @@ def make_multi(repository: pathlib.Path) -> None:
     git(repository, "multi-pack-index", "write")
 
 
+def make_multi_alone(repository: pathlib.Path) -> None:
+    """Packs of which one has all objects that the others have, with no index but the one of them all."""
+    make_many(repository)
+    listed = "".join(f"{object_id}\n" for object_id in framed_objects(repository))
+    git(repository, "pack-objects", "-q", str(packs_of(repository) / "pack"), data=listed.encode())
+    git(repository, "multi-pack-index", "write")
+    for index in packs_of(repository).glob("*.idx"):
+        index.unlink()
+
+
 def make_alternates(repository: pathlib.Path) -> None:
     """The objects lie in three repositories, of which each names the next: packed, packed, and loose."""
     ids = sorted(framed_objects(repository))
@@ -159,12 +169,14 @@ def make_deltas_by_id(repository: pathlib.Path) -> None:
 
 
 class Way(NamedTuple):
-    """A way to store a history of so many commits, and how many deltas its longest chain has, where that is known."""
+    """A way to store a history of so many commits, how many deltas its longest chain has, where that is known, and
+    whether each pack has an index of its own, without which Git reads none."""
 
     name: str
     store: Callable[[pathlib.Path], None]
     commits: int = 400
     depth: int = 0
+    has_indexes: bool = True
 
 
 WAYS = {way.name: way for way in [
@@ -175,6 +187,7 @@ WAYS = {way.name: way for way in [
     Way("loose objects", make_loose),
     Way("alternates", make_alternates),
     Way("a multi-pack index", make_multi),
+    Way("a multi-pack index alone", make_multi_alone, has_indexes=False),
     Way("deltas that name their base by its id", make_deltas_by_id),
     Way("wide offsets", make_wide),
 ]}
@@ -241,17 +254,62 @@ def delta_text(base: int, size: int, *commands: bytes) -> bytes:
 def pack_of(entries: Iterable[Entry]) -> tuple[bytes, bytes]:
     """A pack and its index, of version 2, in which everything is as it is given."""
     entries = [*entries]
-    text, places = bytearray(b"PACK" + struct.pack(">II", 2, len(entries))), {}
+    text = b"PACK" + struct.pack(">II", 2, len(entries)) + b"".join(entry.encoded() for entry in entries)
+    pack = text + hashlib.sha1(text).digest()
+    return pack, index_of(places_of(entries), pack[-20:])
+
+
+def places_of(entries: Iterable[Entry]) -> dict[str, int]:
+    """Where each entry begins in a pack of them."""
+    at, places = 12, {}
     for entry in entries:
-        places[entry.object_id] = len(text)
-        text += entry.encoded()
-    pack = bytes(text) + hashlib.sha1(text).digest()
-    return pack, index_of(places, pack[-20:])
+        places[entry.object_id] = at
+        at += len(entry.encoded())
+    return places
 
 
 def index_of(places: dict[str, int], digest: bytes) -> bytes:
-    ids = sorted(bytes.fromhex(object_id) for object_id in places)
-    counts = [sum(object_id[0] <= first for object_id in ids) for first in range(256)]
-    text = b"\xfftOc" + struct.pack(">I", 2) + struct.pack(">256I", *counts) + b"".join(ids) + bytes(4 * len(ids))
+    ids = in_order(places)
+    text = b"\xfftOc" + struct.pack(">I", 2) + counts_of(ids) + b"".join(ids) + bytes(4 * len(ids))
     text += b"".join(struct.pack(">I", places[object_id.hex()]) for object_id in ids) + digest
+    return text + hashlib.sha1(text).digest()
+
+
+def in_order(ids: Iterable[str]) -> list[bytes]:
+    return sorted(bytes.fromhex(object_id) for object_id in ids)
+
+
+def counts_of(ids: Sequence[bytes]) -> bytes:
+    """How many ids there are up to each first byte."""
+    return struct.pack(">256I", *[sum(object_id[0] <= first for object_id in ids) for first in range(256)])
+
+
+class Place(NamedTuple):
+    """Where an object lies: in the pack of that number, and where it begins there."""
+
+    pack: int
+    at: int
+
+
+def multi_index_of(packs: Sequence[str], places: Mapping[str, Place], far_from: int | None = None) -> bytes:
+    """A multi-pack index of packs with these names, in which everything is as it is given. Places from a bound on stand
+    in its table of far ones, which it has only if there is a bound."""
+    ids = in_order(places)
+    rows, far = bytearray(), bytearray()
+    for pack, at in (places[object_id.hex()] for object_id in ids):
+        is_far = far_from is not None and at >= far_from
+        rows += struct.pack(">II", pack, 1 << 31 | len(far) // 8 if is_far else at)
+        far += struct.pack(">Q", at) if is_far else b""
+    names = b"".join(name.encode() + b".idx\0" for name in packs)
+    chunks = [(b"PNAM", names + bytes(-len(names) % 4)), (b"OIDF", counts_of(ids)), (b"OIDL", b"".join(ids)),
+              (b"OOFF", bytes(rows))]
+    if far_from is not None:
+        chunks.append((b"LOFF", bytes(far)))
+    begin = 12 + 12 * (len(chunks) + 1)
+    table = bytearray()
+    for name, content in chunks:
+        table += name + struct.pack(">Q", begin)
+        begin += len(content)
+    text = b"MIDX" + bytes([1, 1, len(chunks), 0]) + struct.pack(">I", len(packs)) + table + bytes(4)
+    text += struct.pack(">Q", begin) + b"".join(content for _, content in chunks)
     return text + hashlib.sha1(text).digest()

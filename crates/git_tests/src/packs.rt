@@ -1,8 +1,6 @@
 //! Packed objects.
 use crate::loose::{bytes_of, put};
-use crate::packed::{
-    BY_NAMES, BY_OFFSETS, IDS, INDEX_BY_NAMES, INDEX_BY_OFFSETS, INDEX_OF_LONG_PLACES,
-};
+use crate::packed::{BY_NAMES, BY_OFFSETS, IDS, LONG_PLACES};
 use crate::written::WRITTEN;
 use eden_git::{GitFault, GitSource};
 use eden_model::{Cause, Id, Outside};
@@ -15,7 +13,15 @@ use test_samples::{EMPTY_BLOB, EMPTY_TREE, VERSION_2, empty_folder};
 
 fn put_pack(rt: &HostRuntime, folder: &PathBuf, pack: &[u8], index: &[u8]) -> io::Result<()> {
     put(rt, folder, "objects/pack/pack-1.pack", pack)?;
-    put(rt, folder, "objects/pack/pack-1.idx", index)
+    put(rt, folder, INDEX, index)
+}
+
+const INDEX: &str = "objects/pack/pack-1.idx";
+
+const MULTI: &str = "objects/pack/multi-pack-index";
+
+fn remove(rt: &HostRuntime, folder: &PathBuf, place: &str) -> io::Result<()> {
+    fs::remove_file(rt, folder.join(rt.alloc(), place)?.as_path())
 }
 
 fn open<'a>(rt: &'a HostRuntime, folder: &PathBuf) -> Result<GitSource<&'a HostRuntime>, GitFault> {
@@ -49,17 +55,30 @@ fn gives_all(rt: &HostRuntime, folder: &PathBuf) -> bool {
 
 #[test]
 fn packs_are_read(rt: HostRuntime) {
-    for (name, pack, index) in [
-        ("offsets", BY_OFFSETS, INDEX_BY_OFFSETS),
-        ("long-places", BY_OFFSETS, INDEX_OF_LONG_PLACES),
-        ("names", BY_NAMES, INDEX_BY_NAMES),
-    ] {
-        let folder = empty_folder(&rt, name).expect(&rt, "a folder");
-        let (pack, index) = (bytes_of(&rt, pack), bytes_of(&rt, index));
-        put_pack(&rt, &folder, &pack, &index).expect(&rt, "a pack");
-        assert!(rt; gives_all(&rt, &folder), "{name}");
+    for packed in [BY_OFFSETS, LONG_PLACES, BY_NAMES] {
+        let folder = empty_folder(&rt, packed.name).expect(&rt, "a folder");
+        put_pack(&rt, &folder, &packed.pack(&rt), &packed.index(&rt)).expect(&rt, "a pack");
+        assert!(rt; gives_all(&rt, &folder), "{}", packed.name);
+        put(&rt, &folder, MULTI, &packed.multi(&rt)).expect(&rt, "a file");
+        assert!(rt; gives_all(&rt, &folder), "{}, both", packed.name);
+        remove(&rt, &folder, INDEX).expect(&rt, "a file");
+        assert!(rt; gives_all(&rt, &folder), "{}, multi", packed.name);
         fs::remove_dir_all(&rt, folder.as_path()).expect(&rt, "a folder");
     }
+}
+
+/// A multi-pack index that can't be read is as if it weren't there, but a pack that has no other index can't be read.
+#[test]
+fn a_bad_multi_pack_index_is_passed_over(rt: HostRuntime) {
+    let folder = empty_folder(&rt, "bad").expect(&rt, "a folder");
+    put_pack(&rt, &folder, &BY_OFFSETS.pack(&rt), &BY_OFFSETS.index(&rt)).expect(&rt, "a pack");
+    put(&rt, &folder, MULTI, b"MIDX").expect(&rt, "a file");
+    assert!(rt; gives_all(&rt, &folder));
+    remove(&rt, &folder, INDEX).expect(&rt, "a file");
+    let mut source = open(&rt, &folder).expect(&rt, "a repository");
+    let id = parse_id(IDS[0]).unwrap_or(VERSION_2.id);
+    assert!(rt; source.fetch(rt.alloc(), id) == Err(Cause::Device) && source.failures() == 1);
+    fs::remove_dir_all(&rt, folder.as_path()).expect(&rt, "a folder");
 }
 
 #[test]
@@ -68,8 +87,7 @@ fn what_comes_later_is_seen(rt: HostRuntime) {
     put(&rt, &folder, "objects/info/packs", b"").expect(&rt, "a file");
     let mut source = open(&rt, &folder).expect(&rt, "a repository");
     assert!(rt; !gives(&mut source, rt.alloc(), IDS[0]));
-    let (pack, index) = (bytes_of(&rt, BY_NAMES), bytes_of(&rt, INDEX_BY_NAMES));
-    put_pack(&rt, &folder, &pack, &index).expect(&rt, "a pack");
+    put_pack(&rt, &folder, &BY_NAMES.pack(&rt), &BY_NAMES.index(&rt)).expect(&rt, "a pack");
     assert!(rt; gives(&mut source, rt.alloc(), IDS[0]));
     put_loose(&rt, &folder, &bytes_of(&rt, WRITTEN[0].file)).expect(&rt, "a file");
     assert!(rt; gives(&mut source, rt.alloc(), WRITTEN[0].id));
@@ -117,8 +135,7 @@ fn alternates_are_looked_into(rt: HostRuntime) {
         b"../../last/objects\n../../first/objects",
     )
     .expect(&rt, "a file");
-    let (pack, index) = (bytes_of(&rt, BY_OFFSETS), bytes_of(&rt, INDEX_BY_OFFSETS));
-    put_pack(&rt, &last, &pack, &index).expect(&rt, "a pack");
+    put_pack(&rt, &last, &BY_OFFSETS.pack(&rt), &BY_OFFSETS.index(&rt)).expect(&rt, "a pack");
     put_loose(&rt, &last, &bytes_of(&rt, WRITTEN[0].file)).expect(&rt, "a file");
     let mut source = open(&rt, &first).expect(&rt, "a repository");
     assert!(rt; gives(&mut source, rt.alloc(), IDS[3]));
@@ -126,20 +143,27 @@ fn alternates_are_looked_into(rt: HostRuntime) {
     fs::remove_dir_all(&rt, folder.as_path()).expect(&rt, "a folder");
 }
 
-/// Whatever byte of a pack or of its index is changed, there is an answer for each id.
+fn flip(bytes: &mut Vec<u8>, at: usize, bits: u8) {
+    if let Some(byte) = bytes.get_mut(at) {
+        *byte ^= bits;
+    }
+}
+
+/// Whatever byte of a pack or of its indexes is changed, there is an answer for each id.
 #[test]
 fn changed_packs_are_answered(rt: HostRuntime) {
-    let mut pack = bytes_of(&rt, BY_NAMES);
-    let mut index = bytes_of(&rt, INDEX_BY_NAMES);
+    let mut pack = BY_NAMES.pack(&rt);
+    let mut index = BY_NAMES.index(&rt);
+    let mut multi = BY_NAMES.multi(&rt);
     let folder = empty_folder(&rt, "changed").expect(&rt, "a folder");
     for at in 0..60 {
-        if let Some(byte) = pack.get_mut(at * 17) {
-            *byte ^= 1 << (at % 8);
-        }
-        if let Some(byte) = index.get_mut(1032 + at * 6) {
-            *byte ^= 128 >> (at % 8);
-        }
+        flip(&mut pack, at * 17, 1 << (at % 8));
+        flip(&mut index, 1032 + at * 6, 128 >> (at % 8));
         put_pack(&rt, &folder, &pack, &index).expect(&rt, "a pack");
+        // Of this one one bit alone is another.
+        flip(&mut multi, at * 24, 1 << (at % 8));
+        put(&rt, &folder, MULTI, &multi).expect(&rt, "a file");
+        flip(&mut multi, at * 24, 1 << (at % 8));
         let mut source = open(&rt, &folder).expect(&rt, "a repository");
         for id in IDS {
             let id = parse_id(id).unwrap_or(VERSION_2.id);
@@ -167,7 +191,7 @@ const LAST_BASE: usize = 849;
 
 #[test]
 fn a_circle_of_deltas_fails(rt: HostRuntime) {
-    let mut pack = bytes_of(&rt, BY_NAMES);
+    let mut pack = BY_NAMES.pack(&rt);
     let first = parse_id(CHAIN[0]).unwrap_or(VERSION_2.id);
     for (at, byte) in first.bytes.iter().enumerate() {
         if let Some(place) = pack.get_mut(LAST_BASE + at) {
@@ -175,7 +199,7 @@ fn a_circle_of_deltas_fails(rt: HostRuntime) {
         }
     }
     let folder = empty_folder(&rt, "circle").expect(&rt, "a folder");
-    put_pack(&rt, &folder, &pack, &bytes_of(&rt, INDEX_BY_NAMES)).expect(&rt, "a pack");
+    put_pack(&rt, &folder, &pack, &BY_NAMES.index(&rt)).expect(&rt, "a pack");
     let mut source = open(&rt, &folder).expect(&rt, "a repository");
     for id in IDS {
         assert!(rt;
