@@ -1,5 +1,5 @@
 -- What a count of failures says, put together.
-use Rattle.std.proofs.Common.{◌≡◌, ◌≤◌, ◌<◌, ◌∙◌, ◌⊎◌, inl, inr, ℕ, refl, subst, sym, arith}
+use Rattle.std.proofs.Common.{◌≡◌, ◌≤◌, ◌⊎◌, inl, inr, ℕ, refl, subst, arith}
 use Rattle.eden_model.specs.Failures.{one_more, Rose, Counted}
 
 pub Rose-one_more : (n : ℕ) → Rose n (one_more n)

@@ -84,7 +84,7 @@ edited_edits (ask.Rename from to) = moves_if from to (path_eq from to)
 pub renumbered_edits : (q : Request) (r : Reply) → Edits (renumbered q r)
 renumbered_edits q say.Ok = edited_edits q
 renumbered_edits q (say.Kind k) = edited_edits q
-renumbered_edits q (say.Stat k n) = edited_edits q
+renumbered_edits q (say.Stat k size n) = edited_edits q
 renumbered_edits q (say.Data d) = edited_edits q
 renumbered_edits q (say.Count n) = edited_edits q
 renumbered_edits q (say.Entries es more) = edited_edits q
@@ -118,7 +118,7 @@ edited_root F (ask.Rename from to) r M o fine h e =
 pub renumbered_root : (F : Tree) (q : Request) (r : Reply) (M : Numbering) (o : Option ℕ) → Replies F q r → M [] ≡ o → renumbered q r M [] ≡ o
 renumbered_root F q say.Ok M o h e = edited_root F q say.Ok M o refl h e
 renumbered_root F q (say.Kind k) M o h e = edited_root F q (say.Kind k) M o refl h e
-renumbered_root F q (say.Stat k n) M o h e = edited_root F q (say.Stat k n) M o refl h e
+renumbered_root F q (say.Stat k size n) M o h e = edited_root F q (say.Stat k size n) M o refl h e
 renumbered_root F q (say.Data d) M o h e = edited_root F q (say.Data d) M o refl h e
 renumbered_root F q (say.Count n) M o h e = edited_root F q (say.Count n) M o refl h e
 renumbered_root F q (say.Entries es more) M o h e = edited_root F q (say.Entries es more) M o refl h e

@@ -10,28 +10,28 @@ use Rattle.eden_model.specs.NumberLaws.{ErrorsKeepNumbers, FaultsKeepNumbers}
 use Rattle.eden_model.proofs.Maps.{put_here, put_there, other_by, moved_here, kept_beside}
 
 pub stat_gives : StatGives
-stat_gives N p k length n = put_here N.given p (Some n)
+stat_gives N p k size n = put_here N.given p (Some n)
 
 pub stat_keeps : StatKeepsOthers
-stat_keeps N p x k length n other = put_there N.given p x (Some n) other
+stat_keeps N p x k size n other = put_there N.given p x (Some n) other
 
 pub stat_tells_given : StatTellsGiven
 stat_tells_given N p n m h (inl g) = let both : Some m ≡ Some n = sym g ∙ h in cc
 stat_tells_given N p n m h (inr c) = let both : None ≡ Some n = sym c.0 ∙ h in cc
 
 pub rename_moves : RenameMovesNumbers
-rename_moves N from to rest n other =
+rename_moves N from to rest other =
     ap (λ (b : Bool). cond b N.given (move N.given from to) (to ++ rest)) (other_by from to (path_eq from to) refl (λ e. other (sym e)))
     ∙ moved_here N.given from to rest
 
 pub rename_keeps : RenameKeepsNumbers
-rename_keeps N from to x n a b = kept_beside N.given from to x (path_eq from to) a b
+rename_keeps N from to x a b = kept_beside N.given from to x (path_eq from to) a b
 
 pub unlink_takes : UnlinkTakesNumber
-unlink_takes N p n = put_here N.given p None
+unlink_takes N p = put_here N.given p None
 
 pub rmdir_takes : RmdirTakesNumber
-rmdir_takes N p n = put_here N.given p None
+rmdir_takes N p = put_here N.given p None
 
 -- a number stands where a node does
 pub none_by : (o : Option ℕ) (F : Tree) (p : Path) → F p ≡ None → ((n : ℕ) → o ≡ Some n → IsSome (F p)) → o ≡ None
@@ -42,33 +42,33 @@ pub new_has_none : NewHasNoNumber
 new_has_none F N p are e = none_by (N.given p) F p e (λ n h. are.nodes p n h)
 
 pub errors_keep : ErrorsKeepNumbers
-errors_keep N (ask.Kind p) e n = refl
-errors_keep N (ask.Stat p) e n = refl
-errors_keep N (ask.Read p offset count) e n = refl
-errors_keep N (ask.ReadLink p) e n = refl
-errors_keep N (ask.List p above limit) e n = refl
-errors_keep N (ask.Write p offset bytes) e n = refl
-errors_keep N (ask.Truncate p size) e n = refl
-errors_keep N (ask.Create p) e n = refl
-errors_keep N (ask.SetExec p exec) e n = refl
-errors_keep N (ask.Mkdir p) e n = refl
-errors_keep N (ask.Symlink p target) e n = refl
-errors_keep N (ask.Unlink p) e n = refl
-errors_keep N (ask.Rmdir p) e n = refl
-errors_keep N (ask.Rename from to) e n = refl
+errors_keep N (ask.Kind p) e = refl
+errors_keep N (ask.Stat p) e = refl
+errors_keep N (ask.Read p offset count) e = refl
+errors_keep N (ask.ReadLink p) e = refl
+errors_keep N (ask.List p above limit) e = refl
+errors_keep N (ask.Write p offset bytes) e = refl
+errors_keep N (ask.Truncate p size) e = refl
+errors_keep N (ask.Create p) e = refl
+errors_keep N (ask.SetExec p exec) e = refl
+errors_keep N (ask.Mkdir p) e = refl
+errors_keep N (ask.Symlink p target) e = refl
+errors_keep N (ask.Unlink p) e = refl
+errors_keep N (ask.Rmdir p) e = refl
+errors_keep N (ask.Rename from to) e = refl
 
 pub faults_keep : FaultsKeepNumbers
-faults_keep N (ask.Kind p) f n = refl
-faults_keep N (ask.Stat p) f n = refl
-faults_keep N (ask.Read p offset count) f n = refl
-faults_keep N (ask.ReadLink p) f n = refl
-faults_keep N (ask.List p above limit) f n = refl
-faults_keep N (ask.Write p offset bytes) f n = refl
-faults_keep N (ask.Truncate p size) f n = refl
-faults_keep N (ask.Create p) f n = refl
-faults_keep N (ask.SetExec p exec) f n = refl
-faults_keep N (ask.Mkdir p) f n = refl
-faults_keep N (ask.Symlink p target) f n = refl
-faults_keep N (ask.Unlink p) f n = refl
-faults_keep N (ask.Rmdir p) f n = refl
-faults_keep N (ask.Rename from to) f n = refl
+faults_keep N (ask.Kind p) f = refl
+faults_keep N (ask.Stat p) f = refl
+faults_keep N (ask.Read p offset count) f = refl
+faults_keep N (ask.ReadLink p) f = refl
+faults_keep N (ask.List p above limit) f = refl
+faults_keep N (ask.Write p offset bytes) f = refl
+faults_keep N (ask.Truncate p size) f = refl
+faults_keep N (ask.Create p) f = refl
+faults_keep N (ask.SetExec p exec) f = refl
+faults_keep N (ask.Mkdir p) f = refl
+faults_keep N (ask.Symlink p target) f = refl
+faults_keep N (ask.Unlink p) f = refl
+faults_keep N (ask.Rmdir p) f = refl
+faults_keep N (ask.Rename from to) f = refl

@@ -6,16 +6,14 @@ use Rattle.eden_model.specs.declared.request.Request.{Request}
 use Rattle.eden_model.specs.declared.request.Request.TheVariants as ask
 use Rattle.eden_model.specs.declared.reply.Reply.{Reply}
 use Rattle.eden_model.specs.declared.reply.Reply.TheVariants as say
-use Rattle.eden_model.specs.Histories.{fault_of}
 use Rattle.eden_model.specs.Limits.{number_end}
 use Rattle.eden_model.specs.Paths.{path_eq}
 use Rattle.eden_model.specs.Trees.{Path, Tree}
-use Rattle.eden_model.specs.Operations.{Replies, after, put}
+use Rattle.eden_model.specs.Operations.{Replies, put}
 use Rattle.eden_model.specs.Numbers.{Numbering, Numbers, renumbered, StatNumber, stat_number, number_by, with_stat, after_numbers, Allows, AllowsStat, AreOnce}
 use Rattle.eden_model.specs.Backing.{AreShown, Backs, Gains, IsShownNumber, Renumbers}
 use Rattle.eden_model.specs.NumberLaws.{ShownIsAllowed, OpeningIsBacked, ReopeningKeeps, SameIsGained, NextIsGained, GainsMore, GainsAreShown, GainsAreBacked, StatIsBacked, ChangeIsBacked}
-use Rattle.eden_model.specs.NumberLaws.{AnswerIsAllowed}
-use Rattle.eden_model.specs.NumberLaws.{AnswersAreAllowed}
+use Rattle.eden_model.specs.NumberLaws.{AnswerIsAllowed, AnswerIsBacked}
 use Rattle.eden_model.proofs.Behinds.{path_eq-Decides}
 use Rattle.eden_model.proofs.Maps.{put_case}
 use Rattle.eden_model.proofs.NumberEdits.{renumbered_edits, renumbered_root}
@@ -188,7 +186,7 @@ told_backed N S next (Some t) b told = record {
 }
 
 pub stat_is_backed : StatIsBacked
-stat_is_backed N S next q r n b tells = told_backed N S next (stat_number q r n) b tells
+stat_is_backed N S next q r b tells = told_backed N S next (stat_number q r) b tells
 
 -- ---- the same change of both
 
@@ -225,58 +223,46 @@ change_is_backed F N S next q r b h =
       used = b.used;
     }
 
--- ---- one answer, and so many
+-- ---- one answer
 
-stat_tells : (N : Numbers) (S T : Numbering) (next later : ℕ) (p : Path) (r : Reply) (n : ℕ) → Backs N S next → (m : Numbering) (mid : ℕ) → Gains S next m mid
-    → Gains (renumbered (ask.Stat p) r m) mid T later → IsShownNumber T (number_by r p n) → AllowsStat N (number_by r p n)
-stat_tells N S T next later p (say.Stat k length) n b m mid g c t = shown_is_allowed N T later p n (gains_are_backed N S T next later b (gains_more S m T next mid later g c)) t
-stat_tells N S T next later p say.Ok n b m mid g c t = tt
-stat_tells N S T next later p (say.Kind k) n b m mid g c t = tt
-stat_tells N S T next later p (say.Data d) n b m mid g c t = tt
-stat_tells N S T next later p (say.Count d) n b m mid g c t = tt
-stat_tells N S T next later p (say.Entries es more) n b m mid g c t = tt
-stat_tells N S T next later p (say.Err e) n b m mid g c t = tt
-stat_tells N S T next later p (say.Fault f) n b m mid g c t = tt
+stat_tells : (N : Numbers) (S T : Numbering) (next later : ℕ) (p : Path) (r : Reply) → Backs N S next → (m : Numbering) (mid : ℕ) → Gains S next m mid
+    → Gains (renumbered (ask.Stat p) r m) mid T later → IsShownNumber T (number_by r p) → AllowsStat N (number_by r p)
+stat_tells N S T next later p (say.Stat k size n) b m mid g c t = shown_is_allowed N T later p n (gains_are_backed N S T next later b (gains_more S m T next mid later g c)) t
+stat_tells N S T next later p say.Ok b m mid g c t = tt
+stat_tells N S T next later p (say.Kind k) b m mid g c t = tt
+stat_tells N S T next later p (say.Data d) b m mid g c t = tt
+stat_tells N S T next later p (say.Count d) b m mid g c t = tt
+stat_tells N S T next later p (say.Entries es more) b m mid g c t = tt
+stat_tells N S T next later p (say.Err e) b m mid g c t = tt
+stat_tells N S T next later p (say.Fault f) b m mid g c t = tt
 
 pub answer_is_allowed : AnswerIsAllowed
-answer_is_allowed N S T next later (ask.Stat p) r n b a = stat_tells N S T next later p r n b a.ready a.mid a.before a.behind a.tells
-answer_is_allowed N S T next later (ask.Kind p) r n b a = tt
-answer_is_allowed N S T next later (ask.Read p offset count) r n b a = tt
-answer_is_allowed N S T next later (ask.ReadLink p) r n b a = tt
-answer_is_allowed N S T next later (ask.List p above limit) r n b a = tt
-answer_is_allowed N S T next later (ask.Write p offset bytes) r n b a = tt
-answer_is_allowed N S T next later (ask.Truncate p size) r n b a = tt
-answer_is_allowed N S T next later (ask.Create p) r n b a = tt
-answer_is_allowed N S T next later (ask.SetExec p exec) r n b a = tt
-answer_is_allowed N S T next later (ask.Mkdir p) r n b a = tt
-answer_is_allowed N S T next later (ask.Symlink p target) r n b a = tt
-answer_is_allowed N S T next later (ask.Unlink p) r n b a = tt
-answer_is_allowed N S T next later (ask.Rmdir p) r n b a = tt
-answer_is_allowed N S T next later (ask.Rename from to) r n b a = tt
+answer_is_allowed N S T next later (ask.Stat p) r b a = stat_tells N S T next later p r b a.ready a.mid a.before a.behind a.tells
+answer_is_allowed N S T next later (ask.Kind p) r b a = tt
+answer_is_allowed N S T next later (ask.Read p offset count) r b a = tt
+answer_is_allowed N S T next later (ask.ReadLink p) r b a = tt
+answer_is_allowed N S T next later (ask.List p above limit) r b a = tt
+answer_is_allowed N S T next later (ask.Write p offset bytes) r b a = tt
+answer_is_allowed N S T next later (ask.Truncate p size) r b a = tt
+answer_is_allowed N S T next later (ask.Create p) r b a = tt
+answer_is_allowed N S T next later (ask.SetExec p exec) r b a = tt
+answer_is_allowed N S T next later (ask.Mkdir p) r b a = tt
+answer_is_allowed N S T next later (ask.Symlink p target) r b a = tt
+answer_is_allowed N S T next later (ask.Unlink p) r b a = tt
+answer_is_allowed N S T next later (ask.Rmdir p) r b a = tt
+answer_is_allowed N S T next later (ask.Rename from to) r b a = tt
 
-answer_backed : (F : Tree) (N : Numbers) (S T : Numbering) (next later : ℕ) (q : Request) (r : Reply) (n : ℕ) → Backs N S next → Replies F q r → Renumbers S next q r n T later
-    → Backs (after_numbers N q r n) T later
-answer_backed F N S T next later q r n b h a =
+answer_backed : (F : Tree) (N : Numbers) (S T : Numbering) (next later : ℕ) (q : Request) (r : Reply) → Backs N S next → Replies F q r → Renumbers S next q r T later
+    → Backs (after_numbers N q r) T later
+answer_backed F N S T next later q r b h a =
     let ready = gains_are_backed N S a.ready next a.mid b a.before in
     let made = change_is_backed F N a.ready a.mid q r ready h in
-    told_backed (record { given = renumbered q r N.given; used = N.used }) T later (stat_number q r n)
+    told_backed (record { given = renumbered q r N.given; used = N.used }) T later (stat_number q r)
     (gains_are_backed (record { given = renumbered q r N.given; used = N.used }) (renumbered q r a.ready) T a.mid later made a.behind) a.tells
 
-answers_backed : (F : Tree) (N : Numbers) (S T : Numbering) (next later : ℕ) (q : Request) (r : Reply) (n : ℕ) → Backs N S next → Renumbers S next q r n T later
-    → (fault_of r ≡ None → Replies F q r) → Backs (after_numbers N q r n) T later
-answers_backed F N S T next later q r n b a h = elim (or_fault r) [
-  | inl fine ↦ answer_backed F N S T next later q r n b (h fine) a
-  | inr fault ↦ subst (λ (K : Numbers). Backs K T later) (sym (fault.numbers N q n))
+pub answer_is_backed : AnswerIsBacked
+answer_is_backed F N S T next later q r b a h = elim (or_fault r) [
+  | inl fine ↦ answer_backed F N S T next later q r b (h fine) a
+  | inr fault ↦ subst (λ (K : Numbers). Backs K T later) (sym (fault.numbers N q))
       (gains_are_backed N S T next later b (gains_more S a.ready T next a.mid later a.before (subst (λ (M : Numbering). Gains M a.mid T later) (fault.shown a.ready q) a.behind)))
 ]
-
-pub answers_are_allowed : AnswersAreAllowed
-answers_are_allowed F N S U next last [] b runs legal = (tt, gains_are_backed N S U next last b runs)
-answers_are_allowed F N S U next last (e ∷ es) b runs legal =
-    let q = e.entry.request in
-    let r = e.entry.reply in
-    let T = runs.0 in
-    let later = runs.1 in
-    let backed = answers_backed F N S T next later q r e.number b runs.2 legal.0 in
-    let rest = answers_are_allowed (after F q r) (after_numbers N q r e.number) T U later last es backed runs.3 legal.1 in
-    ((answer_is_allowed N S T next later q r e.number b runs.2, rest.0), rest.1)

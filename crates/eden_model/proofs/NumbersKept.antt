@@ -73,7 +73,7 @@ edited_nodes F (ask.Rename from to) M nodes x n h = move_nodes F M from to x n (
 changed_nodes : (F : Tree) (q : Request) (r : Reply) (M : Numbering) → AtNodes F M → AtNodes (after F q r) (renumbered q r M)
 changed_nodes F q say.Ok M nodes = edited_nodes F q M nodes
 changed_nodes F q (say.Kind k) M nodes = edited_nodes F q M nodes
-changed_nodes F q (say.Stat k n) M nodes = edited_nodes F q M nodes
+changed_nodes F q (say.Stat k size n) M nodes = edited_nodes F q M nodes
 changed_nodes F q (say.Data d) M nodes = edited_nodes F q M nodes
 changed_nodes F q (say.Count n) M nodes = edited_nodes F q M nodes
 changed_nodes F q (say.Entries es more) M nodes = edited_nodes F q M nodes
@@ -141,40 +141,40 @@ told_are F N p m are may here = record {
 }
 
 -- what is asked for stands there
-here_some : (F : Tree) (p : Path) (k : Kind) (length : ℕ) → Replies F (ask.Stat p) (say.Stat k length) → IsSome (F p)
-here_some F p k length h = let here = here_of (reach F p) Stats (say.Stat k length) refl h in subst IsSome (sym (met_here F p here.0 here.1).1) refl
+here_some : (F : Tree) (p : Path) (k : Kind) (size n : ℕ) → Replies F (ask.Stat p) (say.Stat k size n) → IsSome (F p)
+here_some F p k size n h = let here = here_of (reach F p) Stats (say.Stat k size n) refl h in subst IsSome (sym (met_here F p here.0 here.1).1) refl
 
-stat_are : (F : Tree) (N : Numbers) (p : Path) (r : Reply) (n : ℕ) → AreNumbers F N → Replies F (ask.Stat p) r → AllowsStat N (number_by r p n)
-    → AreNumbers (after F (ask.Stat p) r) (after_numbers N (ask.Stat p) r n)
-stat_are F N p (say.Stat k length) n are h may = told_are F N p n are may (here_some F p k length h)
-stat_are F N p say.Ok n are h may = are
-stat_are F N p (say.Kind k) n are h may = are
-stat_are F N p (say.Data d) n are h may = are
-stat_are F N p (say.Count c) n are h may = are
-stat_are F N p (say.Entries es more) n are h may = are
-stat_are F N p (say.Err e) n are h may = are
-stat_are F N p (say.Fault f) n are h may = are
+stat_are : (F : Tree) (N : Numbers) (p : Path) (r : Reply) → AreNumbers F N → Replies F (ask.Stat p) r → AllowsStat N (number_by r p)
+    → AreNumbers (after F (ask.Stat p) r) (after_numbers N (ask.Stat p) r)
+stat_are F N p (say.Stat k size n) are h may = told_are F N p n are may (here_some F p k size n h)
+stat_are F N p say.Ok are h may = are
+stat_are F N p (say.Kind k) are h may = are
+stat_are F N p (say.Data d) are h may = are
+stat_are F N p (say.Count c) are h may = are
+stat_are F N p (say.Entries es more) are h may = are
+stat_are F N p (say.Err e) are h may = are
+stat_are F N p (say.Fault f) are h may = are
 
 pub after_are_numbers : AfterAreNumbers
-after_are_numbers F N (ask.Stat p) r n are h may = stat_are F N p r n are h may
-after_are_numbers F N (ask.Kind p) r n are h may = changed_are F N (ask.Kind p) r are h
-after_are_numbers F N (ask.Read p offset count) r n are h may = changed_are F N (ask.Read p offset count) r are h
-after_are_numbers F N (ask.ReadLink p) r n are h may = changed_are F N (ask.ReadLink p) r are h
-after_are_numbers F N (ask.List p above limit) r n are h may = changed_are F N (ask.List p above limit) r are h
-after_are_numbers F N (ask.Write p offset bytes) r n are h may = changed_are F N (ask.Write p offset bytes) r are h
-after_are_numbers F N (ask.Truncate p size) r n are h may = changed_are F N (ask.Truncate p size) r are h
-after_are_numbers F N (ask.Create p) r n are h may = changed_are F N (ask.Create p) r are h
-after_are_numbers F N (ask.SetExec p exec) r n are h may = changed_are F N (ask.SetExec p exec) r are h
-after_are_numbers F N (ask.Mkdir p) r n are h may = changed_are F N (ask.Mkdir p) r are h
-after_are_numbers F N (ask.Symlink p target) r n are h may = changed_are F N (ask.Symlink p target) r are h
-after_are_numbers F N (ask.Unlink p) r n are h may = changed_are F N (ask.Unlink p) r are h
-after_are_numbers F N (ask.Rmdir p) r n are h may = changed_are F N (ask.Rmdir p) r are h
-after_are_numbers F N (ask.Rename from to) r n are h may = changed_are F N (ask.Rename from to) r are h
+after_are_numbers F N (ask.Stat p) r are h may = stat_are F N p r are h may
+after_are_numbers F N (ask.Kind p) r are h may = changed_are F N (ask.Kind p) r are h
+after_are_numbers F N (ask.Read p offset count) r are h may = changed_are F N (ask.Read p offset count) r are h
+after_are_numbers F N (ask.ReadLink p) r are h may = changed_are F N (ask.ReadLink p) r are h
+after_are_numbers F N (ask.List p above limit) r are h may = changed_are F N (ask.List p above limit) r are h
+after_are_numbers F N (ask.Write p offset bytes) r are h may = changed_are F N (ask.Write p offset bytes) r are h
+after_are_numbers F N (ask.Truncate p size) r are h may = changed_are F N (ask.Truncate p size) r are h
+after_are_numbers F N (ask.Create p) r are h may = changed_are F N (ask.Create p) r are h
+after_are_numbers F N (ask.SetExec p exec) r are h may = changed_are F N (ask.SetExec p exec) r are h
+after_are_numbers F N (ask.Mkdir p) r are h may = changed_are F N (ask.Mkdir p) r are h
+after_are_numbers F N (ask.Symlink p target) r are h may = changed_are F N (ask.Symlink p target) r are h
+after_are_numbers F N (ask.Unlink p) r are h may = changed_are F N (ask.Unlink p) r are h
+after_are_numbers F N (ask.Rmdir p) r are h may = changed_are F N (ask.Rmdir p) r are h
+after_are_numbers F N (ask.Rename from to) r are h may = changed_are F N (ask.Rename from to) r are h
 
 pub rename_leaves_none : RenameLeavesNoNumber
-rename_leaves_none F N from to x n other are h front =
-    let later = after_are_numbers F N (ask.Rename from to) say.Ok n are h tt in
-    none_by ((after_numbers N (ask.Rename from to) say.Ok n).given x) (after F (ask.Rename from to) say.Ok) x (rename_leaves_nothing F from to x other h front)
+rename_leaves_none F N from to x other are h front =
+    let later = after_are_numbers F N (ask.Rename from to) say.Ok are h tt in
+    none_by ((after_numbers N (ask.Rename from to) say.Ok).given x) (after F (ask.Rename from to) say.Ok) x (rename_leaves_nothing F from to x other h front)
     (λ m g. later.nodes x m g)
 
 -- ---- what is spent
@@ -184,39 +184,38 @@ told_stays N None k h = h
 told_stays N (Some t) k h = told_spent N t k h
 
 pub spent_stays : SpentStays
-spent_stays N q r n k h = told_stays (record { given = renumbered q r N.given; used = N.used }) (stat_number q r n) k h
+spent_stays N q r k h = told_stays (record { given = renumbered q r N.given; used = N.used }) (stat_number q r) k h
 
 -- ---- histories
 
 -- a fault leaves the tree and all numbers
 pub record IsFault (r : Reply) : Type 0 where
   pub tree : (F : Tree) (q : Request) → after F q r ≡ F
-  pub numbers : (N : Numbers) (q : Request) (n : ℕ) → after_numbers N q r n ≡ N
+  pub numbers : (N : Numbers) (q : Request) → after_numbers N q r ≡ N
   pub shown : (M : Numbering) (q : Request) → renumbered q r M ≡ M
 
 -- a reply is one, or none
 pub or_fault : (r : Reply) → (fault_of r ≡ None) ⊎ IsFault r
 or_fault say.Ok = inl refl
 or_fault (say.Kind k) = inl refl
-or_fault (say.Stat k n) = inl refl
+or_fault (say.Stat k size n) = inl refl
 or_fault (say.Data d) = inl refl
 or_fault (say.Count n) = inl refl
 or_fault (say.Entries es more) = inl refl
 or_fault (say.Err e) = inl refl
-or_fault (say.Fault f) = inr (record { tree = λ F q. refl; numbers = λ N q n. faults_keep N q f n; shown = λ M q. refl })
+or_fault (say.Fault f) = inr (record { tree = λ F q. refl; numbers = λ N q. faults_keep N q f; shown = λ M q. refl })
 
-step_are : (F : Tree) (N : Numbers) (q : Request) (r : Reply) (n : ℕ) → AreNumbers F N → (fault_of r ≡ None → Replies F q r) → AllowsStat N (stat_number q r n)
-    → AreNumbers (after F q r) (after_numbers N q r n)
-step_are F N q r n are h may = elim (or_fault r) [
-  | inl fine ↦ after_are_numbers F N q r n are (h fine) may
-  | inr fault ↦ subst (λ (G : Tree). AreNumbers G (after_numbers N q r n)) (sym (fault.tree F q)) (subst (AreNumbers F) (sym (fault.numbers N q n)) are)
+step_are : (F : Tree) (N : Numbers) (q : Request) (r : Reply) → AreNumbers F N → (fault_of r ≡ None → Replies F q r) → AllowsStat N (stat_number q r)
+    → AreNumbers (after F q r) (after_numbers N q r)
+step_are F N q r are h may = elim (or_fault r) [
+  | inl fine ↦ after_are_numbers F N q r are (h fine) may
+  | inr fault ↦ subst (λ (G : Tree). AreNumbers G (after_numbers N q r)) (sym (fault.tree F q)) (subst (AreNumbers F) (sym (fault.numbers N q)) are)
 ]
 
 pub replay_are_numbers : ReplayAreNumbers
-replay_are_numbers F N [] are legal allowed = are
-replay_are_numbers F N (e ∷ es) are legal allowed =
-    replay_are_numbers (after F e.entry.request e.entry.reply) (after_numbers N e.entry.request e.entry.reply e.number) es
-    (step_are F N e.entry.request e.entry.reply e.number are legal.0 allowed.0) legal.1 allowed.1
+replay_are_numbers F N [] are legal = are
+replay_are_numbers F N (e ∷ es) are legal =
+    replay_are_numbers (after F e.request e.reply) (after_numbers N e.request e.reply) es (step_are F N e.request e.reply are legal.0 legal.1) legal.2
 
 gone_told : (N : Numbers) (o : Option StatNumber) (n : ℕ) → AllowsStat N o → IsGone N n → (K : Numbers) → ((p : Path) → K.given p ≢ Some n) → (p : Path) → (with_stat o K).given p ≢ Some n
 gone_told N None n may gone K nowhere p h = nowhere p h
@@ -228,14 +227,14 @@ gone_told N (Some t) n may gone K nowhere p h = elim (put_case K.given t.path p 
   | inr b ↦ nowhere p b.1
 ]
 
-gone_after : (N : Numbers) (q : Request) (r : Reply) (k n : ℕ) → AllowsStat N (stat_number q r k) → IsGone N n → IsGone (after_numbers N q r k) n
-gone_after N q r k n may gone = record {
-  spent = spent_stays N q r k n gone.spent;
-  nowhere = gone_told N (stat_number q r k) n may gone (record { given = renumbered q r N.given; used = N.used })
+gone_after : (N : Numbers) (q : Request) (r : Reply) (n : ℕ) → AllowsStat N (stat_number q r) → IsGone N n → IsGone (after_numbers N q r) n
+gone_after N q r n may gone = record {
+  spent = spent_stays N q r n gone.spent;
+  nowhere = gone_told N (stat_number q r) n may gone (record { given = renumbered q r N.given; used = N.used })
       (λ p h. let x = (renumbered_edits q r).within N.given p n h in gone.nowhere x.0 x.1);
 }
 
 pub gone_for_good : GoneForGood
-gone_for_good N [] n allowed gone = gone
-gone_for_good N (e ∷ es) n allowed gone =
-    gone_for_good (after_numbers N e.entry.request e.entry.reply e.number) es n allowed.1 (gone_after N e.entry.request e.entry.reply e.number n allowed.0 gone)
+gone_for_good F N [] n legal gone = gone
+gone_for_good F N (e ∷ es) n legal gone =
+    gone_for_good (after F e.request e.reply) (after_numbers N e.request e.reply) es n legal.2 (gone_after N e.request e.reply n legal.1 gone)

@@ -51,7 +51,7 @@ others_stay F q (say.Err e) p x one other = refl
 others_stay F q (say.Fault f) p x one other = refl
 others_stay F q say.Ok p x one other = done_there F q p x one other
 others_stay F q (say.Kind k) p x one other = done_there F q p x one other
-others_stay F q (say.Stat k n) p x one other = done_there F q p x one other
+others_stay F q (say.Stat k size n) p x one other = done_there F q p x one other
 others_stay F q (say.Data d) p x one other = done_there F q p x one other
 others_stay F q (say.Count n) p x one other = done_there F q p x one other
 others_stay F q (say.Entries es more) p x one other = done_there F q p x one other
@@ -173,7 +173,7 @@ walk_put : (F : Tree) (p : Path) (o : Option Node) → walk (put F p o) p ≡ wa
 walk_put F p o = walk_put_from F p o [] p refl
 
 reads_file : (from count : ℕ) (x : Bool) (w : List ℕ) (b : Bool) → eqb count 0 ≡ b
-    → Whether b (Says (say.Data [])) (Into (Some w) (λ bytes. say.Data (take count (drop from bytes)))) (say.Data (take count (drop from w)))
+    → Whether b (Says (say.Data [])) (Into (Some w) (λ bytes. Says (say.Data (take count (drop from bytes))))) (say.Data (take count (drop from w)))
 reads_file from count x w true e = ap (λ (n : ℕ). say.Data (take n (drop from w))) (eqb-true count 0 e)
 reads_file from count x w false e = refl
 

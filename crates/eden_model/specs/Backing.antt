@@ -1,10 +1,10 @@
 -- The numbers that a mount shows, and how they back what its replies may tell.
-use Rattle.std.specs.Prelude.{◌≡◌, ◌≢◌, ◌≤◌, ◌<◌, ◌⊎◌, ℕ, true, List, [], ◌∷◌, Option, Some, None}
+use Rattle.std.specs.Prelude.{◌≡◌, ◌≢◌, ◌≤◌, ◌<◌, ◌⊎◌, ℕ, true, [], Option, Some, None}
 use Rattle.eden_model.specs.declared.request.Request.{Request}
 use Rattle.eden_model.specs.declared.reply.Reply.{Reply}
 use Rattle.eden_model.specs.Limits.{number_least, number_end}
 use Rattle.eden_model.specs.Trees.{Path}
-use Rattle.eden_model.specs.Numbers.{Numbering, Numbers, StatNumber, NumberedEntry, renumbered, stat_number, AreOnce}
+use Rattle.eden_model.specs.Numbers.{Numbering, Numbers, StatNumber, renumbered, stat_number, AreOnce}
 
 -- numbers that a mount may show: 1 at the root, elsewhere from 2 on, each at one path and below the next
 pub record AreShown (S : Numbering) (next : ℕ) : Type 0 where
@@ -38,15 +38,9 @@ IsShownNumber S (Some t) = S t.path ≡ Some t.number
 
 -- One answer of a mount: it gains numbers, makes its request's change of them, and may gain more; a `stat` tells the one
 -- shown.
-pub record Renumbers (S : Numbering) (next : ℕ) (q : Request) (r : Reply) (n : ℕ) (T : Numbering) (later : ℕ) : Type 0 where
+pub record Renumbers (S : Numbering) (next : ℕ) (q : Request) (r : Reply) (T : Numbering) (later : ℕ) : Type 0 where
   pub ready : Numbering
   pub mid : ℕ
   pub before : Gains S next ready mid
   pub behind : Gains (renumbered q r ready) mid T later
-  pub tells : IsShownNumber T (stat_number q r n)
-
--- .. and so many, one after the other
-abbrev pub RenumbersAll : Numbering → ℕ → List NumberedEntry → Numbering → ℕ → Type 0
-RenumbersAll S next [] U last = Gains S next U last
-RenumbersAll S next (e ∷ es) U last =
-    (T : Numbering) × (later : ℕ) × Renumbers S next e.entry.request e.entry.reply e.number T later × RenumbersAll T later es U last
+  pub tells : IsShownNumber T (stat_number q r)

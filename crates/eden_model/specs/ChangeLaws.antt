@@ -6,7 +6,7 @@ use Rattle.eden_model.specs.declared.request.Request.TheVariants as ask
 use Rattle.eden_model.specs.declared.reply.Reply.{Reply}
 use Rattle.eden_model.specs.declared.reply.Reply.TheVariants as say
 use Rattle.eden_model.specs.Limits.{most_data}
-use Rattle.eden_model.specs.Trees.{Name, Path, Tree, node_at}
+use Rattle.eden_model.specs.Trees.{Path, Tree, node_at}
 use Rattle.eden_model.specs.Requests.{paths_of}
 use Rattle.eden_model.specs.Operations.{Replies, after, is_front, written, resized}
 

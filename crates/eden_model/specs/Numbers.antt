@@ -1,5 +1,5 @@
 -- Inode numbers beside the tree: those that replies gave, by path, and those that are spent.
-use Rattle.std.specs.Prelude.{◌≡◌, ◌≢◌, ◌≤◌, ◌<◌, ◌==◌, ◌⊎◌, nat_lt, ℕ, Bool, true, false, if◌then◌else◌, List, [], ◌∷◌, map, Option, Some, None}
+use Rattle.std.specs.Prelude.{◌≡◌, ◌≢◌, ◌≤◌, ◌<◌, ◌==◌, ◌⊎◌, nat_lt, ℕ, Bool, true, false, if◌then◌else◌, List, [], ◌∷◌, Option, Some, None}
 use Rattle.std.specs.Option.{IsSome}
 use Rattle.eden_model.specs.declared.entry.Entry.{Entry}
 use Rattle.eden_model.specs.declared.request.Request.{Request}
@@ -47,7 +47,7 @@ edited (ask.Rename from to) M = if path_eq from to then M else move M from to
 abbrev pub renumbered : Request → Reply → Numbering → Numbering
 renumbered q say.Ok M = edited q M
 renumbered q (say.Kind k) M = edited q M
-renumbered q (say.Stat k n) M = edited q M
+renumbered q (say.Stat k size n) M = edited q M
 renumbered q (say.Data d) M = edited q M
 renumbered q (say.Count n) M = edited q M
 renumbered q (say.Entries es more) M = edited q M
@@ -59,32 +59,31 @@ pub record StatNumber : Type 0 where
   pub path : Path
   pub number : ℕ
 
--- where the reply is one of `stat`, n is the number that it ends with
-abbrev pub number_by : Reply → Path → ℕ → Option StatNumber
-number_by (say.Stat k length) p n = Some (record { path = p; number = n })
-number_by say.Ok p n = None
-number_by (say.Kind k) p n = None
-number_by (say.Data d) p n = None
-number_by (say.Count c) p n = None
-number_by (say.Entries es more) p n = None
-number_by (say.Err e) p n = None
-number_by (say.Fault f) p n = None
+abbrev pub number_by : Reply → Path → Option StatNumber
+number_by (say.Stat k size n) p = Some (record { path = p; number = n })
+number_by say.Ok p = None
+number_by (say.Kind k) p = None
+number_by (say.Data d) p = None
+number_by (say.Count c) p = None
+number_by (say.Entries es more) p = None
+number_by (say.Err e) p = None
+number_by (say.Fault f) p = None
 
-abbrev pub stat_number : Request → Reply → ℕ → Option StatNumber
-stat_number (ask.Stat p) r n = number_by r p n
-stat_number (ask.Kind p) r n = None
-stat_number (ask.Read p offset count) r n = None
-stat_number (ask.ReadLink p) r n = None
-stat_number (ask.List p above limit) r n = None
-stat_number (ask.Write p offset bytes) r n = None
-stat_number (ask.Truncate p size) r n = None
-stat_number (ask.Create p) r n = None
-stat_number (ask.SetExec p exec) r n = None
-stat_number (ask.Mkdir p) r n = None
-stat_number (ask.Symlink p target) r n = None
-stat_number (ask.Unlink p) r n = None
-stat_number (ask.Rmdir p) r n = None
-stat_number (ask.Rename from to) r n = None
+abbrev pub stat_number : Request → Reply → Option StatNumber
+stat_number (ask.Stat p) r = number_by r p
+stat_number (ask.Kind p) r = None
+stat_number (ask.Read p offset count) r = None
+stat_number (ask.ReadLink p) r = None
+stat_number (ask.List p above limit) r = None
+stat_number (ask.Write p offset bytes) r = None
+stat_number (ask.Truncate p size) r = None
+stat_number (ask.Create p) r = None
+stat_number (ask.SetExec p exec) r = None
+stat_number (ask.Mkdir p) r = None
+stat_number (ask.Symlink p target) r = None
+stat_number (ask.Unlink p) r = None
+stat_number (ask.Rmdir p) r = None
+stat_number (ask.Rename from to) r = None
 
 -- what a `stat` told is given from then on, and spent
 abbrev pub with_stat : Option StatNumber → Numbers → Numbers
@@ -92,8 +91,13 @@ with_stat None N = N
 with_stat (Some t) N = record { given = put N.given t.path (Some t.number); used = λ k. if k == t.number then true else N.used k }
 
 -- after a request and its reply
-abbrev pub after_numbers : Numbers → Request → Reply → ℕ → Numbers
-after_numbers N q r n = with_stat (stat_number q r n) (record { given = renumbered q r N.given; used = N.used })
+abbrev pub after_numbers : Numbers → Request → Reply → Numbers
+after_numbers N q r = with_stat (stat_number q r) (record { given = renumbered q r N.given; used = N.used })
+
+-- .. and after the entries of a history, in order
+abbrev pub replay_numbers : Numbers → List Entry → Numbers
+replay_numbers N [] = N
+replay_numbers N (e ∷ es) = replay_numbers (after_numbers N e.request e.reply) es
 
 -- ---- which number a `stat` may tell
 
@@ -108,28 +112,6 @@ Allows N p n = (N.given p ≡ Some n) ⊎ ((N.given p ≡ None) × (IsNumber n �
 abbrev pub AllowsStat : Numbers → Option StatNumber → Type 0
 AllowsStat N None = Unit {0}
 AllowsStat N (Some t) = Allows N t.path t.number
-
--- ---- histories
-
--- an entry of a history, and the number that a `stat`'s reply ends with
-pub record NumberedEntry : Type 0 where
-  pub entry : Entry
-  pub number : ℕ
-
-abbrev pub entries_of : List NumberedEntry → List Entry
-entries_of es = map (λ (e : NumberedEntry). e.entry) es
-
--- the numbers after the entries, in order
-abbrev pub replay_numbers : Numbers → List NumberedEntry → Numbers
-replay_numbers N [] = N
-replay_numbers N (e ∷ es) = replay_numbers (after_numbers N e.entry.request e.entry.reply e.number) es
-
--- every `stat` tells a number that it may tell, at the numbers that the entries before it left
-abbrev pub TellsAllowed : Numbers → List NumberedEntry → Type 0
-TellsAllowed N [] = Unit {0}
-TellsAllowed N (e ∷ es) =
-    AllowsStat N (stat_number e.entry.request e.entry.reply e.number)
-    × TellsAllowed (after_numbers N e.entry.request e.entry.reply e.number) es
 
 -- ---- what holds of numbers
 

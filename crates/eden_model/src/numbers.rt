@@ -4,7 +4,7 @@ ghost use Rattle.eden_model.specs.NumberLaws.{RmdirTakesNumber, NewHasNoNumber, 
 ghost use Rattle.eden_model.specs.NumberLaws.{SpentStays, AfterAreNumbers, ReplayAreNumbers, GoneForGood};
 ghost use Rattle.eden_model.specs.NumberLaws.{ShownIsAllowed, OpeningIsBacked, ReopeningKeeps, SameIsGained};
 ghost use Rattle.eden_model.specs.NumberLaws.{NextIsGained, GainsMore, GainsAreShown, GainsAreBacked, StatIsBacked};
-ghost use Rattle.eden_model.specs.NumberLaws.{ChangeIsBacked, AnswerIsAllowed, AnswersAreAllowed};
+ghost use Rattle.eden_model.specs.NumberLaws.{ChangeIsBacked, AnswerIsAllowed, AnswerIsBacked};
 
 /// The laws of inode numbers: what each request does to them, and what every legal history keeps.
 pub fn number_laws()
@@ -38,5 +38,5 @@ pub fn backing_laws()
     ensures stat_is_backed { StatIsBacked }
     ensures change_is_backed { ChangeIsBacked }
     ensures answer_is_allowed { AnswerIsAllowed }
-    ensures answers_are_allowed { AnswersAreAllowed }
+    ensures answer_is_backed { AnswerIsBacked }
 {}

@@ -1,5 +1,5 @@
 use Rattle.eden_model.proofs.NumbersBacked.{shown_is_allowed, opening_is_backed, reopening_keeps, same_is_gained, next_is_gained, gains_more, gains_are_shown, gains_are_backed, stat_is_backed}
-use Rattle.eden_model.proofs.NumbersBacked.{change_is_backed, answer_is_allowed, answers_are_allowed}
+use Rattle.eden_model.proofs.NumbersBacked.{change_is_backed, answer_is_allowed, answer_is_backed}
 use Rattle.eden_model.proofs.numbers.backing_laws.Goals as goal
 
 pub returns : goal.returns
@@ -15,5 +15,5 @@ returns c = record {
   stat_is_backed = stat_is_backed;
   change_is_backed = change_is_backed;
   answer_is_allowed = answer_is_allowed;
-  answers_are_allowed = answers_are_allowed;
+  answer_is_backed = answer_is_backed;
 }
