@@ -6,6 +6,7 @@ use Rattle.eden_model.specs.declared.kind.Kind.TheVariants as kind
 use Rattle.eden_model.specs.declared.kind.Origin.{Origin}
 use Rattle.eden_model.specs.declared.kind.Origin.TheVariants as origin
 use Rattle.eden_model.specs.Repository.{Repository, source_of, ground_with}
+use Rattle.eden_model.specs.Trees.{Path}
 use Rattle.eden_model.specs.Shown.{shown}
 use Rattle.eden_overlay_format.specs.declared.state.State.{State}
 use Rattle.eden_overlay_format.specs.declared.header.Identifier.TheVariants as identifier
@@ -24,12 +25,13 @@ use Rattle.eden_coupling.specs.Kept.{IsTable, IsKept}
 use Rattle.eden_coupling.specs.Laws.{TiesSound, NumbersBelow}
 use Rattle.eden_coupling.specs.Loose.{the_state}
 use Rattle.eden_coupling.specs.NumberKept.{KeepsNumbers}
+use Rattle.eden_coupling.specs.Numberings.{in_files, numbers}
 use Rattle.eden_coupling.specs.Shown.{shown_in, shown_away}
 use Rattle.eden_coupling.specs.ShownLaws.{ShowsFiles, ShowsAway}
 use Rattle.eden_coupling.proofs.CallerLemmas.{loose_kept, loose_alike, state_comes}
 use Rattle.eden_inode.specs.Tables.{fresh_root}
 use Rattle.eden_ops.specs.Changes.{StaysOrBecomesOwn}
-use Rattle.eden_checkout.specs.Opening.{files_show, FilesKeep, IsRootOf, CanOpen}
+use Rattle.eden_checkout.specs.Opening.{files_show, files_number, FilesKeep, IsRootOf, CanOpen}
 
 pub still_root : (id : Id) (a b : Origin) → IsRootOf id a → b ≡ a → IsRootOf id b
 still_root id a b is same = subst (IsRootOf id) (sym same) is
@@ -85,6 +87,10 @@ module _ (R : Repository) (F : Stored) (x : Row) (next : ℕ) (root : Id) (table
       ∙ ap (shown_in R (without F 0)) (sym (is_fresh x next table none))
       ∙ loose_alike R F x next 0 None table kept (the_state refl)
 
+  -- the files show the numbers that the table does
+  pub files_numbered : (p : Path) → numbers (in_files F) x p ≡ files_number root F p
+  files_numbered p = ap (λ (y : Row). numbers (in_files F) y p) (sym root_there)
+
   pub can_open : KeepsNumbers R F x next → HoldsState F (record { root = root; next = next }) → CanOpen R (shown_in R F x) root F
   can_open keeps held = record {
     sound = sound F kept.full x next kept.ties;
@@ -112,6 +118,13 @@ state_kept R F G x z next s (Ok v) keeps root ok err =
     subst (λ (y : Row). KeepsNumbers R G y next) (sym root) (subst (λ (H : Stored). KeepsNumbers R H x next) (sym ok) (state_comes R F x next s keeps).keeps)
 state_kept R F G x z next s (Err e) keeps root ok err =
     subst (λ (y : Row). KeepsNumbers R G y next) (sym root) (subst (λ (H : Stored). KeepsNumbers R H x next) (sym err) keeps)
+
+pub state_numbered : (R : Repository) (F G : Stored) (x z : Row) (next : ℕ) (s : State) (r : Result (Unit {0}) FilesFault) → KeepsNumbers R F x next → z ≡ x → OnOk r (G ≡ with_state F s)
+    → OnErr r (G ≡ F) → (p : Path) → numbers (in_files G) z p ≡ numbers (in_files F) x p
+state_numbered R F G x z next s (Ok v) keeps root ok err p =
+    ap (λ (y : Row). numbers (in_files G) y p) root ∙ ap (λ (H : Stored). numbers (in_files H) x p) ok ∙ (state_comes R F x next s keeps).same p
+state_numbered R F G x z next s (Err e) keeps root ok err p =
+    ap (λ (y : Row). numbers (in_files G) y p) root ∙ ap (λ (H : Stored). numbers (in_files H) x p) err
 
 -- the state shows nothing
 pub stored_alike : (R : Repository) (F G : Stored) (x z : Row) (next : ℕ) (s : State) (r : Result (Unit {0}) FilesFault) → IsTable x next → IsKept R F x next → z ≡ x → OnOk r (G ≡ with_state F s)

@@ -10,7 +10,7 @@ use Rattle.eden_model.specs.declared.kind.Origin.TheVariants as origin
 use Rattle.eden_model.specs.Failures.{Rose}
 use Rattle.eden_model.specs.Limits.{number_end}
 use Rattle.eden_model.specs.Repository.{Repository}
-use Rattle.eden_model.specs.Trees.{Tree}
+use Rattle.eden_model.specs.Trees.{Path, Tree}
 use Rattle.eden_overlay_format.specs.declared.stored_entry.StoredEntry.{StoredEntry}
 use Rattle.eden_overlay_format.specs.declared.header.Identifier.TheVariants as identifier
 use Rattle.eden_overlay_format.specs.declared.state.State.{State}
@@ -29,6 +29,7 @@ use Rattle.eden_overlay.proofs.CallerLemmas.{put_here, put_apart, names_moved, s
 use Rattle.eden_tree.specs.Directory.{child_of}
 use Rattle.eden_coupling.specs.Chains.{AreSaved}
 use Rattle.eden_coupling.specs.NumberKept.{KeepsNumbers}
+use Rattle.eden_coupling.specs.Numberings.{in_files, numbers}
 use Rattle.eden_coupling.proofs.CallerLemmas.{place_cases, fresh_keeps, found_keeps, state_goes}
 use Rattle.eden_inode.specs.Tables.{CanStart, fresh_root}
 use Rattle.eden_checkout.specs.declared.fault.OpenFault.{OpenFault}
@@ -36,7 +37,7 @@ use Rattle.eden_checkout.specs.declared.fault.OpenFault.TheVariants as opens
 use Rattle.eden_checkout.specs.declared.opening.Opening.{Opening}
 use Rattle.eden_checkout.specs.declared.opening.Opening.TheVariants as opening
 use Rattle.eden_checkout.specs.declared.opening.Start.{Start}
-use Rattle.eden_checkout.specs.Opening.{files_show, FilesKeep, CanOpen, MayOpen, AreNone, StartsAt, Starts, of_rescan, AreAccused, IsOpenFault, IsRescanRefusal, IsRefusal}
+use Rattle.eden_checkout.specs.Opening.{files_show, files_number, FilesKeep, CanOpen, MayOpen, AreNone, StartsAt, Starts, of_rescan, AreAccused, IsOpenFault, IsRescanRefusal, IsRefusal}
 
 own_stands : (root : Id) (o : Option (List ℕ)) → root_from root o ≢ origin.Own → o ≡ None
 own_stands root None other = refl
@@ -104,14 +105,27 @@ module _ (R : Repository) (tree : Tree) (root : Id) (F : Stored) where
   numbers_by can next (inl none) = subst (FilesKeep R root F) (sym none.1) (none_keep R root F none.0)
   numbers_by can next (inr held) = can.numbers next held
 
+  -- what the files keep of numbers
+  keep_by : (how : Opening) → MayOpen how R tree root F → (start : Start) → Starts how root F start → start.next ≤ number_end → FilesKeep R root F start.next
+  keep_by opening.Closed can start starts most = numbers_by can start.next starts.next
+  keep_by opening.Rescan may start starts most =
+      found_keeps R F root (fresh_root (root_from root (root_file F))) start.next (record { number = refl; is_dir = refl; away = refl; from = refl })
+      starts.next.1 starts.next.2 most may.1
+
   pub can_start : (how : Opening) → MayOpen how R tree root F → (start : Start) → Starts how root F start → start.next ≤ number_end
       → CanStart R (without F 0) start.origin start.next
   can_start opening.Closed can start starts most =
       can_start_below root F can.sound start starts.origin R (below_by can start.next starts.next) (numbers_by can start.next starts.next)
   can_start opening.Rescan may start starts most =
       can_start_below root F starts.next.0 start starts.origin R (λ c e live names. starts.next.2.below (live_counted F root c e live names))
-      (found_keeps R F root (fresh_root (root_from root (root_file F))) start.next (record { number = refl; is_dir = refl; away = refl; from = refl })
-      starts.next.1 starts.next.2 most may.1)
+      (keep_by opening.Rescan may start starts most)
+
+  -- the state's file shows none
+  pub number_by : (how : Opening) → MayOpen how R tree root F → (start : Start) → Starts how root F start → start.next ≤ number_end → (p : Path)
+      → numbers (in_files (without F 0)) (fresh_root start.origin) p ≡ files_number root F p
+  number_by how may start starts most p =
+      ap (λ (o : Origin). numbers (in_files (without F 0)) (fresh_root o) p) starts.origin
+      ∙ (state_goes R F (fresh_root (root_from root (root_file F))) start.next (keep_by how may start starts most)).same p
 
   pub shown_by : (how : Opening) → MayOpen how R tree root F → files_show R root F ≡ tree
   shown_by opening.Closed can = can.shown

@@ -4,13 +4,15 @@ use Rattle.eden_model.specs.declared.id.Id.{Id}
 use Rattle.eden_model.specs.declared.kind.Origin.{Origin}
 use Rattle.eden_model.specs.declared.kind.Origin.TheVariants as origin
 use Rattle.eden_model.specs.Failures.{Rose}
+use Rattle.eden_model.specs.Numbers.{Numbering}
 use Rattle.eden_model.specs.Repository.{Repository}
-use Rattle.eden_model.specs.Trees.{Tree}
+use Rattle.eden_model.specs.Trees.{Path, Tree}
 use Rattle.eden_overlay_format.specs.declared.header.Identifier.TheVariants as identifier
 use Rattle.eden_overlay_format.specs.declared.state.State.{State}
 use Rattle.eden_overlay_format.specs.declared.stored_entry.StoredEntry.{StoredEntry}
 use Rattle.eden_overlay_format.specs.Values.{state_in}
 use Rattle.eden_overlay.specs.declared.fault.GetFault.TheVariants as get
+use Rattle.eden_overlay.specs.declared.files.Files.{Ghosts as Files}
 use Rattle.eden_overlay.specs.declared.files.FilesFault.{FilesFault}
 use Rattle.eden_overlay.specs.declared.files.FilesFault.TheVariants as files
 use Rattle.eden_overlay.specs.Files.{Stored}
@@ -23,9 +25,9 @@ use Rattle.eden_overlay.specs.Rescanning.{IsNextOf, Accuses, CanRescan}
 use Rattle.eden_overlay.specs.Soundness.{IsLive, Names, AreSound}
 use Rattle.eden_coupling.specs.NumberKept.{KeepsNumbers}
 use Rattle.eden_coupling.specs.NumberNodes.{ListTrees}
-use Rattle.eden_coupling.specs.Numberings.{in_files}
+use Rattle.eden_coupling.specs.Numberings.{in_files, numbers}
 use Rattle.eden_coupling.specs.Shown.{shown_in}
-use Rattle.eden_inode.specs.Tables.{fresh_root}
+use Rattle.eden_inode.specs.Tables.{Table, fresh_root, shows_numbers}
 use Rattle.eden_checkout.specs.declared.fault.OpenFault.{OpenFault}
 use Rattle.eden_checkout.specs.declared.fault.OpenFault.TheVariants as opens
 use Rattle.eden_checkout.specs.declared.opening.Opening.{Opening}
@@ -38,7 +40,11 @@ use Rattle.eden_checkout.specs.declared.opening.Start.{Start}
 abbrev pub files_show : Repository → Id → Stored → Tree
 files_show R root F = shown_in R (without F 0) (fresh_root (root_from root (root_file F)))
 
--- what the files keep of inode numbers above it, with that next one
+-- the inode numbers that they show above it
+abbrev pub files_number : Id → Stored → Numbering
+files_number root F = numbers (in_files F) (fresh_root (root_from root (root_file F)))
+
+-- .. and what they keep of these, with that next one
 abbrev pub FilesKeep : Repository → Id → Stored → ℕ → Type 0
 FilesKeep R root F next = KeepsNumbers R F (fresh_root (root_from root (root_file F))) next
 
@@ -53,6 +59,10 @@ pub record CanOpen (R : Repository) (opening : Tree) (root : Id) (F : Stored) : 
   pub shown : files_show R root F ≡ opening
   pub below : (s : State) → HoldsState F s → (c : ℕ) (e : StoredEntry) → IsLive F c → Names F c e → e.number < s.next
   pub numbers : (next : ℕ) → HoldsState F (record { root = root; next = next }) → FilesKeep R root F next
+
+-- a table shows the numbers that files do above that commit's tree
+abbrev pub ShowsNumbersOf : {W F : Type 0} → Files F W → Id → Stored → Table F → Type 0
+ShowsNumbersOf f root F t = (p : Path) → shows_numbers f t p ≡ files_number root F p
 
 -- a rescan finds itself whether they are sound
 abbrev pub MayOpen : Opening → Repository → Tree → Id → Stored → Type 0

@@ -7,7 +7,7 @@ ghost use Rattle.eden_overlay.specs.Held.{HoldsState, without};
 ghost use Rattle.eden_overlay.specs.Counting.{NumbersAreSound};
 ghost use Rattle.eden_overlay.specs.Rescanning.{IsNextOf};
 ghost use Rattle.eden_overlay.specs.Soundness.{AreSound};
-ghost use Rattle.eden_checkout.specs.Opening.{CanOpen, MayOpen, StartsAt, Finds, files_show, ListFiles};
+ghost use Rattle.eden_checkout.specs.Opening.{CanOpen, MayOpen, StartsAt, Finds, files_show, ListFiles, ShowsNumbersOf};
 ghost use Rattle.eden_checkout.specs.Opening.{IsOpenFault, IsRescanRefusal, IsRefusal};
 
 use crate::closing::{as_files, store_state};
@@ -62,6 +62,8 @@ impl<A: Allocator + Clone, W: World, F: Files<W>> Checkout<A, W, F> {
         requires files { W.honest → CanOpen W.repository W.opening root (F.stored files) }
         requires cache { (cache.objects ≡ []) × (cache.sizes ≡ []) }
         ensures shown { W.honest → IfOk result (λ c. shows W.World F.Files c.inodes ≡ W.opening) }
+        ensures numbers { W.honest
+            → IfOk result (λ c. ShowsNumbersOf F.Files root (F.stored files) c.inodes) }
         ensures stored { W.honest → IfOk result (λ c. F.stored c.inodes.files ≡ without (F.stored files) 0) }
         ensures next { W.honest → IfOk result (λ c. StartsAt (F.stored files) root c.inodes.next) }
         ensures fresh { IfOk result
@@ -93,8 +95,10 @@ impl<A: Allocator + Clone, W: World, F: Files<W>> Checkout<A, W, F> {
         requires cache { (cache.objects ≡ []) × (cache.sizes ≡ []) }
         ensures sound { W.honest → OnOk result (AreSound (F.stored files)) }
         ensures shown { W.honest → IfOk result (λ c. shows W.World F.Files c.inodes ≡ W.opening) }
+        ensures numbers { W.honest
+            → IfOk result (λ c. ShowsNumbersOf F.Files root (F.stored files) c.inodes) }
         ensures stored { W.honest → IfOk result (λ c. F.stored c.inodes.files ≡ without (F.stored files) 0) }
-        ensures numbers { W.honest → OnOk result (NumbersAreSound (F.stored files) root) }
+        ensures once { W.honest → OnOk result (NumbersAreSound (F.stored files) root) }
         ensures next { W.honest → IfOk result (λ c. IsNextOf (F.stored files) root c.inodes.next) }
         ensures fresh { IfOk result
             (λ c. (c.inodes.clock ≡ 0) × ((c.inodes.changes ≡ 0) × ((c.cache ≡ cache) × (c.root ≡ root)))) }
@@ -118,6 +122,8 @@ impl<A: Allocator + Clone, W: World, F: Files<W>> Checkout<A, W, F> {
         requires files { W.honest → MayOpen opening W.repository W.opening root (F.stored files) }
         requires cache { (cache.objects ≡ []) × (cache.sizes ≡ []) }
         ensures shown { W.honest → IfOk result (λ c. shows W.World F.Files c.inodes ≡ W.opening) }
+        ensures numbers { W.honest
+            → IfOk result (λ c. ShowsNumbersOf F.Files root (F.stored files) c.inodes) }
         ensures stored { W.honest → IfOk result (λ c. F.stored c.inodes.files ≡ without (F.stored files) 0) }
         ensures next { W.honest → IfOk result (λ c. Finds opening root (F.stored files) c.inodes.next) }
         ensures fresh { IfOk result
@@ -148,6 +154,8 @@ impl<A: Allocator + Clone, W: World, F: Files<W>> Checkout<A, W, F> {
         ensures opens { W.honest
             → IfOk result (λ files. CanOpen W.repository (shows W.World F.Files self.inodes) self.root
             (F.stored files)) }
+        ensures numbers { W.honest
+            → IfOk result (λ files. ShowsNumbersOf F.Files self.root (F.stored files) self.inodes) }
         ensures shown { W.honest
             → IfErr result (λ e. shows W.World F.Files e.1.inodes ≡ shows W.World F.Files self.inodes) }
         ensures device { IfErr result

@@ -4,7 +4,7 @@ ghost use Rattle.eden_model.specs.Limits.{number_least, number_end};
 ghost use Rattle.eden_model.specs.Failures.{Counted};
 ghost use Rattle.eden_overlay.specs.declared.files.FilesFault.TheVariants as files;
 ghost use Rattle.eden_overlay.specs.Held.{HoldsState, with_state};
-ghost use Rattle.eden_inode.specs.Tables.{shows};
+ghost use Rattle.eden_inode.specs.Tables.{shows, ShowsSameNumbers};
 ghost use Rattle.eden_checkout.specs.Closing.{Leaves, as_files};
 
 use eden_coupling::chain_laws;
@@ -50,6 +50,7 @@ pub(crate) fn store_state<A: Allocator + Clone, W: World, F: Files<W>>(
         → OnOk result (HoldsState (F.stored inodes.new.files) (record { root = root; next = inodes.old.next })) }
     ensures err { W.honest → OnErr result (F.stored inodes.new.files ≡ F.stored inodes.old.files) }
     ensures same { W.honest → shows W.World F.Files inodes.new ≡ shows W.World F.Files inodes.old }
+    ensures numbers { W.honest → ShowsSameNumbers F.Files inodes.old inodes.new }
     ensures counted { Counted (result ≡ Err files.Device) (F.failures inodes.old.files) (F.failures inodes.new.files) }
     ensures rest { (inodes.new.next ≡ inodes.old.next) × (inodes.new.clock ≡ inodes.old.clock) }
 {

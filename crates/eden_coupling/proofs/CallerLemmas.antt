@@ -68,5 +68,12 @@ pub use Rattle.eden_coupling.proofs.NumbersSteps.{leave_keeps, left_not_shown, r
 -- .. and stores and changes together
 pub use Rattle.eden_coupling.proofs.NumbersDone.{content_numbers, new_content_numbers, new_entries_numbers, state_numbers, stateless_numbers, saves_numbers, owned_numbers}
 pub use Rattle.eden_coupling.proofs.NumbersDone.{then_keeps, chain_numbers, removed_numbers, moved_numbers, replaced_numbers, marked_numbers}
+-- which numbers stand where, and changes of what is shown
+pub use Rattle.eden_coupling.proofs.NumbersFound.{number_at}
+pub use Rattle.eden_coupling.proofs.NumbersRead.{in_memory}
+pub use Rattle.eden_coupling.proofs.NumbersChanged.{put_form}
+pub use Rattle.eden_coupling.proofs.NumbersShown.{same_shown, put_shown, move_shown}
+-- .. and which they show then
+pub use Rattle.eden_coupling.proofs.NumbersDone.{chain_grafts, new_puts, kept_same, removed_grafts, moved_moves, replaced_moves, marked_same}
 -- .. and what the files of an opening show
 pub use Rattle.eden_coupling.proofs.NumbersOpened.{found_shown, found_blank, found_keeps, state_goes, state_comes, orphans_go}

@@ -46,7 +46,7 @@ longer_of a q r k true e behind =
     let both : Some [] ≡ Some (k ∷ r) = sym (behind_back a []) ∙ sym (ap (behind_of a) is) ∙ behind in cc
 longer_of a q r k false e behind = refl
 
-put_form : (S X : Numbering) (a : Path) (v : Option ℕ) (q : Path) (o : Option Path) → behind_of a q ≡ o → X [] ≡ v → ((k : Name) (r : Path) → X (k ∷ r) ≡ None)
+pub put_form : (S X : Numbering) (a : Path) (v : Option ℕ) (q : Path) (o : Option Path) → behind_of a q ≡ o → X [] ≡ v → ((k : Name) (r : Path) → X (k ∷ r) ≡ None)
     → ((k : Name) (r : Path) → S (a ++ k ∷ r) ≡ None) → grafted o X (S q) ≡ put S a v q
 put_form S X a v q None e first new old = sym (ap (λ (b : Bool). cond b v (S q)) (apart_of a q (path_eq a q) refl e))
 put_form S X a v q (Some []) e first new old =

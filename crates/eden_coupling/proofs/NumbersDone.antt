@@ -1,5 +1,5 @@
 -- What stores and changes together keep of a table's numbers.
-use Rattle.std.proofs.Common.{◌≡◌, ◌≢◌, ◌≤◌, ◌<◌, ◌⊎◌, ℕ, true, List, [], ◌∷◌, ◌++◌, Option, Some, None, IfSome, inl, inr, refl, sym, ap, subst, ◌∙◌, arith}
+use Rattle.std.proofs.Common.{◌≡◌, ◌≢◌, ◌≤◌, ◌<◌, ◌⊎◌, ℕ, true, cond, List, [], ◌∷◌, ◌++◌, Option, Some, None, IfSome, inl, inr, refl, sym, ap, subst, ◌∙◌, arith}
 use Rattle.std.proofs.lemmas.Option.{same_Some, none-some}
 use Rattle.std.specs.Option.{option_and_then}
 use Rattle.eden_model.specs.declared.id.Id.{Id}
@@ -8,9 +8,12 @@ use Rattle.eden_model.specs.declared.kind.Kind.TheVariants as kind
 use Rattle.eden_model.specs.declared.kind.Origin.{Origin}
 use Rattle.eden_model.specs.declared.kind.Origin.TheVariants as origin
 use Rattle.eden_model.specs.Named.{AreRising}
+use Rattle.eden_model.specs.Numbers.{Numbering}
 use Rattle.eden_model.specs.Repository.{Repository}
 use Rattle.eden_model.specs.Shown.{if_dir}
-use Rattle.eden_model.specs.Trees.{Name, Path}
+use Rattle.eden_model.specs.Operations.{put, move}
+use Rattle.eden_model.specs.Paths.{behind_of, path_eq}
+use Rattle.eden_model.specs.Trees.{Name, Path, grafted, graft}
 use Rattle.eden_overlay_format.specs.declared.header.Identifier.TheVariants as identifier
 use Rattle.eden_overlay_format.specs.declared.state.State.{State}
 use Rattle.eden_overlay_format.specs.declared.stored_entry.StoredEntry.{StoredEntry}
@@ -19,7 +22,7 @@ use Rattle.eden_overlay_format.specs.Stored.{written}
 use Rattle.eden_overlay_format.specs.Values.{entries_in}
 use Rattle.eden_overlay_format.proofs.Headers.{written_found}
 use Rattle.eden_overlay_format.proofs.NumbersFound.{other_has_none}
-use Rattle.eden_overlay.specs.Files.{Stored, put}
+use Rattle.eden_overlay.specs.Files.{Stored}
 use Rattle.eden_overlay.specs.Held.{HoldsEntries, entries_at, of_tree, numbers_of, saved_at, with_content, with_entries, with_state, without}
 use Rattle.eden_overlay.proofs.CallerLemmas.{put_here, put_apart, entries_have_none}
 use Rattle.eden_tree.specs.Directory.{Row, Directory, child_of, with_child}
@@ -35,12 +38,13 @@ use Rattle.eden_coupling.specs.Listings.{Place, listing_of}
 use Rattle.eden_coupling.specs.Materialising.{Chain, owned_along}
 use Rattle.eden_coupling.specs.NumberChanges.{IsBare}
 use Rattle.eden_coupling.specs.NumberKept.{KeepsNumbers, SameNumbers, IsUnseen}
-use Rattle.eden_coupling.specs.Numberings.{NumberFiles, in_files, entries_by, row_named, stored_below, entry_at, numbers}
+use Rattle.eden_coupling.specs.Numberings.{NumberFiles, in_files, entries_by, row_named, stored_below, entry_at, numbers, numbers_from}
 use Rattle.eden_coupling.specs.Saving.{Saves, saved}
 use Rattle.eden_coupling.specs.Standing.{IsNumbered, kept_number, new_number, MayStand}
 use Rattle.eden_coupling.specs.Ties.{Ties, Tied, IsAway}
 use Rattle.eden_coupling.proofs.Chain.{place_at, at_changed}
 use Rattle.eden_coupling.proofs.Moving.{rising_target_of}
+use Rattle.eden_coupling.proofs.NumbersChanged.{change_grafts, put_is_edit}
 use Rattle.eden_coupling.proofs.NumbersEdited.{mark_keeps, replace_keeps, move_keeps}
 use Rattle.eden_coupling.proofs.NumbersFiles.{loaded_files_keep, not_shown_unseen, other_not_shown, unseen_file_keeps, same_then, chain_keeps, above_elsewhere}
 use Rattle.eden_coupling.proofs.NumbersFound.{number_at, one_below}
@@ -127,6 +131,10 @@ owned_numbers R F x next p G k loaded chain = let l = loaded_found p x loaded in
 
 -- ---- what may stand under a name
 
+-- the same put over the same
+put_alike : (p q : Path) (e : Option ℕ) (S T : Numbering) → S q ≡ T q → put S p e q ≡ put T p e q
+put_alike p q e S T same = ap (λ (v : Option ℕ). cond (path_eq p q) e v) same
+
 -- nothing is below a file or link, nor below a directory of which nothing, or no entry, is stored
 bare_by : (t : Kind) (s : Option (List StoredEntry)) (m : Name) → (t ≡ kind.Dir → (s ≡ None) ⊎ (s ≡ Some [])) → option_and_then (row_named m) (if_dir t s) ≡ None
 bare_by kind.File s m dir = refl
@@ -209,21 +217,60 @@ module _ (honest : Type 0) (R : Repository) (F : Stored) (x : Row) (next : ℕ) 
     chain_numbers =
         owned_keeps R G then (with_child (Some new) m.row) next p new then_keeps (at_changed p (with_child (Some new)) x m.row m.at) (child_of-with_child (Some new) m.row)
 
+    -- .. and shows at and below the name what comes
+    pub chain_grafts : (q : Path) → numbers (in_files G) (chained p new x) q ≡ grafted (behind_of (p ++ n ∷ []) q) (numbers_from (in_files G) o) (numbers (in_files F) x q)
+    chain_grafts q =
+        chain_numbers.same q
+        ∙ change_grafts (in_files G) p n o x m.row d q m.at m.holds rising
+        ∙ ap (λ (e : Option ℕ). grafted (behind_of (p ++ n ∷ []) q) (numbers_from (in_files G) o) e) (over.same q)
+
+    -- a new entry with its number alone
+    module _ (z : Row) (away : child_of z ≡ None) (none : find_row n d.rows ≡ None) (before : KeepsNumbers R F x z.number)
+        (empty : z.kind ≡ kind.Dir → HoldsEntries F z.number []) where
+      pub new_puts : (q : Path) → numbers (in_files G) (with_listing p (changed d n (Some z)) x) q ≡ put (numbers (in_files F) x) (p ++ n ∷ []) (Some z.number) q
+      new_puts q =
+          put_is_edit (in_files G) p n x m.row z d q m.at m.holds rising none (bare_from (in_files G) z away (nothing_by z away before empty z.origin))
+          ∙ put_alike (p ++ n ∷ []) q (Some z.number) (numbers (in_files G) x) (numbers (in_files F) x) (over.same q)
+
+    -- .. and one in the place of another leaves all numbers
+    module _ (z w : Row) (away : child_of z ≡ None) (there : find_row n d.rows ≡ Some w) (number : z.number ≡ w.number) (file_w : w.kind ≢ kind.Dir) (file : z.kind ≢ kind.Dir)
+        (from : (z.origin ≡ origin.Own) ⊎ (z.origin ≡ w.origin)) where
+      pub kept_same : (q : Path) → numbers (in_files G) (with_listing p (changed d n (Some z)) x) q ≡ numbers (in_files F) x q
+      kept_same q =
+          let away_w = some_is (find_row n d.rows) (λ (v : Row). child_of v ≡ None) w there m.may_go in
+          (replace_keeps R G x m.row z w next p n d over.keeps m.at m.holds rising there number (bare_file (in_files G) w away_w file_w) (bare_file (in_files G) z away file)
+          from away_w).same q ∙ over.same q
+
   -- .. and the file of what went may be removed
   module _ (m : MayStand honest R F x next p n None) (w : Row) (there : find_row n m.directory.rows ≡ Some w) (G : Stored)
       (up : Above (with_entries F m.row.number (listing_of (changed m.directory n None))) x p G) where
     abbrev ended : Row
     ended = chained p (changed m.directory n None) x
 
-    pub removed_numbers : KeepsNumbers R (without G w.number) ended next
-    removed_numbers =
+    removed_same : SameNumbers R G ended (without G w.number) ended next
+    removed_same =
         let c = chain_numbers None m G up in
-        (unseen_file_keeps R G ended next w.number None c.keeps
+        unseen_file_keeps R G ended next w.number None c.keeps
         (not_shown_unseen G ended w.number (λ q shown.
         left_not_shown R G x m.row w next p n m.directory (over None m G up).keeps m.at m.holds (rising None m G up) there q (sym (c.same q) ∙ shown)))
-        (nothing_saved G w.number)).keeps
+        (nothing_saved G w.number)
+
+    pub removed_numbers : KeepsNumbers R (without G w.number) ended next
+    removed_numbers = removed_same.keeps
+
+    pub removed_grafts : (q : Path) → numbers (in_files (without G w.number)) ended q ≡ graft (p ++ n ∷ []) (λ below. None) (numbers (in_files F) x) q
+    removed_grafts q = removed_same.same q ∙ chain_grafts None m G up q
 
 -- ---- an entry that moves
+
+grafted_both : (o : Option Path) (X Y : Numbering) (e f : Option ℕ) → ((r : Path) → X r ≡ Y r) → e ≡ f → grafted o X e ≡ grafted o Y f
+grafted_both None X Y e f same is = is
+grafted_both (Some r) X Y e f same is = same r
+
+move_alike : (S T : Numbering) → ((q : Path) → S q ≡ T q) → (from to r : Path) → move S from to r ≡ move T from to r
+move_alike S T same from to r =
+    grafted_both (behind_of to r) (λ rest. S (from ++ rest)) (λ rest. T (from ++ rest)) _ _ (λ rest. same (from ++ rest))
+    (grafted_both (behind_of from r) (λ rest. None) (λ rest. None) (S r) (T r) (λ rest. refl) (same r))
 
 module _ (R : Repository) (F : Stored) (x : Row) (next : ℕ) (p : Path) (n : Name) (q : Path) (m : Name) (table : IsTable x next) (kept : IsKept R F x next)
     (k : KeepsNumbers R F x next) (may : MayMove x p n q m) where
@@ -242,16 +289,33 @@ module _ (R : Repository) (F : Stored) (x : Row) (next : ℕ) (p : Path) (n : Na
   pub moved_numbers : KeepsNumbers R G (moved_in x p n q m may) next
   moved_numbers = (move_keeps R G x next p n q m may over_moved.keeps rising_source rising_target).keeps
 
+  -- .. with its numbers
+  pub moved_moves : (r : Path) → numbers (in_files G) (moved_in x p n q m may) r ≡ move (numbers (in_files F) x) (p ++ n ∷ []) (q ++ m ∷ []) r
+  moved_moves r =
+      (move_keeps R G x next p n q m may over_moved.keeps rising_source rising_target).changes r
+      ∙ move_alike (numbers (in_files G) x) (numbers (in_files F) x) over_moved.same (p ++ n ∷ []) (q ++ m ∷ []) r
+
   -- the file of what it takes the place of may be removed
-  pub replaced_numbers : (w : Row) → find_row m may.target.rows ≡ Some w → KeepsNumbers R (without G w.number) (moved_in x p n q m may) next
-  replaced_numbers w stood =
-      (unseen_file_keeps R G (moved_in x p n q m may) next w.number None moved_numbers
+  replaced_same : (w : Row) → find_row m may.target.rows ≡ Some w → SameNumbers R G (moved_in x p n q m may) (without G w.number) (moved_in x p n q m may) next
+  replaced_same w stood =
+      unseen_file_keeps R G (moved_in x p n q m may) next w.number None moved_numbers
       (not_shown_unseen G (moved_in x p n q m may) w.number (replaced_not_shown R G x w next p n q m may over_moved.keeps rising_source rising_target stood))
-      (nothing_saved G w.number)).keeps
+      (nothing_saved G w.number)
+
+  pub replaced_numbers : (w : Row) → find_row m may.target.rows ≡ Some w → KeepsNumbers R (without G w.number) (moved_in x p n q m may) next
+  replaced_numbers w stood = (replaced_same w stood).keeps
+
+  pub replaced_moves : (w : Row) → find_row m may.target.rows ≡ Some w
+      → (r : Path) → numbers (in_files (without G w.number)) (moved_in x p n q m may) r ≡ move (numbers (in_files F) x) (p ++ n ∷ []) (q ++ m ∷ []) r
+  replaced_moves w stood r = (replaced_same w stood).same r ∙ moved_moves r
 
   -- the first directory, stored without the entry, and marked unsaved
-  pub marked_numbers : KeepsNumbers R (files_left x p n q m may F) (marked_source x p n q m may) next
-  marked_numbers =
+  pub marked_same : SameNumbers R F x (files_left x p n q m may F) (marked_source x p n q m may) next
+  marked_same =
       let H = files_left x p n q m may F in
       let left = loaded_files_keep R F H x next k (λ c away. left_elsewhere F x p n q m may c away) in
-      (mark_keeps R H x may.from next p may.source (record may.source { unsaved = true }) left.keeps may.at_from may.holds_source refl).keeps
+      same_then R F H H x x (marked_source x p n q m may) next left
+      (mark_keeps R H x may.from next p may.source (record may.source { unsaved = true }) left.keeps may.at_from may.holds_source refl)
+
+  pub marked_numbers : KeepsNumbers R (files_left x p n q m may F) (marked_source x p n q m may) next
+  marked_numbers = marked_same.keeps

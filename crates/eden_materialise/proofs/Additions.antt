@@ -23,6 +23,8 @@ use Rattle.eden_coupling.specs.Kept.{IsTable, IsKept}
 use Rattle.eden_coupling.specs.Listings.{stored_entry, listing_of}
 use Rattle.eden_coupling.specs.Loose.{IsLoose, never_given}
 use Rattle.eden_coupling.specs.NumberKept.{KeepsNumbers}
+use Rattle.eden_coupling.specs.Numberings.{in_files, numbers}
+use Rattle.eden_model.specs.Operations.{put as put_number}
 use Rattle.eden_coupling.specs.Shown.{shown_in}
 use Rattle.eden_coupling.specs.ShownLaws.{shown_from}
 use Rattle.eden_coupling.specs.Standing.{MayStand, new_number}
@@ -33,6 +35,7 @@ use Rattle.eden_materialise.specs.declared.new_entry.NewEntry.TheVariants as new
 use Rattle.eden_materialise.specs.Filing.{kind_as, node_as, with_own, own_row, IsShort, LacksEntry, MayAdd, FilesEntry, RefusedBy}
 use Rattle.eden_materialise.specs.Puts.{AtDirectory}
 use Rattle.eden_materialise.proofs.Numbered.{files_numbered}
+use Rattle.eden_materialise.proofs.Renumbered.{files_puts, files_same, one_directory}
 use Rattle.eden_materialise.proofs.Filing.{files_stored, files_strays, files_table, files_marks, files_stay, files_kept, files_unseen, files_shown}
 
 pub nothing_storable : AreStorable []
@@ -94,6 +97,14 @@ module _ (honest : Type 0) (R : Repository) (F : Stored) (x : Row) (p : Path) (n
 
   pub filed_numbers : honest → KeepsNumbers R files x k
   filed_numbers h = numbers_by e h
+
+  same_by : (e : NewEntry) → honest → (q : Path) → numbers (in_files (with_own F k e)) x q ≡ numbers (in_files F) x q
+  same_by (new.File executable content) h = (new_content_numbers R F x k k (may.numbers h) (omega arith) content.now).same
+  same_by (new.Link target) h = (new_content_numbers R F x k k (may.numbers h) (omega arith) target.now).same
+  same_by new.Dir h = (new_entries_numbers R F x k k (may.numbers h) (omega arith) []).same
+
+  pub filed_same : honest → (q : Path) → numbers (in_files files) x q ≡ numbers (in_files F) x q
+  filed_same h = same_by e h
 
   pub filed_alike : honest → shown_in R files x ≡ shown_in R F x
   filed_alike h = ap (λ (G : Stored). shown_in R G x) (own_put F k e).1 ∙ loose_alike R F x k k (own_put F k e).0 may.table (may.kept h) loose
@@ -219,6 +230,20 @@ module _ (T : Type 0) (stored : T → Stored) (failures : T → ℕ) (honest : T
       adds_numbered = subst (λ (j : ℕ). KeepsNumbers R G z j) (sym next_is)
           (files_numbered honest p n w F M t.root (failures t.files) G z now (t.next + 1) R given_table may_stand h (next_keeps R F t.root t.next (t.next + 1) (kept h).1 (omega arith) most)
           kept_filed (next_keeps R M t.root t.next (t.next + 1) (filed_numbers honest R F t.root p n t.next e may_before h) (omega arith) most) answer was_done)
+
+      numbers_filed : KeepsNumbers R M t.root (t.next + 1)
+      numbers_filed = next_keeps R M t.root t.next (t.next + 1) (filed_numbers honest R F t.root p n t.next e may_before h) (omega arith) most
+
+      pub adds_puts : OnOk answer ((q : Path) → numbers (in_files G) z q ≡ put_number (numbers (in_files F) t.root) (p ++ n ∷ []) (Some t.next) q)
+      adds_puts =
+          files_puts honest p n w w F M t.root (failures t.files) G z now (t.next + 1) R given_table may_stand h kept_filed numbers_filed (filed_same honest R F t.root p n t.next e may_before h)
+          refl (λ B is. (let m = may_stand B is in one_directory t.root p n m.row lacks.row m.directory lacks.directory None m.at m.holds lacks.at lacks.holds lacks.absent))
+          (filed_numbers honest R F t.root p n t.next e may_before h) (λ dir. own_empty F t.next e dir) answer was_done
+
+      pub adds_same : OnErr answer ((q : Path) → numbers (in_files G) z q ≡ numbers (in_files F) t.root q)
+      adds_same =
+          files_same honest p n w w F M t.root (failures t.files) G z now (t.next + 1) R given_table may_stand h kept_filed numbers_filed (filed_same honest R F t.root p n t.next e may_before h)
+          answer was_done
 
       pub adds_unseen : OnErr answer (shown_in R G z ≡ shown_in R F t.root)
       adds_unseen = files_unseen honest p n w F M t.root (failures t.files) G z now R (t.next + 1) given_table may_stand h kept_before kept_filed

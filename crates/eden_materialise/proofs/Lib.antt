@@ -14,3 +14,4 @@ mod Additions
 mod Fills
 mod Fronts
 pub mod Numbered
+pub mod Renumbered

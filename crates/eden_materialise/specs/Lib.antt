@@ -10,3 +10,4 @@ pub mod Removals
 pub mod Filing
 pub mod Fills
 pub mod Saving
+pub mod Renumbering

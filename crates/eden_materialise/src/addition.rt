@@ -9,7 +9,8 @@ ghost use Rattle.eden_coupling.specs.Chains.{chained, Above};
 ghost use Rattle.eden_coupling.specs.Changing.{HasRoom, changed};
 ghost use Rattle.eden_coupling.specs.Filing.{leaf};
 ghost use Rattle.eden_coupling.specs.Listings.{listing_of};
-ghost use Rattle.eden_inode.specs.Tables.{shows};
+ghost use Rattle.eden_inode.specs.Tables.{shows, ShowsSameNumbers};
+ghost use Rattle.eden_materialise.specs.Renumbering.{PutsNumber};
 ghost use Rattle.eden_materialise.specs.Atomic.{IsAtomic};
 ghost use Rattle.eden_materialise.specs.Filing.{node_as, with_own, own_row, IsShort, LacksEntry, MayAdd, FilesEntry, RefusedBy, IsAddFault};
 ghost use Rattle.eden_materialise.specs.Puts.{AtDirectory};
@@ -112,6 +113,9 @@ pub fn add_entry<A: Allocator + Clone, W: World, F: Files<W>>(
     ensures shown { W.honest
         → OnOk result (shows W.World F.Files inodes.new ≡ graft (path.now ++ name.now ∷ []) (leaf (node_as new.entry))
         (shows W.World F.Files inodes.old)) }
+    ensures renumbers { W.honest
+        → OnOk result (PutsNumber F.Files (path.now ++ name.now ∷ []) (Some inodes.old.next) inodes.old inodes.new) }
+    ensures unnumbered { W.honest → OnErr result (ShowsSameNumbers F.Files inodes.old inodes.new) }
     ensures next { OnOk result (inodes.new.next ≡ inodes.old.next + 1) }
     ensures changes { OnOk result (inodes.new.changes ≡ min (inodes.old.changes + 1) u64.MAX) }
     ensures given { OnErr result

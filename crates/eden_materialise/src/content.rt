@@ -12,7 +12,7 @@ ghost use Rattle.eden_coupling.specs.Changing.{changed};
 ghost use Rattle.eden_coupling.specs.Filing.{leaf, HasFile};
 ghost use Rattle.eden_coupling.specs.Laws.{owned};
 ghost use Rattle.eden_coupling.specs.Listings.{listing_of};
-ghost use Rattle.eden_inode.specs.Tables.{shows};
+ghost use Rattle.eden_inode.specs.Tables.{shows, ShowsSameNumbers};
 ghost use Rattle.eden_materialise.specs.Atomic.{IsAtomic};
 ghost use Rattle.eden_materialise.specs.Faults.{IsStoreFault};
 ghost use Rattle.eden_materialise.specs.Filing.{RefusedBy};
@@ -158,6 +158,7 @@ pub fn store_content<A: Allocator + Clone, W: World, F: Files<W>>(
         → OnOk result (shows W.World F.Files inodes.new ≡ graft (path.now ++ name.now ∷ [])
         (leaf (node_from w.kind (Some content.now) false))
         (shows W.World F.Files inodes.old)) }
+    ensures numbers { W.honest → ShowsSameNumbers F.Files inodes.old inodes.new }
     ensures changes { inodes.new.changes ≡ min (inodes.old.changes + 1) u64.MAX }
     ensures next { inodes.new.next ≡ inodes.old.next }
 {

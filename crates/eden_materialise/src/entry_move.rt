@@ -14,7 +14,8 @@ ghost use Rattle.eden_coupling.specs.Changing.{HasRoom, MayMove, moved_in, files
 ghost use Rattle.eden_coupling.specs.Chains.{StaysLoaded, NoneMarked};
 ghost use Rattle.eden_coupling.specs.Moving.{CanMove};
 ghost use Rattle.eden_coupling.specs.Ties.{IsAway};
-ghost use Rattle.eden_inode.specs.Tables.{shows};
+ghost use Rattle.eden_inode.specs.Tables.{shows, ShowsSameNumbers};
+ghost use Rattle.eden_materialise.specs.Renumbering.{MovesNumbers};
 ghost use Rattle.eden_materialise.specs.EntryMoves.{own_number, Clears, MovesIn, IsMoved, IsUnmoved, MovesEntry};
 ghost use Rattle.eden_materialise.specs.Faults.{IsStoreFault};
 ghost use Rattle.eden_materialise.specs.Puts.{AtDirectory};
@@ -223,6 +224,9 @@ pub fn move_entry<A: Allocator + Clone, W: World, F: Files<W>>(
         → OnOk result (shows W.World F.Files inodes.new ≡ move (shows W.World F.Files inodes.old)
         (from.now ++ name.now ∷ []) (to.now ++ new_name.now ∷ [])) }
     ensures unseen { W.honest → OnErr result (shows W.World F.Files inodes.new ≡ shows W.World F.Files inodes.old) }
+    ensures renumbers { W.honest → OnOk result (MovesNumbers F.Files (from.now ++ name.now ∷ [])
+        (to.now ++ new_name.now ∷ []) inodes.old inodes.new) }
+    ensures unnumbered { W.honest → OnErr result (ShowsSameNumbers F.Files inodes.old inodes.new) }
     ensures changes { inodes.new.changes ≡ min (inodes.old.changes + 1) u64.MAX }
     ensures rest { (inodes.new.next ≡ inodes.old.next) × (inodes.new.clock ≡ inodes.old.clock) }
 {

@@ -4,7 +4,7 @@ ghost use Rattle.std.specs.Prelude.{◌≡◌, ◌+◌, min, IfErr, OnOk, OnErr}
 ghost use Rattle.eden_coupling.specs.Chains.{IsLoadedAt, NoneMarked, StaysLoaded, Refused};
 ghost use Rattle.eden_coupling.specs.Laws.{owned};
 ghost use Rattle.eden_coupling.specs.Materialising.{Chain, owned_along};
-ghost use Rattle.eden_inode.specs.Tables.{shows};
+ghost use Rattle.eden_inode.specs.Tables.{shows, ShowsSameNumbers};
 ghost use Rattle.eden_materialise.specs.Chains.{IsHeld, Owns};
 ghost use Rattle.eden_materialise.specs.Faults.{IsStoreFault};
 
@@ -60,6 +60,7 @@ pub fn materialise<A: Allocator + Clone, W: World, F: Files<W>>(
     ensures fault { IfErr result (IsStoreFault (F.failures inodes.old.files) (F.failures inodes.new.files)) }
     ensures counted { OnOk result (F.failures inodes.new.files ≡ F.failures inodes.old.files) }
     ensures shown { W.honest → shows W.World F.Files inodes.new ≡ shows W.World F.Files inodes.old }
+    ensures numbers { W.honest → ShowsSameNumbers F.Files inodes.old inodes.new }
     ensures marks { NoneMarked inodes.old.root inodes.new.root }
     ensures stays { StaysLoaded inodes.old.root inodes.new.root }
     ensures changes { inodes.new.changes ≡ min (inodes.old.changes + 1) u64.MAX }

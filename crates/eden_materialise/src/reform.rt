@@ -8,7 +8,7 @@ ghost use Rattle.eden_tree.specs.Directory.{Row};
 ghost use Rattle.eden_coupling.specs.Chains.{chained};
 ghost use Rattle.eden_coupling.specs.Changing.{changed};
 ghost use Rattle.eden_coupling.specs.Filing.{leaf, content_shown, HasFile};
-ghost use Rattle.eden_inode.specs.Tables.{shows};
+ghost use Rattle.eden_inode.specs.Tables.{shows, ShowsSameNumbers};
 ghost use Rattle.eden_materialise.specs.Atomic.{IsAtomic};
 ghost use Rattle.eden_materialise.specs.Faults.{IsStoreFault};
 ghost use Rattle.eden_materialise.specs.Listings.{ChangesEntry};
@@ -100,6 +100,7 @@ pub fn set_kind<A: Allocator + Clone, W: World, F: Files<W>>(
         → OnOk result (shows W.World F.Files inodes.new ≡ graft (path.now ++ name.now ∷ [])
         (leaf (node_from kind (content_shown W.repository (F.stored inodes.old.files) w) false))
         (shows W.World F.Files inodes.old)) }
+    ensures numbers { W.honest → ShowsSameNumbers F.Files inodes.old inodes.new }
     ensures changes { inodes.new.changes ≡ min (inodes.old.changes + 1) u64.MAX }
     ensures next { inodes.new.next ≡ inodes.old.next }
 {

@@ -4,7 +4,8 @@ ghost use Rattle.std.specs.Prelude.{◌≡◌, ◌≤◌, ◌∷◌, [], ◌++�
 ghost use Rattle.eden_model.specs.Trees.{graft};
 ghost use Rattle.eden_coupling.specs.Chains.{chained, Refused};
 ghost use Rattle.eden_coupling.specs.Changing.{changed};
-ghost use Rattle.eden_inode.specs.Tables.{shows};
+ghost use Rattle.eden_inode.specs.Tables.{shows, ShowsSameNumbers};
+ghost use Rattle.eden_materialise.specs.Renumbering.{TakesNumbers};
 ghost use Rattle.eden_materialise.specs.Atomic.{IsAtomic};
 ghost use Rattle.eden_materialise.specs.Faults.{IsStoreFault};
 ghost use Rattle.eden_materialise.specs.Listings.{IsHeldFor};
@@ -76,6 +77,9 @@ pub fn remove_entry<A: Allocator + Clone, W: World, F: Files<W>>(
     ensures shown { W.honest
         → OnOk result (shows W.World F.Files inodes.new ≡ graft (path.now ++ name.now ∷ []) (λ below. None)
         (shows W.World F.Files inodes.old)) }
+    ensures renumbers { W.honest
+        → OnOk result (TakesNumbers F.Files (path.now ++ name.now ∷ []) inodes.old inodes.new) }
+    ensures unnumbered { W.honest → OnErr result (ShowsSameNumbers F.Files inodes.old inodes.new) }
     ensures changes { inodes.new.changes ≡ min (inodes.old.changes + 1) u64.MAX }
     ensures next { inodes.new.next ≡ inodes.old.next }
 {

@@ -3,7 +3,7 @@
 ghost use Rattle.std.specs.Prelude.{◌≡◌, [], Some, IsTrue, IsFalse, IfErr, OnOk};
 ghost use Rattle.eden_tree.specs.Directory.{Row, child_of};
 ghost use Rattle.eden_coupling.specs.Saving.{SavesAbove, IsSavedAbove};
-ghost use Rattle.eden_inode.specs.Tables.{shows};
+ghost use Rattle.eden_inode.specs.Tables.{shows, ShowsSameNumbers};
 ghost use Rattle.eden_inode.specs.Trails.{KeepsPlaces};
 ghost use Rattle.eden_materialise.specs.Faults.{IsStoreFault};
 ghost use Rattle.eden_materialise.specs.Saving.{CanSave, SavesAt};
@@ -83,6 +83,7 @@ fn save_at<A: Allocator + Clone, W: World, F: Files<W>>(
         (F.failures inodes.old.files) (F.stored inodes.new.files) inodes.new.root (F.failures inodes.new.files)
         result }
     ensures shown { W.honest → shows W.World F.Files inodes.new ≡ shows W.World F.Files inodes.old }
+    ensures numbers { W.honest → ShowsSameNumbers F.Files inodes.old inodes.new }
     ensures places { KeepsPlaces inodes.old inodes.new }
     ensures rest { (inodes.new.next ≡ inodes.old.next) × (inodes.new.clock ≡ inodes.old.clock) }
 {
@@ -142,6 +143,7 @@ pub fn save_above<A: Allocator + Clone, W: World, F: Files<W>>(
     ensures fault { IfErr result (IsStoreFault (F.failures inodes.old.files) (F.failures inodes.new.files)) }
     ensures counted { OnOk result (F.failures inodes.new.files ≡ F.failures inodes.old.files) }
     ensures shown { W.honest → shows W.World F.Files inodes.new ≡ shows W.World F.Files inodes.old }
+    ensures numbers { W.honest → ShowsSameNumbers F.Files inodes.old inodes.new }
     ensures places { KeepsPlaces inodes.old inodes.new }
     ensures rest { (inodes.new.next ≡ inodes.old.next) × (inodes.new.clock ≡ inodes.old.clock) }
     ensures idle { IsSavedAbove path.now inodes.old.root → inodes.new ≡ inodes.old }

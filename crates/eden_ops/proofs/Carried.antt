@@ -30,7 +30,7 @@ use Rattle.eden_coupling.specs.Moving.{CanMove}
 use Rattle.eden_coupling.specs.NumberKept.{KeepsNumbers}
 use Rattle.eden_coupling.specs.NumberSaves.{HasStored, IsSameOver}
 use Rattle.eden_coupling.specs.NumberUnloads.{IsPutAway, own_before, empty, numbers_before, UnloadsAway, none, one_more}
-use Rattle.eden_coupling.specs.Numberings.{in_files}
+use Rattle.eden_coupling.specs.Numberings.{in_files, numbers}
 use Rattle.eden_coupling.specs.Shown.{shown_in, IsFrom}
 use Rattle.eden_coupling.specs.Ties.{IsAway, Tied}
 use Rattle.eden_coupling.specs.Unloading.{HasNoneInside}
@@ -146,6 +146,9 @@ module _ (honest : Type 0) (R : Repository) (F : Stored) (next : ℕ) (p : Path)
 
   pub held_numbers : honest → KeepsNumbers R F x next → KeepsNumbers R F (with_listing p d x) next
   held_numbers good k = (hold_keeps R F x h.row next p d k h.at h.empty h.none_inside (h.numbers good)).keeps
+
+  pub held_same : honest → KeepsNumbers R F x next → (q : Path) → numbers (in_files F) (with_listing p d x) q ≡ numbers (in_files F) x q
+  held_same good k = (hold_keeps R F x h.row next p d k h.at h.empty h.none_inside (h.numbers good)).same
 
   pub held_alike : honest → shown_in R F (with_listing p d x) ≡ shown_in R F x
   held_alike good =

@@ -5,6 +5,9 @@ pub mod Growing
 pub mod Names
 pub mod Steps
 pub mod Gaining
+pub mod Moves
+pub mod Renumbering
+pub mod Renumbers
 pub mod Trailing
 mod GoingOn
 pub mod Resuming

@@ -9,7 +9,7 @@ use Rattle.eden_model.proofs.CallerLemmas.{behind_sound, behind_back}
 use Rattle.eden_overlay.specs.declared.files.Files.{Ghosts as Files}
 use Rattle.eden_tree.specs.Directory.{Row}
 use Rattle.eden_coupling.specs.Chains.{IsLoadedAt, IsUnsavedAt, NoneMarked, StaysLoaded}
-use Rattle.eden_inode.specs.Tables.{Table, shows}
+use Rattle.eden_inode.specs.Tables.{Table, shows, ShowsSameNumbers}
 use Rattle.eden_inode.specs.Trails.{KeepsPlaces}
 use Rattle.eden_inode.proofs.Names.{keeps_same}
 use Rattle.eden_inode.proofs.Places.{places_same}
@@ -58,6 +58,7 @@ module _ {W F : Type 0} (w : Ghosts W) (f : Files F W) (s : Table F) where
   pub readies_still : (a : Result (Unit {0}) Fault) → IfErr a (IsStoreFault (f.failures s.files) (f.failures s.files)) → Readies w f s s a
   readies_still a fault = record {
     shown = λ h. refl;
+    numbers = λ h q. refl;
     names = names_same s.root s.root refl;
     fewer = fewer_same s.root s.root refl;
     stamps = stamps_same s.root s.root refl;
@@ -75,12 +76,13 @@ module _ {W F : Type 0} (w : Ghosts W) (f : Files F W) (s : Table F) where
       on_any (Err e) = tt
 
   -- what is loaded, marks and all, is as it was: something was stored beside
-  module _ (t : Table F) (a : Result (Unit {0}) Fault) (shown : w.honest → shows w f t ≡ shows w f s) (rest : t ≡ record s { files = t.files }) where
+  module _ (t : Table F) (a : Result (Unit {0}) Fault) (shown : w.honest → shows w f t ≡ shows w f s) (numbers : w.honest → ShowsSameNumbers f s t) (rest : t ≡ record s { files = t.files }) where
     pub readies_stored : IfErr a (IsStoreFault (f.failures s.files) (f.failures t.files)) → OnOk a (f.failures t.files ≡ f.failures s.files) → Readies w f s t a
     readies_stored fault counted =
         let root = ap (λ (u : Table F). u.root) rest in
         record {
           shown = shown;
+          numbers = numbers;
           names = names_same s.root t.root root;
           fewer = fewer_same s.root t.root root;
           stamps = stamps_same s.root t.root root;
@@ -93,13 +95,14 @@ module _ {W F : Type 0} (w : Ghosts W) (f : Files F W) (s : Table F) where
           places = places_alike s t root (ap (λ (u : Table F). u.changes) rest);
         }
 
-  module _ (t : Table F) (a : Result (Unit {0}) Fault) (shown : w.honest → shows w f t ≡ shows w f s) (marks : NoneMarked s.root t.root)
+  module _ (t : Table F) (a : Result (Unit {0}) Fault) (shown : w.honest → shows w f t ≡ shows w f s) (numbers : w.honest → ShowsSameNumbers f s t) (marks : NoneMarked s.root t.root)
       (fault : IfErr a (IsStoreFault (f.failures s.files) (f.failures t.files))) (counted : OnOk a (f.failures t.files ≡ f.failures s.files))
       (rest : (t.next ≡ s.next) × (t.clock ≡ s.clock)) (places : KeepsPlaces s t) where
     -- directories went
     pub readies_gone : (p : Path) → LetsGo p s.root t.root → Readies w f s t a
     readies_gone p g = record {
       shown = shown;
+      numbers = numbers;
       names = g.names;
       fewer = goes_fewer p s.root t.root g;
       stamps = left_stamps p s.root t.root g;

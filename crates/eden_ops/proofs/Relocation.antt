@@ -22,7 +22,7 @@ use Rattle.eden_coupling.specs.Chains.{IsLoadedAt, IsUnsavedAt, StaysLoaded}
 use Rattle.eden_coupling.specs.Changing.{MayMove, marked_source}
 use Rattle.eden_coupling.specs.Moving.{CanMove}
 use Rattle.eden_coupling.proofs.CallerLemmas.{map_some, loaded_there, loaded_found, marked_alone}
-use Rattle.eden_inode.specs.Tables.{Table}
+use Rattle.eden_inode.specs.Tables.{Table, shows_numbers}
 use Rattle.eden_inode.proofs.Places.{places_then}
 use Rattle.eden_materialise.specs.EntryMoves.{IsUnmoved}
 use Rattle.eden_materialise.specs.Faults.{IsStoreFault}
@@ -32,6 +32,7 @@ use Rattle.eden_ops.specs.Relocating.{GoesAlong, IsUnloadedAt, StaysBeside, Mark
 use Rattle.eden_ops.proofs.Bare.{bare_at, without_stamp, some_pair}
 use Rattle.eden_ops.proofs.Changing.{is_in}
 use Rattle.eden_ops.proofs.Names.{names_same, fewer_same, names_on, face, face_at, names_alike, fewer_alike}
+use Rattle.eden_ops.proofs.Moves.{move_alike}
 use Rattle.eden_ops.proofs.Owned.{behind_itself}
 use Rattle.eden_ops.proofs.Roots.{comes_on}
 use Rattle.eden_ops.proofs.Saving.{fault_count}
@@ -44,6 +45,7 @@ module _ {W F : Type 0} (w : Ghosts W) (f : Files F W) where
   pub readies_on : (s t u : Table F) (a : Result (Unit {0}) Fault) → Readies w f s t (Ok tt) → Readies w f t u a → Readies w f s u a
   readies_on s t u a one two = record {
     shown = λ h. two.shown h ∙ one.shown h;
+    numbers = λ h q. two.numbers h q ∙ one.numbers h q;
     names = names_on s.root t.root u.root (λ p was now. two.fewer p now) one.names two.names;
     fewer = λ p now. one.fewer p (two.fewer p now);
     stamps = stamps_on s.root t.root u.root one.stamps two.stamps;
@@ -74,6 +76,8 @@ module _ {W F : Type 0} (w : Ghosts W) (f : Files F W) (from to : Path) (s t : T
   relocates_never e r = record {
     ok = λ h. tt;
     err = r.shown;
+    renumbers = λ h. tt;
+    unnumbered = r.numbers;
     names = r.names;
     fewer = r.fewer;
     fault = r.fault;
@@ -95,6 +99,8 @@ module _ {W F : Type 0} (w : Ghosts W) (f : Files F W) (from to : Path) (s t : T
   relocates_after u a r x = record {
     ok = λ h. on_ok_weaker a (λ is. is ∙ ap (λ (T : Tree). move T from to) (r.shown h)) (x.ok h);
     err = λ h. on_err_weaker a (λ is. is ∙ r.shown h) (x.err h);
+    renumbers = λ h. on_ok_weaker a (λ moves q. moves q ∙ move_alike (shows_numbers f t) (shows_numbers f s) (r.numbers h) from to q) (x.renumbers h);
+    unnumbered = λ h. on_err_weaker a (λ same q. same q ∙ r.numbers h q) (x.unnumbered h);
     names = on_err_both a (SameNames t.root u.root) (StaysLoaded u.root t.root) (SameNames s.root u.root)
         (λ names fewer. names_on s.root t.root u.root (λ p was now. fewer p now) r.names names) x.names x.fewer;
     fewer = on_err_weaker a (λ fewer p now. r.fewer p (fewer p now)) x.fewer;

@@ -18,3 +18,4 @@ pub mod Renames
 pub mod Leaving
 pub mod Settling
 pub mod Carrying
+pub mod Renumbering

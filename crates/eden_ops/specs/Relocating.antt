@@ -11,9 +11,10 @@ use Rattle.eden_tree.specs.Paths.{row_at}
 use Rattle.eden_coupling.specs.Chains.{IsLoadedAt, IsUnsavedAt, NoneMarked, StaysLoaded}
 use Rattle.eden_coupling.specs.Laws.{owned}
 use Rattle.eden_coupling.specs.Materialising.{owned_along}
-use Rattle.eden_inode.specs.Tables.{Table, shows}
+use Rattle.eden_inode.specs.Tables.{Table, shows, ShowsSameNumbers}
 use Rattle.eden_inode.specs.Trails.{KeepsPlaces}
 use Rattle.eden_materialise.specs.Faults.{IsStoreFault}
+use Rattle.eden_materialise.specs.Renumbering.{MovesNumbers}
 use Rattle.eden_ops.specs.Changes.{StaysOrBecomesOwn, SameNames, numbered_at}
 use Rattle.eden_ops.specs.Stamps.{NoneStamped, StampsGoAlong}
 
@@ -51,10 +52,11 @@ abbrev pub both_owned : Path → Path → Row → Row
 both_owned p q x = owned (owned_along q (owned (owned_along p x)))
 
 module _ {W F : Type 0} (w : Ghosts W) (f : Files F W) where
-  -- A step before a change: what is shown is as before, what is loaded was so, with the same names and stamps, and what is
+  -- A step before a change: what is shown is as before, and so are its numbers, what is loaded was so, with the same names and stamps, and what is
   -- unsaved was so. Where it is done, the device did not fail.
   pub record Readies (s t : Table F) (answer : Result (Unit {0}) Fault) : Type 0 where
     pub shown : w.honest → shows w f t ≡ shows w f s
+    pub numbers : w.honest → ShowsSameNumbers f s t
     pub names : SameNames s.root t.root
     pub fewer : StaysLoaded t.root s.root
     pub stamps : NoneStamped s.root t.root
@@ -71,6 +73,8 @@ module _ {W F : Type 0} (w : Ghosts W) (f : Files F W) where
   pub record Relocates (from to : Path) (s t : Table F) (answer : Result (Unit {0}) Fault) : Type 0 where
     pub ok : w.honest → OnOk answer (shows w f t ≡ move (shows w f s) from to)
     pub err : w.honest → OnErr answer (shows w f t ≡ shows w f s)
+    pub renumbers : w.honest → OnOk answer (MovesNumbers f from to s t)
+    pub unnumbered : w.honest → OnErr answer (ShowsSameNumbers f s t)
     pub names : OnErr answer (SameNames s.root t.root)
     pub fewer : OnErr answer (StaysLoaded t.root s.root)
     pub fault : IfErr answer (IsStoreFault (f.failures s.files) (f.failures t.files))

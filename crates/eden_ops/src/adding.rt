@@ -4,6 +4,7 @@ ghost use Rattle.eden_model.specs.declared.request.Request as request;
 ghost use Rattle.eden_model.specs.declared.request.Request.TheVariants as ask;
 ghost use Rattle.eden_ops.specs.Attempts.{Attempts};
 ghost use Rattle.eden_ops.specs.Changes.{IsAdding};
+ghost use Rattle.eden_ops.specs.Renumbering.{EditsNumbers};
 ghost use Rattle.eden_ops.specs.Leaving.{LeavesAfter, StampsItsWalk};
 ghost use Rattle.eden_ops.specs.Looks.{IsBeyondLimits};
 ghost use Rattle.eden_ops.specs.Trails.{Counts, LeadsToNeed};
@@ -14,7 +15,7 @@ use crate::laws::keeps_laws;
 use crate::meet::meet;
 use crate::settling::settle;
 use eden_cache::Stock;
-use eden_coupling::shown_laws;
+use eden_coupling::{numbering_laws, shown_laws};
 use eden_inode::{Inodes, Trail};
 use eden_materialise::{NewEntry, add_entry};
 use eden_model::{Attempt, Errno, MAX_TARGET, Path, Reply, World};
@@ -38,6 +39,8 @@ fn add<A: Allocator + Clone, W: World, F: Files<W>, C: Allocator + Clone>(
         → LeavesAfter W.World F.Files q inodes.old inodes.new result }
     ensures stamps { (q : request.Request) → IsAdding path.now q new.entry
         → StampsItsWalk q inodes.old.clock inodes.old.root inodes.new.root result }
+    ensures edits { (q : request.Request) → IsAdding path.now q new.entry
+        → EditsNumbers W.World F.Files q inodes.old inodes.new result }
     ensures counts { Counts path.now trail.old trail.new }
     ensures leads { LeadsToNeed path.now trail.new.positions inodes.new.root result }
 {
@@ -51,6 +54,7 @@ fn add<A: Allocator + Clone, W: World, F: Files<W>, C: Allocator + Clone>(
     }
     keeps_laws::<W, F>();
     shown_laws();
+    numbering_laws();
     inodes.holds();
     if let Err(fault) = settle(inodes, alloc, path.as_slice()) {
         return Attempt::Finished(Reply::Fault(fault));
@@ -73,6 +77,7 @@ pub fn create<A: Allocator + Clone, W: World, F: Files<W>, C: Allocator + Clone>
     ensures attempts { Attempts W.World F.Files (ask.Create path.now) inodes.old inodes.new cache.old cache.new result }
     ensures leaves { LeavesAfter W.World F.Files (ask.Create path.now) inodes.old inodes.new result }
     ensures stamps { StampsItsWalk (ask.Create path.now) inodes.old.clock inodes.old.root inodes.new.root result }
+    ensures edits { EditsNumbers W.World F.Files (ask.Create path.now) inodes.old inodes.new result }
     ensures counts { Counts path.now trail.old trail.new }
     ensures leads { LeadsToNeed path.now trail.new.positions inodes.new.root result }
 {
@@ -98,6 +103,7 @@ pub fn mkdir<A: Allocator + Clone, W: World, F: Files<W>, C: Allocator + Clone>(
     ensures attempts { Attempts W.World F.Files (ask.Mkdir path.now) inodes.old inodes.new cache.old cache.new result }
     ensures leaves { LeavesAfter W.World F.Files (ask.Mkdir path.now) inodes.old inodes.new result }
     ensures stamps { StampsItsWalk (ask.Mkdir path.now) inodes.old.clock inodes.old.root inodes.new.root result }
+    ensures edits { EditsNumbers W.World F.Files (ask.Mkdir path.now) inodes.old inodes.new result }
     ensures counts { Counts path.now trail.old trail.new }
     ensures leads { LeadsToNeed path.now trail.new.positions inodes.new.root result }
 {
@@ -120,6 +126,7 @@ pub fn symlink<A: Allocator + Clone, W: World, F: Files<W>, C: Allocator + Clone
     ensures stamps { StampsItsWalk (ask.Symlink path.now target.now)
         inodes.old.clock inodes.old.root inodes.new.root result }
     ensures refused { IsBeyondLimits (ask.Symlink path.now target.now) → inodes.new ≡ inodes.old }
+    ensures edits { EditsNumbers W.World F.Files (ask.Symlink path.now target.now) inodes.old inodes.new result }
     ensures counts { Counts path.now trail.old trail.new }
     ensures leads { LeadsToNeed path.now trail.new.positions inodes.new.root result }
 {

@@ -9,6 +9,7 @@ ghost use Rattle.eden_ops.specs.Attempts.{Attempts};
 ghost use Rattle.eden_ops.specs.Keeping.{Keeps};
 ghost use Rattle.eden_ops.specs.Leaving.{LeavesAfter, StampsItsWalk};
 ghost use Rattle.eden_ops.specs.Looks.{IsLook, IsChange, IsBeyondLimits};
+ghost use Rattle.eden_ops.specs.Renumbering.{EditsNumbers, IsStatThere, Renumbered};
 ghost use Rattle.eden_ops.specs.Stamps.{AreWalked};
 ghost use Rattle.eden_ops.specs.Trails.{Counts, LeadsFor, LeadsToNeed, components, first_of, remembered, walked_of};
 ghost use Rattle.eden_inode.specs.Trails.{Leads};
@@ -24,7 +25,7 @@ use crate::renaming::rename;
 use crate::writing::{truncate, write};
 use eden_cache::Stock;
 use eden_inode::{Inodes, Trail};
-use eden_model::{Attempt, Request, World};
+use eden_model::{Attempt, Request, World, backing_laws};
 use eden_overlay::Files;
 use std::alloc::{Allocator, Global};
 
@@ -41,6 +42,7 @@ pub fn change<A: Allocator + Clone, W: World, F: Files<W>, C: Allocator + Clone>
     ensures attempts { Attempts W.World F.Files request.now inodes.old inodes.new cache.old cache.new result }
     ensures leaves { LeavesAfter W.World F.Files request.now inodes.old inodes.new result }
     ensures stamps { StampsItsWalk request.now inodes.old.clock inodes.old.root inodes.new.root result }
+    ensures edits { EditsNumbers W.World F.Files request.now inodes.old inodes.new result }
     ensures already { IsSoAlready W.World F.Files request.now inodes.old
         → Keeps W.World F.Files (paths_of request.now) inodes.old inodes.new }
     ensures refused { IsBeyondLimits request.now → inodes.new ≡ inodes.old }
@@ -86,6 +88,7 @@ pub fn attempt<A: Allocator + Clone, W: World, F: Files<W>, C: Allocator + Clone
     ensures leaves { LeavesAfter W.World F.Files request.now inodes.old inodes.new result }
     ensures stamps { ¬ IsLook request.now
         → StampsItsWalk request.now inodes.old.clock inodes.old.root inodes.new.root result }
+    ensures renumbers { W.honest → Renumbered W.World F.Files request.now inodes.old inodes.new result }
     ensures already { IsSoAlready W.World F.Files request.now inodes.old
         → Keeps W.World F.Files (paths_of request.now) inodes.old inodes.new }
     ensures refused { IsBeyondLimits request.now → inodes.new ≡ inodes.old }
@@ -112,6 +115,7 @@ pub fn attempt_from<A: Allocator + Clone, W: World, F: Files<W>, C: Allocator + 
     ensures leaves { LeavesAfter W.World F.Files request.now inodes.old inodes.new result }
     ensures stamps { ¬ IsLook request.now
         → StampsItsWalk request.now inodes.old.clock inodes.old.root inodes.new.root result }
+    ensures renumbers { W.honest → Renumbered W.World F.Files request.now inodes.old inodes.new result }
     ensures already { IsSoAlready W.World F.Files request.now inodes.old
         → Keeps W.World F.Files (paths_of request.now) inodes.old inodes.new }
     ensures refused { IsBeyondLimits request.now → inodes.new ≡ inodes.old }
@@ -125,8 +129,12 @@ pub fn attempt_from<A: Allocator + Clone, W: World, F: Files<W>, C: Allocator + 
     ensures resumes { (p : Path) → paths_of request.now ≡ p ∷ []
         → compared.new ≤ compared.old + 32 * (length p - length (remembered inodes.old.changes place.old)) }
 {
+    keeps_laws::<W, F>();
+    backing_laws();
+    inodes.holds();
     let mut walk = recall(place, inodes.changes());
     let attempt = attempt_along(inodes, cache, alloc, request, &mut walk);
+    inodes.holds();
     *compared = compared.saturating_add(walk.trail.compared());
     if let Attempt::Need(_) = &attempt {
         walk.changes = inodes.changes();
@@ -149,6 +157,9 @@ fn attempt_along<A: Allocator + Clone, W: World, F: Files<W>, C: Allocator + Clo
     ensures leaves { LeavesAfter W.World F.Files request.now inodes.old inodes.new result }
     ensures stamps { ¬ IsLook request.now
         → StampsItsWalk request.now inodes.old.clock inodes.old.root inodes.new.root result }
+    ensures edits { ¬ IsLook request.now
+        → EditsNumbers W.World F.Files request.now inodes.old inodes.new result }
+    ensures there { IsStatThere request.now result inodes.new.root }
     ensures already { IsSoAlready W.World F.Files request.now inodes.old
         → Keeps W.World F.Files (paths_of request.now) inodes.old inodes.new }
     ensures refused { IsBeyondLimits request.now → inodes.new ≡ inodes.old }

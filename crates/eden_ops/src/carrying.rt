@@ -7,7 +7,7 @@ ghost use Rattle.eden_tree.specs.Paths.{row_at};
 ghost use Rattle.eden_coupling.specs.Chains.{IsLoadedAt};
 ghost use Rattle.eden_coupling.specs.Changing.{with_listing};
 ghost use Rattle.eden_inode.specs.Saved.{AreSavedAt};
-ghost use Rattle.eden_inode.specs.Tables.{shows};
+ghost use Rattle.eden_inode.specs.Tables.{shows, ShowsSameNumbers};
 ghost use Rattle.eden_materialise.specs.Puts.{AtDirectory};
 ghost use Rattle.eden_ops.specs.Carrying.{CanCarry, CanHold, IsReady, Takes, without_at};
 ghost use Rattle.eden_ops.specs.Relocating.{Relocates};
@@ -72,6 +72,7 @@ fn take<A: Allocator + Clone, W: World, F: Files<W>>(
     ensures root { inodes.new.root ≡ without_at path.now inodes.old.root }
     ensures files { inodes.new.files ≡ inodes.old.files }
     ensures shown { W.honest → shows W.World F.Files inodes.new ≡ shows W.World F.Files inodes.old }
+    ensures numbers { W.honest → ShowsSameNumbers F.Files inodes.old inodes.new }
     ensures changes { inodes.new.changes ≡ min (inodes.old.changes + 1) u64.MAX }
     ensures rest { (inodes.new.next ≡ inodes.old.next) × (inodes.new.clock ≡ inodes.old.clock) }
 {
@@ -133,6 +134,7 @@ fn put_back<A: Allocator + Clone, W: World, F: Files<W>>(
     ensures root { inodes.new.root ≡ with_listing path.now child.value inodes.old.root }
     ensures files { inodes.new.files ≡ inodes.old.files }
     ensures shown { W.honest → shows W.World F.Files inodes.new ≡ shows W.World F.Files inodes.old }
+    ensures numbers { W.honest → ShowsSameNumbers F.Files inodes.old inodes.new }
     ensures changes { inodes.new.changes ≡ min (inodes.old.changes + 1) u64.MAX }
     ensures rest { (inodes.new.next ≡ inodes.old.next) × (inodes.new.clock ≡ inodes.old.clock) }
 {

@@ -6,6 +6,7 @@ ghost use Rattle.eden_model.specs.Trees.{Here, reach};
 ghost use Rattle.eden_inode.specs.Tables.{shows};
 ghost use Rattle.eden_ops.specs.Attempts.{Attempts};
 ghost use Rattle.eden_ops.specs.Known.{IsLoadedAt};
+ghost use Rattle.eden_ops.specs.Renumbering.{EditsNumbers};
 ghost use Rattle.eden_ops.specs.Leaving.{LeavesAfter, StampsItsWalk};
 ghost use Rattle.eden_ops.specs.Listings.{HasNoEntries, HasEntries};
 ghost use Rattle.eden_ops.specs.Trails.{Counts, LeadsToNeed};
@@ -18,7 +19,7 @@ use crate::meet::meet;
 use crate::settling::settle;
 use crate::what::what;
 use eden_cache::Stock;
-use eden_coupling::shown_laws;
+use eden_coupling::{numbering_laws, shown_laws};
 use eden_inode::{Inodes, Trail};
 use eden_materialise::remove_entry;
 use eden_model::{Attempt, Errno, Kind, Path, Reply, World};
@@ -56,6 +57,7 @@ pub fn rmdir<A: Allocator + Clone, W: World, F: Files<W>, C: Allocator + Clone>(
     ensures attempts { Attempts W.World F.Files (ask.Rmdir path.now) inodes.old inodes.new cache.old cache.new result }
     ensures leaves { LeavesAfter W.World F.Files (ask.Rmdir path.now) inodes.old inodes.new result }
     ensures stamps { StampsItsWalk (ask.Rmdir path.now) inodes.old.clock inodes.old.root inodes.new.root result }
+    ensures edits { EditsNumbers W.World F.Files (ask.Rmdir path.now) inodes.old inodes.new result }
     ensures counts { Counts path.now trail.old trail.new }
     ensures leads { LeadsToNeed path.now trail.new.positions inodes.new.root result }
 {
@@ -79,6 +81,8 @@ pub fn rmdir<A: Allocator + Clone, W: World, F: Files<W>, C: Allocator + Clone>(
     if !is_empty(inodes, path) {
         return Attempt::Finished(Reply::Err(Errno::ENOTEMPTY));
     }
+    numbering_laws();
+    inodes.holds();
     if let Err(fault) = let_go(inodes, alloc, path.as_slice()) {
         return Attempt::Finished(Reply::Fault(fault));
     }

@@ -6,6 +6,7 @@ ghost use Rattle.eden_ops.specs.Already.{IsSoAlready};
 ghost use Rattle.eden_ops.specs.Attempts.{Attempts};
 ghost use Rattle.eden_ops.specs.Changes.{exec_kind};
 ghost use Rattle.eden_ops.specs.Keeping.{Keeps};
+ghost use Rattle.eden_ops.specs.Renumbering.{EditsNumbers};
 ghost use Rattle.eden_ops.specs.Leaving.{LeavesAfter, StampsItsWalk};
 ghost use Rattle.eden_ops.specs.Trails.{Counts, LeadsToNeed};
 ghost use Rattle.eden_inode.specs.Trails.{Leads};
@@ -47,6 +48,7 @@ pub fn set_exec<A: Allocator + Clone, W: World, F: Files<W>, C: Allocator + Clon
         inodes.old.clock inodes.old.root inodes.new.root result }
     ensures already { IsSoAlready W.World F.Files (ask.SetExec path.now exec) inodes.old
         → Keeps W.World F.Files (path.now ∷ []) inodes.old inodes.new }
+    ensures edits { EditsNumbers W.World F.Files (ask.SetExec path.now exec) inodes.old inodes.new result }
     ensures counts { Counts path.now trail.old trail.new }
     ensures leads { LeadsToNeed path.now trail.new.positions inodes.new.root result }
 {

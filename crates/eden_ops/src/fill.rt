@@ -3,7 +3,7 @@ ghost use Rattle.std.specs.Prelude.{◌≡◌, ◌≤◌, ◌^◌, false, Some, 
 ghost use Rattle.eden_model.specs.Limits.{most_file};
 ghost use Rattle.eden_model.specs.Operations.{put};
 ghost use Rattle.eden_model.specs.Shown.{node_from};
-ghost use Rattle.eden_inode.specs.Tables.{shows};
+ghost use Rattle.eden_inode.specs.Tables.{shows, ShowsSameNumbers};
 ghost use Rattle.eden_materialise.specs.Faults.{IsStoreFault};
 ghost use Rattle.eden_coupling.specs.Saving.{IsSavedAbove};
 ghost use Rattle.eden_tree.specs.Directory.{Row};
@@ -34,6 +34,7 @@ pub(crate) fn fill<A: Allocator + Clone, W: World, F: Files<W>>(
         → OnOk result (shows W.World F.Files inodes.new ≡ put (shows W.World F.Files inodes.old) path.now
         (Some (node_from y.kind (Some content.now) false))) }
     ensures unseen { W.honest → OnErr result (shows W.World F.Files inodes.new ≡ shows W.World F.Files inodes.old) }
+    ensures numbers { W.honest → ShowsSameNumbers F.Files inodes.old inodes.new }
     ensures names { OnErr result (SameNames inodes.old.root inodes.new.root) }
     ensures fault { IfErr result (IsStoreFault (F.failures inodes.old.files) (F.failures inodes.new.files)) }
     ensures leaves { Leaves F.Files inodes.old inodes.new }

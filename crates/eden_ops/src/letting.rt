@@ -3,7 +3,7 @@ ghost use Rattle.std.specs.Prelude.{◌≡◌, ◌≤◌, Some, None, IfErr, OnO
 ghost use Rattle.eden_coupling.specs.Chains.{NoneMarked};
 ghost use Rattle.eden_tree.specs.Directory.{Row, child_of};
 ghost use Rattle.eden_tree.specs.Paths.{row_at};
-ghost use Rattle.eden_inode.specs.Tables.{shows};
+ghost use Rattle.eden_inode.specs.Tables.{shows, ShowsSameNumbers};
 ghost use Rattle.eden_inode.specs.Trails.{KeepsPlaces};
 ghost use Rattle.eden_materialise.specs.Faults.{IsStoreFault};
 ghost use Rattle.eden_ops.specs.Letting.{LetsGo};
@@ -27,6 +27,7 @@ pub fn let_go<A: Allocator + Clone, W: World, F: Files<W>>(
     ensures counted { F.failures inodes.old.files ≤ F.failures inodes.new.files }
     ensures unfailed { OnOk result (F.failures inodes.new.files ≡ F.failures inodes.old.files) }
     ensures same { W.honest → shows W.World F.Files inodes.new ≡ shows W.World F.Files inodes.old }
+    ensures numbers { W.honest → ShowsSameNumbers F.Files inodes.old inodes.new }
     ensures marks { NoneMarked inodes.old.root inodes.new.root }
     ensures places { KeepsPlaces inodes.old inodes.new }
     ensures rest { (inodes.new.next ≡ inodes.old.next) × (inodes.new.clock ≡ inodes.old.clock) }

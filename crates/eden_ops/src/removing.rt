@@ -1,6 +1,7 @@
 //! Entries that are removed.
 ghost use Rattle.eden_model.specs.declared.request.Request.TheVariants as ask;
 ghost use Rattle.eden_ops.specs.Attempts.{Attempts};
+ghost use Rattle.eden_ops.specs.Renumbering.{EditsNumbers};
 ghost use Rattle.eden_ops.specs.Leaving.{LeavesAfter, StampsItsWalk};
 ghost use Rattle.eden_ops.specs.Trails.{Counts, LeadsToNeed};
 ghost use Rattle.eden_inode.specs.Trails.{Leads};
@@ -11,7 +12,7 @@ use crate::meet::meet;
 use crate::settling::settle;
 use crate::what::what;
 use eden_cache::Stock;
-use eden_coupling::shown_laws;
+use eden_coupling::{numbering_laws, shown_laws};
 use eden_inode::{Inodes, Trail};
 use eden_materialise::remove_entry;
 use eden_model::{Attempt, Errno, Kind, Path, Reply, World};
@@ -30,6 +31,7 @@ pub fn unlink<A: Allocator + Clone, W: World, F: Files<W>, C: Allocator + Clone>
     ensures attempts { Attempts W.World F.Files (ask.Unlink path.now) inodes.old inodes.new cache.old cache.new result }
     ensures leaves { LeavesAfter W.World F.Files (ask.Unlink path.now) inodes.old inodes.new result }
     ensures stamps { StampsItsWalk (ask.Unlink path.now) inodes.old.clock inodes.old.root inodes.new.root result }
+    ensures edits { EditsNumbers W.World F.Files (ask.Unlink path.now) inodes.old inodes.new result }
     ensures counts { Counts path.now trail.old trail.new }
     ensures leads { LeadsToNeed path.now trail.new.positions inodes.new.root result }
 {
@@ -47,6 +49,7 @@ pub fn unlink<A: Allocator + Clone, W: World, F: Files<W>, C: Allocator + Clone>
     }
     keeps_laws::<W, F>();
     shown_laws();
+    numbering_laws();
     inodes.holds();
     if let Err(fault) = settle(inodes, alloc, path.as_slice()) {
         return Attempt::Finished(Reply::Fault(fault));

@@ -1,5 +1,6 @@
 //! Entries that are renamed.
-ghost use Rattle.std.specs.Prelude.{◌≡◌, ◌≤◌, ◌+◌, ◌*◌, ◌∷◌, [], length, true, false, IfSome, OnOk, OnErr};
+ghost use Rattle.std.specs.Prelude.{◌⊎◌, ◌≡◌, ◌≤◌, ◌+◌, ◌*◌, ◌∷◌, [], length, true, false, IfSome, OnOk, OnErr};
+ghost use Rattle.eden_model.specs.declared.errno.Errno as errno;
 ghost use Rattle.eden_model.specs.declared.reply.Reply.TheVariants as say;
 ghost use Rattle.eden_model.specs.declared.request.Request.TheVariants as ask;
 ghost use Rattle.eden_model.specs.Operations.{is_front};
@@ -8,6 +9,7 @@ ghost use Rattle.eden_inode.specs.Trails.{Leads};
 ghost use Rattle.eden_cache.specs.Stock.{FindsTheSame};
 ghost use Rattle.eden_ops.specs.Attempts.{Attempts, Meets, MeetsShown};
 ghost use Rattle.eden_ops.specs.Keeping.{Keeps};
+ghost use Rattle.eden_ops.specs.Renumbering.{EditsNumbers};
 ghost use Rattle.eden_ops.specs.Stamps.{IsWalked};
 ghost use Rattle.eden_ops.specs.Trails.{LeadsToNeed, walked_of};
 ghost use Rattle.eden_ops.specs.Leaving.{LeavesAfter, StampsItsWalk};
@@ -58,6 +60,7 @@ fn is_dir(seen: Seen) -> bool
 fn by_paths(from: &Path, to: &Path, dir: bool) -> Option<Reply>
     ensures told { IsByPaths from.now to.now dir result }
     ensures one { IfSome result (λ reply. reply ≡ say.Ok → from.now ≡ to.now) }
+    ensures plain { IfSome result (λ reply. (reply ≡ say.Ok) ⊎ ((e : errno.Errno) × (reply ≡ say.Err e))) }
 {
     if from.as_slice() == to.as_slice() {
         return Some(Reply::Ok);
@@ -133,6 +136,7 @@ pub fn rename<A: Allocator + Clone, W: World, F: Files<W>, C: Allocator + Clone>
     ensures attempts { Attempts W.World F.Files
         (ask.Rename from.now to.now) inodes.old inodes.new cache.old cache.new result }
     ensures leaves { LeavesAfter W.World F.Files (ask.Rename from.now to.now) inodes.old inodes.new result }
+    ensures edits { EditsNumbers W.World F.Files (ask.Rename from.now to.now) inodes.old inodes.new result }
     ensures stamps { StampsItsWalk (ask.Rename from.now to.now)
         inodes.old.clock inodes.old.root inodes.new.root result }
     ensures counts { walk.new.trail.compared

@@ -2,7 +2,12 @@
 ghost use Rattle.std.specs.Prelude.{◌≡◌, ℕ, List, length, Some, None, Err, IfOk, IfErr, OnErr, MatchOption, ◌∷◌, []};
 ghost use Rattle.eden_model.specs.declared.id.Key as key;
 ghost use Rattle.eden_model.specs.declared.id.ObjKind.TheVariants as objects;
+ghost use Rattle.std.specs.Option.{IsSome};
+ghost use Rattle.eden_model.specs.declared.attempt.Attempt.TheVariants.{Finished};
+ghost use Rattle.eden_model.specs.declared.kind.Kind as kind;
+ghost use Rattle.eden_model.specs.declared.reply.Reply.TheVariants as say;
 ghost use Rattle.eden_model.specs.declared.request.Request.TheVariants as ask;
+ghost use Rattle.eden_tree.specs.Paths.{row_at};
 ghost use Rattle.eden_inode.specs.Tables.{shows};
 ghost use Rattle.eden_ops.specs.declared.answer.Stop.TheVariants as stops;
 ghost use Rattle.eden_ops.specs.Attempts.{Attempts, Lacks};
@@ -104,6 +109,8 @@ pub fn stat<A: Allocator + Clone, W: World, F: Files<W>, C: Allocator + Clone>(
     ensures attempts { Attempts W.World F.Files (ask.Stat path.now) inodes.old inodes.new cache.old cache.new result }
     ensures keeps { Keeps W.World F.Files (path.now ∷ []) inodes.old inodes.new }
     ensures walked { IsWalked path.now inodes.new.clock inodes.new.root }
+    ensures there { (k : kind.Kind) → (length : ℕ) → result ≡ Finished (say.Stat k length)
+        → IsSome (row_at path.now inodes.new.root) }
     ensures counts { Counts path.now trail.old trail.new }
     ensures leads { LeadsToNeed path.now trail.new.positions inodes.new.root result }
 {

@@ -2,6 +2,7 @@
 ghost use Rattle.std.specs.Prelude.{◌≡◌};
 ghost use Rattle.eden_model.specs.declared.request.Request.TheVariants as ask;
 ghost use Rattle.eden_ops.specs.Attempts.{Attempts};
+ghost use Rattle.eden_ops.specs.Renumbering.{EditsNumbers};
 ghost use Rattle.eden_ops.specs.Leaving.{LeavesAfter, StampsItsWalk};
 ghost use Rattle.eden_ops.specs.Looks.{IsBeyondLimits};
 ghost use Rattle.eden_ops.specs.Trails.{Counts, LeadsToNeed};
@@ -33,6 +34,7 @@ pub fn truncate<A: Allocator + Clone, W: World, F: Files<W>, C: Allocator + Clon
     ensures leaves { LeavesAfter W.World F.Files (ask.Truncate path.now size) inodes.old inodes.new result }
     ensures stamps { StampsItsWalk (ask.Truncate path.now size)
         inodes.old.clock inodes.old.root inodes.new.root result }
+    ensures edits { EditsNumbers W.World F.Files (ask.Truncate path.now size) inodes.old inodes.new result }
     ensures counts { Counts path.now trail.old trail.new }
     ensures leads { LeadsToNeed path.now trail.new.positions inodes.new.root result }
 {
@@ -78,6 +80,7 @@ pub fn write<A: Allocator + Clone, W: World, F: Files<W>, C: Allocator + Clone>(
     ensures stamps { StampsItsWalk (ask.Write path.now offset bytes.now)
         inodes.old.clock inodes.old.root inodes.new.root result }
     ensures refused { IsBeyondLimits (ask.Write path.now offset bytes.now) → inodes.new ≡ inodes.old }
+    ensures edits { EditsNumbers W.World F.Files (ask.Write path.now offset bytes.now) inodes.old inodes.new result }
     ensures counts { Counts path.now trail.old trail.new }
     ensures leads { LeadsToNeed path.now trail.new.positions inodes.new.root result }
 {

@@ -3,7 +3,7 @@ use Rattle.eden_overlay_format.specs.declared.state.State.{State}
 use Rattle.eden_overlay_format.specs.State.{IsGoodState}
 use Rattle.eden_overlay.specs.Files.{Stored}
 use Rattle.eden_overlay.specs.Held.{HoldsState, with_state}
-use Rattle.eden_checkout.proofs.Closed.{on_done, holds_state, stored_alike, state_kept}
+use Rattle.eden_checkout.proofs.Closed.{on_done, holds_state, stored_alike, state_kept, state_numbered}
 use Rattle.eden_checkout.proofs.closing.store_state.Goals as goal
 
 pub change-requires-clause-numbers : goal.change-requires-clause-numbers
@@ -29,3 +29,10 @@ returns-clause-same g c h =
     stored_alike g.W.World.repository (g.F.Files.stored t.files) (g.F.Files.stored c.change.new.self.files) t.root c.change.new.self.root t.next
     (record { root = c.args.root; next = c.next_number.result }) c.change.result
     c.holds.ensures.table (c.holds.ensures.kept h) d.root (d.ok h) (d.err h)
+
+pub returns-clause-numbers : goal.returns-clause-numbers
+returns-clause-numbers g c h p =
+    let d = c.change.ensures.does in
+    let t = c.args.inodes.now in
+    state_numbered g.W.World.repository (g.F.Files.stored t.files) (g.F.Files.stored c.change.new.self.files) t.root c.change.new.self.root t.next
+    (record { root = c.args.root; next = c.next_number.result }) c.change.result (c.holds.ensures.numbers h) d.root (d.ok h) (d.err h) p

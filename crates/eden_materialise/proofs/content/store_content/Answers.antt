@@ -1,5 +1,6 @@
 use Rattle.eden_materialise.proofs.Fills.{fills_ok, fills_stored, fills_err, fills_strays, fills_fault, fills_counted, fills_table, fills_marks, fills_stay, fills_kept, fills_unseen, fills_shown}
 use Rattle.eden_materialise.proofs.Numbered.{fills_numbered}
+use Rattle.eden_materialise.proofs.Renumbered.{fills_same}
 use Rattle.eden_materialise.proofs.content.store_content.Goals as goal
 
 pub change-requires-clause-may : goal.change-requires-clause-may
@@ -96,3 +97,12 @@ returns-clause-atomic g c =
           c.change.result does;
       clock = c.change.ensures.rest.1;
     }
+
+pub returns-clause-numbers : goal.returns-clause-numbers
+returns-clause-numbers g c h =
+    let t = c.args.inodes.now in
+    let then = c.change.new.self in
+    let F = g.F.Files.stored t.files in
+    fills_same g.W.World.honest g.W.World.repository c.args.path.now c.args.name.now c.requires.there.0 c.args.content.now F t.root t.next
+    c.holds.ensures.table c.requires.there.1 c.requires.short (g.F.Files.failures t.files) (g.F.Files.stored then.files) then.root (g.F.Files.failures then.files)
+    h (c.holds.ensures.kept h) (c.holds.ensures.numbers h) c.change.result (c.change.ensures.does c.requires.there.0 c.requires.there.1)

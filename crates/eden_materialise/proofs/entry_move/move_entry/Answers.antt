@@ -1,5 +1,6 @@
 use Rattle.eden_materialise.proofs.EntryMoves.{moves_in, move_table, move_stays, move_marks, move_counted, move_elsewhere, move_kept, move_shown, move_unseen}
 use Rattle.eden_materialise.proofs.Numbered.{move_numbered}
+use Rattle.eden_materialise.proofs.Renumbered.{move_moves, move_same}
 use Rattle.eden_materialise.proofs.entry_move.move_entry.Goals as goal
 
 pub change-requires-clause-may : goal.change-requires-clause-may
@@ -70,3 +71,21 @@ returns-clause-unseen g c h =
     let k = c.holds.ensures.kept h in
     move_unseen g.W.World.honest (g.F.Files.stored t.files) t.root t.next c.args.from.now c.args.name.now c.args.to.now c.args.new_name.now (g.F.Files.failures t.files)
     (g.F.Files.stored then.files) then.root (g.F.Files.failures then.files) c.holds.ensures.table h g.W.World.repository (k.full, k.ties) c.change.result c.change.ensures.does
+
+pub returns-clause-renumbers : goal.returns-clause-renumbers
+returns-clause-renumbers g c h =
+    let t = c.args.inodes.now in
+    let then = c.change.new.self in
+    let F = g.F.Files.stored t.files in
+    move_moves g.W.World.honest F t.root t.next c.args.from.now c.args.name.now c.args.to.now c.args.new_name.now (g.F.Files.failures t.files)
+    (g.F.Files.stored then.files) then.root (g.F.Files.failures then.files) c.holds.ensures.table h g.W.World.repository (c.holds.ensures.kept h) (c.holds.ensures.numbers h)
+    c.change.result c.change.ensures.does
+
+pub returns-clause-unnumbered : goal.returns-clause-unnumbered
+returns-clause-unnumbered g c h =
+    let t = c.args.inodes.now in
+    let then = c.change.new.self in
+    let F = g.F.Files.stored t.files in
+    move_same g.W.World.honest F t.root t.next c.args.from.now c.args.name.now c.args.to.now c.args.new_name.now (g.F.Files.failures t.files)
+    (g.F.Files.stored then.files) then.root (g.F.Files.failures then.files) c.holds.ensures.table h g.W.World.repository (c.holds.ensures.kept h) (c.holds.ensures.numbers h)
+    c.change.result c.change.ensures.does

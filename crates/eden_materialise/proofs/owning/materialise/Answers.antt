@@ -1,5 +1,6 @@
 use Rattle.eden_materialise.proofs.Chains.{owns_table, owns_marks, owns_stays, owns_kept, owns_alike}
 use Rattle.eden_materialise.proofs.Numbered.{owns_numbered}
+use Rattle.eden_materialise.proofs.Renumbered.{owns_same}
 use Rattle.eden_materialise.proofs.owning.materialise.Goals as goal
 
 pub change-requires-clause-table : goal.change-requires-clause-table
@@ -40,3 +41,11 @@ returns-clause-stays g c =
     let then = c.change.new.self in
     owns_stays g.W.World.honest c.args.path.now (g.F.Files.stored t.files) t.root (g.F.Files.failures t.files) (g.F.Files.stored then.files) then.root (g.F.Files.failures then.files)
     c.change.result c.requires.loaded c.change.ensures.does
+
+pub returns-clause-numbers : goal.returns-clause-numbers
+returns-clause-numbers g c h =
+    let t = c.args.inodes.now in
+    let then = c.change.new.self in
+    let F = g.F.Files.stored t.files in
+    owns_same g.W.World.honest c.args.path.now F t.root (g.F.Files.failures t.files) (g.F.Files.stored then.files) then.root (g.F.Files.failures then.files)
+    t.next g.W.World.repository h (c.holds.ensures.numbers h) c.requires.loaded c.change.result c.change.ensures.does

@@ -1,8 +1,9 @@
-use Rattle.std.proofs.Common.{Some}
+use Rattle.std.proofs.Common.{Some, inr, refl}
 use Rattle.eden_materialise.specs.Reforms.{of_kind}
 use Rattle.eden_materialise.proofs.Listings.{changes_table, changes_marks, changes_stay, changes_kept_then, changes_unseen}
 use Rattle.eden_materialise.proofs.Reforms.{may_reform, reform_shown}
 use Rattle.eden_materialise.proofs.Numbered.{changes_numbered}
+use Rattle.eden_materialise.proofs.Renumbered.{one_directory, swaps_same}
 use Rattle.eden_materialise.proofs.reform.set_kind.Goals as goal
 
 pub change-requires-clause-may : goal.change-requires-clause-may
@@ -81,3 +82,16 @@ returns-clause-atomic g c =
           (g.F.Files.stored then.files) then.root (g.F.Files.failures then.files) t.next c.holds.ensures.table may c.change.result does;
       clock = c.change.ensures.rest.1;
     }
+
+pub returns-clause-numbers : goal.returns-clause-numbers
+returns-clause-numbers g c h =
+    let t = c.args.inodes.now in
+    let then = c.change.new.self in
+    let F = g.F.Files.stored t.files in
+    let w = c.requires.there.0 in
+    let a = c.requires.there.1 in
+    let may = may_reform g.W.World.honest g.W.World.repository F t.root t.next c.args.path.now c.args.name.now c.args.kind w c.holds.ensures.table a c.requires.file in
+    swaps_same g.W.World.honest g.W.World.repository c.args.path.now c.args.name.now F t.root (g.F.Files.failures t.files)
+    (g.F.Files.stored then.files) then.root (g.F.Files.failures then.files) t.next c.holds.ensures.table h (c.holds.ensures.kept h) (c.holds.ensures.numbers h)
+    (of_kind c.args.kind w) w may a.unloaded (one_directory t.root c.args.path.now c.args.name.now may.row a.row may.directory a.directory (Some w) may.at may.holds a.at a.holds a.there) refl a.file
+    c.requires.file (inr refl) c.change.result (c.change.ensures.does w a)

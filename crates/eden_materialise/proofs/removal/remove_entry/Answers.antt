@@ -2,6 +2,7 @@ use Rattle.std.proofs.Common.{None}
 use Rattle.eden_materialise.proofs.Listings.{changes_table, changes_marks, changes_stay}
 use Rattle.eden_materialise.proofs.Removals.{may_remove, removes, removes_strays, removes_fault, removes_counted, removes_kept, removes_shown, removes_unseen}
 use Rattle.eden_materialise.proofs.Numbered.{removes_numbered}
+use Rattle.eden_materialise.proofs.Renumbered.{removes_takes, removes_same}
 use Rattle.eden_materialise.proofs.removal.remove_entry.Goals as goal
 
 pub change-requires-clause-may : goal.change-requires-clause-may
@@ -97,3 +98,23 @@ returns-clause-atomic g c =
           does.between then.root does.count t.next c.holds.ensures.table may c.change.result does.changes;
       clock = c.change.ensures.rest.1;
     }
+
+pub returns-clause-renumbers : goal.returns-clause-renumbers
+returns-clause-renumbers g c h =
+    let t = c.args.inodes.now in
+    let then = c.change.new.self in
+    let F = g.F.Files.stored t.files in
+    let may = may_remove g.W.World.honest g.W.World.repository F t.root t.next c.args.path.now c.args.name.now c.holds.ensures.table c.requires.there in
+    removes_takes g.W.World.honest g.W.World.repository c.args.path.now c.args.name.now F t.root (g.F.Files.failures t.files)
+    (g.F.Files.stored then.files) then.root (g.F.Files.failures then.files) t.next c.holds.ensures.table h (c.holds.ensures.kept h) (c.holds.ensures.numbers h) may c.change.result
+    c.change.ensures.does
+
+pub returns-clause-unnumbered : goal.returns-clause-unnumbered
+returns-clause-unnumbered g c h =
+    let t = c.args.inodes.now in
+    let then = c.change.new.self in
+    let F = g.F.Files.stored t.files in
+    let may = may_remove g.W.World.honest g.W.World.repository F t.root t.next c.args.path.now c.args.name.now c.holds.ensures.table c.requires.there in
+    removes_same g.W.World.honest g.W.World.repository c.args.path.now c.args.name.now F t.root (g.F.Files.failures t.files)
+    (g.F.Files.stored then.files) then.root (g.F.Files.failures then.files) t.next c.holds.ensures.table h (c.holds.ensures.kept h) (c.holds.ensures.numbers h) may c.change.result
+    c.change.ensures.does

@@ -11,7 +11,7 @@ returns-then-not-is_unsaved_above-clause-saves g c = none
 pub loop-i-init : goal.loop-i-init
 loop-i-init g c =
     let s = c.args.inodes.now in
-    (none_yet g.W.World.honest g.W.World.repository c.args.path.now (g.F.Files.stored s.files) s.root (g.F.Files.failures s.files), ((refl, refl), places_same s s refl (keeps_same s.root)))
+    (none_yet g.W.World.honest g.W.World.repository c.args.path.now (g.F.Files.stored s.files) s.root (g.F.Files.failures s.files), ((refl, refl), (places_same s s refl (keeps_same s.root), λ h q. refl)))
 
 pub returns-in-Err-clause-saves : goal.returns-in-Err-clause-saves
 returns-in-Err-clause-saves g c =
@@ -29,7 +29,7 @@ pub returns-then-not-is_unsaved_above-clause-places : goal.returns-then-not-is_u
 returns-then-not-is_unsaved_above-clause-places g c = (let s = c.args.inodes.now in places_same s s refl (keeps_same s.root))
 
 pub returns-in-Err-clause-places : goal.returns-in-Err-clause-places
-returns-in-Err-clause-places g c = places_then c.args.inodes.now c.loop-i.inodes c.save_at.new.inodes c.loop-i.invariant.1.1 c.save_at.ensures.places
+returns-in-Err-clause-places g c = places_then c.args.inodes.now c.loop-i.inodes c.save_at.new.inodes c.loop-i.invariant.1.1.0 c.save_at.ensures.places
 
 pub loop-i-preserved : goal.loop-i-preserved
 loop-i-preserved g c =
@@ -39,5 +39,14 @@ loop-i-preserved g c =
     let within : c.loop-i.i < length c.args.path.now = omega (arith, c.loop-i-test.true) in (
       one_more_saved g.W.World.honest g.W.World.repository c.args.path.now (g.F.Files.stored s.files) s.root (g.F.Files.failures s.files) c.loop-i.i (g.F.Files.stored t.files) t.root
           (g.F.Files.failures t.files) c.loop-i.invariant.0 within (g.F.Files.stored u.files) u.root (g.F.Files.failures u.files) c.in-Ok.field-0 c.in-Ok.ensures.saves c.save_at.ensures.shown,
-      ((c.save_at.ensures.rest.0 ∙ c.loop-i.invariant.1.0.0, c.save_at.ensures.rest.1 ∙ c.loop-i.invariant.1.0.1), places_then s t u c.loop-i.invariant.1.1 c.save_at.ensures.places),
+      (
+        (c.save_at.ensures.rest.0 ∙ c.loop-i.invariant.1.0.0, c.save_at.ensures.rest.1 ∙ c.loop-i.invariant.1.0.1),
+        (places_then s t u c.loop-i.invariant.1.1.0 c.save_at.ensures.places, λ h q. c.save_at.ensures.numbers h q ∙ c.loop-i.invariant.1.1.1 h q),
+      ),
     )
+
+pub returns-then-not-is_unsaved_above-clause-numbers : goal.returns-then-not-is_unsaved_above-clause-numbers
+returns-then-not-is_unsaved_above-clause-numbers g c h q = refl
+
+pub returns-in-Err-clause-numbers : goal.returns-in-Err-clause-numbers
+returns-in-Err-clause-numbers g c h q = c.save_at.ensures.numbers h q ∙ c.loop-i.invariant.1.1.1 h q

@@ -1,6 +1,7 @@
 use Rattle.eden_inode.proofs.Places.{places_rise}
 use Rattle.eden_materialise.proofs.Fronts.{can_save, at_table, at_kept, at_shown}
 use Rattle.eden_materialise.proofs.Numbered.{at_numbered}
+use Rattle.eden_materialise.proofs.Renumbered.{at_same}
 use Rattle.eden_materialise.proofs.saving.save_at.Goals as goal
 
 pub change-requires-clause-may : goal.change-requires-clause-may
@@ -32,6 +33,14 @@ returns-clause-shown g c h =
     let then = c.change.new.self in
     at_shown g.W.World.honest c.args.path.now (g.F.Files.stored t.files) t.root (g.F.Files.failures t.files) (g.F.Files.stored then.files) then.root (g.F.Files.failures then.files)
     t.next c.holds.ensures.table h g.W.World.repository (c.holds.ensures.kept h) c.change.result c.change.ensures.does
+
+pub returns-clause-numbers : goal.returns-clause-numbers
+returns-clause-numbers g c h =
+    let t = c.args.inodes.now in
+    let then = c.change.new.self in
+    let F = g.F.Files.stored t.files in
+    at_same g.W.World.honest c.args.path.now F t.root (g.F.Files.failures t.files) (g.F.Files.stored then.files) then.root (g.F.Files.failures then.files)
+    t.next g.W.World.repository h (c.holds.ensures.numbers h) c.change.result c.change.ensures.does
 
 pub returns-clause-places : goal.returns-clause-places
 returns-clause-places g c = places_rise c.args.inodes.now c.change.new.self c.change.ensures.changes

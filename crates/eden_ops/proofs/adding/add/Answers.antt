@@ -30,6 +30,8 @@ use Rattle.eden_ops.proofs.Settled.{row_none, walk_still, settles_leaves, leaves
 use Rattle.eden_ops.proofs.Seeing.{kept_dirs}
 use Rattle.eden_ops.specs.Stamps.{AreWalked}
 use Rattle.eden_ops.proofs.Stamped.{stamps_on, stamps_same, alike_stamps, chained_stamps, stamps_refused, stamps_then, stamps_kept}
+use Rattle.eden_ops.proofs.Renumbering.{absent_none, adds_leaves, edits_came, edits_ended, edits_kept, edits_same, given_no_less, next_no_less, none_numbered}
+use Rattle.eden_materialise.specs.Renumbering.{PutsNumber}
 use Rattle.eden_ops.proofs.adding.add.Goals as goal
 
 pub returns-in-Err-clause-attempts : goal.returns-in-Err-clause-attempts
@@ -233,3 +235,52 @@ returns-in-Err-add_entry-clause-stamps g c q adding =
 
 pub returns-in_default-clause-stamps : goal.returns-in_default-clause-stamps
 returns-in_default-clause-stamps g c q adding = stamps_refused g.W.World g.F.Files q c.args.inodes.now c.args.inodes.now same _ EEXIST refl
+
+pub returns-in-Err-clause-edits : goal.returns-in-Err-clause-edits
+returns-in-Err-clause-edits g c q adding =
+    edits_ended g.W.World g.F.Files q c.args.inodes.now c.meet.new.inodes
+    (adds_keeps g.W.World g.F.Files c.args.path.now q c.args.new adding c.args.inodes.now c.meet.new.inodes c.meet.ensures.keeps) c.in-Err.stop _ c.ended.ensures
+
+pub returns-in-Ok-Some-clause-edits : goal.returns-in-Ok-Some-clause-edits
+returns-in-Ok-Some-clause-edits g c q adding =
+    edits_kept g.W.World g.F.Files q c.args.inodes.now c.meet.new.inodes (adds_keeps g.W.World g.F.Files c.args.path.now q c.args.new adding c.args.inodes.now c.meet.new.inodes c.meet.ensures.keeps)
+    _ (λ M. refl)
+
+pub returns-in_default-clause-edits : goal.returns-in_default-clause-edits
+returns-in_default-clause-edits g c q adding =
+    edits_kept g.W.World g.F.Files q c.args.inodes.now c.args.inodes.now same _ (λ M. refl)
+
+pub returns-in-Err-settle-clause-edits : goal.returns-in-Err-settle-clause-edits
+returns-in-Err-settle-clause-edits g c q adding =
+    let x = c.in-Err-settle.ensures.settles in
+    edits_same g.W.World g.F.Files q c.args.inodes.now c.meet.new.inodes (adds_keeps g.W.World g.F.Files c.args.path.now q c.args.new adding c.args.inodes.now c.meet.new.inodes c.meet.ensures.keeps)
+    _ (λ M. refl) c.settle.new.inodes x.readies.numbers (next_no_less c.meet.new.inodes.next c.settle.new.inodes.next x.readies.next)
+
+pub returns-in-Err-add_entry-clause-edits : goal.returns-in-Err-add_entry-clause-edits
+returns-in-Err-add_entry-clause-edits g c q adding =
+    let x = c.in-Err-add_entry.ensures in
+    let st = c.settle.ensures.settles in
+    edits_same g.W.World g.F.Files q c.args.inodes.now c.meet.new.inodes (adds_keeps g.W.World g.F.Files c.args.path.now q c.args.new adding c.args.inodes.now c.meet.new.inodes c.meet.ensures.keeps)
+    _ (λ M. refl) c.add_entry.new.inodes (λ h r. x.unnumbered h r ∙ st.readies.numbers h r)
+    (subst (λ (k : ℕ). k ≤ c.add_entry.new.inodes.next) st.readies.next (given_no_less c.settle.new.inodes.next c.add_entry.new.inodes.next x.given))
+
+pub returns-in-Ok-clause-edits : goal.returns-in-Ok-clause-edits
+returns-in-Ok-clause-edits g c q adding =
+    let p = c.args.path.now in
+    let s = c.args.inodes.now in
+    let t = c.meet.new.inodes in
+    let v = c.settle.new.inodes in
+    let u = c.add_entry.new.inodes in
+    let st = c.settle.ensures.settles in
+    let x = c.in-Ok.ensures in
+    let e = c.in-Ok-None.ensures in
+    let R = g.W.World.repository in
+    let F = g.F.Files.stored t.files in
+    let split = sym c.as_slice.ensures ∙ c.in-Some.ensures.cases.0 in
+    edits_came g.W.World g.F.Files q s t (adds_keeps g.W.World g.F.Files c.args.path.now q c.args.new adding c.args.inodes.now c.meet.new.inodes c.meet.ensures.keeps) v u p st.readies.numbers
+    st.readies.next x.next
+    (λ h. subst (λ (r : Path). PutsNumber g.F.Files r (Some v.next) v u) (sym split) (x.renumbers h))
+    (λ h. none_numbered g.W.World g.F.Files c.numbering_laws.ensures.nodes t (kept_dirs R F t.root t.next (c.holds.ensures.kept h)) (c.holds.ensures.numbers h) p
+    (ap (λ (G : Tree). G p) (e.same h)
+    ∙ absent_none (shows g.W.World g.F.Files s) p (subst (λ (o : Option Seen). MeetsShown g.W.World g.F.Files p s t (Ok o)) c.in-Ok-None.field-0-is (e.shown h))))
+    (Finished say.Ok) (adds_leaves c.args.path.now q c.args.new adding)

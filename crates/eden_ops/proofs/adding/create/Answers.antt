@@ -14,3 +14,6 @@ returns-clause-leaves g c = c.add.ensures.leaves (ask.Create c.args.path.now) (f
 
 pub returns-clause-stamps : goal.returns-clause-stamps
 returns-clause-stamps g c = c.add.ensures.stamps (ask.Create c.args.path.now) (file _ refl)
+
+pub returns-clause-edits : goal.returns-clause-edits
+returns-clause-edits g c = c.add.ensures.edits (ask.Create c.args.path.now) (file _ refl)

@@ -13,3 +13,6 @@ returns-clause-leaves g c = c.add.ensures.leaves (ask.Mkdir c.args.path.now) dir
 
 pub returns-clause-stamps : goal.returns-clause-stamps
 returns-clause-stamps g c = c.add.ensures.stamps (ask.Mkdir c.args.path.now) dir
+
+pub returns-clause-edits : goal.returns-clause-edits
+returns-clause-edits g c = c.add.ensures.edits (ask.Mkdir c.args.path.now) dir

@@ -10,6 +10,7 @@ use Rattle.eden_ops.proofs.Finding.{finds_same}
 use Rattle.eden_ops.proofs.Leaving.{leaves_kept}
 use Rattle.eden_ops.proofs.Looking.{some_at_most}
 use Rattle.eden_ops.proofs.Stamped.{stamps_refused}
+use Rattle.eden_ops.proofs.Renumbering.{edits_kept}
 use Rattle.eden_ops.proofs.adding.symlink.Goals as goal
 
 pub add-requires : goal.add-requires
@@ -52,3 +53,13 @@ returns-then-is_empty-clause-stamps g c = stamps_refused g.W.World g.F.Files (as
 
 pub returns-then-target-gt-MAX_TARGET-clause-stamps : goal.returns-then-target-gt-MAX_TARGET-clause-stamps
 returns-then-target-gt-MAX_TARGET-clause-stamps g c = stamps_refused g.W.World g.F.Files (ask.Symlink c.args.path.now c.args.target.now) c.args.inodes.now c.args.inodes.now same _ ENAMETOOLONG refl
+
+pub returns-clause-edits : goal.returns-clause-edits
+returns-clause-edits g c = c.add.ensures.edits (ask.Symlink c.args.path.now c.args.target.now)
+    (link c.args.target (eqb-false (length c.args.target.now) 0 (sym c.if-is_empty.ensures)) c.if-target-gt-MAX_TARGET.false)
+
+pub returns-then-is_empty-clause-edits : goal.returns-then-is_empty-clause-edits
+returns-then-is_empty-clause-edits g c = edits_kept g.W.World g.F.Files (ask.Symlink c.args.path.now c.args.target.now) c.args.inodes.now c.args.inodes.now same _ (λ M. refl)
+
+pub returns-then-target-gt-MAX_TARGET-clause-edits : goal.returns-then-target-gt-MAX_TARGET-clause-edits
+returns-then-target-gt-MAX_TARGET-clause-edits g c = edits_kept g.W.World g.F.Files (ask.Symlink c.args.path.now c.args.target.now) c.args.inodes.now c.args.inodes.now same _ (λ M. refl)

@@ -1,10 +1,10 @@
-use Rattle.std.proofs.Common.{◌≤◌, ℕ, sym, ap, ◌∙◌, subst, inl, inr}
+use Rattle.std.proofs.Common.{◌≤◌, ◌++◌, ◌∷◌, [], ℕ, sym, ap, ◌∙◌, subst, inl, inr}
 use Rattle.eden_tree.specs.Directory.{Row}
 use Rattle.eden_coupling.specs.Chains.{NoneMarked, StaysLoaded}
 use Rattle.eden_coupling.specs.Kept.{IsKept}
 use Rattle.eden_coupling.specs.Ties.{Tied}
 use Rattle.eden_inode.specs.Saved.{AreSavedAt}
-use Rattle.eden_inode.specs.Tables.{shows}
+use Rattle.eden_inode.specs.Tables.{shows, shows_numbers}
 use Rattle.eden_inode.proofs.Places.{places_then, places_rise}
 use Rattle.eden_materialise.specs.Faults.{IsStoreFault}
 use Rattle.eden_ops.specs.Carrying.{CanHold}
@@ -16,6 +16,9 @@ use Rattle.eden_ops.proofs.Carried.{back_names, back_fewer, back_stays, back_mar
 use Rattle.eden_ops.proofs.Relocation.{moves_shown}
 use Rattle.eden_ops.proofs.Saving.{fault_count}
 use Rattle.eden_ops.proofs.Stamped.{moved_stamps, unmoved_stamps}
+use Rattle.eden_model.specs.Trees.{Path}
+use Rattle.eden_materialise.specs.Renumbering.{MovesNumbers}
+use Rattle.eden_ops.proofs.Moves.{move_alike}
 use Rattle.eden_ops.proofs.carrying.move_saved.Goals as goal
 
 pub take-child-requires-clause-ready : goal.take-child-requires-clause-ready
@@ -119,6 +122,12 @@ returns-in-Ok g c =
       ok = λ h.
           moves_shown (s v) (s y) (s x) from to _ _ (c.put_back.ensures.shown h ∙ c.in-Ok.ensures.shown h) (c.take-child.ensures.shown h) split c.in-Some-split_last.ensures.cases.0;
       err = λ h. tt;
+      renumbers = λ h a.
+          c.put_back.ensures.numbers h a
+          ∙ subst (λ (b : Path). MovesNumbers g.F.Files from b y u) (sym c.in-Some-split_last.ensures.cases.0)
+          (subst (λ (a : Path). MovesNumbers g.F.Files a (q ++ m ∷ []) y u) (sym split) (c.in-Ok.ensures.renumbers h)) a
+          ∙ move_alike (shows_numbers g.F.Files y) (shows_numbers g.F.Files x) (c.take-child.ensures.numbers h) from to a;
+      unnumbered = λ h. tt;
       names = tt;
       fewer = tt;
       fault = tt;
@@ -176,6 +185,8 @@ returns-in-Err g c =
     record {
       ok = λ h. tt;
       err = λ h. c.put_back-in-Err.ensures.shown h ∙ c.in-Err.ensures.unseen h ∙ c.take-child.ensures.shown h;
+      renumbers = λ h. tt;
+      unnumbered = λ h a. c.put_back-in-Err.ensures.numbers h a ∙ c.in-Err.ensures.unnumbered h a ∙ c.take-child.ensures.numbers h a;
       names = subst (λ (z : Row). SameNames x.root z) is (back_names honest R F x.next x.root from d taken p n q m split y.root out G u.root c.in-Err.ensures.err can);
       fewer = subst (λ (z : Row). StaysLoaded z x.root) is (back_fewer honest R F x.next x.root from d taken p n q m split y.root out G u.root c.in-Err.ensures.err can);
       fault = fault;

@@ -4,6 +4,8 @@ use Rattle.eden_coupling.specs.Kept.{IsTable, IsKept}
 use Rattle.eden_coupling.specs.NumberKept.{KeepsNumbers}
 use Rattle.eden_coupling.specs.Shown.{shown_in}
 use Rattle.eden_ops.proofs.Carried.{held_table, held_kept, held_numbers, held_alike}
+use Rattle.eden_coupling.specs.Numberings.{in_files, numbers}
+use Rattle.eden_ops.proofs.Carried.{held_same}
 use Rattle.eden_ops.proofs.carrying.put_back.Goals as goal
 
 pub change-requires-clause-table : goal.change-requires-clause-table
@@ -36,3 +38,12 @@ returns-clause-shown g c h =
     ap (λ o. shown_in R (g.F.Files.stored o) c.change.new.self.root) does.0
     ∙ ap (shown_in R (g.F.Files.stored t.files)) does.1
     ∙ held_alike g.W.World.honest R (g.F.Files.stored t.files) t.next c.args.path.now t.root c.args.child.value c.requires h
+
+pub returns-clause-numbers : goal.returns-clause-numbers
+returns-clause-numbers g c h q =
+    let t = c.args.inodes.now in
+    let R = g.W.World.repository in
+    let does = c.change.ensures.does in
+    ap (λ o. numbers (in_files (g.F.Files.stored o)) c.change.new.self.root q) does.0
+    ∙ ap (λ (r : Row). numbers (in_files (g.F.Files.stored t.files)) r q) does.1
+    ∙ held_same g.W.World.honest R (g.F.Files.stored t.files) t.next c.args.path.now t.root c.args.child.value c.requires h (c.holds.ensures.numbers h) q

@@ -3,6 +3,7 @@ use Rattle.eden_coupling.specs.Kept.{IsKept}
 use Rattle.eden_coupling.specs.NumberKept.{KeepsNumbers}
 use Rattle.eden_coupling.specs.Shown.{shown_in}
 use Rattle.eden_ops.proofs.Carried.{taken_table, taken_over}
+use Rattle.eden_coupling.specs.Numberings.{in_files, numbers}
 use Rattle.eden_ops.proofs.carrying.take.Goals as goal
 
 pub change-requires-clause-table : goal.change-requires-clause-table
@@ -35,3 +36,13 @@ returns-clause-shown g c h =
     ap (λ o. shown_in R (g.F.Files.stored o) c.change.new.self.root) does.0
     ∙ (taken_over c.args.path.now t.root c.requires.ready c.change.new.self.root _ does.1 R (g.F.Files.stored t.files) t.next k.table (k.kept h) (k.numbers h)
     (c.requires.saved h)).0.nodes
+
+pub returns-clause-numbers : goal.returns-clause-numbers
+returns-clause-numbers g c h q =
+    let t = c.args.inodes.now in
+    let R = g.W.World.repository in
+    let does = c.change.ensures.does in
+    let k = c.holds.ensures in
+    ap (λ o. numbers (in_files (g.F.Files.stored o)) c.change.new.self.root q) does.0
+    ∙ (taken_over c.args.path.now t.root c.requires.ready c.change.new.self.root _ does.1 R (g.F.Files.stored t.files) t.next k.table (k.kept h) (k.numbers h)
+    (c.requires.saved h)).0.same q

@@ -1,4 +1,4 @@
-use Rattle.std.proofs.Common.{le_trans, ◌≡◌, true, Option, Some, None, Ok, sym, refl, subst, ap, ◌∙◌}
+use Rattle.std.proofs.Common.{◌++◌, ◌∷◌, le_trans, ◌≡◌, true, Option, Some, None, Ok, sym, refl, subst, ap, ◌∙◌}
 use Rattle.eden_model.specs.declared.errno.Errno.TheVariants.{EBUSY, ENOTDIR, ENOTEMPTY}
 use Rattle.eden_model.specs.declared.node.Node.{Node}
 use Rattle.eden_model.specs.declared.node.Node.TheVariants.{Dir}
@@ -41,6 +41,9 @@ use Rattle.eden_ops.proofs.Walking.{known_unloaded}
 use Rattle.eden_ops.proofs.Stamped.{stamps_on, stamps_same, alike_stamps, left_stamps, chained_stamps, stamps_refused, stamps_then, stamps_kept}
 use Rattle.eden_ops.proofs.Stamps.{walked_on}
 use Rattle.eden_inode.specs.Trails.{Leads}
+use Rattle.eden_ops.proofs.Renumbering.{edits_ended, edits_gone, edits_kept, edits_same, next_no_less, none_numbered}
+use Rattle.eden_ops.proofs.Seeing.{kept_dirs}
+use Rattle.eden_materialise.specs.Renumbering.{TakesNumbers}
 use Rattle.eden_inode.proofs.Places.{places_rise}
 use Rattle.eden_ops.proofs.emptied.rmdir.Goals as goal
 
@@ -88,6 +91,7 @@ returns-in-File g c =
           (asks_rmdir p (not_root p c.in-Some.above.now c.in-Some.name.now split)) c.args.cache.now e.same e.keeps e.cache e.shown (say.Err ENOTDIR) refl (λ T. refl)
           (λ k a listed is on. lists_other (IfEmpty (shows g.W.World g.F.Files s) p) k a listed (λ dir. no_dir c.what.result c.in-File.is (sym other.1 ∙ sym is ∙ dir)));
       leaves = leaves_kept g.W.World g.F.Files (ask.Rmdir p) s t e.keeps _;
+      edits = edits_kept g.W.World g.F.Files (ask.Rmdir p) s t e.keeps _ (λ M. refl);
       stamps = stamps_kept g.W.World g.F.Files (ask.Rmdir p) s t e.keeps (e.walked, tt) _;
       counts = e.counts;
       leads = λ k is. e.leads;
@@ -380,3 +384,71 @@ returns-in_default-clause-stamps g c = stamps_refused g.W.World g.F.Files (ask.R
 
 pub returns-in-Err-bring_seen-clause-leads : goal.returns-in-Err-bring_seen-clause-leads
 returns-in-Err-bring_seen-clause-leads g c k is = subst (λ (x : Row). Leads c.args.path.now c.meet.new.trail.positions x) (sym c.in-Err-bring_seen.ensures.still) c.meet.ensures.leads
+
+pub returns-in-Err-clause-edits : goal.returns-in-Err-clause-edits
+returns-in-Err-clause-edits g c =
+    edits_ended g.W.World g.F.Files (ask.Rmdir c.args.path.now) c.args.inodes.now c.meet.new.inodes c.meet.ensures.keeps c.in-Err.stop _ c.ended.ensures
+
+pub returns-in-Ok-None-clause-edits : goal.returns-in-Ok-None-clause-edits
+returns-in-Ok-None-clause-edits g c =
+    edits_kept g.W.World g.F.Files (ask.Rmdir c.args.path.now) c.args.inodes.now c.meet.new.inodes c.meet.ensures.keeps _ (λ M. refl)
+
+pub returns-in-Err-bring_seen-clause-edits : goal.returns-in-Err-bring_seen-clause-edits
+returns-in-Err-bring_seen-clause-edits g c =
+    edits_ended g.W.World g.F.Files (ask.Rmdir c.args.path.now) c.args.inodes.now c.bring_seen.new.inodes
+    (keeps_on g.W.World g.F.Files c.args.inodes.now c.meet.new.inodes c.bring_seen.new.inodes c.meet.ensures.keeps c.bring_seen.ensures.keeps) c.in-Err-bring_seen.stop _
+    c.ended-in-Err-bring_seen.ensures
+
+pub returns-then-not-is_empty-clause-edits : goal.returns-then-not-is_empty-clause-edits
+returns-then-not-is_empty-clause-edits g c =
+    edits_kept g.W.World g.F.Files (ask.Rmdir c.args.path.now) c.args.inodes.now c.bring_seen.new.inodes
+    (keeps_on g.W.World g.F.Files c.args.inodes.now c.meet.new.inodes c.bring_seen.new.inodes c.meet.ensures.keeps c.bring_seen.ensures.keeps) _ (λ M. refl)
+
+pub returns-in_default-clause-edits : goal.returns-in_default-clause-edits
+returns-in_default-clause-edits g c =
+    edits_kept g.W.World g.F.Files (ask.Rmdir c.args.path.now) c.args.inodes.now c.args.inodes.now same _ (λ M. refl)
+
+pub returns-in-Err-let_go-clause-edits : goal.returns-in-Err-let_go-clause-edits
+returns-in-Err-let_go-clause-edits g c =
+    edits_same g.W.World g.F.Files (ask.Rmdir c.args.path.now) c.args.inodes.now c.bring_seen.new.inodes
+    (keeps_on g.W.World g.F.Files c.args.inodes.now c.meet.new.inodes c.bring_seen.new.inodes c.meet.ensures.keeps c.bring_seen.ensures.keeps) _ (λ M. refl) c.let_go.new.inodes
+    c.let_go.ensures.numbers
+    (next_no_less c.bring_seen.new.inodes.next c.let_go.new.inodes.next c.let_go.ensures.rest.0)
+
+pub returns-in-Err-settle-clause-edits : goal.returns-in-Err-settle-clause-edits
+returns-in-Err-settle-clause-edits g c =
+    let x = c.in-Err-settle.ensures.settles in
+    edits_same g.W.World g.F.Files (ask.Rmdir c.args.path.now) c.args.inodes.now c.bring_seen.new.inodes
+    (keeps_on g.W.World g.F.Files c.args.inodes.now c.meet.new.inodes c.bring_seen.new.inodes c.meet.ensures.keeps c.bring_seen.ensures.keeps) _ (λ M. refl) c.settle.new.inodes
+    (λ h r. x.readies.numbers h r ∙ c.let_go.ensures.numbers h r)
+    (next_no_less c.bring_seen.new.inodes.next c.settle.new.inodes.next (x.readies.next ∙ c.let_go.ensures.rest.0))
+
+pub returns-in-Err-remove_entry-clause-edits : goal.returns-in-Err-remove_entry-clause-edits
+returns-in-Err-remove_entry-clause-edits g c =
+    let x = c.in-Err-remove_entry.ensures in
+    let st = c.settle.ensures.settles in
+    edits_same g.W.World g.F.Files (ask.Rmdir c.args.path.now) c.args.inodes.now c.bring_seen.new.inodes
+    (keeps_on g.W.World g.F.Files c.args.inodes.now c.meet.new.inodes c.bring_seen.new.inodes c.meet.ensures.keeps c.bring_seen.ensures.keeps) _ (λ M. refl) c.remove_entry.new.inodes
+    (λ h r. x.unnumbered h r ∙ st.readies.numbers h r ∙ c.let_go.ensures.numbers h r)
+    (next_no_less c.bring_seen.new.inodes.next c.remove_entry.new.inodes.next (x.next ∙ st.readies.next ∙ c.let_go.ensures.rest.0))
+
+pub returns-in-Ok-clause-edits : goal.returns-in-Ok-clause-edits
+returns-in-Ok-clause-edits g c =
+    let p = c.args.path.now in
+    let s = c.args.inodes.now in
+    let u = c.bring_seen.new.inodes in
+    let v = c.let_go.new.inodes in
+    let w = c.settle.new.inodes in
+    let z = c.remove_entry.new.inodes in
+    let st = c.settle.ensures.settles in
+    let x = c.in-Ok.ensures in
+    let split = sym c.as_slice.ensures ∙ c.in-Some.ensures.cases.0 in
+    let R = g.W.World.repository in
+    let F = g.F.Files.stored u.files in
+    edits_gone g.W.World g.F.Files (ask.Rmdir p) s u (keeps_on g.W.World g.F.Files c.args.inodes.now c.meet.new.inodes c.bring_seen.new.inodes c.meet.ensures.keeps c.bring_seen.ensures.keeps) w z p
+    (not_root p c.in-Some.above.now c.in-Some.name.now split)
+    (λ h r. st.readies.numbers h r ∙ c.let_go.ensures.numbers h r) (x.next ∙ st.readies.next ∙ c.let_go.ensures.rest.0)
+    (λ h. subst (λ (r : Path). TakesNumbers g.F.Files r w z) (sym split) (x.renumbers h))
+    (λ h n r. none_numbered g.W.World g.F.Files c.numbering_laws.ensures.nodes u (kept_dirs R F u.root u.next (c.holds.ensures.kept h)) (c.holds.ensures.numbers h) (p ++ n ∷ r)
+    (c.if-not-is_empty.ensures.entries h n r))
+    (Finished say.Ok) (λ M. refl)

@@ -37,6 +37,7 @@ use Rattle.eden_ops.proofs.Settled.{row_still, settles_leaves, leaves_then, save
 use Rattle.eden_ops.proofs.Seeing.{kept_dirs, shown_there}
 use Rattle.eden_ops.proofs.Steps.{keeps_counts}
 use Rattle.eden_ops.proofs.Stamped.{stamps_on, stamps_same, alike_stamps, chained_stamps, stamps_then, stamps_kept}
+use Rattle.eden_ops.proofs.Renumbering.{edits_ended, edits_kept, edits_same, next_no_less}
 use Rattle.eden_ops.proofs.exec.set_exec.Goals as goal
 
 pub returns-in-Err-clause-attempts : goal.returns-in-Err-clause-attempts
@@ -255,3 +256,33 @@ returns-in-Err-set_kind-clause-stamps g c =
     let u = c.set_kind.new.inodes in
     stamps_then g.W.World g.F.Files (ask.SetExec c.args.path.now c.args.exec) c.args.inodes.now c.meet_file.new.inodes c.meet_file.ensures.keeps (c.meet_file.ensures.walked, tt) u _
     (stamps_on t.root v.root u.root (alike_stamps t.root v.root c.settle.ensures.settles.alike) (stamps_same v.root u.root c.in-Err-set_kind.ensures.atomic.err))
+
+pub returns-in-Err-clause-edits : goal.returns-in-Err-clause-edits
+returns-in-Err-clause-edits g c =
+    edits_ended g.W.World g.F.Files (ask.SetExec c.args.path.now c.args.exec) c.args.inodes.now c.meet_file.new.inodes c.meet_file.ensures.keeps c.in-Err.stop _ c.ended.ensures
+
+pub returns-then-eq-clause-edits : goal.returns-then-eq-clause-edits
+returns-then-eq-clause-edits g c =
+    edits_kept g.W.World g.F.Files (ask.SetExec c.args.path.now c.args.exec) c.args.inodes.now c.meet_file.new.inodes c.meet_file.ensures.keeps _ (λ M. refl)
+
+pub returns-in-Err-settle-clause-edits : goal.returns-in-Err-settle-clause-edits
+returns-in-Err-settle-clause-edits g c =
+    let x = c.in-Err-settle.ensures.settles in
+    edits_same g.W.World g.F.Files (ask.SetExec c.args.path.now c.args.exec) c.args.inodes.now c.meet_file.new.inodes c.meet_file.ensures.keeps _ (λ M. refl) c.settle.new.inodes x.readies.numbers
+    (next_no_less c.meet_file.new.inodes.next c.settle.new.inodes.next x.readies.next)
+
+pub returns-in-Ok-set_kind-clause-edits : goal.returns-in-Ok-set_kind-clause-edits
+returns-in-Ok-set_kind-clause-edits g c =
+    let x = c.set_kind.ensures in
+    let st = c.settle.ensures.settles in
+    edits_same g.W.World g.F.Files (ask.SetExec c.args.path.now c.args.exec) c.args.inodes.now c.meet_file.new.inodes c.meet_file.ensures.keeps _ (λ M. refl) c.set_kind.new.inodes
+    (λ h r. x.numbers h r ∙ st.readies.numbers h r)
+    (next_no_less c.meet_file.new.inodes.next c.set_kind.new.inodes.next (x.next ∙ st.readies.next))
+
+pub returns-in-Err-set_kind-clause-edits : goal.returns-in-Err-set_kind-clause-edits
+returns-in-Err-set_kind-clause-edits g c =
+    let x = c.set_kind.ensures in
+    let st = c.settle.ensures.settles in
+    edits_same g.W.World g.F.Files (ask.SetExec c.args.path.now c.args.exec) c.args.inodes.now c.meet_file.new.inodes c.meet_file.ensures.keeps _ (λ M. refl) c.set_kind.new.inodes
+    (λ h r. x.numbers h r ∙ st.readies.numbers h r)
+    (next_no_less c.meet_file.new.inodes.next c.set_kind.new.inodes.next (x.next ∙ st.readies.next))

@@ -124,3 +124,6 @@ returns-clause-stamps g c =
     stamps_on s.root v.root t.root (alike_stamps s.root v.root alike)
     (filled_stamps v.root v.next c.settle.ensures.table above name (Some (owned h.0)) h.1.unloaded file.row file.directory file.at file.holds c.store_content.result (is_own h.0.origin) t.root
     (x.ok h.0 file file.row file.directory file.at file.holds) x.atomic.err)
+
+pub returns-clause-numbers : goal.returns-clause-numbers
+returns-clause-numbers g c h q = c.store_content.ensures.numbers h q ∙ c.settle.ensures.settles.readies.numbers h q

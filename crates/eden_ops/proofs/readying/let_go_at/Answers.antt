@@ -15,4 +15,4 @@ returns-in-Ok-Some-clause-stays g c =
 pub returns-in-Ok-Some-clause-readies : goal.returns-in-Ok-Some-clause-readies
 returns-in-Ok-Some-clause-readies g c =
     let e = c.let_go.ensures in
-    readies_gone g.W.World g.F.Files c.args.inodes.now c.let_go.new.inodes c.let_go.result e.same e.marks e.fault e.unfailed e.rest e.places _ e.goes
+    readies_gone g.W.World g.F.Files c.args.inodes.now c.let_go.new.inodes c.let_go.result e.same e.numbers e.marks e.fault e.unfailed e.rest e.places _ e.goes

@@ -14,17 +14,17 @@ not_both r memory device = let both : Err files.Memory ≡ Err files.Device = sy
 pub returns-in-Ok-clause-readies : goal.returns-in-Ok-clause-readies
 returns-in-Ok-clause-readies g c =
     let e = c.save_numbers.ensures in
-    readies_stored g.W.World g.F.Files c.args.inodes.now c.save_numbers.new.self (Ok tt) e.shown e.rest tt
+    readies_stored g.W.World g.F.Files c.args.inodes.now c.save_numbers.new.self (Ok tt) e.shown e.numbers e.rest tt
     (e.counted.same (not_device c.save_numbers.result c.in-Ok.field-0 c.in-Ok.is))
 
 pub returns-in-Err-Device-clause-readies : goal.returns-in-Err-Device-clause-readies
 returns-in-Err-Device-clause-readies g c =
     let e = c.save_numbers.ensures in
-    readies_stored g.W.World g.F.Files c.args.inodes.now c.save_numbers.new.self (Err fault.Overlay) e.shown e.rest
+    readies_stored g.W.World g.F.Files c.args.inodes.now c.save_numbers.new.self (Err fault.Overlay) e.shown e.numbers e.rest
     (e.counted.rose (c.in-Err-Device.is ∙ ap (λ (f : FilesFault). Err f) c.in-Err-Device.field-0-is)) tt
 
 pub returns-in-Err-Memory-clause-readies : goal.returns-in-Err-Memory-clause-readies
 returns-in-Err-Memory-clause-readies g c =
     let e = c.save_numbers.ensures in
-    readies_stored g.W.World g.F.Files c.args.inodes.now c.save_numbers.new.self (Err fault.Memory) e.shown e.rest
+    readies_stored g.W.World g.F.Files c.args.inodes.now c.save_numbers.new.self (Err fault.Memory) e.shown e.numbers e.rest
     (e.counted.same (not_both c.save_numbers.result (c.in-Err-Memory.is ∙ ap (λ (f : FilesFault). Err f) c.in-Err-Memory.field-0-is))) tt

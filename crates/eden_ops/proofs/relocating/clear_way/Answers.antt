@@ -32,7 +32,7 @@ returns-in-Err-let_go-clause-readies g c =
     let to = c.args.to.now in
     let e = c.in-Err-let_go.ensures in
     readies_on g.W.World g.F.Files s t u (Err c.in-Err-let_go.fault) c.in-Ok.ensures.readies
-    (readies_gone g.W.World g.F.Files t u (Err c.in-Err-let_go.fault) e.same e.marks e.fault tt e.rest e.places to e.goes)
+    (readies_gone g.W.World g.F.Files t u (Err c.in-Err-let_go.fault) e.same e.numbers e.marks e.fault tt e.rest e.places to e.goes)
 
 pub own_both-requires-clause-one : goal.own_both-requires-clause-one
 own_both-requires-clause-one g c =
@@ -116,7 +116,7 @@ returns-in-Err-own_both-clause-readies g c =
     let v = c.own_both.new.inodes in
     readies_on g.W.World g.F.Files s t v (Err c.in-Err-own_both.fault) c.in-Ok.ensures.readies
     (readies_on g.W.World g.F.Files t u v (Err c.in-Err-own_both.fault)
-    (let e = c.in-Ok-let_go.ensures in readies_gone g.W.World g.F.Files t u (Ok tt) e.same e.marks tt e.unfailed e.rest e.places to e.goes)
+    (let e = c.in-Ok-let_go.ensures in readies_gone g.W.World g.F.Files t u (Ok tt) e.same e.numbers e.marks tt e.unfailed e.rest e.places to e.goes)
     c.in-Err-own_both.ensures.readies)
 
 pub returns-then-not-is_bare-clause-readies : goal.returns-then-not-is_bare-clause-readies
@@ -129,7 +129,7 @@ returns-then-not-is_bare-clause-readies g c =
     let v = c.own_both.new.inodes in
     readies_on g.W.World g.F.Files s t v (Err fault.Memory) c.in-Ok.ensures.readies
     (readies_on g.W.World g.F.Files t u v (Err fault.Memory)
-    (let e = c.in-Ok-let_go.ensures in readies_gone g.W.World g.F.Files t u (Ok tt) e.same e.marks tt e.unfailed e.rest e.places to e.goes)
+    (let e = c.in-Ok-let_go.ensures in readies_gone g.W.World g.F.Files t u (Ok tt) e.same e.numbers e.marks tt e.unfailed e.rest e.places to e.goes)
     (readies_on g.W.World g.F.Files u v v (Err fault.Memory) c.in-Ok-own_both.ensures.readies (readies_still g.W.World g.F.Files v (Err fault.Memory) refl)))
 
 pub returns-clause-readies : goal.returns-clause-readies
@@ -142,7 +142,7 @@ returns-clause-readies g c =
     let v = c.own_both.new.inodes in
     readies_on g.W.World g.F.Files s t v (Ok tt) c.in-Ok.ensures.readies
     (readies_on g.W.World g.F.Files t u v (Ok tt)
-    (let e = c.in-Ok-let_go.ensures in readies_gone g.W.World g.F.Files t u (Ok tt) e.same e.marks tt e.unfailed e.rest e.places to e.goes)
+    (let e = c.in-Ok-let_go.ensures in readies_gone g.W.World g.F.Files t u (Ok tt) e.same e.numbers e.marks tt e.unfailed e.rest e.places to e.goes)
     c.in-Ok-own_both.ensures.readies)
 
 pub returns-clause-can : goal.returns-clause-can
@@ -157,7 +157,7 @@ returns-clause-can g c =
     c.in-Some.ensures.cases.0 c.in-Some-split_last.ensures.cases.0 v.root c.in-Ok-own_both.ensures.owned c.own_both.ensures.stays
     (readies_on g.W.World g.F.Files s t v (Ok tt) c.in-Ok.ensures.readies
     (readies_on g.W.World g.F.Files t u v (Ok tt)
-    (let e = c.in-Ok-let_go.ensures in readies_gone g.W.World g.F.Files t u (Ok tt) e.same e.marks tt e.unfailed e.rest e.places to e.goes)
+    (let e = c.in-Ok-let_go.ensures in readies_gone g.W.World g.F.Files t u (Ok tt) e.same e.numbers e.marks tt e.unfailed e.rest e.places to e.goes)
     c.in-Ok-own_both.ensures.readies)).names c.in-Ok-let_go.ensures.away (c.is_bare.ensures c.if-not-is_bare.false)
 
 pub returns-in-Err-clause-loaded : goal.returns-in-Err-clause-loaded

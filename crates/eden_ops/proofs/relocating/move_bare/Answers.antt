@@ -1,4 +1,4 @@
-use Rattle.std.proofs.Common.{refl, sym, subst, inl, inr}
+use Rattle.std.proofs.Common.{◌++◌, ◌∷◌, [], refl, sym, subst, inl, inr}
 use Rattle.eden_model.specs.Trees.{Path}
 use Rattle.eden_inode.specs.Tables.{shows}
 use Rattle.eden_inode.proofs.Places.{places_rise}
@@ -7,6 +7,7 @@ use Rattle.eden_ops.proofs.Relocation.{bare_apart, can_move_bare, moves_shown, u
 use Rattle.eden_ops.proofs.Roots.{root_moved, root_unmoved}
 use Rattle.eden_ops.proofs.Saving.{fault_count}
 use Rattle.eden_ops.proofs.Stamped.{moved_stamps, unmoved_stamps}
+use Rattle.eden_materialise.specs.Renumbering.{MovesNumbers}
 use Rattle.eden_ops.proofs.relocating.move_bare.Goals as goal
 
 pub move_entry-requires : goal.move_entry-requires
@@ -24,6 +25,9 @@ returns-in-Ok g c =
     record {
       ok = λ h. moves_shown (show t) (show s) (show s) c.args.from.now c.args.to.now _ _ (e.shown h) refl c.in-Some.ensures.cases.0 c.in-Some-split_last.ensures.cases.0;
       err = λ h. tt;
+      renumbers = λ h. subst (λ (b : Path). MovesNumbers g.F.Files c.args.from.now b s t) (sym c.in-Some-split_last.ensures.cases.0)
+          (subst (λ (a : Path). MovesNumbers g.F.Files a (c.in-Some-split_last.new_above.now ++ c.in-Some-split_last.new_name.now ∷ []) s t) (sym c.in-Some.ensures.cases.0) (e.renumbers h));
+      unnumbered = λ h. tt;
       names = tt;
       fewer = tt;
       fault = tt;
@@ -57,6 +61,8 @@ returns-in-Err g c =
     record {
       ok = λ h. tt;
       err = e.unseen;
+      renumbers = λ h. tt;
+      unnumbered = e.unnumbered;
       names = unmoved_names s.root p n q m honest F G t.root e.err;
       fewer = unmoved_fewer s.root p n q m honest F G t.root e.err;
       fault = e.fault;

@@ -15,6 +15,7 @@ returns-in_err-materialise-clause-readies g c =
     readies_err g.W.World g.F.Files c.args.inodes.now c.materialise.new.inodes c.from_residual.result c.in_err-materialise.field-0.0 c.from_residual.ensures.0 c.from_residual.ensures.1
     (record {
       shown = e.shown;
+      numbers = e.numbers;
       names = names_same c.args.inodes.now.root c.materialise.new.inodes.root e.err;
       fewer = fewer_same c.args.inodes.now.root c.materialise.new.inodes.root e.err;
       stamps = stamps_same c.args.inodes.now.root c.materialise.new.inodes.root e.err;
@@ -34,6 +35,7 @@ returns-clause-readies g c =
     readies_on g.W.World g.F.Files c.args.inodes.now c.materialise.new.inodes c.materialise-2.new.inodes c.materialise-2.result
     (record {
       shown = a.shown;
+      numbers = a.numbers;
       names = own_names (Ok tt) c.args.one.now c.args.inodes.now.root c.materialise.new.inodes.root a.ok tt;
       fewer = own_fewer (Ok tt) c.args.one.now c.args.inodes.now.root c.materialise.new.inodes.root a.ok tt;
       stamps = own_stamps (Ok tt) c.args.one.now c.args.inodes.now.root c.materialise.new.inodes.root a.ok tt;
@@ -47,6 +49,7 @@ returns-clause-readies g c =
     })
     (record {
       shown = b.shown;
+      numbers = b.numbers;
       names = own_names c.materialise-2.result c.args.other.now c.materialise.new.inodes.root c.materialise-2.new.inodes.root b.ok b.err;
       fewer = own_fewer c.materialise-2.result c.args.other.now c.materialise.new.inodes.root c.materialise-2.new.inodes.root b.ok b.err;
       stamps = own_stamps c.materialise-2.result c.args.other.now c.materialise.new.inodes.root c.materialise-2.new.inodes.root b.ok b.err;

@@ -30,6 +30,8 @@ use Rattle.eden_ops.proofs.Settled.{row_still, settles_leaves, leaves_then, save
 use Rattle.eden_ops.proofs.Seeing.{kept_dirs}
 use Rattle.eden_ops.proofs.Telling.{as_dir, met_tells}
 use Rattle.eden_ops.proofs.Stamped.{stamps_on, stamps_same, alike_stamps, chained_stamps, stamps_refused, stamps_then, stamps_kept}
+use Rattle.eden_ops.proofs.Renumbering.{edits_ended, edits_gone, edits_kept, edits_same, next_no_less, none_numbered}
+use Rattle.eden_materialise.specs.Renumbering.{TakesNumbers}
 use Rattle.eden_ops.proofs.removing.unlink.Goals as goal
 
 file_not_dir : (told : Kind) → (told ≡ kind.File) ⊎ ((told ≡ kind.Exec) ⊎ (told ≡ kind.Link)) → told ≢ kind.Dir
@@ -230,3 +232,54 @@ returns-in-Err-remove_entry-clause-stamps g c =
 
 pub returns-in_default-clause-stamps : goal.returns-in_default-clause-stamps
 returns-in_default-clause-stamps g c = stamps_refused g.W.World g.F.Files (ask.Unlink c.args.path.now) c.args.inodes.now c.args.inodes.now same _ EISDIR refl
+
+pub returns-in-Err-clause-edits : goal.returns-in-Err-clause-edits
+returns-in-Err-clause-edits g c =
+    edits_ended g.W.World g.F.Files (ask.Unlink c.args.path.now) c.args.inodes.now c.meet.new.inodes c.meet.ensures.keeps c.in-Err.stop _ c.ended.ensures
+
+pub returns-in-Ok-None-clause-edits : goal.returns-in-Ok-None-clause-edits
+returns-in-Ok-None-clause-edits g c =
+    edits_kept g.W.World g.F.Files (ask.Unlink c.args.path.now) c.args.inodes.now c.meet.new.inodes c.meet.ensures.keeps _ (λ M. refl)
+
+pub returns-in-Dir-clause-edits : goal.returns-in-Dir-clause-edits
+returns-in-Dir-clause-edits g c =
+    edits_kept g.W.World g.F.Files (ask.Unlink c.args.path.now) c.args.inodes.now c.meet.new.inodes c.meet.ensures.keeps _ (λ M. refl)
+
+pub returns-in_default-clause-edits : goal.returns-in_default-clause-edits
+returns-in_default-clause-edits g c =
+    edits_kept g.W.World g.F.Files (ask.Unlink c.args.path.now) c.args.inodes.now c.args.inodes.now same _ (λ M. refl)
+
+pub returns-in-Err-settle-clause-edits : goal.returns-in-Err-settle-clause-edits
+returns-in-Err-settle-clause-edits g c =
+    let x = c.in-Err-settle.ensures.settles in
+    edits_same g.W.World g.F.Files (ask.Unlink c.args.path.now) c.args.inodes.now c.meet.new.inodes c.meet.ensures.keeps _ (λ M. refl) c.settle.new.inodes x.readies.numbers
+    (next_no_less c.meet.new.inodes.next c.settle.new.inodes.next x.readies.next)
+
+pub returns-in-Err-remove_entry-clause-edits : goal.returns-in-Err-remove_entry-clause-edits
+returns-in-Err-remove_entry-clause-edits g c =
+    let x = c.in-Err-remove_entry.ensures in
+    let st = c.settle.ensures.settles in
+    edits_same g.W.World g.F.Files (ask.Unlink c.args.path.now) c.args.inodes.now c.meet.new.inodes c.meet.ensures.keeps _ (λ M. refl) c.remove_entry.new.inodes
+    (λ h r. x.unnumbered h r ∙ st.readies.numbers h r)
+    (next_no_less c.meet.new.inodes.next c.remove_entry.new.inodes.next (x.next ∙ st.readies.next))
+
+pub returns-in-Ok-clause-edits : goal.returns-in-Ok-clause-edits
+returns-in-Ok-clause-edits g c =
+    let p = c.args.path.now in
+    let s = c.args.inodes.now in
+    let t = c.meet.new.inodes in
+    let v = c.settle.new.inodes in
+    let u = c.remove_entry.new.inodes in
+    let st = c.settle.ensures.settles in
+    let x = c.in-Ok.ensures in
+    let split = sym c.as_slice.ensures ∙ c.in-Some.ensures.cases.0 in
+    let seen = seen_at g.W.World g.F.Files p s t c.meet.new.cache _ c.in-Ok-Some.seen c.in-Ok-Some.field-0-is c.in-Ok-Some.ensures.meets in
+    let other = c.what.ensures.other (file_not_dir c.what.result c.in-File.is) in
+    let file : seen.row.kind ≢ kind.Dir = λ dir. file_not_dir c.what.result c.in-File.is (sym other.1 ∙ seen.kind ∙ dir) in
+    let R = g.W.World.repository in
+    let F = g.F.Files.stored t.files in
+    edits_gone g.W.World g.F.Files (ask.Unlink p) s t c.meet.ensures.keeps v u p (not_root p c.in-Some.above.now c.in-Some.name.now split) st.readies.numbers (x.next ∙ st.readies.next)
+    (λ h. subst (λ (r : Path). TakesNumbers g.F.Files r v u) (sym split) (x.renumbers h))
+    (λ h n r. none_numbered g.W.World g.F.Files c.numbering_laws.ensures.nodes t (kept_dirs R F t.root t.next (c.holds.ensures.kept h)) (c.holds.ensures.numbers h) (p ++ n ∷ r)
+    (file_alone c.shown_laws.ensures.below R F p t.root seen.row (kept_dirs R F t.root t.next (c.holds.ensures.kept h)) seen.there file n r))
+    (Finished say.Ok) (λ M. refl)

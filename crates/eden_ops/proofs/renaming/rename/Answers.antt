@@ -16,6 +16,7 @@ use Rattle.eden_ops.proofs.TwoPaths.{moves, starts_rename, begins, plain_told, l
 use Rattle.eden_ops.proofs.Leaving.{leaves_kept, leaves_moved, leaves_unmoved}
 use Rattle.eden_ops.proofs.Stamped.{stamps_refused, stamps_met, stamps_one, stamps_landed, stamps_moved, never_done}
 use Rattle.eden_ops.proofs.Steps.{keeps_first, keeps_both}
+use Rattle.eden_ops.proofs.Renumbering.{edits_ended, edits_kept, edits_moved, edits_same, next_no_less, paths_leave}
 use Rattle.eden_ops.proofs.renaming.rename.Goals as goal
 
 done_reply : (r : Reply) → Finished r ≡ Finished say.Ok → r ≡ say.Ok
@@ -209,3 +210,44 @@ returns-in-Ok-relocate-clause-counts g c = let a = c.meet_first.ensures.counts i
 
 pub returns-in-Err-relocate-clause-counts : goal.returns-in-Err-relocate-clause-counts
 returns-in-Err-relocate-clause-counts g c = let a = c.meet_first.ensures.counts in let b = c.land.ensures.counts in omega (arith, a, b)
+
+pub returns-then-is_root-clause-edits : goal.returns-then-is_root-clause-edits
+returns-then-is_root-clause-edits g c =
+    edits_kept g.W.World g.F.Files (ask.Rename c.args.from.now c.args.to.now) c.args.inodes.now c.args.inodes.now same _ (λ M. refl)
+
+pub returns-in-Err-clause-edits : goal.returns-in-Err-clause-edits
+returns-in-Err-clause-edits g c =
+    edits_ended g.W.World g.F.Files (ask.Rename c.args.from.now c.args.to.now) c.args.inodes.now c.meet_first.new.inodes
+    (keeps_first g.W.World g.F.Files c.args.from.now c.args.to.now c.args.inodes.now c.meet_first.new.inodes c.meet_first.ensures.keeps) c.in-Err.stop _ c.ended.ensures
+
+pub returns-in-Ok-None-clause-edits : goal.returns-in-Ok-None-clause-edits
+returns-in-Ok-None-clause-edits g c =
+    edits_kept g.W.World g.F.Files (ask.Rename c.args.from.now c.args.to.now) c.args.inodes.now c.meet_first.new.inodes
+    (keeps_first g.W.World g.F.Files c.args.from.now c.args.to.now c.args.inodes.now c.meet_first.new.inodes c.meet_first.ensures.keeps) _ (λ M. refl)
+
+pub returns-in-Some-clause-edits : goal.returns-in-Some-clause-edits
+returns-in-Some-clause-edits g c =
+    edits_kept g.W.World g.F.Files (ask.Rename c.args.from.now c.args.to.now) c.args.inodes.now c.meet_first.new.inodes
+    (keeps_first g.W.World g.F.Files c.args.from.now c.args.to.now c.args.inodes.now c.meet_first.new.inodes c.meet_first.ensures.keeps) _
+    (paths_leave c.args.from.now c.args.to.now c.in-Some.reply c.in-Some.ensures.one c.in-Some.ensures.plain)
+
+pub returns-in-Err-land-clause-edits : goal.returns-in-Err-land-clause-edits
+returns-in-Err-land-clause-edits g c =
+    edits_ended g.W.World g.F.Files (ask.Rename c.args.from.now c.args.to.now) c.args.inodes.now c.land.new.inodes
+    (keeps_both g.W.World g.F.Files c.args.from.now c.args.to.now c.args.inodes.now c.meet_first.new.inodes c.land.new.inodes c.meet_first.ensures.keeps c.land.ensures.keeps) c.in-Err-land.stop _
+    c.ended-in-Err-land.ensures
+
+pub returns-in-Err-relocate-clause-edits : goal.returns-in-Err-relocate-clause-edits
+returns-in-Err-relocate-clause-edits g c =
+    let x = c.in-Err-relocate.ensures.relocates in
+    edits_same g.W.World g.F.Files (ask.Rename c.args.from.now c.args.to.now) c.args.inodes.now c.land.new.inodes
+    (keeps_both g.W.World g.F.Files c.args.from.now c.args.to.now c.args.inodes.now c.meet_first.new.inodes c.land.new.inodes c.meet_first.ensures.keeps c.land.ensures.keeps) _ (λ M. refl)
+    c.relocate.new.inodes x.unnumbered (next_no_less c.land.new.inodes.next c.relocate.new.inodes.next x.next)
+
+pub returns-in-Ok-relocate-clause-edits : goal.returns-in-Ok-relocate-clause-edits
+returns-in-Ok-relocate-clause-edits g c =
+    let x = c.in-Ok-relocate.ensures.relocates in
+    edits_moved g.W.World g.F.Files c.args.from.now c.args.to.now c.args.inodes.now c.land.new.inodes
+    (keeps_both g.W.World g.F.Files c.args.from.now c.args.to.now c.args.inodes.now c.meet_first.new.inodes c.land.new.inodes c.meet_first.ensures.keeps c.land.ensures.keeps) c.relocate.new.inodes
+    (sym c.is_root.ensures ∙ c.if-is_root.false)
+    (sym c.is_root-else-is_root.ensures ∙ c.if-is_root-2.false) c.in-None.ensures.told.0 x.renumbers x.next

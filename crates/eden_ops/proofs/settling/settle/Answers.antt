@@ -13,6 +13,7 @@ returns-clause-settles g c =
     record {
       readies = record {
         shown = x.shown;
+        numbers = x.numbers;
         names = alike_names s.root t.root alike;
         fewer = alike_fewer s.root t.root alike;
         stamps = alike_stamps s.root t.root alike;

@@ -21,6 +21,7 @@ use Rattle.eden_ops.proofs.Stamped.{stamps_then, stamps_kept}
 use Rattle.eden_ops.proofs.Stamps.{walked_on}
 use Rattle.eden_inode.specs.Trails.{Leads}
 use Rattle.eden_tree.specs.Directory.{Row}
+use Rattle.eden_ops.proofs.Renumbering.{edits_ended, edits_kept, edits_same, next_no_less}
 use Rattle.eden_ops.proofs.writing.truncate.Goals as goal
 
 pub returns-in-Err-clause-attempts : goal.returns-in-Err-clause-attempts
@@ -191,3 +192,38 @@ returns-clause-stamps g c =
 
 pub returns-in-Err-make-clause-leads : goal.returns-in-Err-make-clause-leads
 returns-in-Err-make-clause-leads g c k is = subst (λ (x : Row). Leads c.args.path.now c.meet_file.new.trail.positions x) (sym c.make.ensures.still) c.meet_file.ensures.leads
+
+pub returns-in-Err-make-clause-edits : goal.returns-in-Err-make-clause-edits
+returns-in-Err-make-clause-edits g c =
+    edits_ended g.W.World g.F.Files (ask.Truncate c.args.path.now c.args.size) c.args.inodes.now c.make.new.inodes
+    (keeps_on g.W.World g.F.Files c.args.inodes.now c.meet_file.new.inodes c.make.new.inodes c.meet_file.ensures.keeps c.make.ensures.keeps) c.in-Err-make.stop _ c.ended-in-Err-make.ensures
+
+pub returns-in-Err-clause-edits : goal.returns-in-Err-clause-edits
+returns-in-Err-clause-edits g c =
+    edits_ended g.W.World g.F.Files (ask.Truncate c.args.path.now c.args.size) c.args.inodes.now c.meet_file.new.inodes c.meet_file.ensures.keeps c.in-Err.stop _ c.ended.ensures
+
+pub returns-then-size-gt-MAX_FILE-clause-edits : goal.returns-then-size-gt-MAX_FILE-clause-edits
+returns-then-size-gt-MAX_FILE-clause-edits g c =
+    edits_kept g.W.World g.F.Files (ask.Truncate c.args.path.now c.args.size) c.args.inodes.now c.meet_file.new.inodes c.meet_file.ensures.keeps _ (λ M. refl)
+
+pub returns-in-Ok-fill-clause-edits : goal.returns-in-Ok-fill-clause-edits
+returns-in-Ok-fill-clause-edits g c =
+    edits_same g.W.World g.F.Files (ask.Truncate c.args.path.now c.args.size) c.args.inodes.now c.meet_file.new.inodes c.meet_file.ensures.keeps _ (λ M. refl) c.fill.new.inodes c.fill.ensures.numbers
+    (next_no_less c.meet_file.new.inodes.next c.fill.new.inodes.next c.fill.ensures.next)
+
+pub returns-in-Err-fill-clause-edits : goal.returns-in-Err-fill-clause-edits
+returns-in-Err-fill-clause-edits g c =
+    edits_same g.W.World g.F.Files (ask.Truncate c.args.path.now c.args.size) c.args.inodes.now c.meet_file.new.inodes c.meet_file.ensures.keeps _ (λ M. refl) c.fill.new.inodes c.fill.ensures.numbers
+    (next_no_less c.meet_file.new.inodes.next c.fill.new.inodes.next c.fill.ensures.next)
+
+pub returns-in-Ok-fill-2-clause-edits : goal.returns-in-Ok-fill-2-clause-edits
+returns-in-Ok-fill-2-clause-edits g c =
+    edits_same g.W.World g.F.Files (ask.Truncate c.args.path.now c.args.size) c.args.inodes.now c.make.new.inodes
+    (keeps_on g.W.World g.F.Files c.args.inodes.now c.meet_file.new.inodes c.make.new.inodes c.meet_file.ensures.keeps c.make.ensures.keeps) _ (λ M. refl) c.fill-2.new.inodes c.fill-2.ensures.numbers
+    (next_no_less c.make.new.inodes.next c.fill-2.new.inodes.next c.fill-2.ensures.next)
+
+pub returns-clause-edits : goal.returns-clause-edits
+returns-clause-edits g c =
+    edits_same g.W.World g.F.Files (ask.Truncate c.args.path.now c.args.size) c.args.inodes.now c.make.new.inodes
+    (keeps_on g.W.World g.F.Files c.args.inodes.now c.meet_file.new.inodes c.make.new.inodes c.meet_file.ensures.keeps c.make.ensures.keeps) _ (λ M. refl) c.fill-2.new.inodes c.fill-2.ensures.numbers
+    (next_no_less c.make.new.inodes.next c.fill-2.new.inodes.next c.fill-2.ensures.next)

@@ -5,11 +5,11 @@ use Rattle.eden_model.specs.Trees.{Tree}
 use Rattle.eden_overlay.specs.Files.{Stored}
 use Rattle.eden_tree.specs.Directory.{Row, child_of}
 use Rattle.eden_coupling.specs.Shown.{shown_in}
-use Rattle.eden_inode.specs.Tables.{Table, shows}
+use Rattle.eden_inode.specs.Tables.{Table, shows, shows_numbers}
 use Rattle.eden_ops.proofs.CallerLemmas.{root_left}
 use Rattle.eden_checkout.specs.Checkouts.{Checkout}
-use Rattle.eden_checkout.specs.Opening.{CanOpen, IsRootOf}
-use Rattle.eden_checkout.proofs.Closed.{comes_from, still_root, can_open}
+use Rattle.eden_checkout.specs.Opening.{CanOpen, IsRootOf, files_number}
+use Rattle.eden_checkout.proofs.Closed.{comes_from, still_root, can_open, files_numbered}
 use Rattle.eden_checkout.proofs.checkout.Checkout.close.Goals as goal
 
 pub invariant_of-self : goal.invariant_of-self
@@ -49,3 +49,21 @@ returns-clause-opens g c h =
     subst (λ (G : Stored). CanOpen g.W.World.repository (shows g.W.World g.F.Files c.args.self.inodes) c.args.self.root G) now
     (subst (λ (i : Id). CanOpen g.W.World.repository (shows g.W.World g.F.Files c.args.self.inodes) i F) (ap (λ (s : Checkout _). s.root) c.self.view_is)
     (subst (λ (T : Tree). CanOpen g.W.World.repository T root F) same opens))
+
+pub returns-clause-numbers : goal.returns-clause-numbers
+returns-clause-numbers g c h p =
+    let t : Table _ = c.store_state.new.inodes in
+    let F : Stored = g.F.Files.stored t.files in
+    let x : Row = c.store_state.new.inodes.root in
+    let root : Id = c.self.inside.root in
+    let gone = comes_from root c.self.inside.inodes.root.origin c.let_go.new.inodes.root.origin c.self.invariant
+    (root_left [] c.self.inside.inodes.root c.let_go.new.inodes.root c.let_go.ensures.goes) in
+    let of : IsRootOf root x.origin = still_root root c.let_go.new.inodes.root.origin x.origin gone (ap (λ (y : Row). y.origin) c.store_state.ensures.root) in
+    let none : child_of x ≡ None = ap child_of c.store_state.ensures.root ∙ c.in_default.ensures.away c.let_go.new.inodes.root refl in
+    let now : g.F.Files.stored c.into_files.result ≡ F = ap g.F.Files.stored (c.into_files.ensures ∙ c.into_overlay.ensures) in
+    sym (ap (λ (s : Checkout _). shows_numbers g.F.Files s.inodes p) c.self.view_is)
+    ∙ sym (c.let_go.ensures.numbers h p)
+    ∙ sym (c.store_state.ensures.numbers h p)
+    ∙ files_numbered g.W.World.repository F x t.next root c.holds.ensures.table (c.holds.ensures.kept h) none of c.tie_laws.ensures.sound c.tie_laws.ensures.numbers_below p
+    ∙ ap (λ (i : Id). files_number i F p) (ap (λ (s : Checkout _). s.root) c.self.view_is)
+    ∙ ap (λ (G : Stored). files_number c.args.self.root G p) (sym now)
