@@ -277,8 +277,8 @@ module _ {T : Type 0} (A : Table T) (honest : Type 0) (opening : Tree) (N : Numb
           let old : p.since ≤ length m.history = h.since x p (other.0, sym e ∙ other.1) in
           omega (arith, long)
 
-  pub wait_keeps : GainsAreBacked → (m : Core T) (c : ℕ) (s : Pending) (k : Key) (t : T) (q : Queue) → IsMount A honest opening N m → Pends c s m → IsQueue q → q ≡ after_await k c (after_failure c m.queue)
-      → Awaits A honest m.table s.request (mark_of c m.queue) k t → IsMount A honest opening N (record m { table = t; queue = q })
+  pub wait_keeps : GainsAreBacked → (m : Core T) (c : ℕ) (s : Pending) (k : Key) (t : T) (q : Queue) → IsMount A honest opening N m → Pends c s m → IsQueue q
+      → q ≡ after_await k c (after_failure c m.queue) → Awaits A honest m.table s.request (mark_of c m.queue) k t → IsMount A honest opening N (record m { table = t; queue = q })
   wait_keeps gained m c s k t q h pends i is awaits = retable (record m { queue = q }) t (requeue m q h i passes rest) awaits.needs.tree
       (λ honestly M b. gained M (A.numbers m.table) (A.numbers t) (A.next m.table) (A.next t) b (awaits.needs.numbers honestly))
     where
