@@ -31,8 +31,9 @@ kind_word kind.Dir = codes "dir"
 abbrev pub kind_text : Kind → List ℕ
 kind_text k = codes "kind " ++ kind_word k ++ line_feed
 
-abbrev pub stat_text : Kind → ℕ → List ℕ
-stat_text k size = codes "stat " ++ kind_word k ++ codes " " ++ decimal size ++ line_feed
+-- the length, and the inode number
+abbrev pub stat_text : Kind → ℕ → ℕ → List ℕ
+stat_text k size number = codes "stat " ++ kind_word k ++ codes " " ++ decimal size ++ codes " " ++ decimal number ++ line_feed
 
 abbrev pub count_text : ℕ → List ℕ
 count_text count = codes "count " ++ decimal count ++ line_feed
@@ -109,7 +110,7 @@ call_fault_text call.Stopped = codes "fault stopped\n"
 abbrev pub reply_text : Reply → List ℕ
 reply_text reply.Ok = codes "ok\n"
 reply_text (reply.Kind k) = kind_text k
-reply_text (reply.Stat k size) = stat_text k size
+reply_text (reply.Stat k size number) = stat_text k size number
 reply_text (reply.Data bytes) = data_text bytes
 reply_text (reply.Count count) = count_text count
 reply_text (reply.Entries entries more) = entries_text entries more

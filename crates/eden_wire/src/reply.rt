@@ -101,11 +101,14 @@ fn stat_front(kind: Kind) -> &'static [u8]
     }
 }
 
-fn put_stat<W: Write>(output: &mut Output, writer: &mut W, kind: Kind, size: u64)
-    ensures { Grows (W.contents writer.old) (W.contents writer.new) output.old output.new (stat_text kind size) }
+fn put_stat<W: Write>(output: &mut Output, writer: &mut W, kind: Kind, size: u64, number: u64)
+    ensures { Grows (W.contents writer.old) (W.contents writer.new) output.old output.new
+        (stat_text kind size number) }
 {
     output.put(writer, stat_front(kind));
     put_number(output, writer, size);
+    output.put(writer, b" ");
+    put_number(output, writer, number);
     output.put(writer, b"\n");
 }
 
@@ -299,7 +302,7 @@ pub(crate) fn put_reply<W: Write>(output: &mut Output, writer: &mut W, reply: &R
     match reply {
         Reply::Ok => output.put(writer, b"ok\n"),
         Reply::Kind(kind) => output.put(writer, kind_line(*kind)),
-        Reply::Stat(kind, size) => put_stat(output, writer, *kind, *size),
+        Reply::Stat(kind, size, number) => put_stat(output, writer, *kind, *size, *number),
         Reply::Data(bytes) => put_data(output, writer, bytes.as_slice()),
         Reply::Count(count) => put_count(output, writer, *count),
         Reply::Entries(entries, more) => put_entries(output, writer, entries, *more),
