@@ -60,4 +60,3 @@ opens_as_shown backed root F next held later (inl none) shown = absurd (none_hel
 opens_as_shown backed root F next held later (inr other) shown =
     let same : later ≡ next = ap (λ (s : State). s.next) (same_Some (record { root = root; next = later }) (record { root = root; next = next }) (sym other ∙ held)) in
     subst (Backs (opening_numbers (files_number root F) next) (files_number root F)) (sym same) (backed (files_number root F) next (subst (AreShown (files_number root F)) same shown))
-
