@@ -5,6 +5,8 @@ use Rattle.eden_model.specs.declared.id.Id.{Id}
 use Rattle.eden_model.specs.declared.kind.Kind.TheVariants as kind
 use Rattle.eden_model.specs.declared.kind.Origin.{Origin}
 use Rattle.eden_model.specs.declared.kind.Origin.TheVariants as origin
+use Rattle.eden_model.specs.Backing.{Backs}
+use Rattle.eden_model.specs.Numbers.{Numbers}
 use Rattle.eden_model.specs.Repository.{Repository, source_of, ground_with}
 use Rattle.eden_model.specs.Trees.{Path}
 use Rattle.eden_model.specs.Shown.{shown}
@@ -31,7 +33,9 @@ use Rattle.eden_coupling.specs.ShownLaws.{ShowsFiles, ShowsAway}
 use Rattle.eden_coupling.proofs.CallerLemmas.{loose_kept, loose_alike, state_comes}
 use Rattle.eden_inode.specs.Tables.{fresh_root}
 use Rattle.eden_ops.specs.Changes.{StaysOrBecomesOwn}
-use Rattle.eden_checkout.specs.Opening.{files_show, files_number, FilesKeep, IsRootOf, CanOpen}
+use Rattle.eden_checkout.specs.declared.opening.Opening.TheVariants as opening
+use Rattle.eden_checkout.specs.Opening.{files_show, files_number, FilesBack, FilesKeep, IsRootOf, CanOpen}
+use Rattle.eden_checkout.proofs.Opened.{backed_as, none_held}
 
 pub still_root : (id : Id) (a b : Origin) → IsRootOf id a → b ≡ a → IsRootOf id b
 still_root id a b is same = subst (IsRootOf id) (sym same) is
@@ -91,17 +95,25 @@ module _ (R : Repository) (F : Stored) (x : Row) (next : ℕ) (root : Id) (table
   pub files_numbered : (p : Path) → numbers (in_files F) x p ≡ files_number root F p
   files_numbered p = ap (λ (y : Row). numbers (in_files F) y p) (sym root_there)
 
-  pub can_open : KeepsNumbers R F x next → HoldsState F (record { root = root; next = next }) → CanOpen R (shown_in R F x) root F
-  can_open keeps held = record {
-    sound = sound F kept.full x next kept.ties;
-    shown = shows_on;
-    below = λ s other c e live names.
-        let same : record { root = root; next = next } ≡ s = same_Some (record { root = root; next = next }) s (sym held ∙ other) in
-        subst (λ (t : State). e.number < t.next) same (below F kept.full x next kept.ties c e live names);
-    numbers = λ later other.
-        let same : next ≡ later = ap (λ (s : State). s.next) (same_Some (record { root = root; next = next }) (record { root = root; next = later }) (sym held ∙ other)) in
-        subst (FilesKeep R root F) same (subst (λ (y : Row). KeepsNumbers R F y next) (sym root_there) keeps);
-  }
+  module _ (N : Numbers) (backs : Backs N (numbers (in_files F) x) next) (held : HoldsState F (record { root = root; next = next })) where
+    next_held : (later : ℕ) → HoldsState F (record { root = root; next = later }) → next ≡ later
+    next_held later other = ap (λ (s : State). s.next) (same_Some (record { root = root; next = next }) (record { root = root; next = later }) (sym held ∙ other))
+
+    files_back : FilesBack opening.Closed root F N
+    files_back later (inl none) shown = absurd (none_held F (record { root = root; next = next }) none.0 held)
+    files_back later (inr other) shown =
+        subst (Backs N (files_number root F)) (next_held later other) (backed_as N (numbers (in_files F) x) (files_number root F) next backs (λ p. sym (files_numbered p)))
+
+    pub can_open : KeepsNumbers R F x next → CanOpen R (shown_in R F x) N root F
+    can_open keeps = record {
+      sound = sound F kept.full x next kept.ties;
+      shown = shows_on;
+      below = λ s other c e live names.
+          let same : record { root = root; next = next } ≡ s = same_Some (record { root = root; next = next }) s (sym held ∙ other) in
+          subst (λ (t : State). e.number < t.next) same (below F kept.full x next kept.ties c e live names);
+      numbers = λ later other. subst (FilesKeep R root F) (next_held later other) (subst (λ (y : Row). KeepsNumbers R F y next) (sym root_there) keeps);
+      backed = files_back;
+    }
 
 pub holds_state : (F : Stored) (s : State) → IsGoodState s → HoldsState (with_state F s) s
 holds_state F s good = state_written s good

@@ -1,14 +1,17 @@
 -- A table over files as they are opened.
 use Rattle.std.proofs.Common.{◌≡◌, ◌≢◌, ◌<◌, ◌≤◌, ◌⊎◌, ℕ, List, Option, Some, None, Result, Ok, Err, IfErr, IsSome, sym, refl, ◌∙◌, ap, subst, inl, inr, arith}
 use Rattle.std.proofs.lemmas.Option.{none-some}
+use Rattle.std.proofs.Math.Path.{fun_ext}
 use Rattle.std.specs.Option.{option_and_then}
 use Rattle.std.specs.Result.{IsErrAnd}
 use Rattle.eden_model.specs.declared.id.Id.{Id}
 use Rattle.eden_model.specs.declared.kind.Kind.TheVariants as kind
 use Rattle.eden_model.specs.declared.kind.Origin.{Origin}
 use Rattle.eden_model.specs.declared.kind.Origin.TheVariants as origin
+use Rattle.eden_model.specs.Backing.{Backs}
 use Rattle.eden_model.specs.Failures.{Rose}
 use Rattle.eden_model.specs.Limits.{number_end}
+use Rattle.eden_model.specs.Numbers.{Numbering, Numbers}
 use Rattle.eden_model.specs.Repository.{Repository}
 use Rattle.eden_model.specs.Trees.{Path, Tree}
 use Rattle.eden_overlay_format.specs.declared.stored_entry.StoredEntry.{StoredEntry}
@@ -39,6 +42,10 @@ use Rattle.eden_checkout.specs.declared.opening.Opening.TheVariants as opening
 use Rattle.eden_checkout.specs.declared.opening.Start.{Start}
 use Rattle.eden_checkout.specs.Opening.{files_show, files_number, FilesKeep, CanOpen, MayOpen, AreNone, StartsAt, Starts, of_rescan, AreAccused, IsOpenFault, IsRescanRefusal, IsRefusal}
 
+-- numbers that are shown elsewhere too are backed there
+pub backed_as : (N : Numbers) (S T : Numbering) (next : ℕ) → Backs N S next → ((p : Path) → T p ≡ S p) → Backs N T next
+backed_as N S T next b same = subst (λ (M : Numbering). Backs N M next) (sym (fun_ext same)) b
+
 own_stands : (root : Id) (o : Option (List ℕ)) → root_from root o ≢ origin.Own → o ≡ None
 own_stands root None other = refl
 own_stands root (Some b) other = absurd (other refl)
@@ -49,6 +56,10 @@ unowned root (Some b) is = cc
 
 pub nothing_named : (F : Stored) → AreNone F → (c : ℕ) (e : StoredEntry) → ¬ Names F c e
 nothing_named F none c e n = let h : None ≡ Some n.entries = sym (ap (option_and_then entries_in) (none c)) ∙ n.held in cc
+
+-- no files, no state
+pub none_held : (F : Stored) (s : State) → AreNone F → HoldsState F s → ⊥
+none_held F s none held = none-some s (sym (ap (option_and_then state_in) (none 0)) ∙ held)
 
 -- no files keep no numbers but the root's
 nothing_saved : (F : Stored) → AreNone F → (k : ℕ) (id : Id) → saved_at F k id ≡ None
@@ -96,23 +107,23 @@ module _ (root : Id) (F : Stored) (sound : AreSound F) (start : Start) (from : s
         (state_goes R F (fresh_root (root_from root (root_file F))) start.next keeps).keeps;
   }
 
-module _ (R : Repository) (tree : Tree) (root : Id) (F : Stored) where
-  below_by : CanOpen R tree root F → (next : ℕ) → StartsAt F root next → (c : ℕ) (e : StoredEntry) → IsLive F c → Names F c e → e.number < next
+module _ (R : Repository) (tree : Tree) (N : Numbers) (root : Id) (F : Stored) where
+  below_by : CanOpen R tree N root F → (next : ℕ) → StartsAt F root next → (c : ℕ) (e : StoredEntry) → IsLive F c → Names F c e → e.number < next
   below_by can next (inl none) c e live names = absurd (nothing_named F none.0 c e names)
   below_by can next (inr held) c e live names = can.below (record { root = root; next = next }) held c e live names
 
-  numbers_by : CanOpen R tree root F → (next : ℕ) → StartsAt F root next → FilesKeep R root F next
+  numbers_by : CanOpen R tree N root F → (next : ℕ) → StartsAt F root next → FilesKeep R root F next
   numbers_by can next (inl none) = subst (FilesKeep R root F) (sym none.1) (none_keep R root F none.0)
   numbers_by can next (inr held) = can.numbers next held
 
   -- what the files keep of numbers
-  keep_by : (how : Opening) → MayOpen how R tree root F → (start : Start) → Starts how root F start → start.next ≤ number_end → FilesKeep R root F start.next
+  keep_by : (how : Opening) → MayOpen how R tree N root F → (start : Start) → Starts how root F start → start.next ≤ number_end → FilesKeep R root F start.next
   keep_by opening.Closed can start starts most = numbers_by can start.next starts.next
   keep_by opening.Rescan may start starts most =
       found_keeps R F root (fresh_root (root_from root (root_file F))) start.next (record { number = refl; is_dir = refl; away = refl; from = refl })
       starts.next.1 starts.next.2 most may.1
 
-  pub can_start : (how : Opening) → MayOpen how R tree root F → (start : Start) → Starts how root F start → start.next ≤ number_end
+  pub can_start : (how : Opening) → MayOpen how R tree N root F → (start : Start) → Starts how root F start → start.next ≤ number_end
       → CanStart R (without F 0) start.origin start.next
   can_start opening.Closed can start starts most =
       can_start_below root F can.sound start starts.origin R (below_by can start.next starts.next) (numbers_by can start.next starts.next)
@@ -121,13 +132,18 @@ module _ (R : Repository) (tree : Tree) (root : Id) (F : Stored) where
       (keep_by opening.Rescan may start starts most)
 
   -- the state's file shows none
-  pub number_by : (how : Opening) → MayOpen how R tree root F → (start : Start) → Starts how root F start → start.next ≤ number_end → (p : Path)
+  pub number_by : (how : Opening) → MayOpen how R tree N root F → (start : Start) → Starts how root F start → start.next ≤ number_end → (p : Path)
       → numbers (in_files (without F 0)) (fresh_root start.origin) p ≡ files_number root F p
   number_by how may start starts most p =
       ap (λ (o : Origin). numbers (in_files (without F 0)) (fresh_root o) p) starts.origin
       ∙ (state_goes R F (fresh_root (root_from root (root_file F))) start.next (keep_by how may start starts most)).same p
 
-  pub shown_by : (how : Opening) → MayOpen how R tree root F → files_show R root F ≡ tree
+  -- what is opened with is backed by them
+  pub backed_by : (how : Opening) → MayOpen how R tree N root F → (start : Start) → Starts how root F start → start.next ≤ number_end → Backs N (files_number root F) start.next
+  backed_by opening.Closed can start starts most = can.backed start.next starts.next (keep_by opening.Closed can start starts most).shown
+  backed_by opening.Rescan may start starts most = may.2 start.next starts.next (keep_by opening.Rescan may start starts most).shown
+
+  pub shown_by : (how : Opening) → MayOpen how R tree N root F → files_show R root F ≡ tree
   shown_by opening.Closed can = can.shown
   shown_by opening.Rescan may = may.0
 

@@ -2,10 +2,14 @@
 use Rattle.std.proofs.Common.{◌≡◌, ◌≢◌, ◌<◌, ℕ, true, false, Option, Some, None, List, [], All, Contains, sym, refl, ◌∙◌, ap, subst, inl, inr, arith}
 use Rattle.std.specs.Option.{IsSome, option_and_then}
 use Rattle.std.proofs.lemmas.Option.{same_Some, none-some}
+use Rattle.std.proofs.Math.Path.{fun_ext}
 use Rattle.std.proofs.lemmas.List.Elements.{All-contains, All-from_recursion}
 use Rattle.eden_model.specs.declared.id.Id.{Id}
+use Rattle.eden_model.specs.Backing.{AreShown, Backs as Backed}
 use Rattle.eden_model.specs.Limits.{number_end}
+use Rattle.eden_model.specs.Numbers.{Numbers}
 use Rattle.eden_model.specs.Repository.{Repository}
+use Rattle.eden_model.specs.Trees.{Path, Tree}
 use Rattle.eden_overlay_format.specs.declared.state.State.{State}
 use Rattle.eden_overlay_format.specs.declared.stored_entry.StoredEntry.{StoredEntry}
 use Rattle.eden_overlay_format.specs.Directory.{IsStorable}
@@ -19,12 +23,15 @@ use Rattle.eden_overlay.proofs.CallerLemmas.{put_apart, held_storable, numbers_f
 use Rattle.eden_tree.specs.Directory.{Row, Directory, child_of}
 use Rattle.eden_coupling.specs.Listings.{Place, top}
 use Rattle.eden_coupling.specs.NumberKept.{KeepsNumbers}
+use Rattle.eden_coupling.specs.Numberings.{in_files, numbers}
 use Rattle.eden_coupling.specs.Shown.{shown_in}
 use Rattle.eden_coupling.specs.Ties.{Fits}
 use Rattle.eden_coupling.proofs.CallerLemmas.{Backs, backed_alike, place_cases, orphans_go}
 use Rattle.eden_inode.specs.Tables.{fresh_root}
-use Rattle.eden_checkout.specs.Opening.{AreNone, files_show, FilesKeep}
+use Rattle.eden_checkout.specs.declared.opening.Opening.TheVariants as opening
+use Rattle.eden_checkout.specs.Opening.{AreNone, CanOpen, files_number, files_show, FilesBack, FilesKeep}
 use Rattle.eden_checkout.specs.Tidying.{AreTidied, LackOrphans, IsClosed, IsClosedOver, ShowsSame, StaysClosed}
+use Rattle.eden_checkout.proofs.Opened.{backed_as, none_held}
 
 module _ (F : Stored) (over : Id) (G : Stored) (sound : AreSound F) (stay : OthersStay F over G) where
   numbered : (c : ℕ) (e : StoredEntry) → Names F c e → e.number < number_end
@@ -85,13 +92,41 @@ module _ (F : Stored) (over : Id) (G : Stored) (sound : AreSound F) (stay : Othe
       (orphans_go R F G root x next (record { number = refl; is_dir = refl; away = refl; from = refl })
       (lack root (inr (record { root = root; next = next }, (held, refl)))) keeps).keeps
 
-  pub stays_closed : LackOrphans F G → StaysClosed F G
-  stays_closed lack R tree root can = record {
+  -- .. which show the same numbers
+  numbered_same : (R : Repository) (root : Id) (next : ℕ) → LackOrphans F G → HoldsState F (record { root = root; next = next }) → FilesKeep R root F next
+      → (p : Path) → files_number root G p ≡ files_number root F p
+  numbered_same R root next lack held keeps p =
+      let x = fresh_root (root_from root (root_file F)) in
+      ap (λ (o : Option (List ℕ)). numbers (in_files G) (fresh_root (root_from root o)) p) (root_same G F (root_stays F over G stay))
+      ∙ (orphans_go R F G root x next (record { number = refl; is_dir = refl; away = refl; from = refl })
+      (lack root (inr (record { root = root; next = next }, (held, refl)))) keeps).same p
+
+  -- where no files are left there were none
+  none_before : IsClosed F → AreNone G → G ≡ F
+  none_before (inl before) none = fun_ext (λ k. none k ∙ sym (before k))
+  none_before (inr (s, held)) none = absurd (none_held G s none (ap (option_and_then state_in) state_stays_there ∙ held)) where
+    state_stays_there : G 0 ≡ F 0
+    state_stays_there = stay 0 (λ orphan. let least = orphan.least in absurd (omega (arith, least)))
+
+  module _ (lack : LackOrphans F G) (closed : IsClosed F) (R : Repository) (tree : Tree) (N : Numbers) (root : Id) (can : CanOpen R tree N root F) where
+    still_backed : FilesBack opening.Closed root G N
+    still_backed next (inl (none, first)) shown =
+        let same = none_before closed none in
+        subst (λ (H : Stored). Backed N (files_number root H) next) (sym same)
+        (can.backed next (inl (subst AreNone same none, first)) (subst (λ (H : Stored). AreShown (files_number root H) next) same shown))
+    still_backed next (inr held) shown =
+        let before = held_before (record { root = root; next = next }) held in
+        let keeps = can.numbers next before in
+        backed_as N (files_number root F) (files_number root G) next (can.backed next (inr before) keeps.shown) (numbered_same R root next lack before keeps)
+
+  pub stays_closed : LackOrphans F G → IsClosed F → StaysClosed F G
+  stays_closed lack closed R tree N root can = record {
     sound = still_sound F over G stay sound;
     shown = shows_same R root ∙ can.shown;
     below = λ s held c e live names. can.below s (held_before s held) c e (live_before F over G stay c live) (named_before F over G stay c e live names);
     numbers = λ next held.
         let before = held_before (record { root = root; next = next }) held in numbers_kept R root next lack before (can.numbers next before);
+    backed = still_backed lack closed R tree N root can;
   }
 
 -- files that are as they were
@@ -161,4 +196,4 @@ module _ (F G : Stored) (sound : AreSound F) (closed : IsClosed F) (lack : LackO
   lacking_shown = let at = closed_over F closed in same_shown F at.0 G sound (lack at.0 at.1).others
 
   pub lacking_closed : StaysClosed F G
-  lacking_closed = let at = closed_over F closed in stays_closed F at.0 G sound (lack at.0 at.1).others lack
+  lacking_closed = let at = closed_over F closed in stays_closed F at.0 G sound (lack at.0 at.1).others lack closed

@@ -12,12 +12,13 @@ use Rattle.eden_object.specs.Objects.{Body}
 use Rattle.eden_overlay.specs.declared.files.Files.{Ghosts as Files}
 use Rattle.eden_cache.specs.Cache.{Cache, KeepsObject, KeepsSize}
 use Rattle.eden_tree.specs.Directory.{Row}
-use Rattle.eden_inode.specs.Tables.{Table, shows}
+use Rattle.eden_inode.specs.Tables.{Table, shows, shows_numbers, ShowsSameNumbers}
 use Rattle.eden_mount.specs.Tables.{Tries, Ticks, Stores, Unloads}
 use Rattle.eden_ops.specs.Attempts.{IsRealNeed}
 use Rattle.eden_cache.specs.Stock.{FindsTheSame, object_at}
 use Rattle.eden_ops.specs.Laws.{KeepsShown, KeepsEntries}
 use Rattle.eden_ops.specs.Left.{left, SomeAreLeft, NeedsStay, LeftFalls}
+use Rattle.eden_ops.specs.Renumbering.{Renumbered}
 use Rattle.eden_checkout.specs.Attempted.{IsTicked, IsTried, IsPut, IsUnloaded, attempted}
 use Rattle.eden_checkout.specs.Checkouts.{Checkout}
 
@@ -25,17 +26,18 @@ module _ {W F : Type 0} (w : Ghosts W) (f : Files F W) (shown : KeepsShown w f) 
   found_still : FindsTheSame s.cache t.cache → (k : Key) → is_some (object_at s.cache k) ≡ true → is_some (object_at t.cache k) ≡ true
   found_still finds k is = ap is_some (finds.objects k) ∙ is
 
-  pub tries : (a : Attempt) → IsTried w f s q a t → Tries (attempted w f) w.honest s q a t
-  tries (Finished r) tried = record {
+  pub tries : (a : Attempt) → IsTried w f s q a t → (w.honest → Renumbered w f q s.inodes t.inodes a) → Tries (attempted w f) w.honest s q a t
+  tries (Finished r) tried renumbers = record {
     tried = tried;
     reply = tried.attempts.answer.reply;
     tree = tried.attempts.answer.shown;
+    numbers = renumbers;
     commit = tried.root;
     next = tried.leaves.on.next;
     unfetched = λ id cause is. tried.attempts.answer.fault (fault.Fetch id cause) is;
     cache = found_still tried.attempts.cache;
   }
-  tries (Need k) tried =
+  tries (Need k) tried renumbers =
       let waits = tried.attempts.answer in
       let grows = entries _ s.inodes t.inodes waits.keeps in
       let left = some s.inodes.root t.inodes.root s.cache t.cache q k grows tried.attempts.cache waits.need in
@@ -45,6 +47,7 @@ module _ {W F : Type 0} (w : Ghosts W) (f : Files F W) (shown : KeepsShown w f) 
         lacks = ap is_some waits.need.wanted.lacks;
         still = λ j before. stay s.inodes.root t.inodes.root s.cache t.cache q j k grows tried.attempts.cache before waits.need;
         tree = shown _ s.inodes t.inodes waits.keeps;
+        numbers = renumbers;
         commit = tried.root;
         next = tried.leaves.on.next;
         cache = found_still tried.attempts.cache;
@@ -58,6 +61,7 @@ module _ {W F : Type 0} (w : Ghosts W) (f : Files F W) where
   ticks s t is = record {
     ticked = is;
     tree = ap (λ (u : Checkout F). shows w f u.inodes) is;
+    numbers = ap (λ (u : Checkout F). shows_numbers f u.inodes) is;
     commit = ap (λ (u : Checkout F). u.root) is;
     next = ap (λ (u : Checkout F). u.inodes.next) is;
     cache = λ k. ap (λ (u : Checkout F). is_some (object_at u.cache k)) is;
@@ -70,6 +74,7 @@ module _ {W F : Type 0} (w : Ghosts W) (f : Files F W) where
   stores falls s t k o put found = record {
     kept = put;
     tree = ap (shows w f) put.inodes;
+    numbers = ap (shows_numbers f) put.inodes;
     commit = put.root;
     next = ap (λ (u : Table F). u.next) put.inodes;
     cached = ap is_some found;
@@ -84,5 +89,13 @@ module _ {W F : Type 0} (w : Ghosts W) (f : Files F W) where
   stores_by falls s t k o (Ok v) inodes root kept size found = stores falls s t k o (record { objects = kept; size = size; inodes = inodes; root = root }) found
   stores_by falls s t k o (Err x) inodes root kept size found = kept
 
-  pub unloads : (s t : Checkout F) (p : Path) (age gone : ℕ) → IsUnloaded w f s p age gone t → (w.honest → shows w f t.inodes ≡ shows w f s.inodes) → Unloads (attempted w f) w.honest s p age gone t
-  unloads s t p age gone is same = record { unloaded = is; tree = same; commit = is.root; next = is.rest.0; cache = λ k. ap (λ (c : Cache). is_some (object_at c k)) is.cache }
+  pub unloads : (s t : Checkout F) (p : Path) (age gone : ℕ) → IsUnloaded w f s p age gone t → (w.honest → shows w f t.inodes ≡ shows w f s.inodes)
+      → (w.honest → ShowsSameNumbers f s.inodes t.inodes) → Unloads (attempted w f) w.honest s p age gone t
+  unloads s t p age gone is same numbers = record {
+    unloaded = is;
+    tree = same;
+    numbers = numbers;
+    commit = is.root;
+    next = is.rest.0;
+    cache = λ k. ap (λ (c : Cache). is_some (object_at c k)) is.cache;
+  }

@@ -17,7 +17,7 @@ use Rattle.eden_tree.specs.Directory.{Row}
 use Rattle.eden_tree.specs.Paths.{row_at, edit_row}
 use Rattle.eden_coupling.specs.NumberUnloads.{UnloadsAway}
 use Rattle.eden_coupling.specs.Unloading.{IsSettled}
-use Rattle.eden_inode.specs.Tables.{shows}
+use Rattle.eden_inode.specs.Tables.{shows, shows_numbers}
 use Rattle.eden_mount.specs.Tables.{Table}
 use Rattle.eden_ops.specs.Attempts.{IsRealNeed, Attempts}
 use Rattle.eden_cache.specs.Stock.{object_at}
@@ -65,6 +65,7 @@ module _ {W F : Type 0} (w : Ghosts W) (f : Files F W) where
   abbrev pub attempted : Table (Checkout F)
   attempted = record {
     shown = λ t. shows w f t.inodes;
+    numbers = λ t. shows_numbers f t.inodes;
     commit = λ t. t.root;
     next = λ t. t.inodes.next;
     caches = λ t k. is_some (object_at t.cache k);

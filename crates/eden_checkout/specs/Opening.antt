@@ -4,7 +4,8 @@ use Rattle.eden_model.specs.declared.id.Id.{Id}
 use Rattle.eden_model.specs.declared.kind.Origin.{Origin}
 use Rattle.eden_model.specs.declared.kind.Origin.TheVariants as origin
 use Rattle.eden_model.specs.Failures.{Rose}
-use Rattle.eden_model.specs.Numbers.{Numbering}
+use Rattle.eden_model.specs.Backing.{AreShown, Backs}
+use Rattle.eden_model.specs.Numbers.{Numbering, Numbers}
 use Rattle.eden_model.specs.Repository.{Repository}
 use Rattle.eden_model.specs.Trees.{Path, Tree}
 use Rattle.eden_overlay_format.specs.declared.header.Identifier.TheVariants as identifier
@@ -52,24 +53,7 @@ FilesKeep R root F next = KeepsNumbers R F (fresh_root (root_from root (root_fil
 abbrev pub ListFiles : Repository → Id → Stored → Type 0
 ListFiles R root F = ListTrees R (in_files F) (fresh_root (root_from root (root_file F)))
 
--- What is known of the files where the outside is honest: no name dangles, they show the opening tree, and where they were
--- closed each number that is named is below the next one, and none is shown twice.
-pub record CanOpen (R : Repository) (opening : Tree) (root : Id) (F : Stored) : Type 0 where
-  pub sound : AreSound F
-  pub shown : files_show R root F ≡ opening
-  pub below : (s : State) → HoldsState F s → (c : ℕ) (e : StoredEntry) → IsLive F c → Names F c e → e.number < s.next
-  pub numbers : (next : ℕ) → HoldsState F (record { root = root; next = next }) → FilesKeep R root F next
-
--- a table shows the numbers that files do above that commit's tree
-abbrev pub ShowsNumbersOf : {W F : Type 0} → Files F W → Id → Stored → Table F → Type 0
-ShowsNumbersOf f root F t = (p : Path) → shows_numbers f t p ≡ files_number root F p
-
--- a rescan finds itself whether they are sound
-abbrev pub MayOpen : Opening → Repository → Tree → Id → Stored → Type 0
-MayOpen opening.Closed R tree root F = CanOpen R tree root F
-MayOpen opening.Rescan R tree root F = (files_show R root F ≡ tree) × ListFiles R root F
-
--- ---- what is opened
+-- ---- what is found
 
 -- the root is the commit's tree, or the mount's own
 abbrev pub IsRootOf : Id → Origin → Type 0
@@ -86,6 +70,33 @@ StartsAt F root next = (AreNone F × (next ≡ 2)) ⊎ HoldsState F (record { ro
 abbrev pub Finds : Opening → Id → Stored → ℕ → Type 0
 Finds opening.Closed root F next = StartsAt F root next
 Finds opening.Rescan root F next = AreSound F × NumbersAreSound F root × IsNextOf F root next
+
+-- ---- when they may be opened
+
+-- The numbers N are backed by those that files show: N may be these, with all below the next one spent, or what a history left
+-- whose mount was closed to the files.
+abbrev pub FilesBack : Opening → Id → Stored → Numbers → Type 0
+FilesBack how root F N = (next : ℕ) → Finds how root F next → AreShown (files_number root F) next → Backs N (files_number root F) next
+
+-- What is known of the files where the outside is honest: no name dangles, they show the tree and back the numbers N, and where
+-- they were closed each number that is named is below the next one, and none is shown twice.
+pub record CanOpen (R : Repository) (tree : Tree) (N : Numbers) (root : Id) (F : Stored) : Type 0 where
+  pub sound : AreSound F
+  pub shown : files_show R root F ≡ tree
+  pub below : (s : State) → HoldsState F s → (c : ℕ) (e : StoredEntry) → IsLive F c → Names F c e → e.number < s.next
+  pub numbers : (next : ℕ) → HoldsState F (record { root = root; next = next }) → FilesKeep R root F next
+  pub backed : FilesBack opening.Closed root F N
+
+-- a table shows the numbers that files do above that commit's tree
+abbrev pub ShowsNumbersOf : {W F : Type 0} → Files F W → Id → Stored → Table F → Type 0
+ShowsNumbersOf f root F t = (p : Path) → shows_numbers f t p ≡ files_number root F p
+
+-- a rescan finds itself whether they are sound
+abbrev pub MayOpen : Opening → Repository → Tree → Numbers → Id → Stored → Type 0
+MayOpen opening.Closed R tree N root F = CanOpen R tree N root F
+MayOpen opening.Rescan R tree N root F = (files_show R root F ≡ tree) × ListFiles R root F × FilesBack opening.Rescan root F N
+
+-- ---- what is opened
 
 pub record Starts (how : Opening) (root : Id) (F : Stored) (start : Start) : Type 0 where
   pub origin : start.origin ≡ root_from root (root_file F)

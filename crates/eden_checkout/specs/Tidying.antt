@@ -4,6 +4,7 @@ use Rattle.std.specs.Ordering.{nat_cmp}
 use Rattle.std.specs.List.Sorted.{IsStrictlySortedBy}
 use Rattle.eden_model.specs.declared.id.Id.{Id}
 use Rattle.eden_model.specs.Failures.{Rose}
+use Rattle.eden_model.specs.Numbers.{Numbers}
 use Rattle.eden_model.specs.Repository.{Repository}
 use Rattle.eden_model.specs.Trees.{Tree}
 use Rattle.eden_overlay_format.specs.declared.state.State.{State}
@@ -39,7 +40,7 @@ ShowsSame F G = (R : Repository) (root : Id) → files_show R root G ≡ files_s
 
 -- .. and are closed where F are
 abbrev pub StaysClosed : Stored → Stored → Type 0
-StaysClosed F G = (R : Repository) (tree : Tree) (root : Id) → CanOpen R tree root F → CanOpen R tree root G
+StaysClosed F G = (R : Repository) (tree : Tree) (N : Numbers) (root : Id) → CanOpen R tree N root F → CanOpen R tree N root G
 
 -- what was removed is as many files as F have orphans, and as many bytes as these have together
 pub record CountsOrphans (F : Stored) (root : Id) (removed : Removed) : Type 0 where

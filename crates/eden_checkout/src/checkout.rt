@@ -1,13 +1,17 @@
 ghost use Rattle.std.specs.Prelude.{◌≡◌, [], OnOk, IfOk, IfErr};
-ghost use Rattle.eden_inode.specs.Tables.{fresh_root, shows};
+ghost use Rattle.eden_inode.specs.Tables.{fresh_root, shows, shows_numbers};
 ghost use Rattle.eden_coupling.specs.Chains.{AreSaved};
+ghost use Rattle.eden_model.specs.Backing.{Backs};
 ghost use Rattle.eden_model.specs.Failures.{Rose};
+ghost use Rattle.eden_model.specs.Numbers as numbers;
 ghost use Rattle.eden_overlay.specs.declared.files.FilesFault.TheVariants as fault;
 ghost use Rattle.eden_overlay.specs.Held.{HoldsState, without};
 ghost use Rattle.eden_overlay.specs.Counting.{NumbersAreSound};
 ghost use Rattle.eden_overlay.specs.Rescanning.{IsNextOf};
 ghost use Rattle.eden_overlay.specs.Soundness.{AreSound};
+ghost use Rattle.eden_checkout.specs.declared.opening.Opening.TheVariants as opening;
 ghost use Rattle.eden_checkout.specs.Opening.{CanOpen, MayOpen, StartsAt, Finds, files_show, ListFiles, ShowsNumbersOf};
+ghost use Rattle.eden_checkout.specs.Opening.{FilesBack};
 ghost use Rattle.eden_checkout.specs.Opening.{IsOpenFault, IsRescanRefusal, IsRefusal};
 
 use crate::closing::{as_files, store_state};
@@ -59,11 +63,13 @@ impl<A: Allocator + Clone, W: World, F: Files<W>> Checkout<A, W, F> {
         root: Id,
         cache: ObjectCache<A>,
     ) -> Result<Self, (OpenFault, F)>
-        requires files { W.honest → CanOpen W.repository W.opening root (F.stored files) }
+        requires files { W.honest → CanOpen W.repository W.opening W.numbers root (F.stored files) }
         requires cache { (cache.objects ≡ []) × (cache.sizes ≡ []) }
         ensures shown { W.honest → IfOk result (λ c. shows W.World F.Files c.inodes ≡ W.opening) }
         ensures numbers { W.honest
             → IfOk result (λ c. ShowsNumbersOf F.Files root (F.stored files) c.inodes) }
+        ensures backed { W.honest
+            → IfOk result (λ c. Backs W.numbers (shows_numbers F.Files c.inodes) c.inodes.next) }
         ensures stored { W.honest → IfOk result (λ c. F.stored c.inodes.files ≡ without (F.stored files) 0) }
         ensures next { W.honest → IfOk result (λ c. StartsAt (F.stored files) root c.inodes.next) }
         ensures fresh { IfOk result
@@ -92,11 +98,14 @@ impl<A: Allocator + Clone, W: World, F: Files<W>> Checkout<A, W, F> {
     ) -> Result<Self, (OpenFault, F)>
         requires files { W.honest → files_show W.repository root (F.stored files) ≡ W.opening }
         requires trees { W.honest → ListFiles W.repository root (F.stored files) }
+        requires backed { W.honest → FilesBack opening.Rescan root (F.stored files) W.numbers }
         requires cache { (cache.objects ≡ []) × (cache.sizes ≡ []) }
         ensures sound { W.honest → OnOk result (AreSound (F.stored files)) }
         ensures shown { W.honest → IfOk result (λ c. shows W.World F.Files c.inodes ≡ W.opening) }
         ensures numbers { W.honest
             → IfOk result (λ c. ShowsNumbersOf F.Files root (F.stored files) c.inodes) }
+        ensures backed { W.honest
+            → IfOk result (λ c. Backs W.numbers (shows_numbers F.Files c.inodes) c.inodes.next) }
         ensures stored { W.honest → IfOk result (λ c. F.stored c.inodes.files ≡ without (F.stored files) 0) }
         ensures once { W.honest → OnOk result (NumbersAreSound (F.stored files) root) }
         ensures next { W.honest → IfOk result (λ c. IsNextOf (F.stored files) root c.inodes.next) }
@@ -119,11 +128,13 @@ impl<A: Allocator + Clone, W: World, F: Files<W>> Checkout<A, W, F> {
         cache: ObjectCache<A>,
         opening: Opening,
     ) -> Result<Self, (OpenFault, F)>
-        requires files { W.honest → MayOpen opening W.repository W.opening root (F.stored files) }
+        requires files { W.honest → MayOpen opening W.repository W.opening W.numbers root (F.stored files) }
         requires cache { (cache.objects ≡ []) × (cache.sizes ≡ []) }
         ensures shown { W.honest → IfOk result (λ c. shows W.World F.Files c.inodes ≡ W.opening) }
         ensures numbers { W.honest
             → IfOk result (λ c. ShowsNumbersOf F.Files root (F.stored files) c.inodes) }
+        ensures backed { W.honest
+            → IfOk result (λ c. Backs W.numbers (shows_numbers F.Files c.inodes) c.inodes.next) }
         ensures stored { W.honest → IfOk result (λ c. F.stored c.inodes.files ≡ without (F.stored files) 0) }
         ensures next { W.honest → IfOk result (λ c. Finds opening root (F.stored files) c.inodes.next) }
         ensures fresh { IfOk result
@@ -151,8 +162,9 @@ impl<A: Allocator + Clone, W: World, F: Files<W>> Checkout<A, W, F> {
         ensures state { W.honest
             → IfOk result (λ files. HoldsState (F.stored files)
             (record { root = self.root; next = self.inodes.next })) }
-        ensures opens { W.honest
-            → IfOk result (λ files. CanOpen W.repository (shows W.World F.Files self.inodes) self.root
+        ensures opens { (N : numbers.Numbers) → W.honest
+            → Backs N (shows_numbers F.Files self.inodes) self.inodes.next
+            → IfOk result (λ files. CanOpen W.repository (shows W.World F.Files self.inodes) N self.root
             (F.stored files)) }
         ensures numbers { W.honest
             → IfOk result (λ files. ShowsNumbersOf F.Files self.root (F.stored files) self.inodes) }

@@ -1,12 +1,16 @@
-ghost use Rattle.eden_checkout.specs.Laws.{OpensFresh};
+ghost use Rattle.eden_checkout.specs.Laws.{OpensFresh, OpensAsShown};
 
 use eden_coupling::shown_laws;
+use eden_model::backing_laws;
 use eden_overlay::overlay_laws;
 
-/// What whoever opens a checkout over no files has to know: it shows the commit's whole tree.
+/// What whoever opens a checkout has to know: over no files it shows the commit's whole tree, and closed files back the
+/// inode numbers that they show.
 pub fn opening_laws()
     ensures fresh { OpensFresh }
+    ensures as_shown { OpensAsShown }
 {
     overlay_laws();
     shown_laws();
+    backing_laws();
 }

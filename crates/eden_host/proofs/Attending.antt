@@ -6,6 +6,7 @@ use Rattle.std.specs.declared.io.Write.{Ghosts as Write}
 use Rattle.eden_model.specs.declared.fault.CallFault.{CallFault}
 use Rattle.eden_model.specs.declared.request.Request.{Request}
 use Rattle.eden_model.specs.declared.reply.Reply.{Reply}
+use Rattle.eden_model.specs.Numbers.{Numbers}
 use Rattle.eden_model.specs.Trees.{Tree}
 use Rattle.eden_shared.specs.declared.account.Terms.{Terms}
 use Rattle.eden_shared.specs.Passes.{Carried}
@@ -20,16 +21,16 @@ use Rattle.eden_host.specs.declared.fault.HostFault.{HostFault}
 use Rattle.eden_host.specs.declared.fault.HostFault.TheVariants.{Listen}
 use Rattle.eden_host.specs.declared.fault.HostFault.TheVariants as host
 
-module _ (honest : Type 0) (opening : Tree) where
+module _ (honest : Type 0) (opening : Tree) (N : Numbers) where
   -- whose pass it is
   abbrev who : Carried → Terms × ℕ
   who p = (p.terms, p.number)
 
-  number_stays : (p p' : Carried) (q : Request) (a : Result Reply CallFault) → GuestAnswers honest opening p q a p' → who p' ≡ who p
+  number_stays : (p p' : Carried) (q : Request) (a : Result Reply CallFault) → GuestAnswers honest opening N p q a p' → who p' ≡ who p
   number_stays p p' q (Ok reply) answers = ap who answers.0.is
   number_stays p p' q (Err fault) answers = ap who answers.1
 
-  numbers_stay : (items : List Item) (given : List (Option (Result Reply CallFault))) (p p' : Carried) → Serves (GuestAnswers honest opening) p items given p' → who p' ≡ who p
+  numbers_stay : (items : List Item) (given : List (Option (Result Reply CallFault))) (p p' : Carried) → Serves (GuestAnswers honest opening N) p items given p' → who p' ≡ who p
   numbers_stay [] [] p p' h = ap who (sym h)
   numbers_stay [] (a ∷ given) p p' h = absurd h
   numbers_stay (Asks q ∷ items) [] p p' h = absurd h
@@ -39,8 +40,8 @@ module _ (honest : Type 0) (opening : Tree) where
   numbers_stay (Bad ∷ items) given p p' h = numbers_stay items given p p' h
 
   -- a guest's session was its pass's
-  pass_serves : (items : List Item) (given : List (Option (Result Reply CallFault))) (g g' : Visit) → Serves (VisitAnswers honest opening) g items given g'
-      → Serves (GuestAnswers honest opening) g.pass items given g'.pass
+  pass_serves : (items : List Item) (given : List (Option (Result Reply CallFault))) (g g' : Visit) → Serves (VisitAnswers honest opening N) g items given g'
+      → Serves (GuestAnswers honest opening N) g.pass items given g'.pass
   pass_serves [] [] g g' h = ap (λ (x : Visit). x.pass) h
   pass_serves [] (a ∷ given) g g' h = absurd h
   pass_serves (Asks q ∷ items) [] g g' h = absurd h
@@ -51,8 +52,8 @@ module _ (honest : Type 0) (opening : Tree) where
 
   module _ {I O : Type 0} (i : Read I) (o : Write O) where
     pub attended : (g g' : Visit) (reader unread : I) (writer written : O) (said : Result ⊤ SessionFault)
-        → Session (VisitAnswers honest opening) (g, g') (i.remaining reader, i.remaining unread) (o.contents writer, o.contents written) said
-        → IsSeated i o honest opening g.pass g'.pass (Some said)
+        → Session (VisitAnswers honest opening N) (g, g') (i.remaining reader, i.remaining unread) (o.contents writer, o.contents written) said
+        → IsSeated i o honest opening N g.pass g'.pass (Some said)
     attended g g' reader unread writer written said s =
         let serves = pass_serves (s.items ++ s.last) s.given g g' s.served in
         let stays = numbers_stay (s.items ++ s.last) s.given g.pass g'.pass serves in (
@@ -78,20 +79,20 @@ module _ (honest : Type 0) (opening : Tree) where
         )
 
     -- nobody could connect any more
-    pub unattended : (ps : List Carried) → 0 < length ps → AreAttended i o honest opening ps ps (Some (Err Listen))
+    pub unattended : (ps : List Carried) → 0 < length ps → AreAttended i o honest opening N ps ps (Some (Err Listen))
     unattended [] some = absurd (omega (arith, some))
     unattended (p ∷ ps) some = inr (refl, refl, refl)
 
     -- one pass, and those after it
     pub attended_more : (p p' : Carried) (ps ps' : List Carried) (said : Option (Result ⊤ SessionFault)) (later : Option (Result ⊤ HostFault))
-        → IsSeated i o honest opening p p' said → AreAttended i o honest opening ps ps' later
-        → AreAttended i o honest opening (p ∷ ps) (p' ∷ ps') (gathered said later)
+        → IsSeated i o honest opening N p p' said → AreAttended i o honest opening N ps ps' later
+        → AreAttended i o honest opening N (p ∷ ps) (p' ∷ ps') (gathered said later)
     attended_more p p' ps ps' said later first rest = inl (said, later, first, rest, refl)
 
-    none_attended : (ps : List Carried) → AreAttended i o honest opening ps ps None
+    none_attended : (ps : List Carried) → AreAttended i o honest opening N ps ps None
     none_attended [] = refl
     none_attended (p ∷ ps) = inl (None, None, refl, none_attended ps, refl)
 
     -- no session began
-    pub unhosted : (ps : List Carried) → AreHosted i o honest opening ps ps (Err (host.Session Memory))
+    pub unhosted : (ps : List Carried) → AreHosted i o honest opening N ps ps (Err (host.Session Memory))
     unhosted ps = (None, none_attended ps, refl)

@@ -3,6 +3,7 @@ use Rattle.std.proofs.Common.{◌≡◌, ℕ, zero, suc, List, [], ◌∷◌, Op
 use Rattle.std.specs.Prelude.{⊤}
 use Rattle.std.specs.declared.io.Read.{Ghosts as Read}
 use Rattle.std.specs.declared.io.Write.{Ghosts as Write}
+use Rattle.eden_model.specs.Numbers.{Numbers}
 use Rattle.eden_model.specs.Trees.{Tree}
 use Rattle.eden_shared.specs.declared.account.Terms.{Terms}
 use Rattle.eden_shared.specs.Passes.{AreEach, Carried, HasNumber}
@@ -22,16 +23,16 @@ at_same ps ps' k p same at = (p, subst (λ (l : List Carried). slice_get l k ≡
 abbrev pub AllOf : Terms → List Carried → Type 0
 AllOf t ps = (k : ℕ) (p : Carried) → slice_get ps k ≡ Some p → p.terms ≡ t
 
-module _ {I O : Type 0} (i : Read I) (w : Write O) (honest : Type 0) (opening : Tree) where
-  number_seated : (p p' : Carried) (said : Option (Result ⊤ SessionFault)) → IsSeated i w honest opening p p' said → p'.number ≡ p.number
+module _ {I O : Type 0} (i : Read I) (w : Write O) (honest : Type 0) (opening : Tree) (N : Numbers) where
+  number_seated : (p p' : Carried) (said : Option (Result ⊤ SessionFault)) → IsSeated i w honest opening N p p' said → p'.number ≡ p.number
   number_seated p p' None h = ap (λ (q : Carried). q.number) h
   number_seated p p' (Some said) h = h.2.number
 
-  terms_seated : (p p' : Carried) (said : Option (Result ⊤ SessionFault)) → IsSeated i w honest opening p p' said → p'.terms ≡ p.terms
+  terms_seated : (p p' : Carried) (said : Option (Result ⊤ SessionFault)) → IsSeated i w honest opening N p p' said → p'.terms ≡ p.terms
   terms_seated p p' None h = ap (λ (q : Carried). q.terms) h
   terms_seated p p' (Some said) h = h.2.terms
 
-  count_stays : (ps ps' : List Carried) (o : Option (Result ⊤ HostFault)) → AreAttended i w honest opening ps ps' o → length ps' ≡ length ps
+  count_stays : (ps ps' : List Carried) (o : Option (Result ⊤ HostFault)) → AreAttended i w honest opening N ps ps' o → length ps' ≡ length ps
   count_stays [] [] o h = refl
   count_stays [] (p' ∷ ps') o h = absurd h
   count_stays (p ∷ ps) [] o h = absurd h
@@ -39,7 +40,7 @@ module _ {I O : Type 0} (i : Read I) (w : Write O) (honest : Type 0) (opening : 
   count_stays (p ∷ ps) (p' ∷ ps') o (inr h) = ap (λ (l : List Carried). suc (length l)) h.1
 
   has_after : (ps ps' : List Carried) (o : Option (Result ⊤ HostFault)) (k : ℕ) (p : Carried)
-      → AreAttended i w honest opening ps ps' o → slice_get ps k ≡ Some p → HasAt ps' k p
+      → AreAttended i w honest opening N ps ps' o → slice_get ps k ≡ Some p → HasAt ps' k p
   has_after [] [] o k p h at = absurd (let e : None ≡ Some p = at in cc e)
   has_after [] (p' ∷ ps') o k p h at = absurd h
   has_after (x ∷ ps) [] o k p h at = absurd h
@@ -49,11 +50,11 @@ module _ {I O : Type 0} (i : Read I) (w : Write O) (honest : Type 0) (opening : 
   has_after (x ∷ ps) (y ∷ ps') o zero p (inr h) at = at_same (x ∷ ps) (y ∷ ps') zero p (cc (h.0, h.1)) at
   has_after (x ∷ ps) (y ∷ ps') o (suc k) p (inr h) at = at_same (x ∷ ps) (y ∷ ps') (suc k) p (cc (h.0, h.1)) at
 
-  number_after : (ps ps' : List Carried) (o : Option (Result ⊤ HostFault)) (c : ℕ) → AreAttended i w honest opening ps ps' o → HasNumber ps c → HasNumber ps' c
+  number_after : (ps ps' : List Carried) (o : Option (Result ⊤ HostFault)) (c : ℕ) → AreAttended i w honest opening N ps ps' o → HasNumber ps c → HasNumber ps' c
   number_after ps ps' o c h found =
       let there = has_after ps ps' o found.1.0 found.0 h found.1.1 in (there.0, (found.1.0, there.1), there.2 ∙ found.2)
 
-  terms_after : (t : Terms) (ps ps' : List Carried) (o : Option (Result ⊤ HostFault)) → AreAttended i w honest opening ps ps' o → AllOf t ps → AllOf t ps'
+  terms_after : (t : Terms) (ps ps' : List Carried) (o : Option (Result ⊤ HostFault)) → AreAttended i w honest opening N ps ps' o → AllOf t ps → AllOf t ps'
   terms_after t [] [] o h all k p at = all k p at
   terms_after t [] (p' ∷ ps') o h all k p at = absurd h
   terms_after t (x ∷ ps) [] o h all k p at = absurd h
@@ -64,9 +65,9 @@ module _ {I O : Type 0} (i : Read I) (w : Write O) (honest : Type 0) (opening : 
       let same : y ∷ ps' ≡ x ∷ ps = cc (h.0, h.1) in all k p (subst (λ (l : List Carried). slice_get l k ≡ Some p) same at)
 
   -- the passes are of the same mount
-  pub terms_stay : (t : Terms) (ps ps' : List Carried) (o : Result ⊤ HostFault) → AreHosted i w honest opening ps ps' o → AllOf t ps → AllOf t ps'
+  pub terms_stay : (t : Terms) (ps ps' : List Carried) (o : Result ⊤ HostFault) → AreHosted i w honest opening N ps ps' o → AllOf t ps → AllOf t ps'
   terms_stay t ps ps' o h all = terms_after t ps ps' h.0 h.1 all
 
-  pub each_stays : (ps ps' : List Carried) (o : Result ⊤ HostFault) (n : ℕ) → AreHosted i w honest opening ps ps' o → AreEach ps n → AreEach ps' n
+  pub each_stays : (ps ps' : List Carried) (o : Result ⊤ HostFault) (n : ℕ) → AreHosted i w honest opening N ps ps' o → AreEach ps n → AreEach ps' n
   each_stays ps ps' o n h each =
       record { count = count_stays ps ps' h.0 h.1 ∙ each.count; each = λ c least most. number_after ps ps' h.0 c h.1 (each.each c least most) }

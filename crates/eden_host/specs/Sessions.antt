@@ -2,6 +2,7 @@
 use Rattle.std.specs.Prelude.{◌≡◌, ◌⊎◌, List, [], ◌∷◌, Option, Some, None, Result, Ok, Err, ⊤}
 use Rattle.std.specs.declared.io.Read.{Ghosts as Read}
 use Rattle.std.specs.declared.io.Write.{Ghosts as Write}
+use Rattle.eden_model.specs.Numbers.{Numbers}
 use Rattle.eden_model.specs.Trees.{Tree}
 use Rattle.eden_shared.specs.Passes.{Carried}
 use Rattle.eden_wire.specs.declared.session_fault.SessionFault.{SessionFault}
@@ -30,14 +31,14 @@ abbrev pub outcome_of : Option (Result ⊤ HostFault) → Result ⊤ HostFault
 outcome_of None = Err (host.Session Memory)
 outcome_of (Some outcome) = outcome
 
-module _ {I O : Type 0} (i : Read I) (o : Write O) (honest : Type 0) (opening : Tree) where
+module _ {I O : Type 0} (i : Read I) (o : Write O) (honest : Type 0) (opening : Tree) (numbers : Numbers) where
   -- a session was served with the pass, over what this reader gave and what this writer took, and ended so
   pub record IsAttended (p p' : Carried) (reader : I) (writer : O) (said : Result ⊤ SessionFault) : Type 0 where
     pub number : p'.number ≡ p.number
     pub terms : p'.terms ≡ p.terms
     pub unread : I
     pub written : O
-    pub session : Session (GuestAnswers honest opening) (p, p') (i.remaining reader, i.remaining unread) (o.contents writer, o.contents written) said
+    pub session : Session (GuestAnswers honest opening numbers) (p, p') (i.remaining reader, i.remaining unread) (o.contents writer, o.contents written) said
 
   -- the pass had a session over a connection; or it had none, and was told nothing
   abbrev pub IsSeated : Carried → Carried → Option (Result ⊤ SessionFault) → Type 0

@@ -38,7 +38,7 @@ struct Seat<W: World, J: Naming, I: Read, O: Write> {
 }
 
 impl<W: World, J: Naming, I: Read, O: Write> Promise<Attended<J>> for Seat<W, J, I, O> {
-    ghost kept_by = { λ s a. IsSeated I.Read O.Write W.honest W.opening s.pass.value a.pass a.said };
+    ghost kept_by = { λ s a. IsSeated I.Read O.Write W.honest W.opening W.numbers s.pass.value a.pass a.said };
 }
 
 /// Answers each line that a client says, with that pass.
@@ -52,7 +52,7 @@ fn attend<W: World, J: Naming, I: Read + Drop, O: Write + Drop, C: Served<W, J>,
     writer: O,
 ) -> Attended<J>
     requires { HasLearntNothing pass }
-    ensures { IsSeated I.Read O.Write W.honest W.opening pass result.pass result.said }
+    ensures { IsSeated I.Read O.Write W.honest W.opening W.numbers pass result.pass result.said }
 {
     let (mut reader, mut writer) = (reader, writer);
     let mut guest = Guest::<W, J, C, R>::new(rt, alloc, shared, pass, unloading);
@@ -89,7 +89,7 @@ fn begin<
 ) -> Result<PromisedHandle<Attended<J>, Seat<W, J, I, O>>, Attended<J>>
     requires { HasLearntNothing pass }
     ensures ok { IfOk result (λ h. h.promise.pass.value ≡ pass) }
-    ensures err { IfErr result (λ a. IsSeated I.Read O.Write W.honest W.opening pass a.pass a.said) }
+    ensures err { IfErr result (λ a. IsSeated I.Read O.Write W.honest W.opening W.numbers pass a.pass a.said) }
 {
     let (reader, writer) = connection;
     let seat = Seat {
@@ -99,7 +99,7 @@ fn begin<
     // What was to run in the thread comes back where none can be made, and then does no more than give the pass back.
     let attend_guest = move || -> Attended<J>
         requires { HasLearntNothing pass }
-        ensures { IsSeated I.Read O.Write W.honest W.opening pass result.pass result.said }
+        ensures { IsSeated I.Read O.Write W.honest W.opening W.numbers pass result.pass result.said }
     {
         if closed.load(Ordering::SeqCst) == place {
             Attended { pass, said: None }
@@ -175,7 +175,7 @@ fn attend_each<
     unloading: Unloading,
 ) -> (Vec<Pass<J>>, Option<Result<(), HostFault>>)
     requires learnt { HaveLearntNothing passes.items }
-    ensures passes { AreAttended I.Read O.Write W.honest W.opening passes.items result.0.items result.1 }
+    ensures passes { AreAttended I.Read O.Write W.honest W.opening W.numbers passes.items result.0.items result.1 }
     ensures len { vec_len result.0 ≡ vec_len passes }
     ensures room { vec_capacity passes ≤ vec_capacity result.0 }
 {
@@ -225,7 +225,7 @@ pub(crate) fn attend_all<
     unloading: Unloading,
 ) -> (Vec<Pass<J>>, Result<(), HostFault>)
     requires learnt { HaveLearntNothing passes.items }
-    ensures { AreHosted I.Read O.Write W.honest W.opening passes.items result.0.items result.1 }
+    ensures { AreHosted I.Read O.Write W.honest W.opening W.numbers passes.items result.0.items result.1 }
 {
     let closed = AtomicUsize::new(0);
     let closed = &closed;
@@ -235,7 +235,7 @@ pub(crate) fn attend_all<
         move |scope| -> (Vec<Pass<J>>, Option<Result<(), HostFault>>)
             requires { IsSend W.row × IsSend J.row × IsSend I.row × IsSend O.row × IsSync C.row × IsSync R.row
                 × HaveLearntNothing passes.items }
-            ensures { AreAttended I.Read O.Write W.honest W.opening passes.items result.0.items result.1 }
+            ensures { AreAttended I.Read O.Write W.honest W.opening W.numbers passes.items result.0.items result.1 }
         {
             attend_each::<_, W, J, I, O, L, C, R>(
                 scope, rt, alloc, shared, closed, listener, passes, unloading,

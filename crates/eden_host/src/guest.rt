@@ -67,10 +67,10 @@ impl<'a, W: World, J: Naming, C: Served<W, J>, R: Wait> Guest<'a, W, J, C, R> {
 
     /// Asks a request, and waits for its reply, which lies here from then on; or the pass stays as it was.
     fn ask(&mut self, request: Request) -> Result<(), CallFault>
-        ensures grows { OnOk result (Grows W.honest W.opening self.old.pass request self.new.pass) }
+        ensures grows { OnOk result (Grows W.honest W.opening W.numbers self.old.pass request self.new.pass) }
         ensures reply { OnOk result (last_reply self.new.pass.told self.new.reply) }
         ensures same { OnErr result (self.new.pass ≡ self.old.pass) }
-        ensures why { IfErr result (IsTurnedAway W.honest W.opening self.old.pass) }
+        ensures why { IfErr result (IsTurnedAway W.honest W.opening W.numbers self.old.pass) }
     {
         match self.shared.ask(self.rt, &mut self.pass, request) {
             Err(fault) => Err(fault),
@@ -104,7 +104,7 @@ impl<'a, W: World, J: Naming, C: Served<W, J>, R: Wait> Guest<'a, W, J, C, R> {
 impl<'a, W: World, J: Naming, C: Served<W, J>, R: Wait> Service for Guest<'a, W, J, C, R> {
     ghost use Rattle.eden_host.specs.Guests.{VisitAnswers};
 
-    ghost answers = { VisitAnswers W.honest W.opening };
+    ghost answers = { VisitAnswers W.honest W.opening W.numbers };
 
     fn call(&mut self, request: Request) -> Result<&Reply, CallFault> {
         match self.ask(request) {

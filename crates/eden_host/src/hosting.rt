@@ -95,11 +95,11 @@ where
     T::Place: Send,
     requires passes { AreNewcomers passes.items (length J.names) }
     ensures told { (left : List Carried)
-        × AreHosted I.Read O.Write W.honest W.opening passes.items left result.outcome
+        × AreHosted I.Read O.Write W.honest W.opening W.numbers passes.items left result.outcome
         × IfOk result.mount (λ m. Agrees T.table m left) }
     ensures whole { IsOk result.mount }
-    ensures legal { W.honest → MatchResult result.mount (λ m. Legal W.opening m.history)
-        (λ t. Legal W.opening t.mount.history) }
+    ensures legal { W.honest → MatchResult result.mount (λ m. Legal W.opening W.numbers m.history)
+        (λ t. Legal W.opening W.numbers t.mount.history) }
 {
     begin(&passes);
     let served = serve_all::<W, J, S, I, O, L, Shared<W, T, A, J, H>, R>(
@@ -131,7 +131,7 @@ fn attend_fetched<
     fetched: bool,
 ) -> (Vec<Pass<J>>, Result<(), HostFault>)
     requires learnt { HaveLearntNothing passes.items }
-    ensures { AreHosted I.Read O.Write W.honest W.opening passes.items result.0.items result.1 }
+    ensures { AreHosted I.Read O.Write W.honest W.opening W.numbers passes.items result.0.items result.1 }
 {
     if !fetched {
         return (passes, Err(HostFault::Session(SessionFault::Memory)));
@@ -180,12 +180,12 @@ fn serve_all<
     unloading: Unloading,
 ) -> (Vec<Pass<J>>, Result<(), HostFault>)
     requires learnt { HaveLearntNothing passes.items }
-    ensures passes { AreHosted I.Read O.Write W.honest W.opening passes.items result.0.items result.1 }
+    ensures passes { AreHosted I.Read O.Write W.honest W.opening W.numbers passes.items result.0.items result.1 }
 {
     let sessions = move |fetched: bool| -> (Vec<Pass<J>>, Result<(), HostFault>)
         requires { IsSend W.row × IsSend J.row × IsSend I.row × IsSend O.row × IsSync C.row × IsSync R.row
             × HaveLearntNothing passes.items }
-        ensures { AreHosted I.Read O.Write W.honest W.opening passes.items result.0.items result.1 }
+        ensures { AreHosted I.Read O.Write W.honest W.opening W.numbers passes.items result.0.items result.1 }
     {
         attend_fetched::<W, J, I, O, L, C, R>(
             rt, alloc, shared, listener, passes, unloading, fetched,

@@ -19,8 +19,8 @@ pub trait Served<W: World, J: Naming> {
         pass: &mut Pass<J>,
         request: Request,
     ) -> Result<Answered, CallFault>
-        ensures { MatchResult result (λ a. Gives W.honest W.opening pass.old request a pass.new)
-            (λ fault. IsLawful W.honest W.opening pass.old fault × (pass.new ≡ pass.old)) };
+        ensures { MatchResult result (λ a. Gives W.honest W.opening W.numbers pass.old request a pass.new)
+            (λ fault. IsLawful W.honest W.opening W.numbers pass.old fault × (pass.new ≡ pass.old)) };
 
     /// Lets go of the loaded directories at and below the path that weren't used for so many turns. How many went.
     fn let_go<R: Wait>(&self, rt: &R, path: &Path, older_than: u64) -> u64;

@@ -1,5 +1,6 @@
 //! Guests hosted over a table.
 ghost use Rattle.std.specs.Prelude.{◌≡◌, [], length, IfOk, IfErr};
+ghost use Rattle.eden_model.specs.Backing.{Backs};
 ghost use Rattle.eden_mount.specs.Settings.{IsRoom};
 ghost use Rattle.eden_shared.specs.Lanes.{names_of};
 ghost use Rattle.eden_shared.specs.Opening.{AreTied};
@@ -31,8 +32,8 @@ pub struct HostedTable<T> {
     pub outcome: Result<(), HostFault>,
 }
 
-/// Shares a mount of that room over a table that shows the opening tree. The only error is want of memory, and the
-/// table comes back.
+/// Shares a mount of that room over a table that shows the opening tree, and numbers that back the opening ones. The
+/// only error is want of memory, and the table comes back.
 fn share<W: World, T: Attempts<W> + Drop, A: Allocator, J: Naming, H: History>(
     alloc: Global,
     room: Room<A>,
@@ -41,6 +42,7 @@ fn share<W: World, T: Attempts<W> + Drop, A: Allocator, J: Naming, H: History>(
     ties: Ties,
 ) -> Result<(Shared<W, T, A, J, H>, Vec<Pass<J>>), T>
     requires shown { W.honest → T.table.shown table ≡ W.opening }
+    requires backed { W.honest → Backs W.numbers (T.table.numbers table) (T.table.next table) }
     requires room { IsRoom room }
     requires empty { H.entries history ≡ [] }
     requires ties { AreTied ties.lanes.items ties.ends.items room.queue.passes }
@@ -82,7 +84,7 @@ where
     T::Place: Send,
     requires passes { AreNewcomers passes.items (length J.names) }
     ensures { (terms : declared.Terms) → passes.items ≡ newcomers terms 1 terms.passes
-        → HostsTable T.table I.Read O.Write W.honest W.opening terms result }
+        → HostsTable T.table I.Read O.Write W.honest W.opening W.numbers terms result }
 {
     let hosted = host(rt, alloc, listener, shared, passes, fetchers, unloading);
     let Hosted { mount, outcome } = hosted;
@@ -96,8 +98,9 @@ where
     }
 }
 
-/// Hosts a guest for each pass of a mount of that room over a table that shows the opening tree. The only error is want
-/// of memory to share it, before a client is listened for: the table comes back.
+/// Hosts a guest for each pass of a mount of that room over a table that shows the opening tree, and numbers that back
+/// the opening ones. The only error is want of memory to share it, before a client is listened for: the table comes
+/// back.
 pub fn host_table<
     W: World + Send,
     T: Attempts<W> + Send + Drop,
@@ -123,11 +126,12 @@ pub fn host_table<
 where
     T::Place: Send,
     requires shown { W.honest → T.table.shown table ≡ W.opening }
+    requires backed { W.honest → Backs W.numbers (T.table.numbers table) (T.table.next table) }
     requires room { IsRoom room }
     requires empty { H.entries history ≡ [] }
     requires ties { AreTied ties.lanes.items ties.ends.items room.queue.passes }
     requires names { names_of ties.lanes.items ≡ J.names }
-    ensures hosted { IfOk result (HostsTable T.table I.Read O.Write W.honest W.opening
+    ensures hosted { IfOk result (HostsTable T.table I.Read O.Write W.honest W.opening W.numbers
         (terms_at T.table room (H.limit history) table)) }
     ensures err { IfErr result (λ t. t ≡ table) }
 {

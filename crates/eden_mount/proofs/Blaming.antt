@@ -12,6 +12,7 @@ use Rattle.eden_model.specs.declared.reply.Reply.{Reply}
 use Rattle.eden_model.specs.declared.reply.Reply.TheVariants as say
 use Rattle.eden_model.specs.Keys.{same_key}
 use Rattle.eden_model.proofs.CallerLemmas.{same_key-Decides}
+use Rattle.eden_model.specs.Numbers.{Numbers}
 use Rattle.eden_model.specs.Trees.{Tree}
 use Rattle.eden_import.specs.Keys.{has_key}
 use Rattle.eden_import.specs.Queue.{Queue, Mark, IsQueue, IsPass, want_of, mark_of, wants_key, next_key, after_await, after_done, after_failed, after_failure, after_take}
@@ -48,7 +49,7 @@ still_wanted k j o false e = e
 some_key : Key
 some_key = record { kind = objects.Blob; id = record { bytes = [] } }
 
-module _ {T : Type 0} (A : Table T) (honest : Type 0) (copies : Bool) (opening : Tree) where
+module _ {T : Type 0} (A : Table T) (honest : Type 0) (copies : Bool) (opening : Tree) (N : Numbers) where
   -- what was read off the events is what the queue says
   record Hears (w : ℕ → Option Key) (P : Blames) (m : Core T) : Type 0 where
     waits : (c : ℕ) (k : Key) → IsPass c m.queue → want_of c m.queue ≡ Some k → w c ≡ Some k
@@ -84,7 +85,7 @@ module _ {T : Type 0} (A : Table T) (honest : Type 0) (copies : Bool) (opening :
       heard i j x s false is e = (eqb-false i c is, h.heard i j x s e)
 
   -- the key failed
-  key_failed : (w : ℕ → Option Key) (P : Blames) (m k : Core T) (j : Key) (x : Cause) → IsMount A honest opening m → Hears w P m → k.queue ≡ after_failed j x m.queue → Hears w (or_failed w P j x) k
+  key_failed : (w : ℕ → Option Key) (P : Blames) (m k : Core T) (j : Key) (x : Cause) → IsMount A honest opening N m → Hears w P m → k.queue ≡ after_failed j x m.queue → Hears w (or_failed w P j x) k
   key_failed w P m k j x mount h is = record {
     waits = λ i y s e. h.waits i y (at i s)
         (still_wanted j y (want_of i m.queue) (wants_key j (want_of i m.queue)) (sym ((all_are_met m.queue j x i).1 ∙ (all_are_met m.queue j x i).0) ∙ sym (ap (want_of i) is) ∙ e));
@@ -112,19 +113,19 @@ module _ {T : Type 0} (A : Table T) (honest : Type 0) (copies : Bool) (opening :
   same_all : (w : ℕ → Option Key) (P : Blames) (m k : Core T) → k.queue ≡ m.queue → Hears w P m → Hears w P k
   same_all w P m k is h = same_queue w P m k (ap (λ (q : Queue). q.wants) is) (ap (λ (q : Queue). q.marks) is) (ap (λ (q : Queue). q.passes) is) h
 
-  hears : (w : ℕ → Option Key) (P : Blames) (m k : Core T) (e : Event) (o : Outcome) → IsMount A honest opening m → Hears w P m → Steps A honest copies m k e o
+  hears : (w : ℕ → Option Key) (P : Blames) (m k : Core T) (e : Event) (o : Outcome) → IsMount A honest opening N m → Hears w P m → Steps A honest copies m k e o
       → Hears (then_waits w e o) (then_heard w P e o) k
   hears w P m k _ _ h l (starts c q (Ok u) p) = same_all w P m k (ap (λ (x : Core T). x.queue) p.2) l
   hears w P m k _ _ h l (starts c q (Err x) p) = same_all w P m k (ap (λ (x : Core T). x.queue) p.1) l
   hears w P m k _ _ h l (turns c (Done n r) p) =
       let is = ap (λ (x : Core T). x.queue) p.3 in
-      let pass = pass_of A honest opening m c p.0 h p.1 in
+      let pass = pass_of A honest opening N m c p.0 h p.1 in
       turned w P m k c None l (ap (λ (q : Queue). q.passes) is ∙ (quit_rest c (after_failure c m.queue)).1)
       (λ i s. ap (want_of i) is ∙ wants_after_done m.queue c i h.queue pass s)
       (λ i s. ap (mark_of i) is ∙ marks_after_done m.queue c i h.queue pass s)
   hears w P m k _ _ h l (turns c (Wait j) p) =
       let is = ap (λ (x : Core T). x.queue) p.2 in
-      let pass = pass_of A honest opening m c p.0 h p.1 in
+      let pass = pass_of A honest opening N m c p.0 h p.1 in
       turned w P m k c (Some j) l (ap (λ (q : Queue). q.passes) is ∙ (passes_keep_flight (after_failure c m.queue) j c).2.1)
       (λ i s. ap (want_of i) is ∙ wants_after_wait m.queue c i h.queue pass s j)
       (λ i s. ap (mark_of i) is ∙ marks_after_wait m.queue c i h.queue pass s j)
@@ -147,7 +148,7 @@ module _ {T : Type 0} (A : Table T) (honest : Type 0) (copies : Bool) (opening :
       → IsBlamed P (event.Turn c) (outcome.Turn (Done n r))
   only_fetches P c n say.Ok f = tt
   only_fetches P c n (say.Kind k) f = tt
-  only_fetches P c n (say.Stat k size) f = tt
+  only_fetches P c n (say.Stat k size i) f = tt
   only_fetches P c n (say.Data d) f = tt
   only_fetches P c n (say.Count count) f = tt
   only_fetches P c n (say.Entries es more) f = tt
@@ -167,11 +168,11 @@ module _ {T : Type 0} (A : Table T) (honest : Type 0) (copies : Bool) (opening :
       let causes : y ≡ x = cc both in
       (k, ids, subst (P c k) causes (l.heard c k y pass marked))
 
-  blamed : (w : ℕ → Option Key) (P : Blames) (m k : Core T) (e : Event) (o : Outcome) → IsMount A honest opening m → Hears w P m → Steps A honest copies m k e o → IsBlamed P e o
+  blamed : (w : ℕ → Option Key) (P : Blames) (m k : Core T) (e : Event) (o : Outcome) → IsMount A honest opening N m → Hears w P m → Steps A honest copies m k e o → IsBlamed P e o
   blamed w P m k _ _ h l (starts c q r p) = tt
   blamed w P m k _ _ h l (turns c (Done n r) p) =
       let told = p.4 in
-      only_fetches P c n r (fetch_blamed w P m c told.begun k.table p.0.request r l (pass_of A honest opening m c p.0 h p.1) told.replied)
+      only_fetches P c n r (fetch_blamed w P m c told.begun k.table p.0.request r l (pass_of A honest opening N m c p.0 h p.1) told.replied)
   blamed w P m k _ _ h l (turns c (Wait j) p) = tt
   blamed w P m k _ _ h l (turns c Idle p) = tt
   blamed w P m k _ _ h l (takes o p) = tt
@@ -179,13 +180,13 @@ module _ {T : Type 0} (A : Table T) (honest : Type 0) (copies : Bool) (opening :
   blamed w P m k _ _ h l (fails j x b p) = tt
   blamed w P m k _ _ h l (unloads q age gone p) = tt
 
-  all_blamed : (w : ℕ → Option Key) (P : Blames) (m m' : Core T) (es : List Event) (os : List Outcome) → Hears w P m → IsMount A honest opening m → Runs A honest copies opening m es os m'
+  all_blamed : (w : ℕ → Option Key) (P : Blames) (m m' : Core T) (es : List Event) (os : List Outcome) → Hears w P m → IsMount A honest opening N m → Runs A honest copies opening N m es os m'
       → AreBlamed w P es os
   all_blamed w P m m' [] os l h r = tt
   all_blamed w P m m' (e ∷ es) [] l h r = tt
   all_blamed w P m m' (e ∷ es) (o ∷ os) l h (k, step, kept, more) = (blamed w P m k e o h l step, all_blamed (then_waits w e o) (then_heard w P e o) k m' es os (hears w P m k e o h l step) kept more)
 
-  all_hear : (w : ℕ → Option Key) (P : Blames) (m m' : Core T) (es : List Event) (os : List Outcome) → Hears w P m → IsMount A honest opening m → Runs A honest copies opening m es os m'
+  all_hear : (w : ℕ → Option Key) (P : Blames) (m m' : Core T) (es : List Event) (os : List Outcome) → Hears w P m → IsMount A honest opening N m → Runs A honest copies opening N m es os m'
       → (c : ℕ) (k : Key) → IsPass c m'.queue → want_of c m'.queue ≡ Some k → waits_after w es os c ≡ Some k
   all_hear w P m m' [] [] l h r c k s e =
       let now : Hears w P m' = same_all w P m m' (ap (λ (x : Core T). x.queue) r) l in
@@ -197,11 +198,11 @@ module _ {T : Type 0} (A : Table T) (honest : Type 0) (copies : Bool) (opening :
   at_first : (m : Core T) → Hears (waits_of m) (heard_by m) m
   at_first m = record { waits = λ c k s e. e; heard = λ c k x s e. e }
 
-  pub fetch_faults_are_blamed : OfRuns A honest copies opening (λ m es os m'. AreBlamed (waits_of m) (heard_by m) es os)
+  pub fetch_faults_are_blamed : OfRuns A honest copies opening N (λ m es os m'. AreBlamed (waits_of m) (heard_by m) es os)
   fetch_faults_are_blamed m m' es os h r = all_blamed (waits_of m) (heard_by m) m m' es os (at_first m) h r
 
   -- a pass that wants a key has a request pending
-  pends_if_wants : (m : Core T) (c : ℕ) (k : Key) → IsMount A honest opening m → IsPass c m.queue → want_of c m.queue ≡ Some k → (s : Pending) × Pends c s m
+  pends_if_wants : (m : Core T) (c : ℕ) (k : Key) → IsMount A honest opening N m → IsPass c m.queue → want_of c m.queue ≡ Some k → (s : Pending) × Pends c s m
   pends_if_wants m c k h pass want = at (seat_of c m) refl
     where
       at : (o : Option Pending) → seat_of c m ≡ o → (s : Pending) × Pends c s m
@@ -209,10 +210,10 @@ module _ {T : Type 0} (A : Table T) (honest : Type 0) (copies : Bool) (opening :
       at (Some s) e = (s, (pass.0, e))
 
   -- some pending request waits for each queued key
-  pub queued_are_waited_for : OfRuns A honest copies opening (λ m es os m'. (k : Key) → has_key k m'.queue.queue ≡ true
+  pub queued_are_waited_for : OfRuns A honest copies opening N (λ m es os m'. (k : Key) → has_key k m'.queue.queue ≡ true
       → (c : ℕ) × (s : Pending) × Pends c s m' × (waits_after (waits_of m) es os c ≡ Some k))
   queued_are_waited_for m m' es os h r k queued =
-      let now = runs_keep A honest copies opening m m' es os h r in
+      let now = runs_keep A honest copies opening N m m' es os h r in
       let found = queued_are_wanted m'.queue k now.queue queued in
       let pending = pends_if_wants m' found.0 k now found.1 found.2 in
       (found.0, pending.0, pending.1, all_hear (waits_of m) (heard_by m) m m' es os (at_first m) h r found.0 k found.1 found.2)
@@ -234,7 +235,7 @@ module _ {T : Type 0} (A : Table T) (honest : Type 0) (copies : Bool) (opening :
       → Flies (λ i. g i || same_key i j) k
   joined_flight g m k j h next is l = record { flies = λ i. ap (has_key i) is ∙ (one_is_taken m.queue j i h next).1 ∙ ap (λ b. b || same_key i j) (l.flies i) }
 
-  flown : (g : Key → Bool) (m k : Core T) (e : Event) (o : Outcome) → IsMount A honest opening m → Flies g m → Steps A honest copies m k e o → IsFlown g e o × Flies (then_flies g e o) k
+  flown : (g : Key → Bool) (m k : Core T) (e : Event) (o : Outcome) → IsMount A honest opening N m → Flies g m → Steps A honest copies m k e o → IsFlown g e o × Flies (then_flies g e o) k
   flown g m k _ _ h l (starts c q (Ok u) p) = (tt, same_flight g m k (ap (λ (x : Core T). x.queue.flight) p.2) l)
   flown g m k _ _ h l (starts c q (Err x) p) = (tt, same_flight g m k (ap (λ (x : Core T). x.queue.flight) p.1) l)
   flown g m k _ _ h l (turns c (Done n r) p) = (tt, same_flight g m k (ap (λ (x : Core T). x.queue.flight) p.3 ∙ (quit_rest c (after_failure c m.queue)).0) l)
@@ -252,27 +253,27 @@ module _ {T : Type 0} (A : Table T) (honest : Type 0) (copies : Bool) (opening :
   flown g m k _ _ h l (fails j x false p) = (p.0 ∙ l.flies j, same_flight g m k (ap (λ (x : Core T). x.queue.flight) p.1 ∙ ap (λ b. (cond b (after_failed j x m.queue) m.queue).flight) (sym p.0)) l)
   flown g m k _ _ h l (unloads q age gone p) = (tt, same_flight g m k (ap (λ (x : Core T). x.queue.flight) p.1) l)
 
-  all_flown : (g : Key → Bool) (m m' : Core T) (es : List Event) (os : List Outcome) → Flies g m → IsMount A honest opening m → Runs A honest copies opening m es os m' → AreFlown g es os
+  all_flown : (g : Key → Bool) (m m' : Core T) (es : List Event) (os : List Outcome) → Flies g m → IsMount A honest opening N m → Runs A honest copies opening N m es os m' → AreFlown g es os
   all_flown g m m' [] os l h r = tt
   all_flown g m m' (e ∷ es) [] l h r = tt
   all_flown g m m' (e ∷ es) (o ∷ os) l h (k, step, kept, more) =
       let one = flown g m k e o h l step in
       (one.0, all_flown (then_flies g e o) k m' es os one.1 kept more)
 
-  pub taken_once : OfRuns A honest copies opening (λ m es os m'. AreFlown (flies_in m) es os)
+  pub taken_once : OfRuns A honest copies opening N (λ m es os m'. AreFlown (flies_in m) es os)
   taken_once m m' es os h r = all_flown (flies_in m) m m' es os (record { flies = λ j. refl }) h r
 
 -- ---- one turn
 
-module _ {T : Type 0} (A : Table T) (honest : Type 0) (opening : Tree) where
-  pub waits_stand : WaitsStand A honest opening
+module _ {T : Type 0} (A : Table T) (honest : Type 0) (opening : Tree) (N : Numbers) where
+  pub waits_stand : WaitsStand A honest opening N
   waits_stand copies m m' c k h h' (s, pends, is, waits) =
-      let pass = pass_of A honest opening m c s h pends in
+      let pass = pass_of A honest opening N m c s h pends in
       let queue : m'.queue ≡ after_await k c (after_failure c m.queue) = ap (λ (x : Core T). x.queue) is in
       let passes : m'.queue.passes ≡ m.queue.passes = ap (λ (q : Queue). q.passes) queue ∙ (passes_keep_flight (after_failure c m.queue) k c).2.1 in
       let now : IsPass c m'.queue = (pass.0, subst (λ n. c ≤ n) (sym passes) pass.1) in
       let want : want_of c m'.queue ≡ Some k = ap (want_of c) queue ∙ wants_after_wait m.queue c c h.queue pass pass k ∙ ap (λ b. cond b (Some k) (want_of c m.queue)) (eq-eqb c c refl) in
       wanted_stand m'.queue k c h'.queue now want
 
-  pub marked_wait_no_more : MarkedWaitNoMore A honest opening
+  pub marked_wait_no_more : MarkedWaitNoMore A honest opening N
   marked_wait_no_more copies m m' c k j x mark (s, pends, is, waits) same = waits.awaits.unmarked x (mark ∙ ap (λ (i : Key). Some (i, x)) (sym same))

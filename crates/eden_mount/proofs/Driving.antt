@@ -13,6 +13,7 @@ use Rattle.eden_model.specs.declared.reply.Reply.{Reply}
 use Rattle.eden_model.specs.declared.reply.Reply.TheVariants as say
 use Rattle.eden_model.specs.Keys.{same_key}
 use Rattle.eden_model.specs.Requests.{most_objects}
+use Rattle.eden_model.specs.Numbers.{Numbers}
 use Rattle.eden_model.specs.Trees.{Tree}
 use Rattle.eden_model.proofs.CallerLemmas.{same_key-Decides}
 use Rattle.eden_model.specs.Histories.{entry}
@@ -378,7 +379,7 @@ emptied : {X : Type 0} (xs : List (Option X)) → slice_index_or (set xs 0 None)
 emptied [] = refl
 emptied (x ∷ xs) = refl
 
-module _ {T : Type 0} (A : Table T) (honest : Type 0) (opening : Tree) (q : Request) (m m1 : Core T) (h : IsMount A honest opening m) (r : IsAtRest m) (free : IsFree 1 m)
+module _ {T : Type 0} (A : Table T) (honest : Type 0) (opening : Tree) (N : Numbers) (q : Request) (m m1 : Core T) (h : IsMount A honest opening N m) (r : IsAtRest m) (free : IsFree 1 m)
     (is : m1 ≡ after_start 1 q m) where
   -- a request that was started at rest is driven
   pub started_driven : IsDriven A q m1

@@ -1,4 +1,4 @@
--- A reply of the table that holds bytes or entries changes nothing: no change has one.
+-- A reply of the table that holds bytes or entries changes nothing, neither the tree nor numbers: no change has one.
 use Rattle.std.proofs.Common.{◌≡◌, ◌==◌, ◌+◌, nat_lt, ℕ, Bool, true, false, List, length, Option, Some, None, inl, inr, refl, sym, ap, ◌∙◌}
 use Rattle.std.specs.Prelude.{◌||◌, ◌&&◌}
 use Rattle.eden_model.specs.declared.errno.Errno.{Errno}
@@ -11,6 +11,7 @@ use Rattle.eden_model.specs.declared.request.Request.{Request}
 use Rattle.eden_model.specs.declared.request.Request.TheVariants as ask
 use Rattle.eden_model.specs.Histories.{fault_of}
 use Rattle.eden_model.specs.Limits.{most_file, most_data, most_target}
+use Rattle.eden_model.specs.Numbers.{Numbering, Numbers, edited, renumbered, number_by, stat_number, with_stat, after_numbers}
 use Rattle.eden_model.specs.Operations.{Meets, Says, Refuses, Whether, Unless, Into, At, OnFile, Writes, Truncates, Adds, Unlinks, Removes, is_dir, is_front, Replaces, Moves, Replies, after}
 use Rattle.eden_model.specs.Paths.{path_eq, is_root}
 use Rattle.eden_model.specs.Requests.{has_payload}
@@ -45,11 +46,11 @@ meets (Here n) P Q p q = q n
 stands : (F : Tree) (p : Path) (Q : Node → Reply → Type 0) → ((n : Node) → IsPlain (Q n)) → IsPlain (At F p Q)
 stands F p Q q = meets (reach F p) (Refuses ENOENT) Q (refuses ENOENT) q
 
-into_count : (c : Option (List ℕ)) (n : ℕ) → IsPlain (Into c (λ old. say.Count n))
+into_count : (c : Option (List ℕ)) (n : ℕ) → IsPlain (Into c (λ old. Says (say.Count n)))
 into_count None n = λ r none. absurd none
 into_count (Some old) n = says_count n
 
-into_ok : (c : Option (List ℕ)) → IsPlain (Into c (λ old. say.Ok))
+into_ok : (c : Option (List ℕ)) → IsPlain (Into c (λ old. Says say.Ok))
 into_ok None = λ r none. absurd none
 into_ok (Some old) = says_ok
 
@@ -95,45 +96,84 @@ writes offset bytes = on_file _ (λ x c.
 truncates : (size : ℕ) (n : Node) → IsPlain (Truncates size n)
 truncates size = on_file _ (λ x c. unless (nat_lt most_file size) EFBIG _ (whether (size == 0) _ _ says_ok (into_ok c)))
 
+-- only a stat's reply tells a number
+pub untold : (q : Request) (r : Reply) → ((p : Path) → number_by r p ≡ None) → stat_number q r ≡ None
+untold (ask.Stat p) r none = none p
+untold (ask.Kind p) r none = refl
+untold (ask.Read p offset count) r none = refl
+untold (ask.ReadLink p) r none = refl
+untold (ask.List p above limit) r none = refl
+untold (ask.Write p offset bytes) r none = refl
+untold (ask.Truncate p size) r none = refl
+untold (ask.Create p) r none = refl
+untold (ask.SetExec p exec) r none = refl
+untold (ask.Mkdir p) r none = refl
+untold (ask.Symlink p target) r none = refl
+untold (ask.Unlink p) r none = refl
+untold (ask.Rmdir p) r none = refl
+untold (ask.Rename from to) r none = refl
+
+plain_number : (r : Reply) (p : Path) → has_payload r ≡ true → number_by r p ≡ None
+plain_number say.Ok p large = refl
+plain_number (say.Kind k) p large = refl
+plain_number (say.Stat k n i) p large = absurd (cc large)
+plain_number (say.Data d) p large = refl
+plain_number (say.Count n) p large = refl
+plain_number (say.Entries es more) p large = refl
+plain_number (say.Err e) p large = refl
+plain_number (say.Fault f) p large = refl
+
 module _ (F : Tree) where
+  -- a reply that leaves the tree and what was given of numbers
+  abbrev Leaves : Request → Reply → Type 0
+  Leaves q r = (after F q r ≡ F) × ((M : Numbering) → renumbered q r M ≡ M)
+
   -- a request whose replies are plain
-  changes : (q : Request) (r : Reply) → IsPlain (Replies F q) → Replies F q r → has_payload r ≡ true → after F q r ≡ F
+  changes : (q : Request) (r : Reply) → IsPlain (Replies F q) → Replies F q r → has_payload r ≡ true → Leaves q r
   changes q r plain h large = absurd (let no : false ≡ true = sym (plain r h) ∙ large in cc no)
 
-  -- a look's reply leaves the tree
-  looks : (q : Request) (r : Reply) → after F q say.Ok ≡ F → after F q r ≡ F
-  looks q say.Ok e = e
-  looks q (say.Kind k) e = e
-  looks q (say.Stat k n) e = e
-  looks q (say.Data d) e = e
-  looks q (say.Count n) e = e
-  looks q (say.Entries es more) e = e
-  looks q (say.Err x) e = refl
-  looks q (say.Fault f) e = refl
+  -- a look's reply leaves both
+  looks : (q : Request) (r : Reply) → after F q say.Ok ≡ F → ((M : Numbering) → edited q M ≡ M) → Leaves q r
+  looks q say.Ok e d = (e, d)
+  looks q (say.Kind k) e d = (e, d)
+  looks q (say.Stat k n i) e d = (e, d)
+  looks q (say.Data x) e d = (e, d)
+  looks q (say.Count n) e d = (e, d)
+  looks q (say.Entries es more) e d = (e, d)
+  looks q (say.Err x) e d = (refl, λ M. refl)
+  looks q (say.Fault f) e d = (refl, λ M. refl)
+
+  payload_leaves : (q : Request) (r : Reply) → Replies F q r → has_payload r ≡ true → Leaves q r
+  payload_leaves (ask.Kind p) r h large = looks (ask.Kind p) r refl (λ M. refl)
+  payload_leaves (ask.Stat p) r h large = looks (ask.Stat p) r refl (λ M. refl)
+  payload_leaves (ask.Read p offset count) r h large = looks (ask.Read p offset count) r refl (λ M. refl)
+  payload_leaves (ask.ReadLink p) r h large = looks (ask.ReadLink p) r refl (λ M. refl)
+  payload_leaves (ask.List p above limit) r h large = looks (ask.List p above limit) r refl (λ M. refl)
+  payload_leaves (ask.Write p offset bytes) r h large = changes (ask.Write p offset bytes) r (unless (nat_lt most_data (length bytes)) EINVAL _ (stands F p _ (writes offset bytes))) h large
+  payload_leaves (ask.Truncate p size) r h large = changes (ask.Truncate p size) r (stands F p _ (truncates size)) h large
+  payload_leaves (ask.Create p) r h large = changes (ask.Create p) r (adds F p) h large
+  payload_leaves (ask.SetExec p exec) r h large = changes (ask.SetExec p exec) r (stands F p _ (on_file _ (λ x c. says_ok))) h large
+  payload_leaves (ask.Mkdir p) r h large = changes (ask.Mkdir p) r (adds F p) h large
+  payload_leaves (ask.Symlink p target) r h large = changes (ask.Symlink p target) r
+      (unless (length target == 0) ENOENT _ (unless (nat_lt most_target (length target)) ENAMETOOLONG _ (adds F p))) h large
+  payload_leaves (ask.Unlink p) r h large = changes (ask.Unlink p) r (unless (is_root p) EISDIR _ (stands F p _ unlinks)) h large
+  payload_leaves (ask.Rmdir p) r h large = changes (ask.Rmdir p) r (unless (is_root p) EBUSY _ (stands F p _ (removes F p))) h large
+  payload_leaves (ask.Rename from to) r h large = changes (ask.Rename from to) r (unless (is_root from || is_root to) EBUSY _ (stands F from _ (moves F from to))) h large
 
   pub payload_keeps : (q : Request) (r : Reply) → Replies F q r → has_payload r ≡ true → after F q r ≡ F
-  payload_keeps (ask.Kind p) r h large = looks (ask.Kind p) r refl
-  payload_keeps (ask.Stat p) r h large = looks (ask.Stat p) r refl
-  payload_keeps (ask.Read p offset count) r h large = looks (ask.Read p offset count) r refl
-  payload_keeps (ask.ReadLink p) r h large = looks (ask.ReadLink p) r refl
-  payload_keeps (ask.List p above limit) r h large = looks (ask.List p above limit) r refl
-  payload_keeps (ask.Write p offset bytes) r h large = changes (ask.Write p offset bytes) r (unless (nat_lt most_data (length bytes)) EINVAL _ (stands F p _ (writes offset bytes))) h large
-  payload_keeps (ask.Truncate p size) r h large = changes (ask.Truncate p size) r (stands F p _ (truncates size)) h large
-  payload_keeps (ask.Create p) r h large = changes (ask.Create p) r (adds F p) h large
-  payload_keeps (ask.SetExec p exec) r h large = changes (ask.SetExec p exec) r (stands F p _ (on_file _ (λ x c. says_ok))) h large
-  payload_keeps (ask.Mkdir p) r h large = changes (ask.Mkdir p) r (adds F p) h large
-  payload_keeps (ask.Symlink p target) r h large = changes (ask.Symlink p target) r
-      (unless (length target == 0) ENOENT _ (unless (nat_lt most_target (length target)) ENAMETOOLONG _ (adds F p))) h large
-  payload_keeps (ask.Unlink p) r h large = changes (ask.Unlink p) r (unless (is_root p) EISDIR _ (stands F p _ unlinks)) h large
-  payload_keeps (ask.Rmdir p) r h large = changes (ask.Rmdir p) r (unless (is_root p) EBUSY _ (stands F p _ (removes F p))) h large
-  payload_keeps (ask.Rename from to) r h large = changes (ask.Rename from to) r (unless (is_root from || is_root to) EBUSY _ (stands F from _ (moves F from to))) h large
+  payload_keeps q r h large = (payload_leaves q r h large).0
+
+  -- .. and tells no number
+  pub payload_keeps_numbers : (q : Request) (r : Reply) (N : Numbers) → Replies F q r → has_payload r ≡ true → after_numbers N q r ≡ N
+  payload_keeps_numbers q r N h large = ap (λ (M : Numbering). with_stat (stat_number q r) (record { given = M; used = N.used })) ((payload_leaves q r h large).1 N.given)
+      ∙ ap (λ o. with_stat o N) (untold q r (λ p. plain_number r p large))
 
 pub payload_is_no_fault : (r : Reply) → has_payload r ≡ true → fault_of r ≡ None
 payload_is_no_fault (say.Data d) large = refl
 payload_is_no_fault (say.Entries es more) large = refl
 payload_is_no_fault say.Ok large = refl
 payload_is_no_fault (say.Kind k) large = refl
-payload_is_no_fault (say.Stat k n) large = refl
+payload_is_no_fault (say.Stat k n i) large = refl
 payload_is_no_fault (say.Count n) large = refl
 payload_is_no_fault (say.Err e) large = refl
 payload_is_no_fault (say.Fault f) large = absurd (cc large)

@@ -5,6 +5,7 @@ use Rattle.std.specs.Option.{option_map}
 use Rattle.eden_model.specs.declared.fault.StartFault.TheVariants.{NoPass, Busy, HistoryFull, Memory}
 use Rattle.eden_model.specs.declared.id.Key.{Key}
 use Rattle.eden_model.specs.declared.request.Request.{Request}
+use Rattle.eden_model.specs.Numbers.{Numbers}
 use Rattle.eden_model.specs.Trees.{Tree}
 use Rattle.eden_model.specs.Histories.{entry}
 use Rattle.eden_import.specs.Queue.{Queue, next_key, after_failed, after_failure, after_take}
@@ -25,21 +26,21 @@ pub taken_passes : (q : Queue) (o : Option Key) → (after_take o q).passes ≡ 
 taken_passes q None = refl
 taken_passes q (Some k) = refl
 
-module _ {T : Type 0} (A : Table T) (honest : Type 0) (copies : Bool) (opening : Tree) where
+module _ {T : Type 0} (A : Table T) (honest : Type 0) (copies : Bool) (opening : Tree) (N : Numbers) where
   -- the events were answered so, one after another, and after each there was a mount
   abbrev pub Runs : Core T → List Event → List Outcome → Core T → Type 0
   Runs m [] [] m' = m' ≡ m
   Runs m [] (o ∷ os) m' = ⊥
   Runs m (e ∷ es) [] m' = ⊥
-  Runs m (e ∷ es) (o ∷ os) m' = (k : Core T) × Steps A honest copies m k e o × IsMount A honest opening k × Runs k es os m'
+  Runs m (e ∷ es) (o ∷ os) m' = (k : Core T) × Steps A honest copies m k e o × IsMount A honest opening N k × Runs k es os m'
 
   -- of every run, from any mount
   abbrev pub OfRuns : (Core T → List Event → List Outcome → Core T → Type 0) → Type 0
-  OfRuns P = (m m' : Core T) (es : List Event) (os : List Outcome) → IsMount A honest opening m → Runs m es os m' → P m es os m'
+  OfRuns P = (m m' : Core T) (es : List Event) (os : List Outcome) → IsMount A honest opening N m → Runs m es os m' → P m es os m'
 
   -- every mount that comes of a run is one
-  pub runs_keep : OfRuns (λ m es os m'. IsMount A honest opening m')
-  runs_keep m m' [] [] h r = subst (IsMount A honest opening) (sym r) h
+  pub runs_keep : OfRuns (λ m es os m'. IsMount A honest opening N m')
+  runs_keep m m' [] [] h r = subst (IsMount A honest opening N) (sym r) h
   runs_keep m m' [] (o ∷ os) h r = absurd r
   runs_keep m m' (e ∷ es) [] h r = absurd r
   runs_keep m m' (e ∷ es) (o ∷ os) h (k, step, kept, more) = runs_keep k m' es os kept more
@@ -65,7 +66,7 @@ module _ {T : Type 0} (A : Table T) (honest : Type 0) (copies : Bool) (opening :
   }
 
   -- one seat was written
-  one_link : {X : Type 0} (f : ℕ → Option X) (look : Pending → X) (m k : Core T) (c : ℕ) (o : Option Pending) → IsMount A honest opening m → 1 ≤ c → c ≤ length m.seats
+  one_link : {X : Type 0} (f : ℕ → Option X) (look : Pending → X) (m k : Core T) (c : ℕ) (o : Option Pending) → IsMount A honest opening N m → 1 ≤ c → c ≤ length m.seats
       → k.seats ≡ set m.seats (c - 1) o → ((i : ℕ) → 1 ≤ i → f i ≡ option_map look (seat_of i m)) → (i : ℕ) → 1 ≤ i → with_pass f c (option_map look o) i ≡ option_map look (seat_of i k)
   one_link f look m k c o h low high is l i positive = at (i == c)
       (ap (λ (x : List (Option Pending)). slice_index_or x (i - 1) None) is ∙ write_one m.seats (length m.seats) c i o None refl low high positive)
@@ -78,7 +79,7 @@ module _ {T : Type 0} (A : Table T) (honest : Type 0) (copies : Bool) (opening :
       × (length k.history ≡ length m.history)
   quiet f b m k l s h = (same_seats f b m k s l, h ∙ sym (append-nil m.history), ap length h)
 
-  follows : (f : ℕ → Option Request) (b : ℕ → Option ℕ) (m k : Core T) (e : Event) (o : Outcome) → IsMount A honest opening m → Links f b m → Steps A honest copies m k e o → Follows f b m k e o
+  follows : (f : ℕ → Option Request) (b : ℕ → Option ℕ) (m k : Core T) (e : Event) (o : Outcome) → IsMount A honest opening N m → Links f b m → Steps A honest copies m k e o → Follows f b m k e o
   follows f b m k _ _ h l (starts c q (Ok u) p) =
       let is = p.2 in
       let seats = h.seats in
@@ -140,7 +141,7 @@ module _ {T : Type 0} (A : Table T) (honest : Type 0) (copies : Bool) (opening :
       let w = quiet f b m k l (ap (λ (x : Core T). x.seats) p.1) (ap (λ (x : Core T). x.history) p.1) in
       record { links = w.0; history = w.1; grown = w.2; numbered = tt }
 
-  grows : (f : ℕ → Option Request) (b : ℕ → Option ℕ) (m m' : Core T) (es : List Event) (os : List Outcome) → Links f b m → IsMount A honest opening m → Runs m es os m'
+  grows : (f : ℕ → Option Request) (b : ℕ → Option ℕ) (m m' : Core T) (es : List Event) (os : List Outcome) → Links f b m → IsMount A honest opening N m → Runs m es os m'
       → m'.history ≡ m.history ++ told f es os
   grows f b m m' [] [] l h r = ap (λ (x : Core T). x.history) r ∙ sym (append-nil m.history)
   grows f b m m' [] (o ∷ os) l h r = absurd r
@@ -151,7 +152,7 @@ module _ {T : Type 0} (A : Table T) (honest : Type 0) (copies : Bool) (opening :
       ∙ ap (λ es'. es' ++ told (then_asked f e o) es os) one.history
       ∙ append_assoc m.history (then_told f e o) (told (then_asked f e o) es os)
 
-  numbers : (f : ℕ → Option Request) (b : ℕ → Option ℕ) (n : ℕ) (m m' : Core T) (es : List Event) (os : List Outcome) → Links f b m → length m.history ≡ n → IsMount A honest opening m
+  numbers : (f : ℕ → Option Request) (b : ℕ → Option ℕ) (n : ℕ) (m m' : Core T) (es : List Event) (os : List Outcome) → Links f b m → length m.history ≡ n → IsMount A honest opening N m
       → Runs m es os m' → AreNumbered b n es os
   numbers f b n m m' [] os l z h r = tt
   numbers f b n m m' (e ∷ es) [] l z h r = tt
@@ -160,7 +161,7 @@ module _ {T : Type 0} (A : Table T) (honest : Type 0) (copies : Bool) (opening :
       let P : ℕ → Type 0 = λ i. AreNumbered b i (e ∷ es) (o ∷ os) in
       subst P z (one.numbered, numbers (then_asked f e o) (then_begun b (length m.history) e o) (then_length (length m.history) o) k m' es os one.links one.grown kept more)
 
-  pendings : (f : ℕ → Option Request) (b : ℕ → Option ℕ) (m m' : Core T) (es : List Event) (os : List Outcome) → Links f b m → IsMount A honest opening m → Runs m es os m' → (c : ℕ)
+  pendings : (f : ℕ → Option Request) (b : ℕ → Option ℕ) (m m' : Core T) (es : List Event) (os : List Outcome) → Links f b m → IsMount A honest opening N m → Runs m es os m' → (c : ℕ)
       → 1 ≤ c → request_of m' c ≡ asked_after f es os c
   pendings f b m m' [] [] l h r c low = ap (λ (x : Core T). request_of x c) r ∙ sym (l.asked c low)
   pendings f b m m' [] (o ∷ os) l h r c low = absurd r
@@ -213,7 +214,7 @@ module _ {T : Type 0} (A : Table T) (honest : Type 0) (copies : Bool) (opening :
     answered k _ _ (fails j x y p) = tt
     answered k _ _ (unloads q age gone p) = tt
 
-  all_answered : (f : ℕ → Option Request) (b : ℕ → Option ℕ) (m m' : Core T) (es : List Event) (os : List Outcome) → Links f b m → IsMount A honest opening m → Runs m es os m'
+  all_answered : (f : ℕ → Option Request) (b : ℕ → Option ℕ) (m m' : Core T) (es : List Event) (os : List Outcome) → Links f b m → IsMount A honest opening N m → Runs m es os m'
       → AreAnswered m.queue.passes f es os
   all_answered f b m m' [] [] l h r = tt
   all_answered f b m m' [] (o ∷ os) l h r = absurd r

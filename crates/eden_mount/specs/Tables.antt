@@ -1,4 +1,5 @@
--- What is known of a table of inodes with its cache: what it shows, what a request needs, and what each call does.
+-- What is known of a table of inodes with its cache: the tree and the numbers that it shows, what a request needs, and what
+-- each call does.
 use Rattle.std.specs.Prelude.{◌≡◌, ◌≢◌, ◌<◌, ◌≤◌, ◌⊎◌, ℕ, Bool, true, false, List, None}
 use Rattle.eden_model.specs.declared.fault.Cause.{Cause}
 use Rattle.eden_model.specs.declared.fault.Fault.TheVariants as fault
@@ -7,6 +8,8 @@ use Rattle.eden_model.specs.declared.id.Key.{Key}
 use Rattle.eden_model.specs.declared.reply.Reply.{Reply}
 use Rattle.eden_model.specs.declared.reply.Reply.TheVariants as say
 use Rattle.eden_model.specs.declared.request.Request.{Request}
+use Rattle.eden_model.specs.Backing.{Gains, Renumbers}
+use Rattle.eden_model.specs.Numbers.{Numbering}
 use Rattle.eden_model.specs.Trees.{Path, Tree}
 use Rattle.eden_model.specs.Operations.{Replies, after}
 use Rattle.eden_model.specs.Histories.{fault_of}
@@ -17,6 +20,8 @@ use Rattle.eden_model.specs.declared.attempt.Attempt.TheVariants as ended
 pub record Table (T : Type 0) : Type 1 where
   -- the tree that it shows
   pub shown : T → Tree
+  -- the inode number that it shows at each path, where it shows one
+  pub numbers : T → Numbering
   -- the commit that it is a checkout of, by the id of its tree
   pub commit : T → Id
   -- the next inode number that it gives
@@ -41,6 +46,7 @@ module _ {T : Type 0} (A : Table T) where
   pub record Ticks (t u : T) : Type 0 where
     pub ticked : A.ticked t u
     pub tree : A.shown u ≡ A.shown t
+    pub numbers : A.numbers u ≡ A.numbers t
     pub commit : A.commit u ≡ A.commit t
     pub next : A.next u ≡ A.next t
     pub cache : (k : Key) → A.caches u k ≡ A.caches t k
@@ -51,6 +57,7 @@ module _ {T : Type 0} (A : Table T) where
   pub record Stores (t : T) (k : Key) (o : Body) (u : T) : Type 0 where
     pub kept : A.kept t k o u
     pub tree : A.shown u ≡ A.shown t
+    pub numbers : A.numbers u ≡ A.numbers t
     pub commit : A.commit u ≡ A.commit t
     pub next : A.next u ≡ A.next t
     pub cached : A.caches u k ≡ true
@@ -62,24 +69,28 @@ module _ {T : Type 0} (A : Table T) where
       × Stores t k (record { kind = k.kind; bytes = body }) u
 
 module _ {T : Type 0} (A : Table T) (honest : Type 0) where
-  -- an attempt ended with the reply: the table of operations' one, or a fault, and the tree is the one after it
+  -- An attempt ended with the reply: the table of operations' one, or a fault, and the tree is the one after it. What is shown
+  -- of numbers is changed as the request changes it, once it is done, and a `stat` told the one shown; a fault only gains some.
   pub record Finishes (t : T) (q : Request) (r : Reply) (u : T) : Type 0 where
     pub tried : A.tried t q (ended.Finished r) u
     pub reply : honest → fault_of r ≡ None → Replies (A.shown t) q r
     pub tree : honest → A.shown u ≡ after (A.shown t) q r
+    pub numbers : honest → Renumbers (A.numbers t) (A.next t) q r (A.numbers u) (A.next u)
     pub commit : A.commit u ≡ A.commit t
     pub next : A.next t ≤ A.next u
     -- nothing is fetched in an attempt
     pub unfetched : (id : Id) (x : Cause) → r ≢ say.Fault (fault.Fetch id x)
     pub cache : (k : Key) → A.caches t k ≡ true → A.caches u k ≡ true
 
-  -- an attempt ended with a need: what the request needed before, it needs still, or it has come further
+  -- an attempt ended with a need: what the request needed before, it needs still, or it has come further, and numbers are
+  -- only gained
   pub record Needs (t : T) (q : Request) (k : Key) (u : T) : Type 0 where
     pub tried : A.tried t q (ended.Need k) u
     pub needed : A.needs u q k
     pub lacks : A.caches u k ≡ false
     pub still : (j : Key) → A.needs t q j → (j ≡ k) ⊎ (A.left u q < A.left t q)
     pub tree : honest → A.shown u ≡ A.shown t
+    pub numbers : honest → Gains (A.numbers t) (A.next t) (A.numbers u) (A.next u)
     pub commit : A.commit u ≡ A.commit t
     pub next : A.next t ≤ A.next u
     pub cache : (j : Key) → A.caches t j ≡ true → A.caches u j ≡ true
@@ -90,10 +101,11 @@ module _ {T : Type 0} (A : Table T) (honest : Type 0) where
   Tries t q (ended.Finished r) u = Finishes t q r u
   Tries t q (ended.Need k) u = Needs t q k u
 
-  -- so many directories went, and no object left the cache
+  -- so many directories went, each number is shown still, and no object left the cache
   pub record Unloads (t : T) (p : Path) (age gone : ℕ) (u : T) : Type 0 where
     pub unloaded : A.unloaded t p age gone u
     pub tree : honest → A.shown u ≡ A.shown t
+    pub numbers : honest → (x : Path) → A.numbers u x ≡ A.numbers t x
     pub commit : A.commit u ≡ A.commit t
     pub next : A.next u ≡ A.next t
     pub cache : (k : Key) → A.caches u k ≡ A.caches t k

@@ -170,7 +170,7 @@ impl<W: World, S: Source<W> + Drop, T: Attempts<W> + Drop, A: Allocator> Local<W
     /// The entries so far.
     pub fn history(&self) -> &[Entry]
         ensures entries { result.now ≡ self.now.core.history }
-        ensures legal { W.honest → Legal W.opening self.now.core.history }
+        ensures legal { W.honest → Legal W.opening W.numbers self.now.core.history }
     {
         self.mount.history()
     }

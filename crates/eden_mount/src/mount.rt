@@ -1,6 +1,8 @@
 ghost use Rattle.std.specs.Prelude.{◌≡◌, ◌<◌, ◌≤◌, ◌++◌, ℕ, true, false, [], length, Some, IfOk, IfErr, OnOk, OnErr, IfSome, IfNone};
 ghost use Rattle.eden_model.specs.declared.id.Key as keys;
+ghost use Rattle.eden_model.specs.Backing.{Backs};
 ghost use Rattle.eden_model.specs.Histories.{Legal, replay};
+ghost use Rattle.eden_model.specs.Numbers.{replay_numbers};
 ghost use Rattle.eden_import.specs.Keys.{has_key};
 ghost use Rattle.eden_object.specs.Objects.{IsHonest};
 ghost use Rattle.eden_mount.specs.Core.{Pends, IsFree, IsLeastBusy, pending_count, taken_room};
@@ -19,7 +21,7 @@ use crate::seats::{Pending, count, occupy, request_at, vacate};
 use crate::settling::{Settled, resume};
 use eden_history::{History, Kept};
 use eden_import::Imports;
-use eden_model::{Cause, Entry, Key, Path, Request, StartFault, World};
+use eden_model::{Cause, Entry, Key, Path, Request, StartFault, World, backing_laws};
 use std::alloc::{AllocError, Allocator, Global};
 use std::marker::{Model, PhantomData};
 
@@ -27,8 +29,8 @@ use std::marker::{Model, PhantomData};
 ///
 /// A pass is a caller's seat, numbered from 1, with at most one pending request. Each call that may change the mount is
 /// one atomic step. Where the outside is honest, the history is at every moment one that the whole tree has, changed by
-/// one caller at a time, and the table shows the tree after it. That is so whether the history keeps its entries or
-/// only counts them.
+/// one caller at a time, with the inode numbers that its replies told, and the table shows the tree after it. That is so
+/// whether the history keeps its entries or only counts them.
 #[derive(Drop)]
 pub struct Mount<W: World, T: Attempts<W> + Drop, A: Allocator, H: History> {
     alloc: Global,
@@ -50,15 +52,17 @@ impl<W: World, T: Attempts<W> + Drop, A: Allocator, H: History> Model for Mount<
 
     ghost view = { λ m. core_from m.table m.imports m.seats.items (H.entries m.history) (H.limit m.history) };
 
-    ghost invariant = { λ m. IsHeld T.table W.honest W.opening (H.room m.history)
+    ghost invariant = { λ m. IsHeld T.table W.honest W.opening W.numbers (H.room m.history)
         (core_from m.table m.imports m.seats.items (H.entries m.history) (H.limit m.history))
         × AllLead T.leads m.table m.seats.items m.places.items };
 }
 
 impl<W: World, T: Attempts<W> + Drop, A: Allocator, H: History> Mount<W, T, A, H> {
-    /// A mount over a table that shows the opening tree, with an empty history. Nothing is pending.
+    /// A mount over a table that shows the opening tree, and numbers that back the opening ones, with an empty history.
+    /// Nothing is pending.
     pub fn new(room: Room<A>, table: T, history: H) -> Self
         requires shown { W.honest → T.table.shown table ≡ W.opening }
+        requires backed { W.honest → Backs W.numbers (T.table.numbers table) (T.table.next table) }
         requires empty { H.entries history ≡ [] }
         ensures value { result ≡ core_from table room.queue room.seats [] (H.limit history) }
         ensures rest { IsAtRest result }
@@ -90,7 +94,7 @@ impl<W: World, T: Attempts<W> + Drop, A: Allocator, H: History> Mount<W, T, A, H
 
     /// What holds of every mount.
     pub fn holds(&self)
-        ensures { IsMount T.table W.honest W.opening self.now }
+        ensures { IsMount T.table W.honest W.opening W.numbers self.now }
     {
         let _ = &self.table;
     }
@@ -212,6 +216,7 @@ impl<W: World, T: Attempts<W> + Drop, A: Allocator, H: History> Mount<W, T, A, H
         requires { (s : declared.Pending) × Pends pass s self.old }
         ensures { GoesOn T.table W.honest H.copies self.old pass result self.new }
     {
+        backing_laws();
         let seat = pass as usize - 1;
         let mark = self.imports.failure(pass);
         let request = request_at(self.seats.as_slice(), seat);
@@ -291,17 +296,20 @@ impl<W: World, T: Attempts<W> + Drop, A: Allocator, H: History> Mount<W, T, A, H
     /// Makes these events happen, one after another; the outcomes are the answers of the calls.
     ///
     /// The history goes on with one entry for each finished request, in order, at the number that was told, behind the
-    /// start of its span; where the outside is honest it is legal, and the table shows the tree after it. What is pending
-    /// is what was asked, less what is done. Each fetch fault has its failure, which its pass heard while it waited for
-    /// that key; some pending request waits for each queued key; and a key is taken again only after it arrived or failed.
+    /// start of its span; where the outside is honest it is legal, and the table shows the tree after it, and numbers that
+    /// back those that it gave. What is pending is what was asked, less what is done. Each fetch fault has its failure,
+    /// which its pass heard while it waited for that key; some pending request waits for each queued key; and a key is
+    /// taken again only after it arrived or failed.
     ///
     /// The only error is want of memory for the outcomes, before any event.
     pub fn run(&mut self, events: Vec<Event>) -> Result<Vec<Outcome>, AllocError>
         requires { W.honest → AreHonest W.repository events.items }
         ensures history { IfOk result (λ os. self.new.history
             ≡ self.old.history ++ told (request_of self.old) events.items os.items) }
-        ensures legal { W.honest → Legal W.opening self.new.history }
+        ensures legal { W.honest → Legal W.opening W.numbers self.new.history }
         ensures shown { W.honest → T.table.shown self.new.table ≡ replay W.opening self.new.history }
+        ensures backed { W.honest → Backs (replay_numbers W.numbers self.new.history)
+            (T.table.numbers self.new.table) (T.table.next self.new.table) }
         ensures answered { IfOk result (λ os.
             AreAnswered self.old.queue.passes (request_of self.old) events.items os.items) }
         ensures numbers { IfOk result (λ os.
@@ -330,7 +338,7 @@ impl<W: World, T: Attempts<W> + Drop, A: Allocator> Mount<W, T, A, Kept> {
     /// The entries so far.
     pub fn history(&self) -> &[Entry]
         ensures entries { result.now ≡ self.now.history }
-        ensures legal { W.honest → Legal W.opening self.now.history }
+        ensures legal { W.honest → Legal W.opening W.numbers self.now.history }
     {
         self.history.as_slice()
     }

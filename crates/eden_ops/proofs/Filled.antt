@@ -89,7 +89,7 @@ module _ (offset : ℕ) (bytes : List ℕ) where
 
   -- the reply by what is tested: that there are no bytes, and that they end too far
   abbrev WriteSays : Bool → Bool → Option (List ℕ) → Reply → Type 0
-  WriteSays none far c r = Whether none (Says (say.Count 0)) (Unless far EFBIG (Into c (λ old. say.Count (length bytes)))) r
+  WriteSays none far c r = Whether none (Says (say.Count 0)) (Unless far EFBIG (Into c (λ old. Says (say.Count (length bytes))))) r
 
   module _ (k : Kind) (c : Option (List ℕ)) (l : Bool) (plain : IsPlain k) (none far : Bool) (is : (length bytes == 0) ≡ none) (ends_far : nat_lt most_file (offset + length bytes) ≡ far) where
     writes_by : (r : Reply) → WriteSays none far c r → Writes offset bytes (node_from k c l) r
@@ -113,10 +113,10 @@ module _ (offset : ℕ) (bytes : List ℕ) where
         pub writes_some : (old : List ℕ) → c ≡ Some old → Writes offset bytes (node_from k c l) (say.Count (length bytes))
         writes_some old is =
             writes_by k c l plain false false some near (say.Count (length bytes))
-            (subst (λ (o : Option (List ℕ)). Into o (λ x. say.Count (length bytes)) (say.Count (length bytes))) (sym is) refl)
+            (subst (λ (o : Option (List ℕ)). Into o (λ x. Says (say.Count (length bytes))) (say.Count (length bytes))) (sym is) refl)
 
         pub writes_lost : (r : Reply) → c ≡ None → ¬ Writes offset bytes (node_from k c l) r
-        writes_lost r lost h = subst (λ (o : Option (List ℕ)). Into o (λ x. say.Count (length bytes)) r) lost (writes_only k c l plain false false some near r h)
+        writes_lost r lost h = subst (λ (o : Option (List ℕ)). Into o (λ x. Says (say.Count (length bytes))) r) lost (writes_only k c l plain false false some near r h)
 
 -- ---- truncate
 
@@ -129,7 +129,7 @@ module _ (size : ℕ) where
 
   -- the reply by what is tested: that it is too long, and that nothing is to be left
   abbrev TruncateSays : Bool → Bool → Option (List ℕ) → Reply → Type 0
-  TruncateSays far none c r = Unless far EFBIG (Whether none (Says say.Ok) (Into c (λ old. say.Ok))) r
+  TruncateSays far none c r = Unless far EFBIG (Whether none (Says say.Ok) (Into c (λ old. Says say.Ok))) r
 
   module _ (k : Kind) (c : Option (List ℕ)) (l : Bool) (plain : IsPlain k) (far none : Bool) (is_far : nat_lt most_file size ≡ far) (is : (size == 0) ≡ none) where
     truncates_by : (r : Reply) → TruncateSays far none c r → Truncates size (node_from k c l) r
@@ -151,10 +151,10 @@ module _ (size : ℕ) where
 
       module _ (some : (size == 0) ≡ false) where
         pub truncates_some : (old : List ℕ) → c ≡ Some old → Truncates size (node_from k c l) say.Ok
-        truncates_some old is = truncates_by k c l plain false false near some say.Ok (subst (λ (o : Option (List ℕ)). Into o (λ x. say.Ok) say.Ok) (sym is) refl)
+        truncates_some old is = truncates_by k c l plain false false near some say.Ok (subst (λ (o : Option (List ℕ)). Into o (λ x. Says say.Ok) say.Ok) (sym is) refl)
 
         pub truncates_lost : (r : Reply) → c ≡ None → ¬ Truncates size (node_from k c l) r
-        truncates_lost r lost h = subst (λ (o : Option (List ℕ)). Into o (λ x. say.Ok) r) lost (truncates_only k c l plain false false near some r h)
+        truncates_lost r lost h = subst (λ (o : Option (List ℕ)). Into o (λ x. Says say.Ok) r) lost (truncates_only k c l plain false false near some r h)
 
   -- what it makes of the content
   truncated_by : (c o : Option (List ℕ)) (none : Bool) → (size == 0) ≡ none → (if none then Some [] else option_map (resized size) c) ≡ o → truncated size c ≡ o

@@ -9,7 +9,7 @@ use Rattle.eden_model.specs.declared.node.Node.TheVariants.{File}
 use Rattle.eden_model.specs.declared.request.Request.TheVariants as ask
 use Rattle.eden_model.specs.declared.reply.Reply.{Reply}
 use Rattle.eden_model.specs.declared.reply.Reply.TheVariants as say
-use Rattle.eden_model.specs.Operations.{Says, Whether, Unless, Into, At, OnDir, Reads, ReadsLink, Stats, Lists, Replies, kind_of}
+use Rattle.eden_model.specs.Operations.{Says, Whether, Unless, Into, At, OnDir, Reads, ReadsLink, IsStat, Stats, Lists, Replies, kind_of}
 use Rattle.eden_model.specs.Limits.{most_data, most_entries}
 use Rattle.eden_model.specs.Shown.{node_from}
 use Rattle.eden_model.specs.Trees.{Name, Path, Tree}
@@ -76,12 +76,12 @@ file_node kind.Dir c l (inl a) = cc
 file_node kind.Dir c l (inr a) = cc
 
 reads_as : (offset count : ℕ) (x : Bool) (c : Option (List ℕ)) (r : Reply) (b : Bool) → (count == 0) ≡ b
-    → Whether b (Says (say.Data [])) (Into c (λ bytes. say.Data (take count (drop offset bytes)))) r → Reads offset count (File x c) r
-reads_as offset count x c r b is h = subst (λ (a : Bool). Whether a (Says (say.Data [])) (Into c (λ bytes. say.Data (take count (drop offset bytes)))) r) (sym is) h
+    → Whether b (Says (say.Data [])) (Into c (λ bytes. Says (say.Data (take count (drop offset bytes))))) r → Reads offset count (File x c) r
+reads_as offset count x c r b is h = subst (λ (a : Bool). Whether a (Says (say.Data [])) (Into c (λ bytes. Says (say.Data (take count (drop offset bytes))))) r) (sym is) h
 
 reads_of : (offset count : ℕ) (x : Bool) (c : Option (List ℕ)) (r : Reply) (b : Bool) → (count == 0) ≡ b → Reads offset count (File x c) r
-    → Whether b (Says (say.Data [])) (Into c (λ bytes. say.Data (take count (drop offset bytes)))) r
-reads_of offset count x c r b is h = subst (λ (a : Bool). Whether a (Says (say.Data [])) (Into c (λ bytes. say.Data (take count (drop offset bytes)))) r) is h
+    → Whether b (Says (say.Data [])) (Into c (λ bytes. Says (say.Data (take count (drop offset bytes))))) r
+reads_of offset count x c r b is h = subst (λ (a : Bool). Whether a (Says (say.Data [])) (Into c (λ bytes. Says (say.Data (take count (drop offset bytes))))) r) is h
 
 pub reads_none : (offset count : ℕ) (k : Kind) (c : Option (List ℕ)) (l : Bool) → IsPlain k → (count == 0) ≡ true → Reads offset count (node_from k c l) (say.Data [])
 reads_none offset count k c l plain none =
@@ -94,12 +94,12 @@ reads_some offset count k c l b plain some is =
     let n = file_node k c l plain in
     let r : Reply = say.Data (take count (drop offset b)) in
     subst (λ (a : Node). Reads offset count a r) (sym n.1)
-    (reads_as offset count n.0 c r false some (subst (λ (o : Option (List ℕ)). Into o (λ bytes. say.Data (take count (drop offset bytes))) r) (sym is) refl))
+    (reads_as offset count n.0 c r false some (subst (λ (o : Option (List ℕ)). Into o (λ bytes. Says (say.Data (take count (drop offset bytes)))) r) (sym is) refl))
 
 pub reads_lost : (offset count : ℕ) (k : Kind) (c : Option (List ℕ)) (l : Bool) (r : Reply) → IsPlain k → (count == 0) ≡ false → c ≡ None → ¬ Reads offset count (node_from k c l) r
 reads_lost offset count k c l r plain some is h =
     let n = file_node k c l plain in
-    subst (λ (o : Option (List ℕ)). Into o (λ bytes. say.Data (take count (drop offset bytes))) r) is
+    subst (λ (o : Option (List ℕ)). Into o (λ bytes. Says (say.Data (take count (drop offset bytes)))) r) is
     (reads_of offset count n.0 c r false some (subst (λ (a : Node). Reads offset count a r) n.1 h))
 
 -- ---- readlink
@@ -119,13 +119,13 @@ target_other kind.Dir c l other = refl
 pub target_some : (k : Kind) (c : Option (List ℕ)) (l : Bool) (b : List ℕ) → k ≡ kind.Link → c ≡ Some b → ReadsLink (node_from k c l) (say.Data b)
 target_some kind.File c l b is has = cc
 target_some kind.Exec c l b is has = cc
-target_some kind.Link c l b is has = subst (λ (o : Option (List ℕ)). Into o say.Data (say.Data b)) (sym has) refl
+target_some kind.Link c l b is has = subst (λ (o : Option (List ℕ)). Into o (λ target. Says (say.Data target)) (say.Data b)) (sym has) refl
 target_some kind.Dir c l b is has = cc
 
 pub target_lost : (k : Kind) (c : Option (List ℕ)) (l : Bool) (r : Reply) → k ≡ kind.Link → c ≡ None → ¬ ReadsLink (node_from k c l) r
 target_lost kind.File c l r is lost h = cc
 target_lost kind.Exec c l r is lost h = cc
-target_lost kind.Link c l r is lost h = subst (λ (o : Option (List ℕ)). Into o say.Data r) lost h
+target_lost kind.Link c l r is lost h = subst (λ (o : Option (List ℕ)). Into o (λ target. Says (say.Data target)) r) lost h
 target_lost kind.Dir c l r is lost h = cc
 
 -- ---- stat
@@ -136,22 +136,26 @@ stats G n = Stats n
 pub asks_stat : (p : Path) → Asks (ask.Stat p) p stats
 asks_stat p = record { says = λ G r h. h; only = λ G r h. h; at = λ G. refl; plain = λ x is. cc }
 
-pub stats_dir : (k : Kind) (c : Option (List ℕ)) (l : Bool) → k ≡ kind.Dir → Stats (node_from k c l) (say.Stat kind.Dir 0)
-stats_dir kind.File c l is = cc
-stats_dir kind.Exec c l is = cc
-stats_dir kind.Link c l is = cc
-stats_dir kind.Dir c l is = refl
+pub stats_dir : (k : Kind) (c : Option (List ℕ)) (l : Bool) (n : ℕ) → k ≡ kind.Dir → Stats (node_from k c l) (say.Stat kind.Dir 0 n)
+stats_dir kind.File c l n is = cc
+stats_dir kind.Exec c l n is = cc
+stats_dir kind.Link c l n is = cc
+stats_dir kind.Dir c l n is = (n, refl)
 
-pub stats_some : (k : Kind) (c : Option (List ℕ)) (l : Bool) (b : List ℕ) → k ≢ kind.Dir → c ≡ Some b → Stats (node_from k c l) (say.Stat k (length b))
-stats_some kind.File c l b other has = subst (λ (o : Option (List ℕ)). Into o (λ bytes. say.Stat kind.File (length bytes)) (say.Stat kind.File (length b))) (sym has) refl
-stats_some kind.Exec c l b other has = subst (λ (o : Option (List ℕ)). Into o (λ bytes. say.Stat kind.Exec (length bytes)) (say.Stat kind.Exec (length b))) (sym has) refl
-stats_some kind.Link c l b other has = subst (λ (o : Option (List ℕ)). Into o (λ bytes. say.Stat kind.Link (length bytes)) (say.Stat kind.Link (length b))) (sym has) refl
-stats_some kind.Dir c l b other has = absurd (other refl)
+-- a content's length is told, where it is known
+abbrev Sized : Kind → Reply → Option (List ℕ) → Type 0
+Sized k r o = Into o (λ bytes. IsStat k (length bytes)) r
+
+pub stats_some : (k : Kind) (c : Option (List ℕ)) (l : Bool) (b : List ℕ) (n : ℕ) → k ≢ kind.Dir → c ≡ Some b → Stats (node_from k c l) (say.Stat k (length b) n)
+stats_some kind.File c l b n other has = subst (Sized kind.File (say.Stat kind.File (length b) n)) (sym has) (n, refl)
+stats_some kind.Exec c l b n other has = subst (Sized kind.Exec (say.Stat kind.Exec (length b) n)) (sym has) (n, refl)
+stats_some kind.Link c l b n other has = subst (Sized kind.Link (say.Stat kind.Link (length b) n)) (sym has) (n, refl)
+stats_some kind.Dir c l b n other has = absurd (other refl)
 
 pub stats_lost : (k : Kind) (c : Option (List ℕ)) (l : Bool) (r : Reply) → k ≢ kind.Dir → c ≡ None → ¬ Stats (node_from k c l) r
-stats_lost kind.File c l r other lost h = subst (λ (o : Option (List ℕ)). Into o (λ bytes. say.Stat kind.File (length bytes)) r) lost h
-stats_lost kind.Exec c l r other lost h = subst (λ (o : Option (List ℕ)). Into o (λ bytes. say.Stat kind.Exec (length bytes)) r) lost h
-stats_lost kind.Link c l r other lost h = subst (λ (o : Option (List ℕ)). Into o (λ bytes. say.Stat kind.Link (length bytes)) r) lost h
+stats_lost kind.File c l r other lost h = subst (Sized kind.File r) lost h
+stats_lost kind.Exec c l r other lost h = subst (Sized kind.Exec r) lost h
+stats_lost kind.Link c l r other lost h = subst (Sized kind.Link r) lost h
 stats_lost kind.Dir c l r other lost h = absurd (other refl)
 
 -- ---- list

@@ -19,8 +19,10 @@ use Rattle.eden_overlay.specs.Held.{own_files}
 use Rattle.eden_cache.specs.Cache.{Cache}
 use Rattle.eden_tree.specs.Directory.{Row}
 use Rattle.eden_tree.specs.Paths.{row_at}
+use Rattle.eden_coupling.specs.Numberings.{in_files}
+use Rattle.eden_coupling.proofs.CallerLemmas.{in_memory, number_at}
 use Rattle.eden_inode.specs.declared.seen.Seen.{Seen}
-use Rattle.eden_inode.specs.Tables.{Table, shows}
+use Rattle.eden_inode.specs.Tables.{Table, shows, shows_numbers}
 use Rattle.eden_model.specs.declared.attempt.Attempt.TheVariants.{Finished}
 use Rattle.eden_ops.specs.declared.answer.Stop.{Stop}
 use Rattle.eden_ops.specs.declared.answer.Stop.TheVariants as stop
@@ -44,6 +46,12 @@ as_dir k seen is told (inr dir) = is ∙ dir
 module _ {W F : Type 0} (w : Ghosts W) (f : Files F W) (p : Path) (s t : Table F) (d : Cache) (o : Option Seen) (seen : Seen) (is : o ≡ Some seen) (meets : Meets w f p s t d (Ok o)) where
   abbrev at : IsSeen p t.root seen
   at = seen_at w f p s t d o seen is meets
+
+  -- its number is shown there, also once its content was looked at
+  pub met_number : (u : Table F) → u.root ≡ t.root → (n : ℕ) → seen.number ≡ n → shows_numbers f u p ≡ Some n
+  met_number u still n told =
+      let M = in_files (f.stored u.files) in
+      number_at M u.root at.row p (in_memory M u.root at.row p (ap (row_at p) still ∙ at.there)) ∙ ap (λ (k : ℕ). Some k) (sym at.number ∙ told)
 
   pub met_content : seen.kind ≢ kind.Dir → HasContent p t.root seen.origin
   met_content other = has_content p t.root seen at t.root refl other

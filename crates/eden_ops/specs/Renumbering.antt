@@ -1,6 +1,5 @@
 -- What an attempt does to the inode numbers that a mount shows.
-use Rattle.std.specs.Prelude.{◌≡◌, ◌≤◌, ℕ}
-use Rattle.std.specs.Option.{IsSome}
+use Rattle.std.specs.Prelude.{◌≡◌, ◌≤◌, ℕ, Some}
 use Rattle.eden_model.specs.declared.attempt.Attempt.{Attempt}
 use Rattle.eden_model.specs.declared.attempt.Attempt.TheVariants.{Finished, Need}
 use Rattle.eden_model.specs.declared.kind.Kind.{Kind}
@@ -14,8 +13,6 @@ use Rattle.eden_model.specs.Numbers.{Numbering, renumbered}
 use Rattle.eden_model.specs.Requests.{paths_of}
 use Rattle.eden_model.specs.Trees.{Path}
 use Rattle.eden_overlay.specs.declared.files.Files.{Ghosts as Files}
-use Rattle.eden_tree.specs.Directory.{Row}
-use Rattle.eden_tree.specs.Paths.{row_at}
 use Rattle.eden_inode.specs.Tables.{Table, shows_numbers}
 use Rattle.eden_ops.specs.Keeping.{Keeps}
 
@@ -24,9 +21,9 @@ abbrev pub edited_by : Request → Attempt → Numbering → Numbering
 edited_by q (Finished r) M = renumbered q r M
 edited_by q (Need k) M = M
 
--- a `stat` that is answered is of an entry in memory
-abbrev pub IsStatThere : Request → Attempt → Row → Type 0
-IsStatThere q a x = (p : Path) (k : Kind) (length : ℕ) → q ≡ ask.Stat p → a ≡ Finished (say.Stat k length) → IsSome (row_at p x)
+-- a `stat` that is answered tells the number that is shown at its path
+abbrev pub TellsItsNumber : Request → Attempt → Numbering → Type 0
+TellsItsNumber q a T = (p : Path) (k : Kind) (size n : ℕ) → q ≡ ask.Stat p → a ≡ Finished (say.Stat k size n) → T p ≡ Some n
 
 module _ {W F : Type 0} (w : Ghosts W) (f : Files F W) where
   -- Directories are loaded on the way. Then the numbers that are shown change as the attempt's request changes them, and more
@@ -38,8 +35,8 @@ module _ {W F : Type 0} (w : Ghosts W) (f : Files F W) where
     pub edits : w.honest → AreShown (shows_numbers f reached) reached.next → t.next ≤ number_end
         → Gains (edited_by q a (shows_numbers f reached)) reached.next (shows_numbers f t) t.next
 
-  -- What is shown of numbers is gained, changed as the request changes them if it is done, and gained; a `stat` has one to tell,
-  -- which is shown then. A wait gains some alone.
+  -- What is shown of numbers is gained, changed as the request changes them if it is done, and gained; a `stat` tells the one
+  -- that is shown then. A wait gains some alone.
   abbrev pub Renumbered : Request → Table F → Table F → Attempt → Type 0
-  Renumbered q s t (Finished r) = (n : ℕ) × Renumbers (shows_numbers f s) s.next q r n (shows_numbers f t) t.next
+  Renumbered q s t (Finished r) = Renumbers (shows_numbers f s) s.next q r (shows_numbers f t) t.next
   Renumbered q s t (Need k) = Gains (shows_numbers f s) s.next (shows_numbers f t) t.next

@@ -9,9 +9,10 @@ ghost use Rattle.eden_ops.specs.Attempts.{Attempts};
 ghost use Rattle.eden_ops.specs.Keeping.{Keeps};
 ghost use Rattle.eden_ops.specs.Leaving.{LeavesAfter, StampsItsWalk};
 ghost use Rattle.eden_ops.specs.Looks.{IsLook, IsChange, IsBeyondLimits};
-ghost use Rattle.eden_ops.specs.Renumbering.{EditsNumbers, IsStatThere, Renumbered};
+ghost use Rattle.eden_ops.specs.Renumbering.{EditsNumbers, TellsItsNumber, Renumbered};
 ghost use Rattle.eden_ops.specs.Stamps.{AreWalked};
 ghost use Rattle.eden_ops.specs.Trails.{Counts, LeadsFor, LeadsToNeed, components, first_of, remembered, walked_of};
+ghost use Rattle.eden_inode.specs.Tables.{shows_numbers};
 ghost use Rattle.eden_inode.specs.Trails.{Leads};
 
 use crate::adding::{create, mkdir, symlink};
@@ -159,7 +160,7 @@ fn attempt_along<A: Allocator + Clone, W: World, F: Files<W>, C: Allocator + Clo
         → StampsItsWalk request.now inodes.old.clock inodes.old.root inodes.new.root result }
     ensures edits { ¬ IsLook request.now
         → EditsNumbers W.World F.Files request.now inodes.old inodes.new result }
-    ensures there { IsStatThere request.now result inodes.new.root }
+    ensures tells { TellsItsNumber request.now result (shows_numbers F.Files inodes.new) }
     ensures already { IsSoAlready W.World F.Files request.now inodes.old
         → Keeps W.World F.Files (paths_of request.now) inodes.old inodes.new }
     ensures refused { IsBeyondLimits request.now → inodes.new ≡ inodes.old }

@@ -4,9 +4,10 @@ ghost use Rattle.eden_model.specs.Requests.{paths_of};
 ghost use Rattle.eden_ops.specs.Attempts.{Attempts};
 ghost use Rattle.eden_ops.specs.Keeping.{Keeps};
 ghost use Rattle.eden_ops.specs.Looks.{IsLook, IsBeyondLimits};
-ghost use Rattle.eden_ops.specs.Renumbering.{IsStatThere};
+ghost use Rattle.eden_ops.specs.Renumbering.{TellsItsNumber};
 ghost use Rattle.eden_ops.specs.Stamps.{AreWalked};
 ghost use Rattle.eden_ops.specs.Trails.{Counts, LeadsToNeed, first_of};
+ghost use Rattle.eden_inode.specs.Tables.{shows_numbers};
 ghost use Rattle.eden_inode.specs.Trails.{Leads};
 
 use crate::kinds::kind;
@@ -35,7 +36,7 @@ pub fn look<A: Allocator + Clone, W: World, F: Files<W>, C: Allocator + Clone>(
     ensures refused { IsBeyondLimits request.now → inodes.new ≡ inodes.old }
     ensures walked { ¬ IsBeyondLimits request.now
         → AreWalked (paths_of request.now) inodes.new.clock inodes.new.root }
-    ensures there { IsStatThere request.now result inodes.new.root }
+    ensures tells { TellsItsNumber request.now result (shows_numbers F.Files inodes.new) }
     ensures counts { Counts (first_of (paths_of request.now)) trail.old trail.new }
     ensures leads { LeadsToNeed (first_of (paths_of request.now)) trail.new.positions inodes.new.root result }
 {

@@ -1,14 +1,12 @@
-//! What stands at a path, and how long it is.
+//! What stands at a path, how long it is, and its number.
 ghost use Rattle.std.specs.Prelude.{◌≡◌, ℕ, List, length, Some, None, Err, IfOk, IfErr, OnErr, MatchOption, ◌∷◌, []};
 ghost use Rattle.eden_model.specs.declared.id.Key as key;
 ghost use Rattle.eden_model.specs.declared.id.ObjKind.TheVariants as objects;
-ghost use Rattle.std.specs.Option.{IsSome};
 ghost use Rattle.eden_model.specs.declared.attempt.Attempt.TheVariants.{Finished};
 ghost use Rattle.eden_model.specs.declared.kind.Kind as kind;
 ghost use Rattle.eden_model.specs.declared.reply.Reply.TheVariants as say;
 ghost use Rattle.eden_model.specs.declared.request.Request.TheVariants as ask;
-ghost use Rattle.eden_tree.specs.Paths.{row_at};
-ghost use Rattle.eden_inode.specs.Tables.{shows};
+ghost use Rattle.eden_inode.specs.Tables.{shows, shows_numbers};
 ghost use Rattle.eden_ops.specs.declared.answer.Stop.TheVariants as stops;
 ghost use Rattle.eden_ops.specs.Attempts.{Attempts, Lacks};
 ghost use Rattle.eden_cache.specs.Stock.{FindsTheSame, IsSize, object_at, size_at};
@@ -97,7 +95,7 @@ fn size<A: Allocator + Clone, W: World, F: Files<W>, C: Allocator + Clone>(
     }
 }
 
-/// What stands at the path, and the length of its content; 0 for a directory.
+/// What stands at the path, the length of its content, 0 for a directory, and its inode number.
 pub fn stat<A: Allocator + Clone, W: World, F: Files<W>, C: Allocator + Clone>(
     inodes: &mut Inodes<A, W, F>,
     cache: &mut Stock<W, C>,
@@ -109,8 +107,8 @@ pub fn stat<A: Allocator + Clone, W: World, F: Files<W>, C: Allocator + Clone>(
     ensures attempts { Attempts W.World F.Files (ask.Stat path.now) inodes.old inodes.new cache.old cache.new result }
     ensures keeps { Keeps W.World F.Files (path.now ∷ []) inodes.old inodes.new }
     ensures walked { IsWalked path.now inodes.new.clock inodes.new.root }
-    ensures there { (k : kind.Kind) → (length : ℕ) → result ≡ Finished (say.Stat k length)
-        → IsSome (row_at path.now inodes.new.root) }
+    ensures tells { (k : kind.Kind) → (size : ℕ) → (number : ℕ) → result ≡ Finished (say.Stat k size number)
+        → shows_numbers F.Files inodes.new path.now ≡ Some number }
     ensures counts { Counts path.now trail.old trail.new }
     ensures leads { LeadsToNeed path.now trail.new.positions inodes.new.root result }
 {
@@ -121,11 +119,11 @@ pub fn stat<A: Allocator + Clone, W: World, F: Files<W>, C: Allocator + Clone>(
     };
     let kind = what(seen);
     match kind {
-        Kind::Dir => return Attempt::Finished(Reply::Stat(Kind::Dir, 0)),
+        Kind::Dir => return Attempt::Finished(Reply::Stat(Kind::Dir, 0, seen.number)),
         Kind::File | Kind::Exec | Kind::Link => {}
     }
     match size(inodes, cache, path, seen.origin) {
         Err(stop) => ended(stop),
-        Ok(length) => Attempt::Finished(Reply::Stat(kind, length)),
+        Ok(length) => Attempt::Finished(Reply::Stat(kind, length, seen.number)),
     }
 }

@@ -8,6 +8,7 @@ use Rattle.eden_model.specs.declared.fault.StartFault.{StartFault}
 use Rattle.eden_model.specs.declared.fault.StartFault.TheVariants.{NoPass, Busy, HistoryFull, Memory}
 use Rattle.eden_model.specs.declared.request.Request.{Request}
 use Rattle.eden_model.specs.declared.reply.Reply.{Reply}
+use Rattle.eden_model.specs.Numbers.{Numbers}
 use Rattle.eden_model.specs.Trees.{Tree}
 use Rattle.eden_model.specs.Histories.{entry}
 use Rattle.eden_mount.specs.declared.seats.Pending.{Pending}
@@ -67,8 +68,8 @@ module _ {T : Type 0} (m : Core T) (vs : List Account) (t : Terms) (n : ℕ) (v 
   pub known : (slice_get m.seats (n - 1) ≡ Some v.pending) × (v.told ≡ told_by n 1 m.history) × (v.terms ≡ t)
   known = accounts_at t 1 m.seats m.history (n - 1) n v (omega arith) (ap (λ ws. slice_get ws (n - 1)) (sym are) ∙ at)
 
-  module _ (A : Table T) (honest : Type 0) (opening : Tree) (mount : IsMount A honest opening m) (meets : Meets A t m) where
-    pub refusal : v.pending ≡ None → (f : StartFault) → IsRefused m n f → IsRefusal honest opening (carried v.terms n 0 v.told) f
+  module _ (A : Table T) (honest : Type 0) (opening : Tree) (N : Numbers) (mount : IsMount A honest opening N m) (meets : Meets A t m) where
+    pub refusal : v.pending ≡ None → (f : StartFault) → IsRefused m n f → IsRefusal honest opening N (carried v.terms n 0 v.told) f
     refusal free NoPass unknown = (let there = slice_get_within m.seats (n - 1) v.pending known.0 in let seats = mount.seats in absurd (unknown (some, omega (arith, there, seats))))
     refusal free Busy busy =
         let nobody = seat_there m.seats (n - 1) v.pending known.0 ∙ free in

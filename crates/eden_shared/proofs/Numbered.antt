@@ -5,6 +5,7 @@ use Rattle.std.proofs.lemmas.List.{length-map}
 use Rattle.std.specs.Prelude.{slice_get, slice_index_or}
 use Rattle.std.specs.declared.option.Option.{Option}
 use Rattle.eden_mount.specs.declared.seats.Pending.{Pending}
+use Rattle.eden_model.specs.Numbers.{Numbers}
 use Rattle.eden_model.specs.Trees.{Tree}
 use Rattle.eden_mount.specs.Tables.{Table}
 use Rattle.eden_mount.specs.Core.{Core}
@@ -29,9 +30,9 @@ as_many A m lanes names tied seats =
     ∙ length_accounts tied.terms 1 m.seats m.history ∙ seats
 
 -- where each pass is known, nothing is pending
-pub all_agree : {T : Type 0} (A : Table T) (honest : Type 0) (opening : Tree) (m : Core T) (passes : List Carried) → IsMount A honest opening m → AreEach passes m.queue.passes
+pub all_agree : {T : Type 0} (A : Table T) (honest : Type 0) (opening : Tree) (N : Numbers) (m : Core T) (passes : List Carried) → IsMount A honest opening N m → AreEach passes m.queue.passes
     → ((p : Carried) → Has passes p → IsKnown A m p) → Agrees A m passes
-all_agree A honest opening m passes mount are known = record {
+all_agree A honest opening N m passes mount are known = record {
   each = are;
   rest = λ c s pends.
       let within = seat_within m.seats (c - 1) s pends.1 in

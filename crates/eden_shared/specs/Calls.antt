@@ -8,6 +8,7 @@ use Rattle.eden_model.specs.declared.fault.StartFault.TheVariants.{NoPass, Busy,
 use Rattle.eden_model.specs.declared.request.Request.{Request}
 use Rattle.eden_model.specs.declared.reply.Reply.{Reply}
 use Rattle.eden_model.specs.Histories.{Legal, entry}
+use Rattle.eden_model.specs.Numbers.{Numbers}
 use Rattle.eden_model.specs.Trees.{Tree}
 use Rattle.eden_mount.specs.declared.seats.Pending.{Pending}
 use Rattle.eden_shared.specs.declared.account.Told.{Told}
@@ -32,11 +33,11 @@ IsHeldBack l floor (Start f) = ⊥
 IsHeldBack l floor (Foreign f n) = (l.stopped ≡ false) × (f ≡ told_floor floor) × (n ≡ length l.mount.history) × (n + 1 < floor)
 IsHeldBack l floor Stopped = l.stopped ≡ true
 
-module _ (honest : Type 0) (opening : Tree) where
+module _ (honest : Type 0) (opening : Tree) (numbers : Numbers) where
   -- the history is full: some legal one, in which this pass was told its own entries, and so many pending requests of others
   pub record IsFull (p : Carried) : Type 0 where
     pub history : List Entry
-    pub legal : honest → Legal opening history
+    pub legal : honest → Legal opening numbers history
     pub told : p.told ≡ told_by p.number 1 history
     pub pending : ℕ
     pub others : pending < p.terms.passes
@@ -57,7 +58,7 @@ module _ (honest : Type 0) (opening : Tree) where
 
   -- some legal history of n entries ends with this one
   abbrev pub StandsIn : ℕ → ℕ → Request → Reply → Type 0
-  StandsIn n c q r = (before : List Entry) × (length (before ++ entry c q r ∷ []) ≡ n) × (honest → Legal opening (before ++ entry c q r ∷ []))
+  StandsIn n c q r = (before : List Entry) × (length (before ++ entry c q r ∷ []) ≡ n) × (honest → Legal opening numbers (before ++ entry c q r ∷ []))
 
   -- what was pending was answered so, at a number behind the start's
   abbrev pub AnswersTo : ℕ → Answered → Pending → Type 0

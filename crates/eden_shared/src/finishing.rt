@@ -24,8 +24,8 @@ impl<W: World, T: Attempts<W> + Drop, A: Allocator, J: Naming, H: History> Share
         ensures ok { IfOk result (λ m. Agrees T.table m passes.items) }
         ensures torn { IfErr result (λ t. (t.passes.items ≡ passes.items) × (¬ Agrees T.table t.mount passes.items)) }
         ensures each { AreEach passes.items (length J.names) → IsOk result }
-        ensures legal { W.honest → MatchResult result (λ m. Legal W.opening m.history)
-            (λ t. Legal W.opening t.mount.history) }
+        ensures legal { W.honest → MatchResult result (λ m. Legal W.opening W.numbers m.history)
+            (λ t. Legal W.opening W.numbers t.mount.history) }
     {
         let Shared { lock, .. } = self;
         let mut passes = passes;

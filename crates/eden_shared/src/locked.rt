@@ -61,7 +61,7 @@ impl<W: World, T: Attempts<W> + Drop, A: Allocator, J: Naming, H: History> Locke
         ensures pending { IfOk result (λ n. end.new.value
             ≡ account end.old.value.terms (Some (pended request n)) end.old.value.told) }
         ensures err { OnErr result (end.new.value ≡ end.old.value) }
-        ensures why { IfErr result (IsLawful W.honest W.opening
+        ensures why { IfErr result (IsLawful W.honest W.opening W.numbers
             (carried end.old.value.terms number (known + 1) end.old.value.told)) }
     {
         let since = match self.admit(number, known, end) {
@@ -87,7 +87,7 @@ impl<W: World, T: Attempts<W> + Drop, A: Allocator, J: Naming, H: History> Locke
         ensures heeded { OnOk result (self.old.stopped ≡ false) }
         ensures held { IfErr result (IsHeldBack self.old (known + 1)) }
         ensures known { IfOk result (λ n. known ≤ n) }
-        ensures why { IfErr result (IsLawful W.honest W.opening
+        ensures why { IfErr result (IsLawful W.honest W.opening W.numbers
             (carried end.old.value.terms number (known + 1) end.old.value.told)) }
     {
         look(&mut self.lanes, number as usize - 1, end);
@@ -119,7 +119,7 @@ impl<W: World, T: Attempts<W> + Drop, A: Allocator, J: Naming, H: History> Locke
             ≡ account end.old.value.terms (Some (pended request since)) end.old.value.told) }
         ensures err { OnErr result (end.new.value ≡ end.old.value) }
         ensures refused { IfErr result (IsRefused self.old.mount number) }
-        ensures why { IfErr result (IsRefusal W.honest W.opening
+        ensures why { IfErr result (IsRefusal W.honest W.opening W.numbers
             (carried end.old.value.terms number 0 end.old.value.told)) }
     {
         let at = number as usize - 1;
@@ -145,7 +145,8 @@ impl<W: World, T: Attempts<W> + Drop, A: Allocator, J: Naming, H: History> Locke
         ensures name { end.new.name ≡ end.old.name }
         ensures none { IfNone result (end.new.value ≡ end.old.value) }
         ensures some { IfSome result (λ a. end.new.value ≡ after_answer a end.old.value) }
-        ensures answers { IfSome result (λ a. IfSome end.old.value.pending (AnswersTo W.honest W.opening number a)) }
+        ensures answers { IfSome result (λ a.
+            IfSome end.old.value.pending (AnswersTo W.honest W.opening W.numbers number a)) }
     {
         let at = number as usize - 1;
         look(&mut self.lanes, at, end);

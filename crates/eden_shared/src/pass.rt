@@ -82,9 +82,9 @@ impl<J: Naming> Pass<J> {
         rt: &R,
         request: Request,
     ) -> Result<Answered, CallFault>
-        ensures ok { IfOk result (λ a. Gives W.honest W.opening self.old request a self.new) }
+        ensures ok { IfOk result (λ a. Gives W.honest W.opening W.numbers self.old request a self.new) }
         ensures err { OnErr result (self.new ≡ self.old) }
-        ensures why { IfErr result (IsLawful W.honest W.opening self.old) }
+        ensures why { IfErr result (IsLawful W.honest W.opening W.numbers self.old) }
     {
         let since = shared.start(rt, self.number, self.known, &mut self.end, request)?;
         let answer = shared.wait_for(rt, self.number, &mut self.end);

@@ -115,9 +115,9 @@ impl<J: Naming> Recording<J> {
         rt: &R,
         request: Request,
     ) -> Result<(), CallFault>
-        ensures ok { OnOk result (Grows W.honest W.opening self.old request self.new) }
+        ensures ok { OnOk result (Grows W.honest W.opening W.numbers self.old request self.new) }
         ensures err { OnErr result (self.new ≡ self.old) }
-        ensures why { IfErr result (IsLawful W.honest W.opening self.old) }
+        ensures why { IfErr result (IsLawful W.honest W.opening W.numbers self.old) }
     {
         let kept = keep(shared.alloc, &mut self.told, &request)?;
         let answer = self.pass.call(shared, rt, request)?;
@@ -138,9 +138,9 @@ impl<J: Naming> Recording<J> {
         request: Request,
     ) -> Result<&Told, CallFault>
         ensures* after { sem 𝓛 (Rests (the_row J.row J.Naming) self.entry
-            (λ new. MatchResult result (λ t. Lends W.honest W.opening self.old request t.now new)
+            (λ new. MatchResult result (λ t. Lends W.honest W.opening W.numbers self.old request t.now new)
             (λ fault. new ≡ self.old))) }
-        ensures why { IfErr result (IsLawful W.honest W.opening self.old) }
+        ensures why { IfErr result (IsLawful W.honest W.opening W.numbers self.old) }
     {
         match self.record(shared, rt, request) {
             Err(fault) => Err(fault),

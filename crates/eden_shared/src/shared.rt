@@ -43,7 +43,7 @@ impl<W: World, T: Attempts<W> + Drop, A: Allocator, J: Naming, H: History> Share
         ensures pending { IfOk result (λ n. end.new.value
             ≡ account end.old.value.terms (Some (pended request n)) end.old.value.told) }
         ensures err { OnErr result (end.new.value ≡ end.old.value) }
-        ensures why { IfErr result (IsLawful W.honest W.opening
+        ensures why { IfErr result (IsLawful W.honest W.opening W.numbers
             (carried end.old.value.terms number (known + 1) end.old.value.told)) }
     {
         self.lock.lock(rt).start(number, known, end, request)
@@ -54,7 +54,7 @@ impl<W: World, T: Attempts<W> + Drop, A: Allocator, J: Naming, H: History> Share
         requires { HasName J.names number end.old.name }
         ensures name { end.new.name ≡ end.old.name }
         ensures account { end.new.value ≡ after_answer result end.old.value }
-        ensures answers { IfSome end.old.value.pending (AnswersTo W.honest W.opening number result) }
+        ensures answers { IfSome end.old.value.pending (AnswersTo W.honest W.opening W.numbers number result) }
     {
         let mut guard = self.lock.lock(rt);
         for _ in rt.forever() {

@@ -53,6 +53,7 @@ impl Attempts<Outside> for Shelf {
 
     ghost table = { record {
       shown = λ t p. None;
+      numbers = λ t p. None;
       commit = λ t. t.key.id;
       next = λ t. 0;
       caches = λ t k. nat_lt 0 t.objects && same_key t.key k;

@@ -6,13 +6,14 @@ use Rattle.eden_mount.proofs.local.answer.Goals as goal
 pub drive-requires : goal.drive-requires
 drive-requires g c =
     let step : Starts c.args.mount.now 1 c.args.request (Ok tt) c.start.new.self = c.in-Ok.ensures in
-    (c.args.request, started_driven g.T.Attempts.table g.W.World.honest g.W.World.opening c.args.request c.args.mount.now c.start.new.self c.holds.ensures c.requires step.0 step.2)
+    (c.args.request, started_driven g.T.Attempts.table g.W.World.honest g.W.World.opening g.W.World.numbers c.args.request c.args.mount.now c.start.new.self c.holds.ensures c.requires step.0 step.2)
 
 pub returns-in-Ok : goal.returns-in-Ok
 returns-in-Ok g c =
     let A = g.T.Attempts.table in
     let honest = g.W.World.honest in
+    let N = g.W.World.numbers in
     let step : Starts c.args.mount.now 1 c.args.request (Ok tt) c.start.new.self = c.in-Ok.ensures in
-    let driven = started_driven A honest g.W.World.opening c.args.request c.args.mount.now c.start.new.self c.holds.ensures c.requires step.0 step.2 in
-    started_serves A honest g.W.World.opening c.args.request c.args.mount.now c.start.new.self c.holds.ensures c.requires step.0 step.2 g.H.History.copies g.S.Source.fetched c.drive.new.mount
+    let driven = started_driven A honest g.W.World.opening N c.args.request c.args.mount.now c.start.new.self c.holds.ensures c.requires step.0 step.2 in
+    started_serves A honest g.W.World.opening N c.args.request c.args.mount.now c.start.new.self c.holds.ensures c.requires step.0 step.2 g.H.History.copies g.S.Source.fetched c.drive.new.mount
     c.args.source.now c.drive.new.source c.drive.result g.T.Attempts.few (c.drive.ensures c.args.request driven)

@@ -38,7 +38,7 @@ returns-clause-unloads g c =
       rest = e.rest;
       cache = refl;
       root = refl;
-    }) e.shown in
+    }) e.shown e.numbers in
     subst (λ (u : Checkout _). Unloads (attempted g.W.World g.F.Files) g.W.World.honest u c.args.path.now c.args.older_than c.unload.result.count t) c.self.view_is
     (subst (λ (p : Path). Unloads (attempted g.W.World g.F.Files) g.W.World.honest s p c.args.older_than c.unload.result.count t) c.as_slice.ensures here)
 

@@ -7,5 +7,5 @@ invariant_of-self g c =
     let a = c.self.inside in
     let m = core_from a.table a.imports a.seats.items (g.H.History.entries a.history) (g.H.History.limit a.history) in
     let e = c.failed.ensures in
-    let kept = fail_keeps g.T.Attempts.table g.W.World.honest g.W.World.opening m c.args.key c.args.cause c.failed.new.self c.self.invariant.0.0 e.kept e.step in
+    let kept = fail_keeps g.T.Attempts.table g.W.World.honest g.W.World.opening g.W.World.numbers m c.args.key c.args.cause c.failed.new.self c.self.invariant.0.0 e.kept e.step in
     ((kept, c.self.invariant.0.1), c.self.invariant.1)

@@ -12,7 +12,7 @@ use Rattle.eden_mount.specs.Places.{kept_at, AllLead}
 use Rattle.eden_mount.specs.Replying.{Awaits}
 use Rattle.eden_mount.specs.Steps.{GoesOn}
 use Rattle.eden_mount.proofs.SeatLemmas.{asked_there, count_freed}
-use Rattle.eden_mount.proofs.Keeping.{pass_of, turn_keeps, wait_keeps}
+use Rattle.eden_mount.proofs.Keeping.{AnswersAreBacked, pass_of, turn_keeps, wait_keeps}
 use Rattle.eden_mount.proofs.Placing.{recalled, noted, vacated}
 use Rattle.eden_mount.proofs.Telling.{told_of_found}
 use Rattle.eden_mount.proofs.mount.Mount.go_on.Goals as goal
@@ -22,7 +22,7 @@ failure-mark-requires g c =
     let a = c.self.inside in let pass = c.args.pass in let s = c.requires.0 in
     let m = core_from a.table a.imports a.seats.items (g.H.History.entries a.history) (g.H.History.limit a.history) in
     let pends : Pends pass s m = (let P : Core g.row.T.Denot → Type 0 = λ n. Pends pass s n in subst P (sym c.self.view_is) c.requires.1) in
-    pass_of g.T.Attempts.table g.W.World.honest g.W.World.opening m pass s c.self.invariant.0.0 pends
+    pass_of g.T.Attempts.table g.W.World.honest g.W.World.opening g.W.World.numbers m pass s c.self.invariant.0.0 pends
 
 pub request_at-request-requires : goal.request_at-request-requires
 request_at-request-requires g c =
@@ -55,7 +55,7 @@ await_key-requires g c =
     let m = core_from a.table a.imports a.seats.items (g.H.History.entries a.history) (g.H.History.limit a.history) in
     let pends : Pends pass s m = (let P : Core g.row.T.Denot → Type 0 = λ n. Pends pass s n in subst P (sym c.self.view_is) c.requires.1) in
     let P : Queue → Type 0 = λ q. IsPass pass q in
-    subst P (sym c.failure-mark.ensures.step) (pass_of g.T.Attempts.table g.W.World.honest g.W.World.opening m pass s c.self.invariant.0.0 pends)
+    subst P (sym c.failure-mark.ensures.step) (pass_of g.T.Attempts.table g.W.World.honest g.W.World.opening g.W.World.numbers m pass s c.self.invariant.0.0 pends)
 
 pub quit-requires : goal.quit-requires
 quit-requires g c =
@@ -63,7 +63,7 @@ quit-requires g c =
     let m = core_from a.table a.imports a.seats.items (g.H.History.entries a.history) (g.H.History.limit a.history) in
     let pends : Pends pass s m = (let P : Core g.row.T.Denot → Type 0 = λ n. Pends pass s n in subst P (sym c.self.view_is) c.requires.1) in
     let P : Queue → Type 0 = λ q. IsPass pass q in
-    subst P (sym c.failure-mark.ensures.step) (pass_of g.T.Attempts.table g.W.World.honest g.W.World.opening m pass s c.self.invariant.0.0 pends)
+    subst P (sym c.failure-mark.ensures.step) (pass_of g.T.Attempts.table g.W.World.honest g.W.World.opening g.W.World.numbers m pass s c.self.invariant.0.0 pends)
 
 pub tell-told-requires : goal.tell-told-requires
 tell-told-requires g c =
@@ -88,7 +88,7 @@ invariant_of-self g c =
     let qs = c.resume.new.places.items in
     let leads = g.T.Attempts.leads in (
       (
-        wait_keeps A honest g.W.World.opening m pass s k u c.await_key.new.self c.self.invariant.0.0 pends c.await_key.ensures.kept queue
+        wait_keeps A honest g.W.World.opening g.W.World.numbers c.backing_laws.ensures.gains_are_backed m pass s k u c.await_key.new.self c.self.invariant.0.0 pends c.await_key.ensures.kept queue
             (subst Q asked (subst P c.failure-mark.ensures.answer c.in-Waits.ensures.settles)),
         c.self.invariant.0.1,
       ),
@@ -115,8 +115,9 @@ invariant_of-self-in-Found g c =
     let seats : c.vacate-request.new.seats.items ≡ set a.seats.items (pass - 1) None = c.vacate-request.ensures.seats in
     let settled = c.in-Found.ensures.settles in
     let replied = told_of_found A honest a.table s.request (mark_of pass a.imports) H.copies c.in-Found.found r u asked c.failure-mark.ensures.answer settled c.tell-told.ensures.told in
-    let kept = turn_keeps A honest g.W.World.opening H.copies m pass s r u c.quit.new.self es c.self.invariant.0.0 pends c.quit.ensures.kept queue grown replied in
-    let S : List (Option Pending) → ℕ → Type 0 = λ xs n. IsMount A honest g.W.World.opening (core_from u c.quit.new.self xs es n) in
+    let laws : AnswersAreBacked = record { gained = c.backing_laws.ensures.gains_are_backed; allowed = c.backing_laws.ensures.answer_is_allowed; backed = c.backing_laws.ensures.answer_is_backed } in
+    let kept = turn_keeps A honest g.W.World.opening g.W.World.numbers laws H.copies m pass s r u c.quit.new.self es c.self.invariant.0.0 pends c.quit.ensures.kept queue grown replied in
+    let S : List (Option Pending) → ℕ → Type 0 = λ xs n. IsMount A honest g.W.World.opening g.W.World.numbers (core_from u c.quit.new.self xs es n) in
     let freed = count_freed a.seats.items (pass - 1) s pends.1 in
     let longer = length-append was (entry pass s.request r ∷ []) in
     let qs = c.resume.new.places.items in

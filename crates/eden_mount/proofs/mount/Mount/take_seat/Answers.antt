@@ -15,6 +15,7 @@ invariant_of-self-2 g c =
     let A = g.T.Attempts.table in
     let honest = g.W.World.honest in
     let opening = g.W.World.opening in
+    let N = g.W.World.numbers in
     let pass = c.args.pass in
     let m = core_from a.table a.imports a.seats.items (g.H.History.entries a.history) (g.H.History.limit a.history) in
     let s : Pending = record { request = c.args.request; since = c.len-since.result } in
@@ -26,9 +27,9 @@ invariant_of-self-2 g c =
     let more = count_taken a.seats.items (pass - 1) s within may.0.1 in
     let H = g.H.History in
     let h = c.reserve.new.self in
-    let Held : List (Option Pending) → ℕ → Type 0 = λ xs n. IsHeld A honest opening (H.room h) (core_from a.table a.imports xs (H.entries h) n) in
+    let Held : List (Option Pending) → ℕ → Type 0 = λ xs n. IsHeld A honest opening N (H.room h) (core_from a.table a.imports xs (H.entries h) n) in
     let held : Held (set a.seats.items (pass - 1) (Some s)) (H.limit a.history) = (
-      start_keeps A honest opening m pass s (H.entries h) c.self.invariant.0.0 may.0 may.1 c.reserve.ensures.entries (search rules),
+      start_keeps A honest opening N m pass s (H.entries h) c.self.invariant.0.0 may.0 may.1 c.reserve.ensures.entries (search rules),
       omega (arith, more, counted, ap length c.reserve.ensures.entries, c.in-Ok.ensures),
     ) in
     let leads = g.T.Attempts.leads in (

@@ -7,5 +7,5 @@ pub invariant_of-self : goal.invariant_of-self
 invariant_of-self g c =
     let a = c.self.inside in
     let m = core_from a.table a.imports a.seats.items (g.H.History.entries a.history) (g.H.History.limit a.history) in
-    let kept = tick_keeps g.T.Attempts.table g.W.World.honest g.W.World.opening m c.tick.new.self c.self.invariant.0.0 c.tick.ensures.ticks in
+    let kept = tick_keeps g.T.Attempts.table g.W.World.honest g.W.World.opening g.W.World.numbers m c.tick.new.self c.self.invariant.0.0 c.tick.ensures.ticks in
     ((kept, c.self.invariant.0.1), retabled g.T.Attempts.leads a.table c.tick.new.self a.seats.items a.places.items c.tick.ensures.places c.self.invariant.1)

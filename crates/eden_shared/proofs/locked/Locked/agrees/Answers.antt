@@ -17,8 +17,8 @@ returns-clause-yes g c = λ whole.
     let items = c.as_slice.ensures.value ∙ c.check_all.ensures.passes in
     let count = c.passes-count.ensures ∙ ap (λ l. l.mount.queue.passes) (c.self-2.view_is ∙ c.check_all.ensures.lock) in
     let all : c.len.result ≡ length c.check_all.new.passes.items = search rules in
-    let mount = subst (λ l. IsMount g.T.Attempts.table g.W.World.honest g.W.World.opening l.mount) c.self.view_is c.holds.ensures in
-    all_agree g.T.Attempts.table g.W.World.honest g.W.World.opening m passes mount
+    let mount = subst (λ l. IsMount g.T.Attempts.table g.W.World.honest g.W.World.opening g.W.World.numbers l.mount) c.self.view_is c.holds.ensures in
+    all_agree g.T.Attempts.table g.W.World.honest g.W.World.opening g.W.World.numbers m passes mount
     (record {
       count = ap length (sym c.check_all.ensures.passes) ∙ sym all ∙ c.if-len-count.false ∙ count;
       each = λ k some le. subst (λ l. HasNumber l k) items (c.have_each.ensures.yes whole k some (subst (λ (n : ℕ). k ≤ n) (sym count) le));

@@ -12,8 +12,9 @@ returns-in-Done-clause-answers g c =
     let pending = answered m _ c.self.invariant.terms n c.args.end.now.value c.requires.0 c.self.invariant.valued c.look.ensures.lane g.T.Attempts.table g.W.World.honest g.H.History.copies c.in-Done.number c.in-Done.reply c.turn.new.self done in
     let is = grown m _ c.self.invariant.terms n c.args.end.now.value c.requires.0 c.self.invariant.valued c.look.ensures.lane g.T.Attempts.table g.W.World.honest g.H.History.copies c.in-Done.number c.in-Done.reply c.turn.new.self done in
     let since : done.0.since < c.in-Done.number = (let begun = c.holds.ensures.since n done.0 done.1 in let number = done.2 in omega arith) in
-    subst (λ o. IfSome o (AnswersTo g.W.World.honest g.W.World.opening n (record { number = c.in-Done.number; reply = c.in-Done.reply }))) (sym pending)
-    ((m.history, length-append m.history (entry n done.0.request c.in-Done.reply ∷ []) ∙ sym done.2, λ honest. subst (Legal g.W.World.opening) is (c.holds-in-Done.ensures.legal honest)), since)
+    let N = g.W.World.numbers in
+    subst (λ o. IfSome o (AnswersTo g.W.World.honest g.W.World.opening N n (record { number = c.in-Done.number; reply = c.in-Done.reply }))) (sym pending)
+    ((m.history, length-append m.history (entry n done.0.request c.in-Done.reply ∷ []) ∙ sym done.2, λ honest. subst (Legal g.W.World.opening N) is (c.holds-in-Done.ensures.legal honest)), since)
 
 pub invariant_of-self : goal.invariant_of-self
 invariant_of-self g c =

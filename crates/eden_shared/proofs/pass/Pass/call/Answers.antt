@@ -13,8 +13,8 @@ invariant_of-self-2 g c =
     let here = c.self.inside in let p = pended c.args.request c.in_ok-since.since in let a = c.wait_for-answer.result in let began = c.in_ok-since.ensures in
     let says : c.wait_for-answer.new.end.value ≡ account here.end.value.terms None (here.end.value.told ++ told a.number p.request a.reply ∷ []) = c.wait_for-answer.ensures.account
     ∙ ap (after_answer a) began.pending in
-    let answers : AnswersTo g.W.World.honest g.W.World.opening here.number a p = subst
-    (λ (x : Account). IfSome x.pending (AnswersTo g.W.World.honest g.W.World.opening here.number a)) began.pending c.wait_for-answer.ensures.answers in
+    let answers : AnswersTo g.W.World.honest g.W.World.opening g.W.World.numbers here.number a p = subst
+    (λ (x : Account). IfSome x.pending (AnswersTo g.W.World.honest g.W.World.opening g.W.World.numbers here.number a)) began.pending c.wait_for-answer.ensures.answers in
     let later : here.known + 1 ≤ a.number = (let from = began.known in let behind = answers.1 in omega arith) in (
       (c.self.invariant.0.0, c.self.invariant.0.1 ∙ ap Some (sym (c.wait_for-answer.ensures.name ∙ began.name))),
       ap (λ (x : Account). x.pending) says,
@@ -27,14 +27,14 @@ returns-clause-ok g c =
     let here = c.self.inside in let p = pended c.args.request c.in_ok-since.since in let a = c.wait_for-answer.result in let began = c.in_ok-since.ensures in
     let says : c.wait_for-answer.new.end.value ≡ account here.end.value.terms None (here.end.value.told ++ told a.number p.request a.reply ∷ []) = c.wait_for-answer.ensures.account
     ∙ ap (after_answer a) began.pending in
-    let answers : AnswersTo g.W.World.honest g.W.World.opening here.number a p = subst
-    (λ (x : Account). IfSome x.pending (AnswersTo g.W.World.honest g.W.World.opening here.number a)) began.pending c.wait_for-answer.ensures.answers in
+    let answers : AnswersTo g.W.World.honest g.W.World.opening g.W.World.numbers here.number a p = subst
+    (λ (x : Account). IfSome x.pending (AnswersTo g.W.World.honest g.W.World.opening g.W.World.numbers here.number a)) began.pending c.wait_for-answer.ensures.answers in
     let after : Carried = carried c.wait_for-answer.new.end.value.terms here.number (a.number + 1) c.wait_for-answer.new.end.value.told in
-    let grows : Grows g.W.World.honest g.W.World.opening (carried here.end.value.terms here.number (here.known + 1) here.end.value.told) p.request after = record {
+    let grows : Grows g.W.World.honest g.W.World.opening g.W.World.numbers (carried here.end.value.terms here.number (here.known + 1) here.end.value.told) p.request after = record {
       number = a.number;
       reply = a.reply;
       later = let from = began.known in let behind = answers.1 in omega arith;
       stands = answers.0;
       is = ap (λ (x : Account). carried x.terms here.number (a.number + 1) x.told) says;
     } in
-    subst (λ x. Gives g.W.World.honest g.W.World.opening x c.args.request a after) c.self.view_is (grows, refl, refl)
+    subst (λ x. Gives g.W.World.honest g.W.World.opening g.W.World.numbers x c.args.request a after) c.self.view_is (grows, refl, refl)
