@@ -129,16 +129,6 @@ def changes_nothing(asked: Asked) -> bool:
     return asked.word in LOOKS or (asked.reply is not None and asked.reply.startswith(b"err "))
 
 
-def number_by(asked: Asked) -> int | None:
-    """The inode number that it was told, where it is a `stat`."""
-    return number_told(asked.reply) if asked.word == "stat" and asked.reply is not None else None
-
-
-def fields_of(asked: Asked) -> tuple[Field, ...]:
-    """Its fields as the table takes them: behind those of a `stat` the number that was told."""
-    return (*asked.fields, number_by(asked)) if asked.word == "stat" else asked.fields
-
-
 # How many steps nodes and numbers were changed by.
 Steps = tuple[int, int]
 
@@ -221,7 +211,8 @@ class Search:
 
     def is_settled(self, client: int, asked: Asked) -> bool:
         """Whether a request that is answered here as told may as well come next."""
-        gives = number_by(asked) is not None and asked.fields[0] not in self.numbers.given
+        tells = asked.reply is not None and number_told(asked.reply) is not None
+        gives = tells and asked.fields[0] not in self.numbers.given
         return is_fault(asked) or (changes_nothing(asked) and (not gives or self.stays(client, asked)))
 
     def steps(self) -> Steps:
@@ -237,7 +228,7 @@ class Search:
         asked, before = self.asked(client), self.steps()
         unheard = asked.word in LOOKS and asked.reply is None
         if not is_fault(asked) and not unheard:
-            reply = self.tree.reply(asked.word, *fields_of(asked))
+            reply = self.tree.judged(asked.reply, asked.word, *asked.fields)
             if asked.reply not in (None, reply):
                 self.undo(before)
                 return False
@@ -294,7 +285,7 @@ class Search:
         rows = []
         for client in self.ready():
             asked, before = self.asked(client), self.steps()
-            rows.append((client, self.next[client], self.tree.reply(asked.word, *fields_of(asked))))
+            rows.append((client, self.next[client], self.tree.judged(asked.reply, asked.word, *asked.fields)))
             self.undo(before)
         return rows
 

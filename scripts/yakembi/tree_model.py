@@ -103,13 +103,28 @@ class Numbers:
         if path in self.given:
             self.put(path, None)
 
-    def move(self, source: Path, target: Path) -> None:
-        """What stood at the one path stands at the other."""
-        number = self.given.get(source)
-        self.drop(source)
-        self.drop(target)
-        if number is not None:
-            self.put(target, number)
+    def rename(self, source: Path, target: Path) -> None:
+        """What stood at and below the one path stands at and below the other, in place of what stood there."""
+        if source == target:
+            return
+        moved = {path: number for path, number in self.given.items() if path[: len(source)] == source}
+        for path in [*moved, *(path for path in self.given if path[: len(target)] == target)]:
+            self.drop(path)
+        for path, number in moved.items():
+            self.put(target + path[len(source) :], number)
+
+    def follow(self, word: str, fields: Values, reply: bytes) -> bool:
+        """Whether a reply tells no number, or one that it may tell. They go on by the request and that reply."""
+        told = number_told(reply)
+        if told is not None and not self.may_tell(fields[0], told):
+            return False
+        if told is not None:
+            self.tell(fields[0], told)
+        elif reply == b"ok" and word in ("unlink", "rmdir"):
+            self.drop(fields[0])
+        elif reply == b"ok" and word == "rename":
+            self.rename(*fields)
+        return True
 
     def back_to(self, count: int) -> None:
         """As they were after the first so many steps."""
@@ -247,22 +262,21 @@ class WholeTree:
 
     # ---- requests that take something away
 
-    def take_away(self, path: Path) -> None:
+    def take_away(self, path: Path) -> bytes:
         del self.nodes[path]
         self.numbers.drop(path)
+        return b"ok"
 
     def unlink(self, path: Path) -> bytes:
         need(path != (), "EISDIR")
         need(self.present(path)[0] != "dir", "EISDIR")
-        self.take_away(path)
-        return b"ok"
+        return self.take_away(path)
 
     def rmdir(self, path: Path) -> bytes:
         need(path != (), "EBUSY")
         need(self.present(path)[0] == "dir", "ENOTDIR")
         need(not self.children(path), "ENOTEMPTY")
-        self.take_away(path)
-        return b"ok"
+        return self.take_away(path)
 
     def rename(self, source: Path, target: Path) -> bytes:
         need(source != () and target != (), "EBUSY")
@@ -280,12 +294,12 @@ class WholeTree:
                 need(not self.children(target), "ENOTEMPTY")
             else:
                 need(there[0] != "dir", "EISDIR")
-            self.take_away(target)
+            del self.nodes[target]
         for path in self.at_and_below(source):
-            node, beyond = self.nodes[path], target + path[len(source) :]
+            node = self.nodes[path]
             del self.nodes[path]
-            self.nodes[beyond] = node
-            self.numbers.move(path, beyond)
+            self.nodes[target + path[len(source) :]] = node
+        self.numbers.rename(source, target)
         return b"ok"
 
     def reply(self, word: str, *fields: Any) -> bytes | None:
@@ -298,6 +312,15 @@ class WholeTree:
             return b"err %d %s" % (ERROR_NUMBERS[name], name.encode())
         except Unknown:
             return None
+
+    def judged(self, told: bytes | None, word: str, *fields: Any) -> bytes | None:
+        """The same where the reply was told: a `stat` tells the number of that one, where it may."""
+        return self.reply(word, *fields, *([number_told(told)] if word == "stat" and told is not None else []))
+
+
+def without_number(reply: bytes) -> bytes:
+    """The text of a reply, the inode number of a `stat`'s left out."""
+    return reply if number_told(reply) is None else reply.rpartition(b" ")[0]
 
 
 def number_told(reply: bytes) -> int | None:
