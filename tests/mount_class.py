@@ -194,7 +194,7 @@ def check_client_data(session: Session) -> None:
     session.create(b"/\xff\n %41")
     check("client: a long write", session.write(b"/\xff\n %41", 70_000, data), len(data))
     check("client: a long read", session.read(b"/\xff\n %41", 69_998, 1 << 20), b"\0\0" + data)
-    check("client: its length", session.stat(b"/\xff\n %41"), ("file", 270_001))
+    check("client: its length", session.stat(b"/\xff\n %41")[:2], ("file", 270_001))
     check("client: a read of nothing", session.read(b"/\xff\n %41", 0, 0), b"")
     check("client: a write of nothing", session.write(b"/\xff\n %41", 5, b""), 0)
     session.mkdir(b"/many")

@@ -12,7 +12,8 @@ from helpers.running import Ending, Process
 from programs import EXPORTER, MOUNTD
 from random_requests import line_of
 from yakembi.overlay_files import Damaged, Shown, state_of, stored
-from yakembi.tree_model import Node, Nodes, Path, Values, WholeTree
+from yakembi.session_lines import read_line
+from yakembi.tree_model import Node, Nodes, Numbers, Path, Values, WholeTree, number_told, without_number
 
 CLOSED = (0, b"")
 Read = TypeVar("Read")
@@ -115,19 +116,31 @@ class WithCommit(Case):
         return Place(self.commit.root, self.objects, self.folder / "changes")
 
 
-def check_session(name: str, place: Place, rows: Sequence[tuple[bytes, bytes | None]], *more: str) -> None:
-    """One session: each line has the reply beside it, and the overlay is closed."""
+def check_session(name: str, place: Place, rows: Sequence[tuple[bytes, bytes | None]], *more: str,
+                  numbers: Numbers | None = None) -> None:
+    """One session: each line has the reply beside it, and the overlay is closed. A `stat` that has no inode number there
+    tells one that it may: where it isn't said which ones the files have, any that nothing else in the session has."""
     status, output, errors = place.run([line for line, _ in rows], *more)
     check(f"{name} ends well", (status, errors), CLOSED)
     replies = output.split(b"\n")
     check(f"{name}: a reply to each line", (len(replies) - 1, replies[-1]), (len(rows), b""))
+    known = numbers if numbers is not None else Numbers()
     for (line, wanted), reply in zip(rows, replies):
-        check(f"{name}: {line!r:.200}", reply, wanted)
+        is_numbered = wanted is not None and number_told(wanted) is not None
+        check(f"{name}: {line!r:.200}", reply if is_numbered else without_number(reply), wanted)
+        read = read_line(line)
+        check(f"{name}: {line!r:.200}: {reply!r:.200}: its number", known.follow(read.word, read.fields, reply), True)
+
+
+def wanted_reply(tree: WholeTree, word: str, fields: Values) -> bytes | None:
+    """What the dictionary replies, but for the number of a `stat`."""
+    reply = tree.reply(word, *fields)
+    return without_number(reply) if reply is not None else None
 
 
 def replied(tree: WholeTree, requests: Iterable[tuple[str, Values]]) -> list[tuple[bytes, bytes | None]]:
     """The lines of requests and what the dictionary replies."""
-    return [(line_of(word, fields), tree.reply(word, *fields)) for word, fields in requests]
+    return [(line_of(word, fields), wanted_reply(tree, word, fields)) for word, fields in requests]
 
 
 def as_described(name: str, read: Callable[..., Read], *words: Any) -> Read | None:
@@ -143,6 +156,12 @@ def numbers_at(place: Place, commit: Commit) -> dict[Path, int]:
     """The numbers that the files of a closed overlay have, by their paths."""
     shown = as_described("numbers", Shown, commit, place.files())
     return shown.places if shown else {}
+
+
+def known_numbers(place: Place, commit: Commit) -> Numbers:
+    """The same with the one that is given next, as a session on the overlay begins with them."""
+    files = place.files()
+    return Numbers(numbers_at(place, commit), state_of(files[0])[1]) if 0 in files else Numbers()
 
 
 def check_closed(name: str, place: Place, commit: Commit, tree: WholeTree, kills: int = 0) -> int:

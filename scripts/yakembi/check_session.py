@@ -6,6 +6,9 @@ RECORD is a folder of what clients sent and got: for each a file NAME.sent with 
 replies, as two `tee`s write them or `record` of yakembi.client, which writes NAME.times beside them. The tree is that
 of the revision, or what the overlay DIR shows over it, as it was before the first request.
 
+A `stat` tells one inode number of a thing, wherever that is moved to, and of nothing else after it. That is the one that
+the files of DIR have, or else any that isn't spent by then: below what DIR's files give next, or told before.
+
 The order keeps each client's own; where there are times, also that of requests of which one was answered before the
 other was sent. Faults change nothing. The last line is an order, none, or that the search gave up after N states; the
 status is 0, 1 or 3, and 2 where there is nothing to judge. With --order each request is printed in its turn.
@@ -21,7 +24,7 @@ from yakembi.git import FOLDERS, SUBMODULE, Objects, Refusal, Repository, entrie
 from yakembi.overlay_files import Damaged, Shown, state_of, stored
 from yakembi.session_lines import read_line
 from yakembi.session_order import MOST_STATES, Asked, Search, Undecided
-from yakembi.tree_model import Node, Path
+from yakembi.tree_model import Node, Numbers, Path
 
 FOUND, NONE, UNJUDGED, UNDECIDED = range(4)
 SHOWN_BYTES = 200
@@ -77,12 +80,14 @@ class GitCommit:
         return LEAVES[mode](self.contents[object_id])
 
 
-def first_tree(commit: GitCommit, overlay: pathlib.Path | None) -> dict[Path, Node]:
-    """The nodes that stand before the first request."""
+def first_tree(commit: GitCommit, overlay: pathlib.Path | None) -> tuple[dict[Path, Node], Numbers]:
+    """The nodes that stand before the first request, and the inode numbers that the overlay's files show of them."""
     files = stored(overlay) if overlay else {}
     if 0 in files and state_of(files[0])[0] != commit.root:
         raise Refusal(f"the overlay stands on the tree {state_of(files[0])[0]}, and the revision's is {commit.root}")
-    return Shown(commit, files).nodes
+    shown = Shown(commit, files)
+    following = state_of(files[0])[1] if 0 in files else shown.next_number
+    return shown.nodes, Numbers(shown.places, following)
 
 
 # ---- what clients sent and got
@@ -169,9 +174,9 @@ def told(client: ClientRecord, number: int) -> str:
     return f"{client.name} line {number}: {text(client.lines[number - 1])}: {got}"
 
 
-def judge(clients: list[ClientRecord], nodes: dict[Path, Node], options: argparse.Namespace) -> int:
+def judge(clients: list[ClientRecord], nodes: dict[Path, Node], numbers: Numbers, options: argparse.Namespace) -> int:
     asked = [requests_of(client) for client in clients]
-    search = Search([[row for _, row in rows] for rows in asked], nodes, most_states=options.states)
+    search = Search([[row for _, row in rows] for rows in asked], nodes, most_states=options.states, numbers=numbers)
     count = sum(len(rows) for rows in asked)
     try:
         order = search.run()
@@ -207,9 +212,9 @@ def main() -> int:
         if not clients:
             raise Refusal(f"{options.record} has no file NAME.sent")
         commit = GitCommit(Repository(options.repository), options.revision)
-        nodes = first_tree(commit, options.overlay)
+        nodes, numbers = first_tree(commit, options.overlay)
         commit.contents.objects.end()
-        return judge(clients, nodes, options)
+        return judge(clients, nodes, numbers, options)
     except Wrong as wrong:
         print(f"{wrong}\nnone: no order gives that reply")
         return NONE

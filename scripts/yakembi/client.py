@@ -53,8 +53,12 @@ Fields = list[bytes]
 
 
 class Stat(NamedTuple):
+    """What stands at a path. It keeps its number as long as it is there, also where it is moved, and the number is given
+    to nothing else after it; it outlives the mount with the overlay's files."""
+
     kind: str
     size: int
+    number: int
 
 
 class Page(NamedTuple):
@@ -147,9 +151,9 @@ class Requests(abc.ABC):
         return self.ask(b"kind", b"kind", path_field(path))[0].decode()
 
     def stat(self, path: bytes) -> Stat:
-        """The kind, and the length of a file or of a link's target; 0 for a directory."""
-        kind, size = self.ask(b"stat", b"stat", path_field(path))
-        return Stat(kind.decode(), int(size))
+        """The kind; the length of a file or of a link's target, 0 for a directory; and the inode number."""
+        kind, size, number = self.ask(b"stat", b"stat", path_field(path))
+        return Stat(kind.decode(), int(size), int(number))
 
     def data(self, *fields: bytes) -> bytes:
         return bytes.fromhex(b"".join(self.ask(b"data", *fields)[1:]).decode())

@@ -154,7 +154,7 @@ class Shell(cmd.Cmd):
     def do_stat(self, line: str) -> None:
         """stat PATH ..: what stands there, and its length"""
         for word in some(line):
-            kind, size = self.session.stat(self.path(word))
+            kind, size, _ = self.session.stat(self.path(word))
             target = b" -> " + self.session.readlink(self.path(word)) if kind == LINK else b""
             self.show(b"%s %d " % (kind.encode(), size), self.path(word), target, b"\n")
 

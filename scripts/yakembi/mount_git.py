@@ -59,6 +59,7 @@ UNOPENED = {
 FUSE_OPTIONS = {
     "foreground": True, "fsname": "mount-git", "default_permissions": True, "kernel_cache": True, "big_writes": True,
     "max_write": 65_536, "max_read": 65_536, "attr_timeout": 60, "entry_timeout": 60, "negative_timeout": 60,
+    "use_ino": True,
 }
 
 

@@ -21,6 +21,8 @@ from yakembi.times import Times
 TYPES: dict[str, int] = {FILE: stat.S_IFREG, EXEC: stat.S_IFREG, LINK: stat.S_IFLNK, DIR: stat.S_IFDIR}
 MODES = {FILE: stat.S_IFREG | 0o644, EXEC: stat.S_IFREG | 0o755, LINK: stat.S_IFLNK | 0o777, DIR: stat.S_IFDIR | 0o755}
 BLOCK = 512
+# What libfuse puts into a listing's row where it doesn't know the inode number.
+UNKNOWN_NUMBER = 0xFFFF_FFFF
 # What stands in the place of a time that is set to the clock's, or that stays. With seconds of 0, as they come, they
 # are times of 1970 too, which nobody can tell from them.
 UTIME_NOW, UTIME_OMIT = (1 << 30) - 1, (1 << 30) - 2
@@ -56,6 +58,11 @@ class Mount(Requests):
         except SessionEnded as end:
             self.tell(f"a request wasn't answered: {end}")
         raise refusal(errno.EIO)
+
+
+def row_of(kind: str) -> dict[str, int]:
+    """What a listing's row tells of an entry. A row with 0 as its number would be passed over as one that is gone."""
+    return {"st_mode": TYPES[kind], "st_ino": UNKNOWN_NUMBER}
 
 
 def explained(fault: Fault) -> str:
@@ -94,9 +101,9 @@ class MountOperations:
     # ---- looking
 
     def getattr(self, path: str, fh: Any = None) -> dict[str, int]:
-        kind, size = self.mount.stat(raw(path))
+        kind, size, number = self.mount.stat(raw(path))
         content, entry = self.times.of(path)
-        return {**self.owner, "st_mode": MODES[kind], "st_nlink": 1, "st_size": size, "st_blocks": -(-size // BLOCK),
+        return {**self.owner, "st_ino": number, "st_mode": MODES[kind], "st_nlink": 1, "st_size": size, "st_blocks": -(-size // BLOCK),
                 "st_atime": content, "st_mtime": content, "st_ctime": entry}
 
     def access(self, path: str, mode: int) -> int:
@@ -106,13 +113,12 @@ class MountOperations:
         return 0
 
     def readdir(self, path: str, fh: Any = None) -> list[tuple[str, dict[str, int], int]]:
-        """Rows of name and attributes, of which the file's type is the only one.
+        """Rows of name and attributes, of which the file's type is the only one: a listing tells no inode numbers.
 
         They are all there at once, since libfuse keeps rows without offsets until it has the last.
         """
-        rows = [(name.decode("latin-1"), {"st_mode": TYPES[kind]}, 0) for name, kind in self.mount.entries(raw(path))]
-        folder = {"st_mode": TYPES[DIR]}
-        return [(".", folder, 0), ("..", folder, 0), *rows]
+        rows = [(name.decode("latin-1"), row_of(kind), 0) for name, kind in self.mount.entries(raw(path))]
+        return [(".", row_of(DIR), 0), ("..", row_of(DIR), 0), *rows]
 
     def readlink(self, path: str) -> str:
         return self.mount.readlink(raw(path)).decode("latin-1")

@@ -7,6 +7,10 @@ have been done, or not. The table of operations is tree_model's.
 The search takes what needs no choice at once: a fault, a look or an error that is as told here, and whatever has no
 path at, above or below one that others have still to ask about. Such a request that isn't answered as told ends the way
 at once. Among the rest, changes that may come next, it tries each, and remembers the states that it came to.
+
+A `stat` tells the inode number of what stands there. The first one gives it, and any that isn't spent will do; from then
+on it is that one. So a `stat` that gives a number needs no choice only where no other client has still to ask for what
+could put something else at its path.
 """
 
 import collections
@@ -14,7 +18,7 @@ from collections.abc import Iterator, Mapping, Sequence
 from typing import NamedTuple
 
 from yakembi.session_lines import Field
-from yakembi.tree_model import Node, Path, WholeTree
+from yakembi.tree_model import Node, Numbers, Path, WholeTree, number_told
 
 
 class Asked(NamedTuple):
@@ -29,6 +33,8 @@ class Asked(NamedTuple):
 
 
 LOOKS = {"kind", "stat", "read", "readlink", "list"}
+# What can put something else where something stands.
+REPLACING = {"unlink", "rmdir", "rename"}
 MOST_STATES = 100_000
 
 
@@ -79,8 +85,8 @@ class Nodes(dict[Path, Node]):
 class Tree(WholeTree):
     """The table of operations over such nodes, of which it looks at no more than it needs."""
 
-    def __init__(self, nodes: Nodes) -> None:
-        super().__init__(nodes)
+    def __init__(self, nodes: Nodes, numbers: Numbers) -> None:
+        super().__init__(nodes, numbers)
         self.names = nodes.names
 
     def children(self, path: Path) -> list[bytes]:
@@ -94,15 +100,18 @@ class Tree(WholeTree):
 
 
 class Counts:
-    """How many requests are left at each path, and at or below it."""
+    """How many requests are left at each path, how many of them can put something else there, and how many are left at
+    or below it."""
 
     def __init__(self) -> None:
         self.at: collections.Counter[Path] = collections.Counter()
+        self.replacing: collections.Counter[Path] = collections.Counter()
         self.under: collections.Counter[Path] = collections.Counter()
 
     def count(self, asked: Asked, step: int) -> None:
         for path in paths_of(asked):
             self.at[path] += step
+            self.replacing[path] += step if asked.word in REPLACING else 0
             for length in range(len(path) + 1):
                 self.under[path[:length]] += step
 
@@ -120,13 +129,25 @@ def changes_nothing(asked: Asked) -> bool:
     return asked.word in LOOKS or (asked.reply is not None and asked.reply.startswith(b"err "))
 
 
+# How many steps nodes and numbers were changed by.
+Steps = tuple[int, int]
+
+
 class Branch(NamedTuple):
     """A state, by what was taken until it was come to, and the clients whose next request is still to be tried
     there."""
 
     taken: int
-    steps: int
+    steps: Steps
     clients: Iterator[int]
+
+
+class State(NamedTuple):
+    """How far each client came, what isn't as at first, and the numbers. Those that are spent follow from the first."""
+
+    taken: tuple[int, ...]
+    changes: frozenset[tuple[Path, Node | None]]
+    given: frozenset[tuple[Path, int]]
 
 
 class Search:
@@ -134,10 +155,12 @@ class Search:
     that were seen in the end."""
 
     def __init__(self, clients: Sequence[Sequence[Asked]], nodes: Mapping[Path, Node],
-                 seen: Mapping[Path, Node] | None = None, most_states: int = MOST_STATES) -> None:
+                 seen: Mapping[Path, Node] | None = None, most_states: int = MOST_STATES,
+                 numbers: Numbers | None = None) -> None:
         self.clients = clients
         self.nodes = Nodes(nodes)
-        self.tree = Tree(self.nodes)
+        self.numbers = numbers if numbers is not None else Numbers()
+        self.tree = Tree(self.nodes, self.numbers)
         self.seen = seen
         self.next = [0] * len(clients)
         self.order: list[int] = []
@@ -146,7 +169,7 @@ class Search:
         for client, requests in enumerate(clients):
             for asked in requests:
                 self.count(client, asked, 1)
-        self.met: set[tuple[tuple[int, ...], frozenset[tuple[Path, Node | None]]]] = set()
+        self.met: set[State] = set()
         self.most_states = most_states
         # How long the longest order is that was found, and the clients' next requests there with the tree's replies.
         self.longest = -1
@@ -180,13 +203,34 @@ class Search:
                 return False
         return True
 
+    def stays(self, client: int, asked: Asked) -> bool:
+        """Whether nothing that others have left can put something else at its paths."""
+        own = self.left[client].replacing
+        return all(self.all_left.replacing[path[:length]] == own[path[:length]]
+                   for path in paths_of(asked) for length in range(len(path) + 1))
+
+    def is_settled(self, client: int, asked: Asked) -> bool:
+        """Whether a request that is answered here as told may as well come next."""
+        tells = asked.reply is not None and number_told(asked.reply) is not None
+        gives = tells and asked.fields[0] not in self.numbers.given
+        return is_fault(asked) or (changes_nothing(asked) and (not gives or self.stays(client, asked)))
+
+    def steps(self) -> Steps:
+        return len(self.nodes.was), len(self.numbers.was)
+
+    def undo(self, steps: Steps) -> None:
+        """Nodes and numbers as they were after the first so many steps."""
+        self.nodes.back_to(steps[0])
+        self.numbers.back_to(steps[1])
+
     def take(self, client: int) -> bool:
         """Does the client's next request, where it is answered as told; whether it is."""
-        asked, before = self.asked(client), len(self.nodes.was)
-        if not is_fault(asked):
-            reply = self.tree.reply(asked.word, *asked.fields)
+        asked, before = self.asked(client), self.steps()
+        unheard = asked.word in LOOKS and asked.reply is None
+        if not is_fault(asked) and not unheard:
+            reply = self.tree.judged(asked.reply, asked.word, *asked.fields)
             if asked.reply not in (None, reply):
-                self.nodes.back_to(before)
+                self.undo(before)
                 return False
         self.next[client] += 1
         self.order.append(client)
@@ -198,7 +242,7 @@ class Search:
             client = self.order.pop()
             self.next[client] -= 1
             self.count(client, self.asked(client), 1)
-        self.nodes.back_to(branch.steps)
+        self.undo(branch.steps)
 
     # ---- what needs no choice
 
@@ -210,7 +254,7 @@ class Search:
             for client in self.ready():
                 asked = self.asked(client)
                 alone = asked.reply is not None and self.is_alone(client, asked)
-                if is_fault(asked) or alone or changes_nothing(asked):
+                if alone or self.is_settled(client, asked):
                     taken = self.take(client)
                     if alone and not taken:
                         return False
@@ -229,20 +273,20 @@ class Search:
         goes_on = self.settle()
         if len(self.order) > self.longest:
             self.longest, self.stuck = len(self.order), self.replies()
-        state = tuple(self.next), frozenset(self.nodes.changes.items())
+        state = State(tuple(self.next), frozenset(self.nodes.changes.items()), frozenset(self.numbers.given.items()))
         clients = self.ready() if goes_on and state not in self.met else []
         self.met.add(state)
         if len(self.met) > self.most_states:
             raise Undecided
-        return Branch(len(self.order), len(self.nodes.was), iter(clients))
+        return Branch(len(self.order), self.steps(), iter(clients))
 
     def replies(self) -> list[tuple[int, int, bytes | None]]:
         """The clients whose next request may come next, and what the tree as it is replies to it."""
         rows = []
         for client in self.ready():
-            asked, before = self.asked(client), len(self.nodes.was)
-            rows.append((client, self.next[client], self.tree.reply(asked.word, *asked.fields)))
-            self.nodes.back_to(before)
+            asked, before = self.asked(client), self.steps()
+            rows.append((client, self.next[client], self.tree.judged(asked.reply, asked.word, *asked.fields)))
+            self.undo(before)
         return rows
 
     def run(self) -> list[int] | None:

@@ -6,10 +6,11 @@ from the repository's own definition, so that the two can be compared. A path is
     ("file", executable, content)    ("link", content)    ("dir", listed)
 
 A content is bytes, or None where it is lost. `reply` gives the text of the reply, or None where there is none, since
-the request looks into a lost content or a directory whose entries are not known.
+the request looks into a lost content or a directory whose entries are not known, or no inode number is left.
 """
 
-from collections.abc import Sequence
+import re
+from collections.abc import Mapping, Sequence
 from typing import Any
 
 from yakembi.client import name_text
@@ -27,8 +28,10 @@ LONGEST_DATA = 65_536
 LONGEST_TARGET = 4_095
 MOST_ENTRIES = 1_000
 
-NUMBERS = {"ENOENT": 2, "EBUSY": 16, "EEXIST": 17, "ENOTDIR": 20, "EISDIR": 21, "EINVAL": 22, "EFBIG": 27,
-           "ENAMETOOLONG": 36, "ENOTEMPTY": 39}
+ROOT_NUMBER, FIRST_NUMBER, END_OF_NUMBERS = 1, 2, 1 << 63
+
+ERROR_NUMBERS = {"ENOENT": 2, "EBUSY": 16, "EEXIST": 17, "ENOTDIR": 20, "EISDIR": 21, "EINVAL": 22, "EFBIG": 27,
+                 "ENAMETOOLONG": 36, "ENOTEMPTY": 39}
 
 
 class Refused(Exception):
@@ -50,9 +53,92 @@ def known(content: bytes | None) -> bytes:
     return content
 
 
+class Numbers:
+    """The inode numbers that were told, by path, and those that are spent, with a way back."""
+
+    def __init__(self, given: Mapping[Path, int] | None = None, following: int = FIRST_NUMBER) -> None:
+        """Those that stored files show, by path, and the one that is given next: all below it are spent."""
+        self.given: dict[Path, int] = {(): ROOT_NUMBER, **(given or {})}
+        self.following = following
+        self.spent: set[int] = set()
+        # What undoes each step, the last one last: a path's number or none, and one that is spent since, or none.
+        self.was: list[tuple[Path, int | None, int | None]] = []
+
+    def is_left(self, number: int) -> bool:
+        return max(FIRST_NUMBER, self.following) <= number < END_OF_NUMBERS and number not in self.spent
+
+    def may_tell(self, path: Path, number: int) -> bool:
+        """Whether a `stat` of what stands there may tell it: the one it has, or any that is left."""
+        return self.given[path] == number if path in self.given else self.is_left(number)
+
+    def pick(self, path: Path) -> int:
+        """The number that it has, or the least one that is left."""
+        if path in self.given:
+            return self.given[path]
+        number = max(FIRST_NUMBER, self.following)
+        while number in self.spent:
+            number += 1
+        if number >= END_OF_NUMBERS:
+            raise Unknown
+        return number
+
+    def tell(self, path: Path, number: int) -> None:
+        """What stands there has it from now on."""
+        if path not in self.given:
+            self.put(path, number, number)
+            self.spent.add(number)
+
+    def put(self, path: Path, number: int | None, spent: int | None = None) -> None:
+        self.was.append((path, self.given.get(path), spent))
+        self.set(path, number)
+
+    def set(self, path: Path, number: int | None) -> None:
+        if number is None:
+            self.given.pop(path, None)
+        else:
+            self.given[path] = number
+
+    def drop(self, path: Path) -> None:
+        """What stood there is gone. Its number stays spent."""
+        if path in self.given:
+            self.put(path, None)
+
+    def rename(self, source: Path, target: Path) -> None:
+        """What stood at and below the one path stands at and below the other, in place of what stood there."""
+        if source == target:
+            return
+        moved = {path: number for path, number in self.given.items() if path[: len(source)] == source}
+        for path in [*moved, *(path for path in self.given if path[: len(target)] == target)]:
+            self.drop(path)
+        for path, number in moved.items():
+            self.put(target + path[len(source) :], number)
+
+    def follow(self, word: str, fields: Values, reply: bytes) -> bool:
+        """Whether a reply tells no number, or one that it may tell. They go on by the request and that reply."""
+        told = number_told(reply)
+        if told is not None and not self.may_tell(fields[0], told):
+            return False
+        if told is not None:
+            self.tell(fields[0], told)
+        elif reply == b"ok" and word in ("unlink", "rmdir"):
+            self.drop(fields[0])
+        elif reply == b"ok" and word == "rename":
+            self.rename(*fields)
+        return True
+
+    def back_to(self, count: int) -> None:
+        """As they were after the first so many steps."""
+        while len(self.was) > count:
+            path, number, spent = self.was.pop()
+            self.set(path, number)
+            if spent is not None:
+                self.spent.discard(spent)
+
+
 class WholeTree:
-    def __init__(self, nodes: dict[Path, Node] | None = None) -> None:
+    def __init__(self, nodes: dict[Path, Node] | None = None, numbers: Numbers | None = None) -> None:
         self.nodes: dict[Path, Node] = nodes if nodes is not None else {(): ("dir", True)}
+        self.numbers = numbers if numbers is not None else Numbers()
 
     # ---- looking
 
@@ -102,10 +188,14 @@ class WholeTree:
     def kind(self, path: Path) -> bytes:
         return b"kind " + self.kind_word(self.present(path))
 
-    def stat(self, path: Path) -> bytes:
+    def stat(self, path: Path, told: int | None = None) -> bytes:
+        """It tells the number that was told, where that may be told; else the one given, or the least that is left."""
         node = self.present(path)
         size = 0 if node[0] == "dir" else len(known(node[-1]))
-        return b"stat %s %d" % (self.kind_word(node), size)
+        may = told is not None and self.numbers.may_tell(path, told)
+        number = told if told is not None and may else self.numbers.pick(path)
+        self.numbers.tell(path, number)
+        return b"stat %s %d %d" % (self.kind_word(node), size, number)
 
     def read(self, path: Path, offset: int, length: int) -> bytes:
         need(length <= LONGEST_DATA, "EINVAL")
@@ -172,18 +262,21 @@ class WholeTree:
 
     # ---- requests that take something away
 
+    def take_away(self, path: Path) -> bytes:
+        del self.nodes[path]
+        self.numbers.drop(path)
+        return b"ok"
+
     def unlink(self, path: Path) -> bytes:
         need(path != (), "EISDIR")
         need(self.present(path)[0] != "dir", "EISDIR")
-        del self.nodes[path]
-        return b"ok"
+        return self.take_away(path)
 
     def rmdir(self, path: Path) -> bytes:
         need(path != (), "EBUSY")
         need(self.present(path)[0] == "dir", "ENOTDIR")
         need(not self.children(path), "ENOTEMPTY")
-        del self.nodes[path]
-        return b"ok"
+        return self.take_away(path)
 
     def rename(self, source: Path, target: Path) -> bytes:
         need(source != () and target != (), "EBUSY")
@@ -206,6 +299,7 @@ class WholeTree:
             node = self.nodes[path]
             del self.nodes[path]
             self.nodes[target + path[len(source) :]] = node
+        self.numbers.rename(source, target)
         return b"ok"
 
     def reply(self, word: str, *fields: Any) -> bytes | None:
@@ -215,9 +309,24 @@ class WholeTree:
             return found
         except Refused as refusal:
             name = refusal.args[0]
-            return b"err %d %s" % (NUMBERS[name], name.encode())
+            return b"err %d %s" % (ERROR_NUMBERS[name], name.encode())
         except Unknown:
             return None
+
+    def judged(self, told: bytes | None, word: str, *fields: Any) -> bytes | None:
+        """The same where the reply was told: a `stat` tells the number of that one, where it may."""
+        return self.reply(word, *fields, *([number_told(told)] if word == "stat" and told is not None else []))
+
+
+def without_number(reply: bytes) -> bytes:
+    """The text of a reply, the inode number of a `stat`'s left out."""
+    return reply if number_told(reply) is None else reply.rpartition(b" ")[0]
+
+
+def number_told(reply: bytes) -> int | None:
+    """The inode number in a `stat`'s reply; None in any other."""
+    found = re.fullmatch(rb"stat (?:file|exec|link|dir) [0-9]+ ([0-9]+)", reply)
+    return int(found[1]) if found else None
 
 
 def data_reply(data: bytes) -> bytes:

@@ -14,7 +14,7 @@ use eden_wire::{Item, read_request};
 use linked_list_allocator::LocalHeap;
 use std::alloc::Global;
 use std::process::Abort;
-use test_random::{Commit, all_looks, is_same, is_seen};
+use test_random::{Commit, all_looks, is_seen};
 
 /// How many bytes the heap has: more than a run takes.
 const HEAP: usize = 1 << 15;
@@ -163,11 +163,10 @@ fn start<'h>(rt: &impl Abort, trial: &Trial<'h>, mount: &mut Mounted<'h>, pass: 
     assert!(rt; mount.start(pass, request(rt, trial.alloc, line)).is_ok());
 }
 
-/// The oracle goes on by the request, with that reply.
+/// The oracle allows the reply, and goes on by it.
 fn follow(rt: &impl Abort, trial: &mut Trial, request: &Request, reply: &Reply) {
-    let step = trial.tree.step(trial.alloc, request);
-    let want = step.expect(rt, "memory").expect(rt, "a reply");
-    assert!(rt; is_same(reply, &want));
+    let allows = trial.tree.allows(trial.alloc, request, reply);
+    assert!(rt; allows.expect(rt, "memory"));
 }
 
 /// A reply is the oracle's, or a want, which changes nothing.
@@ -221,8 +220,8 @@ fn look<'h>(rt: &impl Abort, trial: &mut Trial<'h>, mount: &mut Mounted<'h>, ask
     let copy = asked.copy(trial.alloc).expect(rt, "memory");
     assert!(rt; mount.start(1, copy).is_ok());
     let reply = answer(rt, trial, mount, 1);
-    let want = trial.tree.step(trial.alloc, asked).expect(rt, "memory");
-    assert!(rt; is_seen(&reply, &want));
+    let is_seen = is_seen(trial.alloc, &mut trial.tree, asked, &reply);
+    assert!(rt; is_seen.expect(rt, "memory"));
 }
 
 /// Files that were closed show the oracle's tree, once there is room.

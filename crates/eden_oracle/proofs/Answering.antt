@@ -10,14 +10,13 @@ use Rattle.eden_model.specs.declared.node.Node.{Node}
 use Rattle.eden_model.specs.declared.node.Node.TheVariants.{File}
 use Rattle.eden_oracle.specs.declared.change.Change.{Change}
 use Rattle.eden_oracle.specs.declared.change.Change.TheVariants as change
-use Rattle.eden_oracle.specs.declared.remove.Going.{Going}
 use Rattle.eden_model.specs.declared.request.Request.{Request}
 use Rattle.eden_model.specs.declared.reply.Reply.{Reply}
 use Rattle.eden_model.specs.declared.reply.Reply.TheVariants as say
-use Rattle.eden_oracle.specs.Changes.{Gives, Answers, AnswersHere, changed, Tells}
+use Rattle.eden_oracle.specs.Changes.{Gives, AnswersHere, changed, Tells}
 use Rattle.eden_model.specs.Paths.{path_eq, is_root}
-use Rattle.eden_model.specs.Trees.{Path, Tree, Reach, Fails, Silent, Absent, Here, reach}
-use Rattle.eden_model.specs.Operations.{Meets, Says, Refuses, Whether, Unless, At, Writes, Adds, Moves, Replaces, is_dir, is_front, put, edit, with_content, written, after, done}
+use Rattle.eden_model.specs.Trees.{Path, Tree, Reach, Silent, Here, reach}
+use Rattle.eden_model.specs.Operations.{Meets, Says, Refuses, Whether, Unless, At, Writes, Adds, Moves, Replaces, is_dir, is_front, put, edit, with_content, written, after}
 use Rattle.eden_model.proofs.CallerLemmas.{met_here, path_eq-Decides}
 
 abbrev pub Answer : Type 0

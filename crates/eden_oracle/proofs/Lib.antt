@@ -5,3 +5,5 @@ pub mod Listings
 pub mod Puts
 pub mod Moved
 pub mod Answering
+pub mod Told
+pub mod Spent

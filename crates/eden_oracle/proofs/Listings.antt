@@ -3,15 +3,12 @@ use Rattle.std.proofs.Common.{◌≡◌, ℕ, ◌+◌, ◌<◌, List, [], ◌∷
 use Rattle.std.specs.Prelude.{if◌then◌else◌, ◌&&◌}
 use Rattle.std.specs.Map.{lookup}
 use Rattle.std.specs.Option.{IsSome, option_map, option_or, option_copied, is_some}
-use Rattle.std.specs.Ordering.{nat_cmp, is_eq}
 use Rattle.std.specs.Str.{bytes_eq}
-use Rattle.std.specs.Cmp.Lexicographic.{slice_cmp, nat_list_eq_equiv}
+use Rattle.std.specs.Cmp.Lexicographic.{nat_list_eq_equiv}
 use denote.Ref.{Bor}
 use Rattle.std.proofs.lemmas.List.{take_more}
 use Rattle.std.proofs.lemmas.List.Elements.{All-from_recursion, All-get_or}
 use Rattle.std.proofs.lemmas.Map.{none_passes_from_lookup}
-use Rattle.std.proofs.lemmas.Map.Text.{is_eq-slice_cmp}
-use Rattle.std.proofs.lemmas.Slice.Eq.{bytes_eq-Decides}
 use Rattle.eden_model.specs.declared.kind.Kind.{Kind}
 use Rattle.eden_model.specs.declared.node.Node.{Node}
 use Rattle.eden_model.specs.Paths.{path_eq, behind_of}

@@ -3,23 +3,29 @@ use Rattle.std.proofs.Common.{◌≡◌, ℕ, ◌+◌, ◌<◌, length, get_or, 
 use Rattle.std.specs.Option.{option_or, is_some}
 use Rattle.std.proofs.lemmas.List.{take_more}
 use Rattle.std.specs.Cmp.Lexicographic.{nat_list_eq_equiv}
-use Rattle.eden_model.specs.declared.node.Node.{Node}
 use Rattle.eden_model.specs.Paths.{path_eq, behind_of}
-use Rattle.eden_model.specs.Trees.{Path, Tree}
+use Rattle.eden_model.specs.Trees.{Path, grafted}
 use Rattle.eden_model.specs.Operations.{is_front, move}
 use Rattle.eden_oracle.specs.Rows.{tree_of}
 use Rattle.eden_oracle.specs.Changes.{ShowMoved}
-use Rattle.eden_model.proofs.CallerLemmas.{landed, gone, path_eq-Decides, behind_sound, behind_back}
+use Rattle.eden_model.proofs.CallerLemmas.{path_eq-Decides, behind_sound, behind_back}
 use Rattle.eden_oracle.proofs.Lookups.{lookup-push}
 
+-- what comes to stand where the paths begin with the second one, and what is left where they begin with the first
+abbrev landed : {X : Type 0} → (Path → Option X) → Path → Option Path → Option X → Option X
+landed F from o other = grafted o (λ rest. F (from ++ rest)) other
+
+abbrev gone : {X : Type 0} → Option Path → Option X → Option X
+gone o other = grafted o (λ rest. None) other
+
 -- what one row shows
-abbrev pub one : Path → Node → Path → Option Node
+abbrev pub one : {X : Type 0} → Path → X → Path → Option X
 one p v q = cond (path_eq q p) (Some v) None
 
-unseen : (p : Path) (v : Node) (q : Path) → path_eq q p ≡ false → one p v q ≡ None
+unseen : {X : Type 0} (p : Path) (v : X) (q : Path) → path_eq q p ≡ false → one p v q ≡ None
 unseen p v q e = ap (λ (b : Bool). cond b (Some v) None) e
 
-or_none : (o : Option Node) → option_or o None ≡ o
+or_none : {X : Type 0} (o : Option X) → option_or o None ≡ o
 or_none None = refl
 or_none (Some v) = refl
 
@@ -46,8 +52,8 @@ behind_itself : (front rest : Path) → is_front front (front ++ rest) ≡ true
 behind_itself front rest = ap is_some (behind_back front rest)
 
 -- one row more, by what it shows at each path
-module _ (F G : Tree) (from to p : Path) (v : Node) (more : (q : Path) → G q ≡ option_or (F q) (one p v q)) where
-  by_parts : (q : Path) (x : Option Node) (a b : Option Path) → ((s : Path) → a ≡ Some s → one p v (from ++ s) ≡ x)
+module _ {X : Type 0} (F G : Path → Option X) (from to p : Path) (v : X) (more : (q : Path) → G q ≡ option_or (F q) (one p v q)) where
+  by_parts : (q : Path) (x : Option X) (a b : Option Path) → ((s : Path) → a ≡ Some s → one p v (from ++ s) ≡ x)
       → (a ≡ None → is_some b ≡ true → None ≡ x) → (a ≡ None → is_some b ≡ false → one p v q ≡ x)
       → landed G from a (gone b (G q)) ≡ option_or (landed F from a (gone b (F q))) x
   by_parts q x (Some s) b h1 h2 h3 = more (from ++ s) ∙ ap (option_or (F (from ++ s))) (h1 s refl)
@@ -81,10 +87,10 @@ module _ (F G : Tree) (from to p : Path) (v : Node) (more : (q : Path) → G q �
 
 -- ---- the rows
 
-abbrev pub Rows : Type 0
-Rows = List (Path × Node)
+abbrev pub Rows : Type 0 → Type 0
+Rows X = List (Path × X)
 
-pushed : (rows : Rows) (p : Path) (v : Node) (q : Path) → tree_of (rows ++ (p, v) ∷ []) q ≡ option_or (tree_of rows q) (one p v q)
+pushed : {X : Type 0} (rows : Rows X) (p : Path) (v : X) (q : Path) → tree_of (rows ++ (p, v) ∷ []) q ≡ option_or (tree_of rows q) (one p v q)
 pushed rows p v q = lookup-push (path_eq q) rows p v
 
 absent_front : (front p : Path) → behind_of front p ≡ None → is_front front p ≡ false
@@ -93,29 +99,30 @@ absent_front front p e = ap is_some e
 pub found_front : (front p rest : Path) → behind_of front p ≡ Some rest → is_front front p ≡ true
 found_front front p rest e = ap is_some e
 
-pub kept_row : (all rows : Rows) (from to p : Path) (v : Node) → behind_of from p ≡ None → behind_of to p ≡ None → ShowMoved all rows from to
+pub kept_row : {X : Type 0} (all rows : Rows X) (from to p : Path) (v : X) → behind_of from p ≡ None → behind_of to p ≡ None → ShowMoved all rows from to
     → ShowMoved (all ++ (p, v) ∷ []) (rows ++ (p, v) ∷ []) from to
-kept_row all rows from to p v no_from no_to h q =
-    pushed all p v q ∙ ap (λ (o : Option Node). option_or o (one p v q)) (h q)
+kept_row {X = X} all rows from to p v no_from no_to h q =
+    pushed all p v q ∙ ap (λ (o : Option X). option_or o (one p v q)) (h q)
     ∙ sym (more_kept (tree_of rows) (tree_of (rows ++ (p, v) ∷ [])) from to p v (pushed rows p v) (absent_front from p no_from) (absent_front to p no_to) q)
 
-pub gone_row : (all rows : Rows) (from to p : Path) (v : Node) → behind_of from p ≡ None → is_front to p ≡ true → ShowMoved all rows from to → ShowMoved all (rows ++ (p, v) ∷ []) from to
-gone_row all rows from to p v no_from there h q =
+pub gone_row : {X : Type 0} (all rows : Rows X) (from to p : Path) (v : X) → behind_of from p ≡ None → is_front to p ≡ true → ShowMoved all rows from to → ShowMoved all (rows ++ (p, v) ∷ []) from to
+gone_row {X = X} all rows from to p v no_from there h q =
     h q ∙ sym (more_gone (tree_of rows) (tree_of (rows ++ (p, v) ∷ [])) from to p v (pushed rows p v) (absent_front from p no_from) there q)
 
-pub moved_row : (all rows : Rows) (from to p rest : Path) (v : Node) → behind_of from p ≡ Some rest → ShowMoved all rows from to → ShowMoved (all ++ (to ++ rest, v) ∷ []) (rows ++ (p, v) ∷ []) from to
-moved_row all rows from to p rest v there h q =
-    pushed all (to ++ rest) v q ∙ ap (λ (o : Option Node). option_or o (one (to ++ rest) v q)) (h q)
+pub moved_row : {X : Type 0} (all rows : Rows X) (from to p rest : Path) (v : X) → behind_of from p ≡ Some rest → ShowMoved all rows from to
+    → ShowMoved (all ++ (to ++ rest, v) ∷ []) (rows ++ (p, v) ∷ []) from to
+moved_row {X = X} all rows from to p rest v there h q =
+    pushed all (to ++ rest) v q ∙ ap (λ (o : Option X). option_or o (one (to ++ rest) v q)) (h q)
     ∙ sym (more_moved (tree_of rows) (tree_of (rows ++ (p, v) ∷ [])) from to p v (pushed rows p v) rest (behind_sound from p rest there) q)
 
-pub none_moved : (from to : Path) → ShowMoved [] [] from to
-none_moved from to q = by (behind_of to q) (behind_of from q)
+pub none_moved : {X : Type 0} (from to : Path) → ShowMoved {X = X} [] [] from to
+none_moved {X = X} from to q = by (behind_of to q) (behind_of from q)
   where
-    by : (a b : Option Path) → None ≡ landed (tree_of []) from a (gone b None)
+    by : (a b : Option Path) → None ≡ landed (tree_of {X = X} []) from a (gone b None)
     by (Some s) b = refl
     by None (Some r) = refl
     by None None = refl
 
-pub one_more : (rows : Rows) (k : ℕ) (row : Path × Node) (p : Path) → k < length rows → row ≡ get_or rows k row → p ≡ row.0 → take k rows ++ (p, row.1) ∷ [] ≡ take (k + 1) rows
-one_more rows k row p lt is at =
-    ap (λ (x : Path). take k rows ++ (x, row.1) ∷ []) at ∙ ap (λ (r : Path × Node). take k rows ++ r ∷ []) is ∙ sym (take_more rows k row lt)
+pub one_more : {X : Type 0} (rows : Rows X) (k : ℕ) (row : Path × X) (p : Path) → k < length rows → row ≡ get_or rows k row → p ≡ row.0 → take k rows ++ (p, row.1) ∷ [] ≡ take (k + 1) rows
+one_more {X = X} rows k row p lt is at =
+    ap (λ (x : Path). take k rows ++ (x, row.1) ∷ []) at ∙ ap (λ (r : Path × X). take k rows ++ r ∷ []) is ∙ sym (take_more rows k row lt)

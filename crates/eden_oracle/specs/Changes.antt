@@ -57,9 +57,9 @@ reply_of (going.Stays e) = Some (say.Err e)
 reply_of going.Silent = None
 
 -- the rows shown moved
-abbrev pub ShowMoved : List (Path × Node) → List (Path × Node) → Path → Path → Type 0
+abbrev pub ShowMoved : {X : Type 0} → List (Path × X) → List (Path × X) → Path → Path → Type 0
 ShowMoved all rows from to = (q : Path) → tree_of all q ≡ move (tree_of rows) from to q
 
 -- one row more
-abbrev pub MovesRow : List (Path × Node) → List (Path × Node) → Path → Path → Path → Node → Type 0
-MovesRow old new from to p n = (rows : List (Path × Node)) → ShowMoved old rows from to → ShowMoved new (rows ++ (p, n) ∷ []) from to
+abbrev pub MovesRow : {X : Type 0} → List (Path × X) → List (Path × X) → Path → Path → Path → X → Type 0
+MovesRow {X = X} old new from to p v = (rows : List (Path × X)) → ShowMoved old rows from to → ShowMoved new (rows ++ (p, v) ∷ []) from to

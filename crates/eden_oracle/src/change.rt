@@ -6,7 +6,7 @@ ghost use Rattle.eden_model.specs.Paths.{path_eq};
 ghost use Rattle.eden_oracle.specs.Rows.{tree_of};
 
 use crate::front::behind;
-use crate::place::{Place, Row, copied_node, joined};
+use crate::place::{Copied, Place, Row, joined};
 use eden_model::{Errno, Name, Node, Reply};
 use std::alloc::{AllocError, Global};
 
@@ -38,7 +38,7 @@ fn differs(place: &Place, path: &[Name]) -> bool
 }
 
 /// Takes the rows of a path away.
-fn remove(rows: &mut Vec<Row>, path: &[Name])
+pub(crate) fn remove<V: Drop>(rows: &mut Vec<(Place, V)>, path: &[Name])
     ensures tree { tree_of rows.new.items ≡ put (tree_of rows.old.items) path.now None }
     ensures fewer { vec_len rows.new ≤ vec_len rows.old }
     ensures capacity { vec_capacity rows.new ≡ vec_capacity rows.old }
@@ -47,27 +47,31 @@ fn remove(rows: &mut Vec<Row>, path: &[Name])
 }
 
 /// Puts a row in the place of those of its path.
-fn replace(rows: &mut Vec<Row>, path: Place, node: Node) -> Result<(), AllocError>
-    ensures ok { OnOk result (tree_of rows.new.items ≡ put (tree_of rows.old.items) path (Some node)) }
+pub(crate) fn replace<V: Drop>(
+    rows: &mut Vec<(Place, V)>,
+    path: Place,
+    value: V,
+) -> Result<(), AllocError>
+    ensures ok { OnOk result (tree_of rows.new.items ≡ put (tree_of rows.old.items) path (Some value)) }
     ensures err { OnErr result (rows.new.items ≡ rows.old.items) }
 {
     rows.reserve(1)?;
     remove(rows, path.as_slice());
-    rows.push((path, node)).unwrap();
+    rows.push((path, value)).unwrap();
     Ok(())
 }
 
 /// Puts a copy of the row behind the others, as it stands once what begins with `from` begins with `to`; not where
 /// it begins with `to` before.
-fn move_row(
+fn move_row<V: Copied>(
     alloc: Global,
-    all: &mut Vec<Row>,
+    all: &mut Vec<(Place, V)>,
     from: &[Name],
     to: &[Name],
     path: &[Name],
-    node: &Node,
+    value: &V,
 ) -> Result<(), AllocError>
-    ensures { OnOk result (MovesRow all.old.items all.new.items from.now to.now path.now node.now) }
+    ensures { OnOk result (MovesRow all.old.items all.new.items from.now to.now path.now value.now) }
 {
     let place = match behind(from, path) {
         Some(rest) => joined(alloc, to, rest)?,
@@ -76,17 +80,22 @@ fn move_row(
             None => joined(alloc, path, &[])?,
         },
     };
-    all.push((place, copied_node(alloc, node)?))?;
+    all.push((place, value.copied(alloc)?))?;
     Ok(())
 }
 
 /// The rows where what begins with `from` begins with `to`, and what began with `to` is gone.
-fn moved(alloc: Global, rows: &[Row], from: &[Name], to: &[Name]) -> Result<Vec<Row>, AllocError>
+pub(crate) fn moved<V: Copied>(
+    alloc: Global,
+    rows: &[(Place, V)],
+    from: &[Name],
+    to: &[Name],
+) -> Result<Vec<(Place, V)>, AllocError>
     ensures { IfOk result (λ all. tree_of all.items ≡ move (tree_of rows.now) from.now to.now) }
 {
     let mut all = Vec::new(alloc);
-    for (path, node) in rows {
-        move_row(alloc, &mut all, from, to, path.as_slice(), node)?;
+    for (path, value) in rows {
+        move_row(alloc, &mut all, from, to, path.as_slice(), value)?;
     }
     Ok(all)
 }

@@ -6,7 +6,7 @@ ghost use Rattle.eden_oracle.specs.Rows.{tree_of};
 ghost use Rattle.eden_model.specs.declared.request.Request.TheVariants as ask;
 
 use crate::change::{Answer, Change, refused};
-use crate::place::{Row, copied};
+use crate::place::{Row, copied_content};
 use crate::walk::{Met, meet};
 use eden_model::{Bytes, Errno, MAX_DATA, MAX_FILE, Node, Path, Reply};
 use std::alloc::{AllocError, Global};
@@ -144,7 +144,7 @@ fn set_exec_node<'a>(
 {
     match node {
         Node::File(_, content) => {
-            let file = Node::File(exec, copied(alloc, content)?);
+            let file = Node::File(exec, copied_content(alloc, content)?);
             Ok(Some((Reply::Ok, Change::Put(path.as_slice(), Some(file)))))
         }
         Node::Link(_) => Ok(refused(Errno::EINVAL)),

@@ -32,15 +32,16 @@ pub(crate) fn kind<'a>(rows: &[Row], path: &Path) -> Answer<'a>
     }
 }
 
+/// A `stat`'s reply, with 0 where its number comes to stand.
 fn stat_node(node: &Node) -> Option<Reply>
     ensures { Tells (Stats node.now) result }
 {
     match node {
-        Node::Dir(_) => Some(Reply::Stat(Kind::Dir, 0)),
+        Node::Dir(_) => Some(Reply::Stat(Kind::Dir, 0, 0)),
         Node::File(_, None) => None,
         Node::Link(None) => None,
-        Node::File(_, Some(bytes)) => Some(Reply::Stat(node.kind(), bytes.len() as u64)),
-        Node::Link(Some(target)) => Some(Reply::Stat(Kind::Link, target.len() as u64)),
+        Node::File(_, Some(bytes)) => Some(Reply::Stat(node.kind(), bytes.len() as u64, 0)),
+        Node::Link(Some(target)) => Some(Reply::Stat(Kind::Link, target.len() as u64, 0)),
     }
 }
 

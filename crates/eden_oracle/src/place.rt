@@ -18,8 +18,15 @@ impl Model for Place {
     ghost view = { λ p. p.names.items };
 }
 
-/// A path and what stands there.
+/// A path and the node that stands there.
 pub(crate) type Row = (Place, Node);
+
+/// What stands at paths: of it equal values can be made.
+pub(crate) trait Copied: Drop {
+    /// An equal value. The only error is want of memory.
+    fn copied(&self, alloc: Global) -> Result<Self, AllocError>
+        ensures { IfOk result (λ x. x ≡ self.now) };
+}
 
 impl Place {
     pub(crate) fn new(names: Vec<Name>) -> Place
@@ -56,7 +63,10 @@ pub(crate) fn joined(alloc: Global, front: &[Name], rest: &[Name]) -> Result<Pla
 }
 
 /// An equal content, or none of none.
-pub(crate) fn copied(alloc: Global, content: &Option<Bytes>) -> Result<Option<Bytes>, AllocError>
+pub(crate) fn copied_content(
+    alloc: Global,
+    content: &Option<Bytes>,
+) -> Result<Option<Bytes>, AllocError>
     ensures { IfOk result (λ c. c ≡ content.now) }
 {
     match content {
@@ -65,13 +75,32 @@ pub(crate) fn copied(alloc: Global, content: &Option<Bytes>) -> Result<Option<By
     }
 }
 
-/// An equal node.
-pub(crate) fn copied_node(alloc: Global, node: &Node) -> Result<Node, AllocError>
-    ensures { IfOk result (λ n. n ≡ node.now) }
+impl Copied for Node {
+    fn copied(&self, alloc: Global) -> Result<Node, AllocError> {
+        Ok(match self {
+            Node::File(exec, content) => Node::File(*exec, copied_content(alloc, content)?),
+            Node::Link(target) => Node::Link(copied_content(alloc, target)?),
+            Node::Dir(listed) => Node::Dir(*listed),
+        })
+    }
+}
+
+impl Copied for u64 {
+    fn copied(&self, _alloc: Global) -> Result<u64, AllocError> {
+        Ok(*self)
+    }
+}
+
+/// Equal rows.
+pub(crate) fn copied_rows<V: Copied>(
+    alloc: Global,
+    rows: &[(Place, V)],
+) -> Result<Vec<(Place, V)>, AllocError>
+    ensures { IfOk result (λ all. all.items ≡ rows.now) }
 {
-    Ok(match node {
-        Node::File(exec, content) => Node::File(*exec, copied(alloc, content)?),
-        Node::Link(target) => Node::Link(copied(alloc, target)?),
-        Node::Dir(listed) => Node::Dir(*listed),
-    })
+    let mut all = Vec::with_capacity(alloc, rows.len())?;
+    for (path, value) in rows {
+        all.push((joined(alloc, path.as_slice(), &[])?, value.copied(alloc)?))?;
+    }
+    Ok(all)
 }

@@ -6,7 +6,7 @@ ghost use Rattle.eden_oracle.specs.Rows.{tree_of};
 ghost use Rattle.eden_oracle.specs.Walks.{walk_of, reach_of};
 ghost use Rattle.eden_model.specs.Trees.{walk, reach, through, Passes};
 
-use crate::place::Row;
+use crate::place::{Place, Row};
 use eden_model::{Errno, Name, Node};
 
 /// How a walk over the proper fronts of a path ends.
@@ -26,12 +26,12 @@ pub enum Met<'a> {
 }
 
 /// The first row at that path.
-pub(crate) fn find<'a>(rows: &'a [Row], path: &[Name]) -> Option<&'a Node>
+pub(crate) fn find<'a, V>(rows: &'a [(Place, V)], path: &[Name]) -> Option<&'a V>
     ensures { option_copied result ≡ lookup (path_eq path.now) rows.now }
 {
-    for (row, node) in rows {
+    for (row, value) in rows {
         if path == row.as_slice() {
-            return Some(node);
+            return Some(value);
         }
     }
     None

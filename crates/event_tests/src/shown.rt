@@ -6,7 +6,7 @@ use eden_checkout::Opening;
 use eden_model::{Cause, Reply, Request};
 use eden_mount::Turned;
 use std::process::Abort;
-use test_random::{all_looks, is_same, is_seen};
+use test_random::{all_looks, is_seen};
 
 /// The most turns of one request.
 const TRIES: u32 = 1_000;
@@ -45,22 +45,17 @@ pub(crate) fn answer(
     None.expect(rt, "a reply")
 }
 
-/// A reply is the oracle's, which goes on by it.
+/// The oracle allows a reply, and goes on by it.
 pub(crate) fn follow(rt: &impl Abort, ground: &mut Ground, request: &Request, reply: &Reply) {
-    let step = ground.tree.step(ground.alloc, request);
-    let want = step.expect(rt, "memory").expect(rt, "a reply");
-    assert!(rt;
-        is_same(reply, &want),
-        "{request:?}: {reply:?}, not {want:?}"
-    );
+    let allows = ground.tree.allows(ground.alloc, request, reply);
+    assert!(rt; allows.expect(rt, "memory"), "{request:?}: {reply:?}");
 }
 
-/// Whether a look is answered as by the oracle.
+/// Whether a look is answered as the oracle allows.
 fn agree(rt: &impl Abort, ground: &mut Ground, mount: &mut Mounted, look: &Request) -> bool {
     let copy = look.copy(ground.alloc).expect(rt, "memory");
     let reply = answer(rt, ground, mount, copy);
-    let want = ground.tree.step(ground.alloc, look).expect(rt, "memory");
-    is_seen(&reply, &want)
+    is_seen(ground.alloc, &mut ground.tree, look, &reply).expect(rt, "memory")
 }
 
 /// A mount over files whose device works, opened so.

@@ -19,7 +19,7 @@ const WRITTEN: Row = Row {
         Step::Need(TEST, Ask::Write(12, b"!"), VERSION_1),
         Step::Ask(TEST, Ask::Write(12, b"!"), Want::Count(1)),
         Step::Ask(TEST, Ask::Read(0, 100), Want::Data(b"version 1\n\0\0!")),
-        Step::Ask(TEST, Ask::Stat, Want::Stat(Kind::File, 13)),
+        Step::Ask(TEST, Ask::Stat, Want::Stat(Kind::File, 13, 2)),
     ],
     files: &[(1, 87), (2, 77)],
 };
@@ -161,7 +161,7 @@ const COMES: Row = Row {
         Step::Ask(D, Ask::Mkdir, Want::Err(Errno::EEXIST)),
         Step::Ask(D_F, Ask::Create, Want::Ok),
         Step::Ask(D_F, Ask::Create, Want::Err(Errno::EEXIST)),
-        Step::Ask(D_F, Ask::Stat, Want::Stat(Kind::File, 0)),
+        Step::Ask(D_F, Ask::Stat, Want::Stat(Kind::File, 0, 4)),
         Step::Ask(LINK, Ask::Symlink(b"a/b"), Want::Ok),
         Step::Ask(LINK, Ask::ReadLink, Want::Data(b"a/b")),
         Step::Ask(LINK, Ask::Write(0, b"x"), Want::Err(Errno::EINVAL)),
@@ -208,7 +208,7 @@ const FAILED: Row = Row {
         Step::Ask(D, Ask::Kind, Want::Err(Errno::ENOENT)),
         Step::Pass(u64::MAX),
         Step::Ask(TEST, Ask::Truncate(0), Want::Ok),
-        Step::Ask(TEST, Ask::Stat, Want::Stat(Kind::File, 0)),
+        Step::Ask(TEST, Ask::Stat, Want::Stat(Kind::File, 0, 2)),
     ],
     files: &[(1, 87), (2, 64)],
 };

@@ -22,7 +22,7 @@ const IN_PAGES: Row = Row {
         Step::Pass(1),
         Step::Ask(A, Ask::Read(0, 7), Want::Data(b"content")),
         Step::Ask(A, Ask::Read(7, 7), Want::Data(b" of a")),
-        Step::Ask(A, Ask::Stat, Want::Stat(Kind::File, 12)),
+        Step::Ask(A, Ask::Stat, Want::Stat(Kind::File, 12, 3)),
         Step::Ask(B, Ask::Read(0, 9), Want::Fault(Fault::Overlay)),
         Step::Ask(A, Ask::Read(0, 7), Want::Fault(Fault::Overlay)),
     ],
@@ -67,7 +67,7 @@ const UNLOADED_BETWEEN: Row = Row {
         Step::Unload(1),
         Step::Pass(1),
         Step::Ask(A, Ask::Read(0, 9), Want::Data(b"content")),
-        Step::Ask(A, Ask::Stat, Want::Stat(Kind::File, 7)),
+        Step::Ask(A, Ask::Stat, Want::Stat(Kind::File, 7, 3)),
     ],
     files: &[(1, 119), (3, 71)],
 };

@@ -41,9 +41,9 @@ const MEASURED: Row = Row {
     steps: &[
         Step::Need(NEW, Ask::Stat, TWO_FILES),
         Step::Need(NEW, Ask::Stat, NEW_FILE),
-        Step::Ask(NEW, Ask::Stat, Want::Stat(Kind::File, 9)),
-        Step::Ask(BAK, Ask::Stat, Want::Stat(Kind::Dir, 0)),
-        Step::Ask(ROOT, Ask::Stat, Want::Stat(Kind::Dir, 0)),
+        Step::Ask(NEW, Ask::Stat, Want::Stat(Kind::File, 9, 3)),
+        Step::Ask(BAK, Ask::Stat, Want::Stat(Kind::Dir, 0, 2)),
+        Step::Ask(ROOT, Ask::Stat, Want::Stat(Kind::Dir, 0, 1)),
     ],
     files: &[],
 };

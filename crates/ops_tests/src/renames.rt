@@ -80,7 +80,7 @@ const OVER_COMMIT: Row = Row {
         Step::Ask(A, Ask::Create, Want::Ok),
         Step::Ask(A, Ask::Rename(TEST), Want::Ok),
         Step::Ask(A, Ask::Kind, Want::Err(Errno::ENOENT)),
-        Step::Ask(TEST, Ask::Stat, Want::Stat(Kind::File, 0)),
+        Step::Ask(TEST, Ask::Stat, Want::Stat(Kind::File, 0, 3)),
     ],
     files: &[(1, 87), (3, 64)],
 };

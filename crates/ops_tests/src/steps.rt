@@ -45,7 +45,8 @@ pub(crate) enum Ask {
 pub(crate) enum Want {
     Ok,
     Kind(Kind),
-    Stat(Kind, u64),
+    /// A kind, a length and an inode number.
+    Stat(Kind, u64, u64),
     Data(&'static [u8]),
     Count(u64),
     /// These entries, and whether more follow.
@@ -122,14 +123,19 @@ fn are_listed(entries: &Entries, rows: &[(&'static [u8], Kind)]) -> bool {
     entries.len() == rows.len()
 }
 
+fn is_stat(reply: &Reply, kind: Kind, size: u64, number: u64) -> bool {
+    match reply {
+        Reply::Stat(there, length, own) => *there == kind && *length == size && *own == number,
+        _ => false,
+    }
+}
+
 /// Whether a reply is the one that is wanted.
 pub(crate) fn is_wanted(reply: &Reply, want: Want) -> bool {
     match want {
         Want::Ok => matches!(reply, Reply::Ok),
         Want::Kind(kind) => matches!(reply, Reply::Kind(there) if *there == kind),
-        Want::Stat(kind, size) => {
-            matches!(reply, Reply::Stat(there, length) if *there == kind && *length == size)
-        }
+        Want::Stat(kind, size, number) => is_stat(reply, kind, size, number),
         Want::Data(bytes) => matches!(reply, Reply::Data(data) if data.as_slice() == bytes),
         Want::Count(count) => matches!(reply, Reply::Count(there) if *there == count),
         Want::Entries(rows, more) => {

@@ -1,12 +1,12 @@
 //! Random requests on a mount that loses objects, unloads directories and has files that stop, beside the slow oracle.
 
 use crate::mount::{Mount, TRIES};
-use crate::whole::{told, whole};
+use crate::whole::{allows, whole};
 use eden_model::{Reply, Request};
 use eden_oracle::WholeTree;
 use std::alloc::Global;
 use std::process::Abort;
-use test_random::{all_looks, is_same, path_of, request};
+use test_random::{all_looks, path_of, request};
 use test_samples::{ALL_KINDS, random};
 
 /// How often the commit is begun with, and how many requests follow each time.
@@ -33,10 +33,10 @@ struct Pair {
     tree: WholeTree,
 }
 
-/// Whether both reply the same, once the mount has what it needs.
+/// Whether the oracle allows what the mount replies, once it has what it needs.
 fn agree(rt: &impl Abort, pair: &mut Pair, request: &Request) -> bool {
     let reply = pair.mount.answer(rt, request);
-    is_same(&reply, &told(rt, pair.mount.alloc, &mut pair.tree, request))
+    allows(rt, pair.mount.alloc, &mut pair.tree, request, &reply)
 }
 
 /// Whether both show the same everywhere. All calls on the files pass then.
@@ -104,11 +104,11 @@ fn count(tally: &mut Tally, reply: &Reply) {
     }
 }
 
-/// Where the mount replies no fault, the oracle replies the same; and it replies one only where the device has stopped.
+/// Where the mount replies no fault, the oracle allows it; and it replies one only where the device has stopped.
 fn is_right(rt: &impl Abort, pair: &mut Pair, request: &Request, reply: &Reply) -> bool {
     match reply {
         Reply::Fault(_) => pair.mount.calls.get() == 0,
-        _ => is_same(reply, &told(rt, pair.mount.alloc, &mut pair.tree, request)),
+        _ => allows(rt, pair.mount.alloc, &mut pair.tree, request, reply),
     }
 }
 

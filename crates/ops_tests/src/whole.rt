@@ -44,13 +44,13 @@ pub(crate) fn whole(rt: &impl Abort, alloc: Global) -> WholeTree {
     tree.expect(rt, "a tree")
 }
 
-/// What the oracle replies.
-pub(crate) fn told(
+/// Whether the oracle allows a reply, by which it goes on.
+pub(crate) fn allows(
     rt: &impl Abort,
     alloc: Global,
     tree: &mut WholeTree,
     request: &Request,
-) -> Reply {
-    let told = tree.step(alloc, request).expect(rt, "memory");
-    told.expect(rt, "a reply")
+    reply: &Reply,
+) -> bool {
+    tree.allows(alloc, request, reply).expect(rt, "memory")
 }

@@ -18,7 +18,7 @@ fn name(rt: &impl Abort, alloc: Global, text: &str) -> Name {
 }
 
 /// The path of that text, as `/bak/test.txt`.
-fn path(rt: &impl Abort, alloc: Global, text: &str) -> Path {
+pub(crate) fn path(rt: &impl Abort, alloc: Global, text: &str) -> Path {
     let mut names = Vec::new(alloc);
     for part in text.split('/') {
         if !part.is_empty() {
@@ -29,7 +29,7 @@ fn path(rt: &impl Abort, alloc: Global, text: &str) -> Path {
 }
 
 /// A row as the tests write it: its path, its kind, and its content; none where that is lost or unlisted.
-type Row = (&'static str, Kind, Option<&'static str>);
+pub(crate) type Row = (&'static str, Kind, Option<&'static str>);
 
 fn node(rt: &impl Abort, alloc: Global, kind: Kind, text: Option<&str>) -> Node {
     let content = match text {
@@ -44,7 +44,7 @@ fn node(rt: &impl Abort, alloc: Global, kind: Kind, text: Option<&str>) -> Node 
     }
 }
 
-fn whole(rt: &impl Abort, alloc: Global, rows: &[Row]) -> WholeTree {
+pub(crate) fn whole(rt: &impl Abort, alloc: Global, rows: &[Row]) -> WholeTree {
     let mut all = Vec::new(alloc);
     for (at, kind, text) in rows {
         let row = (path(rt, alloc, at), node(rt, alloc, *kind, *text));
@@ -106,7 +106,8 @@ enum Say {
     Nothing,
     Ok,
     Kind(Kind),
-    Stat(Kind, u64),
+    /// A kind, a length and an inode number.
+    Stat(Kind, u64, u64),
     Data(&'static str),
     Count(u64),
     /// All the entries behind the name.
@@ -150,7 +151,9 @@ fn is_plain(reply: &Reply, want: Say) -> bool {
     match (reply, want) {
         (Reply::Ok, Say::Ok) => true,
         (Reply::Kind(kind), Say::Kind(other)) => *kind == other,
-        (Reply::Stat(kind, size), Say::Stat(other, length)) => *kind == other && *size == length,
+        (Reply::Stat(kind, size, number), Say::Stat(other, length, own)) => {
+            *kind == other && *size == length && *number == own
+        }
         (Reply::Count(count), Say::Count(other)) => *count == other,
         (Reply::Err(errno), Say::Err(other)) => *errno == other,
         _ => false,
@@ -230,7 +233,7 @@ fn answers(rt: &impl Abort, alloc: Global, rows: &[Row], lines: &[Line]) {
 }
 
 /// The root, and `test.txt` in it.
-static ONE_FILE: [Row; 2] = [
+pub(crate) static ONE_FILE: [Row; 2] = [
     ("/", Kind::Dir, Some("")),
     ("/test.txt", Kind::File, Some("version 1\n")),
 ];
@@ -255,7 +258,7 @@ static READ_AND_WRITTEN: [Line; 23] = [
     ("/test.txt", Ask::Truncate(10), Say::Ok),
     ("/test.txt", Ask::Read(7, 9), Say::Data(" 1\0")),
     ("/test.txt", Ask::SetExec(true), Say::Ok),
-    ("/test.txt", Ask::Stat, Say::Stat(Kind::Exec, 10)),
+    ("/test.txt", Ask::Stat, Say::Stat(Kind::Exec, 10, 2)),
     ("/test.txt", Ask::Write(5, ""), Say::Count(0)),
     ("/test.txt", Ask::Write(1_073_741_824, ""), Say::Count(0)),
     (
@@ -334,7 +337,7 @@ const ADDED: &[Line] = &[
     ("/test.txt/d", Ask::Mkdir, Say::Err(Errno::ENOTDIR)),
     ("/l", Ask::Symlink("test.txt"), Say::Ok),
     ("/l", Ask::ReadLink, Say::Data("test.txt")),
-    ("/l", Ask::Stat, Say::Stat(Kind::Link, 8)),
+    ("/l", Ask::Stat, Say::Stat(Kind::Link, 8, 2)),
     ("/test.txt", Ask::ReadLink, Say::Err(Errno::EINVAL)),
     ("/l", Ask::Write(0, "x"), Say::Err(Errno::EINVAL)),
     ("/m", Ask::Symlink(""), Say::Err(Errno::ENOENT)),
@@ -401,8 +404,8 @@ const LISTED: &[Line] = &[
     ("/", Ask::List(0), Say::Err(Errno::EINVAL)),
     ("/", Ask::List(1001), Say::Err(Errno::EINVAL)),
     ("/new.txt", Ask::List(1), Say::Err(Errno::ENOTDIR)),
-    ("/bak", Ask::Stat, Say::Stat(Kind::Dir, 0)),
-    ("/new.txt", Ask::Stat, Say::Stat(Kind::File, 9)),
+    ("/bak", Ask::Stat, Say::Stat(Kind::Dir, 0, 2)),
+    ("/new.txt", Ask::Stat, Say::Stat(Kind::File, 9, 3)),
     ("/bak", Ask::Rename("/old"), Say::Ok),
     ("/bak/test.txt", Ask::Read(0, 9), Say::Err(Errno::ENOENT)),
     ("/old/test.txt", Ask::Read(0, 9), Say::Data("version 1")),
@@ -456,7 +459,7 @@ const LOST: &[Line] = &[
     ("/lost", Ask::Rename("/new/l"), Say::Ok),
     ("/new/l", Ask::Stat, Say::Nothing),
     ("/new/l", Ask::Truncate(0), Say::Ok),
-    ("/new/l", Ask::Stat, Say::Stat(Kind::File, 0)),
+    ("/new/l", Ask::Stat, Say::Stat(Kind::File, 0, 2)),
     ("/dir", Ask::Rename("/new/d"), Say::Ok),
     ("/new/d/x", Ask::Kind, Say::Nothing),
 ];

@@ -101,8 +101,9 @@ pub(crate) fn check_reopened(
     let again = mount(rt, alloc, files, commit.root(), ONE);
     let mut caller = Local::new(alloc, again, Objects { commit });
     for look in all_looks(alloc, tree).expect(rt, "memory") {
-        let want = tree.step(alloc, &look).expect(rt, "memory");
-        assert!(rt; caller.serve(look).is_ok());
-        assert!(rt; is_seen(caller.reply(), &want));
+        let copy = look.copy(alloc).expect(rt, "memory");
+        assert!(rt; caller.serve(copy).is_ok());
+        let is_seen = is_seen(alloc, tree, &look, caller.reply());
+        assert!(rt; is_seen.expect(rt, "memory"));
     }
 }

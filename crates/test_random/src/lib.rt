@@ -14,6 +14,6 @@ mod whole;
 pub use commit::Commit;
 pub use looks::{all_looks, kind_at};
 pub use names::{Places, bytes, name, name_at, path, path_of};
-pub use replies::{is_same, is_seen, replays};
+pub use replies::{is_seen, replays};
 pub use requests::{request, some_look};
 pub use unmade::Unmade;

@@ -1,5 +1,4 @@
 use Rattle.std.proofs.Common.{take}
-use Rattle.eden_model.specs.Trees.{Name}
 use Rattle.eden_oracle.proofs.Listings.{NoChildren}
 use Rattle.eden_oracle.proofs.remove.is_empty.Given as goal
 

@@ -1,16 +1,25 @@
-use Rattle.std.proofs.Common.{subst, sym, ◌∙◌, List, Some}
+use Rattle.std.proofs.Common.{◌≡◌, ap, subst, sym, ◌∙◌, List, Option, Some}
 use Rattle.eden_model.specs.declared.node.Node.{Node}
+use Rattle.eden_model.specs.declared.reply.Reply.{Reply}
+use Rattle.eden_model.specs.Numbers.{AllowsStat, stat_number}
+use Rattle.eden_model.specs.Trees.{Path}
+use Rattle.eden_oracle.specs.declared.change.Change.{Change}
 use Rattle.eden_oracle.specs.Changes.{Answers}
+use Rattle.eden_oracle.specs.Numbers.{numbers_of}
 use Rattle.eden_oracle.specs.Rows.{tree_of}
-use Rattle.eden_model.specs.Trees.{Path, IsTree}
-use Rattle.eden_model.proofs.CallerLemmas.{after_is_tree}
+use Rattle.eden_oracle.specs.Tables.{Table}
+use Rattle.eden_oracle.proofs.Told.{may_go}
 use Rattle.eden_oracle.proofs.tree.WholeTree.step.Goals as goal
 
-pub invariant_of-self-in-Some : goal.invariant_of-self-in-Some
-invariant_of-self-in-Some c =
+pub go_on-requires-clause-may : goal.go_on-requires-clause-may
+go_on-requires-clause-may c =
     let q = c.args.request.now in
-    let a = Some (c.in-Some.reply, c.in-Some.change) in
-    let told : Answers (tree_of c.self.inside.rows.items) q a =
-    subst (λ (rows : List (Path × Node)). Answers (tree_of rows) q a) c.as_slice.ensures.value
+    let a : Option (Reply × Change) = Some (c.in-Some.reply, c.in-Some.change) in
+    let rows : c.self.inside.rows.items ≡ c.args.self.now.rows = ap (λ (t : Table). t.rows) c.self.view_is in
+    let told : Answers (tree_of c.args.self.now.rows) q a =
+    subst (λ (x : List (Path × Node)). Answers (tree_of x) q a) (c.as_slice.ensures.value ∙ rows)
     (subst (Answers (tree_of c.as_slice.result.now) q) c.in-Some.is c.in_ok-answer.ensures) in
-    subst IsTree (sym (c.in_ok-make-in-Some.ensures.ok ∙ told.1)) (after_is_tree (tree_of c.self.inside.rows.items) q c.in-Some.reply c.self.invariant told.0)
+    let filled = c.in-Some-fill.ensures in
+    let number : AllowsStat (numbers_of c.args.self.now.numbers) (stat_number q c.in-Some-fill.reply) =
+    subst (λ (t : Table). AllowsStat (numbers_of t.numbers) (stat_number q c.in-Some-fill.reply)) c.self.view_is filled.1 in
+    ((may_go (tree_of c.args.self.now.rows) q c.in-Some.reply c.in-Some.change told c.in-Some-fill.reply (sym filled.0)).0, number)
