@@ -5,7 +5,7 @@ use Rattle.std.specs.declared.io.Read.{Ghosts as Read}
 use Rattle.std.specs.declared.io.Write.{Ghosts as Write}
 use Rattle.eden_model.specs.declared.world.World.{Ghosts}
 use Rattle.eden_model.specs.Histories.{replay}
-use Rattle.eden_model.specs.Numbers.{Numbers, replay_numbers}
+use Rattle.eden_model.specs.Numbers.{replay_numbers}
 use Rattle.eden_overlay.specs.declared.files.Files.{Ghosts as Files}
 use Rattle.eden_overlay.specs.declared.files.FilesFault.{FilesFault}
 use Rattle.eden_mount.specs.Settings.{Room, Settings, room_for}
