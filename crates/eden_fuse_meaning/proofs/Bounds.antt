@@ -35,7 +35,7 @@ within_if n false s t h k = k
 within_refused : (n : ℕ) (r : Reply) → Within n (refused r)
 within_refused n say.Ok = omega arith
 within_refused n (say.Kind k) = omega arith
-within_refused n (say.Stat k m) = omega arith
+within_refused n (say.Stat k m i) = omega arith
 within_refused n (say.Data d) = omega arith
 within_refused n (say.Count m) = omega arith
 within_refused n (say.Entries es more) = omega arith
@@ -45,17 +45,17 @@ within_refused n (say.Fault f) = omega arith
 within_ok : (n : ℕ) (s : Step) (r : Reply) → Within n s → Within n (on_ok s r)
 within_ok n s say.Ok h = h
 within_ok n s (say.Kind k) h = omega arith
-within_ok n s (say.Stat k m) h = omega arith
+within_ok n s (say.Stat k m i) h = omega arith
 within_ok n s (say.Data d) h = omega arith
 within_ok n s (say.Count m) h = omega arith
 within_ok n s (say.Entries es more) h = omega arith
 within_ok n s (say.Err e) h = omega arith
 within_ok n s (say.Fault f) h = omega arith
 
-within_stat : (n : ℕ) (f : Kind → ℕ → Step) (r : Reply) → ((k : Kind) (m : ℕ) → Within n (f k m)) → Within n (on_stat f r)
+within_stat : (n : ℕ) (f : Kind → ℕ → ℕ → Step) (r : Reply) → ((k : Kind) (m i : ℕ) → Within n (f k m i)) → Within n (on_stat f r)
 within_stat n f say.Ok h = omega arith
 within_stat n f (say.Kind k) h = omega arith
-within_stat n f (say.Stat k m) h = h k m
+within_stat n f (say.Stat k m i) h = h k m i
 within_stat n f (say.Data d) h = omega arith
 within_stat n f (say.Count m) h = omega arith
 within_stat n f (say.Entries es more) h = omega arith
@@ -65,7 +65,7 @@ within_stat n f (say.Fault g) h = omega arith
 within_kind : (n : ℕ) (f : Kind → Step) (r : Reply) → ((k : Kind) → Within n (f k)) → Within n (on_kind f r)
 within_kind n f say.Ok h = omega arith
 within_kind n f (say.Kind k) h = h k
-within_kind n f (say.Stat k m) h = omega arith
+within_kind n f (say.Stat k m i) h = omega arith
 within_kind n f (say.Data d) h = omega arith
 within_kind n f (say.Count m) h = omega arith
 within_kind n f (say.Entries es more) h = omega arith
@@ -75,7 +75,7 @@ within_kind n f (say.Fault g) h = omega arith
 within_or : (n : ℕ) (e : Errno) (s : Step) (f : Reply → Step) (r : Reply) → Within n s → Within n (f r) → Within n (or_if e s f r)
 within_or n e s f say.Ok h k = k
 within_or n e s f (say.Kind kind) h k = k
-within_or n e s f (say.Stat kind m) h k = k
+within_or n e s f (say.Stat kind m i) h k = k
 within_or n e s f (say.Data d) h k = k
 within_or n e s f (say.Count m) h k = k
 within_or n e s f (say.Entries es more) h k = k
@@ -85,7 +85,7 @@ within_or n e s f (say.Fault g) h k = k
 within_give : (r : Reply) → Within 0 (give r)
 within_give say.Ok = omega arith
 within_give (say.Kind k) = omega arith
-within_give (say.Stat k m) = omega arith
+within_give (say.Stat k m i) = omega arith
 within_give (say.Data d) = omega arith
 within_give (say.Count m) = omega arith
 within_give (say.Entries es more) = omega arith
@@ -95,7 +95,7 @@ within_give (say.Fault f) = omega arith
 within_count : (r : Reply) → Within 0 (count r)
 within_count say.Ok = omega arith
 within_count (say.Kind k) = omega arith
-within_count (say.Stat k m) = omega arith
+within_count (say.Stat k m i) = omega arith
 within_count (say.Data d) = omega arith
 within_count (say.Count m) = omega arith
 within_count (say.Entries es more) = omega arith
@@ -105,18 +105,18 @@ within_count (say.Fault f) = omega arith
 within_rows : (r : Reply) → Within 0 (rows r)
 within_rows say.Ok = omega arith
 within_rows (say.Kind k) = omega arith
-within_rows (say.Stat k m) = omega arith
+within_rows (say.Stat k m i) = omega arith
 within_rows (say.Data d) = omega arith
 within_rows (say.Count m) = omega arith
 within_rows (say.Entries es more) = omega arith
 within_rows (say.Err e) = omega arith
 within_rows (say.Fault f) = omega arith
 
-within_made : (k : Kind) (n : ℕ) → Within 0 (open_made k n)
-within_made kinds.File n = omega arith
-within_made kinds.Exec n = omega arith
-within_made kinds.Link n = omega arith
-within_made kinds.Dir n = omega arith
+within_made : (k : Kind) (n i : ℕ) → Within 0 (open_made k n i)
+within_made kinds.File n i = omega arith
+within_made kinds.Exec n i = omega arith
+within_made kinds.Link n i = omega arith
+within_made kinds.Dir n i = omega arith
 
 within_file : (k : Kind) → Within 0 (open_file k)
 within_file kinds.File = omega arith
@@ -149,9 +149,9 @@ within_exclusive p false = omega arith
 
 pub end_is_near : EndIsNear
 end_is_near after.Look r =
-    within_or 0 errno.ENOENT (Tell Absent) (on_stat (λ k m. Tell (Found k m))) r (omega arith) (within_stat 0 (λ k m. Tell (Found k m)) r (λ k m. omega arith))
-end_is_near after.Show r = within_stat 0 (λ k m. Tell (Attributes k m)) r (λ k m. omega arith)
-end_is_near after.Enter r = within_stat 0 (λ k m. Tell (Found k m)) r (λ k m. omega arith)
+    within_or 0 errno.ENOENT (Tell Absent) (on_stat (λ k m i. Tell (Found k m i))) r (omega arith) (within_stat 0 (λ k m i. Tell (Found k m i)) r (λ k m i. omega arith))
+end_is_near after.Show r = within_stat 0 (λ k m i. Tell (Attributes k m i)) r (λ k m i. omega arith)
+end_is_near after.Enter r = within_stat 0 (λ k m i. Tell (Found k m i)) r (λ k m i. omega arith)
 end_is_near after.Open r = within_stat 0 open_made r within_made
 end_is_near (after.Cut p s) r = within_ok 2 (set_mode p s) r (within_mode p s)
 end_is_near (after.Set p) r = within_ok 1 (show p) r (omega arith)

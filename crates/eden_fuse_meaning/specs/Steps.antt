@@ -157,18 +157,19 @@ open_dir kinds.Dir = Tell Opened
 open_dir k = refuse 20
 
 -- of the file of a name that is to be made and opened
-abbrev pub open_made : Kind → ℕ → Step
-open_made kinds.Link n = refuse 40
-open_made kinds.Dir n = refuse 21
-open_made k n = Tell (Made k n)
+abbrev pub open_made : Kind → ℕ → ℕ → Step
+open_made kinds.Link n i = refuse 40
+open_made kinds.Dir n i = refuse 21
+open_made k n i = Tell (Made k n i)
 
 -- a reply that such a request has, or a refusal
 abbrev pub on_ok : Step → Reply → Step
 on_ok step say.Ok = step
 on_ok step r = refused r
 
-abbrev pub on_stat : (Kind → ℕ → Step) → Reply → Step
-on_stat f (say.Stat k n) = f k n
+-- .. a kind, a length and an inode number
+abbrev pub on_stat : (Kind → ℕ → ℕ → Step) → Reply → Step
+on_stat f (say.Stat k n i) = f k n i
 on_stat f r = refused r
 
 abbrev pub on_kind : (Kind → Step) → Reply → Step
@@ -198,9 +199,9 @@ mark p exec marked seen = if exec then Ask (ask.SetExec p true) marked else Ask 
 
 -- EEXIST is 17
 abbrev pub next : Then → Reply → Step
-next after.Look r = or_if errno.ENOENT (Tell Absent) (on_stat (λ k n. Tell (Found k n))) r
-next after.Show r = on_stat (λ k n. Tell (Attributes k n)) r
-next after.Enter r = on_stat (λ k n. Tell (Found k n)) r
+next after.Look r = or_if errno.ENOENT (Tell Absent) (on_stat (λ k n i. Tell (Found k n i))) r
+next after.Show r = on_stat (λ k n i. Tell (Attributes k n i)) r
+next after.Enter r = on_stat (λ k n i. Tell (Found k n i)) r
 next after.Open r = on_stat open_made r
 next (after.Cut p s) r = on_ok (set_mode p s) r
 next (after.Set p) r = on_ok (show p) r

@@ -51,29 +51,29 @@ fn refused(reply: &Reply) -> Step
 }
 
 fn look(reply: &Reply) -> Step
-    ensures { result ≡ or_if errno.ENOENT (Tell Absent) (on_stat (λ k n. Tell (Found k n))) reply.now }
+    ensures { result ≡ or_if errno.ENOENT (Tell Absent) (on_stat (λ k n i. Tell (Found k n i))) reply.now }
 {
     match reply {
-        Reply::Stat(kind, size) => Step::Tell(Outcome::Found(*kind, *size)),
+        Reply::Stat(kind, size, inode) => Step::Tell(Outcome::Found(*kind, *size, *inode)),
         Reply::Err(Errno::ENOENT) => Step::Tell(Outcome::Absent),
         _ => refused(reply),
     }
 }
 
 fn show(reply: &Reply) -> Step
-    ensures { result ≡ on_stat (λ k n. Tell (Attributes k n)) reply.now }
+    ensures { result ≡ on_stat (λ k n i. Tell (Attributes k n i)) reply.now }
 {
     match reply {
-        Reply::Stat(kind, size) => Step::Tell(Outcome::Attributes(*kind, *size)),
+        Reply::Stat(kind, size, inode) => Step::Tell(Outcome::Attributes(*kind, *size, *inode)),
         _ => refused(reply),
     }
 }
 
 fn enter(reply: &Reply) -> Step
-    ensures { result ≡ on_stat (λ k n. Tell (Found k n)) reply.now }
+    ensures { result ≡ on_stat (λ k n i. Tell (Found k n i)) reply.now }
 {
     match reply {
-        Reply::Stat(kind, size) => Step::Tell(Outcome::Found(*kind, *size)),
+        Reply::Stat(kind, size, inode) => Step::Tell(Outcome::Found(*kind, *size, *inode)),
         _ => refused(reply),
     }
 }
@@ -82,9 +82,9 @@ fn open_made(reply: &Reply) -> Step
     ensures { result ≡ on_stat open_made reply.now }
 {
     match reply {
-        Reply::Stat(Kind::Link, _) => refuse(ELOOP),
-        Reply::Stat(Kind::Dir, _) => refuse(EISDIR),
-        Reply::Stat(kind, size) => Step::Tell(Outcome::Made(*kind, *size)),
+        Reply::Stat(Kind::Link, _, _) => refuse(ELOOP),
+        Reply::Stat(Kind::Dir, _, _) => refuse(EISDIR),
+        Reply::Stat(kind, size, inode) => Step::Tell(Outcome::Made(*kind, *size, *inode)),
         _ => refused(reply),
     }
 }

@@ -20,14 +20,14 @@ pub enum Outcome {
     Done,
     /// There is no node of that name.
     Absent,
-    /// The node of that name: its kind and its length.
-    Found(Kind, u64),
-    /// The node's own kind and its length.
-    Attributes(Kind, u64),
+    /// The node of that name: its kind, its length, and its inode number.
+    Found(Kind, u64, u64),
+    /// The node's own kind, its length, and its inode number.
+    Attributes(Kind, u64, u64),
     /// A file or a directory may be opened.
     Opened,
-    /// The file of that name, which may be opened: its kind and its length.
-    Made(Kind, u64),
+    /// The file of that name, which may be opened: its kind, its length, and its inode number.
+    Made(Kind, u64, u64),
     /// The target of a link, or bytes of a file.
     Bytes(Bytes),
     /// So many bytes were written.

@@ -167,8 +167,16 @@ impl Nodes {
         }
     }
 
-    // Where a node stands.
-    fn place_of(&self, id: u64) -> Option<&Place>
+    /// The node that stands at the place, if one does.
+    pub fn at(&self, place: &Place) -> Option<u64>
+        ensures { MatchOption result (IsBare self.now place.now) (λ id. StandsAlone self.now id place.now) }
+    {
+        let _ = &self.nodes;
+        self.places.get(place).copied()
+    }
+
+    /// Where a node stands, if it does.
+    pub fn place_of(&self, id: u64) -> Option<&Place>
         ensures { option_map (λ p. p.now) result ≡ place_of self.now id }
     {
         let known = self.nodes.get(&id)?;

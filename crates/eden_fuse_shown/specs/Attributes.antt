@@ -25,9 +25,10 @@ mode_of kinds.Dir = 16877
 abbrev pub blocks_of : ℕ → ℕ
 blocks_of size = size / 512 + (if size % 512 == 0 then 0 else 1)
 
+-- an inode's attributes, by the number that the mount tells of it
 abbrev pub attr_of : Owner → ℕ → Moments → Kind → ℕ → Attr
-attr_of owner node at kind size = record {
-  ino = node;
+attr_of owner inode at kind size = record {
+  ino = inode;
   size = size;
   blocks = blocks_of size;
   atime = at.content;
@@ -40,12 +41,13 @@ attr_of owner node at kind size = record {
   blksize = 65536;
 }
 
-abbrev pub entry_of : Manner → ℕ → Moments → Kind → ℕ → EntryOut
-entry_of m node at kind size =
-    record { nodeid = node; entry_valid = m.keep; attr_valid = m.keep; attr = attr_of m.owner node at kind size }
+-- .. of a node, whose own number the kernel asks by
+abbrev pub entry_of : Manner → ℕ → ℕ → Moments → Kind → ℕ → EntryOut
+entry_of m node inode at kind size =
+    record { nodeid = node; entry_valid = m.keep; attr_valid = m.keep; attr = attr_of m.owner inode at kind size }
 
 abbrev pub attributes_of : Manner → ℕ → Moments → Kind → ℕ → AttrOut
-attributes_of m node at kind size = record { attr_valid = m.keep; attr = attr_of m.owner node at kind size }
+attributes_of m inode at kind size = record { attr_valid = m.keep; attr = attr_of m.owner inode at kind size }
 
 -- an open file has no handle of its own; the kernel may keep its content (FOPEN_KEEP_CACHE, 2)
 abbrev pub open_file : OpenOut

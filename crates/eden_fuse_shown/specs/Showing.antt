@@ -133,13 +133,13 @@ module _ (m : Manner) (node : ℕ) (a : Asked) (last : Option Name) (nodes nodes
   Concludes (Ok (outcome.Refused errno)) t = Stay × (t ≡ refuse errno)
   Concludes (Ok outcome.Done) t = Changes node a nodes nodes' × Shuts a pages pages' × (t ≡ say answer.Done)
   Concludes (Ok outcome.Absent) t = Stay × (t ≡ say (answer.NoEntry m.keep))
-  Concludes (Ok (outcome.Found kind size)) t =
-      Enters (named node a) (λ id at. answer.Entry (entry_of m id at kind size)) nodes nodes' t × IsSamePages pages pages'
-  Concludes (Ok (outcome.Attributes kind size)) t =
-      Stay × ((at : Moments) × (t ≡ say (answer.Attributes (attributes_of m node at kind size))))
+  Concludes (Ok (outcome.Found kind size inode)) t =
+      Enters (named node a) (λ id at. answer.Entry (entry_of m id inode at kind size)) nodes nodes' t × IsSamePages pages pages'
+  Concludes (Ok (outcome.Attributes kind size inode)) t =
+      Stay × ((at : Moments) × (t ≡ say (answer.Attributes (attributes_of m inode at kind size))))
   Concludes (Ok outcome.Opened) t = IsSameNodes nodes nodes' × IsOpened a pages pages' t
-  Concludes (Ok (outcome.Made kind size)) t =
-      Enters (named node a) (λ id at. answer.Created (entry_of m id at kind size) open_file) nodes nodes' t × IsSamePages pages pages'
+  Concludes (Ok (outcome.Made kind size inode)) t =
+      Enters (named node a) (λ id at. answer.Created (entry_of m id inode at kind size) open_file) nodes nodes' t × IsSamePages pages pages'
   Concludes (Ok (outcome.Bytes bytes)) t = Stay × (t ≡ give bytes)
   Concludes (Ok (outcome.Written n)) t = Stay × (t ≡ count n)
   Concludes (Ok (outcome.Rows rows more)) t = IsSameNodes nodes nodes' × IsListed a last rows pages pages' t

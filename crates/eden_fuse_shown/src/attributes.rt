@@ -44,11 +44,11 @@ fn blocks_of(size: u64) -> u64
     }
 }
 
-fn attr_of(owner: Owner, node: u64, at: Moments, kind: Kind, size: u64) -> Attr
-    ensures { result ≡ attr_of owner node at kind size }
+fn attr_of(owner: Owner, inode: u64, at: Moments, kind: Kind, size: u64) -> Attr
+    ensures { result ≡ attr_of owner inode at kind size }
 {
     Attr {
-        ino: node,
+        ino: inode,
         size,
         blocks: blocks_of(size),
         atime: at.content,
@@ -63,30 +63,37 @@ fn attr_of(owner: Owner, node: u64, at: Moments, kind: Kind, size: u64) -> Attr
 }
 
 /// A node that was found.
-pub(crate) fn entry_of(manner: Manner, node: u64, at: Moments, kind: Kind, size: u64) -> EntryOut
-    ensures { result ≡ entry_of manner node at kind size }
+pub(crate) fn entry_of(
+    manner: Manner,
+    node: u64,
+    inode: u64,
+    at: Moments,
+    kind: Kind,
+    size: u64,
+) -> EntryOut
+    ensures { result ≡ entry_of manner node inode at kind size }
 {
     EntryOut {
         nodeid: node,
         entry_valid: manner.keep,
         attr_valid: manner.keep,
-        attr: attr_of(manner.owner, node, at, kind, size),
+        attr: attr_of(manner.owner, inode, at, kind, size),
     }
 }
 
 /// Its attributes.
 pub(crate) fn attributes_of(
     manner: Manner,
-    node: u64,
+    inode: u64,
     at: Moments,
     kind: Kind,
     size: u64,
 ) -> AttrOut
-    ensures { result ≡ attributes_of manner node at kind size }
+    ensures { result ≡ attributes_of manner inode at kind size }
 {
     AttrOut {
         attr_valid: manner.keep,
-        attr: attr_of(manner.owner, node, at, kind, size),
+        attr: attr_of(manner.owner, inode, at, kind, size),
     }
 }
 

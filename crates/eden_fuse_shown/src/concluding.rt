@@ -77,8 +77,9 @@ fn found(
     place: Option<Place>,
     kind: Kind,
     size: u64,
+    inode: u64,
 ) -> Answer<'static>
-    ensures enters { Enters place (λ id at. answer.Entry (entry_of manner id at kind size))
+    ensures enters { Enters place (λ id at. answer.Entry (entry_of manner id inode at kind size))
         nodes.old nodes.new (say result) }
     ensures brief { IsBrief result }
 {
@@ -88,7 +89,7 @@ fn found(
             if let Some(now) = fresh {
                 times.change(id, now);
             }
-            Answer::Entry(entry_of(manner, id, times.of(id), kind, size))
+            Answer::Entry(entry_of(manner, id, inode, times.of(id), kind, size))
         }
     }
 }
@@ -103,8 +104,9 @@ fn made(
     place: Option<Place>,
     kind: Kind,
     size: u64,
+    inode: u64,
 ) -> Answer<'static>
-    ensures enters { Enters place (λ id at. answer.Created (entry_of manner id at kind size) open_file)
+    ensures enters { Enters place (λ id at. answer.Created (entry_of manner id inode at kind size) open_file)
         nodes.old nodes.new (say result) }
     ensures brief { IsBrief result }
 {
@@ -114,7 +116,10 @@ fn made(
             if let Some(now) = fresh {
                 times.change(id, now);
             }
-            Answer::Created(entry_of(manner, id, times.of(id), kind, size), open_file())
+            Answer::Created(
+                entry_of(manner, id, inode, times.of(id), kind, size),
+                open_file(),
+            )
         }
     }
 }
@@ -253,18 +258,18 @@ pub(crate) fn conclude(
             Said::Answers(Answer::Done)
         }
         Ok(Outcome::Absent) => Said::Answers(Answer::NoEntry(manner.keep)),
-        Ok(Outcome::Found(kind, size)) => {
+        Ok(Outcome::Found(kind, size, inode)) => {
             let fresh = fresh(operation, now);
-            Said::Answers(found(alloc, manner, nodes, times, fresh, place, kind, size))
+            Said::Answers(found(alloc, manner, nodes, times, fresh, place, kind, size, inode))
         }
-        Ok(Outcome::Attributes(kind, size)) => {
-            let attributes = attributes_of(manner, node, times.of(node), kind, size);
+        Ok(Outcome::Attributes(kind, size, inode)) => {
+            let attributes = attributes_of(manner, inode, times.of(node), kind, size);
             Said::Answers(Answer::Attributes(attributes))
         }
         Ok(Outcome::Opened) => Said::Answers(open(alloc, pages, operation)),
-        Ok(Outcome::Made(kind, size)) => {
+        Ok(Outcome::Made(kind, size, inode)) => {
             let fresh = fresh(operation, now);
-            Said::Answers(made(alloc, manner, nodes, times, fresh, place, kind, size))
+            Said::Answers(made(alloc, manner, nodes, times, fresh, place, kind, size, inode))
         }
         Ok(Outcome::Bytes(bytes)) => give(bytes, room),
         Ok(Outcome::Written(written)) => Said::Answers(count(written)),

@@ -4,6 +4,7 @@ use Rattle.std.specs.declared.io.Read.{Ghosts as Read}
 use Rattle.std.specs.declared.io.Write.{Ghosts as Write}
 use Rattle.eden_model.specs.declared.world.World.{Ghosts}
 use Rattle.eden_model.specs.Histories.{replay}
+use Rattle.eden_model.specs.Numbers.{Numbers, replay_numbers}
 use Rattle.eden_overlay.specs.declared.files.Files.{Ghosts as Files}
 use Rattle.eden_overlay.specs.declared.files.FilesFault.{FilesFault}
 use Rattle.eden_inode.specs.Tables.{shows}
@@ -15,7 +16,7 @@ use Rattle.eden_checkout.specs.Attempted.{attempted}
 use Rattle.eden_checkout.specs.Checkouts.{Checkout}
 use Rattle.eden_shared.specs.declared.account.Terms.{Terms}
 use Rattle.eden_stdio_life.specs.declared.opening.Base.{Base}
-use Rattle.eden_stdio_life.specs.Opening.{Closes, IsOpened, IsRefused}
+use Rattle.eden_stdio_life.specs.Opening.{Closes, IsBacking, IsOpened, IsRefused}
 use Rattle.eden_host.specs.declared.fault.HostFault.{HostFault}
 use Rattle.eden_host.specs.declared.fault.HostFault.TheVariants as host
 use Rattle.eden_serve_life.specs.declared.fault.SharedLifeFault.{SharedLifeFault}
@@ -36,9 +37,9 @@ abbrev pub opened_with : {F : Type 0} → Settings → ℕ → Checkout F → Te
 opened_with s limit t = record { passes = s.passes; limit = limit; commit = t.root; next = t.inodes.next }
 
 module _ {W F : Type 0} (w : Ghosts W) (f : Files F W) where
-  -- a checkout was closed to the files, or it wasn't, and shows what it showed
+  -- a checkout was closed to the files, or it wasn't, and shows what it showed; they back what it backed of numbers
   abbrev pub ClosesAs : Checkout F → SharedEnding F → Type 0
-  ClosesAs t left = Closes w f t.root t (shows w f t.inodes) left.unclosed left.files
+  ClosesAs t left = (N : Numbers) → IsBacking w f N t → Closes w f t.root t (shows w f t.inodes) N left.unclosed left.files
 
   -- an open checkout was closed, and the first fault told: its guests were hosted, or there was no memory to share it
   abbrev pub Ends : Result (HostedTable (Checkout F)) (Checkout F) → SharedEnding F → Type 0
@@ -51,25 +52,25 @@ module _ {W F : Type 0} (w : Ghosts W) (f : Files F W) where
     pub unclosed : left.unclosed ≡ None
 
   -- The overlay was opened, and closed again, since there was no memory to share it. Where the outside is honest, it shows
-  -- the opening tree still.
+  -- the opening tree still, and backs the opening numbers.
   pub record IsUnshared (base : Base) (settings : Settings) (files : F) (why : OpenFault) (left : SharedEnding F) : Type 0 where
     pub memory : why ≡ opens.Memory
     pub begun : Checkout F
     pub opened : IsOpened w f base settings files begun
-    pub closed : Closes w f base.root begun w.opening left.unclosed left.files
+    pub closed : Closes w f base.root begun w.opening w.numbers left.unclosed left.files
 
   -- the history may become so long
   module _ {I O : Type 0} (i : Read I) (o : Write O) (limit : ℕ) where
     -- The overlay was opened, its guests hosted, and the overlay closed, however the sessions ended. The files are the same
     -- commit's, and no inode number was given again. Where the outside is honest, what they show is the tree after what the
-    -- guests were told.
+    -- guests were told, and where they were closed they back the numbers that were told.
     pub record IsHosted (base : Base) (settings : Settings) (files : F) (left : SharedEnding F) : Type 0 where
       pub begun : Checkout F
       pub opened : IsOpened w f base settings files begun
       pub hosted : Result ⊤ HostFault
       pub ended : Core (Checkout F)
-      pub is : IsLeft (attempted w f) i o w.honest w.opening (opened_with settings limit begun) hosted ended
-      pub closed : Closes w f base.root ended.table (replay w.opening ended.history) left.unclosed left.files
+      pub is : IsLeft (attempted w f) i o w.honest w.opening w.numbers (opened_with settings limit begun) hosted ended
+      pub closed : Closes w f base.root ended.table (replay w.opening ended.history) (replay_numbers w.numbers ended.history) left.unclosed left.files
       pub told : left.outcome ≡ first_told hosted left.unclosed
 
     abbrev pub LivesSharedBy : Result ⊤ SharedLifeFault → Base → Settings → F → SharedEnding F → Type 0

@@ -108,7 +108,8 @@ fn live_tied<
     listener: L,
     unloading: Unloading,
 ) -> SharedEnding<F>
-    requires files { W.honest → MayOpen base.opening W.repository W.opening base.root (F.stored backing.files) }
+    requires files { W.honest → MayOpen base.opening W.repository W.opening W.numbers base.root
+        (F.stored backing.files) }
     requires empty { H.entries history ≡ [] }
     requires ties { AreTied ties.lanes.items ties.ends.items config.now.passes }
     requires names { names_of ties.lanes.items ≡ J.names }
@@ -135,9 +136,10 @@ fn live_tied<
 ///
 /// The clients come in the order in which the listener takes them, each with its own thread and its own session, which
 /// ends where its input does or at a line that is no request. What they were told is one history: the replies of the
-/// commit's whole tree, changed by one request after another. The overlay is closed once the last session has ended,
-/// and after a fault too, with the same commit and the next inode number that was reached; only where the close fails
-/// are the files left without their state.
+/// commit's whole tree, changed by one request after another, with the inode numbers that a `stat` may tell. The
+/// overlay is closed once the last session has ended, and after a fault too, with the same commit and the next inode
+/// number that was reached, and backs the numbers that were told; only where the close fails are the files left without
+/// their state.
 ///
 /// Errors are told in `outcome`, the first in the order opening, listening, session, close. Where the overlay isn't
 /// opened, or there is no memory to share it, nobody is listened for.
@@ -160,7 +162,8 @@ pub fn live_shared<
     listener: L,
     unloading: Unloading,
 ) -> SharedEnding<F>
-    requires files { W.honest → MayOpen base.opening W.repository W.opening base.root (F.stored backing.files) }
+    requires files { W.honest → MayOpen base.opening W.repository W.opening W.numbers base.root
+        (F.stored backing.files) }
     requires empty { H.entries history ≡ [] }
     ensures { LivesShared W.World F.Files I.Read O.Write (H.limit history) base config.now backing.files result }
 {

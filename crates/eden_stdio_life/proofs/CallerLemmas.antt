@@ -3,6 +3,7 @@ use Rattle.std.proofs.Common.{◌≡◌, Option, Some, None, sym, ap, subst, ◌
 use Rattle.eden_model.specs.declared.id.Id.{Id}
 use Rattle.eden_model.specs.declared.world.World.{Ghosts}
 use Rattle.eden_model.specs.Failures.{Rose}
+use Rattle.eden_model.specs.Numbers.{Numbers}
 use Rattle.eden_model.specs.Trees.{Tree}
 use Rattle.eden_overlay.specs.declared.files.Files.{Ghosts as Files}
 use Rattle.eden_overlay.specs.declared.files.FilesFault.{FilesFault}
@@ -10,20 +11,24 @@ use Rattle.eden_overlay.specs.Held.{HoldsState}
 use Rattle.eden_inode.specs.Tables.{shows}
 use Rattle.eden_checkout.specs.Checkouts.{Checkout}
 use Rattle.eden_checkout.specs.Opening.{CanOpen, files_show}
-use Rattle.eden_stdio_life.specs.Opening.{Closes}
+use Rattle.eden_stdio_life.specs.Opening.{Closes, IsBacking}
 
 module _ {W F : Type 0} (w : Ghosts W) (f : Files F W) where
-  -- a close says the same of the tree after the history, which the checkout shows
-  pub closes_after : (root : Id) (t u : Checkout F) (tree : Tree) → t ≡ u → u.root ≡ root → (w.honest → shows w f u.inodes ≡ tree) → (o : Option FilesFault) (files : F)
-      → Closes w f t.root t (shows w f t.inodes) o files → Closes w f root u tree o files
-  closes_after root t u tree is of shown None files c = record {
+  -- what one checkout's numbers back, the same checkout's do
+  pub backs_as : (N : Numbers) (t u : Checkout F) → t ≡ u → IsBacking w f N u → IsBacking w f N t
+  backs_as N t u is backing = subst (λ (v : Checkout F). IsBacking w f N v) (sym is) backing
+
+  -- a close says the same of the tree after the history, which the checkout shows, and of its numbers, which it backs
+  pub closes_after : (root : Id) (t u : Checkout F) (tree : Tree) (N : Numbers) → t ≡ u → u.root ≡ root → (w.honest → shows w f u.inodes ≡ tree) → (o : Option FilesFault) (files : F)
+      → Closes w f t.root t (shows w f t.inodes) N o files → Closes w f root u tree N o files
+  closes_after root t u tree N is of shown None files c = record {
     state = λ h. subst (λ (id : Id). HoldsState (f.stored files) (record { root = id; next = u.inodes.next })) of
         (subst (λ (v : Checkout F). HoldsState (f.stored files) (record { root = v.root; next = v.inodes.next })) is (c.state h));
-    opens = λ h. subst (λ (id : Id). CanOpen w.repository tree id (f.stored files)) of
-        (subst (λ (T : Tree). CanOpen w.repository T u.root (f.stored files)) (shown h)
-        (subst (λ (v : Checkout F). CanOpen w.repository (shows w f v.inodes) v.root (f.stored files)) is (c.opens h)));
+    opens = λ h. subst (λ (id : Id). CanOpen w.repository tree N id (f.stored files)) of
+        (subst (λ (T : Tree). CanOpen w.repository T N u.root (f.stored files)) (shown h)
+        (subst (λ (v : Checkout F). CanOpen w.repository (shows w f v.inodes) N v.root (f.stored files)) is (c.opens h)));
   }
-  closes_after root t u tree is of shown (Some why) files c = record {
+  closes_after root t u tree N is of shown (Some why) files c = record {
     left = c.left;
     over = c.over;
     shown = λ h. c.shown h ∙ ap (λ (v : Checkout F). shows w f v.inodes) is ∙ shown h;

@@ -4,6 +4,7 @@ use Rattle.std.specs.List.{AllByRecursion}
 use Rattle.eden_model.specs.declared.id.Id.{Id}
 use Rattle.eden_model.specs.declared.world.World.{Ghosts}
 use Rattle.eden_model.specs.Histories.{Legal, replay}
+use Rattle.eden_model.specs.Numbers.{Numbers, replay_numbers}
 use Rattle.eden_model.specs.Trees.{Tree}
 use Rattle.eden_source.specs.Fetching.{Answer}
 use Rattle.eden_overlay.specs.declared.files.Files.{Ghosts as Files}
@@ -32,8 +33,9 @@ first_fault (Ok _) None = Ok tt
 
 module _ {W F : Type 0} (w : Ghosts W) (f : Files F W) where
   -- a served caller's checkout was closed, and the first fault told
-  pub record Ends {S : Type 0} (root : Id) (t : Checkout F) (tree : Tree) (source : S) (said : Result ⊤ SessionFault) (left : Ending F S) : Type 0 where
-    pub files : Closes w f root t tree left.unclosed left.backing.files
+  pub record Ends {S : Type 0} (root : Id) (t : Checkout F) (tree : Tree) (N : Numbers) (source : S) (said : Result ⊤ SessionFault)
+      (left : Ending F S) : Type 0 where
+    pub files : Closes w f root t tree N left.unclosed left.backing.files
     pub source_left : left.backing.source ≡ source
     pub told : left.outcome ≡ first_fault said left.unclosed
 
@@ -49,7 +51,8 @@ module _ {W F : Type 0} (w : Ghosts W) (f : Files F W) where
 
     -- The overlay was opened, the caller served, and the overlay closed, however the session ended. A request wasn't taken
     -- for the history's limit or for want of memory alone, and the files are the same commit's. Where the outside is honest,
-    -- the history is one of the opening tree, and what the files show is the tree after it.
+    -- the history is one of the opening tree with its numbers, what the files show is the tree after it, and where they were
+    -- closed they back the numbers that it gave.
     pub record IsLived (base : Base) (settings : Settings) (backing : Backing F S) (input output : Known × Known) (left : Ending F S) : Type 0 where
       pub begun : Desk (Checkout F) S
       pub begins : Begins (room_for settings) limit begun.core.table backing.source begun
@@ -59,8 +62,9 @@ module _ {W F : Type 0} (w : Ghosts W) (f : Files F W) where
       pub session : Session (CallAnswers fetched (attempted w f) w.honest copies) (begun, ended) input output said
       pub told : AllByRecursion (MayBeTold limit) session.given
       pub stays : Stays (attempted w f) begun.core ended.core
-      pub legal : w.honest → Legal w.opening ended.core.history
-      pub ends : Ends base.root ended.core.table (replay w.opening ended.core.history) ended.source said left
+      pub legal : w.honest → Legal w.opening w.numbers ended.core.history
+      pub ends : Ends base.root ended.core.table (replay w.opening ended.core.history) (replay_numbers w.numbers ended.core.history)
+          ended.source said left
 
     abbrev pub LivesBy : Result ⊤ LifeFault → Base → Settings → Backing F S → Known × Known → Known × Known → Ending F S → Type 0
     LivesBy (Err (life.Open why)) base settings backing input output left = IsUnserved base backing input output why left

@@ -2,7 +2,9 @@
 use Rattle.std.specs.Prelude.{◌≡◌, Option, Some, None}
 use Rattle.eden_model.specs.declared.id.Id.{Id}
 use Rattle.eden_model.specs.declared.world.World.{Ghosts}
+use Rattle.eden_model.specs.Backing.{Backs}
 use Rattle.eden_model.specs.Failures.{Rose}
+use Rattle.eden_model.specs.Numbers.{Numbers}
 use Rattle.eden_model.specs.Trees.{Tree}
 use Rattle.eden_cache.specs.Cache.{empty}
 use Rattle.eden_overlay.specs.declared.files.Files.{Ghosts as Files}
@@ -11,7 +13,7 @@ use Rattle.eden_overlay.specs.declared.files.FilesFault.TheVariants as fault
 use Rattle.eden_overlay.specs.Held.{HoldsState}
 use Rattle.eden_overlay.specs.Soundness.{AreSound}
 use Rattle.eden_coupling.specs.Chains.{AreSaved}
-use Rattle.eden_inode.specs.Tables.{shows}
+use Rattle.eden_inode.specs.Tables.{shows, shows_numbers}
 use Rattle.eden_mount.specs.Settings.{Settings}
 use Rattle.eden_checkout.specs.declared.fault.OpenFault.{OpenFault}
 use Rattle.eden_checkout.specs.Checkouts.{Checkout}
@@ -19,13 +21,18 @@ use Rattle.eden_checkout.specs.Opening.{CanOpen, Finds, files_show, IsRefusal}
 use Rattle.eden_stdio_life.specs.declared.opening.Base.{Base}
 
 module _ {W F : Type 0} (w : Ghosts W) (f : Files F W) where
+  -- where the outside is honest, what the checkout shows of inode numbers backs these
+  abbrev pub IsBacking : Numbers → Checkout F → Type 0
+  IsBacking N t = w.honest → Backs N (shows_numbers f t.inodes) t.inodes.next
+
   -- The files were opened so on that commit's tree, with the settings' cache, in which nothing is yet. Where the outside is
-  -- honest the checkout shows the opening tree.
+  -- honest the checkout shows the opening tree, and numbers that back the opening ones.
   pub record IsOpened (base : Base) (settings : Settings) (files : F) (t : Checkout F) : Type 0 where
     pub commit : t.root ≡ base.root
     pub cache : t.cache ≡ empty settings.entries settings.bytes settings.sizes
     pub next : w.honest → Finds base.opening base.root (f.stored files) t.inodes.next
     pub shown : w.honest → shows w f t.inodes ≡ w.opening
+    pub backed : IsBacking w.numbers t
 
   -- the files weren't opened so, for that fault, and are as they were
   pub record IsRefused (base : Base) (files : F) (fault : OpenFault) (left : F) : Type 0 where
@@ -33,10 +40,10 @@ module _ {W F : Type 0} (w : Ghosts W) (f : Files F W) where
     pub unchanged : w.honest → f.stored left ≡ f.stored files
 
   -- A checkout of that commit was closed to the files. Where the outside is honest they hold its state, can be opened again
-  -- on the same commit's tree, and show this tree.
-  pub record IsClosed (root : Id) (t : Checkout F) (tree : Tree) (files : F) : Type 0 where
+  -- on the same commit's tree, show this tree, and back these numbers.
+  pub record IsClosed (root : Id) (t : Checkout F) (tree : Tree) (N : Numbers) (files : F) : Type 0 where
     pub state : w.honest → HoldsState (f.stored files) (record { root = root; next = t.inodes.next })
-    pub opens : w.honest → CanOpen w.repository tree root (f.stored files)
+    pub opens : w.honest → CanOpen w.repository tree N root (f.stored files)
 
   -- The checkout of that commit wasn't closed, for that fault. It is then another, over these files, which shows this tree
   -- still. Where the outside is honest no name in the files dangles, and where no loaded directory is unsaved they show the
@@ -51,7 +58,8 @@ module _ {W F : Type 0} (w : Ghosts W) (f : Files F W) where
     pub sound : w.honest → AreSound (f.stored files)
     pub saved : w.honest → AreSaved left.inodes.root → files_show w.repository root (f.stored files) ≡ tree
 
-  -- the commit's checkout, which shows this tree, was closed to the files, or it wasn't
-  abbrev pub Closes : Id → Checkout F → Tree → Option FilesFault → F → Type 0
-  Closes root t tree None files = IsClosed root t tree files
-  Closes root t tree (Some why) files = StaysOpen root t tree why files
+  -- the commit's checkout, which shows this tree, was closed to the files, or it wasn't; those that were closed back these
+  -- numbers
+  abbrev pub Closes : Id → Checkout F → Tree → Numbers → Option FilesFault → F → Type 0
+  Closes root t tree N None files = IsClosed root t tree N files
+  Closes root t tree N (Some why) files = StaysOpen root t tree why files

@@ -1,8 +1,10 @@
 //! A mount from its opening over its caller's session to its close.
 ghost use Rattle.std.specs.Prelude.{◌≡◌, []};
+ghost use Rattle.eden_model.specs.Numbers as numbers;
 ghost use Rattle.eden_inode.specs.Tables.{shows};
 ghost use Rattle.eden_checkout.specs.Opening.{MayOpen};
 ghost use Rattle.eden_stdio_life.specs.Lives.{Lives, Ends, first_fault};
+ghost use Rattle.eden_stdio_life.specs.Opening.{IsBacking};
 
 use crate::fault::LifeFault;
 use crate::opening::{Base, Closed, close, open};
@@ -56,8 +58,8 @@ fn end<W: World, S: Drop, A: Allocator + Clone, F: Files<W>>(
     alloc: Global,
     served: Served<Checkout<A, W, F>, S>,
 ) -> Ending<F, S>
-    ensures { Ends W.World F.Files served.table.root served.table
-        (shows W.World F.Files served.table.inodes) served.source served.said result }
+    ensures { (N : numbers.Numbers) → IsBacking W.World F.Files N served.table → Ends W.World F.Files served.table.root
+        served.table (shows W.World F.Files served.table.inodes) N served.source served.said result }
 {
     let Served {
         table,
@@ -76,8 +78,9 @@ fn end<W: World, S: Drop, A: Allocator + Clone, F: Files<W>>(
 ///
 /// The session ends where the input does, or at a line that is no request. The overlay is closed after a session's fault
 /// too; only where the close fails are the files left without their state. What was told are the replies of the commit's
-/// whole tree, changed by one request after another, and files that were closed show the tree after them. A request that
-/// isn't taken is told that the history is full at its limit, or that there is no memory.
+/// whole tree, changed by one request after another, with the inode numbers that a `stat` may tell; files that were
+/// closed show the tree after them, and back those numbers. A request that isn't taken is told that the history is full
+/// at its limit, or that there is no memory.
 ///
 /// Errors are told in `outcome`, the first in the order opening, session, close. Where the overlay isn't opened, nothing
 /// is read or written.
@@ -99,7 +102,8 @@ pub fn live<
     reader: &mut R,
     writer: &mut O,
 ) -> Ending<F, S>
-    requires files { W.honest → MayOpen base.opening W.repository W.opening base.root (F.stored backing.files) }
+    requires files { W.honest → MayOpen base.opening W.repository W.opening W.numbers base.root
+        (F.stored backing.files) }
     requires empty { H.entries history ≡ [] }
     ensures { Lives W.World F.Files S.fetched H.copies (H.limit history) base config.now backing
         (R.remaining reader.old, R.remaining reader.new) (O.contents writer.old, O.contents writer.new) result }

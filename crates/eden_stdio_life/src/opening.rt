@@ -1,10 +1,11 @@
 //! A commit's checkout opened over an overlay, with the room of a mount, and closed to it.
 ghost use Rattle.std.specs.Prelude.{◌≡◌, IfOk, IfErr};
 ghost use Rattle.eden_cache.specs.Cache.{empty};
+ghost use Rattle.eden_model.specs.Numbers as numbers;
 ghost use Rattle.eden_inode.specs.Tables.{shows};
 ghost use Rattle.eden_mount.specs.Settings.{room_for};
 ghost use Rattle.eden_checkout.specs.Opening.{MayOpen};
-ghost use Rattle.eden_stdio_life.specs.Opening.{Closes, IsOpened, IsRefused};
+ghost use Rattle.eden_stdio_life.specs.Opening.{Closes, IsBacking, IsOpened, IsRefused};
 
 use eden_cache::ObjectCache;
 use eden_checkout::{Checkout, OpenFault, Opening};
@@ -54,7 +55,7 @@ pub fn open<W: World, A: Allocator + Clone, F: Files<W>>(
     base: Base,
     config: &Config,
 ) -> Result<(Room<A>, Checkout<A, W, F>), (OpenFault, F)>
-    requires files { W.honest → MayOpen base.opening W.repository W.opening base.root (F.stored files) }
+    requires files { W.honest → MayOpen base.opening W.repository W.opening W.numbers base.root (F.stored files) }
     ensures room { IfOk result (λ o. o.0 ≡ room_for config.now) }
     ensures opened { IfOk result (λ o. IsOpened W.World F.Files base config.now files o.1) }
     ensures refused { IfErr result (λ e. IsRefused W.World F.Files base files e.0 e.1) }
@@ -77,12 +78,14 @@ pub struct Closed<F> {
     pub unclosed: Option<FilesFault>,
 }
 
-/// Closes a checkout. Where that fails, the files are left as they stand.
+/// Closes a checkout. Where that fails, the files are left as they stand. Files that were closed back the inode numbers
+/// that the checkout backed.
 pub fn close<W: World, A: Allocator + Clone, F: Files<W>>(
     alloc: Global,
     table: Checkout<A, W, F>,
 ) -> Closed<F>
-    ensures { Closes W.World F.Files table.root table (shows W.World F.Files table.inodes) result.unclosed result.files }
+    ensures { (N : numbers.Numbers) → IsBacking W.World F.Files N table → Closes W.World F.Files table.root table
+        (shows W.World F.Files table.inodes) N result.unclosed result.files }
 {
     match table.close(alloc) {
         Ok(files) => Closed {

@@ -1,5 +1,6 @@
 //! A session of one caller.
 ghost use Rattle.std.specs.Prelude.{◌≡◌, []};
+ghost use Rattle.eden_model.specs.Backing.{Backs};
 ghost use Rattle.eden_wire.specs.Serving.{Session};
 ghost use Rattle.eden_stdio_life.specs.Calls.{CallAnswers};
 ghost use Rattle.eden_stdio_life.specs.Serving.{ServesCaller};
@@ -45,7 +46,8 @@ pub struct Served<T, S> {
     pub said: Result<(), SessionFault>,
 }
 
-/// Serves one caller over a table that shows the opening tree, in a mount of that room, with an empty history.
+/// Serves one caller over a table that shows the opening tree, and numbers that back the opening ones, in a mount of
+/// that room, with an empty history.
 pub fn serve_table<
     W: World,
     S: Source<W> + Drop,
@@ -64,8 +66,9 @@ pub fn serve_table<
     writer: &mut O,
 ) -> Served<T, S>
     requires shown { W.honest → T.table.shown table ≡ W.opening }
+    requires backed { W.honest → Backs W.numbers (T.table.numbers table) (T.table.next table) }
     requires empty { H.entries history ≡ [] }
-    ensures { ServesCaller S.fetched T.table W.honest H.copies (H.limit history) W.opening room table source
+    ensures { ServesCaller S.fetched T.table W.honest H.copies (H.limit history) W.opening W.numbers room table source
         (R.remaining reader.old, R.remaining reader.new) (O.contents writer.old, O.contents writer.new) result }
 {
     let mount: Mount<W, T, A, H> = Mount::new(room, table, history);

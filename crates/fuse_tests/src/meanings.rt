@@ -110,10 +110,12 @@ fn put_node(
     word: &[u8],
     kind: Kind,
     size: u64,
+    inode: u64,
 ) {
     put(rt, text, word);
     put(rt, text, word_of(kind));
     put_number(rt, text, size);
+    put_number(rt, text, inode);
 }
 
 fn put_outcome(rt: &(impl AllocGlobal + Abort), text: &mut Vec<u8>, outcome: &Outcome) {
@@ -125,10 +127,12 @@ fn put_outcome(rt: &(impl AllocGlobal + Abort), text: &mut Vec<u8>, outcome: &Ou
         }
         Outcome::Done => put(rt, text, b"done"),
         Outcome::Absent => put(rt, text, b"absent"),
-        Outcome::Found(kind, size) => put_node(rt, text, b"found", *kind, *size),
-        Outcome::Attributes(kind, size) => put_node(rt, text, b"shown", *kind, *size),
+        Outcome::Found(kind, size, inode) => put_node(rt, text, b"found", *kind, *size, *inode),
+        Outcome::Attributes(kind, size, inode) => put_node(
+            rt, text, b"shown", *kind, *size, *inode,
+        ),
         Outcome::Opened => put(rt, text, b"opened"),
-        Outcome::Made(kind, size) => put_node(rt, text, b"made", *kind, *size),
+        Outcome::Made(kind, size, inode) => put_node(rt, text, b"made", *kind, *size, *inode),
         Outcome::Bytes(bytes) => {
             put(rt, text, b"bytes ");
             put(rt, text, bytes.as_slice());
@@ -177,8 +181,8 @@ fn reply(rt: &(impl AllocGlobal + Abort), request: &Request) -> Reply {
             None => Reply::Err(Errno::ENOENT),
         },
         Request::Stat(path) => match kind_at(path) {
-            Some(kind) => Reply::Stat(kind, 5),
-            None if is_named(path, b"made") => Reply::Stat(Kind::Exec, 0),
+            Some(kind) => Reply::Stat(kind, 5, 70),
+            None if is_named(path, b"made") => Reply::Stat(Kind::Exec, 0, 71),
             None if is_named(path, b"lost") => Reply::Fault(Fault::Overlay),
             None => Reply::Err(Errno::ENOENT),
         },
@@ -244,24 +248,24 @@ const SET: &[(&str, u32, u32, u32, &str)] = &[
         9,
         0o100755,
         8,
-        "truncate /file 3; mark /file; stat /file; shown file 5",
+        "truncate /file 3; mark /file; stat /file; shown file 5 70",
     ),
     (
         "file",
         8,
         0,
         8,
-        "truncate /file 3; stat /file; shown file 5",
+        "truncate /file 3; stat /file; shown file 5 70",
     ),
     (
         "file",
         1,
         0o100644,
         8,
-        "unmark /file; stat /file; shown file 5",
+        "unmark /file; stat /file; shown file 5 70",
     ),
-    ("dir", 1, 0o040755, 8, "stat /dir; shown dir 5"),
-    ("file", 6, 0, 8, "stat /file; shown file 5"),
+    ("dir", 1, 0o040755, 8, "stat /dir; shown dir 5 70"),
+    ("file", 6, 0, 8, "stat /file; shown file 5 70"),
     ("file", 2, 0, 7, "refused 1"),
     ("?", 8, 0, 8, "refused 116"),
 ];
@@ -348,11 +352,15 @@ const EXCHANGING: Rename2In = Rename2In {
 
 // The name of a node, an operation on it, and what that asks and comes to.
 const TOLD: &[(&str, Operation<'static>, &str)] = &[
-    ("", Operation::Lookup(b"file"), "stat /file; found file 5"),
+    (
+        "",
+        Operation::Lookup(b"file"),
+        "stat /file; found file 5 70",
+    ),
     (
         "dir",
         Operation::Lookup(b"file"),
-        "stat /dir/file; found file 5",
+        "stat /dir/file; found file 5 70",
     ),
     ("", Operation::Lookup(b"none"), "stat /none; absent"),
     ("", Operation::Lookup(b"lost"), "stat /lost; refused 5"),
@@ -362,18 +370,18 @@ const TOLD: &[(&str, Operation<'static>, &str)] = &[
     (
         "",
         Operation::Symlink(b"made", b"to"),
-        "symlink /made to; stat /made; found exec 0",
+        "symlink /made to; stat /made; found exec 0 71",
     ),
     (
         "",
         Operation::MkNod(FILE, b"made"),
-        "create /made; mark /made; stat /made; found exec 0",
+        "create /made; mark /made; stat /made; found exec 0 71",
     ),
     ("", Operation::MkNod(PIPE, b"made"), "refused 1"),
     (
         "",
         Operation::MkDir(DIRECTORY, b"made"),
-        "mkdir /made; stat /made; found exec 0",
+        "mkdir /made; stat /made; found exec 0 71",
     ),
     ("", Operation::Unlink(b"file"), "unlink /file; done"),
     ("", Operation::RmDir(b"dir"), "rmdir /dir; done"),
@@ -430,7 +438,7 @@ const TOLD: &[(&str, Operation<'static>, &str)] = &[
     (
         "",
         Operation::Create(MAKING_NEW, b"made"),
-        "create /made; mark /made; stat /made; made exec 0",
+        "create /made; mark /made; stat /made; made exec 0 71",
     ),
     (
         "",
@@ -440,7 +448,7 @@ const TOLD: &[(&str, Operation<'static>, &str)] = &[
     (
         "",
         Operation::Create(MAKING, b"file"),
-        "create /file; stat /file; made file 5",
+        "create /file; stat /file; made file 5 70",
     ),
     (
         "",
@@ -469,5 +477,5 @@ fn operations_ask_and_are_told(rt: HostRuntime) {
         getattr_flags: 0,
         fh: 0,
     });
-    assert!(rt; told(&rt, "", &node).as_slice() == b"stat ; shown dir 5".as_slice());
+    assert!(rt; told(&rt, "", &node).as_slice() == b"stat ; shown dir 5 70".as_slice());
 }

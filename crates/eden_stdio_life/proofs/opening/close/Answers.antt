@@ -5,7 +5,7 @@ use Rattle.eden_model.specs.Failures.{Rose}
 use Rattle.eden_stdio_life.proofs.opening.close.Goals as goal
 
 pub returns-in-Err : goal.returns-in-Err
-returns-in-Err g c =
+returns-in-Err g c = λ N backing.
     let e = c.in-Err.ensures in
     record {
       left = c.in-Err.table;
