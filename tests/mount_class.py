@@ -11,7 +11,7 @@ import re
 import signal
 import subprocess
 import threading
-from collections.abc import Callable, Iterator, Sequence
+from collections.abc import Callable, Iterable, Iterator, Sequence
 from concurrent.futures import ThreadPoolExecutor
 from typing import Any, Self
 
@@ -26,7 +26,7 @@ from helpers.running import most_memory
 from yakembi.tree_model import Values, WholeTree
 from yakembi import client
 from yakembi.client import Session
-from yakembi.operations import UTIME_NOW, UTIME_OMIT, Mount, MountOperations
+from yakembi.operations import UNKNOWN_NUMBER, UTIME_NOW, UTIME_OMIT, Mount, MountOperations
 from yakembi.overlay import OverlayFolder
 from yakembi.pool import Pool, Running, Serving
 from yakembi.times import Times
@@ -345,6 +345,64 @@ def found_in(overlay: pathlib.Path) -> list[str]:
     with contextlib.closing(OverlayFolder(overlay)) as folder:
         times = Times(0, folder.changed())
     return [path for path in ("/", "/folder", "/folder/file", "/test.txt") if times.of(path) > (0, 0)]
+
+
+# ---- inode numbers
+
+FOLDERS, FILES_IN_A_FOLDER = 50, 100
+
+
+def make_many_files(folder: pathlib.Path) -> tuple[pathlib.Path, list[str]]:
+    """A repository of 5,000 files in 50 folders, and the paths of all that its commit has but the root."""
+    repository = folder / "many files"
+    paths = []
+    for number in range(FOLDERS):
+        (repository / f"d{number:02}").mkdir(parents=True)
+        paths.append(f"/d{number:02}")
+        for file in range(FILES_IN_A_FOLDER):
+            (repository / f"d{number:02}" / f"f{file:02}").write_text("one content\n")
+            paths.append(f"/d{number:02}/f{file:02}")
+    git(repository, "init", "-q")
+    git(repository, "add", "-A")
+    git(repository, "commit", "-qm", "many files")
+    return repository, paths
+
+
+def renamed(path: str) -> str:
+    """Where a path lies once /d00 was renamed to /e."""
+    return "/e" + path[4:] if path.startswith("/d00") else path
+
+
+def check_own(name: str, numbers: dict[str, int]) -> None:
+    """No two paths have one number, and none has the root's."""
+    check(f"{name}: numbers of their own", len({1, *numbers.values()}), len(numbers) + 1)
+
+
+def check_numbers(folder: pathlib.Path) -> None:
+    """Each of many files has an inode number of its own, which it keeps over a rename and in the next mount."""
+    repository, paths = make_many_files(folder)
+    overlay = folder / "overlay of numbers"
+    def numbers(mount: MountedCommit, of: Iterable[str]) -> dict[str, int]:
+        return {path: mount.operations.getattr(path)["st_ino"] for path in of}
+    with over_git(repository, overlay) as mount:
+        before = numbers(mount, paths)
+        check_own("at first", before)
+        check("the root's number", mount.operations.getattr("/")["st_ino"], 1)
+        mount.operations.rename("/d00", "/e")
+        moved = {renamed(path): number for path, number in before.items()}
+        check("numbers over a rename", numbers(mount, moved), moved)
+        mount.operations.unlink("/d01/f00")
+        mount.operations.create("/d01/f00", 0o644)
+        moved |= numbers(mount, ["/d01/f00"])
+        check("a new file's number", moved["/d01/f00"] in before.values(), False)
+        check("numbers: the end", (mount.close(), mount.said), (None, []))
+    with over_git(repository, overlay) as mount:
+        check("numbers in the next mount", numbers(mount, moved), moved)
+        mount.operations.mkdir("/made", 0o755)
+        check_own("in the next mount", moved | numbers(mount, ["/made"]))
+        rows = mount.operations.readdir("/e")
+        check("a listing has no numbers", {row[1]["st_ino"] for row in rows}, {UNKNOWN_NUMBER})
+        check("numbers: the second end", (mount.close(), mount.said), (None, []))
 
 
 # ---- slow fetches

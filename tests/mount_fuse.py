@@ -10,12 +10,12 @@ import subprocess
 import sys
 import time
 import zlib
-from collections.abc import Callable
+from collections.abc import Callable, Iterable
 
 from checks import PATIENCE, check, git, make_repository
 from clones import FILES, FOLDER, MOST_QUESTIONS, Clone, blobs_in, make_far_repository, trees_on_the_way
 from folder_operations import Folder, compare, outcome, shown
-from mount_class import Large, asked_for, refused
+from mount_class import Large, asked_for, check_own, make_many_files, refused, renamed
 from mount_folder import BUILDS, CHANGES, COPIES, ENDINGS, LOOKS, Both, MountGit, checkout, children, said_by
 from programs import MOUNT_GIT, MOUNTD
 from yakembi.tree_model import Values
@@ -58,6 +58,29 @@ def check_random_operations(folder: pathlib.Path, seed: int) -> None:
     with MountGit(repository, "HEAD", folder / "mounted") as mount:
         compare("mounted", random.Random(seed), Folder(mount.folder), Folder(plain))
         check("mounted: the end, with nothing said", (mount.end("SIGTERM"), mount.said()), (0, []))
+
+
+# ---- inode numbers
+
+
+def check_numbers(folder: pathlib.Path) -> None:
+    """Each of many files has an inode number of its own, and keeps it over a rename, and in the next mount."""
+    repository, paths = make_many_files(folder)
+    def numbers(mount: MountGit, of: Iterable[str]) -> dict[str, int]:
+        return {path: os.lstat(f"{mount.folder}{path}").st_ino for path in of}
+    with MountGit(repository, "HEAD", folder / "mounted", "--overlay", folder / "overlay") as mount:
+        before = numbers(mount, paths)
+        check_own("mounted", before)
+        os.rename(mount.folder / "d00", mount.folder / "e")
+        moved = {renamed(path): number for path, number in before.items()}
+        check("mounted: numbers over a rename", numbers(mount, moved), moved)
+        check("mounted: the end, with nothing said", (mount.end("SIGTERM"), mount.said()), (0, []))
+    with MountGit(repository, "HEAD", folder / "mounted", "--overlay", folder / "overlay") as mount:
+        check("mounted: numbers in the next mount", numbers(mount, moved), moved)
+        check("mounted: a listing", sorted(os.listdir(mount.folder / "e")), sorted(os.listdir(repository / "d00")))
+        (mount.folder / "made").write_text("made")
+        check_own("mounted again", moved | numbers(mount, ["/made"]))
+        check("mounted: the second end, with nothing said", (mount.end("SIGTERM"), mount.said()), (0, []))
 
 
 # ---- beginnings and ends

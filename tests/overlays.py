@@ -118,8 +118,8 @@ class WithCommit(Case):
 
 def check_session(name: str, place: Place, rows: Sequence[tuple[bytes, bytes | None]], *more: str,
                   numbers: Numbers | None = None) -> None:
-    """One session: each line has the reply beside it, and the overlay is closed. A `stat` that has no inode number there
-    tells one that it may: where it isn't said which ones the files have, any that nothing else in the session has."""
+    """One session: each line has the reply beside it, and the overlay is closed. A `stat` without an inode number there
+    tells one that it may: if it isn't said which ones the files have, any that nothing else in the session has."""
     status, output, errors = place.run([line for line, _ in rows], *more)
     check(f"{name} ends well", (status, errors), CLOSED)
     replies = output.split(b"\n")

@@ -6,8 +6,8 @@ RECORD is a folder of what clients sent and got: for each a file NAME.sent with 
 replies, as two `tee`s write them or `record` of yakembi.client, which writes NAME.times beside them. The tree is that
 of the revision, or what the overlay DIR shows over it, as it was before the first request.
 
-A `stat` tells one inode number of a thing, wherever that is moved to, and of nothing else after it. That is the one that
-the files of DIR have, or else any that isn't spent by then: below what DIR's files give next, or told before.
+A `stat` tells one inode number of a thing, wherever that is moved to, and of nothing else after it. That is the one
+that the files of DIR have, or else any that isn't spent by then: below what they give next, or told before.
 
 The order keeps each client's own; where there are times, also that of requests of which one was answered before the
 other was sent. Faults change nothing. The last line is an order, none, or that the search gave up after N states; the

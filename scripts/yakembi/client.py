@@ -53,8 +53,8 @@ Fields = list[bytes]
 
 
 class Stat(NamedTuple):
-    """What stands at a path. It keeps its number as long as it is there, also where it is moved, and the number is given
-    to nothing else after it; it outlives the mount with the overlay's files."""
+    """What stands at a path. It keeps its number for as long as it is there, wherever it is moved, and nothing else is
+    given that number; it is in the overlay's files, so that the next mount tells it too."""
 
     kind: str
     size: int

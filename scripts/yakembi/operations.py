@@ -103,8 +103,8 @@ class MountOperations:
     def getattr(self, path: str, fh: Any = None) -> dict[str, int]:
         kind, size, number = self.mount.stat(raw(path))
         content, entry = self.times.of(path)
-        return {**self.owner, "st_ino": number, "st_mode": MODES[kind], "st_nlink": 1, "st_size": size, "st_blocks": -(-size // BLOCK),
-                "st_atime": content, "st_mtime": content, "st_ctime": entry}
+        return {**self.owner, "st_ino": number, "st_mode": MODES[kind], "st_nlink": 1, "st_size": size,
+                "st_blocks": -(-size // BLOCK), "st_atime": content, "st_mtime": content, "st_ctime": entry}
 
     def access(self, path: str, mode: int) -> int:
         kind = self.mount.kind(raw(path))

@@ -8,9 +8,9 @@ The search takes what needs no choice at once: a fault, a look or an error that 
 path at, above or below one that others have still to ask about. Such a request that isn't answered as told ends the way
 at once. Among the rest, changes that may come next, it tries each, and remembers the states that it came to.
 
-A `stat` tells the inode number of what stands there. The first one gives it, and any that isn't spent will do; from then
-on it is that one. So a `stat` that gives a number needs no choice only where no other client has still to ask for what
-could put something else at its path.
+A `stat` tells the inode number of what stands there. The first one gives it, and any that isn't spent will do; from
+then on it is that one. So a `stat` that gives a number needs no choice only where no other client has still to ask for
+what could put something else at its path.
 """
 
 import collections

@@ -3,7 +3,7 @@ ghost use Rattle.std.specs.Prelude.{◌≡◌, []};
 
 use eden_cache::ObjectCache;
 use eden_checkout::{Checkout, OpenFault, TidyFault, tidy};
-use eden_model::{Attempt, Bytes, Key, Name, Outside, Path, Reply, Request};
+use eden_model::{Attempt, Bytes, Key, Kind, Name, Outside, Path, Reply, Request};
 use eden_mount::Attempts;
 use eden_object::Object;
 use eden_overlay::{Files, MemoryFiles, Overlay, Removed};
@@ -21,6 +21,9 @@ type Tree = Checkout<Global, Outside, Stored>;
 enum Step {
     Write(u64, &'static [u8], Want),
     Read(Want),
+    /// What stands there, of the root and of the file.
+    StatRoot(Want),
+    Stat(Want),
     /// The object comes.
     Put(Sample),
 }
@@ -30,6 +33,8 @@ enum Want {
     Need(Sample),
     Count(u64),
     Data(&'static [u8]),
+    /// A kind, a length and an inode number.
+    Stat(Kind, u64, u64),
 }
 
 const CHANGED: &[Step] = &[
@@ -99,8 +104,18 @@ fn read(rt: &impl Abort, alloc: Global) -> Request {
     Request::Read(test_file(rt, alloc), 0, 100)
 }
 
+fn is_stat(attempt: &Attempt, kind: Kind, size: u64, number: u64) -> bool {
+    match attempt {
+        Attempt::Finished(Reply::Stat(there, length, own)) => {
+            *there == kind && *length == size && *own == number
+        }
+        _ => false,
+    }
+}
+
 fn is_wanted(attempt: &Attempt, want: Want) -> bool {
     match want {
+        Want::Stat(kind, size, number) => is_stat(attempt, kind, size, number),
         Want::Need(object) => matches!(attempt, Attempt::Need(key) if *key == key_of(object)),
         Want::Count(wanted) => {
             matches!(attempt, Attempt::Finished(Reply::Count(count)) if *count == wanted)
@@ -127,6 +142,11 @@ fn is_done(rt: &impl Abort, alloc: Global, tree: &mut Tree, step: Step) -> bool 
     match step {
         Step::Put(object) => put(rt, alloc, tree, object),
         Step::Read(want) => answers(alloc, tree, &read(rt, alloc), want),
+        Step::StatRoot(want) => {
+            let root = Path::new(Vec::new(alloc)).expect(rt, "the root");
+            answers(alloc, tree, &Request::Stat(root), want)
+        }
+        Step::Stat(want) => answers(alloc, tree, &Request::Stat(test_file(rt, alloc)), want),
         Step::Write(offset, bytes, want) => {
             answers(alloc, tree, &write(rt, alloc, offset, bytes), want)
         }
@@ -165,6 +185,42 @@ fn changes_stay_over_a_close(rt: HostRuntime) {
         assert!(rt; size(rt.alloc(), &mut files, *number) == *wanted);
     }
     live(&rt, rt.alloc(), files, OPENED_AGAIN);
+}
+
+/// The root has its number before it is loaded, and its entries once it is.
+const LOOKED_AT: &[Step] = &[
+    Step::StatRoot(Want::Stat(Kind::Dir, 0, 1)),
+    Step::Stat(Want::Need(ONE_FILE)),
+    Step::Put(ONE_FILE),
+    Step::Stat(Want::Need(VERSION_1)),
+    Step::Put(VERSION_1),
+    Step::Stat(Want::Stat(Kind::File, 10, 2)),
+];
+
+/// Of the directory nothing is asked for: it is loaded with the numbers that were saved.
+const LOOKED_AT_AGAIN: &[Step] = &[
+    Step::Stat(Want::Need(VERSION_1)),
+    Step::Put(VERSION_1),
+    Step::Stat(Want::Stat(Kind::File, 10, 2)),
+    Step::StatRoot(Want::Stat(Kind::Dir, 0, 1)),
+];
+
+/// Whether a file ends with these bytes, or begins with them.
+fn has(alloc: Global, files: &mut Stored, number: u64, front: &[u8], end: &[u8]) -> bool {
+    match files.read(alloc, number) {
+        Ok(Some(file)) => file.starts_with(front) && file.ends_with(end),
+        _ => false,
+    }
+}
+
+#[test]
+fn numbers_stay_over_a_close(rt: HostRuntime) {
+    let alloc = rt.alloc();
+    let mut files = live(&rt, alloc, MemoryFiles::new(alloc), LOOKED_AT);
+    assert!(rt; size(alloc, &mut files, 1) == 127 && has(alloc, &mut files, 1, b"OVDN", b"test.txt"));
+    assert!(rt; size(alloc, &mut files, 0) == 92 && has(alloc, &mut files, 0, b"OVFL", &[0, 0, 0, 3]));
+    let mut files = live(&rt, alloc, files, LOOKED_AT_AGAIN);
+    assert!(rt; size(alloc, &mut files, 1) == 127 && has(alloc, &mut files, 0, b"OVFL", &[0, 0, 0, 3]));
 }
 
 /// Why the files aren't opened on that commit.

@@ -1,4 +1,4 @@
--- Numbers that one more is given and spent of.
+-- Numbers of which one more is given and spent.
 use Rattle.std.proofs.Common.{◌≡◌, ℕ, ◌<◌, List, [], ◌∷◌, ◌++◌, refl, ◌∙◌, ap, Some, Bool, true, false, cond, eqb, nat_lt}
 use Rattle.std.specs.Prelude.{◌||◌}
 use Rattle.std.proofs.Math.Path.{fun_ext}

@@ -4,7 +4,7 @@ use Rattle.eden_model.specs.declared.request.Request.{Request}
 use Rattle.eden_model.specs.declared.reply.Reply.{Reply}
 use Rattle.eden_model.specs.Trees.{Path}
 use Rattle.eden_model.specs.Laws.{without_number}
-use Rattle.eden_model.specs.Numbers.{Numbering, Numbers, StatNumber, IsNumber, Allows, AllowsStat, stat_number}
+use Rattle.eden_model.specs.Numbers.{Numbering, Numbers, StatNumber, IsNumber, Allows, AllowsStat, stat_number, after_numbers}
 use Rattle.eden_oracle.specs.Rows.{tree_of}
 
 -- those that replies gave, by path; those that are spent: all below the next one, and these
@@ -27,6 +27,10 @@ numbers_of k = record { given = tree_of k.given; used = is_spent k }
 -- the root's number alone
 abbrev pub root_alone : Numbering
 root_alone = tree_of (([], 1) ∷ [])
+
+-- of a request that leaves them, whatever it is answered
+abbrev pub LeavesNumbers : Request → Type 0
+LeavesNumbers q = (N : Numbers) (r : Reply) → after_numbers N q r ≡ N
 
 -- that no smaller number is left
 abbrev pub IsLeast : Numbers → ℕ → Type 0

@@ -3,7 +3,8 @@ ghost use Rattle.std.specs.Option.{option_map};
 ghost use Rattle.eden_model.specs.Numbers.{Allows, AllowsStat, IsNumber, after_numbers, edited};
 ghost use Rattle.eden_model.specs.Numbers.{opening_numbers, renumbered, stat_number, with_stat};
 ghost use Rattle.eden_model.specs.Operations.{put};
-ghost use Rattle.eden_oracle.specs.Numbers.{Fills, IsLeast, Picks, is_among, is_spent, numbers_of, root_alone};
+ghost use Rattle.eden_oracle.specs.Numbers.{Fills, IsLeast, LeavesNumbers, Picks};
+ghost use Rattle.eden_oracle.specs.Numbers.{is_among, is_spent, numbers_of, root_alone};
 ghost use Rattle.eden_oracle.specs.Rows.{tree_of};
 
 use crate::change::{moved, remove, replace};
@@ -77,6 +78,25 @@ fn edited(
         | Request::SetExec(_, _)
         | Request::Mkdir(_)
         | Request::Symlink(_, _) => copied_rows(alloc, given),
+    }
+}
+
+/// Whether a request leaves all numbers, whatever it is answered.
+pub(crate) fn leaves_numbers(request: &Request) -> bool
+    ensures { IsTrue result → LeavesNumbers request.now }
+{
+    match request {
+        Request::Kind(_)
+        | Request::Read(_, _, _)
+        | Request::ReadLink(_)
+        | Request::List(_, _, _)
+        | Request::Write(_, _, _)
+        | Request::Truncate(_, _)
+        | Request::Create(_)
+        | Request::SetExec(_, _)
+        | Request::Mkdir(_)
+        | Request::Symlink(_, _) => true,
+        Request::Stat(_) | Request::Unlink(_) | Request::Rmdir(_) | Request::Rename(_, _) => false,
     }
 }
 

@@ -12,7 +12,7 @@ use crate::change::{Answer, Change, make};
 use crate::edit::{set_exec, truncate, write};
 use crate::list::list;
 use crate::look::{kind, read, read_link, stat};
-use crate::numbers::Numbers;
+use crate::numbers::{Numbers, leaves_numbers};
 use crate::place::{Place, Row};
 use crate::remove::{rmdir, unlink};
 use crate::rename::rename;
@@ -136,6 +136,10 @@ impl WholeTree {
         ensures ok { OnOk result (Goes self.old self.new request.now reply.now) }
         ensures err { OnErr result (self.new ≡ self.old) }
     {
+        if leaves_numbers(request) {
+            make(alloc, &mut self.rows, change)?;
+            return Ok(());
+        }
         let numbers = self.numbers.after(alloc, request, reply)?;
         make(alloc, &mut self.rows, change)?;
         self.numbers = numbers;

@@ -30,6 +30,10 @@ const E_A: Names = &[b"e", b"a"];
 
 const E_E_F: Names = &[b"e", b"e", b"f"];
 
+const T: Names = &[b"t"];
+
+const BAK_TEST: Names = &[b"bak", b"test.txt"];
+
 /// What `ONE_FILE` lists.
 const TEST_ALONE: Want = Want::Entries(&[(b"test.txt", Kind::File)], false);
 
@@ -69,6 +73,39 @@ const REFUSED: Row = Row {
         Step::Ask(D, Ask::Unlink, Want::Err(Errno::EISDIR)),
     ],
     files: &[(1, 80), (3, 100)],
+};
+
+/// A number moves with its file, and isn't given again once that is gone.
+const NUMBERED: Row = Row {
+    root: ONE_FILE,
+    objects: 8,
+    steps: &[
+        Step::Need(TEST, Ask::Rename(T), ONE_FILE),
+        Step::Ask(TEST, Ask::Rename(T), Want::Ok),
+        Step::Need(T, Ask::Stat, VERSION_1),
+        Step::Ask(T, Ask::Stat, Want::Stat(Kind::File, 10, 2)),
+        Step::Ask(T, Ask::Unlink, Want::Ok),
+        Step::Ask(T, Ask::Create, Want::Ok),
+        Step::Ask(T, Ask::Stat, Want::Stat(Kind::File, 0, 3)),
+    ],
+    files: &[(1, 80), (3, 64)],
+};
+
+/// What stands in a directory keeps its number where that moves, also once it is unloaded.
+const NUMBERED_BELOW: Row = Row {
+    root: TWO_FILES,
+    objects: 8,
+    steps: &[
+        Step::Need(BAK_TEST, Ask::Stat, TWO_FILES),
+        Step::Need(BAK_TEST, Ask::Stat, ONE_FILE),
+        Step::Need(BAK_TEST, Ask::Stat, VERSION_1),
+        Step::Ask(BAK_TEST, Ask::Stat, Want::Stat(Kind::File, 10, 5)),
+        Step::Ask(BAK, Ask::Rename(OLD), Want::Ok),
+        Step::Unload(2),
+        Step::Ask(OLD_TEST, Ask::Stat, Want::Stat(Kind::File, 10, 5)),
+        Step::Ask(OLD, Ask::Stat, Want::Stat(Kind::Dir, 0, 2)),
+    ],
+    files: &[(1, 179), (2, 127)],
 };
 
 /// A new file takes the place of one of the commit, which has no file.
@@ -231,6 +268,8 @@ const KEPT_WITHIN: Row = Row {
 
 const ROWS: &[Row] = &[
     BETWEEN,
+    NUMBERED,
+    NUMBERED_BELOW,
     REFUSED,
     OVER_COMMIT,
     OVER_OWN,

@@ -653,17 +653,29 @@ fn reads(rt: &impl Abort, alloc: Global, reply: &Reply, want: &[u8]) -> bool {
     writer.got.as_slice() == want
 }
 
-const SIZES: &[(Kind, u64, &[u8])] = &[
-    (Kind::File, 7, b"stat file 7\n"),
-    (Kind::Exec, u64::MAX, b"stat exec 18446744073709551615\n"),
-    (Kind::Link, 1, b"stat link 1\n"),
-    (Kind::Dir, 0, b"stat dir 0\n"),
+// A kind, a length and an inode number, and how they are spelled.
+const STATS: &[(Kind, u64, u64, &[u8])] = &[
+    (Kind::File, 7, 2, b"stat file 7 2\n"),
+    (
+        Kind::Exec,
+        u64::MAX,
+        3,
+        b"stat exec 18446744073709551615 3\n",
+    ),
+    (
+        Kind::Link,
+        1,
+        (1 << 63) - 1,
+        b"stat link 1 9223372036854775807\n",
+    ),
+    (Kind::Dir, 0, 1, b"stat dir 0 1\n"),
 ];
 
 #[test]
-fn texts_of_kinds_and_sizes(rt: HostRuntime) {
-    for (kind, size, want) in SIZES {
-        assert!(rt; reads(&rt, rt.alloc(), &Reply::Stat(*kind, *size), want));
+fn texts_of_kinds_and_stats(rt: HostRuntime) {
+    for (kind, size, number, want) in STATS {
+        let reply = Reply::Stat(*kind, *size, *number);
+        assert!(rt; reads(&rt, rt.alloc(), &reply, want));
     }
     assert!(rt; reads(&rt, rt.alloc(), &Reply::Kind(Kind::Exec), b"kind exec\n"));
 }
