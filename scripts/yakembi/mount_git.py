@@ -22,7 +22,7 @@ import time
 from collections.abc import Callable, Iterator, Sequence
 from typing import BinaryIO
 
-from yakembi import commit_folder, control, folder_changes, kernel
+from yakembi import commit_folder, control, folder_changes, folder_index, kernel
 from yakembi.addresses import socket_path
 from yakembi.client import SessionEnded
 from yakembi.control import Answers, Fields
@@ -397,6 +397,8 @@ def parser() -> argparse.ArgumentParser:
 COMMANDS: dict[str, tuple[Callable[[argparse.Namespace], None], Callable[[], argparse.ArgumentParser]]] = {
     "changes": (folder_changes.changes, folder_changes.changes_parser),
     "commit": (commit_folder.commit, commit_folder.commit_parser),
+    "index": (folder_index.index, folder_index.index_parser),
+    "fsmonitor": (folder_index.fsmonitor, folder_index.fsmonitor_parser),
 }
 
 
