@@ -58,7 +58,7 @@ def letters_of(lines: Iterable[bytes], old: Rows, new: Rows) -> Letters:
 
 def letters_in(repository: pathlib.Path, old: str, new: str) -> Letters:
     """What `git diff-tree` tells of the two trees."""
-    output = git(repository, "diff-tree", "-rz", "--no-renames", "--name-status", old, new, text=False)
+    output = git(repository, "diff-tree", "-r", "-z", "--no-renames", "--name-status", old, new, text=False)
     fields = output.split(b"\0")[:-1]
     return {path: letter.decode() for letter, path in zip(fields[::2], fields[1::2])}
 
