@@ -1,9 +1,9 @@
 """Lets Git tell what was changed in a folder that another run of `mount-git` has mounted, and look at nothing else.
 
-`index` writes an index of the tree that the folder stands on, and prints, as lines for a shell, the variables by which
-Git uses it: eval "$(mount-git index FOLDER FILE)". Git then asks `mount-git fsmonitor`, in its hook's protocol, which
-paths were changed, and takes that word for all others. `git status -uno` and `git diff` fetch what was changed alone;
-to list untracked files Git would read each directory. The index is for looking: commit by `mount-git commit`.
+`index` writes an index of the commit that the folder stands on, and prints, as lines for a shell, the variables by
+which Git uses it: eval "$(mount-git index FOLDER FILE)". Git then asks `mount-git fsmonitor`, in its hook's protocol,
+which paths were changed, and takes that word for all others. `git status -uno` and `git diff` fetch what was changed
+alone; to list untracked files Git would read each directory. The index is for looking: commit by `mount-git commit`.
 """
 
 import argparse
@@ -26,7 +26,8 @@ SCRIPT = pathlib.Path(__file__).resolve().parent.parent / "mount-git"
 
 
 def told_before(index: str) -> pathlib.Path:
-    """What the hook told of an index so far: a path that was changed back has to be looked at once more."""
+    """What the hook tells of an index always: what it told before, since a path that was changed back has to be looked
+    at once more, and what the index has otherwise than the tree that the folder was opened with."""
     return pathlib.Path(f"{index}.told")
 
 
@@ -39,8 +40,10 @@ def index(words: argparse.Namespace) -> None:
                  "GIT_CONFIG_COUNT": "2", "GIT_CONFIG_KEY_0": "core.fsmonitor",
                  "GIT_CONFIG_VALUE_0": f"{shlex.quote(str(SCRIPT))} fsmonitor",
                  "GIT_CONFIG_KEY_1": "core.fsmonitorHookVersion", "GIT_CONFIG_VALUE_1": VERSION}
-    told_before(file).unlink(missing_ok=True)
-    run(variables, b"", "read-tree", base_of(about))
+    base = base_of(about)
+    told_before(file).write_bytes(run(variables, b"", "diff-tree", "-r", "-z", "--name-only", about["tree"], base))
+    run(variables, b"", "read-tree", base)
+    # An index without fsmonitor's part has Git look at all.
     run(variables, b"", "update-index", "--fsmonitor")
     paths = run(variables, b"", "ls-files", "-z")
     run(variables, paths, "update-index", "--fsmonitor-valid", "-z", "--stdin")

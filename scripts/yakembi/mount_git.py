@@ -243,8 +243,9 @@ class Asked:
         return noted
 
     def about(self, fields: Fields, folder: pathlib.Path) -> Fields:
-        """The repository, and the commit and the branch that the folder stands on."""
-        return {"repository": os.path.abspath(self.repository.path), "commit": self.noted().commit,
+        """The repository, the tree that the folder was opened with, and the commit and the branch that it stands on."""
+        noted = self.noted()
+        return {"repository": os.path.abspath(self.repository.path), "tree": noted.tree, "commit": noted.commit,
                 "branch": self.branch}
 
     def changes(self, fields: Fields, folder: pathlib.Path) -> Fields:
