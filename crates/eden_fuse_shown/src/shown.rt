@@ -70,7 +70,13 @@ impl<M: Mount + Drop, K: Clock + Drop> Model for Shown<M, K> {
 
     ghost Value = { Showing M };
 
-    ghost view = { λ s. record { mount = s.mount; manner = s.manner; nodes = s.nodes; pages = s.pages; opens = s.opens } };
+    ghost view = { λ s. record {
+      mount = s.mount;
+      manner = s.manner;
+      nodes = s.nodes;
+      pages = s.pages;
+      opens = s.opens;
+    } };
 }
 
 impl<M: Mount + Drop, K: Clock + Drop> Shown<M, K> {
@@ -242,7 +248,7 @@ impl<M: Mount + Drop, K: Clock + Drop> Shown<M, K> {
         }
     }
 
-    // After a rename that failed, what was to be replaced gets its name back. What was said of the rename is still said.
+    // After a rename that failed, what was to be replaced gets its name back. What is said of the rename stays.
     fn restore(
         &mut self,
         said: Said,
@@ -360,7 +366,8 @@ impl<M: Mount + Drop, K: Clock + Drop> Shown<M, K> {
 
     // Asks for what another run left.
     fn left(&mut self, step: Step) -> Entries
-        ensures { (end : Result Outcome Unheard) × IsAsked M.answers step end self.old self.new × (result ≡ rows_in end) }
+        ensures { (end : Result Outcome Unheard) × IsAsked M.answers step end self.old self.new
+            × (result ≡ rows_in end) }
     {
         let end = run(self.alloc, &mut self.mount, step);
         rows_in(self.alloc, end)
