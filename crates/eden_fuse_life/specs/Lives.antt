@@ -3,6 +3,7 @@ use Rattle.std.specs.Prelude.{◌≡◌, ℕ, Bool, Option, Some, None, Result, 
 use Rattle.eden_model.specs.declared.id.Id.{Id}
 use Rattle.eden_model.specs.declared.world.World.{Ghosts}
 use Rattle.eden_model.specs.Histories.{Legal, replay}
+use Rattle.eden_model.specs.Numbers.{Numbers, replay_numbers}
 use Rattle.eden_model.specs.Trees.{Tree}
 use Rattle.eden_source.specs.Fetching.{Answer}
 use Rattle.eden_overlay.specs.declared.files.Files.{Ghosts as Files}
@@ -35,9 +36,9 @@ first_fault (Ok _) None = Ok tt
 
 module _ {W F : Type 0} (w : Ghosts W) (f : Files F W) where
   -- a served folder's checkout was closed, and the first fault told
-  pub record EndsFolder {S : Type 0} (root : Id) (t : Checkout F) (tree : Tree) (source : S) (said : Result ⊤ SessionFault)
+  pub record EndsFolder {S : Type 0} (root : Id) (t : Checkout F) (tree : Tree) (N : Numbers) (source : S) (said : Result ⊤ SessionFault)
       (left : FolderEnding F S) : Type 0 where
-    pub files : Closes w f root t tree left.unclosed left.backing.files
+    pub files : Closes w f root t tree N left.unclosed left.backing.files
     pub source_left : left.backing.source ≡ source
     pub told : left.outcome ≡ first_fault said left.unclosed
 
@@ -53,7 +54,8 @@ module _ {W F : Type 0} (w : Ghosts W) (f : Files F W) where
       pub unclosed : left.unclosed ≡ None
 
     -- The overlay was opened, the folder served, and the overlay closed, however the session ended. The files are the same
-    -- commit's. Where the outside is honest, the history is one of the opening tree, and what the files show is the tree after it.
+    -- commit's. Where the outside is honest, the history is one of the opening tree with its numbers, what the files show is the
+    -- tree after it, and where they were closed they back the numbers that it gave.
     pub record IsShown (base : Base) (settings : Settings) (backing : Backing F S) (m : Manner) (line line' : Line) (waiting unread : Known)
         (left : FolderEnding F S) : Type 0 where
       pub begun : Showing (Desk (Checkout F) S)
@@ -64,8 +66,9 @@ module _ {W F : Type 0} (w : Ghosts W) (f : Files F W) where
       pub said : Result ⊤ SessionFault
       pub session : Session (Shows (CallAnswers fetched (attempted w f) w.honest copies)) (begun, line) (ended, line') waiting unread said
       pub stays : Stays (attempted w f) begun.mount.core ended.mount.core
-      pub legal : w.honest → Legal w.opening ended.mount.core.history
-      pub ends : EndsFolder base.root ended.mount.core.table (replay w.opening ended.mount.core.history) ended.mount.source said left
+      pub legal : w.honest → Legal w.opening w.numbers ended.mount.core.history
+      pub ends : EndsFolder base.root ended.mount.core.table (replay w.opening ended.mount.core.history)
+          (replay_numbers w.numbers ended.mount.core.history) ended.mount.source said left
 
     abbrev pub LivesFolderBy : Result ⊤ FolderFault → Base → Settings → Backing F S → Manner → Line → Line → Known → Known
         → FolderEnding F S → Type 0

@@ -1,8 +1,10 @@
 -- A folder served over a table.
 use Rattle.std.specs.Prelude.{◌≡◌, ℕ, Bool}
 use Rattle.eden_model.specs.declared.id.Id.{Id}
+use Rattle.eden_model.specs.declared.world.World.{Ghosts}
+use Rattle.eden_model.specs.Backing.{Backs}
 use Rattle.eden_model.specs.Histories.{Legal, replay}
-use Rattle.eden_model.specs.Trees.{Tree}
+use Rattle.eden_model.specs.Numbers.{replay_numbers}
 use Rattle.eden_source.specs.Fetching.{Answer}
 use Rattle.eden_mount.specs.Serving.{Desk, Stays}
 use Rattle.eden_mount.specs.Settings.{Room}
@@ -21,18 +23,20 @@ use Rattle.eden_fuse_life.specs.declared.serving.ServedFolder.{ServedFolder}
 abbrev pub line_of : {C : Type 0} → Sender C → C → Line
 line_of sender c = (sender.sent c, sender.failures c)
 
-module _ {S : Type 0} (fetched : S → Id → Answer → S → Type 0) {T : Type 0} (A : Table T) (honest : Type 0) (copies : Bool) (limit : ℕ) where
+module _ {W : Type 0} (w : Ghosts W) {S : Type 0} (fetched : S → Id → Answer → S → Type 0) {T : Type 0} (A : Table T) (copies : Bool) (limit : ℕ) where
   -- The folder was shown: each message that was received had its turn, by what the mount replied. What the mount was opened
-  -- with stays. Where the outside is honest, its history is one of the opening tree, and the table shows the tree after it.
-  pub record ServesFolder (opening : Tree) (m : Manner) (r : Room) (t : T) (s : S) (line line' : Line) (waiting left : Known)
+  -- with stays. Where the outside is honest, its history is one of the opening tree with its numbers, and the table shows the
+  -- tree after it, and numbers that back those that it gave.
+  pub record ServesFolder (m : Manner) (r : Room) (t : T) (s : S) (line line' : Line) (waiting left : Known)
       (x : ServedFolder T S) : Type 0 where
     pub begun : Showing (Desk T S)
     pub begins : Begins r limit t s begun.mount
     pub manner : begun.manner ≡ m
     pub ended : Showing (Desk T S)
-    pub session : Session (Shows (CallAnswers fetched A honest copies)) (begun, line) (ended, line') waiting left x.said
+    pub session : Session (Shows (CallAnswers fetched A w.honest copies)) (begun, line) (ended, line') waiting left x.said
     pub stays : Stays A begun.mount.core ended.mount.core
-    pub legal : honest → Legal opening ended.mount.core.history
-    pub shown : honest → A.shown ended.mount.core.table ≡ replay opening ended.mount.core.history
+    pub legal : w.honest → Legal w.opening w.numbers ended.mount.core.history
+    pub shown : w.honest → A.shown ended.mount.core.table ≡ replay w.opening ended.mount.core.history
+    pub backed : w.honest → Backs (replay_numbers w.numbers ended.mount.core.history) (A.numbers ended.mount.core.table) (A.next ended.mount.core.table)
     pub table : x.table ≡ ended.mount.core.table
     pub source : x.source ≡ ended.mount.source

@@ -1,9 +1,11 @@
 //! A folder from the opening of its overlay over its session to the close.
 ghost use Rattle.std.specs.Prelude.{◌≡◌, []};
+ghost use Rattle.eden_model.specs.Numbers as numbers;
 ghost use Rattle.eden_inode.specs.Tables.{shows};
 ghost use Rattle.eden_checkout.specs.Opening.{MayOpen};
 ghost use Rattle.eden_fuse_life.specs.Lives.{EndsFolder, LivesFolder, first_fault};
 ghost use Rattle.eden_fuse_life.specs.Serving.{line_of};
+ghost use Rattle.eden_stdio_life.specs.Opening.{IsBacking};
 
 use crate::fault::FolderFault;
 use crate::serving::{Look, ServedFolder, serve_folder};
@@ -51,8 +53,9 @@ fn end<W: World, S: Drop, A: Allocator + Clone, F: Files<W>>(
     alloc: Global,
     served: ServedFolder<Checkout<A, W, F>, S>,
 ) -> FolderEnding<F, S>
-    ensures { EndsFolder W.World F.Files served.table.root served.table
-        (shows W.World F.Files served.table.inodes) served.source served.said result }
+    ensures { (N : numbers.Numbers) → IsBacking W.World F.Files N served.table
+        → EndsFolder W.World F.Files served.table.root served.table
+        (shows W.World F.Files served.table.inodes) N served.source served.said result }
 {
     let ServedFolder {
         table,
@@ -71,7 +74,8 @@ fn end<W: World, S: Drop, A: Allocator + Clone, F: Files<W>>(
 ///
 /// The session ends where no more messages come, as after an unmount. The overlay is closed after a session's fault
 /// too; only where the close fails are the files left without their state. What the mount replied are the replies of
-/// the commit's whole tree, changed by one request after another, and files that were closed show the tree after them.
+/// the commit's whole tree, changed by one request after another, with the inode numbers that a `stat` may tell; files
+/// that were closed show the tree after them, and back those numbers.
 ///
 /// Errors are told in `outcome`, the first in the order opening, session, close. Where the overlay isn't opened,
 /// nothing is received or sent.
@@ -96,7 +100,8 @@ pub fn live_folder<
     receiver: &mut V,
     sender: &mut C,
 ) -> FolderEnding<F, S>
-    requires files { W.honest → MayOpen base.opening W.repository W.opening base.root (F.stored backing.files) }
+    requires files { W.honest → MayOpen base.opening W.repository W.opening W.numbers base.root
+        (F.stored backing.files) }
     requires empty { H.entries history ≡ [] }
     ensures { LivesFolder W.World F.Files S.fetched H.copies (H.limit history) base config.now backing look.manner
         (line_of C.Sender sender.old) (line_of C.Sender sender.new)

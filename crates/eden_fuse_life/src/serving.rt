@@ -1,5 +1,6 @@
 //! A session with the kernel over a table.
 ghost use Rattle.std.specs.Prelude.{◌≡◌, []};
+ghost use Rattle.eden_model.specs.Backing.{Backs};
 ghost use Rattle.eden_fuse_life.specs.Serving.{ServesFolder, line_of};
 
 use crate::asking::Asking;
@@ -29,8 +30,8 @@ pub struct ServedFolder<T, S> {
     pub said: Result<(), SessionFault>,
 }
 
-/// Shows a table that shows the opening tree, in a mount of that room, with an empty history, until no more messages
-/// come.
+/// Shows a table that shows the opening tree, and numbers that back the opening ones, in a mount of that room, with an
+/// empty history, until no more messages come.
 pub fn serve_folder<
     W: World,
     S: Source<W> + Drop,
@@ -52,8 +53,9 @@ pub fn serve_folder<
     sender: &mut C,
 ) -> ServedFolder<T, S>
     requires shown { W.honest → T.table.shown table ≡ W.opening }
+    requires backed { W.honest → Backs W.numbers (T.table.numbers table) (T.table.next table) }
     requires empty { H.entries history ≡ [] }
-    ensures { ServesFolder S.fetched T.table W.honest H.copies (H.limit history) W.opening look.manner room table source
+    ensures { ServesFolder W.World S.fetched T.table H.copies (H.limit history) look.manner room table source
         (line_of C.Sender sender.old) (line_of C.Sender sender.new)
         (V.waiting receiver.old) (V.waiting receiver.new) result }
 {

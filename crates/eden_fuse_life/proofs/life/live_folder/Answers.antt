@@ -1,11 +1,12 @@
 use Rattle.std.proofs.Common.{◌≡◌, ◌∙◌, Result, sym, ap, subst}
 use Rattle.eden_model.specs.Histories.{replay}
+use Rattle.eden_model.specs.Numbers.{replay_numbers}
 use Rattle.eden_mount.specs.Core.{Core}
 use Rattle.eden_mount.specs.Settings.{Room}
 use Rattle.eden_checkout.specs.Checkouts.{Checkout}
 use Rattle.eden_stdio_life.specs.Opening.{IsOpened}
 use Rattle.eden_stdio_life.specs.Serving.{Begins}
-use Rattle.eden_stdio_life.proofs.CallerLemmas.{closes_after}
+use Rattle.eden_stdio_life.proofs.CallerLemmas.{backs_as, closes_after}
 use Rattle.eden_fuse_session.specs.Sending.{Known}
 use Rattle.eden_fuse_session.specs.Turns.{Line}
 use Rattle.eden_fuse_life.specs.declared.fault.FolderFault.{FolderFault}
@@ -30,6 +31,8 @@ returns-in-Ok g c =
     let s = c.serve_folder-served.ensures in
     let table : s.begun.mount.core.table ≡ c.in-Ok.table = ap (λ (m : Core _). m.table) s.begins.core in
     let root : s.ended.mount.core.table.root ≡ c.args.base.root = s.stays.commit ∙ ap (λ (t : Checkout _). t.root) table ∙ c.in-Ok.ensures.opened.commit in
+    let N = replay_numbers w.numbers s.ended.mount.core.history in
+    let ends = c.end.ensures N (backs_as w f N x.table s.ended.mount.core.table s.table s.backed) in
     let whole : IsShown w f g.S.Source.fetched H.copies limit c.args.base settings c.args.backing m line line' waiting unread left = record {
       begun = s.begun;
       begins = subst (λ (r : Room). Begins r limit s.begun.mount.core.table c.args.backing.source s.begun.mount) c.in-Ok.ensures.room
@@ -42,12 +45,12 @@ returns-in-Ok g c =
       stays = s.stays;
       legal = s.legal;
       ends = record {
-        files = closes_after w f c.args.base.root x.table s.ended.mount.core.table (replay w.opening s.ended.mount.core.history) s.table root s.shown left.unclosed left.backing.files
-            c.end.ensures.files;
-        source_left = c.end.ensures.source_left ∙ s.source;
-        told = c.end.ensures.told;
+        files = closes_after w f c.args.base.root x.table s.ended.mount.core.table (replay w.opening s.ended.mount.core.history) N s.table root s.shown left.unclosed left.backing.files
+            ends.files;
+        source_left = ends.source_left ∙ s.source;
+        told = ends.told;
       };
     } in
     subst (λ (o : Result (Unit {0}) FolderFault). LivesFolderBy w f g.S.Source.fetched H.copies limit o c.args.base settings c.args.backing m line line' waiting unread left)
-    (sym c.end.ensures.told)
+    (sym ends.told)
     (lived w f g.S.Source.fetched H.copies limit c.args.base settings c.args.backing m line line' waiting unread left x.said left.unclosed whole)

@@ -1,5 +1,7 @@
 use Rattle.std.proofs.Common.{◌≡◌, ◌∙◌, sym, ap, subst}
+use Rattle.eden_model.specs.Backing.{Backs}
 use Rattle.eden_model.specs.Histories.{Legal, replay}
+use Rattle.eden_model.specs.Numbers.{replay_numbers}
 use Rattle.eden_mount.specs.Core.{Core}
 use Rattle.eden_mount.specs.Serving.{Desk, IsAtRest}
 use Rattle.eden_stdio_life.specs.Serving.{Begins}
@@ -28,8 +30,9 @@ returns g c =
       ended = c.session-said.new.service;
       session = said;
       stays = serves_keep g.S.Source.fetched A g.W.World.honest g.H.History.copies said.messages _ _ said.served;
-      legal = λ h. subst (λ (m : Core _). Legal g.W.World.opening m.history) last (c.holds.ensures.legal h);
+      legal = λ h. subst (λ (m : Core _). Legal g.W.World.opening g.W.World.numbers m.history) last (c.holds.ensures.legal h);
       shown = λ h. subst (λ (m : Core _). g.T.Attempts.table.shown m.table ≡ replay g.W.World.opening m.history) last (c.holds.ensures.shown h);
+      backed = λ h. subst (λ (m : Core _). Backs (replay_numbers g.W.World.numbers m.history) (A.numbers m.table) (A.next m.table)) last (c.holds.ensures.backed h);
       table = c.into_table.ensures ∙ ap (λ (m : Core _). m.table) last;
       source = c.into_parts-mount.ensures.source ∙ ap (λ (d : Desk _ _). d.source) whole;
     }
