@@ -1,5 +1,5 @@
-// Directories of the commit that were looked into and go, each with the numbers of its entries saved in a file, beside as
-// many stores of files of that size.
+// Directories of the commit that were looked into and go, each with the numbers of its entries saved in a file; and
+// beside it as many stores of files of that size.
 ghost use Rattle.std.specs.Prelude.{IfOk};
 ghost use Rattle.eden_object.specs.Trees.{NamesDiffer};
 
