@@ -42,7 +42,7 @@ soak: ## a million random requests: the slow oracle beside the second table of o
 	@cd crates/test_growths && rt run < stdin | diff - stdout
 	tests/refused-growths large
 	tests/partial-clones 200
-	tests/git-repositories crates/mountd/out/mountd 100000 -k Damaged
+	seq 25 | xargs -P 2 -I SEED tests/git-repositories crates/mountd/out/mountd 4000 SEED -k Damaged
 	tests/long-session crates/mountd/out/mountd 10000000 1000000 600
 	tests/mounted crates/mountd/out/mountd 1 3000000 -k test_long_mount
 

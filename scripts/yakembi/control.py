@@ -104,11 +104,11 @@ def serving(folder: str, answers: Answers) -> Iterator[None]:
 
 
 class Connection:
-    """A connection to the run that shows a folder."""
+    """A connection to the run that shows a folder, whose top may be above it."""
 
     def __init__(self, folder: str) -> None:
         self.folder = folder
-        self.socket = reached(folder)
+        self.socket, self.top = reached(folder)
         self.lines = self.socket.makefile("rb")
 
     def ask(self, what: str, **fields: str) -> Fields:
@@ -130,13 +130,13 @@ class Connection:
         self.socket.close()
 
 
-def reached(folder: str) -> socket.socket:
-    """The socket of the folder, or of the nearest one above it that has one."""
+def reached(folder: str) -> tuple[socket.socket, str]:
+    """The socket of the folder, or of the nearest one above it that has one, and which folder that is."""
     at = os.path.realpath(folder)
     while True:
         for place in filter(is_ours, places()):
             with contextlib.suppress(FileNotFoundError, ConnectionRefusedError):
-                return connected(os.path.join(place, name_for(at)), SECONDS_TO_ANSWER)
+                return connected(os.path.join(place, name_for(at)), SECONDS_TO_ANSWER), at
         if os.path.dirname(at) == at:
             raise Refusal(f"no mount-git shows {folder}")
         at = os.path.dirname(at)

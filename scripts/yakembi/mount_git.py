@@ -20,8 +20,9 @@ import sys
 import tempfile
 import time
 from collections.abc import Callable, Iterator, Sequence
+from typing import BinaryIO
 
-from yakembi import commit_folder, control, kernel
+from yakembi import commit_folder, control, folder_changes, folder_index, kernel
 from yakembi.addresses import socket_path
 from yakembi.client import SessionEnded
 from yakembi.control import Answers, Fields
@@ -233,7 +234,7 @@ class Asked:
         self.overlay = overlay
 
     def answers(self) -> Answers:
-        return {"about": self.about, "snapshot": self.snapshot, "committed": self.committed}
+        return {"about": self.about, "changes": self.changes, "snapshot": self.snapshot, "committed": self.committed}
 
     def noted(self) -> Noted:
         noted = self.overlay.noted()
@@ -242,22 +243,31 @@ class Asked:
         return noted
 
     def about(self, fields: Fields, folder: pathlib.Path) -> Fields:
-        """The repository, and the commit and the branch that the folder stands on."""
-        return {"repository": os.path.abspath(self.repository.path), "commit": self.noted().commit,
+        """The repository, the tree that the folder was opened with, and the commit and the branch that it stands on."""
+        noted = self.noted()
+        return {"repository": os.path.abspath(self.repository.path), "tree": noted.tree, "commit": noted.commit,
                 "branch": self.branch}
+
+    def changes(self, fields: Fields, folder: pathlib.Path) -> Fields:
+        """A file with the lines of what was changed."""
+        told = folder / "changes"
+        with open(told, "wb") as lines:
+            self.closed(lines, "changes")
+        return {"lines": str(told)}
 
     def snapshot(self, fields: Fields, folder: pathlib.Path) -> Fields:
         """The tree that is shown, the folder with its own objects, and what is left out of it."""
         into = folder / "objects"
-        done = self.closed("snapshot", "--into", str(into))
+        done = self.closed(subprocess.PIPE, "snapshot", "--into", str(into))
         left_out = [line.removeprefix("mountd: ") for line in done.stderr.decode(errors="replace").splitlines()]
         return {"tree": done.stdout.decode().strip(), "folder": str(into), "left_out": left_out}
 
-    def closed(self, command: str, *more: str) -> subprocess.CompletedProcess[bytes]:
-        """A run of `mountd` over the closed overlay."""
+    def closed(self, output: int | BinaryIO, command: str, *more: str) -> subprocess.CompletedProcess[bytes]:
+        """A run of `mountd` over the closed overlay, whose output goes there."""
         words = [self.mountd, command, "--root", self.noted().tree, *self.source, "--overlay", self.overlay.path, *more]
         try:
-            done = self.pool.while_closed(lambda: subprocess.run(words, stdin=subprocess.DEVNULL, capture_output=True))
+            done = self.pool.while_closed(lambda: subprocess.run(words, stdin=subprocess.DEVNULL, stdout=output,
+                                                                 stderr=subprocess.PIPE))
         except Unclosed as problem:
             raise Refusal(f"the overlay {self.overlay.path} wasn't closed well: {problem}") from None
         except (Unopened, SessionEnded, OSError) as problem:
@@ -279,7 +289,7 @@ def reachable(folder: str, answers: Answers) -> Iterator[None]:
         try:
             stack.enter_context(control.serving(folder, answers))
         except (Refusal, OSError) as problem:
-            tell(f"what {folder} shows can't be committed: {problem}")
+            tell(f"what {folder} shows can't be told or committed: {problem}")
         yield
 
 
@@ -387,7 +397,10 @@ def parser() -> argparse.ArgumentParser:
 
 # What is done with a folder that another run shows. A repository of such a name is named with its path, as `./commit`.
 COMMANDS: dict[str, tuple[Callable[[argparse.Namespace], None], Callable[[], argparse.ArgumentParser]]] = {
+    "changes": (folder_changes.changes, folder_changes.changes_parser),
     "commit": (commit_folder.commit, commit_folder.commit_parser),
+    "index": (folder_index.index, folder_index.index_parser),
+    "fsmonitor": (folder_index.fsmonitor, folder_index.fsmonitor_parser),
 }
 
 

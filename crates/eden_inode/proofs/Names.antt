@@ -84,7 +84,7 @@ keeps_step x z d e holds held keys each (n ∷ q) names h =
       | Some y ↦ λ there. (let w = each n y there in names_below n q z w.0 e held w.1.0 ∙ w.1.1 q names (sym (names_below n q x y d holds there) ∙ h))
     ] refl
 
-keeps_changed : (n : Name) (g : Row → Row) (f : Directory → Directory) (x : Row) → ((d : Directory) → (f d).rows ≡ change_row n g d.rows)
+pub keeps_changed : (n : Name) (g : Row → Row) (f : Directory → Directory) (x : Row) → ((d : Directory) → (f d).rows ≡ change_row n g d.rows)
     → ((d : Directory) (y : Row) → child_of x ≡ Some d → find_row n d.rows ≡ Some y → KeepsNames y (g y)) → KeepsNames x (change_child f x)
 keeps_changed n g f x rows keeps =
     elim (child_of x) as (λ o. child_of x ≡ o → KeepsNames x (change_child f x)) [

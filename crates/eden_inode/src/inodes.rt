@@ -15,7 +15,7 @@ ghost use Rattle.std.specs.Option.{option_copied, option_and_then};
 ghost use Rattle.eden_tree.specs.Directory.{Row, child_of};
 ghost use Rattle.eden_tree.specs.Paths.{row_at, edit_row, stamped_along};
 ghost use Rattle.eden_coupling.specs.Kept.{IsTable, IsKept};
-ghost use Rattle.eden_inode.specs.Trails.{Leads, Notes};
+ghost use Rattle.eden_inode.specs.Trails.{Leads, KeepsNames, Notes};
 ghost use Rattle.eden_coupling.specs.Loading.{IsAt, LoadsObject};
 ghost use Rattle.eden_coupling.specs.NumberKept.{KeepsNumbers};
 ghost use Rattle.eden_coupling.specs.NumberUnloads.{UnloadsAway};
@@ -198,7 +198,7 @@ impl<A: Allocator + Clone, W: World, F: Files<W>> Inodes<A, W, F> {
     }
 
     /// How often a name came or went, or a directory was unloaded; it stays at 2^64 - 1. While it is the same and below
-    /// that, each loaded directory keeps its names at their positions. A load doesn't change it.
+    /// that, each loaded directory keeps its names at their positions. Neither a load nor a change in place changes it.
     pub fn changes(&self) -> u64
         ensures { result ≡ self.now.changes }
     {
@@ -488,7 +488,7 @@ impl<A: Allocator + Clone, W: World, F: Files<W>> Inodes<A, W, F> {
     /// entry that moves, a chain that becomes the mount's own. Each is a type of its own, in the crates above.
     ///
     /// Within it memory and files may differ; whoever asks for it shows that they are tied once it is done. It counts as
-    /// one change of names, whatever it does.
+    /// one change of names, whatever it does; one that moves none is `change_in_place`.
     pub fn change<C: Change<A, Overlay<W, F>> + Drop>(&mut self, change: C) -> C::Output
         requires may { C.may change self.old.files self.old.root }
         requires table { (files : F) → (root : Row) → (answer : C.Output)
@@ -506,5 +506,29 @@ impl<A: Allocator + Clone, W: World, F: Files<W>> Inodes<A, W, F> {
         let answer = change.change(&mut self.overlay, &mut self.root);
         self.changes = self.changes.saturating_add(1);
         answer
+    }
+
+    /// `change`, where no name moves: a directory that is stored again or becomes the mount's own, an entry that gets
+    /// another kind or origin. The count of changes stays.
+    ///
+    /// Whoever asks for it shows, too, that each loaded directory keeps its names at their positions.
+    pub fn change_in_place<C: Change<A, Overlay<W, F>> + Drop>(&mut self, edit: C) -> C::Output
+        requires may { C.may edit self.old.files self.old.root }
+        requires table { (files : F) → (root : Row) → (answer : C.Output)
+            → C.does edit self.old.files self.old.root files root answer → IsTable root self.old.next }
+        requires kept { W.honest → (files : F) → (root : Row) → (answer : C.Output)
+            → C.does edit self.old.files self.old.root files root answer
+            → IsKept W.repository (F.stored files) root self.old.next }
+        requires numbers { W.honest → (files : F) → (root : Row) → (answer : C.Output)
+            → C.does edit self.old.files self.old.root files root answer
+            → KeepsNumbers W.repository (F.stored files) root self.old.next }
+        requires names { (files : F) → (root : Row) → (answer : C.Output)
+            → C.does edit self.old.files self.old.root files root answer → KeepsNames self.old.root root }
+        ensures does { C.does edit self.old.files self.old.root self.new.files self.new.root result }
+        ensures names { KeepsNames self.old.root self.new.root }
+        ensures changes { self.new.changes ≡ self.old.changes }
+        ensures rest { (self.new.next ≡ self.old.next) × (self.new.clock ≡ self.old.clock) }
+    {
+        edit.change(&mut self.overlay, &mut self.root)
     }
 }

@@ -13,5 +13,6 @@ mod Filing
 mod Additions
 mod Fills
 mod Fronts
+mod InPlace
 pub mod Numbered
 pub mod Renumbered

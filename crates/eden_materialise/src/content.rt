@@ -1,6 +1,6 @@
 //! A content stored for a file in the table of a mount.
 
-ghost use Rattle.std.specs.Prelude.{◌≡◌, ◌≤◌, ◌∷◌, [], ◌++◌, ◌+◌, min, false, if◌then◌else◌, Some, MatchBool, length, OnOk, OnErr};
+ghost use Rattle.std.specs.Prelude.{◌≡◌, ◌≤◌, ◌∷◌, [], ◌++◌, false, if◌then◌else◌, Some, MatchBool, length, OnOk, OnErr};
 ghost use Rattle.eden_model.specs.Shown.{node_from};
 ghost use Rattle.eden_model.specs.Trees.{graft};
 ghost use Rattle.eden_overlay_format.specs.Content.{content_most};
@@ -13,6 +13,7 @@ ghost use Rattle.eden_coupling.specs.Filing.{leaf, HasFile};
 ghost use Rattle.eden_coupling.specs.Laws.{owned};
 ghost use Rattle.eden_coupling.specs.Listings.{listing_of};
 ghost use Rattle.eden_inode.specs.Tables.{shows, ShowsSameNumbers};
+ghost use Rattle.eden_inode.specs.Trails.{KeepsNames};
 ghost use Rattle.eden_materialise.specs.Atomic.{IsAtomic};
 ghost use Rattle.eden_materialise.specs.Faults.{IsStoreFault};
 ghost use Rattle.eden_materialise.specs.Filing.{RefusedBy};
@@ -126,8 +127,8 @@ impl<A: Allocator, W: World, F: Files<W>> Change<A, Overlay<W, F>> for Filling<'
 /// nothing names yet; then the entry becomes the mount's own: the directory is stored with it so, and the chain above it as
 /// far as it isn't the mount's own; then memory is so.
 ///
-/// The tree that is shown has the content there, and is as before elsewhere. Errors: `Overlay` where the device failed, and
-/// `Memory`. Memory is as it was then, and so is what is shown.
+/// The tree that is shown has the content there, and is as before elsewhere; no name moves in memory. Errors: `Overlay`
+/// where the device failed, and `Memory`. Memory is as it was then, and so is what is shown.
 pub fn store_content<A: Allocator + Clone, W: World, F: Files<W>>(
     inodes: &mut Inodes<A, W, F>,
     alloc: Global,
@@ -159,11 +160,12 @@ pub fn store_content<A: Allocator + Clone, W: World, F: Files<W>>(
         (leaf (node_from w.kind (Some content.now) false))
         (shows W.World F.Files inodes.old)) }
     ensures numbers { W.honest → ShowsSameNumbers F.Files inodes.old inodes.new }
-    ensures changes { inodes.new.changes ≡ min (inodes.old.changes + 1) u64.MAX }
+    ensures names { KeepsNames inodes.old.root inodes.new.root }
+    ensures changes { inodes.new.changes ≡ inodes.old.changes }
     ensures next { inodes.new.next ≡ inodes.old.next }
 {
     inodes.holds();
-    inodes.change(Filling {
+    inodes.change_in_place(Filling {
         alloc,
         path,
         name,

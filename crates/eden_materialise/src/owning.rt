@@ -1,10 +1,11 @@
 //! A chain of directories made the mount's own, in the table of a mount.
 
-ghost use Rattle.std.specs.Prelude.{◌≡◌, ◌+◌, min, IfErr, OnOk, OnErr};
+ghost use Rattle.std.specs.Prelude.{◌≡◌, IfErr, OnOk, OnErr};
 ghost use Rattle.eden_coupling.specs.Chains.{IsLoadedAt, NoneMarked, StaysLoaded, Refused};
 ghost use Rattle.eden_coupling.specs.Laws.{owned};
 ghost use Rattle.eden_coupling.specs.Materialising.{Chain, owned_along};
 ghost use Rattle.eden_inode.specs.Tables.{shows, ShowsSameNumbers};
+ghost use Rattle.eden_inode.specs.Trails.{KeepsNames};
 ghost use Rattle.eden_materialise.specs.Chains.{IsHeld, Owns};
 ghost use Rattle.eden_materialise.specs.Faults.{IsStoreFault};
 
@@ -43,8 +44,9 @@ impl<A: Allocator, W: World, F: Files<W>> Change<A, Overlay<W, F>> for Owning<'_
 /// Makes the loaded directories along a path the mount's own, the root among them: each that isn't its own, and each
 /// above one that isn't, is stored, the lowest first, and then memory is so.
 ///
-/// The tree that is shown is as before. Errors: `Overlay` where the device failed, and `Memory`. Memory is as it was then;
-/// of the directories that were not the mount's own some may have been stored, which nothing shows.
+/// The tree that is shown is as before, and no name moves in memory. Errors: `Overlay` where the device failed, and
+/// `Memory`. Memory is as it was then; of the directories that were not the mount's own some may have been stored,
+/// which nothing shows.
 pub fn materialise<A: Allocator + Clone, W: World, F: Files<W>>(
     inodes: &mut Inodes<A, W, F>,
     alloc: Global,
@@ -63,9 +65,10 @@ pub fn materialise<A: Allocator + Clone, W: World, F: Files<W>>(
     ensures numbers { W.honest → ShowsSameNumbers F.Files inodes.old inodes.new }
     ensures marks { NoneMarked inodes.old.root inodes.new.root }
     ensures stays { StaysLoaded inodes.old.root inodes.new.root }
-    ensures changes { inodes.new.changes ≡ min (inodes.old.changes + 1) u64.MAX }
+    ensures names { KeepsNames inodes.old.root inodes.new.root }
+    ensures changes { inodes.new.changes ≡ inodes.old.changes }
     ensures rest { (inodes.new.next ≡ inodes.old.next) × (inodes.new.clock ≡ inodes.old.clock) }
 {
     inodes.holds();
-    inodes.change(Owning { alloc, path })
+    inodes.change_in_place(Owning { alloc, path })
 }

@@ -1,6 +1,6 @@
 //! A file of another kind in the table of a mount.
 
-ghost use Rattle.std.specs.Prelude.{◌≡◌, ◌≢◌, ◌∷◌, [], ◌++◌, ◌+◌, min, false, Some, None, OnOk};
+ghost use Rattle.std.specs.Prelude.{◌≡◌, ◌≢◌, ◌∷◌, [], ◌++◌, false, Some, None, OnOk};
 ghost use Rattle.eden_model.specs.declared.kind.Kind.TheVariants as kinds;
 ghost use Rattle.eden_model.specs.Shown.{node_from};
 ghost use Rattle.eden_model.specs.Trees.{graft};
@@ -9,6 +9,7 @@ ghost use Rattle.eden_coupling.specs.Chains.{chained};
 ghost use Rattle.eden_coupling.specs.Changing.{changed};
 ghost use Rattle.eden_coupling.specs.Filing.{leaf, content_shown, HasFile};
 ghost use Rattle.eden_inode.specs.Tables.{shows, ShowsSameNumbers};
+ghost use Rattle.eden_inode.specs.Trails.{KeepsNames};
 ghost use Rattle.eden_materialise.specs.Atomic.{IsAtomic};
 ghost use Rattle.eden_materialise.specs.Faults.{IsStoreFault};
 ghost use Rattle.eden_materialise.specs.Listings.{ChangesEntry};
@@ -79,8 +80,8 @@ impl<A: Allocator, W: World, F: Files<W>> Change<A, Overlay<W, F>> for KindChang
 /// Gives a file of the loaded directory at a path another kind, in place: its number, its origin and its content stay. The
 /// directory is stored so, and the chain above it as far as it isn't the mount's own; then memory is so.
 ///
-/// The tree that is shown has the file so, with the content that it had, and is as before elsewhere. Errors: `Overlay` where the device failed, and
-/// `Memory`. Memory is as it was then, and so is what is shown.
+/// The tree that is shown has the file so, with the content that it had, and is as before elsewhere; no name moves in
+/// memory. Errors: `Overlay` where the device failed, and `Memory`. Memory is as it was then, and so is what is shown.
 pub fn set_kind<A: Allocator + Clone, W: World, F: Files<W>>(
     inodes: &mut Inodes<A, W, F>,
     alloc: Global,
@@ -101,11 +102,12 @@ pub fn set_kind<A: Allocator + Clone, W: World, F: Files<W>>(
         (leaf (node_from kind (content_shown W.repository (F.stored inodes.old.files) w) false))
         (shows W.World F.Files inodes.old)) }
     ensures numbers { W.honest → ShowsSameNumbers F.Files inodes.old inodes.new }
-    ensures changes { inodes.new.changes ≡ min (inodes.old.changes + 1) u64.MAX }
+    ensures names { KeepsNames inodes.old.root inodes.new.root }
+    ensures changes { inodes.new.changes ≡ inodes.old.changes }
     ensures next { inodes.new.next ≡ inodes.old.next }
 {
     inodes.holds();
-    inodes.change(KindChange {
+    inodes.change_in_place(KindChange {
         alloc,
         path,
         name,

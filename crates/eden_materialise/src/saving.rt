@@ -4,7 +4,7 @@ ghost use Rattle.std.specs.Prelude.{◌≡◌, [], Some, IsTrue, IsFalse, IfErr,
 ghost use Rattle.eden_tree.specs.Directory.{Row, child_of};
 ghost use Rattle.eden_coupling.specs.Saving.{SavesAbove, IsSavedAbove};
 ghost use Rattle.eden_inode.specs.Tables.{shows, ShowsSameNumbers};
-ghost use Rattle.eden_inode.specs.Trails.{KeepsPlaces};
+ghost use Rattle.eden_inode.specs.Trails.{KeepsNames};
 ghost use Rattle.eden_materialise.specs.Faults.{IsStoreFault};
 ghost use Rattle.eden_materialise.specs.Saving.{CanSave, SavesAt};
 
@@ -84,11 +84,12 @@ fn save_at<A: Allocator + Clone, W: World, F: Files<W>>(
         result }
     ensures shown { W.honest → shows W.World F.Files inodes.new ≡ shows W.World F.Files inodes.old }
     ensures numbers { W.honest → ShowsSameNumbers F.Files inodes.old inodes.new }
-    ensures places { KeepsPlaces inodes.old inodes.new }
+    ensures names { KeepsNames inodes.old.root inodes.new.root }
+    ensures changes { inodes.new.changes ≡ inodes.old.changes }
     ensures rest { (inodes.new.next ≡ inodes.old.next) × (inodes.new.clock ≡ inodes.old.clock) }
 {
     inodes.holds();
-    inodes.change(SavingAt { alloc, path })
+    inodes.change_in_place(SavingAt { alloc, path })
 }
 
 /// Whether a loaded directory is unsaved above the entry at a path from this directory on, this one among them.
@@ -130,8 +131,8 @@ fn is_unsaved_above<A: Allocator + Clone, W: World, F: Files<W>>(
 /// Stores the loaded directories above the entry at a path that are unsaved, from the root down, and takes their marks off.
 /// Where none is, nothing is done.
 ///
-/// The tree that is shown is as before. Errors: `Overlay` where the device failed, and `Memory`; the directories below the
-/// one that was refused are as they were then.
+/// The tree that is shown is as before, and no name moves. Errors: `Overlay` where the device failed, and `Memory`; the
+/// directories below the one that was refused are as they were then.
 pub fn save_above<A: Allocator + Clone, W: World, F: Files<W>>(
     inodes: &mut Inodes<A, W, F>,
     alloc: Global,
@@ -144,7 +145,8 @@ pub fn save_above<A: Allocator + Clone, W: World, F: Files<W>>(
     ensures counted { OnOk result (F.failures inodes.new.files ≡ F.failures inodes.old.files) }
     ensures shown { W.honest → shows W.World F.Files inodes.new ≡ shows W.World F.Files inodes.old }
     ensures numbers { W.honest → ShowsSameNumbers F.Files inodes.old inodes.new }
-    ensures places { KeepsPlaces inodes.old inodes.new }
+    ensures names { KeepsNames inodes.old.root inodes.new.root }
+    ensures changes { inodes.new.changes ≡ inodes.old.changes }
     ensures rest { (inodes.new.next ≡ inodes.old.next) × (inodes.new.clock ≡ inodes.old.clock) }
     ensures idle { IsSavedAbove path.now inodes.old.root → inodes.new ≡ inodes.old }
 {

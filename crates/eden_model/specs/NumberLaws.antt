@@ -12,7 +12,8 @@ use Rattle.eden_model.specs.Limits.{number_end}
 use Rattle.eden_model.specs.Trees.{Path, Tree}
 use Rattle.eden_model.specs.Operations.{Replies, after, is_front, put}
 use Rattle.eden_model.specs.Histories.{fault_of, Legal, replay}
-use Rattle.eden_model.specs.Numbers.{Numbering, Numbers, opening_numbers, renumbered, stat_number, with_stat, after_numbers, replay_numbers, Allows, AllowsStat, AreNumbers, IsGone}
+use Rattle.eden_model.specs.Numbers.{Numbering, Numbers, opening_numbers, renumbered, stat_number, with_stat, after_numbers, replay_numbers}
+use Rattle.eden_model.specs.Numbers.{Allows, AllowsStat, AreNumbers, IsGone}
 use Rattle.eden_model.specs.Backing.{AreShown, Backs, Gains, IsShownNumber, Renumbers}
 
 -- ---- what each request does to numbers

@@ -31,6 +31,16 @@ IsChange (ask.Unlink p) = Unit {0}
 IsChange (ask.Rmdir p) = Unit {0}
 IsChange _ = ⊥
 
+-- it moves no name: none comes, goes or goes elsewhere
+abbrev pub MovesNoName : Request → Type 0
+MovesNoName (ask.Create p) = ⊥
+MovesNoName (ask.Mkdir p) = ⊥
+MovesNoName (ask.Symlink p target) = ⊥
+MovesNoName (ask.Unlink p) = ⊥
+MovesNoName (ask.Rmdir p) = ⊥
+MovesNoName (ask.Rename from to) = ⊥
+MovesNoName _ = Unit {0}
+
 -- it asks for more than is ever given or taken, or for nothing where something has to be
 abbrev pub IsBeyondLimits : Request → Type 0
 IsBeyondLimits (ask.Read p offset count) = most_data < count

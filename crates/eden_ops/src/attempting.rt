@@ -8,7 +8,7 @@ ghost use Rattle.eden_ops.specs.Already.{IsSoAlready};
 ghost use Rattle.eden_ops.specs.Attempts.{Attempts};
 ghost use Rattle.eden_ops.specs.Keeping.{Keeps};
 ghost use Rattle.eden_ops.specs.Leaving.{LeavesAfter, StampsItsWalk};
-ghost use Rattle.eden_ops.specs.Looks.{IsLook, IsChange, IsBeyondLimits};
+ghost use Rattle.eden_ops.specs.Looks.{IsLook, IsChange, IsBeyondLimits, MovesNoName};
 ghost use Rattle.eden_ops.specs.Renumbering.{EditsNumbers, TellsItsNumber, Renumbered};
 ghost use Rattle.eden_ops.specs.Stamps.{AreWalked};
 ghost use Rattle.eden_ops.specs.Trails.{Counts, LeadsFor, LeadsToNeed, components, first_of, remembered, walked_of};
@@ -47,6 +47,7 @@ pub fn change<A: Allocator + Clone, W: World, F: Files<W>, C: Allocator + Clone>
     ensures already { IsSoAlready W.World F.Files request.now inodes.old
         → Keeps W.World F.Files (paths_of request.now) inodes.old inodes.new }
     ensures refused { IsBeyondLimits request.now → inodes.new ≡ inodes.old }
+    ensures in_place { MovesNoName request.now → inodes.new.changes ≡ inodes.old.changes }
     ensures counts { Counts (first_of (paths_of request.now)) trail.old trail.new }
     ensures leads { LeadsToNeed (first_of (paths_of request.now)) trail.new.positions inodes.new.root result }
 {
@@ -79,6 +80,7 @@ pub fn change<A: Allocator + Clone, W: World, F: Files<W>, C: Allocator + Clone>
 
 /// One attempt of a request: it is answered as the table of operations answers it on what is shown, or ends in a fault, or
 /// needs an object that the cache lacks. Nothing is fetched. Where it asks for what is so already nothing is stored.
+/// One that moves no name, as a `write`, leaves the count of changes.
 pub fn attempt<A: Allocator + Clone, W: World, F: Files<W>, C: Allocator + Clone>(
     inodes: &mut Inodes<A, W, F>,
     cache: &mut Stock<W, C>,
@@ -93,6 +95,7 @@ pub fn attempt<A: Allocator + Clone, W: World, F: Files<W>, C: Allocator + Clone
     ensures already { IsSoAlready W.World F.Files request.now inodes.old
         → Keeps W.World F.Files (paths_of request.now) inodes.old inodes.new }
     ensures refused { IsBeyondLimits request.now → inodes.new ≡ inodes.old }
+    ensures in_place { MovesNoName request.now → inodes.new.changes ≡ inodes.old.changes }
     ensures walked { IsLook request.now → ¬ IsBeyondLimits request.now
         → AreWalked (paths_of request.now) inodes.new.clock inodes.new.root }
     ensures looks { IsLook request.now → Keeps W.World F.Files (paths_of request.now) inodes.old inodes.new }
@@ -120,6 +123,7 @@ pub fn attempt_from<A: Allocator + Clone, W: World, F: Files<W>, C: Allocator + 
     ensures already { IsSoAlready W.World F.Files request.now inodes.old
         → Keeps W.World F.Files (paths_of request.now) inodes.old inodes.new }
     ensures refused { IsBeyondLimits request.now → inodes.new ≡ inodes.old }
+    ensures in_place { MovesNoName request.now → inodes.new.changes ≡ inodes.old.changes }
     ensures walked { IsLook request.now → ¬ IsBeyondLimits request.now
         → AreWalked (paths_of request.now) inodes.new.clock inodes.new.root }
     ensures looks { IsLook request.now → Keeps W.World F.Files (paths_of request.now) inodes.old inodes.new }
@@ -164,6 +168,7 @@ fn attempt_along<A: Allocator + Clone, W: World, F: Files<W>, C: Allocator + Clo
     ensures already { IsSoAlready W.World F.Files request.now inodes.old
         → Keeps W.World F.Files (paths_of request.now) inodes.old inodes.new }
     ensures refused { IsBeyondLimits request.now → inodes.new ≡ inodes.old }
+    ensures in_place { MovesNoName request.now → inodes.new.changes ≡ inodes.old.changes }
     ensures walked { IsLook request.now → ¬ IsBeyondLimits request.now
         → AreWalked (paths_of request.now) inodes.new.clock inodes.new.root }
     ensures looks { IsLook request.now → Keeps W.World F.Files (paths_of request.now) inodes.old inodes.new }

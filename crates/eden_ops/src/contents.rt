@@ -119,6 +119,7 @@ pub(crate) fn make<A: Allocator + Clone, W: World, F: Files<W>, C: Allocator + C
     ensures ok { IfOk result (IsMade W.World F.Files path.now inodes.old form.entry) }
     ensures lacks { IfErr result (Lacks W.World F.Files path.now inodes.old inodes.new cache.new) }
     ensures still { inodes.new.root ≡ inodes.old.root }
+    ensures changes { inodes.new.changes ≡ inodes.old.changes }
     ensures same { W.honest → shows W.World F.Files inodes.new ≡ shows W.World F.Files inodes.old }
     ensures keeps { Keeps W.World F.Files (path.now ∷ []) inodes.old inodes.new }
     ensures cache { FindsTheSame cache.old cache.new }

@@ -49,6 +49,7 @@ pub fn set_exec<A: Allocator + Clone, W: World, F: Files<W>, C: Allocator + Clon
     ensures already { IsSoAlready W.World F.Files (ask.SetExec path.now exec) inodes.old
         → Keeps W.World F.Files (path.now ∷ []) inodes.old inodes.new }
     ensures edits { EditsNumbers W.World F.Files (ask.SetExec path.now exec) inodes.old inodes.new result }
+    ensures changes { inodes.new.changes ≡ inodes.old.changes }
     ensures counts { Counts path.now trail.old trail.new }
     ensures leads { LeadsToNeed path.now trail.new.positions inodes.new.root result }
 {

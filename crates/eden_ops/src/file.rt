@@ -38,6 +38,7 @@ pub(crate) fn meet_file<A: Allocator + Clone, W: World, F: Files<W>, C: Allocato
         → IfErr result (λ z. Attempts W.World F.Files q inodes.old inodes.new cache.old cache.new (stopped z)) }
     ensures same { W.honest → shows W.World F.Files inodes.new ≡ shows W.World F.Files inodes.old }
     ensures keeps { Keeps W.World F.Files (path.now ∷ []) inodes.old inodes.new }
+    ensures changes { inodes.new.changes ≡ inodes.old.changes }
     ensures walked { IsWalked path.now inodes.new.clock inodes.new.root }
     ensures cache { FindsTheSame cache.old cache.new }
     ensures counts { Counts path.now trail.old trail.new }

@@ -40,6 +40,7 @@ pub(crate) fn fill<A: Allocator + Clone, W: World, F: Files<W>>(
     ensures leaves { Leaves F.Files inodes.old inodes.new }
     ensures stamps { NoneStamped inodes.old.root inodes.new.root }
     ensures next { inodes.new.next ≡ inodes.old.next }
+    ensures changes { inodes.new.changes ≡ inodes.old.changes }
     ensures saved { OnOk result (IsSavedAbove path.now inodes.new.root) }
 {
     shown_laws();

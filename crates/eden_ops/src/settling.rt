@@ -22,6 +22,7 @@ pub(crate) fn settle<A: Allocator + Clone, W: World, F: Files<W>>(
     ensures settles { Settles W.World F.Files inodes.old inodes.new result }
     ensures saved { OnOk result (IsSavedAbove path.now inodes.new.root) }
     ensures idle { IsSavedAbove path.now inodes.old.root → inodes.new ≡ inodes.old }
+    ensures changes { inodes.new.changes ≡ inodes.old.changes }
     ensures table { IsTable inodes.new.root inodes.new.next }
 {
     let saved = save_above(inodes, alloc, path);

@@ -35,6 +35,7 @@ pub fn truncate<A: Allocator + Clone, W: World, F: Files<W>, C: Allocator + Clon
     ensures stamps { StampsItsWalk (ask.Truncate path.now size)
         inodes.old.clock inodes.old.root inodes.new.root result }
     ensures edits { EditsNumbers W.World F.Files (ask.Truncate path.now size) inodes.old inodes.new result }
+    ensures changes { inodes.new.changes ≡ inodes.old.changes }
     ensures counts { Counts path.now trail.old trail.new }
     ensures leads { LeadsToNeed path.now trail.new.positions inodes.new.root result }
 {
@@ -81,6 +82,7 @@ pub fn write<A: Allocator + Clone, W: World, F: Files<W>, C: Allocator + Clone>(
         inodes.old.clock inodes.old.root inodes.new.root result }
     ensures refused { IsBeyondLimits (ask.Write path.now offset bytes.now) → inodes.new ≡ inodes.old }
     ensures edits { EditsNumbers W.World F.Files (ask.Write path.now offset bytes.now) inodes.old inodes.new result }
+    ensures changes { inodes.new.changes ≡ inodes.old.changes }
     ensures counts { Counts path.now trail.old trail.new }
     ensures leads { LeadsToNeed path.now trail.new.positions inodes.new.root result }
 {

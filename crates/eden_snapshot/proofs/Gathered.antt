@@ -24,7 +24,7 @@ pub row_put : (old new : Rows) (n k : Name) (v : Row) → lookup (is_name n) new
 row_put old new n k v put = ap (λ o. unwrap_or o nothing) put ∙ unwrapped (is_name k n) v (lookup (is_name n) old)
 
 -- the order and the test agree
-same_name : (k n : Name) → is_name k n ≡ bytes_eq n k
+pub same_name : (k n : Name) → is_name k n ≡ bytes_eq n k
 same_name k n = is_eq-slice_cmp k n ∙ nat_list_eq_equiv.symm k n
 
 first_old : (base : Row) (b : Bool) (e : TreeEntry) (o : Option TreeEntry)

@@ -6,3 +6,4 @@ pub mod Ordered
 pub mod Trails
 mod Differing
 mod Gathered
+mod Exactly

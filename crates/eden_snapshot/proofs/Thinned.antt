@@ -88,7 +88,7 @@ module _ (G : Ground Source) where
   -- ---- what an entry shows
 
   -- a file or a link, by its content
-  leaf : (k : Kind) (s t : Source) → k ≢ kind.Dir → G.content t ≡ G.content s → (p : Path)
+  pub leaf : (k : Kind) (s t : Source) → k ≢ kind.Dir → G.content t ≡ G.content s → (p : Path)
       → shown G (record { kind = k; source = t }) p ≡ shown G (record { kind = k; source = s }) p
   leaf kind.File s t plain same [] = ap (λ (c : Option (List ℕ)). Some (node.File false c)) same
   leaf kind.Exec s t plain same [] = ap (λ (c : Option (List ℕ)). Some (node.File true c)) same
@@ -100,13 +100,13 @@ module _ (G : Ground Source) where
   leaf kind.Dir s t plain same (n ∷ p) = absurd (plain refl)
 
   -- a directory, by its entries
-  abbrev dir : Source → Item Source
+  abbrev pub dir : Source → Item Source
   dir s = record { kind = kind.Dir; source = s }
 
-  at_top : (s : Source) (es : Items Source) → G.entries s ≡ Some es → shown G (dir s) [] ≡ Some (node.Dir true)
+  pub at_top : (s : Source) (es : Items Source) → G.entries s ≡ Some es → shown G (dir s) [] ≡ Some (node.Dir true)
   at_top s es had = ap (λ (o : Option (Items Source)). Some (node.Dir (is_some o))) had
 
-  at_name : (s : Source) (es : Items Source) → G.entries s ≡ Some es → (n : Name) (p : Path) → shown G (dir s) (n ∷ p) ≡ shown_at G (es n) p
+  pub at_name : (s : Source) (es : Items Source) → G.entries s ≡ Some es → (n : Name) (p : Path) → shown G (dir s) (n ∷ p) ≡ shown_at G (es n) p
   at_name s es had n p = ap (λ (o : Option (Items Source)). option_and_then (λ j. shown G j p) (option_and_then (λ (f : Items Source). f n) o)) had
 
   module _ (s t : Source) (es fs : Items Source) (had : G.entries s ≡ Some es) (has : G.entries t ≡ Some fs)
@@ -134,7 +134,7 @@ module _ (G : Ground Source) where
 -- ---- all that is written
 
 -- what is an object shows the same under its id
-by_kind : (k : Kind) (id : Id) → item_by (mode_of k) id ≡ record { kind = k; source = Object id }
+pub by_kind : (k : Kind) (id : Id) → item_by (mode_of k) id ≡ record { kind = k; source = Object id }
 by_kind kind.File id = refl
 by_kind kind.Exec id = refl
 by_kind kind.Link id = refl
@@ -150,10 +150,10 @@ has_tree : (R : Repository) (ts : List TreeEntry) (framed : List ℕ) (id : Id) 
 has_tree R ts framed id e is has = (has id).tree (sym is) (tree_text e.written) e.written e.is e.grammar
 
 module _ (R : Repository) (F : Stored) where
-  abbrev G : Ground Source
+  abbrev pub G : Ground Source
   G = ground_with R (own_files F)
 
-  item_kind : (e : StoredEntry) (o : Origin) → e.origin ≡ o → item_of e ≡ record { kind = e.kind; source = source_of e.number o }
+  pub item_kind : (e : StoredEntry) (o : Origin) → e.origin ≡ o → item_of e ≡ record { kind = e.kind; source = source_of e.number o }
   item_kind e o is = let at : Origin → Item Source = λ p. record { kind = e.kind; source = source_of e.number p } in ap at is
 
   object_thins : (e : StoredEntry) (id : Id) → e.origin ≡ origin.Object id → Thins (shown G (item_of e)) (shown G (item_by (mode_of e.kind) id))
@@ -167,10 +167,10 @@ module _ (R : Repository) (F : Stored) where
       ∙ leaf G e.kind (Own e.number) (Object id) plain (has ∙ sym held) p
       ∙ ap (λ (i : Item Source). shown G i p) (sym (item_kind e origin.Own is)))
 
-  own_entries : (k : ℕ) (inside : List StoredEntry) → HoldsEntries F k inside → entries_with R (own_files F) (Own k) ≡ Some (items_of inside)
+  pub own_entries : (k : ℕ) (inside : List StoredEntry) → HoldsEntries F k inside → entries_with R (own_files F) (Own k) ≡ Some (items_of inside)
   own_entries k inside held = ap (option_map items_of) held
 
-  tree_entries : (id : Id) (ts : List TreeEntry) → R.tree id ≡ Some ts → entries_with R (own_files F) (Object id) ≡ Some (repository.items_of ts)
+  pub tree_entries : (id : Id) (ts : List TreeEntry) → R.tree id ≡ Some ts → entries_with R (own_files F) (Object id) ≡ Some (repository.items_of ts)
   tree_entries id ts has = ap (option_map repository.items_of) has
 
   -- an own directory, by the tree of what is written of its entries
@@ -192,7 +192,7 @@ module _ (R : Repository) (F : Stored) where
   void_thins k inside held each = bare_thins G (Own k) (items_of inside) (own_entries k inside held) each
 
   -- one without contents
-  is_void : (e : StoredEntry) → e.origin ≡ origin.Empty → HasOrigin e.kind e.origin → item_of e ≡ dir G Empty
+  pub is_void : (e : StoredEntry) → e.origin ≡ origin.Empty → HasOrigin e.kind e.origin → item_of e ≡ dir G Empty
   is_void e is has =
       let at_kind : e.kind ≡ kind.Dir = subst (HasOrigin e.kind) is has in
       let at : Kind → Item Source = λ k. record { kind = k; source = Empty } in
@@ -208,7 +208,7 @@ module _ (R : Repository) (F : Stored) where
   as_submodule e id is has =
       same_thins (shown G (item_of e)) (shown G (item_by mode.Gitlink id)) (λ p. ap (λ (i : Item Source). shown G i p) (sym (is_void e is has)))
 
-  is_dir : (e : StoredEntry) → e.origin ≡ origin.Own → e.kind ≡ kind.Dir → item_of e ≡ dir G (Own e.number)
+  pub is_dir : (e : StoredEntry) → e.origin ≡ origin.Own → e.kind ≡ kind.Dir → item_of e ≡ dir G (Own e.number)
   is_dir e is at_kind = let at : Kind → Item Source = λ k. record { kind = k; source = Own e.number } in item_kind e origin.Own is ∙ ap at at_kind
 
   as_dir : (e : StoredEntry) (id : Id) → e.kind ≡ kind.Dir → item_by (mode_of e.kind) id ≡ dir G (Object id)
@@ -256,10 +256,10 @@ module _ (R : Repository) (F : Stored) where
   }
 
   -- what the files show above a commit's tree, and where the root is the mount's own
-  commit_shows : (root : Id) → root_file F ≡ None → FilesShow R root F ≡ shown G (root_of root)
+  pub commit_shows : (root : Id) → root_file F ≡ None → FilesShow R root F ≡ shown G (root_of root)
   commit_shows root none = ap (λ (o : Option (List ℕ)). shown G (root_item root o)) none
 
-  own_shows : (root : Id) (o : Option (List ℕ)) → root_file F ≡ o → is_some o ≡ true → FilesShow R root F ≡ shown G (dir G (Own 1))
+  pub own_shows : (root : Id) (o : Option (List ℕ)) → root_file F ≡ o → is_some o ≡ true → FilesShow R root F ≡ shown G (dir G (Own 1))
   own_shows root None is some = absurd (cc)
   own_shows root (Some bytes) is some = ap (λ (o : Option (List ℕ)). shown G (root_item root o)) is
 

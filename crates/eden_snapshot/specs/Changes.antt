@@ -1,5 +1,6 @@
 -- How what is shown differs from a commit's tree.
-use Rattle.std.specs.Prelude.{◌≡◌, ℕ, Bool, true, ◌==◌, ◌&&◌, List, [], ◌∷◌, ◌++◌, Option, Some, None, IsSome, if◌then◌else◌}
+use Rattle.std.specs.Prelude.{◌≡◌, ℕ, Bool, true, false, ◌==◌, ◌&&◌, List, [], ◌∷◌, ◌++◌, Option, Some, None, IsSome, if◌then◌else◌}
+use Rattle.std.specs.Option.{is_some}
 use Rattle.eden_model.specs.declared.id.Id.{Id}
 use Rattle.eden_model.specs.declared.kind.Kind.{Kind}
 use Rattle.eden_model.specs.declared.kind.Kind.TheVariants as kind
@@ -52,15 +53,30 @@ may_be id (Some other) = same_id id other
 abbrev pub is_same : Place → Stand → Bool
 is_same place stand = (number_of place.0 == number_of stand.0) && may_be place.1 stand.1
 
+abbrev pub is_tree : Mode → Bool
+is_tree mode.File = false
+is_tree mode.Exec = false
+is_tree mode.Link = false
+is_tree mode.Dir = true
+is_tree mode.Gitlink = false
+
+-- a tree is there that isn't looked into, or was
+abbrev pub is_whole : Bool → Stand → Bool
+is_whole was_tree (mode.File, id) = was_tree
+is_whole was_tree (mode.Exec, id) = was_tree
+is_whole was_tree (mode.Link, id) = was_tree
+is_whole was_tree (mode.Dir, id) = is_some id
+is_whole was_tree (mode.Gitlink, id) = was_tree
+
 -- how what stands there differs from what the commit has there, or that it doesn't
 abbrev pub change_of : Option Place → Option Stand → Option Change
 change_of None None = None
-change_of None (Some stand) = Some (record { how = how.Added; mode = stand.0 })
-change_of (Some place) None = Some (record { how = how.Removed; mode = place.0 })
+change_of None (Some stand) = Some (record { how = how.Added; mode = stand.0; whole = is_whole false stand })
+change_of (Some place) None = Some (record { how = how.Removed; mode = place.0; whole = is_tree place.0 })
 change_of (Some place) (Some stand) =
     if sort_of place.0 == sort_of stand.0
-    then (if is_same place stand then None else Some (record { how = how.Modified; mode = stand.0 }))
-    else Some (record { how = how.Retyped; mode = stand.0 })
+    then (if is_same place stand then None else Some (record { how = how.Modified; mode = stand.0; whole = is_whole (is_tree place.0) stand }))
+    else Some (record { how = how.Retyped; mode = stand.0; whole = is_whole (is_tree place.0) stand })
 
 -- ---- path by path
 

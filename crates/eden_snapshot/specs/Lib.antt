@@ -7,3 +7,4 @@ pub mod Closing
 pub mod Commits
 pub mod Rows
 pub mod Changes
+pub mod Exact

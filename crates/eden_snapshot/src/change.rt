@@ -1,7 +1,7 @@
 //! What was changed at one path.
 
 ghost use Rattle.std.specs.Prelude.{◌≡◌, Some};
-ghost use Rattle.eden_snapshot.specs.Changes.{change_of, may_be, number_of, sort_of};
+ghost use Rattle.eden_snapshot.specs.Changes.{change_of, is_tree, is_whole, may_be, number_of, sort_of};
 
 use eden_model::{Id, Mode};
 
@@ -25,6 +25,8 @@ pub struct Change {
     pub how: How,
     /// What stands there, or where nothing does what the commit has there.
     pub mode: Mode,
+    /// Whether it is told by its top alone: what is below is the commit's tree's, or was that, and isn't told.
+    pub whole: bool,
 }
 
 /// What the commit has under a name: the mode and the id.
@@ -43,10 +45,12 @@ pub(crate) fn change_of(old: Option<Place>, new: Option<Stand>) -> Option<Change
         (None, Some(stand)) => Some(Change {
             how: How::Added,
             mode: stand.0,
+            whole: is_whole(false, stand),
         }),
         (Some(place), None) => Some(Change {
             how: How::Removed,
             mode: place.0,
+            whole: is_tree(place.0),
         }),
         (Some(place), Some(stand)) => changed(place, stand),
     }
@@ -63,7 +67,31 @@ fn changed(old: Place, new: Stand) -> Option<Change>
     } else {
         How::Modified
     };
-    Some(Change { how, mode: new.0 })
+    Some(Change {
+        how,
+        mode: new.0,
+        whole: is_whole(is_tree(old.0), new),
+    })
+}
+
+// Whether it is a tree.
+fn is_tree(mode: Mode) -> bool
+    ensures { result ≡ is_tree mode }
+{
+    match mode {
+        Mode::Dir => true,
+        Mode::File | Mode::Exec | Mode::Link | Mode::Gitlink => false,
+    }
+}
+
+// Whether a tree is there that isn't looked into, or was.
+fn is_whole(was_tree: bool, new: Stand) -> bool
+    ensures { result ≡ is_whole was_tree new }
+{
+    match new.0 {
+        Mode::Dir => new.1.is_some(),
+        Mode::File | Mode::Exec | Mode::Link | Mode::Gitlink => was_tree,
+    }
 }
 
 // Whether they may be one object.

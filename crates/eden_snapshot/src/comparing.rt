@@ -4,6 +4,7 @@ ghost use Rattle.std.specs.Prelude.{◌≡◌, ◌∷◌, ◌++◌, [], Some, If
 ghost use Rattle.eden_snapshot.specs.Changes.{HasInside, IsBlobOf, StandsAs, StandsBy, Tells, TellsAll, TellsBelow};
 ghost use Rattle.eden_snapshot.specs.Changes.{TellsDirectory, TellsInside};
 ghost use Rattle.eden_snapshot.specs.Changes.{own_directory, own_directory_by, told_of};
+ghost use Rattle.eden_snapshot.specs.Exact.{TellsExactly};
 
 use crate::change::{Change, Stand, change_of};
 use crate::commit::tree_entries;
@@ -48,8 +49,9 @@ pub trait ChangeSink<W: World> {
 /// A directory of the mount's own is looked into, and the commit's tree at its path is asked for; nothing else of the
 /// commit is. What isn't the mount's own is told by its top alone: a directory that was moved as one that is removed
 /// and one that is added, and one that stands in the place of another as one that is modified. An own file whose blob
-/// has the id that the commit has there is no change. Empty directories are told too, which a snapshot leaves out, and
-/// a submodule that stands at a path where the commit has one is none.
+/// has the id that the commit has there is no change. So a path is told exactly where what the files show differs from
+/// the commit's whole tree, but for what is below a path that is told by its top alone. Empty directories are told too,
+/// which a snapshot leaves out, and a submodule that stands at a path where the commit has one is none.
 pub fn changes<W: World, F: Files<W>, S: Source<W>, C: ChangeSink<W>>(
     alloc: Global,
     root: Id,
@@ -59,6 +61,8 @@ pub fn changes<W: World, F: Files<W>, S: Source<W>, C: ChangeSink<W>>(
 ) -> Result<(), SnapshotFault>
     ensures told { W.honest → OnOk result
         (TellsAll (F.stored overlay.old) W.repository root (C.told sink.old) (C.told sink.new)) }
+    ensures exact { W.honest → OnOk result
+        (TellsExactly W.repository root (F.stored overlay.old) (C.told sink.old) (C.told sink.new)) }
     ensures unchanged { W.honest → F.stored overlay.new ≡ F.stored overlay.old }
 {
     if !overlay.is_rooted()? {

@@ -1,5 +1,9 @@
--- How the commands end that look at a closed overlay: the names of their faults, and their statuses.
-use Rattle.std.specs.Prelude.{ℕ, List, codes}
+-- The commands that look at a closed overlay: the words of their lines, the names of their faults, and their statuses.
+use Rattle.std.specs.Prelude.{ℕ, Bool, true, false, List, [], codes}
+use Rattle.eden_model.specs.declared.kind.Mode.{Mode}
+use Rattle.eden_model.specs.declared.kind.Mode.TheVariants as mode
+use Rattle.eden_snapshot.specs.declared.change.How.{How}
+use Rattle.eden_snapshot.specs.declared.change.How.TheVariants as how
 use Rattle.eden_snapshot.specs.declared.closed.ClosedFault.{ClosedFault}
 use Rattle.eden_snapshot.specs.declared.closed.ClosedFault.TheVariants as closed
 use Rattle.eden_snapshot.specs.declared.fault.SnapshotFault.{SnapshotFault}
@@ -26,7 +30,27 @@ snapshot_name snapshot.Device = codes "Device"
 snapshot_name snapshot.Sink = codes "Sink"
 snapshot_name snapshot.Memory = codes "Memory"
 
--- the status of a snapshot that wasn't taken
+-- the status of a snapshot that wasn't taken, or of changes that weren't all told
 abbrev pub take_status : TakeFault → ℕ
 take_status (take.Closed fault) = 3
 take_status (take.Snapshot fault) = 4
+
+-- the letter of a change, as Git has it
+abbrev pub how_letter : How → List ℕ
+how_letter how.Added = codes "A"
+how_letter how.Removed = codes "D"
+how_letter how.Modified = codes "M"
+how_letter how.Retyped = codes "T"
+
+-- what stands there, or stood there where nothing does
+abbrev pub mode_word : Mode → List ℕ
+mode_word mode.File = codes "file"
+mode_word mode.Exec = codes "exec"
+mode_word mode.Link = codes "link"
+mode_word mode.Dir = codes "dir"
+mode_word mode.Gitlink = codes "submodule"
+
+-- what is put behind the path of a change that is told by its top alone
+abbrev pub whole_word : Bool → List ℕ
+whole_word true = codes " whole"
+whole_word false = []

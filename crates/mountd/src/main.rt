@@ -1,9 +1,11 @@
 //! The program `mountd`: answers requests on the files of a Git commit, and keeps what they change.
 #![tactic(auto)]
 
+mod changes;
 mod folder;
 mod hold;
 mod kernel;
+mod lines;
 mod path_text;
 mod report;
 mod serve;
@@ -15,6 +17,7 @@ mod stdio;
 mod tidy;
 mod version;
 
+use changes::changes;
 use eden_object_writer::{ImportFault, Progress, Store};
 use folder::folder;
 use mountd_options::{Command, ImportOptions, options};
@@ -67,6 +70,7 @@ fn main(rt: HostRuntime) -> ExitCode {
         Ok(Command::Import(options)) => report::import(&rt, import(&rt, options)),
         Ok(Command::Tidy(options)) => tidy(&rt, options),
         Ok(Command::Snapshot(options)) => snapshot(&rt, options),
+        Ok(Command::Changes(options)) => changes(&rt, options),
         Ok(Command::Version) => version(&rt),
         Err(error) => report::command_line(&rt, &error),
     }

@@ -61,8 +61,8 @@ impl<R: Files + Eprint> Sink<Outside> for FolderSink<R> {
     }
 }
 
-// The count of failures after that answer.
-fn count(failures: u64, answer: &Result<(), SinkFault>) -> u64
+/// The count of failures after that answer.
+pub fn count(failures: u64, answer: &Result<(), SinkFault>) -> u64
     ensures failed { answer.now ≡ Err sink.Device → result ≡ one_more failures }
     ensures passed { answer.now ≢ Err sink.Device → result ≡ failures }
 {

@@ -30,7 +30,7 @@ struct Work {
     sink: FolderSink<HostRuntime>,
 }
 
-/// Why a snapshot wasn't taken.
+/// Why a snapshot wasn't taken, or not all changes were told.
 #[derive(Clone, Copy)]
 pub enum TakeFault {
     /// The overlay isn't one that was closed on that tree.
@@ -141,8 +141,8 @@ fn print_id<R: Print>(rt: &R, alloc: Global, id: Id) -> io::Result<()> {
     println!(rt; "{digits}")
 }
 
-// The name of why an overlay isn't one that was closed.
-fn closed_name(fault: ClosedFault) -> &'static str
+/// The name of why an overlay isn't one that was closed.
+pub fn closed_name(fault: ClosedFault) -> &'static str
     ensures { result.now ≡ closed_name fault }
 {
     match fault {
@@ -154,8 +154,8 @@ fn closed_name(fault: ClosedFault) -> &'static str
     }
 }
 
-// The name of why there is no snapshot.
-fn snapshot_name(fault: SnapshotFault) -> &'static str
+/// The name of why there is no snapshot, or why not all changes were told.
+pub fn snapshot_name(fault: SnapshotFault) -> &'static str
     ensures { result.now ≡ snapshot_name fault }
 {
     match fault {

@@ -18,7 +18,7 @@ use Rattle.clap.specs.Faults.{fault_of}
 use Rattle.clap.specs.Values.{kind_of}
 use Rattle.clap.specs.declared.error.Error.{Error}
 use Rattle.clap.specs.declared.error.kind.ErrorKind.TheVariants.{OutOfMemory}
-use Rattle.mountd_options.specs.CommandLine.{IsTaken, NamesItsSource, NamesMount, NamesServed, Refuses, RefusesNumber, RefusesServed, RefusesServer, RefusesValues, command_name, fuse, import, mountd_line, named, objects, serve, server_name, snapshot, stdio, subcommands, tidy, value_of}
+use Rattle.mountd_options.specs.CommandLine.{IsTaken, NamesItsSource, NamesMount, NamesServed, Refuses, RefusesNumber, RefusesServed, RefusesServer, RefusesValues, changes, command_name, fuse, import, mountd_line, named, objects, serve, server_name, snapshot, stdio, subcommands, tidy, value_of}
 use Rattle.mountd_options.specs.Grammar.{HasRequired, Subcommand, value_in}
 use Rattle.mountd_options.specs.Numbers.{IsNoNumber, IsNoValue, number_name}
 use Rattle.mountd_options.specs.declared.numbers.NumberOption.{NumberOption}
@@ -107,8 +107,11 @@ required_met (subcommand ∷ rest) one rows apart (inr among) (inr later) = requ
 
 apart : AreApart subcommands
 apart = (
-  (refl, (refl, (refl, (refl, (refl, (refl, tt)))))),
-  ((refl, (refl, (refl, (refl, (refl, tt))))), ((refl, (refl, (refl, (refl, tt)))), ((refl, (refl, (refl, tt))), ((refl, (refl, tt)), ((refl, tt), (tt, tt)))))),
+  (refl, (refl, (refl, (refl, (refl, (refl, (refl, tt))))))),
+  (
+    (refl, (refl, (refl, (refl, (refl, (refl, tt)))))),
+    ((refl, (refl, (refl, (refl, (refl, tt))))), ((refl, (refl, (refl, (refl, tt)))), ((refl, (refl, (refl, tt))), ((refl, (refl, tt)), ((refl, tt), (tt, tt)))))),
+  ),
 )
 
 -- what a subcommand requires is there, where it was met
@@ -122,8 +125,9 @@ pub import-named : (words : List Text) (m : ArgMatches) → IsTaken words → su
     → (subcommand_name_of m ≡ Some stdio.0 → false ≡ true) → (subcommand_name_of m ≡ Some serve.0 → false ≡ true)
     → (subcommand_name_of m ≡ Some objects.0 → false ≡ true) → (subcommand_name_of m ≡ Some tidy.0 → false ≡ true)
     → (subcommand_name_of m ≡ Some snapshot.0 → false ≡ true) → (subcommand_name_of m ≡ Some fuse.0 → false ≡ true)
+    → (subcommand_name_of m ≡ Some changes.0 → false ≡ true)
     → subcommand_name_of m ≡ Some import.0
-import-named words m taken rows no_stdio no_serve no_objects no_tidy no_snapshot no_fuse =
+import-named words m taken rows no_stdio no_serve no_objects no_tidy no_snapshot no_fuse no_changes =
     elim (Meets-taken (codes "mountd") subcommands words taken) [
       | inl is ↦ absurd (true≢false (sym (no_stdio (named_by m words stdio.0 is.0 rows is.1))))
       | inr (inl is) ↦ absurd (true≢false (sym (no_serve (named_by m words serve.0 is.0 rows is.1))))
@@ -132,7 +136,8 @@ import-named words m taken rows no_stdio no_serve no_objects no_tidy no_snapshot
       | inr (inr (inr (inr (inl is)))) ↦ absurd (true≢false (sym (no_tidy (named_by m words tidy.0 is.0 rows is.1))))
       | inr (inr (inr (inr (inr (inl is))))) ↦ absurd (true≢false (sym (no_snapshot (named_by m words snapshot.0 is.0 rows is.1))))
       | inr (inr (inr (inr (inr (inr (inl is)))))) ↦ absurd (true≢false (sym (no_fuse (named_by m words fuse.0 is.0 rows is.1))))
-      | inr (inr (inr (inr (inr (inr (inr none)))))) ↦ absurd none
+      | inr (inr (inr (inr (inr (inr (inr (inl is))))))) ↦ absurd (true≢false (sym (no_changes (named_by m words changes.0 is.0 rows is.1))))
+      | inr (inr (inr (inr (inr (inr (inr (inr none))))))) ↦ absurd none
     ]
 
 pub named-met : (words : List Text) (f : Found) (name : Text) → subcommand_of mountd_line words ≡ Some (name, rows_of f) → named words ≡ Some name
@@ -162,6 +167,9 @@ opens_none by.Snapshot name is named =
 opens_none by.Fuse name is named =
     let same : objects.0 ≡ command_name by.Fuse = cc in
     differ objects.0 (command_name by.Fuse) refl same
+opens_none by.Changes name is named =
+    let same : objects.0 ≡ command_name by.Changes = cc in
+    differ objects.0 (command_name by.Changes) refl same
 
 -- values that a command refuses which is over a commit's tree
 pub values_refuse : (command : MountCommand) (words : List Text) (f : Found) (why : OptionsError) → IsTaken words

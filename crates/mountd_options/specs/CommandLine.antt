@@ -41,6 +41,7 @@ command_name by.Stdio = codes "stdio"
 command_name by.Serve = codes "serve"
 command_name by.Snapshot = codes "snapshot"
 command_name by.Fuse = codes "fuse"
+command_name by.Changes = codes "changes"
 
 -- .. and of one that listens
 abbrev pub server_name : ServerCommand → Text
@@ -107,8 +108,12 @@ snapshot = (command_name by.Snapshot, snapshot_options)
 abbrev pub fuse : Subcommand
 fuse = (command_name by.Fuse, mount_options)
 
+-- `changes` with the options of a closed overlay
+abbrev pub changes : Subcommand
+changes = (command_name by.Changes, closed_options)
+
 abbrev pub subcommands : List Subcommand
-subcommands = stdio ∷ serve ∷ objects ∷ import ∷ tidy ∷ snapshot ∷ fuse ∷ []
+subcommands = stdio ∷ serve ∷ objects ∷ import ∷ tidy ∷ snapshot ∷ fuse ∷ changes ∷ []
 
 abbrev pub mountd_line : App
 mountd_line = program (codes "mountd") subcommands
@@ -135,6 +140,7 @@ abbrev pub SaysPasses : MountCommand → (Text → Option Text) → ℕ → Type
 SaysPasses by.Stdio value n = n ≡ 1
 SaysPasses by.Snapshot value n = n ≡ 1
 SaysPasses by.Fuse value n = n ≡ 1
+SaysPasses by.Changes value n = n ≡ 1
 SaysPasses by.Serve value n = SaysNumber Sessions 1 (value (number_name Sessions)) n
 
 -- the limits of the mount that a command opens are what these values say
@@ -263,6 +269,7 @@ AsksFor words (command.Objects options) = (named words ≡ Some objects.0) × Ar
 AsksFor words (command.Import options) = (named words ≡ Some import.0) × IsImport (value_of words) options
 AsksFor words (command.Tidy options) = (named words ≡ Some tidy.0) × IsTidy (value_of words) options
 AsksFor words (command.Snapshot options) = (named words ≡ Some snapshot.0) × IsSnapshot (value_of words) options
+AsksFor words (command.Changes options) = (named words ≡ Some changes.0) × IsClosed (value_of words) options
 AsksFor words command.Version = AsksVersion words
 
 -- `clap` takes the words

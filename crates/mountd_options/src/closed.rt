@@ -3,19 +3,18 @@ ghost use Rattle.std.specs.Prelude.{◌≡◌, IfErr, IfOk, false};
 ghost use Rattle.clap.specs.declared.builder.command.Command.TheViews.{out-Command as fields_of};
 ghost use Rattle.clap.specs.Words.{first_value, found_of, rows_of, shape_of};
 ghost use Rattle.mountd_options.specs.CommandLine.{IsClosed, IsSnapshot, RefusesValues};
-ghost use Rattle.mountd_options.specs.CommandLine.{closed_options, snapshot, snapshot_options};
+ghost use Rattle.mountd_options.specs.CommandLine.{changes, closed_options, snapshot, snapshot_options};
 ghost use Rattle.mountd_options.specs.Grammar.{HasRequired, subcommand_shape};
 ghost use Rattle.mountd_options.specs.declared.command.MountCommand.TheVariants as by;
 
-use crate::command::{
-    MountCommand, Objects, OptionsError, objects_of, with_optional, with_required,
-};
+use crate::command::{MountCommand, Objects, OptionsError, objects_of};
+use crate::grammar::{with_optional, with_required};
 use clap::ArgMatches;
 use eden_model::Id;
 use eden_object::parse_id;
 use std::alloc::{AllocError, Global};
 
-/// Which closed overlay is to be looked at.
+/// Which closed overlay is to be looked at, as `mountd changes` does.
 #[derive(Drop)]
 pub struct ClosedOptions {
     /// The tree of the commit that it stands on.
@@ -71,6 +70,28 @@ pub(crate) fn snapshot_options(
     let closed = closed_options(alloc, given, MountCommand::Snapshot)?;
     let into = String::from_str(alloc, into)?;
     Ok(SnapshotOptions { closed, into })
+}
+
+pub(crate) fn changes_options(
+    alloc: Global,
+    given: &ArgMatches,
+) -> Result<ClosedOptions, OptionsError>
+    requires { HasRequired closed_options (rows_of (found_of given.now)) }
+    ensures ok { IfOk result (IsClosed (first_value (found_of given.now))) }
+    ensures err { IfErr result (RefusesValues by.Changes (first_value (found_of given.now))) }
+{
+    closed_options(alloc, given, MountCommand::Changes)
+}
+
+pub(crate) fn changes_line<'a>(alloc: Global) -> Result<clap::Command<'a>, AllocError>
+    ensures shape { IfOk result (λ line. shape_of line ≡ subcommand_shape changes) }
+    ensures local { IfOk result (λ line. (fields_of line).has_globals ≡ false) }
+{
+    closed_line(
+        alloc,
+        "changes",
+        "Prints how what a closed overlay shows differs from the tree that it stands on",
+    )
 }
 
 pub(crate) fn snapshot_line<'a>(alloc: Global) -> Result<clap::Command<'a>, AllocError>

@@ -8,6 +8,7 @@
 mod addresses;
 mod closed;
 mod command;
+mod grammar;
 mod numbers;
 
 pub use addresses::AddressOption;

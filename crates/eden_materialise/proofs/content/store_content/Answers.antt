@@ -1,10 +1,12 @@
+use Rattle.eden_overlay.specs.Held.{with_content}
 use Rattle.eden_materialise.proofs.Fills.{fills_ok, fills_stored, fills_err, fills_strays, fills_fault, fills_counted, fills_table, fills_marks, fills_stay, fills_kept, fills_unseen, fills_shown}
 use Rattle.eden_materialise.proofs.Numbered.{fills_numbered}
 use Rattle.eden_materialise.proofs.Renumbered.{fills_same}
+use Rattle.eden_materialise.proofs.InPlace.{fills_names}
 use Rattle.eden_materialise.proofs.content.store_content.Goals as goal
 
-pub change-requires-clause-may : goal.change-requires-clause-may
-change-requires-clause-may g c = record {
+pub change_in_place-requires-clause-may : goal.change_in_place-requires-clause-may
+change_in_place-requires-clause-may g c = record {
   next = c.args.inodes.now.next;
   table = c.holds.ensures.table;
   kept = c.holds.ensures.kept;
@@ -13,96 +15,104 @@ change-requires-clause-may g c = record {
   short = c.requires.short;
 }
 
-pub change-requires-clause-table : goal.change-requires-clause-table
-change-requires-clause-table g c files root answer does =
+pub change_in_place-requires-clause-table : goal.change_in_place-requires-clause-table
+change_in_place-requires-clause-table g c files root answer does =
     let t = c.args.inodes.now in
     fills_table g.W.World.honest g.W.World.repository c.args.path.now c.args.name.now c.requires.there.0 c.args.content.now (g.F.Files.stored t.files) t.root t.next
     c.holds.ensures.table c.requires.there.1 c.requires.short (g.F.Files.failures t.files) (g.F.Files.stored files) root (g.F.Files.failures files)
     answer (does c.requires.there.0 c.requires.there.1)
 
-pub change-requires-clause-kept : goal.change-requires-clause-kept
-change-requires-clause-kept g c h files root answer does =
+pub change_in_place-requires-clause-kept : goal.change_in_place-requires-clause-kept
+change_in_place-requires-clause-kept g c h files root answer does =
     let t = c.args.inodes.now in
     fills_kept g.W.World.honest g.W.World.repository c.args.path.now c.args.name.now c.requires.there.0 c.args.content.now (g.F.Files.stored t.files) t.root t.next
     c.holds.ensures.table c.requires.there.1 c.requires.short (g.F.Files.failures t.files) (g.F.Files.stored files) root (g.F.Files.failures files)
     h (c.holds.ensures.kept h) answer (does c.requires.there.0 c.requires.there.1)
 
-pub change-requires-clause-numbers : goal.change-requires-clause-numbers
-change-requires-clause-numbers g c h files root answer does =
+pub change_in_place-requires-clause-numbers : goal.change_in_place-requires-clause-numbers
+change_in_place-requires-clause-numbers g c h files root answer does =
     let t = c.args.inodes.now in
     fills_numbered g.W.World.honest g.W.World.repository c.args.path.now c.args.name.now c.requires.there.0 c.args.content.now (g.F.Files.stored t.files) t.root t.next
     c.holds.ensures.table c.requires.there.1 c.requires.short (g.F.Files.failures t.files) (g.F.Files.stored files) root (g.F.Files.failures files)
     h (c.holds.ensures.kept h) (c.holds.ensures.numbers h) answer (does c.requires.there.0 c.requires.there.1)
 
+pub change_in_place-requires-clause-names : goal.change_in_place-requires-clause-names
+change_in_place-requires-clause-names g c files root answer does =
+    let t = c.args.inodes.now in
+    let w = c.requires.there.0 in
+    let F = g.F.Files.stored t.files in
+    fills_names g.W.World.honest c.args.path.now c.args.name.now w F (with_content F w.number c.args.content.now) t.root (g.F.Files.failures t.files)
+    (g.F.Files.stored files) root (g.F.Files.failures files) answer c.requires.there.1 (does w c.requires.there.1)
+
 pub returns-clause-ok : goal.returns-clause-ok
 returns-clause-ok g c w has =
     let t = c.args.inodes.now in
-    let then = c.change.new.self in
+    let then = c.change_in_place.new.self in
     fills_ok g.W.World.honest g.W.World.repository c.args.path.now c.args.name.now w c.args.content.now (g.F.Files.stored t.files) t.root t.next
     c.holds.ensures.table has c.requires.short (g.F.Files.failures t.files) (g.F.Files.stored then.files) then.root (g.F.Files.failures then.files)
-    c.change.result (c.change.ensures.does w has)
+    c.change_in_place.result (c.change_in_place.ensures.does w has)
 
 pub returns-clause-stored : goal.returns-clause-stored
 returns-clause-stored g c h w has =
     let t = c.args.inodes.now in
-    let then = c.change.new.self in
+    let then = c.change_in_place.new.self in
     fills_stored g.W.World.honest g.W.World.repository c.args.path.now c.args.name.now w c.args.content.now (g.F.Files.stored t.files) t.root t.next
     c.holds.ensures.table has c.requires.short (g.F.Files.failures t.files) (g.F.Files.stored then.files) then.root (g.F.Files.failures then.files)
-    c.change.result (c.change.ensures.does w has) h
+    c.change_in_place.result (c.change_in_place.ensures.does w has) h
 
 pub returns-clause-strays : goal.returns-clause-strays
 returns-clause-strays g c h w has =
     let t = c.args.inodes.now in
-    let then = c.change.new.self in
+    let then = c.change_in_place.new.self in
     fills_strays g.W.World.honest g.W.World.repository c.args.path.now c.args.name.now w c.args.content.now (g.F.Files.stored t.files) t.root t.next
     c.holds.ensures.table has c.requires.short (g.F.Files.failures t.files) (g.F.Files.stored then.files) then.root (g.F.Files.failures then.files)
-    c.change.result (c.change.ensures.does w has) h
+    c.change_in_place.result (c.change_in_place.ensures.does w has) h
 
 pub returns-clause-counted : goal.returns-clause-counted
 returns-clause-counted g c =
     let t = c.args.inodes.now in
-    let then = c.change.new.self in
+    let then = c.change_in_place.new.self in
     fills_counted g.W.World.honest g.W.World.repository c.args.path.now c.args.name.now c.requires.there.0 c.args.content.now (g.F.Files.stored t.files) t.root t.next
     c.holds.ensures.table c.requires.there.1 c.requires.short (g.F.Files.failures t.files) (g.F.Files.stored then.files) then.root (g.F.Files.failures then.files)
-    c.change.result (c.change.ensures.does c.requires.there.0 c.requires.there.1)
+    c.change_in_place.result (c.change_in_place.ensures.does c.requires.there.0 c.requires.there.1)
 
 pub returns-clause-shown : goal.returns-clause-shown
 returns-clause-shown g c h w has =
     let t = c.args.inodes.now in
-    let then = c.change.new.self in
+    let then = c.change_in_place.new.self in
     fills_shown g.W.World.honest g.W.World.repository c.args.path.now c.args.name.now w c.args.content.now (g.F.Files.stored t.files) t.root t.next
     c.holds.ensures.table has c.requires.short (g.F.Files.failures t.files) (g.F.Files.stored then.files) then.root (g.F.Files.failures then.files)
-    h (c.holds.ensures.kept h) c.change.result (c.change.ensures.does w has)
+    h (c.holds.ensures.kept h) c.change_in_place.result (c.change_in_place.ensures.does w has)
 
 pub returns-clause-atomic : goal.returns-clause-atomic
 returns-clause-atomic g c =
     let t = c.args.inodes.now in
-    let then = c.change.new.self in
-    let does = c.change.ensures.does c.requires.there.0 c.requires.there.1 in
+    let then = c.change_in_place.new.self in
+    let does = c.change_in_place.ensures.does c.requires.there.0 c.requires.there.1 in
     record {
       err = fills_err g.W.World.honest g.W.World.repository c.args.path.now c.args.name.now c.requires.there.0 c.args.content.now (g.F.Files.stored t.files) t.root t.next
           c.holds.ensures.table c.requires.there.1 c.requires.short (g.F.Files.failures t.files) (g.F.Files.stored then.files) then.root (g.F.Files.failures then.files)
-          c.change.result does;
+          c.change_in_place.result does;
       fault = fills_fault g.W.World.honest g.W.World.repository c.args.path.now c.args.name.now c.requires.there.0 c.args.content.now (g.F.Files.stored t.files) t.root t.next
           c.holds.ensures.table c.requires.there.1 c.requires.short (g.F.Files.failures t.files) (g.F.Files.stored then.files) then.root (g.F.Files.failures then.files)
-          c.change.result does;
+          c.change_in_place.result does;
       unseen = λ h. fills_unseen g.W.World.honest g.W.World.repository c.args.path.now c.args.name.now c.requires.there.0 c.args.content.now (g.F.Files.stored t.files) t.root t.next
           c.holds.ensures.table c.requires.there.1 c.requires.short (g.F.Files.failures t.files) (g.F.Files.stored then.files) then.root (g.F.Files.failures then.files)
-          h (c.holds.ensures.kept h) c.change.result does;
+          h (c.holds.ensures.kept h) c.change_in_place.result does;
       marks = fills_marks g.W.World.honest g.W.World.repository c.args.path.now c.args.name.now c.requires.there.0 c.args.content.now (g.F.Files.stored t.files) t.root t.next
           c.holds.ensures.table c.requires.there.1 c.requires.short (g.F.Files.failures t.files) (g.F.Files.stored then.files) then.root (g.F.Files.failures then.files)
-          c.change.result does;
+          c.change_in_place.result does;
       stays = fills_stay g.W.World.honest g.W.World.repository c.args.path.now c.args.name.now c.requires.there.0 c.args.content.now (g.F.Files.stored t.files) t.root t.next
           c.holds.ensures.table c.requires.there.1 c.requires.short (g.F.Files.failures t.files) (g.F.Files.stored then.files) then.root (g.F.Files.failures then.files)
-          c.change.result does;
-      clock = c.change.ensures.rest.1;
+          c.change_in_place.result does;
+      clock = c.change_in_place.ensures.rest.1;
     }
 
 pub returns-clause-numbers : goal.returns-clause-numbers
 returns-clause-numbers g c h =
     let t = c.args.inodes.now in
-    let then = c.change.new.self in
+    let then = c.change_in_place.new.self in
     let F = g.F.Files.stored t.files in
     fills_same g.W.World.honest g.W.World.repository c.args.path.now c.args.name.now c.requires.there.0 c.args.content.now F t.root t.next
     c.holds.ensures.table c.requires.there.1 c.requires.short (g.F.Files.failures t.files) (g.F.Files.stored then.files) then.root (g.F.Files.failures then.files)
-    h (c.holds.ensures.kept h) (c.holds.ensures.numbers h) c.change.result (c.change.ensures.does c.requires.there.0 c.requires.there.1)
+    h (c.holds.ensures.kept h) (c.holds.ensures.numbers h) c.change_in_place.result (c.change_in_place.ensures.does c.requires.there.0 c.requires.there.1)

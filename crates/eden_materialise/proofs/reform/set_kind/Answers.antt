@@ -4,10 +4,11 @@ use Rattle.eden_materialise.proofs.Listings.{changes_table, changes_marks, chang
 use Rattle.eden_materialise.proofs.Reforms.{may_reform, reform_shown}
 use Rattle.eden_materialise.proofs.Numbered.{changes_numbered}
 use Rattle.eden_materialise.proofs.Renumbered.{one_directory, swaps_same}
+use Rattle.eden_materialise.proofs.InPlace.{places_names}
 use Rattle.eden_materialise.proofs.reform.set_kind.Goals as goal
 
-pub change-requires-clause-may : goal.change-requires-clause-may
-change-requires-clause-may g c =
+pub change_in_place-requires-clause-may : goal.change_in_place-requires-clause-may
+change_in_place-requires-clause-may g c =
     let t = c.args.inodes.now in
     let w = c.requires.there.0 in
     record {
@@ -23,8 +24,8 @@ change-requires-clause-may g c =
       };
     }
 
-pub change-requires-clause-table : goal.change-requires-clause-table
-change-requires-clause-table g c files root answer does =
+pub change_in_place-requires-clause-table : goal.change_in_place-requires-clause-table
+change_in_place-requires-clause-table g c files root answer does =
     let t = c.args.inodes.now in
     let w = c.requires.there.0 in
     let F = g.F.Files.stored t.files in
@@ -32,8 +33,8 @@ change-requires-clause-table g c files root answer does =
     changes_table g.W.World.honest g.W.World.repository c.args.path.now c.args.name.now (Some (of_kind c.args.kind w)) F t.root (g.F.Files.failures t.files)
     (g.F.Files.stored files) root (g.F.Files.failures files) t.next c.holds.ensures.table may answer (does w c.requires.there.1)
 
-pub change-requires-clause-kept : goal.change-requires-clause-kept
-change-requires-clause-kept g c h files root answer does =
+pub change_in_place-requires-clause-kept : goal.change_in_place-requires-clause-kept
+change_in_place-requires-clause-kept g c h files root answer does =
     let t = c.args.inodes.now in
     let w = c.requires.there.0 in
     let F = g.F.Files.stored t.files in
@@ -41,8 +42,8 @@ change-requires-clause-kept g c h files root answer does =
     changes_kept_then g.W.World.honest g.W.World.repository c.args.path.now c.args.name.now (Some (of_kind c.args.kind w)) F t.root (g.F.Files.failures t.files)
     (g.F.Files.stored files) root (g.F.Files.failures files) t.next c.holds.ensures.table may h (c.holds.ensures.kept h) answer (does w c.requires.there.1)
 
-pub change-requires-clause-numbers : goal.change-requires-clause-numbers
-change-requires-clause-numbers g c h files root answer does =
+pub change_in_place-requires-clause-numbers : goal.change_in_place-requires-clause-numbers
+change_in_place-requires-clause-numbers g c h files root answer does =
     let t = c.args.inodes.now in
     let w = c.requires.there.0 in
     let F = g.F.Files.stored t.files in
@@ -50,43 +51,51 @@ change-requires-clause-numbers g c h files root answer does =
     changes_numbered g.W.World.honest g.W.World.repository c.args.path.now c.args.name.now (Some (of_kind c.args.kind w)) F t.root (g.F.Files.failures t.files)
     (g.F.Files.stored files) root (g.F.Files.failures files) t.next c.holds.ensures.table may h (c.holds.ensures.kept h) (c.holds.ensures.numbers h) answer (does w c.requires.there.1)
 
+pub change_in_place-requires-clause-names : goal.change_in_place-requires-clause-names
+change_in_place-requires-clause-names g c files root answer does =
+    let t = c.args.inodes.now in
+    let w = c.requires.there.0 in
+    places_names g.W.World.honest c.args.path.now (g.F.Files.stored t.files) t.root (g.F.Files.failures t.files) (g.F.Files.stored files) root (g.F.Files.failures files)
+    c.args.name.now w (of_kind c.args.kind w) c.requires.there.1 answer (does w c.requires.there.1)
+
 pub returns-clause-shown : goal.returns-clause-shown
 returns-clause-shown g c h w has =
     let t = c.args.inodes.now in
-    let then = c.change.new.self in
+    let then = c.change_in_place.new.self in
     reform_shown g.W.World.honest g.W.World.repository c.args.path.now c.args.name.now c.args.kind w (g.F.Files.stored t.files) t.root (g.F.Files.failures t.files)
-    (g.F.Files.stored then.files) then.root (g.F.Files.failures then.files) t.next c.holds.ensures.table h (c.holds.ensures.kept h) has c.requires.file c.change.result (c.change.ensures.does w has)
+    (g.F.Files.stored then.files) then.root (g.F.Files.failures then.files) t.next c.holds.ensures.table h (c.holds.ensures.kept h) has c.requires.file
+    c.change_in_place.result (c.change_in_place.ensures.does w has)
 
 pub returns-clause-ok : goal.returns-clause-ok
-returns-clause-ok g c w has = (c.change.ensures.does w has).ok
+returns-clause-ok g c w has = (c.change_in_place.ensures.does w has).ok
 
 pub returns-clause-counted : goal.returns-clause-counted
-returns-clause-counted g c = (c.change.ensures.does c.requires.there.0 c.requires.there.1).counted
+returns-clause-counted g c = (c.change_in_place.ensures.does c.requires.there.0 c.requires.there.1).counted
 
 pub returns-clause-atomic : goal.returns-clause-atomic
 returns-clause-atomic g c =
     let t = c.args.inodes.now in
-    let then = c.change.new.self in
+    let then = c.change_in_place.new.self in
     let w = c.requires.there.0 in
     let F = g.F.Files.stored t.files in
     let may = may_reform g.W.World.honest g.W.World.repository F t.root t.next c.args.path.now c.args.name.now c.args.kind w c.holds.ensures.table c.requires.there.1 c.requires.file in
-    let does = c.change.ensures.does w c.requires.there.1 in
+    let does = c.change_in_place.ensures.does w c.requires.there.1 in
     record {
       err = does.err;
       fault = does.fault;
       unseen = λ h. changes_unseen g.W.World.honest g.W.World.repository c.args.path.now c.args.name.now (Some (of_kind c.args.kind w)) F t.root (g.F.Files.failures t.files)
-          (g.F.Files.stored then.files) then.root (g.F.Files.failures then.files) t.next c.holds.ensures.table may h (c.holds.ensures.kept h) c.change.result does;
+          (g.F.Files.stored then.files) then.root (g.F.Files.failures then.files) t.next c.holds.ensures.table may h (c.holds.ensures.kept h) c.change_in_place.result does;
       marks = changes_marks g.W.World.honest g.W.World.repository c.args.path.now c.args.name.now (Some (of_kind c.args.kind w)) F t.root (g.F.Files.failures t.files)
-          (g.F.Files.stored then.files) then.root (g.F.Files.failures then.files) t.next c.holds.ensures.table may c.change.result does;
+          (g.F.Files.stored then.files) then.root (g.F.Files.failures then.files) t.next c.holds.ensures.table may c.change_in_place.result does;
       stays = changes_stay g.W.World.honest g.W.World.repository c.args.path.now c.args.name.now (Some (of_kind c.args.kind w)) F t.root (g.F.Files.failures t.files)
-          (g.F.Files.stored then.files) then.root (g.F.Files.failures then.files) t.next c.holds.ensures.table may c.change.result does;
-      clock = c.change.ensures.rest.1;
+          (g.F.Files.stored then.files) then.root (g.F.Files.failures then.files) t.next c.holds.ensures.table may c.change_in_place.result does;
+      clock = c.change_in_place.ensures.rest.1;
     }
 
 pub returns-clause-numbers : goal.returns-clause-numbers
 returns-clause-numbers g c h =
     let t = c.args.inodes.now in
-    let then = c.change.new.self in
+    let then = c.change_in_place.new.self in
     let F = g.F.Files.stored t.files in
     let w = c.requires.there.0 in
     let a = c.requires.there.1 in
@@ -94,4 +103,4 @@ returns-clause-numbers g c h =
     swaps_same g.W.World.honest g.W.World.repository c.args.path.now c.args.name.now F t.root (g.F.Files.failures t.files)
     (g.F.Files.stored then.files) then.root (g.F.Files.failures then.files) t.next c.holds.ensures.table h (c.holds.ensures.kept h) (c.holds.ensures.numbers h)
     (of_kind c.args.kind w) w may a.unloaded (one_directory t.root c.args.path.now c.args.name.now may.row a.row may.directory a.directory (Some w) may.at may.holds a.at a.holds a.there) refl a.file
-    c.requires.file (inr refl) c.change.result (c.change.ensures.does w a)
+    c.requires.file (inr refl) c.change_in_place.result (c.change_in_place.ensures.does w a)

@@ -1,7 +1,6 @@
 use Rattle.std.proofs.Common.{◌<◌, length, refl, ◌∙◌, arith}
 use Rattle.eden_coupling.specs.Saving.{none}
-use Rattle.eden_inode.proofs.Names.{keeps_same}
-use Rattle.eden_inode.proofs.Places.{places_same, places_then}
+use Rattle.eden_inode.proofs.Names.{keeps_same, keeps_then}
 use Rattle.eden_materialise.proofs.Fronts.{none_yet, one_more_saved, refused_above}
 use Rattle.eden_materialise.proofs.saving.save_above.Goals as goal
 
@@ -11,7 +10,7 @@ returns-then-not-is_unsaved_above-clause-saves g c = none
 pub loop-i-init : goal.loop-i-init
 loop-i-init g c =
     let s = c.args.inodes.now in
-    (none_yet g.W.World.honest g.W.World.repository c.args.path.now (g.F.Files.stored s.files) s.root (g.F.Files.failures s.files), ((refl, refl), (places_same s s refl (keeps_same s.root), λ h q. refl)))
+    (none_yet g.W.World.honest g.W.World.repository c.args.path.now (g.F.Files.stored s.files) s.root (g.F.Files.failures s.files), ((refl, refl), ((refl, keeps_same s.root), λ h q. refl)))
 
 pub returns-in-Err-clause-saves : goal.returns-in-Err-clause-saves
 returns-in-Err-clause-saves g c =
@@ -25,11 +24,11 @@ returns-in-Err-clause-saves g c =
 pub returns-in-Err-clause-shown : goal.returns-in-Err-clause-shown
 returns-in-Err-clause-shown g c h = c.save_at.ensures.shown h ∙ c.loop-i.invariant.0.shown h
 
-pub returns-then-not-is_unsaved_above-clause-places : goal.returns-then-not-is_unsaved_above-clause-places
-returns-then-not-is_unsaved_above-clause-places g c = (let s = c.args.inodes.now in places_same s s refl (keeps_same s.root))
+pub returns-then-not-is_unsaved_above-clause-names : goal.returns-then-not-is_unsaved_above-clause-names
+returns-then-not-is_unsaved_above-clause-names g c = keeps_same c.args.inodes.now.root
 
-pub returns-in-Err-clause-places : goal.returns-in-Err-clause-places
-returns-in-Err-clause-places g c = places_then c.args.inodes.now c.loop-i.inodes c.save_at.new.inodes c.loop-i.invariant.1.1.0 c.save_at.ensures.places
+pub returns-in-Err-clause-names : goal.returns-in-Err-clause-names
+returns-in-Err-clause-names g c = keeps_then c.args.inodes.now.root c.loop-i.inodes.root c.save_at.new.inodes.root c.loop-i.invariant.1.1.0.1 c.save_at.ensures.names
 
 pub loop-i-preserved : goal.loop-i-preserved
 loop-i-preserved g c =
@@ -41,7 +40,10 @@ loop-i-preserved g c =
           (g.F.Files.failures t.files) c.loop-i.invariant.0 within (g.F.Files.stored u.files) u.root (g.F.Files.failures u.files) c.in-Ok.field-0 c.in-Ok.ensures.saves c.save_at.ensures.shown,
       (
         (c.save_at.ensures.rest.0 ∙ c.loop-i.invariant.1.0.0, c.save_at.ensures.rest.1 ∙ c.loop-i.invariant.1.0.1),
-        (places_then s t u c.loop-i.invariant.1.1.0 c.save_at.ensures.places, λ h q. c.save_at.ensures.numbers h q ∙ c.loop-i.invariant.1.1.1 h q),
+        (
+          (c.save_at.ensures.changes ∙ c.loop-i.invariant.1.1.0.0, keeps_then s.root t.root u.root c.loop-i.invariant.1.1.0.1 c.save_at.ensures.names),
+          λ h q. c.save_at.ensures.numbers h q ∙ c.loop-i.invariant.1.1.1 h q,
+        ),
       ),
     )
 

@@ -1,6 +1,6 @@
 use Rattle.std.proofs.Common.{◌≡◌}
 use Rattle.eden_inode.specs.Tables.{ShowsSameNumbers}
-use Rattle.eden_inode.specs.Trails.{KeepsPlaces}
+use Rattle.eden_inode.specs.Trails.{KeepsNames}
 use Rattle.eden_materialise.proofs.Fronts.{SoFar}
 use Rattle.eden_materialise.proofs.saving.save_above.Given as goal
 
@@ -9,4 +9,4 @@ invariant-loop-i g l =
     SoFar g.W.World.honest g.W.World.repository l.path (g.F.Files.stored l.initial.inodes.files) l.initial.inodes.root (g.F.Files.failures l.initial.inodes.files) l.i
     (g.F.Files.stored l.inodes.files) l.inodes.root (g.F.Files.failures l.inodes.files)
     × (((l.inodes.next ≡ l.initial.inodes.next) × (l.inodes.clock ≡ l.initial.inodes.clock))
-    × (KeepsPlaces l.initial.inodes l.inodes × (g.W.World.honest → ShowsSameNumbers g.F.Files l.initial.inodes l.inodes)))
+    × (((l.inodes.changes ≡ l.initial.inodes.changes) × KeepsNames l.initial.inodes.root l.inodes.root) × (g.W.World.honest → ShowsSameNumbers g.F.Files l.initial.inodes l.inodes)))

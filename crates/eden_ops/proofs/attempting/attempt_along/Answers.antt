@@ -16,3 +16,6 @@ pub change-requires-clause-leads : goal.change-requires-clause-leads
 change-requires-clause-leads g c =
     let change : IsChange c.args.request.now = search rules in
     leads_change c.args.request.now c.args.walk.now.second c.args.walk.now.trail.positions c.args.inodes.now.root change c.requires.leads
+
+pub returns-in-Kind-clause-in_place : goal.returns-in-Kind-clause-in_place
+returns-in-Kind-clause-in_place g c none = (c.keeps_laws.ensures.counts _ c.args.inodes.now c.look.new.inodes c.look.ensures.keeps).1.0

@@ -20,7 +20,7 @@ use Rattle.eden_inode.specs.Tables.{shows}
 use Rattle.eden_materialise.specs.Reforms.{of_kind}
 use Rattle.eden_model.specs.declared.attempt.Attempt.{Attempt}
 use Rattle.eden_model.specs.declared.attempt.Attempt.TheVariants.{Finished}
-use Rattle.eden_inode.proofs.Places.{places_rise}
+use Rattle.eden_inode.proofs.Places.{places_same}
 use Rattle.eden_ops.specs.Attempts.{Attempts}
 use Rattle.eden_ops.specs.Requests.{for_exec}
 use Rattle.eden_ops.specs.Changes.{SameNames, exec_kind}
@@ -196,7 +196,7 @@ returns-in-Ok-set_kind-clause-leaves g c =
     let has = has_file p above name v.root seen.row (sym c.as_slice-2.ensures ∙ c.in-Some.ensures.cases.0) still off (plain_other seen.row.kind plain) in
     let root = root_chained above v.root u.root (λ d. changed_listing d name (Some (of_kind c.exec_kind-kind.result seen.row)))
     (loaded_there above v.root has.row has.directory has.at has.holds) (x.ok seen.row has) in
-    let l = leaves_by g.F.Files v u x.atomic.stays root x.atomic.marks (no_less v.next u.next x.next) x.atomic.clock (no_less (g.F.Files.failures v.files) (g.F.Files.failures u.files) x.counted) (places_rise v u x.changes) in
+    let l = leaves_by g.F.Files v u x.atomic.stays root x.atomic.marks (no_less v.next u.next x.next) x.atomic.clock (no_less (g.F.Files.failures v.files) (g.F.Files.failures u.files) x.counted) (places_same v u x.changes x.names) in
     let saved = subst (λ (r : Path). IsSavedAbove r v.root) c.as_slice.ensures c.in_default.ensures.saved in
     leaves_changed g.W.World g.F.Files (ask.SetExec p c.args.exec) c.args.inodes.now t c.meet_file.ensures.keeps u (Finished say.Ok) (λ e is. cc) (λ e is. cc)
     (leaves_then g.W.World g.F.Files t v u (settles_leaves g.W.World g.F.Files t v _ st) l)
@@ -210,7 +210,7 @@ returns-in-Err-set_kind-clause-leaves g c =
     let u = c.set_kind.new.inodes in
     let st = c.settle.ensures.settles in
     let counted = fault_count (g.F.Files.failures v.files) (g.F.Files.failures u.files) c.in-Err-set_kind.fault x.atomic.fault in
-    let l = leaves_by g.F.Files v u x.atomic.stays (root_same v.root u.root x.atomic.err) x.atomic.marks (no_less v.next u.next x.next) x.atomic.clock counted (places_rise v u x.changes) in
+    let l = leaves_by g.F.Files v u x.atomic.stays (root_same v.root u.root x.atomic.err) x.atomic.marks (no_less v.next u.next x.next) x.atomic.clock counted (places_same v u x.changes x.names) in
     leaves_changed g.W.World g.F.Files (ask.SetExec c.args.path.now c.args.exec) c.args.inodes.now t c.meet_file.ensures.keeps u (Finished (say.Fault c.in-Err-set_kind.fault))
     (λ e is. cc) (λ e is. subst (SameNames t.root) (sym x.atomic.err) st.readies.names)
     (leaves_then g.W.World g.F.Files t v u (settles_leaves g.W.World g.F.Files t v _ st) l)

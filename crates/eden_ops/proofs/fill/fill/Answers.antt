@@ -10,7 +10,7 @@ use Rattle.eden_coupling.specs.Laws.{owned}
 use Rattle.eden_materialise.specs.Faults.{IsStoreFault}
 use Rattle.eden_ops.specs.Changes.{SameNames}
 use Rattle.eden_inode.specs.Tables.{shows}
-use Rattle.eden_inode.proofs.Places.{places_rise}
+use Rattle.eden_inode.proofs.Places.{places_same}
 use Rattle.eden_ops.proofs.Changing.{has_file, file_alone, put_alone}
 use Rattle.eden_ops.proofs.Roots.{root_filled}
 use Rattle.eden_ops.proofs.Saving.{leaves_by, no_less, stored_count}
@@ -93,7 +93,7 @@ returns-clause-leaves g c =
     (x.ok h.0 file file.row file.directory file.at file.holds) x.atomic.err in
     let counted = stored_count c.store_content.result (g.F.Files.failures v.files) (g.F.Files.failures t.files) x.atomic.fault x.counted in
     leaves_then g.W.World g.F.Files s v t (settles_leaves g.W.World g.F.Files s v _ c.settle.ensures.settles)
-    (leaves_by g.F.Files v t x.atomic.stays root x.atomic.marks (no_less v.next t.next x.next) x.atomic.clock counted (places_rise v t x.changes))
+    (leaves_by g.F.Files v t x.atomic.stays root x.atomic.marks (no_less v.next t.next x.next) x.atomic.clock counted (places_same v t x.changes x.names))
 
 pub returns-clause-next : goal.returns-clause-next
 returns-clause-next g c = c.store_content.ensures.next ∙ c.settle.ensures.settles.readies.next

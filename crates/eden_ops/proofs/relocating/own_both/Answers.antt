@@ -1,7 +1,7 @@
 use Rattle.std.proofs.Common.{Ok, ap, inr}
 use Rattle.eden_tree.specs.Directory.{Row}
 use Rattle.eden_coupling.specs.Materialising.{owned_along}
-use Rattle.eden_inode.proofs.Places.{places_rise}
+use Rattle.eden_inode.proofs.Places.{places_same}
 use Rattle.eden_ops.proofs.Names.{names_same, fewer_same}
 use Rattle.eden_ops.proofs.Owned.{own_names, own_fewer}
 use Rattle.eden_ops.proofs.Relocation.{readies_on, readies_err}
@@ -25,7 +25,7 @@ returns-in_err-materialise-clause-readies g c =
       counted = tt;
       next = e.rest.0;
       clock = e.rest.1;
-      places = places_rise c.args.inodes.now c.materialise.new.inodes e.changes;
+      places = places_same c.args.inodes.now c.materialise.new.inodes e.changes e.names;
     })
 
 pub returns-clause-readies : goal.returns-clause-readies
@@ -45,7 +45,7 @@ returns-clause-readies g c =
       counted = a.counted;
       next = a.rest.0;
       clock = a.rest.1;
-      places = places_rise c.args.inodes.now c.materialise.new.inodes a.changes;
+      places = places_same c.args.inodes.now c.materialise.new.inodes a.changes a.names;
     })
     (record {
       shown = b.shown;
@@ -60,5 +60,5 @@ returns-clause-readies g c =
       counted = b.counted;
       next = b.rest.0;
       clock = b.rest.1;
-      places = places_rise c.materialise.new.inodes c.materialise-2.new.inodes b.changes;
+      places = places_same c.materialise.new.inodes c.materialise-2.new.inodes b.changes b.names;
     })

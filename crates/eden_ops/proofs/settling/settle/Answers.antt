@@ -1,3 +1,4 @@
+use Rattle.eden_inode.proofs.Places.{places_same}
 use Rattle.eden_ops.proofs.Settled.{alike_above, marks_above, alike_names, alike_fewer, alike_root}
 use Rattle.eden_ops.proofs.Stamped.{alike_stamps}
 use Rattle.eden_ops.proofs.settling.settle.Goals as goal
@@ -23,7 +24,7 @@ returns-clause-settles g c =
         counted = x.counted;
         next = x.rest.0;
         clock = x.rest.1;
-        places = x.places;
+        places = places_same s t x.changes x.names;
       };
       alike = alike;
     }

@@ -4,6 +4,7 @@ use Rattle.eden_overlay.specs.Held.{root_file}
 use Rattle.eden_snapshot.specs.Changes.{untouched}
 use Rattle.eden_snapshot.proofs.Joined.{none_there}
 use Rattle.eden_snapshot.proofs.Differing.{all_told}
+use Rattle.eden_snapshot.proofs.Exactly.{exact}
 use Rattle.eden_snapshot.proofs.comparing.changes.Goals as goal
 
 pub returns-then-not-branch-clause-told : goal.returns-then-not-branch-clause-told
@@ -21,3 +22,21 @@ returns-clause-told g c = λ h.
     all_told F (g.F.Files.stored c.is_rooted.new.self) g.W.World.repository c.args.root c.new-trail.result c.in_ok-entries.entries.items
     (g.C.ChangeSink.told c.args.sink.now) (g.C.ChangeSink.told c.directory.new.sink) (c.is_rooted.ensures.unchanged h) c.new-trail.ensures some
     (c.in_ok-entries.ensures h) (c.in_ok-directory.ensures.told h)
+
+pub returns-then-not-branch-clause-exact : goal.returns-then-not-branch-clause-exact
+returns-then-not-branch-clause-exact g c = λ h has.
+    let F = g.F.Files.stored c.args.overlay.now in
+    let told = c.in_ok-is_rooted.ensures.told h in
+    let none : is_some (root_file F) ≡ false = first_of (cc, search rules) in
+    let heard = g.C.ChangeSink.told c.args.sink.now in
+    exact g.W.World.repository F has c.args.root heard heard (untouched heard (none_there (root_file F) none))
+
+pub returns-clause-exact : goal.returns-clause-exact
+returns-clause-exact g c = λ h has.
+    let F = g.F.Files.stored c.args.overlay.now in
+    let told = c.in_ok-is_rooted.ensures.told h in
+    let some : is_some (root_file F) ≡ true = first_of (cc, search rules) in
+    exact g.W.World.repository F has c.args.root (g.C.ChangeSink.told c.args.sink.now) (g.C.ChangeSink.told c.directory.new.sink)
+    (all_told F (g.F.Files.stored c.is_rooted.new.self) g.W.World.repository c.args.root c.new-trail.result c.in_ok-entries.entries.items
+    (g.C.ChangeSink.told c.args.sink.now) (g.C.ChangeSink.told c.directory.new.sink) (c.is_rooted.ensures.unchanged h) c.new-trail.ensures some
+    (c.in_ok-entries.ensures h) (c.in_ok-directory.ensures.told h))

@@ -3,7 +3,7 @@ use Rattle.clap.specs.Words.{Shape, shape_of}
 use Rattle.mountd_options.specs.Grammar.{flag, optional, with_options}
 use Rattle.mountd_options.specs.Numbers.{number_name}
 use Rattle.mountd_options.specs.declared.numbers.NumberOption.TheVariants.{History, CacheEntries, CacheBytes}
-use Rattle.mountd_options.proofs.command.with_kept_options.Goals as goal
+use Rattle.mountd_options.proofs.grammar.with_kept_options.Goals as goal
 
 pub returns-clause-shape : goal.returns-clause-shape
 returns-clause-shape c =

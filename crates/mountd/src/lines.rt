@@ -1,0 +1,92 @@
+//! Changes that are told as lines.
+ghost use Rattle.std.specs.Prelude.{◌≡◌};
+ghost use Rattle.mountd.specs.Snapshots.{how_letter, mode_word, whole_word};
+
+use crate::path_text::path_text;
+use crate::sink::count;
+use eden_model::{Mode, Name, Outside};
+use eden_snapshot::{Change, ChangeSink, How, SinkFault};
+use std::alloc::Global;
+use std::io::{self, BufWriter, Write};
+
+/// A line for each change, of which some are held back until they fill a buffer: `flush` writes those out.
+#[derive(Drop)]
+pub struct LineSink<W: Write + Drop> {
+    writer: BufWriter<W>,
+    failures: u64,
+}
+
+impl<W: Write + Drop> LineSink<W> {
+    /// No line yet. The only error is want of memory.
+    pub fn new(alloc: Global, writer: W) -> io::Result<Self> {
+        let writer = BufWriter::new(alloc, writer)?;
+        Ok(LineSink {
+            writer,
+            failures: 0,
+        })
+    }
+
+    /// Writes out what is held back.
+    pub fn flush(&mut self) -> io::Result<()> {
+        self.writer.flush()
+    }
+
+    // Writes the line of a change.
+    fn write(&mut self, alloc: Global, path: &[Name], change: Change) -> Result<(), SinkFault> {
+        let path = path_text(alloc, path)?;
+        let how = how_letter(change.how);
+        let mode = mode_word(change.mode);
+        let whole = whole_word(change.whole);
+        let line = format!(in alloc; "{how} {mode} {path}{whole}\n")?;
+        match self.writer.write_all(line.as_bytes()) {
+            Ok(()) => Ok(()),
+            Err(_) => Err(SinkFault::Device),
+        }
+    }
+}
+
+impl<W: Write + Drop> ChangeSink<Outside> for LineSink<W> {
+    ghost use Rattle.std.specs.Prelude.{[]};
+
+    ghost told = { λ _. [] };
+
+    ghost failures = { λ s. s.failures };
+
+    fn tell(&mut self, alloc: Global, path: &[Name], change: Change) -> Result<(), SinkFault> {
+        let answer = self.write(alloc, path, change);
+        self.failures = count(self.failures, &answer);
+        answer
+    }
+}
+
+// The letter of a change, as Git has it.
+fn how_letter(how: How) -> &'static str
+    ensures { result.now ≡ how_letter how }
+{
+    match how {
+        How::Added => "A",
+        How::Removed => "D",
+        How::Modified => "M",
+        How::Retyped => "T",
+    }
+}
+
+// What stands there, or stood there where nothing does.
+fn mode_word(mode: Mode) -> &'static str
+    ensures { result.now ≡ mode_word mode }
+{
+    match mode {
+        Mode::File => "file",
+        Mode::Exec => "exec",
+        Mode::Link => "link",
+        Mode::Dir => "dir",
+        Mode::Gitlink => "submodule",
+    }
+}
+
+// What is put behind the path of a change that is told by its top alone.
+fn whole_word(whole: bool) -> &'static str
+    ensures { result.now ≡ whole_word whole }
+{
+    if whole { " whole" } else { "" }
+}

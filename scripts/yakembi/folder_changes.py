@@ -1,0 +1,62 @@
+"""Prints how what a folder shows, that another run of `mount-git` has mounted, differs from the commit it stands on.
+
+A line a path: A, D, M or T as `git diff --name-status` has them, and the path from the top of the folder, quoted as Git
+quotes it. A directory ends in a slash. One that was moved, added or removed as a whole has one line: what is below is
+as it was, or isn't there, and nothing of it is fetched. That other run ends `mountd` for a moment, as `mount-git
+commit` does.
+"""
+
+import argparse
+import contextlib
+import sys
+from collections.abc import Iterator
+from typing import NamedTuple
+from urllib.parse import unquote_to_bytes
+
+from yakembi.control import Connection
+
+# How each byte stands in a quoted path (Git's `quote_c_style`).
+ESCAPES = {7: "\\a", 8: "\\b", 9: "\\t", 10: "\\n", 11: "\\v", 12: "\\f", 13: "\\r", 34: '\\"', 92: "\\\\"}
+QUOTED = {byte: ESCAPES.get(byte, chr(byte) if 32 <= byte < 127 else f"\\{byte:03o}") for byte in range(256)}
+
+
+class Change(NamedTuple):
+    """What was changed at a path, which has no slash at its front. `kind` is `file`, `exec`, `link`, `dir` or
+    `submodule`. Below what is told whole no change is told."""
+
+    letter: str
+    kind: str
+    path: bytes
+    is_whole: bool
+
+
+def changes_in(lines: Iterator[bytes]) -> Iterator[Change]:
+    """The changes of the lines that `mountd changes` prints."""
+    for line in lines:
+        letter, kind, path, *whole = line.decode().split()
+        yield Change(letter, kind, unquote_to_bytes(path)[1:], bool(whole))
+
+
+def quoted(path: bytes) -> str:
+    """The path as Git prints it: in quotes, with escapes, where it has a byte that is no plain letter."""
+    text = "".join(QUOTED[byte] for byte in path)
+    return text if len(text) == len(path) else f'"{text}"'
+
+
+def changes(words: argparse.Namespace) -> None:
+    with contextlib.closing(Connection(words.folder)) as mount:
+        told = mount.ask("changes")
+        with open(told["lines"], "rb") as lines:
+            for change in changes_in(lines):
+                path = change.path + (b"/" if change.kind == "dir" else b"")
+                line = path + b"\0" if words.null else f"{quoted(path)}\n".encode()
+                sys.stdout.buffer.write(change.letter.encode() + b"\t" + line)
+    sys.stdout.flush()
+
+
+def changes_parser() -> argparse.ArgumentParser:
+    found = argparse.ArgumentParser(prog="mount-git changes", description=__doc__,
+                                    formatter_class=argparse.RawDescriptionHelpFormatter)
+    found.add_argument("folder", metavar="FOLDER", help="a folder that `mount-git` shows, or one below it")
+    found.add_argument("-z", "--null", action="store_true", help="end each line with a zero byte, and quote no path")
+    return found
