@@ -115,7 +115,6 @@ fn is_stat(attempt: &Attempt, kind: Kind, size: u64, number: u64) -> bool {
 
 fn is_wanted(attempt: &Attempt, want: Want) -> bool {
     match want {
-        Want::Stat(kind, size, number) => is_stat(attempt, kind, size, number),
         Want::Need(object) => matches!(attempt, Attempt::Need(key) if *key == key_of(object)),
         Want::Count(wanted) => {
             matches!(attempt, Attempt::Finished(Reply::Count(count)) if *count == wanted)
@@ -123,6 +122,7 @@ fn is_wanted(attempt: &Attempt, want: Want) -> bool {
         Want::Data(wanted) => {
             matches!(attempt, Attempt::Finished(Reply::Data(bytes)) if bytes.as_slice() == wanted)
         }
+        Want::Stat(kind, size, number) => is_stat(attempt, kind, size, number),
     }
 }
 
@@ -217,10 +217,16 @@ fn has(alloc: Global, files: &mut Stored, number: u64, front: &[u8], end: &[u8])
 fn numbers_stay_over_a_close(rt: HostRuntime) {
     let alloc = rt.alloc();
     let mut files = live(&rt, alloc, MemoryFiles::new(alloc), LOOKED_AT);
-    assert!(rt; size(alloc, &mut files, 1) == 127 && has(alloc, &mut files, 1, b"OVDN", b"test.txt"));
-    assert!(rt; size(alloc, &mut files, 0) == 92 && has(alloc, &mut files, 0, b"OVFL", &[0, 0, 0, 3]));
+    assert!(rt;
+        size(alloc, &mut files, 1) == 127 && has(alloc, &mut files, 1, b"OVDN", b"test.txt")
+    );
+    assert!(rt;
+        size(alloc, &mut files, 0) == 92 && has(alloc, &mut files, 0, b"OVFL", &[0, 0, 0, 3])
+    );
     let mut files = live(&rt, alloc, files, LOOKED_AT_AGAIN);
-    assert!(rt; size(alloc, &mut files, 1) == 127 && has(alloc, &mut files, 0, b"OVFL", &[0, 0, 0, 3]));
+    assert!(rt;
+        size(alloc, &mut files, 1) == 127 && has(alloc, &mut files, 0, b"OVFL", &[0, 0, 0, 3])
+    );
 }
 
 /// Why the files aren't opened on that commit.

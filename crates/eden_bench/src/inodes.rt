@@ -124,7 +124,7 @@ fn load_either<F: Files<Outside>>(
 
 /// Loads the directory at a path from those entries. False where none is there that a tree object has, or where memory
 /// is refused.
-fn load<F: Files<Outside>>(
+pub fn load<F: Files<Outside>>(
     alloc: Global,
     table: &mut Table<F>,
     path: &[Name],

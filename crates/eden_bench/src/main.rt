@@ -16,6 +16,7 @@ mod name;
 mod oracle;
 mod overlay;
 mod tree;
+mod unloads;
 mod waits;
 
 use bench::Bench;
@@ -29,8 +30,8 @@ use std::rt::Env;
 use std::{env, io};
 
 const USAGE: &str =
-    "usage: eden_bench attempts|cache|changes|directory|inodes|large|lines|overlay|tree|waits COUNT [timed], \
-     or eden_bench attempts|changes|large COUNT timed FOLDER, or eden_bench oracle";
+    "usage: eden_bench attempts|cache|changes|directory|inodes|large|lines|overlay|tree|unloads|waits COUNT [timed], \
+     or eden_bench attempts|changes|large|unloads COUNT timed FOLDER, or eden_bench oracle";
 
 /// Runs a workload over the files that are kept there. None where the name is of no such workload.
 fn run_over<F: Files<Outside>, K: Keeps<F>>(
@@ -43,6 +44,7 @@ fn run_over<F: Files<Outside>, K: Keeps<F>>(
         "attempts" => Some(attempts::run(bench, keeps, count)),
         "changes" => Some(changes::run(bench, keeps, count)),
         "large" => Some(large::run(bench, keeps, count)),
+        "unloads" => Some(unloads::run(bench, keeps, count)),
         _ => None,
     }
 }

@@ -15,6 +15,8 @@ pub enum Order {
     Random,
     /// In Git's order, the first entry a directory.
     Chain,
+    /// In Git's order, each entry a directory.
+    Directories,
 }
 
 impl Order {
@@ -37,6 +39,7 @@ impl Order {
     fn mode(self, place: u32) -> &'static str {
         match self {
             Order::Chain if place == 0 => "40000",
+            Order::Directories => "40000",
             _ => "100644",
         }
     }

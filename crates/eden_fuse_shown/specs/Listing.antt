@@ -1,5 +1,5 @@
 -- Rows of an open directory, and from which name on it is read.
-use Rattle.std.specs.Prelude.{◌≡◌, ℕ, ◌+◌, ◌-◌, ◌==◌, nat_le, nat_lt, List, [], ◌∷◌, ◌++◌, length, Option, Some, None}
+use Rattle.std.specs.Prelude.{◌≡◌, ℕ, ◌+◌, ◌-◌, ◌==◌, ◌&&◌, nat_le, Bool, nat_lt, List, [], ◌∷◌, ◌++◌, length, Option, Some, None}
 use Rattle.std.specs.Prelude.{option_map, option_and_then, if◌then◌else◌}
 use Rattle.std.specs.Ordering.{nat_cmp}
 use Rattle.std.specs.BTreeMap.{is_at}
@@ -10,6 +10,7 @@ use Rattle.eden_model.specs.declared.kind.Kind.{Kind}
 use Rattle.eden_model.specs.declared.kind.Kind.TheVariants as kinds
 use Rattle.eden_model.specs.Trees.{Name}
 use Rattle.eden_fuse_format.specs.Answers.{padding}
+use Rattle.eden_fuse_meaning.specs.Hiding.{is_hidden}
 use Rattle.eden_fuse_shown.specs.declared.pages.Page.{Page}
 
 -- ---- rows
@@ -36,12 +37,18 @@ row_head off len kind = flat_map (λ member. member) (eight 4294967295 ∷ eight
 abbrev pub row_text : ℕ → Name → Kind → List ℕ
 row_text off name kind = row_head off (length name) (type_of kind) ++ name ++ padding (length name)
 
--- behind these bytes the rows of entries, the first of which is the one after so many, as long as all stays within the size
-abbrev pub with_rows : ℕ → ℕ → List Entry → List ℕ → List ℕ
-with_rows size from [] bytes = bytes
-with_rows size from (e ∷ es) bytes =
-    if nat_le (length bytes + length (row_text (from + 1) e.0 e.1)) size
-    then with_rows size (from + 1) es (bytes ++ row_text (from + 1) e.0 e.1) else bytes
+-- an entry of the root that nobody sees; the root's node is 1
+abbrev pub is_unseen : ℕ → Entry → Bool
+is_unseen node e = (node == 1) && is_hidden e.0
+
+-- behind these bytes the rows of entries of a directory's node, the first of which is the one after so many, as long as all
+-- stays within the size; what nobody sees is passed over
+abbrev pub with_rows : ℕ → ℕ → ℕ → List Entry → List ℕ → List ℕ
+with_rows node size from [] bytes = bytes
+with_rows node size from (e ∷ es) bytes =
+    if is_unseen node e then with_rows node size (from + 1) es bytes
+    else (if nat_le (length bytes + length (row_text (from + 1) e.0 e.1)) size
+    then with_rows node size (from + 1) es (bytes ++ row_text (from + 1) e.0 e.1) else bytes)
 
 -- ---- open directories, by their handles
 

@@ -1,11 +1,16 @@
 -- The places that a message names, and the other directory of a rename.
-use Rattle.std.specs.Prelude.{ℕ, Option, Some, None, if◌then◌else◌}
+use Rattle.std.specs.Prelude.{◌≡◌, ◌⊎◌, ℕ, ◌==◌, ◌&&◌, ◌||◌, Bool, false, [], Option, Some, None, IsSome, if◌then◌else◌}
 use Rattle.std.specs.Option.{is_some}
 use Rattle.eden_model.specs.Names.{name_refusal}
 use Rattle.eden_model.specs.Trees.{Name}
 use Rattle.eden_fuse_format.specs.Asked.{Asked}
 use Rattle.eden_fuse_format.specs.Asked.{Asked as asked}
 use Rattle.eden_fuse_nodes.specs.declared.place.Place.{Place}
+use Rattle.eden_fuse_nodes.specs.Tables.{IsBare, StandsAlone}
+use Rattle.eden_fuse_nodes.specs.Tables.{Table as Nodes}
+use Rattle.eden_fuse_meaning.specs.Hiding.{is_hidden}
+use Rattle.eden_fuse_shown.specs.Opens.{opens_of}
+use Rattle.eden_fuse_shown.specs.Opens.{Table as Opens}
 
 -- a name in a directory's node, if it is one
 abbrev pub place_at : ℕ → Name → Option Place
@@ -35,3 +40,38 @@ abbrev pub other_node : Asked → Option ℕ
 other_node (asked.Rename s n m) = Some s.newdir
 other_node (asked.Rename2 s n m) = Some s.newdir
 other_node a = None
+
+-- ---- names of the root that nobody sees
+
+-- a node's place, at which nobody sees it
+abbrev pub is_veiled : Option Place → Bool
+is_veiled None = false
+is_veiled (Some p) = (p.parent == 1) && is_hidden p.name
+
+abbrev pub veiled_name : Option Place → Option Name
+veiled_name None = None
+veiled_name (Some p) = if (p.parent == 1) && is_hidden p.name then Some p.name else None
+
+-- a message names such a place
+abbrev pub is_reserved : ℕ → Asked → Bool
+is_reserved node a = is_veiled (named node a) || is_veiled (goal_of a)
+
+-- the number of the error with which it is refused: there is none of that name (ENOENT, 2), or nothing may be done to it (EPERM, 1)
+abbrev pub denial : Asked → ℕ
+denial (asked.Lookup n) = 2
+denial a = 1
+
+-- ---- what is removed or replaced
+
+-- the name at which a message removes or replaces what stands there
+abbrev pub last_name : Asked → Name
+last_name (asked.Unlink n) = n
+last_name (asked.Rename s n m) = m
+last_name (asked.Rename2 s n m) = m
+last_name a = []
+
+-- the node that stands at a place and is open, if one does
+abbrev pub IsHeld : Nodes → Opens → Option Place → Option ℕ → Type 0
+IsHeld nodes opens None held = held ≡ None
+IsHeld nodes opens (Some p) None = IsBare nodes p ⊎ ((id : ℕ) × StandsAlone nodes id p × (opens_of opens id ≡ None))
+IsHeld nodes opens (Some p) (Some id) = StandsAlone nodes id p × IsSome (opens_of opens id)

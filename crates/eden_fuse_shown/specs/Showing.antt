@@ -1,5 +1,7 @@
 -- What a mounted folder answers the kernel's messages, and what that makes of its nodes and of its open directories.
-use Rattle.std.specs.Prelude.{◌≡◌, ◌⊎◌, ℕ, zero, suc, ◌/◌, ◌^◌, nat_lt, List, [], length, Option, Some, None, Result, Ok, Err, if◌then◌else◌}
+use Rattle.std.specs.Prelude.{◌≡◌, ◌⊎◌, ℕ, zero, suc, ◌/◌, ◌^◌, ◌==◌, nat_lt, not, Bool, true, false, List, [], length, Option, Some, None}
+use Rattle.std.specs.Prelude.{Result, Ok, Err, if◌then◌else◌}
+use Rattle.std.specs.List.{slice_get}
 use Rattle.eden_model.specs.Trees.{Name, Path}
 use Rattle.eden_fuse_format.specs.declared.answer.Answer.{Answer}
 use Rattle.eden_fuse_format.specs.declared.answer.Answer.TheVariants as answer
@@ -10,7 +12,7 @@ use Rattle.eden_fuse_format.specs.Asked.{Asked, forget_one}
 use Rattle.eden_fuse_format.specs.Asked.{Asked as asked}
 use Rattle.eden_fuse_nodes.specs.declared.place.Place.{Place}
 use Rattle.eden_fuse_nodes.specs.declared.way.Whereabouts.{Whereabouts}
-use Rattle.eden_fuse_nodes.specs.Tables.{Learns, Forgets, Removes, Renames, Scatters}
+use Rattle.eden_fuse_nodes.specs.Tables.{Learns, Forgets, Removes, Renames, Scatters, place_of}
 use Rattle.eden_fuse_nodes.specs.Tables.{Table as Nodes}
 use Rattle.eden_fuse_nodes.specs.Tables.{IsSame as IsSameNodes}
 use Rattle.eden_fuse_nodes.specs.Ways.{IsWhere, path_in}
@@ -18,6 +20,7 @@ use Rattle.eden_fuse_meaning.specs.declared.step.Outcome.{Outcome}
 use Rattle.eden_fuse_meaning.specs.declared.step.Outcome.TheVariants as outcome
 use Rattle.eden_fuse_meaning.specs.declared.step.Owner.{Owner}
 use Rattle.eden_fuse_meaning.specs.declared.step.Step.{Step}
+use Rattle.eden_fuse_meaning.specs.Hiding.{hide, put_back, list_hidden, is_hidden}
 use Rattle.eden_fuse_meaning.specs.Steps.{first}
 use Rattle.eden_fuse_session.specs.Turns.{Told}
 use Rattle.eden_fuse_format.specs.Answers.{body_text, error_of}
@@ -28,18 +31,24 @@ use Rattle.eden_fuse_shown.specs.declared.sorts.Sort.{Sort}
 use Rattle.eden_fuse_shown.specs.declared.sorts.Sort.TheVariants as sort
 use Rattle.eden_fuse_shown.specs.declared.times.Moments.{Moments}
 use Rattle.eden_fuse_shown.specs.Attributes.{entry_of, attributes_of, open_file, open_directory, started}
-use Rattle.eden_fuse_shown.specs.Listing.{Entry, with_rows, page_of, last_at, Opens, Closes, Turns}
+use Rattle.eden_fuse_shown.specs.Listing.{Entry, with_rows, page_of, last_at, Closes, Turns}
+use Rattle.eden_fuse_shown.specs.Listing.{Opens as OpensPage}
 use Rattle.eden_fuse_shown.specs.Listing.{Table as Pages}
 use Rattle.eden_fuse_shown.specs.Listing.{IsSame as IsSamePages}
-use Rattle.eden_fuse_shown.specs.Naming.{named, goal_of, other_node}
+use Rattle.eden_fuse_shown.specs.Naming.{named, goal_of, other_node, veiled_name, is_reserved, denial, last_name, IsHeld}
+use Rattle.eden_fuse_shown.specs.Opens.{Raises, Lowers, opens_of, is_last}
+use Rattle.eden_fuse_shown.specs.Opens.{Table as Opens}
+use Rattle.eden_fuse_shown.specs.Opens.{IsSame as IsSameOpens}
 use Rattle.eden_fuse_shown.specs.Running.{Replying, Comes}
 
--- a mounted folder: the mount, how it is shown, the nodes that the kernel was told of, and the directories that are open
+-- a mounted folder: the mount, how it is shown, the nodes that the kernel was told of, and the directories and files that are
+-- open
 pub record Showing (S : Type 0) : Type 0 where
   pub mount : S
   pub manner : Manner
   pub nodes : Nodes
   pub pages : Pages
+  pub opens : Opens
 
 -- ---- answers
 
@@ -61,6 +70,11 @@ give bytes = if nat_lt (length bytes) (2 ^ 31) then Some (0, bytes) else refuse 
 abbrev pub count : ℕ → Told
 count n = if nat_lt n (2 ^ 32) then say (answer.Written n) else refuse 5
 
+-- an error is told
+abbrev pub failed : Told → Bool
+failed None = false
+failed (Some t) = not (t.0 == 0)
+
 -- ---- what an outcome makes of the nodes
 
 -- the node at the place is told of once more and shown, at some time that it was changed; or there is no memory for it
@@ -68,6 +82,13 @@ abbrev pub Enters : Option Place → (ℕ → Moments → Answer) → Nodes → 
 Enters None show old new t = IsSameNodes old new × (t ≡ refuse 5)
 Enters (Some p) show old new t =
     ((id : ℕ) × (at : Moments) × Learns old new id p × (t ≡ say (show id at))) ⊎ (IsSameNodes old new × (t ≡ refuse 12))
+
+-- .. and is open once more
+abbrev pub EntersOpen : Option Place → (ℕ → Moments → Answer) → Nodes → Nodes → Opens → Opens → Told → Type 0
+EntersOpen None show old new opens opens' t = IsSameNodes old new × IsSameOpens opens opens' × (t ≡ refuse 5)
+EntersOpen (Some p) show old new opens opens' t =
+    ((id : ℕ) × (at : Moments) × Learns old new id p × Raises opens opens' id × (t ≡ say (show id at)))
+    ⊎ (IsSameNodes old new × IsSameOpens opens opens' × (t ≡ refuse 12))
 
 abbrev pub Drops : Option Place → Nodes → Nodes → Type 0
 Drops None old new = IsSameNodes old new
@@ -101,21 +122,22 @@ abbrev pub Shuts : Asked → Pages → Pages → Type 0
 Shuts (asked.ReleaseDir s) old new = Closes old new s.fh
 Shuts a old new = IsSamePages old new
 
--- a directory is opened by a handle of its own, or there is no memory for it; a file has none
-abbrev pub IsOpened : Asked → Pages → Pages → Told → Type 0
-IsOpened (asked.OpenDir s) old new t =
-    ((handle : ℕ) × Opens old new handle × (t ≡ say (answer.Opened (open_directory handle)))) ⊎ (IsSamePages old new × (t ≡ refuse 12))
-IsOpened a old new t = IsSamePages old new × (t ≡ say (answer.Opened open_file))
+-- a directory is opened by a handle of its own, and a file's node once more; or there is no memory for it
+abbrev pub IsOpened : ℕ → Asked → Pages → Pages → Opens → Opens → Told → Type 0
+IsOpened node (asked.OpenDir s) old new opens opens' t = IsSameOpens opens opens'
+    × (((handle : ℕ) × OpensPage old new handle × (t ≡ say (answer.Opened (open_directory handle)))) ⊎ (IsSamePages old new × (t ≡ refuse 12)))
+IsOpened node a old new opens opens' t = IsSamePages old new
+    × ((Raises opens opens' node × (t ≡ say (answer.Opened open_file))) ⊎ (IsSameOpens opens opens' × (t ≡ refuse 12)))
 
 -- rows were listed after that name: the first of them are told, as many as fit; or there is no memory for them
-abbrev pub Lists : ReadIn → Option Name → List Entry → Pages → Pages → Told → Type 0
-Lists s last rows old new t =
-    (Turns old new s.fh (record { from = s.offset; before = last; rows = rows }) × (t ≡ Some (0, with_rows s.size s.offset rows [])))
+abbrev pub Lists : ℕ → ReadIn → Option Name → List Entry → Pages → Pages → Told → Type 0
+Lists node s last rows old new t =
+    (Turns old new s.fh (record { from = s.offset; before = last; rows = rows }) × (t ≡ Some (0, with_rows node s.size s.offset rows [])))
     ⊎ (IsSamePages old new × (t ≡ refuse 12))
 
-abbrev pub IsListed : Asked → Option Name → List Entry → Pages → Pages → Told → Type 0
-IsListed (asked.ReadDir s) last rows old new t = Lists s last rows old new t
-IsListed a last rows old new t = IsSamePages old new × (t ≡ refuse 5)
+abbrev pub IsListed : ℕ → Asked → Option Name → List Entry → Pages → Pages → Told → Type 0
+IsListed node (asked.ReadDir s) last rows old new t = Lists node s last rows old new t
+IsListed node a last rows old new t = IsSamePages old new × (t ≡ refuse 5)
 
 abbrev pub start : Asked → Told
 start (asked.Init i) = say (started i)
@@ -123,26 +145,27 @@ start a = refuse 5
 
 -- ---- what is answered once it is known what a message came to
 
-module _ (m : Manner) (node : ℕ) (a : Asked) (last : Option Name) (nodes nodes' : Nodes) (pages pages' : Pages) where
+module _ (m : Manner) (node : ℕ) (a : Asked) (last : Option Name) (nodes nodes' : Nodes) (pages pages' : Pages)
+    (opens opens' : Opens) where
   abbrev pub Stay : Type 0
-  Stay = IsSameNodes nodes nodes' × IsSamePages pages pages'
+  Stay = IsSameNodes nodes nodes' × IsSamePages pages pages' × IsSameOpens opens opens'
 
   abbrev pub Concludes : Result Outcome Unheard → Told → Type 0
   Concludes (Err why) t = Stay × (t ≡ refuse (errno_of why))
   Concludes (Ok outcome.Silent) t = Stay × (t ≡ None)
   Concludes (Ok (outcome.Refused errno)) t = Stay × (t ≡ refuse errno)
-  Concludes (Ok outcome.Done) t = Changes node a nodes nodes' × Shuts a pages pages' × (t ≡ say answer.Done)
+  Concludes (Ok outcome.Done) t = Changes node a nodes nodes' × Shuts a pages pages' × IsSameOpens opens opens' × (t ≡ say answer.Done)
   Concludes (Ok outcome.Absent) t = Stay × (t ≡ say (answer.NoEntry m.keep))
   Concludes (Ok (outcome.Found kind size inode)) t =
-      Enters (named node a) (λ id at. answer.Entry (entry_of m id inode at kind size)) nodes nodes' t × IsSamePages pages pages'
+      Enters (named node a) (λ id at. answer.Entry (entry_of m id inode at kind size)) nodes nodes' t × IsSamePages pages pages' × IsSameOpens opens opens'
   Concludes (Ok (outcome.Attributes kind size inode)) t =
       Stay × ((at : Moments) × (t ≡ say (answer.Attributes (attributes_of m inode at kind size))))
-  Concludes (Ok outcome.Opened) t = IsSameNodes nodes nodes' × IsOpened a pages pages' t
+  Concludes (Ok outcome.Opened) t = IsSameNodes nodes nodes' × IsOpened node a pages pages' opens opens' t
   Concludes (Ok (outcome.Made kind size inode)) t =
-      Enters (named node a) (λ id at. answer.Created (entry_of m id inode at kind size) open_file) nodes nodes' t × IsSamePages pages pages'
+      EntersOpen (named node a) (λ id at. answer.Created (entry_of m id inode at kind size) open_file) nodes nodes' opens opens' t × IsSamePages pages pages'
   Concludes (Ok (outcome.Bytes bytes)) t = Stay × (t ≡ give bytes)
   Concludes (Ok (outcome.Written n)) t = Stay × (t ≡ count n)
-  Concludes (Ok (outcome.Rows rows more)) t = IsSameNodes nodes nodes' × IsListed a last rows pages pages' t
+  Concludes (Ok (outcome.Rows rows more)) t = IsSameNodes nodes nodes' × IsListed node a last rows pages pages' t × IsSameOpens opens opens'
   Concludes (Ok outcome.Space) t = Stay × (t ≡ say (answer.StatFs m.space))
   Concludes (Ok outcome.Started) t = Stay × (t ≡ start a)
 
@@ -170,6 +193,11 @@ abbrev pub sort_of : Asked → Sort
 sort_of (asked.Forget s) = sort.One s.nlookup
 sort_of (asked.BatchForget b) = sort.Batch
 sort_of (asked.ReadDir s) = sort.On s
+sort_of (asked.Release s) = sort.Close
+sort_of (asked.Init s) = sort.Start
+sort_of (asked.Unlink n) = sort.Remove
+sort_of (asked.Rename s n m) = sort.Replace s.newdir
+sort_of (asked.Rename2 s n m) = if s.flags == 0 then sort.Replace s.newdir else sort.Plain
 sort_of a = sort.Plain
 
 -- the batch that it forgets
@@ -177,30 +205,35 @@ abbrev pub batch_of : Asked → List ℕ
 batch_of (asked.BatchForget b) = b
 batch_of a = []
 
+-- the rows that were listed
+abbrev pub rows_in : Result Outcome Unheard → List Entry
+rows_in (Ok (outcome.Rows rows more)) = rows
+rows_in r = []
+
 module _ {S : Type 0} (answers : Replying S) where
   -- there was no memory before anything was asked
   abbrev pub Starves : Showing S → Told → Showing S → Type 0
   Starves old t new = (new ≡ old) × (t ≡ refuse 12)
 
   -- the mount was asked what the message means, and what that came to is answered
-  pub record Goes (h : Header) (a : Asked) (last : Option Name) (old : Showing S) (t : Told) (new : Showing S) : Type 0 where
+  pub record Goes (node : ℕ) (a : Asked) (last : Option Name) (old : Showing S) (t : Told) (new : Showing S) : Type 0 where
     pub step : Step
-    pub begins : Begins old.manner.owner old.nodes h.nodeid a last step
+    pub begins : Begins old.manner.owner old.nodes node a last step
     pub end : Result Outcome Unheard
     pub comes : Comes answers step old.mount end new.mount
-    pub concludes : Concludes old.manner h.nodeid a last old.nodes new.nodes old.pages new.pages end t
+    pub concludes : Concludes old.manner node a last old.nodes new.nodes old.pages new.pages old.opens new.opens end t
     pub manner : new.manner ≡ old.manner
 
-  abbrev pub Runs : Header → Asked → Option Name → Showing S → Told → Showing S → Type 0
-  Runs h a last old t new = Starves old t new ⊎ Goes h a last old t new
+  abbrev pub Runs : ℕ → Asked → Option Name → Showing S → Told → Showing S → Type 0
+  Runs node a last old t new = Starves old t new ⊎ Goes node a last old t new
 
   -- a directory is read on after the last name at the offset; where none is known for it that is refused with EINVAL (22)
-  abbrev pub RunsFrom : Header → Asked → Option (Option Name) → Showing S → Told → Showing S → Type 0
-  RunsFrom h a None old t new = (new ≡ old) × (t ≡ refuse 22)
-  RunsFrom h a (Some last) old t new = Runs h a last old t new
+  abbrev pub RunsFrom : ℕ → Asked → Option (Option Name) → Showing S → Told → Showing S → Type 0
+  RunsFrom node a None old t new = (new ≡ old) × (t ≡ refuse 22)
+  RunsFrom node a (Some last) old t new = Runs node a last old t new
 
-  abbrev pub Reads : Header → Asked → ReadIn → Showing S → Told → Showing S → Type 0
-  Reads h a s old t new = Starves old t new ⊎ RunsFrom h a (last_at (page_of old.pages s.fh) s.offset) old t new
+  abbrev pub Reads : ℕ → Asked → ReadIn → Showing S → Told → Showing S → Type 0
+  Reads node a s old t new = Starves old t new ⊎ RunsFrom node a (last_at (page_of old.pages s.fh) s.offset) old t new
 
   -- nodes alone are forgotten, and nothing is answered
   pub record Loses (old : Showing S) (t : Told) (new : Showing S) (Lost : Type 0) : Type 0 where
@@ -209,14 +242,112 @@ module _ {S : Type 0} (answers : Replying S) where
     pub mount : new.mount ≡ old.mount
     pub manner : new.manner ≡ old.manner
     pub pages : new.pages ≡ old.pages
+    pub opens : new.opens ≡ old.opens
 
-  abbrev pub ShowsBy : Sort → Showing S → Header → Asked → Told → Showing S → Type 0
-  ShowsBy (sort.One n) old h a t new = Loses old t new (Forgets old.nodes new.nodes h.nodeid n)
-  ShowsBy sort.Batch old h a t new =
-      Loses old t new (ForgetsRows (length (batch_of a) / 16) (batch_of a) old.nodes new.nodes)
-  ShowsBy (sort.On s) old h a t new = Reads h a s old t new
-  ShowsBy sort.Plain old h a t new = Runs h a None old t new
+  -- ---- what is removed or replaced while it is open
+
+  -- what is removed and isn't open is removed; what is open gets its hidden name
+  abbrev pub RemovesBy : Option ℕ → ℕ → Asked → Showing S → Told → Showing S → Type 0
+  RemovesBy None node a old t new = Runs node a None old t new
+  RemovesBy (Some id) node a old t new = Runs node (hide id (last_name a)) None old t new
+
+  abbrev pub RemovesHeld : ℕ → Asked → Showing S → Told → Showing S → Type 0
+  RemovesHeld node a old t new = (held : Option ℕ) × IsHeld old.nodes old.opens (named node a) held × RemovesBy held node a old t new
+
+  -- after a rename that failed the other gets its name back
+  abbrev pub Restores : ℕ → ℕ → Name → Told → Showing S → Showing S → Type 0
+  Restores id dir n t old new = ((failed t ≡ false) × (new ≡ old))
+      ⊎ ((failed t ≡ true) × ((back : Told) × Runs 1 (put_back id dir n) None old back new))
+
+  -- once the other is hidden, what was asked is done; where it couldn't be hidden, nothing is
+  abbrev pub MovesOver : ℕ → ℕ → ℕ → Asked → Told → Showing S → Told → Showing S → Type 0
+  MovesOver id dir node a hid old t new = ((failed hid ≡ true) × (t ≡ hid) × (new ≡ old))
+      ⊎ ((failed hid ≡ false) × ((mid : Showing S) × Runs node a None old t mid × Restores id dir (last_name a) t mid new))
+
+  abbrev pub ReplacesBy : Option ℕ → ℕ → ℕ → Asked → Showing S → Told → Showing S → Type 0
+  ReplacesBy None dir node a old t new = Runs node a None old t new
+  ReplacesBy (Some id) dir node a old t new =
+      (hid : Told) × (mid : Showing S) × Runs dir (hide id (last_name a)) None old hid mid × MovesOver id dir node a hid mid t new
+
+  -- .. in the directory of that node
+  abbrev pub ReplacesHeld : ℕ → ℕ → Asked → Showing S → Told → Showing S → Type 0
+  ReplacesHeld dir node a old t new = (held : Option ℕ) × IsHeld old.nodes old.opens (goal_of a) held × ReplacesBy held dir node a old t new
+
+  -- a file was closed once
+  pub record IsClosed (node : ℕ) (old new : Showing S) : Type 0 where
+    pub opens : Lowers old.opens new.opens node
+    pub mount : new.mount ≡ old.mount
+    pub manner : new.manner ≡ old.manner
+    pub nodes : new.nodes ≡ old.nodes
+    pub pages : new.pages ≡ old.pages
+
+  -- what has a hidden name is removed, or stays for want of memory, or where the mount doesn't do it
+  abbrev pub LetsGo : Option Name → Showing S → Showing S → Type 0
+  LetsGo None old new = new ≡ old
+  LetsGo (Some n) old new = (t : Told) × Runs 1 (asked.Unlink n) None old t new
+
+  -- .. once it isn't open any more
+  abbrev pub LetsGoLast : Bool → ℕ → Showing S → Showing S → Type 0
+  LetsGoLast last node old new = ((last ≡ false) × (new ≡ old)) ⊎ ((last ≡ true) × LetsGo (veiled_name (place_of old.nodes node)) old new)
+
+  abbrev pub ClosesFile : ℕ → Showing S → Told → Showing S → Type 0
+  ClosesFile node old t new = (t ≡ say answer.Done)
+      × ((mid : Showing S) × IsClosed node old mid × LetsGoLast (is_last (opens_of old.opens node)) node mid new)
+
+  -- ---- what another run left
+
+  abbrev pub ClearsIf : Bool → Name → Showing S → Showing S → Type 0
+  ClearsIf true n old new = LetsGo (Some n) old new
+  ClearsIf false n old new = new ≡ old
+
+  abbrev pub ClearsRow : Option Entry → Showing S → Showing S → Type 0
+  ClearsRow None old new = new ≡ old
+  ClearsRow (Some e) old new = ClearsIf (is_hidden e.0) e.0 old new
+
+  -- the first so many entries
+  abbrev pub ClearsRows : ℕ → List Entry → Showing S → Showing S → Type 0
+  ClearsRows zero rows old new = new ≡ old
+  ClearsRows (suc n) rows old new = (mid : Showing S) × ClearsRows n rows old mid × ClearsRow (slice_get rows n) mid new
+
+  -- nothing but the mount was asked
+  pub record IsAsked (step : Step) (end : Result Outcome Unheard) (old new : Showing S) : Type 0 where
+    pub comes : Comes answers step old.mount end new.mount
+    pub manner : new.manner ≡ old.manner
+    pub nodes : new.nodes ≡ old.nodes
+    pub pages : new.pages ≡ old.pages
+    pub opens : new.opens ≡ old.opens
+
+  -- what has hidden names is listed, and removed
+  abbrev pub Clears : Showing S → Showing S → Type 0
+  Clears old new = (end : Result Outcome Unheard) × (mid : Showing S) × IsAsked list_hidden end old mid
+      × ClearsRows (length (rows_in end)) (rows_in end) mid new
+
+  abbrev pub Starts : ℕ → Asked → Showing S → Told → Showing S → Type 0
+  Starts node a old t new = Starves old t new ⊎ ((mid : Showing S) × Clears old mid × Runs node a None mid t new)
+
+  -- ---- each message
+
+  abbrev pub Serves : Sort → ℕ → Asked → Showing S → Told → Showing S → Type 0
+  Serves sort.Remove node a old t new = RemovesHeld node a old t new
+  Serves (sort.Replace dir) node a old t new = ReplacesHeld dir node a old t new
+  Serves sort.Start node a old t new = Starts node a old t new
+  Serves s node a old t new = Runs node a None old t new
+
+  -- what names what nobody sees is refused
+  abbrev pub Heeds : Bool → Sort → ℕ → Asked → Showing S → Told → Showing S → Type 0
+  Heeds true s node a old t new = (new ≡ old) × (t ≡ refuse (denial a))
+  Heeds false s node a old t new = Serves s node a old t new
+
+  abbrev pub Takes : Sort → ℕ → Asked → Showing S → Told → Showing S → Type 0
+  Takes s node a old t new = Starves old t new ⊎ Heeds (is_reserved node a) s node a old t new
+
+  abbrev pub ShowsBy : Sort → Showing S → ℕ → Asked → Told → Showing S → Type 0
+  ShowsBy (sort.One n) old node a t new = Loses old t new (Forgets old.nodes new.nodes node n)
+  ShowsBy sort.Batch old node a t new = Loses old t new (ForgetsRows (length (batch_of a) / 16) (batch_of a) old.nodes new.nodes)
+  ShowsBy (sort.On s) old node a t new = Reads node a s old t new
+  ShowsBy sort.Close old node a t new = ClosesFile node old t new
+  ShowsBy s old node a t new = Takes s node a old t new
 
   -- the message was answered so
   abbrev pub Shows : Showing S → Header → Asked → Told → Showing S → Type 0
-  Shows old h a t new = ShowsBy (sort_of a) old h a t new
+  Shows old h a t new = ShowsBy (sort_of a) old h.nodeid a t new

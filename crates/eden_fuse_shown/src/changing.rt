@@ -4,8 +4,11 @@ ghost use Rattle.eden_fuse_format.specs.Asked.{seen};
 ghost use Rattle.eden_fuse_nodes.specs.declared.place.Place.{Place};
 ghost use Rattle.eden_fuse_nodes.specs.Tables.{IsSame, Learns};
 ghost use Rattle.eden_fuse_shown.specs.Naming.{goal_of, named};
+ghost use Rattle.eden_fuse_shown.specs.Opens.{Raises};
+ghost use Rattle.eden_fuse_shown.specs.Opens.{IsSame as AreSame};
 ghost use Rattle.eden_fuse_shown.specs.Showing.{Changes, Drops, ForgetsRows, Passes};
 
+use crate::opens::Opens;
 use eden_fuse_format::{Operation, forget_at};
 use eden_fuse_nodes::{Nodes, Place};
 use std::alloc::Global;
@@ -27,6 +30,27 @@ pub(crate) fn enter(alloc: Global, nodes: &mut Nodes, place: Option<Place>) -> R
             Err(_) => Err(ENOMEM),
         },
     }
+}
+
+/// The node at the place is told of once more, and is open once more. Errors are those of `enter`, and change nothing.
+pub(crate) fn enter_open(
+    alloc: Global,
+    nodes: &mut Nodes,
+    opens: &mut Opens,
+    place: Option<Place>,
+) -> Result<u64, u32>
+    ensures ok { IfOk result (λ id. (p : Place) × (place ≡ Some p) × Learns nodes.old nodes.new id p
+        × Raises opens.old opens.new id) }
+    ensures err { IfErr result (λ e. IsSame nodes.old nodes.new × AreSame opens.old opens.new
+        × (((place ≡ None) × (e ≡ 5)) ⊎ ((p : Place) × (place ≡ Some p) × (e ≡ 12)))) }
+{
+    nodes.keeps();
+    let id = enter(alloc, nodes, place)?;
+    if opens.raise(id).is_err() {
+        nodes.forget(id, 1);
+        return Err(ENOMEM);
+    }
+    Ok(id)
 }
 
 // The node at the place stands nowhere.

@@ -7,15 +7,18 @@ ghost use Rattle.eden_fuse_nodes.specs.Tables.{IsSame};
 ghost use Rattle.eden_fuse_session.specs.Turns.{IsBriefly, told};
 ghost use Rattle.eden_fuse_shown.specs.Attributes.{entry_of, open_file};
 ghost use Rattle.eden_fuse_shown.specs.Naming.{goal_of, named};
+ghost use Rattle.eden_fuse_shown.specs.Opens.{IsSame as AreSame};
 ghost use Rattle.eden_fuse_shown.specs.Showing.{
   Concludes,
   Enters,
+  EntersOpen,
   IsListed,
   IsOpened,
   Lists,
   Shuts,
   count,
   errno_of,
+  failed,
   give,
   refuse,
   say,
@@ -23,10 +26,11 @@ ghost use Rattle.eden_fuse_shown.specs.Showing.{
 };
 
 use crate::attributes::{attributes_of, entry_of, open_directory, open_file, started};
-use crate::changing::{change, enter};
+use crate::changing::{change, enter, enter_open};
 use crate::listing::put_rows;
 use crate::manner::Manner;
 use crate::mount::Unheard;
+use crate::opens::Opens;
 use crate::pages::{Page, Pages};
 use crate::times::Times;
 use eden_fuse_format::{Answer, Operation, ReadIn, Time};
@@ -48,6 +52,16 @@ pub(crate) fn refuse(errno: u32) -> Said
     ensures brief { (bytes : List ℕ) → IsBriefly result bytes }
 {
     Said::Answers(Answer::Refused(errno))
+}
+
+/// Whether an error is told.
+pub(crate) fn failed(said: &Said) -> bool
+    ensures { (bytes : List ℕ) → failed (told said.now bytes) ≡ result }
+{
+    match said {
+        Said::Answers(Answer::Refused(errno)) => *errno != 0,
+        _ => false,
+    }
 }
 
 fn errno_of(why: Unheard) -> u32
@@ -99,6 +113,7 @@ fn made(
     alloc: Global,
     manner: Manner,
     nodes: &mut Nodes,
+    opens: &mut Opens,
     times: &mut Times,
     fresh: Option<Time>,
     place: Option<Place>,
@@ -106,11 +121,11 @@ fn made(
     size: u64,
     inode: u64,
 ) -> Answer<'static>
-    ensures enters { Enters place (λ id at. answer.Created (entry_of manner id inode at kind size) open_file)
-        nodes.old nodes.new (say result) }
+    ensures enters { EntersOpen place (λ id at. answer.Created (entry_of manner id inode at kind size) open_file)
+        nodes.old nodes.new opens.old opens.new (say result) }
     ensures brief { IsBrief result }
 {
-    match enter(alloc, nodes, place) {
+    match enter_open(alloc, nodes, opens, place) {
         Err(errno) => Answer::Refused(errno),
         Ok(id) => {
             if let Some(now) = fresh {
@@ -125,8 +140,14 @@ fn made(
 }
 
 // A file or a directory is opened.
-fn open(alloc: Global, pages: &mut Pages, operation: &Operation<'_>) -> Answer<'static>
-    ensures opened { IsOpened (seen operation.now) pages.old pages.new (say result) }
+fn open(
+    alloc: Global,
+    pages: &mut Pages,
+    opens: &mut Opens,
+    node: u64,
+    operation: &Operation<'_>,
+) -> Answer<'static>
+    ensures opened { IsOpened node (seen operation.now) pages.old pages.new opens.old opens.new (say result) }
     ensures brief { IsBrief result }
 {
     match operation {
@@ -134,7 +155,10 @@ fn open(alloc: Global, pages: &mut Pages, operation: &Operation<'_>) -> Answer<'
             Ok(handle) => Answer::Opened(open_directory(handle)),
             Err(_) => Answer::Refused(ENOMEM),
         },
-        _ => Answer::Opened(open_file()),
+        _ => match opens.raise(node) {
+            Ok(()) => Answer::Opened(open_file()),
+            Err(_) => Answer::Refused(ENOMEM),
+        },
     }
 }
 
@@ -183,19 +207,20 @@ fn give(bytes: Bytes, room: &mut Vec<u8>) -> Said
 // Entries of an open directory were listed, and become its page.
 fn list_from(
     pages: &mut Pages,
+    node: u64,
     read: &ReadIn,
     last: Option<Name>,
     rows: Entries,
     room: &mut Vec<u8>,
 ) -> Said
-    ensures listed { Lists read.now last rows pages.old pages.new (told result room.new.items) }
+    ensures listed { Lists node read.now last rows pages.old pages.new (told result room.new.items) }
     ensures brief { IsBriefly result room.new.items }
 {
     room.clear();
     if read.offset >= MOST_BEFORE || rows.len() as u64 >= MOST_BEFORE {
         return refuse(ENOMEM);
     }
-    if put_rows(room, read.size as usize, read.offset, rows.as_slice()).is_err() {
+    if put_rows(node, room, read.size as usize, read.offset, rows.as_slice()).is_err() {
         return refuse(ENOMEM);
     }
     if room.len() >= 1 << 31 {
@@ -212,16 +237,17 @@ fn list_from(
 
 fn list(
     pages: &mut Pages,
+    node: u64,
     operation: &Operation<'_>,
     last: Option<Name>,
     rows: Entries,
     room: &mut Vec<u8>,
 ) -> Said
-    ensures listed { IsListed (seen operation.now) last rows pages.old pages.new (told result room.new.items) }
+    ensures listed { IsListed node (seen operation.now) last rows pages.old pages.new (told result room.new.items) }
     ensures brief { IsBriefly result room.new.items }
 {
     match operation {
-        Operation::ReadDir(read) => list_from(pages, read, last, rows, room),
+        Operation::ReadDir(read) => list_from(pages, node, read, last, rows, room),
         _ => refuse(EIO),
     }
 }
@@ -232,6 +258,7 @@ pub(crate) fn conclude(
     manner: Manner,
     nodes: &mut Nodes,
     pages: &mut Pages,
+    opens: &mut Opens,
     times: &mut Times,
     now: Time,
     node: u64,
@@ -244,8 +271,8 @@ pub(crate) fn conclude(
 ) -> Said
     requires place { place ≡ named node (seen operation.now) }
     requires goal { goal ≡ goal_of (seen operation.now) }
-    ensures concludes { Concludes manner node (seen operation.now) last nodes.old nodes.new pages.old pages.new end
-        (told result room.new.items) }
+    ensures concludes { Concludes manner node (seen operation.now) last nodes.old nodes.new pages.old pages.new
+        opens.old opens.new end (told result room.new.items) }
     ensures brief { IsBriefly result room.new.items }
 {
     match end {
@@ -266,14 +293,16 @@ pub(crate) fn conclude(
             let attributes = attributes_of(manner, inode, times.of(node), kind, size);
             Said::Answers(Answer::Attributes(attributes))
         }
-        Ok(Outcome::Opened) => Said::Answers(open(alloc, pages, operation)),
+        Ok(Outcome::Opened) => Said::Answers(open(alloc, pages, opens, node, operation)),
         Ok(Outcome::Made(kind, size, inode)) => {
             let fresh = fresh(operation, now);
-            Said::Answers(made(alloc, manner, nodes, times, fresh, place, kind, size, inode))
+            Said::Answers(made(
+                alloc, manner, nodes, opens, times, fresh, place, kind, size, inode,
+            ))
         }
         Ok(Outcome::Bytes(bytes)) => give(bytes, room),
         Ok(Outcome::Written(written)) => Said::Answers(count(written)),
-        Ok(Outcome::Rows(rows, _)) => list(pages, operation, last, rows, room),
+        Ok(Outcome::Rows(rows, _)) => list(pages, node, operation, last, rows, room),
         Ok(Outcome::Space) => Said::Answers(Answer::StatFs(manner.space)),
         Ok(Outcome::Started) => Said::Answers(start(operation)),
     }

@@ -3,8 +3,12 @@
 //! `Shown` is the service of a session. It finds the path at which a message's node lies by now, asks the mount what
 //! the message means there, request after request, and answers what that came to: attributes, entries, bytes, rows of
 //! a directory, or an error's number. Nodes are told of and forgotten as the kernel says, and an open directory is read
-//! on where its last listing has been. Which times are told isn't promised. What is removed while it is open is refused
-//! from then on, and no write waits: each is stored before it is answered. Nothing here reads or writes a descriptor.
+//! on where its last listing has been.
+//!
+//! A file that is removed or replaced while it is open gets a name of the root that nobody sees: no listing has it, no
+//! message may name it, and the file goes with its last close. What a run that was cut off left at such names, up to
+//! 1,000 of them, goes as the next one starts. Which times are told isn't promised, and no write waits: each is stored
+//! before it is answered. Nothing here reads or writes a descriptor.
 #![tactic(auto)]
 
 mod attributes;
@@ -14,6 +18,7 @@ mod listing;
 mod manner;
 mod mount;
 mod naming;
+mod opens;
 mod pages;
 mod running;
 mod shown;
@@ -22,6 +27,7 @@ mod times;
 
 pub use manner::Manner;
 pub use mount::{Mount, Unheard};
+pub use opens::Opens;
 pub use pages::{Page, Pages};
 pub use shown::Shown;
 pub use sorts::Sort;

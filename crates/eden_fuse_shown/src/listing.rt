@@ -1,11 +1,15 @@
 // Rows of directories.
 ghost use Rattle.std.specs.Prelude.{◌≡◌, ◌<◌, ◌+◌, ◌^◌, nat_le, length, IfOk, OnOk};
 ghost use Rattle.eden_fuse_format.specs.Answers.{appended_if};
-ghost use Rattle.eden_fuse_shown.specs.Listing.{row_text, type_of, with_rows};
+ghost use Rattle.eden_fuse_shown.specs.Listing.{is_unseen, row_text, type_of, with_rows};
+ghost use Rattle.eden_fuse_shown.specs.Showing.{rows_in};
 
+use crate::mount::Unheard;
 use eden_fuse_format::{Dirent, put_dirent};
-use eden_model::{Kind, Name};
-use std::alloc::AllocError;
+use eden_fuse_meaning::{Outcome, is_hidden};
+use eden_fuse_nodes::ROOT;
+use eden_model::{Entries, Kind, Name};
+use std::alloc::{AllocError, Global};
 
 /// Stands for the number of a node that isn't told.
 const UNTOLD: u64 = 4_294_967_295;
@@ -44,19 +48,40 @@ fn put_row(
     put_dirent(room, size, &row)
 }
 
-/// Appends the rows of entries as long as they fit. `from` entries come before the first.
+/// The rows that were listed, if any were.
+pub(crate) fn rows_in(alloc: Global, end: Result<Outcome, Unheard>) -> Entries
+    ensures { result ≡ rows_in end }
+{
+    match end {
+        Ok(Outcome::Rows(rows, _more)) => rows,
+        _other => Entries::new(Vec::new(alloc)),
+    }
+}
+
+fn is_unseen(node: u64, row: &(Name, Kind)) -> bool
+    ensures { result ≡ is_unseen node row.now }
+{
+    node == ROOT && is_hidden(row.0.as_slice())
+}
+
+/// Appends the rows of entries of a directory's node as long as they fit, but for those that nobody sees. `from`
+/// entries come before the first.
 pub(crate) fn put_rows(
+    node: u64,
     room: &mut Vec<u8>,
     size: usize,
     from: u64,
     rows: &[(Name, Kind)],
 ) -> Result<(), AllocError>
     requires { from + length rows.now < 2 ^ 64 }
-    ensures { OnOk result (room.new.items ≡ with_rows size from rows.now room.old.items) }
+    ensures { OnOk result (room.new.items ≡ with_rows node size from rows.now room.old.items) }
 {
     let mut off = from;
     'rows: for row in rows {
         off += 1;
+        if is_unseen(node, row) {
+            continue;
+        }
         if !put_row(room, size, off, &row.0, row.1)? {
             return Ok(());
         }

@@ -1,12 +1,14 @@
 // Places and paths of messages.
 ghost use Rattle.std.specs.Prelude.{◌≡◌, IfOk};
 ghost use Rattle.eden_fuse_format.specs.Asked.{seen};
-ghost use Rattle.eden_fuse_shown.specs.Naming.{goal_of, named, other_node, place_at};
+ghost use Rattle.eden_fuse_nodes.specs.Tables.{place_of};
+ghost use Rattle.eden_fuse_shown.specs.Naming.{IsHeld, goal_of, is_veiled, named, other_node, place_at, veiled_name};
 ghost use Rattle.eden_fuse_shown.specs.Showing.{Begins, IsOtherPath, IsPathOf};
 
+use crate::opens::Opens;
 use eden_fuse_format::Operation;
-use eden_fuse_meaning::{Owner, Step, first};
-use eden_fuse_nodes::{Nodes, Place};
+use eden_fuse_meaning::{Owner, Step, first, is_hidden};
+use eden_fuse_nodes::{Nodes, Place, ROOT};
 use eden_model::{Name, Path};
 use std::alloc::{AllocError, Global};
 
@@ -51,6 +53,54 @@ pub(crate) fn goal_of(alloc: Global, operation: &Operation<'_>) -> Result<Option
         Operation::Rename(head, _, name) => place_at(alloc, head.newdir, name),
         Operation::Rename2(head, _, name) => place_at(alloc, head.newdir, name),
         _ => Ok(None),
+    }
+}
+
+/// Whether nobody sees what stands at the place.
+pub(crate) fn is_veiled(place: &Option<Place>) -> bool
+    ensures { result ≡ is_veiled place.now }
+{
+    match place {
+        None => false,
+        Some(place) => place.parent == ROOT && is_hidden(place.name.as_slice()),
+    }
+}
+
+/// The name of the root at which nobody sees a node, if it stands there. The only error is want of memory.
+pub(crate) fn veiled_name(
+    alloc: Global,
+    nodes: &Nodes,
+    node: u64,
+) -> Result<Option<Name>, AllocError>
+    ensures { IfOk result (λ name. name ≡ veiled_name (place_of nodes.now node)) }
+{
+    match nodes.place_of(node) {
+        None => Ok(None),
+        Some(place) => {
+            if place.parent == ROOT && is_hidden(place.name.as_slice()) {
+                return Ok(Some(place.name.copy(alloc)?));
+            }
+            Ok(None)
+        }
+    }
+}
+
+/// The node that stands at the place and is open, if one does.
+pub(crate) fn held(nodes: &Nodes, opens: &Opens, place: &Option<Place>) -> Option<u64>
+    ensures { IsHeld nodes.now opens.now place.now result }
+{
+    match place {
+        None => None,
+        Some(place) => match nodes.at(place) {
+            None => None,
+            Some(node) => {
+                if opens.is_open(node) {
+                    Some(node)
+                } else {
+                    None
+                }
+            }
+        },
     }
 }
 

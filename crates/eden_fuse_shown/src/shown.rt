@@ -1,22 +1,49 @@
-ghost use Rattle.std.specs.Prelude.{◌≡◌};
+ghost use Rattle.std.specs.Prelude.{◌≡◌, None, Some, OnErr, OnOk, Result, length};
 ghost use Rattle.eden_fuse_format.specs.Asked.{seen};
+ghost use Rattle.eden_fuse_format.specs.Asked.{Asked as asked};
+ghost use Rattle.eden_fuse_meaning.specs.declared.step.Outcome.{Outcome};
+ghost use Rattle.eden_fuse_meaning.specs.Hiding.{hide, put_back};
 ghost use Rattle.eden_fuse_session.specs.Turns.{IsBriefly, told};
-ghost use Rattle.eden_fuse_shown.specs.Showing.{Reads, Runs};
+ghost use Rattle.eden_fuse_nodes.specs.Tables.{place_of};
+ghost use Rattle.eden_fuse_shown.specs.declared.mount.Unheard.{Unheard};
+ghost use Rattle.eden_fuse_shown.specs.Opens.{is_last, opens_of};
+ghost use Rattle.eden_fuse_shown.specs.Naming.{goal_of, last_name, named, veiled_name};
+ghost use Rattle.eden_fuse_shown.specs.Showing.{
+  Clears,
+  ClearsRow,
+  ClearsRows,
+  ClosesFile,
+  IsAsked,
+  IsClosed,
+  LetsGo,
+  Reads,
+  RemovesHeld,
+  ReplacesBy,
+  ReplacesHeld,
+  Restores,
+  Runs,
+  Starts,
+  Takes,
+  rows_in,
+};
 
 use crate::changing::forget_all;
-use crate::concluding::{conclude, refuse};
+use crate::concluding::{conclude, failed, refuse};
+use crate::listing::rows_in;
 use crate::manner::Manner;
 use crate::mount::Mount;
-use crate::naming::{begin, goal_of, named};
+use crate::naming::{begin, goal_of, held, is_veiled, named, veiled_name};
+use crate::opens::Opens;
 use crate::pages::Pages;
 use crate::running::run;
-use crate::sorts::{Sort, batch_of, sort_of};
+use crate::sorts::{Sort, batch_of, denial, last_name, sort_of};
 use crate::times::{Times, now};
-use eden_fuse_format::{Header, Operation, ReadIn};
-use eden_fuse_nodes::Nodes;
+use eden_fuse_format::{Answer, Header, Operation, ReadIn, RenameIn};
+use eden_fuse_meaning::{Step, hidden_name, is_hidden, list_hidden};
+use eden_fuse_nodes::{Nodes, Place, ROOT};
 use eden_fuse_session::{Said, Service};
-use eden_model::Name;
-use std::alloc::Global;
+use eden_model::{Entries, Kind, Name};
+use std::alloc::{AllocError, Global};
 use std::marker::Model;
 use std::rt::Clock;
 
@@ -25,7 +52,7 @@ const EINVAL: u32 = 22;
 const ENOMEM: u32 = 12;
 
 /// A mount that is shown as a folder. Contracts see the mount, how it is shown, the nodes that the kernel was told of,
-/// and the directories that are open.
+/// and the directories and files that are open.
 #[derive(Drop)]
 pub struct Shown<M: Mount + Drop, K: Clock + Drop> {
     alloc: Global,
@@ -34,6 +61,7 @@ pub struct Shown<M: Mount + Drop, K: Clock + Drop> {
     manner: Manner,
     nodes: Nodes,
     pages: Pages,
+    opens: Opens,
     times: Times,
 }
 
@@ -42,7 +70,13 @@ impl<M: Mount + Drop, K: Clock + Drop> Model for Shown<M, K> {
 
     ghost Value = { Showing M };
 
-    ghost view = { λ s. record { mount = s.mount; manner = s.manner; nodes = s.nodes; pages = s.pages } };
+    ghost view = { λ s. record {
+      mount = s.mount;
+      manner = s.manner;
+      nodes = s.nodes;
+      pages = s.pages;
+      opens = s.opens;
+    } };
 }
 
 impl<M: Mount + Drop, K: Clock + Drop> Shown<M, K> {
@@ -58,6 +92,7 @@ impl<M: Mount + Drop, K: Clock + Drop> Shown<M, K> {
             manner,
             nodes: Nodes::new(alloc),
             pages: Pages::new(alloc),
+            opens: Opens::new(alloc),
             times,
         }
     }
@@ -70,24 +105,22 @@ impl<M: Mount + Drop, K: Clock + Drop> Shown<M, K> {
         mount
     }
 
-    // Answers a message that asks the mount, or needs it not. A directory is read on after the last name.
-    fn answer(
+    // Answers a message that names these places, and asks the mount or needs it not. A directory is read on after the
+    // last name.
+    fn go(
         &mut self,
-        header: Header,
+        node: u64,
         operation: &Operation<'_>,
+        place: Option<Place>,
+        goal: Option<Place>,
         last: Option<Name>,
         room: &mut Vec<u8>,
     ) -> Said
-        ensures runs { Runs M.answers header (seen operation.now) last self.old (told result room.new.items) self.new }
+        requires place { place ≡ named node (seen operation.now) }
+        requires goal { goal ≡ goal_of (seen operation.now) }
+        ensures runs { Runs M.answers node (seen operation.now) last self.old (told result room.new.items) self.new }
         ensures brief { IsBriefly result room.new.items }
     {
-        let node = header.nodeid;
-        let Ok(place) = named(self.alloc, node, operation) else {
-            return refuse(ENOMEM);
-        };
-        let Ok(goal) = goal_of(self.alloc, operation) else {
-            return refuse(ENOMEM);
-        };
         let Ok(step) = begin(
             self.alloc,
             self.manner.owner,
@@ -108,6 +141,7 @@ impl<M: Mount + Drop, K: Clock + Drop> Shown<M, K> {
             self.manner,
             &mut self.nodes,
             &mut self.pages,
+            &mut self.opens,
             &mut self.times,
             now,
             node,
@@ -120,21 +154,277 @@ impl<M: Mount + Drop, K: Clock + Drop> Shown<M, K> {
         )
     }
 
+    // Answers a message.
+    fn answer(
+        &mut self,
+        node: u64,
+        operation: &Operation<'_>,
+        last: Option<Name>,
+        room: &mut Vec<u8>,
+    ) -> Said
+        ensures runs { Runs M.answers node (seen operation.now) last self.old (told result room.new.items) self.new }
+        ensures brief { IsBriefly result room.new.items }
+    {
+        let Ok(place) = named(self.alloc, node, operation) else {
+            return refuse(ENOMEM);
+        };
+        let Ok(goal) = goal_of(self.alloc, operation) else {
+            return refuse(ENOMEM);
+        };
+        self.go(node, operation, place, goal, last, room)
+    }
+
     // Reads an open directory on.
     fn read_directory(
         &mut self,
-        header: Header,
+        node: u64,
         operation: &Operation<'_>,
         read: ReadIn,
         room: &mut Vec<u8>,
     ) -> Said
-        ensures runs { Reads M.answers header (seen operation.now) read self.old (told result room.new.items) self.new }
+        ensures runs { Reads M.answers node (seen operation.now) read self.old (told result room.new.items) self.new }
         ensures brief { IsBriefly result room.new.items }
     {
         match self.pages.last(self.alloc, read.fh, read.offset) {
             Err(_) => refuse(ENOMEM),
             Ok(None) => refuse(EINVAL),
-            Ok(Some(last)) => self.answer(header, operation, last, room),
+            Ok(Some(last)) => self.answer(node, operation, last, room),
+        }
+    }
+
+    // Gives the node at a name in a directory its hidden name.
+    fn hide(&mut self, directory: u64, name: &[u8], node: u64, room: &mut Vec<u8>) -> Said
+        ensures runs { Runs M.answers directory (hide node name.now) None self.old
+            (told result room.new.items) self.new }
+        ensures brief { IsBriefly result room.new.items }
+    {
+        let Ok(hidden) = hidden_name(self.alloc, node) else {
+            return refuse(ENOMEM);
+        };
+        let hiding = Operation::Rename(RenameIn { newdir: ROOT }, name, hidden.as_slice());
+        self.answer(directory, &hiding, None, room)
+    }
+
+    // Gives a hidden node a name in a directory back.
+    fn put_back(&mut self, node: u64, directory: u64, name: &[u8], room: &mut Vec<u8>) -> Said
+        ensures runs { Runs M.answers 1 (put_back node directory name.now) None self.old
+            (told result room.new.items) self.new }
+        ensures brief { IsBriefly result room.new.items }
+    {
+        let Ok(hidden) = hidden_name(self.alloc, node) else {
+            return refuse(ENOMEM);
+        };
+        let moving = Operation::Rename(RenameIn { newdir: directory }, hidden.as_slice(), name);
+        self.answer(ROOT, &moving, None, room)
+    }
+
+    // Removes what has a hidden name.
+    fn let_go(&mut self, name: &Name, room: &mut Vec<u8>) -> Said
+        ensures runs { Runs M.answers 1 (asked.Unlink name.now) None self.old (told result room.new.items) self.new }
+        ensures brief { IsBriefly result room.new.items }
+    {
+        let removing = Operation::Unlink(name.as_slice());
+        self.answer(ROOT, &removing, None, room)
+    }
+
+    // Removes what a message names, or hides it while it is open.
+    fn remove(
+        &mut self,
+        node: u64,
+        operation: &Operation<'_>,
+        place: Option<Place>,
+        goal: Option<Place>,
+        room: &mut Vec<u8>,
+    ) -> Said
+        requires place { place ≡ named node (seen operation.now) }
+        requires goal { goal ≡ goal_of (seen operation.now) }
+        ensures removes { RemovesHeld M.answers node (seen operation.now) self.old
+            (told result room.new.items) self.new }
+        ensures brief { IsBriefly result room.new.items }
+    {
+        match held(&self.nodes, &self.opens, &place) {
+            None => self.go(node, operation, place, goal, None, room),
+            Some(held) => self.hide(node, last_name(operation), held, room),
+        }
+    }
+
+    // After a rename that failed, what was to be replaced gets its name back. What is said of the rename stays.
+    fn restore(
+        &mut self,
+        said: Said,
+        held: u64,
+        directory: u64,
+        name: &[u8],
+        room: &mut Vec<u8>,
+    ) -> Said
+        requires { IsBriefly said room.old.items }
+        ensures restores { Restores M.answers held directory name.now (told said room.old.items) self.old self.new }
+        ensures same { told result room.new.items ≡ told said room.old.items }
+        ensures brief { IsBriefly result room.new.items }
+    {
+        if !failed(&said) {
+            return said;
+        }
+        self.put_back(held, directory, name, room);
+        said
+    }
+
+    // Moves what a message names over an open file, which is hidden first.
+    fn move_over(
+        &mut self,
+        node: u64,
+        operation: &Operation<'_>,
+        directory: u64,
+        held: u64,
+        room: &mut Vec<u8>,
+    ) -> Said
+        ensures replaces { ReplacesBy M.answers (Some held) directory node (seen operation.now) self.old
+            (told result room.new.items) self.new }
+        ensures brief { IsBriefly result room.new.items }
+    {
+        let name = last_name(operation);
+        let hid = self.hide(directory, name, held, room);
+        if failed(&hid) {
+            return hid;
+        }
+        let said = self.answer(node, operation, None, room);
+        self.restore(said, held, directory, name, room)
+    }
+
+    // Moves what a message names, over what is at its new name in that directory.
+    fn replace(
+        &mut self,
+        node: u64,
+        operation: &Operation<'_>,
+        directory: u64,
+        place: Option<Place>,
+        goal: Option<Place>,
+        room: &mut Vec<u8>,
+    ) -> Said
+        requires place { place ≡ named node (seen operation.now) }
+        requires goal { goal ≡ goal_of (seen operation.now) }
+        ensures replaces { ReplacesHeld M.answers directory node (seen operation.now) self.old
+            (told result room.new.items) self.new }
+        ensures brief { IsBriefly result room.new.items }
+    {
+        match held(&self.nodes, &self.opens, &goal) {
+            None => self.go(node, operation, place, goal, None, room),
+            Some(held) => self.move_over(node, operation, directory, held, room),
+        }
+    }
+
+    // Removes a node that has a hidden name.
+    fn let_go_of(&mut self, node: u64, room: &mut Vec<u8>)
+        ensures { LetsGo M.answers (veiled_name (place_of self.old.nodes node)) self.old self.new }
+    {
+        match veiled_name(self.alloc, &self.nodes, node) {
+            Err(_) => {}
+            Ok(None) => {}
+            Ok(Some(name)) => {
+                self.let_go(&name, room);
+            }
+        }
+    }
+
+    // A file is closed once; whether it isn't open any more.
+    fn lower(&mut self, node: u64) -> bool
+        ensures last { result ≡ is_last (opens_of self.old.opens node) }
+        ensures closed { IsClosed M.answers node self.old self.new }
+    {
+        self.opens.lower(node)
+    }
+
+    // A file is closed once. If it isn't open any more, and has a hidden name, it goes.
+    fn close(&mut self, node: u64, room: &mut Vec<u8>) -> Said
+        ensures closes { ClosesFile M.answers node self.old (told result room.new.items) self.new }
+        ensures brief { IsBriefly result room.new.items }
+    {
+        let last = self.lower(node);
+        if !last {
+            return Said::Answers(Answer::Done);
+        }
+        self.let_go_of(node, room);
+        Said::Answers(Answer::Done)
+    }
+
+    // Removes what another run left at a hidden name.
+    fn clear_row(&mut self, row: &(Name, Kind), room: &mut Vec<u8>)
+        ensures { ClearsRow M.answers (Some row.now) self.old self.new }
+    {
+        if is_hidden(row.0.as_slice()) {
+            self.let_go(&row.0, room);
+        }
+    }
+
+    fn clear_rows(&mut self, rows: &[(Name, Kind)], room: &mut Vec<u8>)
+        ensures { ClearsRows M.answers (length rows.now) rows.now self.old self.new }
+    {
+        'rows: for row in rows {
+            self.clear_row(row, room);
+        }
+    }
+
+    // Asks for what another run left.
+    fn left(&mut self, step: Step) -> Entries
+        ensures { (end : Result Outcome Unheard) × IsAsked M.answers step end self.old self.new
+            × (result ≡ rows_in end) }
+    {
+        let end = run(self.alloc, &mut self.mount, step);
+        rows_in(self.alloc, end)
+    }
+
+    // Removes what another run left. The only error is want of memory, upon which nothing was asked.
+    fn clear(&mut self, room: &mut Vec<u8>) -> Result<(), AllocError>
+        ensures ok { OnOk result (Clears M.answers self.old self.new) }
+        ensures err { OnErr result (self.new ≡ self.old) }
+    {
+        let step = list_hidden(self.alloc)?;
+        let rows = self.left(step);
+        self.clear_rows(rows.as_slice(), room);
+        Ok(())
+    }
+
+    // Begins: what another run left goes.
+    fn start(
+        &mut self,
+        node: u64,
+        operation: &Operation<'_>,
+        place: Option<Place>,
+        goal: Option<Place>,
+        room: &mut Vec<u8>,
+    ) -> Said
+        requires place { place ≡ named node (seen operation.now) }
+        requires goal { goal ≡ goal_of (seen operation.now) }
+        ensures starts { Starts M.answers node (seen operation.now) self.old (told result room.new.items) self.new }
+        ensures brief { IsBriefly result room.new.items }
+    {
+        match self.clear(room) {
+            Err(_) => refuse(ENOMEM),
+            Ok(()) => self.go(node, operation, place, goal, None, room),
+        }
+    }
+
+    // Answers a message of that sort, unless it names what nobody sees.
+    fn take(&mut self, sort: Sort, node: u64, operation: &Operation<'_>, room: &mut Vec<u8>) -> Said
+        ensures takes { Takes M.answers sort node (seen operation.now) self.old (told result room.new.items) self.new }
+        ensures brief { IsBriefly result room.new.items }
+    {
+        let Ok(place) = named(self.alloc, node, operation) else {
+            return refuse(ENOMEM);
+        };
+        let Ok(goal) = goal_of(self.alloc, operation) else {
+            return refuse(ENOMEM);
+        };
+        if is_veiled(&place) || is_veiled(&goal) {
+            return refuse(denial(operation));
+        }
+        match sort {
+            Sort::Start => self.start(node, operation, place, goal, room),
+            Sort::Remove => self.remove(node, operation, place, goal, room),
+            Sort::Replace(directory) => {
+                self.replace(node, operation, directory, place, goal, room)
+            }
+            _ => self.go(node, operation, place, goal, None, room),
         }
     }
 }
@@ -145,17 +435,22 @@ impl<M: Mount + Drop, K: Clock + Drop> Service for Shown<M, K> {
     ghost answers = { Shows M.answers };
 
     fn call(&mut self, header: Header, operation: Operation<'_>, room: &mut Vec<u8>) -> Said {
-        match sort_of(&operation) {
+        let node = header.nodeid;
+        let sort = sort_of(&operation);
+        match sort {
             Sort::One(times) => {
-                self.nodes.forget(header.nodeid, times);
+                self.nodes.forget(node, times);
                 Said::Nothing
             }
             Sort::Batch => {
                 forget_all(&mut self.nodes, batch_of(&operation));
                 Said::Nothing
             }
-            Sort::On(read) => self.read_directory(header, &operation, read, room),
-            Sort::Plain => self.answer(header, &operation, None, room),
+            Sort::On(read) => self.read_directory(node, &operation, read, room),
+            Sort::Close => self.close(node, room),
+            Sort::Start | Sort::Remove | Sort::Replace(_) | Sort::Plain => {
+                self.take(sort, node, &operation, room)
+            }
         }
     }
 }

@@ -1,5 +1,6 @@
 ghost use Rattle.std.specs.Prelude.{◌≡◌};
 ghost use Rattle.eden_fuse_format.specs.Asked.{seen};
+ghost use Rattle.eden_fuse_shown.specs.Naming.{denial, last_name};
 ghost use Rattle.eden_fuse_shown.specs.Showing.{batch_of, sort_of};
 
 use eden_fuse_format::{Operation, ReadIn};
@@ -13,6 +14,14 @@ pub enum Sort {
     Batch,
     /// An open directory is read on.
     On(ReadIn),
+    /// A file is closed.
+    Close,
+    /// What another run left is removed first.
+    Start,
+    /// If what is removed is open, it is hidden.
+    Remove,
+    /// If what is replaced in the directory of that node is open, it is hidden first.
+    Replace(u64),
     /// Nothing.
     Plain,
 }
@@ -25,6 +34,17 @@ pub(crate) fn sort_of(operation: &Operation<'_>) -> Sort
         Operation::Forget(forget) => Sort::One(forget.nlookup),
         Operation::BatchForget(_) => Sort::Batch,
         Operation::ReadDir(read) => Sort::On(*read),
+        Operation::Release(_) => Sort::Close,
+        Operation::Init(_) => Sort::Start,
+        Operation::Unlink(_) => Sort::Remove,
+        Operation::Rename(head, _, _) => Sort::Replace(head.newdir),
+        Operation::Rename2(head, _, _) => {
+            if head.flags == 0 {
+                Sort::Replace(head.newdir)
+            } else {
+                Sort::Plain
+            }
+        }
         _ => Sort::Plain,
     }
 }
@@ -36,5 +56,27 @@ pub(crate) fn batch_of<'a>(operation: &Operation<'a>) -> &'a [u8]
     match operation {
         Operation::BatchForget(batch) => batch,
         _ => &[],
+    }
+}
+
+/// The name at which a message removes or replaces what stands there.
+pub(crate) fn last_name<'a>(operation: &Operation<'a>) -> &'a [u8]
+    ensures { result.now ≡ last_name (seen operation.now) }
+{
+    match operation {
+        Operation::Unlink(name) => name,
+        Operation::Rename(_, _, name) => name,
+        Operation::Rename2(_, _, name) => name,
+        _ => &[],
+    }
+}
+
+/// The number of the error with which a message is refused that names what nobody sees.
+pub(crate) fn denial(operation: &Operation<'_>) -> u32
+    ensures { result ≡ denial (seen operation.now) }
+{
+    match operation {
+        Operation::Lookup(_) => 2,
+        _ => 1,
     }
 }

@@ -1,5 +1,6 @@
 use eden_fuse_format::{Operation, SetAttrIn, Time};
-use eden_fuse_meaning::Outcome;
+use eden_fuse_meaning::{Outcome, is_hidden};
+use eden_fuse_nodes::ROOT;
 use std::alloc::Global;
 use std::collections::BTreeMap;
 use std::rt::Clock;
@@ -79,6 +80,13 @@ impl Times {
         let _ = self.changed.insert(node, Moments { content, entry });
     }
 
+    // A name of a directory's node was changed: that of a hidden file changes nothing that is seen.
+    fn change_at(&mut self, node: u64, name: &[u8], now: Time) {
+        if node != ROOT || !is_hidden(name) {
+            self.change(node, now);
+        }
+    }
+
     // Attributes are set.
     fn set_by(&mut self, node: u64, setting: &SetAttrIn, now: Time) {
         let content = if setting.valid & MTIME_NOW != 0 {
@@ -112,16 +120,16 @@ impl Times {
                 | Operation::MkNod(_, _)
                 | Operation::MkDir(_, _)
                 | Operation::Create(_, _)
-                | Operation::Unlink(_)
                 | Operation::RmDir(_) => self.change(node, now),
+                Operation::Unlink(name) => self.change_at(node, name, now),
                 Operation::SetAttr(setting) => self.set_by(node, setting, now),
-                Operation::Rename(head, _, _) => {
-                    self.change(node, now);
-                    self.change(head.newdir, now);
+                Operation::Rename(head, name, new) => {
+                    self.change_at(node, name, now);
+                    self.change_at(head.newdir, new, now);
                 }
-                Operation::Rename2(head, _, _) => {
-                    self.change(node, now);
-                    self.change(head.newdir, now);
+                Operation::Rename2(head, name, new) => {
+                    self.change_at(node, name, now);
+                    self.change_at(head.newdir, new, now);
                 }
                 _ => {}
             },

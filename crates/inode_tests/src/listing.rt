@@ -62,7 +62,7 @@ pub(crate) fn ask<A: Allocator + Clone, F: Files<Outside>, Q: Question<A>>(
     ensures next { table.new.next ≡ table.old.next }
 {
     table.holds();
-    table.change(Asked { question })
+    table.change_in_place(Asked { question })
 }
 
 pub(crate) fn is_own(origin: Origin) -> bool
@@ -253,7 +253,7 @@ pub(crate) fn store<A: Allocator + Clone, F: Files<Outside>>(
     requires { IfSome content (λ bytes. length bytes.now ≤ content_most) }
 {
     table.holds();
-    table.change(NewFile {
+    table.change_in_place(NewFile {
         alloc,
         number,
         content,

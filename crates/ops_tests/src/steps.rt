@@ -99,7 +99,8 @@ fn entry(rt: &impl Abort, alloc: Global, at: Path, ask: Ask) -> Request {
     }
 }
 
-fn request(rt: &impl Abort, alloc: Global, names: Names, ask: Ask) -> Request {
+/// What is asked of the path of these names.
+pub(crate) fn request(rt: &impl Abort, alloc: Global, names: Names, ask: Ask) -> Request {
     let at = path(rt, alloc, names);
     match ask {
         Ask::Stat => Request::Stat(at),

@@ -82,7 +82,9 @@ fn opens(
 ) -> bool {
     let mut given = Vec::new(alloc);
     given.push((path(rt, alloc, "/"), 1)).expect(rt, "memory");
-    given.push((path(rt, alloc, at), number)).expect(rt, "memory");
+    given
+        .push((path(rt, alloc, at), number))
+        .expect(rt, "memory");
     tree.set_numbers(alloc, given, next).is_ok()
 }
 

@@ -1,0 +1,155 @@
+// Directories of the commit that were looked into and go, each with the numbers of its entries saved in a file; and
+// beside it as many stores of files of that size.
+ghost use Rattle.std.specs.Prelude.{IfOk};
+ghost use Rattle.eden_object.specs.Trees.{NamesDiffer};
+
+use crate::bench::{Bench, Part};
+use crate::inodes::{Table, entries_of, load, tables};
+use crate::keeps::Keeps;
+use crate::name::names;
+use crate::tree::{Order, tree_body};
+use eden_model::{Name, Outside, TreeEntry};
+use eden_overlay::Files;
+use std::alloc::{AllocError, Global};
+use std::io;
+use std::slice::from_ref;
+
+/// How many files each of the directories has.
+const FILES: u32 = 8;
+
+/// The bytes of such a directory's file: a header, the object's id, the count, and entries with names of 14 bytes.
+const SIZE: usize = 64 + 20 + 4 + 8 * (31 + 14);
+
+/// The first number of the files that are stored beside: above every number that is given.
+const BESIDE: u64 = 1 << 32;
+
+const LOADED: Part = Part {
+    before: "  directories loaded: ",
+    after: "",
+    time: "load, a directory",
+};
+
+const SAVED: Part = Part {
+    before: "  directories unloaded, their numbers saved: ",
+    after: "",
+    time: "unload, a directory",
+};
+
+const LOADED_AGAIN: Part = Part {
+    before: "  directories loaded with saved numbers: ",
+    after: "",
+    time: "load, a directory",
+};
+
+const SAVED_BEFORE: Part = Part {
+    before: "  directories unloaded, their numbers saved before: ",
+    after: "",
+    time: "unload, a directory",
+};
+
+const STORED: Part = Part {
+    before: "  files stored: ",
+    after: "",
+    time: "replace, a file",
+};
+
+/// So many entries, as the order says.
+fn entries(alloc: Global, order: Order, count: u32) -> Result<Vec<TreeEntry>, AllocError>
+    ensures { IfOk result (λ v. NamesDiffer v.items) }
+{
+    let body = tree_body(alloc, order, count)?;
+    entries_of(alloc, body.as_slice())
+}
+
+/// Loads the root and each directory in it, and answers how many are loaded.
+fn load_all<F: Files<Outside>>(
+    alloc: Global,
+    table: &mut Table<F>,
+    names: &[Name],
+    above: &[TreeEntry],
+    below: &[TreeEntry],
+) -> u64
+    requires above { NamesDiffer above.now }
+    requires below { NamesDiffer below.now }
+{
+    let mut loaded = u64::from(load(alloc, table, &[], above));
+    for name in names {
+        loaded = loaded.saturating_add(u64::from(load(alloc, table, from_ref(name), below)));
+    }
+    loaded
+}
+
+/// Loads all and unloads it, and tells both.
+fn measure<F: Files<Outside>>(
+    bench: Bench,
+    table: &mut Table<F>,
+    names: &[Name],
+    above: &[TreeEntry],
+    below: &[TreeEntry],
+    parts: (Part, Part),
+) -> io::Result<()>
+    requires above { NamesDiffer above.now }
+    requires below { NamesDiffer below.now }
+{
+    let count = names.len() as u32;
+    let start = bench.start();
+    let loaded = load_all(bench.alloc(), table, names, above, below);
+    bench.tell(parts.0, loaded, start, count)?;
+    let start = bench.start();
+    let gone = table.unload(bench.alloc(), &[], 0).count;
+    bench.tell(parts.1, gone, start, count)
+}
+
+/// Stores so many files, and answers how many were stored.
+fn store_all<F: Files<Outside>>(alloc: Global, files: &mut F, bytes: &[u8], count: u32) -> u32 {
+    let mut stored = 0u32;
+    for place in 0..count {
+        if files
+            .replace(alloc, BESIDE + u64::from(place), bytes)
+            .is_ok()
+        {
+            stored = stored.saturating_add(1);
+        }
+    }
+    stored
+}
+
+/// As many files of that size, stored one after another.
+fn measure_stores<F: Files<Outside>>(bench: Bench, mut files: F, count: u32) -> io::Result<()> {
+    let mut bytes = Vec::new(bench.alloc());
+    bytes.resize(SIZE, 0x2a)?;
+    let start = bench.start();
+    let stored = store_all(bench.alloc(), &mut files, bytes.as_slice(), count);
+    bench.tell(STORED, u64::from(stored), start, count)
+}
+
+/// Loads and unloads a root and its directories twice: the first time their numbers are saved.
+fn measure_table<F: Files<Outside>>(
+    bench: Bench,
+    table: &mut Table<F>,
+    count: u32,
+) -> io::Result<()> {
+    let above = entries(bench.alloc(), Order::Directories, count)?;
+    let below = entries(bench.alloc(), Order::Git, FILES)?;
+    let names = names(bench.alloc(), count, 1, count)?;
+    let (names, above, below) = (names.as_slice(), above.as_slice(), below.as_slice());
+    measure(bench, table, names, above, below, (LOADED, SAVED))?;
+    measure(
+        bench,
+        table,
+        names,
+        above,
+        below,
+        (LOADED_AGAIN, SAVED_BEFORE),
+    )
+}
+
+/// A root with so many directories over the files that are kept there, and beside it as many files.
+pub fn run<F: Files<Outside>, K: Keeps<F>>(bench: Bench, keeps: &K, count: u32) -> io::Result<()> {
+    println!(bench.rt; "{count} directories of {FILES} files, each stored in {SIZE} bytes")?;
+    let mut tables = tables(bench.alloc(), keeps, 1)?;
+    if let Some(table) = tables.first_mut() {
+        measure_table(bench, table, count)?;
+    }
+    measure_stores(bench, keeps.files(bench.alloc())?, count)
+}
