@@ -1,11 +1,13 @@
 -- Two trees as Git has them, and their blobs: a repository that a source can be honest about.
-use Rattle.std.specs.Prelude.{ℕ, List, [], ◌∷◌, Option, codes}
+use Rattle.std.specs.Prelude.{ℕ, List, [], ◌∷◌, Option, None, codes}
 use Rattle.std.specs.Map.{lookup}
 use Rattle.std.specs.Str.{bytes_eq}
 use Rattle.eden_model.specs.declared.id.Id.{Id}
 use Rattle.eden_model.specs.declared.kind.Mode.TheVariants as mode
 use Rattle.eden_model.specs.declared.tree_entry.TreeEntry.{TreeEntry}
+use Rattle.eden_model.specs.Numbers.{Numbers, opening_numbers}
 use Rattle.eden_model.specs.Repository.{Repository}
+use Rattle.eden_checkout.specs.Opening.{files_number}
 
 -- ---- ids
 
@@ -76,3 +78,7 @@ under rows id = lookup (λ k. bytes_eq id.bytes k.bytes) rows
 
 abbrev pub sample : Repository
 sample = record { blob = under blobs; tree = under trees }
+
+-- the inode numbers of a mount of the commit with a directory, in which nothing was stored: the root's alone is given
+abbrev pub fresh_numbers : Numbers
+fresh_numbers = opening_numbers (files_number two_files (λ k. None)) 2

@@ -14,16 +14,19 @@ use std::alloc::{AllocError, Global};
 use std::test::Fail;
 use test_samples::{NEW_FILE, ONE_FILE, TWO_FILES, VERSION_1, VERSION_2};
 
-/// The World of the sample commit with a directory, over sources and files that keep what they were given.
+/// The World of the sample commit with a directory, over sources and files that keep what they were given. Nothing was
+/// stored yet, so of the inode numbers the root's alone is given.
 struct Honest;
 
 impl World for Honest {
     ghost use Rattle.eden_model.specs.Repository.{Whole};
-    ghost use Rattle.life_tests.specs.Samples.{sample, two_files};
+    ghost use Rattle.life_tests.specs.Samples.{fresh_numbers, sample, two_files};
 
     ghost repository = { sample };
 
     ghost opening = { Whole sample two_files };
+
+    ghost numbers = { fresh_numbers };
 
     ghost honest = { Unit {0} };
 }
@@ -93,5 +96,16 @@ fn serves_an_honest_world(rt: HostRuntime) -> Result<(), Fail> {
     let ending = lived(rt.alloc(), INPUT, &mut said)?;
     assert!(rt; ending.outcome.is_ok());
     assert!(rt; said.as_slice() == WANTED.as_bytes());
+    Ok(())
+}
+
+#[test]
+fn tells_a_node_one_number(rt: HostRuntime) -> Result<(), Fail> {
+    let mut said = Vec::new(rt.alloc());
+    let input = "stat /bak\nrename /bak /old\nstat /old\nstat /bak\n";
+    let ending = lived(rt.alloc(), input, &mut said)?;
+    assert!(rt; ending.outcome.is_ok());
+    let wanted = "stat dir 0 2\nok\nstat dir 0 2\nerr 2 ENOENT\n";
+    assert!(rt; said.as_slice() == wanted.as_bytes());
     Ok(())
 }

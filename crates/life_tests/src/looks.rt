@@ -34,7 +34,7 @@ const ASKED_FOR: &[Session] = &[
     (
         TWO_FILES,
         "stat /bak\nstat /new.txt\nread /test.txt 0 100\nread /new.txt 0 100\n",
-        "stat dir 0\nstat file 9\ndata 10 76657273696f6e20320a\ndata 9 6e65772066696c650a\n",
+        "stat dir 0 2\nstat file 9 3\ndata 10 76657273696f6e20320a\ndata 9 6e65772066696c650a\n",
         &[TWO_FILES, NEW_FILE, VERSION_2],
     ),
 ];

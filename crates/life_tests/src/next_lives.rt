@@ -51,7 +51,7 @@ const UNCHANGED: Row = Row {
         opening: Opening::Closed,
         history: Some(1_000),
         input: "stat /test.txt\n",
-        said: "stat file 10\n",
+        said: "stat file 10 2\n",
         asked: &[VERSION_1],
     },
 };
