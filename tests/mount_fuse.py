@@ -10,11 +10,13 @@ import subprocess
 import sys
 import time
 import zlib
+from collections import Counter
 from collections.abc import Callable, Iterable
 
 from checks import PATIENCE, check, git, make_repository
 from clones import FILES, FOLDER, MOST_QUESTIONS, Clone, blobs_in, make_far_repository, trees_on_the_way
 from folder_operations import Folder, compare, outcome, shown
+from helpers.git import DEEP, environment
 from mount_class import Large, asked_for, check_own, make_many_files, refused, renamed
 from mount_folder import BUILDS, CHANGES, COPIES, ENDINGS, LOOKS, Both, MountGit, checkout, children, said_by
 from programs import MOUNT_GIT, MOUNTD
@@ -291,6 +293,24 @@ def check_laziness(folder: pathlib.Path, large: Large) -> None:
         check("lazily mounted: grep -r", (status, len(found)), (0, 500))
         check("lazily mounted: what it costs", asked_for(mount.log), sorted([*large.deep, *large.beside]))
         check("lazily mounted: the end", mount.end("SIGTERM"), 0)
+
+
+def check_status(folder: pathlib.Path, large: Large) -> None:
+    """In a mount of 50,000 files `git status` asks for the trees at the paths of what was changed, as `changes` does,
+    and looks at no file that wasn't: each is fetched that is looked at."""
+    words: list[str | pathlib.Path] = [sys.executable, MOUNT_GIT, "status", folder / "mounted", "--porcelain"]
+    trees = large.deep - {git(large.repository, "rev-parse", f"HEAD:{DEEP}")}
+    trees.add(git(large.repository, "rev-parse", f"HEAD:{os.fsdecode(large.folder)}"))
+    with MountGit(large.repository, "HEAD", folder / "mounted", "--log", "--overlay", folder / "overlay") as mount:
+        (mount.folder / DEEP).write_bytes(b"changed\n")
+        (mount.folder / os.fsdecode(large.folder) / "new").write_bytes(b"new\n")
+        for name in ("the first", "the second"):
+            before = Counter(asked_for(mount.log))
+            done = subprocess.run(words, capture_output=True, env=environment())
+            told = f" M {DEEP}\n?? {os.fsdecode(large.folder)}/new\n".encode()
+            check(f"status: {name}", (done.returncode, done.stdout, done.stderr), (0, told, b""))
+            check(f"status: what {name} costs", Counter(asked_for(mount.log)) - before, Counter(trees))
+        check("status: the end", mount.end("SIGTERM"), 0)
 
 
 # ---- partial clones

@@ -22,7 +22,7 @@ import time
 from collections.abc import Callable, Iterator, Sequence
 from typing import BinaryIO
 
-from yakembi import commit_folder, control, folder_changes, folder_index, kernel
+from yakembi import commit_folder, control, folder_changes, folder_status, kernel
 from yakembi.addresses import socket_path
 from yakembi.client import SessionEnded
 from yakembi.control import Answers, Fields
@@ -243,10 +243,11 @@ class Asked:
         return noted
 
     def about(self, fields: Fields, folder: pathlib.Path) -> Fields:
-        """The repository, the tree that the folder was opened with, and the commit and the branch that it stands on."""
+        """The repository, the overlay, the tree that changes are told against, and the commit and the branch that the
+        folder stands on."""
         noted = self.noted()
-        return {"repository": os.path.abspath(self.repository.path), "tree": noted.tree, "commit": noted.commit,
-                "branch": self.branch}
+        return {"repository": os.path.abspath(self.repository.path), "overlay": self.overlay.path, "tree": noted.tree,
+                "commit": noted.commit, "branch": self.branch}
 
     def changes(self, fields: Fields, folder: pathlib.Path) -> Fields:
         """A file with the lines of what was changed."""
@@ -399,8 +400,8 @@ def parser() -> argparse.ArgumentParser:
 COMMANDS: dict[str, tuple[Callable[[argparse.Namespace], None], Callable[[], argparse.ArgumentParser]]] = {
     "changes": (folder_changes.changes, folder_changes.changes_parser),
     "commit": (commit_folder.commit, commit_folder.commit_parser),
-    "index": (folder_index.index, folder_index.index_parser),
-    "fsmonitor": (folder_index.fsmonitor, folder_index.fsmonitor_parser),
+    "status": (folder_status.status, folder_status.status_parser),
+    "fsmonitor": (folder_status.fsmonitor, folder_status.fsmonitor_parser),
 }
 
 

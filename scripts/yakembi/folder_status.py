@@ -1,0 +1,103 @@
+"""Shows `git status` of a folder that another run of `mount-git` has mounted, which looks at what was changed alone.
+
+Git reads an index of the commit that the folder stands on, which lies in the overlay, and asks `mount-git fsmonitor`,
+in the protocol of its hook, what was changed. The repository's own index and settings stay as they are. With
+--environment nothing is run, and lines for a shell are printed that let other programs use Git so: eval "$(mount-git
+status --environment FOLDER)". That is for looking; what is committed by `mount-git commit` is known to the mount.
+"""
+
+import argparse
+import bisect
+import contextlib
+import os
+import shlex
+import subprocess
+import sys
+from collections.abc import Callable, Iterable, Iterator
+
+from yakembi.control import Connection
+from yakembi.folder_changes import Change, changes_in
+from yakembi.git import Refusal
+from yakembi.git_folder import PROTOCOL, GitFolder, folder_for_git
+
+TOKEN = b"mount-git"
+# The name of anything in a directory, which makes Git look through that directory.
+ANYTHING = b"/-"
+
+
+def status(words: argparse.Namespace) -> None:
+    with contextlib.closing(Connection(words.folder)) as mount:
+        about, top = mount.ask("about"), mount.top
+    variables = folder_for_git(about, top).for_looking(top)
+    if words.environment:
+        for name, value in variables.items():
+            print(f"export {name}={shlex.quote(value)}")
+        return
+    os.execvpe("git", ["git", "status", *words.words], {**of_no_repository(), **variables})
+
+
+def of_no_repository() -> dict[str, str]:
+    """Our environment without what names another repository."""
+    done = subprocess.run(["git", "rev-parse", "--local-env-vars"], stdout=subprocess.PIPE, text=True)
+    return {name: value for name, value in os.environ.items() if name not in done.stdout.split()}
+
+
+def fsmonitor(words: argparse.Namespace) -> None:
+    """Answers Git's hook `core.fsmonitor` for an index that `mount-git status` made, which names this command to Git.
+
+    It prints the paths at which Git has to look: what was changed since the commit, and what was told to have been.
+    Where it fails Git looks at every file.
+    """
+    if words.version != PROTOCOL:
+        raise Refusal(f"the hook's protocol is version {PROTOCOL}, and not {words.version}")
+    folder = GitFolder(words.place)
+    with contextlib.closing(Connection(folder.top())) as mount, open(mount.ask("changes")["lines"], "rb") as lines:
+        paths = to_look_at(changes_in(lines), folder.tracked)
+    sys.stdout.buffer.write(b"".join(field + b"\0" for field in (TOKEN, *sorted(folder.tell(paths)))))
+    sys.stdout.flush()
+
+
+def to_look_at(changes: Iterable[Change], tracked: Callable[[], list[bytes]]) -> set[bytes]:
+    """The paths at which Git has to look, by which it knows which of its files and directories aren't as they were.
+
+    A path with a slash is all that Git has below it. What a directory has that Git doesn't know is looked for once
+    something in it is named; so in a directory that came as a whole, each that Git knows there has to be named.
+    """
+    found = set()
+    known: list[bytes] | None = None
+    for change in changes:
+        found.add(change.path)
+        if change.kind == "dir" or change.letter == "T":
+            found.add(change.path + b"/")
+        if change.kind == "dir" and change.letter != "D":
+            found.add(change.path + ANYTHING)
+            if change.is_whole:
+                known = tracked() if known is None else known
+                found.update(directory + ANYTHING for directory in directories_below(change.path, known))
+    return found
+
+
+def directories_below(top: bytes, paths: list[bytes]) -> Iterator[bytes]:
+    """The directories below the top on the way to paths, which are in byte order."""
+    for path in paths[bisect.bisect_left(paths, top + b"/") : bisect.bisect_left(paths, top + b"0")]:
+        while (path := path.rpartition(b"/")[0]) != top:
+            yield path
+
+
+def status_parser() -> argparse.ArgumentParser:
+    found = argparse.ArgumentParser(prog="mount-git status", description=__doc__,
+                                    formatter_class=argparse.RawDescriptionHelpFormatter)
+    found.add_argument("--environment", action="store_true",
+                       help="print the variables by which Git looks at the folder, as lines for a shell")
+    found.add_argument("folder", metavar="FOLDER", help="a folder that `mount-git` shows, or one below it")
+    found.add_argument("words", metavar="ARG", nargs=argparse.REMAINDER, help="what `git status` is given")
+    return found
+
+
+def fsmonitor_parser() -> argparse.ArgumentParser:
+    found = argparse.ArgumentParser(prog="mount-git fsmonitor", description=fsmonitor.__doc__,
+                                    formatter_class=argparse.RawDescriptionHelpFormatter)
+    found.add_argument("place", metavar="PLACE", help="the folder `git` in the mount's overlay")
+    found.add_argument("version", metavar="VERSION", help="of the hook's protocol")
+    found.add_argument("token", metavar="TOKEN", help="what the last answer began with")
+    return found
