@@ -22,7 +22,7 @@ from typing import TypeVar
 from yakembi.git import Refusal
 from yakembi.pool import CACHE_ENTRIES, WITH_A_LINE, Unclosed, Unopened
 
-MS_NOSUID, MS_NODEV, MNT_DETACH = 2, 4, 2
+MS_NOSUID, MS_NODEV, MNT_FORCE, MNT_DETACH = 2, 4, 1, 2
 # A read has at most what the mount takes in one, and the kernel looks at permissions.
 OPTIONS = ["default_permissions", "max_read=65536"]
 ENDED = (signal.SIGTERM, signal.SIGINT, signal.SIGHUP)
@@ -77,6 +77,16 @@ def unmount_unused(folder: str) -> bool:
     return subprocess.run(["fusermount3", "-u", "--", folder], capture_output=True).returncode == 0
 
 
+def abort(folder: str, connection: int) -> None:
+    """Ends the folder's connection, so that mountd ends also while a program has a file open. For others than root this
+    takes the kernel's file of the connection, which is there where fusectl is mounted; else nothing happens."""
+    if os.geteuid() == 0:
+        LIBC.umount2(os.fsencode(folder), MNT_FORCE)
+    else:
+        with contextlib.suppress(OSError), open(f"/sys/fs/fuse/connections/{connection}/abort", "w") as file:
+            file.write("1")
+
+
 def can_mount() -> bool:
     return os.geteuid() == 0 or shutil.which("fusermount3") is not None
 
@@ -98,8 +108,8 @@ class Shown:
         finally:
             os.close(descriptor)
         try:
-            # It is answered once the mount is open, or fails once mountd ended.
-            os.stat(folder)
+            # It is answered once the mount is open, or fails once mountd ended. The device's number is the connection's.
+            self.connection = os.minor(os.stat(folder).st_dev)
         except OSError:
             unmount(folder)
             raise Unopened(self.last_words().removeprefix("mountd: open ")) from None
@@ -191,9 +201,11 @@ class Showing:
         return descriptor
 
     def end(self) -> None:
-        """Unmounts the folder, upon which mountd closes the overlay and ends."""
+        """Unmounts the folder, be it in use, upon which mountd closes the overlay and ends."""
         self.is_ended = True
-        unmount(self.folder)
+        if not unmount_unused(self.folder):
+            abort(self.folder, self.shown.connection)
+            unmount(self.folder)
 
 
 @contextlib.contextmanager
