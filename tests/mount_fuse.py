@@ -17,7 +17,7 @@ from clones import FILES, FOLDER, MOST_QUESTIONS, Clone, blobs_in, make_far_repo
 from folder_operations import Folder, compare, outcome, shown
 from mount_class import Large, asked_for, check_own, make_many_files, refused, renamed
 from mount_folder import BUILDS, CHANGES, COPIES, ENDINGS, LOOKS, Both, MountGit, checkout, children, said_by
-from programs import MOUNT_GIT, MOUNTD
+from programs import MOUNT_GIT
 from yakembi.tree_model import Values
 
 

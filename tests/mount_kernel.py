@@ -363,15 +363,18 @@ def check_random_files(folder: pathlib.Path, repository: pathlib.Path, seed: int
 GIT = [
     ("git init, add and commit", "mkdir work && cd work && git init -q -b main && "
                                  "git config user.name Test && git config user.email test@example.org && "
-                                 "cp -r ../notes . && git add -A && git commit -qm one && git status --porcelain && git ls-files | wc -l"),
+                                 "cp -r ../notes . && git add -A && git commit -qm one && "
+                                 "git status --porcelain && git ls-files | wc -l"),
     ("git commit again", "cd work && echo more >> notes/1/1.txt && rm notes/2/2.txt && git status --porcelain && "
                          "git commit -qam two && git diff --stat HEAD^ && git log --format=%s"),
     ("git branch, checkout and merge", "cd work && git checkout -qb side && echo side > side && git add side && "
                                        "git commit -qm side && git checkout -q - && ls && git merge -q side && ls"),
     ("git stash and clean", "cd work && echo x >> side && touch other && git stash -qu && git status --porcelain && "
                             "git stash pop -q && git status --porcelain && git checkout -q . && git clean -qfd"),
-    ("git gc and fsck", "cd work && git gc -q && git fsck --no-dangling 2>&1 && git log --format=%s && git status --porcelain"),
-    ("git clone", "git clone -q --no-hardlinks work copied-work && diff -r --no-dereference -x .git work/notes copied-work/notes"),
+    ("git gc and fsck", "cd work && git gc -q && git fsck --no-dangling 2>&1 && git log --format=%s && "
+                         "git status --porcelain"),
+    ("git clone", "git clone -q --no-hardlinks work copied-work && "
+                  "diff -r --no-dereference -x .git work/notes copied-work/notes"),
 ]
 
 
@@ -470,6 +473,26 @@ def check_kills(folder: pathlib.Path, repository: pathlib.Path) -> None:
         check("killed: what is said", [mount.said(), again.said(), last.said()], [[], [line], []])
 
 
+def check_removed_at_ends(folder: pathlib.Path, repository: pathlib.Path) -> None:
+    """A file that was removed while it is open is gone with the mount, however that ends."""
+    overlay = folder / "overlay"
+    ends: list[tuple[str, Callable[[MountGit], object]]] = [
+        ("SIGTERM", lambda mount: mount.end("SIGTERM")), ("a kill", MountGit.kill),
+    ]
+    for how, end in ends:
+        with MountGit(repository, "HEAD", folder / "mounted", "--overlay", overlay) as mount:
+            before = sorted(os.listdir(mount.folder))
+            path = mount.folder / "removed"
+            path.write_text("removed")
+            with contextlib.suppress(OSError), opened(path, os.O_RDWR):
+                path.unlink()
+                end(mount)
+        with MountGit(repository, "HEAD", folder / "mounted", "--overlay", overlay) as mount:
+            check(f"removed, then {how}: what is listed", sorted(os.listdir(mount.folder)), before)
+            check(f"removed, then {how}: changes", said_by(MOUNT_GIT, "changes", mount.folder), (0, []))
+            check(f"removed, then {how}: the next end", (mount.end("SIGTERM"), mount.said()), (0, []))
+
+
 # ---- commits
 
 
@@ -484,7 +507,8 @@ def check_commits(folder: pathlib.Path, repository: pathlib.Path) -> None:
         with open(mount.folder / "made", "r+b", buffering=0) as file:
             for words in (["changes", mount.folder], ["commit", mount.folder, "-m", "one"]):
                 status, lines = said_by(MOUNT_GIT, *words)
-                check(f"{words[0]} in use", (status, [f"{mount.folder} is in use" in line for line in lines]), (1, [True]))
+                told = status, [f"{mount.folder} is in use" in line for line in lines]
+                check(f"{words[0]} in use", told, (1, [True]))
             check("commit in use: the file goes on", (file.write(b"MADE"), os.pread(file.fileno(), 9, 0)), (4, b"MADE"))
         check("commit in use: nothing is moved", git(repository, "rev-parse", branch), before)
         check("changes", said_by(MOUNT_GIT, "changes", mount.folder), (0, ["A\tmade", "D\trun.sh"]))

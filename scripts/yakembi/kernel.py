@@ -108,7 +108,7 @@ class Shown:
         finally:
             os.close(descriptor)
         try:
-            # It is answered once the mount is open, or fails once mountd ended. The device's number is the connection's.
+            # It is answered once the mount is open, or fails once mountd ended. The connection is named by its device.
             self.connection = os.minor(os.stat(folder).st_dev)
         except OSError:
             unmount(folder)
@@ -151,8 +151,8 @@ class Showing:
         self.shown = self.opened(None)
 
     def opened(self, descriptor: int | None) -> Shown:
-        """A mountd that shows the folder. What a killed one left is rescanned. It waits a little for one that still has
-        the overlay."""
+        """A mountd that shows the folder. What a killed one left is rescanned. It waits a little for one that still
+        has the overlay."""
         end = time.monotonic() + self.seconds_locked
         more: list[str] = []
         while True:
@@ -190,8 +190,8 @@ class Showing:
     def mounted_again(self) -> int:
         """Unmounts the folder and mounts it at once; the descriptor that the next mountd is given."""
         if self.is_ended or not unmount_unused(self.folder):
-            raise Refusal(f"{self.folder} is in use: what mountd itself shows is unmounted for a moment for this, so leave "
-                          "the folder and close its files; or mount it without --kernel")
+            raise Refusal(f"{self.folder} is in use: what mountd itself shows is unmounted for a moment for this, so "
+                          "leave the folder and close its files; or mount it without --kernel")
         descriptor = mount(self.folder)
         status = self.shown.child.wait()
         if status != 0 or self.is_ended:
