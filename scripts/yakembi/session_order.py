@@ -111,13 +111,18 @@ class Counts:
     def count(self, asked: Asked, step: int) -> None:
         for path in paths_of(asked):
             self.at[path] += step
-            self.replacing[path] += step if asked.word in REPLACING else 0
+            self.replacing[path] += step if may_replace(asked) else 0
             for length in range(len(path) + 1):
                 self.under[path[:length]] += step
 
 
 def paths_of(asked: Asked) -> list[Path]:
     return [field for field in asked.fields if isinstance(field, tuple)]
+
+
+def may_replace(asked: Asked) -> bool:
+    """Whether something else may stand at its paths once it is done: it is done, or nobody knows."""
+    return asked.word in REPLACING and asked.reply in (None, b"ok")
 
 
 def is_fault(asked: Asked) -> bool:

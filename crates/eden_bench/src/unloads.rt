@@ -91,7 +91,7 @@ fn measure<F: Files<Outside>>(
     requires above { NamesDiffer above.now }
     requires below { NamesDiffer below.now }
 {
-    let count = names.len() as u32;
+    let count = u32::try_from(names.len()).unwrap_or(u32::MAX);
     let start = bench.start();
     let loaded = load_all(bench.alloc(), table, names, above, below);
     bench.tell(parts.0, loaded, start, count)?;

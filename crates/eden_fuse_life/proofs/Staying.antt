@@ -1,5 +1,6 @@
 -- What a mount was opened with, through a session with the kernel.
-use Rattle.std.proofs.Common.{◌≡◌, ◌⊎◌, ℕ, Bool, List, [], ◌∷◌, Option, Some, None, Result, Ok, Err, inl, inr, sym, ap, subst}
+use Rattle.std.proofs.Common.{◌≡◌, ◌⊎◌, ℕ, zero, suc, Bool, true, false, List, [], ◌∷◌, Option, Some, None, Result, Ok, Err, inl, inr, sym, ap, subst}
+use Rattle.std.specs.List.{slice_get}
 use Rattle.eden_model.specs.declared.fault.CallFault.{CallFault}
 use Rattle.eden_model.specs.declared.id.Id.{Id}
 use Rattle.eden_model.specs.declared.request.Request.{Request}
@@ -10,14 +11,17 @@ use Rattle.eden_mount.specs.Tables.{Table}
 use Rattle.eden_mount.specs.Serving.{Desk, Stays}
 use Rattle.eden_mount.proofs.CallerLemmas.{stays_same, stays_on}
 use Rattle.eden_stdio_life.specs.Calls.{CallAnswers}
-use Rattle.eden_fuse_format.specs.declared.message.Header.{Header}
 use Rattle.eden_fuse_format.specs.declared.message.Message.{Message}
 use Rattle.eden_fuse_format.specs.declared.message.Message.TheVariants.{Request as Asks, Unknown, Malformed, Unframed}
+use Rattle.eden_fuse_format.specs.declared.structs.ReadIn.{ReadIn}
 use Rattle.eden_fuse_format.specs.Asked.{Asked, seen}
+use Rattle.eden_fuse_format.specs.Asked.{Asked as asked}
 use Rattle.eden_fuse_meaning.specs.declared.step.Outcome.{Outcome}
 use Rattle.eden_fuse_meaning.specs.declared.step.Step.{Step}
 use Rattle.eden_fuse_meaning.specs.declared.step.Step.TheVariants.{Ask, Tell}
 use Rattle.eden_fuse_meaning.specs.Steps.{next}
+use Rattle.eden_fuse_meaning.specs.Hiding.{hide, put_back, list_hidden, is_hidden}
+use Rattle.eden_fuse_nodes.specs.Tables.{place_of}
 use Rattle.eden_fuse_session.specs.declared.turning.Turned.{Turned}
 use Rattle.eden_fuse_session.specs.Turns.{Told, Line, Does}
 use Rattle.eden_fuse_session.specs.Sessions.{Serving, Serves}
@@ -26,7 +30,12 @@ use Rattle.eden_fuse_shown.specs.declared.mount.Unheard.TheVariants as unheard
 use Rattle.eden_fuse_shown.specs.Running.{Hears, Leads}
 use Rattle.eden_fuse_shown.specs.declared.sorts.Sort.{Sort}
 use Rattle.eden_fuse_shown.specs.declared.sorts.Sort.TheVariants as sort
-use Rattle.eden_fuse_shown.specs.Showing.{Showing, Runs, RunsFrom, Shows, ShowsBy, sort_of}
+use Rattle.eden_fuse_shown.specs.Listing.{Entry, page_of, last_at}
+use Rattle.eden_fuse_shown.specs.Naming.{is_reserved, last_name, veiled_name}
+use Rattle.eden_fuse_shown.specs.Opens.{opens_of, is_last}
+use Rattle.eden_fuse_shown.specs.Showing.{Showing, Runs, RunsFrom, Reads, RemovesBy, Restores, MovesOver, ReplacesBy, LetsGo, LetsGoLast, ClosesFile}
+use Rattle.eden_fuse_shown.specs.Showing.{ClearsIf, ClearsRow, ClearsRows, IsAsked, Clears, Starts, Heeds, Takes, rows_in, Shows, ShowsBy, sort_of}
+use Rattle.eden_fuse_shown.specs.Showing.{Serves as ServesAs}
 
 module _ {S : Type 0} (fetched : S → Id → Answer → S → Type 0) {T : Type 0} (A : Table T) (honest : Type 0) (copies : Bool) where
   abbrev answers : Desk T S → Request → Result Reply CallFault → Desk T S → Type 0
@@ -63,22 +72,110 @@ module _ {S : Type 0} (fetched : S → Id → Answer → S → Type 0) {T : Type
   folder_same : (old new : Folder) → new ≡ old → Kept old.mount new.mount
   folder_same old new is = kept_same old.mount new.mount (ap (λ (x : Folder). x.mount) is)
 
-  runs_keep : (h : Header) (a : Asked) (last : Option Name) (old new : Folder) (t : Told) → Runs answers h a last old t new → Kept old.mount new.mount
-  runs_keep h a last old new t r =
+  runs_keep : (node : ℕ) (a : Asked) (last : Option Name) (old new : Folder) (t : Told) → Runs answers node a last old t new → Kept old.mount new.mount
+  runs_keep node a last old new t r =
       either (λ s. folder_same old new s.0) (λ g. leads_keep g.comes.0 g.step old.mount new.mount g.end g.comes.1) r
 
-  runs_from_keep : (h : Header) (a : Asked) (last : Option (Option Name)) (old new : Folder) (t : Told) → RunsFrom answers h a last old t new → Kept old.mount new.mount
-  runs_from_keep h a None old new t (same, is) = folder_same old new same
-  runs_from_keep h a (Some last) old new t r = runs_keep h a last old new t r
+  runs_from_keep : (node : ℕ) (a : Asked) (last : Option (Option Name)) (old new : Folder) (t : Told) → RunsFrom answers node a last old t new
+      → Kept old.mount new.mount
+  runs_from_keep node a None old new t (same, is) = folder_same old new same
+  runs_from_keep node a (Some last) old new t r = runs_keep node a last old new t r
 
-  shows_keep : (sort : Sort) (h : Header) (a : Asked) (old new : Folder) (t : Told) → ShowsBy answers sort old h a t new → Kept old.mount new.mount
-  shows_keep (sort.One n) h a old new t loses = kept_same old.mount new.mount loses.mount
-  shows_keep sort.Batch h a old new t loses = kept_same old.mount new.mount loses.mount
-  shows_keep (sort.On s) h a old new t r = either (λ s. folder_same old new s.0) (λ g. runs_from_keep h a _ old new t g) r
-  shows_keep sort.Plain h a old new t r = runs_keep h a None old new t r
+  reads_keep : (node : ℕ) (a : Asked) (s : ReadIn) (old new : Folder) (t : Told) → Reads answers node a s old t new → Kept old.mount new.mount
+  reads_keep node a s old new t r =
+      either (λ e. folder_same old new e.0) (λ g. runs_from_keep node a (last_at (page_of old.pages s.fh) s.offset) old new t g) r
+
+  -- ---- what is removed or replaced while it is open
+
+  removes_keep : (held : Option ℕ) (node : ℕ) (a : Asked) (old new : Folder) (t : Told) → RemovesBy answers held node a old t new → Kept old.mount new.mount
+  removes_keep None node a old new t r = runs_keep node a None old new t r
+  removes_keep (Some id) node a old new t r = runs_keep node (hide id (last_name a)) None old new t r
+
+  restores_keep : (id dir : ℕ) (n : Name) (t : Told) (old new : Folder) → Restores answers id dir n t old new → Kept old.mount new.mount
+  restores_keep id dir n t old new r =
+      either (λ s. folder_same old new s.1) (λ b. runs_keep 1 (put_back id dir n) None old new b.1.0 b.1.1) r
+
+  moves_keep : (id dir node : ℕ) (a : Asked) (hid : Told) (old new : Folder) (t : Told) → MovesOver answers id dir node a hid old t new
+      → Kept old.mount new.mount
+  moves_keep id dir node a hid old new t r =
+      either (λ s. folder_same old new s.2) (λ m. kept_on old.mount m.1.0.mount new.mount (runs_keep node a None old m.1.0 t m.1.1)
+          (restores_keep id dir (last_name a) t m.1.0 new m.1.2)) r
+
+  replaces_keep : (held : Option ℕ) (dir node : ℕ) (a : Asked) (old new : Folder) (t : Told) → ReplacesBy answers held dir node a old t new
+      → Kept old.mount new.mount
+  replaces_keep None dir node a old new t r = runs_keep node a None old new t r
+  replaces_keep (Some id) dir node a old new t (hid, mid, runs, over) =
+      kept_on old.mount mid.mount new.mount (runs_keep dir (hide id (last_name a)) None old mid hid runs) (moves_keep id dir node a hid mid new t over)
+
+  lets_go_keep : (n : Option Name) (old new : Folder) → LetsGo answers n old new → Kept old.mount new.mount
+  lets_go_keep None old new r = folder_same old new r
+  lets_go_keep (Some n) old new (t, runs) = runs_keep 1 (asked.Unlink n) None old new t runs
+
+  lets_last_keep : (last : Bool) (node : ℕ) (old new : Folder) → LetsGoLast answers last node old new → Kept old.mount new.mount
+  lets_last_keep last node old new r =
+      either (λ s. folder_same old new s.1) (λ g. lets_go_keep (veiled_name (place_of old.nodes node)) old new g.1) r
+
+  closes_keep : (node : ℕ) (old new : Folder) (t : Told) → ClosesFile answers node old t new → Kept old.mount new.mount
+  closes_keep node old new t (is, closed) =
+      kept_on old.mount closed.0.mount new.mount (kept_same old.mount closed.0.mount closed.1.mount)
+      (lets_last_keep (is_last (opens_of old.opens node)) node closed.0 new closed.2)
+
+  -- ---- what another run left
+
+  clears_if_keep : (b : Bool) (n : Name) (old new : Folder) → ClearsIf answers b n old new → Kept old.mount new.mount
+  clears_if_keep true n old new r = lets_go_keep (Some n) old new r
+  clears_if_keep false n old new r = folder_same old new r
+
+  clears_row_keep : (row : Option Entry) (old new : Folder) → ClearsRow answers row old new → Kept old.mount new.mount
+  clears_row_keep None old new r = folder_same old new r
+  clears_row_keep (Some e) old new r = clears_if_keep (is_hidden e.0) e.0 old new r
+
+  clears_rows_keep : (n : ℕ) (rows : List Entry) (old new : Folder) → ClearsRows answers n rows old new → Kept old.mount new.mount
+  clears_rows_keep zero rows old new r = folder_same old new r
+  clears_rows_keep (suc n) rows old new (mid, first, row) =
+      kept_on old.mount mid.mount new.mount (clears_rows_keep n rows old mid first) (clears_row_keep (slice_get rows n) mid new row)
+
+  clears_keep : (old new : Folder) → Clears answers old new → Kept old.mount new.mount
+  clears_keep old new (end, mid, listed, rows) =
+      kept_on old.mount mid.mount new.mount (leads_keep listed.comes.0 list_hidden old.mount mid.mount end listed.comes.1)
+      (clears_rows_keep _ (rows_in end) mid new rows)
+
+  starts_keep : (node : ℕ) (a : Asked) (old new : Folder) (t : Told) → Starts answers node a old t new → Kept old.mount new.mount
+  starts_keep node a old new t r =
+      either (λ s. folder_same old new s.0)
+      (λ g. kept_on old.mount g.0.mount new.mount (clears_keep old g.0 g.1) (runs_keep node a None g.0 new t g.2)) r
+
+  -- ---- each message
+
+  serves_one_keep : (s : Sort) (node : ℕ) (a : Asked) (old new : Folder) (t : Told) → ServesAs answers s node a old t new → Kept old.mount new.mount
+  serves_one_keep sort.Remove node a old new t (held, is, r) = removes_keep held node a old new t r
+  serves_one_keep (sort.Replace dir) node a old new t (held, is, r) = replaces_keep held dir node a old new t r
+  serves_one_keep sort.Start node a old new t r = starts_keep node a old new t r
+  serves_one_keep (sort.One n) node a old new t r = runs_keep node a None old new t r
+  serves_one_keep sort.Batch node a old new t r = runs_keep node a None old new t r
+  serves_one_keep (sort.On s) node a old new t r = runs_keep node a None old new t r
+  serves_one_keep sort.Close node a old new t r = runs_keep node a None old new t r
+  serves_one_keep sort.Plain node a old new t r = runs_keep node a None old new t r
+
+  heeds_keep : (b : Bool) (s : Sort) (node : ℕ) (a : Asked) (old new : Folder) (t : Told) → Heeds answers b s node a old t new → Kept old.mount new.mount
+  heeds_keep true s node a old new t (same, is) = folder_same old new same
+  heeds_keep false s node a old new t r = serves_one_keep s node a old new t r
+
+  takes_keep : (s : Sort) (node : ℕ) (a : Asked) (old new : Folder) (t : Told) → Takes answers s node a old t new → Kept old.mount new.mount
+  takes_keep s node a old new t r = either (λ e. folder_same old new e.0) (λ g. heeds_keep (is_reserved node a) s node a old new t g) r
+
+  shows_keep : (sort : Sort) (node : ℕ) (a : Asked) (old new : Folder) (t : Told) → ShowsBy answers sort old node a t new → Kept old.mount new.mount
+  shows_keep (sort.One n) node a old new t loses = kept_same old.mount new.mount loses.mount
+  shows_keep sort.Batch node a old new t loses = kept_same old.mount new.mount loses.mount
+  shows_keep (sort.On s) node a old new t r = reads_keep node a s old new t r
+  shows_keep sort.Close node a old new t r = closes_keep node old new t r
+  shows_keep sort.Start node a old new t r = takes_keep sort.Start node a old new t r
+  shows_keep sort.Remove node a old new t r = takes_keep sort.Remove node a old new t r
+  shows_keep (sort.Replace dir) node a old new t r = takes_keep (sort.Replace dir) node a old new t r
+  shows_keep sort.Plain node a old new t r = takes_keep sort.Plain node a old new t r
 
   does_keep : (m : Message) (old new : Folder) (l k : Line) (room : ℕ) (r : Turned) → Does (Shows answers) m old new l k room r → Kept old.mount new.mount
-  does_keep (Asks header operation) old new l k room r (told, shows, is) = shows_keep (sort_of (seen operation)) header (seen operation) old new told shows
+  does_keep (Asks header operation) old new l k room r (told, shows, is) = shows_keep (sort_of (seen operation)) header.nodeid (seen operation) old new told shows
   does_keep (Unknown unique) old new l k room r (same, is) = folder_same old new same
   does_keep (Malformed unique) old new l k room r (same, is) = folder_same old new same
   does_keep Unframed old new l k room r d = folder_same old new d.0

@@ -154,7 +154,8 @@ fn run<W: World, F: Files<W>, S: Source<W> + Drop>(
     limits: &Config,
     backing: Backing<F, S>,
 ) -> ExitCode
-    requires files { W.honest → MayOpen base.opening W.repository W.opening base.root (F.stored backing.files) }
+    requires files { W.honest → MayOpen base.opening W.repository W.opening W.numbers base.root
+        (F.stored backing.files) }
     ensures { IsFolderRun W.World F.Files S.fetched (copies_of history) (limit_of history limits.now) base limits.now
         backing (exit_status result) }
 {
@@ -179,7 +180,8 @@ fn run_with<W: World, F: Files<W>, S: Source<W> + Drop, H: History>(
     limits: &Config,
     backing: Backing<F, S>,
 ) -> ExitCode
-    requires files { W.honest → MayOpen base.opening W.repository W.opening base.root (F.stored backing.files) }
+    requires files { W.honest → MayOpen base.opening W.repository W.opening W.numbers base.root
+        (F.stored backing.files) }
     requires empty { H.entries history ≡ [] }
     ensures { IsFolderRun W.World F.Files S.fetched H.copies (H.limit history) base limits.now backing
         (exit_status result) }

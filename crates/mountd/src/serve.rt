@@ -166,7 +166,8 @@ fn run<
     backing: Backing<F, Fetchers<S>>,
     listener: L,
 ) -> ExitCode
-    requires files { W.honest → MayOpen base.opening W.repository W.opening base.root (F.stored backing.files) }
+    requires files { W.honest → MayOpen base.opening W.repository W.opening W.numbers base.root
+        (F.stored backing.files) }
     ensures { IsSharedRun W.World F.Files I.Read O.Write (limit_of history limits.now) base limits.now backing.files
         (exit_status result) }
 {
@@ -206,7 +207,8 @@ fn run_with<
     backing: Backing<F, Fetchers<S>>,
     listener: L,
 ) -> ExitCode
-    requires files { W.honest → MayOpen base.opening W.repository W.opening base.root (F.stored backing.files) }
+    requires files { W.honest → MayOpen base.opening W.repository W.opening W.numbers base.root
+        (F.stored backing.files) }
     requires empty { H.entries history ≡ [] }
     ensures { IsSharedRun W.World F.Files I.Read O.Write (H.limit history) base limits.now backing.files
         (exit_status result) }
