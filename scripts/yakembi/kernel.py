@@ -189,6 +189,9 @@ class Showing:
 
     def mounted_again(self) -> int:
         """Unmounts the folder and mounts it at once; the descriptor that the next mountd is given."""
+        with contextlib.suppress(OSError):
+            # Answered after the closes before it, of which the last one of a removed file takes that away.
+            os.statvfs(self.folder)
         if self.is_ended or not unmount_unused(self.folder):
             raise Refusal(f"{self.folder} is in use: what mountd itself shows is unmounted for a moment for this, so "
                           "leave the folder and close its files; or mount it without --kernel")
