@@ -179,7 +179,7 @@ class Showing:
 
     def while_closed(self, work: Callable[[], Result]) -> Result:
         """What the work gives, over an overlay that is closed meanwhile. A `Refusal`, if the folder is in use: then it
-        stays as it is. Programs that come meanwhile wait for the next mountd."""
+        stays as it is. Programs that come once it is mounted again wait for the next mountd."""
         with self.turn:
             descriptor = self.mounted_again()
             try:
