@@ -21,7 +21,6 @@ use Rattle.eden_fuse_meaning.specs.declared.step.Step.{Step}
 use Rattle.eden_fuse_meaning.specs.declared.step.Step.TheVariants.{Ask, Tell}
 use Rattle.eden_fuse_meaning.specs.Steps.{next}
 use Rattle.eden_fuse_meaning.specs.Hiding.{hide, put_back, list_hidden, is_hidden}
-use Rattle.eden_fuse_nodes.specs.Tables.{place_of}
 use Rattle.eden_fuse_session.specs.declared.turning.Turned.{Turned}
 use Rattle.eden_fuse_session.specs.Turns.{Told, Line, Does}
 use Rattle.eden_fuse_session.specs.Sessions.{Serving, Serves}
@@ -31,7 +30,7 @@ use Rattle.eden_fuse_shown.specs.Running.{Hears, Leads}
 use Rattle.eden_fuse_shown.specs.declared.sorts.Sort.{Sort}
 use Rattle.eden_fuse_shown.specs.declared.sorts.Sort.TheVariants as sort
 use Rattle.eden_fuse_shown.specs.Listing.{Entry, page_of, last_at}
-use Rattle.eden_fuse_shown.specs.Naming.{is_reserved, last_name, veiled_name}
+use Rattle.eden_fuse_shown.specs.Naming.{is_reserved, last_name}
 use Rattle.eden_fuse_shown.specs.Opens.{opens_of, is_last}
 use Rattle.eden_fuse_shown.specs.Showing.{Showing, Runs, RunsFrom, Reads, RemovesBy, Restores, MovesOver, ReplacesBy, LetsGo, LetsGoLast, ClosesFile}
 use Rattle.eden_fuse_shown.specs.Showing.{ClearsIf, ClearsRow, ClearsRows, IsAsked, Clears, Starts, Heeds, Takes, rows_in, Shows, ShowsBy, sort_of}
@@ -113,7 +112,7 @@ module _ {S : Type 0} (fetched : S → Id → Answer → S → Type 0) {T : Type
 
   lets_last_keep : (last : Bool) (node : ℕ) (old new : Folder) → LetsGoLast answers last node old new → Kept old.mount new.mount
   lets_last_keep last node old new r =
-      either (λ s. folder_same old new s.1) (λ g. lets_go_keep (veiled_name (place_of old.nodes node)) old new g.1) r
+      either (λ s. folder_same old new s.1) (λ g. lets_go_keep _ old new g.1) r
 
   closes_keep : (node : ℕ) (old new : Folder) (t : Told) → ClosesFile answers node old t new → Kept old.mount new.mount
   closes_keep node old new t (is, closed) =
