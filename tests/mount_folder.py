@@ -6,7 +6,6 @@ import os
 import pathlib
 import shutil
 import signal
-import socket
 import subprocess
 import sys
 import tempfile
@@ -18,6 +17,7 @@ from typing import Self
 from checks import PATIENCE, check, git, make_repository, skip
 from helpers.git import environment
 from programs import MOUNT_GIT, MOUNTD
+from yakembi import kernel
 
 LONGEST_MOUNT = 280
 UNMOUNT = shutil.which("fusermount3") or shutil.which("fusermount") or ""
@@ -40,23 +40,29 @@ def missing() -> str | None:
         os.close(os.open("/dev/fuse", os.O_RDWR))
     except OSError as problem:
         return f"/dev/fuse can't be opened: {problem.strerror}"
+    if not kernel.can_mount():
+        return "fusermount3, of Debian's fuse3, isn't there"
+    return mount_refused()
+
+
+def missing_package() -> str | None:
+    """What it lacks for the adapter beside that."""
     if not UNMOUNT:
         return "fusermount3, of Debian's fuse3, isn't there"
     programs = filter(None, (sys.executable, shutil.which("python3", path="/usr/bin")))
     if all(subprocess.run([program, "-c", "import fusepy"], capture_output=True).returncode for program in programs):
         return "no Python here has Debian's python3-fusepy"
-    return mount_refused()
+    return None
 
 
 def mount_refused() -> str | None:
     """Why nothing may be mounted here, as in some containers; None where it may. A mount that nobody serves tells."""
-    ours, theirs = socket.socketpair()
-    with ours, theirs, tempfile.TemporaryDirectory() as folder:
-        environment = {**os.environ, "_FUSE_COMMFD": str(theirs.fileno())}
-        done = subprocess.run([UNMOUNT, "--", folder], env=environment, pass_fds=[theirs.fileno()], capture_output=True)
-        if done.returncode != 0:
-            return f"nothing may be mounted: {done.stderr.decode().strip()}"
-        unmount("-z", folder)
+    with tempfile.TemporaryDirectory() as folder:
+        try:
+            os.close(kernel.mount(folder))
+        except OSError as problem:
+            return f"nothing may be mounted: {problem.strerror}"
+        kernel.unmount(folder)
     return None
 
 
@@ -95,15 +101,27 @@ def checkout(repository: pathlib.Path, folder: pathlib.Path, revision: str = "HE
 class MountGit:
     """A run of `mount-git`, all of whose lines are kept in a file. It is killed where it takes too long."""
 
+    # The options that say in which way folders are shown.
+    way: tuple[str, ...] = ()
+
+    @classmethod
+    def words(cls, *more: object) -> list[str]:
+        return [str(word) for word in [MOUNT_GIT, "--mountd", MOUNTD, *cls.way, *more]]
+
     def __init__(self, repository: pathlib.Path, revision: str, folder: pathlib.Path, *options: object) -> None:
         self.folder = folder
         self.log = folder.parent / f"{folder.name}.{next(NUMBERS)}.log"
-        words = [MOUNT_GIT, "--mountd", MOUNTD, *options, repository, revision, folder]
+        words = self.words(*options, repository, revision, folder)
         with contextlib.suppress(FileExistsError):
             os.mkdir(folder)
         with open(self.log, "wb") as log:
-            self.process = subprocess.Popen([str(word) for word in words], stdin=subprocess.DEVNULL, stdout=log,
-                                            stderr=log, start_new_session=True)
+            self.process = subprocess.Popen(words, stdin=subprocess.DEVNULL, stdout=log, stderr=log,
+                                            start_new_session=True)
+
+    @classmethod
+    def is_by_kernel(cls) -> bool:
+        """Whether mountd itself answers the kernel."""
+        return "--kernel" in cls.way
 
     def wait_until_shown(self) -> None:
         end = time.monotonic() + PATIENCE
@@ -160,11 +178,12 @@ class MountGit:
         self.watch.cancel()
         self.kill()
         if self.is_mounted():
-            unmount("-z", self.folder)
+            kernel.unmount(str(self.folder))
 
 
-def unmount(*words: object) -> None:
-    subprocess.run([UNMOUNT, "-u", *map(str, words)], capture_output=True, timeout=PATIENCE)
+def unmount(folder: pathlib.Path) -> None:
+    words = [UNMOUNT, "-u"] if UNMOUNT else ["umount"]
+    subprocess.run([*words, folder], capture_output=True, timeout=PATIENCE)
 
 
 ENDINGS: dict[str, Callable[[MountGit], object]] = {

@@ -1,7 +1,9 @@
 """A mount whose messages `mountd fuse` answers itself, over the descriptor of /dev/fuse that it is given.
 
 Root mounts by mount(2), and others by fusermount3, which hands the descriptor over. No copy of it is kept here, so that
-the kernel ends the mount when mountd does; once the folder is unmounted mountd closes the overlay and ends.
+the kernel ends the mount when mountd does; once the folder is unmounted mountd closes the overlay and ends. What is
+answered over a closed overlay so takes an unmount and another mount: the kernel begins a connection once, and only the
+mountd that it began with knows its nodes.
 """
 
 import array
@@ -12,16 +14,20 @@ import shutil
 import signal
 import socket
 import subprocess
+import threading
 import time
-from collections.abc import Iterator, Sequence
+from collections.abc import Callable, Iterator, Sequence
+from typing import TypeVar
 
-from yakembi.pool import CACHE_ENTRIES, WITH_A_LINE, Unopened
+from yakembi.git import Refusal
+from yakembi.pool import CACHE_ENTRIES, WITH_A_LINE, Unclosed, Unopened
 
-MS_NOSUID, MS_NODEV, MNT_DETACH = 2, 4, 2
+MS_NOSUID, MS_NODEV, MNT_FORCE, MNT_DETACH = 2, 4, 1, 2
 # A read has at most what the mount takes in one, and the kernel looks at permissions.
 OPTIONS = ["default_permissions", "max_read=65536"]
 ENDED = (signal.SIGTERM, signal.SIGINT, signal.SIGHUP)
 LIBC = ctypes.CDLL(None, use_errno=True)
+Result = TypeVar("Result")
 
 
 def mount(folder: str) -> int:
@@ -64,6 +70,23 @@ def unmount(folder: str) -> None:
         subprocess.run(["fusermount3", "-u", "-z", "--", folder], capture_output=True)
 
 
+def unmount_unused(folder: str) -> bool:
+    """Unmounts the folder, unless somebody stands in it or has a file of it open; whether it did."""
+    if os.geteuid() == 0:
+        return bool(LIBC.umount2(os.fsencode(folder), 0) == 0)
+    return subprocess.run(["fusermount3", "-u", "--", folder], capture_output=True).returncode == 0
+
+
+def abort(folder: str, connection: int) -> None:
+    """Ends the folder's connection, so that mountd ends also while a program has a file open. For others than root this
+    takes the kernel's file of the connection, which is there where fusectl is mounted; else nothing happens."""
+    if os.geteuid() == 0:
+        LIBC.umount2(os.fsencode(folder), MNT_FORCE)
+    else:
+        with contextlib.suppress(OSError), open(f"/sys/fs/fuse/connections/{connection}/abort", "w") as file:
+            file.write("1")
+
+
 def can_mount() -> bool:
     return os.geteuid() == 0 or shutil.which("fusermount3") is not None
 
@@ -71,10 +94,11 @@ def can_mount() -> bool:
 class Shown:
     """One `mountd fuse` that shows a folder."""
 
-    def __init__(self, words: Sequence[str], folder: str) -> None:
-        """In a session of its own, so that a terminal's Ctrl-C doesn't reach it. `Unopened`, if it opens nothing."""
+    def __init__(self, words: Sequence[str], folder: str, descriptor: int | None = None) -> None:
+        """In a session of its own, so that a terminal's Ctrl-C doesn't reach it. `Unopened`, if it opens nothing. The
+        descriptor is that of a folder that was mounted already."""
         self.folder = folder
-        descriptor = mount(folder)
+        descriptor = mount(folder) if descriptor is None else descriptor
         try:
             self.child = subprocess.Popen(words, stdin=descriptor, stdout=descriptor, stderr=subprocess.PIPE,
                                           start_new_session=True)
@@ -84,11 +108,14 @@ class Shown:
         finally:
             os.close(descriptor)
         try:
-            # It is answered once the mount is open, or fails once mountd ended.
-            os.stat(folder)
+            # It is answered once the mount is open, or fails once mountd ended. The connection is named by its device.
+            self.connection = os.minor(os.stat(folder).st_dev)
         except OSError:
             unmount(folder)
             raise Unopened(self.last_words().removeprefix("mountd: open ")) from None
+        except BaseException:
+            unmount(folder)
+            raise
 
     def last_words(self) -> str:
         assert self.child.stderr is not None
@@ -108,39 +135,88 @@ class Shown:
         unmount(self.folder)
 
 
+class Showing:
+    """A folder that one `mountd fuse` after another shows, over one overlay."""
+
+    def __init__(self, mountd: str | os.PathLike[str], root: str, source: Sequence[object], overlay: str, folder: str,
+                 seconds_locked: float) -> None:
+        """Shows it. `Unopened`, with mountd's own word, if the overlay isn't opened."""
+        self.words = [os.fspath(mountd), "fuse", "--root", root, *[str(word) for word in source], "--overlay", overlay,
+                      "--cache-entries", str(CACHE_ENTRIES)]
+        self.folder = folder
+        self.seconds_locked = seconds_locked
+        self.is_ended = False
+        # Whoever has it may put another mountd in the place of the one that shows the folder.
+        self.turn = threading.Lock()
+        self.shown = self.opened(None)
+
+    def opened(self, descriptor: int | None) -> Shown:
+        """A mountd that shows the folder. What a killed one left is rescanned. It waits a little for one that still
+        has the overlay."""
+        end = time.monotonic() + self.seconds_locked
+        more: list[str] = []
+        while True:
+            try:
+                return Shown([*self.words, *more], self.folder, descriptor)
+            except Unopened as refusal:
+                if str(refusal) == "NotClean" and not more:
+                    more = ["--rescan"]
+                elif str(refusal) != "Locked" or time.monotonic() > end:
+                    raise
+                else:
+                    time.sleep(0.1)
+            descriptor = None
+
+    def wait(self) -> str | None:
+        """Waits until the folder is unmounted, or nothing shows it; what mountd said, where it didn't end well."""
+        while True:
+            shown = self.shown
+            said = shown.last_words()
+            with self.turn:
+                if self.shown is shown:
+                    unmount(self.folder)
+                    return None if shown.child.returncode == 0 else said
+
+    def while_closed(self, work: Callable[[], Result]) -> Result:
+        """What the work gives, over an overlay that is closed meanwhile. A `Refusal`, if the folder is in use: then it
+        stays as it is. Programs that come once it is mounted again wait for the next mountd."""
+        with self.turn:
+            descriptor = self.mounted_again()
+            try:
+                return work()
+            finally:
+                self.shown = self.opened(descriptor)
+
+    def mounted_again(self) -> int:
+        """Unmounts the folder and mounts it at once; the descriptor that the next mountd is given."""
+        with contextlib.suppress(OSError):
+            # Answered after the closes before it, of which the last one of a removed file takes that away.
+            os.statvfs(self.folder)
+        if self.is_ended or not unmount_unused(self.folder):
+            raise Refusal(f"{self.folder} is in use: what mountd itself shows is unmounted for a moment for this, so "
+                          "leave the folder and close its files; or mount it without --kernel")
+        descriptor = mount(self.folder)
+        status = self.shown.child.wait()
+        if status != 0 or self.is_ended:
+            os.close(descriptor)
+            unmount(self.folder)
+            raise Unclosed("it is ended" if self.is_ended else f"mountd ended with status {status}")
+        return descriptor
+
+    def end(self) -> None:
+        """Unmounts the folder, be it in use, upon which mountd closes the overlay and ends."""
+        self.is_ended = True
+        if not unmount_unused(self.folder):
+            abort(self.folder, self.shown.connection)
+            unmount(self.folder)
+
+
 @contextlib.contextmanager
-def ended_by_signals(shown: Shown) -> Iterator[None]:
+def ended_by_signals(showing: Showing) -> Iterator[None]:
     """Signals unmount the folder."""
-    before = [signal.signal(number, lambda *_: shown.end()) for number in ENDED]
+    before = [signal.signal(number, lambda *_: showing.end()) for number in ENDED]
     try:
         yield
     finally:
         for number, handler in zip(ENDED, before):
             signal.signal(number, handler)
-
-
-def show(mountd: str | os.PathLike[str], root: str, source: Sequence[object], overlay: str, folder: str,
-         seconds_locked: float) -> str | None:
-    """Shows the folder until it is unmounted; what mountd said, where it didn't end well.
-
-    What a killed one left is rescanned. It waits a little for a mountd that still has the overlay. `Unopened`, with
-    mountd's own word, if the overlay isn't opened.
-    """
-    words = [os.fspath(mountd), "fuse", "--root", root, *[str(word) for word in source], "--overlay", overlay,
-             "--cache-entries", str(CACHE_ENTRIES)]
-    end = time.monotonic() + seconds_locked
-    more: list[str] = []
-    while True:
-        try:
-            shown = Shown([*words, *more], folder)
-            break
-        except Unopened as refusal:
-            if str(refusal) == "NotClean" and not more:
-                more = ["--rescan"]
-            elif str(refusal) != "Locked" or time.monotonic() > end:
-                raise
-            else:
-                time.sleep(0.1)
-    with ended_by_signals(shown):
-        print(f"mounted {folder}", flush=True)
-        return shown.wait()

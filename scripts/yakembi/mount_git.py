@@ -224,9 +224,9 @@ def pool_over(program: Serving, overlay: str) -> Pool:
 class Asked:
     """What other runs of `mount-git` ask of this one."""
 
-    def __init__(self, pool: Pool, mountd: str | os.PathLike[str], source: Sequence[str], repository: Repository,
-                 revision: str, overlay: OverlayFolder) -> None:
-        self.pool = pool
+    def __init__(self, below: Pool | kernel.Showing, mountd: str | os.PathLike[str], source: Sequence[str],
+                 repository: Repository, revision: str, overlay: OverlayFolder) -> None:
+        self.below = below
         self.mountd = os.fspath(mountd)
         self.source = source
         self.repository = repository
@@ -267,7 +267,7 @@ class Asked:
         """A run of `mountd` over the closed overlay, whose output goes there."""
         words = [self.mountd, command, "--root", self.noted().tree, *self.source, "--overlay", self.overlay.path, *more]
         try:
-            done = self.pool.while_closed(lambda: subprocess.run(words, stdin=subprocess.DEVNULL, stdout=output,
+            done = self.below.while_closed(lambda: subprocess.run(words, stdin=subprocess.DEVNULL, stdout=output,
                                                                  stderr=subprocess.PIPE))
         except Unclosed as problem:
             raise Refusal(f"the overlay {self.overlay.path} wasn't closed well: {problem}") from None
@@ -324,16 +324,20 @@ def check_kernel() -> None:
         raise Refusal("this system has no /dev/fuse")
 
 
-def show_by_kernel(words: argparse.Namespace, root: str, source: list[str], overlay: str, folder: str) -> str | None:
-    """Shows the folder by `mountd fuse`; what it said where it didn't end well."""
+def show_by_kernel(words: argparse.Namespace, repository: Repository, noted: Noted, source: list[str],
+                   overlay: OverlayFolder, folder: str) -> str | None:
+    """Shows the folder by `mountd fuse`; what that said where it didn't end well."""
     os.makedirs(folder, exist_ok=True)
     try:
-        return kernel.show(words.mountd, root, source, overlay, folder, SECONDS_LOCKED)
+        showing = kernel.Showing(words.mountd, noted.tree, source, overlay.path, folder, SECONDS_LOCKED)
     except Unopened as refusal:
-        word = str(refusal)
+        raise unopened(str(refusal), overlay.path) from None
     except FileNotFoundError as problem:
         raise Refusal(f"{words.mountd} can't be run ({problem.strerror}): `make run` builds it") from None
-    raise unopened(word, overlay)
+    answers = Asked(showing, words.mountd, source, repository, words.revision, overlay).answers()
+    with kernel.ended_by_signals(showing), reachable(folder, answers):
+        print(f"mounted {folder}", flush=True)
+        return showing.wait()
 
 
 def unopened(word: str, overlay: str) -> Refusal:
@@ -371,7 +375,7 @@ def run(words: argparse.Namespace) -> None:
         noted = tree_to_show(repository, words.revision, overlay)
         with source_of(repository, words, noted.tree) as source:
             if fuse is None:
-                problem = show_by_kernel(words, noted.tree, source, overlay.path, folder)
+                problem = show_by_kernel(words, repository, noted, source, overlay, folder)
             else:
                 problem = show_by_pool(fuse, words, repository, noted, source, overlay, folder)
     if problem:
