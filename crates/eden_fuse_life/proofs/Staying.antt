@@ -98,7 +98,7 @@ module _ {S : Type 0} (fetched : S → Id → Answer → S → Type 0) {T : Type
       → Kept old.mount new.mount
   moves_keep id dir node a hid old new t r =
       either (λ s. folder_same old new s.2) (λ m. kept_on old.mount m.1.0.mount new.mount (runs_keep node a None old m.1.0 t m.1.1)
-          (restores_keep id dir (last_name a) t m.1.0 new m.1.2)) r
+      (restores_keep id dir (last_name a) t m.1.0 new m.1.2)) r
 
   replaces_keep : (held : Option ℕ) (dir node : ℕ) (a : Asked) (old new : Folder) (t : Told) → ReplacesBy answers held dir node a old t new
       → Kept old.mount new.mount
