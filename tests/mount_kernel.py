@@ -11,6 +11,7 @@ import signal
 import sqlite3
 import subprocess
 import sys
+import time
 from collections.abc import Callable, Iterator
 from typing import Any
 
@@ -473,6 +474,20 @@ def check_kills(folder: pathlib.Path, repository: pathlib.Path) -> None:
         check("killed: what is said", [mount.said(), again.said(), last.said()], [[], [line], []])
 
 
+def check_early_ends(folder: pathlib.Path, repository: pathlib.Path, seed: int) -> None:
+    """A signal at any moment of the beginning leaves nothing mounted, and nothing that runs."""
+    generator = random.Random(seed)
+    for number in range(10):
+        mount = MountGit(repository, "HEAD", folder / "mounted", "--overlay", folder / "overlay")
+        time.sleep(generator.random() * 0.5)
+        running = children(mount.process.pid)
+        mount.process.send_signal(generator.choice([signal.SIGTERM, signal.SIGINT]))
+        check(f"ended early, {number}: it ends, with nothing said", (mount.status() is None, mount.said()), (False, []))
+        check(f"ended early, {number}: what is left", (mount.is_mounted(), left_of(running)), (False, []))
+    with MountGit(repository, "HEAD", folder / "mounted", "--overlay", folder / "overlay") as mount:
+        check("ended early: the last end, with nothing said", (mount.end("SIGTERM"), mount.said()), (0, []))
+
+
 def check_removed_at_ends(folder: pathlib.Path, repository: pathlib.Path) -> None:
     """A file that was removed while it is open is gone with the mount, however that ends."""
     overlay = folder / "overlay"
@@ -524,3 +539,16 @@ def check_commits(folder: pathlib.Path, repository: pathlib.Path) -> None:
         git(repository, "update-ref", branch, before)
         check("commit: the end, with nothing said", (mount.end("SIGTERM"), mount.said()), (0, []))
     check("commit: nothing is mounted", mount.is_mounted(), False)
+
+
+def check_status(folder: pathlib.Path, repository: pathlib.Path) -> None:
+    """`mount-git status` says what is so: Git stands in the folder, is refused the mount's word, and looks itself."""
+    with MountGit(repository, "HEAD", folder / "mounted", "--overlay", folder / "overlay") as mount:
+        (mount.folder / "made").write_text("made")
+        (mount.folder / "run.sh").unlink()
+        (mount.folder / "plain.txt").write_text("changed")
+        words: list[str | pathlib.Path] = [MOUNT_GIT, "status", mount.folder, "--porcelain"]
+        done = subprocess.run(words, capture_output=True, timeout=PATIENCE)
+        check("status", (done.returncode, done.stdout), (0, b" M plain.txt\n D run.sh\n?? made\n"))
+        check("status: the refusal is told", f"{mount.folder} is in use".encode() in done.stderr, True)
+        check("status: the end, with nothing said", (mount.end("SIGTERM"), mount.said()), (0, []))

@@ -140,7 +140,6 @@ class Showing:
 
     def __init__(self, mountd: str | os.PathLike[str], root: str, source: Sequence[object], overlay: str, folder: str,
                  seconds_locked: float) -> None:
-        """Shows it. `Unopened`, with mountd's own word, if the overlay isn't opened."""
         self.words = [os.fspath(mountd), "fuse", "--root", root, *[str(word) for word in source], "--overlay", overlay,
                       "--cache-entries", str(CACHE_ENTRIES)]
         self.folder = folder
@@ -148,7 +147,13 @@ class Showing:
         self.is_ended = False
         # Whoever has it may put another mountd in the place of the one that shows the folder.
         self.turn = threading.Lock()
+        self.shown: Shown | None = None
+
+    def open(self) -> None:
+        """Shows it. `Unopened`, with mountd's own word, if the overlay isn't opened."""
         self.shown = self.opened(None)
+        if self.is_ended:
+            self.end()
 
     def opened(self, descriptor: int | None) -> Shown:
         """A mountd that shows the folder. What a killed one left is rescanned. It waits a little for one that still
@@ -171,6 +176,7 @@ class Showing:
         """Waits until the folder is unmounted, or nothing shows it; what mountd said, where it didn't end well."""
         while True:
             shown = self.shown
+            assert shown is not None
             said = shown.last_words()
             with self.turn:
                 if self.shown is shown:
@@ -196,6 +202,7 @@ class Showing:
             raise Refusal(f"{self.folder} is in use: what mountd itself shows is unmounted for a moment for this, so "
                           "leave the folder and close its files; or mount it without --kernel")
         descriptor = mount(self.folder)
+        assert self.shown is not None
         status = self.shown.child.wait()
         if status != 0 or self.is_ended:
             os.close(descriptor)
@@ -207,7 +214,8 @@ class Showing:
         """Unmounts the folder, be it in use, upon which mountd closes the overlay and ends."""
         self.is_ended = True
         if not unmount_unused(self.folder):
-            abort(self.folder, self.shown.connection)
+            if self.shown is not None:
+                abort(self.folder, self.shown.connection)
             unmount(self.folder)
 
 

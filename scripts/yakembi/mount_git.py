@@ -328,16 +328,18 @@ def show_by_kernel(words: argparse.Namespace, repository: Repository, noted: Not
                    overlay: OverlayFolder, folder: str) -> str | None:
     """Shows the folder by `mountd fuse`; what that said where it didn't end well."""
     os.makedirs(folder, exist_ok=True)
-    try:
-        showing = kernel.Showing(words.mountd, noted.tree, source, overlay.path, folder, SECONDS_LOCKED)
-    except Unopened as refusal:
-        raise unopened(str(refusal), overlay.path) from None
-    except FileNotFoundError as problem:
-        raise Refusal(f"{words.mountd} can't be run ({problem.strerror}): `make run` builds it") from None
+    showing = kernel.Showing(words.mountd, noted.tree, source, overlay.path, folder, SECONDS_LOCKED)
     answers = Asked(showing, words.mountd, source, repository, words.revision, overlay).answers()
-    with kernel.ended_by_signals(showing), reachable(folder, answers):
-        print(f"mounted {folder}", flush=True)
-        return showing.wait()
+    with kernel.ended_by_signals(showing):
+        try:
+            showing.open()
+        except Unopened as refusal:
+            raise unopened(str(refusal), overlay.path) from None
+        except FileNotFoundError as problem:
+            raise Refusal(f"{words.mountd} can't be run ({problem.strerror}): `make run` builds it") from None
+        with reachable(folder, answers):
+            print(f"mounted {folder}", flush=True)
+            return showing.wait()
 
 
 def unopened(word: str, overlay: str) -> Refusal:
