@@ -1,10 +1,12 @@
 //! Worked rows of the kernel's FUSE protocol: messages that a kernel sent, messages that are none, answers, a table of
-//! nodes over its life, what messages mean, and turns of a session, so that the crates aren't proved a second time for
-//! them.
+//! nodes over its life, what messages mean, turns of a session, and a folder over files in memory, so that the crates
+//! aren't proved a second time for them.
 #![tactic(auto)]
 
 #[cfg(test)]
 mod answers;
+#[cfg(test)]
+mod folder;
 #[cfg(test)]
 mod meanings;
 #[cfg(test)]
