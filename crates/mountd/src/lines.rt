@@ -30,19 +30,6 @@ impl<W: Write + Drop> LineSink<W> {
     pub fn flush(&mut self) -> io::Result<()> {
         self.writer.flush()
     }
-
-    // Writes the line of a change.
-    fn write(&mut self, alloc: Global, path: &[Name], change: Change) -> Result<(), SinkFault> {
-        let path = path_text(alloc, path)?;
-        let how = how_letter(change.how);
-        let mode = mode_word(change.mode);
-        let whole = whole_word(change.whole);
-        let line = format!(in alloc; "{how} {mode} {path}{whole}\n")?;
-        match self.writer.write_all(line.as_bytes()) {
-            Ok(()) => Ok(()),
-            Err(_) => Err(SinkFault::Device),
-        }
-    }
 }
 
 impl<W: Write + Drop> ChangeSink<Outside> for LineSink<W> {
@@ -53,9 +40,27 @@ impl<W: Write + Drop> ChangeSink<Outside> for LineSink<W> {
     ghost failures = { λ s. s.failures };
 
     fn tell(&mut self, alloc: Global, path: &[Name], change: Change) -> Result<(), SinkFault> {
-        let answer = self.write(alloc, path, change);
+        let answer = write_line(&mut self.writer, alloc, path, change);
         self.failures = count(self.failures, &answer);
         answer
+    }
+}
+
+// Writes the line of a change.
+fn write_line<W: Write + Drop>(
+    writer: &mut BufWriter<W>,
+    alloc: Global,
+    path: &[Name],
+    change: Change,
+) -> Result<(), SinkFault> {
+    let path = path_text(alloc, path)?;
+    let how = how_letter(change.how);
+    let mode = mode_word(change.mode);
+    let whole = whole_word(change.whole);
+    let line = format!(in alloc; "{how} {mode} {path}{whole}\n")?;
+    match writer.write_all(line.as_bytes()) {
+        Ok(()) => Ok(()),
+        Err(_) => Err(SinkFault::Device),
     }
 }
 
