@@ -353,7 +353,8 @@ def check_random_files(folder: pathlib.Path, repository: pathlib.Path, seed: int
             if number % 50 == 49:
                 check(f"open files: all after operation {number}", mounted.whole(), plain.whole())
         for place in range(4):
-            mounted.close(place), plain.close(place)
+            mounted.close(place)
+            plain.close(place)
         check("open files: the end, with nothing said", (mount.end("SIGTERM"), mount.said()), (0, []))
     with MountGit(repository, "HEAD", folder / "mounted", "--overlay", folder / "overlay") as mount:
         check("open files: mounted again", mounted.whole(), plain.whole())
