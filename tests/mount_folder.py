@@ -98,6 +98,11 @@ def checkout(repository: pathlib.Path, folder: pathlib.Path, revision: str = "HE
 # ---- mount-git
 
 
+def heed_interrupts() -> None:
+    """What a shell starts in the background ignores Ctrl-C, and so does all that it starts."""
+    signal.signal(signal.SIGINT, signal.SIG_DFL)
+
+
 class MountGit:
     """A run of `mount-git`, all of whose lines are kept in a file. It is killed where it takes too long."""
 
@@ -116,7 +121,7 @@ class MountGit:
             os.mkdir(folder)
         with open(self.log, "wb") as log:
             self.process = subprocess.Popen(words, stdin=subprocess.DEVNULL, stdout=log, stderr=log,
-                                            start_new_session=True)
+                                            start_new_session=True, preexec_fn=heed_interrupts)
 
     @classmethod
     def is_by_kernel(cls) -> bool:
