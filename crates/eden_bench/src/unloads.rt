@@ -9,7 +9,7 @@ use crate::keeps::Keeps;
 use crate::name::names;
 use crate::tree::{Order, tree_body};
 use eden_model::{Name, Outside, TreeEntry};
-use eden_overlay::Files;
+use eden_overlay::{Files, Overlay};
 use std::alloc::{AllocError, Global};
 use std::io;
 use std::slice::from_ref;
@@ -18,7 +18,10 @@ use std::slice::from_ref;
 const FILES: u32 = 8;
 
 /// The bytes of such a directory's file: a header, the object's id, the count, and entries with names of 14 bytes.
-const SIZE: usize = 64 + 20 + 4 + 8 * (31 + 14);
+const SIZE: usize = HEADER + 20 + 4 + 8 * (31 + 14);
+
+/// The bytes of a stored file's header, which has the digest of what is behind it.
+const HEADER: usize = 64;
 
 /// The first number of the files that are stored beside: above every number that is given.
 const BESIDE: u64 = 1 << 32;
@@ -50,7 +53,7 @@ const SAVED_BEFORE: Part = Part {
 const STORED: Part = Part {
     before: "  files stored: ",
     after: "",
-    time: "replace, a file",
+    time: "store, a file",
 };
 
 /// So many entries, as the order says.
@@ -100,12 +103,17 @@ fn measure<F: Files<Outside>>(
     bench.tell(parts.1, gone, start, count)
 }
 
-/// Stores so many files, and answers how many were stored.
-fn store_all<F: Files<Outside>>(alloc: Global, files: &mut F, bytes: &[u8], count: u32) -> u32 {
+/// Stores that content as so many files, and answers how many were stored.
+fn store_all<F: Files<Outside>>(
+    alloc: Global,
+    overlay: &mut Overlay<Outside, F>,
+    content: &[u8; SIZE - HEADER],
+    count: u32,
+) -> u32 {
     let mut stored = 0u32;
     for place in 0..count {
-        if files
-            .replace(alloc, BESIDE + u64::from(place), bytes)
+        if overlay
+            .put_file(alloc, BESIDE + u64::from(place), content)
             .is_ok()
         {
             stored = stored.saturating_add(1);
@@ -115,11 +123,11 @@ fn store_all<F: Files<Outside>>(alloc: Global, files: &mut F, bytes: &[u8], coun
 }
 
 /// As many files of that size, stored one after another.
-fn measure_stores<F: Files<Outside>>(bench: Bench, mut files: F, count: u32) -> io::Result<()> {
-    let mut bytes = Vec::new(bench.alloc());
-    bytes.resize(SIZE, 0x2a)?;
+fn measure_stores<F: Files<Outside>>(bench: Bench, files: F, count: u32) -> io::Result<()> {
+    let mut overlay = Overlay::new(files);
+    let content = [0x2a; SIZE - HEADER];
     let start = bench.start();
-    let stored = store_all(bench.alloc(), &mut files, bytes.as_slice(), count);
+    let stored = store_all(bench.alloc(), &mut overlay, &content, count);
     bench.tell(STORED, u64::from(stored), start, count)
 }
 
