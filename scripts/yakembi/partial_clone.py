@@ -22,9 +22,9 @@ from yakembi.git import Objects, Refusal, Remote, Repository, environment
 
 # How long one who asks first waits for others, in seconds; and how long at most, while something is brought already.
 GATHERING, LONGEST_GATHERING = 0.005, 0.1
-# How long one whose folder isn't known waits for trees that come or are read, in seconds: so long, or as long as its
-# question took.
-READING = 1.0
+# How long one whose folder isn't known waits for trees that come or are read, in seconds: so long at least, as long as
+# its question took, and so long at most, since mountd waits for all of it.
+READING, LONGEST_READING = 1.0, 5.0
 # How many bytes a guess may bring; and to how many that falls where guesses take too long.
 AHEAD, LEAST_AHEAD = 16 << 20, 1 << 16
 # How long a remote may say nothing, and how long a guess may take; mountd waits for 30 s. Behind one that took less
@@ -188,7 +188,7 @@ class PartialClone:
         if not want.came and not want.is_nowhere:
             raise Unreachable
         # Its folder may have been found meanwhile, or will be soon: then others of it needn't be asked for alone.
-        self.folder_of(object_id, max(READING, time.monotonic() - began))
+        self.folder_of(object_id, max(READING, min(time.monotonic() - began, LONGEST_READING)))
         return want.came
 
     def gather(self) -> list[str]:
