@@ -1,6 +1,8 @@
 """One history of a repository, stored in each way that Git has; and packs that are written byte by byte."""
 
+import collections
 import hashlib
+import itertools
 import pathlib
 import random
 import shutil
@@ -281,7 +283,8 @@ def in_order(ids: Iterable[str]) -> list[bytes]:
 
 def counts_of(ids: Sequence[bytes]) -> bytes:
     """How many ids there are up to each first byte."""
-    return struct.pack(">256I", *[sum(object_id[0] <= first for object_id in ids) for first in range(256)])
+    beginning = collections.Counter(object_id[0] for object_id in ids)
+    return struct.pack(">256I", *itertools.accumulate(beginning[first] for first in range(256)))
 
 
 class Place(NamedTuple):

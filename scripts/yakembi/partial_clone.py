@@ -1,10 +1,10 @@
 """A partial clone as a source of objects: what it lacks is asked of its remote, many objects at a time.
 
-What is asked for within some milliseconds goes into one question. What is likely to be asked for next comes along in
-another one beside it: with a tree its subtrees; once blobs of one folder are asked for one after another, others of
-that folder; and once folders that lie side by side are gone through, what is below those behind them. Such a guess is
-bounded in bytes and in time, and what fails of it is asked for like anything else. So a remote that fails costs what is
-asked for alone.
+What is asked for within some milliseconds goes into one question, and what is asked for meanwhile into the next. What
+is likely to be asked for next comes along in another one beside it: with a tree its subtrees; once blobs of one folder
+are asked for one after another, others of that folder; and once folders that lie side by side are gone through, what is
+below those behind them. Such a guess is bounded in bytes and in time, and what fails of it is asked for like anything
+else. So a remote that fails costs what is asked for alone.
 """
 
 import contextlib
@@ -20,8 +20,11 @@ from yakembi.fetching import Bounds, Question, TooSlow, Unanswered
 from yakembi.folders import Folder, Folders, Trees
 from yakembi.git import Objects, Refusal, Remote, Repository, environment
 
-# How long one who asks first waits for others, in seconds.
-GATHERING = 0.005
+# How long one who asks first waits for others, in seconds; and how long at most, while something is brought already.
+GATHERING, LONGEST_GATHERING = 0.005, 0.1
+# How long one whose folder isn't known waits for trees that come or are read, in seconds: so long at least, as long as
+# its question took, and so long at most, since mountd waits for all of it.
+READING, LONGEST_READING = 1.0, 5.0
 # How many bytes a guess may bring; and to how many that falls where guesses take too long.
 AHEAD, LEAST_AHEAD = 16 << 20, 1 << 16
 # How long a remote may say nothing, and how long a guess may take; mountd waits for 30 s. Behind one that took less
@@ -136,6 +139,9 @@ class PartialClone:
         self.folders = Folders()
         self.wants: dict[str, Want] = {}
         self.gathered: list[str] = []
+        # How many times what was gathered is being brought.
+        self.bringing = 0
+        self.all_brought = threading.Condition(self.lock)
         self.guesses: dict[str, Want] = {}
         self.guessing = 0
         self.questions: set[Question] = set()
@@ -145,6 +151,9 @@ class PartialClone:
         self.trees = Trees()
         self.root = root
         self.unread = [] if root is None else [root]
+        # How many times trees are being guessed or read.
+        self.reading = 0
+        self.all_read = threading.Condition(self.lock)
         self.is_over = False
 
     def objects(self) -> Objects:
@@ -172,17 +181,24 @@ class PartialClone:
             guess.over.wait()
             if guess.came:
                 return True
+        began = time.monotonic()
         if leads:
-            time.sleep(GATHERING)
-            with self.lock:
-                asked, self.gathered = self.gathered, []
-            self.bring_all(asked)
+            self.bring_all(self.gather())
         want.over.wait()
         if not want.came and not want.is_nowhere:
             raise Unreachable
-        # Its folder may have been found meanwhile.
-        self.folder_of(object_id)
+        # Its folder may have been found meanwhile, or will be soon: then others of it needn't be asked for alone.
+        self.folder_of(object_id, max(READING, min(time.monotonic() - began, LONGEST_READING)))
         return want.came
+
+    def gather(self) -> list[str]:
+        """What is asked for within some milliseconds, and while something is brought already."""
+        time.sleep(GATHERING)
+        with self.lock:
+            self.all_brought.wait_for(lambda: self.bringing == 0, LONGEST_GATHERING)
+            self.bringing += 1
+            asked, self.gathered = self.gathered, []
+        return asked
 
     def bring_all(self, ids: list[str]) -> None:
         """Asks each remote in turn for what isn't there, and tells those who wait."""
@@ -200,6 +216,8 @@ class PartialClone:
             with self.lock:
                 for object_id in ids:
                     self.wants.pop(object_id).end(object_id not in lacking, object_id in nowhere)
+                self.bringing -= 1
+                self.all_brought.notify_all()
 
     def ask_for(self, remote: Remote, ids: list[str], failed: set[str]) -> list[str]:
         """Asks a remote, and gives what didn't come. Of that `failed` has what the remote doesn't say that it lacks.
@@ -251,7 +269,7 @@ class PartialClone:
             with self.lock:
                 folder = self.folders.learn(folder)
                 folder.look_into()
-                self.guess(folder, folder.trees, TREE_BYTES)
+                self.guess(folder, folder.trees, True, TREE_BYTES)
                 self.guess_behind(folder, True)
 
     def served_blob(self, blob: str, length: int) -> None:
@@ -270,7 +288,7 @@ class PartialClone:
         if folder := self.folder_of(object_id):
             with self.lock:
                 if self.guess_behind(folder, False) or folder.in_a_row > 1:
-                    chosen = self.guess(folder, folder.others(object_id), folder.usual_bytes())
+                    chosen = self.guess(folder, folder.others(object_id), False, folder.usual_bytes())
                     folder.guessed(object_id, chosen)
 
     def guess_behind(self, folder: Folder, are_trees: bool) -> bool:
@@ -317,42 +335,64 @@ class PartialClone:
         objects.end()
         with self.lock:
             above.next_folder[are_trees] = again
-            self.guess(above, ids, usual_bytes)
+            self.guess(above, ids, are_trees, usual_bytes)
 
-    def folder_of(self, object_id: str) -> Folder | None:
-        """The folder of a blob that is asked for. Where that is found only now it counts as asked for now."""
+    def folder_of(self, object_id: str, seconds: float = 0.0) -> Folder | None:
+        """The folder of a blob that is asked for. Where that is found only now it counts as asked for now.
+
+        So long it waits, where trees are read in which it may be found.
+        """
         with self.lock:
             folder = self.folders.of(object_id)
             is_tree = object_id == self.root or self.folders.knows_tree(object_id)
-        if folder is None and not is_tree and (folder := self.look_up(object_id)):
+        if folder is None and not is_tree and (folder := self.look_up(object_id, seconds)):
             with self.lock:
                 folder = self.folders.learn(folder)
                 folder.ask(object_id)
         return folder
 
-    def look_up(self, object_id: str) -> Folder | None:
-        """The folder of a blob in the trees that are there; those that weren't read yet are from now on.
+    def look_up(self, object_id: str, seconds: float) -> Folder | None:
+        """The folder of a blob in the trees that are there, for which it waits so long; those that weren't read yet are
+        from now on.
 
         So it is with a file of a folder that an overlay has, or whose tree was read by somebody else: nobody asks here
         for that tree.
         """
         with self.lock:
-            unread, self.unread = self.unread, []
-        if unread:
-            self.start(self.read_trees, unread)
+            self.all_read.wait_for(self.is_all_read, seconds)
         return self.trees.folder_of(object_id)
 
+    def is_all_read(self) -> bool:
+        """Under the lock: whether no tree comes or is read any more. Those that came are read from now on."""
+        if self.unread:
+            with contextlib.suppress(RuntimeError):
+                self.start(self.read_trees, self.unread)
+                self.unread, self.reading = [], self.reading + 1
+        return self.reading == 0
+
     def read_trees(self, tops: list[str]) -> None:
-        objects = self.objects()
-        with contextlib.suppress(Refusal, OSError):
-            self.trees.read(tops, objects)
-        objects.end()
+        try:
+            objects = self.objects()
+            try:
+                self.trees.read(tops, objects)
+            finally:
+                objects.end()
+        except (Refusal, OSError) as problem:
+            self.log(f"trees can't be read: {problem}")
+        finally:
+            with self.lock:
+                self.end_reading()
+
+    def end_reading(self) -> None:
+        """Under the lock: trees were read, or came."""
+        self.reading -= 1
+        self.all_read.notify_all()
 
     def most_guessed(self, usual_bytes: int) -> int:
         """How many objects a guess has at most: half as many as would fill the bound, since others may be larger."""
         return min(self.ahead // (2 * usual_bytes), MOST_GUESSED)
 
-    def guess(self, folder: Folder, ids: Iterable[str], usual_bytes: int) -> list[str]:
+    def guess(self, folder: Folder, ids: Iterable[str], are_trees: bool, usual_bytes: int) -> list[str]:
         """Under the lock: a guess of these is under way from now on, and whoever asks for one of them waits for it."""
         if self.guessing >= MOST_GUESSES or time.monotonic() < folder.rests_until:
             return []
@@ -362,39 +402,42 @@ class PartialClone:
         if guess:
             # Its thread waits for the lock before it ends what is waited for. Without one nothing is guessed.
             with contextlib.suppress(RuntimeError):
-                self.start(self.bring_guess, folder, guess)
+                self.start(self.bring_guess, folder, guess, are_trees)
                 self.guesses.update(guess)
                 self.guessing += 1
+                self.reading += are_trees
                 return chosen
         return []
 
-    def bring_guess(self, folder: Folder, guess: dict[str, Want]) -> None:
+    def bring_guess(self, folder: Folder, guess: dict[str, Want], are_trees: bool) -> None:
+        came, lacking = False, list[str]()
         try:
             lacking = self.plain.absent(list(guess))
-            self.end_guess(guess, guess.keys() - lacking, True)
+            with self.lock:
+                self.end_guess(guess, guess.keys() - lacking, True)
             if lacking:
                 bounds = Bounds(self.silence, LONGEST_GUESS, self.ahead)
                 if self.question(self.remotes[0], lacking, bounds, " ahead") < SHORT_GUESS:
                     self.ahead = min(2 * self.ahead, self.most_ahead)
-                with self.lock:
-                    self.unread += set(folder.trees).intersection(lacking)
-                self.end_guess(guess, lacking, True)
+            came = True
         except (Unanswered, OSError) as problem:
             folder.rests_until = time.monotonic() + REST
             if isinstance(problem, TooSlow):
                 self.ahead = max(self.ahead // 2, min(LEAST_AHEAD, self.most_ahead))
             self.log(f"{self.remotes[0].name} gave nothing ahead: {problem}")
         finally:
-            self.end_guess(guess, list(guess), False)
             with self.lock:
                 self.guessing -= 1
+                if are_trees:
+                    self.unread += lacking if came else []
+                    self.end_reading()
+                self.end_guess(guess, list(guess), came)
 
     def end_guess(self, guess: dict[str, Want], ids: Iterable[str], came: bool) -> None:
-        """These objects of a guess are waited for no longer, and are there if they came."""
-        with self.lock:
-            for object_id in ids:
-                del self.guesses[object_id]
-                guess.pop(object_id).end(came)
+        """Under the lock: these objects of a guess are waited for no longer, and are there if they came."""
+        for object_id in ids:
+            del self.guesses[object_id]
+            guess.pop(object_id).end(came)
 
     # ---- threads
 
