@@ -1,7 +1,9 @@
-"""Changes that are told of an overlay, and what Git says of the same two trees."""
+"""Changes that are told of an overlay, what Git says of the same two trees, and what it has in a tree."""
 
+import functools
+import hashlib
 import pathlib
-from collections.abc import Iterable
+from collections.abc import Iterable, Mapping
 
 from checks import finished, git
 from overlays import Place
@@ -12,12 +14,31 @@ from yakembi.overlay_files import DIRECTORY, FOLDER, OWN, entries_of
 # Each path that isn't a directory: its mode and its object's id.
 Rows = dict[bytes, tuple[bytes, str]]
 Letters = dict[bytes, str]
+# The files of an overlay, by their numbers.
+Files = dict[int, bytes]
 PLAIN = {b"100644", b"100755"}
+LINK, SUBMODULE = b"120000", b"160000"
+# The entries of a directory's file; most files are the same after the next requests.
+entries_in = functools.lru_cache(maxsize=4_096)(entries_of)
+
+
+def blob_id(content: bytes) -> str:
+    return hashlib.sha1(b"blob %d\0" % len(content) + content).hexdigest()
+
+
+def rows_in(repository: pathlib.Path, tree: str) -> Rows:
+    """What Git lists in a tree and below."""
+    rows = {}
+    for row in git(repository, "ls-tree", "-rz", tree, text=False).split(b"\0")[:-1]:
+        head, path = row.split(b"\t", 1)
+        mode, _, object_id = head.split()
+        rows[path] = (mode, object_id.decode())
+    return rows
 
 
 def told(place: Place) -> tuple[int | str, list[bytes], bytes]:
     """How `mountd changes` ended, its lines, and what it said on standard error."""
-    words = [MOUNTD, "changes", "--root", place.root, "--overlay", place.overlay, "--objects", place.objects]
+    words = [MOUNTD, "changes", "--root", place.root, "--overlay", place.overlay, place.option, place.objects]
     done = finished(words, capture_output=True)
     return done.returncode, done.stdout.splitlines(), done.stderr
 
@@ -63,17 +84,15 @@ def letters_in(repository: pathlib.Path, old: str, new: str) -> Letters:
     return {path: letter.decode() for letter, path in zip(fields[::2], fields[1::2])}
 
 
-def entered(repository: pathlib.Path, root: str, files: dict[int, bytes]) -> set[str]:
-    """The commit's trees at the paths of the overlay's own directories."""
-    output = git(repository, "ls-tree", "-rtz", "--full-tree", root, text=False)
-    rows = [row.split(b"\t", 1) for row in output.split(b"\0")[:-1]]
-    trees = {path + b"/": head.split()[2].decode() for head, path in rows if head.split()[1] == b"tree"} | {b"": root}
+def entered(trees: Mapping[bytes, str], files: Files) -> set[str]:
+    """Those of a commit's trees, by their paths with a slash at the end, that stand at the paths of the overlay's own
+    directories."""
     found = set()
     folders = [(b"", 1)] if files.get(1, b"").startswith(DIRECTORY) else []
     while folders:
         front, number = folders.pop()
         if front in trees:
             found.add(trees[front])
-        inside = [entry for entry in entries_of(files[number]) if (entry.kind, entry.origin) == (FOLDER, OWN)]
+        inside = [entry for entry in entries_in(files[number]) if (entry.kind, entry.origin) == (FOLDER, OWN)]
         folders += [(front + entry.name + b"/", entry.number) for entry in inside]
     return found

@@ -7,7 +7,7 @@ use eden_snapshot::{LeftOut, MemorySink, NoSubmodules, SnapshotFault, Submodules
 use std::alloc::Global;
 use std::process::Abort;
 
-type InMemory = Overlay<Outside, MemoryFiles<Outside>>;
+pub(crate) type InMemory = Overlay<Outside, MemoryFiles<Outside>>;
 
 // The tree of the commit that the overlay stands on.
 const COMMIT: &str = "67bd02dc8f2ccc1fdf90bc8c0d4ee5a8fb1a1d51";
@@ -15,9 +15,9 @@ const COMMIT: &str = "67bd02dc8f2ccc1fdf90bc8c0d4ee5a8fb1a1d51";
 const EMPTY_TREE: &str = "4b825dc642cb6eb9a060e54bf8d69288fbee4904";
 
 // The headers of version 1, which tells no digest.
-const CONTENT: &[u8] = b"OVFL\0\0\0\x01";
+pub(crate) const CONTENT: &[u8] = b"OVFL\0\0\0\x01";
 
-const DIRECTORY: &[u8] = b"OVDR\0\0\0\x01";
+pub(crate) const DIRECTORY: &[u8] = b"OVDR\0\0\0\x01";
 
 // The object of the file `kept`, whose content is a line.
 const KEPT: &[u8] =
@@ -88,7 +88,7 @@ impl Submodules<Outside> for NoTrees {
 }
 
 // The file of that number, of a header and these parts behind it.
-fn put(
+pub(crate) fn put(
     rt: &(impl AllocGlobal + Abort),
     files: &mut MemoryFiles<Outside>,
     number: u64,
@@ -129,7 +129,7 @@ fn changed(rt: &(impl AllocGlobal + Abort)) -> MemoryFiles<Outside> {
     files
 }
 
-fn named(rt: &(impl AllocGlobal + Abort), text: &str) -> Id {
+pub(crate) fn named(rt: &(impl AllocGlobal + Abort), text: &str) -> Id {
     let id = parse_id(text);
     assert!(rt; id.is_some(), "{}", text);
     id.unwrap_or(Id { bytes: [0; 20] })
