@@ -10,6 +10,7 @@ import random
 import socket
 import struct
 import subprocess
+import time
 from collections.abc import Sequence
 from typing import Any, Self
 
@@ -18,7 +19,8 @@ from message_model import (ANSWER, FORGOTTEN, HEADER, HIDDEN, LAYOUTS, ROOT, SHA
                            framed, hidden_name, read_message, spelled, wants_answer)
 from overlays import CLOSED, Commit, Place, check_closed, make_commit
 from programs import MOUNTD, SAMPLE_OBJECTS, SAMPLE_ROOT
-from yakembi.tree_model import LONGEST_DATA, LONGEST_FILE, Numbers, Refused, Unknown, WholeTree
+from yakembi.overlay_files import Shown
+from yakembi.tree_model import LONGEST_DATA, LONGEST_FILE, Nodes, Numbers, Path, Refused, Unknown, WholeTree
 
 OWNER = os.getuid(), os.getgid()
 # Where random files may end, so that none takes a second to store, and where they may not.
@@ -213,8 +215,8 @@ NAMES = [b"a", b"b", b"c", b"d", b"e", b"file", b"dir", b"link", b"lost", b"larg
          b"new\nline"]
 BAD = [b"", b".", b"..", b"a/b", b"m" * 256, HIDDEN, hidden_name(7)]
 MOST_NODES = 60
-LOOKING = ["lookup", "lookup", "lookup", "getattr", "readlink", "read", "read", "readdir", "readdir", "statfs", "open", "open",
-           "opendir", "access", "readdirplus", "link"]
+LOOKING = ["lookup", "lookup", "lookup", "getattr", "readlink", "read", "read", "readdir", "readdir", "statfs", "open",
+           "open", "opendir", "access", "readdirplus", "link"]
 CHANGING = ["setattr", "setattr", "write", "write", "write", "mknod", "mkdir", "symlink", "create", "create"]
 REMOVING = ["unlink", "rmdir", "rename", "rename", "rename", "rename2"]
 CLOSING = ["forget", "batch_forget", "release", "release", "releasedir", "flush", "fsync", "fsyncdir", "interrupt"]
@@ -518,15 +520,23 @@ def make_place(folder: pathlib.Path) -> tuple[Place, Commit, FolderModel]:
     commit, objects = make_commit(folder, FILES)
     lost = git(folder / "repository", "rev-parse", "HEAD:lost")
     (objects / lost[:2] / lost[2:]).unlink()
-    nodes = {path: (*node[:-1], None) if node[-1] == LOST_BYTES else node for path, node in commit.nodes.items()}
-    return Place(commit.root, objects, folder / "overlay"), commit, FolderModel(WholeTree(nodes), OWNER)
+    model = FolderModel(WholeTree(lost_again(commit.nodes)), OWNER)
+    return Place(commit.root, objects, folder / "overlay"), commit, model
+
+
+def found(nodes: Nodes) -> Nodes:
+    """The same where what is lost is the commit's."""
+    return {path: (*node[:-1], LOST_BYTES) if node[-1] is None else node for path, node in nodes.items()}
+
+
+def lost_again(nodes: Nodes) -> Nodes:
+    return {path: (*node[:-1], None) if node[-1] == LOST_BYTES else node for path, node in nodes.items()}
 
 
 def check_end(name: str, kernel: Kernel, place: Place, commit: Commit, tree: WholeTree, kills: int = 0) -> None:
-    """It ends well, and the files of the overlay show the tree, in which what is lost is the commit's."""
+    """It ends well, and the files of the overlay show the tree."""
     check(f"{name}: the end", kernel.end(), CLOSED)
-    whole = {path: (*node[:-1], LOST_BYTES) if node[-1] is None else node for path, node in tree.nodes.items()}
-    check_closed(name, place, commit, WholeTree(whole), kills)
+    check_closed(name, place, commit, WholeTree(found(tree.nodes)), kills)
 
 
 def check_random_messages(folder: pathlib.Path, seed: int, count: int) -> None:
@@ -563,6 +573,80 @@ def tried(judged: Judged, messages: RandomMessages, count: int, is_killed: bool)
     except (Differs, Ended, OSError) as problem:
         return f"message {number}: {problem}"
     return None
+
+
+# ---- kills
+
+
+class Recorded(WholeTree):
+    """Keeps what it shows after each request that changes it."""
+
+    def __init__(self, nodes: Nodes) -> None:
+        super().__init__(nodes)
+        self.past: list[Nodes] = []
+
+    def kept(self, reply: bytes) -> bytes:
+        self.past.append(dict(self.nodes))
+        return reply
+
+    def write(self, *fields: Any) -> bytes:
+        return self.kept(super().write(*fields))
+
+    def truncate(self, *fields: Any) -> bytes:
+        return self.kept(super().truncate(*fields))
+
+    def setexec(self, *fields: Any) -> bytes:
+        return self.kept(super().setexec(*fields))
+
+    def make(self, *fields: Any) -> bytes:
+        return self.kept(super().make(*fields))
+
+    def take_away(self, *fields: Any) -> bytes:
+        return self.kept(super().take_away(*fields))
+
+    def rename(self, source: Path, target: Path) -> bytes:
+        """From one directory to another it may stand in neither, between the two stores."""
+        without = {path: node for path, node in self.nodes.items() if path[: len(source)] != source}
+        reply = super().rename(source, target)
+        if source[:-1] != target[:-1]:
+            self.past.append(without)
+        return self.kept(reply)
+
+
+def check_kills(folder: pathlib.Path, seed: int, count: int) -> None:
+    """It is killed while it answers one of random messages. What was answered is there; of a message that wasn't, none
+    of its changes is, or the first ones are."""
+    place, commit, model = make_place(folder)
+    model.tree = tree = Recorded(model.tree.nodes)
+    generator = random.Random(seed)
+    messages = RandomMessages(generator, model)
+    for number in range(count):
+        name = f"kill {number} of seed {seed}"
+        with showing(place) as kernel:
+            model.start()
+            check(name, tried(Judged(kernel, model), messages, generator.randrange(40), False), None)
+            message = messages.next()
+            tree.past = []
+            before = dict(tree.nodes)
+            told = killed_at(kernel, message, 10 ** generator.uniform(-5, -2.5))
+            model.answer(message, told)
+        check(f"{name}: a rescan", place.run([b"kind /"], "--rescan"), (*CLOSED[:1], b"kind dir\n", b""))
+        shown = Shown(commit, place.files()).nodes
+        may_be = [dict(tree.nodes)] if told else [before, *tree.past]
+        check(f"{name}: {read_message(message)!r:.200}, answered {told[:16]!r}", shown in map(found, may_be), True)
+        tree.nodes, tree.numbers = lost_again(shown), Numbers()
+
+
+def killed_at(kernel: Kernel, message: bytes, seconds: float) -> bytes:
+    """The answer, if it came before mountd was killed, so many seconds after the message was sent."""
+    kernel.send(message)
+    time.sleep(seconds)
+    kernel.process.kill()
+    kernel.process.wait()
+    try:
+        return kernel.ours.recv(1 << 20)
+    except ConnectionError:
+        return b""
 
 
 # ---- faults
