@@ -35,12 +35,14 @@ def wrong_by_tar(at: pathlib.Path, done: list[str], made: pathlib.Path) -> list[
 
 def wrong_by_make(at: pathlib.Path, done: list[str], made: pathlib.Path) -> list[str]:
     """What was compiled is what was compiled elsewhere; and it goes on from there."""
+    if not done:
+        return []
     wrong = [name for name in done if differ(at / name, made / "sources" / name)]
     for path in [*at.glob("*.o"), at / "sum"]:
         if path.name not in done:
             path.unlink(missing_ok=True)
     status, output, errors = told("make -s > /dev/null && ./sum", at, environment())
-    return wrong + ([] if (status, output) == (0, b"%d\n" % sum(range(SOURCES))) or not done else [f"{status}: {errors!r}"])
+    return wrong + ([] if (status, output) == (0, b"%d\n" % sum(range(SOURCES))) else [f"{status}: {errors!r}"])
 
 
 def wrong_by_git(at: pathlib.Path, done: list[str], made: pathlib.Path) -> list[str]:
