@@ -38,7 +38,7 @@ const PATHS: &[(usize, &str)] = &[
 const ID: Id = Id { bytes: [0x2a; 20] };
 
 /// The first number that is given.
-const FIRST: u64 = 2;
+pub const FIRST: u64 = 2;
 
 const READ: Part = Part {
     before: "  entries read: ",

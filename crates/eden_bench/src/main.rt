@@ -30,8 +30,8 @@ use std::rt::Env;
 use std::{env, io};
 
 const USAGE: &str =
-    "usage: eden_bench attempts|cache|changes|directory|inodes|large|lines|overlay|tree|unloads|waits COUNT [timed], \
-     or eden_bench attempts|changes|large|unloads COUNT timed FOLDER, or eden_bench oracle";
+    "usage: eden_bench attempts|cache|changes|directory|inodes|large|lines|overlay|stores|tree|unloads|waits COUNT \
+     [timed], or eden_bench attempts|changes|large|stores|unloads COUNT timed FOLDER, or eden_bench oracle";
 
 /// Runs a workload over the files that are kept there. None where the name is of no such workload.
 fn run_over<F: Files<Outside>, K: Keeps<F>>(
@@ -44,6 +44,7 @@ fn run_over<F: Files<Outside>, K: Keeps<F>>(
         "attempts" => Some(attempts::run(bench, keeps, count)),
         "changes" => Some(changes::run(bench, keeps, count)),
         "large" => Some(large::run(bench, keeps, count)),
+        "stores" => Some(unloads::run_stores(bench, keeps, count)),
         "unloads" => Some(unloads::run(bench, keeps, count)),
         _ => None,
     }

@@ -1,10 +1,10 @@
-// Directories of the commit that were looked into and go, each with the numbers of its entries saved in a file; and
-// beside it as many stores of files of that size.
+// Directories of the commit that were looked into and go, each with the numbers of its entries saved in a file; and, to
+// be run over other files, as many stores of files of that size.
 ghost use Rattle.std.specs.Prelude.{IfOk};
 ghost use Rattle.eden_object.specs.Trees.{NamesDiffer};
 
 use crate::bench::{Bench, Part};
-use crate::inodes::{Table, entries_of, load, tables};
+use crate::inodes::{FIRST, Table, entries_of, load, tables};
 use crate::keeps::Keeps;
 use crate::name::names;
 use crate::tree::{Order, tree_body};
@@ -22,9 +22,6 @@ const SIZE: usize = HEADER + 20 + 4 + 8 * (31 + 14);
 
 /// The bytes of a stored file's header, which has the digest of what is behind it.
 const HEADER: usize = 64;
-
-/// The first number of the files that are stored beside: above every number that is given.
-const BESIDE: u64 = 1 << 32;
 
 const LOADED: Part = Part {
     before: "  directories loaded: ",
@@ -103,7 +100,8 @@ fn measure<F: Files<Outside>>(
     bench.tell(parts.1, gone, start, count)
 }
 
-/// Stores that content as so many files, and answers how many were stored.
+/// Stores that content as so many files, and answers how many were stored. Their numbers are those that the directories
+/// have.
 fn store_all<F: Files<Outside>>(
     alloc: Global,
     overlay: &mut Overlay<Outside, F>,
@@ -113,7 +111,7 @@ fn store_all<F: Files<Outside>>(
     let mut stored = 0u32;
     for place in 0..count {
         if overlay
-            .put_file(alloc, BESIDE + u64::from(place), content)
+            .put_file(alloc, FIRST + u64::from(place), content)
             .is_ok()
         {
             stored = stored.saturating_add(1);
@@ -152,12 +150,22 @@ fn measure_table<F: Files<Outside>>(
     )
 }
 
-/// A root with so many directories over the files that are kept there, and beside it as many files.
+/// A root with so many directories over the files that are kept there.
 pub fn run<F: Files<Outside>, K: Keeps<F>>(bench: Bench, keeps: &K, count: u32) -> io::Result<()> {
     println!(bench.rt; "{count} directories of {FILES} files, each stored in {SIZE} bytes")?;
     let mut tables = tables(bench.alloc(), keeps, 1)?;
-    if let Some(table) = tables.first_mut() {
-        measure_table(bench, table, count)?;
+    match tables.first_mut() {
+        None => Ok(()),
+        Some(table) => measure_table(bench, table, count),
     }
+}
+
+/// So many files of the size of such a directory's, over the files that are kept there.
+pub fn run_stores<F: Files<Outside>, K: Keeps<F>>(
+    bench: Bench,
+    keeps: &K,
+    count: u32,
+) -> io::Result<()> {
+    println!(bench.rt; "{count} files of {SIZE} bytes")?;
     measure_stores(bench, keeps.files(bench.alloc())?, count)
 }
