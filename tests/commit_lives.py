@@ -3,6 +3,7 @@
 import io
 import pathlib
 import random
+import re
 import shutil
 import subprocess
 
@@ -23,6 +24,8 @@ from yakembi.tree_model import Path, WholeTree
 REQUESTS_IN_A_LIFE = 250
 # A tree grows by so many nodes at least, before requests only take away and move.
 MORE_NODES = 60
+# What Git says of a `.gitmodules` or `.gitattributes` that is no file, or has other lines: random requests make such.
+RULES = re.compile(rb"(?:error|warning) in (?:tree|blob) [0-9a-f]{40}: git(?:modules|attributes|ignore)[A-Z]")
 
 
 def snapshot(place: Place, into: pathlib.Path) -> tuple[int | str, bytes, bytes]:
@@ -200,4 +203,7 @@ class Lives:
         """Git finds nothing wrong with any object, and none missing below what was taken."""
         words = ["git", "-C", str(self.served.repository), "fsck", "--full", "--strict", "--no-dangling", *self.trees]
         found = subprocess.run(words, capture_output=True, env=environment())
-        check(f"{name}: git fsck", (found.returncode, found.stdout), (0, b""))
+        lines = found.stderr.splitlines()
+        is_refused = any(line.startswith(b"error in ") for line in lines)
+        others = [line for line in lines if not RULES.match(line)]
+        check(f"{name}: git fsck", (found.returncode, found.stdout, others), (int(is_refused), b"", []))
