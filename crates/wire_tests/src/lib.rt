@@ -5,4 +5,6 @@
 #[cfg(test)]
 mod command_lines;
 #[cfg(test)]
+mod replies;
+#[cfg(test)]
 mod sessions;
