@@ -10,7 +10,8 @@ use Rattle.eden_wire.specs.Names.{is_plain, name_text, component_text, path_text
 use Rattle.eden_wire.specs.Fields.{Field, sort_of, bit_text, hex_text, after_text, field_text, fields_text, IsAfter, IsField, AreFields, field_refusal, after_refusal, first_refusal}
 use Rattle.eden_wire.specs.Fields.Field.{of_path, of_number, of_bit, of_data, of_after}
 use Rattle.eden_wire.specs.Splits.{Lacks, IsCutAt, IsPart, BeginsWith}
-use Rattle.eden_wire.specs.Scans.{ScansName, ScansPath, ScansAfter, SpellsNoName, SpellsNoAfter, SpellsPath, SpellsAfter, SpellsData, SpellsNo, Scans, SpellNoFields, ScansFields, NextIs, LastIs, Takes}
+use Rattle.eden_wire.specs.Scans.{ScansName, ScansPath, ScansAfter, SpellsNoName, SpellsNoAfter, SpellsPath, SpellsAfter, SpellsData, SpellsNo, Scans, SpellNoFields, ScansFields, NextIs, Takes}
+use Rattle.eden_wire.specs.Scans.{LastIs}
 use Rattle.eden_wire.specs.declared.word.Sort.{Sort}
 use Rattle.eden_wire.specs.declared.word.Sort.TheVariants as sort
 use Rattle.eden_wire.proofs.NumberLemmas.{digit_range, spelled_value}

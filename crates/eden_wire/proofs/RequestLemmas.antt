@@ -1,5 +1,6 @@
 -- Lemmas on lines: a line is one item.
-use Rattle.std.proofs.Common.{◌==◌, ◌||◌, ◌≡◌, ◌≢◌, ℕ, List, [], ◌∷◌, ◌++◌, length, arith, Bool, true, false, Option, Some, None, sym, ap, ◌∙◌, subst, refl, take, drop, take-append-drop, Result, Ok, Err, OnErr}
+use Rattle.std.proofs.Common.{◌==◌, ◌||◌, ◌≡◌, ◌≢◌, ℕ, List, [], ◌∷◌, ◌++◌, Bool, true, false, Option, Some, None, sym, ap, ◌∙◌, subst, refl, take, drop, take-append-drop, Result, Ok, Err, OnErr}
+use Rattle.std.proofs.Common.{length, arith}
 use Rattle.std.proofs.lemmas.Bool.{false≢true}
 use Rattle.std.specs.List.{find, list_any}
 use Rattle.std.specs.Str.{bytes_eq}

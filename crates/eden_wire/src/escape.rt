@@ -2,8 +2,8 @@ ghost use Rattle.std.specs.Prelude.{◌≡◌, ◌≤◌, ◌<◌, ◌++◌, Lis
 ghost use Rattle.std.specs.List.{list_all};
 ghost use Rattle.eden_wire.specs.Names.{is_plain, upper_digit, byte_text};
 
-/// 1 for each byte that stands for itself in a name: a letter, a digit, `.` or `_`. A row has 32 bytes. One look-up takes
-/// less than the comparisons with the ends of five ranges.
+/// 1 for each byte that stands for itself in a name: a letter, a digit, `.` or `_`. A row has 32 bytes. One look-up
+/// takes less than the comparisons with the ends of five ranges.
 static PLAIN: [u8; 256] = [
     0, 0, 0, 0, 0, 0, 0, 0, 0, 0, 0, 0, 0, 0, 0, 0, 0, 0, 0, 0, 0, 0, 0, 0, 0, 0, 0, 0, 0, 0, 0, 0,
     0, 0, 0, 0, 0, 0, 0, 0, 0, 0, 0, 0, 0, 0, 1, 0, 1, 1, 1, 1, 1, 1, 1, 1, 1, 1, 0, 0, 0, 0, 0, 0,

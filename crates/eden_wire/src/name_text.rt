@@ -78,15 +78,10 @@ pub(crate) fn scan_component(text: &[u8], plain: bool) -> Option<ScannedName>
     Some(ScannedName { len, refusal })
 }
 
-// The bytes that the text spells, of which it may be known that all stand for themselves. The only error is want of
-// memory.
-fn spelled(alloc: Global, text: &[u8], plain: bool) -> Result<Vec<u8>, AllocError>
-    requires { IsTrue plain → list_all is_plain text.now ≡ true }
+// The bytes that the text spells. The only error is want of memory.
+fn spelled(alloc: Global, text: &[u8]) -> Result<Vec<u8>, AllocError>
     ensures { IfOk result (λ v. (name : List ℕ) → AreBytes name → text.now ≡ name_text name → v.items ≡ name) }
 {
-    if plain {
-        return Vec::from_slice(alloc, text);
-    }
     let mut bytes = Vec::new(alloc);
     percent_decode(text).append_to(&mut bytes)?;
     Ok(bytes)
@@ -99,7 +94,10 @@ pub(crate) fn read_component(alloc: Global, text: &[u8], plain: bool) -> Result<
     requires plain { IsTrue plain → list_all is_plain text.now ≡ true }
     ensures { IfOk result (λ n. IsComponent n × (text.now ≡ name_text n)) }
 {
-    Ok(Name::new(spelled(alloc, text, plain)?).unwrap())
+    if plain {
+        return Name::from_judged(alloc, text);
+    }
+    Ok(Name::new(spelled(alloc, text)?).unwrap())
 }
 
 /// The name that the text spells. The only error is want of memory.

@@ -10,8 +10,8 @@ use crate::split::part_len;
 use eden_model::{Errno, Path};
 use std::alloc::{AllocError, Global};
 
-// How many bytes stand before the first slash, or in all, and whether all of these stand for themselves. A slash doesn't
-// stand for itself, so that most components are looked through once.
+// How many bytes stand before the first slash, or in all, and whether all of these stand for themselves. A slash
+// doesn't stand for itself, so that most components are looked through once.
 fn component_len(bytes: &[u8]) -> (usize, bool)
     ensures part { IsFirstPart bytes.now 47 result.0 }
     ensures plain { IsTrue result.1 → list_all is_plain (take result.0 bytes.now) ≡ true }
@@ -91,5 +91,5 @@ pub(crate) fn read_path(alloc: Global, text: &[u8]) -> Result<Path, AllocError>
         names.push(read_component(alloc, part, plain)?)?;
         rest = more;
     }
-    Ok(Path::new(names).unwrap())
+    Ok(Path::from_judged(names))
 }
