@@ -10,6 +10,9 @@ use crate::split::part_len;
 use eden_model::{Errno, Path};
 use std::alloc::{AllocError, Global};
 
+// Most paths have no more names: room for so many is made at once.
+const FEW: usize = 4;
+
 // How many bytes stand before the first slash, or in all, and whether all of these stand for themselves. A slash
 // doesn't stand for itself, so that most components are looked through once.
 fn component_len(bytes: &[u8]) -> (usize, bool)
@@ -81,10 +84,10 @@ pub(crate) fn read_path(alloc: Global, text: &[u8]) -> Result<Path, AllocError>
     requires { SpellsPath text.now }
     ensures { IfOk result (λ p. AllByRecursion IsComponent p × (text.now ≡ path_text p)) }
 {
-    let mut names = Vec::new(alloc);
     if text == b"/".as_slice() {
-        return Ok(Path::new(names).unwrap());
+        return Ok(Path::new(Vec::new(alloc)).unwrap());
     }
+    let mut names = Vec::with_capacity(alloc, FEW)?;
     let mut rest = text;
     'parts: while !rest.is_empty() {
         let (part, more, plain) = next_component(rest);
