@@ -1,5 +1,6 @@
 -- Lemmas on lines: a line is one item.
 use Rattle.std.proofs.Common.{◌==◌, ◌||◌, ◌≡◌, ◌≢◌, ℕ, List, [], ◌∷◌, ◌++◌, Bool, true, false, Option, Some, None, sym, ap, ◌∙◌, subst, refl, take, drop, take-append-drop, Result, Ok, Err, OnErr}
+use Rattle.std.proofs.Common.{length, arith}
 use Rattle.std.proofs.lemmas.Bool.{false≢true}
 use Rattle.std.specs.List.{find, list_any}
 use Rattle.std.specs.Str.{bytes_eq}
@@ -11,7 +12,7 @@ use Rattle.eden_wire.specs.Fields.{Field, sort_of, field_text, fields_text, AreF
 use Rattle.eden_wire.specs.Fields.Field.{of_path, of_number, of_bit, of_data, of_after}
 use Rattle.eden_wire.specs.Requests.{word_of, fields_of, request_line, IsSpelled, request_refusal}
 use Rattle.eden_wire.specs.Splits.{Lacks, IsCutAt, IsFirstPart}
-use Rattle.eden_wire.specs.Scans.{SpellNoFields, ScansFields, SpellsFields, NextIs, Takes}
+use Rattle.eden_wire.specs.Scans.{SpellNoFields, ScansFields, SpellsFields, NextIs, LastIs, Takes}
 use Rattle.eden_wire.specs.Lines.{Reads, AsksSome, OneItem}
 use Rattle.eden_wire.specs.declared.request.Item.TheVariants.{Asks, Refuses, Bad}
 use Rattle.eden_wire.specs.declared.word.Sort.{Sort}
@@ -220,6 +221,22 @@ starts word.Symlink text scan = (_, scan)
 starts word.Unlink text scan = (_, scan)
 starts word.Rmdir text scan = (_, scan)
 starts word.Rename text scan = (_, scan)
+
+pub alone : (w : Word) (text : List ℕ) → length (shape_of w) ≡ 1 → ScansFields (shape_of w) text None → LastIs sort.Path text
+alone word.Kind text one scan = scan
+alone word.Stat text one scan = scan
+alone word.Read text one scan = absurd (omega arith)
+alone word.ReadLink text one scan = scan
+alone word.List text one scan = absurd (omega arith)
+alone word.Write text one scan = absurd (omega arith)
+alone word.Truncate text one scan = absurd (omega arith)
+alone word.Create text one scan = scan
+alone word.SetExec text one scan = absurd (omega arith)
+alone word.Mkdir text one scan = scan
+alone word.Symlink text one scan = absurd (omega arith)
+alone word.Unlink text one scan = scan
+alone word.Rmdir text one scan = scan
+alone word.Rename text one scan = absurd (omega arith)
 
 pub next : (f : Field) (s : Sort) (sorts : List Sort) (text more : List ℕ) → ScansFields (sort_of f ∷ s ∷ sorts) text None → Takes f text more → NextIs s more
 next f s sorts text more scan took = (sorts, took.on (s ∷ sorts) scan)
