@@ -217,7 +217,14 @@ class WholeTree:
     # ---- requests that change one node
 
     def write(self, path: Path, offset: int, data: bytes) -> bytes:
-        need(len(data) <= LONGEST_DATA, "EINVAL")
+        return self.puts(LONGEST_DATA, path, offset, data)
+
+    def patch(self, path: Path, offset: int, data: bytes) -> bytes:
+        return self.puts(LONGEST_FILE, path, offset, data)
+
+    def puts(self, most: int, path: Path, offset: int, data: bytes) -> bytes:
+        """At most so many bytes, put into a file."""
+        need(len(data) <= most, "EINVAL")
         _, executable, old = self.file_at(path)
         if not data:
             return b"count 0"

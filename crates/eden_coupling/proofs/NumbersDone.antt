@@ -20,8 +20,7 @@ use Rattle.eden_overlay_format.specs.declared.stored_entry.StoredEntry.{StoredEn
 use Rattle.eden_overlay_format.specs.State.{state_body}
 use Rattle.eden_overlay_format.specs.Stored.{written}
 use Rattle.eden_overlay_format.specs.Values.{entries_in}
-use Rattle.eden_overlay_format.proofs.Headers.{written_found}
-use Rattle.eden_overlay_format.proofs.NumbersFound.{other_has_none}
+use Rattle.eden_overlay_format.proofs.CallerLemmas.{written_found, other_has_none}
 use Rattle.eden_overlay.specs.Files.{Stored}
 use Rattle.eden_overlay.specs.Held.{HoldsEntries, entries_at, of_tree, numbers_of, saved_at, with_content, with_entries, with_state, without}
 use Rattle.eden_overlay.proofs.CallerLemmas.{put_here, put_apart, entries_have_none}

@@ -32,8 +32,11 @@ use Rattle.eden_fuse_shown.specs.declared.sorts.Sort.TheVariants as sort
 use Rattle.eden_fuse_shown.specs.Listing.{Entry, page_of, last_at}
 use Rattle.eden_fuse_shown.specs.Naming.{is_reserved, last_name}
 use Rattle.eden_fuse_shown.specs.Opens.{opens_of, is_last}
+use Rattle.eden_fuse_shown.specs.Waiting.{Extent, extent_of, may_wait}
+use Rattle.eden_fuse_shown.specs.Waiting.{Table as Waits}
 use Rattle.eden_fuse_shown.specs.Showing.{Showing, Runs, RunsFrom, Reads, RemovesBy, Restores, MovesOver, ReplacesBy, LetsGo, LetsGoLast, ClosesFile}
-use Rattle.eden_fuse_shown.specs.Showing.{ClearsIf, ClearsRow, ClearsRows, IsAsked, Clears, Starts, Heeds, Takes, rows_in, Shows, ShowsBy, sort_of}
+use Rattle.eden_fuse_shown.specs.Showing.{storing, data_of, IsStored, SettlesWith, Unless, Once, LooksUp, WaitsIf, WritesAnew, Writes, Empties, StoresAll}
+use Rattle.eden_fuse_shown.specs.Showing.{ClearsIf, ClearsRow, ClearsRows, Clears, Starts, Heeds, Takes, rows_in, Shows, ShowsBy, sort_of}
 use Rattle.eden_fuse_shown.specs.Showing.{Serves as ServesAs}
 
 module _ {S : Type 0} (fetched : S → Id → Answer → S → Type 0) {T : Type 0} (A : Table T) (honest : Type 0) (copies : Bool) where
@@ -84,6 +87,56 @@ module _ {S : Type 0} (fetched : S → Id → Answer → S → Type 0) {T : Type
   reads_keep node a s old new t r =
       either (λ e. folder_same old new e.0) (λ g. runs_from_keep node a (last_at (page_of old.pages s.fh) s.offset) old new t g) r
 
+  -- ---- what waits is stored
+
+  stored_keeps : (shown : Folder) (node : ℕ) (e : Extent) (d h : Desk T S) (why : Option ℕ) → IsStored answers shown.nodes node e d why h → Kept d h
+  stored_keeps shown node e d h why r = either (λ s. kept_same d h s.1) (λ s. leads_keep s.3.0 (storing s.0 e) d h s.1 s.3.1) r
+
+  settled_keeps : (e : Option Extent) (node : ℕ) (old new : Folder) (why : Option ℕ) → SettlesWith answers e node old why new → Kept old.mount new.mount
+  settled_keeps None node old new why r = folder_same old new r.1
+  settled_keeps (Some e) node old new why r = stored_keeps old node e old.mount new.mount why r.stored
+
+  stores_all_keep : (shown : Folder) (ws : Waits) (d h : Desk T S) → StoresAll answers shown.nodes ws d h → Kept d h
+  stores_all_keep shown [] d h same = kept_same d h same
+  stores_all_keep shown (w ∷ ws) d h (why, u, stored, rest) = kept_on d u h (stored_keeps shown w.0 w.1 d u why stored) (stores_all_keep shown ws u h rest)
+
+  -- .. before anything else is done, which keeps it
+  module _ (Done : Folder → Told → Folder → Type 0) (keeps : (old new : Folder) (t : Told) → Done old t new → Kept old.mount new.mount) where
+    unless_keeps : (why : Option ℕ) (old new : Folder) (t : Told) → Unless answers why Done old t new → Kept old.mount new.mount
+    unless_keeps None old new t r = keeps old new t r
+    unless_keeps (Some errno) old new t (same, is) = folder_same old new same
+
+    once_keeps : (o : Option ℕ) (old new : Folder) (t : Told) → Once answers o Done old t new → Kept old.mount new.mount
+    once_keeps None old new t r = keeps old new t r
+    once_keeps (Some node) old new t (why, mid, settles, rest) =
+        kept_on old.mount mid.mount new.mount (settled_keeps (extent_of old.waits node) node old mid why settles) (unless_keeps why mid new t rest)
+
+    waits_if_keeps : (b : Bool) (node offset : ℕ) (bytes : List ℕ) (old new : Folder) (t : Told) → WaitsIf answers b node offset bytes Done old t new
+        → Kept old.mount new.mount
+    waits_if_keeps true node offset bytes old new t r = either (λ j. kept_same old.mount new.mount j.mount) (λ s. folder_same old new s.0) r
+    waits_if_keeps false node offset bytes old new t r = keeps old new t r
+
+  looks_keep : (looked : ℕ) (node : ℕ) (a : Asked) (old new : Folder) (t : Told) → Once answers (Some looked) (Runs answers node a None) old t new
+      → Kept old.mount new.mount
+  looks_keep looked node a old new t r = once_keeps (Runs answers node a None) (runs_keep node a None) (Some looked) old new t r
+
+  looks_up_keep : (node : ℕ) (a : Asked) (old new : Folder) (t : Told) → LooksUp answers node a old t new → Kept old.mount new.mount
+  looks_up_keep node a old new t (there, is, r) = once_keeps (Runs answers node a None) (runs_keep node a None) there old new t r
+
+  writes_anew_keep : (node offset : ℕ) (a : Asked) (old new : Folder) (t : Told) → WritesAnew answers node offset a old t new → Kept old.mount new.mount
+  writes_anew_keep node offset a old new t r =
+      waits_if_keeps (Runs answers node a None) (runs_keep node a None) (may_wait old.waits node offset (data_of a)) node offset (data_of a) old new t r
+
+  writes_keep : (node offset : ℕ) (a : Asked) (old new : Folder) (t : Told) → Writes answers node offset a old t new → Kept old.mount new.mount
+  writes_keep node offset a old new t r =
+      waits_if_keeps (Once answers (Some node) (WritesAnew answers node offset a))
+      (once_keeps (WritesAnew answers node offset a) (writes_anew_keep node offset a) (Some node))
+      (may_wait old.waits node offset (data_of a)) node offset (data_of a) old new t r
+
+  empties_keep : (node : ℕ) (old new : Folder) → Empties answers node old new → Kept old.mount new.mount
+  empties_keep node old new (why, mid, settles, emptied) =
+      kept_on old.mount mid.mount new.mount (settled_keeps (extent_of old.waits node) node old mid why settles) (kept_same mid.mount new.mount emptied.mount)
+
   -- ---- what is removed or replaced while it is open
 
   removes_keep : (held : Option ℕ) (node : ℕ) (a : Asked) (old new : Folder) (t : Told) → RemovesBy answers held node a old t new → Kept old.mount new.mount
@@ -112,7 +165,8 @@ module _ {S : Type 0} (fetched : S → Id → Answer → S → Type 0) {T : Type
 
   lets_last_keep : (last : Bool) (node : ℕ) (old new : Folder) → LetsGoLast answers last node old new → Kept old.mount new.mount
   lets_last_keep last node old new r =
-      either (λ s. folder_same old new s.1) (λ g. lets_go_keep _ old new g.1) r
+      either (λ s. folder_same old new s.1)
+      (λ g. kept_on old.mount g.1.0.mount new.mount (empties_keep node old g.1.0 g.1.1) (lets_go_keep _ g.1.0 new g.1.2)) r
 
   closes_keep : (node : ℕ) (old new : Folder) (t : Told) → ClosesFile answers node old t new → Kept old.mount new.mount
   closes_keep node old new t (is, closed) =
@@ -150,6 +204,9 @@ module _ {S : Type 0} (fetched : S → Id → Answer → S → Type 0) {T : Type
   serves_one_keep sort.Remove node a old new t (held, is, r) = removes_keep held node a old new t r
   serves_one_keep (sort.Replace dir) node a old new t (held, is, r) = replaces_keep held dir node a old new t r
   serves_one_keep sort.Start node a old new t r = starts_keep node a old new t r
+  serves_one_keep (sort.Write offset) node a old new t r = writes_keep node offset a old new t r
+  serves_one_keep sort.Look node a old new t r = looks_keep node node a old new t r
+  serves_one_keep sort.LookUp node a old new t r = looks_up_keep node a old new t r
   serves_one_keep (sort.One n) node a old new t r = runs_keep node a None old new t r
   serves_one_keep sort.Batch node a old new t r = runs_keep node a None old new t r
   serves_one_keep (sort.On s) node a old new t r = runs_keep node a None old new t r
@@ -171,6 +228,9 @@ module _ {S : Type 0} (fetched : S → Id → Answer → S → Type 0) {T : Type
   shows_keep sort.Start node a old new t r = takes_keep sort.Start node a old new t r
   shows_keep sort.Remove node a old new t r = takes_keep sort.Remove node a old new t r
   shows_keep (sort.Replace dir) node a old new t r = takes_keep (sort.Replace dir) node a old new t r
+  shows_keep (sort.Write offset) node a old new t r = takes_keep (sort.Write offset) node a old new t r
+  shows_keep sort.Look node a old new t r = takes_keep sort.Look node a old new t r
+  shows_keep sort.LookUp node a old new t r = takes_keep sort.LookUp node a old new t r
   shows_keep sort.Plain node a old new t r = takes_keep sort.Plain node a old new t r
 
   does_keep : (m : Message) (old new : Folder) (l k : Line) (room : ℕ) (r : Turned) → Does (Shows answers) m old new l k room r → Kept old.mount new.mount
@@ -180,7 +240,12 @@ module _ {S : Type 0} (fetched : S → Id → Answer → S → Type 0) {T : Type
   does_keep Unframed old new l k room r d = folder_same old new d.0
 
   -- from the first message to the last
-  pub serves_keep : (messages : List (List ℕ)) (s t : Serving (Showing (Desk T S))) → Serves (Shows (CallAnswers fetched A honest copies)) messages s t → Stays A s.0.mount.core t.0.mount.core
+  serves_keep : (messages : List (List ℕ)) (s t : Serving (Showing (Desk T S))) → Serves (Shows (CallAnswers fetched A honest copies)) messages s t → Stays A s.0.mount.core t.0.mount.core
   serves_keep [] s t is = folder_same s.0 t.0 (ap (λ (x : Serving Folder). x.0) (sym is))
   serves_keep (m ∷ ms) s t (u, room, r, turn, rest) =
       kept_on s.0.mount u.0.mount t.0.mount (does_keep turn.0 s.0 u.0 s.1 u.1 room r turn.2) (serves_keep ms u t rest)
+
+  -- .. and all that waited was stored
+  pub serves_and_stores_keep : (messages : List (List ℕ)) (s t : Serving (Showing (Desk T S))) (h : Desk T S) → Serves (Shows (CallAnswers fetched A honest copies)) messages s t
+      → StoresAll (CallAnswers fetched A honest copies) t.0.nodes t.0.waits t.0.mount h → Stays A s.0.mount.core h.core
+  serves_and_stores_keep messages s t h served stored = kept_on s.0.mount t.0.mount h (serves_keep messages s t served) (stores_all_keep t.0 t.0.waits t.0.mount h stored)

@@ -23,7 +23,7 @@ use Rattle.eden_fuse_session.specs.Sending.{Known}
 use Rattle.eden_fuse_session.specs.Turns.{Line}
 use Rattle.eden_fuse_session.specs.Sessions.{Session}
 use Rattle.eden_fuse_shown.specs.declared.manner.Manner.{Manner}
-use Rattle.eden_fuse_shown.specs.Showing.{Showing, Shows}
+use Rattle.eden_fuse_shown.specs.Showing.{Showing, Shows, StoresAll}
 use Rattle.eden_fuse_life.specs.declared.fault.FolderFault.{FolderFault}
 use Rattle.eden_fuse_life.specs.declared.fault.FolderFault.TheVariants as life
 use Rattle.eden_fuse_life.specs.declared.life.FolderEnding.{FolderEnding}
@@ -53,8 +53,8 @@ module _ {W F : Type 0} (w : Ghosts W) (f : Files F W) where
       pub unsent : line' ≡ line
       pub unclosed : left.unclosed ≡ None
 
-    -- The overlay was opened, the folder served, and the overlay closed, however the session ended. The files are the same
-    -- commit's. Where the outside is honest, the history is one of the opening tree with its numbers, what the files show is the
+    -- The overlay was opened, the folder served, all that waited stored, and the overlay closed, however the session ended. The
+    -- files are the same commit's. Where the outside is honest, the history is one of the opening tree with its numbers, what the files show is the
     -- tree after it, and where they were closed they back the numbers that it gave.
     pub record IsShown (base : Base) (settings : Settings) (backing : Backing F S) (m : Manner) (line line' : Line) (waiting unread : Known)
         (left : FolderEnding F S) : Type 0 where
@@ -65,10 +65,12 @@ module _ {W F : Type 0} (w : Ghosts W) (f : Files F W) where
       pub ended : Showing (Desk (Checkout F) S)
       pub said : Result ⊤ SessionFault
       pub session : Session (Shows (CallAnswers fetched (attempted w f) w.honest copies)) (begun, line) (ended, line') waiting unread said
-      pub stays : Stays (attempted w f) begun.mount.core ended.mount.core
-      pub legal : w.honest → Legal w.opening w.numbers ended.mount.core.history
-      pub ends : EndsFolder base.root ended.mount.core.table (replay w.opening ended.mount.core.history)
-          (replay_numbers w.numbers ended.mount.core.history) ended.mount.source said left
+      pub last : Desk (Checkout F) S
+      pub stored : StoresAll (CallAnswers fetched (attempted w f) w.honest copies) ended.nodes ended.waits ended.mount last
+      pub stays : Stays (attempted w f) begun.mount.core last.core
+      pub legal : w.honest → Legal w.opening w.numbers last.core.history
+      pub ends : EndsFolder base.root last.core.table (replay w.opening last.core.history) (replay_numbers w.numbers last.core.history)
+          last.source said left
 
     abbrev pub LivesFolderBy : Result ⊤ FolderFault → Base → Settings → Backing F S → Manner → Line → Line → Known → Known
         → FolderEnding F S → Type 0

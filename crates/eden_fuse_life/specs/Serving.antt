@@ -16,7 +16,7 @@ use Rattle.eden_fuse_session.specs.Sending.{Known}
 use Rattle.eden_fuse_session.specs.Turns.{Line}
 use Rattle.eden_fuse_session.specs.Sessions.{Session}
 use Rattle.eden_fuse_shown.specs.declared.manner.Manner.{Manner}
-use Rattle.eden_fuse_shown.specs.Showing.{Showing, Shows}
+use Rattle.eden_fuse_shown.specs.Showing.{Showing, Shows, StoresAll}
 use Rattle.eden_fuse_life.specs.declared.serving.ServedFolder.{ServedFolder}
 
 -- what a sender took, and how often it failed
@@ -24,8 +24,8 @@ abbrev pub line_of : {C : Type 0} → Sender C → C → Line
 line_of sender c = (sender.sent c, sender.failures c)
 
 module _ {W : Type 0} (w : Ghosts W) {S : Type 0} (fetched : S → Id → Answer → S → Type 0) {T : Type 0} (A : Table T) (copies : Bool) (limit : ℕ) where
-  -- The folder was shown: each message that was received had its turn, by what the mount replied. What the mount was opened
-  -- with stays. Where the outside is honest, its history is one of the opening tree with its numbers, and the table shows the
+  -- The folder was shown: each message that was received had its turn, by what the mount replied, and then all that waited was
+  -- stored. What the mount was opened with stays. Where the outside is honest, its history is one of the opening tree with its numbers, and the table shows the
   -- tree after it, and numbers that back those that it gave.
   pub record ServesFolder (m : Manner) (r : Room) (t : T) (s : S) (line line' : Line) (waiting left : Known)
       (x : ServedFolder T S) : Type 0 where
@@ -34,9 +34,11 @@ module _ {W : Type 0} (w : Ghosts W) {S : Type 0} (fetched : S → Id → Answer
     pub manner : begun.manner ≡ m
     pub ended : Showing (Desk T S)
     pub session : Session (Shows (CallAnswers fetched A w.honest copies)) (begun, line) (ended, line') waiting left x.said
-    pub stays : Stays A begun.mount.core ended.mount.core
-    pub legal : w.honest → Legal w.opening w.numbers ended.mount.core.history
-    pub shown : w.honest → A.shown ended.mount.core.table ≡ replay w.opening ended.mount.core.history
-    pub backed : w.honest → Backs (replay_numbers w.numbers ended.mount.core.history) (A.numbers ended.mount.core.table) (A.next ended.mount.core.table)
-    pub table : x.table ≡ ended.mount.core.table
-    pub source : x.source ≡ ended.mount.source
+    pub last : Desk T S
+    pub stored : StoresAll (CallAnswers fetched A w.honest copies) ended.nodes ended.waits ended.mount last
+    pub stays : Stays A begun.mount.core last.core
+    pub legal : w.honest → Legal w.opening w.numbers last.core.history
+    pub shown : w.honest → A.shown last.core.table ≡ replay w.opening last.core.history
+    pub backed : w.honest → Backs (replay_numbers w.numbers last.core.history) (A.numbers last.core.table) (A.next last.core.table)
+    pub table : x.table ≡ last.core.table
+    pub source : x.source ≡ last.source

@@ -102,6 +102,7 @@ impl Nodes {
         match self.places.get(&place).copied() {
             None => self.add(alloc, place),
             Some(id) => {
+                drop(place);
                 raise(&mut self.nodes, id)?;
                 Ok(id)
             }

@@ -16,7 +16,9 @@ use Rattle.eden_fuse_shown.specs.Listing.{Entry}
 use Rattle.eden_fuse_shown.specs.Naming.{last_name, veiled_name}
 use Rattle.eden_fuse_shown.specs.Opens.{opens_of, is_last}
 use Rattle.eden_fuse_shown.specs.Running.{Replying}
-use Rattle.eden_fuse_shown.specs.Showing.{Showing, Runs, LetsGo, Restores, ReplacesBy, IsAsked, IsClosed, ClosesFile, Clears, ClearsRow, ClearsRows, failed, refuse, rows_in, say}
+use Rattle.eden_fuse_shown.specs.Waiting.{may_wait}
+use Rattle.eden_fuse_shown.specs.Showing.{Once, Settles, Unless, WaitsElse, WaitsIf}
+use Rattle.eden_fuse_shown.specs.Showing.{Showing, Runs, LetsGo, Restores, ReplacesBy, IsAsked, IsClosed, Empties, ClosesFile, Clears, ClearsRow, ClearsRows, failed, refuse, rows_in, say}
 
 -- an error is no bytes of a room
 pub same_failure : (said : Said) (b c : List ℕ) → failed (told said b) ≡ true → told said c ≡ told said b
@@ -56,9 +58,10 @@ module _ {S : Type 0} (answers : Replying S) where
   still_open node last old new is still closed = (refl, (new, closed, inl (sym is ∙ still, refl)))
 
   -- .. for the last time
-  pub closed_last : (node : ℕ) (last : Bool) (old mid new : Showing S) → last ≡ is_last (opens_of old.opens node) → last ≡ true
-      → IsClosed answers node old mid → LetsGo answers (veiled_name (place_of mid.nodes node)) mid new → ClosesFile answers node old (say answer.Done) new
-  closed_last node last old mid new is over closed goes = (refl, (mid, closed, inr (sym is ∙ over, goes)))
+  pub closed_last : (node : ℕ) (last : Bool) (old mid late new : Showing S) → last ≡ is_last (opens_of old.opens node) → last ≡ true
+      → IsClosed answers node old mid → Empties answers node mid late → LetsGo answers (veiled_name (place_of late.nodes node)) late new
+      → ClosesFile answers node old (say answer.Done) new
+  closed_last node last old mid late new is over closed empties goes = (refl, (mid, closed, inr (sym is ∙ over, (late, empties, goes))))
 
   -- one entry more
   pub clears_on : (n : ℕ) (rows : List Entry) (e : Entry) (old mid new : Showing S) → slice_get rows n ≡ Some e
@@ -73,3 +76,23 @@ module _ {S : Type 0} (answers : Replying S) where
       → IsAsked answers step end old mid → ClearsRows answers (length rows) rows mid new → Clears answers old new
   clears step end rows old mid new is listed asked on =
       (end, mid, subst (λ (x : Step). IsAsked answers x end old mid) is asked, subst (λ (x : List Entry). ClearsRows answers (length x) x mid new) listed on)
+
+  -- ---- what waits is stored first
+
+  module _ (Done : Showing S → Told → Showing S → Type 0) (node : ℕ) (old mid : Showing S) (why : Option ℕ) (settles : Settles answers node old why mid) where
+    -- .. and that can't be
+    pub unsettled : (errno : ℕ) (t : Told) → why ≡ Some errno → t ≡ refuse errno → Once answers (Some node) Done old t mid
+    unsettled errno t is told = (why, mid, settles, subst (λ (w : Option ℕ). Unless answers w Done mid t mid) (sym is) (refl, told))
+
+    -- .. and the rest is done
+    pub settled : (t : Told) (new : Showing S) → why ≡ None → Done mid t new → Once answers (Some node) Done old t new
+    settled t new is rest = (why, mid, settles, subst (λ (w : Option ℕ). Unless answers w Done mid t new) (sym is) rest)
+
+  -- ---- what is written can't wait
+
+  module _ (node offset : ℕ) (b bytes : List ℕ) (test : Bool) (Else : Showing S → Told → Showing S → Type 0) (old new : Showing S) (t : Told) where
+    pub waits_not : bytes ≡ b → test ≡ may_wait old.waits node offset bytes → test ≡ false → Else old t new
+        → WaitsElse answers node offset b Else old t new
+    waits_not same is refused h =
+        subst (λ (x : List ℕ). WaitsElse answers node offset x Else old t new) same
+        (subst (λ (v : Bool). WaitsIf answers v node offset bytes Else old t new) (sym (sym is ∙ refused)) h)

@@ -1,2 +1,7 @@
 mod Leading
 mod Keeping
+mod Amounts
+mod Contents
+mod Seen
+mod Stores
+mod SeenLaws

@@ -1,7 +1,9 @@
--- What a mounted folder answers the kernel's messages, and what that makes of its nodes and of its open directories.
-use Rattle.std.specs.Prelude.{◌≡◌, ◌⊎◌, ℕ, zero, suc, ◌/◌, ◌^◌, ◌==◌, nat_lt, not, Bool, true, false, List, [], length, Option, Some, None}
+-- What a mounted folder answers the kernel's messages, and what that makes of its nodes, of its open directories and of what
+-- waits to be stored.
+use Rattle.std.specs.Prelude.{◌≡◌, ◌⊎◌, ℕ, zero, suc, ◌/◌, ◌^◌, ◌==◌, nat_lt, not, Bool, true, false, List, [], ◌∷◌, length, Option, Some, None}
 use Rattle.std.specs.Prelude.{Result, Ok, Err, if◌then◌else◌}
 use Rattle.std.specs.List.{slice_get}
+use Rattle.eden_model.specs.declared.request.Request.TheVariants as ask
 use Rattle.eden_model.specs.Trees.{Name, Path}
 use Rattle.eden_fuse_format.specs.declared.answer.Answer.{Answer}
 use Rattle.eden_fuse_format.specs.declared.answer.Answer.TheVariants as answer
@@ -21,7 +23,9 @@ use Rattle.eden_fuse_meaning.specs.declared.step.Outcome.TheVariants as outcome
 use Rattle.eden_fuse_meaning.specs.declared.step.Owner.{Owner}
 use Rattle.eden_fuse_meaning.specs.declared.step.Step.{Step}
 use Rattle.eden_fuse_meaning.specs.Hiding.{hide, put_back, list_hidden, is_hidden}
-use Rattle.eden_fuse_meaning.specs.Steps.{first}
+use Rattle.eden_fuse_meaning.specs.declared.step.Step.TheVariants.{Ask}
+use Rattle.eden_fuse_meaning.specs.declared.step.Then.TheVariants as after
+use Rattle.eden_fuse_meaning.specs.Steps.{first, on_path}
 use Rattle.eden_fuse_session.specs.Turns.{Told}
 use Rattle.eden_fuse_format.specs.Answers.{body_text, error_of}
 use Rattle.eden_fuse_shown.specs.declared.manner.Manner.{Manner}
@@ -35,20 +39,23 @@ use Rattle.eden_fuse_shown.specs.Listing.{Entry, with_rows, page_of, last_at, Cl
 use Rattle.eden_fuse_shown.specs.Listing.{Opens as OpensPage}
 use Rattle.eden_fuse_shown.specs.Listing.{Table as Pages}
 use Rattle.eden_fuse_shown.specs.Listing.{IsSame as IsSamePages}
-use Rattle.eden_fuse_shown.specs.Naming.{named, goal_of, other_node, veiled_name, is_reserved, denial, last_name, IsHeld}
+use Rattle.eden_fuse_shown.specs.Naming.{named, goal_of, other_node, veiled_name, is_reserved, denial, last_name, IsAt, IsHeld}
 use Rattle.eden_fuse_shown.specs.Opens.{Raises, Lowers, opens_of, is_last}
 use Rattle.eden_fuse_shown.specs.Opens.{Table as Opens}
 use Rattle.eden_fuse_shown.specs.Opens.{IsSame as IsSameOpens}
 use Rattle.eden_fuse_shown.specs.Running.{Replying, Comes}
+use Rattle.eden_fuse_shown.specs.Waiting.{Extent, Adds, Ends, extent_of, may_wait}
+use Rattle.eden_fuse_shown.specs.Waiting.{Table as Waits}
 
--- a mounted folder: the mount, how it is shown, the nodes that the kernel was told of, and the directories and files that are
--- open
+-- a mounted folder: the mount, how it is shown, the nodes that the kernel was told of, the directories and files that are open,
+-- and what was written and isn't stored yet
 pub record Showing (S : Type 0) : Type 0 where
   pub mount : S
   pub manner : Manner
   pub nodes : Nodes
   pub pages : Pages
   pub opens : Opens
+  pub waits : Waits
 
 -- ---- answers
 
@@ -143,6 +150,23 @@ abbrev pub start : Asked → Told
 start (asked.Init i) = say (started i)
 start a = refuse 5
 
+-- ---- what waits, and the mount that stores it
+
+-- by one request at the path of its node; where no path can be named, that is the error
+abbrev pub storing : Result Path ℕ → Extent → Step
+storing at e = on_path at (λ p. Ask (ask.Write p e.from e.bytes) after.Count)
+
+-- the number of the error, if it wasn't stored
+abbrev pub unstored : Result Outcome Unheard → Option ℕ
+unstored (Ok (outcome.Written n)) = None
+unstored (Ok (outcome.Refused errno)) = Some errno
+unstored (Ok o) = Some 5
+unstored (Err why) = Some (errno_of why)
+
+abbrev pub Leaves : Option ℕ → ℕ → Waits → Waits → Type 0
+Leaves None node old new = Ends old new node
+Leaves (Some errno) node old new = new ≡ old
+
 -- ---- what is answered once it is known what a message came to
 
 module _ (m : Manner) (node : ℕ) (a : Asked) (last : Option Name) (nodes nodes' : Nodes) (pages pages' : Pages)
@@ -188,12 +212,21 @@ pub record Begins (owner : Owner) (nodes : Nodes) (node : ℕ) (a : Asked) (last
   pub is_other : IsOtherPath nodes (other_node a) to
   pub is : step ≡ first owner at to last a
 
--- what has to be done for a message beside what it asks
+-- what has to be done for a message beside what it asks. Those that tell of a file's content, or set it, and those by which a
+-- program learns that it is stored, look at what waits
 abbrev pub sort_of : Asked → Sort
 sort_of (asked.Forget s) = sort.One s.nlookup
 sort_of (asked.BatchForget b) = sort.Batch
 sort_of (asked.ReadDir s) = sort.On s
 sort_of (asked.Release s) = sort.Close
+sort_of (asked.Write s b) = sort.Write s.offset
+sort_of (asked.GetAttr s) = sort.Look
+sort_of (asked.SetAttr s) = sort.Look
+sort_of (asked.Read s) = sort.Look
+sort_of (asked.Flush s) = sort.Look
+sort_of (asked.FSync s) = sort.Look
+sort_of (asked.Lookup n) = sort.LookUp
+sort_of (asked.Create s n) = sort.LookUp
 sort_of (asked.Init s) = sort.Start
 sort_of (asked.Unlink n) = sort.Remove
 sort_of (asked.Rename s n m) = sort.Replace s.newdir
@@ -204,6 +237,11 @@ sort_of a = sort.Plain
 abbrev pub batch_of : Asked → List ℕ
 batch_of (asked.BatchForget b) = b
 batch_of a = []
+
+-- the bytes that it writes
+abbrev pub data_of : Asked → List ℕ
+data_of (asked.Write s b) = b
+data_of a = []
 
 -- the rows that were listed
 abbrev pub rows_in : Result Outcome Unheard → List Entry
@@ -223,6 +261,7 @@ module _ {S : Type 0} (answers : Replying S) where
     pub comes : Comes answers step old.mount end new.mount
     pub concludes : Concludes old.manner node a last old.nodes new.nodes old.pages new.pages old.opens new.opens end t
     pub manner : new.manner ≡ old.manner
+    pub waits : new.waits ≡ old.waits
 
   abbrev pub Runs : ℕ → Asked → Option Name → Showing S → Told → Showing S → Type 0
   Runs node a last old t new = Starves old t new ⊎ Goes node a last old t new
@@ -243,6 +282,73 @@ module _ {S : Type 0} (answers : Replying S) where
     pub manner : new.manner ≡ old.manner
     pub pages : new.pages ≡ old.pages
     pub opens : new.opens ≡ old.opens
+    pub waits : new.waits ≡ old.waits
+
+  -- ---- what waits is stored
+
+  -- the mount was asked to store it at the path of the node, or there was no memory for that; the number of the error, if it
+  -- isn't stored
+  abbrev pub IsStored : Nodes → ℕ → Extent → S → Option ℕ → S → Type 0
+  IsStored nodes node e s why t = ((why ≡ Some 12) × (t ≡ s))
+      ⊎ ((at : Result Path ℕ) × (end : Result Outcome Unheard) × IsPathOf nodes node at × Comes answers (storing at e) s end t × (why ≡ unstored end))
+
+  -- .. upon which it waits still
+  pub record Stores (node : ℕ) (e : Extent) (old : Showing S) (why : Option ℕ) (new : Showing S) : Type 0 where
+    pub stored : IsStored old.nodes node e old.mount why new.mount
+    pub waits : Leaves why node old.waits new.waits
+    pub manner : new.manner ≡ old.manner
+    pub nodes : new.nodes ≡ old.nodes
+    pub pages : new.pages ≡ old.pages
+    pub opens : new.opens ≡ old.opens
+
+  abbrev pub SettlesWith : Option Extent → ℕ → Showing S → Option ℕ → Showing S → Type 0
+  SettlesWith None node old why new = (why ≡ None) × (new ≡ old)
+  SettlesWith (Some e) node old why new = Stores node e old why new
+
+  -- nothing waits for a node any more; or the number of the error that its store met
+  abbrev pub Settles : ℕ → Showing S → Option ℕ → Showing S → Type 0
+  Settles node old why new = SettlesWith (extent_of old.waits node) node old why new
+
+  -- what is done once nothing waits for a node; where that can't be, its error is told
+  abbrev pub Unless : Option ℕ → (Showing S → Told → Showing S → Type 0) → Showing S → Told → Showing S → Type 0
+  Unless None Done old t new = Done old t new
+  Unless (Some errno) Done old t new = (new ≡ old) × (t ≡ refuse errno)
+
+  abbrev pub Once : Option ℕ → (Showing S → Told → Showing S → Type 0) → Showing S → Told → Showing S → Type 0
+  Once None Done old t new = Done old t new
+  Once (Some node) Done old t new = (why : Option ℕ) × (mid : Showing S) × Settles node old why mid × Unless why Done mid t new
+
+  -- .. for the node that stands at the place that a message names
+  abbrev pub LooksUp : ℕ → Asked → Showing S → Told → Showing S → Type 0
+  LooksUp node a old t new = (there : Option ℕ) × IsAt old.nodes (named node a) there × Once there (Runs node a None) old t new
+
+  -- ---- what is written
+
+  -- bytes wait behind those of their node
+  pub record Joins (node offset : ℕ) (b : List ℕ) (old : Showing S) (t : Told) (new : Showing S) : Type 0 where
+    pub waits : Adds old.waits new.waits node offset b
+    pub told : t ≡ count (length b)
+    pub mount : new.mount ≡ old.mount
+    pub manner : new.manner ≡ old.manner
+    pub nodes : new.nodes ≡ old.nodes
+    pub pages : new.pages ≡ old.pages
+    pub opens : new.opens ≡ old.opens
+
+  abbrev pub WaitsIf : Bool → ℕ → ℕ → List ℕ → (Showing S → Told → Showing S → Type 0) → Showing S → Told → Showing S → Type 0
+  WaitsIf true node offset b Else old t new = Joins node offset b old t new ⊎ Starves old t new
+  WaitsIf false node offset b Else old t new = Else old t new
+
+  -- .. if they may, or there is no memory for them; else this is done
+  abbrev pub WaitsElse : ℕ → ℕ → List ℕ → (Showing S → Told → Showing S → Type 0) → Showing S → Told → Showing S → Type 0
+  WaitsElse node offset b Else old t new = WaitsIf (may_wait old.waits node offset b) node offset b Else old t new
+
+  -- what is written waits behind what waits; if it doesn't go on there, that is stored first; and what can't wait by itself
+  -- either is stored at once
+  abbrev pub WritesAnew : ℕ → ℕ → Asked → Showing S → Told → Showing S → Type 0
+  WritesAnew node offset a old t new = WaitsElse node offset (data_of a) (Runs node a None) old t new
+
+  abbrev pub Writes : ℕ → ℕ → Asked → Showing S → Told → Showing S → Type 0
+  Writes node offset a old t new = WaitsElse node offset (data_of a) (Once (Some node) (WritesAnew node offset a)) old t new
 
   -- ---- what is removed or replaced while it is open
 
@@ -280,15 +386,30 @@ module _ {S : Type 0} (answers : Replying S) where
     pub manner : new.manner ≡ old.manner
     pub nodes : new.nodes ≡ old.nodes
     pub pages : new.pages ≡ old.pages
+    pub waits : new.waits ≡ old.waits
+
+  -- nothing waits for it any more
+  pub record IsEmptied (node : ℕ) (old new : Showing S) : Type 0 where
+    pub waits : Ends old.waits new.waits node
+    pub mount : new.mount ≡ old.mount
+    pub manner : new.manner ≡ old.manner
+    pub nodes : new.nodes ≡ old.nodes
+    pub pages : new.pages ≡ old.pages
+    pub opens : new.opens ≡ old.opens
+
+  -- what waits is stored, and dropped if it can't be
+  abbrev pub Empties : ℕ → Showing S → Showing S → Type 0
+  Empties node old new = (why : Option ℕ) × (mid : Showing S) × Settles node old why mid × IsEmptied node mid new
 
   -- what has a hidden name is removed, or stays for want of memory, or where the mount doesn't do it
   abbrev pub LetsGo : Option Name → Showing S → Showing S → Type 0
   LetsGo None old new = new ≡ old
   LetsGo (Some n) old new = (t : Told) × Runs 1 (asked.Unlink n) None old t new
 
-  -- .. once it isn't open any more
+  -- .. once it isn't open any more, and nothing waits for it
   abbrev pub LetsGoLast : Bool → ℕ → Showing S → Showing S → Type 0
-  LetsGoLast last node old new = ((last ≡ false) × (new ≡ old)) ⊎ ((last ≡ true) × LetsGo (veiled_name (place_of old.nodes node)) old new)
+  LetsGoLast last node old new = ((last ≡ false) × (new ≡ old))
+      ⊎ ((last ≡ true) × ((mid : Showing S) × Empties node old mid × LetsGo (veiled_name (place_of mid.nodes node)) mid new))
 
   abbrev pub ClosesFile : ℕ → Showing S → Told → Showing S → Type 0
   ClosesFile node old t new = (t ≡ say answer.Done)
@@ -316,6 +437,7 @@ module _ {S : Type 0} (answers : Replying S) where
     pub nodes : new.nodes ≡ old.nodes
     pub pages : new.pages ≡ old.pages
     pub opens : new.opens ≡ old.opens
+    pub waits : new.waits ≡ old.waits
 
   -- what has hidden names is listed, and removed
   abbrev pub Clears : Showing S → Showing S → Type 0
@@ -325,9 +447,19 @@ module _ {S : Type 0} (answers : Replying S) where
   abbrev pub Starts : ℕ → Asked → Showing S → Told → Showing S → Type 0
   Starts node a old t new = Starves old t new ⊎ ((mid : Showing S) × Clears old mid × Runs node a None mid t new)
 
+  -- ---- the end
+
+  -- all that waits is stored, or dropped where that can't be
+  abbrev pub StoresAll : Nodes → Waits → S → S → Type 0
+  StoresAll nodes [] s t = t ≡ s
+  StoresAll nodes (w ∷ ws) s t = (why : Option ℕ) × (u : S) × IsStored nodes w.0 w.1 s why u × StoresAll nodes ws u t
+
   -- ---- each message
 
   abbrev pub Serves : Sort → ℕ → Asked → Showing S → Told → Showing S → Type 0
+  Serves sort.Look node a old t new = Once (Some node) (Runs node a None) old t new
+  Serves sort.LookUp node a old t new = LooksUp node a old t new
+  Serves (sort.Write offset) node a old t new = Writes node offset a old t new
   Serves sort.Remove node a old t new = RemovesHeld node a old t new
   Serves (sort.Replace dir) node a old t new = ReplacesHeld dir node a old t new
   Serves sort.Start node a old t new = Starts node a old t new

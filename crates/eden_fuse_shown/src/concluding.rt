@@ -64,7 +64,7 @@ pub(crate) fn failed(said: &Said) -> bool
     }
 }
 
-fn errno_of(why: Unheard) -> u32
+pub(crate) fn errno_of(why: Unheard) -> u32
     ensures { result ≡ errno_of why }
 {
     match why {
@@ -181,7 +181,8 @@ fn start(operation: &Operation<'_>) -> Answer<'static>
     }
 }
 
-fn count(written: u64) -> Answer<'static>
+/// So many bytes were written.
+pub(crate) fn count(written: u64) -> Answer<'static>
     ensures told { say result ≡ count written }
     ensures brief { IsBrief result }
 {

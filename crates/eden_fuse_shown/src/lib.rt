@@ -7,13 +7,19 @@
 //!
 //! A file that is removed or replaced while it is open gets a name of the root that nobody sees: no listing has it, no
 //! message may name it, and the file goes with its last close. What a run that was cut off left at such names, up to
-//! 1,000 of them, goes as the next one starts. Which times are told isn't promised, and no write waits: each is stored
-//! before it is answered. Nothing here reads or writes a descriptor.
+//! 1,000 of them, goes as the next one starts.
+//!
+//! What is written waits: a write is answered at once, and the bytes of one after another are stored together, before
+//! anyone looks at the file, at `close` and `fsync`, and where there are too many of them. If that fails, whoever
+//! looked is told the error, and they wait still; only the last close drops them. Which times are told isn't promised.
+//! Nothing here reads or writes a descriptor.
 #![tactic(auto)]
 
 mod attributes;
 mod changing;
 mod concluding;
+mod extents;
+mod laws;
 mod listing;
 mod manner;
 mod mount;
@@ -23,8 +29,11 @@ mod pages;
 mod running;
 mod shown;
 mod sorts;
+mod storing;
 mod times;
 
+pub use extents::{Extent, Extents};
+pub use laws::seeing_laws;
 pub use manner::Manner;
 pub use mount::{Mount, Unheard};
 pub use opens::Opens;

@@ -2,7 +2,16 @@
 ghost use Rattle.std.specs.Prelude.{◌≡◌, IfOk};
 ghost use Rattle.eden_fuse_format.specs.Asked.{seen};
 ghost use Rattle.eden_fuse_nodes.specs.Tables.{place_of};
-ghost use Rattle.eden_fuse_shown.specs.Naming.{IsHeld, goal_of, is_veiled, named, other_node, place_at, veiled_name};
+ghost use Rattle.eden_fuse_shown.specs.Naming.{
+  IsAt,
+  IsHeld,
+  goal_of,
+  is_veiled,
+  named,
+  other_node,
+  place_at,
+  veiled_name,
+};
 ghost use Rattle.eden_fuse_shown.specs.Showing.{Begins, IsOtherPath, IsPathOf};
 
 use crate::opens::Opens;
@@ -85,6 +94,16 @@ pub(crate) fn veiled_name(
     }
 }
 
+/// The node that stands at the place, if one does.
+pub(crate) fn standing(nodes: &Nodes, place: &Option<Place>) -> Option<u64>
+    ensures { IsAt nodes.now place.now result }
+{
+    match place {
+        None => None,
+        Some(place) => nodes.at(place),
+    }
+}
+
 /// The node that stands at the place and is open, if one does.
 pub(crate) fn held(nodes: &Nodes, opens: &Opens, place: &Option<Place>) -> Option<u64>
     ensures { IsHeld nodes.now opens.now place.now result }
@@ -114,8 +133,12 @@ fn other_node(operation: &Operation<'_>) -> Option<u64>
     }
 }
 
-// The path at which a node lies.
-fn path_of(alloc: Global, nodes: &Nodes, node: u64) -> Result<Result<Path, u32>, AllocError>
+/// The path at which a node lies, or why no request can name it. The only error is want of memory.
+pub(crate) fn path_of(
+    alloc: Global,
+    nodes: &Nodes,
+    node: u64,
+) -> Result<Result<Path, u32>, AllocError>
     ensures { IfOk result (λ at. IsPathOf nodes.now node at) }
 {
     let whereabouts = nodes.find(alloc, node)?;

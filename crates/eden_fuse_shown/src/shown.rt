@@ -1,4 +1,4 @@
-ghost use Rattle.std.specs.Prelude.{◌≡◌, None, Some, OnErr, OnOk, Result, length};
+ghost use Rattle.std.specs.Prelude.{◌≡◌, ◌⊎◌, ℕ, None, Some, true, OnErr, OnOk, Result, length};
 ghost use Rattle.eden_fuse_format.specs.Asked.{seen};
 ghost use Rattle.eden_fuse_format.specs.Asked.{Asked as asked};
 ghost use Rattle.eden_fuse_meaning.specs.declared.step.Outcome.{Outcome};
@@ -13,30 +13,43 @@ ghost use Rattle.eden_fuse_shown.specs.Showing.{
   ClearsRow,
   ClearsRows,
   ClosesFile,
+  Empties,
   IsAsked,
   IsClosed,
+  IsEmptied,
+  Joins,
   LetsGo,
+  LooksUp,
+  Once,
   Reads,
   RemovesHeld,
   ReplacesBy,
   ReplacesHeld,
   Restores,
   Runs,
+  Settles,
   Starts,
+  Starves,
+  StoresAll,
   Takes,
+  Writes,
+  WritesAnew,
   rows_in,
 };
+ghost use Rattle.eden_fuse_shown.specs.Waiting.{may_wait};
 
 use crate::changing::forget_all;
-use crate::concluding::{conclude, failed, refuse};
+use crate::concluding::{conclude, count, failed, refuse};
+use crate::extents::Extents;
 use crate::listing::rows_in;
 use crate::manner::Manner;
 use crate::mount::Mount;
-use crate::naming::{begin, goal_of, held, is_veiled, named, veiled_name};
+use crate::naming::{begin, goal_of, held, is_veiled, named, standing, veiled_name};
 use crate::opens::Opens;
 use crate::pages::Pages;
 use crate::running::run;
-use crate::sorts::{Sort, batch_of, denial, last_name, sort_of};
+use crate::sorts::{Sort, batch_of, data_of, denial, last_name, sort_of};
+use crate::storing::{store, store_all};
 use crate::times::{Times, now};
 use eden_fuse_format::{Answer, Header, Operation, ReadIn, RenameIn};
 use eden_fuse_meaning::{Step, hidden_name, is_hidden, list_hidden};
@@ -52,7 +65,7 @@ const EINVAL: u32 = 22;
 const ENOMEM: u32 = 12;
 
 /// A mount that is shown as a folder. Contracts see the mount, how it is shown, the nodes that the kernel was told of,
-/// and the directories and files that are open.
+/// the directories and files that are open, and what was written and isn't stored yet.
 #[derive(Drop)]
 pub struct Shown<M: Mount + Drop, K: Clock + Drop> {
     alloc: Global,
@@ -62,6 +75,7 @@ pub struct Shown<M: Mount + Drop, K: Clock + Drop> {
     nodes: Nodes,
     pages: Pages,
     opens: Opens,
+    waits: Extents,
     times: Times,
 }
 
@@ -76,6 +90,7 @@ impl<M: Mount + Drop, K: Clock + Drop> Model for Shown<M, K> {
       nodes = s.nodes;
       pages = s.pages;
       opens = s.opens;
+      waits = s.waits;
     } };
 }
 
@@ -93,15 +108,23 @@ impl<M: Mount + Drop, K: Clock + Drop> Shown<M, K> {
             nodes: Nodes::new(alloc),
             pages: Pages::new(alloc),
             opens: Opens::new(alloc),
+            waits: Extents::new(alloc),
             times,
         }
     }
 
-    /// Gives the mount back.
+    /// Gives the mount back, once all that waits is stored; what it can't store is dropped.
     pub fn into_mount(self) -> M
-        ensures { result ≡ self.mount }
+        ensures { StoresAll M.answers self.nodes self.waits self.mount result }
     {
-        let Shown { mount, .. } = self;
+        let Shown {
+            alloc,
+            mut mount,
+            nodes,
+            waits,
+            ..
+        } = self;
+        store_all(alloc, &mut mount, &nodes, waits);
         mount
     }
 
@@ -172,6 +195,126 @@ impl<M: Mount + Drop, K: Clock + Drop> Shown<M, K> {
             return refuse(ENOMEM);
         };
         self.go(node, operation, place, goal, last, room)
+    }
+
+    // Stores what waits for a node; or the number of the error, upon which it waits still.
+    fn settle(&mut self, node: u64) -> Option<u32>
+        ensures { Settles M.answers node self.old result self.new }
+    {
+        let why = match self.waits.get(node) {
+            None => return None,
+            Some(extent) => store(self.alloc, &mut self.mount, &self.nodes, node, extent),
+        };
+        if why.is_none() {
+            self.waits.end(node);
+        }
+        why
+    }
+
+    // What is written waits behind what waits.
+    fn join(&mut self, node: u64, offset: u64, bytes: &[u8], room: &mut Vec<u8>) -> Said
+        requires { may_wait self.old.waits node offset bytes.now ≡ true }
+        ensures joins { Joins M.answers node offset bytes.now self.old (told result room.new.items) self.new
+            ⊎ Starves M.answers self.old (told result room.new.items) self.new }
+        ensures brief { IsBriefly result room.new.items }
+    {
+        if self.waits.add(self.alloc, node, offset, bytes).is_err() {
+            return refuse(ENOMEM);
+        }
+        self.times.change(node, now(&self.clock));
+        Said::Answers(count(bytes.len() as u64))
+    }
+
+    // .. where nothing waits for the node, or is stored at once.
+    fn write_anew(
+        &mut self,
+        node: u64,
+        offset: u64,
+        operation: &Operation<'_>,
+        place: Option<Place>,
+        goal: Option<Place>,
+        room: &mut Vec<u8>,
+    ) -> Said
+        requires place { place ≡ named node (seen operation.now) }
+        requires goal { goal ≡ goal_of (seen operation.now) }
+        ensures writes { WritesAnew M.answers node offset (seen operation.now) self.old
+            (told result room.new.items) self.new }
+        ensures brief { IsBriefly result room.new.items }
+    {
+        let bytes = data_of(operation);
+        if self.waits.may_wait(node, offset, bytes) {
+            return self.join(node, offset, bytes, room);
+        }
+        self.go(node, operation, place, goal, None, room)
+    }
+
+    // What is written waits, and what waited is stored first if it doesn't go on there.
+    fn write(
+        &mut self,
+        node: u64,
+        offset: u64,
+        operation: &Operation<'_>,
+        place: Option<Place>,
+        goal: Option<Place>,
+        room: &mut Vec<u8>,
+    ) -> Said
+        requires place { place ≡ named node (seen operation.now) }
+        requires goal { goal ≡ goal_of (seen operation.now) }
+        ensures writes { Writes M.answers node offset (seen operation.now) self.old
+            (told result room.new.items) self.new }
+        ensures brief { IsBriefly result room.new.items }
+    {
+        let bytes = data_of(operation);
+        if self.waits.may_wait(node, offset, bytes) {
+            return self.join(node, offset, bytes, room);
+        }
+        match self.settle(node) {
+            Some(errno) => refuse(errno),
+            None => self.write_anew(node, offset, operation, place, goal, room),
+        }
+    }
+
+    // Answers a message that looks at what waits for a node.
+    fn look(
+        &mut self,
+        looked: u64,
+        node: u64,
+        operation: &Operation<'_>,
+        place: Option<Place>,
+        goal: Option<Place>,
+        room: &mut Vec<u8>,
+    ) -> Said
+        requires place { place ≡ named node (seen operation.now) }
+        requires goal { goal ≡ goal_of (seen operation.now) }
+        ensures looks { Once M.answers (Some looked) (Runs M.answers node (seen operation.now) None) self.old
+            (told result room.new.items) self.new }
+        ensures brief { IsBriefly result room.new.items }
+    {
+        match self.settle(looked) {
+            Some(errno) => refuse(errno),
+            None => self.go(node, operation, place, goal, None, room),
+        }
+    }
+
+    // .. for the node of the name that it looks up.
+    fn look_up(
+        &mut self,
+        node: u64,
+        operation: &Operation<'_>,
+        place: Option<Place>,
+        goal: Option<Place>,
+        room: &mut Vec<u8>,
+    ) -> Said
+        requires place { place ≡ named node (seen operation.now) }
+        requires goal { goal ≡ goal_of (seen operation.now) }
+        ensures looks { LooksUp M.answers node (seen operation.now) self.old
+            (told result room.new.items) self.new }
+        ensures brief { IsBriefly result room.new.items }
+    {
+        match standing(&self.nodes, &place) {
+            None => self.go(node, operation, place, goal, None, room),
+            Some(looked) => self.look(looked, node, operation, place, goal, room),
+        }
     }
 
     // Reads an open directory on.
@@ -334,7 +477,23 @@ impl<M: Mount + Drop, K: Clock + Drop> Shown<M, K> {
         self.opens.lower(node)
     }
 
-    // A file is closed once. If it isn't open any more, and has a hidden name, it goes.
+    // Nothing waits for a node any more.
+    fn end(&mut self, node: u64)
+        ensures { IsEmptied M.answers node self.old self.new }
+    {
+        self.waits.end(node);
+    }
+
+    // Stores what waits for a node, and drops it if it can't be stored.
+    fn empty(&mut self, node: u64)
+        ensures { Empties M.answers node self.old self.new }
+    {
+        self.settle(node);
+        self.end(node);
+    }
+
+    // A file is closed once. If it isn't open any more, what waits for it is stored, and it goes if it has a hidden
+    // name.
     fn close(&mut self, node: u64, room: &mut Vec<u8>) -> Said
         ensures closes { ClosesFile M.answers node self.old (told result room.new.items) self.new }
         ensures brief { IsBriefly result room.new.items }
@@ -343,6 +502,7 @@ impl<M: Mount + Drop, K: Clock + Drop> Shown<M, K> {
         if !last {
             return Said::Answers(Answer::Done);
         }
+        self.empty(node);
         self.let_go_of(node, room);
         Said::Answers(Answer::Done)
     }
@@ -424,7 +584,12 @@ impl<M: Mount + Drop, K: Clock + Drop> Shown<M, K> {
             Sort::Replace(directory) => {
                 self.replace(node, operation, directory, place, goal, room)
             }
-            _ => self.go(node, operation, place, goal, None, room),
+            Sort::Write(offset) => self.write(node, offset, operation, place, goal, room),
+            Sort::Look => self.look(node, node, operation, place, goal, room),
+            Sort::LookUp => self.look_up(node, operation, place, goal, room),
+            Sort::One(_) | Sort::Batch | Sort::On(_) | Sort::Close | Sort::Plain => {
+                self.go(node, operation, place, goal, None, room)
+            }
         }
     }
 }
@@ -448,9 +613,13 @@ impl<M: Mount + Drop, K: Clock + Drop> Service for Shown<M, K> {
             }
             Sort::On(read) => self.read_directory(node, &operation, read, room),
             Sort::Close => self.close(node, room),
-            Sort::Start | Sort::Remove | Sort::Replace(_) | Sort::Plain => {
-                self.take(sort, node, &operation, room)
-            }
+            Sort::Start
+            | Sort::Remove
+            | Sort::Replace(_)
+            | Sort::Write(_)
+            | Sort::Look
+            | Sort::LookUp
+            | Sort::Plain => self.take(sort, node, &operation, room),
         }
     }
 }

@@ -1,7 +1,7 @@
 ghost use Rattle.std.specs.Prelude.{◌≡◌};
 ghost use Rattle.eden_fuse_format.specs.Asked.{seen};
 ghost use Rattle.eden_fuse_shown.specs.Naming.{denial, last_name};
-ghost use Rattle.eden_fuse_shown.specs.Showing.{batch_of, sort_of};
+ghost use Rattle.eden_fuse_shown.specs.Showing.{batch_of, data_of, sort_of};
 
 use eden_fuse_format::{Operation, ReadIn};
 
@@ -16,6 +16,12 @@ pub enum Sort {
     On(ReadIn),
     /// A file is closed.
     Close,
+    /// What is written at that offset waits to be stored.
+    Write(u64),
+    /// What waits for its node is stored first.
+    Look,
+    /// .. for the node of the name.
+    LookUp,
     /// What another run left is removed first.
     Start,
     /// If what is removed is open, it is hidden.
@@ -35,6 +41,13 @@ pub(crate) fn sort_of(operation: &Operation<'_>) -> Sort
         Operation::BatchForget(_) => Sort::Batch,
         Operation::ReadDir(read) => Sort::On(*read),
         Operation::Release(_) => Sort::Close,
+        Operation::Write(head, _) => Sort::Write(head.offset),
+        Operation::GetAttr(_)
+        | Operation::SetAttr(_)
+        | Operation::Read(_)
+        | Operation::Flush(_)
+        | Operation::FSync(_) => Sort::Look,
+        Operation::Lookup(_) | Operation::Create(_, _) => Sort::LookUp,
         Operation::Init(_) => Sort::Start,
         Operation::Unlink(_) => Sort::Remove,
         Operation::Rename(head, _, _) => Sort::Replace(head.newdir),
@@ -55,6 +68,16 @@ pub(crate) fn batch_of<'a>(operation: &Operation<'a>) -> &'a [u8]
 {
     match operation {
         Operation::BatchForget(batch) => batch,
+        _ => &[],
+    }
+}
+
+/// The bytes that a message writes.
+pub(crate) fn data_of<'a>(operation: &Operation<'a>) -> &'a [u8]
+    ensures { result.now ≡ data_of (seen operation.now) }
+{
+    match operation {
+        Operation::Write(_, bytes) => bytes,
         _ => &[],
     }
 }

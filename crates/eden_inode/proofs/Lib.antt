@@ -1,3 +1,4 @@
+pub mod CallerLemmas
 pub mod Rows
 pub mod Names
 pub mod Noting

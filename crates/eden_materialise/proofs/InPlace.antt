@@ -15,8 +15,7 @@ use Rattle.eden_coupling.specs.Laws.{owned}
 use Rattle.eden_coupling.specs.Materialising.{kept_mark, owned_along}
 use Rattle.eden_coupling.specs.Saving.{saved}
 use Rattle.eden_inode.specs.Trails.{KeepsNames}
-use Rattle.eden_inode.proofs.Names.{keeps_same, keeps_then, keeps_unloaded, keeps_step, keeps_changed, keeps_edit}
-use Rattle.eden_inode.proofs.Rows.{same_some}
+use Rattle.eden_inode.proofs.CallerLemmas.{keeps_same, keeps_then, keeps_unloaded, keeps_step, keeps_changed, keeps_edit, same_some}
 use Rattle.eden_materialise.specs.Chains.{Owns}
 use Rattle.eden_materialise.specs.Filing.{FilesEntry, not_filed, filed}
 use Rattle.eden_materialise.specs.Fills.{FillsFile}

@@ -10,6 +10,7 @@ pub use Rattle.eden_model.proofs.AfterTrees.{landed, gone, met_here, after_is_tr
 pub use Rattle.eden_model.proofs.Behinds.{path_eq-Decides, behind_sound, behind_back}
 pub use Rattle.eden_model.proofs.HistoryLemmas.{replay-append, replay_numbers-append, Legal-append}
 pub use Rattle.eden_model.proofs.Keys.{same_id-Decides, same_key-Decides}
+pub use Rattle.eden_model.proofs.PathLaws.{patch_is_write}
 pub use Rattle.eden_model.proofs.ShownLemmas.{shows_items, follows_sources, sees_its_own, grafts_entry}
 pub use Rattle.eden_model.proofs.Wholes.{shown_is_tree}
 

@@ -243,6 +243,7 @@ answer_is_allowed N S T next later (ask.Read p offset count) r b a = tt
 answer_is_allowed N S T next later (ask.ReadLink p) r b a = tt
 answer_is_allowed N S T next later (ask.List p above limit) r b a = tt
 answer_is_allowed N S T next later (ask.Write p offset bytes) r b a = tt
+answer_is_allowed N S T next later (ask.Patch p offset bytes) r b a = tt
 answer_is_allowed N S T next later (ask.Truncate p size) r b a = tt
 answer_is_allowed N S T next later (ask.Create p) r b a = tt
 answer_is_allowed N S T next later (ask.SetExec p exec) r b a = tt

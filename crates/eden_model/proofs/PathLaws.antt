@@ -1,6 +1,6 @@
 -- What each change does, path by path.
 use Rattle.std.proofs.Common.{◌≡◌, ◌≢◌, ◌⊎◌, ℕ, List, [], ◌∷◌, ◌++◌, length, take, drop, sym, refl, ◌∙◌, ap, subst, inl, inr, Option, Some, None, Bool, true, false, cond, eqb, nat_lt, append_assoc, replicate, ◌-◌, arith, length-append}
-use Rattle.std.specs.Prelude.{◌||◌, ◌&&◌}
+use Rattle.std.specs.Prelude.{◌||◌, ◌&&◌, ◌↔◌, ◌≤◌}
 use Rattle.std.specs.Str.{bytes_eq}
 use Rattle.std.specs.Option.{is_some, option_map}
 use Rattle.std.proofs.lemmas.Bool.{le-ltb, eqb-true}
@@ -11,13 +11,16 @@ use Rattle.eden_model.specs.declared.node.Node.{Node}
 use Rattle.eden_model.specs.declared.node.Node.TheVariants.{File, Dir}
 use Rattle.eden_model.specs.declared.request.Request.{Request}
 use Rattle.eden_model.specs.declared.request.Request.TheVariants as ask
+use Rattle.eden_model.specs.declared.reply.Reply.{Reply}
 use Rattle.eden_model.specs.declared.reply.Reply.TheVariants as say
-use Rattle.eden_model.specs.Limits.{most_data}
+use Rattle.eden_model.specs.Limits.{most_data, most_file}
 use Rattle.eden_model.specs.Paths.{path_eq, behind_of, is_root}
 use Rattle.eden_model.specs.Trees.{Name, Path, Tree, Walk, Passes, through, walk, walk_from, Reach, reach, ends, grafted}
 use Rattle.eden_model.specs.Requests.{paths_of}
+use Rattle.eden_model.specs.Operations.{edit, with_content, Replies, Writes, Puts}
 use Rattle.eden_model.specs.Operations.{put, done, after, move, is_front, is_dir, written, resized, Moves, Meets, Says, Refuses, Whether, Unless, Into, At, Reads, Replaces}
-use Rattle.eden_model.specs.ChangeLaws.{OthersStay, WriteSets, TruncateSets, TruncateEmpties, SetExecSets, CreateAdds, MkdirAdds, SymlinkAdds, UnlinkTakesAway, RmdirTakesAway, RenameMoves, RenameLeavesNothing, RenameKeeps, ReadsBack}
+use Rattle.eden_model.specs.ChangeLaws.{Putting, PutSets, PatchIsWrite, PutReadsBack}
+use Rattle.eden_model.specs.ChangeLaws.{OthersStay, TruncateSets, TruncateEmpties, SetExecSets, CreateAdds, MkdirAdds, SymlinkAdds, UnlinkTakesAway, RmdirTakesAway, RenameMoves, RenameLeavesNothing, RenameKeeps}
 use Rattle.eden_model.proofs.AfterTrees.{passed, met_here, else_of, here_of, lands}
 use Rattle.eden_model.proofs.Behinds.{behind_sound}
 use Rattle.eden_model.proofs.Maps.{put_here, other_by, put_there, moved_here, moved_apart, absent_of, kept_beside}
@@ -37,6 +40,7 @@ done_there F (ask.Read r offset count) p x e other = refl
 done_there F (ask.ReadLink r) p x e other = refl
 done_there F (ask.List r above limit) p x e other = refl
 done_there F (ask.Write r offset bytes) p x e other = put_there F r x _ (one_path r p x e other)
+done_there F (ask.Patch r offset bytes) p x e other = put_there F r x _ (one_path r p x e other)
 done_there F (ask.Truncate r size) p x e other = put_there F r x _ (one_path r p x e other)
 done_there F (ask.Create r) p x e other = put_there F r x _ (one_path r p x e other)
 done_there F (ask.SetExec r exec) p x e other = put_there F r x _ (one_path r p x e other)
@@ -59,8 +63,34 @@ others_stay F q (say.Entries es more) p x one other = done_there F q p x one oth
 edited : (F : Tree) (p : Path) (f : Node → Node) (n : Node) → F p ≡ Some n → put F p (option_map f (F p)) p ≡ Some (f n)
 edited F p f n at = put_here F p (option_map f (F p)) ∙ ap (option_map f) at
 
-pub write_sets : WriteSets
-write_sets F p offset count bytes old x at = edited F p _ _ at
+-- what a request that puts bytes into a file makes of the tree
+abbrev pub PutsThem : Putting → Type 0
+PutsThem puts = (F : Tree) (p : Path) (offset : ℕ) (bytes : List ℕ) → done F (puts p offset bytes) ≡ edit F p (with_content (option_map (written offset bytes)))
+
+pub put_sets : (puts : Putting) → PutsThem puts → PutSets puts
+put_sets puts does F p offset count bytes old x at = ap (λ (G : Tree). G p) (does F p offset bytes) ∙ edited F p _ _ at
+
+same_after : (F : Tree) (p : Path) (offset : ℕ) (bytes : List ℕ) (r : Reply) → after F (ask.Patch p offset bytes) r ≡ after F (ask.Write p offset bytes) r
+same_after F p offset bytes say.Ok = refl
+same_after F p offset bytes (say.Kind k) = refl
+same_after F p offset bytes (say.Stat k size n) = refl
+same_after F p offset bytes (say.Data d) = refl
+same_after F p offset bytes (say.Count n) = refl
+same_after F p offset bytes (say.Entries es more) = refl
+same_after F p offset bytes (say.Err e) = refl
+same_after F p offset bytes (say.Fault f) = refl
+
+within : (a b : Bool) (P : Reply → Type 0) (r : Reply) → a ≡ false → b ≡ false → (Unless a EINVAL P r ↔ Unless b EINVAL P r)
+within false false P r ea eb = (λ h. h, λ h. h)
+within true b P r ea eb = cc
+within false true P r ea eb = cc
+
+pub patch_is_write : PatchIsWrite
+patch_is_write F p offset bytes r few = (
+  within (nat_lt most_file (length bytes)) (nat_lt most_data (length bytes)) (At F p (Writes offset bytes)) r
+      (le-ltb most_file (length bytes) (omega (arith, few))) (le-ltb most_data (length bytes) few),
+  same_after F p offset bytes r,
+)
 
 no_bytes : (old : List ℕ) (d k : ℕ) → k ≡ 0 → take 0 old ++ replicate k d ≡ []
 no_bytes old d k e = ap (λ (n : ℕ). take 0 old ++ replicate n d) e
@@ -182,9 +212,12 @@ reads_here G p from count x w passes at =
     subst (λ (r : Reach). Meets r (Refuses ENOENT) (Reads from count) (say.Data (take count (drop from w))))
     (sym (ap (λ (k : Walk). ends k (G p)) passes ∙ ap (ends Passes) at)) (reads_file from count x w (eqb count 0) refl)
 
-pub reads_back : ReadsBack
-reads_back F p offset n from count bytes old x at few replied =
-    let here = here_of (reach F p) _ (say.Count n) refl (else_of (nat_lt most_data (length bytes)) EINVAL _ (say.Count n) refl replied).1 in
-    let G = after F (ask.Write p offset bytes) (say.Count n) in
+-- .. whatever it may put at most
+pub put_reads_back : (puts : Putting) (most : ℕ)
+    → ((F : Tree) (p : Path) (offset : ℕ) (bytes : List ℕ) (r : Reply) → Replies F (puts p offset bytes) r → Puts most F p offset bytes r) → PutsThem puts → PutReadsBack puts
+put_reads_back puts most says does F p offset n from count bytes old x at few replied =
+    let here = here_of (reach F p) _ (say.Count n) refl (else_of (nat_lt most (length bytes)) EINVAL _ (say.Count n) refl (says F p offset bytes (say.Count n) replied)).1 in
+    let G = after F (puts p offset bytes) (say.Count n) in
+    let passes = ap (λ (T : Tree). walk T p) (does F p offset bytes) ∙ walk_put F p _ ∙ (met_here F p here.0 here.1).0 in
     subst (λ (b : Bool). Unless b EINVAL (At G p (Reads from count)) (say.Data (take count (drop from (written offset bytes old))))) (sym (le-ltb most_data count few))
-    (reads_here G p from count x (written offset bytes old) (walk_put F p _ ∙ (met_here F p here.0 here.1).0) (write_sets F p offset n bytes old x at))
+    (reads_here G p from count x (written offset bytes old) passes (put_sets puts does F p offset n bytes old x at))

@@ -1,4 +1,5 @@
 -- What each change of the table does, path by path and byte by byte.
+use Rattle.std.specs.Prelude.{◌↔◌}
 use Rattle.std.specs.Prelude.{◌≡◌, ◌≢◌, ◌<◌, ◌≤◌, ◌+◌, ◌-◌, ◌⊎◌, ℕ, Bool, true, false, max, List, [], ◌∷◌, ◌++◌, length, take, drop, get_or, Option, Some, None}
 use Rattle.eden_model.specs.declared.node.Node.TheVariants.{File, Link, Dir}
 use Rattle.eden_model.specs.declared.request.Request.{Request}
@@ -15,11 +16,33 @@ abbrev pub OthersStay : Type 0
 OthersStay = (F : Tree) (q : Request) (r : Reply) (p x : Path) → paths_of q ≡ p ∷ [] → x ≢ p
     → node_at (after F q r) x ≡ node_at F x
 
--- a file's content after a write
-abbrev pub WriteSets : Type 0
-WriteSets = (F : Tree) (p : Path) (offset count : ℕ) (bytes old : List ℕ) (x : Bool)
+-- what puts bytes into a file, from an offset on
+abbrev pub Putting : Type 0
+Putting = Path → ℕ → List ℕ → Request
+
+abbrev pub writes : Putting
+writes p offset bytes = ask.Write p offset bytes
+
+abbrev pub patches : Putting
+patches p offset bytes = ask.Patch p offset bytes
+
+-- a file's content after it
+abbrev pub PutSets : Putting → Type 0
+PutSets puts = (F : Tree) (p : Path) (offset count : ℕ) (bytes old : List ℕ) (x : Bool)
     → node_at F p ≡ Some (File x (Some old))
-    → node_at (after F (ask.Write p offset bytes) (say.Count count)) p ≡ Some (File x (Some (written offset bytes old)))
+    → node_at (after F (puts p offset bytes) (say.Count count)) p ≡ Some (File x (Some (written offset bytes old)))
+
+abbrev pub WriteSets : Type 0
+WriteSets = PutSets writes
+
+abbrev pub PatchSets : Type 0
+PatchSets = PutSets patches
+
+-- a patch that a write has room for is that write
+abbrev pub PatchIsWrite : Type 0
+PatchIsWrite = (F : Tree) (p : Path) (offset : ℕ) (bytes : List ℕ) (r : Reply) → length bytes ≤ most_data
+    → (Replies F (ask.Patch p offset bytes) r ↔ Replies F (ask.Write p offset bytes) r)
+    × (after F (ask.Patch p offset bytes) r ≡ after F (ask.Write p offset bytes) r)
 
 -- byte by byte: the data where it lies, and elsewhere the old bytes; what is past the end reads as 0, so a gap is zeros
 abbrev pub DataIsWritten : Type 0
@@ -84,10 +107,16 @@ abbrev pub RenameKeeps : Type 0
 RenameKeeps = (F : Tree) (from to x : Path) → is_front from x ≡ false → is_front to x ≡ false
     → node_at (after F (ask.Rename from to) say.Ok) x ≡ node_at F x
 
--- a read after a write has the bytes of the written content
-abbrev pub ReadsBack : Type 0
-ReadsBack = (F : Tree) (p : Path) (offset n from count : ℕ) (bytes old : List ℕ) (x : Bool)
+-- a read after it has the bytes of the written content
+abbrev pub PutReadsBack : Putting → Type 0
+PutReadsBack puts = (F : Tree) (p : Path) (offset n from count : ℕ) (bytes old : List ℕ) (x : Bool)
     → node_at F p ≡ Some (File x (Some old)) → count ≤ most_data
-    → Replies F (ask.Write p offset bytes) (say.Count n)
-    → Replies (after F (ask.Write p offset bytes) (say.Count n)) (ask.Read p from count)
+    → Replies F (puts p offset bytes) (say.Count n)
+    → Replies (after F (puts p offset bytes) (say.Count n)) (ask.Read p from count)
     (say.Data (take count (drop from (written offset bytes old))))
+
+abbrev pub ReadsBack : Type 0
+ReadsBack = PutReadsBack writes
+
+abbrev pub PatchReadsBack : Type 0
+PatchReadsBack = PutReadsBack patches

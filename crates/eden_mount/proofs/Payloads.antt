@@ -12,7 +12,7 @@ use Rattle.eden_model.specs.declared.request.Request.TheVariants as ask
 use Rattle.eden_model.specs.Histories.{fault_of}
 use Rattle.eden_model.specs.Limits.{most_file, most_data, most_target}
 use Rattle.eden_model.specs.Numbers.{Numbering, Numbers, edited, renumbered, number_by, stat_number, with_stat, after_numbers}
-use Rattle.eden_model.specs.Operations.{Meets, Says, Refuses, Whether, Unless, Into, At, OnFile, Writes, Truncates, Adds, Unlinks, Removes, is_dir, is_front, Replaces, Moves, Replies, after}
+use Rattle.eden_model.specs.Operations.{Meets, Says, Refuses, Whether, Unless, Into, At, OnFile, Writes, Puts, Truncates, Adds, Unlinks, Removes, is_dir, is_front, Replaces, Moves, Replies, after}
 use Rattle.eden_model.specs.Paths.{path_eq, is_root}
 use Rattle.eden_model.specs.Requests.{has_payload}
 use Rattle.eden_model.specs.Trees.{Path, Tree, Reach, Fails, Silent, Absent, Here, reach}
@@ -93,6 +93,9 @@ writes offset bytes = on_file _ (λ x c.
     whether (length bytes == 0) _ _ (says_count 0)
     (unless (nat_lt most_file (offset + length bytes)) EFBIG _ (into_count c (length bytes))))
 
+puts : (most : ℕ) (F : Tree) (p : Path) (offset : ℕ) (bytes : List ℕ) → IsPlain (Puts most F p offset bytes)
+puts most F p offset bytes = unless (nat_lt most (length bytes)) EINVAL _ (stands F p _ (writes offset bytes))
+
 truncates : (size : ℕ) (n : Node) → IsPlain (Truncates size n)
 truncates size = on_file _ (λ x c. unless (nat_lt most_file size) EFBIG _ (whether (size == 0) _ _ says_ok (into_ok c)))
 
@@ -104,6 +107,7 @@ untold (ask.Read p offset count) r none = refl
 untold (ask.ReadLink p) r none = refl
 untold (ask.List p above limit) r none = refl
 untold (ask.Write p offset bytes) r none = refl
+untold (ask.Patch p offset bytes) r none = refl
 untold (ask.Truncate p size) r none = refl
 untold (ask.Create p) r none = refl
 untold (ask.SetExec p exec) r none = refl
@@ -149,7 +153,8 @@ module _ (F : Tree) where
   payload_leaves (ask.Read p offset count) r h large = looks (ask.Read p offset count) r refl (λ M. refl)
   payload_leaves (ask.ReadLink p) r h large = looks (ask.ReadLink p) r refl (λ M. refl)
   payload_leaves (ask.List p above limit) r h large = looks (ask.List p above limit) r refl (λ M. refl)
-  payload_leaves (ask.Write p offset bytes) r h large = changes (ask.Write p offset bytes) r (unless (nat_lt most_data (length bytes)) EINVAL _ (stands F p _ (writes offset bytes))) h large
+  payload_leaves (ask.Write p offset bytes) r h large = changes (ask.Write p offset bytes) r (puts most_data F p offset bytes) h large
+  payload_leaves (ask.Patch p offset bytes) r h large = changes (ask.Patch p offset bytes) r (puts most_file F p offset bytes) h large
   payload_leaves (ask.Truncate p size) r h large = changes (ask.Truncate p size) r (stands F p _ (truncates size)) h large
   payload_leaves (ask.Create p) r h large = changes (ask.Create p) r (adds F p) h large
   payload_leaves (ask.SetExec p exec) r h large = changes (ask.SetExec p exec) r (stands F p _ (on_file _ (λ x c. says_ok))) h large

@@ -1,3 +1,4 @@
+pub mod CallerLemmas
 pub mod Cuts
 pub mod FrameLemmas
 pub mod RowLemmas

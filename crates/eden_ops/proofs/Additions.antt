@@ -35,8 +35,7 @@ use Rattle.eden_materialise.specs.declared.new_entry.NewEntry.{NewEntry}
 use Rattle.eden_materialise.specs.Filing.{node_as, IsShort, LacksEntry, IsAddFault}
 use Rattle.eden_model.specs.declared.attempt.Attempt.TheVariants.{Finished}
 use Rattle.eden_inode.specs.Trails.{KeepsNames, KeepsPlaces}
-use Rattle.eden_inode.proofs.Names.{keeps_same}
-use Rattle.eden_inode.proofs.Places.{places_same, places_rise}
+use Rattle.eden_inode.proofs.CallerLemmas.{keeps_same, places_same, places_rise}
 use Rattle.eden_ops.specs.Attempts.{Attempts}
 use Rattle.eden_cache.specs.Stock.{FindsTheSame}
 use Rattle.eden_ops.specs.Changes.{IsAdding, file, dir, link}

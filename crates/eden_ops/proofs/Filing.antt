@@ -13,7 +13,7 @@ use Rattle.eden_model.specs.declared.request.Request.{Request}
 use Rattle.eden_model.specs.declared.request.Request.TheVariants as ask
 use Rattle.eden_model.specs.declared.world.World.{Ghosts}
 use Rattle.eden_model.specs.Histories.{fault_of}
-use Rattle.eden_model.specs.Limits.{most_data}
+use Rattle.eden_model.specs.Limits.{most_data, most_file}
 use Rattle.eden_model.specs.Operations.{OnFile, with_content, put, edit, after}
 use Rattle.eden_model.specs.Requests.{paths_of}
 use Rattle.eden_model.specs.Shown.{node_from}
@@ -33,11 +33,11 @@ use Rattle.eden_cache.specs.Stock.{FindsTheSame}
 use Rattle.eden_ops.specs.Contents.{IsFileAt}
 use Rattle.eden_ops.specs.Keeping.{Keeps}
 use Rattle.eden_ops.specs.Known.{known}
-use Rattle.eden_ops.specs.Requests.{IsFileSeen, IsForFile, for_read, for_write, for_truncate, for_exec}
+use Rattle.eden_ops.specs.Requests.{IsFileSeen, IsForFile, for_read, for_patch, for_truncate, for_exec}
 use Rattle.eden_ops.proofs.Answering.{Asks, walk_ended, says_absent}
 use Rattle.eden_ops.proofs.Changing.{asks_exec, refused}
 use Rattle.eden_ops.proofs.Fetching.{away}
-use Rattle.eden_ops.proofs.Filled.{on_link, on_dir, asks_write, asks_truncate, file_at, fills}
+use Rattle.eden_ops.proofs.Filled.{on_link, on_dir, asks_patch, asks_truncate, file_at, fills}
 use Rattle.eden_ops.proofs.Finding.{finds_on}
 use Rattle.eden_ops.proofs.Looking.{asks_read, IsPlain}
 use Rattle.eden_ops.proofs.Steps.{keeps_on, keeps_counts}
@@ -50,13 +50,13 @@ record AsksFile (q : Request) (p : Path) : Type 1 where
 
 asks_file : (p : Path) (q : Request) → IsForFile p q → AsksFile q p
 asks_file p _ (for_read offset count few) = record { file = _; asks = asks_read p offset count (le-ltb most_data count few) }
-asks_file p _ (for_write offset bytes few) = record { file = _; asks = asks_write offset bytes p (le-ltb most_data (length bytes) few) }
+asks_file p _ (for_patch offset bytes few) = record { file = _; asks = asks_patch offset bytes p (le-ltb most_file (length bytes) few) }
 asks_file p _ (for_truncate size) = record { file = _; asks = asks_truncate size p }
 asks_file p _ (for_exec exec) = record { file = _; asks = asks_exec p exec }
 
 file_paths : (p : Path) (q : Request) → IsForFile p q → paths_of q ≡ p ∷ []
 file_paths p _ (for_read offset count few) = refl
-file_paths p _ (for_write offset bytes few) = refl
+file_paths p _ (for_patch offset bytes few) = refl
 file_paths p _ (for_truncate size) = refl
 file_paths p _ (for_exec exec) = refl
 

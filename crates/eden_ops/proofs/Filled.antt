@@ -16,7 +16,7 @@ use Rattle.eden_model.specs.declared.reply.Reply.{Reply}
 use Rattle.eden_model.specs.declared.reply.Reply.TheVariants as say
 use Rattle.eden_model.specs.declared.world.World.{Ghosts}
 use Rattle.eden_model.specs.Histories.{fault_of}
-use Rattle.eden_model.specs.Limits.{most_data, most_file}
+use Rattle.eden_model.specs.Limits.{most_file}
 use Rattle.eden_model.specs.Operations.{Says, Whether, Unless, Into, At, OnFile, Writes, Truncates, Replies, written, resized, truncated, with_content, put, edit, after}
 use Rattle.eden_model.specs.Paths.{path_eq}
 use Rattle.eden_model.specs.Repository.{Repository, source_of, content_with}
@@ -75,8 +75,8 @@ abbrev pub writes : ℕ → List ℕ → Tree → Node → Reply → Type 0
 writes offset bytes G n = Writes offset bytes n
 
 module _ (offset : ℕ) (bytes : List ℕ) where
-  pub asks_write : (p : Path) → nat_lt most_data (length bytes) ≡ false → Asks (ask.Write p offset bytes) p (writes offset bytes)
-  asks_write p few = record {
+  pub asks_patch : (p : Path) → nat_lt most_file (length bytes) ≡ false → Asks (ask.Patch p offset bytes) p (writes offset bytes)
+  asks_patch p few = record {
     says = λ G r h. subst (λ (b : Bool). Unless b EINVAL (At G p (Writes offset bytes)) r) (sym few) h;
     only = λ G r h. subst (λ (b : Bool). Unless b EINVAL (At G p (Writes offset bytes)) r) few h;
     at = λ G. refl;
@@ -84,8 +84,8 @@ module _ (offset : ℕ) (bytes : List ℕ) where
   }
 
   -- .. of more than is allowed
-  pub refuses_write : (G : Tree) (p : Path) → nat_lt most_data (length bytes) ≡ true → Replies G (ask.Write p offset bytes) (say.Err EINVAL)
-  refuses_write G p many = subst (λ (b : Bool). Unless b EINVAL (At G p (Writes offset bytes)) (say.Err EINVAL)) (sym many) refl
+  pub refuses_patch : (G : Tree) (p : Path) → nat_lt most_file (length bytes) ≡ true → Replies G (ask.Patch p offset bytes) (say.Err EINVAL)
+  refuses_patch G p many = subst (λ (b : Bool). Unless b EINVAL (At G p (Writes offset bytes)) (say.Err EINVAL)) (sym many) refl
 
   -- the reply by what is tested: that there are no bytes, and that they end too far
   abbrev WriteSays : Bool → Bool → Option (List ℕ) → Reply → Type 0
@@ -188,7 +188,7 @@ no_bytes : (bytes : List ℕ) → (length bytes == 0) ≡ true → bytes ≡ []
 no_bytes [] is = refl
 no_bytes (b ∷ bytes) is = absurd (false≢true (sym (eqb-suc-zero (length bytes)) ∙ is))
 
-pub writes_nothing : (p : Path) (offset : ℕ) (bytes : List ℕ) (n : ℕ) → (length bytes == 0) ≡ true → (G : Tree) → after G (ask.Write p offset bytes) (say.Count n) ≡ G
+pub writes_nothing : (p : Path) (offset : ℕ) (bytes : List ℕ) (n : ℕ) → (length bytes == 0) ≡ true → (G : Tree) → after G (ask.Patch p offset bytes) (say.Count n) ≡ G
 writes_nothing p offset bytes n none G =
     ap (λ (b : List ℕ). edit G p (with_content (option_map (written offset b)))) (no_bytes bytes none)
     ∙ put_back G p _ (sym (unwritten offset (G p)))

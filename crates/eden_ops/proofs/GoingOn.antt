@@ -6,8 +6,7 @@ use Rattle.eden_model.specs.Requests.{paths_of}
 use Rattle.eden_tree.specs.Directory.{Row}
 use Rattle.eden_inode.specs.Tables.{Table}
 use Rattle.eden_inode.specs.Trails.{Leads, KeepsNames, KeepsPlaces}
-use Rattle.eden_inode.proofs.Names.{leads_kept}
-use Rattle.eden_inode.proofs.Places.{places_same}
+use Rattle.eden_inode.proofs.CallerLemmas.{leads_kept, places_same}
 use Rattle.eden_ops.specs.declared.place.Place.{Place}
 use Rattle.eden_ops.specs.Trails.{walked_of, is_present, LeadsFor, MayGoOn}
 

@@ -44,3 +44,4 @@ mod Settled
 pub mod Carried
 pub mod Readied
 pub mod Clearing
+mod Patches

@@ -11,8 +11,7 @@ use Rattle.eden_tree.specs.Directory.{Row}
 use Rattle.eden_coupling.specs.Chains.{IsLoadedAt, IsUnsavedAt, NoneMarked, StaysLoaded}
 use Rattle.eden_inode.specs.Tables.{Table, shows, ShowsSameNumbers}
 use Rattle.eden_inode.specs.Trails.{KeepsPlaces}
-use Rattle.eden_inode.proofs.Names.{keeps_same}
-use Rattle.eden_inode.proofs.Places.{places_same}
+use Rattle.eden_inode.proofs.CallerLemmas.{keeps_same, places_same}
 use Rattle.eden_materialise.specs.Faults.{IsStoreFault}
 use Rattle.eden_ops.specs.Carrying.{StaysToThere}
 use Rattle.eden_ops.specs.Letting.{LetsGo}

@@ -23,7 +23,7 @@ use Rattle.eden_coupling.specs.Changing.{MayMove, marked_source}
 use Rattle.eden_coupling.specs.Moving.{CanMove}
 use Rattle.eden_coupling.proofs.CallerLemmas.{map_some, loaded_there, loaded_found, marked_alone}
 use Rattle.eden_inode.specs.Tables.{Table, shows_numbers}
-use Rattle.eden_inode.proofs.Places.{places_then}
+use Rattle.eden_inode.proofs.CallerLemmas.{places_then}
 use Rattle.eden_materialise.specs.EntryMoves.{IsUnmoved}
 use Rattle.eden_materialise.specs.Faults.{IsStoreFault}
 use Rattle.eden_ops.specs.Changes.{SameNames}

@@ -31,6 +31,7 @@ look_edits (ask.Read p offset count) look M = refl
 look_edits (ask.ReadLink p) look M = refl
 look_edits (ask.List p above limit) look M = refl
 look_edits (ask.Write p offset bytes) look M = absurd look
+look_edits (ask.Patch p offset bytes) look M = absurd look
 look_edits (ask.Truncate p size) look M = absurd look
 look_edits (ask.Create p) look M = absurd look
 look_edits (ask.SetExec p exec) look M = absurd look
@@ -40,7 +41,7 @@ look_edits (ask.Unlink p) look M = absurd look
 look_edits (ask.Rmdir p) look M = absurd look
 look_edits (ask.Rename from to) look M = absurd look
 
-by_reply : (q : Request) (r : Reply) (M : Numbering) → edited q M ≡ M → renumbered q r M ≡ M
+pub by_reply : (q : Request) (r : Reply) (M : Numbering) → edited q M ≡ M → renumbered q r M ≡ M
 by_reply q say.Ok M is = is
 by_reply q (say.Kind k) M is = is
 by_reply q (say.Stat k size n) M is = is
@@ -69,6 +70,7 @@ told (ask.Read p offset count) r T tells = tt
 told (ask.ReadLink p) r T tells = tt
 told (ask.List p above limit) r T tells = tt
 told (ask.Write p offset bytes) r T tells = tt
+told (ask.Patch p offset bytes) r T tells = tt
 told (ask.Truncate p size) r T tells = tt
 told (ask.Create p) r T tells = tt
 told (ask.SetExec p exec) r T tells = tt
@@ -85,6 +87,7 @@ look_or_not (ask.Read p offset count) = inl tt
 look_or_not (ask.ReadLink p) = inl tt
 look_or_not (ask.List p above limit) = inl tt
 look_or_not (ask.Write p offset bytes) = inr (λ look. look)
+look_or_not (ask.Patch p offset bytes) = inr (λ look. look)
 look_or_not (ask.Truncate p size) = inr (λ look. look)
 look_or_not (ask.Create p) = inr (λ look. look)
 look_or_not (ask.SetExec p exec) = inr (λ look. look)

@@ -16,7 +16,7 @@ use Rattle.eden_coupling.specs.Loading.{IsAt, IsNew, LoadsOwn}
 use Rattle.eden_coupling.proofs.CallerLemmas.{map_some, none_inside, loaded_there, loaded_found, mark_of, unsaved_standing, standing_unsaved, none_marked_with}
 use Rattle.eden_inode.specs.Tables.{Table}
 use Rattle.eden_inode.specs.Trails.{KeepsPlaces}
-use Rattle.eden_inode.proofs.Places.{places_same, places_then}
+use Rattle.eden_inode.proofs.CallerLemmas.{places_same, places_then}
 use Rattle.eden_materialise.specs.Faults.{IsStoreFault}
 use Rattle.eden_ops.specs.Changes.{StaysOrBecomesOwn, LeavesOn, Leaves}
 use Rattle.eden_ops.specs.Keeping.{Loads, from_object, without, resumed, Step, stamps, loads, rests, Keeps, same, on}

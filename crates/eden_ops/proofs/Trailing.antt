@@ -10,8 +10,7 @@ use Rattle.eden_coupling.specs.Loading.{IsAt, LoadsOwn, with_loaded}
 use Rattle.eden_inode.specs.declared.seen.Seen.{Seen}
 use Rattle.eden_inode.specs.Tables.{Table}
 use Rattle.eden_inode.specs.Trails.{Trail, Leads, KeepsNames, Notes}
-use Rattle.eden_inode.proofs.Names.{keeps_same, keeps_then, keeps_stamps, keeps_loaded, leads_kept}
-use Rattle.eden_inode.proofs.Noting.{leads_few}
+use Rattle.eden_inode.proofs.CallerLemmas.{keeps_same, keeps_then, keeps_stamps, keeps_loaded, leads_kept, leads_few}
 use Rattle.eden_ops.specs.Keeping.{Loads, from_object, without, resumed, Step, stamps, loads, rests, Keeps, same, on}
 use Rattle.eden_ops.specs.Trails.{Counts}
 

@@ -23,14 +23,14 @@ use crate::looks::look;
 use crate::place::{Place, recall};
 use crate::removing::unlink;
 use crate::renaming::rename;
-use crate::writing::{truncate, write};
+use crate::writing::{patch, truncate, write};
 use eden_cache::Stock;
 use eden_inode::{Inodes, Trail};
 use eden_model::{Attempt, Request, World, backing_laws};
 use eden_overlay::Files;
 use std::alloc::{Allocator, Global};
 
-/// One attempt of a change at one path: a `write`, `truncate`, `create`, `setexec`, `mkdir`, `symlink`, `unlink` or `rmdir`.
+/// One attempt of a change at one path: a `write`, `patch`, `truncate`, `create`, `setexec`, `mkdir`, `symlink`, `unlink` or `rmdir`.
 pub fn change<A: Allocator + Clone, W: World, F: Files<W>, C: Allocator + Clone>(
     inodes: &mut Inodes<A, W, F>,
     cache: &mut Stock<W, C>,
@@ -54,6 +54,9 @@ pub fn change<A: Allocator + Clone, W: World, F: Files<W>, C: Allocator + Clone>
     match request {
         Request::Write(path, offset, data) => {
             write(inodes, cache, alloc, path, *offset, data.as_slice(), trail)
+        }
+        Request::Patch(path, offset, data) => {
+            patch(inodes, cache, alloc, path, *offset, data.as_slice(), trail)
         }
         Request::Truncate(path, size) => truncate(inodes, cache, alloc, path, *size, trail),
         Request::Create(path) => create(inodes, cache, alloc, path, trail),
@@ -190,6 +193,7 @@ fn attempt_along<A: Allocator + Clone, W: World, F: Files<W>, C: Allocator + Clo
         }
         Request::Rename(from, to) => rename(inodes, cache, alloc, from, to, walk),
         Request::Write(..)
+        | Request::Patch(..)
         | Request::Truncate(..)
         | Request::Create(_)
         | Request::SetExec(..)

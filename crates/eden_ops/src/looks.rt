@@ -49,6 +49,7 @@ pub fn look<A: Allocator + Clone, W: World, F: Files<W>, C: Allocator + Clone>(
         Request::ReadLink(path) => readlink(inodes, cache, alloc, path, trail),
         Request::List(path, after, limit) => list(inodes, cache, alloc, path, after, *limit, trail),
         Request::Write(..)
+        | Request::Patch(..)
         | Request::Truncate(..)
         | Request::Create(_)
         | Request::SetExec(..)

@@ -1,6 +1,6 @@
 -- How what is answered where a node stands is the answer of the whole request.
 use Rattle.std.proofs.Common.{◌≡◌, ℕ, List, [], ◌∷◌, length, sym, refl, ◌∙◌, ap, subst, Option, Some, None, Result, Ok, Err, IfOk, IfSome, Bool, true, false, cond, eqb, arith}
-use Rattle.std.specs.Prelude.{◌&&◌}
+use Rattle.std.specs.Prelude.{◌&&◌, ◌≤◌}
 use Rattle.std.specs.Option.{option_map}
 use Rattle.std.proofs.Math.Path.{fun_ext}
 use Rattle.std.proofs.lemmas.Bool.{eqb-true}
@@ -11,13 +11,15 @@ use Rattle.eden_model.specs.declared.node.Node.TheVariants.{File}
 use Rattle.eden_oracle.specs.declared.change.Change.{Change}
 use Rattle.eden_oracle.specs.declared.change.Change.TheVariants as change
 use Rattle.eden_model.specs.declared.request.Request.{Request}
+use Rattle.eden_model.specs.declared.request.Request.TheVariants as ask
 use Rattle.eden_model.specs.declared.reply.Reply.{Reply}
 use Rattle.eden_model.specs.declared.reply.Reply.TheVariants as say
-use Rattle.eden_oracle.specs.Changes.{Gives, AnswersHere, changed, Tells}
+use Rattle.eden_oracle.specs.Changes.{Gives, Answers, AnswersHere, changed, Tells}
+use Rattle.eden_model.specs.Limits.{most_data}
 use Rattle.eden_model.specs.Paths.{path_eq, is_root}
 use Rattle.eden_model.specs.Trees.{Path, Tree, Reach, Silent, Here, reach}
 use Rattle.eden_model.specs.Operations.{Meets, Says, Refuses, Whether, Unless, At, Writes, Adds, Moves, Replaces, is_dir, is_front, put, edit, with_content, written, after}
-use Rattle.eden_model.proofs.CallerLemmas.{met_here, path_eq-Decides}
+use Rattle.eden_model.proofs.CallerLemmas.{met_here, path_eq-Decides, patch_is_write}
 
 abbrev pub Answer : Type 0
 Answer = Option (Reply × Change)
@@ -49,6 +51,14 @@ pub gives_by : (P : Reply → Type 0) (F : Tree) (next : Reply → Tree) (o : An
     → Gives P F next o
 gives_by P F next None r e c t = subst (Tells P) (sym e) t
 gives_by P F next (Some a) r e c t = (subst (Tells P) (sym e) t, c)
+
+-- ---- a write that is a patch
+
+pub patched : {E : Type 0} (res : Result Answer E) (F : Tree) (p : Path) (offset : ℕ) (bytes : List ℕ) → length bytes ≤ most_data
+    → IfOk res (Answers F (ask.Patch p offset bytes)) → IfOk res (Answers F (ask.Write p offset bytes))
+patched (Ok None) F p offset bytes few none = λ r says. none r ((patch_is_write F p offset bytes r few).0.1 says)
+patched (Ok (Some a)) F p offset bytes few given = let is = patch_is_write F p offset bytes a.0 few in (is.0.0 given.0, given.1 ∙ is.1)
+patched (Err x) F p offset bytes few h = h
 
 -- ---- a write without bytes
 

@@ -13,7 +13,7 @@ use Rattle.eden_model.specs.declared.reply.Reply.TheVariants as say
 use Rattle.eden_model.specs.Paths.{path_eq, is_root}
 use Rattle.eden_model.specs.Trees.{Name, Path, Tree, Reach, Fails, Silent, Absent, Here, reach}
 use Rattle.eden_model.specs.Operations.{Replies, after, Meets, Says, Refuses, Whether, Unless, Into, At, OnFile, OnDir, IsStat, Stats, Reads, ReadsLink, ListsSome, Lists}
-use Rattle.eden_model.specs.Operations.{kind_of, Writes, Truncates, SetsExec, Adds, Targets, Unlinks, IfEmpty, Removes, is_dir, is_front, Replaces, Moves}
+use Rattle.eden_model.specs.Operations.{kind_of, Writes, Puts, Truncates, SetsExec, Adds, Targets, Unlinks, IfEmpty, Removes, is_dir, is_front, Replaces, Moves}
 use Rattle.eden_model.specs.Limits.{most_file, most_data, most_target, most_entries}
 use Rattle.eden_model.specs.Laws.{without_number, OneReply}
 use Rattle.eden_model.specs.Numbers.{Numbers, StatNumber, Allows, AllowsStat, number_by, stat_number}
@@ -118,6 +118,9 @@ not_writes offset bytes = not_on_file _ (λ x c.
     not_whether (eqb (length bytes) 0) _ _ (not_says (say.Count 0) refl)
     (not_unless (nat_lt most_file (offset + length bytes)) EFBIG _ (not_into c _ (λ b. not_says (say.Count (length bytes)) refl))))
 
+not_puts : (most : ℕ) (F : Tree) (p : Path) (offset : ℕ) (bytes : List ℕ) → HasNone (Puts most F p offset bytes)
+not_puts most F p offset bytes = not_unless (nat_lt most (length bytes)) EINVAL (At F p (Writes offset bytes)) (not_at F p (Writes offset bytes) (not_writes offset bytes))
+
 not_truncates : (size : ℕ) (n : Node) → HasNone (Truncates size n)
 not_truncates size = not_on_file _ (λ x c.
     not_unless (nat_lt most_file size) EFBIG _ (not_whether (eqb size 0) _ _ (not_says say.Ok refl) (not_into c _ (λ b. not_says say.Ok refl))))
@@ -189,9 +192,8 @@ table_renumbers F (ask.ReadLink p) = none_renumbers (Replies F (ask.ReadLink p))
 table_renumbers F (ask.List p above limit) =
     none_renumbers (Replies F (ask.List p above limit))
     (not_unless (eqb limit 0 || nat_lt most_entries limit) EINVAL (At F p (Lists F p above limit)) (not_at F p (Lists F p above limit) (not_lists F p above limit)))
-table_renumbers F (ask.Write p offset bytes) =
-    none_renumbers (Replies F (ask.Write p offset bytes))
-    (not_unless (nat_lt most_data (length bytes)) EINVAL (At F p (Writes offset bytes)) (not_at F p (Writes offset bytes) (not_writes offset bytes)))
+table_renumbers F (ask.Write p offset bytes) = none_renumbers (Replies F (ask.Write p offset bytes)) (not_puts most_data F p offset bytes)
+table_renumbers F (ask.Patch p offset bytes) = none_renumbers (Replies F (ask.Patch p offset bytes)) (not_puts most_file F p offset bytes)
 table_renumbers F (ask.Truncate p size) = none_renumbers (Replies F (ask.Truncate p size)) (not_at F p (Truncates size) (not_truncates size))
 table_renumbers F (ask.Create p) = none_renumbers (Replies F (ask.Create p)) (not_adds F p)
 table_renumbers F (ask.SetExec p exec) = none_renumbers (Replies F (ask.SetExec p exec)) (not_at F p SetsExec not_sets_exec)
@@ -291,6 +293,7 @@ none_left N (ask.Read p offset count) r t e none s same = cc
 none_left N (ask.ReadLink p) r t e none s same = cc
 none_left N (ask.List p above limit) r t e none s same = cc
 none_left N (ask.Write p offset bytes) r t e none s same = cc
+none_left N (ask.Patch p offset bytes) r t e none s same = cc
 none_left N (ask.Truncate p size) r t e none s same = cc
 none_left N (ask.Create p) r t e none s same = cc
 none_left N (ask.SetExec p exec) r t e none s same = cc

@@ -1,5 +1,5 @@
 ghost use Rattle.std.specs.Prelude.{◌≡◌, ◌<◌, ◌≤◌, ◌+◌, length, IfOk};
-ghost use Rattle.eden_model.specs.Limits.{most_data, most_file};
+ghost use Rattle.eden_model.specs.Limits.{most_file};
 ghost use Rattle.eden_oracle.specs.Changes.{Answers, AnswersHere};
 ghost use Rattle.eden_model.specs.Operations.{Writes, Truncates, SetsExec, resized, written};
 ghost use Rattle.eden_oracle.specs.Rows.{tree_of};
@@ -47,24 +47,40 @@ pub(crate) fn write<'a>(
     if bytes.len() as u64 > MAX_DATA {
         return Ok(refused(Errno::EINVAL));
     }
+    patch(alloc, rows, path, offset, bytes)
+}
+
+/// A write of as many bytes as a file may have.
+pub(crate) fn patch<'a>(
+    alloc: Global,
+    rows: &[Row],
+    path: &'a Path,
+    offset: u64,
+    bytes: &[u8],
+) -> Result<Answer<'a>, AllocError>
+    ensures { IfOk result (λ o. Answers (tree_of rows.now) (ask.Patch path.now offset bytes.now) o) }
+{
+    if bytes.len() as u64 > MAX_FILE {
+        return Ok(refused(Errno::EINVAL));
+    }
     match meet(rows, path.as_slice()) {
         Met::Fails(e) => Ok(refused(e)),
         Met::Silent => Ok(None),
         Met::Absent => Ok(refused(Errno::ENOENT)),
-        Met::Here(node) => write_node(alloc, path, node, offset, bytes),
+        Met::Here(node) => patch_node(alloc, path, node, offset, bytes),
     }
 }
 
-fn write_node<'a>(
+fn patch_node<'a>(
     alloc: Global,
     path: &'a Path,
     node: &Node,
     offset: u64,
     bytes: &[u8],
 ) -> Result<Answer<'a>, AllocError>
-    requires { length bytes.now ≤ most_data }
+    requires { length bytes.now ≤ most_file }
     ensures { IfOk result
-        (AnswersHere path.now node.now (Writes offset bytes.now) (ask.Write path.now offset bytes.now)) }
+        (AnswersHere path.now node.now (Writes offset bytes.now) (ask.Patch path.now offset bytes.now)) }
 {
     match node {
         Node::File(exec, content) => {

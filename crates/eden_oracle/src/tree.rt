@@ -9,7 +9,7 @@ ghost use Rattle.eden_oracle.specs.Tables.{Goes, Judges, May, Steps};
 
 use crate::add::{create, mkdir, symlink};
 use crate::change::{Answer, Change, make};
-use crate::edit::{set_exec, truncate, write};
+use crate::edit::{patch, set_exec, truncate, write};
 use crate::list::list;
 use crate::look::{kind, read, read_link, stat};
 use crate::numbers::{Numbers, leaves_numbers};
@@ -66,6 +66,7 @@ fn answer<'a>(alloc: Global, rows: &[Row], request: &'a Request) -> Result<Answe
         Request::ReadLink(path) => read_link(alloc, rows, path),
         Request::List(path, after, limit) => list(alloc, rows, path, after, *limit),
         Request::Write(path, offset, bytes) => write(alloc, rows, path, *offset, bytes.as_slice()),
+        Request::Patch(path, offset, bytes) => patch(alloc, rows, path, *offset, bytes.as_slice()),
         Request::Truncate(path, size) => truncate(alloc, rows, path, *size),
         Request::Create(path) => Ok(create(alloc, rows, path)),
         Request::SetExec(path, exec) => set_exec(alloc, rows, path, *exec),

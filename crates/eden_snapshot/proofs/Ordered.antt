@@ -10,8 +10,7 @@ use Rattle.eden_object.specs.declared.word.Word.TheVariants as word
 use Rattle.eden_object.specs.Encoding.{IsEncoded, tree_text}
 use Rattle.eden_object.specs.Frames.{frame}
 use Rattle.eden_object.specs.Trees.{IsTreeBody}
-use Rattle.eden_object.proofs.FrameLemmas.{one_frame_law}
-use Rattle.eden_object.proofs.RowLemmas.{one_list_law}
+use Rattle.eden_object.proofs.CallerLemmas.{one_frame_law, one_list_law}
 use Rattle.eden_overlay_format.specs.declared.stored_entry.StoredEntry.{StoredEntry}
 use Rattle.eden_overlay.specs.Files.{Stored}
 use Rattle.eden_overlay.specs.Held.{HoldsEntries}

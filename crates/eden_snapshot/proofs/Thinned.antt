@@ -18,7 +18,7 @@ use Rattle.eden_model.specs.Shown.{Item, Items, Ground, node_of, shown, shown_at
 use Rattle.eden_model.specs.Repository.{Repository, Source, Object, Own, Empty, source_of, item_by, entry_named, entries_with, content_with, ground_with, root_of, Whole}
 use Rattle.eden_model.specs.Repository as repository
 use Rattle.eden_object.specs.Encoding.{IsEncoded, tree_text}
-use Rattle.eden_object.proofs.EncodeLemmas.{same_differ}
+use Rattle.eden_object.proofs.CallerLemmas.{same_differ}
 use Rattle.eden_overlay_format.specs.declared.stored_entry.StoredEntry.{StoredEntry}
 use Rattle.eden_overlay_format.specs.Directory.{HasOrigin}
 use Rattle.eden_overlay.specs.Files.{Stored}

@@ -15,10 +15,8 @@ pub decoded : (text name : List ℕ) → AreBytes name → text ≡ name_text na
 decoded text name small e = ap percent_decode (e ∙ sym (escape_is name small)) ∙ round_trip ESCAPED name refl (All-from_recursion IsByte name small)
 
 -- bytes that stand for themselves are the name that they spell
-pub stands : (text name : List ℕ) (n : ℕ) → n ≡ length text → list_all is_plain (take n text) ≡ true → AreBytes name → text ≡ name_text name → text ≡ name
-stands text name n all plain small e =
-    let whole : list_all is_plain text ≡ true = ap (list_all is_plain) (sym (take_all n text (omega (arith, all)))) ∙ plain in
-    name_same text name (plain_are_bytes text whole) small (plain_text text whole ∙ e)
+pub stands : (text name : List ℕ) → list_all is_plain text ≡ true → AreBytes name → text ≡ name_text name → text ≡ name
+stands text name plain small e = name_same text name (plain_are_bytes text plain) small (plain_text text plain ∙ e)
 
 -- bytes that stand for themselves are their own text
 pub stand : (bytes : List ℕ) (n : ℕ) → n ≡ length bytes → list_all is_plain (take n bytes) ≡ true → name_text bytes ≡ bytes

@@ -1,5 +1,5 @@
 -- Lemmas on the fields of a line: they hold no space, so that a text spells them in one way.
-use Rattle.std.proofs.Common.{◌≡◌, ◌≢◌, ℕ, ◌<◌, ◌^◌, List, [], ◌∷◌, ◌++◌, length, Bool, true, false, cond, Option, Some, None, codes, decimal, get_or, take, drop, ◌-◌, ◌≤◌, MatchOption, Result, Ok, Err, IfOk, sym, ap, ◌∙◌, subst, refl, arith}
+use Rattle.std.proofs.Common.{◌≡◌, ◌≢◌, ℕ, ◌<◌, ◌^◌, List, [], ◌∷◌, ◌++◌, append-nil, length, Bool, true, false, cond, Option, Some, None, codes, decimal, get_or, take, drop, ◌-◌, ◌≤◌, MatchOption, Result, Ok, Err, IfOk, sym, ap, ◌∙◌, subst, refl, arith}
 use Rattle.std.proofs.lemmas.Bool.{false≢true}
 use Rattle.std.specs.List.{flat_map}
 use Rattle.std.proofs.lemmas.List.{take_all}
@@ -11,6 +11,7 @@ use Rattle.eden_wire.specs.Fields.{Field, sort_of, bit_text, hex_text, after_tex
 use Rattle.eden_wire.specs.Fields.Field.{of_path, of_number, of_bit, of_data, of_after}
 use Rattle.eden_wire.specs.Splits.{Lacks, IsCutAt, IsPart, BeginsWith}
 use Rattle.eden_wire.specs.Scans.{ScansName, ScansPath, ScansAfter, SpellsNoName, SpellsNoAfter, SpellsPath, SpellsAfter, SpellsData, SpellsNo, Scans, SpellNoFields, ScansFields, NextIs, Takes}
+use Rattle.eden_wire.specs.Scans.{LastIs}
 use Rattle.eden_wire.specs.declared.word.Sort.{Sort}
 use Rattle.eden_wire.specs.declared.word.Sort.TheVariants as sort
 use Rattle.eden_wire.proofs.NumberLemmas.{digit_range, spelled_value}
@@ -150,6 +151,37 @@ none_later s sorts text part more cut none fields h e =
     let first = first_field s sorts fields text part more cut h e in
     none first.later first.fit first.rest
 
+-- ---- the last field, in which no space is looked for
+
+or_none : (x : Option Errno) → option_or x None ≡ x
+or_none None = refl
+or_none (Some e) = refl
+
+pub last_scans : (s : Sort) (text inside : List ℕ) (refusal : Option Errno) → text ≡ 32 ∷ inside → Scans s inside refusal → ScansFields (s ∷ []) text refusal
+last_scans s text inside refusal whole scan = record {
+  fields = scan.spelt ∷ [];
+  good = (scan.is_sort, scan.good, tt);
+  spelled = whole ∙ ap (λ l. 32 ∷ l) (scan.spelled ∙ sym (append-nil (field_text scan.spelt)));
+  refused = scan.refused ∙ sym (or_none (field_refusal scan.spelt));
+}
+
+pub last_spells_none : (s : Sort) (text inside : List ℕ) → text ≡ 32 ∷ inside → SpellsNo s inside → SpellNoFields (s ∷ []) text
+last_spells_none s text inside whole none [] h e = h
+last_spells_none s text inside whole none (f ∷ []) h e =
+    let same : inside ≡ field_text f ++ [] = cc in
+    none f h.0 h.1 (same ∙ append-nil (field_text f))
+last_spells_none s text inside whole none (f ∷ g ∷ fields) h e = absurd h.2
+
+pub begins_whole : (text : List ℕ) → BeginsWith 32 text → text ≡ 32 ∷ take (length text - 1) (drop 1 text)
+begins_whole [] h = absurd h
+begins_whole (b ∷ text) h = ap (λ v. v ∷ text) h ∙ ap (λ l. 32 ∷ l) (sym (take_all (length (b ∷ text) - 1) text (omega arith)))
+
+-- what holds of the only sort
+pub by_only : (P : List Sort → Type 0) (sorts : List Sort) (d : Sort) → length sorts ≡ 1 → P (get_or sorts 0 d ∷ []) → P sorts
+by_only P [] d one h = absurd (omega arith)
+by_only P (s ∷ []) d one h = h
+by_only P (s ∷ t ∷ sorts) d one h = absurd (omega arith)
+
 -- ---- one field of each sort
 
 pub not_dash : (text : List ℕ) → false ≡ bytes_eq text (codes "-") → text ≡ codes "-" → ⊥
@@ -223,6 +255,20 @@ next_field s text part more next cut =
     let first = first_field s next.0 scan.fields text part more cut scan.good scan.spelled in
     let none : None ≡ option_or (field_refusal first.field) (first_refusal first.later) = scan.refused ∙ ap first_refusal first.whole in
     record { spelt = first.field; is_sort = first.is_sort; good = first.good; spelled = first.spelled; refused = (first_none _ _ none).0 }
+
+pub last_part : (s : Sort) (text inside : List ℕ) → LastIs s text → text ≡ 32 ∷ inside → IsPart 32 text inside []
+last_part s text inside scan whole = at scan.fields scan.good scan.spelled
+  where
+    at : (fields : List Field) → AreFields (s ∷ []) fields → text ≡ fields_text fields → IsPart 32 text inside []
+    at [] h e = absurd h
+    at (f ∷ []) h e =
+        let same : inside ≡ field_text f ++ [] = cc in
+        record {
+          whole = whole ∙ ap (λ l. 32 ∷ l) (sym (append-nil inside));
+          plain = subst (Lacks 32) (sym (same ∙ append-nil (field_text f))) (field_lacks f h.1);
+          cut = tt;
+        }
+    at (f ∷ g ∷ fields) h e = absurd h.2
 
 pub takes : (f : Field) (text part more : List ℕ) → IsPart 32 text part more → IsField f → part ≡ field_text f → Takes f text more
 takes f text part more cut good spelled = record {

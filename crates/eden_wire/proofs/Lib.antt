@@ -1,4 +1,5 @@
 pub mod Slices
+pub mod Waiting
 pub mod Growing
 pub mod NumberLemmas
 pub mod Escapes

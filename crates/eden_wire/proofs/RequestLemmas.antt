@@ -1,7 +1,9 @@
 -- Lemmas on lines: a line is one item.
 use Rattle.std.proofs.Common.{◌==◌, ◌||◌, ◌≡◌, ◌≢◌, ℕ, List, [], ◌∷◌, ◌++◌, Bool, true, false, Option, Some, None, sym, ap, ◌∙◌, subst, refl, take, drop, take-append-drop, Result, Ok, Err, OnErr}
+use Rattle.std.proofs.Common.{length, arith}
 use Rattle.std.proofs.lemmas.Bool.{false≢true}
 use Rattle.std.specs.List.{find, list_any}
+use Rattle.std.specs.Option.{is_some}
 use Rattle.std.specs.Str.{bytes_eq}
 use Rattle.eden_model.specs.declared.errno.Errno.{Errno}
 use Rattle.eden_model.specs.declared.request.Request.{Request}
@@ -9,10 +11,10 @@ use Rattle.eden_model.specs.declared.request.Request.TheVariants as request
 use Rattle.eden_wire.specs.Words.{word_text, shape_of}
 use Rattle.eden_wire.specs.Fields.{Field, sort_of, field_text, fields_text, AreFields, first_refusal}
 use Rattle.eden_wire.specs.Fields.Field.{of_path, of_number, of_bit, of_data, of_after}
-use Rattle.eden_wire.specs.Requests.{word_of, fields_of, request_line, IsSpelled, request_refusal}
+use Rattle.eden_wire.specs.Requests.{word_of, fields_of, Spells, request_refusal}
 use Rattle.eden_wire.specs.Splits.{Lacks, IsCutAt, IsFirstPart}
-use Rattle.eden_wire.specs.Scans.{SpellNoFields, ScansFields, SpellsFields, NextIs, Takes}
-use Rattle.eden_wire.specs.Lines.{Reads, AsksSome, OneItem}
+use Rattle.eden_wire.specs.Scans.{SpellNoFields, ScansFields, SpellsFields, NextIs, LastIs, Takes}
+use Rattle.eden_wire.specs.Lines.{Reads, AsksSome, OneItem, NoLinePatches}
 use Rattle.eden_wire.specs.declared.request.Item.TheVariants.{Asks, Refuses, Bad}
 use Rattle.eden_wire.specs.declared.word.Sort.{Sort}
 use Rattle.eden_wire.specs.declared.word.Sort.TheVariants as sort
@@ -82,7 +84,7 @@ word_same v w e = let both : Some v ≡ Some w = sym (word_read v) ∙ ap read_w
 -- a request of this word with these fields
 record Made (w : Word) (fields : List Field) : Type 0 where
   value : Request
-  its_word : word_of value ≡ w
+  its_word : word_of value ≡ Some w
   its_fields : fields_of value ≡ fields
 
 path_of : (f : Field) → sort_of f ≡ sort.Path → (path : List (List ℕ)) × (of_path path ≡ f)
@@ -124,7 +126,7 @@ three s t (f ∷ g ∷ []) h = absurd h.2.2
 three s t (f ∷ g ∷ k ∷ []) h = let x = path_of f h.0 in (x.0, g, k, h.2.0, h.2.2.0, ap (λ v. v ∷ g ∷ k ∷ []) x.1)
 three s t (f ∷ g ∷ k ∷ l ∷ fields) h = absurd h.2.2.2
 
-by_path : (w : Word) (make : List (List ℕ) → Request) → ((path : List (List ℕ)) → word_of (make path) ≡ w) → ((path : List (List ℕ)) → fields_of (make path) ≡ of_path path ∷ [])
+by_path : (w : Word) (make : List (List ℕ) → Request) → ((path : List (List ℕ)) → word_of (make path) ≡ Some w) → ((path : List (List ℕ)) → fields_of (make path) ≡ of_path path ∷ [])
     → (fields : List Field) → AreFields (sort.Path ∷ []) fields → Made w fields
 by_path w make its_word its_fields fields h = let x = one fields h in record { value = make x.0; its_word = its_word x.0; its_fields = its_fields x.0 ∙ x.1 }
 
@@ -187,21 +189,29 @@ request_of word.Rmdir (of_path p ∷ []) = Some (request.Rmdir p)
 request_of word.Rename (of_path p ∷ of_path q ∷ []) = Some (request.Rename p q)
 request_of w fields = None
 
-its_request : (q : Request) → request_of (word_of q) (fields_of q) ≡ Some q
-its_request (request.Kind p) = refl
-its_request (request.Stat p) = refl
-its_request (request.Read p m n) = refl
-its_request (request.ReadLink p) = refl
-its_request (request.List p a n) = refl
-its_request (request.Write p m d) = refl
-its_request (request.Truncate p n) = refl
-its_request (request.Create p) = refl
-its_request (request.SetExec p b) = refl
-its_request (request.Mkdir p) = refl
-its_request (request.Symlink p d) = refl
-its_request (request.Unlink p) = refl
-its_request (request.Rmdir p) = refl
-its_request (request.Rename p q) = refl
+abbrev request_by : Option Word → List Field → Option Request
+request_by None fields = None
+request_by (Some w) fields = request_of w fields
+
+its_own : (q : Request) → is_some (word_of q) ≡ true → request_by (word_of q) (fields_of q) ≡ Some q
+its_own (request.Kind p) some = refl
+its_own (request.Stat p) some = refl
+its_own (request.Read p m n) some = refl
+its_own (request.ReadLink p) some = refl
+its_own (request.List p a n) some = refl
+its_own (request.Write p m d) some = refl
+its_own (request.Patch p m d) some = cc
+its_own (request.Truncate p n) some = refl
+its_own (request.Create p) some = refl
+its_own (request.SetExec p b) some = refl
+its_own (request.Mkdir p) some = refl
+its_own (request.Symlink p d) some = refl
+its_own (request.Unlink p) some = refl
+its_own (request.Rmdir p) some = refl
+its_own (request.Rename p q) some = refl
+
+its_request : (q : Request) (w : Word) → word_of q ≡ Some w → request_of w (fields_of q) ≡ Some q
+its_request q w is = sym (ap (λ o. request_by o (fields_of q)) is) ∙ its_own q (ap is_some is)
 
 -- ---- a request is read from a text that was looked through
 
@@ -220,6 +230,22 @@ starts word.Symlink text scan = (_, scan)
 starts word.Unlink text scan = (_, scan)
 starts word.Rmdir text scan = (_, scan)
 starts word.Rename text scan = (_, scan)
+
+pub alone : (w : Word) (text : List ℕ) → length (shape_of w) ≡ 1 → ScansFields (shape_of w) text None → LastIs sort.Path text
+alone word.Kind text one scan = scan
+alone word.Stat text one scan = scan
+alone word.Read text one scan = absurd (omega arith)
+alone word.ReadLink text one scan = scan
+alone word.List text one scan = absurd (omega arith)
+alone word.Write text one scan = absurd (omega arith)
+alone word.Truncate text one scan = absurd (omega arith)
+alone word.Create text one scan = scan
+alone word.SetExec text one scan = absurd (omega arith)
+alone word.Mkdir text one scan = scan
+alone word.Symlink text one scan = absurd (omega arith)
+alone word.Unlink text one scan = scan
+alone word.Rmdir text one scan = scan
+alone word.Rename text one scan = absurd (omega arith)
 
 pub next : (f : Field) (s : Sort) (sorts : List Sort) (text more : List ℕ) → ScansFields (sort_of f ∷ s ∷ sorts) text None → Takes f text more → NextIs s more
 next f s sorts text more scan took = (sorts, took.on (s ∷ sorts) scan)
@@ -269,65 +295,68 @@ line_parts line first rest w fields cut e = first_part 32 first (word_text w) re
 
 pub no_word : (line first rest : List ℕ) → Cut line first rest → ((w : Word) → first ≢ word_text w) → Reads line Bad
 unfolding Reads
-no_word line first rest cut none q e spelled = none (word_of q) (line_parts line first rest (word_of q) (fields_of q) cut e).0
+no_word line first rest cut none q s = none s.first (line_parts line first rest s.first (fields_of q) cut s.text).0
 
 pub no_fields : (line first rest : List ℕ) (w : Word) → Cut line first rest → first ≡ word_text w → SpellNoFields (shape_of w) rest → Reads line Bad
 unfolding Reads
-no_fields line first rest w cut is none q e spelled =
-    let parts = line_parts line first rest (word_of q) (fields_of q) cut e in
-    let same : word_of q ≡ w = word_same (word_of q) w (sym parts.0 ∙ is) in
-    none (fields_of q) (subst (λ v. AreFields (shape_of v) (fields_of q)) same spelled) parts.1
+no_fields line first rest w cut is none q s =
+    let parts = line_parts line first rest s.first (fields_of q) cut s.text in
+    let same : s.first ≡ w = word_same s.first w (sym parts.0 ∙ is) in
+    none (fields_of q) (subst (λ v. AreFields (shape_of v) (fields_of q)) same s.fields) parts.1
 
 -- a request of a line's word and fields
-asks : (line first rest : List ℕ) (w : Word) (refusal : Option Errno) (q : Request) → Cut line first rest → first ≡ word_text w → ScansFields (shape_of w) rest refusal → word_of q ≡ w
-    → AreFields (shape_of w) (fields_of q) → rest ≡ fields_text (fields_of q) → (line ≡ request_line q) × IsSpelled q × (request_refusal q ≡ refusal)
-asks line first rest w refusal q cut is scan same good spelled = (
-  cut.whole ∙ ap (λ l. l ++ rest) (is ∙ ap word_text (sym same)) ∙ ap (λ l. word_text (word_of q) ++ l) spelled,
-  subst (λ v. AreFields (shape_of v) (fields_of q)) (sym same) good,
+asks : (line first rest : List ℕ) (w : Word) (refusal : Option Errno) (q : Request) → Cut line first rest → first ≡ word_text w → ScansFields (shape_of w) rest refusal → word_of q ≡ Some w
+    → AreFields (shape_of w) (fields_of q) → rest ≡ fields_text (fields_of q) → Spells q line × (request_refusal q ≡ refusal)
+asks line first rest w refusal q cut is scan its good spelled = (
+  record { first = w; begins = its; text = cut.whole ∙ ap (λ l. l ++ rest) is ∙ ap (λ l. word_text w ++ l) spelled; fields = good },
   ap first_refusal (fields_same (shape_of w) (fields_of q) scan.fields good scan.good (sym spelled ∙ scan.spelled)) ∙ sym scan.refused,
 )
 
-scanned : (line first rest : List ℕ) (w : Word) (refusal : Option Errno) → Cut line first rest → first ≡ word_text w → ScansFields (shape_of w) rest refusal → (q : Request) × (line ≡ request_line q)
-    × IsSpelled q × (request_refusal q ≡ refusal)
+scanned : (line first rest : List ℕ) (w : Word) (refusal : Option Errno) → Cut line first rest → first ≡ word_text w → ScansFields (shape_of w) rest refusal
+    → (q : Request) × Spells q line × (request_refusal q ≡ refusal)
 scanned line first rest w refusal cut is scan =
     let m = made w scan.fields scan.good in
     let all = asks line first rest w refusal m.value cut is scan m.its_word (subst (AreFields (shape_of w)) (sym m.its_fields) scan.good) (scan.spelled ∙ ap fields_text (sym m.its_fields)) in
-    (m.value, all.0, all.1, all.2)
+    (m.value, all.0, all.1)
 
 pub refused : (line first rest : List ℕ) (w : Word) (e : Errno) → Cut line first rest → first ≡ word_text w → ScansFields (shape_of w) rest (Some e) → Reads line (Refuses e)
 unfolding Reads
 refused line first rest w e cut is scan = scanned line first rest w (Some e) cut is scan
 
-pub asked : (line first rest : List ℕ) (w : Word) (q : Request) → Cut line first rest → first ≡ word_text w → ScansFields (shape_of w) rest None → word_of q ≡ w
+pub asked : (line first rest : List ℕ) (w : Word) (q : Request) → Cut line first rest → first ≡ word_text w → ScansFields (shape_of w) rest None → word_of q ≡ Some w
     → SpellsFields (shape_of w) rest (fields_of q) → Reads line (Asks q)
 unfolding Reads
 asked line first rest w q cut is scan same whole = asks line first rest w None q cut is scan same whole.good whole.whole
 
 pub asks_some : (line first rest : List ℕ) (w : Word) → Cut line first rest → first ≡ word_text w → ScansFields (shape_of w) rest None → AsksSome line
 unfolding Reads
-asks_some line first rest w cut is scan = let x = scanned line first rest w None cut is scan in (x.0, (x.1, x.2, x.3))
+asks_some line first rest w cut is scan = let x = scanned line first rest w None cut is scan in (x.0, (x.1, x.2))
 
 -- ---- a line has one item
 
-request_same : (q r : Request) → IsSpelled q → IsSpelled r → request_line q ≡ request_line r → q ≡ r
-request_same q r h k e =
-    let parts = first_part 32 (word_text (word_of q)) (word_text (word_of r)) (fields_text (fields_of q)) (fields_text (fields_of r)) (word_lacks (word_of q)) (word_lacks (word_of r))
-    (fields_cut (fields_of q)) (fields_cut (fields_of r)) e in
-    let words_same : word_of q ≡ word_of r = word_same (word_of q) (word_of r) parts.0 in
-    let all : fields_of q ≡ fields_of r = fields_same (shape_of (word_of r)) (fields_of q) (fields_of r) (subst (λ v. AreFields (shape_of v) (fields_of q)) words_same h) k parts.1 in
-    let both : Some q ≡ Some r = sym (its_request q) ∙ ap (λ v. request_of v (fields_of q)) words_same ∙ ap (request_of (word_of r)) all ∙ its_request r in
+request_same : (q r : Request) (line : List ℕ) → Spells q line → Spells r line → q ≡ r
+request_same q r line h k =
+    let parts = first_part 32 (word_text h.first) (word_text k.first) (fields_text (fields_of q)) (fields_text (fields_of r)) (word_lacks h.first) (word_lacks k.first)
+    (fields_cut (fields_of q)) (fields_cut (fields_of r)) (sym h.text ∙ k.text) in
+    let words_same : h.first ≡ k.first = word_same h.first k.first parts.0 in
+    let all : fields_of q ≡ fields_of r = fields_same (shape_of k.first) (fields_of q) (fields_of r) (subst (λ v. AreFields (shape_of v) (fields_of q)) words_same h.fields) k.fields parts.1 in
+    let both : Some q ≡ Some r = sym (its_request q h.first h.begins) ∙ ap (λ v. request_of v (fields_of q)) words_same ∙ ap (request_of k.first) all ∙ its_request r k.first k.begins in
     cc
+
+pub no_line_patches : NoLinePatches
+unfolding Reads
+no_line_patches line path offset bytes h = let none : None ≡ Some h.0.first = h.0.begins in cc
 
 pub one_item : OneItem
 unfolding Reads
-one_item line (Asks q) (Asks r) h k = ap Asks (request_same q r h.1 k.1 (sym h.0 ∙ k.0))
-one_item line (Asks q) (Refuses e) h k = absurd (let f : None ≡ Some e = sym h.2 ∙ ap request_refusal (request_same q k.0 h.1 k.2 (sym h.0 ∙ k.1)) ∙ k.3 in cc)
-one_item line (Asks q) Bad h k = absurd (k q h.0 h.1)
-one_item line (Refuses e) (Asks r) h k = absurd (let f : None ≡ Some e = sym k.2 ∙ ap request_refusal (request_same r h.0 k.1 h.2 (sym k.0 ∙ h.1)) ∙ h.3 in cc)
-one_item line (Refuses e) (Refuses d) h k = let f : Some e ≡ Some d = sym h.3 ∙ ap request_refusal (request_same h.0 k.0 h.2 k.2 (sym h.1 ∙ k.1)) ∙ k.3 in ap Refuses cc
-one_item line (Refuses e) Bad h k = absurd (k h.0 h.1 h.2)
-one_item line Bad (Asks r) h k = absurd (h r k.0 k.1)
-one_item line Bad (Refuses d) h k = absurd (h k.0 k.1 k.2)
+one_item line (Asks q) (Asks r) h k = ap Asks (request_same q r line h.0 k.0)
+one_item line (Asks q) (Refuses e) h k = absurd (let f : None ≡ Some e = sym h.1 ∙ ap request_refusal (request_same q k.0 line h.0 k.1) ∙ k.2 in cc)
+one_item line (Asks q) Bad h k = absurd (k q h.0)
+one_item line (Refuses e) (Asks r) h k = absurd (let f : None ≡ Some e = sym k.1 ∙ ap request_refusal (request_same r h.0 line k.0 h.1) ∙ h.2 in cc)
+one_item line (Refuses e) (Refuses d) h k = let f : Some e ≡ Some d = sym h.2 ∙ ap request_refusal (request_same h.0 k.0 line h.1 k.1) ∙ k.2 in ap Refuses cc
+one_item line (Refuses e) Bad h k = absurd (k h.0 h.1)
+one_item line Bad (Asks r) h k = absurd (h r k.0)
+one_item line Bad (Refuses d) h k = absurd (h k.0 k.1)
 one_item line Bad Bad h k = refl
 
 -- what holds at any answer

@@ -4,7 +4,9 @@ use Rattle.std.proofs.Common.{true, take, drop, take-append-drop, length-take-le
 use Rattle.std.specs.List.{list_any, list_all}
 use Rattle.std.specs.Option.{option_or}
 use Rattle.std.specs.Str.{bytes_eq}
+use Rattle.std.proofs.Math.Seq.{drop-length}
 use Rattle.std.proofs.lemmas.Bool.{ne_eqb, or_from}
+use Rattle.std.proofs.lemmas.List.{take_all}
 use Rattle.std.proofs.lemmas.List.Concat.{flat_map-append}
 use Rattle.std.proofs.lemmas.List.Folds.{list_any-append}
 use Rattle.std.proofs.lemmas.List.Sums.{sum_by-append}
@@ -96,6 +98,13 @@ scans_name {text} some so none no_name_is refused =
       fits = omega (arith, so.fits);
       refused = cc (no_name_is, so.barred_is, spelled, shows_no_name so.done good, so.len_is);
     }
+
+-- the whole text stands for itself
+pub scans_plain : (text : List ℕ) (len : ℕ) (no_name : Bool) (refusal : Option Errno) → 0 < length text → list_all is_plain text ≡ true → len ≡ length text
+    → no_name ≡ (false || is_dots text) → refusal ≡ refusal_by no_name len → ScansName text len refusal
+scans_plain text len no_name refusal some plain all no_name_is refused =
+    scans_name some (plain_front text [] len (omega (arith, all)) (ap (list_all is_plain) (take_all len text (omega (arith, all))) ∙ plain) (sym (ap (λ k. drop k text) all ∙ drop-length text))) refl
+    no_name_is refused
 
 -- of a path's text the spelling of some names was looked through, and the rest is still there
 pub record PathSoFar (text rest : List ℕ) (refusal : Option Errno) (names bytes : ℕ) : Type 0 where

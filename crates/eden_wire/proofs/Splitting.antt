@@ -1,10 +1,12 @@
 -- Lemmas on bytes that are cut at a mark.
-use Rattle.std.proofs.Common.{inl, inr, ◌≡◌, ◌≢◌, ℕ, ◌+◌, ◌<◌, ◌≤◌, List, ◌∷◌, ◌++◌, take, drop, length, suc, sym, ap, ◌∙◌, subst, append_assoc, take-append-drop, get_or, get_or-take, length-take-le, length-drop, drop-cons, arith}
+use Rattle.std.proofs.Common.{inl, inr, ◌≡◌, ◌≢◌, ℕ, ◌+◌, ◌<◌, ◌≤◌, List, [], ◌∷◌, ◌++◌, true, take, drop, length, suc, sym, ap, ◌∙◌, subst, append_assoc, take-append-drop, get_or, get_or-take, length-take-le, length-drop, drop-cons, arith}
 use Rattle.std.proofs.Math.Seq.{drop-length, take-add}
-use Rattle.std.proofs.lemmas.Bool.{eq-eqb, eqb-true, cases_lt}
+use Rattle.std.proofs.lemmas.Bool.{false≢true, and_parts, eq-eqb, eqb-true, cases_lt}
+use Rattle.std.specs.List.{list_all}
 use Rattle.std.proofs.lemmas.List.{drop-drop}
 use Rattle.std.proofs.lemmas.List.Elements.{All-from_get_or, recursion_from_All}
 use Rattle.memchr.specs.Find.{Nowhere, NoneBefore, Passes, is_byte}
+use Rattle.eden_wire.specs.Names.{is_plain}
 use Rattle.eden_wire.specs.Lines.{IsLineOf, IsOneLine}
 use Rattle.eden_wire.specs.Splits.{Lacks, IsCutAt, IsFirstPart}
 use Rattle.eden_wire.proofs.PathLemmas.{lacks-append}
@@ -102,3 +104,19 @@ line_found bytes slice s n e within before first here =
           (append_assoc (take s bytes) (take n slice) (10 ∷ drop (s + n + 1) bytes)) ∙ ap (λ l. l ++ 10 ∷ drop (s + n + 1) bytes) (sym front);
       one = subst IsOneLine (sym front) (lacks-append 10 (take s bytes) (take n slice) before part.plain);
     }
+
+-- bytes that stand for themselves hold no slash: they are the part before it
+pub plain_part : (bytes : List ℕ) (n : ℕ) → n ≤ length bytes → list_all is_plain (take n bytes) ≡ true → IsCutAt 47 (drop n bytes) → IsFirstPart bytes 47 n
+plain_part bytes n within plain cut = record { within = within; plain = plain_lacks (take n bytes) plain; cut = cut }
+  where
+    plain_lacks : (xs : List ℕ) → list_all is_plain xs ≡ true → Lacks 47 xs
+    plain_lacks [] h = tt
+    plain_lacks (x ∷ xs) h =
+        let parts = and_parts (is_plain x) (list_all is_plain xs) h in
+        (λ e. false≢true (ap is_plain (sym e) ∙ parts.0), plain_lacks xs parts.1)
+
+pub slash_cut : (bytes : List ℕ) (n : ℕ) → n < length bytes → get_or bytes n 0 ≡ 47 → IsCutAt 47 (drop n bytes)
+slash_cut bytes n inside here = subst (IsCutAt 47) (sym (drop-cons bytes n 0 inside)) here
+
+pub end_cut : (bytes : List ℕ) (n : ℕ) → n ≡ length bytes → IsCutAt 47 (drop n bytes)
+end_cut bytes n all = subst (IsCutAt 47) (sym (ap (λ k. drop k bytes) all ∙ drop-length bytes)) tt

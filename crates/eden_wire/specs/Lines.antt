@@ -3,7 +3,9 @@ use Rattle.std.specs.Prelude.{ℕ, ◌+◌, take, drop, ◌<◌, ◌≤◌, ◌�
 use Rattle.std.specs.List.{AllByRecursion}
 use Rattle.std.specs.Io.KnownBytes.{IsAtEnd}
 use Rattle.eden_model.specs.declared.request.Request.{Request}
-use Rattle.eden_wire.specs.Requests.{request_line, IsSpelled, request_refusal}
+use Rattle.eden_model.specs.declared.request.Request.TheVariants as request
+use Rattle.eden_model.specs.Trees.{Path}
+use Rattle.eden_wire.specs.Requests.{Spells, request_refusal}
 use Rattle.eden_wire.specs.declared.request.Item.{Item}
 use Rattle.eden_wire.specs.declared.request.Item.TheVariants.{Asks, Refuses, Bad}
 
@@ -13,9 +15,9 @@ longest_line = 150000
 
 -- what a line is: a request, a request whose names aren't names, or neither
 unfoldable pub Reads : List ℕ → Item → Type 0
-Reads line (Asks q) = (line ≡ request_line q) × IsSpelled q × (request_refusal q ≡ None)
-Reads line (Refuses e) = (q : Request) × (line ≡ request_line q) × IsSpelled q × (request_refusal q ≡ Some e)
-Reads line Bad = (q : Request) → line ≡ request_line q → IsSpelled q → ⊥
+Reads line (Asks q) = Spells q line × (request_refusal q ≡ None)
+Reads line (Refuses e) = (q : Request) × Spells q line × (request_refusal q ≡ Some e)
+Reads line Bad = (q : Request) → ¬ Spells q line
 
 -- the line is a request
 abbrev pub AsksSome : List ℕ → Type 0
@@ -24,6 +26,10 @@ AsksSome line = (q : Request) × Reads line (Asks q)
 -- a line is one item
 abbrev pub OneItem : Type 0
 OneItem = (line : List ℕ) (x y : Item) → Reads line x → Reads line y → x ≡ y
+
+-- no line asks for a patch
+abbrev pub NoLinePatches : Type 0
+NoLinePatches = (line : List ℕ) (path : Path) (offset : ℕ) (bytes : List ℕ) → ¬ Reads line (Asks (request.Patch path offset bytes))
 
 -- no line feed among the bytes
 abbrev pub IsOneLine : List ℕ → Type 0

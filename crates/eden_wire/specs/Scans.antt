@@ -100,6 +100,10 @@ pub record SpellsFields (sorts : List Sort) (text : List ℕ) (fields : List Fie
 abbrev pub NextIs : Sort → List ℕ → Type 0
 NextIs sort text = (sorts : List Sort) × ScansFields (sort ∷ sorts) text None
 
+-- a field of this sort is all that comes, and nothing is refused
+abbrev pub LastIs : Sort → List ℕ → Type 0
+LastIs sort text = ScansFields (sort ∷ []) text None
+
 -- this field was read
 pub record Takes (taken : Field) (old new : List ℕ) : Type 0 where
   pub good : IsField taken

@@ -3,13 +3,13 @@ ghost use Rattle.eden_wire.specs.Names.{AreBytes};
 ghost use Rattle.eden_wire.specs.Fields.{bit_text, hex_text};
 ghost use Rattle.eden_wire.specs.Fields.Field.{of_path, of_number, of_bit, of_data, of_after};
 ghost use Rattle.eden_wire.specs.declared.word.Sort.TheVariants as sort;
-ghost use Rattle.eden_wire.specs.Scans.{SpellsNo, Scans, SpellNoFields, ScansFields, SpellsData, NextIs, Takes};
+ghost use Rattle.eden_wire.specs.Scans.{SpellsNo, Scans, SpellNoFields, ScansFields, SpellsData, NextIs, LastIs, Takes};
 
 use crate::hex_text::{are_digits, decode};
 use crate::name_text::{read_after, scan_after};
 use crate::number::read_number;
 use crate::path_text::{read_path, scan_path};
-use crate::split::next_part;
+use crate::split::{behind, next_part};
 use crate::word::Sort;
 use eden_model::{Bytes, Errno, Name, Path};
 use std::alloc::{AllocError, Global};
@@ -76,6 +76,7 @@ pub(crate) fn scan_fields(sorts: &[Sort], text: &[u8]) -> Option<Option<Errno>>
 {
     match sorts {
         [] if text.is_empty() => Some(None),
+        [sort] if text.starts_with(b" ") => scan_field(*sort, &text[1..]),
         [sort, later @ ..] if text.starts_with(b" ") => {
             let (field, more) = next_part(text, b' ');
             let refusal = scan_field(*sort, field)?;
@@ -108,6 +109,16 @@ impl<'a> Fields<'a> {
         read_path(alloc, text)
     }
 
+    /// The only field, a path, in which no space is looked for. The only error is want of memory.
+    pub(crate) fn only_path(&mut self, alloc: Global) -> Result<Path, AllocError>
+        requires { LastIs sort.Path self.old.rest.now }
+        ensures { IfOk result (λ path. Takes (of_path path) self.old.rest.now self.new.rest.now) }
+    {
+        let text = behind(self.rest, b' ');
+        self.rest = &self.rest[..0];
+        read_path(alloc, text)
+    }
+
     /// The next field, a number.
     pub(crate) fn number(&mut self) -> u64
         requires { NextIs sort.Number self.old.rest.now }
@@ -128,13 +139,13 @@ impl<'a> Fields<'a> {
         read_bit(text).unwrap()
     }
 
-    /// The next field, bytes. The only error is want of memory.
+    /// The last field, bytes, in which no space is looked for. The only error is want of memory.
     pub(crate) fn data(&mut self, alloc: Global) -> Result<Bytes, AllocError>
-        requires { NextIs sort.Data self.old.rest.now }
+        requires { LastIs sort.Data self.old.rest.now }
         ensures { IfOk result (λ bytes. Takes (of_data bytes) self.old.rest.now self.new.rest.now) }
     {
-        let (text, more) = next_part(self.rest, b' ');
-        self.rest = more;
+        let text = behind(self.rest, b' ');
+        self.rest = &self.rest[..0];
         read_data(alloc, text)
     }
 

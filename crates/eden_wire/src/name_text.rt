@@ -1,5 +1,6 @@
-ghost use Rattle.std.specs.Prelude.{◌≡◌, ◌||◌, ◌==◌, ℕ, List, MatchOption, IfOk};
-ghost use Rattle.eden_wire.specs.Names.{name_text, AreBytes, IsComponent, SpellsName};
+ghost use Rattle.std.specs.Prelude.{◌≡◌, ◌||◌, ◌==◌, ℕ, List, true, IsTrue, MatchOption, IfOk};
+ghost use Rattle.std.specs.List.{list_all};
+ghost use Rattle.eden_wire.specs.Names.{is_plain, name_text, AreBytes, IsComponent, SpellsName};
 ghost use Rattle.eden_wire.specs.Scans.{is_dots, refusal_by, ScansName, SpellsNoName, ScansAfter, SpellsAfter, SpellsNoAfter};
 ghost use Rattle.eden_wire.specs.Fields.{IsAfter, after_text};
 
@@ -61,16 +62,42 @@ pub(crate) fn scan_name(text: &[u8]) -> Option<ScannedName>
     Some(ScannedName { len, refusal })
 }
 
+/// What `scan_name` says, by a shorter way where it is known that all bytes stand for themselves.
+pub(crate) fn scan_component(text: &[u8], plain: bool) -> Option<ScannedName>
+    requires { IsTrue plain → list_all is_plain text.now ≡ true }
+    ensures { MatchOption result (SpellsNoName text.now) (λ s. ScansName text.now s.len s.refusal) }
+{
+    if !plain {
+        return scan_name(text);
+    }
+    if text.is_empty() {
+        return None;
+    }
+    let len = text.len();
+    let refusal = refusal_by(is_no_name(false, text), len);
+    Some(ScannedName { len, refusal })
+}
+
 // The bytes that the text spells. The only error is want of memory.
 fn spelled(alloc: Global, text: &[u8]) -> Result<Vec<u8>, AllocError>
     ensures { IfOk result (λ v. (name : List ℕ) → AreBytes name → text.now ≡ name_text name → v.items ≡ name) }
 {
-    if plain_len(text) == text.len() {
-        return Vec::from_slice(alloc, text);
-    }
     let mut bytes = Vec::new(alloc);
     percent_decode(text).append_to(&mut bytes)?;
     Ok(bytes)
+}
+
+/// The name that the text spells, of which it may be known that all bytes stand for themselves. The only error is want
+/// of memory.
+pub(crate) fn read_component(alloc: Global, text: &[u8], plain: bool) -> Result<Name, AllocError>
+    requires named { SpellsName text.now }
+    requires plain { IsTrue plain → list_all is_plain text.now ≡ true }
+    ensures { IfOk result (λ n. IsComponent n × (text.now ≡ name_text n)) }
+{
+    if plain {
+        return Name::from_judged(alloc, text);
+    }
+    Ok(Name::new(spelled(alloc, text)?).unwrap())
 }
 
 /// The name that the text spells. The only error is want of memory.
@@ -78,7 +105,7 @@ pub(crate) fn read_name(alloc: Global, text: &[u8]) -> Result<Name, AllocError>
     requires { SpellsName text.now }
     ensures { IfOk result (λ n. IsComponent n × (text.now ≡ name_text n)) }
 {
-    Ok(Name::new(spelled(alloc, text)?).unwrap())
+    read_component(alloc, text, plain_len(text) == text.len())
 }
 
 /// Looks through the field AFTER, and says why it is refused; none where it is neither `-` nor the text of a component.

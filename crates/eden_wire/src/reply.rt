@@ -1,5 +1,5 @@
 ghost use Rattle.std.specs.Prelude.{◌≡◌, ◌≤◌, ◌++◌, length, codes, decimal};
-ghost use Rattle.eden_wire.specs.declared.reply.TheConstants.{PIECE};
+ghost use Rattle.eden_wire.specs.declared.reply.TheConstants.{PIECE, SHORT};
 ghost use Rattle.std.specs.List.{flat_map};
 ghost use Rattle.hex.specs.Hex.{encode_lower};
 ghost use Rattle.eden_wire.specs.Writing.{Writes, Grows};
@@ -20,6 +20,9 @@ const ESCAPED: AsciiSet = ascii_set!(NON_ALPHANUMERIC.remove(b'.').remove(b'_'))
 
 // So many bytes are made hexadecimal at once.
 const PIECE: usize = 1024;
+
+// So few bytes are made hexadecimal in a room of their own.
+const SHORT: usize = 32;
 
 // An escaped name of 255 bytes.
 const LONGEST_NAME: usize = 765;
@@ -61,6 +64,10 @@ fn put_name<W: Write>(output: &mut Output, writer: &mut W, name: &[u8])
 fn put_hex<W: Write>(output: &mut Output, writer: &mut W, bytes: &[u8])
     ensures { Grows (W.contents writer.old) (W.contents writer.new) output.old output.new (encode_lower bytes.now) }
 {
+    if bytes.len() <= SHORT {
+        put_short(output, writer, bytes);
+        return;
+    }
     let mut rest = bytes;
     'pieces: while !rest.is_empty() {
         let (piece, more) = rest.split_at(rest.len().min(PIECE));
@@ -76,6 +83,17 @@ fn put_piece<W: Write>(output: &mut Output, writer: &mut W, piece: &[u8])
     let mut digits = [0; 2 * PIECE];
     let text = &mut digits[..2 * piece.len()];
     encode(piece, text);
+    output.put(writer, text);
+}
+
+// The same for a few bytes, for which less room is filled with zeros first.
+fn put_short<W: Write>(output: &mut Output, writer: &mut W, bytes: &[u8])
+    requires { length bytes.now ≤ SHORT }
+    ensures { Grows (W.contents writer.old) (W.contents writer.new) output.old output.new (encode_lower bytes.now) }
+{
+    let mut digits = [0; 2 * SHORT];
+    let text = &mut digits[..2 * bytes.len()];
+    encode(bytes, text);
     output.put(writer, text);
 }
 

@@ -1,13 +1,14 @@
-ghost use Rattle.std.specs.Prelude.{◌≡◌, IfOk, OnErr, None};
+ghost use Rattle.std.specs.Prelude.{◌≡◌, IfOk, OnErr, Some, None};
 ghost use Rattle.eden_wire.specs.Lines.{Reads, AsksSome};
 ghost use Rattle.eden_wire.specs.Requests.{word_of, fields_of};
 ghost use Rattle.eden_wire.specs.Words.{shape_of};
-ghost use Rattle.eden_wire.specs.Scans.{ScansFields, SpellsFields};
+ghost use Rattle.eden_wire.specs.Fields.Field.{of_path};
+ghost use Rattle.eden_wire.specs.Scans.{ScansFields, SpellsFields, Takes};
 
 use crate::field::{Fields, scan_fields};
 use crate::split::part_len;
 use crate::word::{Word, read_word};
-use eden_model::{Errno, Request};
+use eden_model::{Errno, Path, Request};
 use std::alloc::{AllocError, Global};
 
 /// What a line of input is.
@@ -37,14 +38,25 @@ pub fn read_request(alloc: Global, line: &[u8]) -> Result<Item, AllocError>
     }
 }
 
+// The path that each request begins with. The only error is want of memory.
+fn first_path(alloc: Global, word: Word, fields: &mut Fields) -> Result<Path, AllocError>
+    requires { ScansFields (shape_of word) fields.old.rest.now None }
+    ensures { IfOk result (λ path. Takes (of_path path) fields.old.rest.now fields.new.rest.now) }
+{
+    match word.shape() {
+        [_] => fields.only_path(alloc),
+        _ => fields.path(alloc),
+    }
+}
+
 // The request of the word and the fields behind it. The only error is want of memory.
 fn build(alloc: Global, word: Word, text: &[u8]) -> Result<Request, AllocError>
     requires { ScansFields (shape_of word) text.now None }
-    ensures word { IfOk result (λ q. word_of q ≡ word) }
+    ensures word { IfOk result (λ q. word_of q ≡ Some word) }
     ensures fields { IfOk result (λ q. SpellsFields (shape_of word) text.now (fields_of q)) }
 {
     let mut fields = Fields::new(text);
-    let path = fields.path(alloc)?;
+    let path = first_path(alloc, word, &mut fields)?;
     Ok(match word {
         Word::Kind => Request::Kind(path),
         Word::Stat => Request::Stat(path),

@@ -1,4 +1,4 @@
-ghost use Rattle.std.specs.Prelude.{length};
+ghost use Rattle.std.specs.Prelude.{◌≡◌, ◌∷◌, length};
 ghost use Rattle.eden_wire.specs.Splits.{BeginsWith, IsFirstPart, IsPart};
 
 use memchr::memchr;
@@ -22,6 +22,14 @@ pub(crate) fn part_len(bytes: &[u8], mark: u8) -> usize
         Some(at) => NEAR + at,
         None => bytes.len(),
     }
+}
+
+/// The text behind the mark at its beginning.
+pub(crate) fn behind(text: &[u8], mark: u8) -> &[u8]
+    requires { BeginsWith mark text.now }
+    ensures { text.now ≡ mark ∷ result.now }
+{
+    &text[1..]
 }
 
 /// The text between the mark at its beginning and the next such mark, and the text from there.

@@ -72,6 +72,12 @@ fn put_request(rt: &(impl AllocGlobal + Abort), text: &mut Vec<u8>, request: &Re
             put(rt, text, b" ");
             put(rt, text, bytes.as_slice());
         }
+        Request::Patch(path, offset, bytes) => {
+            put_at(rt, text, b"patch", path);
+            put_number(rt, text, *offset);
+            put(rt, text, b" ");
+            put(rt, text, bytes.as_slice());
+        }
         Request::Truncate(path, size) => {
             put_at(rt, text, b"truncate", path);
             put_number(rt, text, *size);

@@ -40,6 +40,24 @@ const OVERWRITTEN: Row = Row {
     files: &[(1, 87), (2, 74)],
 };
 
+/// A patch needs what a write does, and may be longer. Its file is stored once.
+const PATCHED: Row = Row {
+    root: ONE_FILE,
+    objects: 8,
+    steps: &[
+        Step::Need(TEST, Ask::Patch(8, b"2"), ONE_FILE),
+        Step::Ask(TEST, Ask::Patch(5, b""), Want::Count(0)),
+        Step::Need(TEST, Ask::Patch(8, b"2"), VERSION_1),
+        Step::Ask(TEST, Ask::Patch(8, b"2"), Want::Count(1)),
+        Step::Ask(TEST, Ask::WriteLong(12), Want::Err(Errno::EINVAL)),
+        Step::Ask(TEST, Ask::PatchLong(12), Want::Count(65_537)),
+        Step::Ask(TEST, Ask::Read(0, 14), Want::Data(b"version 2\n\0\0aa")),
+        Step::Ask(TEST, Ask::PatchLong(1_073_676_288), Want::Err(Errno::EFBIG)),
+        Step::Ask(TEST, Ask::Stat, Want::Stat(Kind::File, 65_549, 2)),
+    ],
+    files: &[(1, 87), (2, 65_613)],
+};
+
 /// A write of nothing leaves no file.
 const NOT_WRITTEN: Row = Row {
     root: ONE_FILE,
@@ -233,6 +251,7 @@ const UNTOLD: Row = Row {
 const ROWS: &[Row] = &[
     WRITTEN,
     OVERWRITTEN,
+    PATCHED,
     NOT_WRITTEN,
     CUT,
     FILLED,

@@ -3,7 +3,9 @@
 use crate::mount::{KEPT, Mount, key_of};
 use crate::paths::{name, path};
 use crate::whole::bytes;
-use eden_model::{Attempt, Entries, Errno, Fault, Kind, Name, Outside, Path, Reply, Request};
+use eden_model::{
+    Attempt, Bytes, Entries, Errno, Fault, Kind, Name, Outside, Path, Reply, Request,
+};
 use eden_overlay::{Files, MemoryFiles};
 use std::alloc::Global;
 use std::process::Abort;
@@ -31,6 +33,10 @@ pub(crate) enum Ask {
     ReadLink,
     List(Option<&'static [u8]>, u64),
     Write(u64, &'static [u8]),
+    Patch(u64, &'static [u8]),
+    /// 65,537 bytes `a`, one more than a write may have.
+    WriteLong(u64),
+    PatchLong(u64),
     Truncate(u64),
     Create,
     SetExec(bool),
@@ -99,6 +105,12 @@ fn entry(rt: &impl Abort, alloc: Global, at: Path, ask: Ask) -> Request {
     }
 }
 
+fn long(rt: &impl Abort, alloc: Global) -> Bytes {
+    let mut content = Vec::new(alloc);
+    content.resize(65_537, b'a').expect(rt, "memory");
+    Bytes::new(content)
+}
+
 /// What is asked of the path of these names.
 pub(crate) fn request(rt: &impl Abort, alloc: Global, names: Names, ask: Ask) -> Request {
     let at = path(rt, alloc, names);
@@ -110,6 +122,9 @@ pub(crate) fn request(rt: &impl Abort, alloc: Global, names: Names, ask: Ask) ->
         Ask::SetExec(exec) => Request::SetExec(at, exec),
         Ask::Truncate(size) => Request::Truncate(at, size),
         Ask::Write(offset, new) => Request::Write(at, offset, bytes(rt, alloc, new)),
+        Ask::Patch(offset, new) => Request::Patch(at, offset, bytes(rt, alloc, new)),
+        Ask::WriteLong(offset) => Request::Write(at, offset, long(rt, alloc)),
+        Ask::PatchLong(offset) => Request::Patch(at, offset, long(rt, alloc)),
         other => entry(rt, alloc, at, other),
     }
 }

@@ -13,6 +13,12 @@ fn bytes(rt: &impl Abort, alloc: Global, text: &str) -> Bytes {
     Bytes::new(owned(rt, alloc, text))
 }
 
+fn long(rt: &impl Abort, alloc: Global) -> Bytes {
+    let mut content = Vec::new(alloc);
+    content.resize(65_537, b'a').expect(rt, "memory");
+    Bytes::new(content)
+}
+
 fn name(rt: &impl Abort, alloc: Global, text: &str) -> Name {
     Name::new(owned(rt, alloc, text)).expect(rt, "a name")
 }
@@ -66,6 +72,10 @@ enum Ask {
     /// So many entries behind that name.
     ListAfter(&'static str, u64),
     Write(u64, &'static str),
+    /// 65,537 bytes `a`, one more than a write may have.
+    WriteLong(u64),
+    Patch(u64, &'static str),
+    PatchLong(u64),
     Truncate(u64),
     Create,
     SetExec(bool),
@@ -85,6 +95,9 @@ fn request(rt: &impl Abort, alloc: Global, at: Path, ask: Ask) -> Request {
         Ask::List(limit) => Request::List(at, None, limit),
         Ask::ListAfter(text, limit) => Request::List(at, Some(name(rt, alloc, text)), limit),
         Ask::Write(offset, new) => Request::Write(at, offset, bytes(rt, alloc, new)),
+        Ask::WriteLong(offset) => Request::Write(at, offset, long(rt, alloc)),
+        Ask::Patch(offset, new) => Request::Patch(at, offset, bytes(rt, alloc, new)),
+        Ask::PatchLong(offset) => Request::Patch(at, offset, long(rt, alloc)),
         Ask::Truncate(size) => Request::Truncate(at, size),
         Ask::Create => Request::Create(at),
         Ask::SetExec(exec) => Request::SetExec(at, exec),
@@ -279,6 +292,32 @@ static READ_AND_WRITTEN: [Line; 23] = [
 #[test]
 fn a_file_is_read_and_written(rt: HostRuntime) {
     answers(&rt, rt.alloc(), &ONE_FILE, &READ_AND_WRITTEN);
+}
+
+static PATCHED: [Line; 14] = [
+    ("/no", Ask::WriteLong(0), Say::Err(Errno::EINVAL)),
+    ("/no", Ask::PatchLong(0), Say::Err(Errno::ENOENT)),
+    ("/", Ask::Patch(0, "x"), Say::Err(Errno::EISDIR)),
+    ("/test.txt", Ask::WriteLong(0), Say::Err(Errno::EINVAL)),
+    ("/test.txt", Ask::PatchLong(0), Say::Count(65_537)),
+    ("/test.txt", Ask::Stat, Say::Stat(Kind::File, 65_537, 2)),
+    ("/test.txt", Ask::Patch(65_538, "!"), Say::Count(1)),
+    ("/test.txt", Ask::Read(65_536, 9), Say::Data("a\0!")),
+    ("/test.txt", Ask::Patch(1, "b"), Say::Count(1)),
+    ("/test.txt", Ask::Read(0, 4), Say::Data("abaa")),
+    (
+        "/test.txt",
+        Ask::PatchLong(1_073_676_288),
+        Say::Err(Errno::EFBIG),
+    ),
+    ("/test.txt", Ask::Patch(1_073_741_824, ""), Say::Count(0)),
+    ("/test.txt", Ask::Read(65_536, 9), Say::Data("a\0!")),
+    ("/test.txt", Ask::Stat, Say::Stat(Kind::File, 65_539, 2)),
+];
+
+#[test]
+fn a_file_is_patched_beyond_the_limit_of_a_write(rt: HostRuntime) {
+    answers(&rt, rt.alloc(), &ONE_FILE, &PATCHED);
 }
 
 static MOVED: [Line; 16] = [

@@ -1,4 +1,4 @@
-//! The lines of requests, each in its one spelling.
+//! The lines of requests, each in its one spelling. No line spells a patch.
 
 use eden_model::{Bytes, Name, Path, Request};
 use itoa::Buffer;
@@ -71,6 +71,7 @@ impl Line {
     }
 }
 
+/// The word of a request; a patch has none.
 fn word(request: &Request) -> &'static [u8] {
     match request {
         Request::Kind(_) => b"kind",
@@ -79,6 +80,7 @@ fn word(request: &Request) -> &'static [u8] {
         Request::ReadLink(_) => b"readlink",
         Request::List(_, _, _) => b"list",
         Request::Write(_, _, _) => b"write",
+        Request::Patch(_, _, _) => b"",
         Request::Truncate(_, _) => b"truncate",
         Request::Create(_) => b"create",
         Request::SetExec(_, _) => b"setexec",
@@ -94,6 +96,7 @@ fn path(request: &Request) -> &Path {
     match request {
         Request::Kind(at) | Request::Stat(at) | Request::ReadLink(at) => at,
         Request::Read(at, _, _) | Request::List(at, _, _) | Request::Write(at, _, _) => at,
+        Request::Patch(at, _, _) => at,
         Request::Truncate(at, _) | Request::SetExec(at, _) | Request::Symlink(at, _) => at,
         Request::Create(at) | Request::Mkdir(at) | Request::Unlink(at) => at,
         Request::Rmdir(at) | Request::Rename(at, _) => at,

@@ -41,14 +41,17 @@ fn clients(rt: &impl Abort, alloc: Global) -> Vec<Client> {
     clients
 }
 
-/// A request of any kind, or a look.
+/// A request of any kind, or a look. In the place of a patch, which has no line, comes the write of its bytes.
 fn some_request(rt: &impl Abort, alloc: Global, tree: &mut WholeTree, seed: &mut u64) -> Request {
     let made = if random(seed) % 2 == 0 {
         request(alloc, tree, seed)
     } else {
         some_look(alloc, tree, seed)
     };
-    made.expect(rt, "a request")
+    match made.expect(rt, "a request") {
+        Request::Patch(at, offset, bytes) => Request::Write(at, offset, bytes),
+        spelled => spelled,
+    }
 }
 
 /// Gives each client its lines: requests of what would stand there if they came in the order in which they are made up.

@@ -78,7 +78,8 @@ fn edit(alloc: Global, at: Path, seed: &mut u64) -> Result<Request, Unmade> {
     let word = random(seed);
     let few = u64::from(word % 16);
     Ok(match random(seed) % 6 {
-        0..=2 => Request::Write(at, few, some_bytes(alloc, seed)?),
+        0..=1 => Request::Write(at, few, some_bytes(alloc, seed)?),
+        2 => Request::Patch(at, few, some_bytes(alloc, seed)?),
         3..=4 => Request::Truncate(at, few),
         _ => Request::SetExec(at, word % 2 == 0),
     })

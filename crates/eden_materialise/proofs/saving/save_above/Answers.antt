@@ -1,6 +1,6 @@
 use Rattle.std.proofs.Common.{◌<◌, length, refl, ◌∙◌, arith}
 use Rattle.eden_coupling.specs.Saving.{none}
-use Rattle.eden_inode.proofs.Names.{keeps_same, keeps_then}
+use Rattle.eden_inode.proofs.CallerLemmas.{keeps_same, keeps_then}
 use Rattle.eden_materialise.proofs.Fronts.{none_yet, one_more_saved, refused_above}
 use Rattle.eden_materialise.proofs.saving.save_above.Goals as goal
 

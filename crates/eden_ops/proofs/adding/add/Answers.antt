@@ -14,7 +14,7 @@ use Rattle.eden_inode.specs.Tables.{shows}
 use Rattle.eden_materialise.specs.Filing.{node_as, own_row}
 use Rattle.eden_model.specs.declared.attempt.Attempt.{Attempt}
 use Rattle.eden_model.specs.declared.attempt.Attempt.TheVariants.{Finished}
-use Rattle.eden_inode.proofs.Places.{places_rise}
+use Rattle.eden_inode.proofs.CallerLemmas.{places_rise}
 use Rattle.eden_ops.specs.Attempts.{Attempts, Meets, MeetsShown, IsShown}
 use Rattle.eden_ops.specs.Keeping.{same}
 use Rattle.eden_ops.specs.Changes.{SameNames}

@@ -1,6 +1,6 @@
 use Rattle.std.proofs.Common.{◌≡◌, ◌<◌, ◌⊎◌, ℕ, List, length, sym, subst}
 use Rattle.eden_model.specs.declared.request.Request.{Request}
-use Rattle.eden_model.specs.Limits.{most_data, most_target}
+use Rattle.eden_model.specs.Limits.{most_data, most_file, most_target}
 use Rattle.eden_model.specs.Requests.{paths_of}
 use Rattle.eden_ops.specs.Already.{IsSoAlready}
 use Rattle.eden_ops.specs.Keeping.{Keeps}
@@ -31,6 +31,20 @@ returns-in-Write-clause-leads g c =
 
 pub write-requires : goal.write-requires
 write-requires g c = record { leads = subst (λ (q : Request). Leads (first_of (paths_of q)) c.args.trail.now.positions c.args.inodes.now.root) c.in-Write.is c.requires.leads }
+
+pub returns-in-Patch-clause-refused : goal.returns-in-Patch-clause-refused
+returns-in-Patch-clause-refused g c = subst (λ (q : Request). IsBeyondLimits q → c.patch.new.inodes ≡ c.args.inodes.now) (sym c.in-Patch.is)
+    (subst (λ (bytes : List ℕ). most_file < length bytes → c.patch.new.inodes ≡ c.args.inodes.now) c.as_slice-in-Patch.ensures c.patch.ensures.refused)
+
+pub returns-in-Patch-clause-counts : goal.returns-in-Patch-clause-counts
+returns-in-Patch-clause-counts g c = subst (λ (q : Request). Counts (first_of (paths_of q)) c.args.trail.now c.patch.new.trail) (sym c.in-Patch.is) c.patch.ensures.counts
+
+pub returns-in-Patch-clause-leads : goal.returns-in-Patch-clause-leads
+returns-in-Patch-clause-leads g c =
+    subst (λ (q : Request). LeadsToNeed (first_of (paths_of q)) c.patch.new.trail.positions c.patch.new.inodes.root c.patch.result) (sym c.in-Patch.is) c.patch.ensures.leads
+
+pub patch-requires : goal.patch-requires
+patch-requires g c = record { leads = subst (λ (q : Request). Leads (first_of (paths_of q)) c.args.trail.now.positions c.args.inodes.now.root) c.in-Patch.is c.requires.leads }
 
 pub returns-in-Truncate-clause-counts : goal.returns-in-Truncate-clause-counts
 returns-in-Truncate-clause-counts g c = subst (λ (q : Request). Counts (first_of (paths_of q)) c.args.trail.now c.truncate.new.trail) (sym c.in-Truncate.is) c.truncate.ensures.counts

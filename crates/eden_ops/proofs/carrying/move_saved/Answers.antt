@@ -5,7 +5,7 @@ use Rattle.eden_coupling.specs.Kept.{IsKept}
 use Rattle.eden_coupling.specs.Ties.{Tied}
 use Rattle.eden_inode.specs.Saved.{AreSavedAt}
 use Rattle.eden_inode.specs.Tables.{shows, shows_numbers}
-use Rattle.eden_inode.proofs.Places.{places_then, places_rise}
+use Rattle.eden_inode.proofs.CallerLemmas.{places_then, places_rise}
 use Rattle.eden_materialise.specs.Faults.{IsStoreFault}
 use Rattle.eden_ops.specs.Carrying.{CanHold}
 use Rattle.eden_ops.specs.Changes.{SameNames, StaysOrBecomesOwn}

@@ -44,7 +44,7 @@ use Rattle.eden_inode.specs.Trails.{Leads}
 use Rattle.eden_ops.proofs.Renumbering.{edits_ended, edits_gone, edits_kept, edits_same, next_no_less, none_numbered}
 use Rattle.eden_ops.proofs.Seeing.{kept_dirs}
 use Rattle.eden_materialise.specs.Renumbering.{TakesNumbers}
-use Rattle.eden_inode.proofs.Places.{places_rise}
+use Rattle.eden_inode.proofs.CallerLemmas.{places_rise}
 use Rattle.eden_ops.proofs.emptied.rmdir.Goals as goal
 
 -- ---- the walk ends before, or nothing is there

@@ -20,7 +20,7 @@ use Rattle.eden_inode.specs.Tables.{shows}
 use Rattle.eden_materialise.specs.Reforms.{of_kind}
 use Rattle.eden_model.specs.declared.attempt.Attempt.{Attempt}
 use Rattle.eden_model.specs.declared.attempt.Attempt.TheVariants.{Finished}
-use Rattle.eden_inode.proofs.Places.{places_same}
+use Rattle.eden_inode.proofs.CallerLemmas.{places_same}
 use Rattle.eden_ops.specs.Attempts.{Attempts}
 use Rattle.eden_ops.specs.Requests.{for_exec}
 use Rattle.eden_ops.specs.Changes.{SameNames, exec_kind}

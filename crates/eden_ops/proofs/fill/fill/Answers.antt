@@ -10,7 +10,7 @@ use Rattle.eden_coupling.specs.Laws.{owned}
 use Rattle.eden_materialise.specs.Faults.{IsStoreFault}
 use Rattle.eden_ops.specs.Changes.{SameNames}
 use Rattle.eden_inode.specs.Tables.{shows}
-use Rattle.eden_inode.proofs.Places.{places_same}
+use Rattle.eden_inode.proofs.CallerLemmas.{places_same}
 use Rattle.eden_ops.proofs.Changing.{has_file, file_alone, put_alone}
 use Rattle.eden_ops.proofs.Roots.{root_filled}
 use Rattle.eden_ops.proofs.Saving.{leaves_by, no_less, stored_count}

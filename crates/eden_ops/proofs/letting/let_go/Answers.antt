@@ -1,5 +1,5 @@
 use Rattle.std.proofs.Common.{arith}
-use Rattle.eden_inode.proofs.Places.{places_unload}
+use Rattle.eden_inode.proofs.CallerLemmas.{places_unload}
 use Rattle.eden_ops.proofs.Going.{lets_go, goes_marks}
 use Rattle.eden_ops.proofs.letting.let_go.Goals as goal
 

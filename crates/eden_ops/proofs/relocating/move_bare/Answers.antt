@@ -1,7 +1,7 @@
 use Rattle.std.proofs.Common.{◌++◌, ◌∷◌, [], refl, sym, subst, inl, inr}
 use Rattle.eden_model.specs.Trees.{Path}
 use Rattle.eden_inode.specs.Tables.{shows}
-use Rattle.eden_inode.proofs.Places.{places_rise}
+use Rattle.eden_inode.proofs.CallerLemmas.{places_rise}
 use Rattle.eden_ops.specs.Relocating.{MarksAlone}
 use Rattle.eden_ops.proofs.Relocation.{bare_apart, can_move_bare, moves_shown, unmoved_fewer, unmoved_marks, unmoved_names}
 use Rattle.eden_ops.proofs.Roots.{root_moved, root_unmoved}

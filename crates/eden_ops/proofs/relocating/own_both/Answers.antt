@@ -1,7 +1,7 @@
 use Rattle.std.proofs.Common.{Ok, ap, inr}
 use Rattle.eden_tree.specs.Directory.{Row}
 use Rattle.eden_coupling.specs.Materialising.{owned_along}
-use Rattle.eden_inode.proofs.Places.{places_same}
+use Rattle.eden_inode.proofs.CallerLemmas.{places_same}
 use Rattle.eden_ops.proofs.Names.{names_same, fewer_same}
 use Rattle.eden_ops.proofs.Owned.{own_names, own_fewer}
 use Rattle.eden_ops.proofs.Relocation.{readies_on, readies_err}

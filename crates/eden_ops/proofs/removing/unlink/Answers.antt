@@ -15,7 +15,7 @@ use Rattle.eden_inode.specs.declared.seen.Seen.{Seen}
 use Rattle.eden_model.specs.declared.attempt.Attempt.{Attempt}
 use Rattle.eden_model.specs.declared.attempt.Attempt.TheVariants.{Finished}
 use Rattle.eden_inode.specs.Tables.{shows}
-use Rattle.eden_inode.proofs.Places.{places_rise}
+use Rattle.eden_inode.proofs.CallerLemmas.{places_rise}
 use Rattle.eden_ops.specs.Attempts.{Attempts, MeetsShown, IsShown}
 use Rattle.eden_ops.specs.Changes.{SameNames}
 use Rattle.eden_ops.specs.Keeping.{same}

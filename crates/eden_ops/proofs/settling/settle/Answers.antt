@@ -1,4 +1,4 @@
-use Rattle.eden_inode.proofs.Places.{places_same}
+use Rattle.eden_inode.proofs.CallerLemmas.{places_same}
 use Rattle.eden_ops.proofs.Settled.{alike_above, marks_above, alike_names, alike_fewer, alike_root}
 use Rattle.eden_ops.proofs.Stamped.{alike_stamps}
 use Rattle.eden_ops.proofs.settling.settle.Goals as goal

@@ -25,3 +25,9 @@ returns-in-Write c =
     let F = tree_of c.args.rows.now in
     subst (λ (q : Request). IfOk c.write.result (Answers F q)) (sym c.in-Write.is)
     (subst (λ (bytes : List ℕ). IfOk c.write.result (Answers F (ask.Write c.in-Write.path c.in-Write.offset bytes))) c.as_slice.ensures c.write.ensures)
+
+pub returns-in-Patch : goal.returns-in-Patch
+returns-in-Patch c =
+    let F = tree_of c.args.rows.now in
+    subst (λ (q : Request). IfOk c.patch.result (Answers F q)) (sym c.in-Patch.is)
+    (subst (λ (bytes : List ℕ). IfOk c.patch.result (Answers F (ask.Patch c.in-Patch.path c.in-Patch.offset bytes))) c.as_slice-in-Patch.ensures c.patch.ensures)

@@ -1,10 +1,10 @@
 use Rattle.eden_wire.specs.Fields.Field.{of_path, of_number, of_bit, of_data, of_after}
-use Rattle.eden_wire.proofs.RequestLemmas.{starts, next, one_field, two_fields, three_fields}
+use Rattle.eden_wire.proofs.RequestLemmas.{next, one_field, two_fields, three_fields}
 use Rattle.eden_wire.proofs.request.build.Goals as goal
 use Rattle.eden_wire.proofs.request.build.Goals.{in-Kind, in-Stat, in-Read, in-ReadLink, in-List+in_ok-after-in-List, in-Write+in_ok-data-in-Write, in-Truncate, in-Create, in-SetExec, in-Mkdir, in-Symlink+in_ok-data-in-Symlink, in-Unlink, in-Rmdir, in-Rename+in_ok-path-in-Rename}
 
-pub path-requires : goal.path-requires
-path-requires c = rw c.new-fields.ensures (starts c.args.word c.args.text.now c.requires)
+pub first_path-requires : goal.first_path-requires
+first_path-requires c = rw c.new-fields.ensures c.requires
 
 pub number-requires : goal.number-requires
 number-requires c = next (of_path c.in_ok-path.path) _ _ _ _ (rw c.in-Read.is at c.requires) (rw c.new-fields.ensures at c.in_ok-path.ensures)
@@ -22,10 +22,12 @@ pub bit-requires : goal.bit-requires
 bit-requires c = next (of_path c.in_ok-path.path) _ _ _ _ (rw c.in-SetExec.is at c.requires) (rw c.new-fields.ensures at c.in_ok-path.ensures)
 
 pub data-requires-in-Symlink : goal.data-requires-in-Symlink
-data-requires-in-Symlink c = next (of_path c.in_ok-path.path) _ _ _ _ (rw c.in-Symlink.is at c.requires) (rw c.new-fields.ensures at c.in_ok-path.ensures)
+data-requires-in-Symlink c =
+    let first = rw c.new-fields.ensures at c.in_ok-path.ensures in
+    first.on _ (rw c.in-Symlink.is at c.requires)
 
-pub path-requires-in-Rename : goal.path-requires-in-Rename
-path-requires-in-Rename c = next (of_path c.in_ok-path.path) _ _ _ _ (rw c.in-Rename.is at c.requires) (rw c.new-fields.ensures at c.in_ok-path.ensures)
+pub path-requires : goal.path-requires
+path-requires c = next (of_path c.in_ok-path.path) _ _ _ _ (rw c.in-Rename.is at c.requires) (rw c.new-fields.ensures at c.in_ok-path.ensures)
 
 pub number-requires-in-Read : goal.number-requires-in-Read
 number-requires-in-Read c =
@@ -40,7 +42,8 @@ number-requires-in-List c =
 pub data-requires : goal.data-requires
 data-requires c =
     let first = rw c.new-fields.ensures at c.in_ok-path.ensures in
-    next (of_number c.number-in-Write.result) _ _ _ _ (first.on _ (rw c.in-Write.is at c.requires)) c.number-in-Write.ensures
+    let second = c.number-in-Write.ensures in
+    second.on _ (first.on _ (rw c.in-Write.is at c.requires))
 
 pub returns-clause-fields : goal.returns-clause-fields
 returns-clause-fields c =

@@ -7,8 +7,8 @@ use Rattle.eden_fuse_nodes.proofs.Indexing.{stays, told_once, at_one}
 use Rattle.eden_fuse_nodes.proofs.Changes.{place-once_more, learns_again}
 use Rattle.eden_fuse_nodes.proofs.nodes.Nodes.learn.Goals as goal
 
-pub invariant_of-self-in-Some-1 : goal.invariant_of-self-in-Some-1
-invariant_of-self-in-Some-1 c =
+pub invariant_of-self-in-Some : goal.invariant_of-self-in-Some
+invariant_of-self-in-Some c =
     let at = get order c.self.inside.places in
     let old = c.self.inside.nodes.entries in
     let next = c.self.inside.next in

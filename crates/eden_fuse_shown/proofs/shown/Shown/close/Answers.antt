@@ -7,5 +7,5 @@ returns-then-not-last-clause-closes g c =
 
 pub returns-clause-closes : goal.returns-clause-closes
 returns-clause-closes g c =
-    closed_last g.M.Mount.answers c.args.node c.lower-last.result c.args.self.now c.lower-last.new.self c.let_go_of.new.self c.lower-last.ensures.last
-    c.if-not-last.false c.lower-last.ensures.closed c.let_go_of.ensures
+    closed_last g.M.Mount.answers c.args.node c.lower-last.result c.args.self.now c.lower-last.new.self c.empty.new.self c.let_go_of.new.self
+    c.lower-last.ensures.last c.if-not-last.false c.lower-last.ensures.closed c.empty.ensures c.let_go_of.ensures

@@ -1,0 +1,18 @@
+use Rattle.eden_fuse_shown.proofs.Seen.{lies_as_told}
+use Rattle.eden_fuse_shown.proofs.SeenLaws.{waits_as_written, stores_unseen, is_there_once_stored}
+use Rattle.eden_fuse_shown.proofs.laws.seeing_laws.Goals as goal
+
+pub returns-clause-lies : goal.returns-clause-lies
+returns-clause-lies g c = lies_as_told
+
+pub returns-clause-waits : goal.returns-clause-waits
+returns-clause-waits g c = λ tree. waits_as_written g.M.Mount.answers tree c.node_laws.ensures.one_node c.node_laws.ensures.one_path
+    c.change_laws.ensures.data_is_written c.change_laws.ensures.old_bytes_stay c.change_laws.ensures.written_length
+
+pub returns-clause-stores : goal.returns-clause-stores
+returns-clause-stores g c = λ tree. stores_unseen g.M.Mount.answers tree c.node_laws.ensures.one_node c.node_laws.ensures.one_path
+    c.change_laws.ensures.data_is_written c.change_laws.ensures.old_bytes_stay c.change_laws.ensures.written_length
+
+pub returns-clause-stored : goal.returns-clause-stored
+returns-clause-stored g c = λ tree. is_there_once_stored g.M.Mount.answers tree c.node_laws.ensures.one_node c.node_laws.ensures.one_path
+    c.change_laws.ensures.data_is_written c.change_laws.ensures.old_bytes_stay c.change_laws.ensures.written_length

@@ -1,0 +1,240 @@
+// Bytes that wait to be stored.
+ghost use Rattle.std.specs.Prelude.{◌≡◌, ◌+◌, ◌&&◌, ℕ, None, Some, true, nat_le, length, IfOk, IsSome, OnErr, OnOk};
+ghost use Rattle.std.specs.Option.{option_map};
+ghost use Rattle.eden_fuse_shown.specs.Waiting.{
+  Adds,
+  Ends,
+  all_of,
+  extent_of,
+  goes_on,
+  longer,
+  longest,
+  may_wait,
+};
+
+use std::alloc::{AllocError, Global};
+use std::collections::BTreeMap;
+use std::marker::Model;
+
+/// The most bytes of one extent: as many as one request stores.
+const LONGEST: u64 = 65_536;
+
+/// The most bytes of all extents together: 64 MiB.
+const MOST_WAITING: u64 = 64 << 20;
+
+/// The longest file.
+const MOST_FILE: u64 = 1 << 30;
+
+/// Bytes of a file, from an offset on. Contracts see both.
+#[derive(Drop)]
+pub struct Extent {
+    from: u64,
+    bytes: Vec<u8>,
+}
+
+impl Model for Extent {
+    ghost use Rattle.eden_fuse_shown.specs.Waiting.{Extent};
+
+    ghost Value = { Extent };
+
+    ghost view = { λ e. record { from = e.from; bytes = e.bytes.items } };
+}
+
+impl Extent {
+    /// The bytes from that offset on. The only error is want of memory.
+    fn new(alloc: Global, from: u64, bytes: &[u8]) -> Result<Extent, AllocError>
+        ensures { IfOk result (λ e. e ≡ longer None from bytes.now) }
+    {
+        Ok(Extent {
+            from,
+            bytes: Vec::from_slice(alloc, bytes)?,
+        })
+    }
+
+    /// Where it begins.
+    pub fn from(&self) -> u64
+        ensures { result ≡ self.now.from }
+    {
+        self.from
+    }
+
+    /// Its bytes.
+    pub fn bytes(&self) -> &[u8]
+        ensures { result.now ≡ self.now.bytes }
+    {
+        self.bytes.as_slice()
+    }
+
+    // How many bytes.
+    fn len(&self) -> u64
+        ensures { result ≡ length self.now.bytes }
+    {
+        self.bytes.len() as u64
+    }
+
+    // Whether so many bytes at an offset go on where it ends, and there is room for them.
+    fn goes_on(&self, from: u64, len: u64) -> bool
+        ensures { result ≡ (goes_on (Some self.now) from && nat_le (length self.now.bytes + len) longest) }
+    {
+        let held = self.len();
+        if held > LONGEST || len > LONGEST {
+            return false;
+        }
+        if from < held || from - held != self.from {
+            return false;
+        }
+        held + len <= LONGEST
+    }
+
+    // Appends bytes. Without memory nothing changes.
+    fn append(&mut self, bytes: &[u8]) -> Result<(), AllocError>
+        ensures ok { OnOk result (self.new ≡ longer (Some self.old) self.old.from bytes.now) }
+        ensures err { OnErr result (self.new ≡ self.old) }
+    {
+        self.bytes.extend_from_slice(bytes)
+    }
+}
+
+// What waits of each node is changed at one node.
+
+// Bytes begin an extent of a node that has none. Without memory nothing changes.
+fn begin(
+    extents: &mut BTreeMap<u64, Extent>,
+    alloc: Global,
+    node: u64,
+    from: u64,
+    bytes: &[u8],
+) -> Result<(), AllocError>
+    requires { extent_of extents.old.entries node ≡ None }
+    ensures ok { OnOk result (Adds extents.old.entries extents.new.entries node from bytes.now) }
+    ensures more { OnOk result (all_of extents.new.entries ≡ all_of extents.old.entries + length bytes.now) }
+    ensures err { OnErr result (extents.new.entries ≡ extents.old.entries) }
+{
+    let extent = Extent::new(alloc, from, bytes)?;
+    match extents.insert(node, extent) {
+        Ok(_) => Ok(()),
+        Err(_) => Err(AllocError),
+    }
+}
+
+// Bytes go on where a node's extent ends. Without memory nothing changes.
+fn go_on(
+    extents: &mut BTreeMap<u64, Extent>,
+    node: u64,
+    from: u64,
+    bytes: &[u8],
+) -> Result<(), AllocError>
+    requires { IsSome (extent_of extents.old.entries node) }
+    ensures ok { OnOk result (Adds extents.old.entries extents.new.entries node from bytes.now) }
+    ensures more { OnOk result (all_of extents.new.entries ≡ all_of extents.old.entries + length bytes.now) }
+    ensures err { OnErr result (extents.new.entries ≡ extents.old.entries) }
+{
+    match extents.get_mut(&node) {
+        None => Ok(()),
+        Some(extent) => extent.append(bytes),
+    }
+}
+
+// Nothing waits for a node any more; how many bytes did.
+fn clear(extents: &mut BTreeMap<u64, Extent>, node: u64) -> u64
+    ensures cleared { Ends extents.old.entries extents.new.entries node }
+    ensures less { all_of extents.new.entries + result ≡ all_of extents.old.entries }
+{
+    match extents.remove(&node) {
+        None => 0,
+        Some(extent) => extent.len(),
+    }
+}
+
+/// What waits to be stored, by nodes. Contracts see the list of the extents.
+#[derive(Drop)]
+pub struct Extents {
+    extents: BTreeMap<u64, Extent>,
+    // The bytes of all.
+    all: u64,
+}
+
+impl Model for Extents {
+    ghost use Rattle.std.specs.Prelude.{◌≡◌, ◌≤◌};
+    ghost use Rattle.eden_fuse_shown.specs.Waiting.{Table, all_of, most_waiting};
+
+    ghost Value = { Table };
+
+    ghost view = { λ e. e.extents.entries };
+
+    ghost invariant = { λ e. (e.all ≡ all_of e.extents.entries) × (e.all ≤ most_waiting) };
+}
+
+impl Extents {
+    /// Nothing waits.
+    pub fn new(alloc: Global) -> Extents
+        ensures { extent_of result ≡ (λ i. None) }
+    {
+        Extents {
+            extents: BTreeMap::new(alloc),
+            all: 0,
+        }
+    }
+
+    /// What waits for a node.
+    pub fn get(&self, node: u64) -> Option<&Extent>
+        ensures { option_map (λ e. e.now) result ≡ extent_of self.now node }
+    {
+        let _ = &self.all;
+        self.extents.get(&node)
+    }
+
+    /// Whether bytes from an offset on may wait: they go on where the node's extent ends, or begin one, and there is
+    /// room for them.
+    pub fn may_wait(&self, node: u64, from: u64, bytes: &[u8]) -> bool
+        ensures { result ≡ may_wait self.now node from bytes.now }
+    {
+        let len = bytes.len() as u64;
+        if len > LONGEST || from > MOST_FILE || from + len > MOST_FILE {
+            return false;
+        }
+        if self.all + len > MOST_WAITING {
+            return false;
+        }
+        match self.extents.get(&node) {
+            None => true,
+            Some(extent) => extent.goes_on(from, len),
+        }
+    }
+
+    /// Bytes wait behind those of the node. Without memory nothing changes.
+    pub fn add(
+        &mut self,
+        alloc: Global,
+        node: u64,
+        from: u64,
+        bytes: &[u8],
+    ) -> Result<(), AllocError>
+        requires { may_wait self.old node from bytes.now ≡ true }
+        ensures ok { OnOk result (Adds self.old self.new node from bytes.now) }
+        ensures err { OnErr result (self.new ≡ self.old) }
+    {
+        if self.extents.contains_key(&node) {
+            go_on(&mut self.extents, node, from, bytes)?;
+        } else {
+            begin(&mut self.extents, alloc, node, from, bytes)?;
+        }
+        self.all += bytes.len() as u64;
+        Ok(())
+    }
+
+    /// Nothing waits for the node any more.
+    pub fn end(&mut self, node: u64)
+        ensures { Ends self.old self.new node }
+    {
+        self.all -= clear(&mut self.extents, node);
+    }
+
+    /// The map of the extents.
+    pub(crate) fn into_map(self) -> BTreeMap<u64, Extent>
+        ensures { result.entries ≡ self }
+    {
+        let Extents { extents, .. } = self;
+        extents
+    }
+}

@@ -1,0 +1,72 @@
+// How what waits is stored.
+ghost use Rattle.std.specs.Prelude.{◌≡◌, IfOk};
+ghost use Rattle.eden_fuse_shown.specs.Showing.{IsStored, StoresAll, storing, unstored};
+
+use crate::concluding::errno_of;
+use crate::extents::{Extent, Extents};
+use crate::mount::{Mount, Unheard};
+use crate::naming::path_of;
+use crate::running::run;
+use eden_fuse_meaning::{Outcome, Step, Then};
+use eden_fuse_nodes::Nodes;
+use eden_model::{Bytes, Path, Request};
+use std::alloc::{AllocError, Global};
+
+const EIO: u32 = 5;
+
+const ENOMEM: u32 = 12;
+
+// What is asked at that path. Without memory for the bytes once more nothing is.
+fn storing(alloc: Global, at: Result<Path, u32>, extent: &Extent) -> Result<Step, AllocError>
+    ensures { IfOk result (λ step. step ≡ storing at extent.now) }
+{
+    match at {
+        Err(errno) => Ok(Step::Tell(Outcome::Refused(errno))),
+        Ok(path) => {
+            let bytes = Bytes::new(Vec::from_slice(alloc, extent.bytes())?);
+            Ok(Step::Ask(Request::Write(path, extent.from(), bytes), Then::Count))
+        }
+    }
+}
+
+// The number of the error, if it wasn't stored.
+fn unstored(end: Result<Outcome, Unheard>) -> Option<u32>
+    ensures { result ≡ unstored end }
+{
+    match end {
+        Err(why) => Some(errno_of(why)),
+        Ok(Outcome::Written(_)) => None,
+        Ok(Outcome::Refused(errno)) => Some(errno),
+        Ok(_) => Some(EIO),
+    }
+}
+
+/// Asks the mount to store bytes that wait for a node, at the path at which it lies by now. They are copied, so that
+/// they wait still if the mount doesn't store them: then the number of the error, `ENOMEM` if nothing was asked.
+pub(crate) fn store<M: Mount>(
+    alloc: Global,
+    mount: &mut M,
+    nodes: &Nodes,
+    node: u64,
+    extent: &Extent,
+) -> Option<u32>
+    ensures { IsStored M.answers nodes.now node extent.now mount.old result mount.new }
+{
+    let Ok(at) = path_of(alloc, nodes, node) else {
+        return Some(ENOMEM);
+    };
+    let Ok(step) = storing(alloc, at, extent) else {
+        return Some(ENOMEM);
+    };
+    unstored(run(alloc, mount, step))
+}
+
+/// Stores all that waits, and drops what can't be stored.
+pub(crate) fn store_all<M: Mount>(alloc: Global, mount: &mut M, nodes: &Nodes, waits: Extents)
+    ensures { StoresAll M.answers nodes.now waits mount.old mount.new }
+{
+    let mut left = waits.into_map();
+    'nodes: while let Some((node, extent)) = left.pop_first() {
+        store(alloc, mount, nodes, node, &extent);
+    }
+}
