@@ -20,6 +20,16 @@ directory-rows-preserved-in_ok-entry g t c = record {
   back = c.in_ok-entry.ensures.back ∙ c.rows.invariant.back;
 }
 
+pub directory-rows-preserved-in_ok-entry-2 : goal.directory-rows-preserved-in_ok-entry-2
+directory-rows-preserved-in_ok-entry-2 g t c = record {
+  told = λ h.
+      goes_on (g.F.Files.stored c.stored_entries.new.overlay) (g.F.Files.stored c.rows.overlay) g.W.World.repository c.args.trail.now c.rows.trail
+      c.rows.yielded c.in-Some.row (g.C.ChangeSink.told c.args.sink.now) (g.C.ChangeSink.told c.rows.sink) (g.C.ChangeSink.told c.entry.new.sink)
+      (c.rows.invariant.unchanged h) c.rows.invariant.back (c.rows.invariant.told h) (c.in_ok-entry.ensures.told h);
+  unchanged = λ h. c.entry.ensures.unchanged h ∙ c.rows.invariant.unchanged h;
+  back = c.in_ok-entry.ensures.back ∙ c.rows.invariant.back;
+}
+
 pub directory-rows-preserved : goal.directory-rows-preserved
 directory-rows-preserved g t c = record {
   told = λ h.

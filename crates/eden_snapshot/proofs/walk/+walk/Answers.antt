@@ -54,6 +54,23 @@ directory-entries-preserved g t c =
       back = c.in_ok-found.ensures.back ∙ c.entries.invariant.back;
     }
 
+pub directory-entries-preserved-in_default : goal.directory-entries-preserved-in_default
+directory-entries-preserved-in_default g t c =
+    let e = c.in-Some.entry in
+    let ts = c.entries.tree.items in
+    let all = sym (append-nil ts) ∙ ap (λ us. ts ++ us) (ap (entries_with e) (sym c.in_default.is)) in
+    record {
+      written = λ h.
+          goes_on (g.F.Files.stored c.stored_entries.new.overlay) (g.F.Files.stored c.entries.overlay) (g.M.Submodules.known c.args.submodules.now)
+          (g.M.Submodules.known c.entries.submodules) c.args.trail.now c.entries.trail c.entries.yielded ts ts e
+          (entries_with e c.in_ok-found.found) (g.S.Sink.filled c.args.sink.now) (g.S.Sink.filled c.entries.sink) (g.S.Sink.filled c.object_of.new.sink)
+          (c.entries.invariant.unchanged h) (c.entries.invariant.known h) c.entries.invariant.back all (c.entries.invariant.written h)
+          (c.in_ok-found.ensures.written h);
+      unchanged = λ h. c.object_of.ensures.unchanged h ∙ c.entries.invariant.unchanged h;
+      known = λ h. c.object_of.ensures.known h ∙ c.entries.invariant.known h;
+      back = c.in_ok-found.ensures.back ∙ c.entries.invariant.back;
+    }
+
 pub object_of-returns-in-Object-clause-written : goal.object_of-returns-in-Object-clause-written
 object_of-returns-in-Object-clause-written g t c =
     let F = g.F.Files.stored c.args.overlay.now in
