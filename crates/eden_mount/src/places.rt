@@ -7,7 +7,7 @@ pub(crate) fn recall<P: Drop>(places: &mut Vec<Option<P>>, seat: usize) -> Optio
     ensures place { result ≡ kept_at seat places.old.items }
     ensures taken { places.new.items ≡ slice_set places.old.items seat None }
 {
-    if seat >= places.len() {
+    if seat >= places.len() || places[seat].is_none() {
         return None;
     }
     places[seat].take()
