@@ -106,8 +106,8 @@ renames flags p q =
     if flags == 0 then Ask (ask.Rename p q) after.Finish
     else (if flags == 1 then Ask (ask.Kind q) (after.Free p q) else refuse 22)
 
--- A read or a write of over 65,536 bytes is the mount's to refuse: at the start no more is agreed on, nor that an opening cuts a
--- file, which the kernel then asks for by a message of its own. Times that are set aren't the mount's. `at` is the path of
+-- A read of over 65,536 bytes is the mount's to refuse: nobody asks for more, and at the start it isn't agreed on that an opening
+-- cuts a file, which the kernel then asks for by a message of its own. Times that are set aren't the mount's. `at` is the path of
 -- the message's node, `to` that of the other directory of a rename, `last` the name after which a directory is read on.
 -- EPERM is 1, ENOSYS 38
 abbrev pub first : Owner → Result Path ℕ → Result Path ℕ → Option Name → Asked → Step
@@ -125,7 +125,7 @@ first owner at to last (asked.Rename s n m) = moves at to n m (renames 0)
 first owner at to last (asked.Link s n) = refuse 1
 first owner at to last (asked.Open s) = on_path at (λ p. Ask (ask.Kind p) after.OpenFile)
 first owner at to last (asked.Read s) = on_path at (λ p. Ask (ask.Read p s.offset s.size) after.Give)
-first owner at to last (asked.Write s b) = on_path at (λ p. Ask (ask.Write p s.offset b) after.Count)
+first owner at to last (asked.Write s b) = on_path at (λ p. Ask (ask.Patch p s.offset b) after.Count)
 first owner at to last asked.StatFs = Tell Space
 first owner at to last (asked.Release s) = Tell Done
 first owner at to last (asked.FSync s) = Tell Done

@@ -265,13 +265,13 @@ fn write(
     bytes: &[u8],
 ) -> Result<Step, AllocError>
     ensures { IfOk result (λ s. s ≡ on_path at.now
-        (λ p. Ask (ask.Write p asked.now.offset bytes.now) after.Count)) }
+        (λ p. Ask (ask.Patch p asked.now.offset bytes.now) after.Count)) }
 {
     match path_at(alloc, at)? {
         Err(errno) => Ok(refuse(errno)),
         Ok(path) => {
             let bytes = Bytes::new(Vec::from_slice(alloc, bytes)?);
-            Ok(Step::Ask(Request::Write(path, asked.offset, bytes), Then::Count))
+            Ok(Step::Ask(Request::Patch(path, asked.offset, bytes), Then::Count))
         }
     }
 }

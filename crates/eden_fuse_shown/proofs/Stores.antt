@@ -51,7 +51,7 @@ by_where nodes node p Nowhere is same = absurd (false≢true (sym (ap has_path s
 
 module _ {S : Type 0} (answers : Replying S) (tree : S → Tree) (follows : Follows answers tree) (nodes : Nodes) (node : ℕ) (e : Extent) where
   abbrev what : Path → Request
-  what p = ask.Write p e.from e.bytes
+  what p = ask.Patch p e.from e.bytes
 
   -- the tree is as it was, and it wasn't stored; or has the extent in it
   abbrev Made : S → Option ℕ → S → Type 0

@@ -68,9 +68,9 @@ start_of i = record {
   flags = bit_and i.flags wanted;
   max_background = 16;
   congestion_threshold = 12;
-  max_write = 65536;
+  max_write = 1048576;
   time_gran = 1;
-  max_pages = 16;
+  max_pages = 256;
 }
 
 -- another protocol than 7, from its version 12 on, is refused with EPROTO (71)

@@ -5,4 +5,5 @@ pub mod Waiting
 pub mod Naming
 pub mod Listing
 pub mod Showing
+pub mod Beginning
 pub mod Seeing

@@ -69,11 +69,11 @@ module _ {S : Type 0} (answers : Replying S) (tree : S → Tree) where
   abbrev pub seen : Showing S → Tree
   seen s = seen_tree (tree s.mount) s.nodes s.waits
 
-  -- a write that waits makes of what is seen what a mount's write makes of its tree
+  -- a write that waits makes of what is seen what a mount's patch makes of its tree
   abbrev pub WaitsAsWritten : Type 0
   WaitsAsWritten = (node offset : ℕ) (b : List ℕ) (old new : Showing S) (t : Told) (p q : Path) → IsTable old.nodes
       → goes_on (extent_of old.waits node) offset ≡ true → Joins answers node offset b old t new → LiesAt old.nodes node p
-      → seen new q ≡ after (seen old) (ask.Write p offset b) (say.Count (length b)) q
+      → seen new q ≡ after (seen old) (ask.Patch p offset b) (say.Count (length b)) q
 
   -- to store what waits changes nothing that is seen, whether the mount does it, refuses it, or isn't heard
   abbrev pub StoresUnseen : Type 0

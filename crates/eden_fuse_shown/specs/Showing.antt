@@ -154,7 +154,7 @@ start a = refuse 5
 
 -- by one request at the path of its node; where no path can be named, that is the error
 abbrev pub storing : Result Path ℕ → Extent → Step
-storing at e = on_path at (λ p. Ask (ask.Write p e.from e.bytes) after.Count)
+storing at e = on_path at (λ p. Ask (ask.Patch p e.from e.bytes) after.Count)
 
 -- the number of the error, if it wasn't stored
 abbrev pub unstored : Result Outcome Unheard → Option ℕ

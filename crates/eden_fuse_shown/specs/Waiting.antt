@@ -20,19 +20,11 @@ extent_of t i = lookup (is_at (nat_cmp i)) t
 
 -- ---- how much waits
 
-abbrev pub length_in : Option Extent → ℕ
-length_in None = 0
-length_in (Some e) = length e.bytes
-
 -- the bytes of all
 abbrev pub all_of : Table → ℕ
 all_of t = sum_by (λ e. length e.bytes) (values_of t)
 
--- of one extent: as many as one request stores
-abbrev pub longest : ℕ
-longest = 65536
-
--- of all together: 64 MiB
+-- at most 64 MiB
 abbrev pub most_waiting : ℕ
 most_waiting = 67108864
 
@@ -46,8 +38,7 @@ goes_on (Some e) from = e.from + length e.bytes == from
 -- .. and wait, unless there is no room, or no file is so long
 abbrev pub may_wait : Table → ℕ → ℕ → List ℕ → Bool
 may_wait t node from b =
-    goes_on (extent_of t node) from && nat_le (from + length b) most_file && nat_le (length_in (extent_of t node) + length b) longest
-    && nat_le (all_of t + length b) most_waiting
+    goes_on (extent_of t node) from && nat_le (from + length b) most_file && nat_le (all_of t + length b) most_waiting
 
 -- with these bytes behind it
 abbrev pub longer : Option Extent → ℕ → List ℕ → Extent

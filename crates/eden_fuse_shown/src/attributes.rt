@@ -125,9 +125,9 @@ fn start_of(init: &InitIn) -> InitOut
         flags: init.flags & WANTED,
         max_background: 16,
         congestion_threshold: 12,
-        max_write: 65_536,
+        max_write: 1_048_576,
         time_gran: 1,
-        max_pages: 16,
+        max_pages: 256,
     }
 }
 

@@ -1,5 +1,5 @@
 // Bytes that wait to be stored.
-ghost use Rattle.std.specs.Prelude.{◌≡◌, ◌+◌, ◌&&◌, ℕ, None, Some, true, nat_le, length, IfOk, IsSome, OnErr, OnOk};
+ghost use Rattle.std.specs.Prelude.{◌≡◌, ◌+◌, ℕ, None, Some, true, length, IfOk, IsSome, OnErr, OnOk};
 ghost use Rattle.std.specs.Option.{option_map};
 ghost use Rattle.eden_fuse_shown.specs.Waiting.{
   Adds,
@@ -8,16 +8,12 @@ ghost use Rattle.eden_fuse_shown.specs.Waiting.{
   extent_of,
   goes_on,
   longer,
-  longest,
   may_wait,
 };
 
 use std::alloc::{AllocError, Global};
 use std::collections::BTreeMap;
 use std::marker::Model;
-
-/// The most bytes of one extent: as many as one request stores.
-const LONGEST: u64 = 65_536;
 
 /// The most bytes of all extents together: 64 MiB.
 const MOST_WAITING: u64 = 64 << 20;
@@ -72,18 +68,15 @@ impl Extent {
         self.bytes.len() as u64
     }
 
-    // Whether so many bytes at an offset go on where it ends, and there is room for them.
-    fn goes_on(&self, from: u64, len: u64) -> bool
-        ensures { result ≡ (goes_on (Some self.now) from && nat_le (length self.now.bytes + len) longest) }
+    // Whether bytes at an offset go on where it ends.
+    fn goes_on(&self, from: u64) -> bool
+        ensures { result ≡ goes_on (Some self.now) from }
     {
         let held = self.len();
-        if held > LONGEST || len > LONGEST {
-            return false;
-        }
         if from < held || from - held != self.from {
             return false;
         }
-        held + len <= LONGEST
+        true
     }
 
     // Appends bytes. Without memory nothing changes.
@@ -168,7 +161,7 @@ impl Model for Extents {
 impl Extents {
     /// Nothing waits.
     pub fn new(alloc: Global) -> Extents
-        ensures { extent_of result ≡ (λ i. None) }
+        ensures { (i : ℕ) → extent_of result i ≡ None }
     {
         Extents {
             extents: BTreeMap::new(alloc),
@@ -190,15 +183,15 @@ impl Extents {
         ensures { result ≡ may_wait self.now node from bytes.now }
     {
         let len = bytes.len() as u64;
-        if len > LONGEST || from > MOST_FILE || from + len > MOST_FILE {
+        if len > MOST_WAITING || self.all + len > MOST_WAITING {
             return false;
         }
-        if self.all + len > MOST_WAITING {
+        if from > MOST_FILE || from + len > MOST_FILE {
             return false;
         }
         match self.extents.get(&node) {
             None => true,
-            Some(extent) => extent.goes_on(from, len),
+            Some(extent) => extent.goes_on(from),
         }
     }
 

@@ -1,5 +1,5 @@
 // Open files.
-ghost use Rattle.std.specs.Prelude.{◌≡◌, None, OnErr, OnOk};
+ghost use Rattle.std.specs.Prelude.{◌≡◌, ℕ, None, OnErr, OnOk};
 ghost use Rattle.std.specs.Option.{is_some};
 ghost use Rattle.eden_fuse_shown.specs.Opens.{IsSame, Lowers, Raises, is_last, opens_of};
 
@@ -24,7 +24,7 @@ impl Model for Opens {
 impl Opens {
     /// None is open.
     pub fn new(alloc: Global) -> Opens
-        ensures { opens_of result ≡ (λ i. None) }
+        ensures { (i : ℕ) → opens_of result i ≡ None }
     {
         Opens {
             counts: BTreeMap::new(alloc),

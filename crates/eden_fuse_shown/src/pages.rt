@@ -1,5 +1,5 @@
 // Open directories.
-ghost use Rattle.std.specs.Prelude.{◌≡◌, None, IfOk, OnErr};
+ghost use Rattle.std.specs.Prelude.{◌≡◌, ℕ, None, IfOk, OnErr};
 ghost use Rattle.eden_fuse_shown.specs.Listing.{Closes, IsSame, Opens, Turns, last_at, name_at, page_of};
 
 use eden_model::{Entries, Name};
@@ -56,10 +56,30 @@ fn name_at(alloc: Global, page: &Page, offset: u64) -> Result<Option<Option<Name
     }
 }
 
+// What was listed of a directory is let go of before all else is looked at.
+
+// A directory is closed.
+fn leave(pages: &mut BTreeMap<u64, Page>, handle: u64)
+    ensures { Closes pages.old.entries pages.new.entries handle }
+{
+    if let Some(page) = pages.remove(&handle) {
+        drop(page);
+    }
+}
+
+// An open directory has listed this page.
+fn put(pages: &mut BTreeMap<u64, Page>, handle: u64, page: Page)
+    ensures { Turns pages.old.entries pages.new.entries handle page }
+{
+    if let Some(held) = pages.get_mut(&handle) {
+        *held = page;
+    }
+}
+
 impl Pages {
     /// None is open.
     pub fn new(alloc: Global) -> Pages
-        ensures { page_of result ≡ (λ i. None) }
+        ensures { (i : ℕ) → page_of result i ≡ None }
     {
         Pages {
             pages: BTreeMap::new(alloc),
@@ -94,7 +114,7 @@ impl Pages {
     pub fn close(&mut self, handle: u64)
         ensures { Closes self.old self.new handle }
     {
-        self.pages.remove(&handle);
+        leave(&mut self.pages, handle);
     }
 
     /// The name after which an open directory is read on from the offset, or none where it isn't known. The only error
@@ -120,8 +140,6 @@ impl Pages {
     pub fn turn(&mut self, handle: u64, page: Page)
         ensures { Turns self.old self.new handle page }
     {
-        if let Some(held) = self.pages.get_mut(&handle) {
-            *held = page;
-        }
+        put(&mut self.pages, handle, page);
     }
 }

@@ -6,6 +6,7 @@ ghost use Rattle.eden_fuse_meaning.specs.Hiding.{hide, put_back};
 ghost use Rattle.eden_fuse_session.specs.Turns.{IsBriefly, told};
 ghost use Rattle.eden_fuse_nodes.specs.Tables.{place_of};
 ghost use Rattle.eden_fuse_shown.specs.declared.mount.Unheard.{Unheard};
+ghost use Rattle.eden_fuse_shown.specs.Beginning.{IsBlank};
 ghost use Rattle.eden_fuse_shown.specs.Opens.{is_last, opens_of};
 ghost use Rattle.eden_fuse_shown.specs.Naming.{goal_of, last_name, named, veiled_name};
 ghost use Rattle.eden_fuse_shown.specs.Showing.{
@@ -99,6 +100,7 @@ impl<M: Mount + Drop, K: Clock + Drop> Shown<M, K> {
     pub fn new(alloc: Global, mount: M, clock: K, manner: Manner, times: Times) -> Self
         ensures mount { result.mount ≡ mount }
         ensures manner { result.manner ≡ manner }
+        ensures blank { IsBlank result }
     {
         Shown {
             alloc,

@@ -24,7 +24,7 @@ fn storing(alloc: Global, at: Result<Path, u32>, extent: &Extent) -> Result<Step
         Err(errno) => Ok(Step::Tell(Outcome::Refused(errno))),
         Ok(path) => {
             let bytes = Bytes::new(Vec::from_slice(alloc, extent.bytes())?);
-            Ok(Step::Ask(Request::Write(path, extent.from(), bytes), Then::Count))
+            Ok(Step::Ask(Request::Patch(path, extent.from(), bytes), Then::Count))
         }
     }
 }
