@@ -105,7 +105,8 @@ def moved_folder(top: pathlib.Path) -> Steps:
         yield "listing of the open folder after it", sorted(os.listdir(at))
         yield "stat of the one that it was moved over", tried(lambda: stat.S_IFMT(os.fstat(over).st_mode))
         yield "listing of the one that it was moved over", tried(os.listdir, over)
-        yield "a new file in the one that it was moved over", tried(os.open, "new", os.O_CREAT | os.O_RDWR, dir_fd=over)
+        new = tried(os.open, "new", os.O_CREAT | os.O_RDWR, dir_fd=over)
+        yield "a new file in the one that it was moved over", new
     yield "read by the last path", (other / "file").read_bytes()
 
 
@@ -581,7 +582,7 @@ def odd_names(top: pathlib.Path) -> Steps:
             os.write(file, name)
     found = os.listdir(os.fsencode(top))
     yield "all are told", sorted(found) == sorted(names)
-    yield "each is its own", [pathlib.Path(os.fsdecode(top), os.fsdecode(name)).read_bytes() == name for name in names]
+    yield "each is its own", [(top / os.fsdecode(name)).read_bytes() == name for name in names]
 
 
 def refused_kinds(top: pathlib.Path) -> Steps:
@@ -647,6 +648,6 @@ def large(top: pathlib.Path) -> Steps:
 
 CALLS: list[Callable[[pathlib.Path], Steps]] = [
     removed_while_open, replaced_while_open, moved_folder, removed_folder, removed_where_one_stands, exclusive,
-    appending, cut, positions, through_memory, programs, copies, kept_room, locks, times, stamps, permissions, counted, listings,
-    kinds_in_rows, odd_names, refused_kinds, long_links, deep, large,
+    appending, cut, positions, through_memory, programs, copies, kept_room, locks, times, stamps, permissions, counted,
+    listings, kinds_in_rows, odd_names, refused_kinds, long_links, deep, large,
 ]

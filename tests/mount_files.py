@@ -28,6 +28,7 @@ LONG, LONGEST = 140_000, 2_500_000
 BORDERS = [PAGE, 2 * PAGE, 65_536, 131_072, 262_144, 1 << 20]
 NAMES = ["one", "two", "three", "in/four"]
 PLACES, VIEWS = 4, 3
+MOST_PIECES = 40
 WHOLE_EVERY = 50
 TOLD = 25
 
@@ -257,10 +258,10 @@ class Chosen:
     def on_file(self, place: int) -> tuple[Any, ...]:
         size = os.fstat(self.plain.files[place]).st_size
         offset, other = self.near(size), self.random.choice(sorted(self.plain.files))
-        data = self.data()
+        data, piece = self.data(), self.random.choice([100, 1_000, PAGE, 4_099])
         return self.random.choices([
             ("write", place, offset, data), ("write_on", place, data),
-            ("write_pieces", place, offset, data[:40_000], self.random.choice([100, 1_000, PAGE, 4_099])),
+            ("write_pieces", place, offset, data[: MOST_PIECES * piece], piece),
             ("read", place, offset, len(data)), ("read_on", place, len(data)),
             ("seek", place, *self.random.choice([(offset, os.SEEK_SET), (0, os.SEEK_END)])), ("cut", place, offset),
             ("sync", place, self.random.random() < 0.5), ("size", place),

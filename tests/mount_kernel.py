@@ -15,7 +15,7 @@ import traceback
 from collections.abc import Callable, Iterator
 from typing import Any
 
-from checks import PATIENCE, check, git
+from checks import PATIENCE, check, finished, git
 from folder_operations import Folder, shown
 from mount_calls import CALLS, Steps
 from mount_differences import DIFFERENCES, Differences, opened
@@ -89,13 +89,14 @@ def given(steps: Steps) -> list[tuple[str, Any]]:
 # ---- random operations on open files
 
 FILES_PROGRAM = TOP / "tests" / "mount_files.py"
-OPERATIONS_OF_A_LIFE, SECONDS_OF_A_LIFE = 5_000, 250
+OPERATIONS_OF_A_LIFE = 2_500
 
 
 def check_random_files(folder: pathlib.Path, repository: pathlib.Path, seed: int, operations: int) -> None:
     """Random operations on open files, also through memory, beside the same on a plain folder, in two lives at least.
     Each second life is killed once all is closed, and what was closed is in the next one."""
     lives = max(2, operations // OPERATIONS_OF_A_LIFE)
+    print(f"random files: {operations:,} operations in {lives} lives, from seed {seed} on")
     with tempfile.TemporaryDirectory(dir=memory_folder()) as name:
         plain, overlay = pathlib.Path(name) / "plain", pathlib.Path(name) / "overlay"
         plain.mkdir()
@@ -113,10 +114,10 @@ def check_random_files(folder: pathlib.Path, repository: pathlib.Path, seed: int
 
 def run_files(tops: list[pathlib.Path], seed: int, operations: int, log: pathlib.Path) -> None:
     """So many operations in both folders, by a program of its own; the last ones are told where they end otherwise."""
-    words = [sys.executable, FILES_PROGRAM, *tops, seed, operations, log]
-    done = subprocess.run([str(word) for word in words], capture_output=True, text=True, timeout=SECONDS_OF_A_LIFE)
+    done = finished([sys.executable, FILES_PROGRAM, *tops, seed, operations, log], capture_output=True)
     if done.returncode != 0:
-        print(done.stdout + done.stderr, "the last operations:", *log.read_text().splitlines()[-TOLD:], sep="\n")
+        print(os.fsdecode(done.stdout + done.stderr), "its last operations:",
+              *log.read_text().splitlines()[-TOLD:], sep="\n", flush=True)
     check(f"random files: {operations:,} by seed {seed}", done.returncode, 0)
 
 
