@@ -585,6 +585,25 @@ def odd_names(top: pathlib.Path) -> Steps:
     yield "each is its own", [(top / os.fsdecode(name)).read_bytes() == name for name in names]
 
 
+def hidden_names(top: pathlib.Path) -> Steps:
+    """Names at the top of the mount where files stay that were removed while they are open."""
+    path = top.parent.parent / os.fsdecode(b"\xff\xff\xff\xff12")
+    yield "stat", tried(os.lstat, path)
+    calls: dict[str, Callable[[], object]] = {
+        "a folder": path.mkdir, "a file": lambda: path.write_bytes(b"file"), "a link": lambda: path.symlink_to("to")}
+    for name, call in calls.items():
+        refusal = tried(call)
+        yield f"{name} of such a name", refusal if isinstance(refusal, str) else None
+        yield f"{name} of such a name is told", path.name in os.listdir(path.parent)
+        if path.is_dir():
+            path.rmdir()
+        path.unlink(missing_ok=True)
+    (top / "moved").mkdir()
+    yield "a move to such a name", tried(os.rename, top / "moved", path)
+    shutil.rmtree(path, ignore_errors=True)
+    shutil.rmtree(top / "moved", ignore_errors=True)
+
+
 def refused_kinds(top: pathlib.Path) -> Steps:
     """What no commit can have: more names of one file, pipes, sockets and devices."""
     (top / "file").write_bytes(b"file")
@@ -649,5 +668,5 @@ def large(top: pathlib.Path) -> Steps:
 CALLS: list[Callable[[pathlib.Path], Steps]] = [
     removed_while_open, replaced_while_open, moved_folder, removed_folder, removed_where_one_stands, exclusive,
     appending, cut, positions, through_memory, programs, copies, kept_room, locks, times, stamps, permissions, counted,
-    listings, kinds_in_rows, odd_names, refused_kinds, long_links, deep, large,
+    listings, kinds_in_rows, odd_names, hidden_names, refused_kinds, long_links, deep, large,
 ]

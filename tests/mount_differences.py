@@ -100,6 +100,7 @@ ATTRIBUTES = "extended attributes"
 ROOM = "`fallocate`, but for what `posix_fallocate` does"
 NAMELESS = "files without a name (`O_TMPFILE`)"
 FLAGS = "flags of `renameat2`"
+HIDDEN = "names at the top that begin with four bytes 255"
 LONG_PATHS = "paths, counted from the top of the mount"
 LARGE = "large files"
 DIFFERENCES = [
@@ -113,6 +114,9 @@ DIFFERENCES = [
     Difference(OWNERS, "permissions: chown to another( group)?", None, "EPERM"),
     Difference(MORE_NAMES, "refused kinds: hard link", None, "EPERM"),
     Difference(SPECIAL, "refused kinds: (pipe|pipe by mknod|socket|device)", None, "EPERM"),
+    Difference(HIDDEN, "hidden names: .* of such a name", None, "EPERM"),
+    Difference(HIDDEN, "hidden names: a move to such a name", None, "EPERM"),
+    Difference(HIDDEN, "hidden names: .* is told", True, False),
     Difference(ATTRIBUTES, "refused kinds: .* attributes?", ANYTHING, "ENOTSUP"),
     Difference(ROOM, "kept room: fallocate of .*", 0, "ENOTSUP"),
     Difference(LONG_PATHS, "deep: .*deeper", None, "ENAMETOOLONG"),

@@ -126,7 +126,10 @@ class Files:
             copied += done
         return copied
 
-    def send(self, place: int, other: int, offset: int, length: int) -> int:
+    def send(self, place: int, other: int, offset: int, length: int) -> int | None:
+        """Of a file into itself it isn't said what comes, where the two parts overlap."""
+        if os.path.sameopenfile(self.files[place], self.files[other]):
+            return None
         sent = 0
         while done := os.sendfile(self.files[other], self.files[place], offset + sent, length - sent):
             sent += done
