@@ -113,11 +113,12 @@ def check_random_files(folder: pathlib.Path, repository: pathlib.Path, seed: int
 
 
 def run_files(tops: list[pathlib.Path], seed: int, operations: int, log: pathlib.Path) -> None:
-    """So many operations in both folders, by a program of its own; the last ones are told where they end otherwise."""
+    """So many operations in both folders, by a program of its own, which tells its last ones where something differs.
+    If it dies, or stands still, they are in its log."""
     done = finished([sys.executable, FILES_PROGRAM, *tops, seed, operations, log], capture_output=True)
     if done.returncode != 0:
-        print(os.fsdecode(done.stdout + done.stderr), "its last operations:",
-              *log.read_text().splitlines()[-TOLD:], sep="\n", flush=True)
+        last = [] if done.returncode == 1 else log.read_text().splitlines()[-TOLD:]
+        print(os.fsdecode(done.stdout + done.stderr), *last, sep="\n", flush=True)
     check(f"random files: {operations:,} by seed {seed}", done.returncode, 0)
 
 
