@@ -1,9 +1,7 @@
 """A commit that `mountd fuse` shows: calls of the system in it and in a plain folder, and what its ends leave."""
 
 import contextlib
-import errno
-import fcntl
-import mmap
+import itertools
 import os
 import pathlib
 import random
@@ -11,353 +9,117 @@ import signal
 import sqlite3
 import subprocess
 import sys
+import tempfile
 import time
+import traceback
 from collections.abc import Callable, Iterator
 from typing import Any
 
-from checks import PATIENCE, check, git
+from checks import PATIENCE, check, finished, git
 from folder_operations import Folder, shown
+from mount_calls import CALLS, Steps
+from mount_differences import DIFFERENCES, Differences, opened
+from mount_files import TOLD
 from mount_folder import Both, MountGit, checkout, children, said_by, unmount
 from mount_fuse import command_of, left_of
-from programs import MOUNT_GIT
+from mount_names import check_names
+from programs import MOUNT_GIT, TOP
 
-# ---- calls of the system, each of which gives what is compared
+# ---- calls of the system
 
 
-def tried(call: Callable[..., Any], *values: Any, **named: Any) -> Any:
-    """What the call gives, or the name of its error's number."""
-    try:
-        return call(*values, **named)
-    except OSError as problem:
-        return errno.errorcode[problem.errno or 0]
+def memory_folder() -> str | None:
+    """A folder in memory, for files whose many changes no disk is to delay; None where there is none."""
+    return "/dev/shm" if os.access("/dev/shm", os.W_OK) else None
 
 
 @contextlib.contextmanager
-def opened(path: pathlib.Path, flags: int) -> Iterator[int]:
-    file = os.open(path, flags, 0o644)
-    try:
-        yield file
-    finally:
-        os.close(file)
-
-
-def removed_while_open(top: pathlib.Path) -> list[Any]:
-    """Read, written, cut and measured until its last close, and never seen; a new file of the name is another."""
-    path = top / "removed"
-    path.write_bytes(b"abc")
-    with opened(path, os.O_RDWR) as one, opened(path, os.O_RDWR) as two:
-        path.unlink()
-        seen = [os.read(one, 9), os.write(one, b"def"), os.pread(two, 9, 0), os.fstat(two).st_size]
-        seen += [tried(os.stat, path), "removed" in os.listdir(top), tried(os.open, path, os.O_RDWR)]
-        path.write_bytes(b"new")
-        os.ftruncate(two, 2)
-        seen += [os.pread(one, 9, 0), os.pwrite(one, b"zz", 5), os.pread(two, 9, 0), os.fstat(one).st_size]
-        os.fsync(one)
-        with mmap.mmap(two, 7, prot=mmap.PROT_READ) as view:
-            seen.append(bytes(view))
-    return [*seen, path.read_bytes()]
-
-
-def replaced_while_open(top: pathlib.Path) -> list[Any]:
-    """Both what stood there and what came stay what they are, through moves."""
-    old, new = top / "old", top / "new"
-    old.write_bytes(b"old content")
-    new.write_bytes(b"new")
-    with opened(old, os.O_RDWR) as replaced, opened(new, os.O_RDWR) as replacing:
-        new.rename(old)
-        seen = [os.pread(replaced, 99, 0), os.pread(replacing, 99, 0), os.pwrite(replaced, b"OLD", 0)]
-        seen += [os.pwrite(replacing, b"NEW", 0), old.read_bytes(), os.pread(replaced, 99, 0)]
-        old.rename(top / "moved")
-        seen += [os.pwrite(replacing, b"!", 3), (top / "moved").read_bytes(), os.fstat(replaced).st_size]
-    return seen
-
-
-def removed_folder(top: pathlib.Path) -> list[Any]:
-    """A folder goes while a file of it, and the folder itself, are open."""
-    folder = top / "folder"
-    folder.mkdir()
-    (folder / "file").write_bytes(b"kept")
-    with opened(folder / "file", os.O_RDWR) as file, opened(folder, os.O_RDONLY | os.O_DIRECTORY) as at:
-        (folder / "file").unlink()
-        folder.rmdir()
-        seen = [os.pread(file, 9, 0), os.pwrite(file, b"more", 4), os.pread(file, 9, 0), folder.exists()]
-        seen += [tried(os.listdir, at), tried(os.open, "new", os.O_CREAT | os.O_WRONLY, dir_fd=at)]
-    return seen
-
-
-def exclusive(top: pathlib.Path) -> list[Any]:
-    """O_EXCL, over a file, a folder, links, and nothing."""
-    (top / "there").write_bytes(b"there")
-    (top / "folder there").mkdir()
-    for name, target in [("to there", "there"), ("to nothing", "no where")]:
-        (top / name).symlink_to(target)
-    flags = os.O_CREAT | os.O_EXCL | os.O_WRONLY
-    seen: list[Any] = [tried(os.open, top / name, flags)
-                       for name in ("there", "folder there", "to there", "to nothing")]
-    with opened(top / "fresh", flags) as file:
-        seen.append(os.write(file, b"fresh"))
-    return [*seen, tried(os.open, top / "fresh", flags), (top / "fresh").read_bytes(), (top / "there").read_bytes()]
-
-
-def appending(top: pathlib.Path) -> list[Any]:
-    """O_APPEND by two, one of which was opened before the other wrote."""
-    path = top / "appended"
-    with opened(path, os.O_CREAT | os.O_WRONLY | os.O_APPEND) as one, opened(path, os.O_RDWR | os.O_APPEND) as two:
-        for number in range(20):
-            os.write([one, two][number % 2], b"line %d\n" % number)
-        os.lseek(two, 3, os.SEEK_SET)
-        os.write(two, b"last")
-        os.ftruncate(one, 10)
-        os.write(two, b"after the cut")
-        return [path.read_bytes(), os.lseek(two, 0, os.SEEK_END)]
-
-
-def cut(top: pathlib.Path) -> list[Any]:
-    """truncate, ftruncate and O_TRUNC; gaps are zeros, also beyond a page; a read behind the end is none."""
-    path = top / "cut"
-    path.write_bytes(bytes(range(250)) * 80)
-    os.truncate(path, 9_001)
-    seen: list[Any] = [path.stat().st_size, path.read_bytes()]
-    os.truncate(path, 20_000)
-    with opened(path, os.O_RDWR) as file:
-        seen += [os.pread(file, 30_000, 8_990), os.pread(file, 5, 20_000), os.pread(file, 5, 99_999)]
-        os.ftruncate(file, 3)
-        seen += [os.pwrite(file, b"far", 70_000), path.stat().st_size, path.read_bytes()]
-        seen.append(tried(os.ftruncate, file, -1))
-    with opened(path, os.O_RDONLY) as file:
-        seen.append(tried(os.ftruncate, file, 1))
-    with opened(path, os.O_WRONLY | os.O_TRUNC) as file:
-        seen += [path.stat().st_size, tried(os.read, file, 1), os.write(file, b"anew")]
-    return [*seen, path.read_bytes(), tried(os.truncate, top, 0), tried(os.truncate, top / "no", 0)]
-
-
-def times(top: pathlib.Path) -> list[Any]:
-    """Times that are set stay over reads; a write, a cut and a new name in a folder are later than they were."""
-    path = top / "timed"
-    path.write_bytes(b"timed")
-    os.utime(path, ns=(5_000_000_007, 6_000_000_008))
-    seen: list[Any] = [path.stat().st_mtime_ns, path.read_bytes(), path.stat().st_mtime_ns]
-    with opened(path, os.O_RDWR) as file:
-        os.utime(file, (3, 4))
-        seen.append(os.fstat(file).st_mtime)
-        os.pwrite(file, b"T", 0)
-        seen.append(os.fstat(file).st_mtime > 1_000_000_000)
-    os.utime(path, (1, 2))
-    os.truncate(path, 2)
-    seen.append(path.stat().st_mtime > 1_000_000_000)
-    os.utime(path)
-    seen.append(path.stat().st_mtime > 1_000_000_000)
-    os.utime(path, (8, 9))
-    path.rename(top / "timed too")
-    seen.append((top / "timed too").stat().st_mtime)
-    os.utime(top, (1, 2))
-    (top / "a new name").touch()
-    return [*seen, top.stat().st_mtime > 1_000_000_000]
-
-
-def permissions(top: pathlib.Path) -> list[Any]:
-    """Of a mode the executable bit, as docs/MOUNT-GIT.md says."""
-    path = top / "program"
-    path.write_text("#!/bin/sh\necho ran\n")
-    seen: list[Any] = []
-    for mode in (0o644, 0o755):
-        path.chmod(mode)
-        seen += [path.stat().st_mode, os.access(path, os.X_OK), tried(subprocess.run, [path], capture_output=True)]
-        seen[-1] = getattr(seen[-1], "stdout", seen[-1])
-    with opened(path, os.O_RDONLY) as file:
-        os.fchmod(file, 0o644)
-        seen.append(os.fstat(file).st_mode)
-    return seen
-
-
-def kinds(top: pathlib.Path) -> list[Any]:
-    """What is refused for what stands at a name."""
-    (top / "file").write_bytes(b"file")
-    (top / "dir").mkdir()
-    (top / "full").mkdir()
-    (top / "full" / "file").write_bytes(b"inner")
-    (top / "link").symlink_to("file")
-    (top / "round").symlink_to("round")
-    file, folder, full, link = (top / name for name in ("file", "dir", "full", "link"))
-    calls: list[tuple[Any, ...]] = [
-        (os.mkdir, file), (os.mkdir, folder), (os.mkdir, file / "below"), (os.mkdir, top / "no" / "below"),
-        (os.rmdir, full), (os.rmdir, file), (os.rmdir, link), (os.rmdir, top / "no"), (os.unlink, folder),
-        (os.unlink, top / "no"), (os.rename, file, folder), (os.rename, folder, file), (os.rename, folder, full),
-        (os.rename, full, full / "inside"), (os.rename, file, file), (os.rename, top / "no", file),
-        (os.rename, file, top / "no" / "where"), (os.readlink, file), (os.readlink, link), (os.stat, top / "round"),
-        (os.open, link, os.O_RDONLY | os.O_NOFOLLOW), (os.open, file, os.O_RDONLY | os.O_DIRECTORY),
-        (os.open, folder, os.O_RDWR), (os.open, file / "below", os.O_RDONLY), (os.stat, f"{file}/"),
-        (os.stat, f"{folder}/x/.."), (os.symlink, "x", link), (os.stat, top / ("n" * 256)), (os.listdir, file),
-        (os.mkdir, top / ("n" * 255)), (os.rmdir, top / ("n" * 255)), (os.rename, folder, top / "moved"),
-        (os.rename, top / "moved", folder), (os.unlink, link), (os.listxattr, file), (os.getxattr, file, "user.none"),
-    ]
-    return [tried(*words) for words in calls] + [sorted(os.listdir(top)), file.read_bytes()]
-
-
-def listings(top: pathlib.Path) -> list[Any]:
-    """A long folder, whose names go while it is read; each that stays is told once."""
-    folder = top / "long"
-    folder.mkdir()
-    names = [f"{number:03}" + "x" * (number % 90) for number in range(500)]
-    for name in names:
-        (folder / name).touch()
-    told = []
-    with os.scandir(folder) as rows:
-        for number, row in enumerate(rows):
-            told.append(row.name)
-            if number == 100:
-                for name in names[::7]:
-                    (folder / name).unlink()
-    stays = [name for name in names if name not in names[::7]]
-    kept = sorted(name for name in told if name in stays)
-    with opened(folder, os.O_RDONLY) as at:
-        twice = [sorted(os.listdir(at)), sorted(os.listdir(at))]
-    return [kept == stays, twice == [stays, stays]]
-
-
-def copies(top: pathlib.Path) -> list[Any]:
-    """copy_file_range, sendfile, vectors, locks, and a file's holes as data."""
-    one, two = top / "one", top / "two"
-    one.write_bytes(random.Random(5).randbytes(150_000))
-    with opened(one, os.O_RDWR) as source, opened(two, os.O_RDWR | os.O_CREAT) as target:
-        os.sendfile(target, source, 0, 70_000)
-        seen: list[Any] = [os.fstat(target).st_size, os.pread(target, 200_000, 0)]
-        seen += [os.pwritev(target, [b"a" * 100, b"b" * 5_000], 69_990), os.lseek(target, 0, os.SEEK_DATA)]
-        rooms = [bytearray(10), bytearray(100)]
-        seen += [os.preadv(target, rooms, 69_985), rooms]
-        fcntl.flock(source, fcntl.LOCK_EX)
-        fcntl.lockf(target, fcntl.LOCK_EX, 100, 50)
-        fcntl.lockf(target, fcntl.LOCK_UN, 100, 50)
-    return [*seen, two.read_bytes()]
-
-
-# Where the mounted folder differs: a removed folder that is open is gone, and there are no extended attributes.
-OTHERWISE = {
-    ("removed_folder", 4): "ESTALE", ("removed_folder", 5): "ESTALE",
-    ("kinds", 34): "ENOTSUP", ("kinds", 35): "ENOTSUP",
-}
-CALLS: list[Callable[[pathlib.Path], list[Any]]] = [
-    removed_while_open, replaced_while_open, removed_folder, exclusive, appending, cut, times, permissions, kinds,
-    listings, copies,
-]
+def beside_plain(folder: pathlib.Path, repository: pathlib.Path) -> Iterator[tuple[list[pathlib.Path], Differences]]:
+    """A mounted folder and a plain one, and their differences. The next mount shows what was left there."""
+    differences = Differences(DIFFERENCES)
+    with tempfile.TemporaryDirectory(dir=memory_folder()) as name:
+        plain, overlay = pathlib.Path(name) / "plain", pathlib.Path(name) / "overlay"
+        with MountGit(repository, "HEAD", folder / "mounted", "--overlay", overlay) as mount:
+            tops = [mount.folder / "calls", plain]
+            for top in tops:
+                top.mkdir()
+            yield tops, differences
+            check("calls: the end, with nothing said", (mount.end("SIGTERM"), mount.said()), (0, []))
+        with MountGit(repository, "HEAD", folder / "mounted", "--overlay", overlay) as mount:
+            check("calls: mounted again", shown(Folder(mount.folder / "calls")), shown(Folder(plain)))
+            check("calls: the second end, with nothing said", (mount.end("SIGTERM"), mount.said()), (0, []))
 
 
 def check_calls(folder: pathlib.Path, repository: pathlib.Path) -> None:
     """Calls of the system, after the subjects of pjdfstest, say and leave what they do in a plain folder."""
-    with MountGit(repository, "HEAD", folder / "mounted", "--overlay", folder / "overlay") as mount:
-        plain = folder / "plain"
-        plain.mkdir()
-        (mount.folder / "calls").mkdir()
+    with beside_plain(folder, repository) as (tops, differences):
         for call in CALLS:
-            name = call.__name__.replace("_", " ")
-            tops = [mount.folder / "calls" / call.__name__, plain / call.__name__]
-            for top in tops:
-                top.mkdir()
-            for number, (got, wanted) in enumerate(zip(*[call(top) for top in tops], strict=True)):
-                check(f"calls: {name}, {number}", got, OTHERWISE.get((call.__name__, number), wanted))
-            check(f"calls: {name}: what is left", shown(Folder(tops[0])), shown(Folder(tops[1])))
-        check("calls: the end, with nothing said", (mount.end("SIGTERM"), mount.said()), (0, []))
-    with MountGit(repository, "HEAD", folder / "mounted", "--overlay", folder / "overlay") as mount:
-        check("calls: mounted again", shown(Folder(mount.folder / "calls")), shown(Folder(plain)))
-        check("calls: the second end, with nothing said", (mount.end("SIGTERM"), mount.said()), (0, []))
+            check_steps(call, [top / call.__name__ for top in tops], differences)
+    differences.check_rows(is_about_names=False)
+
+
+def check_named(folder: pathlib.Path, repository: pathlib.Path) -> None:
+    """Calls on names of all kinds, as links that lead nowhere, trailing slashes and dots, do so too."""
+    with beside_plain(folder, repository) as (tops, differences):
+        check_names(tops, differences)
+    differences.check_rows(is_about_names=True)
+
+
+def check_steps(call: Callable[[pathlib.Path], Steps], tops: list[pathlib.Path], differences: Differences) -> None:
+    """Each step gives in the first folder what it gives in the second, and they leave the same."""
+    name = call.__name__.replace("_", " ")
+    for top in tops:
+        top.mkdir()
+    for (step, got), (_, wanted) in itertools.zip_longest(*[given(call(top)) for top in tops], fillvalue=("", None)):
+        differences.check(f"{name}: {step}", got, wanted)
+    check(f"{name}: what is left", *[shown(Folder(top)) for top in tops])
+
+
+def given(steps: Steps) -> list[tuple[str, Any]]:
+    """What the steps give, until one fails that shouldn't."""
+    found = []
+    try:
+        for step in steps:
+            found.append(step)
+    except OSError as problem:
+        found.append(("its end", f"{problem}, in line {traceback.extract_tb(problem.__traceback__)[-1].lineno}"))
+    return found
 
 
 # ---- random operations on open files
 
-LONGEST = 100_000
-NAMES = ["one", "two", "three"]
-
-
-class Files:
-    """Files of a folder, of which some are open, under the numbers of places."""
-
-    def __init__(self, top: pathlib.Path) -> None:
-        self.top = top
-        self.files: dict[int, int] = {}
-
-    def open(self, place: int, name: str, flags: int) -> None:
-        self.close(place)
-        self.files[place] = os.open(self.top / name, flags | os.O_RDWR, 0o644)
-
-    def close(self, place: int) -> None:
-        if place in self.files:
-            os.close(self.files.pop(place))
-
-    def write(self, place: int, offset: int, data: bytes) -> int:
-        return os.pwrite(self.files[place], data, offset)
-
-    def append(self, place: int, data: bytes) -> int:
-        os.lseek(self.files[place], 0, os.SEEK_END)
-        return os.write(self.files[place], data)
-
-    def read(self, place: int, offset: int, length: int) -> bytes:
-        return os.pread(self.files[place], length, offset)
-
-    def cut(self, place: int, size: int) -> int:
-        os.ftruncate(self.files[place], size)
-        return os.fstat(self.files[place]).st_size
-
-    def mapped(self, place: int, offset: int, data: bytes, is_write: bool) -> bytes | None:
-        """What is read, or is written, through memory; None where the file is too short."""
-        size = os.fstat(self.files[place]).st_size
-        if size < offset + len(data) or size == 0:
-            return None
-        with mmap.mmap(self.files[place], size) as view:
-            if is_write:
-                view[offset : offset + len(data)] = data
-                if offset % 2:
-                    view.flush()
-            return view[max(0, offset - 50) : offset + len(data) + 50]
-
-    def rename(self, name: str, other: str) -> None:
-        os.rename(self.top / name, self.top / other)
-
-    def unlink(self, name: str) -> None:
-        os.unlink(self.top / name)
-
-    def whole(self) -> list[Any]:
-        """What each open file and each name holds."""
-        return [{place: (os.fstat(file).st_size, os.pread(file, 2 * LONGEST, 0)) for place, file in self.files.items()},
-                {name: (self.top / name).read_bytes() for name in sorted(os.listdir(self.top))}]
-
-
-def next_operation(generator: random.Random, places: list[int]) -> tuple[Any, ...]:
-    """An operation and what it is asked with, most of them on one of the open places."""
-    name, place = generator.choice(NAMES), generator.randrange(4)
-    word = generator.choices(["open", "close", "rename", "unlink", "on an open file"], [10, 2, 3, 3, 82])[0]
-    if word == "open" or not places:
-        return "open", place, name, generator.choice([os.O_CREAT, os.O_CREAT, 0, os.O_CREAT | os.O_TRUNC])
-    if word != "on an open file":
-        return {"close": (word, place), "rename": (word, name, generator.choice(NAMES)), "unlink": (word, name)}[word]
-    place = generator.choice(places)
-    data = generator.randbytes(generator.choice([1, 9, 500, 4_096, 5_000, 30_000]))
-    offset = generator.choice([0, generator.randrange(5_000), generator.randrange(LONGEST - 30_000)])
-    return generator.choices([
-        ("write", place, offset, data), ("append", place, data[:500]), ("read", place, offset, len(data)),
-        ("cut", place, offset), ("mapped", place, offset, data, False), ("mapped", place, offset, data[:5_000], True),
-    ], [5, 2, 6, 2, 4, 3])[0]
+FILES_PROGRAM = TOP / "tests" / "mount_files.py"
+OPERATIONS_OF_A_LIFE = 2_500
 
 
 def check_random_files(folder: pathlib.Path, repository: pathlib.Path, seed: int, operations: int) -> None:
-    """Random operations on open files, also through memory, beside the same on a plain folder."""
-    generator = random.Random(seed)
-    with MountGit(repository, "HEAD", folder / "mounted", "--overlay", folder / "overlay") as mount:
-        tops = [mount.folder / "random", folder / "random"]
-        for top in tops:
-            top.mkdir()
-        mounted, plain = map(Files, tops)
-        for number in range(operations):
-            word, *fields = next_operation(generator, sorted(plain.files))
-            wanted = tried(getattr(plain, word), *fields)
-            check(f"open files: {number}, {word} {fields!r:.80}", tried(getattr(mounted, word), *fields), wanted)
-            if number % 50 == 49:
-                check(f"open files: all after operation {number}", mounted.whole(), plain.whole())
-        for place in range(4):
-            mounted.close(place)
-            plain.close(place)
-        check("open files: the end, with nothing said", (mount.end("SIGTERM"), mount.said()), (0, []))
-    with MountGit(repository, "HEAD", folder / "mounted", "--overlay", folder / "overlay") as mount:
-        check("open files: mounted again", mounted.whole(), plain.whole())
+    """Random operations on open files, also through memory, beside the same on a plain folder, in two lives at least.
+    Each second life is killed once all is closed, and what was closed is in the next one."""
+    lives = max(2, operations // OPERATIONS_OF_A_LIFE)
+    print(f"random files: {operations:,} operations in {lives} lives, from seed {seed} on")
+    with tempfile.TemporaryDirectory(dir=memory_folder()) as name:
+        plain, overlay = pathlib.Path(name) / "plain", pathlib.Path(name) / "overlay"
+        plain.mkdir()
+        for life in range(lives + 1):
+            with MountGit(repository, "HEAD", folder / "mounted", "--overlay", overlay) as mount:
+                (mount.folder / "random").mkdir(exist_ok=True)
+                count = operations // lives if life < lives else 0
+                run_files([mount.folder / "random", plain], seed + life, count, folder / "operations")
+                if life % 2 == 0:
+                    os.kill(mountd_of(mount)[-1], signal.SIGKILL)
+                    mount.status()
+                else:
+                    check("random files: the end, with nothing said", (mount.end("SIGTERM"), mount.said()), (0, []))
+
+
+def run_files(tops: list[pathlib.Path], seed: int, operations: int, log: pathlib.Path) -> None:
+    """So many operations in both folders, by a program of its own, which tells its last ones where something differs.
+    If it dies, or stands still, they are in its log."""
+    done = finished([sys.executable, FILES_PROGRAM, *tops, seed, operations, log], capture_output=True)
+    if done.returncode != 0:
+        last = [] if done.returncode == 1 else log.read_text().splitlines()[-TOLD:]
+        print(os.fsdecode(done.stdout + done.stderr), *last, sep="\n", flush=True)
+    check(f"random files: {operations:,} by seed {seed}", done.returncode, 0)
 
 
 # ---- programs that keep files open
