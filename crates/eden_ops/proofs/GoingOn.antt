@@ -1,5 +1,5 @@
 -- Places at which attempts of a request may go on.
-use Rattle.std.proofs.Common.{◌≡◌, ◌<◌, ◌-◌, ◌^◌, ◌==◌, ◌&&◌, nat_lt, ℕ, Bool, true, false, cond, [], Option, Some, None, IfSome, eqb-true, refl, sym, ap, ◌∙◌, subst, arith}
+use Rattle.std.proofs.Common.{◌≡◌, ◌<◌, ◌-◌, ◌^◌, ◌==◌, ◌&&◌, nat_lt, ℕ, Bool, true, false, cond, List, [], eqb-true, refl, sym, ap, ◌∙◌, subst, arith}
 use Rattle.std.proofs.lemmas.Bool.{ltb-true}
 use Rattle.eden_model.specs.declared.request.Request.{Request}
 use Rattle.eden_model.specs.Requests.{paths_of}
@@ -8,7 +8,7 @@ use Rattle.eden_inode.specs.Tables.{Table}
 use Rattle.eden_inode.specs.Trails.{Leads, KeepsNames, KeepsPlaces}
 use Rattle.eden_inode.proofs.CallerLemmas.{leads_kept, places_same}
 use Rattle.eden_ops.specs.declared.place.Place.{Place}
-use Rattle.eden_ops.specs.Trails.{walked_of, is_present, LeadsFor, MayGoOn}
+use Rattle.eden_ops.specs.Trails.{walked_of, is_present, IsBare, LeadsFor, LeadsAll, MayGoOn}
 
 both_of : (a b : Bool) → (a && b) ≡ true → (a ≡ true) × (b ≡ true)
 both_of true true e = (refl, refl)
@@ -18,6 +18,14 @@ both_of false b e = absurd (cc e)
 -- what a place says where it is present, and where it isn't
 abbrev leads_if : Request → Place → Row → Bool → Type 0
 leads_if q p x b = Leads (walked_of (cond b p.second false) (paths_of q)) (cond b p.trail.positions []) x
+
+-- a place without positions leads everywhere
+pub bare_leads : (p : Place) → IsBare p → LeadsAll p
+bare_leads p bare q changes x = at (is_present changes p)
+  where
+    at : (b : Bool) → leads_if q p x b
+    at true = subst (λ (is : List ℕ). Leads (walked_of p.second (paths_of q)) is x) (sym bare.none) tt
+    at false = tt
 
 module _ {F : Type 0} where
   -- what may be gone on at may be so still, as long as places are kept
@@ -34,19 +42,17 @@ module _ {F : Type 0} where
           let before : is_present s.changes p ≡ true = ap (λ (c : ℕ). is_present c p) (sym kept.0 ∙ same) ∙ e in
           leads_kept (walked_of p.second (paths_of q)) p.trail.positions s.root t.root kept.1 (subst (leads_if q p s.root) before may.leads)
 
-      at : (b : Bool) → is_present t.changes p ≡ b → LeadsFor q t.changes t.root (Some p)
+      at : (b : Bool) → is_present t.changes p ≡ b → LeadsFor q t.changes t.root p
       at true e = subst (leads_if q p t.root) (sym e) (led e)
       at false e = subst (leads_if q p t.root) (sym e) tt
 
-  -- an attempt goes on at such a place
-  pub may_lead : (q : Request) (s : Table F) (o : Option Place) → IfSome o (MayGoOn q s) → LeadsFor q s.changes s.root o
-  may_lead q s None may = tt
-  may_lead q s (Some p) may = may.leads
+  -- .. and where an attempt leaves one, the next may go on
+  pub may_now : (q : Request) (t : Table F) (p : Place) → p.changes ≡ t.changes → LeadsFor q t.changes t.root p → MayGoOn q t p
+  may_now q t p now leads = record { noted = λ below. omega (arith, now); leads = leads }
 
-  -- .. and leaves one
-  pub may_now : (q : Request) (t : Table F) (o : Option Place) → IfSome o (λ p. p.changes ≡ t.changes) → LeadsFor q t.changes t.root o → IfSome o (MayGoOn q t)
-  may_now q t None now leads = tt
-  may_now q t (Some p) now leads = record { noted = λ below. omega (arith, now); leads = leads }
+  -- any request may begin where no position is noted
+  pub may_begin : (q : Request) (t : Table F) (p : Place) → p.changes ≡ 0 → LeadsAll p → MayGoOn q t p
+  may_begin q t p never leads = record { noted = λ below. omega (arith, never); leads = leads q t.changes t.root }
 
   -- places are kept where the entries and the count are as they were
   pub places_alike : (s t : Table F) → t.root ≡ s.root → t.changes ≡ s.changes → KeepsPlaces s t

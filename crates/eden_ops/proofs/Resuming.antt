@@ -1,5 +1,5 @@
 -- Attempts that go on where an earlier one waited.
-use Rattle.std.proofs.Common.{◌≡◌, ◌≤◌, ◌+◌, ◌*◌, ℕ, Bool, true, false, List, [], ◌∷◌, length, cond, Some, sym, subst, arith}
+use Rattle.std.proofs.Common.{◌≡◌, ◌≤◌, ◌+◌, ◌*◌, ℕ, Bool, true, false, List, [], ◌∷◌, length, cond, sym, subst, arith}
 use Rattle.eden_model.specs.declared.request.Request.{Request}
 use Rattle.eden_model.specs.declared.request.Request.TheVariants as ask
 use Rattle.eden_model.specs.Requests.{paths_of}
@@ -63,7 +63,7 @@ counts_one ps t u few p is = subst (λ (qs : List Path). Counts (first_of qs) t 
 
 -- what is found at this count of changes leads along a path then
 pub leads_found : (ps : List Path) (changes : ℕ) (x : Row) (p : Place) → Leads (walked_of p.second ps) p.trail.positions x
-    → Leads (walked_of (is_second changes (Some p)) ps) (remembered changes (Some p)) x
+    → Leads (walked_of (is_second changes p) ps) (remembered changes p) x
 leads_found ps changes x p h =
     elim (is_present changes p) as (λ b. Leads (walked_of (cond b p.second false) ps) (cond b p.trail.positions []) x) [ true ↦ h | false ↦ tt ]
 

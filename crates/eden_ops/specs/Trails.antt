@@ -1,6 +1,6 @@
 -- What an attempt remembers of its walk: positions that lead along a path of its request, and how many names were compared.
 use Rattle.std.specs.Prelude.{◌≡◌, ◌≤◌, ◌<◌, ◌+◌, ◌-◌, ◌*◌, ◌^◌, ◌==◌, ◌&&◌, nat_lt, ℕ, Bool, true, false, List, [], ◌∷◌, length}
-use Rattle.std.specs.Prelude.{Option, Some, None, if◌then◌else◌}
+use Rattle.std.specs.Prelude.{if◌then◌else◌}
 use Rattle.eden_model.specs.declared.attempt.Attempt.{Attempt}
 use Rattle.eden_model.specs.declared.attempt.Attempt.TheVariants.{Need}
 use Rattle.eden_model.specs.declared.id.Key.{Key}
@@ -41,24 +41,31 @@ abbrev pub is_present : ℕ → Place → Bool
 is_present changes p = (p.changes == changes) && nat_lt changes (2 ^ 64 - 1)
 
 -- the positions that an attempt goes by, and of which path; any other place is passed over
-abbrev pub remembered : ℕ → Option Place → List ℕ
-remembered changes None = []
-remembered changes (Some p) = if is_present changes p then p.trail.positions else []
+abbrev pub remembered : ℕ → Place → List ℕ
+remembered changes p = if is_present changes p then p.trail.positions else []
 
-abbrev pub is_second : ℕ → Option Place → Bool
-is_second changes None = false
-is_second changes (Some p) = if is_present changes p then p.second else false
+abbrev pub is_second : ℕ → Place → Bool
+is_second changes p = if is_present changes p then p.second else false
 
 -- a place that isn't passed over leads along a path of the request
-abbrev pub LeadsFor : Request → ℕ → Row → Option Place → Type 0
-LeadsFor q changes x o = Leads (walked_of (is_second changes o) (paths_of q)) (remembered changes o) x
+abbrev pub LeadsFor : Request → ℕ → Row → Place → Type 0
+LeadsFor q changes x p = Leads (walked_of (is_second changes p) (paths_of q)) (remembered changes p) x
+
+-- a place without positions, from which an attempt begins at the root, on the first path
+pub record IsBare (p : Place) : Type 0 where
+  pub first : p.second ≡ false
+  pub none : p.trail.positions ≡ []
+
+-- so any attempt may begin there
+abbrev pub LeadsAll : Place → Type 0
+LeadsAll p = (q : Request) (changes : ℕ) (x : Row) → LeadsFor q changes x p
 
 module _ {F : Type 0} where
   -- an attempt of the request may go on at the place: it was noted at no later count of changes, and it leads along a path of the
   -- request, unless it is passed over
   pub record MayGoOn (q : Request) (s : Table F) (p : Place) : Type 0 where
     pub noted : p.changes < 2 ^ 64 - 1 → p.changes ≤ s.changes
-    pub leads : LeadsFor q s.changes s.root (Some p)
+    pub leads : LeadsFor q s.changes s.root p
 
 -- how many components a request's paths have
 abbrev pub components : List Path → ℕ

@@ -1,5 +1,5 @@
 //! One attempt of any request.
-ghost use Rattle.std.specs.Prelude.{◌≡◌, ◌≤◌, ◌+◌, ◌-◌, ◌*◌, ◌∷◌, [], length, IfSome, None};
+ghost use Rattle.std.specs.Prelude.{◌≡◌, ◌≤◌, ◌+◌, ◌-◌, ◌*◌, ◌∷◌, [], length};
 ghost use Rattle.eden_model.specs.declared.attempt.Attempt.TheVariants.{Finished};
 ghost use Rattle.eden_model.specs.declared.reply.Reply as reply;
 ghost use Rattle.eden_model.specs.Trees.{Path};
@@ -11,7 +11,7 @@ ghost use Rattle.eden_ops.specs.Leaving.{LeavesAfter, StampsItsWalk};
 ghost use Rattle.eden_ops.specs.Looks.{IsLook, IsChange, IsBeyondLimits, MovesNoName};
 ghost use Rattle.eden_ops.specs.Renumbering.{EditsNumbers, TellsItsNumber, Renumbered};
 ghost use Rattle.eden_ops.specs.Stamps.{AreWalked};
-ghost use Rattle.eden_ops.specs.Trails.{Counts, LeadsFor, LeadsToNeed, components, first_of, remembered, walked_of};
+ghost use Rattle.eden_ops.specs.Trails.{Counts, IsBare, LeadsFor, LeadsToNeed, components, first_of, remembered, walked_of};
 ghost use Rattle.eden_inode.specs.Tables.{shows_numbers};
 ghost use Rattle.eden_inode.specs.Trails.{Leads};
 
@@ -103,18 +103,19 @@ pub fn attempt<A: Allocator + Clone, W: World, F: Files<W>, C: Allocator + Clone
         → AreWalked (paths_of request.now) inodes.new.clock inodes.new.root }
     ensures looks { IsLook request.now → Keeps W.World F.Files (paths_of request.now) inodes.old inodes.new }
 {
-    attempt_from(inodes, cache, alloc, request, &mut None, &mut 0)
+    attempt_from(inodes, cache, alloc, request, &mut Place::new(), &mut 0)
 }
 
 /// `attempt`, from the place where an earlier one waited, if no name has changed since; any other place is passed over.
-/// Where this one waits is left there; where it ends nothing is. To `compared` it adds how many names it compared on
+/// Where this one waits is left there; where it ends nothing is, and of a place without positions no more than their
+/// number is read or written. To `compared` it adds how many names it compared on
 /// its paths: at most 32 for each component of the path that the place doesn't lead to.
 pub fn attempt_from<A: Allocator + Clone, W: World, F: Files<W>, C: Allocator + Clone>(
     inodes: &mut Inodes<A, W, F>,
     cache: &mut Stock<W, C>,
     alloc: Global,
     request: &Request,
-    place: &mut Option<Place>,
+    place: &mut Place,
     compared: &mut u32,
 ) -> Attempt
     requires leads { LeadsFor request.now inodes.old.changes inodes.old.root place.old }
@@ -130,9 +131,9 @@ pub fn attempt_from<A: Allocator + Clone, W: World, F: Files<W>, C: Allocator + 
     ensures walked { IsLook request.now → ¬ IsBeyondLimits request.now
         → AreWalked (paths_of request.now) inodes.new.clock inodes.new.root }
     ensures looks { IsLook request.now → Keeps W.World F.Files (paths_of request.now) inodes.old inodes.new }
-    ensures waits { IfSome place.new (λ p. p.changes ≡ inodes.new.changes) }
+    ensures waits { place.new.changes ≡ inodes.new.changes }
     ensures leads { LeadsFor request.now inodes.new.changes inodes.new.root place.new }
-    ensures ends { (r : reply.Reply) → result ≡ Finished r → place.new ≡ None }
+    ensures ends { (r : reply.Reply) → result ≡ Finished r → IsBare place.new }
     ensures counts { compared.new ≤ compared.old + 32 * components (paths_of request.now) }
     ensures resumes { (p : Path) → paths_of request.now ≡ p ∷ []
         → compared.new ≤ compared.old + 32 * (length p - length (remembered inodes.old.changes place.old)) }
@@ -140,13 +141,13 @@ pub fn attempt_from<A: Allocator + Clone, W: World, F: Files<W>, C: Allocator + 
     keeps_laws::<W, F>();
     backing_laws();
     inodes.holds();
-    let mut walk = recall(place, inodes.changes());
-    let attempt = attempt_along(inodes, cache, alloc, request, &mut walk);
+    recall(place, inodes.changes());
+    let attempt = attempt_along(inodes, cache, alloc, request, place);
     inodes.holds();
-    *compared = compared.saturating_add(walk.trail.compared());
-    if let Attempt::Need(_) = &attempt {
-        walk.changes = inodes.changes();
-        *place = Some(walk);
+    *compared = compared.saturating_add(place.trail.compared());
+    place.changes = inodes.changes();
+    if let Attempt::Finished(_) = &attempt {
+        place.forget();
     }
     attempt
 }

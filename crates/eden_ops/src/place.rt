@@ -1,6 +1,6 @@
 //! Where an attempt waits.
-ghost use Rattle.std.specs.Prelude.{◌≡◌, [], None, false};
-ghost use Rattle.eden_ops.specs.Trails.{remembered, is_second};
+ghost use Rattle.std.specs.Prelude.{◌≡◌, true};
+ghost use Rattle.eden_ops.specs.Trails.{IsBare, LeadsAll, remembered, is_second};
 
 use eden_inode::Trail;
 
@@ -8,7 +8,7 @@ use eden_inode::Trail;
 /// paths, and the count of changes of names at which they were noted.
 ///
 /// An attempt goes by them while the count is the same and below 2^64 - 1. Any other place is passed over. It takes no
-/// memory.
+/// memory, and one kilobyte: so it is better kept than made for each attempt.
 #[derive(Drop)]
 pub struct Place {
     /// Whether the path is the request's second, or else its first.
@@ -17,35 +17,47 @@ pub struct Place {
     pub(crate) changes: u64,
 }
 
-/// What an attempt at this count goes by: what the place has, or nothing. The place is taken.
-pub(crate) fn recall(place: &mut Option<Place>, changes: u64) -> Place
-    ensures positions { result.trail.positions ≡ remembered changes place.old }
-    ensures second { result.second ≡ is_second changes place.old }
-    ensures compared { result.trail.compared ≡ 0 }
-    ensures taken { place.new ≡ None }
-{
-    match place.take() {
-        None => start(changes),
-        Some(found) => {
-            if found.changes == changes && changes < u64::MAX {
-                let mut found = found;
-                found.trail.recount();
-                return found;
-            }
-            start(changes)
+impl Place {
+    /// A place without positions: an attempt of any request may begin there, at the root.
+    pub fn new() -> Place
+        ensures bare { IsBare result }
+        ensures leads { LeadsAll result }
+        ensures changes { result.changes ≡ 0 }
+    {
+        Place {
+            second: false,
+            trail: Trail::new(),
+            changes: 0,
         }
+    }
+
+    /// Forgets the positions, whatever they are of.
+    pub fn forget(&mut self)
+        ensures bare { IsBare self.new }
+        ensures leads { LeadsAll self.new }
+        ensures compared { self.new.trail.compared ≡ self.old.trail.compared }
+        ensures changes { self.new.changes ≡ self.old.changes }
+    {
+        self.second = false;
+        self.trail.clear();
+    }
+
+    /// Whether it has no positions.
+    pub fn is_bare(&self) -> bool
+        ensures { result ≡ true → IsBare self.now }
+    {
+        !self.second && self.trail.depth() == 0
     }
 }
 
-/// The start of a request's first path.
-fn start(changes: u64) -> Place
-    ensures positions { result.trail.positions ≡ [] }
-    ensures second { result.second ≡ false }
-    ensures compared { result.trail.compared ≡ 0 }
+/// Readies a place for an attempt at this count: it has what the attempt goes by, or nothing, and counts names from 0 on.
+pub(crate) fn recall(place: &mut Place, changes: u64)
+    ensures positions { place.new.trail.positions ≡ remembered changes place.old }
+    ensures second { place.new.second ≡ is_second changes place.old }
+    ensures compared { place.new.trail.compared ≡ 0 }
 {
-    Place {
-        second: false,
-        trail: Trail::new(),
-        changes,
+    place.trail.recount();
+    if place.changes != changes || changes == u64::MAX {
+        place.forget();
     }
 }
