@@ -3,7 +3,7 @@
 The structs are those of Linux's include/uapi/linux/fuse.h (protocol 7.31). `FolderModel.answer` gives the bytes that
 answer a message, and follows what it makes of the tree, of the nodes that the kernel was told of, and of what is open.
 What `mountd` may choose (a node's number, an inode number, a handle, times) is taken from the answer that was told, if
-it may be told.
+it may be told. What was written and isn't stored yet is kept beside the tree, which is the mount's.
 """
 
 import contextlib
@@ -11,11 +11,13 @@ import errno
 import struct
 from typing import Any, NamedTuple
 
-from yakembi.tree_model import MOST_ENTRIES, Path, Refused, Unknown, WholeTree, known, need
+from yakembi.tree_model import LONGEST_FILE, MOST_ENTRIES, Path, Refused, Unknown, WholeTree, known, need
 
 Place = tuple[int, bytes]
 
 LONGEST_NAME, LONGEST_PATH, MOST_NAMES = 255, 4_095, 256
+# So many bytes of all files together wait to be stored.
+MOST_WAITING = 64 << 20
 ROOT = 1
 HIDDEN = b"\xff" * 4
 # For how many seconds the kernel may keep what it is told.
@@ -141,6 +143,16 @@ class Page(NamedTuple):
     names: list[bytes]
 
 
+class Extent(NamedTuple):
+    """Bytes of a file that wait to be stored, from an offset on."""
+
+    start: int
+    data: bytes
+
+    def end(self) -> int:
+        return self.start + len(self.data)
+
+
 class FolderModel:
     def __init__(self, tree: WholeTree, owner: tuple[int, int]) -> None:
         self.tree = tree
@@ -149,13 +161,19 @@ class FolderModel:
         self.start()
 
     def start(self) -> None:
-        """As a new session knows them: no node but the root, and nothing open."""
+        """As a new session knows them: no node but the root, nothing open, and nothing that waits."""
         self.places: dict[int, Place | None] = {}
         self.nodes: dict[Place, int] = {}
         self.counts: dict[int, int] = {}
         self.opens: dict[int, int] = {}
         self.pages: dict[int, Page] = {}
+        self.waits: dict[int, Extent] = {}
         self.given = {ROOT}
+
+    def end(self) -> None:
+        """What is made of a session's end: all that waits is stored, or dropped where that is refused."""
+        for node in sorted(self.waits):
+            self.empty(node)
 
     def answer(self, data: bytes, told: bytes) -> bytes | None:
         """The answer to a message, where that one was told; None, if there is to be none."""
@@ -180,6 +198,31 @@ class FolderModel:
             raise Refused("ENOENT" if message.word == "lookup" else "EPERM")
         found: bytes | None = getattr(self, message.word)(message.node, *message.fields)
         return found or b""
+
+    # ---- what waits to be stored
+
+    def may_wait(self, node: int, offset: int, data: bytes) -> bool:
+        """Bytes wait where they go on behind what waits for their node, and where there is room for them."""
+        held = self.waits.get(node, Extent(offset, b""))
+        room = MOST_WAITING - sum(len(extent.data) for extent in self.waits.values())
+        return held.end() == offset and offset + len(data) <= LONGEST_FILE and len(data) <= room
+
+    def settle(self, node: int) -> None:
+        """What waits for a node is stored. Where that is refused, it waits still."""
+        if node in self.waits:
+            self.tree.patch(self.path(node), *self.waits[node])
+            del self.waits[node]
+
+    def empty(self, node: int) -> None:
+        """.. where that is refused, it is dropped."""
+        with contextlib.suppress(Refused, Unknown):
+            self.settle(node)
+        self.waits.pop(node, None)
+
+    def settle_at(self, place: Place) -> None:
+        """.. for the node that stands there."""
+        if place in self.nodes:
+            self.settle(self.nodes[place])
 
     # ---- where nodes lie
 
@@ -253,6 +296,7 @@ class FolderModel:
     # ---- messages about nodes
 
     def lookup(self, node: int, name: bytes) -> bytes:
+        self.settle_at((node, name))
         path = self.child(node, name)
         try:
             self.tree.present(path)
@@ -280,10 +324,12 @@ class FolderModel:
         """Nothing waits."""
 
     def getattr(self, node: int, *_: int) -> bytes:
+        self.settle(node)
         return VALID.pack(KEEP, 0, 0) + self.attributes(self.path(node), VALID.size)
 
     def setattr(self, node: int, valid: int, _: int, handle: int, size: int, *more: int) -> bytes:
         mode, user, group = more[7], more[9], more[10]
+        self.settle(node)
         path = self.path(node)
         need(not valid & 2 or user == self.owner[0], "EPERM")
         need(not valid & 4 or group == self.owner[1], "EPERM")
@@ -312,10 +358,19 @@ class FolderModel:
         return OPENED.pack(0, 2, 0)
 
     def read(self, node: int, handle: int, offset: int, size: int, *_: int) -> bytes:
+        self.settle(node)
         return data_in(self.tree.read(self.path(node), offset, size))
 
     def write(self, node: int, handle: int, offset: int, size: int, *more: Any) -> bytes:
-        self.tree.write(self.path(node), offset, more[-1])
+        """It waits if it may, at the latest once what waited is stored. Nobody looks for the node until then."""
+        data: bytes = more[-1]
+        if not self.may_wait(node, offset, data):
+            self.settle(node)
+        if self.may_wait(node, offset, data):
+            held = self.waits.get(node, Extent(offset, b""))
+            self.waits[node] = Extent(held.start, held.data + data)
+        else:
+            self.tree.patch(self.path(node), offset, data)
         return WRITTEN.pack(size, 0)
 
     def release(self, node: int, *_: int) -> None:
@@ -323,14 +378,21 @@ class FolderModel:
         if count > 1:
             self.opens[node] = count - 1
         elif count == 1:
+            self.empty(node)
             place = self.places.get(node)
             if place is not None and is_veiled(place):
                 self.remove(place)
 
     def fsync(self, node: int, *_: int) -> None:
-        """All that was answered is stored."""
+        """All that was written of it is stored."""
+        self.settle(node)
 
-    flush = fsyncdir = destroy = fsync
+    flush = fsync
+
+    def fsyncdir(self, node: int, *_: int) -> None:
+        """All that was answered of a directory is stored."""
+
+    destroy = fsyncdir
 
     def readlink(self, node: int) -> bytes:
         return data_in(self.tree.readlink(self.path(node)))
@@ -399,6 +461,7 @@ class FolderModel:
         return self.made((node, name))
 
     def create(self, node: int, flags: int, mode: int, mask: int, _: int, name: bytes) -> bytes:
+        self.settle_at((node, name))
         path = self.child(node, name)
         try:
             self.tree.create(path)

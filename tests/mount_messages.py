@@ -15,8 +15,8 @@ from collections.abc import Sequence
 from typing import Any, Self
 
 from checks import PATIENCE, check, git, status_of
-from message_model import (ANSWER, FORGOTTEN, HEADER, HIDDEN, LAYOUTS, ROOT, SHAPES, WORDS, FolderModel, answered,
-                           framed, hidden_name, read_message, spelled, wants_answer)
+from message_model import (ANSWER, FORGOTTEN, HEADER, HIDDEN, LAYOUTS, ROOT, SHAPES, WORDS, WRITTEN, FolderModel,
+                           answered, framed, hidden_name, read_message, spelled, wants_answer)
 from overlays import CLOSED, Commit, Place, check_closed, make_commit
 from programs import MOUNTD, SAMPLE_OBJECTS, SAMPLE_ROOT
 from yakembi.overlay_files import Shown
@@ -26,6 +26,7 @@ OWNER = os.getuid(), os.getgid()
 # Where random files may end, so that none takes a second to store, and where they may not.
 LONGEST_CONTENT = 1 << 18
 DEAR = range(LONGEST_CONTENT + 1, LONGEST_FILE + 1)
+LONGEST_WRITE = 150_000
 # A message, and what a kernel offers at the start.
 STARTS = spelled("init", 1, 0, 7, 31, 131_072, 0xFFFFFFFF)
 
@@ -145,13 +146,17 @@ BAD_NAMES = [("no byte", b"", "EINVAL"), ("the folder itself", b".", "EINVAL"), 
 # Requests that go to a node, and one of a name in it.
 OF_NODES: list[tuple[str, tuple[Any, ...]]] = [
     ("getattr", (0, 0, 0)), ("setattr", (0,) * 16), ("readlink", ()), ("open", (0, 0)), ("opendir", (0, 0)),
-    ("read", (0, 0, 9, 0, 0, 0, 0)), ("write", (0, 0, 1, 0, 0, 0, 0, b"x")), ("readdir", (0, 0, 99, 0, 0, 0, 0)),
+    ("read", (0, 0, 9, 0, 0, 0, 0)), ("readdir", (0, 0, 99, 0, 0, 0, 0)),
     ("lookup", (b"a",)), ("mknod", (0o100644, 0, 0, 0, b"a")), ("mkdir", (0o755, 0, b"a")), ("unlink", (b"a",)),
     ("rmdir", (b"a",)), ("symlink", (b"a", b"b")), ("create", (0, 0o644, 0, 0, b"a")), ("rename", (ROOT, b"a", b"b")),
     ("rename2", (ROOT, 1, 0, b"a", b"b")),
 ]
 LAST_NUMBER = (1 << 64) - 1
 NODES = [0, 2, 99, LAST_NUMBER]
+# What is written waits, and isn't looked for until it is stored: so these are refused once something was written.
+AFTER_A_WRITE: list[tuple[str, tuple[Any, ...]]] = [
+    ("flush", (0, 0, 0, 0)), ("fsync", (0, 0, 0)), ("getattr", (0, 0, 0)), ("write", (0, 9, 1, 0, 0, 0, 0, b"x")),
+]
 
 
 def check_rows(folder: pathlib.Path) -> None:
@@ -173,9 +178,15 @@ def check_rows(folder: pathlib.Path) -> None:
             check(f"a name: {name}", kernel.asked(spelled("lookup", 9, ROOT, text)), answered(9, error))
             check(f"a name to make: {name}", kernel.asked(spelled("mkdir", 9, ROOT, 0, 0, text)), answered(9, error))
         for node in NODES:
+            unknown = node + (node == number_in(found))
             for word, fields in OF_NODES:
-                told = kernel.asked(spelled(word, 9, node + (node == number_in(found)), *fields))
-                check(f"unknown node {node}: {word}", told, answered(9, "ESTALE"))
+                check(f"unknown node {node}: {word}", kernel.asked(spelled(word, 9, unknown, *fields)),
+                      answered(9, "ESTALE"))
+            check(f"unknown node {node}: write", kernel.asked(writing(unknown, b"x")),
+                  answered(5, None, WRITTEN.pack(1, 0)))
+            for word, fields in AFTER_A_WRITE:
+                check(f"unknown node {node}: {word} after a write",
+                      kernel.asked(spelled(word, 9, unknown, *fields)), answered(9, "ESTALE"))
         check("rows: as before", kernel.asked(LOOKUP), found)
         check("rows: the end", kernel.end(), (0, b""))
 
@@ -244,6 +255,19 @@ class RandomMessages:
             if message and not is_dear(message):
                 return message
 
+    def writing(self) -> bytes:
+        """One that writes."""
+        while True:
+            node, fields = self.write("write")
+            message = spelled("write", 3, node, *fields)
+            if not is_dear(message):
+                return message
+
+    def storing(self) -> bytes:
+        """One upon whose answer what was written is stored."""
+        word = self.random.choice(["flush", "fsync", "release"])
+        return spelled(word, 3, self.waiting(), *self.plain(word)[1])
+
     def one(self) -> bytes:
         chance = self.random.random()
         crowded = len(self.model.tree.nodes) >= MOST_NODES
@@ -300,8 +324,10 @@ class RandomMessages:
         return self.random.choice([0, 1, self.random.randrange(900), 4_096, LONGEST_DATA, LONGEST_DATA + 1])
 
     def data(self) -> bytes:
+        """As many as this socket takes at once, if they are many: a kernel's have up to 1 MiB."""
         rare = self.random.random() < 0.01
-        return self.random.randbytes(self.size() if rare else self.random.choice([0, 1, 3, 60, 700]))
+        size = self.random.choice([self.size(), LONGEST_WRITE]) if rare else self.random.choice([0, 1, 3, 60, 700])
+        return self.random.randbytes(size)
 
     def mode(self) -> int:
         kind = self.random.choice([0o100000, 0o100000, 0o100000, 0, 0o40000, 0o10000, 0o120000])
@@ -376,8 +402,21 @@ class RandomMessages:
         return self.file(), (0, self.offset(), self.size(), 0, 0, 0, 0)
 
     def write(self, _: str) -> Asked:
-        data = self.data()
-        return self.file(), (0, self.offset(), len(data), 0, 0, 0, 0, data)
+        """Of those to a file for which something waits half go on behind it."""
+        node, data = self.waiting() if self.random.random() < 0.3 else self.file(), self.data()
+        goes_on = node in self.model.waits and self.random.random() < 0.5
+        offset = self.model.waits[node].end() if goes_on else self.offset()
+        return node, (0, offset, len(data), 0, 0, 0, 0, data)
+
+    def waiting(self) -> int:
+        """A node for which something waits, if there is one."""
+        return self.random.choice(list(self.model.waits) or [self.file()])
+
+    def flush(self, word: str) -> Asked:
+        node, fields = self.plain(word)
+        return self.waiting() if self.random.random() < 0.5 else node, fields
+
+    fsync = flush
 
     def handle(self) -> int:
         known = list(self.model.pages) or [0]
@@ -533,10 +572,11 @@ def lost_again(nodes: Nodes) -> Nodes:
     return {path: (*node[:-1], None) if node[-1] == LOST_BYTES else node for path, node in nodes.items()}
 
 
-def check_end(name: str, kernel: Kernel, place: Place, commit: Commit, tree: WholeTree, kills: int = 0) -> None:
-    """It ends well, and the files of the overlay show the tree."""
+def check_end(name: str, kernel: Kernel, place: Place, commit: Commit, model: FolderModel, kills: int = 0) -> None:
+    """It ends well, and the files of the overlay show the tree, with what waited in it."""
     check(f"{name}: the end", kernel.end(), CLOSED)
-    check_closed(name, place, commit, WholeTree(found(tree.nodes)), kills)
+    model.end()
+    check_closed(name, place, commit, WholeTree(found(model.tree.nodes)), kills)
 
 
 def check_random_messages(folder: pathlib.Path, seed: int, count: int) -> None:
@@ -551,25 +591,30 @@ def check_random_messages(folder: pathlib.Path, seed: int, count: int) -> None:
         is_killed = life % 2 == 0 and life + 1 < lives
         with showing(place, *words) as kernel:
             model.start()
-            check(name, tried(Judged(kernel, model), messages, min(LIFE, count - LIFE * life), is_killed), None)
+            ends = ["look", "flush"] if is_killed else ["look"]
+            check(name, tried(Judged(kernel, model), messages, min(LIFE, count - LIFE * life), ends), None)
             if not is_killed:
-                check_end(name, kernel, place, commit, model.tree, life)
+                check_end(name, kernel, place, commit, model, life)
         words = ["--rescan"] if is_killed else []
         if is_killed:
             # Numbers of what wasn't changed may be given anew.
             model.tree.numbers = Numbers()
 
 
-def tried(judged: Judged, messages: RandomMessages, count: int, is_killed: bool) -> str | None:
-    """What goes wrong in a life of so many messages, if anything does. What is to be killed is flushed."""
+def tried(judged: Judged, messages: RandomMessages, count: int, ends: Sequence[str]) -> str | None:
+    """What goes wrong in a life of so many messages, if anything does. In the end all is looked at, or flushed, or more
+    is written."""
     number = 0
     try:
         judged.ask(STARTS)
         for number in range(count):
             judged.ask(messages.next())
-        judged.look()
-        for node in list(judged.model.places) if is_killed else []:
-            judged.ask(spelled("flush", 5, node, 0, 0, 0, 0))
+        for _ in range(6) if "write" in ends else []:
+            judged.ask(messages.writing())
+        if "look" in ends:
+            judged.look()
+        for node in list(judged.model.waits) if "flush" in ends else []:
+            judged.ask(flushing(node))
     except (Differs, Ended, OSError) as problem:
         return f"message {number}: {problem}"
     return None
@@ -589,8 +634,8 @@ class Recorded(WholeTree):
         self.past.append(dict(self.nodes))
         return reply
 
-    def write(self, *fields: Any) -> bytes:
-        return self.kept(super().write(*fields))
+    def patch(self, *fields: Any) -> bytes:
+        return self.kept(super().patch(*fields))
 
     def truncate(self, *fields: Any) -> bytes:
         return self.kept(super().truncate(*fields))
@@ -614,8 +659,10 @@ class Recorded(WholeTree):
 
 
 def check_kills(folder: pathlib.Path, seed: int, count: int) -> None:
-    """It is killed while it answers one of random messages. What was answered is there; of a message that wasn't, none
-    of its changes is, or the first ones are."""
+    """It is killed while it answers one of random messages. What was answered is there, but of what was written only
+    what was flushed, synchronised, looked at or closed since, each where that was answered; of a message that wasn't
+    answered none of its changes is, or the first ones are. In every second life much waits, and mostly a message that
+    has it stored is killed."""
     place, commit, model = make_place(folder)
     model.tree = tree = Recorded(model.tree.nodes)
     generator = random.Random(seed)
@@ -624,8 +671,10 @@ def check_kills(folder: pathlib.Path, seed: int, count: int) -> None:
         name = f"kill {number} of seed {seed}"
         with showing(place) as kernel:
             model.start()
-            check(name, tried(Judged(kernel, model), messages, generator.randrange(40), False), None)
-            message = messages.next()
+            waits = number % 2 == 0
+            ends = ["write" if waits else "look"]
+            check(name, tried(Judged(kernel, model), messages, generator.randrange(40), ends), None)
+            message = messages.storing() if waits and generator.random() < 0.7 else messages.next()
             tree.past = []
             before = dict(tree.nodes)
             told = killed_at(kernel, message, 10 ** generator.uniform(-5, -2.5))
@@ -664,21 +713,37 @@ def check_faults(folder: pathlib.Path) -> None:
         check("faults: the listing has it", b"lost" in listed(judged), True)
         aside = folder / "aside"
         place.overlay.rename(aside)
-        for message in (writing(file, b"new"), spelled("mkdir", 5, ROOT, 0, 0, b"made"),
-                        spelled("unlink", 5, ROOT, b"run"), spelled("rename", 5, ROOT, ROOT, b"run", b"ran")):
-            word = read_message(message)
-            check(f"faults: a store that fails: {word and word.word}", kernel.asked(message), answered(5, "EIO"))
+        changes = [spelled("mkdir", 5, ROOT, 0, 0, b"made"), spelled("unlink", 5, ROOT, b"run"),
+                   spelled("rename", 5, ROOT, ROOT, b"run", b"ran")]
+        check_refused(kernel, changes)
         judged.look()
+        judged.ask(writing(file, b"new"))
+        check_refused(kernel, [flushing(file), syncing(file), spelled("getattr", 5, file, 0, 0, 0), flushing(file)])
         aside.rename(place.overlay)
-        for message in (writing(file, b"new"), spelled("mkdir", 5, ROOT, 0, 0, b"made")):
+        check("faults: what waits is stored once that goes well", judged.ask(flushing(file)), answered(5, None))
+        for message in (writing(file, b"newer"), spelled("mkdir", 5, ROOT, 0, 0, b"made")):
             check("faults: a store that goes well", len(judged.ask(message)) > ANSWER.size, True)
         judged.look()
         check("faults: still lost", judged.ask(lost), answered(5, "EIO"))
-        check_end("faults", kernel, place, commit, model.tree)
+        check_end("faults", kernel, place, commit, model)
+
+
+def check_refused(kernel: Kernel, messages: Sequence[bytes]) -> None:
+    for message in messages:
+        word = read_message(message)
+        check(f"faults: a store that fails: {word and word.word}", kernel.asked(message), answered(5, "EIO"))
 
 
 def writing(node: int, data: bytes) -> bytes:
     return spelled("write", 5, node, 0, 0, len(data), 0, 0, 0, 0, data)
+
+
+def flushing(node: int) -> bytes:
+    return spelled("flush", 5, node, 0, 0, 0, 0)
+
+
+def syncing(node: int) -> bytes:
+    return spelled("fsync", 5, node, 0, 0, 0)
 
 
 def listed(judged: Judged) -> bytes:

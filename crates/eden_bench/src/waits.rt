@@ -72,7 +72,7 @@ fn turn(
     ground: &mut Ground,
     request: &Request,
     way: Way,
-    place: &mut Option<Place>,
+    place: &mut Place,
 ) -> Attempt
     requires { LeadsFor request.now ground.old.table.changes ground.old.table.root place.old }
     ensures { LeadsFor request.now ground.new.table.changes ground.new.table.root place.new }
@@ -81,7 +81,7 @@ fn turn(
     let compared = &mut ground.compared;
     let attempt = attempt_from(&mut ground.table, cache, alloc, request, place, compared);
     if let Way::FromTheRoot = way {
-        *place = None;
+        place.forget();
     }
     attempt
 }
@@ -106,7 +106,7 @@ fn go_down(
     ground: &mut Ground,
     request: &Request,
     way: Way,
-    place: &mut Option<Place>,
+    place: &mut Place,
     trees: &[Vec<u8>],
 ) -> Result<u32, AllocError>
     requires { LeadsFor request.now ground.old.table.changes ground.old.table.root place.old }
@@ -152,7 +152,7 @@ fn measure_chain(bench: Bench, trees: &[Vec<u8>], way: Way, what: &str) -> io::R
         &mut ground,
         &Request::Kind(path),
         way,
-        &mut None,
+        &mut Place::new(),
         trees,
     )?;
     println!(bench.rt;

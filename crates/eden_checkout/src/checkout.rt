@@ -21,7 +21,7 @@ use eden_cache::{ObjectCache, Stock};
 use eden_coupling::{shown_laws, tie_laws};
 use eden_inode::Inodes;
 use eden_model::{Id, World};
-use eden_ops::let_go;
+use eden_ops::{Place, let_go};
 use eden_overlay::{Files, FilesFault, Overlay};
 use std::alloc::{Allocator, Global};
 use std::marker::Model;
@@ -32,6 +32,8 @@ pub struct Checkout<A: Allocator + Clone, W: World, F: Files<W>> {
     pub(crate) inodes: Inodes<A, W, F>,
     pub(crate) cache: Stock<W, A>,
     root: Id,
+    /// For an attempt that is given no place, so that none has to be made for one that doesn't wait.
+    pub(crate) spare: Place,
 }
 
 impl<A: Allocator + Clone, W: World, F: Files<W>> Model for Checkout<A, W, F> {
@@ -151,6 +153,7 @@ impl<A: Allocator + Clone, W: World, F: Files<W>> Checkout<A, W, F> {
                 inodes: Inodes::new(dirs, overlay, origin, next),
                 cache: Stock::new(cache),
                 root,
+                spare: Place::new(),
             }),
         }
     }

@@ -23,6 +23,7 @@ use Rattle.eden_fuse_session.specs.Sending.{Known}
 use Rattle.eden_fuse_session.specs.Turns.{Line}
 use Rattle.eden_fuse_session.specs.Sessions.{Session}
 use Rattle.eden_fuse_shown.specs.declared.manner.Manner.{Manner}
+use Rattle.eden_fuse_shown.specs.Beginning.{IsBlank}
 use Rattle.eden_fuse_shown.specs.Showing.{Showing, Shows, StoresAll}
 use Rattle.eden_fuse_life.specs.declared.fault.FolderFault.{FolderFault}
 use Rattle.eden_fuse_life.specs.declared.fault.FolderFault.TheVariants as life
@@ -61,6 +62,7 @@ module _ {W F : Type 0} (w : Ghosts W) (f : Files F W) where
       pub begun : Showing (Desk (Checkout F) S)
       pub begins : Begins (room_for settings) limit begun.mount.core.table backing.source begun.mount
       pub manner : begun.manner ≡ m
+      pub blank : IsBlank begun
       pub opened : IsOpened w f base settings backing.files begun.mount.core.table
       pub ended : Showing (Desk (Checkout F) S)
       pub said : Result ⊤ SessionFault

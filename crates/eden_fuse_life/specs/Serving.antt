@@ -16,6 +16,7 @@ use Rattle.eden_fuse_session.specs.Sending.{Known}
 use Rattle.eden_fuse_session.specs.Turns.{Line}
 use Rattle.eden_fuse_session.specs.Sessions.{Session}
 use Rattle.eden_fuse_shown.specs.declared.manner.Manner.{Manner}
+use Rattle.eden_fuse_shown.specs.Beginning.{IsBlank}
 use Rattle.eden_fuse_shown.specs.Showing.{Showing, Shows, StoresAll}
 use Rattle.eden_fuse_life.specs.declared.serving.ServedFolder.{ServedFolder}
 
@@ -32,6 +33,7 @@ module _ {W : Type 0} (w : Ghosts W) {S : Type 0} (fetched : S → Id → Answer
     pub begun : Showing (Desk T S)
     pub begins : Begins r limit t s begun.mount
     pub manner : begun.manner ≡ m
+    pub blank : IsBlank begun
     pub ended : Showing (Desk T S)
     pub session : Session (Shows (CallAnswers fetched A w.honest copies)) (begun, line) (ended, line') waiting left x.said
     pub last : Desk T S

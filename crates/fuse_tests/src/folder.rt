@@ -15,17 +15,35 @@ use std::rt::Clock;
 use std::time::Duration;
 
 #[derive(Drop)]
-struct File {
+pub(crate) struct File {
     name: Name,
-    bytes: Vec<u8>,
+    pub(crate) bytes: Vec<u8>,
 }
 
-// The files of a root, in no order. A rename from a file of that name is refused.
+// The files of a root, in no order. A rename from a file of that name is refused, and no bytes are put into it.
 #[derive(Drop)]
-struct Flat {
+pub(crate) struct Flat {
     alloc: Global,
-    files: Vec<File>,
+    pub(crate) files: Vec<File>,
     refused: &'static [u8],
+    // How often bytes were put into a file.
+    pub(crate) stores: usize,
+}
+
+// A content with bytes from an offset on in the place of what is there, and zeros in a gap.
+fn content_with(
+    alloc: Global,
+    old: &[u8],
+    from: usize,
+    bytes: &[u8],
+) -> Result<Vec<u8>, AllocError> {
+    let mut content = Vec::from_slice(alloc, old)?;
+    content.resize(from, 0)?;
+    content.extend_from_slice(bytes)?;
+    if content.len() < old.len() {
+        content.extend_from_slice(&old[content.len()..])?;
+    }
+    Ok(content)
 }
 
 impl Flat {
@@ -84,16 +102,24 @@ impl Flat {
         Ok(Reply::Entries(Entries::new(rows), false))
     }
 
-    // The bytes are put in the place of all that is there.
-    fn write(&mut self, path: &Path, bytes: Bytes) -> Result<Reply, AllocError> {
+    fn write(&mut self, path: &Path, from: u64, bytes: Bytes) -> Result<Reply, AllocError> {
         let Some(at) = self.at(path) else {
             return Ok(Reply::Err(Errno::ENOENT));
         };
-        let count = bytes.len() as u64;
-        if let Some(file) = self.files.as_mut_slice().get_mut(at) {
-            file.bytes = bytes.into_vec();
+        if from > 1 << 30 {
+            return Ok(Reply::Err(Errno::EFBIG));
         }
-        Ok(Reply::Count(count))
+        if let Some(file) = self.files.as_mut_slice().get_mut(at) {
+            if file.name.as_slice() == self.refused {
+                return Ok(Reply::Fault(Fault::Overlay));
+            }
+            let (old, new) = (file.bytes.as_slice(), bytes.as_slice());
+            file.bytes = content_with(self.alloc, old, from as usize, new)?;
+        }
+        if self.stores < 1000 {
+            self.stores += 1;
+        }
+        Ok(Reply::Count(bytes.len() as u64))
     }
 
     fn create(&mut self, path: &Path) -> Result<Reply, AllocError> {
@@ -153,7 +179,7 @@ impl Flat {
             },
             Request::Read(path, _, _) => self.read(&path),
             Request::List(_, after, _) => self.list(after),
-            Request::Write(path, _, bytes) => self.write(&path, bytes),
+            Request::Patch(path, from, bytes) => self.write(&path, from, bytes),
             Request::Create(path) => self.create(&path),
             Request::Unlink(path) => Ok(self.unlink(&path)),
             Request::Rename(from, to) => self.rename(&from, &to),
@@ -175,7 +201,7 @@ impl Mount for Flat {
 
 // Always the same time.
 #[derive(Clone, Copy, Drop)]
-struct Still;
+pub(crate) struct Still;
 
 impl Clock for Still {
     fn monotonic(&self) -> io::Result<Duration> {
@@ -189,8 +215,8 @@ impl Clock for Still {
 
 // What is answered: an error's number, or the node that is told of; 0 for all else.
 #[derive(Drop)]
-struct Folder {
-    shown: Shown<Flat, Still>,
+pub(crate) struct Folder {
+    pub(crate) shown: Shown<Flat, Still>,
     room: Vec<u8>,
 }
 
@@ -212,7 +238,7 @@ const MANNER: Manner = Manner {
 const FIRST: u64 = 2;
 
 // A folder of files with these names and five bytes each.
-fn make_folder(
+pub(crate) fn make_folder(
     rt: &(impl AllocGlobal + Abort),
     names: &[&'static [u8]],
     refused: &'static [u8],
@@ -228,6 +254,7 @@ fn make_folder(
         alloc: rt.alloc(),
         files,
         refused,
+        stores: 0,
     };
     let since = Time {
         seconds: 1,
@@ -246,7 +273,7 @@ fn make_folder(
 }
 
 impl Folder {
-    fn call(&mut self, node: u64, operation: Operation<'_>) -> Said {
+    pub(crate) fn call(&mut self, node: u64, operation: Operation<'_>) -> Said {
         let header = Header {
             unique: 1,
             nodeid: node,
@@ -258,7 +285,7 @@ impl Folder {
     }
 
     // The number of the error, if one is told.
-    fn errno(&mut self, node: u64, operation: Operation<'_>) -> u32 {
+    pub(crate) fn errno(&mut self, node: u64, operation: Operation<'_>) -> u32 {
         match self.call(node, operation) {
             Said::Answers(Answer::Refused(errno)) => errno,
             _ => 0,
@@ -266,7 +293,7 @@ impl Folder {
     }
 
     // The node of a name of the root, or 0.
-    fn look(&mut self, name: &[u8]) -> u64 {
+    pub(crate) fn look(&mut self, name: &[u8]) -> u64 {
         match self.call(1, Operation::Lookup(name)) {
             Said::Answers(Answer::Entry(entry)) => entry.nodeid,
             _ => 0,
@@ -274,7 +301,7 @@ impl Folder {
     }
 
     // Whether a node can be opened.
-    fn open(&mut self, node: u64) -> bool {
+    pub(crate) fn open(&mut self, node: u64) -> bool {
         let opening = OpenIn {
             flags: 0,
             open_flags: 0,
@@ -286,7 +313,7 @@ impl Folder {
     }
 
     // The node that is made of that name, and is open; or 0.
-    fn create(&mut self, name: &[u8]) -> u64 {
+    pub(crate) fn create(&mut self, name: &[u8]) -> u64 {
         let making = CreateIn {
             flags: 0o101,
             mode: 0o100644,
@@ -299,7 +326,7 @@ impl Folder {
         }
     }
 
-    fn close(&mut self, node: u64) -> u32 {
+    pub(crate) fn close(&mut self, node: u64) -> u32 {
         let release = ReleaseIn {
             fh: 0,
             flags: 0,
@@ -310,7 +337,7 @@ impl Folder {
     }
 
     // Whether a node is read as these bytes.
-    fn reads(&mut self, node: u64, bytes: &[u8]) -> bool {
+    pub(crate) fn reads(&mut self, node: u64, bytes: &[u8]) -> bool {
         let reading = ReadIn {
             fh: 0,
             offset: 0,
@@ -326,9 +353,13 @@ impl Folder {
     }
 
     fn write(&mut self, node: u64, bytes: &[u8]) -> bool {
+        self.write_at(node, 0, bytes)
+    }
+
+    pub(crate) fn write_at(&mut self, node: u64, offset: u64, bytes: &[u8]) -> bool {
         let writing = WriteIn {
             fh: 0,
-            offset: 0,
+            offset,
             size: 0,
             write_flags: 0,
             lock_owner: 0,

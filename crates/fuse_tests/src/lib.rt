@@ -19,3 +19,5 @@ mod none;
 mod sent;
 #[cfg(test)]
 mod turns;
+#[cfg(test)]
+mod waiting;

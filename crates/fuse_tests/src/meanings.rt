@@ -201,7 +201,7 @@ fn reply(rt: &(impl AllocGlobal + Abort), request: &Request) -> Reply {
                 .expect(rt, "memory");
             Reply::Entries(Entries::new(rows), true)
         }
-        Request::Write(_, _, bytes) => Reply::Count(bytes.len() as u64),
+        Request::Patch(_, _, bytes) => Reply::Count(bytes.len() as u64),
         _ => Reply::Ok,
     }
 }
@@ -434,7 +434,7 @@ const TOLD: &[(&str, Operation<'static>, &str)] = &[
     (
         "file",
         Operation::Write(WRITING, b"xyz"),
-        "write /file 2 xyz; written 3",
+        "patch /file 2 xyz; written 3",
     ),
     (
         "dir",

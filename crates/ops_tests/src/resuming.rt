@@ -1,6 +1,5 @@
 //! Attempts that go on where an earlier one waited, and how many names each compares.
 
-ghost use Rattle.std.specs.Prelude.{IfSome};
 ghost use Rattle.eden_ops.specs.Trails.{MayGoOn};
 
 use crate::mount::{Mount, key_of};
@@ -25,7 +24,7 @@ const FIRST: Names = &[b"aaa"];
 fn a_turn_compares_names_past_its_place_alone(rt: HostRuntime) {
     let mut mount = Mount::open(&rt, rt.alloc(), TWO_FILES, 8);
     let request = a_read(&rt, rt.alloc());
-    let mut place: Option<Place> = None;
+    let mut place = start(&mount, &request);
     let mut compared = 0;
     wait_below(&rt, &mut mount, &request, &mut place, &mut compared);
     assert!(rt; 1 <= compared && compared <= 2);
@@ -41,7 +40,7 @@ fn a_turn_compares_names_past_its_place_alone(rt: HostRuntime) {
     assert!(rt; compared > above && compared - above == 1);
     let attempt = turn_of(&mut mount, &request, &mut place, &mut compared);
     assert!(rt; is_told(&attempt, Want::Data(b"version 1")));
-    assert!(rt; compared > above && compared - above == 1 && place.is_none());
+    assert!(rt; compared > above && compared - above == 1 && place.is_bare());
 }
 
 /// A truncate, a write and a setexec of files beside the directory move no name: then the read's turn compares names
@@ -50,7 +49,7 @@ fn a_turn_compares_names_past_its_place_alone(rt: HostRuntime) {
 fn a_place_stays_where_no_name_moves(rt: HostRuntime) {
     let mut mount = Mount::open(&rt, rt.alloc(), TWO_FILES, 8);
     let request = a_read(&rt, rt.alloc());
-    let mut place: Option<Place> = None;
+    let mut place = start(&mount, &request);
     let mut compared = 0;
     wait_below(&rt, &mut mount, &request, &mut place, &mut compared);
     let above = compared;
@@ -81,7 +80,7 @@ fn a_place_stays_where_no_name_moves(rt: HostRuntime) {
 fn a_place_is_passed_over_where_a_name_moves(rt: HostRuntime) {
     let mut mount = Mount::open(&rt, rt.alloc(), TWO_FILES, 8);
     let request = a_read(&rt, rt.alloc());
-    let mut place: Option<Place> = None;
+    let mut place = start(&mount, &request);
     let mut compared = 0;
     wait_below(&rt, &mut mount, &request, &mut place, &mut compared);
     let above = compared;
@@ -102,16 +101,23 @@ fn a_read(rt: &impl Abort, alloc: Global) -> Request {
     ask(rt, alloc, AT, Ask::Read(0, 9))
 }
 
+/// A place at which the request may begin.
+fn start(_mount: &Mount, _request: &Request) -> Place
+    ensures { MayGoOn _request.now _mount.now.table result }
+{
+    Place::new()
+}
+
 /// The read waits for the root, and then for the directory in it.
 fn wait_below(
     rt: &impl Abort,
     mount: &mut Mount,
     request: &Request,
-    place: &mut Option<Place>,
+    place: &mut Place,
     compared: &mut u32,
 )
-    requires { IfSome place.old (MayGoOn request.now mount.old.table) }
-    ensures { IfSome place.new (MayGoOn request.now mount.new.table) }
+    requires { MayGoOn request.now mount.old.table place.old }
+    ensures { MayGoOn request.now mount.new.table place.new }
 {
     let before = *compared;
     wait(rt, mount, request, place, compared, TWO_FILES);
@@ -120,9 +126,9 @@ fn wait_below(
 }
 
 /// One attempt of another request. Where this one waits it may go on still.
-fn beside(mount: &mut Mount, other: &Request, _request: &Request, _place: &Option<Place>) -> Attempt
-    requires { IfSome _place.now (MayGoOn _request.now mount.old.table) }
-    ensures { IfSome _place.now (MayGoOn _request.now mount.new.table) }
+fn beside(mount: &mut Mount, other: &Request, _request: &Request, _place: &Place) -> Attempt
+    requires { MayGoOn _request.now mount.old.table _place.now }
+    ensures { MayGoOn _request.now mount.new.table _place.now }
 {
     attempt(&mut mount.table, &mut mount.cache, mount.alloc, other)
 }
@@ -132,12 +138,12 @@ fn wait(
     rt: &impl Abort,
     mount: &mut Mount,
     request: &Request,
-    place: &mut Option<Place>,
+    place: &mut Place,
     compared: &mut u32,
     object: Sample,
 )
-    requires { IfSome place.old (MayGoOn request.now mount.old.table) }
-    ensures { IfSome place.new (MayGoOn request.now mount.new.table) }
+    requires { MayGoOn request.now mount.old.table place.old }
+    ensures { MayGoOn request.now mount.new.table place.new }
 {
     let attempt = turn_of(mount, request, place, compared);
     assert!(rt; is_need(&attempt, key_of(object)));
@@ -145,14 +151,9 @@ fn wait(
 }
 
 /// One attempt at the mount, from the place on.
-fn turn_of(
-    mount: &mut Mount,
-    request: &Request,
-    place: &mut Option<Place>,
-    compared: &mut u32,
-) -> Attempt
-    requires { IfSome place.old (MayGoOn request.now mount.old.table) }
-    ensures { IfSome place.new (MayGoOn request.now mount.new.table) }
+fn turn_of(mount: &mut Mount, request: &Request, place: &mut Place, compared: &mut u32) -> Attempt
+    requires { MayGoOn request.now mount.old.table place.old }
+    ensures { MayGoOn request.now mount.new.table place.new }
 {
     attempt_from(
         &mut mount.table,

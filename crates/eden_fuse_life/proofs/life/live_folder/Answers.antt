@@ -38,6 +38,7 @@ returns-in-Ok g c =
       begins = subst (λ (r : Room). Begins r limit s.begun.mount.core.table c.args.backing.source s.begun.mount) c.in-Ok.ensures.room
           (subst (λ (t : Checkout _). Begins c.in-Ok.room limit t c.args.backing.source s.begun.mount) (sym table) s.begins);
       manner = s.manner;
+      blank = s.blank;
       opened = subst (λ (t : Checkout _). IsOpened w f c.args.base settings c.args.backing.files t) (sym table) c.in-Ok.ensures.opened;
       ended = s.ended;
       said = x.said;

@@ -27,6 +27,7 @@ returns g c =
       begun = c.new-shown.result;
       begins = begins;
       manner = c.new-shown.ensures.manner;
+      blank = c.new-shown.ensures.blank;
       ended = c.session-said.new.service;
       session = said;
       last = c.into_mount.result;
