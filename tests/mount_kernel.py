@@ -1,12 +1,15 @@
 """A commit that `mountd fuse` shows: calls of the system in it and in a plain folder, and what its ends leave."""
 
+import collections
 import contextlib
+import ctypes
 import itertools
 import os
 import pathlib
 import random
 import signal
 import sqlite3
+import struct
 import subprocess
 import sys
 import tempfile
@@ -269,6 +272,67 @@ def check_removed_at_ends(folder: pathlib.Path, repository: pathlib.Path) -> Non
             check(f"removed, then {how}: what is listed", sorted(os.listdir(mount.folder)), before)
             check(f"removed, then {how}: changes", said_by(MOUNT_GIT, "changes", mount.folder), (0, []))
             check(f"removed, then {how}: the next end", (mount.end("SIGTERM"), mount.said()), (0, []))
+
+
+# ---- stores
+
+
+class Arrivals:
+    """How often each name of a directory came into it by a rename, which is how an overlay stores a file."""
+
+    LIBC = ctypes.CDLL(None, use_errno=True)
+    MOVED_TO = 0x80
+    HEAD = struct.Struct("iIII")
+
+    def __init__(self, folder: pathlib.Path) -> None:
+        self.descriptor = self.LIBC.inotify_init1(os.O_NONBLOCK | os.O_CLOEXEC)
+        if self.LIBC.inotify_add_watch(self.descriptor, os.fsencode(folder), self.MOVED_TO) < 0:
+            raise OSError(ctypes.get_errno(), "it can't be watched", str(folder))
+
+    def counted(self) -> collections.Counter[bytes]:
+        """Those since the last call."""
+        names: collections.Counter[bytes] = collections.Counter()
+        with contextlib.suppress(BlockingIOError):
+            while told := os.read(self.descriptor, 1 << 16):
+                while told:
+                    *_, length = self.HEAD.unpack_from(told)
+                    names[told[self.HEAD.size:][:length].rstrip(b"\0")] += 1
+                    told = told[self.HEAD.size + length:]
+        return names
+
+    def most(self) -> int:
+        return max(self.counted().values(), default=0)
+
+
+def check_stores(folder: pathlib.Path, repository: pathlib.Path) -> None:
+    """A file that is written from its beginning to its end is stored at most 2 times, and once more for each 64 MiB;
+    and what was closed or synchronised is in the overlay, so that a kill loses none of it."""
+    overlay = folder / "overlay"
+    data = random.Random(1).randbytes(100 << 20)
+    with MountGit(repository, "HEAD", folder / "mounted", "--overlay", overlay) as mount:
+        arrivals = Arrivals(overlay)
+        with open(mount.folder / "large", "wb", buffering=0) as file:
+            for place in range(0, len(data), 100_000):
+                file.write(data[place:place + 100_000])
+        check("stores: of 100 MB", arrivals.most() <= 2 + len(data) // (64 << 20), True)
+        files = [opened(mount.folder / f"small {number}", os.O_CREAT | os.O_WRONLY) for number in range(4)]
+        with contextlib.ExitStack() as stack:
+            descriptors = [stack.enter_context(file) for file in files]
+            arrivals.counted()
+            for part in range(1_000):
+                for number, descriptor in enumerate(descriptors):
+                    os.write(descriptor, b"%d %d\n" % (number, part))
+            check("stores: none while it is written", arrivals.most(), 0)
+            os.fsync(descriptors[0])
+            check("stores: once it is synchronised", arrivals.most(), 1)
+        check("stores: once it is closed", arrivals.most(), 1)
+        mount.kill()
+    with MountGit(repository, "HEAD", folder / "mounted", "--overlay", overlay) as mount:
+        check("stores: what was closed", (mount.folder / "large").read_bytes() == data, True)
+        for number in range(4):
+            lines = (mount.folder / f"small {number}").read_text().splitlines()
+            check(f"stores: what was closed, {number}", lines, [f"{number} {part}" for part in range(1_000)])
+        check("stores: the end", (mount.end("SIGTERM"), mount.said()), (0, []))
 
 
 # ---- commits
