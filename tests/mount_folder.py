@@ -308,8 +308,19 @@ CHANGES = [
     ("a link where a folder was", "ln -s notes many && ls many/"),
 ]
 
+# A program of two dozen parts, whose sum it looks at.
+PARTS = (
+    "mkdir parts && cd parts && for n in $(seq 24); do echo \"int f$n(void) { return $n; }\" > $n.c; done && "
+    "{ seq -f 'int f%g(void);' 24; echo 'int main(void) { return 0'; seq -f ' + f%g()' 24; echo ' != 300; }'; } "
+    r"> sum.c && printf 'O := $(patsubst %%.c,%%.o,$(wildcard *.c))\nsum: $(O)\n\t$(CC) -o sum $(O)\n' > Makefile && "
+    "make -s -j4 && ./sum && ls"
+)
+
 BUILDS = [
     ("make", "make -s -C hello && hello/hello"),
+    ("make -j4", PARTS),
+    ("make -j4, with nothing to do", "make --no-print-directory -j4 -C parts"),
+    ("make -j4 after a change", "touch parts/7.c && make --no-print-directory -j4 -C parts && parts/sum"),
     ("make, with nothing to do", "make --no-print-directory -C hello"),
     ("make after a change", "sed -i s/needle/haystack/ hello/main.c && make --no-print-directory -C hello && "
                             "hello/hello"),

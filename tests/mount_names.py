@@ -51,9 +51,10 @@ def furnish(top: pathlib.Path) -> None:
 
 
 def furnish_chain(top: pathlib.Path) -> None:
-    """So many links, of which each leads to the one before."""
+    """So many links, of which each leads to the one before, in the place of those that were there."""
     (top / "chain 0").write_text("chain")
     for number in range(1, MOST_LINKS + 2):
+        (top / f"chain {number}").unlink(missing_ok=True)
         (top / f"chain {number}").symlink_to(f"chain {number - 1}")
 
 
@@ -200,6 +201,9 @@ class BothPlaces:
                     shutil.rmtree(place)
             else:
                 self.check_left()
+            if CHAIN in case.name:
+                for top in self.tops:
+                    furnish_chain(top)
             self.furnish()
 
     def result(self, place: pathlib.Path, call: Callable[[], Any]) -> Any:
