@@ -1,4 +1,5 @@
 -- What callers' proofs cite of the words in `specs/`.
+use denote.Param.Send.{IsSend}
 use Rattle.std.proofs.Common.{◌≡◌, Bool, true, false, cond, List, [], ◌∷◌, Option, Some, refl, sym, ap, ◌∙◌}
 use Rattle.std.specs.Str.{bytes_eq}
 use Rattle.std.specs.Map.{lookup}
@@ -6,6 +7,8 @@ use Rattle.std.specs.Option.{option_map}
 use Rattle.std.proofs.lemmas.Slice.Eq.{bytes_eq-Decides}
 use Rattle.eden_model.specs.Trees.{Name}
 use Rattle.eden_model.specs.Named.{named}
+use Rattle.eden_model.specs.contracts.name.Name as names
+use Rattle.eden_model.proofs.name.Name.TheSendSync as sends
 pub use Rattle.eden_model.proofs.AfterTrees.{landed, gone, met_here, after_is_tree}
 pub use Rattle.eden_model.proofs.Behinds.{path_eq-Decides, behind_sound, behind_back}
 pub use Rattle.eden_model.proofs.HistoryLemmas.{replay-append, replay_numbers-append, Legal-append}
@@ -31,3 +34,7 @@ module _ {X : Type 0} (name : X → Name) where
   pub name-named : (n : Name) (rows : List X) (x : X) → named name n rows ≡ Some x → name x ≡ n
   name-named n [] x e = cc
   name-named n (y ∷ rows) x e = found_first n y x (named name n rows) (bytes_eq n (name y)) refl (name-named n rows x) e
+
+-- a name may go to another thread
+pub Name-send : IsSend names.the_row
+Name-send = sends.the_send

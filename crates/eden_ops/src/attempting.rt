@@ -11,7 +11,8 @@ ghost use Rattle.eden_ops.specs.Leaving.{LeavesAfter, StampsItsWalk};
 ghost use Rattle.eden_ops.specs.Looks.{IsLook, IsChange, IsBeyondLimits, MovesNoName};
 ghost use Rattle.eden_ops.specs.Renumbering.{EditsNumbers, TellsItsNumber, Renumbered};
 ghost use Rattle.eden_ops.specs.Stamps.{AreWalked};
-ghost use Rattle.eden_ops.specs.Trails.{Counts, IsBare, LeadsFor, LeadsToNeed, components, first_of, remembered, walked_of};
+ghost use Rattle.eden_ops.specs.Trails.{Counts, IsBare, LeadsFor, LeadsToNeed};
+ghost use Rattle.eden_ops.specs.Trails.{components, first_of, remembered, walked_of};
 ghost use Rattle.eden_inode.specs.Tables.{shows_numbers};
 ghost use Rattle.eden_inode.specs.Trails.{Leads};
 
@@ -108,8 +109,8 @@ pub fn attempt<A: Allocator + Clone, W: World, F: Files<W>, C: Allocator + Clone
 
 /// `attempt`, from the place where an earlier one waited, if no name has changed since; any other place is passed over.
 /// Where this one waits is left there; where it ends nothing is, and of a place without positions no more than their
-/// number is read or written. To `compared` it adds how many names it compared on
-/// its paths: at most 32 for each component of the path that the place doesn't lead to.
+/// number is read or written. To `compared` it adds how many names it compared on its paths: at most 32 for each
+/// component of the path that the place doesn't lead to.
 pub fn attempt_from<A: Allocator + Clone, W: World, F: Files<W>, C: Allocator + Clone>(
     inodes: &mut Inodes<A, W, F>,
     cache: &mut Stock<W, C>,

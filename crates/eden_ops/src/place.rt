@@ -7,8 +7,8 @@ use eden_inode::Trail;
 /// Where an attempt of a request waits: the positions in the directories above what it lacks, on one of the request's
 /// paths, and the count of changes of names at which they were noted.
 ///
-/// An attempt goes by them while the count is the same and below 2^64 - 1. Any other place is passed over. It takes no
-/// memory, and one kilobyte: so it is better kept than made for each attempt.
+/// An attempt goes by them while the count is the same and below 2^64 - 1. Any other place is passed over. It allocates
+/// nothing, but is a kilobyte long: so one is better kept than made for each attempt.
 #[derive(Drop)]
 pub struct Place {
     /// Whether the path is the request's second, or else its first.
@@ -44,13 +44,15 @@ impl Place {
 
     /// Whether it has no positions.
     pub fn is_bare(&self) -> bool
-        ensures { result ≡ true → IsBare self.now }
+        ensures bare { result ≡ true → IsBare self.now }
+        ensures all { IsBare self.now → result ≡ true }
     {
         !self.second && self.trail.depth() == 0
     }
 }
 
-/// Readies a place for an attempt at this count: it has what the attempt goes by, or nothing, and counts names from 0 on.
+/// Readies a place for an attempt at this count: it has what the attempt goes by, or nothing, and counts names from 0
+/// on.
 pub(crate) fn recall(place: &mut Place, changes: u64)
     ensures positions { place.new.trail.positions ≡ remembered changes place.old }
     ensures second { place.new.second ≡ is_second changes place.old }

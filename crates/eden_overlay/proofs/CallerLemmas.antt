@@ -11,6 +11,8 @@ pub use Rattle.eden_overlay.proofs.Puts.{root_same, nothing_at_root, entries_at_
 pub use Rattle.eden_overlay.proofs.Puts.{put_here, put_apart, same_or_apart, moved, names_moved, kind_moved, one_held, one_kind, held_storable, nothing_there}
 pub use Rattle.eden_overlay.proofs.Directories.{apart, named, kind_kept, was_named}
 pub use Rattle.eden_overlay.proofs.Cycles.{joined, no_cycle}
+-- where one of two lists has an item, and none has
+pub use Rattle.eden_overlay.proofs.Places.{contains_first, contains_cases, contains_none}
 -- the clauses of `overlay_laws`, for lemmas
 pub use Rattle.eden_overlay.proofs.Puts.{contents_held, entries_held}
 pub use Rattle.eden_overlay.proofs.Strays.{numbers_from_two, rootless_sound, strays_stay, live_stay, state_stays}

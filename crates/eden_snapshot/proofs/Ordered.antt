@@ -15,7 +15,7 @@ use Rattle.eden_overlay_format.specs.declared.stored_entry.StoredEntry.{StoredEn
 use Rattle.eden_overlay.specs.Files.{Stored}
 use Rattle.eden_overlay.specs.Held.{HoldsEntries}
 use Rattle.eden_overlay.specs.Soundness.{Names}
-use Rattle.eden_overlay.proofs.Places.{contains_first, contains_cases, contains_none}
+use Rattle.eden_overlay.proofs.CallerLemmas.{contains_first, contains_cases, contains_none}
 use Rattle.eden_snapshot.specs.Sinks.{Handed, Told, Filled}
 use Rattle.eden_snapshot.specs.Written.{entry_with, submodule_with, Known, path_of, Written, nothing, object, content, directory, bare, submodule, unknown, WritesTop, untouched, own}
 use Rattle.eden_snapshot.specs.Ordering.{IsAmong, IsKept, Follows, AreInOrder, GrowsInOrder}

@@ -3,7 +3,7 @@ use denote.Param.Send.{IsSend, sendable}
 use Rattle.std.proofs.Crossing
 use Rattle.std.specs.contracts.alloc.Global as Heap
 use Rattle.std.specs.contracts.impls.GlobalAllocator.TheImpl.{ghosts}
-use Rattle.eden_model.proofs.name.Name.TheSendSync as names
+use Rattle.eden_model.proofs.CallerLemmas.{Name-send}
 use Rattle.eden_tree.specs.contracts.dir.Entry
 use Rattle.eden_tree.proofs.dir.Dir.TheLaws.TheKnot as knot
 pub use Rattle.eden_tree.proofs.NameOrder.{order, same-≡, same-≢, same-refl, same-sym, same-both}
@@ -26,4 +26,4 @@ pub use Rattle.eden_tree.proofs.Edits.{stamps_along, stamped_along-unloaded, sta
 
 -- an entry at the heap, with all that is loaded in it, may go to another thread
 pub Entry-send : IsSend (Entry.the_row Heap.the_row ghosts)
-Entry-send = search (knot.crosses, Crossing.crosses, sendable, names.the_send) depth 60
+Entry-send = search (knot.crosses, Crossing.crosses, sendable, Name-send) depth 60
