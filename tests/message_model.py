@@ -17,7 +17,7 @@ Place = tuple[int, bytes]
 
 LONGEST_NAME, LONGEST_PATH, MOST_NAMES = 255, 4_095, 256
 # So many bytes of all files together wait to be stored.
-MOST_WAITING = 64 << 20
+MOST_WAITING = 128 << 20
 ROOT = 1
 HIDDEN = b"\xff" * 4
 # For how many seconds the kernel may keep what it is told.

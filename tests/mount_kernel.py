@@ -305,7 +305,7 @@ class Arrivals:
 
 
 def check_stores(folder: pathlib.Path, repository: pathlib.Path) -> None:
-    """A file that is written from its beginning to its end is stored at most 2 times, and once more for each 64 MiB;
+    """A file that is written from its beginning to its end is stored at most 2 times, and once more for each 128 MiB;
     and what was closed or synchronised is in the overlay, so that a kill loses none of it."""
     overlay = folder / "overlay"
     data = random.Random(1).randbytes(100 << 20)
@@ -314,7 +314,7 @@ def check_stores(folder: pathlib.Path, repository: pathlib.Path) -> None:
         with open(mount.folder / "large", "wb", buffering=0) as file:
             for place in range(0, len(data), 100_000):
                 file.write(data[place:place + 100_000])
-        check("stores: of 100 MB", arrivals.most() <= 2 + len(data) // (64 << 20), True)
+        check("stores: of 100 MB", arrivals.most() <= 2, True)
         files = [opened(mount.folder / f"small {number}", os.O_CREAT | os.O_WRONLY) for number in range(4)]
         with contextlib.ExitStack() as stack:
             descriptors = [stack.enter_context(file) for file in files]

@@ -24,9 +24,9 @@ extent_of t i = lookup (is_at (nat_cmp i)) t
 abbrev pub all_of : Table → ℕ
 all_of t = sum_by (λ e. length e.bytes) (values_of t)
 
--- at most 64 MiB
+-- at most 128 MiB
 abbrev pub most_waiting : ℕ
-most_waiting = 67108864
+most_waiting = 134217728
 
 -- ---- what a write makes of it
 

@@ -15,8 +15,8 @@ use std::alloc::{AllocError, Global};
 use std::collections::BTreeMap;
 use std::marker::Model;
 
-/// The most bytes of all extents together: 64 MiB.
-const MOST_WAITING: u64 = 64 << 20;
+/// The most bytes of all extents together: 128 MiB.
+const MOST_WAITING: u64 = 128 << 20;
 
 /// The longest file.
 const MOST_FILE: u64 = 1 << 30;

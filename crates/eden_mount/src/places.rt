@@ -1,17 +1,6 @@
 //! Where requests wait: a seat for the place of each pass, made once one is to be kept.
-ghost use Rattle.std.specs.Prelude.{◌≡◌, ◌<◌, ◌≤◌, ℕ, true, false, length, None, slice_set};
+ghost use Rattle.std.specs.Prelude.{◌≡◌, ◌<◌, ◌≤◌, ℕ, true, false, length};
 ghost use Rattle.eden_mount.specs.Places.{kept_at, Notes};
-
-/// The place that is kept at a seat, which is taken.
-pub(crate) fn recall<P: Drop>(places: &mut Vec<Option<P>>, seat: usize) -> Option<P>
-    ensures place { result ≡ kept_at seat places.old.items }
-    ensures taken { places.new.items ≡ slice_set places.old.items seat None }
-{
-    if seat >= places.len() || places[seat].is_none() {
-        return None;
-    }
-    places[seat].take()
-}
 
 /// Keeps a place at a seat. If there is no memory for another seat it isn't kept, and that is no refusal.
 pub(crate) fn note<P: Drop>(places: &mut Vec<Option<P>>, seat: usize, place: P)

@@ -4,7 +4,7 @@ ghost use Rattle.eden_mount.specs.Places.{kept_at, LeadStill, IsKeptFor};
 ghost use Rattle.eden_mount.specs.Replying.{Settles};
 
 use crate::attempts::Attempts;
-use crate::places::{note, recall};
+use crate::places::note;
 use eden_model::{Attempt, Cause, Fault, Key, Reply, Request, World};
 use std::alloc::Global;
 
@@ -40,6 +40,26 @@ fn settle<W: World, T: Attempts<W>>(
     }
 }
 
+/// The same, and what came out leaves no place.
+fn settle_at<W: World, T: Attempts<W>>(
+    alloc: Global,
+    table: &mut T,
+    request: &Request,
+    mark: Option<(Key, Cause)>,
+    place: &mut Option<T::Place>,
+) -> Settled
+    requires { IfSome place.old (T.leads table.old request.now) }
+    ensures settles { Settles T.table W.honest table.old request.now mark result table.new }
+    ensures kept { IsKeptFor T.leads table.new request.now result place.new }
+    ensures places { LeadStill T.leads table.old table.new }
+{
+    let settled = settle::<W, T>(alloc, table, request, mark, place);
+    if let Settled::Found(_) = &settled {
+        *place = None;
+    }
+    settled
+}
+
 /// Attempts the request that is pending at a seat, from the place that is kept there, if there is one. Where it waits
 /// then is kept, if there is memory for it.
 pub(crate) fn resume<W: World, T: Attempts<W>>(
@@ -56,14 +76,13 @@ pub(crate) fn resume<W: World, T: Attempts<W>>(
     ensures kept { IsKeptFor T.leads table.new request.now result (kept_at seat places.new.items) }
     ensures elsewhere { (i : ℕ) → i ≢ seat → kept_at i places.new.items ≡ kept_at i places.old.items }
 {
-    let mut place = recall(places, seat);
-    match settle::<W, T>(alloc, table, request, mark, &mut place) {
-        Settled::Found(reply) => Settled::Found(reply),
-        Settled::Waits(key) => {
-            if let Some(place) = place {
-                note(places, seat, place);
-            }
-            Settled::Waits(key)
-        }
+    if seat < places.len() {
+        return settle_at::<W, T>(alloc, table, request, mark, &mut places[seat]);
     }
+    let mut place = None;
+    let settled = settle_at::<W, T>(alloc, table, request, mark, &mut place);
+    if let Some(place) = place {
+        note(places, seat, place);
+    }
+    settled
 }
