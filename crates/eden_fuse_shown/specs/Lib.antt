@@ -7,3 +7,4 @@ pub mod Listing
 pub mod Showing
 pub mod Beginning
 pub mod Seeing
+pub mod Looking

@@ -21,6 +21,7 @@ mod concluding;
 mod extents;
 mod laws;
 mod listing;
+mod looking;
 mod manner;
 mod mount;
 mod naming;

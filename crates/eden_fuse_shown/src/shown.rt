@@ -1,4 +1,4 @@
-ghost use Rattle.std.specs.Prelude.{◌≡◌, ◌⊎◌, ℕ, None, Some, true, OnErr, OnOk, Result, length};
+ghost use Rattle.std.specs.Prelude.{◌≡◌, ◌⊎◌, ℕ, IfSome, None, Some, true, OnErr, OnOk, Result, length};
 ghost use Rattle.eden_fuse_format.specs.Asked.{seen};
 ghost use Rattle.eden_fuse_format.specs.Asked.{Asked as asked};
 ghost use Rattle.eden_fuse_meaning.specs.declared.step.Outcome.{Outcome};
@@ -7,6 +7,7 @@ ghost use Rattle.eden_fuse_session.specs.Turns.{IsBriefly, told};
 ghost use Rattle.eden_fuse_nodes.specs.Tables.{place_of};
 ghost use Rattle.eden_fuse_shown.specs.declared.mount.Unheard.{Unheard};
 ghost use Rattle.eden_fuse_shown.specs.Beginning.{IsBlank};
+ghost use Rattle.eden_fuse_shown.specs.Looking.{ChangesNothing};
 ghost use Rattle.eden_fuse_shown.specs.Opens.{is_last, opens_of};
 ghost use Rattle.eden_fuse_shown.specs.Naming.{goal_of, last_name, named, veiled_name};
 ghost use Rattle.eden_fuse_shown.specs.Showing.{
@@ -43,6 +44,7 @@ use crate::changing::forget_all;
 use crate::concluding::{conclude, count, failed, refuse};
 use crate::extents::Extents;
 use crate::listing::rows_in;
+use crate::looking::look_before;
 use crate::manner::Manner;
 use crate::mount::Mount;
 use crate::naming::{begin, goal_of, held, is_veiled, named, standing, veiled_name};
@@ -56,7 +58,7 @@ use eden_fuse_format::{Answer, Header, Operation, ReadIn, RenameIn};
 use eden_fuse_meaning::{Step, hidden_name, is_hidden, list_hidden};
 use eden_fuse_nodes::{Nodes, Place, ROOT};
 use eden_fuse_session::{Said, Service};
-use eden_model::{Entries, Kind, Name};
+use eden_model::{Entries, Kind, Name, Request};
 use std::alloc::{AllocError, Global};
 use std::marker::Model;
 use std::rt::Clock;
@@ -128,6 +130,15 @@ impl<M: Mount + Drop, K: Clock + Drop> Shown<M, K> {
         } = self;
         store_all(alloc, &mut mount, &nodes, waits);
         mount
+    }
+
+    /// A look that finds what a message's turn asks the mount first, and that changes nothing. Whoever makes it before
+    /// the turn, apart from it, waits then for what isn't in memory. None if the message asks for nothing, or for want
+    /// of memory.
+    pub fn looks_for(&self, node: u64, operation: &Operation<'_>) -> Option<Request>
+        ensures { IfSome result ChangesNothing }
+    {
+        look_before(self.alloc, self.manner.owner, &self.nodes, node, operation)
     }
 
     // Answers a message that names these places, and asks the mount or needs it not. A directory is read on after the
