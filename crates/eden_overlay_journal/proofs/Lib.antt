@@ -1,0 +1,4 @@
+mod Over
+mod Poured
+mod Kept
+mod Halves

@@ -1,0 +1,125 @@
+ghost use Rattle.std.specs.Prelude.{◌≡◌, ◌≢◌, Err, IfOk};
+ghost use Rattle.eden_model.specs.Failures.{one_more};
+ghost use Rattle.eden_overlay.specs.declared.files.FilesFault.TheVariants as fault;
+ghost use Rattle.eden_overlay_journal.specs.Changes.{changed, unchanged};
+
+use crate::journal::Journal;
+use crate::pouring::pour;
+use crate::seen::{head, list, read, remove, replace};
+use eden_model::World;
+use eden_overlay::{Files, FilesFault};
+use eden_overlay_format::Head;
+use std::alloc::Global;
+use std::marker::Model;
+
+/// Files with a journal over them.
+///
+/// Contracts see the files, the journal, and how many calls answered `Device`.
+#[derive(Drop)]
+pub struct Journaled<F, J> {
+    files: F,
+    journal: J,
+    failures: u64,
+}
+
+impl<F, J> Model for Journaled<F, J> {
+    ghost use Rattle.eden_overlay_journal.specs.Pouring.{Journaling};
+
+    ghost Value = { Journaling F J };
+
+    ghost view = { λ s. record { files = s.files; journal = s.journal; failures = s.failures } };
+}
+
+impl<F, J> Journaled<F, J> {
+    /// The files, with that journal over them. Nothing has failed yet.
+    pub fn new(files: F, journal: J) -> Self
+        ensures { result ≡ record { files = files; journal = journal; failures = 0 } }
+    {
+        Journaled {
+            files,
+            journal,
+            failures: 0,
+        }
+    }
+
+    /// The files, without what the journal says.
+    pub fn into_files(self) -> F
+    where
+        J: Drop,
+        ensures { result ≡ self.files }
+    {
+        let Journaled { files, .. } = self;
+        files
+    }
+}
+
+impl<W: World, F: Files<W>, J: Journal<W>> Files<W> for Journaled<F, J> {
+    ghost use Rattle.eden_overlay_journal.specs.Changes.{changed};
+
+    ghost stored = { λ s. changed (J.changes s.journal) (F.stored s.files) };
+
+    ghost failures = { λ s. s.failures };
+
+    fn failures(&self) -> u64 {
+        self.failures
+    }
+
+    fn read(&mut self, alloc: Global, number: u64) -> Result<Option<Vec<u8>>, FilesFault> {
+        let answer = read::<W, _, _>(alloc, &mut self.files, &mut self.journal, number);
+        self.failures = count(self.failures, &answer);
+        answer
+    }
+
+    fn head(&mut self, number: u64) -> Result<Option<Head>, FilesFault> {
+        let answer = head::<W, _, _>(&mut self.files, &mut self.journal, number);
+        self.failures = count(self.failures, &answer);
+        answer
+    }
+
+    fn replace(&mut self, alloc: Global, number: u64, bytes: &[u8]) -> Result<(), FilesFault> {
+        let answer = replace::<W, _, _>(alloc, &mut self.files, &mut self.journal, number, bytes);
+        self.failures = count(self.failures, &answer);
+        answer
+    }
+
+    fn remove(&mut self, number: u64) -> Result<(), FilesFault> {
+        let answer = remove::<W, _, _>(&mut self.files, &mut self.journal, number);
+        self.failures = count(self.failures, &answer);
+        answer
+    }
+
+    fn list(&mut self, alloc: Global) -> Result<Vec<u64>, FilesFault> {
+        let answer = list::<W, _, _>(alloc, &mut self.files, &mut self.journal);
+        self.failures = count(self.failures, &answer);
+        answer
+    }
+}
+
+/// Files with a journal over them that says nothing: what it said has gone into the files. So an opening begins.
+///
+/// After an error the journal says what it said, and files and journal are seen as they were; both are let go.
+pub fn taken_in<W: World, F: Files<W>, J: Journal<W>>(
+    alloc: Global,
+    files: F,
+    journal: J,
+) -> Result<Journaled<F, J>, FilesFault>
+    ensures said { W.honest → IfOk result (λ s. J.changes s.journal ≡ unchanged) }
+    ensures stored { W.honest → IfOk result (λ s. F.stored s.files ≡ changed (J.changes journal) (F.stored files)) }
+    ensures failures { IfOk result (λ s. s.failures ≡ 0) }
+{
+    let mut files = files;
+    let mut journal = journal;
+    pour::<W, _, _>(alloc, &mut files, &mut journal)?;
+    Ok(Journaled::new(files, journal))
+}
+
+// The count of failures after that answer.
+fn count<T>(failures: u64, answer: &Result<T, FilesFault>) -> u64
+    ensures failed { answer.now ≡ Err fault.Device → result ≡ one_more failures }
+    ensures passed { answer.now ≢ Err fault.Device → result ≡ failures }
+{
+    match answer {
+        Err(FilesFault::Device) => failures.saturating_add(1),
+        _ => failures,
+    }
+}

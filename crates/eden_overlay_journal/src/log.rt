@@ -1,0 +1,132 @@
+// A journal's file: records are written behind each other, and read where they lie.
+use eden_plain_files::{FolderFault, remove_file};
+use std::fs::{self, OpenFile, OpenOptions};
+use std::io::{ErrorKind, Read, Seek, SeekFrom, Write};
+use std::path::PathBuf;
+use std::rt::Files;
+
+/// The file, where there is one.
+#[derive(Drop)]
+pub(crate) struct Log<R: Files> {
+    files: R,
+    path: PathBuf,
+    file: Option<R::File>,
+    /// How many bytes the whole records have.
+    end: u64,
+    /// Whether something may lie behind them.
+    is_torn: bool,
+}
+
+impl<R: Files + Drop> Log<R> {
+    /// The file at the path as it was left, of which nothing is known to be whole yet.
+    pub(crate) fn open(files: R, path: PathBuf) -> Result<Self, FolderFault> {
+        let file = left_open(&files, &path)?;
+        Ok(Log {
+            files,
+            path,
+            file,
+            end: 0,
+            is_torn: true,
+        })
+    }
+
+    pub(crate) fn end(&self) -> u64 {
+        self.end
+    }
+
+    /// How many bytes lie behind those that are known to be whole.
+    pub(crate) fn left(&self) -> Result<u64, FolderFault> {
+        match &self.file {
+            None => Ok(0),
+            Some(file) => Ok(file.metadata()?.len().saturating_sub(self.end)),
+        }
+    }
+
+    /// So many bytes more are whole.
+    pub(crate) fn go_on(&mut self, len: u64) {
+        self.end = self.end.saturating_add(len);
+    }
+
+    /// Writes the record behind the others. What a failure left there is cut off first.
+    pub(crate) fn append(&mut self, record: &[u8]) -> Result<(), FolderFault> {
+        if self.file.is_none() {
+            self.file = Some(made(&self.files, &self.path)?);
+        }
+        let Some(file) = &mut self.file else {
+            return Err(FolderFault::Device);
+        };
+        if self.is_torn {
+            file.set_len(self.end)?;
+        }
+        self.is_torn = true;
+        write_at(file, self.end, record)?;
+        self.is_torn = false;
+        self.end = self.end.saturating_add(record.len() as u64);
+        Ok(())
+    }
+
+    /// Fills `bytes` with those that lie there.
+    pub(crate) fn read(&mut self, at: u64, bytes: &mut [u8]) -> Result<(), FolderFault> {
+        match &mut self.file {
+            None => Err(FolderFault::Device),
+            Some(file) => read_at(file, at, bytes),
+        }
+    }
+
+    /// Waits until the disk has what was written.
+    pub(crate) fn settle(&self) {
+        if let Some(file) = &self.file {
+            // Only after a power loss it matters, and no later write is better off without it.
+            let _ = file.sync_data();
+        }
+    }
+
+    /// Removes the file.
+    pub(crate) fn remove(&mut self) -> Result<(), FolderFault> {
+        if self.file.is_some() {
+            remove_file(&self.files, self.path.as_str())?;
+            self.file = None;
+            self.end = 0;
+        }
+        Ok(())
+    }
+}
+
+fn read_at<F: Read + Seek>(file: &mut F, at: u64, bytes: &mut [u8]) -> Result<(), FolderFault> {
+    file.seek(SeekFrom::Start(at))?;
+    file.read_exact(bytes)?;
+    Ok(())
+}
+
+fn write_at<F: Write + Seek>(file: &mut F, at: u64, bytes: &[u8]) -> Result<(), FolderFault> {
+    file.seek(SeekFrom::Start(at))?;
+    file.write_all(bytes)?;
+    Ok(())
+}
+
+// A new file at the path, where there is nothing.
+fn made<R: Files>(files: &R, path: &PathBuf) -> Result<R::File, FolderFault> {
+    let file = OpenOptions::new()
+        .read(true)
+        .write(true)
+        .create_new(true)
+        .open(files, path.as_path())?;
+    Ok(file)
+}
+
+// The plain file at the path, if something is there. What is none is looked at and not opened.
+fn left_open<R: Files>(files: &R, path: &PathBuf) -> Result<Option<R::File>, FolderFault> {
+    match fs::symlink_metadata(files, path.as_path()) {
+        Err(error) if error.kind() == ErrorKind::NotFound => Ok(None),
+        Err(error) => Err(FolderFault::from(error)),
+        Ok(found) if found.is_file() => {
+            // Opening for reading and writing doesn't wait, should there be a pipe by now.
+            let file = OpenOptions::new()
+                .read(true)
+                .write(true)
+                .open(files, path.as_path())?;
+            Ok(Some(file))
+        }
+        Ok(_) => Err(FolderFault::NotPlain),
+    }
+}

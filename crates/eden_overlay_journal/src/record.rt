@@ -1,0 +1,120 @@
+// A journal's records as bytes: 40 bytes, and behind them those of a file that is stored. Numbers are big-endian.
+ghost use Rattle.std.specs.Prelude.{◌≡◌, ◌≤◌, ◌+◌, ◌++◌, OnOk, length};
+ghost use Rattle.sha1.specs.Sha1.{sha1};
+ghost use Rattle.eden_overlay_journal.specs.Records.{fields, note_bytes, record_of, short_record_of};
+ghost use Rattle.eden_overlay_journal.specs.declared.record.Note.TheVariants as note;
+
+use sha1::Sha1;
+use std::alloc::AllocError;
+
+/// The length of what stands before a file's bytes: a digest of 20 bytes, and the fields.
+pub(crate) const FRONT_LEN: usize = 40;
+
+const DIGEST_LEN: usize = 20;
+
+/// What a record says of a file.
+#[derive(Clone, Copy, PartialEq, Eq)]
+pub(crate) enum Note {
+    /// Its bytes stand behind.
+    Stored,
+    /// It was removed.
+    Removed,
+    /// It was changed elsewhere.
+    Elsewhere,
+}
+
+impl Note {
+    fn bytes(self) -> [u8; 4]
+        ensures { result ≡ note_bytes self }
+    {
+        match self {
+            Note::Stored => *b"OVJS",
+            Note::Removed => *b"OVJR",
+            Note::Elsewhere => *b"OVJE",
+        }
+    }
+}
+
+/// What the fields of a record say.
+#[derive(Clone, Copy)]
+pub(crate) struct Fields {
+    pub(crate) note: Note,
+    pub(crate) number: u64,
+    pub(crate) len: u64,
+}
+
+#[tactic(auto, unfolding(crate::specs::Records::fields))]
+fn fields_of(note: Note, number: u64, len: u64) -> [u8; 20]
+    ensures { result ≡ fields note number len }
+{
+    let mut fields = [0; 20];
+    fields[..4].copy_from_slice(&note.bytes());
+    fields[4..12].copy_from_slice(&number.to_be_bytes());
+    fields[12..].copy_from_slice(&len.to_be_bytes());
+    fields
+}
+
+// The record of a note that has no bytes of a file.
+pub(crate) fn short_record(note: Note, number: u64) -> [u8; FRONT_LEN]
+    ensures { result ≡ short_record_of note number }
+{
+    let fields = fields_of(note, number, 0);
+    let mut short = [0; FRONT_LEN];
+    short[..DIGEST_LEN].copy_from_slice(&Sha1::digest(&fields));
+    short[DIGEST_LEN..].copy_from_slice(&fields);
+    short
+}
+
+// Writes the record of a file that is stored into that room, whose bytes go.
+pub(crate) fn write_record(room: &mut Vec<u8>, number: u64, bytes: &[u8]) -> Result<(), AllocError>
+    ensures { OnOk result (room.new.items ≡ record_of note.Stored number bytes.now) }
+{
+    let fields = fields_of(Note::Stored, number, bytes.len() as u64);
+    room.clear();
+    room.reserve_exact(FRONT_LEN.saturating_add(bytes.len()))?;
+    room.extend_from_slice(&digest_of(&fields, bytes))?;
+    room.extend_from_slice(&fields)?;
+    room.extend_from_slice(bytes)?;
+    Ok(())
+}
+
+// The digest of the fields and what stands behind them.
+fn digest_of(fields: &[u8], bytes: &[u8]) -> [u8; DIGEST_LEN]
+    ensures { result ≡ sha1 (fields.now ++ bytes.now) }
+{
+    let mut hasher = Sha1::new();
+    hasher.update(fields);
+    hasher.update(bytes);
+    hasher.finalize()
+}
+
+// What the fields in a record's first bytes say, if they are some.
+pub(crate) fn fields_in(front: &[u8; FRONT_LEN]) -> Option<Fields> {
+    let note = match &front[20..24] {
+        b"OVJS" => Note::Stored,
+        b"OVJR" => Note::Removed,
+        b"OVJE" => Note::Elsewhere,
+        _ => return None,
+    };
+    Some(Fields {
+        note,
+        number: number_at(front, 24),
+        len: number_at(front, 32),
+    })
+}
+
+// Whether the record's digest is that of what follows.
+pub(crate) fn is_whole(bytes: &[u8]) -> bool
+    requires { 20 ≤ length bytes.now }
+{
+    let (digest, told) = bytes.split_at(DIGEST_LEN);
+    digest == Sha1::digest(told).as_slice()
+}
+
+fn number_at(front: &[u8; FRONT_LEN], at: usize) -> u64
+    requires { at + 8 ≤ 40 }
+{
+    let mut digits = [0; 8];
+    digits.copy_from_slice(&front[at..at + 8]);
+    u64::from_be_bytes(digits)
+}

@@ -1,0 +1,174 @@
+// How files with a journal over them are read and changed.
+ghost use Rattle.std.specs.Prelude.{◌≡◌, None, Some, IfOk, IfErr, OnOk, OnErr, option_map};
+ghost use Rattle.std.specs.Ordering.{nat_cmp};
+ghost use Rattle.std.specs.List.Sorted.{IsStrictlySortedBy};
+ghost use Rattle.eden_overlay.specs.Files.{IsHeadOf, Lists, put};
+ghost use Rattle.eden_overlay.specs.declared.files.FilesFault.TheVariants as fault;
+ghost use Rattle.eden_overlay_journal.specs.Changes.{changed};
+
+use crate::journal::Journal;
+use crate::pouring::pour;
+use eden_model::World;
+use eden_overlay::{Files, FilesFault};
+use eden_overlay_format::Head;
+use std::alloc::Global;
+
+/// The longest file that is noted in a journal, in bytes. A longer one goes to the files at once.
+pub const LONGEST_RECORD: usize = 1 << 20;
+
+/// The file of the state, which is never noted: where it is stored, the journal is empty.
+const STATE_NUMBER: u64 = 0;
+
+pub(crate) fn read<W: World, F: Files<W>, J: Journal<W>>(
+    alloc: Global,
+    files: &mut F,
+    journal: &mut J,
+    number: u64,
+) -> Result<Option<Vec<u8>>, FilesFault>
+    ensures found { W.honest → IfOk result (λ o. option_map (λ v. v.items) o
+        ≡ changed (J.changes journal.old) (F.stored files.old) number) }
+    ensures files { W.honest → F.stored files.new ≡ F.stored files.old }
+    ensures journal { W.honest → J.changes journal.new ≡ J.changes journal.old }
+{
+    match journal.read(alloc, number)? {
+        Some(said) => Ok(said),
+        None => files.read(alloc, number),
+    }
+}
+
+pub(crate) fn head<W: World, F: Files<W>, J: Journal<W>>(
+    files: &mut F,
+    journal: &mut J,
+    number: u64,
+) -> Result<Option<Head>, FilesFault>
+    ensures found { W.honest → IfOk result
+        (IsHeadOf (changed (J.changes journal.old) (F.stored files.old) number)) }
+    ensures files { W.honest → F.stored files.new ≡ F.stored files.old }
+    ensures journal { W.honest → J.changes journal.new ≡ J.changes journal.old }
+    ensures fault { IfErr result (λ f. f ≡ fault.Device) }
+{
+    match journal.head(number)? {
+        Some(said) => Ok(said),
+        None => files.head(number),
+    }
+}
+
+// Empties the journal before the state is stored, and where it is full.
+fn make_room<W: World, F: Files<W>, J: Journal<W>>(
+    alloc: Global,
+    files: &mut F,
+    journal: &mut J,
+    number: u64,
+) -> Result<(), FilesFault>
+    ensures { W.honest → changed (J.changes journal.new) (F.stored files.new)
+        ≡ changed (J.changes journal.old) (F.stored files.old) }
+{
+    if number == STATE_NUMBER || journal.is_full() {
+        return pour::<W, _, _>(alloc, files, journal);
+    }
+    Ok(())
+}
+
+pub(crate) fn replace<W: World, F: Files<W>, J: Journal<W>>(
+    alloc: Global,
+    files: &mut F,
+    journal: &mut J,
+    number: u64,
+    bytes: &[u8],
+) -> Result<(), FilesFault>
+    ensures ok { W.honest → OnOk result (changed (J.changes journal.new) (F.stored files.new)
+        ≡ put (changed (J.changes journal.old) (F.stored files.old)) number (Some bytes.now)) }
+    ensures err { W.honest → OnErr result (changed (J.changes journal.new) (F.stored files.new)
+        ≡ changed (J.changes journal.old) (F.stored files.old)) }
+{
+    make_room::<W, _, _>(alloc, files, journal, number)?;
+    put_in::<W, _, _>(alloc, files, journal, number, bytes)
+}
+
+// Notes the file, or stores it where it is too long, or the state.
+fn put_in<W: World, F: Files<W>, J: Journal<W>>(
+    alloc: Global,
+    files: &mut F,
+    journal: &mut J,
+    number: u64,
+    bytes: &[u8],
+) -> Result<(), FilesFault>
+    ensures ok { W.honest → OnOk result (changed (J.changes journal.new) (F.stored files.new)
+        ≡ put (changed (J.changes journal.old) (F.stored files.old)) number (Some bytes.now)) }
+    ensures err { W.honest → OnErr result (changed (J.changes journal.new) (F.stored files.new)
+        ≡ changed (J.changes journal.old) (F.stored files.old)) }
+{
+    if number == STATE_NUMBER || bytes.len() > LONGEST_RECORD {
+        return put_past::<W, _, _>(alloc, files, journal, number, bytes);
+    }
+    journal.store(alloc, number, bytes)
+}
+
+// Stores the file past the journal, which says nothing of it any more.
+fn put_past<W: World, F: Files<W>, J: Journal<W>>(
+    alloc: Global,
+    files: &mut F,
+    journal: &mut J,
+    number: u64,
+    bytes: &[u8],
+) -> Result<(), FilesFault>
+    ensures ok { W.honest → OnOk result (changed (J.changes journal.new) (F.stored files.new)
+        ≡ put (changed (J.changes journal.old) (F.stored files.old)) number (Some bytes.now)) }
+    ensures err { W.honest → OnErr result (changed (J.changes journal.new) (F.stored files.new)
+        ≡ changed (J.changes journal.old) (F.stored files.old)) }
+{
+    files.replace(alloc, number, bytes)?;
+    journal.pass(number)
+}
+
+pub(crate) fn remove<W: World, F: Files<W>, J: Journal<W>>(
+    files: &mut F,
+    journal: &mut J,
+    number: u64,
+) -> Result<(), FilesFault>
+    ensures ok { W.honest → OnOk result (changed (J.changes journal.new) (F.stored files.new)
+        ≡ put (changed (J.changes journal.old) (F.stored files.old)) number None) }
+    ensures err { W.honest → OnErr result (changed (J.changes journal.new) (F.stored files.new)
+        ≡ changed (J.changes journal.old) (F.stored files.old)) }
+    ensures fault { IfErr result (λ f. f ≡ fault.Device) }
+{
+    if number == STATE_NUMBER {
+        return remove_past::<W, _, _>(files, journal, number);
+    }
+    match journal.remove(number)? {
+        true => Ok(()),
+        false => files.remove(number),
+    }
+}
+
+// Removes the file past the journal, which says nothing of it any more.
+fn remove_past<W: World, F: Files<W>, J: Journal<W>>(
+    files: &mut F,
+    journal: &mut J,
+    number: u64,
+) -> Result<(), FilesFault>
+    ensures ok { W.honest → OnOk result (changed (J.changes journal.new) (F.stored files.new)
+        ≡ put (changed (J.changes journal.old) (F.stored files.old)) number None) }
+    ensures err { W.honest → OnErr result (changed (J.changes journal.new) (F.stored files.new)
+        ≡ changed (J.changes journal.old) (F.stored files.old)) }
+    ensures fault { IfErr result (λ f. f ≡ fault.Device) }
+{
+    files.remove(number)?;
+    journal.pass(number)
+}
+
+// The journal is emptied first: files are listed where an overlay is opened, and it is small then.
+pub(crate) fn list<W: World, F: Files<W>, J: Journal<W>>(
+    alloc: Global,
+    files: &mut F,
+    journal: &mut J,
+) -> Result<Vec<u64>, FilesFault>
+    ensures rising { IfOk result (λ v. IsStrictlySortedBy nat_cmp v.items) }
+    ensures all { W.honest → IfOk result (λ v.
+        Lists v.items (changed (J.changes journal.old) (F.stored files.old))) }
+    ensures unchanged { W.honest → changed (J.changes journal.new) (F.stored files.new)
+        ≡ changed (J.changes journal.old) (F.stored files.old) }
+{
+    pour::<W, _, _>(alloc, files, journal)?;
+    files.list(alloc)
+}
