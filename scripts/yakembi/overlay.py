@@ -1,9 +1,9 @@
 """An overlay's folder, as a mount of a Git commit finds and leaves it: whose it is, on which tree it stands, what was
 changed when.
 
-The files whose names are numbers are mountd's, and so is `lock`. The file `mount-git` beside them is ours: who holds
-its lock has the overlay, also while mountd is closed and opened again, and its line tells the tree, the commit's time,
-and on which commit the next one of the folder's is put.
+The files whose names are numbers are mountd's, and so are `lock` and `journal`. The file `mount-git` beside them is
+ours: who holds its lock has the overlay, also while mountd is closed and opened again, and its line tells the tree, the
+commit's time, and on which commit the next one of the folder's is put.
 """
 
 import fcntl
@@ -16,6 +16,8 @@ from typing import NamedTuple
 NOTE = "mount-git"
 NOTE_LINE = re.compile(r"([0-9a-f]{40}) ([0-9]+)(?: ([0-9a-f]{40}))?\n")
 NUMBERED = re.compile("0|[1-9][0-9]*")
+# Of a killed run: changes that aren't in numbered files yet.
+JOURNAL = "journal"
 
 # Of mountd's files: a header and a body; a directory's body is a count and entries, file 0 begins with the tree's id.
 HEADER = 64
@@ -60,7 +62,7 @@ class OverlayFolder:
         self.note.close()
 
     def is_fresh(self) -> bool:
-        return not any(NUMBERED.fullmatch(name) for name in os.listdir(self.path))
+        return not any(name == JOURNAL or NUMBERED.fullmatch(name) for name in os.listdir(self.path))
 
     def noted(self) -> Noted | None:
         """What we wrote down; None where we didn't."""

@@ -7,7 +7,8 @@ from the repository's own reader, so that the two can be compared. A file that i
 import hashlib
 import pathlib
 import re
-from collections.abc import Mapping
+import struct
+from collections.abc import Iterator, Mapping
 from typing import NamedTuple, Protocol
 
 from yakembi.tree_model import Node, Nodes, Path
@@ -21,6 +22,12 @@ VERSION_AT, LENGTH_AT, DIGEST_AT, UNREAD_AT = 4, 8, 16, 36
 HEADER_BYTES = 64
 FIRST_NUMBER = 2
 END_OF_NUMBERS = 1 << 63
+
+# The file of changes that aren't in the numbered files yet, and its records.
+JOURNAL = "journal"
+STORED, REMOVED, ELSEWHERE = SORTS = b"OVJS", b"OVJR", b"OVJE"
+RECORD_BYTES, RECORD_MOST = 48, 1 << 20
+STATE_NUMBER = 0
 
 # What the kind byte and the origin byte of an entry say.
 PLAIN, EXECUTABLE, LINK, FOLDER = range(4)
@@ -177,10 +184,49 @@ def state_of(data: bytes) -> tuple[str, int]:
 
 
 def stored(folder: pathlib.Path) -> dict[int, bytes]:
-    """The files of a folder by their numbers; other names are passed over."""
+    """The files of a folder by their numbers, with its journal over them; other names are passed over.
+
+    A journal beside the state is from before that, and says nothing any more.
+    """
     if not folder.exists():
         return {}
-    return {int(path.name): path.read_bytes() for path in folder.iterdir() if re.fullmatch("0|[1-9][0-9]*", path.name)}
+    files = {int(path.name): path.read_bytes() for path in folder.iterdir() if re.fullmatch("0|[1-9][0-9]*", path.name)}
+    journal = folder / JOURNAL
+    if STATE_NUMBER in files or not journal.exists():
+        return files
+    for number, body in changes(journal.read_bytes()).items():
+        if body is None:
+            files.pop(number, None)
+        else:
+            files[number] = body
+    return files
+
+
+def records(journal: bytes) -> Iterator[tuple[bytes, int, bytes]]:
+    """The records of a journal up to the first that isn't whole: which each is, its number, its bytes."""
+    at = 0
+    while len(journal) - at >= RECORD_BYTES:
+        digest, sort = journal[at : at + 20], journal[at + 20 : at + 24]
+        number, _, size = struct.unpack_from(">QQQ", journal, at + 24)
+        end = at + RECORD_BYTES + size
+        told = journal[at + 20 : end]
+        if sort not in SORTS or number == STATE_NUMBER or size > RECORD_MOST or end > len(journal):
+            return
+        if hashlib.sha1(told).digest() != digest:
+            return
+        yield sort, number, journal[at + RECORD_BYTES : end]
+        at = end
+
+
+def changes(journal: bytes) -> dict[int, bytes | None]:
+    """What a journal says of each number; None where its file was removed."""
+    said: dict[int, bytes | None] = {}
+    for sort, number, body in records(journal):
+        if sort == ELSEWHERE:
+            said.pop(number, None)
+        else:
+            said[number] = body if sort == STORED else None
+    return said
 
 
 def is_unclean(files: Mapping[int, bytes]) -> bool:
