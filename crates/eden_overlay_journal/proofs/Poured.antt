@@ -2,10 +2,11 @@
 use Rattle.std.proofs.Common.{◌≡◌, ◌≢◌, ◌⊎◌, ◌∙◌, ℕ, List, Option, Some, None, IsSome, Result, Ok, Err, OnOk, OnErr, All, refl, ap, sym, subst, inl, inr}
 use Rattle.std.proofs.Math.Path.{fun_ext}
 use Rattle.std.proofs.lemmas.List.Elements.{All-contains}
-use Rattle.eden_overlay.specs.Files.{Stored, put}
+use Rattle.eden_overlay_format.specs.declared.header.Head.{Head}
+use Rattle.eden_overlay.specs.Files.{IsHeadOf, Stored, put}
 use Rattle.eden_overlay.proofs.CallerLemmas.{put_here, put_apart, same_or_apart}
 use Rattle.eden_overlay.specs.declared.files.FilesFault.{FilesFault}
-use Rattle.eden_overlay_journal.specs.Changes.{Change, Changes, ListsChanges, changed, over, unchanged}
+use Rattle.eden_overlay_journal.specs.Changes.{Change, Changes, ListsChanges, at_opening, changed, over, unchanged, unless_stored}
 
 -- what was done to a file stays so while others are done
 pub still_done : (f t : Stored) (k j : ℕ) → f j ≡ t j → put f k (t k) j ≡ t j
@@ -29,3 +30,13 @@ all_done c f t ks same lists done = fun_ext (λ q. elim (silent_or_not (c q)) [
 pub emptied : {X : Type 0} (r : Result X FilesFault) (c d : Changes) (f t : Stored) → OnOk r (d ≡ unchanged) → OnErr r (d ≡ c) → f ≡ t → changed c f ≡ t → changed d f ≡ t
 emptied (Ok x) c d f t empty same done seen = ap (λ x. changed x f) empty ∙ done
 emptied (Err e) c d f t empty same done seen = ap (λ x. changed x f) same ∙ seen
+
+-- what has no head isn't there
+pub no_file : (file : Option (List ℕ)) (head : Option Head) → IsHeadOf file head → head ≡ None → file ≡ None
+no_file None head is none = refl
+no_file (Some bytes) None is none = search
+no_file (Some bytes) (Some head) is none = search
+
+-- where no state is stored, what the journal says is over the files
+pub opened_as : (c : Changes) (f t : Stored) → f 0 ≡ None → t ≡ changed c f → t ≡ at_opening c f
+opened_as c f t none is = is ∙ ap (λ o. unless_stored o c f) (sym none)

@@ -32,6 +32,15 @@ over (Some changed) file = changed
 abbrev pub changed : Changes → Stored → Stored
 changed c f = λ q. over (c q) (f q)
 
+-- .. and where a file is stored, those alone
+abbrev pub unless_stored : Option (List ℕ) → Changes → Stored → Stored
+unless_stored None c f = changed c f
+unless_stored (Some state) c f = f
+
+-- What an opening finds: a journal is emptied before the state is stored, file 0, so that one beside a state is from before it.
+abbrev pub at_opening : Changes → Stored → Stored
+at_opening c f = unless_stored (f 0) c f
+
 -- what was had is the head of what a change says, or nothing where it says nothing
 abbrev pub IsHeadIn : Change → Option (Option Head) → Type 0
 IsHeadIn None None = Unit {0}

@@ -1,24 +1,28 @@
+use crate::dates::{date, now};
 use crate::journal::Journal;
 use crate::log::Log;
+use crate::pouring::STATE_NUMBER;
 use crate::record::{FRONT_LEN, Fields, Note, fields_in, is_whole, short_record, write_record};
 use crate::seen::LONGEST_RECORD;
 use eden_model::Outside;
 use eden_overlay::FilesFault;
 use eden_overlay_format::{HEADER_LEN, Head};
 use eden_plain_files::FolderFault;
+use itoa::Buffer;
 use std::alloc::Global;
 use std::collections::BTreeMap;
 use std::path::PathBuf;
-use std::rt::Files;
+use std::rt::{Clock, Files};
 
 /// A journal with more bytes is full.
 const FULL: u64 = 64 << 20;
 
-/// Where a file's bytes lie in the journal.
+/// Where a file's bytes lie in the journal, and when that was noted.
 #[derive(Clone, Copy)]
 struct Piece {
     start: u64,
     len: usize,
+    when: u64,
 }
 
 /// A journal that is the file `journal` in an overlay's folder. It is made when something is noted first, and removed
@@ -26,6 +30,7 @@ struct Piece {
 #[derive(Drop)]
 pub struct FolderJournal<R: Files> {
     log: Log<R>,
+    folder: PathBuf,
     alloc: Global,
     /// What is said of each number; without a piece that it was removed.
     pieces: BTreeMap<u64, Option<Piece>>,
@@ -33,7 +38,7 @@ pub struct FolderJournal<R: Files> {
     room: Vec<u8>,
 }
 
-impl<R: Files + Drop> FolderJournal<R> {
+impl<R: Files + Clock + Drop> FolderJournal<R> {
     /// The journal in that folder as it was left, up to the first record that isn't whole; a folder without one has
     /// one that says nothing.
     ///
@@ -42,6 +47,7 @@ impl<R: Files + Drop> FolderJournal<R> {
         let path = folder.join(alloc, "journal")?;
         let mut journal = FolderJournal {
             log: Log::open(files, path)?,
+            folder: folder.clone()?,
             alloc,
             pieces: BTreeMap::new(alloc),
             room: Vec::new(alloc),
@@ -73,7 +79,7 @@ impl<R: Files + Drop> FolderJournal<R> {
 
     // Whether the record with these fields is whole, which is learned then.
     fn take_whole(&mut self, front: &[u8; FRONT_LEN], fields: Fields) -> Result<bool, FilesFault> {
-        if fields.len > LONGEST_RECORD as u64 {
+        if fields.number == STATE_NUMBER || fields.len > LONGEST_RECORD as u64 {
             return Ok(false);
         }
         self.room.clear();
@@ -90,11 +96,14 @@ impl<R: Files + Drop> FolderJournal<R> {
     }
 
     fn learn(&mut self, fields: Fields, start: u64) -> Result<(), FilesFault> {
-        let len = fields.len as usize;
         match fields.note {
             Note::Stored => {
-                self.pieces
-                    .insert(fields.number, Some(Piece { start, len }))?;
+                let piece = Piece {
+                    start,
+                    len: fields.len as usize,
+                    when: fields.when,
+                };
+                self.pieces.insert(fields.number, Some(piece))?;
             }
             Note::Removed => {
                 self.pieces.insert(fields.number, None)?;
@@ -118,6 +127,13 @@ impl<R: Files + Drop> FolderJournal<R> {
         }
     }
 
+    // Gives the numbered file the time of its change.
+    fn date_file(&self, number: u64, when: u64) -> Result<(), FolderFault> {
+        let mut name = Buffer::new();
+        let path = self.folder.join(self.alloc, name.format(number))?;
+        date(self.log.files(), &path, when)
+    }
+
     fn bytes_of(&mut self, alloc: Global, piece: Piece) -> Result<Vec<u8>, FilesFault> {
         let mut bytes = Vec::new(alloc);
         bytes.resize(piece.len, 0)?;
@@ -137,7 +153,7 @@ impl<R: Files + Drop> FolderJournal<R> {
     }
 }
 
-impl<R: Files + Drop> Journal<Outside> for FolderJournal<R> {
+impl<R: Files + Clock + Drop> Journal<Outside> for FolderJournal<R> {
     ghost use Rattle.std.specs.Prelude.{None};
 
     // What a file has is not known, and this World promises nothing of it.
@@ -169,10 +185,12 @@ impl<R: Files + Drop> Journal<Outside> for FolderJournal<R> {
 
     /// The record is written at once, header and bytes together. Nothing waits for the disk to have it.
     fn store(&mut self, alloc: Global, number: u64, bytes: &[u8]) -> Result<(), FilesFault> {
-        write_record(&mut self.room, number, bytes)?;
+        let when = now(self.log.files());
+        write_record(&mut self.room, number, when, bytes)?;
         let piece = Piece {
             start: self.log.end().saturating_add(FRONT_LEN as u64),
             len: bytes.len(),
+            when,
         };
         // The room in memory comes first: a record that is written can't be taken back.
         let before = self.pieces.insert(number, Some(piece))?;
@@ -217,9 +235,29 @@ impl<R: Files + Drop> Journal<Outside> for FolderJournal<R> {
         Ok(())
     }
 
-    fn numbers(&mut self, alloc: Global) -> Result<Vec<u64>, FilesFault> {
+    fn settle(&mut self) {
         self.log.settle();
-        Ok(self.pieces.keys().copied().collect(alloc)?)
+    }
+
+    /// A time that can't be set, or wasn't told, is that of the storing.
+    fn date(&mut self, number: u64) {
+        if let Some(Some(piece)) = self.pieces.get(&number).copied() {
+            // The file has what it is to have, whatever its time is.
+            let _ = self.date_file(number, piece.when);
+        }
+    }
+
+    fn numbers(&mut self, alloc: Global) -> Result<Vec<u64>, FilesFault> {
+        let mut numbers = Vec::with_capacity(alloc, self.pieces.len())?;
+        // What was removed comes first, since that makes room on the disk.
+        for is_there in [false, true] {
+            for (number, piece) in self.pieces.iter() {
+                if piece.is_some() == is_there {
+                    numbers.push(*number)?;
+                }
+            }
+        }
+        Ok(numbers)
     }
 
     fn empty(&mut self) -> Result<(), FilesFault> {

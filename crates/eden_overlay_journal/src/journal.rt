@@ -53,8 +53,15 @@ pub trait Journal<W: World>: Drop {
         ensures said { W.honest → OnErr result (IsSome (changes self.old number)) }
         ensures fault { IfErr result (λ f. f ≡ Device) };
 
-    /// The numbers of which it says something. Whoever asks is about to do elsewhere what it says, so that the disk is
-    /// to have the journal first, where it can.
+    /// Waits until the disk has the journal, where it can: whoever calls is about to do elsewhere what it says.
+    fn settle(&mut self)
+        ensures { W.honest → changes self.new ≡ changes self.old };
+
+    /// Gives the file of that number, which was stored elsewhere as it says, the time of that change, where it can.
+    fn date(&mut self, number: u64)
+        ensures { W.honest → changes self.new ≡ changes self.old };
+
+    /// The numbers of which it says something.
     fn numbers(&mut self, alloc: Global) -> Result<Vec<u64>, FilesFault>
         ensures all { W.honest → IfOk result (λ v. ListsChanges v.items (changes self.old)) }
         ensures unchanged { W.honest → changes self.new ≡ changes self.old };

@@ -1,10 +1,10 @@
 ghost use Rattle.std.specs.Prelude.{◌≡◌, ◌≢◌, Err, IfOk};
 ghost use Rattle.eden_model.specs.Failures.{one_more};
 ghost use Rattle.eden_overlay.specs.declared.files.FilesFault.TheVariants as fault;
-ghost use Rattle.eden_overlay_journal.specs.Changes.{changed, unchanged};
+ghost use Rattle.eden_overlay_journal.specs.Changes.{at_opening, unchanged};
 
 use crate::journal::Journal;
-use crate::pouring::pour;
+use crate::pouring::{STATE_NUMBER, take_in};
 use crate::seen::{head, list, read, remove, replace};
 use eden_model::World;
 use eden_overlay::{Files, FilesFault};
@@ -12,13 +12,15 @@ use eden_overlay_format::Head;
 use std::alloc::Global;
 use std::marker::Model;
 
-/// Files with a journal over them.
+/// Files with a journal over them. Nothing is noted in it while the state is stored, file 0.
 ///
 /// Contracts see the files, the journal, and how many calls answered `Device`.
 #[derive(Drop)]
 pub struct Journaled<F, J> {
     files: F,
     journal: J,
+    /// Whether the state is stored, or may be.
+    is_closed: bool,
     failures: u64,
 }
 
@@ -31,13 +33,14 @@ impl<F, J> Model for Journaled<F, J> {
 }
 
 impl<F, J> Journaled<F, J> {
-    /// The files, with that journal over them. Nothing has failed yet.
+    /// The files, which have no state, with that journal over them. Nothing has failed yet.
     pub fn new(files: F, journal: J) -> Self
         ensures { result ≡ record { files = files; journal = journal; failures = 0 } }
     {
         Journaled {
             files,
             journal,
+            is_closed: false,
             failures: 0,
         }
     }
@@ -77,13 +80,20 @@ impl<W: World, F: Files<W>, J: Journal<W>> Files<W> for Journaled<F, J> {
     }
 
     fn replace(&mut self, alloc: Global, number: u64, bytes: &[u8]) -> Result<(), FilesFault> {
-        let answer = replace::<W, _, _>(alloc, &mut self.files, &mut self.journal, number, bytes);
+        self.is_closed = self.is_closed || number == STATE_NUMBER;
+        let is_closed = self.is_closed;
+        let (files, journal) = (&mut self.files, &mut self.journal);
+        let answer = replace::<W, _, _>(alloc, files, journal, is_closed, number, bytes);
         self.failures = count(self.failures, &answer);
         answer
     }
 
     fn remove(&mut self, number: u64) -> Result<(), FilesFault> {
-        let answer = remove::<W, _, _>(&mut self.files, &mut self.journal, number);
+        let (files, journal) = (&mut self.files, &mut self.journal);
+        let answer = remove::<W, _, _>(files, journal, self.is_closed, number);
+        if number == STATE_NUMBER && answer.is_ok() {
+            self.is_closed = false;
+        }
         self.failures = count(self.failures, &answer);
         answer
     }
@@ -97,6 +107,7 @@ impl<W: World, F: Files<W>, J: Journal<W>> Files<W> for Journaled<F, J> {
 
 /// Files with a journal over them that says nothing: what it said has gone into the files. So an opening begins.
 ///
+/// Where the state is stored, as a close leaves it, a journal is from before that close, and is passed over.
 /// After an error the journal says what it said, and files and journal are seen as they were; both are let go.
 pub fn taken_in<W: World, F: Files<W>, J: Journal<W>>(
     alloc: Global,
@@ -104,13 +115,18 @@ pub fn taken_in<W: World, F: Files<W>, J: Journal<W>>(
     journal: J,
 ) -> Result<Journaled<F, J>, FilesFault>
     ensures said { W.honest → IfOk result (λ s. J.changes s.journal ≡ unchanged) }
-    ensures stored { W.honest → IfOk result (λ s. F.stored s.files ≡ changed (J.changes journal) (F.stored files)) }
+    ensures stored { W.honest → IfOk result (λ s. F.stored s.files ≡ at_opening (J.changes journal) (F.stored files)) }
     ensures failures { IfOk result (λ s. s.failures ≡ 0) }
 {
     let mut files = files;
     let mut journal = journal;
-    pour::<W, _, _>(alloc, &mut files, &mut journal)?;
-    Ok(Journaled::new(files, journal))
+    let is_closed = take_in::<W, _, _>(alloc, &mut files, &mut journal)?;
+    Ok(Journaled {
+        files,
+        journal,
+        is_closed,
+        failures: 0,
+    })
 }
 
 // The count of failures after that answer.

@@ -30,6 +30,11 @@ impl<R: Files + Drop> Log<R> {
         })
     }
 
+    /// The system in which it lies.
+    pub(crate) fn files(&self) -> &R {
+        &self.files
+    }
+
     pub(crate) fn end(&self) -> u64 {
         self.end
     }
@@ -115,7 +120,10 @@ fn made<R: Files>(files: &R, path: &PathBuf) -> Result<R::File, FolderFault> {
 }
 
 // The plain file at the path, if something is there. What is none is looked at and not opened.
-fn left_open<R: Files>(files: &R, path: &PathBuf) -> Result<Option<R::File>, FolderFault> {
+pub(crate) fn left_open<R: Files>(
+    files: &R,
+    path: &PathBuf,
+) -> Result<Option<R::File>, FolderFault> {
     match fs::symlink_metadata(files, path.as_path()) {
         Err(error) if error.kind() == ErrorKind::NotFound => Ok(None),
         Err(error) => Err(FolderFault::from(error)),

@@ -67,6 +67,10 @@ impl<W: World> Journal<W> for MemoryJournal<W> {
         Ok(())
     }
 
+    fn settle(&mut self) {}
+
+    fn date(&mut self, _number: u64) {}
+
     fn numbers(&mut self, alloc: Global) -> Result<Vec<u64>, FilesFault> {
         Ok(numbers(alloc, &self.files)?)
     }

@@ -1,7 +1,7 @@
 // What a journal says, done to the files.
-ghost use Rattle.std.specs.Prelude.{◌≡◌, All, OnErr, OnOk};
+ghost use Rattle.std.specs.Prelude.{◌≡◌, All, OnErr, OnOk, Some};
 ghost use Rattle.eden_overlay.specs.Files.{put};
-ghost use Rattle.eden_overlay_journal.specs.Changes.{changed, unchanged};
+ghost use Rattle.eden_overlay_journal.specs.Changes.{at_opening, changed, unchanged};
 
 use crate::journal::Journal;
 use eden_model::World;
@@ -23,8 +23,25 @@ fn pour_one<W: World, F: Files<W>, J: Journal<W>>(
     match journal.read(alloc, number)? {
         None => Ok(()),
         Some(None) => files.remove(number),
-        Some(Some(bytes)) => files.replace(alloc, number, &bytes),
+        Some(Some(bytes)) => store_one::<W, _, _>(alloc, files, journal, number, &bytes),
     }
+}
+
+// Stores the file, which gets the time at which the journal was told of it.
+fn store_one<W: World, F: Files<W>, J: Journal<W>>(
+    alloc: Global,
+    files: &mut F,
+    journal: &mut J,
+    number: u64,
+    bytes: &[u8],
+) -> Result<(), FilesFault>
+    ensures journal { W.honest → J.changes journal.new ≡ J.changes journal.old }
+    ensures ok { W.honest → OnOk result (F.stored files.new ≡ put (F.stored files.old) number (Some bytes.now)) }
+    ensures err { W.honest → OnErr result (F.stored files.new ≡ F.stored files.old) }
+{
+    files.replace(alloc, number, bytes)?;
+    journal.date(number);
+    Ok(())
 }
 
 // Does to the files all that the journal says, and empties it.
@@ -38,6 +55,8 @@ pub(crate) fn pour<W: World, F: Files<W>, J: Journal<W>>(
     ensures empty { W.honest → OnOk result (J.changes journal.new ≡ unchanged) }
 {
     let numbers = journal.numbers(alloc)?;
+    // Else a power loss could leave files that name others of which only the journal's lost end knows.
+    journal.settle();
     pour_all::<W, _, _>(alloc, files, journal, &numbers)?;
     journal.empty()
 }
@@ -59,4 +78,30 @@ fn pour_all<W: World, F: Files<W>, J: Journal<W>>(
         pour_one::<W, _, _>(alloc, files, journal, *number)?;
     }
     Ok(())
+}
+
+/// The file of the state, which is never noted: where it is stored, the journal says nothing.
+pub(crate) const STATE_NUMBER: u64 = 0;
+
+// Does to the files what a journal says that was left, and empties it. Where the state is stored the journal is from
+// before that, since it was emptied then: a program that knows of no journals passed it over. Answers whether it is.
+pub(crate) fn take_in<W: World, F: Files<W>, J: Journal<W>>(
+    alloc: Global,
+    files: &mut F,
+    journal: &mut J,
+) -> Result<bool, FilesFault>
+    ensures said { W.honest → OnOk result (J.changes journal.new ≡ unchanged) }
+    ensures stored { W.honest → OnOk result (F.stored files.new
+        ≡ at_opening (J.changes journal.old) (F.stored files.old)) }
+{
+    match files.head(STATE_NUMBER)? {
+        Some(_) => {
+            journal.empty()?;
+            Ok(true)
+        }
+        None => {
+            pour::<W, _, _>(alloc, files, journal)?;
+            Ok(false)
+        }
+    }
 }

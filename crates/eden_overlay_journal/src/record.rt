@@ -1,4 +1,4 @@
-// A journal's records as bytes: 40 bytes, and behind them those of a file that is stored. Numbers are big-endian.
+// A journal's records as bytes: 48 bytes, and behind them those of a file that is stored. Numbers are big-endian.
 ghost use Rattle.std.specs.Prelude.{◌≡◌, ◌≤◌, ◌+◌, ◌++◌, OnOk, length};
 ghost use Rattle.sha1.specs.Sha1.{sha1};
 ghost use Rattle.eden_overlay_journal.specs.Records.{fields, note_bytes, record_of, short_record_of};
@@ -8,7 +8,7 @@ use sha1::Sha1;
 use std::alloc::AllocError;
 
 /// The length of what stands before a file's bytes: a digest of 20 bytes, and the fields.
-pub(crate) const FRONT_LEN: usize = 40;
+pub(crate) const FRONT_LEN: usize = 48;
 
 const DIGEST_LEN: usize = 20;
 
@@ -40,25 +40,28 @@ impl Note {
 pub(crate) struct Fields {
     pub(crate) note: Note,
     pub(crate) number: u64,
+    /// When it was noted, in nanoseconds since 1970; 0 where that isn't told.
+    pub(crate) when: u64,
     pub(crate) len: u64,
 }
 
 #[tactic(auto, unfolding(crate::specs::Records::fields))]
-fn fields_of(note: Note, number: u64, len: u64) -> [u8; 20]
-    ensures { result ≡ fields note number len }
+fn fields_of(note: Note, number: u64, when: u64, len: u64) -> [u8; 28]
+    ensures { result ≡ fields note number when len }
 {
-    let mut fields = [0; 20];
+    let mut fields = [0; 28];
     fields[..4].copy_from_slice(&note.bytes());
     fields[4..12].copy_from_slice(&number.to_be_bytes());
-    fields[12..].copy_from_slice(&len.to_be_bytes());
+    fields[12..20].copy_from_slice(&when.to_be_bytes());
+    fields[20..].copy_from_slice(&len.to_be_bytes());
     fields
 }
 
-// The record of a note that has no bytes of a file.
+// The record of a note that has no bytes of a file, and no time.
 pub(crate) fn short_record(note: Note, number: u64) -> [u8; FRONT_LEN]
     ensures { result ≡ short_record_of note number }
 {
-    let fields = fields_of(note, number, 0);
+    let fields = fields_of(note, number, 0, 0);
     let mut short = [0; FRONT_LEN];
     short[..DIGEST_LEN].copy_from_slice(&Sha1::digest(&fields));
     short[DIGEST_LEN..].copy_from_slice(&fields);
@@ -66,10 +69,15 @@ pub(crate) fn short_record(note: Note, number: u64) -> [u8; FRONT_LEN]
 }
 
 // Writes the record of a file that is stored into that room, whose bytes go.
-pub(crate) fn write_record(room: &mut Vec<u8>, number: u64, bytes: &[u8]) -> Result<(), AllocError>
-    ensures { OnOk result (room.new.items ≡ record_of note.Stored number bytes.now) }
+pub(crate) fn write_record(
+    room: &mut Vec<u8>,
+    number: u64,
+    when: u64,
+    bytes: &[u8],
+) -> Result<(), AllocError>
+    ensures { OnOk result (room.new.items ≡ record_of note.Stored number when bytes.now) }
 {
-    let fields = fields_of(Note::Stored, number, bytes.len() as u64);
+    let fields = fields_of(Note::Stored, number, when, bytes.len() as u64);
     room.clear();
     room.reserve_exact(FRONT_LEN.saturating_add(bytes.len()))?;
     room.extend_from_slice(&digest_of(&fields, bytes))?;
@@ -99,7 +107,8 @@ pub(crate) fn fields_in(front: &[u8; FRONT_LEN]) -> Option<Fields> {
     Some(Fields {
         note,
         number: number_at(front, 24),
-        len: number_at(front, 32),
+        when: number_at(front, 32),
+        len: number_at(front, 40),
     })
 }
 
@@ -112,7 +121,7 @@ pub(crate) fn is_whole(bytes: &[u8]) -> bool
 }
 
 fn number_at(front: &[u8; FRONT_LEN], at: usize) -> u64
-    requires { at + 8 ≤ 40 }
+    requires { at + 8 ≤ 48 }
 {
     let mut digits = [0; 8];
     digits.copy_from_slice(&front[at..at + 8]);

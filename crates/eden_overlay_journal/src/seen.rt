@@ -7,7 +7,7 @@ ghost use Rattle.eden_overlay.specs.declared.files.FilesFault.TheVariants as fau
 ghost use Rattle.eden_overlay_journal.specs.Changes.{changed};
 
 use crate::journal::Journal;
-use crate::pouring::pour;
+use crate::pouring::{STATE_NUMBER, pour};
 use eden_model::World;
 use eden_overlay::{Files, FilesFault};
 use eden_overlay_format::Head;
@@ -15,9 +15,6 @@ use std::alloc::Global;
 
 /// The longest file that is noted in a journal, in bytes. A longer one goes to the files at once.
 pub const LONGEST_RECORD: usize = 1 << 20;
-
-/// The file of the state, which is never noted: where it is stored, the journal is empty.
-const STATE_NUMBER: u64 = 0;
 
 pub(crate) fn read<W: World, F: Files<W>, J: Journal<W>>(
     alloc: Global,
@@ -58,21 +55,23 @@ fn make_room<W: World, F: Files<W>, J: Journal<W>>(
     alloc: Global,
     files: &mut F,
     journal: &mut J,
-    number: u64,
+    is_closed: bool,
 ) -> Result<(), FilesFault>
     ensures { W.honest → changed (J.changes journal.new) (F.stored files.new)
         ≡ changed (J.changes journal.old) (F.stored files.old) }
 {
-    if number == STATE_NUMBER || journal.is_full() {
+    if is_closed || journal.is_full() {
         return pour::<W, _, _>(alloc, files, journal);
     }
     Ok(())
 }
 
+// Nothing is noted where the state is stored, or is to be.
 pub(crate) fn replace<W: World, F: Files<W>, J: Journal<W>>(
     alloc: Global,
     files: &mut F,
     journal: &mut J,
+    is_closed: bool,
     number: u64,
     bytes: &[u8],
 ) -> Result<(), FilesFault>
@@ -81,12 +80,36 @@ pub(crate) fn replace<W: World, F: Files<W>, J: Journal<W>>(
     ensures err { W.honest → OnErr result (changed (J.changes journal.new) (F.stored files.new)
         ≡ changed (J.changes journal.old) (F.stored files.old)) }
 {
-    make_room::<W, _, _>(alloc, files, journal, number)?;
-    put_in::<W, _, _>(alloc, files, journal, number, bytes)
+    make_room::<W, _, _>(alloc, files, journal, is_closed)?;
+    put_in::<W, _, _>(alloc, files, journal, is_closed, number, bytes)
 }
 
-// Notes the file, or stores it where it is too long, or the state.
+// Notes the file, or stores it where it is too long, or nothing is noted.
 fn put_in<W: World, F: Files<W>, J: Journal<W>>(
+    alloc: Global,
+    files: &mut F,
+    journal: &mut J,
+    is_closed: bool,
+    number: u64,
+    bytes: &[u8],
+) -> Result<(), FilesFault>
+    ensures ok { W.honest → OnOk result (changed (J.changes journal.new) (F.stored files.new)
+        ≡ put (changed (J.changes journal.old) (F.stored files.old)) number (Some bytes.now)) }
+    ensures err { W.honest → OnErr result (changed (J.changes journal.new) (F.stored files.new)
+        ≡ changed (J.changes journal.old) (F.stored files.old)) }
+{
+    if is_closed || bytes.len() > LONGEST_RECORD {
+        return put_past::<W, _, _>(alloc, files, journal, number, bytes);
+    }
+    match journal.store(alloc, number, bytes) {
+        // As on a full disk, on which there may be room once the journal is gone, and what it says was removed.
+        Err(FilesFault::Device) => put_poured::<W, _, _>(alloc, files, journal, number, bytes),
+        answer => answer,
+    }
+}
+
+// Stores the file past the journal, once that is empty.
+fn put_poured<W: World, F: Files<W>, J: Journal<W>>(
     alloc: Global,
     files: &mut F,
     journal: &mut J,
@@ -98,10 +121,8 @@ fn put_in<W: World, F: Files<W>, J: Journal<W>>(
     ensures err { W.honest → OnErr result (changed (J.changes journal.new) (F.stored files.new)
         ≡ changed (J.changes journal.old) (F.stored files.old)) }
 {
-    if number == STATE_NUMBER || bytes.len() > LONGEST_RECORD {
-        return put_past::<W, _, _>(alloc, files, journal, number, bytes);
-    }
-    journal.store(alloc, number, bytes)
+    pour::<W, _, _>(alloc, files, journal)?;
+    put_past::<W, _, _>(alloc, files, journal, number, bytes)
 }
 
 // Stores the file past the journal, which says nothing of it any more.
@@ -124,6 +145,7 @@ fn put_past<W: World, F: Files<W>, J: Journal<W>>(
 pub(crate) fn remove<W: World, F: Files<W>, J: Journal<W>>(
     files: &mut F,
     journal: &mut J,
+    is_closed: bool,
     number: u64,
 ) -> Result<(), FilesFault>
     ensures ok { W.honest → OnOk result (changed (J.changes journal.new) (F.stored files.new)
@@ -132,7 +154,7 @@ pub(crate) fn remove<W: World, F: Files<W>, J: Journal<W>>(
         ≡ changed (J.changes journal.old) (F.stored files.old)) }
     ensures fault { IfErr result (λ f. f ≡ fault.Device) }
 {
-    if number == STATE_NUMBER {
+    if is_closed || number == STATE_NUMBER {
         return remove_past::<W, _, _>(files, journal, number);
     }
     match journal.remove(number)? {
