@@ -4,7 +4,8 @@ use std::io::{self, ErrorKind, PipeReader, PipeWriter, Read, Seek, SeekFrom, Wri
 use std::os::fd::BorrowedFd;
 use std::os::unix::net::SocketAddr;
 use std::path::PathBuf;
-use std::rt::Files;
+use std::rt::{Clock, Files};
+use std::time::Duration;
 
 /// Which calls of a file system fail.
 #[derive(Clone, Copy, PartialEq, Eq)]
@@ -61,6 +62,16 @@ impl<'a, R: Alloc> Alloc for FaultySystem<'a, R> {
 
     fn alloc(&self) -> R::A {
         self.files.alloc()
+    }
+}
+
+impl<'a, R: Clock> Clock for FaultySystem<'a, R> {
+    fn monotonic(&self) -> io::Result<Duration> {
+        self.files.monotonic()
+    }
+
+    fn since_1970(&self) -> io::Result<Duration> {
+        self.files.since_1970()
     }
 }
 
