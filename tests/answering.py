@@ -1,46 +1,17 @@
-"""A mount of a commit without FUSE, which answers what other runs of `mount-git` ask of the one that shows a folder."""
+"""Runs of `mount-git` that ask a mount of a commit, which stands in for one by FUSE."""
 
-import contextlib
 import pathlib
 import subprocess
 import sys
-from typing import Self
 
-from checks import check
 from helpers.git import environment
-from programs import MOUNT_GIT, MOUNTD
-from yakembi import control
-from yakembi.git import Repository
-from yakembi.mount_git import Asked, tree_to_show
-from yakembi.overlay import OverlayFolder
-from yakembi.pool import Pool, Serving
+from helpers.stand_in import StandIn
+from programs import MOUNT_GIT
+
+__all__ = ["StandIn", "mount_git"]
 
 AUTHOR = {"GIT_AUTHOR_NAME": "A", "GIT_AUTHOR_EMAIL": "a@example.org", "GIT_AUTHOR_DATE": "1700000000 +0100",
           "GIT_COMMITTER_NAME": "C", "GIT_COMMITTER_EMAIL": "c@example.org", "GIT_COMMITTER_DATE": "1700000001 +0000"}
-
-
-class Mounted:
-    """A mount of a repository's HEAD, of which `mount-git commit` may ask what it asks of one."""
-
-    def __init__(self, repository: pathlib.Path, folder: pathlib.Path, revision: str = "HEAD") -> None:
-        found = Repository(str(repository))
-        source = ["--git", found.common_folder]
-        self.folder = folder / "shown"
-        self.folder.mkdir(exist_ok=True)
-        self.overlay = OverlayFolder(folder / "overlay")
-        tree = tree_to_show(found, revision, self.overlay).tree
-        self.pool = Pool(Serving(MOUNTD, tree, source, self.overlay.path))
-        self.asked = Asked(self.pool, MOUNTD, source, found, revision, self.overlay)
-
-    def __enter__(self) -> Self:
-        self.stack = contextlib.ExitStack()
-        self.stack.enter_context(control.serving(str(self.folder), self.asked.answers()))
-        return self
-
-    def __exit__(self, *_: object) -> None:
-        self.stack.close()
-        check("the mount is closed", self.pool.close(), None)
-        self.overlay.close()
 
 
 def mount_git(command: str, folder: pathlib.Path, *words: str) -> tuple[int, str, str]:

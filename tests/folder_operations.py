@@ -1,8 +1,8 @@
 """Random operations on files and folders, each made in two places, and the whole tree that a place shows.
 
-A place is a folder that is used by calls of the system (`Folder`), or a class with the methods that FUSE calls
-(`FileSystem`). Both have the same operations: a path is a tuple of names, and the outcome of an operation is what it
-gives, or the name of an error number.
+A place is a folder that is used by calls of the system (`Folder`), or by messages of the kernel without one
+(`message_folder.MessageFolder`). Both have the same operations: a path is a tuple of names, and the outcome of an
+operation is what it gives, or the name of an error number.
 """
 
 import contextlib
@@ -12,13 +12,12 @@ import pathlib
 import random
 import resource
 import stat
-from collections.abc import Callable, Iterator, Sequence
-from typing import Any
+from collections.abc import Iterator
+from typing import Any, Protocol
 
 from checks import check
 from random_requests import RandomRequests
 from yakembi.tree_model import LONGEST_DATA, LONGEST_FILE, Nodes, Path, Values, WholeTree
-from yakembi.operations import MountOperations
 
 LONGEST_NAME = 255
 LONGEST_PATH = 4_095
@@ -27,11 +26,18 @@ LOOK = os.O_PATH | os.O_DIRECTORY | os.O_NOFOLLOW
 MODES = {False: 0o644, True: 0o755}
 # The kind, the mode, the size and the owner of a node.
 Attributes = tuple[str, int, int | None, tuple[int, int]]
-# Whether a difference is one that is passed over: by the tree before, the operation and the two outcomes.
-LeftOpen = Callable[[WholeTree, str, Values, Any, Any], bool]
 
 
-def outcome(place: "AnyPlace", word: str, *fields: Any) -> Any:
+class Place(Protocol):
+    """What shows all of a place; it has the other operations too."""
+
+    def getattr(self, path: Path) -> Attributes: ...
+    def readdir(self, path: Path) -> list[bytes]: ...
+    def read(self, path: Path, offset: int, length: int) -> bytes: ...
+    def readlink(self, path: Path) -> bytes: ...
+
+
+def outcome(place: Place, word: str, *fields: Any) -> Any:
     try:
         return getattr(place, word)(*fields)
     except OSError as refusal:
@@ -134,75 +140,7 @@ def last(path: Path) -> bytes:
     return path[-1] if path else b"."
 
 
-class FileSystem:
-    """The same by the methods that FUSE calls, on paths as it spells them."""
-
-    def __init__(self, methods: MountOperations) -> None:
-        self.methods = methods
-
-    @contextlib.contextmanager
-    def opened(self, path: str, flags: int) -> Iterator[int]:
-        file = self.methods.open(path, flags)
-        try:
-            yield file
-        finally:
-            self.methods.flush(path, file)
-            self.methods.release(path, file)
-
-    def getattr(self, path: Path) -> Attributes:
-        found = self.methods.getattr(spelled(path))
-        return attributes(found["st_mode"], found["st_size"], (found["st_uid"], found["st_gid"]))
-
-    def readdir(self, path: Path) -> list[bytes]:
-        rows = self.methods.readdir(spelled(path), None)
-        names = [row if isinstance(row, str) else row[0] for row in rows]
-        return sorted(name.encode("latin-1") for name in names if name not in (".", ".."))
-
-    def read(self, path: Path, offset: int, length: int) -> bytes:
-        with self.opened(spelled(path), os.O_RDONLY) as file:
-            return self.methods.read(spelled(path), length, offset, file)
-
-    def write(self, path: Path, offset: int, data: bytes) -> int:
-        with self.opened(spelled(path), os.O_WRONLY) as file:
-            return self.methods.write(spelled(path), data, offset, file)
-
-    def truncate(self, path: Path, size: int) -> None:
-        self.methods.truncate(spelled(path), size)
-
-    def create(self, path: Path) -> None:
-        file = self.methods.create(spelled(path), stat.S_IFREG | MODES[False])
-        self.methods.release(spelled(path), file)
-
-    def chmod(self, path: Path, executable: bool) -> None:
-        self.methods.chmod(spelled(path), MODES[executable])
-
-    def mkdir(self, path: Path) -> None:
-        self.methods.mkdir(spelled(path), MODES[True])
-
-    def symlink(self, path: Path, target: bytes) -> None:
-        self.methods.symlink(spelled(path), target.decode("latin-1"))
-
-    def readlink(self, path: Path) -> bytes:
-        return self.methods.readlink(spelled(path)).encode("latin-1")
-
-    def unlink(self, path: Path) -> None:
-        self.methods.unlink(spelled(path))
-
-    def rmdir(self, path: Path) -> None:
-        self.methods.rmdir(spelled(path))
-
-    def rename(self, source: Path, target: Path) -> None:
-        self.methods.rename(spelled(source), spelled(target))
-
-
-AnyPlace = Folder | FileSystem
-
-
-def spelled(path: Path) -> str:
-    return "/" + "/".join(name.decode("latin-1") for name in path)
-
-
-def shown(place: "AnyPlace", path: Path = ()) -> Nodes:
+def shown(place: Place, path: Path = ()) -> Nodes:
     """All that a place shows, as a dictionary from paths to nodes like those of `tree_model`."""
     kind, mode, size, _ = place.getattr(path)
     if kind == "file":
@@ -297,28 +235,18 @@ def note(tree: WholeTree, word: str, fields: Values) -> None:
         tree.write(path, offset + start, data[start : start + LONGEST_DATA])
 
 
-def compare(name: str, generator: random.Random, asked: AnyPlace, plain: AnyPlace,
-            left_open: Sequence[tuple[str, LeftOpen]] = ()) -> None:
-    """Makes random operations in both places, and compares each outcome, and at times all that the places show.
-
-    A difference in one of the rows of `left_open`, a reason and a test, is passed over; each row has to come up.
-    """
+def compare(name: str, generator: random.Random, asked: Place, plain: Place) -> None:
+    """Makes random operations in both places, and compares each outcome, and at times all that the places show."""
     tree = WholeTree(shown(plain))
     check(f"{name}: at first", shown(asked), tree.nodes)
     operations = Operations(generator, tree, NAMES, MOST_NODES)
-    met = set()
     with short_files():
         for number in range(OPERATIONS):
             (word, fields), (request, values) = operations.next()
             wanted, got = outcome(plain, word, *fields), outcome(asked, word, *fields)
-            reasons = [why for why, is_this in left_open if got != wanted and is_this(tree, word, fields, got, wanted)]
-            if not reasons:
-                check(f"{name}: operation {number}, {word} {fields!r:.200}", got, wanted)
-            met.update(reasons)
+            check(f"{name}: operation {number}, {word} {fields!r:.200}", got, wanted)
             if not isinstance(wanted, str):
                 note(tree, request, values)
             if number % WHOLE_EVERY == WHOLE_EVERY - 1:
                 check(f"{name}: after operation {number}", shown(asked), shown(plain))
     check(f"{name}: what the plain folder shows", shown(plain), tree.nodes)
-    for why, _ in left_open:
-        check(f"{name}: a difference that is listed comes up: {why}", why in met, True)

@@ -4,24 +4,25 @@ import contextlib
 import itertools
 import os
 import pathlib
+import re
 import shutil
 import signal
 import subprocess
-import sys
 import tempfile
 import threading
 import time
 from collections.abc import Callable
 from typing import Self
 
-from checks import PATIENCE, check, git, make_repository, skip
-from helpers.git import environment
+from checks import PATIENCE, check, git, make_repository, skip, whole_tree
+from helpers.git import DEEP, content_of, environment, make_large_repository
 from programs import MOUNT_GIT, MOUNTD
 from yakembi import kernel
 
 LONGEST_MOUNT = 280
-UNMOUNT = shutil.which("fusermount3") or shutil.which("fusermount") or ""
+UNMOUNT = shutil.which("fusermount3") or ""
 NUMBERS = itertools.count()
+FOLDERS, FILES_IN_A_FOLDER = 50, 100
 # The status and the lines of a program; the status, the output and the errors of a command.
 Said = tuple[int, list[str]]
 Told = tuple[int | str, bytes, bytes]
@@ -43,16 +44,6 @@ def missing() -> str | None:
     if not kernel.can_mount():
         return "fusermount3, of Debian's fuse3, isn't there"
     return mount_refused()
-
-
-def missing_package() -> str | None:
-    """What it lacks for the adapter beside that."""
-    if not UNMOUNT:
-        return "fusermount3, of Debian's fuse3, isn't there"
-    programs = filter(None, (sys.executable, shutil.which("python3", path="/usr/bin")))
-    if all(subprocess.run([program, "-c", "import fusepy"], capture_output=True).returncode for program in programs):
-        return "no Python here has Debian's python3-fusepy"
-    return None
 
 
 def mount_refused() -> str | None:
@@ -95,6 +86,52 @@ def checkout(repository: pathlib.Path, folder: pathlib.Path, revision: str = "HE
     return folder
 
 
+def make_many_files(folder: pathlib.Path) -> tuple[pathlib.Path, list[str]]:
+    """A repository of 5,000 files in 50 folders, and the paths of all that its commit has but the root."""
+    repository = folder / "many files"
+    paths = []
+    for number in range(FOLDERS):
+        (repository / f"d{number:02}").mkdir(parents=True)
+        paths.append(f"/d{number:02}")
+        for file in range(FILES_IN_A_FOLDER):
+            (repository / f"d{number:02}" / f"f{file:02}").write_text("one content\n")
+            paths.append(f"/d{number:02}/f{file:02}")
+    git(repository, "init", "-q")
+    git(repository, "add", "-A")
+    git(repository, "commit", "-qm", "many files")
+    return repository, paths
+
+
+def renamed(path: str) -> str:
+    """Where a path lies once /d00 was renamed to /e."""
+    return "/e" + path[4:] if path.startswith("/d00") else path
+
+
+def check_own(name: str, numbers: dict[str, int]) -> None:
+    """No two paths have one number, and none has the root's."""
+    check(f"{name}: numbers of their own", len({1, *numbers.values()}), len(numbers) + 1)
+
+
+class Large:
+    """The repository of 50,000 files, and the objects that one deep file (`deep`) and a folder (`beside`) may cost."""
+
+    path = tuple(DEEP.encode().split(b"/"))
+    content = content_of(DEEP).encode()
+    folder = b"d18"
+
+    def __init__(self, folder: pathlib.Path) -> None:
+        self.repository = make_large_repository(folder)
+        self.root = git(self.repository, "rev-parse", "HEAD^{tree}")
+        rows = whole_tree(self.repository)
+        self.deep = {self.root, *(rows[b"/".join(self.path[:count])][1] for count in range(1, len(self.path) + 1))}
+        self.beside = {row[1] for path, row in rows.items() if (path + b"/").startswith(self.folder + b"/")}
+
+
+def asked_for(log: pathlib.Path) -> list[str]:
+    """The ids that an object server was asked for, as often as it was."""
+    return sorted(re.findall("get ([0-9a-f]{40})", log.read_text()))
+
+
 # ---- mount-git
 
 
@@ -106,7 +143,7 @@ def heed_interrupts() -> None:
 class MountGit:
     """A run of `mount-git`, all of whose lines are kept in a file. It is killed where it takes too long."""
 
-    # The options that say in which way folders are shown.
+    # Options of each.
     way: tuple[str, ...] = ()
 
     @classmethod
@@ -122,11 +159,6 @@ class MountGit:
         with open(self.log, "wb") as log:
             self.process = subprocess.Popen(words, stdin=subprocess.DEVNULL, stdout=log, stderr=log,
                                             start_new_session=True, preexec_fn=heed_interrupts)
-
-    @classmethod
-    def is_by_kernel(cls) -> bool:
-        """Whether mountd itself answers the kernel."""
-        return "--kernel" in cls.way
 
     def wait_until_shown(self) -> None:
         end = time.monotonic() + PATIENCE

@@ -5,9 +5,9 @@ import mmap
 import os
 import pathlib
 import random
-import signal
 import subprocess
 import sys
+import threading
 import time
 import zlib
 from collections import Counter
@@ -17,9 +17,11 @@ from checks import PATIENCE, check, git, make_repository
 from clones import FILES, FOLDER, MOST_QUESTIONS, Clone, blobs_in, make_far_repository, trees_on_the_way
 from folder_operations import Folder, compare, outcome, shown
 from helpers.git import DEEP, environment
-from mount_class import Large, asked_for, check_own, make_many_files, refused, renamed
-from mount_folder import BUILDS, CHANGES, COPIES, ENDINGS, LOOKS, Both, MountGit, checkout, children, said_by
-from programs import MOUNT_GIT
+from mount_differences import tried
+from mount_folder import (BUILDS, CHANGES, COPIES, ENDINGS, LOOKS, Both, Large, MountGit, asked_for, check_own,
+                          checkout, children, make_many_files, renamed, said_by)
+from programs import MOUNT_GIT, MOUNTD
+from yakembi import client
 from yakembi.tree_model import Values
 
 
@@ -135,41 +137,6 @@ def wait_for(path: pathlib.Path) -> None:
         time.sleep(0.001)
 
 
-def check_kills(folder: pathlib.Path, repository: pathlib.Path) -> None:
-    """A mount that was killed goes on where it was, at the same folder, with all that was answered."""
-    overlay = folder / "overlay of the killed"
-    with MountGit(repository, "HEAD", folder / "killed", "--overlay", overlay) as mount:
-        (mount.folder / "kept").write_text("kept")
-        mount.kill()
-        check("killed with all below: the overlay isn't closed", (overlay / "0").exists(), False)
-        check("killed with all below: its folder", outcome(Folder(mount.folder), "readdir", ()), "ENOTCONN")
-        with MountGit(repository, "HEAD", mount.folder, "--overlay", overlay) as again:
-            check("killed with all below: what is there", (again.folder / "kept").read_text(), "kept")
-            (again.folder / "kept too").write_text("kept too")
-            again.process.kill()
-            again.process.wait(PATIENCE)
-            with MountGit(repository, "HEAD", mount.folder, "--overlay", overlay) as last:
-                kept = [(last.folder / name).read_text() for name in ("kept", "kept too")]
-                check("killed alone: what is there", kept, ["kept", "kept too"])
-                check("killed alone: the end", last.end("SIGTERM"), 0)
-        line = f"mount-git: {mount.folder} was left by a mount that was killed, and is unmounted"
-        check("killed: what is said", [mount.said(), again.said(), last.said()], [[], [line], [line]])
-
-
-def check_killed_mountd(folder: pathlib.Path, repository: pathlib.Path) -> None:
-    """A mountd that is killed below costs the requests that find it so, which are EIO, and a line each."""
-    with MountGit(repository, "HEAD", folder / "mounted", "--overlay", folder / "overlay of a killed mountd") as mount:
-        (mount.folder / "made").write_text("kept")
-        below = [process for process in children(mount.process.pid) if b"--sessions" in command_of(process)]
-        os.kill(below[0], signal.SIGKILL)
-        place = Folder(mount.folder)
-        check("mountd killed: EIO", outcome(place, "truncate", (b"made",), 3), "EIO")
-        check("mountd killed: one line", len(mount.said()), 1)
-        check("mountd killed: it is there again", outcome(place, "truncate", (b"made",), 2), None)
-        check("mountd killed: with all that was answered", outcome(place, "read", (b"made",), 0, 10), b"ke")
-        check("mountd killed: the end", mount.end("SIGTERM"), 0)
-
-
 def command_of(process: int) -> list[bytes]:
     return pathlib.Path(f"/proc/{process}/cmdline").read_bytes().split(b"\0")
 
@@ -184,13 +151,15 @@ def check_second_mount(folder: pathlib.Path, repository: pathlib.Path) -> None:
         (mount.folder / "made").write_text("made")
         check("a second mount: the first goes on", (mount.folder / "made").read_text(), "made")
         check("a second mount: the end of the first", mount.end("SIGTERM"), 0)
-
-
-def check_missing_package(folder: pathlib.Path) -> None:
-    """A Python without fusepy, and no other to go to: one line names the packages."""
-    words = ["env", "MOUNT_GIT_HANDED_ON=1", sys.executable, "-S", MOUNT_GIT, folder, "HEAD", folder / "mounted"]
-    line = "mount-git: python3-fusepy is missing: apt install python3-fusepy fuse3"
-    check("a missing package", said_by(*words), (1, [line]))
+    words = [MOUNTD, "stdio", "--root", git(repository, "rev-parse", "HEAD^{tree}"), "--git", repository / ".git"]
+    session = client.start([str(word) for word in [*words, "--overlay", overlay]])
+    check("another program's overlay: what is there", session.read(b"/made", 0, 9), b"made")
+    began = time.monotonic()
+    threading.Timer(1, session.close).start()
+    with MountGit(repository, "HEAD", folder / "mounted", "--overlay", overlay) as mount:
+        check("another program's overlay: waited for", time.monotonic() - began >= 1, True)
+        check("another program's overlay: what is shown", (mount.folder / "made").read_text(), "made")
+        check("another program's overlay: the end", (mount.end("SIGTERM"), mount.said()), (0, []))
 
 
 def check_refusals(folder: pathlib.Path, repository: pathlib.Path) -> None:
@@ -200,6 +169,11 @@ def check_refusals(folder: pathlib.Path, repository: pathlib.Path) -> None:
     (full / "file").write_text("")
     empty = folder / "empty"
     empty.mkdir()
+    killed = folder / "killed"
+    killed.write_text("#!/bin/sh\nkill -9 $$\n")
+    killed.chmod(0o755)
+    (folder / "damaged").mkdir()
+    (folder / "damaged/1").write_bytes(b"no directory")
     for name, words in [
         ("a folder that isn't empty", (repository, "HEAD", full)),
         ("a file as the folder", (repository, "HEAD", full / "file")),
@@ -211,9 +185,16 @@ def check_refusals(folder: pathlib.Path, repository: pathlib.Path) -> None:
         ("an overlay that is the folder", (repository, "HEAD", empty, "--overlay", empty)),
         ("no mountd", (repository, "HEAD", empty, "--mountd", folder / "nothing")),
         ("a mountd that says nothing", (repository, "HEAD", empty, "--mountd", "/bin/false")),
+        ("a mountd that is killed at once", (repository, "HEAD", empty, "--mountd", killed)),
+        ("an overlay of no known tree", (repository, "HEAD", empty, "--overlay", folder / "damaged")),
     ]:
         status, lines = said_by(*MountGit.words(*words))
         check(f"refused: {name}", (status, len(lines), lines[0].startswith("mount-git: ")), (1, 1, True))
+        check(f"refused: {name}: nothing is mounted", os.path.ismount(empty), False)
+    (folder / "damaged/mount-git").write_text(git(repository, "rev-parse", "HEAD^{tree}") + " 17\n")
+    told = said_by(*MountGit.words(repository, "HEAD", empty, "--overlay", folder / "damaged"))
+    line = f"mount-git: the overlay {folder / 'damaged'} can't be opened: Damaged, a file of it is damaged"
+    check("refused: a damaged overlay", (told, os.path.ismount(empty)), ((1, [line]), False))
     check("refused: the folder is as it was", list(empty.iterdir()), [])
 
 
@@ -246,9 +227,9 @@ def check_signed_commit(folder: pathlib.Path) -> None:
     git(repository, "config", "log.showSignature", "true")
     told = git(repository, "show", "-s", "--format=%ct", commit)
     check("signed: Git tells of the signature", told != "1000000000", True)
-    with MountGit(repository, commit, folder / "mounted") as mount:
-        if not mount.is_by_kernel():
-            check("signed: the commit's time", (mount.folder / "plain.txt").stat().st_mtime, 1_000_000_000)
+    with MountGit(repository, commit, folder / "mounted", "--overlay", folder / "overlay") as mount:
+        noted = (folder / "overlay/mount-git").read_text()
+        check("signed: what is noted of it", noted, f"{tree} 1000000000 {commit}\n")
         check("signed: the end, with nothing said", (mount.end("SIGTERM"), mount.said()), (0, []))
 
 
@@ -267,22 +248,21 @@ def check_empty_tree(folder: pathlib.Path) -> None:
 
 
 def check_damaged_repository(folder: pathlib.Path) -> None:
-    """A file whose object is lost, or damaged, is EIO and a line that names it; all else goes on."""
+    """A file whose object is lost, or damaged, is EIO, and a line names a lost one if lines were asked for; all else
+    goes on."""
     repository = make_repository(folder)
-    with MountGit(repository, "HEAD", folder / "mounted") as mount:
-        for name, content, cause in [("plain.txt", None, "Missing"), ("run.sh", b"blob 6\0other\n", "BadDigest")]:
+    with MountGit(repository, "HEAD", folder / "mounted", "--log") as mount:
+        for name, content, lines in [("plain.txt", None, 1), ("run.sh", b"blob 6\0other\n", 0)]:
             object_id = git(repository, "rev-parse", f"HEAD:{name}")
             place = repository / ".git/objects" / object_id[:2] / object_id[2:]
             place.unlink()
             if content is not None:
                 place.write_bytes(zlib.compress(content))
-            before = len(mount.said())
             check(f"damaged: {name} is EIO", outcome(Folder(mount.folder), "getattr", (name.encode(),)), "EIO")
-            told = [object_id in line and cause in line for line in mount.said()[before:]]
-            # mountd itself tells nothing of an object that it doesn't find.
-            check(f"damaged: a line for {name}", told, [] if mount.is_by_kernel() else [True])
+            told = mount.lines().count(f"git-objects: missing {object_id}")
+            check(f"damaged: a line for {name}", told, lines)
         check("damaged: the rest goes on", (mount.folder / "dir/a").read_text(), "1")
-        check("damaged: the end", mount.end("SIGTERM"), 0)
+        check("damaged: the end, with nothing said", (mount.end("SIGTERM"), mount.said()), (0, []))
 
 
 def check_laziness(folder: pathlib.Path, large: Large) -> None:
@@ -361,8 +341,8 @@ def check_failing_remote(folder: pathlib.Path) -> None:
         clone.behave("dead")
         for name in [b"near/by/there/0", b"long"]:
             check(f"failing: {name!r} is EIO", outcome(place, "read", tuple(name.split(b"/")), 0, 1), "EIO")
-        check("failing: a line for each", [line for line in mount.said() if "Device" not in line], [])
-        check("failing: a line for each is there", len(mount.said()) >= 2, not mount.is_by_kernel())
+        told = [line for line in mount.lines() if line.startswith("git-objects: origin gave none of ")]
+        check("failing: a line for each, at least", (len(told) >= 2, mount.said()), (True, []))
         check("failing: the rest goes on", (mount.folder / "README").read_text(), "README\n" * 20)
         (mount.folder / "made").write_text("made")
         clone.behave("good")
@@ -384,6 +364,7 @@ def check_failing_remote(folder: pathlib.Path) -> None:
 
 def check_open_files(folder: pathlib.Path, repository: pathlib.Path) -> None:
     """What programs do with open files and attributes is as docs/MOUNT-GIT.md says."""
+    began = time.time()
     with MountGit(repository, "HEAD", folder / "mounted") as mount:
         top = mount.folder
         (top / "gone").write_text("abc")
@@ -405,15 +386,13 @@ def check_open_files(folder: pathlib.Path, repository: pathlib.Path) -> None:
         writers = [subprocess.Popen(["sh", "-c", command], cwd=top) for _ in range(4)]
         check("open: four append", [writer.wait(PATIENCE) for writer in writers], [0] * 4)
         check("open: each line is there", (top / "log").read_text(), "line\n" * 20)
-        check_attributes(top, repository)
+        check_attributes(top, began)
         check("open: the end, with nothing said", (mount.end("SIGTERM"), mount.said()), (0, []))
 
 
-def check_attributes(top: pathlib.Path, repository: pathlib.Path) -> None:
+def check_attributes(top: pathlib.Path, began: float) -> None:
     place = Folder(top)
-    committed = int(git(repository, "log", "-1", "--format=%ct"))
-    if not MountGit.is_by_kernel():
-        check("attributes: a file's time is the commit's", (top / "run.sh").stat().st_mtime, committed)
+    check("attributes: a file's time is the mount's", began <= (top / "run.sh").stat().st_mtime <= time.time(), True)
     before = (top / "log").stat().st_mtime_ns
     (top / "log").write_text("again")
     check("attributes: a change's time rises", before < (top / "log").stat().st_mtime_ns, True)
@@ -435,6 +414,6 @@ def check_attributes(top: pathlib.Path, repository: pathlib.Path) -> None:
         ("another owner", os.chown, (top / "log", 12_345, -1)),
     ]
     for name, call, values in calls:
-        check(f"attributes: {name} is EPERM", refused(call, *values), "EPERM")
+        check(f"attributes: {name} is EPERM", tried(call, *values), "EPERM")
     with open(top / "log", "rb") as file:
-        check("attributes: fsync", refused(os.fsync, file.fileno()), None)
+        check("attributes: fsync", tried(os.fsync, file.fileno()), None)

@@ -368,14 +368,17 @@ def check_commits(folder: pathlib.Path, repository: pathlib.Path) -> None:
     check("commit: nothing is mounted", mount.is_mounted(), False)
 
 
-def check_status(folder: pathlib.Path, repository: pathlib.Path) -> None:
-    """`mount-git status` says what is so: Git stands in the folder, is refused the mount's word, and looks itself."""
+def check_status_in_use(folder: pathlib.Path, repository: pathlib.Path) -> None:
+    """`mount-git status` of a folder in use says what is so: Git is refused the mount's word, and looks itself."""
     with MountGit(repository, "HEAD", folder / "mounted", "--overlay", folder / "overlay") as mount:
         (mount.folder / "made").write_text("made")
         (mount.folder / "run.sh").unlink()
         (mount.folder / "plain.txt").write_text("changed")
         words: list[str | pathlib.Path] = [MOUNT_GIT, "status", mount.folder, "--porcelain"]
-        done = subprocess.run(words, capture_output=True, timeout=PATIENCE)
-        check("status", (done.returncode, done.stdout), (0, b" M plain.txt\n D run.sh\n?? made\n"))
-        check("status: the refusal is told", f"{mount.folder} is in use".encode() in done.stderr, True)
+        wanted = b" M plain.txt\n D run.sh\n?? made\n"
+        for name, at in [("in use", mount.folder), ("out of use", folder)]:
+            done = subprocess.run(words, capture_output=True, timeout=PATIENCE, cwd=at)
+            check(f"status {name}", (done.returncode, done.stdout), (0, wanted))
+            told = f"{mount.folder} is in use".encode() in done.stderr
+            check(f"status {name}: a refusal is told", (told, done.stderr == b""), (at != folder, at == folder))
         check("status: the end, with nothing said", (mount.end("SIGTERM"), mount.said()), (0, []))

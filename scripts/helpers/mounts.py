@@ -7,6 +7,7 @@ from collections.abc import Iterator
 
 from helpers.programs import MOUNT_GIT, MOUNTD
 from helpers.running import Process
+from yakembi import kernel
 
 PATIENCE = 60
 
@@ -38,5 +39,5 @@ def end(mount: Process, place: pathlib.Path) -> None:
         mount.communicate(timeout=PATIENCE)
     except subprocess.TimeoutExpired:
         mount.kill()
-        subprocess.run(["fusermount", "-u", "-z", str(place)])
+        kernel.unmount(str(place))
         raise

@@ -43,7 +43,12 @@ def pipes(process: Process) -> tuple[IO[bytes], IO[bytes]]:
 
 def most_memory(process: Process) -> int:
     """The most memory that a process has had, in bytes."""
-    found = re.search(r"^VmHWM:\s+(\d+) kB$", pathlib.Path(f"/proc/{process.pid}/status").read_text(), re.M)
+    return most_memory_of(process.pid)
+
+
+def most_memory_of(process: int) -> int:
+    """.. by its number."""
+    found = re.search(r"^VmHWM:\s+(\d+) kB$", pathlib.Path(f"/proc/{process}/status").read_text(), re.M)
     return int(found[1]) * 1024 if found else 0
 
 

@@ -1,7 +1,8 @@
 """Commits what a folder shows that another run of `mount-git` has mounted.
 
-That run ends `mountd` for a moment, which closes the overlay, has `mountd snapshot` make Git's objects of what is the
-mount's own, and starts `mountd` again. Programs that use the folder wait meanwhile. The objects go into the repository
+That run unmounts the folder for a moment, so that `mountd` closes the overlay, has `mountd snapshot` make Git's objects
+of what is the mount's own, and starts `mountd` again: nobody may stand in the folder, or have a file of it open, and
+programs that come meanwhile wait. The objects go into the repository
 by Git's own commands, and the branch is moved only where it still is at the commit that the folder stands on.
 """
 
@@ -13,9 +14,8 @@ import re
 import subprocess
 import tempfile
 
-from yakembi.control import Connection, Fields
+from yakembi.control import Connection, Fields, tell
 from yakembi.git import Refusal, Repository, environment, last_line
-from yakembi.operations import tell
 from yakembi.packs import objects_in, write_pack
 
 # Up to so many objects become a file each, as `git receive-pack` does it by itself; more become one pack.

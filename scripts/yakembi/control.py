@@ -12,6 +12,7 @@ import os
 import pathlib
 import socket
 import stat
+import sys
 import tempfile
 import threading
 from collections.abc import Callable, Iterator
@@ -26,6 +27,12 @@ Answers = dict[str, Callable[[Fields, pathlib.Path], Fields]]
 LONGEST_LINE = 1 << 20
 # A commit of many changed files takes its time.
 SECONDS_TO_ANSWER = 3_600
+
+
+def tell(line: str) -> None:
+    """Tells a line of `mount-git`'s on standard error, in one piece, since threads tell side by side."""
+    sys.stderr.write(f"mount-git: {line}\n")
+    sys.stderr.flush()
 
 
 def places() -> list[str]:

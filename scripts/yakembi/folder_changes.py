@@ -2,8 +2,8 @@
 
 A line a path: A, D, M or T as `git diff --name-status` has them, and the path from the top of the folder, quoted as Git
 quotes it. A directory ends in a slash. One that was moved, added or removed as a whole has one line: what is below is
-as it was, or isn't there, and nothing of it is fetched. That other run ends `mountd` for a moment, as `mount-git
-commit` does.
+as it was, or isn't there, and nothing of it is fetched. That other run unmounts the folder for a moment, as `mount-git
+commit` has it do.
 """
 
 import argparse

@@ -77,6 +77,8 @@ class ClientConnection(ConnectionHandler):
             self.wfile.write(b"fault\n")
             return
         if answer is None:
+            if self.server.log:
+                tell(f"missing {object_id}")
             self.wfile.write(b"missing\n")
             return
         self.send(*answer)

@@ -20,14 +20,24 @@ from collections.abc import Callable, Iterator, Sequence
 from typing import TypeVar
 
 from yakembi.git import Refusal
-from yakembi.pool import CACHE_ENTRIES, WITH_A_LINE, Unclosed, Unopened
 
+CACHE_ENTRIES = 65_536
+# The statuses of mountd that come with a line on standard error.
+WITH_A_LINE = (2, 3, 4)
 MS_NOSUID, MS_NODEV, MNT_FORCE, MNT_DETACH = 2, 4, 1, 2
 # A read has at most what the mount takes in one, and the kernel looks at permissions.
 OPTIONS = ["default_permissions", "max_read=65536"]
 ENDED = (signal.SIGTERM, signal.SIGINT, signal.SIGHUP)
 LIBC = ctypes.CDLL(None, use_errno=True)
 Result = TypeVar("Result")
+
+
+class Unopened(Exception):
+    """mountd's own word for why it didn't open the overlay, as `Locked`, or the line that it ended with."""
+
+
+class Unclosed(Exception):
+    """mountd's own word for why it didn't close the overlay well, or the line that it ended with."""
 
 
 def mount(folder: str) -> int:
@@ -199,8 +209,8 @@ class Showing:
             # Answered after the closes before it, of which the last one of a removed file takes that away.
             os.statvfs(self.folder)
         if self.is_ended or not unmount_unused(self.folder):
-            raise Refusal(f"{self.folder} is in use: what mountd itself shows is unmounted for a moment for this, so "
-                          "leave the folder and close its files; or mount it without --kernel")
+            raise Refusal(f"{self.folder} is in use: it is unmounted for a moment for this, so leave the folder and "
+                          "close its files")
         descriptor = mount(self.folder)
         assert self.shown is not None
         status = self.shown.child.wait()

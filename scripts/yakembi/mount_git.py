@@ -4,35 +4,30 @@ What is read is fetched when it is first read. What is changed is kept in the ov
 mount goes on; without one, changes are gone with the mount. Ctrl-C, SIGTERM and `fusermount3 -u FOLDER` end it. What a
 killed mount left on the folder is unmounted first.
 
-It needs Debian's packages python3-fusepy and fuse3, and mountd, which `make run` builds.
+It needs Debian's package fuse3, and mountd, which `make run` builds.
 """
 
 import argparse
 import contextlib
 import errno
-import importlib
 import os
 import pathlib
-import shutil
 import signal
 import subprocess
 import sys
 import tempfile
 import time
 from collections.abc import Callable, Iterator, Sequence
-from typing import BinaryIO
+from typing import BinaryIO, Protocol
 
 from yakembi import commit_folder, control, folder_changes, folder_status, kernel
 from yakembi.addresses import socket_path
-from yakembi.client import SessionEnded
-from yakembi.control import Answers, Fields
-from yakembi.git import Refusal, Repository, last_line, said
+from yakembi.control import Answers, Fields, tell
+from yakembi.git import Refusal, Repository, said
 from yakembi.git_objects import number_of_bytes
-from yakembi.operations import Mount, MountOperations, tell
+from yakembi.kernel import Result, Unclosed, Unopened
 from yakembi.overlay import InUse, Noted, OverlayFolder
 from yakembi.partial_clone import AHEAD
-from yakembi.pool import CACHE_ENTRIES, Pool, Serving, Unclosed, Unopened
-from yakembi.times import Times
 
 # The folder of the commands, which has the package.
 SCRIPTS = pathlib.Path(__file__).resolve().parent.parent
@@ -40,11 +35,7 @@ IS_INSTALLED = SCRIPTS.parent.name == "lib"
 # As `make install` puts it, or as `make run` builds it.
 BESIDE = SCRIPTS.parents[1] / "bin/mountd" if IS_INSTALLED else SCRIPTS.parent / "crates/mountd/out/mountd"
 MOUNTD = os.environ.get("MOUNTD", BESIDE)
-PACKAGES = "apt install python3-fusepy fuse3"
-DEBIAN_PYTHON = "/usr/bin/python3"
-# In the environment of a run that was handed to Debian's Python already.
-HANDED_ON = "MOUNT_GIT_HANDED_ON"
-# A mountd whose adapter was killed ends by itself, and has the overlay for so long.
+# A mountd whose folder was just unmounted still closes the overlay, and has it for so long.
 SECONDS_LOCKED = 10
 # How long git-objects may take to end.
 SECONDS_TO_END = 10
@@ -56,35 +47,14 @@ UNOPENED = {
     "Device": "it can't be read or written",
     "Memory": "there is no memory to open it",
 }
-# Nobody but us changes what the kernel keeps, so it may keep it; and a request has at most what the mount takes in one.
-FUSE_OPTIONS = {
-    "foreground": True, "fsname": "mount-git", "default_permissions": True, "kernel_cache": True, "big_writes": True,
-    "max_write": 65_536, "max_read": 65_536, "attr_timeout": 60, "entry_timeout": 60, "negative_timeout": 60,
-    "use_ino": True,
-}
 
 
 # ---- what has to be there
 
 
-def fuse_class() -> Callable[..., object]:
-    """fusepy's class, whose module Debian calls `fusepy` and others `fuse`."""
-    for name in ("fusepy", "fuse"):
-        try:
-            found: Callable[..., object] = importlib.import_module(name).FUSE
-            return found
-        except (ImportError, AttributeError):
-            continue
-        except OSError:
-            raise Refusal(f"libfuse2 is missing: {PACKAGES}") from None
-    if HANDED_ON not in os.environ and os.access(DEBIAN_PYTHON, os.X_OK):
-        os.execve(DEBIAN_PYTHON, [DEBIAN_PYTHON, *sys.argv], {**os.environ, HANDED_ON: "1"})
-    raise Refusal(f"python3-fusepy is missing: {PACKAGES}")
-
-
 def check_fuse() -> None:
-    if os.geteuid() != 0 and shutil.which("fusermount") is None:
-        raise Refusal(f"fuse3 is missing: {PACKAGES}")
+    if not kernel.can_mount():
+        raise Refusal("fuse3 is missing: apt install fuse3")
     if not os.path.exists("/dev/fuse"):
         raise Refusal("this system has no /dev/fuse")
 
@@ -98,13 +68,13 @@ def mount_point(path: str) -> str:
     except OSError as problem:
         if problem.errno != errno.ENOTCONN:
             raise
-        unmount = ["umount", "-l"] if os.geteuid() == 0 else ["fusermount", "-u", "-z"]
-        done = subprocess.run([*unmount, path], capture_output=True)
+        kernel.unmount(path)
         left = f"{path} was left by a mount that was killed, and"
-        if done.returncode != 0:
-            raise Refusal(f"{left} can't be unmounted{last_line(done)}") from None
+        try:
+            names = os.listdir(path)
+        except OSError:
+            raise Refusal(f"{left} can't be unmounted") from None
         tell(f"{left} is unmounted")
-        names = os.listdir(path)
     if os.path.ismount(path):
         raise Refusal(f"something is mounted on {path}")
     if names:
@@ -205,26 +175,16 @@ def is_text(path: str) -> bool:
     return True
 
 
-def pool_over(program: Serving, overlay: str) -> Pool:
-    """The sessions; waits a little for a mountd that still has the overlay."""
-    end = time.monotonic() + SECONDS_LOCKED
-    while True:
-        try:
-            return Pool(program)
-        except Unopened as refusal:
-            word = str(refusal)
-        except OSError as problem:
-            raise Refusal(f"{program.mountd} can't be run ({problem.strerror}): `make run` builds it") from None
-        if word != "Locked" or time.monotonic() > end:
-            break
-        time.sleep(0.1)
-    raise unopened(word, overlay)
+class Closable(Protocol):
+    """A mount whose overlay is closed for a moment."""
+
+    def while_closed(self, work: Callable[[], Result]) -> Result: ...
 
 
 class Asked:
     """What other runs of `mount-git` ask of this one."""
 
-    def __init__(self, below: Pool | kernel.Showing, mountd: str | os.PathLike[str], source: Sequence[str],
+    def __init__(self, below: Closable, mountd: str | os.PathLike[str], source: Sequence[str],
                  repository: Repository, revision: str, overlay: OverlayFolder) -> None:
         self.below = below
         self.mountd = os.fspath(mountd)
@@ -271,7 +231,7 @@ class Asked:
                                                                  stderr=subprocess.PIPE))
         except Unclosed as problem:
             raise Refusal(f"the overlay {self.overlay.path} wasn't closed well: {problem}") from None
-        except (Unopened, SessionEnded, OSError) as problem:
+        except (Unopened, OSError) as problem:
             raise Refusal(f"mountd wasn't opened again: {problem}") from None
         if done.returncode != 0:
             raise Refusal(f"mountd ended with status {done.returncode}{said(done.stderr)}")
@@ -294,38 +254,8 @@ def reachable(folder: str, answers: Answers) -> Iterator[None]:
         yield
 
 
-class Announced(MountOperations):
-    """The operations of a mount that says when it is there."""
-
-    folder: str | None = None
-
-    def init(self, path: str) -> None:
-        print(f"mounted {self.folder}", flush=True)
-
-
-def show(fuse: Callable[..., object], operations: Announced, folder: str) -> None:
-    """Serves the mount until it is unmounted, or until a signal, which libfuse takes where Python doesn't."""
-    operations.folder = folder
-    os.makedirs(folder, exist_ok=True)
-    signal.signal(signal.SIGTERM, signal.SIG_DFL)
-    try:
-        fuse(operations, os.fsencode(folder).decode("latin-1"), encoding="latin-1", **FUSE_OPTIONS)
-    except RuntimeError:
-        raise Refusal(f"{folder} couldn't be mounted") from None
-    finally:
-        for number in (signal.SIGINT, signal.SIGTERM, signal.SIGHUP):
-            signal.signal(number, signal.SIG_IGN)
-
-
-def check_kernel() -> None:
-    if not kernel.can_mount():
-        raise Refusal("fuse3 is missing: apt install fuse3")
-    if not os.path.exists("/dev/fuse"):
-        raise Refusal("this system has no /dev/fuse")
-
-
-def show_by_kernel(words: argparse.Namespace, repository: Repository, noted: Noted, source: list[str],
-                   overlay: OverlayFolder, folder: str) -> str | None:
+def show(words: argparse.Namespace, repository: Repository, noted: Noted, source: list[str], overlay: OverlayFolder,
+         folder: str) -> str | None:
     """Shows the folder by `mountd fuse`; what that said where it didn't end well."""
     os.makedirs(folder, exist_ok=True)
     showing = kernel.Showing(words.mountd, noted.tree, source, overlay.path, folder, SECONDS_LOCKED)
@@ -348,38 +278,15 @@ def unopened(word: str, overlay: str) -> Refusal:
     return Refusal(f"mountd didn't start: {word}")
 
 
-def show_by_pool(fuse: Callable[..., object], words: argparse.Namespace, repository: Repository, noted: Noted,
-                 source: list[str], overlay: OverlayFolder, folder: str) -> str | None:
-    """Shows the folder by fusepy and the sessions of a `mountd serve`; what that said where it didn't end well."""
-    program = Serving(words.mountd, noted.tree, source, overlay.path, more=["--cache-entries", CACHE_ENTRIES])
-    pool = pool_over(program, overlay.path)
-    answers = Asked(pool, words.mountd, source, repository, words.revision, overlay).answers()
-    problem = None
-    try:
-        times = Times(noted.seconds * 10**9, overlay.changed())
-        with reachable(folder, answers):
-            show(fuse, Announced(Mount(pool), times, overlay.path), folder)
-    finally:
-        problem = pool.close()
-    return problem
-
-
 def run(words: argparse.Namespace) -> None:
-    fuse = None if words.kernel else fuse_class()
-    if words.kernel:
-        check_kernel()
-    else:
-        check_fuse()
+    check_fuse()
     repository = Repository(words.repository)
     folder = mount_point(words.folder)
     check_apart(words.overlay, folder)
     with overlay_at(words.overlay) as overlay:
         noted = tree_to_show(repository, words.revision, overlay)
         with source_of(repository, words, noted.tree) as source:
-            if fuse is None:
-                problem = show_by_kernel(words, repository, noted, source, overlay, folder)
-            else:
-                problem = show_by_pool(fuse, words, repository, noted, source, overlay, folder)
+            problem = show(words, repository, noted, source, overlay, folder)
     if problem:
         raise Refusal(f"the overlay {overlay.path} wasn't closed well: {problem}")
 
@@ -397,7 +304,7 @@ def parser() -> argparse.ArgumentParser:
                        help="of a partial clone, fetch at most so many bytes before a program asks for them: "
                        f"subfolders, and other files of a folder whose files are read; 0: none; {AHEAD} if left out")
     found.add_argument("--kernel", action="store_true",
-                       help="let mountd speak the kernel's protocol itself, without fusepy; one request at a time")
+                       help="has no effect any more: mountd always speaks the kernel's protocol itself")
     found.add_argument("--log", action="store_true", help="tell each object that is fetched on standard error")
     return found
 

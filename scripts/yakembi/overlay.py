@@ -1,5 +1,4 @@
-"""An overlay's folder, as a mount of a Git commit finds and leaves it: whose it is, on which tree it stands, what was
-changed when.
+"""An overlay's folder, as a mount of a Git commit finds and leaves it: whose it is, and on which tree it stands.
 
 The files whose names are numbers are mountd's, and so are `lock` and `journal`. The file `mount-git` beside them is
 ours: who holds its lock has the overlay, also while mountd is closed and opened again, and its line tells the tree, the
@@ -9,8 +8,6 @@ commit's time, and on which commit the next one of the folder's is put.
 import fcntl
 import os
 import re
-import struct
-from collections.abc import Iterator
 from typing import NamedTuple
 
 NOTE = "mount-git"
@@ -19,17 +16,11 @@ NUMBERED = re.compile("0|[1-9][0-9]*")
 # Of a killed run: changes that aren't in numbered files yet.
 JOURNAL = "journal"
 
-# Of mountd's files: a header and a body; a directory's body is a count and entries, file 0 begins with the tree's id.
+# Of mountd's files: a header and a body, which in file 0 begins with the tree's id.
 HEADER = 64
 FILE_HEADS = b"OVFL\0\0\0\1", b"OVFL\0\0\0\2"
-DIRECTORY_HEADS = b"OVDR\0\0\0\1", b"OVDR\0\0\0\2"
-# A file of numbers, which tells of no change.
-NUMBERS = b"OVDN"
-STATE, ROOT = "0", 1
-ENTRY = struct.Struct(">BBQ")
+STATE = "0"
 ID = 20
-OBJECT, OWN = 0, 1
-FOLDER = 3
 
 
 class InUse(Exception):
@@ -87,42 +78,3 @@ class OverlayFolder:
                 return file.read()
         except OSError:
             return b""
-
-    def changed(self) -> Iterator[tuple[bytes, int]]:
-        """Rows of path and time, in nanoseconds, of what was changed: when its file was last stored.
-
-        A folder is stored too when something in it is changed first; the rows don't tell that from a change of its own.
-        """
-        if (when := self.stored(ROOT)) and not self.file(ROOT).startswith(NUMBERS):
-            yield b"/", when
-        folders = [(b"/", ROOT)]
-        while folders:
-            path, number = folders.pop()
-            for name, kind, own in entries(self.file(number)):
-                below = path + name
-                yield below, self.stored(own)
-                if kind == FOLDER:
-                    folders.append((below + b"/", own))
-
-    def stored(self, number: int) -> int:
-        """When a file was last stored; 0 where it isn't there."""
-        try:
-            return os.stat(os.path.join(self.path, str(number))).st_mtime_ns
-        except OSError:
-            return 0
-
-
-def entries(data: bytes) -> Iterator[tuple[bytes, int, int]]:
-    """Name, kind and number of each own entry of a directory's file, up to what is cut or damaged."""
-    if not data.startswith(DIRECTORY_HEADS):
-        return
-    at = HEADER + 4
-    while at + ENTRY.size < len(data):
-        kind, origin, number = ENTRY.unpack_from(data, at)
-        at += ENTRY.size + (ID if origin == OBJECT else 0)
-        end = at + 1 + data[at] if at < len(data) else at
-        if end == at or end > len(data):
-            return
-        if origin == OWN:
-            yield data[at + 1 : end], kind, number
-        at = end

@@ -4,7 +4,6 @@ ghost use Rattle.eden_model.specs.Backing.{Backs};
 ghost use Rattle.eden_fuse_life.specs.Serving.{ServesFolder, line_of};
 
 use crate::asking::Asking;
-use eden_fuse_format::Time;
 use eden_fuse_session::{Receiver, Sender, SessionFault, session};
 use eden_fuse_shown::{Manner, Shown, Times};
 use eden_history::History;
@@ -15,11 +14,11 @@ use std::alloc::{Allocator, Global};
 use std::rt::Clock;
 
 /// How a folder looks, and since when.
-#[derive(Clone, Copy)]
+#[derive(Drop)]
 pub struct Look {
     pub manner: Manner,
     /// When all was changed that the session doesn't change.
-    pub since: Time,
+    pub times: Times,
 }
 
 /// What is left of a mount whose folder was served: its table and its source, and how the session ended.
@@ -61,8 +60,8 @@ pub fn serve_folder<
 {
     let mount: Mount<W, T, A, H> = Mount::new(room, table, history);
     let asking = Asking::new(alloc, Local::new(alloc, mount, source));
-    let times = Times::new(alloc, look.since);
-    let mut shown = Shown::new(alloc, asking, clock, look.manner, times);
+    let Look { manner, times } = look;
+    let mut shown = Shown::new(alloc, asking, clock, manner, times);
     let said = session(alloc, receiver, sender, &mut shown);
     let (mount, source) = shown.into_mount().into_local().into_parts();
     mount.holds();

@@ -103,7 +103,7 @@ fn found(
             if let Some(now) = fresh {
                 times.change(id, now);
             }
-            Answer::Entry(entry_of(manner, id, inode, times.of(id), kind, size))
+            Answer::Entry(entry_of(manner, id, inode, times.of(id, inode), kind, size))
         }
     }
 }
@@ -132,7 +132,7 @@ fn made(
                 times.change(id, now);
             }
             Answer::Created(
-                entry_of(manner, id, inode, times.of(id), kind, size),
+                entry_of(manner, id, inode, times.of(id, inode), kind, size),
                 open_file(),
             )
         }
@@ -291,7 +291,8 @@ pub(crate) fn conclude(
             Said::Answers(found(alloc, manner, nodes, times, fresh, place, kind, size, inode))
         }
         Ok(Outcome::Attributes(kind, size, inode)) => {
-            let attributes = attributes_of(manner, inode, times.of(node), kind, size);
+            let moments = times.of(node, inode);
+            let attributes = attributes_of(manner, inode, moments, kind, size);
             Said::Answers(Answer::Attributes(attributes))
         }
         Ok(Outcome::Opened) => Said::Answers(open(alloc, pages, opens, node, operation)),

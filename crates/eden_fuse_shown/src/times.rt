@@ -42,12 +42,27 @@ pub struct Moments {
     pub entry: Time,
 }
 
-/// When nodes were changed, by their numbers. No contract says which times are told.
+fn is_same(one: Time, other: Time) -> bool {
+    one.seconds == other.seconds && one.nanoseconds == other.nanoseconds
+}
+
+/// What a session changed of a node, and when.
+#[derive(Clone, Copy)]
+struct Change {
+    /// Its content, if that was changed.
+    content: Option<Time>,
+    entry: Time,
+}
+
+/// When nodes were changed. No contract says which times are told.
 #[derive(Drop)]
 pub struct Times {
-    // Of all that wasn't changed.
+    // Of all that was never changed.
     since: Time,
-    changed: BTreeMap<u64, Moments>,
+    // When contents were changed before, by the numbers of inodes.
+    earlier: BTreeMap<u64, Time>,
+    // What the session changed, by the numbers by which the kernel asks.
+    changed: BTreeMap<u64, Change>,
 }
 
 impl Times {
@@ -55,29 +70,51 @@ impl Times {
     pub fn new(alloc: Global, since: Time) -> Times {
         Times {
             since,
+            earlier: BTreeMap::new(alloc),
             changed: BTreeMap::new(alloc),
         }
     }
 
-    /// When the node was changed.
-    pub fn of(&self, node: u64) -> Moments {
-        match self.changed.get(&node) {
-            Some(at) => *at,
-            None => Moments {
-                content: self.since,
-                entry: self.since,
+    /// The content of the inode of that number was changed then. Without memory nothing is noted.
+    pub fn note_inode(&mut self, inode: u64, time: Time) {
+        let _ = self.earlier.insert(inode, time);
+    }
+
+    /// When the node was changed, whose inode has that number. What the session changed of a content stays with the
+    /// inode when the kernel forgets the node.
+    pub fn of(&mut self, node: u64, inode: u64) -> Moments {
+        let change = self.changed.get(&node).copied();
+        if let Some(
+            Change {
+                content: Some(content),
+                entry,
             },
+        ) = change
+        {
+            if self.earlier.insert(inode, content).is_ok() && is_same(content, entry) {
+                self.changed.remove(&node);
+            }
+            return Moments { content, entry };
         }
+        let content = match self.earlier.get(&inode) {
+            Some(time) => *time,
+            None => self.since,
+        };
+        let entry = match change {
+            Some(change) => change.entry,
+            None => content,
+        };
+        Moments { content, entry }
     }
 
     /// The node's content was changed. Without memory nothing is noted.
     pub fn change(&mut self, node: u64, now: Time) {
-        self.set(node, now, now);
+        self.set(node, Some(now), now);
     }
 
-    /// When the node's content and its entry were changed. Without memory nothing is noted.
-    pub fn set(&mut self, node: u64, content: Time, entry: Time) {
-        let _ = self.changed.insert(node, Moments { content, entry });
+    // When the node's content, if that, and its entry were changed. Without memory nothing is noted.
+    fn set(&mut self, node: u64, content: Option<Time>, entry: Time) {
+        let _ = self.changed.insert(node, Change { content, entry });
     }
 
     // A name of a directory's node was changed: that of a hidden file changes nothing that is seen.
@@ -90,16 +127,19 @@ impl Times {
     // Attributes are set.
     fn set_by(&mut self, node: u64, setting: &SetAttrIn, now: Time) {
         let content = if setting.valid & MTIME_NOW != 0 {
-            now
+            Some(now)
         } else if setting.valid & MTIME != 0 {
-            Time {
+            Some(Time {
                 seconds: setting.mtime,
                 nanoseconds: setting.mtimensec,
-            }
+            })
         } else if setting.valid & SIZE != 0 {
-            now
+            Some(now)
         } else {
-            self.of(node).content
+            match self.changed.get(&node) {
+                Some(change) => change.content,
+                None => None,
+            }
         };
         self.set(node, content, now);
     }

@@ -62,7 +62,7 @@ impl<W: World, T: Attempts<W> + Drop, A: Allocator, J: Naming, H: History> Share
 
     /// Asks the source for a key in flight, and hands in what came: callers try again, and one more key may be in
     /// flight.
-    fn fetch<S: Source<W>, R: Wait>(&self, rt: &R, source: &mut S, key: Key) -> Fetched
+    pub(crate) fn fetch<S: Source<W>, R: Wait>(&self, rt: &R, source: &mut S, key: Key) -> Fetched
         ensures { FetchesOne S.fetched source.old result source.new }
     {
         let fetched = match source.fetch(self.alloc, key.id) {

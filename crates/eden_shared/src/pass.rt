@@ -9,6 +9,7 @@ use crate::shared::Shared;
 use eden_history::History;
 use eden_model::{CallFault, Request, World};
 use eden_mount::Attempts;
+use eden_source::Source;
 use std::alloc::Allocator;
 use std::marker::{Model, PhantomData};
 use std::sync::Wait;
@@ -88,6 +89,31 @@ impl<J: Naming> Pass<J> {
     {
         let since = shared.start(rt, self.number, self.known, &mut self.end, request)?;
         let answer = shared.wait_for(rt, self.number, &mut self.end);
+        self.known = answer.number;
+        Ok(answer)
+    }
+
+    /// As `call`, and fetches from the source what it needs, where nobody else does.
+    pub fn call_by<
+        W: World,
+        T: Attempts<W> + Drop,
+        A: Allocator,
+        H: History,
+        S: Source<W>,
+        R: Wait,
+    >(
+        &mut self,
+        shared: &Shared<W, T, A, J, H>,
+        rt: &R,
+        source: &mut S,
+        request: Request,
+    ) -> Result<Answered, CallFault>
+        ensures ok { IfOk result (λ a. Gives W.honest W.opening W.numbers self.old request a self.new) }
+        ensures err { OnErr result (self.new ≡ self.old) }
+        ensures why { IfErr result (IsLawful W.honest W.opening W.numbers self.old) }
+    {
+        let since = shared.start(rt, self.number, self.known, &mut self.end, request)?;
+        let answer = shared.fetch_for(rt, self.number, &mut self.end, source);
         self.known = answer.number;
         Ok(answer)
     }

@@ -12,6 +12,7 @@ use crate::locked::Locked;
 use eden_history::History;
 use eden_model::{CallFault, Path, Request, World};
 use eden_mount::Attempts;
+use eden_source::Source;
 use std::alloc::{Allocator, Global};
 use std::sync::{Condvar, Mutex, Wait};
 
@@ -66,6 +67,39 @@ impl<W: World, T: Attempts<W> + Drop, A: Allocator, J: Naming, H: History> Share
             }
             self.fetchers.notify_one();
             guard = self.callers.wait(rt, guard);
+        }
+        unreachable!()
+    }
+
+    /// Tries until the pending request is answered. Between two tries it fetches what is wanted, or waits where others
+    /// fetch that.
+    pub(crate) fn fetch_for<S: Source<W>, R: Wait>(
+        &self,
+        rt: &R,
+        number: u32,
+        end: &mut Far<Account>,
+        source: &mut S,
+    ) -> Answered
+        requires { HasName J.names number end.old.name }
+        ensures name { end.new.name ≡ end.old.name }
+        ensures account { end.new.value ≡ after_answer result end.old.value }
+        ensures answers { IfSome end.old.value.pending (AnswersTo W.honest W.opening W.numbers number result) }
+    {
+        for _ in rt.forever() {
+            let mut guard = self.lock.lock(rt);
+            if let Some(answer) = guard.step(number, end) {
+                if guard.is_over() {
+                    self.fetchers.notify_all();
+                }
+                return answer;
+            }
+            match guard.take_want() {
+                Some(key) => {
+                    drop(guard);
+                    self.fetch(rt, source, key);
+                }
+                None => drop(self.callers.wait(rt, guard)),
+            }
         }
         unreachable!()
     }

@@ -1,5 +1,5 @@
 -- What the program's command line says.
-use Rattle.std.specs.Prelude.{◌≡◌, ◌⊎◌, ◌↔◌, ◌^◌, IsTrue, true, ℕ, ⊤, List, [], ◌∷◌, ◌++◌, Option, Some, None, is_some, codes, option_map, string_bytes}
+use Rattle.std.specs.Prelude.{◌≡◌, ◌⊎◌, ◌↔◌, ◌+◌, ◌^◌, IsTrue, true, ℕ, ⊤, List, [], ◌∷◌, ◌++◌, Option, Some, None, is_some, codes, option_map, string_bytes}
 use Rattle.clap.specs.Kinds.{IsAmong}
 use Rattle.clap.specs.Words.{App, Text, fault_of, kind_of, subcommand_of}
 use Rattle.hex.specs.Hex.{encode_lower}
@@ -13,12 +13,13 @@ use Rattle.mountd_options.specs.declared.addresses.AddressOption.TheVariants.{So
 use Rattle.mountd_options.specs.Grammar.{LineOption, Subcommand, flag, optional, program, required, value_in}
 use Rattle.mountd_options.specs.Numbers.{GivesNumber, IsNoValue, SaysNumber, number_name}
 use Rattle.mountd_options.specs.declared.numbers.NumberOption.{NumberOption}
-use Rattle.mountd_options.specs.declared.numbers.NumberOption.TheVariants.{History, CacheEntries, CacheBytes, Port, Sessions, Fetchers}
+use Rattle.mountd_options.specs.declared.numbers.NumberOption.TheVariants.{History, CacheEntries, CacheBytes, Port, Sessions, Fetchers, Threads, Since}
 use Rattle.mountd_options.specs.declared.closed.ClosedOptions.{ClosedOptions}
 use Rattle.mountd_options.specs.declared.closed.SnapshotOptions.{SnapshotOptions}
 use Rattle.mountd_options.specs.declared.command.Command.{Command}
 use Rattle.mountd_options.specs.declared.command.Command.TheVariants as command
 use Rattle.mountd_options.specs.declared.command.HistoryOption.TheVariants as keeping
+use Rattle.mountd_options.specs.declared.command.FuseOptions.{FuseOptions}
 use Rattle.mountd_options.specs.declared.command.ImportOptions.{ImportOptions}
 use Rattle.mountd_options.specs.declared.command.MountCommand.{MountCommand}
 use Rattle.mountd_options.specs.declared.command.MountCommand.TheVariants as by
@@ -104,9 +105,12 @@ snapshot_options = closed_options ++ required (codes "into") ∷ []
 abbrev pub snapshot : Subcommand
 snapshot = (command_name by.Snapshot, snapshot_options)
 
--- `fuse` with the options of a mount
+abbrev pub fuse_options : List LineOption
+fuse_options = mount_options ++ optional (number_name Threads) ∷ optional (number_name Since) ∷ []
+
+-- `fuse` with the options of a mount, `[--threads N]` and `[--since SECONDS]`
 abbrev pub fuse : Subcommand
-fuse = (command_name by.Fuse, mount_options)
+fuse = (command_name by.Fuse, fuse_options)
 
 -- `changes` with the options of a closed overlay
 abbrev pub changes : Subcommand
@@ -135,11 +139,11 @@ abbrev pub KeepsNone : MountCommand → (Text → Option Text) → Type 0
 KeepsNone by.Fuse value = (value (number_name History) ≡ Some (codes "none")) ⊎ (value (number_name History) ≡ None)
 KeepsNone command value = value (number_name History) ≡ Some (codes "none")
 
--- how many callers there are of the mount that a command opens
+-- how many callers there are of the mount that a command opens; of a folder's threads each is one, and their turns are another
 abbrev pub SaysPasses : MountCommand → (Text → Option Text) → ℕ → Type 0
 SaysPasses by.Stdio value n = n ≡ 1
 SaysPasses by.Snapshot value n = n ≡ 1
-SaysPasses by.Fuse value n = n ≡ 1
+SaysPasses by.Fuse value n = (threads : ℕ) × SaysNumber Threads 1 (value (number_name Threads)) threads × (n ≡ threads + 1)
 SaysPasses by.Changes value n = n ≡ 1
 SaysPasses by.Serve value n = SaysNumber Sessions 1 (value (number_name Sessions)) n
 
@@ -230,6 +234,12 @@ pub record IsServed (value : Text → Option Text) (options : ServeOptions) : Ty
   pub place : SaysPlace value options.address
   pub fetchers : SaysNumber Fetchers 2 (value (number_name Fetchers)) options.fetchers
 
+-- what is to be shown as a folder, by how many threads, and with which time, is what these values say
+pub record IsFolder (value : Text → Option Text) (options : FuseOptions) : Type 0 where
+  pub mount : IsMount by.Fuse value options.mount
+  pub threads : SaysNumber Threads 1 (value (number_name Threads)) options.threads
+  pub since : SaysNumber Since 0 (value (number_name Since)) options.since
+
 -- whose objects are to be served, and where, is what these values say
 pub record AreServed (value : Text → Option Text) (options : ObjectsOptions) : Type 0 where
   pub objects : SaysServed value options.objects
@@ -264,7 +274,7 @@ AsksVersion words = (name : Text) × (words ≡ name ∷ codes "--version" ∷ [
 abbrev pub AsksFor : List Text → Command → Type 0
 AsksFor words (command.Stdio options) = (named words ≡ Some stdio.0) × IsMount by.Stdio (value_of words) options
 AsksFor words (command.Serve options) = (named words ≡ Some serve.0) × IsServed (value_of words) options
-AsksFor words (command.Fuse options) = (named words ≡ Some fuse.0) × IsMount by.Fuse (value_of words) options
+AsksFor words (command.Fuse options) = (named words ≡ Some fuse.0) × IsFolder (value_of words) options
 AsksFor words (command.Objects options) = (named words ≡ Some objects.0) × AreServed (value_of words) options
 AsksFor words (command.Import options) = (named words ≡ Some import.0) × IsImport (value_of words) options
 AsksFor words (command.Tidy options) = (named words ≡ Some tidy.0) × IsTidy (value_of words) options

@@ -2,7 +2,7 @@
 use Rattle.std.specs.Prelude.{◌≡◌, ◌≤◌, ◌⊎◌, ◌^◌, ◌-◌, ℕ, Option, Some, None, codes, decimal}
 use Rattle.clap.specs.Words.{Text}
 use Rattle.mountd_options.specs.declared.numbers.NumberOption.{NumberOption}
-use Rattle.mountd_options.specs.declared.numbers.NumberOption.TheVariants.{History, CacheEntries, CacheBytes, Port, Sessions, Fetchers}
+use Rattle.mountd_options.specs.declared.numbers.NumberOption.TheVariants.{History, CacheEntries, CacheBytes, Port, Sessions, Fetchers, Threads, Since}
 
 abbrev pub number_name : NumberOption → Text
 number_name History = codes "history"
@@ -11,6 +11,8 @@ number_name CacheBytes = codes "cache-bytes"
 number_name Port = codes "port"
 number_name Sessions = codes "sessions"
 number_name Fetchers = codes "fetchers"
+number_name Threads = codes "threads"
+number_name Since = codes "since"
 
 -- the least that each takes
 abbrev pub least_of : NumberOption → ℕ
@@ -20,6 +22,8 @@ least_of CacheBytes = 1
 least_of Port = 0
 least_of Sessions = 1
 least_of Fetchers = 1
+least_of Threads = 1
+least_of Since = 0
 
 -- .. and the greatest
 abbrev pub most_of : NumberOption → ℕ
@@ -29,6 +33,8 @@ most_of CacheBytes = 2 ^ 40
 most_of Port = 65535
 most_of Sessions = 64
 most_of Fetchers = 16
+most_of Threads = 63
+most_of Since = 2 ^ 40
 
 -- the text is this number, within these bounds
 abbrev pub IsWithin : ℕ → ℕ → Text → ℕ → Type 0

@@ -3,11 +3,11 @@ ghost use Rattle.std.specs.Prelude.{◌≡◌, ◌≤◌, ◌⊎◌, ◌↔◌, 
 ghost use Rattle.clap.specs.declared.error.kind.ErrorKind.TheVariants.{OutOfMemory};
 ghost use Rattle.clap.specs.Words.{first_value, found_of, kind_of, rows_of, subcommand_of, subcommand_rows_of};
 ghost use Rattle.mountd_options.specs.Addresses.{IsAddress, IsNoAddress, address_name};
-ghost use Rattle.mountd_options.specs.CommandLine.{AreServed, AsksFor, AsksVersion, IsGiven, IsImport, IsMount};
+ghost use Rattle.mountd_options.specs.CommandLine.{AreServed, AsksFor, AsksVersion, IsFolder, IsGiven, IsImport, IsMount};
 ghost use Rattle.mountd_options.specs.CommandLine.{IsServed, IsTaken, IsTidy, KeepsNone, NamesMount, NamesServed};
 ghost use Rattle.mountd_options.specs.CommandLine.{Refuses, RefusesNumber, RefusesObjects, RefusesServed};
 ghost use Rattle.mountd_options.specs.CommandLine.{RefusesServer, RefusesValues, SaysLimits, SaysObjects, SaysPasses};
-ghost use Rattle.mountd_options.specs.CommandLine.{SaysPlace, SaysServed, command_name, import_options};
+ghost use Rattle.mountd_options.specs.CommandLine.{SaysPlace, SaysServed, command_name, fuse_options, import_options};
 ghost use Rattle.mountd_options.specs.CommandLine.{mount_options, mountd_line, serve_options};
 ghost use Rattle.mountd_options.specs.CommandLine.{server_name, tidy_options};
 ghost use Rattle.mountd_options.specs.Grammar.{HasRequired};
@@ -53,6 +53,9 @@ const MOUNT_SESSIONS: u64 = 1;
 
 /// How many fetchers a served mount has, where it isn't said.
 const FETCHERS: u64 = 2;
+
+/// How many threads serve a folder, where it isn't said.
+const THREADS: u64 = 1;
 
 /// How many lengths of contents are kept.
 const SIZES: usize = 65_536;
@@ -164,7 +167,8 @@ pub struct MountOptions {
     pub rescan: bool,
     /// Whether the history is kept, up to its limit, or only counted.
     pub history: HistoryOption,
-    /// The limits of the mount, which has a pass for each caller: one of `stdio`, and one a connection of `serve`.
+    /// The limits of the mount, which has a pass for each caller: one of `stdio`, one a connection of `serve`, and of
+    /// `fuse` one a thread and another.
     pub limits: Config,
 }
 
@@ -177,6 +181,17 @@ pub struct ServeOptions {
     pub address: Address,
     /// How many objects are asked for at once.
     pub fetchers: u32,
+}
+
+/// What `mountd fuse` is asked to show, by how many threads, and with which time.
+#[derive(Drop)]
+pub struct FuseOptions {
+    /// The mount, which has a pass for each thread, and another.
+    pub mount: MountOptions,
+    /// How many threads answer the kernel.
+    pub threads: u32,
+    /// When all was changed that never was, in seconds since 1970. 0 stands for the time at which the program starts.
+    pub since: u64,
 }
 
 /// Whose objects `mountd objects` is asked to serve, and where.
@@ -211,7 +226,7 @@ pub struct TidyOptions {
 pub enum Command {
     Stdio(MountOptions),
     Serve(ServeOptions),
-    Fuse(MountOptions),
+    Fuse(FuseOptions),
     Objects(ObjectsOptions),
     Import(ImportOptions),
     Tidy(TidyOptions),
@@ -297,7 +312,7 @@ pub fn options<S: AsStr>(alloc: Global, words: &[S]) -> Result<Command, OptionsE
         return Ok(Command::Snapshot(snapshot_options(alloc, given)?));
     }
     if let Some(given) = matches.subcommand_matches("fuse") {
-        return Ok(Command::Fuse(mount_options(alloc, given, MountCommand::Fuse)?));
+        return Ok(Command::Fuse(fuse_options(alloc, given)?));
     }
     if let Some(given) = matches.subcommand_matches("changes") {
         return Ok(Command::Changes(changes_options(alloc, given)?));
@@ -460,6 +475,21 @@ fn serve_options(alloc: Global, given: &ArgMatches) -> Result<ServeOptions, Opti
     })
 }
 
+fn fuse_options(alloc: Global, given: &ArgMatches) -> Result<FuseOptions, OptionsError>
+    requires { HasRequired fuse_options (rows_of (found_of given.now)) }
+    ensures ok { IfOk result (IsFolder (first_value (found_of given.now))) }
+    ensures err { IfErr result (RefusesValues by.Fuse (first_value (found_of given.now))) }
+{
+    let mount = mount_options(alloc, given, MountCommand::Fuse)?;
+    let threads = number(given, NumberOption::Threads, THREADS)? as u32;
+    let since = number(given, NumberOption::Since, 0)?;
+    Ok(FuseOptions {
+        mount,
+        threads,
+        since,
+    })
+}
+
 fn objects_options(alloc: Global, given: &ArgMatches) -> Result<ObjectsOptions, OptionsError>
     ensures ok { IfOk result (AreServed (first_value (found_of given.now))) }
     ensures err { IfErr result (RefusesServed (first_value (found_of given.now))) }
@@ -573,8 +603,11 @@ fn passes(given: &ArgMatches, command: MountCommand) -> Result<u32, NumberOption
     ensures err { IfErr result (RefusesNumber (first_value (found_of given.now))) }
 {
     match command {
-        MountCommand::Stdio | MountCommand::Snapshot | MountCommand::Fuse | MountCommand::Changes =>
-            Ok(1),
+        MountCommand::Stdio | MountCommand::Snapshot | MountCommand::Changes => Ok(1),
+        MountCommand::Fuse => {
+            let threads = number(given, NumberOption::Threads, THREADS)? as u32;
+            Ok(threads + 1)
+        }
         MountCommand::Serve => Ok(number(given, NumberOption::Sessions, MOUNT_SESSIONS)? as u32),
     }
 }

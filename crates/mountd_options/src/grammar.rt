@@ -56,10 +56,22 @@ fn fuse_line<'a>(alloc: Global) -> Result<clap::Command<'a>, AllocError>
     ensures shape { IfOk result (λ line. shape_of line ≡ subcommand_shape fuse) }
     ensures local { IfOk result (λ line. (fields_of line).has_globals ≡ false) }
 {
-    mount_line(
+    let line = mount_line(
         alloc,
         "fuse",
         "Shows a folder over standard input and output, which are the kernel's FUSE protocol",
+    )?;
+    let line = with_optional(
+        alloc,
+        line,
+        ("threads", "N"),
+        "How many threads answer the kernel, and wait for objects at once [default: 1]",
+    )?;
+    with_optional(
+        alloc,
+        line,
+        ("since", "SECONDS"),
+        "The time of what was never changed, since 1970 [default: 0, when it starts]",
     )
 }
 

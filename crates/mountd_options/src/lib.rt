@@ -14,7 +14,7 @@ mod numbers;
 pub use addresses::AddressOption;
 pub use closed::{ClosedOptions, SnapshotOptions};
 pub use command::{
-    Command, HistoryOption, ImportOptions, MountCommand, MountOptions, Objects, ObjectsOptions,
-    OptionsError, ServeOptions, Served, ServerCommand, TidyOptions, options,
+    Command, FuseOptions, HistoryOption, ImportOptions, MountCommand, MountOptions, Objects,
+    ObjectsOptions, OptionsError, ServeOptions, Served, ServerCommand, TidyOptions, options,
 };
 pub use numbers::NumberOption;

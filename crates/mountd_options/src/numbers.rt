@@ -21,6 +21,10 @@ pub enum NumberOption {
     Sessions,
     /// How many objects a served mount asks for at once.
     Fetchers,
+    /// How many threads serve a folder.
+    Threads,
+    /// When what a folder shows was changed, if it never was; in seconds since 1970.
+    Since,
 }
 
 impl NumberOption {
@@ -35,6 +39,8 @@ impl NumberOption {
             NumberOption::Port => "port",
             NumberOption::Sessions => "sessions",
             NumberOption::Fetchers => "fetchers",
+            NumberOption::Threads => "threads",
+            NumberOption::Since => "since",
         }
     }
 
@@ -43,12 +49,13 @@ impl NumberOption {
         ensures { result ≡ least_of self }
     {
         match self {
-            NumberOption::Port => 0,
+            NumberOption::Port | NumberOption::Since => 0,
             NumberOption::History
             | NumberOption::CacheEntries
             | NumberOption::CacheBytes
             | NumberOption::Sessions
-            | NumberOption::Fetchers => 1,
+            | NumberOption::Fetchers
+            | NumberOption::Threads => 1,
         }
     }
 
@@ -63,6 +70,8 @@ impl NumberOption {
             NumberOption::Port => u16::MAX as u64,
             NumberOption::Sessions => 64,
             NumberOption::Fetchers => 16,
+            NumberOption::Threads => 63,
+            NumberOption::Since => 1 << 40,
         }
     }
 
@@ -76,7 +85,9 @@ impl NumberOption {
             | NumberOption::CacheBytes
             | NumberOption::Port
             | NumberOption::Sessions
-            | NumberOption::Fetchers => false,
+            | NumberOption::Fetchers
+            | NumberOption::Threads
+            | NumberOption::Since => false,
         }
     }
 

@@ -1,7 +1,7 @@
 use Rattle.std.proofs.Common.{rules, ◌≡◌, refl, inl, inr, Some, map}
 use Rattle.clap.specs.Matches.{found_of, subcommand_name_of}
 use Rattle.clap.specs.Simple.{subcommand_of, subcommand_rows_of}
-use Rattle.mountd_options.specs.CommandLine.{AreServed, IsClosed, IsImport, IsMount, IsServed, IsSnapshot, IsTaken, IsTidy}
+use Rattle.mountd_options.specs.CommandLine.{AreServed, IsClosed, IsFolder, IsImport, IsMount, IsServed, IsSnapshot, IsTaken, IsTidy}
 use Rattle.mountd_options.specs.CommandLine.{Refuses, changes, fuse, import, mountd_line, objects, serve, snapshot, stdio, tidy}
 use Rattle.mountd_options.specs.declared.command.MountCommand.TheVariants as by
 use Rattle.mountd_options.proofs.LineLemmas.{by_words, import-named, met-named, named-met, objects_refuse, required-taken, values_refuse}
@@ -142,8 +142,8 @@ returns-in-Some-subcommand_matches-4-clause-ok g c =
     let asked = c.in_ok-snapshot_options.field-0 in
     (named-met words f snapshot.0 met, by_words (λ value. IsSnapshot value asked) words f snapshot.0 met c.in_ok-snapshot_options.ensures.ok)
 
-pub mount_options-requires-in-Some-subcommand_matches-5 : goal.mount_options-requires-in-Some-subcommand_matches-5
-mount_options-requires-in-Some-subcommand_matches-5 g c =
+pub fuse_options-requires : goal.fuse_options-requires
+fuse_options-requires g c =
     let words = map g.S.AsStr.text c.args.words.now in
     let f = found_of c.in-Some-subcommand_matches-5.given.now in
     let taken : IsTaken words = search rules in
@@ -152,16 +152,16 @@ mount_options-requires-in-Some-subcommand_matches-5 g c =
     required-taken fuse words f (inr (inr (inr (inr (inr (inr (inl refl))))))) taken
     (met-named words c.in_ok-matches.matches f fuse.0 rows name c.in-Some-subcommand_matches-5.ensures.rows)
 
-pub returns-in_err-mount_options-2-clause-err : goal.returns-in_err-mount_options-2-clause-err
-returns-in_err-mount_options-2-clause-err g c =
+pub returns-in_err-fuse_options-clause-err : goal.returns-in_err-fuse_options-clause-err
+returns-in_err-fuse_options-clause-err g c =
     let words = map g.S.AsStr.text c.args.words.now in
     let f = found_of c.in-Some-subcommand_matches-5.given.now in
-    let why = c.in_err-mount_options-2.field-0.0 in
+    let why = c.in_err-fuse_options.field-0.0 in
     let taken : IsTaken words = search rules in
     let rows : subcommand_rows_of c.in_ok-matches.matches ≡ subcommand_of mountd_line words = search rules in
     let name : subcommand_name_of c.in_ok-matches.matches ≡ Some fuse.0 = c.in-Some-subcommand_matches-5.ensures.found.0 refl in
     let met = met-named words c.in_ok-matches.matches f fuse.0 rows name c.in-Some-subcommand_matches-5.ensures.rows in
-    let refused : Refuses words why = values_refuse by.Fuse words f why taken met c.in_err-mount_options-2.ensures.err in
+    let refused : Refuses words why = values_refuse by.Fuse words f why taken met c.in_err-fuse_options.ensures.err in
     search rules
 
 pub returns-in-Some-subcommand_matches-5-clause-ok : goal.returns-in-Some-subcommand_matches-5-clause-ok
@@ -171,8 +171,8 @@ returns-in-Some-subcommand_matches-5-clause-ok g c =
     let rows : subcommand_rows_of c.in_ok-matches.matches ≡ subcommand_of mountd_line words = search rules in
     let name : subcommand_name_of c.in_ok-matches.matches ≡ Some fuse.0 = c.in-Some-subcommand_matches-5.ensures.found.0 refl in
     let met = met-named words c.in_ok-matches.matches f fuse.0 rows name c.in-Some-subcommand_matches-5.ensures.rows in
-    let asked = c.in_ok-mount_options-2.field-0 in
-    (named-met words f fuse.0 met, by_words (λ value. IsMount by.Fuse value asked) words f fuse.0 met c.in_ok-mount_options-2.ensures.ok)
+    let asked = c.in_ok-fuse_options.field-0 in
+    (named-met words f fuse.0 met, by_words (λ value. IsFolder value asked) words f fuse.0 met c.in_ok-fuse_options.ensures.ok)
 
 pub changes_options-requires : goal.changes_options-requires
 changes_options-requires g c =

@@ -1,0 +1,299 @@
+"""Users of a mounted folder: one who isn't root, many at once, some beside a commit, and those of a full overlay."""
+
+import contextlib
+import functools
+import os
+import pathlib
+import random
+import shutil
+import signal
+import subprocess
+import tempfile
+import threading
+import time
+from collections.abc import Callable, Iterator
+from concurrent.futures import ThreadPoolExecutor
+
+from checks import PATIENCE, check, git, make_repository, skip
+from helpers.running import most_memory_of
+from mount_differences import tried
+from mount_folder import MountGit, children, said_by
+from mount_kernel import mountd_of
+from mount_uses import BYTES_OF_A_TIME
+from programs import MOUNT_GIT, MOUNTD
+
+USERS = 8
+# Of a turn of each user.
+CALLS = 8
+
+# ---- one who isn't root
+
+NOBODY = 65_534
+# In a shell of that user's, in the mounted folder.
+USES = [
+    ("a look", "cat plain.txt && stat -c '%A %u' run.sh", f"plain\n-rwxr-xr-x {NOBODY}\n"),
+    ("changes", "mkdir made && echo one > made/file && mv made moved && cat moved/file && rm -r many && ls -d m*",
+     "one\nmoved\n"),
+    ("space", "df --output=target . | tail -n 1 | xargs basename", "shown\n"),
+]
+
+
+class Nobody:
+    """Runs of programs by a user who isn't root, in whose folder all lies."""
+
+    def __init__(self, folder: pathlib.Path) -> None:
+        self.folder = folder
+        # Where root's own programs lie nobody else may look.
+        self.environment = {"PATH": "/usr/local/bin:/usr/bin:/bin", "HOME": str(folder), "LC_ALL": "C",
+                            "TMPDIR": str(folder)}
+
+    def run(self, *words: object) -> tuple[int, str]:
+        done = subprocess.run([str(word) for word in words], user=NOBODY, group=NOBODY, extra_groups=[],
+                              cwd=self.folder, env=self.environment, stdin=subprocess.DEVNULL, stdout=subprocess.PIPE,
+                              stderr=subprocess.STDOUT, timeout=PATIENCE)
+        return done.returncode, done.stdout.decode(errors="replace")
+
+    def start(self, *words: object) -> subprocess.Popen[str]:
+        return subprocess.Popen([str(word) for word in words], user=NOBODY, group=NOBODY, extra_groups=[],
+                                cwd=self.folder, env=self.environment, stdin=subprocess.DEVNULL,
+                                stdout=subprocess.PIPE, stderr=subprocess.STDOUT, text=True, start_new_session=True)
+
+
+@contextlib.contextmanager
+def nobody() -> Iterator[Nobody | str]:
+    """That user with a repository, or why there is none."""
+    with tempfile.TemporaryDirectory(prefix="nobody.") as name:
+        user = Nobody(pathlib.Path(name))
+        make_repository(user.folder)
+        for path in [user.folder, *user.folder.rglob("*")]:
+            os.chown(path, NOBODY, NOBODY, follow_symlinks=False)
+        if shutil.which("fusermount3") is None:
+            yield "fusermount3, of Debian's fuse3, isn't there"
+        elif user.run("test", "-w", "/dev/fuse")[0] != 0:
+            yield "others than root may not open /dev/fuse"
+        elif user.run("sh", "-c", '"$0" --help && "$1" --version', MOUNT_GIT, MOUNTD)[0] != 0:
+            yield f"others than root may not run {MOUNT_GIT} and {MOUNTD}"
+        else:
+            try:
+                yield user
+            finally:
+                # What was killed and isn't mounted anew.
+                subprocess.run(["umount", "-l", user.folder / "shown"], capture_output=True)
+
+
+def check_plain_user(folder: pathlib.Path) -> None:
+    """Who isn't root mounts by fusermount3, uses the folder, commits, and ends it in each way. (If nobody here is root,
+    all other tests are of such a user.)"""
+    if os.geteuid() != 0:
+        return
+    with nobody() as user:
+        if isinstance(user, str):
+            skip("a user who isn't root", user)
+        else:
+            check_uses(user)
+
+
+def check_uses(user: Nobody) -> None:
+    shown, overlay = user.folder / "shown", user.folder / "overlay"
+    words = [MOUNT_GIT, "--mountd", MOUNTD, "--overlay", overlay, user.folder / "outer", "HEAD", shown]
+    ends: list[tuple[str, Callable[[subprocess.Popen[str]], object], int]] = [
+        ("SIGTERM", lambda run: run.terminate(), 0),
+        ("fusermount3 -u", lambda run: user.run("fusermount3", "-u", shown), 0),
+        ("a kill of all", kill_all, -signal.SIGKILL),
+    ]
+    for number, (how, end, status) in enumerate(ends):
+        run = user.start(*words)
+        with ended(run, shown):
+            check(f"plain user: mounted, {number}", told_by(run), f"mounted {shown}")
+            if number == 0:
+                for name, command, wanted in USES:
+                    check(f"plain user: {name}", user.run("sh", "-euc", f"cd '{shown}' && {command}"), (0, wanted))
+                check("plain user: root isn't let in", tried(os.listdir, shown), "EACCES")
+                told = "D\tmany/\nA\tmoved/\nA\tmoved/file\n"
+                check("plain user: changes", user.run(MOUNT_GIT, "changes", shown), (0, told))
+                for setting in ("user.name", "user.email"):
+                    user.run("git", "-C", user.folder / "outer", "config", setting, "nobody@example.org")
+                made = user.run(MOUNT_GIT, "commit", shown, "-m", "m", "--branch", "made")
+                check("plain user: commit", (made[0], made[1].endswith(" refs/heads/made\n")), (0, True))
+            else:
+                check(f"plain user: it is there, {number}", user.run("cat", shown / "moved/file"), (0, "one\n"))
+            end(run)
+            check(f"plain user: {how}", run.wait(PATIENCE), status)
+    run = user.start(*words)
+    with ended(run, shown):
+        line = f"mount-git: {shown} was left by a mount that was killed, and is unmounted"
+        check("plain user: mounted after a kill", [told_by(run), told_by(run)], [line, f"mounted {shown}"])
+        check("plain user: what is there", user.run("cat", shown / "moved/file"), (0, "one\n"))
+        run.terminate()
+        check("plain user: the last end", run.wait(PATIENCE), 0)
+
+
+def kill_all(run: subprocess.Popen[str]) -> None:
+    for process in [run.pid, *children(run.pid)]:
+        with contextlib.suppress(ProcessLookupError):
+            os.kill(process, signal.SIGKILL)
+
+
+def told_by(run: subprocess.Popen[str]) -> str:
+    assert run.stdout is not None
+    return run.stdout.readline().strip()
+
+
+@contextlib.contextmanager
+def ended(run: subprocess.Popen[str], shown: pathlib.Path) -> Iterator[None]:
+    """Leaves nothing that runs, whatever happened, and nothing mounted, unless it ended in the block."""
+    try:
+        yield
+    finally:
+        if run.poll() is None:
+            subprocess.run(["umount", "-l", shown], capture_output=True)
+            kill_all(run)
+        run.communicate()
+
+
+# ---- many at once
+
+
+def use(home: pathlib.Path, turns: range) -> list[str]:
+    """Makes, changes, moves and reads a file in a folder, turn by turn. What is read and wasn't written just before."""
+    odd = []
+    for turn in turns:
+        path, moved, content = home / str(turn), home / "moved", f"{turn}"
+        path.write_text(content)
+        path.rename(moved)
+        odd += [read for _ in range(CALLS - 3) if (read := moved.read_text()) != content]
+    return odd
+
+
+def check_users(folder: pathlib.Path, repository: pathlib.Path, calls: int) -> None:
+    """Users at once read what they wrote. One mountd serves them, in no more memory than the first third of it took,
+    but for the time of each file that is made."""
+    turns = calls // (USERS * CALLS)
+    with MountGit(repository, "HEAD", folder / "mounted", "--overlay", folder / "overlay") as mount:
+        homes = [mount.folder / f"home {number}" for number in range(USERS)]
+        for home in homes:
+            home.mkdir()
+        before, memory = mountd_of(mount), []
+        with ThreadPoolExecutor(USERS) as users:
+            for part in (range(turns // 3), range(turns // 3, turns)):
+                odd = users.map(functools.partial(use, turns=part), homes)
+                check(f"users: what each reads in {part}", list(odd), [[]] * USERS)
+                memory.append(most_memory_of(before[-1]))
+        print(f"users of a folder, {calls:,} calls: {memory[0]:,} bytes, and at the end {memory[1]:,}")
+        of_times = BYTES_OF_A_TIME * USERS * (turns - turns // 3)
+        check("users: no more memory, within 5 %", 0 < memory[1] <= memory[0] * 1.05 + of_times, True)
+        check("users: one mountd", mountd_of(mount), before)
+        check("users: each has one file", [os.listdir(home) for home in homes], [["moved"]] * USERS)
+        check("users: the end, with nothing said", (mount.end("SIGTERM"), mount.said()), (0, []))
+
+
+# ---- beside a commit
+
+COMMITS = 4
+# Who comes just between an unmount and the next mount finds the folder below, or a mount that isn't answered any more.
+BETWEEN = {"ENOENT", "ENOTCONN", "ECONNABORTED", "ENODEV"}
+
+
+def check_commits_under_way(folder: pathlib.Path, repository: pathlib.Path) -> None:
+    """Users go on beside commits: they wait, or find that the folder isn't there for a moment, and none of what they
+    closed is lost."""
+    with MountGit(repository, "HEAD", folder / "mounted", "--overlay", folder / "overlay") as mount:
+        branch, before = git(repository, "symbolic-ref", "HEAD"), git(repository, "rev-parse", "HEAD")
+        is_over = threading.Event()
+        with ThreadPoolExecutor(3) as users:
+            told = [users.submit(write_on, mount.folder / f"dir/{number}", is_over) for number in range(3)]
+            for number in range(COMMITS):
+                check(f"under way: commit {number}", committed(mount.folder), 0)
+            is_over.set()
+            odd = [user.result(PATIENCE) for user in told]
+        check("under way: what users found", odd, [[]] * 3)
+        check("under way: the commits", git(repository, "rev-parse", f"{branch}~{COMMITS}"), before)
+        git(repository, "update-ref", branch, before)
+        check("under way: the end, with nothing said", (mount.end("SIGTERM"), mount.said()), (0, []))
+    check("under way: nothing came into the folder below", list(mount.folder.iterdir()), [])
+
+
+def committed(folder: pathlib.Path) -> int:
+    """The status of a commit, which is tried again while the folder is in use."""
+    end = time.monotonic() + PATIENCE
+    while True:
+        status, lines = said_by(MOUNT_GIT, "commit", folder, "-m", "under way")
+        if status == 0 or not any("is in use" in line for line in lines) or time.monotonic() > end:
+            return status
+        time.sleep(0.01)
+
+
+def write_on(path: pathlib.Path, is_over: threading.Event) -> list[str]:
+    """Writes a file again and again, and reads it; what else it finds."""
+    odd, number = [], 0
+    while not is_over.is_set():
+        number += 1
+        text = f"{number}"
+        while (found := tried(path.write_text, text)) in BETWEEN:
+            pass
+        if found != len(text):
+            odd.append(f"writing {text}: {found}")
+        while (found := tried(path.read_text)) in BETWEEN:
+            pass
+        if found != text:
+            odd.append(f"reading {text}: {found}")
+        # So that now and then nobody uses the folder.
+        time.sleep(0.02)
+    return odd
+
+
+# ---- a full overlay
+
+DISK = 4 << 20
+PIECE = 300_000
+
+
+@contextlib.contextmanager
+def small_disk(place: pathlib.Path) -> Iterator[pathlib.Path]:
+    place.mkdir()
+    subprocess.run(["mount", "-t", "tmpfs", "-o", f"size={DISK}", "small", place], check=True, capture_output=True)
+    try:
+        yield place
+    finally:
+        subprocess.run(["umount", "-l", place], capture_output=True)
+
+
+def check_full_overlay(folder: pathlib.Path, repository: pathlib.Path) -> None:
+    """Where the overlay's disk is full, a close is EIO; what was closed before is there, and with room all goes on."""
+    if os.geteuid() != 0:
+        skip("a full overlay", "only root may mount a small disk")
+        return
+    data = random.Random(1).randbytes(PIECE)
+    with small_disk(folder / "small") as disk:
+        other = disk / "of another program"
+        other.write_bytes(data)
+        with MountGit(repository, "HEAD", folder / "mounted", "--overlay", disk / "overlay") as mount:
+            told, stored = filled(mount.folder, data)
+            check("full: it is", (told, 0 < len(stored) < DISK // PIECE), ("EIO", True))
+            check("full: what was closed", {path.read_bytes() == data for path in stored}, {True})
+            check("full: a look at the commit", (mount.folder / "plain.txt").read_text(), "plain\n")
+            # What couldn't be stored has no bytes, if there was room for its name.
+            refused = mount.folder / f"large {len(stored)}"
+            check("full: what couldn't be stored", tried(refused.read_bytes) in (b"", "ENOENT"), True)
+            other.unlink()
+            refused.unlink(missing_ok=True)
+            stored.pop(0).unlink()
+            check("full: with room", tried((mount.folder / "small").write_bytes, b"small"), 5)
+            check("full: the end, with nothing said", (mount.end("SIGTERM"), mount.said()), (0, []))
+        with MountGit(repository, "HEAD", folder / "mounted", "--overlay", disk / "overlay") as mount:
+            check("full: mounted again", sorted(mount.folder.glob("large *")), sorted(stored))
+            check("full: what is there", {path.read_bytes() == data for path in stored}, {True})
+            check("full: what came after it", (mount.folder / "small").read_bytes(), b"small")
+            check("full: the second end", (mount.end("SIGTERM"), mount.said()), (0, []))
+
+
+def filled(folder: pathlib.Path, data: bytes) -> tuple[object, list[pathlib.Path]]:
+    """Writes files until one is refused: how that is, and those that were closed."""
+    stored: list[pathlib.Path] = []
+    while len(stored) < DISK // PIECE + 1:
+        path = folder / f"large {len(stored)}"
+        told = tried(path.write_bytes, data)
+        if told != len(data):
+            return told, stored
+        stored.append(path)
+    return None, stored
