@@ -1,0 +1,174 @@
+"""Journals that killed programs left beside an overlay's files: cut, damaged, full, or before a later close.
+
+What they hold is read by their description alone, and what it makes of the tree is known from the requests.
+"""
+
+import pathlib
+import random
+import shutil
+import signal
+from collections.abc import Iterator
+from typing import NamedTuple
+
+from checks import check, watched
+from helpers.running import pipes
+from overlays import Commit, Place, as_described, check_closed, check_session, replied, wanted_reply
+from random_requests import LOOKS, WORDS, RandomRequests, line_of, whole
+from yakembi.overlay_files import JOURNAL, RECORD_BYTES, Shown, records
+from yakembi.tree_model import LONGEST_DATA, Nodes, WholeTree, without_number
+
+NAMES = [b"a", b"b", b"c", b"dir", b"many", b"plain.txt", b"new\nline"]
+MOST_NODES = 1_000
+# A move between two directories stores the one and then the other, so that a cut between them shows neither.
+CHANGES = [word for word in WORDS if word not in [*LOOKS, "rename"]]
+REQUESTS, CUTS = 120, 60
+# A journal with more bytes becomes numbered files at the next change.
+FULL = 64 << 20
+# How large a file is that is written again and again, and how often.
+LARGE, WRITES = 15 * LONGEST_DATA, 100
+RESCAN = "--rescan"
+
+
+class Left(NamedTuple):
+    """What a killed program left: its overlay, how long the journal was after each answered request, beginning before
+    the first, and what the tree was then."""
+
+    place: Place
+    sizes: list[int]
+    trees: list[Nodes]
+
+
+def journal_of(place: Place) -> pathlib.Path:
+    return place.overlay / JOURNAL
+
+
+def size_of(journal: pathlib.Path) -> int:
+    return journal.stat().st_size if journal.exists() else 0
+
+
+def left_by(generator: random.Random, place: Place, nodes: Nodes) -> Left:
+    """Random changes, each answered before the next is sent, and then a kill."""
+    tree = WholeTree(dict(nodes))
+    requests = RandomRequests(generator, tree, NAMES, MOST_NODES)
+    left = Left(place, [0], [dict(tree.nodes)])
+    with watched(place.start()) as session:
+        to, by = pipes(session)
+        for _ in range(REQUESTS):
+            word, fields = requests.one(CHANGES)
+            wanted = wanted_reply(tree, word, fields)
+            to.write(line_of(word, fields) + b"\n")
+            reply = by.readline()
+            check("a reply before the kill", without_number(reply[:-1]), wanted or b"")
+            left.sizes.append(size_of(journal_of(place)))
+            left.trees.append(dict(tree.nodes))
+        session.send_signal(signal.SIGKILL)
+        session.communicate()
+    return left
+
+
+def check_as_cut(name: str, commit: Commit, left: Left, copy: Place, length: int) -> None:
+    """A copy of which the journal counts up to that length shows what was answered by then, or one request more: by its
+    description, and to the program."""
+    done = max(number for number, size in enumerate(left.sizes) if size <= length)
+    shown = as_described(name, Shown, commit, copy.files())
+    if shown is None:
+        return
+    check(f"{name}: what the files show", shown.nodes in left.trees[done : done + 2], True)
+    tree = WholeTree(shown.nodes)
+    check_session(f"{name}: what the program shows", copy, replied(tree, whole(tree)), RESCAN)
+    check_closed(name, copy, commit, tree)
+    check(f"{name}: no journal afterwards", journal_of(copy).exists(), False)
+
+
+def copy_of(left: Left, journal: bytes, folder: pathlib.Path) -> Place:
+    """A copy of the overlay, with this journal."""
+    copy = Place(left.place.root, left.place.objects, folder)
+    shutil.rmtree(folder, ignore_errors=True)
+    shutil.copytree(left.place.overlay, folder)
+    journal_of(copy).write_bytes(journal)
+    return copy
+
+
+def ends_of(journal: bytes) -> Iterator[int]:
+    """Where each record ends."""
+    at = 0
+    for _, _, body in records(journal):
+        at += RECORD_BYTES + len(body)
+        yield at
+
+
+def check_cut_journals(folder: pathlib.Path, commit: Commit, objects: pathlib.Path, seed: int) -> None:
+    """A journal that is cut, between records and in them, and one of which a byte is another."""
+    generator = random.Random(seed)
+    left = left_by(generator, Place(commit.root, objects, folder / "left"), commit.nodes)
+    journal = journal_of(left.place).read_bytes()
+    ends = [0, *ends_of(journal)]
+    check("all of the journal are records", ends[-1], len(journal))
+    check(f"enough records, of {len(ends)}", len(ends) > REQUESTS // 2, True)
+    for _ in range(CUTS):
+        number = generator.randrange(len(ends) - 1)
+        start, end = ends[number], ends[number + 1]
+        cut = generator.choice([start, start + 1, start + RECORD_BYTES, end - 1, end, generator.randrange(start, end)])
+        copy = copy_of(left, journal[:cut], folder / "copy")
+        check_as_cut(f"cut at {cut}, in a record from {start} to {end}", commit, left, copy, cut)
+        at = generator.randrange(start, end)
+        changed = journal[:at] + bytes([journal[at] ^ generator.randrange(1, 256)]) + journal[at + 1 :]
+        copy = copy_of(left, changed, folder / "copy")
+        check_as_cut(f"byte {at} as {changed[at]}, in a record from {start} to {end}", commit, left, copy, start)
+
+
+def check_journal_beside_state(folder: pathlib.Path, commit: Commit, objects: pathlib.Path, seed: int) -> None:
+    """A program that knows of no journals opens what a kill left, without what is in the journal, changes and closes
+    it. The journal then says nothing."""
+    left = left_by(random.Random(seed), Place(commit.root, objects, folder / "left"), commit.nodes)
+    journal = journal_of(left.place)
+    data = journal.read_bytes()
+    journal.unlink()
+    tree = WholeTree(dict(commit.nodes))
+    changes = [("mkdir", ((b"later",),)), ("create", ((b"later", b"file"),)), ("write", ((b"plain.txt",), 0, b"later"))]
+    check_session("a later close", left.place, replied(tree, changes), RESCAN)
+    journal.write_bytes(data)
+    check_closed("a journal beside a state", left.place, commit, tree)
+    check_session("what the program shows", left.place, replied(tree, whole(tree)))
+    check("no journal afterwards", journal.exists(), False)
+
+
+def check_full_journal(folder: pathlib.Path, commit: Commit, objects: pathlib.Path, seed: int) -> None:
+    """One file is written until the journal is full, and its program is killed while it is, before that or after it."""
+    generator = random.Random(seed)
+    place = Place(commit.root, objects, folder / "full")
+    tree = WholeTree(dict(commit.nodes))
+    made = [("create", ((b"large",),)), ("truncate", ((b"large",), LARGE))]
+    poured = 0
+    with watched(place.start()) as session:
+        to, by = pipes(session)
+        for word, fields in made:
+            to.write(line_of(word, fields) + b"\n")
+            check(word, by.readline(), wanted_line(tree, word, fields))
+        last = generator.randrange(WRITES // 2, WRITES)
+        size = 0
+        for number in range(last):
+            piece = (b"large",), generator.randrange(15) * LONGEST_DATA, generator.randbytes(LONGEST_DATA)
+            to.write(line_of("write", piece) + b"\n")
+            check(f"write {number}", by.readline(), wanted_line(tree, "write", piece))
+            before, size = size, size_of(journal_of(place))
+            poured += size < before
+            check("no journal is much over its bound", size < FULL + 2 * LARGE, True)
+        trees = [dict(tree.nodes)]
+        piece = (b"large",), 0, generator.randbytes(LONGEST_DATA)
+        to.write(line_of("write", piece) + b"\n")
+        wanted_line(tree, "write", piece)
+        trees.append(dict(tree.nodes))
+        session.send_signal(signal.SIGKILL)
+        session.communicate()
+    check(f"how often it was emptied in {last} writes", poured, (last * (LARGE + 112) > FULL) * 1)
+    shown = as_described("full", Shown, commit, place.files())
+    check("what the files show", shown is not None and shown.nodes in trees, True)
+    if shown is not None:
+        tree = WholeTree(shown.nodes)
+        check_session("what the program shows", place, replied(tree, whole(tree)), RESCAN)
+        check_closed("full", place, commit, tree)
+
+
+def wanted_line(tree: WholeTree, word: str, fields: tuple[object, ...]) -> bytes:
+    return (wanted_reply(tree, word, fields) or b"") + b"\n"
