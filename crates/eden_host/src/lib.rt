@@ -25,5 +25,5 @@ pub use fetchers::Fetchers;
 pub use guest::Guest;
 pub use hosting::{Hosted, host};
 pub use served::Served;
-pub use sharing::{HostedTable, host_table};
+pub use sharing::{HostedTable, host_table, share};
 pub use unloading::Unloading;

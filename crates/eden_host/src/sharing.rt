@@ -34,7 +34,7 @@ pub struct HostedTable<T> {
 
 /// Shares a mount of that room over a table that shows the opening tree, and numbers that back the opening ones. The
 /// only error is want of memory, and the table comes back.
-fn share<W: World, T: Attempts<W> + Drop, A: Allocator, J: Naming, H: History>(
+pub fn share<W: World, T: Attempts<W> + Drop, A: Allocator, J: Naming, H: History>(
     alloc: Global,
     room: Room<A>,
     table: T,
