@@ -1,0 +1,3 @@
+pub mod LookedOn
+pub mod Running
+pub mod Gathering

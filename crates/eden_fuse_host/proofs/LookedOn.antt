@@ -1,0 +1,85 @@
+-- A pass with which looks alone are made.
+use Rattle.std.proofs.Common.{◌≡◌, ℕ, List, [], ◌∷◌, ◌++◌, sym, ap, ◌∙◌, append_assoc, append-nil}
+use Rattle.std.specs.Prelude.{⊤, Result}
+use Rattle.std.specs.List.{AllByRecursion}
+use Rattle.eden_model.specs.declared.request.Request.{Request}
+use Rattle.eden_model.specs.Numbers.{Numbers}
+use Rattle.eden_model.specs.Trees.{Tree}
+use Rattle.eden_shared.specs.declared.account.Told.{Told}
+use Rattle.eden_shared.specs.Accounts.{told}
+use Rattle.eden_shared.specs.Calls.{Grows}
+use Rattle.eden_shared.specs.Passes.{Carried}
+use Rattle.eden_fuse_format.specs.declared.message.Header.{Header}
+use Rattle.eden_fuse_format.specs.declared.message.Message.{Message}
+use Rattle.eden_fuse_format.specs.declared.message.Message.TheVariants as message
+use Rattle.eden_fuse_format.specs.Asked.{Asked}
+use Rattle.eden_fuse_session.specs.declared.receiver.Receiver.{Ghosts as Receiver}
+use Rattle.eden_fuse_session.specs.declared.sender.Sender.{Ghosts as Sender}
+use Rattle.eden_fuse_session.specs.declared.serving.SessionFault.{SessionFault}
+use Rattle.eden_fuse_session.specs.declared.turning.Turned.{Turned}
+use Rattle.eden_fuse_session.specs.Turns.{Does, Line}
+use Rattle.eden_fuse_session.specs.Turns.{Told as Answer}
+use Rattle.eden_fuse_session.specs.Sessions.{Serves, Serving, Session}
+use Rattle.eden_fuse_shown.specs.Looking.{ChangesNothing}
+use Rattle.eden_fuse_host.specs.Hands.{HandAnswers, IsAttended, taken_by}
+use Rattle.eden_fuse_host.specs.Passing.{HasLooked}
+
+abbrev IsQuiet : Told → Type 0
+IsQuiet t = ChangesNothing t.request
+
+-- no look was made
+pub looked_same : (p p' : Carried) → p' ≡ p → HasLooked p p'
+looked_same p p' same = record {
+  seat = (ap (λ (x : Carried). x.number) same, ap (λ (x : Carried). x.terms) same);
+  looks = [];
+  told = ap (λ (x : Carried). x.told) same ∙ sym (append-nil p.told);
+  change_nothing = tt;
+}
+
+-- one look was made
+pub looked_once : (honest : Type 0) (opening : Tree) (N : Numbers) (p p' : Carried) (q : Request) → ChangesNothing q → Grows honest opening N p q p' → HasLooked p p'
+looked_once honest opening N p p' q quiet grown = record {
+  seat = (ap (λ (x : Carried). x.number) grown.is, ap (λ (x : Carried). x.terms) grown.is);
+  looks = told grown.number q grown.reply ∷ [];
+  told = ap (λ (x : Carried). x.told) grown.is;
+  change_nothing = (quiet, tt);
+}
+
+all_quiet : (ts us : List Told) → AllByRecursion IsQuiet ts → AllByRecursion IsQuiet us → AllByRecursion IsQuiet (ts ++ us)
+all_quiet [] us a b = b
+all_quiet (t ∷ ts) us a b = (a.0, all_quiet ts us a.1 b)
+
+-- looks after looks
+pub looked_on : (p q r : Carried) → HasLooked p q → HasLooked q r → HasLooked p r
+looked_on p q r a b = record {
+  seat = (b.seat.0 ∙ a.seat.0, b.seat.1 ∙ a.seat.1);
+  looks = a.looks ++ b.looks;
+  told = b.told ∙ ap (λ (ts : List Told). ts ++ b.looks) a.told ∙ append_assoc p.told a.looks b.looks;
+  change_nothing = all_quiet a.looks b.looks a.change_nothing b.change_nothing;
+}
+
+module _ (Turns : Header → Asked → Answer → Type 0) where
+  looked_for : (m : Message) (p p' : Carried) (old new : Line) (room : ℕ) (r : Turned) → Does (HandAnswers Turns) m p p' old new room r → HasLooked p p'
+  looked_for (message.Request header operation) p p' old new room r does = does.1.0
+  looked_for (message.Unknown unique) p p' old new room r does = looked_same p p' does.0
+  looked_for (message.Malformed unique) p p' old new room r does = looked_same p p' does.0
+  looked_for message.Unframed p p' old new room r does = looked_same p p' does.0
+
+  -- looks alone were made for messages
+  pub looked_through : (ms : List (List ℕ)) (s t : Serving Carried) → Serves (HandAnswers Turns) ms s t → HasLooked s.0 t.0
+  looked_through [] s t same = looked_same s.0 t.0 (ap (λ (x : Serving Carried). x.0) (sym same))
+  looked_through (m ∷ ms) s t (u, room, r, (is, reads, does), rest) =
+      looked_on s.0 u.0 t.0 (looked_for is s.0 u.0 s.1 u.1 room r does) (looked_through ms u t rest)
+
+-- a thread's session
+module _ {V O : Type 0} (v : Receiver V) (o : Sender O) (Turns : Header → Asked → Answer → Type 0) where
+  pub attended : (p p' : Carried) (receiver left : V) (sender sent : O) (said : Result ⊤ SessionFault)
+      → Session (HandAnswers Turns) (p, taken_by o sender) (p', taken_by o sent) (v.waiting receiver) (v.waiting left) said → IsAttended v o Turns p p' said
+  attended p p' receiver left sender sent said s = record {
+    receiver = receiver;
+    left = left;
+    sender = sender;
+    sent = sent;
+    session = s;
+    looked = looked_through Turns s.messages (p, taken_by o sender) (p', taken_by o sent) s.served;
+  }

@@ -1,0 +1,4 @@
+pub mod Passing
+pub mod Turns
+pub mod Hands
+pub mod Sharing

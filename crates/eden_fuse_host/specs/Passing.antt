@@ -1,0 +1,30 @@
+-- What a shared mount says through a pass, and a pass with which looks alone were made.
+use Rattle.std.specs.Prelude.{◌≡◌, ◌++◌, List, Result, Ok, Err}
+use Rattle.std.specs.List.{AllByRecursion}
+use Rattle.eden_model.specs.declared.fault.CallFault.{CallFault}
+use Rattle.eden_model.specs.declared.request.Request.{Request}
+use Rattle.eden_model.specs.declared.reply.Reply.{Reply}
+use Rattle.eden_model.specs.Numbers.{Numbers}
+use Rattle.eden_model.specs.Trees.{Tree}
+use Rattle.eden_shared.specs.declared.account.Told.{Told}
+use Rattle.eden_shared.specs.declared.lanes.Answered.{Answered}
+use Rattle.eden_shared.specs.Calls.{Gives, IsLawful}
+use Rattle.eden_shared.specs.Passes.{Carried}
+use Rattle.eden_fuse_shown.specs.Looking.{ChangesNothing}
+
+module _ (honest : Type 0) (opening : Tree) (numbers : Numbers) where
+  -- the pass was told of one call more, and its reply is the mount's; or the request wasn't served, and the pass stays
+  abbrev pub PassAnswers : Carried → Request → Result Reply CallFault → Carried → Type 0
+  PassAnswers p q (Ok reply) p' = (a : Answered) × Gives honest opening numbers p q a p' × (reply ≡ a.reply)
+  PassAnswers p q (Err fault) p' = IsLawful honest opening numbers p fault × (p' ≡ p)
+
+-- the pass of the same number of the same mount
+abbrev pub IsSameSeat : Carried → Carried → Type 0
+IsSameSeat p p' = (p'.number ≡ p.number) × (p'.terms ≡ p.terms)
+
+-- .. was told of looks alone since then
+pub record HasLooked (p p' : Carried) : Type 0 where
+  pub seat : IsSameSeat p p'
+  pub looks : List Told
+  pub told : p'.told ≡ p.told ++ looks
+  pub change_nothing : AllByRecursion (λ (t : Told). ChangesNothing t.request) looks

@@ -1,0 +1,61 @@
+ghost use Rattle.std.specs.Prelude.{◌≡◌, MatchResult};
+ghost use Rattle.eden_shared.specs.Calls.{Gives, IsLawful};
+
+use eden_history::History;
+use eden_model::{CallFault, Path, Request, World};
+use eden_mount::Attempts;
+use eden_shared::{Answered, Naming, Pass, Shared};
+use eden_source::Source;
+use std::alloc::Allocator;
+use std::sync::Wait;
+
+/// A mount that a folder's threads share, whatever its table, its allocator and its history are.
+pub(crate) trait Asking<W: World, J: Naming> {
+    /// Asks a request with that pass, fetches from the source what it needs, and waits for its reply; or the pass
+    /// stays as it was.
+    fn ask<S: Source<W>, R: Wait>(
+        &self,
+        rt: &R,
+        pass: &mut Pass<J>,
+        source: &mut S,
+        request: Request,
+    ) -> Result<Answered, CallFault>
+        ensures { MatchResult result (λ a. Gives W.honest W.opening W.numbers pass.old request a pass.new)
+            (λ fault. IsLawful W.honest W.opening W.numbers pass.old fault × (pass.new ≡ pass.old)) };
+
+    /// Lets go of the loaded directories at and below the path that weren't used for so many turns. How many went.
+    fn let_go<R: Wait>(&self, rt: &R, path: &Path, older_than: u64) -> u64;
+}
+
+impl<W: World, T: Attempts<W> + Drop, A: Allocator, J: Naming, H: History> Asking<W, J>
+    for Shared<W, T, A, J, H> {
+    fn ask<S: Source<W>, R: Wait>(
+        &self,
+        rt: &R,
+        pass: &mut Pass<J>,
+        source: &mut S,
+        request: Request,
+    ) -> Result<Answered, CallFault> {
+        pass.call_by(self, rt, source, request)
+    }
+
+    fn let_go<R: Wait>(&self, rt: &R, path: &Path, older_than: u64) -> u64 {
+        self.unload(rt, path, older_than)
+    }
+}
+
+impl<W: World, J: Naming, C: Asking<W, J>> Asking<W, J> for &C {
+    fn ask<S: Source<W>, R: Wait>(
+        &self,
+        rt: &R,
+        pass: &mut Pass<J>,
+        source: &mut S,
+        request: Request,
+    ) -> Result<Answered, CallFault> {
+        (**self).ask(rt, pass, source, request)
+    }
+
+    fn let_go<R: Wait>(&self, rt: &R, path: &Path, older_than: u64) -> u64 {
+        (**self).let_go(rt, path, older_than)
+    }
+}
