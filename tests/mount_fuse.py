@@ -230,6 +230,7 @@ def check_signed_commit(folder: pathlib.Path) -> None:
     with MountGit(repository, commit, folder / "mounted", "--overlay", folder / "overlay") as mount:
         noted = (folder / "overlay/mount-git").read_text()
         check("signed: what is noted of it", noted, f"{tree} 1000000000 {commit}\n")
+        check("signed: the commit's time", (mount.folder / "plain.txt").stat().st_mtime, 1_000_000_000)
         check("signed: the end, with nothing said", (mount.end("SIGTERM"), mount.said()), (0, []))
 
 
@@ -364,7 +365,6 @@ def check_failing_remote(folder: pathlib.Path) -> None:
 
 def check_open_files(folder: pathlib.Path, repository: pathlib.Path) -> None:
     """What programs do with open files and attributes is as docs/MOUNT-GIT.md says."""
-    began = time.time()
     with MountGit(repository, "HEAD", folder / "mounted") as mount:
         top = mount.folder
         (top / "gone").write_text("abc")
@@ -386,13 +386,14 @@ def check_open_files(folder: pathlib.Path, repository: pathlib.Path) -> None:
         writers = [subprocess.Popen(["sh", "-c", command], cwd=top) for _ in range(4)]
         check("open: four append", [writer.wait(PATIENCE) for writer in writers], [0] * 4)
         check("open: each line is there", (top / "log").read_text(), "line\n" * 20)
-        check_attributes(top, began)
+        check_attributes(top, repository)
         check("open: the end, with nothing said", (mount.end("SIGTERM"), mount.said()), (0, []))
 
 
-def check_attributes(top: pathlib.Path, began: float) -> None:
+def check_attributes(top: pathlib.Path, repository: pathlib.Path) -> None:
     place = Folder(top)
-    check("attributes: a file's time is the mount's", began <= (top / "run.sh").stat().st_mtime <= time.time(), True)
+    committed = int(git(repository, "log", "-1", "--format=%ct"))
+    check("attributes: a file's time is the commit's", (top / "run.sh").stat().st_mtime, committed)
     before = (top / "log").stat().st_mtime_ns
     (top / "log").write_text("again")
     check("attributes: a change's time rises", before < (top / "log").stat().st_mtime_ns, True)

@@ -99,7 +99,8 @@ def names_in(path: str) -> Path:
 
 
 def check_times(folder: pathlib.Path) -> None:
-    """What isn't changed is as old as the run. A time may be set alone, and a change's is the clock's and rises."""
+    """What was never changed is as old as the run, or as is said. A time may be set alone, and a change's is the
+    clock's and rises; the next run tells it too."""
     file = (b"test.txt",)
     before = time.time_ns()
     with showing(SAMPLE_ROOT, ["--objects", SAMPLE_OBJECTS], folder / "overlay") as kernel:
@@ -125,8 +126,20 @@ def check_times(folder: pathlib.Path) -> None:
             top = place.look(())
             place.mkdir((b"folder",))
             check("times: the folder's above", top.content < place.look(()).content, True)
-        check("times: what was forgotten", place.look(file).content, start.content)
+        check("times: what was forgotten keeps its own", place.look(file).content, 9)
+        place.write(file, 0, b"y")
         check("times: the end", kernel.end(), CLOSED)
+    after = time.time_ns()
+    since = ["--objects", SAMPLE_OBJECTS, "--since", 1_000_000_000]
+    with showing(SAMPLE_ROOT, since, folder / "overlay") as kernel:
+        place = MessageFolder(kernel)
+        for path in (file, (b"folder",), ()):
+            found = place.look(path)
+            check(f"times: an earlier run changed {path}", before <= found.content <= after, True)
+        check("times: the second end", kernel.end(), CLOSED)
+    with showing(SAMPLE_ROOT, since, folder / "another overlay") as kernel:
+        check("times: of what was never changed", MessageFolder(kernel).look(file).content, 10 ** 18)
+        check("times: the third end", kernel.end(), CLOSED)
 
 
 @contextlib.contextmanager

@@ -29,6 +29,8 @@ MS_NOSUID, MS_NODEV, MNT_FORCE, MNT_DETACH = 2, 4, 1, 2
 OPTIONS = ["default_permissions", "max_read=65536"]
 ENDED = (signal.SIGTERM, signal.SIGINT, signal.SIGHUP)
 LIBC = ctypes.CDLL(None, use_errno=True)
+# As many as `mountd fuse` takes.
+MOST_THREADS = 63
 Result = TypeVar("Result")
 
 
@@ -149,9 +151,10 @@ class Showing:
     """A folder that one `mountd fuse` after another shows, over one overlay."""
 
     def __init__(self, mountd: str | os.PathLike[str], root: str, source: Sequence[object], overlay: str, folder: str,
-                 seconds_locked: float) -> None:
+                 seconds_locked: float, since: int, threads: int) -> None:
+        """What was never changed has the time `since`, in seconds."""
         self.words = [os.fspath(mountd), "fuse", "--root", root, *[str(word) for word in source], "--overlay", overlay,
-                      "--cache-entries", str(CACHE_ENTRIES)]
+                      "--cache-entries", str(CACHE_ENTRIES), "--since", str(since), "--threads", str(threads)]
         self.folder = folder
         self.seconds_locked = seconds_locked
         self.is_ended = False

@@ -37,6 +37,8 @@ BESIDE = SCRIPTS.parents[1] / "bin/mountd" if IS_INSTALLED else SCRIPTS.parent /
 MOUNTD = os.environ.get("MOUNTD", BESIDE)
 # A mountd whose folder was just unmounted still closes the overlay, and has it for so long.
 SECONDS_LOCKED = 10
+# As many requests are answered at once where nobody says how many.
+THREADS = 4
 # How long git-objects may take to end.
 SECONDS_TO_END = 10
 UNOPENED = {
@@ -258,7 +260,8 @@ def show(words: argparse.Namespace, repository: Repository, noted: Noted, source
          folder: str) -> str | None:
     """Shows the folder by `mountd fuse`; what that said where it didn't end well."""
     os.makedirs(folder, exist_ok=True)
-    showing = kernel.Showing(words.mountd, noted.tree, source, overlay.path, folder, SECONDS_LOCKED)
+    showing = kernel.Showing(words.mountd, noted.tree, source, overlay.path, folder, SECONDS_LOCKED, noted.seconds,
+                             words.threads)
     answers = Asked(showing, words.mountd, source, repository, words.revision, overlay).answers()
     with kernel.ended_by_signals(showing):
         try:
@@ -291,6 +294,13 @@ def run(words: argparse.Namespace) -> None:
         raise Refusal(f"the overlay {overlay.path} wasn't closed well: {problem}")
 
 
+def number_of_threads(text: str) -> int:
+    number = int(text)
+    if not 1 <= number <= kernel.MOST_THREADS:
+        raise ValueError
+    return number
+
+
 def parser() -> argparse.ArgumentParser:
     found = argparse.ArgumentParser(prog="mount-git", description=__doc__,
                                     formatter_class=argparse.RawDescriptionHelpFormatter)
@@ -305,6 +315,8 @@ def parser() -> argparse.ArgumentParser:
                        f"subfolders, and other files of a folder whose files are read; 0: none; {AHEAD} if left out")
     found.add_argument("--kernel", action="store_true",
                        help="has no effect any more: mountd always speaks the kernel's protocol itself")
+    found.add_argument("--threads", metavar="N", type=number_of_threads, default=THREADS,
+                       help=f"how many requests are answered at once; {THREADS} if left out")
     found.add_argument("--log", action="store_true", help="tell each object that is fetched on standard error")
     return found
 

@@ -13,7 +13,7 @@ use std::rc::Rc;
 use test_samples::{Call as SystemCall, FaultySystem};
 
 #[derive(Clone, Copy)]
-enum Call {
+pub enum Call {
     Read(u64),
     Head(u64),
     Replace(u64, &'static [u8]),
@@ -22,7 +22,7 @@ enum Call {
 }
 
 #[derive(Clone, Copy)]
-enum Answer {
+pub enum Answer {
     Bytes(Option<&'static [u8]>),
     // The first 64 bytes, of a file that has as many, and its length.
     Head(Option<(&'static [u8], u64)>),
@@ -79,7 +79,11 @@ fn is_done(answer: Result<(), FilesFault>, want: Answer) -> bool {
 }
 
 // Whether the files give those answers to the calls, made one after another.
-fn gives_all<F: Files<Outside>>(files: &mut F, alloc: Global, calls: &[(Call, Answer)]) -> bool {
+pub fn gives_all<F: Files<Outside>>(
+    files: &mut F,
+    alloc: Global,
+    calls: &[(Call, Answer)],
+) -> bool {
     for (call, want) in calls {
         if !gives(files, alloc, *call, *want) {
             return false;
@@ -88,12 +92,26 @@ fn gives_all<F: Files<Outside>>(files: &mut F, alloc: Global, calls: &[(Call, An
     true
 }
 
-const SIXTY_FOUR: &[u8] = b"0123456789abcdef0123456789abcdef0123456789abcdef0123456789abcdef";
+// The same, but for the calls that list.
+pub fn gives_all_but_lists<F: Files<Outside>>(
+    files: &mut F,
+    alloc: Global,
+    calls: &[(Call, Answer)],
+) -> bool {
+    for (call, want) in calls {
+        if !matches!(call, Call::List) && !gives(files, alloc, *call, *want) {
+            return false;
+        }
+    }
+    true
+}
 
-const SIXTY_SIX: &[u8] = b"0123456789abcdef0123456789abcdef0123456789abcdef0123456789abcdef..";
+pub const SIXTY_FOUR: &[u8] = b"0123456789abcdef0123456789abcdef0123456789abcdef0123456789abcdef";
+
+pub const SIXTY_SIX: &[u8] = b"0123456789abcdef0123456789abcdef0123456789abcdef0123456789abcdef..";
 
 // What every kind of files answers that is empty at first.
-const BEHAVIOUR: &[(Call, Answer)] = &[
+pub const BEHAVIOUR: &[(Call, Answer)] = &[
     (Call::List, Answer::Numbers(&[])),
     (Call::Read(10), Answer::Bytes(None)),
     (Call::Replace(10, b"ten"), Answer::Done),

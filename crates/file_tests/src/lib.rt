@@ -9,6 +9,8 @@ mod folders;
 #[cfg(test)]
 mod formats;
 #[cfg(test)]
+mod journals;
+#[cfg(test)]
 mod kinds;
 #[cfg(test)]
 mod numbers;

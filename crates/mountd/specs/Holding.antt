@@ -5,6 +5,8 @@ use Rattle.std.specs.declared.fs.TryLockError.{TryLockError}
 use Rattle.std.specs.declared.fs.TryLockError.TheVariants as lock
 use Rattle.std.specs.declared.io.Error.{Error}
 use Rattle.std.specs.declared.io.ErrorKind.TheVariants.{OutOfMemory}
+use Rattle.eden_overlay.specs.declared.files.FilesFault.{FilesFault}
+use Rattle.eden_overlay.specs.declared.files.FilesFault.TheVariants as files
 use Rattle.mountd.specs.declared.hold.HoldFault.{HoldFault}
 use Rattle.mountd.specs.declared.hold.HoldFault.TheVariants as hold
 
@@ -16,3 +18,8 @@ IsDeviceFault e f = (error_kind e ≡ OutOfMemory → f ≡ hold.Memory) × (err
 abbrev pub IsLockFault : TryLockError → HoldFault → Type 0
 IsLockFault lock.WouldBlock f = f ≡ hold.Locked
 IsLockFault (lock.Error e) f = IsDeviceFault e f
+
+-- .. and a fault of the folder's files as what it is
+abbrev pub of_files : FilesFault → HoldFault
+of_files files.Device = hold.Device
+of_files files.Memory = hold.Memory

@@ -9,10 +9,14 @@ use Rattle.eden_overlay.specs.declared.files.Files.{Ghosts as Files}
 use Rattle.eden_mount.specs.Settings.{Settings}
 use Rattle.eden_wire.specs.Serving.{Known}
 use Rattle.eden_fuse_session.specs.Sending.{Known as Messages}
+use Rattle.eden_fuse_session.specs.declared.receiver.Receiver.{Ghosts as Receiver}
+use Rattle.eden_fuse_session.specs.declared.sender.Sender.{Ghosts as Sender}
 use Rattle.eden_fuse_session.specs.Turns.{Line}
 use Rattle.eden_fuse_shown.specs.declared.manner.Manner.{Manner}
 use Rattle.eden_fuse_life.specs.declared.life.FolderEnding.{FolderEnding}
 use Rattle.eden_fuse_life.specs.Lives.{LivesFolder}
+use Rattle.eden_fuse_shared_life.specs.declared.life.SharedFolderEnding.{SharedFolderEnding}
+use Rattle.eden_fuse_shared_life.specs.Lives.{LivesShared as LivesSharedFolder}
 use Rattle.eden_stdio_life.specs.declared.life.Backing.{Backing}
 use Rattle.eden_stdio_life.specs.declared.life.Ending.{Ending}
 use Rattle.eden_stdio_life.specs.declared.opening.Base.{Base}
@@ -60,3 +64,11 @@ module _ {W F I O : Type 0} (w : Ghosts W) (f : Files F W) (i : Read I) (o : Wri
     pub left : SharedEnding F
     pub lived : LivesShared w f i o limit base settings files left
     pub told : status ≡ shared_status left.outcome
+
+module _ {W F V O : Type 0} (w : Ghosts W) (f : Files F W) (v : Receiver V) (o : Sender O) (limit : ℕ) where
+  -- a mount was shown as a folder by several threads, and the status tells how that ended
+  pub record IsSharedFolderRun (base : Base) (settings : Settings) (files : F) (status : ℕ) : Type 0 where
+    pub manner : Manner
+    pub left : SharedFolderEnding F
+    pub lived : LivesSharedFolder w f v o limit base settings manner files left
+    pub told : status ≡ folder_status left.outcome

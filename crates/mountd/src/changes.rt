@@ -6,13 +6,14 @@ ghost use Rattle.mountd.specs.Snapshots.{take_status};
 
 use crate::hold::hold_existing;
 use crate::lines::LineSink;
+use crate::overlay_files::{OverlayFiles, overlay_files};
 use crate::report;
 use crate::report::repository_name;
 use crate::snapshot::{TakeFault, closed_name, snapshot_name};
 use crate::sources::{folder_source, git_source, shared_source, socket_source};
 use eden_git::GitFault;
 use eden_model::{Id, Outside};
-use eden_overlay::{FolderFiles, Overlay};
+use eden_overlay::Overlay;
 use eden_snapshot::{SnapshotFault, expect_closed};
 use eden_source::Source;
 use mountd_options::{ClosedOptions, Objects};
@@ -23,7 +24,7 @@ use std::process::ExitCode;
 #[derive(Drop)]
 struct Closed {
     root: Id,
-    files: FolderFiles<HostRuntime>,
+    files: OverlayFiles,
 }
 
 /// Prints how what a closed overlay shows differs from the tree that it stands on, a line for each path. The overlay's
@@ -37,8 +38,10 @@ pub fn changes(rt: &HostRuntime, options: ClosedOptions) -> ExitCode {
     match hold_existing(rt, rt.alloc(), overlay) {
         Err(fault) => report::unopened(rt, fault.name()),
         Ok((folder, lock)) => {
-            let files = FolderFiles::new(*rt, folder);
-            let status = tell_with(rt, objects, Closed { root, files });
+            let status = match overlay_files(rt, folder) {
+                Err(fault) => report::unopened(rt, fault.name()),
+                Ok(files) => tell_with(rt, objects, Closed { root, files }),
+            };
             drop(lock);
             status
         }

@@ -4,99 +4,88 @@ ghost use Rattle.std.specs.Process.{exit_status};
 ghost use Rattle.eden_checkout.specs.Opening.{MayOpen};
 ghost use Rattle.mountd.specs.Runs.{IsFolderRun, copies_of, limit_of};
 
-use crate::hold::{hold_overlay, opening};
+use crate::hold::{HoldFault, hold_overlay, opening};
 use crate::kernel::{KernelInput, KernelOutput};
+use crate::look::{look, note_changes};
+use crate::overlay_files::overlay_files;
 use crate::report;
 use crate::report::repository_name;
+use crate::shared_folder::share_files;
 use crate::sources::{folder_source, git_source, shared_source, socket_source};
-use eden_fuse_format::{StatFsOut, Time};
 use eden_fuse_life::{Look, live_folder};
-use eden_fuse_meaning::Owner;
-use eden_fuse_shown::Manner;
 use eden_git::GitFault;
 use eden_history::{Counted, History, Kept};
 use eden_model::{Outside, World};
 use eden_mount::Config;
-use eden_overlay::{Files, FolderFiles, MemoryFiles};
+use eden_overlay::{Files, MemoryFiles};
 use eden_source::Source;
 use eden_stdio_life::{Backing, Base};
-use mountd_options::{HistoryOption, MountOptions, Objects};
-use std::fs;
-use std::os::unix::fs::MetadataExt;
-use std::path::Path;
+use mountd_options::{FuseOptions, HistoryOption, MountOptions, Objects};
+use std::marker::{Send, Sync};
+use std::path::PathBuf;
 use std::process::ExitCode;
-use std::time::{SystemTime, UNIX_EPOCH};
-
-/// For how many seconds the kernel may keep what it was told, since nobody else changes it.
-const KEEP: u64 = 60;
-
-/// What is told of the disk: 4 TiB, half of them free. What changes need of room is the overlay's.
-const SPACE: StatFsOut = StatFsOut {
-    blocks: 1 << 30,
-    bfree: 1 << 29,
-    bavail: 1 << 29,
-    files: 1 << 30,
-    ffree: 1 << 29,
-    bsize: 4_096,
-    namelen: 255,
-    frsize: 4_096,
-};
+use std::sync::Wait;
+use std::thread::Threads;
 
 /// Shows a mount as a folder, whose descriptor is standard input and output, until it is unmounted.
-pub fn folder(rt: &HostRuntime, mut options: MountOptions) -> ExitCode {
-    match hold_overlay(rt, rt.alloc(), options.overlay.take()) {
+pub fn folder<R: Threads + Wait + Sync>(
+    threads: &R,
+    rt: &HostRuntime,
+    mut options: FuseOptions,
+) -> ExitCode {
+    let look = look(rt, options.since);
+    match hold_overlay(rt, rt.alloc(), options.mount.overlay.take()) {
         Err(fault) => report::unopened(rt, fault.name()),
-        Ok(None) => show_files(rt, options, MemoryFiles::new(rt.alloc())),
+        Ok(None) => show_files(threads, rt, options, look, MemoryFiles::new(rt.alloc())),
         Ok(Some((folder, lock))) => {
-            let status = show_files(rt, options, FolderFiles::new(*rt, folder));
+            let status = show_overlay(threads, rt, options, look, folder);
             drop(lock);
             status
         }
     }
 }
 
-/// Who runs this program, to whom all that is shown belongs; root where that can't be told.
-fn owner(rt: &HostRuntime) -> Owner {
-    match fs::metadata(rt, Path::new("/proc/self")) {
-        Err(_) => Owner { uid: 0, gid: 0 },
-        Ok(told) => Owner {
-            uid: told.uid(),
-            gid: told.gid(),
-        },
-    }
-}
-
-/// What the clock says; 1970 where it says nothing.
-fn now(rt: &HostRuntime) -> Time {
-    let none = Time {
-        seconds: 0,
-        nanoseconds: 0,
+/// Shows a mount over an overlay's folder that is held.
+fn show_overlay<R: Threads + Wait + Sync>(
+    threads: &R,
+    rt: &HostRuntime,
+    options: FuseOptions,
+    mut look: Look,
+    folder: PathBuf,
+) -> ExitCode {
+    let Ok(place) = folder.clone() else {
+        return report::unopened(rt, HoldFault::Memory.name());
     };
-    match SystemTime::now(rt) {
-        Err(_) => none,
-        Ok(time) => match time.duration_since(UNIX_EPOCH) {
-            Err(_) => none,
-            Ok(since) => Time {
-                seconds: since.as_secs(),
-                nanoseconds: since.subsec_nanos(),
-            },
-        },
+    match overlay_files(rt, folder) {
+        Err(fault) => report::unopened(rt, fault.name()),
+        Ok(mut files) => {
+            note_changes(rt, &place, &mut files, &mut look);
+            show_files(threads, rt, options, look, files)
+        }
     }
 }
 
-fn look(rt: &HostRuntime) -> Look {
-    Look {
-        manner: Manner {
-            owner: owner(rt),
-            keep: KEEP,
-            space: SPACE,
-        },
-        since: now(rt),
+/// Shows a mount over these files, by as many threads as are asked for.
+fn show_files<R: Threads + Wait + Sync, F: Files<Outside> + Send>(
+    threads: &R,
+    rt: &HostRuntime,
+    options: FuseOptions,
+    look: Look,
+    files: F,
+) -> ExitCode {
+    if options.threads > 1 {
+        return share_files(threads, rt, options.mount, look, files);
     }
+    show_alone(rt, options.mount, look, files)
 }
 
-/// Shows a mount over these files, with the objects that are asked for.
-fn show_files<F: Files<Outside>>(rt: &HostRuntime, options: MountOptions, files: F) -> ExitCode {
+/// Shows a mount over these files by one thread, with the objects that are asked for.
+fn show_alone<F: Files<Outside>>(
+    rt: &HostRuntime,
+    options: MountOptions,
+    look: Look,
+    files: F,
+) -> ExitCode {
     let MountOptions {
         root,
         objects,
@@ -112,19 +101,19 @@ fn show_files<F: Files<Outside>>(rt: &HostRuntime, options: MountOptions, files:
     match objects {
         Objects::Folder(folder) => {
             let source = folder_source(rt, folder);
-            run::<Outside, _, _>(rt, base, history, &limits, Backing { files, source })
+            run::<Outside, _, _>(rt, base, history, &limits, look, Backing { files, source })
         }
         Objects::Server(server) => {
             let source = socket_source(rt, server);
-            run::<Outside, _, _>(rt, base, history, &limits, Backing { files, source })
+            run::<Outside, _, _>(rt, base, history, &limits, look, Backing { files, source })
         }
         Objects::Repository(repository) => {
             let source = git_source(rt, repository);
-            run_opened(rt, base, history, &limits, files, source)
+            run_opened(rt, base, history, &limits, look, files, source)
         }
         Objects::RepositoryAndServer(repository, server) => {
             let source = shared_source(rt, repository, server);
-            run_opened(rt, base, history, &limits, files, source)
+            run_opened(rt, base, history, &limits, look, files, source)
         }
     }
 }
@@ -135,13 +124,16 @@ fn run_opened<F: Files<Outside>, S: Source<Outside> + Drop>(
     base: Base,
     history: HistoryOption,
     limits: &Config,
+    look: Look,
     files: F,
     source: Result<S, GitFault>,
 ) -> ExitCode
     ensures { IfErr source (λ _. exit_status result ≡ 3) }
 {
     match source {
-        Ok(source) => run::<Outside, _, _>(rt, base, history, limits, Backing { files, source }),
+        Ok(source) => {
+            run::<Outside, _, _>(rt, base, history, limits, look, Backing { files, source })
+        }
         Err(fault) => report::unopened(rt, repository_name(fault)),
     }
 }
@@ -152,6 +144,7 @@ fn run<W: World, F: Files<W>, S: Source<W> + Drop>(
     base: Base,
     history: HistoryOption,
     limits: &Config,
+    look: Look,
     backing: Backing<F, S>,
 ) -> ExitCode
     requires files { W.honest → MayOpen base.opening W.repository W.opening W.numbers base.root
@@ -163,11 +156,11 @@ fn run<W: World, F: Files<W>, S: Source<W> + Drop>(
     match history {
         HistoryOption::Kept => {
             let history = Kept::new(memory, limits.history());
-            run_with::<W, _, _, _>(rt, base, history, limits, backing)
+            run_with::<W, _, _, _>(rt, base, history, limits, look, backing)
         }
         HistoryOption::Counted => {
             let history = Counted::new(memory);
-            run_with::<W, _, _, _>(rt, base, history, limits, backing)
+            run_with::<W, _, _, _>(rt, base, history, limits, look, backing)
         }
     }
 }
@@ -178,6 +171,7 @@ fn run_with<W: World, F: Files<W>, S: Source<W> + Drop, H: History>(
     base: Base,
     history: H,
     limits: &Config,
+    look: Look,
     backing: Backing<F, S>,
 ) -> ExitCode
     requires files { W.honest → MayOpen base.opening W.repository W.opening W.numbers base.root
@@ -196,7 +190,7 @@ fn run_with<W: World, F: Files<W>, S: Source<W> + Drop, H: History>(
         backing,
         base,
         limits,
-        look(rt),
+        look,
         *rt,
         &mut input,
         &mut output,

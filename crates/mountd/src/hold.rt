@@ -4,10 +4,11 @@ ghost use Rattle.std.specs.Option.{is_some};
 ghost use Rattle.std.specs.Path.{path_buf_bytes};
 ghost use Rattle.eden_sockets.specs.Addresses.{is_socket};
 ghost use Rattle.mountd.specs.Endings.{hold_name};
-ghost use Rattle.mountd.specs.Holding.{IsDeviceFault, IsLockFault};
+ghost use Rattle.mountd.specs.Holding.{IsDeviceFault, IsLockFault, of_files};
 ghost use Rattle.mountd.specs.declared.hold.HoldFault.TheVariants as fault;
 
 use eden_checkout::Opening;
+use eden_overlay::FilesFault;
 use eden_sockets::{Address, remove_left};
 use std::alloc::{AllocError, Global};
 use std::fs::{self, File, OpenOptions, TryLockError};
@@ -62,6 +63,17 @@ impl From<io::Error> for HoldFault {
         match error.kind() {
             ErrorKind::OutOfMemory => HoldFault::Memory,
             _ => HoldFault::Device,
+        }
+    }
+}
+
+impl From<FilesFault> for HoldFault {
+    ghost from_gives = { λ e f. f ≡ of_files e };
+
+    fn from(fault: FilesFault) -> HoldFault {
+        match fault {
+            FilesFault::Device => HoldFault::Device,
+            FilesFault::Memory => HoldFault::Memory,
         }
     }
 }

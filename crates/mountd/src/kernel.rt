@@ -1,6 +1,7 @@
 //! The kernel's messages over standard input and output.
 ghost use Rattle.std.specs.Prelude.{◌≡◌};
 
+use eden_fuse_host::Lines;
 use eden_fuse_session::{NotSent, Received, Receiver, Sender};
 use std::io::{Read, Stdin, Stdout, Write};
 
@@ -78,5 +79,25 @@ impl Sender for KernelOutput {
         }
         self.failures += 1;
         Err(NotSent)
+    }
+}
+
+/// Standard input and output for several threads. The kernel gives each message to one of them, and takes answers from
+/// all.
+#[derive(Clone, Copy)]
+pub struct KernelLines {
+    input: Stdin,
+    output: Stdout,
+}
+
+impl KernelLines {
+    pub fn new(input: Stdin, output: Stdout) -> KernelLines {
+        KernelLines { input, output }
+    }
+}
+
+impl Lines<KernelInput, KernelOutput> for KernelLines {
+    fn line(&self) -> (KernelInput, KernelOutput) {
+        (KernelInput::new(self.input), KernelOutput::new(self.output))
     }
 }

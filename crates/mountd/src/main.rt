@@ -6,10 +6,13 @@ mod folder;
 mod hold;
 mod kernel;
 mod lines;
+mod look;
+mod overlay_files;
 mod path_text;
 mod report;
 mod serve;
 mod server;
+mod shared_folder;
 mod sink;
 mod snapshot;
 mod sources;
@@ -65,7 +68,7 @@ fn main(rt: HostRuntime) -> ExitCode {
         Ok(Command::Stdio(options)) => stdio(&rt, options),
         // Outside `main`, only a type parameter may have threads and wait: so the runtime is passed for it, too.
         Ok(Command::Serve(options)) => serve(&rt, &rt, options),
-        Ok(Command::Fuse(options)) => folder(&rt, options),
+        Ok(Command::Fuse(options)) => folder(&rt, &rt, options),
         Ok(Command::Objects(options)) => report::server(&rt, serve_objects(&rt, &rt, options)),
         Ok(Command::Import(options)) => report::import(&rt, import(&rt, options)),
         Ok(Command::Tidy(options)) => tidy(&rt, options),

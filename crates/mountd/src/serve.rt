@@ -5,6 +5,7 @@ ghost use Rattle.eden_checkout.specs.Opening.{MayOpen};
 ghost use Rattle.mountd.specs.Runs.{IsSharedRun, limit_of};
 
 use crate::hold::{hold_address, hold_overlay, let_go, opening};
+use crate::overlay_files::overlay_files;
 use crate::report;
 use crate::report::repository_name;
 use crate::sources::{folder_sources, git_sources, shared_sources, socket_sources};
@@ -13,7 +14,7 @@ use eden_history::{Counted, History, Kept};
 use eden_host::{Accepts, Fetchers, Unloading};
 use eden_model::{Outside, World};
 use eden_mount::Config;
-use eden_overlay::{Files, FolderFiles, MemoryFiles};
+use eden_overlay::{Files, MemoryFiles};
 use eden_serve_life::live_shared;
 use eden_sockets::Listener;
 use eden_source::Source;
@@ -56,7 +57,10 @@ fn serve_held<R: Threads + Wait + Sync>(
         Err(fault) => report::unopened(rt, fault.name()),
         Ok(None) => serve_files(threads, rt, options, MemoryFiles::new(rt.alloc())),
         Ok(Some((folder, lock))) => {
-            let status = serve_files(threads, rt, options, FolderFiles::new(*rt, folder));
+            let status = match overlay_files(rt, folder) {
+                Err(fault) => report::unopened(rt, fault.name()),
+                Ok(files) => serve_files(threads, rt, options, files),
+            };
             drop(lock);
             status
         }

@@ -6,6 +6,7 @@ ghost use Rattle.mountd.specs.Snapshots.{closed_name, snapshot_name, take_status
 ghost use Rattle.mountd.specs.declared.snapshot.TakeFault.TheVariants as take;
 
 use crate::hold::hold_existing;
+use crate::overlay_files::{OverlayFiles, overlay_files};
 use crate::report;
 use crate::report::repository_name;
 use crate::sink::FolderSink;
@@ -13,7 +14,7 @@ use crate::sources::{folder_source, git_source, shared_source, socket_source};
 use eden_git::GitFault;
 use eden_model::{Id, Outside};
 use eden_object_writer::{Progress, Store};
-use eden_overlay::{FolderFiles, Overlay};
+use eden_overlay::Overlay;
 use eden_snapshot::{ClosedFault, CommitSubmodules, SnapshotFault, expect_closed};
 use eden_source::Source;
 use mountd_options::{ClosedOptions, Objects, SnapshotOptions};
@@ -26,7 +27,7 @@ use std::process::ExitCode;
 #[derive(Drop)]
 struct Work {
     root: Id,
-    files: FolderFiles<HostRuntime>,
+    files: OverlayFiles,
     sink: FolderSink<HostRuntime>,
 }
 
@@ -66,10 +67,12 @@ pub fn snapshot(rt: &HostRuntime, options: SnapshotOptions) -> ExitCode {
     match hold_existing(rt, rt.alloc(), overlay) {
         Err(fault) => report::unopened(rt, fault.name()),
         Ok((folder, lock)) => {
-            let files = FolderFiles::new(*rt, folder);
             let store = Store::new(*rt, PathBuf::from(into), Progress::Quiet);
             let sink = FolderSink::new(*rt, store);
-            let status = take_with(rt, objects, Work { root, files, sink });
+            let status = match overlay_files(rt, folder) {
+                Err(fault) => report::unopened(rt, fault.name()),
+                Ok(files) => take_with(rt, objects, Work { root, files, sink }),
+            };
             drop(lock);
             status
         }

@@ -5,6 +5,7 @@ ghost use Rattle.eden_checkout.specs.Opening.{MayOpen};
 ghost use Rattle.mountd.specs.Runs.{IsRun, copies_of, limit_of};
 
 use crate::hold::{hold_overlay, opening};
+use crate::overlay_files::overlay_files;
 use crate::report;
 use crate::report::repository_name;
 use crate::sources::{folder_source, git_source, shared_source, socket_source};
@@ -12,7 +13,7 @@ use eden_git::GitFault;
 use eden_history::{Counted, History, Kept};
 use eden_model::{Outside, World};
 use eden_mount::Config;
-use eden_overlay::{Files, FolderFiles, MemoryFiles};
+use eden_overlay::{Files, MemoryFiles};
 use eden_source::Source;
 use eden_stdio_life::{Backing, Base, live};
 use mountd_options::{HistoryOption, MountOptions, Objects};
@@ -24,7 +25,10 @@ pub fn stdio(rt: &HostRuntime, mut options: MountOptions) -> ExitCode {
         Err(fault) => report::unopened(rt, fault.name()),
         Ok(None) => serve_files(rt, options, MemoryFiles::new(rt.alloc())),
         Ok(Some((folder, lock))) => {
-            let status = serve_files(rt, options, FolderFiles::new(*rt, folder));
+            let status = match overlay_files(rt, folder) {
+                Err(fault) => report::unopened(rt, fault.name()),
+                Ok(files) => serve_files(rt, options, files),
+            };
             drop(lock);
             status
         }

@@ -1,5 +1,6 @@
 //! A closed overlay without what nobody reads.
 use crate::hold::hold_existing;
+use crate::overlay_files::overlay_files;
 use crate::report;
 use eden_checkout::TidyFault;
 use eden_model::Outside;
@@ -15,9 +16,12 @@ pub fn tidy(rt: &HostRuntime, options: TidyOptions) -> ExitCode {
     match hold_existing(rt, rt.alloc(), options.overlay) {
         Err(fault) => report::unopened(rt, fault.name()),
         Ok((folder, lock)) => {
-            let outcome = tidy_files(rt.alloc(), FolderFiles::new(*rt, folder));
+            let status = match overlay_files(rt, folder) {
+                Err(fault) => report::unopened(rt, fault.name()),
+                Ok(files) => report::tidied(rt, tidy_files(rt.alloc(), files.into_files())),
+            };
             drop(lock);
-            report::tidied(rt, outcome)
+            status
         }
     }
 }

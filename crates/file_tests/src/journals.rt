@@ -1,0 +1,331 @@
+//! Files with a journal over them: in memory, in a folder, cut, and stopped in the middle.
+use crate::folders::{Made, folder_of, make};
+use crate::kinds::{
+    Answer, BEHAVIOUR, Call, SIXTY_FOUR, SIXTY_SIX, gives_all, gives_all_but_lists,
+};
+use eden_model::Outside;
+use eden_overlay::{Files, FilesFault, FolderFiles, MemoryFiles, StopFiles};
+use eden_overlay_journal::{FolderJournal, Journaled, LONGEST_RECORD, MemoryJournal, taken_in};
+use std::alloc::Global;
+use std::cell::Cell;
+use std::io::{self, ErrorKind};
+use std::path::PathBuf;
+use std::rc::Rc;
+use std::time::{Duration, SystemTime};
+use std::{fs, thread};
+use test_samples::{Call as SystemCall, FaultySystem};
+
+type InMemory = Journaled<MemoryFiles<Outside>, MemoryJournal<Outside>>;
+
+type InFolder = Journaled<FolderFiles<HostRuntime>, FolderJournal<HostRuntime>>;
+
+fn in_memory(alloc: Global) -> InMemory {
+    Journaled::new(MemoryFiles::new(alloc), MemoryJournal::new(alloc))
+}
+
+// The files of the folder, as an opening finds them.
+fn opened(rt: &HostRuntime, folder: &PathBuf) -> Result<InFolder, FilesFault> {
+    let journal = FolderJournal::open(*rt, rt.alloc(), folder)?;
+    let files = FolderFiles::new(*rt, folder.clone()?);
+    taken_in::<Outside, _, _>(rt.alloc(), files, journal)
+}
+
+// Whether something in the folder has the name; None where that isn't known.
+fn has(rt: &HostRuntime, folder: &PathBuf, name: &str) -> Option<bool> {
+    let path = folder.join(rt.alloc(), name).ok()?;
+    fs::exists(rt, path.as_path()).ok()
+}
+
+#[test]
+fn a_journal_in_memory_behaves(rt: HostRuntime) {
+    assert!(rt; gives_all(&mut in_memory(rt.alloc()), rt.alloc(), BEHAVIOUR));
+    assert!(rt; gives_all_but_lists(&mut in_memory(rt.alloc()), rt.alloc(), BEHAVIOUR));
+}
+
+// What is stored by `BEHAVIOUR` at its end.
+const LEFT: &[(Call, Answer)] = &[
+    (Call::Read(2), Answer::Bytes(Some(b""))),
+    (Call::Read(5), Answer::Bytes(None)),
+    (Call::Read(10), Answer::Bytes(None)),
+    (Call::Read(u64::MAX), Answer::Bytes(Some(b"\0\xff"))),
+    (Call::Read(0), Answer::Bytes(Some(b"zero"))),
+    (Call::List, Answer::Numbers(&[0, 2, u64::MAX])),
+];
+
+#[test]
+fn a_journal_in_a_folder_behaves(rt: HostRuntime) {
+    let alloc = rt.alloc();
+    for lists in [true, false] {
+        let folder = folder_of(&rt, "journal-behaves", &[]).expect(&rt, "a folder");
+        let mut files = opened(&rt, &folder).expect(&rt, "files");
+        if lists {
+            assert!(rt; gives_all(&mut files, alloc, BEHAVIOUR));
+        } else {
+            assert!(rt; gives_all_but_lists(&mut files, alloc, BEHAVIOUR));
+        }
+        // As after a kill: nothing closes it.
+        drop(files);
+        let mut again = opened(&rt, &folder).expect(&rt, "files");
+        assert!(rt; has(&rt, &folder, "journal") == Some(false));
+        assert!(rt; gives_all(&mut again, alloc, LEFT));
+        fs::remove_dir_all(&rt, folder.as_path()).expect(&rt, "a folder");
+    }
+}
+
+// Changes, of which the records take 48 + 64, 48 + 2, 48, 48 + 66 and 48 bytes.
+const CHANGES: &[(Call, Answer)] = &[
+    (Call::Replace(5, SIXTY_FOUR), Answer::Done),
+    (Call::Replace(7, b"7!"), Answer::Done),
+    (Call::Remove(3), Answer::Done),
+    (Call::Replace(5, SIXTY_SIX), Answer::Done),
+    (Call::Remove(7), Answer::Done),
+];
+
+// Where each record of `CHANGES` ends.
+const ENDS: [usize; 5] = [112, 162, 210, 324, 372];
+
+// What there is once so many of the changes are done, over a file 3.
+fn after(changes: usize) -> [(Call, Answer); 3] {
+    let five = match changes {
+        0 => None,
+        1..=3 => Some(SIXTY_FOUR),
+        _ => Some(SIXTY_SIX),
+    };
+    let seven: Option<&'static [u8]> = match changes {
+        2..=4 => Some(b"7!"),
+        _ => None,
+    };
+    let three: Option<&'static [u8]> = match changes {
+        0..=2 => Some(b"3"),
+        _ => None,
+    };
+    [
+        (Call::Read(3), Answer::Bytes(three)),
+        (Call::Read(5), Answer::Bytes(five)),
+        (Call::Read(7), Answer::Bytes(seven)),
+    ]
+}
+
+// A folder with a file 3, and these bytes as its journal.
+fn left(rt: &HostRuntime, name: &str, journal: &[u8]) -> io::Result<PathBuf> {
+    let folder = folder_of(rt, name, &[("3", Made::File(b"3"))])?;
+    let path = folder.join(rt.alloc(), "journal")?;
+    fs::write(rt, path.as_path(), journal)?;
+    Ok(folder)
+}
+
+// The journal that `CHANGES` leaves, by which no numbered file has changed yet; None where it isn't so.
+fn changes_left(rt: &HostRuntime) -> Option<Vec<u8>> {
+    let folder = folder_of(rt, "journal-changes", &[("3", Made::File(b"3"))]).ok()?;
+    let mut files = opened(rt, &folder).ok()?;
+    let is_done = gives_all(&mut files, rt.alloc(), CHANGES);
+    let is_noted = !has(rt, &folder, "5")? && has(rt, &folder, "3")?;
+    let path = folder.join(rt.alloc(), "journal").ok()?;
+    let journal = fs::read(rt, path.as_path()).ok()?;
+    fs::remove_dir_all(rt, folder.as_path()).ok()?;
+    if is_done && is_noted {
+        Some(journal)
+    } else {
+        None
+    }
+}
+
+// How many records end in that many bytes.
+fn whole_in(len: usize) -> usize {
+    ENDS.iter().position(|end| *end > len).unwrap_or(ENDS.len())
+}
+
+// Whether a journal of these bytes is taken in as so many of the changes; None where that isn't known.
+fn is_taken_as(rt: &HostRuntime, journal: &[u8], changes: usize) -> Option<bool> {
+    let folder = left(rt, "journal-cut", journal).ok()?;
+    let mut files = opened(rt, &folder).ok()?;
+    let is_taken = gives_all(&mut files, rt.alloc(), &after(changes));
+    let is_there = has(rt, &folder, "journal")?;
+    fs::remove_dir_all(rt, folder.as_path()).ok()?;
+    Some(is_taken && !is_there)
+}
+
+#[test]
+fn a_cut_journal_is_taken_in_up_to_the_cut(rt: HostRuntime) {
+    let journal = changes_left(&rt).expect(&rt, "a journal");
+    assert!(rt; journal.len() == 372);
+    for len in 0..=journal.len() {
+        assert!(rt; is_taken_as(&rt, &journal[..len], whole_in(len)) == Some(true));
+    }
+}
+
+#[test]
+fn a_damaged_journal_is_taken_in_up_to_the_damage(rt: HostRuntime) {
+    let mut journal = changes_left(&rt).expect(&rt, "a journal");
+    for at in 0..journal.len() {
+        journal[at] ^= 0x20;
+        assert!(rt; is_taken_as(&rt, &journal, whole_in(at)) == Some(true));
+        journal[at] ^= 0x20;
+    }
+}
+
+// An opening of files whose calls stop after so many.
+fn stopped(rt: &HostRuntime, folder: &PathBuf, allowed: Rc<Cell<u64>>) -> Result<(), FilesFault> {
+    let journal = FolderJournal::open(*rt, rt.alloc(), folder)?;
+    let files = StopFiles::new(FolderFiles::new(*rt, folder.clone()?), allowed);
+    taken_in::<Outside, _, _>(rt.alloc(), files, journal)?;
+    Ok(())
+}
+
+// A look at the state is a call, and the three numbers of which the journal says something are three more.
+#[test]
+fn a_taking_in_that_stops_is_done_again(rt: HostRuntime) {
+    let journal = changes_left(&rt).expect(&rt, "a journal");
+    for calls in 0..5 {
+        let folder = left(&rt, "journal-stopped", &journal).expect(&rt, "a journal");
+        let allowed = Rc::new(rt.alloc(), Cell::new(calls)).expect(&rt, "memory");
+        let want = if calls < 4 {
+            Err(FilesFault::Device)
+        } else {
+            Ok(())
+        };
+        assert!(rt; stopped(&rt, &folder, allowed) == want);
+        assert!(rt; has(&rt, &folder, "journal") == Some(calls < 4));
+        let mut files = opened(&rt, &folder).expect(&rt, "files");
+        assert!(rt; gives_all(&mut files, rt.alloc(), &after(5)));
+        fs::remove_dir_all(&rt, folder.as_path()).expect(&rt, "a folder");
+    }
+}
+
+// As where a program that knows of no journals closed what a later one left.
+#[test]
+fn a_journal_beside_a_state_is_passed_over(rt: HostRuntime) {
+    let journal = changes_left(&rt).expect(&rt, "a journal");
+    let folder = left(&rt, "journal-closed", &journal).expect(&rt, "a journal");
+    make(&rt, &folder, "0", Made::File(b"state")).expect(&rt, "a state");
+    let mut files = opened(&rt, &folder).expect(&rt, "files");
+    assert!(rt; gives_all(&mut files, rt.alloc(), &after(0)));
+    assert!(rt;
+        has(&rt, &folder, "0") == Some(true) && has(&rt, &folder, "journal") == Some(false)
+    );
+    fs::remove_dir_all(&rt, folder.as_path()).expect(&rt, "a folder");
+}
+
+// When the folder's file of that name was written last.
+fn when_written(rt: &HostRuntime, folder: &PathBuf, name: &str) -> io::Result<SystemTime> {
+    let path = folder.join(rt.alloc(), name)?;
+    fs::metadata(rt, path.as_path())?.modified()
+}
+
+#[test]
+fn a_file_has_the_time_of_its_change(rt: HostRuntime) {
+    let alloc = rt.alloc();
+    let folder = folder_of(&rt, "journal-times", &[]).expect(&rt, "a folder");
+    let mut files = opened(&rt, &folder).expect(&rt, "files");
+    let before = SystemTime::now(&rt).expect(&rt, "a time");
+    assert!(rt; files.replace(alloc, 5, b"5") == Ok(()));
+    let changed = SystemTime::now(&rt).expect(&rt, "a time");
+    drop(files);
+    thread::sleep(&rt, Duration::from_millis(50));
+    drop(opened(&rt, &folder).expect(&rt, "files"));
+    let when = when_written(&rt, &folder, "5").expect(&rt, "a time");
+    assert!(rt; before <= when && when <= changed);
+    fs::remove_dir_all(&rt, folder.as_path()).expect(&rt, "a folder");
+}
+
+// What no journal has: the state, and a file that is too long.
+#[test]
+fn the_state_and_long_files_are_stored_at_once(rt: HostRuntime) {
+    let alloc = rt.alloc();
+    let folder = folder_of(&rt, "journal-past", &[]).expect(&rt, "a folder");
+    let mut files = opened(&rt, &folder).expect(&rt, "files");
+    let long = [7; 1]
+        .repeat(alloc, LONGEST_RECORD + 1)
+        .expect(&rt, "memory");
+    assert!(rt; files.replace(alloc, 5, &long[..LONGEST_RECORD]) == Ok(()));
+    assert!(rt; has(&rt, &folder, "5") == Some(false));
+    assert!(rt; files.replace(alloc, 5, &long) == Ok(()));
+    assert!(rt; has(&rt, &folder, "5") == Some(true) && has(&rt, &folder, "journal") == Some(true));
+    drop(files);
+    let mut files = opened(&rt, &folder).expect(&rt, "files");
+    let read = files.read(alloc, 5).expect(&rt, "an answer");
+    assert!(rt; read.expect(&rt, "a file") == long);
+    assert!(rt;
+        files.replace(alloc, 7, b"7") == Ok(()) && has(&rt, &folder, "journal") == Some(true)
+    );
+    assert!(rt; files.replace(alloc, 0, b"state") == Ok(()));
+    assert!(rt;
+        has(&rt, &folder, "0") == Some(true)
+            && has(&rt, &folder, "7") == Some(true)
+            && has(&rt, &folder, "journal") == Some(false)
+    );
+    fs::remove_dir_all(&rt, folder.as_path()).expect(&rt, "a folder");
+}
+
+// A system of which that call fails as where the disk is full.
+fn failing(rt: &HostRuntime, call: SystemCall) -> FaultySystem<'static, HostRuntime> {
+    FaultySystem {
+        files: *rt,
+        call,
+        kind: ErrorKind::StorageFull,
+        instead: None,
+    }
+}
+
+// What a folder has with a file 5.
+const FIVE: &[(&str, Made)] = &[("5", Made::File(b"5"))];
+
+// No change that the device refused is told as done, or seen.
+#[test]
+fn a_failing_device_is_told_and_counted(rt: HostRuntime) {
+    let alloc = rt.alloc();
+    for call in [SystemCall::Open, SystemCall::Write] {
+        let folder = folder_of(&rt, "journal-failing", FIVE).expect(&rt, "a folder");
+        let journal = FolderJournal::open(failing(&rt, call), alloc, &folder);
+        let journal = journal.expect(&rt, "a journal");
+        let path = folder.clone().expect(&rt, "memory");
+        let mut files = Journaled::new(FolderFiles::new(failing(&rt, call), path), journal);
+        assert!(rt;
+            Files::<Outside>::replace(&mut files, alloc, 5, b"new") == Err(FilesFault::Device)
+        );
+        assert!(rt; Files::<Outside>::remove(&mut files, 5) == Err(FilesFault::Device));
+        assert!(rt; Files::<Outside>::failures(&files) == 2);
+        drop(files);
+        let mut files = opened(&rt, &folder).expect(&rt, "files");
+        assert!(rt;
+            gives_all(
+                &mut files,
+                alloc,
+                &[(Call::Read(5), Answer::Bytes(Some(b"5")))]
+            )
+        );
+        fs::remove_dir_all(&rt, folder.as_path()).expect(&rt, "a folder");
+    }
+}
+
+// Where the journal can't be written, what it had goes into the files, and the change too.
+#[test]
+fn a_change_goes_past_a_failing_journal(rt: HostRuntime) {
+    let alloc = rt.alloc();
+    for call in [SystemCall::Open, SystemCall::Write] {
+        let folder = folder_of(&rt, "journal-past-failing", FIVE).expect(&rt, "a folder");
+        let journal = FolderJournal::open(failing(&rt, call), alloc, &folder);
+        let journal = journal.expect(&rt, "a journal");
+        let path = folder.clone().expect(&rt, "memory");
+        let mut files = Journaled::new(FolderFiles::new(rt, path), journal);
+        assert!(rt; Files::<Outside>::replace(&mut files, alloc, 5, b"new") == Ok(()));
+        assert!(rt; Files::<Outside>::failures(&files) == 0);
+        assert!(rt;
+            gives_all(
+                &mut files,
+                alloc,
+                &[(Call::Read(5), Answer::Bytes(Some(b"new")))]
+            )
+        );
+        assert!(rt; has(&rt, &folder, "journal") == Some(false));
+        fs::remove_dir_all(&rt, folder.as_path()).expect(&rt, "a folder");
+    }
+}
+
+#[test]
+fn what_is_no_journal_refuses(rt: HostRuntime) {
+    let folder = folder_of(&rt, "journal-odd", &[]).expect(&rt, "a folder");
+    make(&rt, &folder, "journal", Made::Folder).expect(&rt, "a folder");
+    assert!(rt; opened(&rt, &folder).err() == Some(FilesFault::Device));
+    fs::remove_dir_all(&rt, folder.as_path()).expect(&rt, "a folder");
+}

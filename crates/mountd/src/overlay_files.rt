@@ -1,0 +1,19 @@
+//! The files of an overlay's folder.
+use crate::hold::HoldFault;
+use eden_model::Outside;
+use eden_overlay::FolderFiles;
+use eden_overlay_journal::{FolderJournal, Journaled, taken_in};
+use std::path::PathBuf;
+
+/// Files in a folder, with a journal over them.
+pub type OverlayFiles = Journaled<FolderFiles<HostRuntime>, FolderJournal<HostRuntime>>;
+
+/// The files of a folder that is held, once what a killed program left in its journal has gone into them.
+///
+/// `Device` and `Memory`, where those failed.
+pub fn overlay_files(rt: &HostRuntime, folder: PathBuf) -> Result<OverlayFiles, HoldFault> {
+    let alloc = rt.alloc();
+    let journal = FolderJournal::open(*rt, alloc, &folder)?;
+    let files = FolderFiles::new(*rt, folder);
+    Ok(taken_in::<Outside, _, _>(alloc, files, journal)?)
+}
