@@ -7,6 +7,7 @@ import pathlib
 import random
 import shutil
 import signal
+import time
 from collections.abc import Iterator
 from typing import NamedTuple
 
@@ -23,9 +24,9 @@ MOST_NODES = 1_000
 CHANGES = [word for word in WORDS if word not in [*LOOKS, "rename"]]
 REQUESTS, CUTS = 120, 60
 # A journal with more bytes becomes numbered files at the next change.
-FULL = 64 << 20
-# How large a file is that is written again and again, and how often.
-LARGE, WRITES = 15 * LONGEST_DATA, 100
+FULL = 16 << 20
+# How large a file is that is written again and again, and how many writes then are enough to fill a journal.
+LARGE, ENOUGH = LONGEST_DATA + 40_000, 170
 RESCAN = "--rescan"
 
 
@@ -133,42 +134,47 @@ def check_journal_beside_state(folder: pathlib.Path, commit: Commit, objects: pa
     check("no journal afterwards", journal.exists(), False)
 
 
-def check_full_journal(folder: pathlib.Path, commit: Commit, objects: pathlib.Path, seed: int) -> None:
-    """One file is written until the journal is full, and its program is killed while it is, before that or after it."""
+def check_full_journal(folder: pathlib.Path, commit: Commit, objects: pathlib.Path, seed: int, more: int) -> None:
+    """One file is written until the journal is full, and so many times more. The next write is killed: it is the one
+    that empties the journal, or it comes after that."""
     generator = random.Random(seed)
-    place = Place(commit.root, objects, folder / "full")
+    place = Place(commit.root, objects, folder)
     tree = WholeTree(dict(commit.nodes))
-    made = [("create", ((b"large",),)), ("truncate", ((b"large",), LARGE))]
-    poured = 0
     with watched(place.start()) as session:
         to, by = pipes(session)
-        for word, fields in made:
+
+        def send(word: str, *fields: object) -> bytes:
             to.write(line_of(word, fields) + b"\n")
-            check(word, by.readline(), wanted_line(tree, word, fields))
-        last = generator.randrange(WRITES // 2, WRITES)
-        size = 0
-        for number in range(last):
-            piece = (b"large",), generator.randrange(15) * LONGEST_DATA, generator.randbytes(LONGEST_DATA)
-            to.write(line_of("write", piece) + b"\n")
-            check(f"write {number}", by.readline(), wanted_line(tree, "write", piece))
-            before, size = size, size_of(journal_of(place))
-            poured += size < before
-            check("no journal is much over its bound", size < FULL + 2 * LARGE, True)
+            return (wanted_reply(tree, word, fields) or b"") + b"\n"
+
+        def send_piece() -> bytes:
+            at = generator.randrange(LARGE - LONGEST_DATA)
+            return send("write", (b"large",), at, generator.randbytes(LONGEST_DATA))
+
+        wanted = send("create", (b"large",))
+        check("the file is made", by.readline(), wanted)
+        wanted = send("truncate", (b"large",), LARGE)
+        check("it is as long as it stays", by.readline(), wanted)
+        sizes = [size_of(journal_of(place))]
+        while sizes[-1] <= FULL and len(sizes) < ENOUGH:
+            wanted = send_piece()
+            check(f"write {len(sizes)}", by.readline(), wanted)
+            sizes.append(size_of(journal_of(place)))
+        check("it is full after so many writes", FULL < sizes[-1] < FULL + 2 * LARGE, True)
+        check("it only grew", sizes, sorted(set(sizes)))
+        for number in range(more):
+            wanted = send_piece()
+            check(f"write {number} after it was full", by.readline(), wanted)
+            check("it was emptied", size_of(journal_of(place)) < 2 * (number + 1) * LARGE, True)
         trees = [dict(tree.nodes)]
-        piece = (b"large",), 0, generator.randbytes(LONGEST_DATA)
-        to.write(line_of("write", piece) + b"\n")
-        wanted_line(tree, "write", piece)
+        send_piece()
         trees.append(dict(tree.nodes))
+        time.sleep(generator.random() ** 2 * 0.01)
         session.send_signal(signal.SIGKILL)
         session.communicate()
-    check(f"how often it was emptied in {last} writes", poured, (last * (LARGE + 112) > FULL) * 1)
     shown = as_described("full", Shown, commit, place.files())
     check("what the files show", shown is not None and shown.nodes in trees, True)
     if shown is not None:
         tree = WholeTree(shown.nodes)
         check_session("what the program shows", place, replied(tree, whole(tree)), RESCAN)
-        check_closed("full", place, commit, tree)
-
-
-def wanted_line(tree: WholeTree, word: str, fields: tuple[object, ...]) -> bytes:
-    return (wanted_reply(tree, word, fields) or b"") + b"\n"
+        check_closed("full", place, commit, tree, kills=1)

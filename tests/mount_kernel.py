@@ -27,6 +27,7 @@ from mount_folder import Both, MountGit, checkout, children, said_by, unmount
 from mount_fuse import command_of, left_of
 from mount_names import check_names
 from programs import MOUNT_GIT, TOP
+from yakembi.overlay_files import JOURNAL, RECORD_BYTES, STORED, records
 
 # ---- calls of the system
 
@@ -277,14 +278,15 @@ def check_removed_at_ends(folder: pathlib.Path, repository: pathlib.Path) -> Non
 # ---- stores
 
 
-class Arrivals:
-    """How often each name of a directory came into it by a rename, which is how an overlay stores a file."""
+class Stores:
+    """How often each file of an overlay was stored: at the end of its journal, or by a rename to its number."""
 
     LIBC = ctypes.CDLL(None, use_errno=True)
     MOVED_TO = 0x80
     HEAD = struct.Struct("iIII")
 
     def __init__(self, folder: pathlib.Path) -> None:
+        self.journal, self.read = folder / JOURNAL, 0
         self.descriptor = self.LIBC.inotify_init1(os.O_NONBLOCK | os.O_CLOEXEC)
         if self.LIBC.inotify_add_watch(self.descriptor, os.fsencode(folder), self.MOVED_TO) < 0:
             raise OSError(ctypes.get_errno(), "it can't be watched", str(folder))
@@ -298,6 +300,10 @@ class Arrivals:
                     *_, length = self.HEAD.unpack_from(told)
                     names[told[self.HEAD.size:][:length].rstrip(b"\0")] += 1
                     told = told[self.HEAD.size + length:]
+        noted = self.journal.read_bytes()[self.read:] if self.journal.exists() else b""
+        for sort, number, body in records(noted):
+            names[b"%d" % number] += sort == STORED
+            self.read += RECORD_BYTES + len(body)
         return names
 
     def most(self) -> int:
@@ -310,22 +316,22 @@ def check_stores(folder: pathlib.Path, repository: pathlib.Path) -> None:
     overlay = folder / "overlay"
     data = random.Random(1).randbytes(100 << 20)
     with MountGit(repository, "HEAD", folder / "mounted", "--overlay", overlay) as mount:
-        arrivals = Arrivals(overlay)
+        stores = Stores(overlay)
         with open(mount.folder / "large", "wb", buffering=0) as file:
             for place in range(0, len(data), 100_000):
                 file.write(data[place:place + 100_000])
-        check("stores: of 100 MB", arrivals.most() <= 2, True)
+        check("stores: of 100 MB", stores.most() <= 2, True)
         files = [opened(mount.folder / f"small {number}", os.O_CREAT | os.O_WRONLY) for number in range(4)]
         with contextlib.ExitStack() as stack:
             descriptors = [stack.enter_context(file) for file in files]
-            arrivals.counted()
+            stores.counted()
             for part in range(1_000):
                 for number, descriptor in enumerate(descriptors):
                     os.write(descriptor, b"%d %d\n" % (number, part))
-            check("stores: none while it is written", arrivals.most(), 0)
+            check("stores: none while it is written", stores.most(), 0)
             os.fsync(descriptors[0])
-            check("stores: once it is synchronised", arrivals.most(), 1)
-        check("stores: once it is closed", arrivals.most(), 1)
+            check("stores: once it is synchronised", stores.most(), 1)
+        check("stores: once it is closed", stores.most(), 1)
         mount.kill()
     with MountGit(repository, "HEAD", folder / "mounted", "--overlay", overlay) as mount:
         check("stores: what was closed", (mount.folder / "large").read_bytes() == data, True)

@@ -26,7 +26,7 @@ END_OF_NUMBERS = 1 << 63
 # The file of changes that aren't in the numbered files yet, and its records.
 JOURNAL = "journal"
 STORED, REMOVED, ELSEWHERE = SORTS = b"OVJS", b"OVJR", b"OVJE"
-RECORD_BYTES, RECORD_MOST = 48, 1 << 20
+RECORD_BYTES, RECORD_MOST = 48, 128 << 10
 STATE_NUMBER = 0
 
 # What the kind byte and the origin byte of an entry say.

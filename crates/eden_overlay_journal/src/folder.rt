@@ -15,7 +15,7 @@ use std::path::PathBuf;
 use std::rt::{Clock, Files};
 
 /// A journal with more bytes is full.
-const FULL: u64 = 64 << 20;
+const FULL: u64 = 16 << 20;
 
 /// Where a file's bytes lie in the journal, and when that was noted.
 #[derive(Clone, Copy)]

@@ -14,7 +14,7 @@ use eden_overlay_format::Head;
 use std::alloc::Global;
 
 /// The longest file that is noted in a journal, in bytes. A longer one goes to the files at once.
-pub const LONGEST_RECORD: usize = 1 << 20;
+pub const LONGEST_RECORD: usize = 128 << 10;
 
 pub(crate) fn read<W: World, F: Files<W>, J: Journal<W>>(
     alloc: Global,
