@@ -37,7 +37,7 @@ BESIDE = SCRIPTS.parents[1] / "bin/mountd" if IS_INSTALLED else SCRIPTS.parent /
 MOUNTD = os.environ.get("MOUNTD", BESIDE)
 # A mountd whose folder was just unmounted still closes the overlay, and has it for so long.
 SECONDS_LOCKED = 10
-# As many requests are answered at once where nobody says how many.
+# As many requests are answered at once where objects may have to be fetched from elsewhere, and nobody says how many.
 THREADS = 4
 # How long git-objects may take to end.
 SECONDS_TO_END = 10
@@ -260,8 +260,10 @@ def show(words: argparse.Namespace, repository: Repository, noted: Noted, source
          folder: str) -> str | None:
     """Shows the folder by `mountd fuse`; what that said where it didn't end well."""
     os.makedirs(folder, exist_ok=True)
+    # Objects that lie here are read so soon that no other request need go before, and one thread wakes nobody.
+    threads = words.threads or (THREADS if "--remote" in source else 1)
     showing = kernel.Showing(words.mountd, noted.tree, source, overlay.path, folder, SECONDS_LOCKED, noted.seconds,
-                             words.threads)
+                             threads)
     answers = Asked(showing, words.mountd, source, repository, words.revision, overlay).answers()
     with kernel.ended_by_signals(showing):
         try:
@@ -315,8 +317,9 @@ def parser() -> argparse.ArgumentParser:
                        f"subfolders, and other files of a folder whose files are read; 0: none; {AHEAD} if left out")
     found.add_argument("--kernel", action="store_true",
                        help="has no effect any more: mountd always speaks the kernel's protocol itself")
-    found.add_argument("--threads", metavar="N", type=number_of_threads, default=THREADS,
-                       help=f"how many requests are answered at once; {THREADS} if left out")
+    found.add_argument("--threads", metavar="N", type=number_of_threads,
+                       help="how many requests are answered at once; if left out 1, and "
+                            f"{THREADS} where objects may be elsewhere")
     found.add_argument("--log", action="store_true", help="tell each object that is fetched on standard error")
     return found
 
