@@ -6,7 +6,7 @@ use crate::kinds::{
 use eden_model::Outside;
 use eden_overlay::{Files, FilesFault, FolderFiles, MemoryFiles, StopFiles};
 use eden_overlay_journal::{FolderJournal, Journaled, LONGEST_RECORD, MemoryJournal, taken_in};
-use std::alloc::Global;
+use std::alloc::{AllocError, Global};
 use std::cell::Cell;
 use std::io::{self, ErrorKind};
 use std::path::PathBuf;
@@ -228,17 +228,21 @@ fn a_file_has_the_time_of_its_change(rt: HostRuntime) {
     fs::remove_dir_all(&rt, folder.as_path()).expect(&rt, "a folder");
 }
 
+// So many bytes, of which no proof has to know.
+fn of_length(alloc: Global, count: usize) -> Result<Vec<u8>, AllocError> {
+    [7; 1].repeat(alloc, count)
+}
+
 // What no journal has: the state, and a file that is too long.
 #[test]
 fn the_state_and_long_files_are_stored_at_once(rt: HostRuntime) {
     let alloc = rt.alloc();
     let folder = folder_of(&rt, "journal-past", &[]).expect(&rt, "a folder");
     let mut files = opened(&rt, &folder).expect(&rt, "files");
-    let long = [7; 1]
-        .repeat(alloc, LONGEST_RECORD + 1)
-        .expect(&rt, "memory");
-    assert!(rt; files.replace(alloc, 5, &long[..LONGEST_RECORD]) == Ok(()));
+    let longest = of_length(alloc, LONGEST_RECORD).expect(&rt, "memory");
+    assert!(rt; files.replace(alloc, 5, &longest) == Ok(()));
     assert!(rt; has(&rt, &folder, "5") == Some(false));
+    let long = of_length(alloc, LONGEST_RECORD + 1).expect(&rt, "memory");
     assert!(rt; files.replace(alloc, 5, &long) == Ok(()));
     assert!(rt; has(&rt, &folder, "5") == Some(true) && has(&rt, &folder, "journal") == Some(true));
     drop(files);
