@@ -8,6 +8,7 @@ it may be told. What was written and isn't stored yet is kept beside the tree, w
 
 import contextlib
 import errno
+import os
 import struct
 from typing import Any, NamedTuple
 
@@ -347,15 +348,16 @@ class FolderModel:
 
     # ---- messages about files and links
 
-    def open(self, node: int, *_: int) -> bytes:
+    def open(self, node: int, flags: int, *_: int) -> bytes:
         kind = self.tree.present(self.path(node))[0]
         need(kind != "link", "ELOOP")
         need(kind != "dir", "EISDIR")
-        return self.opened(node)
+        return self.opened(node, flags)
 
-    def opened(self, node: int) -> bytes:
+    def opened(self, node: int, flags: int) -> bytes:
+        """A file that is opened for reading alone is closed without a FLUSH."""
         self.opens[node] = self.opens.get(node, 0) + 1
-        return OPENED.pack(0, 2, 0)
+        return OPENED.pack(0, 34 if flags & os.O_ACCMODE == os.O_RDONLY else 2, 0)
 
     def read(self, node: int, handle: int, offset: int, size: int, *_: int) -> bytes:
         self.settle(node)
@@ -468,11 +470,11 @@ class FolderModel:
         except Refused as refusal:
             if refusal.args[0] != "EEXIST" or flags & 0o200:
                 raise
-            return self.opened_there((node, name))
+            return self.opened_there((node, name), flags)
         entry = self.made((node, name), bool(mode & 0o100))
-        return entry + self.opened(self.nodes[node, name])
+        return entry + self.opened(self.nodes[node, name], flags)
 
-    def opened_there(self, place: Place) -> bytes:
+    def opened_there(self, place: Place, flags: int) -> bytes:
         """A file that was there. Of a link its target is looked at first, since its length is asked for."""
         kind, *_, content = self.tree.present(self.child(*place))
         if kind == "link":
@@ -480,7 +482,7 @@ class FolderModel:
         need(kind != "link", "ELOOP")
         need(kind != "dir", "EISDIR")
         entry = self.entry(place)
-        return entry + self.opened(self.nodes[place])
+        return entry + self.opened(self.nodes[place], flags)
 
     def link(self, node: int, *_: Any) -> bytes:
         raise Refused("EPERM")

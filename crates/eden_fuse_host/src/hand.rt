@@ -8,8 +8,8 @@ use crate::asking::Asking;
 use crate::turns::Taken;
 use eden_fuse_format::{Header, Operation};
 use eden_fuse_session::{Said, Service};
-use eden_host::Unloading;
 use eden_model::{Path, Reply, Request, World};
+use eden_mount::Unloading;
 use eden_shared::{Naming, Pass};
 use eden_source::Source;
 use std::alloc::Global;
@@ -37,8 +37,6 @@ pub(crate) struct Hand<
     source: S,
     unloading: Unloading,
     root: Path,
-    // how many requests came since directories were last let go
-    came: u32,
     world: PhantomData<W>,
 }
 
@@ -79,7 +77,6 @@ impl<'a, W: World, J: Naming, C: Asking<W, J>, S: Source<W> + Drop, D: Answering
             source,
             unloading: Unloading::usual(),
             root: Path::new(Vec::new(alloc)).unwrap(),
-            came: 0,
             world: PhantomData,
         }
     }
@@ -96,12 +93,9 @@ impl<'a, W: World, J: Naming, C: Asking<W, J>, S: Source<W> + Drop, D: Answering
     fn unload(&mut self)
         ensures { self.new ≡ self.old }
     {
-        self.came = self.came.saturating_add(1);
-        if self.came < self.unloading.every {
-            return;
+        if self.unloading.is_due() {
+            self.shared.let_go(self.rt, &self.root, self.unloading.age);
         }
-        self.came = 0;
-        self.shared.let_go(self.rt, &self.root, self.unloading.age);
     }
 
     /// Makes a look, and waits for what it needs. Whether it met a fault.

@@ -8,7 +8,7 @@ use eden_fuse_session::{Receiver, Sender, SessionFault, session};
 use eden_fuse_shown::{Manner, Shown, Times};
 use eden_history::History;
 use eden_model::World;
-use eden_mount::{Attempts, Local, Mount, Room};
+use eden_mount::{Attempts, Local, Mount, Room, Unloading};
 use eden_source::Source;
 use std::alloc::{Allocator, Global};
 use std::rt::Clock;
@@ -59,7 +59,7 @@ pub fn serve_folder<
         (V.waiting receiver.old) (V.waiting receiver.new) result }
 {
     let mount: Mount<W, T, A, H> = Mount::new(room, table, history);
-    let asking = Asking::new(alloc, Local::new(alloc, mount, source));
+    let asking = Asking::new(alloc, Local::new(alloc, mount, source, Unloading::usual()));
     let Look { manner, times } = look;
     let mut shown = Shown::new(alloc, asking, clock, manner, times);
     let said = session(alloc, receiver, sender, &mut shown);

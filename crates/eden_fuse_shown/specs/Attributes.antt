@@ -49,9 +49,10 @@ entry_of m node inode at kind size =
 abbrev pub attributes_of : Manner → ℕ → Moments → Kind → ℕ → AttrOut
 attributes_of m inode at kind size = record { attr_valid = m.keep; attr = attr_of m.owner inode at kind size }
 
--- an open file has no handle of its own; the kernel may keep its content (FOPEN_KEEP_CACHE, 2)
-abbrev pub open_file : OpenOut
-open_file = record { fh = 0; open_flags = 2 }
+-- an open file has no handle of its own; the kernel may keep its content (FOPEN_KEEP_CACHE, 2), and closes it without a FLUSH
+-- (FOPEN_NOFLUSH, 32) if it is opened for reading alone (O_RDONLY, 0 of O_ACCMODE, 3)
+abbrev pub open_file : ℕ → OpenOut
+open_file flags = record { fh = 0; open_flags = if bit_and flags 3 == 0 then 34 else 2 }
 
 -- an open directory, whose rows the kernel may keep (FOPEN_CACHE_DIR, 8) from one opening to the next
 abbrev pub open_directory : ℕ → OpenOut

@@ -129,12 +129,18 @@ abbrev pub Shuts : Asked → Pages → Pages → Type 0
 Shuts (asked.ReleaseDir s) old new = Closes old new s.fh
 Shuts a old new = IsSamePages old new
 
+-- how a message opens a file
+abbrev pub flags_of : Asked → ℕ
+flags_of (asked.Open s) = s.flags
+flags_of (asked.Create s n) = s.flags
+flags_of a = 0
+
 -- a directory is opened by a handle of its own, and a file's node once more; or there is no memory for it
 abbrev pub IsOpened : ℕ → Asked → Pages → Pages → Opens → Opens → Told → Type 0
 IsOpened node (asked.OpenDir s) old new opens opens' t = IsSameOpens opens opens'
     × (((handle : ℕ) × OpensPage old new handle × (t ≡ say (answer.Opened (open_directory handle)))) ⊎ (IsSamePages old new × (t ≡ refuse 12)))
 IsOpened node a old new opens opens' t = IsSamePages old new
-    × ((Raises opens opens' node × (t ≡ say (answer.Opened open_file))) ⊎ (IsSameOpens opens opens' × (t ≡ refuse 12)))
+    × ((Raises opens opens' node × (t ≡ say (answer.Opened (open_file (flags_of a))))) ⊎ (IsSameOpens opens opens' × (t ≡ refuse 12)))
 
 -- rows were listed after that name: the first of them are told, as many as fit; or there is no memory for them
 abbrev pub Lists : ℕ → ReadIn → Option Name → List Entry → Pages → Pages → Told → Type 0
@@ -186,7 +192,8 @@ module _ (m : Manner) (node : ℕ) (a : Asked) (last : Option Name) (nodes nodes
       Stay × ((at : Moments) × (t ≡ say (answer.Attributes (attributes_of m inode at kind size))))
   Concludes (Ok outcome.Opened) t = IsSameNodes nodes nodes' × IsOpened node a pages pages' opens opens' t
   Concludes (Ok (outcome.Made kind size inode)) t =
-      EntersOpen (named node a) (λ id at. answer.Created (entry_of m id inode at kind size) open_file) nodes nodes' opens opens' t × IsSamePages pages pages'
+      EntersOpen (named node a) (λ id at. answer.Created (entry_of m id inode at kind size) (open_file (flags_of a))) nodes nodes' opens opens' t
+      × IsSamePages pages pages'
   Concludes (Ok (outcome.Bytes bytes)) t = Stay × (t ≡ give bytes)
   Concludes (Ok (outcome.Written n)) t = Stay × (t ≡ count n)
   Concludes (Ok (outcome.Rows rows more)) t = IsSameNodes nodes nodes' × IsListed node a last rows pages pages' t × IsSameOpens opens opens'

@@ -23,6 +23,9 @@ const EPROTO: u32 = 71;
 /// What the kernel may do of what it offers.
 const WANTED: u32 = 12_845_089;
 
+/// What flags of `open` say of reading and writing; 0 is reading alone.
+const ACCESS_MODE: u32 = 3;
+
 fn mode_of(kind: Kind) -> u32
     ensures { result ≡ mode_of kind }
 {
@@ -97,13 +100,13 @@ pub(crate) fn attributes_of(
     }
 }
 
-/// An open file.
-pub(crate) fn open_file() -> OpenOut
-    ensures { result ≡ open_file }
+/// A file that is opened with these flags of `open`.
+pub(crate) fn open_file(flags: u32) -> OpenOut
+    ensures { result ≡ open_file flags }
 {
     OpenOut {
         fh: 0,
-        open_flags: 2,
+        open_flags: if flags & ACCESS_MODE == 0 { 34 } else { 2 },
     }
 }
 

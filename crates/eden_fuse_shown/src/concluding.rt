@@ -19,6 +19,7 @@ ghost use Rattle.eden_fuse_shown.specs.Showing.{
   count,
   errno_of,
   failed,
+  flags_of,
   give,
   refuse,
   say,
@@ -108,6 +109,17 @@ fn found(
     }
 }
 
+/// How a message opens a file.
+fn flags_of(operation: &Operation<'_>) -> u32
+    ensures { result ≡ flags_of (seen operation.now) }
+{
+    match operation {
+        Operation::Open(open) => open.flags,
+        Operation::Create(create, _) => create.flags,
+        _ => 0,
+    }
+}
+
 // The file at the place was made, and is open.
 fn made(
     alloc: Global,
@@ -115,25 +127,27 @@ fn made(
     nodes: &mut Nodes,
     opens: &mut Opens,
     times: &mut Times,
-    fresh: Option<Time>,
+    now: Time,
+    operation: &Operation<'_>,
     place: Option<Place>,
     kind: Kind,
     size: u64,
     inode: u64,
 ) -> Answer<'static>
-    ensures enters { EntersOpen place (λ id at. answer.Created (entry_of manner id inode at kind size) open_file)
+    ensures enters { EntersOpen place
+        (λ id at. answer.Created (entry_of manner id inode at kind size) (open_file (flags_of (seen operation.now))))
         nodes.old nodes.new opens.old opens.new (say result) }
     ensures brief { IsBrief result }
 {
     match enter_open(alloc, nodes, opens, place) {
         Err(errno) => Answer::Refused(errno),
         Ok(id) => {
-            if let Some(now) = fresh {
+            if let Some(now) = fresh(operation, now) {
                 times.change(id, now);
             }
             Answer::Created(
                 entry_of(manner, id, inode, times.of(id, inode), kind, size),
-                open_file(),
+                open_file(flags_of(operation)),
             )
         }
     }
@@ -156,7 +170,7 @@ fn open(
             Err(_) => Answer::Refused(ENOMEM),
         },
         _ => match opens.raise(node) {
-            Ok(()) => Answer::Opened(open_file()),
+            Ok(()) => Answer::Opened(open_file(flags_of(operation))),
             Err(_) => Answer::Refused(ENOMEM),
         },
     }
@@ -296,12 +310,9 @@ pub(crate) fn conclude(
             Said::Answers(Answer::Attributes(attributes))
         }
         Ok(Outcome::Opened) => Said::Answers(open(alloc, pages, opens, node, operation)),
-        Ok(Outcome::Made(kind, size, inode)) => {
-            let fresh = fresh(operation, now);
-            Said::Answers(made(
-                alloc, manner, nodes, opens, times, fresh, place, kind, size, inode,
-            ))
-        }
+        Ok(Outcome::Made(kind, size, inode)) => Said::Answers(made(
+            alloc, manner, nodes, opens, times, now, operation, place, kind, size, inode,
+        )),
         Ok(Outcome::Bytes(bytes)) => give(bytes, room),
         Ok(Outcome::Written(written)) => Said::Answers(count(written)),
         Ok(Outcome::Rows(rows, _)) => list(pages, node, operation, last, rows, room),

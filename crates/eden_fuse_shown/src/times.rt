@@ -15,6 +15,9 @@ const MTIME: u32 = 32;
 /// .. to the clock's.
 const MTIME_NOW: u32 = 256;
 
+/// The most nanoseconds of a time (POSIX.1, `timespec`). The kernel refuses more before it asks.
+const MOST_NANOSECONDS: u32 = 999_999_999;
+
 /// What the clock says; 1970 where it says nothing.
 pub(crate) fn now<K: Clock>(clock: &K) -> Time {
     let none = Time {
@@ -131,7 +134,7 @@ impl Times {
         } else if setting.valid & MTIME != 0 {
             Some(Time {
                 seconds: setting.mtime,
-                nanoseconds: setting.mtimensec,
+                nanoseconds: setting.mtimensec.min(MOST_NANOSECONDS),
             })
         } else if setting.valid & SIZE != 0 {
             Some(now)

@@ -4,8 +4,8 @@ ghost use Rattle.eden_host.specs.Guests.{HasLearntNothing, IsTurnedAway, last_re
 ghost use Rattle.eden_shared.specs.Calls.{Grows};
 
 use crate::served::Served;
-use crate::unloading::Unloading;
 use eden_model::{CallFault, Fault, Path, Reply, Request, World};
+use eden_mount::Unloading;
 use eden_shared::{Naming, Pass};
 use eden_wire::Service;
 use std::alloc::Global;
@@ -23,8 +23,6 @@ pub struct Guest<'a, W: World, J: Naming, C: Served<W, J>, R: Wait> {
     reply: Reply,
     unloading: Unloading,
     root: Path,
-    // how many requests were served since directories were last let go
-    served: u32,
     world: PhantomData<W>,
 }
 
@@ -51,7 +49,6 @@ impl<'a, W: World, J: Naming, C: Served<W, J>, R: Wait> Guest<'a, W, J, C, R> {
             reply: Reply::Fault(Fault::Memory),
             unloading,
             root: Path::new(Vec::new(alloc)).unwrap(),
-            served: 0,
             world: PhantomData,
         }
     }
@@ -85,12 +82,9 @@ impl<'a, W: World, J: Naming, C: Served<W, J>, R: Wait> Guest<'a, W, J, C, R> {
     fn unload(&mut self)
         ensures { self.new ≡ self.old }
     {
-        self.served = self.served.saturating_add(1);
-        if self.served < self.unloading.every {
-            return;
+        if self.unloading.is_due() {
+            self.shared.let_go(self.rt, &self.root, self.unloading.age);
         }
-        self.served = 0;
-        self.shared.let_go(self.rt, &self.root, self.unloading.age);
     }
 
     /// The last reply.

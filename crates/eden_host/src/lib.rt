@@ -17,7 +17,6 @@ mod listening;
 mod served;
 mod sharing;
 mod threads;
-mod unloading;
 
 pub use accepts::Accepts;
 pub use fault::HostFault;
@@ -26,4 +25,3 @@ pub use guest::Guest;
 pub use hosting::{Hosted, host};
 pub use served::Served;
 pub use sharing::{HostedTable, host_table, share};
-pub use unloading::Unloading;

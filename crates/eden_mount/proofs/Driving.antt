@@ -30,8 +30,8 @@ use Rattle.eden_mount.specs.Core.{Core, seat_of, Pends, IsFree, pending_from, af
 use Rattle.eden_mount.specs.Kept.{IsMount}
 use Rattle.eden_mount.specs.Replying.{Replied, attempted, uncopied, failed, ToldBy, WaitsBy}
 use Rattle.eden_mount.specs.Steps.{Turns, Takes}
-use Rattle.eden_mount.specs.Serving.{FailsBy, HasFailed, Comes, IsAtRest, IsDriven, LeadsTo, first, waiting, storing, IsTold, Serves, Stays, budget, Hands, Drives}
-use Rattle.eden_mount.proofs.CallerLemmas.{stays_on, stays_at, turn_stays, take_stays}
+use Rattle.eden_mount.specs.Serving.{FailsBy, HasFailed, Comes, IsAtRest, IsDriven, LeadsTo, first, waiting, storing, IsTold, MayUnload, MayLetGo, Serves, Stays, budget, Hands, Drives}
+use Rattle.eden_mount.proofs.CallerLemmas.{stays_on, stays_at, turn_stays, take_stays, unload_stays}
 
 -- ---- the queue of one caller
 
@@ -375,6 +375,11 @@ module _ {S : Type 0} (fetched : S → Id → Answer → S → Type 0) {T : Type
 
 -- ---- the whole call
 
+-- what directories that may have gone leave as it was
+let_go_stays : {T : Type 0} (A : Table T) (honest : Type 0) (m m' : Core T) → MayUnload A honest m.table m'.table → m' ≡ record m { table = m'.table } → Stays A m m'
+let_go_stays A honest m m' (inl same) is = stays_at A m m' same (ap (λ x. x.queue.passes) is) (ap (λ x. x.limit) is)
+let_go_stays A honest m m' (inr (p, age, gone, unloads)) is = unload_stays A honest m m' p age gone (unloads, is)
+
 emptied : {X : Type 0} (xs : List (Option X)) → slice_index_or (set xs 0 None) 0 None ≡ None
 emptied [] = refl
 emptied (x ∷ xs) = refl
@@ -401,9 +406,9 @@ module _ {T : Type 0} (A : Table T) (honest : Type 0) (opening : Tree) (N : Numb
         marked = λ k x e. absurd (let both : None ≡ Some (k, x) = sym idle.1 ∙ sym (ap (mark_of 1) queue) ∙ e in cc both);
       }
 
-  pub started_serves : {S : Type 0} (copies : Bool) (fetched : S → Id → Answer → S → Type 0) (m' : Core T) (s t : S) (reply : Reply) → ((u : T) (p : Request) → A.left u p ≤ most_objects p)
-      → Drives fetched A honest copies q m1 s reply m' t → Serves fetched A honest copies q m s reply m' t
-  started_serves copies fetched m' s t reply most d =
+  pub started_serves : {S : Type 0} (copies : Bool) (fetched : S → Id → Answer → S → Type 0) (m2 m' : Core T) (s t : S) (reply : Reply) → ((u : T) (p : Request) → A.left u p ≤ most_objects p)
+      → Drives fetched A honest copies q m1 s reply m2 t → MayLetGo A honest m2 m' → Serves fetched A honest copies q m s reply m' t
+  started_serves copies fetched m2 m' s t reply most d (evicted, same) =
       let clear : mark_of 1 m1.queue ≡ None = ap (λ (x : Core T). mark_of 1 x.queue) is ∙ (h.rests 1 free).1 in
       let few : length d.asks ≤ A.left m1.table q = subst (λ o. length d.asks ≤ budget o (A.left m1.table q)) clear d.few in
       let bound : A.left m1.table q ≤ most_objects q = most m1.table q in
@@ -411,12 +416,18 @@ module _ {T : Type 0} (A : Table T) (honest : Type 0) (opening : Tree) (N : Numb
         asks = d.asks;
         asked = d.asked;
         few = omega (arith, few, bound);
-        told = subst (λ (t : T). IsTold A honest copies q reply t m'.table) (ap (λ (x : Core T). x.table) is) d.told;
-        history = d.history ∙ ap (λ (x : Core T). x.history ++ entry 1 q reply ∷ []) is;
+        last = m2.table;
+        told = subst (λ (t : T). IsTold A honest copies q reply t m2.table) (ap (λ (x : Core T). x.table) is) d.told;
+        evicted = evicted;
+        history = ap (λ (x : Core T). x.history) same ∙ d.history ∙ ap (λ (x : Core T). x.history ++ entry 1 q reply ∷ []) is;
         rest = record {
-          quiet = d.quiet;
-          free = ap (λ (x : List (Option Pending)). slice_index_or x 0 None) d.seats ∙ emptied m1.seats;
+          quiet = record {
+            queue = ap (λ (x : Core T). x.queue.queue) same ∙ d.quiet.queue;
+            flight = ap (λ (x : Core T). x.queue.flight) same ∙ d.quiet.flight;
+          };
+          free = ap (λ (x : Core T). slice_index_or x.seats 0 None) same ∙ ap (λ (x : List (Option Pending)). slice_index_or x 0 None) d.seats ∙ emptied m1.seats;
         };
-        stays = stays_on A m m1 m' (stays_at A m m1 (ap (λ (x : Core T). x.table) is) (ap (λ (x : Core T). x.queue.passes) is) (ap (λ (x : Core T). x.limit) is)) d.stays;
+        stays = stays_on A m m2 m' (stays_on A m m1 m2 (stays_at A m m1 (ap (λ (x : Core T). x.table) is) (ap (λ (x : Core T). x.queue.passes) is) (ap (λ (x : Core T). x.limit) is)) d.stays)
+            (let_go_stays A honest m2 m' evicted same);
         failed = λ id x e. ⊎_elim (λ f. f) (λ w. absurd (let both : None ≡ Some (w.0, x) = sym clear ∙ w.2 in cc both)) (d.failed id x e);
       }

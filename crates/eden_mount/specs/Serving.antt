@@ -5,6 +5,7 @@ use Rattle.eden_model.specs.declared.fault.Fault.TheVariants as fault
 use Rattle.eden_model.specs.declared.fault.StartFault.{StartFault}
 use Rattle.eden_model.specs.declared.id.Id.{Id}
 use Rattle.eden_model.specs.declared.id.Key.{Key}
+use Rattle.eden_model.specs.Trees.{Path}
 use Rattle.eden_model.specs.declared.request.Request.{Request}
 use Rattle.eden_model.specs.declared.reply.Reply.{Reply}
 use Rattle.eden_model.specs.declared.reply.Reply.TheVariants as say
@@ -15,7 +16,7 @@ use Rattle.eden_source.specs.Fetching.{Answer, Fetches}
 use Rattle.eden_source.specs.Asking.{Asked, heard}
 use Rattle.eden_import.specs.Queue.{Mark, IsQueue, want_of, mark_of, after_done, after_failed}
 use Rattle.eden_mount.specs.declared.seats.Pending.{Pending}
-use Rattle.eden_mount.specs.Tables.{Table, Stores, KeepsBytes}
+use Rattle.eden_mount.specs.Tables.{Table, Stores, KeepsBytes, Unloads}
 use Rattle.eden_mount.specs.Core.{Core, seat_of, Pends}
 use Rattle.eden_mount.specs.Replying.{ToldBy, WaitsBy}
 use Rattle.eden_mount.specs.Steps.{IsUseless, IsRefused}
@@ -89,6 +90,13 @@ pub record IsTold {T : Type 0} (A : Table T) (honest : Type 0) (copies : Bool) (
   pub mark : Option Mark
   pub told : ToldBy A honest copies before q mark r u
 
+-- loaded directories that nobody uses were let go, or nothing was
+abbrev pub MayUnload : {T : Type 0} → Table T → Type 0 → T → T → Type 0
+MayUnload A honest t u = (u ≡ t) ⊎ ((p : Path) × (age : ℕ) × (gone : ℕ) × Unloads A honest t p age gone u)
+
+abbrev pub MayLetGo : {T : Type 0} → Table T → Type 0 → Core T → Core T → Type 0
+MayLetGo A honest m m' = MayUnload A honest m.table m'.table × (m' ≡ record m { table = m'.table })
+
 module _ {S : Type 0} (fetched : S → Id → Answer → S → Type 0) {T : Type 0} (A : Table T) where
   -- the source was asked for the key, and its answer was handed in
   pub record Hands (m : Core T) (s : S) (k : Key) (m' : Core T) (t : S) : Type 0 where
@@ -114,12 +122,14 @@ module _ {S : Type 0} (fetched : S → Id → Answer → S → Type 0) {T : Type
 
   -- A request was served: the source was asked for at most one object for each place on its paths, the history has its
   -- entry, a fault has its cause in what the caller's own turns made of the table, and a fetch fault is of an object that was
-  -- asked for and failed.
+  -- asked for and failed. After the last turn directories may be let go.
   pub record Serves (honest : Type 0) (copies : Bool) (q : Request) (m : Core T) (s : S) (r : Reply) (m' : Core T) (t : S) : Type 0 where
     pub asks : List Asked
     pub asked : Fetches fetched s (heard asks) t
     pub few : length asks ≤ most_objects q
-    pub told : IsTold A honest copies q r m.table m'.table
+    pub last : T
+    pub told : IsTold A honest copies q r m.table last
+    pub evicted : MayUnload A honest last m'.table
     pub history : m'.history ≡ m.history ++ entry 1 q r ∷ []
     pub rest : IsAtRest m'
     pub stays : Stays A m m'

@@ -17,6 +17,7 @@ mod places;
 mod room;
 mod seats;
 mod settling;
+mod unloading;
 
 pub use attempts::Attempts;
 pub use config::Config;
@@ -26,3 +27,4 @@ pub use local::Local;
 pub use mount::Mount;
 pub use room::Room;
 pub use seats::Pending;
+pub use unloading::Unloading;

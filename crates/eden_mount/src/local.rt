@@ -4,14 +4,16 @@ ghost use Rattle.std.specs.Io.BufRead.{Rests};
 ghost use Rattle.eden_model.specs.declared.request.Request.{Request};
 ghost use Rattle.eden_model.specs.Histories.{Legal};
 ghost use Rattle.eden_import.specs.Keys.{has_key};
-ghost use Rattle.eden_mount.specs.Serving.{IsDriven, IsAtRest, Hands, DrivesOn, Answers, IsServed, Lends, Declines};
+ghost use Rattle.eden_mount.specs.Serving.{IsDriven, IsAtRest, Hands, DrivesOn, MayLetGo};
+ghost use Rattle.eden_mount.specs.Serving.{Answers, IsServed, Lends, Declines};
 ghost use Rattle.eden_mount.specs.contracts.local.Local.{the_row};
 
 use crate::attempts::Attempts;
 use crate::events::Turned;
 use crate::mount::Mount;
+use crate::unloading::Unloading;
 use eden_history::{History, Kept};
-use eden_model::{Entry, Fault, Key, Reply, Request, StartFault, World};
+use eden_model::{Entry, Fault, Key, Path, Reply, Request, StartFault, World};
 use eden_source::Source;
 use std::alloc::{Allocator, Global};
 use std::marker::Model;
@@ -60,11 +62,31 @@ fn drive<W: World, S: Source<W>, T: Attempts<W> + Drop, A: Allocator, H: History
     }
 }
 
-/// Serves one request over the source.
+/// When a caller lets go of directories of the whole mount.
+#[derive(Drop)]
+struct Evicting {
+    unloading: Unloading,
+    root: Path,
+}
+
+/// Counts a request, and lets go of directories where it is time to.
+fn let_go<W: World, T: Attempts<W> + Drop, A: Allocator, H: History>(
+    mount: &mut Mount<W, T, A, H>,
+    evicting: &mut Evicting,
+)
+    ensures { MayLetGo T.table W.honest mount.old mount.new }
+{
+    if evicting.unloading.is_due() {
+        mount.unload(&evicting.root, evicting.unloading.age);
+    }
+}
+
+/// Serves one request over the source, and lets go of directories where it is time to.
 fn answer<W: World, S: Source<W>, T: Attempts<W> + Drop, A: Allocator, H: History>(
     alloc: Global,
     mount: &mut Mount<W, T, A, H>,
     source: &mut S,
+    evicting: &mut Evicting,
     request: Request,
 ) -> Result<Reply, StartFault>
     requires { IsAtRest mount.old }
@@ -73,11 +95,16 @@ fn answer<W: World, S: Source<W>, T: Attempts<W> + Drop, A: Allocator, H: Histor
     mount.holds();
     match mount.start(1, request) {
         Err(fault) => Err(fault),
-        Ok(()) => Ok(drive::<W, S, T, A, H>(alloc, mount, source)),
+        Ok(()) => {
+            let reply = drive::<W, S, T, A, H>(alloc, mount, source);
+            let_go::<W, T, A, H>(mount, evicting);
+            Ok(reply)
+        }
     }
 }
 
-/// A mount with one caller, who is its first pass, and a source that it asks itself. It waits for nobody.
+/// A mount with one caller, who is its first pass, and a source that it asks itself. It waits for nobody. Now and then
+/// it lets go of loaded directories that weren't used for long.
 ///
 /// Contracts see the mount, the source and the last reply.
 #[derive(Drop)]
@@ -86,6 +113,7 @@ pub struct Local<W: World, S: Source<W> + Drop, T: Attempts<W> + Drop, A: Alloca
     mount: Mount<W, T, A, H>,
     source: S,
     reply: Reply,
+    evicting: Evicting,
 }
 
 impl<W: World, S: Source<W> + Drop, T: Attempts<W> + Drop, A: Allocator, H: History> Model
@@ -107,7 +135,7 @@ impl<W: World, S: Source<W> + Drop, T: Attempts<W> + Drop, A: Allocator, H: Hist
     H,
 > {
     /// Over a mount in which the first pass has nothing pending, and nothing is queued or in flight.
-    pub fn new(alloc: Global, mount: Mount<W, T, A, H>, source: S) -> Self
+    pub fn new(alloc: Global, mount: Mount<W, T, A, H>, source: S, unloading: Unloading) -> Self
         requires { IsAtRest mount }
         ensures mount { result.core ≡ mount }
         ensures source { result.source ≡ source }
@@ -117,6 +145,10 @@ impl<W: World, S: Source<W> + Drop, T: Attempts<W> + Drop, A: Allocator, H: Hist
             mount,
             source,
             reply: Reply::Fault(Fault::Memory),
+            evicting: Evicting {
+                unloading,
+                root: Path::new(Vec::new(alloc)).unwrap(),
+            },
         }
     }
 
@@ -142,7 +174,9 @@ impl<W: World, S: Source<W> + Drop, T: Attempts<W> + Drop, A: Allocator, H: Hist
         ensures ok { OnOk result (IsServed S.fetched T.table W.honest H.copies request self.old self.new) }
         ensures err { IfErr result (λ fault. Declines self.old fault self.new) }
     {
-        match answer::<W, S, T, A, H>(self.alloc, &mut self.mount, &mut self.source, request) {
+        let (alloc, evicting) = (self.alloc, &mut self.evicting);
+        let (mount, source) = (&mut self.mount, &mut self.source);
+        match answer::<W, S, T, A, H>(alloc, mount, source, evicting, request) {
             Err(fault) => Err(fault),
             Ok(reply) => {
                 self.reply = reply;

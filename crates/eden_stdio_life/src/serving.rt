@@ -8,7 +8,7 @@ ghost use Rattle.eden_stdio_life.specs.Serving.{ServesCaller};
 use crate::caller::Caller;
 use eden_history::History;
 use eden_model::World;
-use eden_mount::{Attempts, Local, Mount, Room};
+use eden_mount::{Attempts, Local, Mount, Room, Unloading};
 use eden_source::Source;
 use eden_wire::{SessionFault, session};
 use std::alloc::{Allocator, Global};
@@ -72,7 +72,7 @@ pub fn serve_table<
         (R.remaining reader.old, R.remaining reader.new) (O.contents writer.old, O.contents writer.new) result }
 {
     let mount: Mount<W, T, A, H> = Mount::new(room, table, history);
-    let mut caller = Caller::new(Local::new(alloc, mount, source));
+    let mut caller = Caller::new(Local::new(alloc, mount, source, Unloading::usual()));
     let said = serve(alloc, reader, writer, &mut caller);
     let (mount, source) = caller.into_local().into_parts();
     mount.holds();

@@ -8,7 +8,7 @@ mod shelf;
 
 use eden_history::Kept;
 use eden_model::{Bytes, Cause, Fault, Key, Kind, Outside, Path, Reply, Request, StartFault};
-use eden_mount::{Arrived, Config, Event, Local, Mount, Outcome, Room, Turned};
+use eden_mount::{Arrived, Config, Event, Local, Mount, Outcome, Room, Turned, Unloading};
 use eden_source::MemorySource;
 use shelf::{Shelf, UNLOADED};
 use std::alloc::Global;
@@ -298,7 +298,7 @@ fn caller(
     let mut source = MemorySource::new(alloc);
     let framed = bytes(rt, alloc, framed).into_vec();
     source.insert(key().id, framed).expect(rt, "memory");
-    Local::new(alloc, mount(rt, alloc, 2, true), source)
+    Local::new(alloc, mount(rt, alloc, 2, true), source, Unloading::usual())
 }
 
 /// Whether a call is told that, and the next that the root is a directory, and the third that the history is full.
@@ -319,4 +319,42 @@ fn tells(rt: &impl Abort, alloc: Global, framed: &[u8], answer: &Answer) -> bool
 fn one_caller_is_told(rt: HostRuntime) {
     assert!(rt; tells(&rt, rt.alloc(), b"blob 0\0", &Reads(1)));
     assert!(rt; tells(&rt, rt.alloc(), b"blob 0", &Faults(1, Cause::BadDigest)));
+}
+
+/// How often directories are let go after every so many of twelve requests, of which one more is refused.
+fn unloads(rt: &impl Abort, alloc: Global, every: u32) -> usize {
+    let unloading = Unloading {
+        every,
+        age: 0,
+        came: 0,
+    };
+    let mount = mount(rt, alloc, 12, true);
+    let source = MemorySource::<Outside>::new(alloc);
+    let mut caller = Local::new(alloc, mount, source, unloading);
+    for _ in 0..12 {
+        assert!(rt; caller.serve(Request::Kind(root(rt, alloc))).is_ok());
+    }
+    assert!(rt; caller.serve(Request::Kind(root(rt, alloc))).is_err());
+    let (mount, _source) = caller.into_parts();
+    mount.into_table().unloads
+}
+
+#[test]
+fn one_caller_lets_directories_go(rt: HostRuntime) {
+    let alloc = rt.alloc();
+    let times = [
+        (0, 12),
+        (1, 12),
+        (2, 6),
+        (5, 2),
+        (12, 1),
+        (13, 0),
+        (u32::MAX, 0),
+    ];
+    for (every, unloaded) in times {
+        assert!(rt;
+            unloads(&rt, alloc, every) == unloaded,
+            "after every {every}"
+        );
+    }
 }

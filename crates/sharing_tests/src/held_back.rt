@@ -8,8 +8,9 @@ ghost use Rattle.eden_shared.specs.Passes.{AreNewcomers};
 
 use crate::late::end_late;
 use crate::mounts::{Held, Objects, Size, open, serve};
-use eden_host::{Accepts, Unloading};
+use eden_host::Accepts;
 use eden_model::{Cause, Id, Outside};
+use eden_mount::Unloading;
 use eden_shared::{Naming, Pass, Ties};
 use eden_source::Source;
 use std::alloc::Global;

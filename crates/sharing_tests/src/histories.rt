@@ -2,7 +2,7 @@
 
 use crate::mounts::{Mounted, Objects, Size, close, mount};
 use eden_model::{Entry, Reply, Request};
-use eden_mount::Local;
+use eden_mount::{Local, Unloading};
 use eden_oracle::WholeTree;
 use eden_shared::Told;
 use std::alloc::Global;
@@ -99,7 +99,12 @@ pub(crate) fn check_reopened(
 ) {
     let files = close(rt, alloc, mounted);
     let again = mount(rt, alloc, files, commit.root(), ONE);
-    let mut caller = Local::new(alloc, again, Objects { commit });
+    let unloading = Unloading {
+        every: 3,
+        age: 0,
+        came: 0,
+    };
+    let mut caller = Local::new(alloc, again, Objects { commit }, unloading);
     for look in all_looks(alloc, tree).expect(rt, "memory") {
         let copy = look.copy(alloc).expect(rt, "memory");
         assert!(rt; caller.serve(copy).is_ok());

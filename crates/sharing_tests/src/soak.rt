@@ -8,7 +8,7 @@ use crate::clients::Arrivals;
 use crate::mounts::{Held, Mounted, Size, open, serve};
 use crate::replay::{Tally, check};
 use crate::rounds::{CLIENTS, REQUESTS, Round};
-use eden_host::Unloading;
+use eden_mount::Unloading;
 use eden_shared::{Naming, Pass, Ties};
 use std::alloc::Global;
 use std::marker::Brand;
@@ -44,6 +44,7 @@ fn serve_clients<'a, J: Naming + Send + Sync, R: Threads + Wait + Abort + Sync>(
     let unloading = Unloading {
         every: 3,
         age: round.age,
+        came: 0,
     };
     let sources = round.sources(rt, alloc);
     serve(rt, alloc, arrivals, shared, passes, sources, unloading)

@@ -6,8 +6,8 @@ ghost use Rattle.eden_shared.specs.Passes.{AreNewcomers};
 
 use crate::late::end_late;
 use crate::mounts::{Held, Mounted, Size, open, serve};
-use eden_host::Unloading;
 use eden_model::Outside;
+use eden_mount::Unloading;
 use eden_remote::{SocketSource, answer_objects};
 use eden_shared::{Naming, Pass, Ties};
 use eden_sockets::{Address, Listener};

@@ -20,6 +20,8 @@ pub(crate) struct Shelf {
     pub turns: u64,
     /// The place that the last attempt was handed.
     pub handed: Option<u64>,
+    /// How often directories were let go.
+    pub unloads: usize,
 }
 
 impl Shelf {
@@ -30,6 +32,7 @@ impl Shelf {
             objects: 0,
             turns: 0,
             handed: None,
+            unloads: 0,
         }
     }
 }
@@ -97,6 +100,7 @@ impl Attempts<Outside> for Shelf {
     }
 
     fn unload(&mut self, _alloc: Global, _path: &Path, _older_than: u64) -> u64 {
+        self.unloads = self.unloads.saturating_add(1);
         UNLOADED
     }
 }
