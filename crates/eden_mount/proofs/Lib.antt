@@ -5,6 +5,7 @@ mod Payloads
 mod Keeping
 mod Telling
 mod Placing
+mod AtOnce
 mod Running
 mod Blaming
 mod Driving

@@ -29,6 +29,14 @@ module _ {T P : Type 0} (leads : T → Request → P → Type 0) where
       let other : j ≢ i = λ e. nothing_there (get_or seats j None) l.0 l.1.0 (ap (λ n. get_or seats n None) e ∙ free) in
       (l.0, (get_or-set_other seats i j (Some s) None other ∙ l.1.0, l.1.1))
 
+  -- no place is kept at a free seat
+  pub unkept : (t : T) (seats : List (Option Pending)) (ps : List (Option P)) (i : ℕ) → get_or seats i None ≡ None → AllLead leads t seats ps → kept_at i ps ≡ None
+  unkept t seats ps i free all = at (kept_at i ps) refl
+    where
+      at : (o : Option P) → kept_at i ps ≡ o → kept_at i ps ≡ None
+      at None is = is
+      at (Some p) is = (let l = all i p is in nothing_there (get_or seats i None) l.0 l.1.0 free)
+
   -- the place that is kept leads along a path of the seat's request
   pub recalled : (t : T) (seats : List (Option Pending)) (ps : List (Option P)) (i : ℕ) (s : Pending)
       → AllLead leads t seats ps → get_or seats i None ≡ Some s → IfSome (kept_at i ps) (leads t s.request)

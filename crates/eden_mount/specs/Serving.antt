@@ -16,10 +16,11 @@ use Rattle.eden_source.specs.Fetching.{Answer, Fetches}
 use Rattle.eden_source.specs.Asking.{Asked, heard}
 use Rattle.eden_import.specs.Queue.{Mark, IsQueue, want_of, mark_of, after_done, after_failed}
 use Rattle.eden_mount.specs.declared.seats.Pending.{Pending}
+use Rattle.eden_mount.specs.declared.events.Turned.TheVariants.{Wait}
 use Rattle.eden_mount.specs.Tables.{Table, Stores, KeepsBytes, Unloads}
-use Rattle.eden_mount.specs.Core.{Core, seat_of, Pends}
+use Rattle.eden_mount.specs.Core.{Core, seat_of, Pends, IsFree, after_start}
 use Rattle.eden_mount.specs.Replying.{ToldBy, WaitsBy}
-use Rattle.eden_mount.specs.Steps.{IsUseless, IsRefused}
+use Rattle.eden_mount.specs.Steps.{IsUseless, IsRefused, Turns, Takes}
 
 -- ---- what the source was asked for
 
@@ -63,6 +64,10 @@ pub record IsDriven {T : Type 0} (A : Table T) (q : Request) (m : Core T) : Type
   -- what failed for it, it still needs
   pub marked : (k : Key) (x : Cause) → mark_of 1 m.queue ≡ Some (k, x) → A.needs m.table q k
 
+-- .. and waits since its last turn
+abbrev pub WaitsAlone : {T : Type 0} → Table T → Type 0 → Bool → Core T → Type 0
+WaitsAlone {T} A honest copies m = (q : Request) × (before : Core T) × (k : Key) × IsDriven A q before × Turns A honest copies before 1 (Wait k) m
+
 -- how many more objects may be asked for: once one has failed, it is told so, or has come further
 abbrev pub budget : Option Mark → ℕ → ℕ
 budget None n = n
@@ -104,6 +109,10 @@ module _ {S : Type 0} (fetched : S → Id → Answer → S → Type 0) {T : Type
     pub asked : fetched s k.id answer t
     pub came : Comes A m (record { key = k; answer = answer }) m'
 
+  -- the oldest queued key was taken, and what its source had for it was handed in
+  abbrev pub FetchesOne : Core T → S → Core T → S → Type 0
+  FetchesOne m s m' t = (k : Key) × (taken : Core T) × Takes m (Some k) taken × IsQueue taken.queue × Hands taken s k m' t × IsQueue m'.queue
+
   -- the caller's request was driven to its reply
   pub record Drives (honest : Type 0) (copies : Bool) (q : Request) (m : Core T) (s : S) (r : Reply) (m' : Core T) (t : S) : Type 0 where
     pub asks : List Asked
@@ -116,6 +125,11 @@ module _ {S : Type 0} (fetched : S → Id → Answer → S → Type 0) {T : Type
     pub stays : Stays A m m'
     pub failed : (id : Id) (x : Cause) → r ≡ say.Fault (fault.Fetch id x)
         → HasFailed asks id x ⊎ ((k : Key) × (k.id ≡ id) × (mark_of 1 m.queue ≡ Some (k, x)))
+
+  -- a request was asked and driven to its reply, or refused with nothing changed
+  abbrev pub Finishes : Type 0 → Bool → Request → Core T → S → Result Reply StartFault → Core T → S → Type 0
+  Finishes honest copies q m s (Ok r) m' t = IsFree 1 m × Drives honest copies q (after_start 1 q m) s r m' t
+  Finishes honest copies q m s (Err f) m' t = IsRefused m 1 f × (m' ≡ m) × (t ≡ s)
 
   abbrev pub DrivesOn : Type 0 → Bool → Core T → S → Reply → Core T → S → Type 0
   DrivesOn honest copies m s r m' t = (q : Request) → IsDriven A q m → Drives honest copies q m s r m' t

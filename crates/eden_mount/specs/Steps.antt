@@ -67,6 +67,13 @@ module _ {T : Type 0} (A : Table T) (honest : Type 0) where
       × Awaits A honest m.table s.request (mark_of c m.queue) k m'.table
   GoesOn copies m c Idle m' = ⊥
 
+-- ---- ask
+
+-- a request is started, and has its first turn; or it isn't taken
+abbrev pub Asks : {T : Type 0} → Table T → Type 0 → Bool → Core T → ℕ → Request → Result Turned StartFault → Core T → Type 0
+Asks A honest copies m c q (Ok turned) m' = IsFree c m × (taken_room m < m.limit) × Turns A honest copies (after_start c q m) c turned m'
+Asks A honest copies m c q (Err f) m' = IsRefused m c f × (m' ≡ m)
+
 -- ---- take
 
 abbrev pub Takes : {T : Type 0} → Core T → Option Key → Core T → Type 0

@@ -4,8 +4,8 @@ ghost use Rattle.std.specs.Io.BufRead.{Rests};
 ghost use Rattle.eden_model.specs.declared.request.Request.{Request};
 ghost use Rattle.eden_model.specs.Histories.{Legal};
 ghost use Rattle.eden_import.specs.Keys.{has_key};
-ghost use Rattle.eden_mount.specs.Serving.{IsDriven, IsAtRest, Hands, DrivesOn, MayLetGo};
-ghost use Rattle.eden_mount.specs.Serving.{Answers, IsServed, Lends, Declines};
+ghost use Rattle.eden_mount.specs.Serving.{IsDriven, IsAtRest, WaitsAlone, Hands, FetchesOne, DrivesOn, Finishes};
+ghost use Rattle.eden_mount.specs.Serving.{MayLetGo, Answers, IsServed, Lends, Declines};
 ghost use Rattle.eden_mount.specs.contracts.local.Local.{the_row};
 
 use crate::attempts::Attempts;
@@ -38,6 +38,23 @@ fn fetch_one<W: World, S: Source<W>, T: Attempts<W> + Drop, A: Allocator, H: His
     }
 }
 
+/// Fetches what the caller's request waits for since its last turn.
+fn fetch_wanted<W: World, S: Source<W>, T: Attempts<W> + Drop, A: Allocator, H: History>(
+    alloc: Global,
+    mount: &mut Mount<W, T, A, H>,
+    source: &mut S,
+)
+    requires { WaitsAlone T.table W.honest H.copies mount.old }
+    ensures { FetchesOne S.fetched T.table mount.old source.old mount.new source.new }
+{
+    let Some(key) = mount.take_want() else {
+        unreachable!();
+    };
+    mount.holds();
+    fetch_one::<W, S, T, A, H>(alloc, mount, source, key);
+    mount.holds();
+}
+
 /// Goes on with the caller's request until it is finished.
 fn drive<W: World, S: Source<W>, T: Attempts<W> + Drop, A: Allocator, H: History>(
     alloc: Global,
@@ -51,12 +68,7 @@ fn drive<W: World, S: Source<W>, T: Attempts<W> + Drop, A: Allocator, H: History
         Turned::Done(_, reply) => reply,
         Turned::Idle => unreachable!(),
         Turned::Wait(_) => {
-            let Some(key) = mount.take_want() else {
-                unreachable!();
-            };
-            mount.holds();
-            fetch_one::<W, S, T, A, H>(alloc, mount, source, key);
-            mount.holds();
+            fetch_wanted::<W, S, T, A, H>(alloc, mount, source);
             drive::<W, S, T, A, H>(alloc, mount, source)
         }
     }
@@ -81,6 +93,28 @@ fn let_go<W: World, T: Attempts<W> + Drop, A: Allocator, H: History>(
     }
 }
 
+/// Asks a request, and goes on with it until it is finished.
+fn finish<W: World, S: Source<W>, T: Attempts<W> + Drop, A: Allocator, H: History>(
+    alloc: Global,
+    mount: &mut Mount<W, T, A, H>,
+    source: &mut S,
+    request: Request,
+) -> Result<Reply, StartFault>
+    requires { IsAtRest mount.old }
+    ensures { Finishes S.fetched T.table W.honest H.copies request mount.old source.old result mount.new source.new }
+{
+    mount.holds();
+    match mount.ask(1, request) {
+        Err(fault) => Err(fault),
+        Ok(Turned::Done(_, reply)) => Ok(reply),
+        Ok(Turned::Idle) => unreachable!(),
+        Ok(Turned::Wait(_)) => {
+            fetch_wanted::<W, S, T, A, H>(alloc, mount, source);
+            Ok(drive::<W, S, T, A, H>(alloc, mount, source))
+        }
+    }
+}
+
 /// Serves one request over the source, and lets go of directories where it is time to.
 fn answer<W: World, S: Source<W>, T: Attempts<W> + Drop, A: Allocator, H: History>(
     alloc: Global,
@@ -93,10 +127,9 @@ fn answer<W: World, S: Source<W>, T: Attempts<W> + Drop, A: Allocator, H: Histor
     ensures { Answers S.fetched T.table W.honest H.copies request mount.old source.old result mount.new source.new }
 {
     mount.holds();
-    match mount.start(1, request) {
+    match finish::<W, S, T, A, H>(alloc, mount, source, request) {
         Err(fault) => Err(fault),
-        Ok(()) => {
-            let reply = drive::<W, S, T, A, H>(alloc, mount, source);
+        Ok(reply) => {
             let_go::<W, T, A, H>(mount, evicting);
             Ok(reply)
         }

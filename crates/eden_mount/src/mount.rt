@@ -6,7 +6,8 @@ ghost use Rattle.eden_model.specs.Numbers.{replay_numbers};
 ghost use Rattle.eden_import.specs.Keys.{has_key};
 ghost use Rattle.eden_object.specs.Objects.{IsHonest};
 ghost use Rattle.eden_mount.specs.Core.{Pends, IsFree, IsLeastBusy, pending_count, taken_room};
-ghost use Rattle.eden_mount.specs.Steps.{IsRefused, Starts, Turns, GoesOn, Takes, Arrives, Fails, LetsGo};
+ghost use Rattle.eden_mount.specs.Steps.{IsRefused, Starts, Asks, Turns, GoesOn, Takes};
+ghost use Rattle.eden_mount.specs.Steps.{Arrives, Fails, LetsGo};
 ghost use Rattle.eden_mount.specs.Events.{IsHonestEvent, AreHonest, Steps};
 ghost use Rattle.eden_mount.specs.Spans.{request_of, since_of, waits_of, heard_by, flies_in, told, asked_after, waits_after, AreAnswered, AreNumbered, AreBlamed, AreFlown};
 ghost use Rattle.eden_mount.specs.Kept.{IsMount, core_from};
@@ -160,6 +161,58 @@ impl<W: World, T: Attempts<W> + Drop, A: Allocator, H: History> Mount<W, T, A, H
             Pending { request, since },
         );
         Ok(())
+    }
+
+    /// Takes a request and attempts it at once, as `start` and then `turn` do, but one that is finished so takes no
+    /// seat. The faults are those of `start`.
+    pub fn ask(&mut self, pass: u32, request: Request) -> Result<Turned, StartFault>
+        ensures { Asks T.table W.honest H.copies self.old pass request result self.new }
+    {
+        match self.admit(pass) {
+            Err(fault) => {
+                drop(request);
+                Err(fault)
+            }
+            Ok(pending) => self.try_at_once(pass, request, pending),
+        }
+    }
+
+    /// Attempts the request of a pass that may start one, beside so many that are pending, if memory has room for its
+    /// entry.
+    fn try_at_once(
+        &mut self,
+        pass: u32,
+        request: Request,
+        pending: usize,
+    ) -> Result<Turned, StartFault>
+        requires pending { pending ≡ pending_count self.old.seats }
+        requires free { IsFree pass self.old }
+        requires room { taken_room self.old < self.old.limit }
+        ensures { Asks T.table W.honest H.copies self.old pass request result self.new }
+    {
+        let Ok(()) = self.history.reserve(1 + pending) else {
+            drop(request);
+            return Err(StartFault::Memory);
+        };
+        backing_laws();
+        let table = &mut self.table;
+        table.tick();
+        let seat = pass as usize - 1;
+        let failed = self.imports.failure(pass);
+        let places = &mut self.places;
+        match resume::<W, T>(self.alloc, table, &request, failed, places, seat) {
+            Settled::Waits(key) => {
+                let since = self.history.len();
+                occupy(&mut self.seats, seat, Pending { request, since });
+                self.imports.await_key(key, pass);
+                Ok(Turned::Wait(key))
+            }
+            Settled::Found(found) => {
+                self.imports.quit(pass);
+                let reply = self.history.tell(self.alloc, pass, request, found);
+                Ok(Turned::Done(self.history.len(), reply))
+            }
+        }
     }
 
     /// Tests whether the pass may start a request, but for memory. How many are pending now.
