@@ -8,6 +8,7 @@ ghost use Rattle.eden_overlay_format.specs.declared.header.Identifier.TheVariant
 
 use crate::header::{HEADER_LEN, Head, Identifier, body_of, check_head, seal, start};
 use crate::refusal::Refusal;
+use crate::spliced::Spliced;
 use std::alloc::{AllocError, Global};
 
 /// The longest content of a file or a link, in bytes.
@@ -19,19 +20,19 @@ pub fn encode_file(alloc: Global, content: &[u8]) -> Result<Vec<u8>, AllocError>
     ensures bytes { IfOk result (λ v. v.items ≡ written identifier.File content.now) }
     ensures read_again { IfOk result (λ v. IsFile v.items content.now) }
 {
-    encode_file_in(Vec::new(alloc), content)
+    encode_file_in(Vec::new(alloc), Spliced::whole(content))
 }
 
 /// The stored file of a content of at most `CONTENT_MOST` bytes, in that room, whose bytes go. The only error is want
 /// of memory, where the room is too small.
-pub fn encode_file_in(room: Vec<u8>, content: &[u8]) -> Result<Vec<u8>, AllocError>
-    requires { length content.now ≤ content_most }
-    ensures bytes { IfOk result (λ v. v.items ≡ written identifier.File content.now) }
-    ensures read_again { IfOk result (λ v. IsFile v.items content.now) }
-    ensures full { OnErr result (vec_capacity room < 64 + length content.now) }
+pub fn encode_file_in(room: Vec<u8>, content: Spliced<'_>) -> Result<Vec<u8>, AllocError>
+    requires { length content ≤ content_most }
+    ensures bytes { IfOk result (λ v. v.items ≡ written identifier.File content.entry) }
+    ensures read_again { IfOk result (λ v. IsFile v.items content.entry) }
+    ensures full { OnErr result (vec_capacity room < 64 + length content.entry) }
 {
     let mut out = start(room, content.len())?;
-    out.extend_from_slice(content)?;
+    content.append_to(&mut out)?;
     seal(Identifier::File, &mut out);
     Ok(out)
 }

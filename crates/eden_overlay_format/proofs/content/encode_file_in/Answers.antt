@@ -6,10 +6,10 @@ use Rattle.eden_overlay_format.proofs.content.encode_file_in.Goals as goal
 
 pub returns-clause-bytes : goal.returns-clause-bytes
 returns-clause-bytes c =
-    let body : c.extend_from_slice.new.self.items ≡ replicate 64 0 ++ c.args.content.now = search rules in
-    sealed identifier.File c.extend_from_slice.new.self.items c.args.content.now c.seal.new.file.items body c.seal.ensures
+    let body : c.append_to.new.out.items ≡ replicate 64 0 ++ c.args.content = search rules in
+    sealed identifier.File c.append_to.new.out.items c.args.content c.seal.new.file.items body c.seal.ensures
 
 pub returns-clause-read_again : goal.returns-clause-read_again
 returns-clause-read_again c =
     let all = returns-clause-bytes c in
-    record { stored = ap (body_in identifier.File) all ∙ written_found identifier.File c.args.content.now; most = c.requires }
+    record { stored = ap (body_in identifier.File) all ∙ written_found identifier.File c.args.content; most = c.requires }
