@@ -29,7 +29,7 @@ use crate::recent::Recent;
 use crate::room::Room;
 use eden_model::{Id, World};
 use eden_overlay_format::{
-    DecodeFault, Head, Listing, Refusal, State, StoredEntry, content_len, decode_dir,
+    DecodeFault, Head, Listing, Refusal, Spliced, State, StoredEntry, content_len, decode_dir,
     decode_numbers, decode_state, encode_file_in, encode_state, has_numbers,
 };
 use std::alloc::Global;
@@ -104,14 +104,19 @@ impl<W: World, F: Files<W>> Overlay<W, F> {
 
     /// Stores a content of at most 2^30 bytes as the file of that number, in place of any that was there. After an error
     /// nothing has changed.
-    pub fn put_file(&mut self, alloc: Global, number: u64, content: &[u8]) -> Result<(), FilesFault>
-        requires short { length content.now ≤ content_most }
-        requires sound { W.honest → AreSound (with_content (F.stored self.old) number content.now) }
-        ensures ok { W.honest → OnOk result (F.stored self.new ≡ with_content (F.stored self.old) number content.now) }
+    pub fn put_file(
+        &mut self,
+        alloc: Global,
+        number: u64,
+        content: Spliced<'_>,
+    ) -> Result<(), FilesFault>
+        requires short { length content ≤ content_most }
+        requires sound { W.honest → AreSound (with_content (F.stored self.old) number content) }
+        ensures ok { W.honest → OnOk result (F.stored self.new ≡ with_content (F.stored self.old) number content.entry) }
         ensures err { W.honest → OnErr result (F.stored self.new ≡ F.stored self.old) }
         ensures counted { Counted (result ≡ Err files.Device) (F.failures self.old) (F.failures self.new) }
     {
-        // First, so that memory never holds it beside the new content and the new file.
+        // First, so that memory never holds what is kept beside the new file.
         let room = self.recent.room(alloc);
         let bytes = encode_file_in(room, content)?;
         match self.files.replace(alloc, number, &bytes) {
@@ -208,6 +213,13 @@ impl<W: World, F: Files<W>> Overlay<W, F> {
         ensures { self.new ≡ self.old }
     {
         self.recent.keep(number, content);
+    }
+
+    /// Takes back a content that was got and is wanted no more: its room is there for the next one that is stored.
+    pub fn spare(&mut self, content: Content)
+        ensures { self.new ≡ self.old }
+    {
+        self.recent.spare(content);
     }
 
     /// The entries of the directory of that number, or why there are none.

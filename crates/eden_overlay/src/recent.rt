@@ -106,6 +106,14 @@ impl Recent {
         }
     }
 
+    /// Keeps the room of a content that is wanted no more.
+    pub(crate) fn spare(&mut self, content: Content)
+        ensures kept { self.new.kept ≡ self.old.kept }
+        ensures most { self.new.most ≡ self.old.most }
+    {
+        self.room.keep(content.into_file());
+    }
+
     /// Room for a content that is to be stored. What is kept is dropped, and so is what its room holds.
     pub(crate) fn room(&mut self, alloc: Global) -> Vec<u8>
         ensures kept { self.new.kept ≡ None }

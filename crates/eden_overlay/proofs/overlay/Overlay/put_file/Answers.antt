@@ -4,4 +4,4 @@ use Rattle.eden_overlay_format.proofs.CallerLemmas.{content_written}
 use Rattle.eden_overlay.proofs.overlay.Overlay.put_file.Goals as goal
 
 pub of_encoded-requires : goal.of_encoded-requires
-of_encoded-requires g c = (c.args.content.now, ap content_in c.in_ok-bytes.ensures.bytes ∙ content_written c.args.content.now c.requires.short)
+of_encoded-requires g c = (c.args.content, ap content_in c.in_ok-bytes.ensures.bytes ∙ content_written c.args.content c.requires.short)
