@@ -112,7 +112,8 @@ impl<W: World, F: Files<W>> Overlay<W, F> {
     ) -> Result<(), FilesFault>
         requires short { length content ≤ content_most }
         requires sound { W.honest → AreSound (with_content (F.stored self.old) number content) }
-        ensures ok { W.honest → OnOk result (F.stored self.new ≡ with_content (F.stored self.old) number content.entry) }
+        ensures ok { W.honest
+            → OnOk result (F.stored self.new ≡ with_content (F.stored self.old) number content.entry) }
         ensures err { W.honest → OnErr result (F.stored self.new ≡ F.stored self.old) }
         ensures counted { Counted (result ≡ Err files.Device) (F.failures self.old) (F.failures self.new) }
     {

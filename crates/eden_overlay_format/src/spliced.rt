@@ -7,8 +7,8 @@ ghost use Rattle.eden_overlay_format.specs.Content.{content_most};
 use std::alloc::AllocError;
 use std::marker::Model;
 
-/// A content that is put together from pieces, which are lent, so that none is copied before the content is stored: bytes
-/// before, zeros, bytes that are put, and bytes after. Contracts see the whole content.
+/// A content that is put together from pieces, which are lent, so that none is copied before the content is stored:
+/// bytes before, zeros, bytes that are put, and bytes after. Contracts see the whole content.
 #[derive(Drop)]
 pub struct Spliced<'a> {
     before: &'a [u8],
@@ -50,8 +50,8 @@ impl<'a> Spliced<'a> {
         }
     }
 
-    /// A content with other bytes from an offset on. A gap between its end and the offset is filled with zeros; without bytes
-    /// nothing changes.
+    /// A content with other bytes from an offset on. A gap between its end and the offset is filled with zeros; without
+    /// bytes nothing changes.
     pub fn written(old: &'a [u8], offset: usize, bytes: &'a [u8]) -> Spliced<'a>
         requires fits { offset + length bytes.now ≤ content_most }
         ensures { result ≡ written offset bytes.now old.now }
