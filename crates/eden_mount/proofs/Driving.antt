@@ -30,7 +30,7 @@ use Rattle.eden_mount.specs.Core.{Core, seat_of, Pends, IsFree, pending_from, af
 use Rattle.eden_mount.specs.Kept.{IsMount}
 use Rattle.eden_mount.specs.Replying.{Replied, attempted, uncopied, failed, ToldBy, WaitsBy}
 use Rattle.eden_mount.specs.Steps.{Turns, Takes}
-use Rattle.eden_mount.specs.Serving.{FailsBy, HasFailed, Comes, IsAtRest, IsDriven, LeadsTo, first, waiting, storing, IsTold, MayUnload, MayLetGo, Serves, Stays, budget, Hands, Drives}
+use Rattle.eden_mount.specs.Serving.{FailsBy, HasFailed, Comes, IsAtRest, IsDriven, LeadsTo, first, waiting, storing, IsTold, MayEvict, MayLetGo, Serves, Stays, budget, Hands, Drives}
 use Rattle.eden_mount.proofs.CallerLemmas.{stays_on, stays_at, turn_stays, take_stays, unload_stays}
 
 -- ---- the queue of one caller
@@ -376,7 +376,7 @@ module _ {S : Type 0} (fetched : S → Id → Answer → S → Type 0) {T : Type
 -- ---- the whole call
 
 -- what directories that may have gone leave as it was
-let_go_stays : {T : Type 0} (A : Table T) (honest : Type 0) (m m' : Core T) → MayUnload A honest m.table m'.table → m' ≡ record m { table = m'.table } → Stays A m m'
+let_go_stays : {T : Type 0} (A : Table T) (honest : Type 0) (m m' : Core T) → MayEvict A honest m.table m'.table → m' ≡ record m { table = m'.table } → Stays A m m'
 let_go_stays A honest m m' (inl same) is = stays_at A m m' same (ap (λ x. x.queue.passes) is) (ap (λ x. x.limit) is)
 let_go_stays A honest m m' (inr (p, age, gone, unloads)) is = unload_stays A honest m m' p age gone (unloads, is)
 

@@ -96,11 +96,11 @@ pub record IsTold {T : Type 0} (A : Table T) (honest : Type 0) (copies : Bool) (
   pub told : ToldBy A honest copies before q mark r u
 
 -- loaded directories that nobody uses were let go, or nothing was
-abbrev pub MayUnload : {T : Type 0} → Table T → Type 0 → T → T → Type 0
-MayUnload A honest t u = (u ≡ t) ⊎ ((p : Path) × (age : ℕ) × (gone : ℕ) × Unloads A honest t p age gone u)
+abbrev pub MayEvict : {T : Type 0} → Table T → Type 0 → T → T → Type 0
+MayEvict A honest t u = (u ≡ t) ⊎ ((p : Path) × (age : ℕ) × (gone : ℕ) × Unloads A honest t p age gone u)
 
 abbrev pub MayLetGo : {T : Type 0} → Table T → Type 0 → Core T → Core T → Type 0
-MayLetGo A honest m m' = MayUnload A honest m.table m'.table × (m' ≡ record m { table = m'.table })
+MayLetGo A honest m m' = MayEvict A honest m.table m'.table × (m' ≡ record m { table = m'.table })
 
 module _ {S : Type 0} (fetched : S → Id → Answer → S → Type 0) {T : Type 0} (A : Table T) where
   -- the source was asked for the key, and its answer was handed in
@@ -143,7 +143,7 @@ module _ {S : Type 0} (fetched : S → Id → Answer → S → Type 0) {T : Type
     pub few : length asks ≤ most_objects q
     pub last : T
     pub told : IsTold A honest copies q r m.table last
-    pub evicted : MayUnload A honest last m'.table
+    pub evicted : MayEvict A honest last m'.table
     pub history : m'.history ≡ m.history ++ entry 1 q r ∷ []
     pub rest : IsAtRest m'
     pub stays : Stays A m m'

@@ -1,4 +1,4 @@
-use Rattle.std.proofs.Common.{◌≡◌, ◌-◌, ◌<◌, ◌+◌, ◌++◌, ℕ, List, [], ◌∷◌, Option, Some, None, IfSome, Ok, length, length-append, get_or, refl, sym, ap, ◌∙◌, subst, arith}
+use Rattle.std.proofs.Common.{◌≡◌, ◌-◌, ◌<◌, ◌+◌, ◌++◌, ℕ, List, [], ◌∷◌, Option, Some, IfSome, Ok, length, length-append, refl, sym, ap, ◌∙◌, subst, arith}
 use Rattle.std.proofs.Math.ListN.{set}
 use Rattle.eden_model.specs.Histories.{entry}
 use Rattle.eden_import.specs.Queue.{Mark, mark_of, after_await, after_quit, after_failure}
@@ -6,9 +6,9 @@ use Rattle.eden_mount.specs.declared.seats.Pending.{Pending}
 use Rattle.eden_mount.specs.declared.events.Turned.TheVariants.{Done, Wait}
 use Rattle.eden_mount.specs.Core.{Core, IsFree, pending_count, taken_room, pending_from, after_start, after_done, after_wait}
 use Rattle.eden_mount.specs.Kept.{IsMount, IsHeld, core_from}
-use Rattle.eden_mount.specs.Places.{kept_at, AllLead}
+use Rattle.eden_mount.specs.Places.{AllLead}
 use Rattle.eden_mount.specs.Replying.{Awaits}
-use Rattle.eden_mount.specs.Steps.{Asks, GoesOn}
+use Rattle.eden_mount.specs.Steps.{Asks}
 use Rattle.eden_mount.proofs.AtOnce.{set_back, begun, begun_pends, begun_keeps, inside}
 use Rattle.eden_mount.proofs.Keeping.{AnswersAreBacked, turn_keeps, wait_keeps}
 use Rattle.eden_mount.proofs.Placing.{retabled, seated, unkept, noted, vacated}
