@@ -16,7 +16,7 @@ import socket
 import subprocess
 import threading
 import time
-from collections.abc import Callable, Iterator, Sequence
+from collections.abc import Callable, Iterator, Mapping, Sequence
 from typing import TypeVar
 
 from yakembi.git import Refusal
@@ -28,6 +28,8 @@ MS_NOSUID, MS_NODEV, MNT_FORCE, MNT_DETACH = 2, 4, 1, 2
 # A read has at most what the mount takes in one, and the kernel looks at permissions.
 OPTIONS = ["default_permissions", "max_read=65536"]
 ENDED = (signal.SIGTERM, signal.SIGINT, signal.SIGHUP)
+# By it the C library is told how to allocate.
+TUNABLES = "GLIBC_TUNABLES"
 LIBC = ctypes.CDLL(None, use_errno=True)
 # As many as `mountd fuse` takes.
 MOST_THREADS = 63
@@ -103,6 +105,12 @@ def can_mount() -> bool:
     return os.geteuid() == 0 or shutil.which("fusermount3") is not None
 
 
+def with_huge_pages(environment: Mapping[str, str]) -> dict[str, str]:
+    """That environment, by which the C library asks for pages of 2 MiB for large memory: a file that is written whole
+    waits in memory, and small pages for it would take longer than to copy it. Who has set that variable keeps it."""
+    return {TUNABLES: "glibc.malloc.hugetlb=1", **environment}
+
+
 class Shown:
     """One `mountd fuse` that shows a folder."""
 
@@ -113,7 +121,7 @@ class Shown:
         descriptor = mount(folder) if descriptor is None else descriptor
         try:
             self.child = subprocess.Popen(words, stdin=descriptor, stdout=descriptor, stderr=subprocess.PIPE,
-                                          start_new_session=True)
+                                          env=with_huge_pages(os.environ), start_new_session=True)
         except OSError:
             unmount(folder)
             raise
