@@ -10,6 +10,7 @@ use crate::name::names;
 use crate::tree::{Order, tree_body};
 use eden_model::{Name, Outside, TreeEntry};
 use eden_overlay::{Files, Overlay};
+use eden_overlay_format::Spliced;
 use std::alloc::{AllocError, Global};
 use std::io;
 use std::slice::from_ref;
@@ -111,7 +112,7 @@ fn store_all<F: Files<Outside>>(
     let mut stored = 0u32;
     for place in 0..count {
         if overlay
-            .put_file(alloc, FIRST + u64::from(place), content)
+            .put_file(alloc, FIRST + u64::from(place), Spliced::whole(content))
             .is_ok()
         {
             stored = stored.saturating_add(1);

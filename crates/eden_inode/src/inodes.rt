@@ -423,6 +423,13 @@ impl<A: Allocator + Clone, W: World, F: Files<W>> Inodes<A, W, F> {
         }
     }
 
+    /// Takes back a content that is wanted no more: its room is there for the next one that is stored.
+    pub fn spare(&mut self, content: Content)
+        ensures { self.new ≡ self.old }
+    {
+        self.overlay.spare(content);
+    }
+
     /// Lets go of the loaded directories at and below a path that have not been used for so many turns, the leaves
     /// first; an unsaved one is stored first, and of one on a tree object the numbers, unless its file has them. How
     /// many went, and whether a store was refused.

@@ -26,6 +26,7 @@ use crate::fault::told;
 use eden_inode::Inodes;
 use eden_model::{Fault, Name, Origin, World};
 use eden_overlay::{Files, Overlay};
+use eden_overlay_format::Spliced;
 use eden_tree::{Change, Entry};
 use std::alloc::{Allocator, Global};
 
@@ -89,19 +90,19 @@ struct Filling<'a> {
     alloc: Global,
     path: &'a [Name],
     name: &'a Name,
-    content: &'a [u8],
+    content: Spliced<'a>,
 }
 
 impl<A: Allocator, W: World, F: Files<W>> Change<A, Overlay<W, F>> for Filling<'_> {
     type Output = Result<(), Fault>;
 
     ghost may = { λ filling overlay x.
-        MayFill W.honest W.repository (F.stored overlay) x filling.path.now filling.name.now filling.content.now };
+        MayFill W.honest W.repository (F.stored overlay) x filling.path.now filling.name.now filling.content };
 
     ghost does = { λ filling old x new z answer.
         (w : Row) → HasFile x filling.path.now filling.name.now w
         → FillsFile W.honest filling.path.now filling.name.now w (F.stored old)
-        (with_content (F.stored old) w.number filling.content.now) x (F.failures old) (F.stored new) z
+        (with_content (F.stored old) w.number filling.content) x (F.failures old) (F.stored new) z
         (F.failures new) answer };
 
     fn change(self, overlay: &mut Overlay<W, F>, entry: &mut Entry<A>) -> Result<(), Fault> {
@@ -134,10 +135,10 @@ pub fn store_content<A: Allocator + Clone, W: World, F: Files<W>>(
     alloc: Global,
     path: &[Name],
     name: &Name,
-    content: &[u8],
+    content: Spliced<'_>,
 ) -> Result<(), Fault>
     requires there { (w : Row) × HasFile inodes.old.root path.now name.now w }
-    requires short { length content.now ≤ content_most }
+    requires short { length content ≤ content_most }
     ensures ok { (w : Row) → HasFile inodes.old.root path.now name.now w
         → AtDirectory path.now inodes.old.root
         (λ y d. OnOk result (inodes.new.root ≡
@@ -146,18 +147,18 @@ pub fn store_content<A: Allocator + Clone, W: World, F: Files<W>>(
     ensures stored { W.honest → (w : Row) → HasFile inodes.old.root path.now name.now w
         → AtDirectory path.now inodes.old.root
         (λ y d. OnOk result (MatchBool (is_own w.origin)
-        (F.stored inodes.new.files ≡ with_content (F.stored inodes.old.files) w.number content.now)
-        (Above (with_entries (with_content (F.stored inodes.old.files) w.number content.now) y.number
+        (F.stored inodes.new.files ≡ with_content (F.stored inodes.old.files) w.number content.entry)
+        (Above (with_entries (with_content (F.stored inodes.old.files) w.number content.entry) y.number
         (listing_of (changed d name.now (Some (owned w))))) inodes.old.root path.now (F.stored inodes.new.files)))) }
     ensures atomic { IsAtomic W.World F.Files IsStoreFault inodes.old inodes.new result }
     ensures strays { W.honest → (w : Row) → HasFile inodes.old.root path.now name.now w
         → OnErr result (RefusedBy (F.stored inodes.old.files)
-        (with_content (F.stored inodes.old.files) w.number content.now) inodes.old.root path.now
+        (with_content (F.stored inodes.old.files) w.number content.entry) inodes.old.root path.now
         (F.stored inodes.new.files)) }
     ensures counted { OnOk result (F.failures inodes.new.files ≡ F.failures inodes.old.files) }
     ensures shown { W.honest → (w : Row) → HasFile inodes.old.root path.now name.now w
         → OnOk result (shows W.World F.Files inodes.new ≡ graft (path.now ++ name.now ∷ [])
-        (leaf (node_from w.kind (Some content.now) false))
+        (leaf (node_from w.kind (Some content.entry) false))
         (shows W.World F.Files inodes.old)) }
     ensures numbers { W.honest → ShowsSameNumbers F.Files inodes.old inodes.new }
     ensures names { KeepsNames inodes.old.root inodes.new.root }

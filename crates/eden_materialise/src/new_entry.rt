@@ -6,7 +6,7 @@ ghost use Rattle.eden_materialise.specs.Filing.{kind_as, with_own, own_row, IsSh
 
 use eden_model::{Kind, Origin, World};
 use eden_overlay::{Files, FilesFault, Overlay};
-use eden_overlay_format::Listing;
+use eden_overlay_format::{Listing, Spliced};
 use eden_tree::Entry;
 use std::alloc::{Allocator, Global};
 
@@ -59,8 +59,8 @@ pub(crate) fn store_own<W: World, F: Files<W>>(
     ensures counted { Counted (result ≡ Err files.Device) (F.failures overlay.old) (F.failures overlay.new) }
 {
     match new {
-        NewEntry::File(_, content) => overlay.put_file(alloc, number, content),
-        NewEntry::Link(target) => overlay.put_file(alloc, number, target),
+        NewEntry::File(_, content) => overlay.put_file(alloc, number, Spliced::whole(content)),
+        NewEntry::Link(target) => overlay.put_file(alloc, number, Spliced::whole(target)),
         NewEntry::Dir => {
             let none = Listing::new(overlay.room(alloc), 0)?;
             overlay.put_listing(alloc, number, none)

@@ -11,6 +11,7 @@ pub mod Renumbers
 pub mod Trailing
 mod GoingOn
 pub mod Resuming
+pub mod Refilled
 pub mod Bringing
 pub mod Bare
 pub mod Meeting

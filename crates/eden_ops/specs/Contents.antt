@@ -12,8 +12,8 @@ use Rattle.eden_overlay.specs.Held.{own_files}
 use Rattle.eden_tree.specs.Directory.{Row, child_of}
 use Rattle.eden_tree.specs.Paths.{row_at}
 use Rattle.eden_inode.specs.Tables.{Table}
-use Rattle.eden_ops.specs.declared.contents.Form.{Form}
-use Rattle.eden_ops.specs.declared.contents.Form.TheVariants as form
+use Rattle.eden_ops.specs.declared.refilling.Form.{Form}
+use Rattle.eden_ops.specs.declared.refilling.Form.TheVariants as form
 
 -- the entry at the path is a file or a link of that origin
 pub record HasContent (p : Path) (x : Row) (o : Origin) : Type 0 where
@@ -28,15 +28,17 @@ pub record IsFileAt (p : Path) (x y : Row) : Type 0 where
   pub unloaded : child_of y ≡ None
   pub file : y.kind ≢ kind.Dir
 
--- what is made of a content
+-- the bytes from an offset on, at most so many
+abbrev pub part : ℕ → ℕ → List ℕ → List ℕ
+part offset count content = take count (drop offset content)
+
+-- what a content becomes
 abbrev pub made : Form → List ℕ → List ℕ
-made (form.Part offset count) content = take count (drop offset content)
 made (form.Written offset bytes) content = written offset bytes.now content
 made (form.Resized size) content = resized size content
 
 -- some bytes are written, and up to the longest content at most
 abbrev pub Fits : Form → Type 0
-Fits (form.Part offset count) = Unit {0}
 Fits (form.Written offset bytes) = (0 < length bytes.now) × (offset + length bytes.now ≤ most_file)
 Fits (form.Resized size) = size ≤ most_file
 
@@ -47,12 +49,11 @@ module _ {W F : Type 0} (w : Ghosts W) (f : Files F W) where
         → content_with w.repository (own_files (f.stored t.files)) (source_of y.number y.origin) ≡ Some content
     pub short : length content ≤ most_file
 
-  -- what is made of it
-  pub record IsMade (p : Path) (t : Table F) (a : Form) (bytes : List ℕ) : Type 0 where
+  -- the bytes of it from an offset on, at most so many
+  pub record IsPart (p : Path) (t : Table F) (offset count : ℕ) (bytes : List ℕ) : Type 0 where
     pub content : List ℕ
     pub is : IsContent p t content
-    pub made : bytes ≡ made a content
-    pub short : length bytes ≤ most_file
+    pub made : bytes ≡ part offset count content
 
   -- the length of the content that the entry at the path shows, where the outside is honest
   abbrev pub HasLength : Path → Table F → ℕ → Type 0

@@ -12,6 +12,7 @@ pub mod Requests
 pub mod Laws
 pub mod Left
 pub mod Changes
+pub mod Refilling
 pub mod Letting
 pub mod Relocating
 pub mod Renames

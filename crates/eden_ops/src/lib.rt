@@ -27,6 +27,7 @@ mod pages;
 mod place;
 mod reading;
 mod readying;
+mod refilling;
 mod relocating;
 mod removing;
 mod renaming;

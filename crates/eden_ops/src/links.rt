@@ -7,7 +7,7 @@ ghost use Rattle.eden_ops.specs.Stamps.{IsWalked};
 ghost use Rattle.eden_ops.specs.Trails.{Counts, LeadsToNeed};
 ghost use Rattle.eden_inode.specs.Trails.{Leads};
 
-use crate::contents::{Form, make};
+use crate::contents::part;
 use crate::end::ended;
 use crate::meet::meet;
 use crate::what::what;
@@ -43,8 +43,7 @@ pub fn readlink<A: Allocator + Clone, W: World, F: Files<W>, C: Allocator + Clon
         Kind::Dir => return Attempt::Finished(Reply::Err(Errno::EINVAL)),
         Kind::Link => {}
     }
-    let form = Form::Part(0, MAX_FILE);
-    match make(inodes, cache, alloc, path, seen.origin, form) {
+    match part(inodes, cache, alloc, path, seen.origin, 0, MAX_FILE) {
         Err(stop) => ended(stop),
         Ok(bytes) => Attempt::Finished(Reply::Data(bytes)),
     }

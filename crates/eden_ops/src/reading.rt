@@ -8,7 +8,7 @@ ghost use Rattle.eden_ops.specs.Stamps.{IsWalked};
 ghost use Rattle.eden_ops.specs.Trails.{Counts, LeadsToNeed};
 ghost use Rattle.eden_inode.specs.Trails.{Leads};
 
-use crate::contents::{Form, make};
+use crate::contents::part;
 use crate::end::ended;
 use crate::file::meet_file;
 use eden_cache::Stock;
@@ -47,8 +47,7 @@ pub fn read<A: Allocator + Clone, W: World, F: Files<W>, C: Allocator + Clone>(
     if count == 0 {
         return Attempt::Finished(Reply::Data(Bytes::new(Vec::new(alloc))));
     }
-    let form = Form::Part(offset, count);
-    match make(inodes, cache, alloc, path, seen.origin, form) {
+    match part(inodes, cache, alloc, path, seen.origin, offset, count) {
         Err(stop) => ended(stop),
         Ok(bytes) => Attempt::Finished(Reply::Data(bytes)),
     }

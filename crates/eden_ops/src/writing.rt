@@ -8,14 +8,15 @@ ghost use Rattle.eden_ops.specs.Looks.{IsBeyondLimits};
 ghost use Rattle.eden_ops.specs.Trails.{Counts, LeadsToNeed};
 ghost use Rattle.eden_inode.specs.Trails.{Leads};
 
-use crate::contents::{Form, make};
 use crate::end::ended;
 use crate::file::meet_file;
 use crate::fill::fill;
+use crate::refilling::{Form, refill};
 use eden_cache::Stock;
 use eden_inode::{Inodes, Trail};
 use eden_model::{Attempt, Errno, MAX_DATA, MAX_FILE, Path, Reply, World};
 use eden_overlay::Files;
+use eden_overlay_format::Spliced;
 use std::alloc::{Allocator, Global};
 
 /// Cuts a file to a size in bytes, or fills it up with zeros; over 2^30 is refused. To size 0 its content isn't fetched. A fault
@@ -47,16 +48,17 @@ pub fn truncate<A: Allocator + Clone, W: World, F: Files<W>, C: Allocator + Clon
         return Attempt::Finished(Reply::Err(Errno::EFBIG));
     }
     if size == 0 {
-        return match fill(inodes, alloc, path, &[]) {
+        return match fill(inodes, alloc, path, Spliced::whole(&[])) {
             Ok(()) => Attempt::Finished(Reply::Ok),
             Err(fault) => Attempt::Finished(Reply::Fault(fault)),
         };
     }
-    let content = match make(inodes, cache, alloc, path, seen.origin, Form::Resized(size)) {
+    let form = Form::Resized(size);
+    let stored = match refill(inodes, cache, alloc, path, seen.origin, form) {
         Err(stop) => return ended(stop),
-        Ok(content) => content,
+        Ok(stored) => stored,
     };
-    match fill(inodes, alloc, path, content.as_slice()) {
+    match stored {
         Ok(()) => Attempt::Finished(Reply::Ok),
         Err(fault) => Attempt::Finished(Reply::Fault(fault)),
     }
@@ -101,11 +103,11 @@ pub fn patch<A: Allocator + Clone, W: World, F: Files<W>, C: Allocator + Clone>(
         return Attempt::Finished(Reply::Err(Errno::EFBIG));
     }
     let form = Form::Written(offset, bytes);
-    let content = match make(inodes, cache, alloc, path, seen.origin, form) {
+    let stored = match refill(inodes, cache, alloc, path, seen.origin, form) {
         Err(stop) => return ended(stop),
-        Ok(content) => content,
+        Ok(stored) => stored,
     };
-    match fill(inodes, alloc, path, content.as_slice()) {
+    match stored {
         Ok(()) => Attempt::Finished(Reply::Count(count)),
         Err(fault) => Attempt::Finished(Reply::Fault(fault)),
     }

@@ -1,13 +1,14 @@
 //! The files of an overlay as bytes: what is written, read and refused.
-ghost use Rattle.std.specs.Prelude.{◌≡◌, ◌&&◌, not, true};
+ghost use Rattle.std.specs.Prelude.{◌≡◌, ◌≤◌, ◌&&◌, length, not, true};
+ghost use Rattle.eden_overlay_format.specs.Content.{content_most};
 ghost use Rattle.eden_overlay_format.specs.Directory.{AreStorable, HasOrigin, is_own};
 ghost use Rattle.eden_overlay_format.specs.Numbers.{none_is_own};
 ghost use Rattle.eden_model.specs.declared.kind.Kind.TheVariants as kind;
 
 use eden_model::{Id, Kind, Name, Origin};
 use eden_overlay_format::{
-    DecodeFault, Refusal, State, StoredEntry, decode_dir, decode_file, decode_state, encode_dir,
-    encode_file, encode_state,
+    DecodeFault, Refusal, Spliced, State, StoredEntry, decode_dir, decode_file, decode_state,
+    encode_dir, encode_file, encode_file_in, encode_state,
 };
 use std::alloc::Global;
 use std::process::Abort;
@@ -85,6 +86,28 @@ fn contents(rt: HostRuntime) {
     let empty = encode_file(rt.alloc(), b"").expect(&rt, "memory");
     assert!(rt; empty == told(&rt, rt.alloc(), &NEW_FILE, &NOTHING, 0, b""));
     assert!(rt; empty.len() == 64);
+}
+
+/// The content that is stored as those pieces.
+fn encoded(rt: &impl Abort, alloc: Global, content: Spliced<'_>) -> Vec<u8>
+    requires { length content ≤ content_most }
+{
+    encode_file_in(Vec::new(alloc), content).expect(rt, "memory")
+}
+
+#[test]
+fn spliced_contents(rt: HostRuntime) {
+    let old = b"hello";
+    let within = encoded(&rt, rt.alloc(), Spliced::written(old, 1, b"ipp"));
+    assert!(rt; decode_file(&within) == Ok(b"hippo".as_slice()));
+    let behind = encoded(&rt, rt.alloc(), Spliced::written(old, 7, b"you"));
+    assert!(rt; decode_file(&behind) == Ok(b"hello\0\0you".as_slice()));
+    let nothing = encoded(&rt, rt.alloc(), Spliced::written(old, 9, b""));
+    assert!(rt; decode_file(&nothing) == Ok(b"hello".as_slice()));
+    let cut = encoded(&rt, rt.alloc(), Spliced::resized(old, 2));
+    assert!(rt; decode_file(&cut) == Ok(b"he".as_slice()));
+    let filled = encoded(&rt, rt.alloc(), Spliced::resized(old, 6));
+    assert!(rt; decode_file(&filled) == Ok(b"hello\0".as_slice()));
 }
 
 /// The front of a file of version 1, the byte that says nothing, and why the file is refused, if it is.

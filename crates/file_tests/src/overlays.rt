@@ -6,7 +6,7 @@ use crate::formats::{
 };
 use eden_model::{Id, Origin, Outside};
 use eden_overlay::{Files, GetFault, MemoryFiles, Overlay};
-use eden_overlay_format::{Refusal, State, StoredEntry};
+use eden_overlay_format::{Refusal, Spliced, State, StoredEntry};
 use std::alloc::Global;
 use std::process::Abort;
 
@@ -25,8 +25,12 @@ fn filled_with(rt: &impl Abort, alloc: Global, entries: &[StoredEntry]) -> InMem
     requires { AreStorable entries.now }
 {
     let mut overlay = Overlay::<Outside, _>::new(MemoryFiles::<Outside>::new(alloc));
-    overlay.put_file(alloc, 2, b"hello").expect(rt, "memory");
-    overlay.put_file(alloc, 2, b"hi").expect(rt, "memory");
+    overlay
+        .put_file(alloc, 2, Spliced::whole(b"hello"))
+        .expect(rt, "memory");
+    overlay
+        .put_file(alloc, 2, Spliced::whole(b"hi"))
+        .expect(rt, "memory");
     overlay.put_dir(alloc, 1, entries).expect(rt, "memory");
     overlay.put_state(alloc, STATE).expect(rt, "memory");
     overlay

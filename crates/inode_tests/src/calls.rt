@@ -12,6 +12,7 @@ use eden_inode::Inodes;
 use eden_materialise::{materialise, move_entry, remove_entry, set_kind, store_content};
 use eden_model::{Fault, Kind, Name, Outside};
 use eden_overlay::Files;
+use eden_overlay_format::Spliced;
 use eden_tree::{Dir, Entry};
 use std::alloc::{Allocator, Global};
 
@@ -146,7 +147,7 @@ pub(crate) fn fill<A: Allocator + Clone, F: Files<Outside>>(
     if content.len() > 1 << 30 || !ask(table, &HoldsFile { path, name }) {
         return None;
     }
-    Some(store_content(table, alloc, path, name, content))
+    Some(store_content(table, alloc, path, name, Spliced::whole(content)))
 }
 
 fn is_source<A: Allocator>(root: &Entry<A>, path: &[Name], name: &Name) -> bool

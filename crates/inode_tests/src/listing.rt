@@ -10,6 +10,7 @@ use eden_inode::Inodes;
 use eden_materialise::change_entry;
 use eden_model::{Fault, Kind, Name, Origin, Outside};
 use eden_overlay::{Files, FilesFault, MemoryFiles, Overlay};
+use eden_overlay_format::Spliced;
 use eden_tree::{Change, Dir, Entry};
 use std::alloc::{Allocator, Global};
 
@@ -237,7 +238,7 @@ impl<A: Allocator, F: Files<Outside>> Change<A, Overlay<Outside, F>> for NewFile
 
     fn change(self, overlay: &mut Overlay<Outside, F>, _: &mut Entry<A>) -> Result<(), FilesFault> {
         match self.content {
-            Some(content) => overlay.put_file(self.alloc, self.number, content),
+            Some(content) => overlay.put_file(self.alloc, self.number, Spliced::whole(content)),
             None => put_empty(self.alloc, overlay, self.number),
         }
     }

@@ -18,21 +18,21 @@ change_in_place-requires-clause-may g c = record {
 pub change_in_place-requires-clause-table : goal.change_in_place-requires-clause-table
 change_in_place-requires-clause-table g c files root answer does =
     let t = c.args.inodes.now in
-    fills_table g.W.World.honest g.W.World.repository c.args.path.now c.args.name.now c.requires.there.0 c.args.content.now (g.F.Files.stored t.files) t.root t.next
+    fills_table g.W.World.honest g.W.World.repository c.args.path.now c.args.name.now c.requires.there.0 c.args.content (g.F.Files.stored t.files) t.root t.next
     c.holds.ensures.table c.requires.there.1 c.requires.short (g.F.Files.failures t.files) (g.F.Files.stored files) root (g.F.Files.failures files)
     answer (does c.requires.there.0 c.requires.there.1)
 
 pub change_in_place-requires-clause-kept : goal.change_in_place-requires-clause-kept
 change_in_place-requires-clause-kept g c h files root answer does =
     let t = c.args.inodes.now in
-    fills_kept g.W.World.honest g.W.World.repository c.args.path.now c.args.name.now c.requires.there.0 c.args.content.now (g.F.Files.stored t.files) t.root t.next
+    fills_kept g.W.World.honest g.W.World.repository c.args.path.now c.args.name.now c.requires.there.0 c.args.content (g.F.Files.stored t.files) t.root t.next
     c.holds.ensures.table c.requires.there.1 c.requires.short (g.F.Files.failures t.files) (g.F.Files.stored files) root (g.F.Files.failures files)
     h (c.holds.ensures.kept h) answer (does c.requires.there.0 c.requires.there.1)
 
 pub change_in_place-requires-clause-numbers : goal.change_in_place-requires-clause-numbers
 change_in_place-requires-clause-numbers g c h files root answer does =
     let t = c.args.inodes.now in
-    fills_numbered g.W.World.honest g.W.World.repository c.args.path.now c.args.name.now c.requires.there.0 c.args.content.now (g.F.Files.stored t.files) t.root t.next
+    fills_numbered g.W.World.honest g.W.World.repository c.args.path.now c.args.name.now c.requires.there.0 c.args.content (g.F.Files.stored t.files) t.root t.next
     c.holds.ensures.table c.requires.there.1 c.requires.short (g.F.Files.failures t.files) (g.F.Files.stored files) root (g.F.Files.failures files)
     h (c.holds.ensures.kept h) (c.holds.ensures.numbers h) answer (does c.requires.there.0 c.requires.there.1)
 
@@ -41,14 +41,14 @@ change_in_place-requires-clause-names g c files root answer does =
     let t = c.args.inodes.now in
     let w = c.requires.there.0 in
     let F = g.F.Files.stored t.files in
-    fills_names g.W.World.honest c.args.path.now c.args.name.now w F (with_content F w.number c.args.content.now) t.root (g.F.Files.failures t.files)
+    fills_names g.W.World.honest c.args.path.now c.args.name.now w F (with_content F w.number c.args.content) t.root (g.F.Files.failures t.files)
     (g.F.Files.stored files) root (g.F.Files.failures files) answer c.requires.there.1 (does w c.requires.there.1)
 
 pub returns-clause-ok : goal.returns-clause-ok
 returns-clause-ok g c w has =
     let t = c.args.inodes.now in
     let then = c.change_in_place.new.self in
-    fills_ok g.W.World.honest g.W.World.repository c.args.path.now c.args.name.now w c.args.content.now (g.F.Files.stored t.files) t.root t.next
+    fills_ok g.W.World.honest g.W.World.repository c.args.path.now c.args.name.now w c.args.content (g.F.Files.stored t.files) t.root t.next
     c.holds.ensures.table has c.requires.short (g.F.Files.failures t.files) (g.F.Files.stored then.files) then.root (g.F.Files.failures then.files)
     c.change_in_place.result (c.change_in_place.ensures.does w has)
 
@@ -56,7 +56,7 @@ pub returns-clause-stored : goal.returns-clause-stored
 returns-clause-stored g c h w has =
     let t = c.args.inodes.now in
     let then = c.change_in_place.new.self in
-    fills_stored g.W.World.honest g.W.World.repository c.args.path.now c.args.name.now w c.args.content.now (g.F.Files.stored t.files) t.root t.next
+    fills_stored g.W.World.honest g.W.World.repository c.args.path.now c.args.name.now w c.args.content (g.F.Files.stored t.files) t.root t.next
     c.holds.ensures.table has c.requires.short (g.F.Files.failures t.files) (g.F.Files.stored then.files) then.root (g.F.Files.failures then.files)
     c.change_in_place.result (c.change_in_place.ensures.does w has) h
 
@@ -64,7 +64,7 @@ pub returns-clause-strays : goal.returns-clause-strays
 returns-clause-strays g c h w has =
     let t = c.args.inodes.now in
     let then = c.change_in_place.new.self in
-    fills_strays g.W.World.honest g.W.World.repository c.args.path.now c.args.name.now w c.args.content.now (g.F.Files.stored t.files) t.root t.next
+    fills_strays g.W.World.honest g.W.World.repository c.args.path.now c.args.name.now w c.args.content (g.F.Files.stored t.files) t.root t.next
     c.holds.ensures.table has c.requires.short (g.F.Files.failures t.files) (g.F.Files.stored then.files) then.root (g.F.Files.failures then.files)
     c.change_in_place.result (c.change_in_place.ensures.does w has) h
 
@@ -72,7 +72,7 @@ pub returns-clause-counted : goal.returns-clause-counted
 returns-clause-counted g c =
     let t = c.args.inodes.now in
     let then = c.change_in_place.new.self in
-    fills_counted g.W.World.honest g.W.World.repository c.args.path.now c.args.name.now c.requires.there.0 c.args.content.now (g.F.Files.stored t.files) t.root t.next
+    fills_counted g.W.World.honest g.W.World.repository c.args.path.now c.args.name.now c.requires.there.0 c.args.content (g.F.Files.stored t.files) t.root t.next
     c.holds.ensures.table c.requires.there.1 c.requires.short (g.F.Files.failures t.files) (g.F.Files.stored then.files) then.root (g.F.Files.failures then.files)
     c.change_in_place.result (c.change_in_place.ensures.does c.requires.there.0 c.requires.there.1)
 
@@ -80,7 +80,7 @@ pub returns-clause-shown : goal.returns-clause-shown
 returns-clause-shown g c h w has =
     let t = c.args.inodes.now in
     let then = c.change_in_place.new.self in
-    fills_shown g.W.World.honest g.W.World.repository c.args.path.now c.args.name.now w c.args.content.now (g.F.Files.stored t.files) t.root t.next
+    fills_shown g.W.World.honest g.W.World.repository c.args.path.now c.args.name.now w c.args.content (g.F.Files.stored t.files) t.root t.next
     c.holds.ensures.table has c.requires.short (g.F.Files.failures t.files) (g.F.Files.stored then.files) then.root (g.F.Files.failures then.files)
     h (c.holds.ensures.kept h) c.change_in_place.result (c.change_in_place.ensures.does w has)
 
@@ -90,19 +90,19 @@ returns-clause-atomic g c =
     let then = c.change_in_place.new.self in
     let does = c.change_in_place.ensures.does c.requires.there.0 c.requires.there.1 in
     record {
-      err = fills_err g.W.World.honest g.W.World.repository c.args.path.now c.args.name.now c.requires.there.0 c.args.content.now (g.F.Files.stored t.files) t.root t.next
+      err = fills_err g.W.World.honest g.W.World.repository c.args.path.now c.args.name.now c.requires.there.0 c.args.content (g.F.Files.stored t.files) t.root t.next
           c.holds.ensures.table c.requires.there.1 c.requires.short (g.F.Files.failures t.files) (g.F.Files.stored then.files) then.root (g.F.Files.failures then.files)
           c.change_in_place.result does;
-      fault = fills_fault g.W.World.honest g.W.World.repository c.args.path.now c.args.name.now c.requires.there.0 c.args.content.now (g.F.Files.stored t.files) t.root t.next
+      fault = fills_fault g.W.World.honest g.W.World.repository c.args.path.now c.args.name.now c.requires.there.0 c.args.content (g.F.Files.stored t.files) t.root t.next
           c.holds.ensures.table c.requires.there.1 c.requires.short (g.F.Files.failures t.files) (g.F.Files.stored then.files) then.root (g.F.Files.failures then.files)
           c.change_in_place.result does;
-      unseen = λ h. fills_unseen g.W.World.honest g.W.World.repository c.args.path.now c.args.name.now c.requires.there.0 c.args.content.now (g.F.Files.stored t.files) t.root t.next
+      unseen = λ h. fills_unseen g.W.World.honest g.W.World.repository c.args.path.now c.args.name.now c.requires.there.0 c.args.content (g.F.Files.stored t.files) t.root t.next
           c.holds.ensures.table c.requires.there.1 c.requires.short (g.F.Files.failures t.files) (g.F.Files.stored then.files) then.root (g.F.Files.failures then.files)
           h (c.holds.ensures.kept h) c.change_in_place.result does;
-      marks = fills_marks g.W.World.honest g.W.World.repository c.args.path.now c.args.name.now c.requires.there.0 c.args.content.now (g.F.Files.stored t.files) t.root t.next
+      marks = fills_marks g.W.World.honest g.W.World.repository c.args.path.now c.args.name.now c.requires.there.0 c.args.content (g.F.Files.stored t.files) t.root t.next
           c.holds.ensures.table c.requires.there.1 c.requires.short (g.F.Files.failures t.files) (g.F.Files.stored then.files) then.root (g.F.Files.failures then.files)
           c.change_in_place.result does;
-      stays = fills_stay g.W.World.honest g.W.World.repository c.args.path.now c.args.name.now c.requires.there.0 c.args.content.now (g.F.Files.stored t.files) t.root t.next
+      stays = fills_stay g.W.World.honest g.W.World.repository c.args.path.now c.args.name.now c.requires.there.0 c.args.content (g.F.Files.stored t.files) t.root t.next
           c.holds.ensures.table c.requires.there.1 c.requires.short (g.F.Files.failures t.files) (g.F.Files.stored then.files) then.root (g.F.Files.failures then.files)
           c.change_in_place.result does;
       clock = c.change_in_place.ensures.rest.1;
@@ -113,6 +113,6 @@ returns-clause-numbers g c h =
     let t = c.args.inodes.now in
     let then = c.change_in_place.new.self in
     let F = g.F.Files.stored t.files in
-    fills_same g.W.World.honest g.W.World.repository c.args.path.now c.args.name.now c.requires.there.0 c.args.content.now F t.root t.next
+    fills_same g.W.World.honest g.W.World.repository c.args.path.now c.args.name.now c.requires.there.0 c.args.content F t.root t.next
     c.holds.ensures.table c.requires.there.1 c.requires.short (g.F.Files.failures t.files) (g.F.Files.stored then.files) then.root (g.F.Files.failures then.files)
     h (c.holds.ensures.kept h) (c.holds.ensures.numbers h) c.change_in_place.result (c.change_in_place.ensures.does c.requires.there.0 c.requires.there.1)

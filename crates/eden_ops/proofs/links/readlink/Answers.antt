@@ -67,49 +67,49 @@ returns-in-Dir-clause-attempts g c =
     (asks_target c.args.path.now) c.args.cache.now e.same e.keeps e.cache e.shown (say.Err EINVAL) refl (λ T. refl)
     (λ k a listed is on. target_other k a listed (dir_not_link k (as_dir k c.in-Ok-Some.seen is on (c.what.ensures.dir c.in-Dir.is))))
 
-pub returns-in-Err-make-clause-attempts : goal.returns-in-Err-make-clause-attempts
-returns-in-Err-make-clause-attempts g c =
+pub returns-in-Err-part-clause-attempts : goal.returns-in-Err-part-clause-attempts
+returns-in-Err-part-clause-attempts g c =
     let e = c.in-Ok-Some.ensures in
-    let b = c.make.ensures in
+    let b = c.part.ensures in
     let other = c.what.ensures.other (link_not_dir c.what.result c.in-Link.is) in
-    subst (λ (a : Attempt). Attempts g.W.World g.F.Files (ask.ReadLink c.args.path.now) c.args.inodes.now c.make.new.inodes c.args.cache.now c.make.new.cache a) (sym c.ended-in-Err-make.ensures)
+    subst (λ (a : Attempt). Attempts g.W.World g.F.Files (ask.ReadLink c.args.path.now) c.args.inodes.now c.part.new.inodes c.args.cache.now c.part.new.cache a) (sym c.ended-in-Err-part.ensures)
     (content_lacks g.W.World g.F.Files c.args.path.now c.args.inodes.now c.meet.new.inodes c.meet.new.cache _ c.in-Ok-Some.seen c.in-Ok-Some.field-0-is e.meets
     (ask.ReadLink c.args.path.now) reads_target
-    (asks_target c.args.path.now) c.args.cache.now e.same e.keeps e.cache e.shown c.make.new.inodes c.make.new.cache b.same b.keeps b.still b.cache other.0 (λ x is. cc) c.in-Err-make.stop
-    (λ n a r same lost. target_lost n a false r (same ∙ other.1 ∙ c.in-Link.is) lost) (λ k is x y. cc) c.in-Err-make.ensures.lacks)
+    (asks_target c.args.path.now) c.args.cache.now e.same e.keeps e.cache e.shown c.part.new.inodes c.part.new.cache b.same b.keeps b.still b.cache other.0 (λ x is. cc) c.in-Err-part.stop
+    (λ n a r same lost. target_lost n a false r (same ∙ other.1 ∙ c.in-Link.is) lost) (λ k is x y. cc) c.in-Err-part.ensures.lacks)
 
-pub returns-in-Err-make-clause-keeps : goal.returns-in-Err-make-clause-keeps
-returns-in-Err-make-clause-keeps g c = keeps_on g.W.World g.F.Files c.args.inodes.now c.meet.new.inodes c.make.new.inodes c.meet.ensures.keeps c.make.ensures.keeps
+pub returns-in-Err-part-clause-keeps : goal.returns-in-Err-part-clause-keeps
+returns-in-Err-part-clause-keeps g c = keeps_on g.W.World g.F.Files c.args.inodes.now c.meet.new.inodes c.part.new.inodes c.meet.ensures.keeps c.part.ensures.keeps
 
 pub returns-in-Ok-clause-keeps : goal.returns-in-Ok-clause-keeps
-returns-in-Ok-clause-keeps g c = keeps_on g.W.World g.F.Files c.args.inodes.now c.meet.new.inodes c.make.new.inodes c.meet.ensures.keeps c.make.ensures.keeps
+returns-in-Ok-clause-keeps g c = keeps_on g.W.World g.F.Files c.args.inodes.now c.meet.new.inodes c.part.new.inodes c.meet.ensures.keeps c.part.ensures.keeps
 
 pub returns-in-Ok-clause-attempts : goal.returns-in-Ok-clause-attempts
 returns-in-Ok-clause-attempts g c =
     let e = c.in-Ok-Some.ensures in
-    let b = c.make.ensures in
+    let b = c.part.ensures in
     let other = c.what.ensures.other (link_not_dir c.what.result c.in-Link.is) in
     let had = c.in-Ok.ensures.ok in
     let R = g.W.World.repository in
     let F = g.F.Files.stored c.meet.new.inodes.files in
     content_tells g.W.World g.F.Files c.args.path.now c.args.inodes.now c.meet.new.inodes c.meet.new.cache _ c.in-Ok-Some.seen c.in-Ok-Some.field-0-is e.meets
-    (ask.ReadLink c.args.path.now) reads_target (asks_target c.args.path.now) c.args.cache.now e.same e.keeps e.cache e.shown c.make.new.inodes c.make.new.cache b.same b.keeps b.still b.cache
+    (ask.ReadLink c.args.path.now) reads_target (asks_target c.args.path.now) c.args.cache.now e.same e.keeps e.cache e.shown c.part.new.inodes c.part.new.cache b.same b.keeps b.still b.cache
     (say.Data c.in-Ok.bytes) refl (λ T. refl)
     (λ h y at listed is. subst (λ a. ReadsLink (shown_node R F y listed) (say.Data a)) (sym (had.made ∙ take_all 1073741824 had.content had.is.short))
     (target_some y.kind (content_with R (own_files F) (source_of y.number y.origin)) listed had.content (is ∙ other.1 ∙ c.in-Link.is) (had.is.shown h y at)))
 
-pub make-requires-clause-content : goal.make-requires-clause-content
-make-requires-clause-content g c =
+pub part-requires : goal.part-requires
+part-requires g c =
     let e = c.in-Ok-Some.ensures in
     let other = c.what.ensures.other (link_not_dir c.what.result c.in-Link.is) in
     met_content g.W.World g.F.Files c.args.path.now c.args.inodes.now c.meet.new.inodes c.meet.new.cache _ c.in-Ok-Some.seen c.in-Ok-Some.field-0-is e.meets
     (λ dir. link_not_dir c.what.result c.in-Link.is (sym other.1 ∙ dir))
 
-pub returns-in-Err-make-clause-walked : goal.returns-in-Err-make-clause-walked
-returns-in-Err-make-clause-walked g c = walked_on g.W.World g.F.Files c.args.path.now c.meet.new.inodes c.make.new.inodes c.meet.ensures.walked c.make.ensures.keeps
+pub returns-in-Err-part-clause-walked : goal.returns-in-Err-part-clause-walked
+returns-in-Err-part-clause-walked g c = walked_on g.W.World g.F.Files c.args.path.now c.meet.new.inodes c.part.new.inodes c.meet.ensures.walked c.part.ensures.keeps
 
 pub returns-in-Ok-clause-walked : goal.returns-in-Ok-clause-walked
-returns-in-Ok-clause-walked g c = walked_on g.W.World g.F.Files c.args.path.now c.meet.new.inodes c.make.new.inodes c.meet.ensures.walked c.make.ensures.keeps
+returns-in-Ok-clause-walked g c = walked_on g.W.World g.F.Files c.args.path.now c.meet.new.inodes c.part.new.inodes c.meet.ensures.walked c.part.ensures.keeps
 
-pub returns-in-Err-make-clause-leads : goal.returns-in-Err-make-clause-leads
-returns-in-Err-make-clause-leads g c k is = subst (λ (x : Row). Leads c.args.path.now c.meet.new.trail.positions x) (sym c.make.ensures.still) c.meet.ensures.leads
+pub returns-in-Err-part-clause-leads : goal.returns-in-Err-part-clause-leads
+returns-in-Err-part-clause-leads g c k is = subst (λ (x : Row). Leads c.args.path.now c.meet.new.trail.positions x) (sym c.part.ensures.still) c.meet.ensures.leads

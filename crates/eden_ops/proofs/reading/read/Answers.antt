@@ -39,43 +39,43 @@ returns-then-count-eq0-clause-attempts g c =
     (λ k a l plain. subst (λ b. Reads c.args.offset c.args.count (node_from k a l) (say.Data b)) (sym none)
     (reads_none c.args.offset c.args.count k a l plain (ap (λ (n : ℕ). n == 0) c.if-count-eq0.true)))
 
-pub make-requires-clause-content : goal.make-requires-clause-content
-make-requires-clause-content g c =
+pub part-requires : goal.part-requires
+part-requires g c =
     let file = c.in-Ok.ensures.file in
     has_content c.args.path.now c.meet_file.new.inodes.root c.in-Ok.seen file.entry c.meet_file.new.inodes.root refl (plain_other c.in-Ok.seen.kind file.plain)
 
-pub returns-in-Err-make-clause-attempts : goal.returns-in-Err-make-clause-attempts
-returns-in-Err-make-clause-attempts g c =
+pub returns-in-Err-part-clause-attempts : goal.returns-in-Err-part-clause-attempts
+returns-in-Err-part-clause-attempts g c =
     let e = c.in-Ok.ensures in
-    let b = c.make.ensures in
-    subst (λ (a : Attempt). Attempts g.W.World g.F.Files (ask.Read c.args.path.now c.args.offset c.args.count) c.args.inodes.now c.make.new.inodes c.args.cache.now c.make.new.cache a)
-    (sym c.ended-in-Err-make.ensures)
+    let b = c.part.ensures in
+    subst (λ (a : Attempt). Attempts g.W.World g.F.Files (ask.Read c.args.path.now c.args.offset c.args.count) c.args.inodes.now c.part.new.inodes c.args.cache.now c.part.new.cache a)
+    (sym c.ended-in-Err-part.ensures)
     (file_lacks g.W.World g.F.Files c.args.path.now c.args.inodes.now c.meet_file.new.inodes c.args.cache.now c.meet_file.new.cache c.in-Ok.seen e.file e.shown e.same e.cache
     (ask.Read c.args.path.now c.args.offset c.args.count) e.keeps (reads c.args.offset c.args.count)
-    (asks_read c.args.path.now c.args.offset c.args.count (le-ltb 65536 c.args.count c.if-count-gt-MAX_DATA.false)) c.make.new.inodes c.make.new.cache b.same b.keeps b.still b.cache (λ x is. cc)
-    (λ k x is. cc) c.in-Err-make.stop
-    (λ k a r plain none. reads_lost c.args.offset c.args.count k a false r plain (ne_eqb c.args.count 0 c.if-count-eq0.false) none) c.in-Err-make.ensures.lacks)
+    (asks_read c.args.path.now c.args.offset c.args.count (le-ltb 65536 c.args.count c.if-count-gt-MAX_DATA.false)) c.part.new.inodes c.part.new.cache b.same b.keeps b.still b.cache (λ x is. cc)
+    (λ k x is. cc) c.in-Err-part.stop
+    (λ k a r plain none. reads_lost c.args.offset c.args.count k a false r plain (ne_eqb c.args.count 0 c.if-count-eq0.false) none) c.in-Err-part.ensures.lacks)
 
-pub returns-in-Ok-make-clause-attempts : goal.returns-in-Ok-make-clause-attempts
-returns-in-Ok-make-clause-attempts g c =
+pub returns-in-Ok-part-clause-attempts : goal.returns-in-Ok-part-clause-attempts
+returns-in-Ok-part-clause-attempts g c =
     let e = c.in-Ok.ensures in
-    let b = c.make.ensures in
-    let had = c.in-Ok-make.ensures.ok in
+    let b = c.part.ensures in
+    let had = c.in-Ok-part.ensures.ok in
     let R = g.W.World.repository in
     let F = g.F.Files.stored c.meet_file.new.inodes.files in
     content_tells g.W.World g.F.Files c.args.path.now c.args.inodes.now c.meet_file.new.inodes c.meet_file.new.cache (Some c.in-Ok.seen) c.in-Ok.seen refl e.file.entry
     (ask.Read c.args.path.now c.args.offset c.args.count) (reads c.args.offset c.args.count)
-    (asks_read c.args.path.now c.args.offset c.args.count (le-ltb 65536 c.args.count c.if-count-gt-MAX_DATA.false)) c.args.cache.now e.same e.keeps e.cache e.shown c.make.new.inodes c.make.new.cache
-    b.same b.keeps b.still b.cache (say.Data c.in-Ok-make.bytes) refl (λ T. refl)
+    (asks_read c.args.path.now c.args.offset c.args.count (le-ltb 65536 c.args.count c.if-count-gt-MAX_DATA.false)) c.args.cache.now e.same e.keeps e.cache e.shown c.part.new.inodes c.part.new.cache
+    b.same b.keeps b.still b.cache (say.Data c.in-Ok-part.bytes) refl (λ T. refl)
     (λ h y at l is. subst (λ a. Reads c.args.offset c.args.count (shown_node R F y l) (say.Data a)) (sym had.made)
     (reads_some c.args.offset c.args.count y.kind (content_with R (own_files F) (source_of y.number y.origin)) l had.content (subst IsPlain (sym is) e.file.plain)
     (ne_eqb c.args.count 0 c.if-count-eq0.false) (had.is.shown h y at)))
 
-pub returns-in-Err-make-clause-keeps : goal.returns-in-Err-make-clause-keeps
-returns-in-Err-make-clause-keeps g c = keeps_on g.W.World g.F.Files c.args.inodes.now c.meet_file.new.inodes c.make.new.inodes c.meet_file.ensures.keeps c.make.ensures.keeps
+pub returns-in-Err-part-clause-keeps : goal.returns-in-Err-part-clause-keeps
+returns-in-Err-part-clause-keeps g c = keeps_on g.W.World g.F.Files c.args.inodes.now c.meet_file.new.inodes c.part.new.inodes c.meet_file.ensures.keeps c.part.ensures.keeps
 
-pub returns-in-Ok-make-clause-keeps : goal.returns-in-Ok-make-clause-keeps
-returns-in-Ok-make-clause-keeps g c = keeps_on g.W.World g.F.Files c.args.inodes.now c.meet_file.new.inodes c.make.new.inodes c.meet_file.ensures.keeps c.make.ensures.keeps
+pub returns-in-Ok-part-clause-keeps : goal.returns-in-Ok-part-clause-keeps
+returns-in-Ok-part-clause-keeps g c = keeps_on g.W.World g.F.Files c.args.inodes.now c.meet_file.new.inodes c.part.new.inodes c.meet_file.ensures.keeps c.part.ensures.keeps
 
 pub returns-in-Err-clause-refused : goal.returns-in-Err-clause-refused
 returns-in-Err-clause-refused g c beyond = absurd (not_more c.args.count 65536 c.if-count-gt-MAX_DATA.false beyond)
@@ -83,20 +83,20 @@ returns-in-Err-clause-refused g c beyond = absurd (not_more c.args.count 65536 c
 pub returns-then-count-eq0-clause-refused : goal.returns-then-count-eq0-clause-refused
 returns-then-count-eq0-clause-refused g c beyond = absurd (not_more c.args.count 65536 c.if-count-gt-MAX_DATA.false beyond)
 
-pub returns-in-Err-make-clause-refused : goal.returns-in-Err-make-clause-refused
-returns-in-Err-make-clause-refused g c beyond = absurd (not_more c.args.count 65536 c.if-count-gt-MAX_DATA.false beyond)
+pub returns-in-Err-part-clause-refused : goal.returns-in-Err-part-clause-refused
+returns-in-Err-part-clause-refused g c beyond = absurd (not_more c.args.count 65536 c.if-count-gt-MAX_DATA.false beyond)
 
-pub returns-in-Ok-make-clause-refused : goal.returns-in-Ok-make-clause-refused
-returns-in-Ok-make-clause-refused g c beyond = absurd (not_more c.args.count 65536 c.if-count-gt-MAX_DATA.false beyond)
+pub returns-in-Ok-part-clause-refused : goal.returns-in-Ok-part-clause-refused
+returns-in-Ok-part-clause-refused g c beyond = absurd (not_more c.args.count 65536 c.if-count-gt-MAX_DATA.false beyond)
 
-pub returns-in-Err-make-clause-walked : goal.returns-in-Err-make-clause-walked
-returns-in-Err-make-clause-walked g c within = walked_on g.W.World g.F.Files c.args.path.now c.meet_file.new.inodes c.make.new.inodes c.meet_file.ensures.walked c.make.ensures.keeps
+pub returns-in-Err-part-clause-walked : goal.returns-in-Err-part-clause-walked
+returns-in-Err-part-clause-walked g c within = walked_on g.W.World g.F.Files c.args.path.now c.meet_file.new.inodes c.part.new.inodes c.meet_file.ensures.walked c.part.ensures.keeps
 
-pub returns-in-Ok-make-clause-walked : goal.returns-in-Ok-make-clause-walked
-returns-in-Ok-make-clause-walked g c within = walked_on g.W.World g.F.Files c.args.path.now c.meet_file.new.inodes c.make.new.inodes c.meet_file.ensures.walked c.make.ensures.keeps
+pub returns-in-Ok-part-clause-walked : goal.returns-in-Ok-part-clause-walked
+returns-in-Ok-part-clause-walked g c within = walked_on g.W.World g.F.Files c.args.path.now c.meet_file.new.inodes c.part.new.inodes c.meet_file.ensures.walked c.part.ensures.keeps
 
 pub returns-then-count-gt-MAX_DATA-clause-walked : goal.returns-then-count-gt-MAX_DATA-clause-walked
 returns-then-count-gt-MAX_DATA-clause-walked g c within = absurd (within c.if-count-gt-MAX_DATA.true)
 
-pub returns-in-Err-make-clause-leads : goal.returns-in-Err-make-clause-leads
-returns-in-Err-make-clause-leads g c k is = subst (λ (x : Row). Leads c.args.path.now c.meet_file.new.trail.positions x) (sym c.make.ensures.still) c.meet_file.ensures.leads
+pub returns-in-Err-part-clause-leads : goal.returns-in-Err-part-clause-leads
+returns-in-Err-part-clause-leads g c k is = subst (λ (x : Row). Leads c.args.path.now c.meet_file.new.trail.positions x) (sym c.part.ensures.still) c.meet_file.ensures.leads

@@ -12,7 +12,7 @@ use Rattle.eden_materialise.proofs.content.FillingChangeOverlay.change.Goals as 
 pub put_file-requires-clause-sound : goal.put_file-requires-clause-sound
 put_file-requires-clause-sound g c h =
     let a = c.args.self in
-    place_sound g.W.World.honest g.W.World.repository (g.F.Files.stored c.args.overlay.now) c.args.entry.now a.path.now a.name.now a.content.now c.requires
+    place_sound g.W.World.honest g.W.World.repository (g.F.Files.stored c.args.overlay.now) c.args.entry.now a.path.now a.name.now a.content c.requires
     c.place_of-place.result.number c.place_of-place.ensures.number h
 
 pub returns-in-Err : goal.returns-in-Err
@@ -20,7 +20,7 @@ returns-in-Err g c w has =
     let a = c.args.self in
     let F = g.F.Files.stored c.args.overlay.now in
     let then = c.put_file.new.self in
-    not_filled g.W.World.honest a.path.now a.name.now w F (with_content F w.number a.content.now) c.args.entry.now
+    not_filled g.W.World.honest a.path.now a.name.now w F (with_content F w.number a.content) c.args.entry.now
     (g.F.Files.failures c.args.overlay.now) (g.F.Files.stored then) (g.F.Files.failures then) c.told.result c.in-Err.ensures.err
     (told_fault (g.F.Files.failures c.args.overlay.now) (g.F.Files.failures then) c.in-Err.fault c.told.result c.told.ensures c.in-Err.ensures.counted)
 
@@ -33,7 +33,7 @@ put_in-requires g c =
     record {
       held =
           subst (λ (r : Row). IsHeldFor g.W.World.honest g.W.World.repository B x a.path.now a.name.now (Some r)) (sym (c.as_own-file.ensures f.entry f.has))
-          (place_held g.W.World.honest g.W.World.repository (g.F.Files.stored c.args.overlay.now) x a.path.now a.name.now a.content.now f
+          (place_held g.W.World.honest g.W.World.repository (g.F.Files.stored c.args.overlay.now) x a.path.now a.name.now a.content f
           c.place_of-place.result.number c.place_of-place.ensures.number B c.in-Ok.ensures.ok (sym (c.place_of-place.ensures.own f.entry f.has) ∙ c.if-place.false));
     }
 
@@ -46,7 +46,7 @@ returns-in-Ok-put_in g c w has =
     inr (
       sym (c.place_of-place.ensures.own w has) ∙ c.if-place.false,
       filed (g.F.Files.stored between) (Ok tt)
-          (is_put g.W.World.honest g.W.World.repository (g.F.Files.stored c.args.overlay.now) x a.path.now a.name.now a.content.now c.requires
+          (is_put g.W.World.honest g.W.World.repository (g.F.Files.stored c.args.overlay.now) x a.path.now a.name.now a.content c.requires
           c.place_of-place.result.number c.place_of-place.ensures.number (g.F.Files.stored between) c.in-Ok.ensures.ok w has)
           (put_changes g.W.World.honest a.path.now a.name.now c.as_own-file.result (owned w) (c.as_own-file.ensures w has) (g.F.Files.stored between) x
           (g.F.Files.failures c.args.overlay.now) (g.F.Files.failures between) (c.in-Ok.ensures.counted.same (λ failed. absurd (cc)))
@@ -63,7 +63,7 @@ returns-in-Err-put_in g c w has =
     inr (
       sym (c.place_of-place.ensures.own w has) ∙ c.if-place.false,
       filed (g.F.Files.stored between) (Err c.told-in-Err-put_in.result)
-          (is_put g.W.World.honest g.W.World.repository (g.F.Files.stored c.args.overlay.now) x a.path.now a.name.now a.content.now c.requires
+          (is_put g.W.World.honest g.W.World.repository (g.F.Files.stored c.args.overlay.now) x a.path.now a.name.now a.content c.requires
           c.place_of-place.result.number c.place_of-place.ensures.number (g.F.Files.stored between) c.in-Ok.ensures.ok w has)
           (put_changes_not g.W.World.honest a.path.now a.name.now c.as_own-file.result (owned w) (c.as_own-file.ensures w has) (g.F.Files.stored between) x
           (g.F.Files.failures c.args.overlay.now) (g.F.Files.failures between) (c.in-Ok.ensures.counted.same (λ failed. absurd (cc)))
