@@ -60,7 +60,7 @@ impl<R: Files + Eprint> Store<R> {
         let path = folder.join(alloc, hex::encode(alloc, &id.bytes[1..])?.as_str())?;
         if !self.is_there(&path)? {
             fs::create_dir_all(&self.rt, folder.as_path())?;
-            replace_file(&self.rt, alloc, path.as_str(), framed)?;
+            replace_file(&self.rt, alloc, path.as_str(), &[framed])?;
         }
         self.tell_one();
         Ok(id)

@@ -1,5 +1,6 @@
 -- The steps of a pass over the directories that count, and its end.
-use Rattle.std.proofs.Common.{◌≡◌, ◌≢◌, ◌⊎◌, ◌∙◌, ◌≤◌, ◌<◌, ℕ, ◌==◌, Option, Some, None, length, Bool, true, false, cond, List, [], ◌∷◌, ◌++◌, map, Contains, refl, sym, ap, subst, inl, inr, arith, eq-eqb, not, IsTrue, nat_cmp, BTreeSet, btree_set_len}
+use Rattle.std.proofs.Common.{◌≡◌, ◌≢◌, ◌⊎◌, ◌∙◌, ◌≤◌, ◌<◌, ℕ, ◌==◌, Option, Some, None, length, Bool, true, false, cond, List, [], ◌∷◌, ◌++◌, map, Contains, refl, sym, ap, subst, inl, inr, arith}
+use Rattle.std.proofs.Common.{eq-eqb, not, IsTrue, nat_cmp, BTreeSet, btree_set_len}
 use Rattle.std.proofs.lemmas.Bool.{ne_eqb}
 use Rattle.std.specs.List.{list_any}
 use Rattle.std.specs.Option.{unwrap_or}
@@ -28,7 +29,8 @@ use Rattle.eden_overlay.specs.Walking.{pending_of, pending_in, root_pending, IsB
 use Rattle.eden_overlay.proofs.Held.{is_at-nat_cmp}
 use Rattle.eden_overlay.proofs.Puts.{same_or_apart}
 use Rattle.eden_overlay.proofs.Counting.{listing_storable, listed_from_two, names_listed, live_counts, live_counted}
-use Rattle.eden_overlay.proofs.Places.{contains_first, contains_rest, contains_cases, contains_none, at, same_place, places_there, places_from, entries_at, places_apart, apart-append, pending-append, Popped, popped, none_left}
+use Rattle.eden_overlay.proofs.Places.{contains_first, contains_rest, contains_cases, contains_none, at, same_place, places_there, places_from, entries_at, places_apart, apart-append, pending-append}
+use Rattle.eden_overlay.proofs.Places.{Popped, popped, none_left}
 
 -- places that the pass knows
 abbrev pub Known : List Place → List Place → Place → Type 0

@@ -49,10 +49,10 @@ impl<T: Drop> From<AllocFailed<T>> for FilesFault {
 
 /// Files by their numbers.
 ///
-/// What is stored is promised where the World is honest. After an error nothing has changed. Each answer `Device` raises
-/// the count of failures, and no other answer touches it.
+/// What is stored is promised where the World is honest. After an error nothing has changed. Each answer `Device`
+/// raises the count of failures, and no other answer touches it.
 pub trait Files<W: World>: Drop {
-    ghost use Rattle.std.specs.Prelude.{◌≡◌, ℕ, None, Some, Err, IfOk, IfErr, OnOk, OnErr, option_map};
+    ghost use Rattle.std.specs.Prelude.{◌≡◌, ◌++◌, ℕ, None, Some, Err, IfOk, IfErr, OnOk, OnErr, option_map};
     ghost use Rattle.std.specs.Ordering.{nat_cmp};
     ghost use Rattle.std.specs.List.Sorted.{IsStrictlySortedBy};
     ghost use Rattle.eden_model.specs.Failures.{Counted};
@@ -75,8 +75,8 @@ pub trait Files<W: World>: Drop {
         ensures unchanged { W.honest → stored self.new ≡ stored self.old }
         ensures counted { Counted (result ≡ Err Device) (failures self.old) (failures self.new) };
 
-    /// The first 64 bytes of the file with that number, and its length, or None where there is none. The rest isn't read,
-    /// and it takes no memory: its one error is the device's.
+    /// The first 64 bytes of the file with that number, and its length, or None where there is none. The rest isn't
+    /// read, and it takes no memory: its one error is the device's.
     fn head(&mut self, number: u64) -> Result<Option<Head>, FilesFault>
         ensures found { W.honest → IfOk result (IsHeadOf (stored self.old number)) }
         ensures unchanged { W.honest → stored self.new ≡ stored self.old }
@@ -86,6 +86,20 @@ pub trait Files<W: World>: Drop {
     /// Stores the bytes as the whole file of that number, in place of any that was there.
     fn replace(&mut self, alloc: Global, number: u64, bytes: &[u8]) -> Result<(), FilesFault>
         ensures ok { W.honest → OnOk result (stored self.new ≡ put (stored self.old) number (Some bytes.now)) }
+        ensures err { W.honest → OnErr result (stored self.new ≡ stored self.old) }
+        ensures counted { Counted (result ≡ Err Device) (failures self.old) (failures self.new) };
+
+    /// Stores the bytes of both, one behind the other, as `replace` does: so neither is copied where the files lie in a
+    /// folder.
+    fn replace_joined(
+        &mut self,
+        alloc: Global,
+        number: u64,
+        front: &[u8],
+        behind: &[u8],
+    ) -> Result<(), FilesFault>
+        ensures ok { W.honest
+            → OnOk result (stored self.new ≡ put (stored self.old) number (Some (front.now ++ behind.now))) }
         ensures err { W.honest → OnErr result (stored self.new ≡ stored self.old) }
         ensures counted { Counted (result ≡ Err Device) (failures self.old) (failures self.new) };
 

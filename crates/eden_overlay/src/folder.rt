@@ -111,7 +111,23 @@ impl<R: rt::Files + Alloc + Clone + Drop> Files<Outside> for FolderFiles<R> {
         ensures counted { Counted (result ≡ Err fault.Device) self.old.failures self.new.failures }
         ensures path { self.new.path ≡ self.old.path }
     {
-        let answer = replace_number(&self.files, alloc, &self.folder, number, bytes);
+        let answer = replace_number(&self.files, alloc, &self.folder, number, &[bytes]);
+        self.failures = count(self.failures, &answer);
+        answer
+    }
+
+    fn replace_joined(
+        &mut self,
+        alloc: Global,
+        number: u64,
+        front: &[u8],
+        behind: &[u8],
+    ) -> Result<(), FilesFault>
+        ensures counted { Counted (result ≡ Err fault.Device) self.old.failures self.new.failures }
+        ensures path { self.new.path ≡ self.old.path }
+    {
+        let pieces = [front, behind];
+        let answer = replace_number(&self.files, alloc, &self.folder, number, &pieces);
         self.failures = count(self.failures, &answer);
         answer
     }
@@ -193,10 +209,10 @@ fn replace_number<R: rt::Files>(
     alloc: Global,
     folder: &PathBuf,
     number: u64,
-    bytes: &[u8],
+    pieces: &[&[u8]],
 ) -> Result<(), FilesFault> {
     let path = file_path(folder, number)?;
-    replace_file(files, alloc, path.as_str(), bytes)?;
+    replace_file(files, alloc, path.as_str(), pieces)?;
     Ok(())
 }
 

@@ -1,6 +1,6 @@
 //! Files that fail where a test wants it.
 
-ghost use Rattle.std.specs.Prelude.{◌≡◌, None, Some, Err, IfOk, IfErr, OnOk, OnErr, option_map};
+ghost use Rattle.std.specs.Prelude.{◌≡◌, ◌++◌, None, Some, Err, IfOk, IfErr, OnOk, OnErr, option_map};
 ghost use Rattle.std.specs.Ordering.{nat_cmp};
 ghost use Rattle.std.specs.List.Sorted.{IsStrictlySortedBy};
 ghost use Rattle.eden_model.specs.Failures.{Counted};
@@ -180,6 +180,28 @@ impl<W: World, F: Files<W>, G: Gate> Files<W> for GatedFiles<F, G> {
     {
         let answer = if self.gate.passes() {
             self.files.replace(alloc, number, bytes)
+        } else {
+            Err(FilesFault::Device)
+        };
+        self.failures = count(self.failures, &answer);
+        answer
+    }
+
+    fn replace_joined(
+        &mut self,
+        alloc: Global,
+        number: u64,
+        front: &[u8],
+        behind: &[u8],
+    ) -> Result<(), FilesFault>
+        ensures ok { W.honest → OnOk result
+            (F.stored self.new.files ≡ put (F.stored self.old.files) number (Some (front.now ++ behind.now))) }
+        ensures err { W.honest → OnErr result (F.stored self.new.files ≡ F.stored self.old.files) }
+        ensures counted { Counted (result ≡ Err fault.Device) self.old.failures self.new.failures }
+        ensures calls { Calls G.passed self.old result self.new }
+    {
+        let answer = if self.gate.passes() {
+            self.files.replace_joined(alloc, number, front, behind)
         } else {
             Err(FilesFault::Device)
         };

@@ -1,5 +1,7 @@
 ghost use Rattle.eden_overlay.specs.Rescanning.{AccusedUnsound};
-ghost use Rattle.eden_overlay.specs.Laws.{ContentsHeld, EntriesHeld, NumbersFromTwo, RootlessSound, StraysStay, LiveStay, StateStays, ContentsStay, DroppedStay, DroppedUnnamed, AddedStay, EnteredStay, RenamedStay, MovedStay};
+ghost use Rattle.eden_overlay.specs.Laws.{ContentsHeld, EntriesHeld, NumbersFromTwo, RootlessSound, StraysStay};
+ghost use Rattle.eden_overlay.specs.Laws.{LiveStay, StateStays, ContentsStay, DroppedStay, DroppedUnnamed, AddedStay};
+ghost use Rattle.eden_overlay.specs.Laws.{EnteredStay, RenamedStay, MovedStay};
 ghost use Rattle.eden_overlay.specs.Laws.{NumbersHeld, OtherTreeHasNone, EntriesHaveNone, RootHasNumbers};
 
 /// What a caller of `Overlay` needs to show that an overlay stays sound.

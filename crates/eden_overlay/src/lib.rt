@@ -10,8 +10,8 @@
 //! has its file, and no number is named twice. `overlay_laws` has what such a caller needs. A value that is got
 //! is what the file as it stands holds, and otherwise the fault says why there is none.
 //!
-//! `Overlay::rescan` is for files whose state was lost: one pass over the live directories finds the next number, or why
-//! the files aren't sound.
+//! `Overlay::rescan` is for files whose state was lost: one pass over the live directories finds the next number, or
+//! why the files aren't sound.
 //!
 //! Strays, files that no live directory names as its own, may be left behind. Those of them that no live directory
 //! names at all are orphans: `Overlay::orphans` finds them, and `Overlay::remove_orphans` removes them, so that the

@@ -1,4 +1,4 @@
-ghost use Rattle.std.specs.Prelude.{◌≡◌, [], IfOk};
+ghost use Rattle.std.specs.Prelude.{◌≡◌, ◌++◌, [], IfOk};
 ghost use Rattle.std.specs.Option.{option_copied, option_map};
 ghost use Rattle.std.specs.Ordering.{nat_cmp};
 ghost use Rattle.std.specs.List.Sorted.{IsStrictlySortedBy};
@@ -68,6 +68,18 @@ impl<W: World> Files<W> for MemoryFiles<W> {
         Ok(())
     }
 
+    fn replace_joined(
+        &mut self,
+        alloc: Global,
+        number: u64,
+        front: &[u8],
+        behind: &[u8],
+    ) -> Result<(), FilesFault> {
+        let bytes = joined(alloc, front, behind)?;
+        self.files.insert(number, bytes)?;
+        Ok(())
+    }
+
     fn remove(&mut self, number: u64) -> Result<(), FilesFault> {
         self.files.remove(&number);
         Ok(())
@@ -76,6 +88,16 @@ impl<W: World> Files<W> for MemoryFiles<W> {
     fn list(&mut self, alloc: Global) -> Result<Vec<u64>, FilesFault> {
         Ok(numbers(alloc, &self.files)?)
     }
+}
+
+// The bytes of both.
+fn joined(alloc: Global, front: &[u8], behind: &[u8]) -> Result<Vec<u8>, AllocError>
+    ensures { IfOk result (λ v. v.items ≡ front.now ++ behind.now) }
+{
+    let mut bytes = Vec::with_capacity(alloc, front.len().saturating_add(behind.len()))?;
+    bytes.extend_from_slice(front)?;
+    bytes.extend_from_slice(behind)?;
+    Ok(bytes)
 }
 
 // A copy of the bytes, if there are any.

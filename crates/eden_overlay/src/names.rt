@@ -1,5 +1,6 @@
 // The names of a folder's files.
-ghost use Rattle.std.specs.Prelude.{◌≡◌, ◌<◌, ◌≤◌, ◌+◌, ◌^◌, ◌++◌, ◌∷◌, [], if◌then◌else◌, ℕ, Some, IfOk, IfErr, IfSome, IsOk, OnOk, codes, decimal, length};
+ghost use Rattle.std.specs.Prelude.{◌≡◌, ◌<◌, ◌≤◌, ◌+◌, ◌^◌, ◌++◌, ◌∷◌, [], if◌then◌else◌, ℕ, Some, IfOk, IfErr};
+ghost use Rattle.std.specs.Prelude.{IfSome, IsOk, OnOk, codes, decimal, length};
 ghost use Rattle.std.specs.Path.{path_buf_bytes, with_separator};
 ghost use Rattle.eden_overlay.specs.InFolder as folder_spec;
 ghost use Rattle.eden_overlay.specs.declared.files.FilesFault.TheVariants as fault;

@@ -30,7 +30,7 @@ use crate::room::Room;
 use eden_model::{Id, World};
 use eden_overlay_format::{
     DecodeFault, Head, Listing, Refusal, Spliced, State, StoredEntry, content_len, decode_dir,
-    decode_numbers, decode_state, encode_file_in, encode_state, has_numbers,
+    decode_numbers, decode_state, encode_file_in, encode_state, file_header, has_numbers,
 };
 use std::alloc::Global;
 use std::marker::{Model, PhantomData};
@@ -41,12 +41,17 @@ const STATE_NUMBER: u64 = 0;
 /// The number of the root's file.
 pub(crate) const ROOT_NUMBER: u64 = 1;
 
+/// A content of more bytes, 8 MiB, is stored without a copy where it is lent in one piece.
+const LONG: usize = 8 << 20;
+
 /// The stored files of a mount, in which no name dangles: whoever stores or removes a file shows first that it will be
 /// so. Contracts see the files.
 ///
-/// The content that was last stored, or was got and given back, stays in memory, if it isn't too long. Under an honest
-/// outside it is what its file holds. The room that a file was written in stays too, at most 1 MiB of it for contents
-/// and for directories each: a store that needs no more takes no memory for its file.
+/// The content that was last stored, or was got and given back, stays in memory, if it isn't too long; one of over 8
+/// MiB that is stored in one piece doesn't, since that would be a copy. Under an honest outside it is what its file
+/// holds.
+/// The room that a file was written in stays too, at most 1 MiB of it for contents and for directories each: a store
+/// that needs no more takes no memory for its file.
 #[derive(Drop)]
 pub struct Overlay<W: World, F: Files<W>> {
     files: F,
@@ -102,8 +107,8 @@ impl<W: World, F: Files<W>> Overlay<W, F> {
         self.files.failures()
     }
 
-    /// Stores a content of at most 2^30 bytes as the file of that number, in place of any that was there. After an error
-    /// nothing has changed.
+    /// Stores a content of at most 2^30 bytes as the file of that number, in place of any that was there. After an
+    /// error nothing has changed.
     pub fn put_file(
         &mut self,
         alloc: Global,
@@ -117,6 +122,11 @@ impl<W: World, F: Files<W>> Overlay<W, F> {
         ensures err { W.honest → OnErr result (F.stored self.new ≡ F.stored self.old) }
         ensures counted { Counted (result ≡ Err files.Device) (F.failures self.old) (F.failures self.new) }
     {
+        if let Some(bytes) = content.as_slice() {
+            if bytes.len() > LONG {
+                return self.put_long(alloc, number, bytes);
+            }
+        }
         // First, so that memory never holds what is kept beside the new file.
         let room = self.recent.room(alloc);
         let bytes = encode_file_in(room, content)?;
@@ -127,6 +137,19 @@ impl<W: World, F: Files<W>> Overlay<W, F> {
                 Ok(())
             }
         }
+    }
+
+    /// Stores a content in one piece, of which no copy is made: so it isn't kept in memory.
+    fn put_long(&mut self, alloc: Global, number: u64, content: &[u8]) -> Result<(), FilesFault>
+        requires sound { W.honest → AreSound (with_content (F.stored self.old) number content.now) }
+        ensures ok { W.honest
+            → OnOk result (F.stored self.new ≡ with_content (F.stored self.old) number content.now) }
+        ensures err { W.honest → OnErr result (F.stored self.new ≡ F.stored self.old) }
+        ensures counted { Counted (result ≡ Err files.Device) (F.failures self.old) (F.failures self.new) }
+    {
+        self.recent.forget(number);
+        let header = file_header(content);
+        self.files.replace_joined(alloc, number, &header, content)
     }
 
     /// Stores a directory as the file of that number, in place of any that was there: the root's is 1. After an error
@@ -191,9 +214,9 @@ impl<W: World, F: Files<W>> Overlay<W, F> {
         }
     }
 
-    /// The length of the content of the file of that number, or why it tells none: by its first 64 bytes and its length. The
-    /// content isn't read: that it has another digest than its header says is told by `get_file`. The files aren't asked
-    /// where the content is kept. It takes no memory.
+    /// The length of the content of the file of that number, or why it tells none: by its first 64 bytes and its
+    /// length. The content isn't read: that it has another digest than its header says is told by `get_file`. The files
+    /// aren't asked where the content is kept. It takes no memory.
     pub fn get_len(&mut self, number: u64) -> Result<u64, GetFault>
         ensures told { W.honest → IfOk result (TellsLength (F.stored self.old) number) }
         ensures refused { W.honest → IfErr result (ExplainsLength (F.stored self.old number)) }
@@ -277,8 +300,8 @@ impl<W: World, F: Files<W>> Overlay<W, F> {
     }
 
     /// The entries of a directory on that tree object, with the numbers that were stored for it as the file of that
-    /// number, or why there are none: `Absent` also where the file is none of numbers (so one of under 64 bytes), or has those
-    /// of another tree object.
+    /// number, or why there are none: `Absent` also where the file is none of numbers (so one of under 64 bytes), or
+    /// has those of another tree object.
     pub fn get_numbers(
         &mut self,
         alloc: Global,
@@ -307,8 +330,8 @@ impl<W: World, F: Files<W>> Overlay<W, F> {
         }
     }
 
-    /// Removes the file of that number; Ok too where there is none. It takes no memory: its one error is the device's, and
-    /// nothing has changed then.
+    /// Removes the file of that number; Ok too where there is none. It takes no memory: its one error is the device's,
+    /// and nothing has changed then.
     pub fn remove(&mut self, number: u64) -> Result<(), FilesFault>
         requires sound { W.honest → AreSound (without (F.stored self.old) number) }
         ensures ok { W.honest → OnOk result (F.stored self.new ≡ without (F.stored self.old) number) }

@@ -1,12 +1,12 @@
 //! The content of a file or a link.
 
-ghost use Rattle.std.specs.Prelude.{◌≡◌, ◌≤◌, ◌<◌, ◌+◌, Some, length, IfOk, IfErr, OnErr, vec_capacity};
+ghost use Rattle.std.specs.Prelude.{◌≡◌, ◌≤◌, ◌<◌, ◌+◌, ◌++◌, Some, length, IfOk, IfErr, OnErr, vec_capacity};
 ghost use Rattle.eden_overlay_format.specs.Stored.{Refuses, written};
 ghost use Rattle.eden_overlay_format.specs.Content.{content_length, content_most, IsFile};
 ghost use Rattle.eden_overlay_format.specs.Values.{content_in};
 ghost use Rattle.eden_overlay_format.specs.declared.header.Identifier.TheVariants as identifier;
 
-use crate::header::{HEADER_LEN, Head, Identifier, body_of, check_head, seal, start};
+use crate::header::{HEADER_LEN, Head, Identifier, body_of, check_head, header_of, seal, start};
 use crate::refusal::Refusal;
 use crate::spliced::Spliced;
 use std::alloc::{AllocError, Global};
@@ -35,6 +35,13 @@ pub fn encode_file_in(room: Vec<u8>, content: Spliced<'_>) -> Result<Vec<u8>, Al
     content.append_to(&mut out)?;
     seal(Identifier::File, &mut out);
     Ok(out)
+}
+
+/// The header of the stored file of that content, which stands behind it there.
+pub fn file_header(content: &[u8]) -> [u8; HEADER_LEN]
+    ensures { result ++ content.now ≡ written identifier.File content.now }
+{
+    header_of(Identifier::File, content)
 }
 
 /// The content that the bytes store, lent out of them, or the first refusal.

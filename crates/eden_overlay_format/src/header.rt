@@ -128,7 +128,7 @@ pub(crate) fn start(room: Vec<u8>, body_len: usize) -> Result<Vec<u8>, AllocErro
 
 /// The header of a file with that body.
 #[tactic(auto, unfolding(crate::specs::Stored::header))]
-fn header_of(identifier: Identifier, body: &[u8]) -> [u8; HEADER_LEN]
+pub(crate) fn header_of(identifier: Identifier, body: &[u8]) -> [u8; HEADER_LEN]
     ensures { result ≡ header identifier body.now }
 {
     let mut header = [0; HEADER_LEN];

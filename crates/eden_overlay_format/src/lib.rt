@@ -19,7 +19,9 @@ mod state;
 mod stored_entry;
 mod writing;
 
-pub use content::{CONTENT_MOST, content_len, decode_file, encode_file, encode_file_in};
+pub use content::{
+    CONTENT_MOST, content_len, decode_file, encode_file, encode_file_in, file_header,
+};
 pub use directory::{decode_dir, encode_dir, is_rising};
 pub use header::{HEADER_LEN, Head, Identifier};
 pub use laws::format_laws;

@@ -1,6 +1,6 @@
 //! A content that is put together from pieces.
 
-ghost use Rattle.std.specs.Prelude.{◌≡◌, ◌≤◌, ◌<◌, ◌+◌, ◌++◌, length, IfOk, OnErr, vec_capacity};
+ghost use Rattle.std.specs.Prelude.{◌≡◌, ◌≤◌, ◌<◌, ◌+◌, ◌++◌, length, IfOk, IfSome, OnErr, vec_capacity};
 ghost use Rattle.eden_model.specs.Operations.{resized, written};
 ghost use Rattle.eden_overlay_format.specs.Content.{content_most};
 
@@ -66,6 +66,16 @@ impl<'a> Spliced<'a> {
             put: bytes,
             after: &old[old.len().min(end)..],
         }
+    }
+
+    /// The content, where it is one piece.
+    pub fn as_slice(&self) -> Option<&[u8]>
+        ensures { IfSome result (λ content. content.now ≡ self.now) }
+    {
+        if self.before.is_empty() && self.zeros == 0 && self.after.is_empty() {
+            return Some(self.put);
+        }
+        None
     }
 
     /// The content's length in bytes.

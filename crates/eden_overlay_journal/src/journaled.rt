@@ -5,7 +5,7 @@ ghost use Rattle.eden_overlay_journal.specs.Changes.{at_opening, unchanged};
 
 use crate::journal::Journal;
 use crate::pouring::{STATE_NUMBER, take_in};
-use crate::seen::{head, list, read, remove, replace};
+use crate::seen::{head, list, read, remove, replace, replace_joined};
 use eden_model::World;
 use eden_overlay::{Files, FilesFault};
 use eden_overlay_format::Head;
@@ -88,6 +88,23 @@ impl<W: World, F: Files<W>, J: Journal<W>> Files<W> for Journaled<F, J> {
         answer
     }
 
+    fn replace_joined(
+        &mut self,
+        alloc: Global,
+        number: u64,
+        front: &[u8],
+        behind: &[u8],
+    ) -> Result<(), FilesFault> {
+        self.is_closed = self.is_closed || number == STATE_NUMBER;
+        let is_closed = self.is_closed;
+        let (files, journal) = (&mut self.files, &mut self.journal);
+        let answer = replace_joined::<W, _, _>(
+            alloc, files, journal, is_closed, number, front, behind,
+        );
+        self.failures = count(self.failures, &answer);
+        answer
+    }
+
     fn remove(&mut self, number: u64) -> Result<(), FilesFault> {
         let (files, journal) = (&mut self.files, &mut self.journal);
         let answer = remove::<W, _, _>(files, journal, self.is_closed, number);
@@ -108,7 +125,7 @@ impl<W: World, F: Files<W>, J: Journal<W>> Files<W> for Journaled<F, J> {
 /// Files with a journal over them that says nothing: what it said has gone into the files. So an opening begins.
 ///
 /// Where the state is stored, as a close leaves it, a journal is from before that close, and is passed over.
-/// After an error the journal says what it said, and files and journal are seen as they were; both are let go.
+/// After an error both are let go, and what was poured by then lies in the files.
 pub fn taken_in<W: World, F: Files<W>, J: Journal<W>>(
     alloc: Global,
     files: F,

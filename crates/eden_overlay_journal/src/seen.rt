@@ -1,5 +1,5 @@
 // How files with a journal over them are read and changed.
-ghost use Rattle.std.specs.Prelude.{◌≡◌, None, Some, IfOk, IfErr, OnOk, OnErr, option_map};
+ghost use Rattle.std.specs.Prelude.{◌≡◌, ◌++◌, None, Some, IfOk, IfErr, OnOk, OnErr, option_map};
 ghost use Rattle.std.specs.Ordering.{nat_cmp};
 ghost use Rattle.std.specs.List.Sorted.{IsStrictlySortedBy};
 ghost use Rattle.eden_overlay.specs.Files.{IsHeadOf, Lists, put};
@@ -11,7 +11,7 @@ use crate::pouring::{STATE_NUMBER, pour};
 use eden_model::World;
 use eden_overlay::{Files, FilesFault};
 use eden_overlay_format::Head;
-use std::alloc::Global;
+use std::alloc::{AllocError, Global};
 
 /// The longest file that is noted in a journal, in bytes. A longer one goes to the files at once.
 pub const LONGEST_RECORD: usize = 128 << 10;
@@ -106,6 +106,74 @@ fn put_in<W: World, F: Files<W>, J: Journal<W>>(
         Err(FilesFault::Device) => put_poured::<W, _, _>(alloc, files, journal, number, bytes),
         answer => answer,
     }
+}
+
+// The bytes of both are put together where the journal notes them.
+pub(crate) fn replace_joined<W: World, F: Files<W>, J: Journal<W>>(
+    alloc: Global,
+    files: &mut F,
+    journal: &mut J,
+    is_closed: bool,
+    number: u64,
+    front: &[u8],
+    behind: &[u8],
+) -> Result<(), FilesFault>
+    ensures ok { W.honest → OnOk result (changed (J.changes journal.new) (F.stored files.new)
+        ≡ put (changed (J.changes journal.old) (F.stored files.old)) number (Some (front.now ++ behind.now))) }
+    ensures err { W.honest → OnErr result (changed (J.changes journal.new) (F.stored files.new)
+        ≡ changed (J.changes journal.old) (F.stored files.old)) }
+{
+    if front.len().saturating_add(behind.len()) > LONGEST_RECORD {
+        return replace_long::<W, _, _>(alloc, files, journal, is_closed, number, front, behind);
+    }
+    let bytes = joined(alloc, front, behind)?;
+    replace::<W, _, _>(alloc, files, journal, is_closed, number, &bytes)
+}
+
+// What is too long for the journal goes to the files as it lies.
+fn replace_long<W: World, F: Files<W>, J: Journal<W>>(
+    alloc: Global,
+    files: &mut F,
+    journal: &mut J,
+    is_closed: bool,
+    number: u64,
+    front: &[u8],
+    behind: &[u8],
+) -> Result<(), FilesFault>
+    ensures ok { W.honest → OnOk result (changed (J.changes journal.new) (F.stored files.new)
+        ≡ put (changed (J.changes journal.old) (F.stored files.old)) number (Some (front.now ++ behind.now))) }
+    ensures err { W.honest → OnErr result (changed (J.changes journal.new) (F.stored files.new)
+        ≡ changed (J.changes journal.old) (F.stored files.old)) }
+{
+    make_room::<W, _, _>(alloc, files, journal, is_closed)?;
+    put_past_joined::<W, _, _>(alloc, files, journal, number, front, behind)
+}
+
+// Stores both past the journal, which says nothing of the file any more.
+fn put_past_joined<W: World, F: Files<W>, J: Journal<W>>(
+    alloc: Global,
+    files: &mut F,
+    journal: &mut J,
+    number: u64,
+    front: &[u8],
+    behind: &[u8],
+) -> Result<(), FilesFault>
+    ensures ok { W.honest → OnOk result (changed (J.changes journal.new) (F.stored files.new)
+        ≡ put (changed (J.changes journal.old) (F.stored files.old)) number (Some (front.now ++ behind.now))) }
+    ensures err { W.honest → OnErr result (changed (J.changes journal.new) (F.stored files.new)
+        ≡ changed (J.changes journal.old) (F.stored files.old)) }
+{
+    files.replace_joined(alloc, number, front, behind)?;
+    journal.pass(number)
+}
+
+// The bytes of both.
+fn joined(alloc: Global, front: &[u8], behind: &[u8]) -> Result<Vec<u8>, AllocError>
+    ensures { IfOk result (λ v. v.items ≡ front.now ++ behind.now) }
+{
+    let mut bytes = Vec::from_slice(alloc, front)?;
+    bytes.extend_from_slice(behind)?;
+    Ok(bytes)
 }
 
 // Stores the file past the journal, once that is empty.

@@ -6,8 +6,8 @@ use std::fs::{self, File};
 use std::io::{self, ErrorKind, Write};
 use std::rt;
 
-/// Makes the bytes the whole of the file at the path, in place of any that is there: they are written to `PATH.new`,
-/// which then takes the path's name. Nothing waits for the disk to have them.
+/// Makes the bytes of the pieces, one behind the other, the whole of the file at the path, in place of any that is
+/// there: they are written to `PATH.new`, which then takes the path's name. Nothing waits for the disk to have them.
 ///
 /// `PATH.new` is always a new file: one that is there, as a failure left it, is removed first, or a link or a pipe,
 /// and nothing is written to what it was. `Device` too where a folder is in the way. After an error the file at the
@@ -16,11 +16,13 @@ pub fn replace_file<R: rt::Files>(
     files: &R,
     alloc: Global,
     path: &str,
-    bytes: &[u8],
+    pieces: &[&[u8]],
 ) -> Result<(), FolderFault> {
     let beside = beside(alloc, path)?;
     let mut file = create_new(files, beside.as_str())?;
-    file.write_all(bytes)?;
+    for piece in pieces {
+        file.write_all(piece)?;
+    }
     drop(file);
     fs::rename(files, beside.as_str(), path)?;
     Ok(())

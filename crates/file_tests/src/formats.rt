@@ -8,7 +8,7 @@ ghost use Rattle.eden_model.specs.declared.kind.Kind.TheVariants as kind;
 use eden_model::{Id, Kind, Name, Origin};
 use eden_overlay_format::{
     DecodeFault, Refusal, Spliced, State, StoredEntry, decode_dir, decode_file, decode_state,
-    encode_dir, encode_file, encode_file_in, encode_state,
+    encode_dir, encode_file, encode_file_in, encode_state, file_header,
 };
 use std::alloc::Global;
 use std::process::Abort;
@@ -108,6 +108,18 @@ fn spliced_contents(rt: HostRuntime) {
     assert!(rt; decode_file(&cut) == Ok(b"he".as_slice()));
     let filled = encoded(&rt, rt.alloc(), Spliced::resized(old, 6));
     assert!(rt; decode_file(&filled) == Ok(b"hello\0".as_slice()));
+}
+
+#[test]
+fn contents_in_one_piece(rt: HostRuntime) {
+    let old = b"hello";
+    assert!(rt; Spliced::whole(old).as_slice() == Some(old.as_slice()));
+    assert!(rt; Spliced::written(b"", 0, old).as_slice() == Some(old.as_slice()));
+    assert!(rt; Spliced::written(b"hip", 0, old).as_slice() == Some(old.as_slice()));
+    assert!(rt; Spliced::written(b"", 1, old).as_slice() == None);
+    assert!(rt; Spliced::written(old, 0, b"y").as_slice() == None);
+    let abc = told(&rt, rt.alloc(), &NEW_FILE, &ABC, 0, b"abc");
+    assert!(rt; file_header(b"abc").as_slice() == cut(&rt, &abc, 64));
 }
 
 /// The front of a file of version 1, the byte that says nothing, and why the file is refused, if it is.

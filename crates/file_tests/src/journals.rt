@@ -252,10 +252,15 @@ fn the_state_and_long_files_are_stored_at_once(rt: HostRuntime) {
     assert!(rt;
         files.replace(alloc, 7, b"7") == Ok(()) && has(&rt, &folder, "journal") == Some(true)
     );
+    assert!(rt; files.replace_joined(alloc, 8, b"8", &longest) == Ok(()));
+    assert!(rt; has(&rt, &folder, "8") == Some(true));
+    assert!(rt; files.replace_joined(alloc, 9, b"9", b"9") == Ok(()));
+    assert!(rt; has(&rt, &folder, "9") == Some(false));
     assert!(rt; files.replace(alloc, 0, b"state") == Ok(()));
     assert!(rt;
         has(&rt, &folder, "0") == Some(true)
             && has(&rt, &folder, "7") == Some(true)
+            && has(&rt, &folder, "9") == Some(true)
             && has(&rt, &folder, "journal") == Some(false)
     );
     fs::remove_dir_all(&rt, folder.as_path()).expect(&rt, "a folder");

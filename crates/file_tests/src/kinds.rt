@@ -17,6 +17,7 @@ pub enum Call {
     Read(u64),
     Head(u64),
     Replace(u64, &'static [u8]),
+    ReplaceJoined(u64, &'static [u8], &'static [u8]),
     Remove(u64),
     List,
 }
@@ -37,6 +38,9 @@ fn gives<F: Files<Outside>>(files: &mut F, alloc: Global, call: Call, want: Answ
         Call::Read(number) => is_read(&files.read(alloc, number), want),
         Call::Head(number) => is_head(files.head(number), want),
         Call::Replace(number, bytes) => is_done(files.replace(alloc, number, bytes), want),
+        Call::ReplaceJoined(number, front, behind) => {
+            is_done(files.replace_joined(alloc, number, front, behind), want)
+        }
         Call::Remove(number) => is_done(files.remove(number), want),
         Call::List => is_listed(&files.list(alloc), want),
     }
@@ -131,6 +135,12 @@ pub const BEHAVIOUR: &[(Call, Answer)] = &[
     (Call::List, Answer::Numbers(&[2, 10])),
     (Call::Replace(10, b"x"), Answer::Done),
     (Call::Read(10), Answer::Bytes(Some(b"x"))),
+    (Call::ReplaceJoined(10, b"one, ", b"two"), Answer::Done),
+    (Call::Read(10), Answer::Bytes(Some(b"one, two"))),
+    (Call::ReplaceJoined(10, b"", b""), Answer::Done),
+    (Call::Read(10), Answer::Bytes(Some(b""))),
+    (Call::ReplaceJoined(10, SIXTY_FOUR, b".."), Answer::Done),
+    (Call::Read(10), Answer::Bytes(Some(SIXTY_SIX))),
     (Call::Replace(u64::MAX, b"\0\xff"), Answer::Done),
     (Call::Replace(0, b"zero"), Answer::Done),
     (Call::List, Answer::Numbers(&[0, 2, 10, u64::MAX])),
@@ -292,6 +302,7 @@ const GONE: &[(Call, Answer)] = &[
     (Call::Read(1), Answer::Bytes(None)),
     (Call::Remove(1), Answer::Done),
     (Call::Replace(1, b""), Answer::Device),
+    (Call::ReplaceJoined(1, b"", b"1"), Answer::Device),
     (Call::List, Answer::Device),
 ];
 
@@ -300,7 +311,7 @@ fn a_missing_folder_fails(rt: HostRuntime) {
     let folder = folder_of(&rt, "overlay-gone", &[]).expect(&rt, "a folder");
     fs::remove_dir(&rt, folder.as_path()).expect(&rt, "no folder");
     let asked = folder.clone().expect(&rt, "memory");
-    assert!(rt; failures_of(&rt, asked, GONE) == Some(2));
+    assert!(rt; failures_of(&rt, asked, GONE) == Some(3));
 }
 
 #[derive(Clone, Copy)]
@@ -308,6 +319,7 @@ enum Ask {
     Read,
     Head,
     Replace,
+    ReplaceJoined,
     Remove,
     List,
 }
@@ -318,13 +330,14 @@ fn fault_of<F: Files<Outside>>(files: &mut F, alloc: Global, ask: Ask) -> Option
         Ask::Read => files.read(alloc, 5).err(),
         Ask::Head => files.head(5).err(),
         Ask::Replace => files.replace(alloc, 5, b"new").err(),
+        Ask::ReplaceJoined => files.replace_joined(alloc, 5, b"n", b"ew").err(),
         Ask::Remove => files.remove(5).err(),
         Ask::List => files.list(alloc).err(),
     }
 }
 
 // No removal, no replacement and no listing that the device refused is told as done.
-const FAILED: [(SystemCall, Ask); 11] = [
+const FAILED: [(SystemCall, Ask); 14] = [
     (SystemCall::Look, Ask::Head),
     (SystemCall::Open, Ask::Head),
     (SystemCall::LookAtOpen, Ask::Head),
@@ -334,6 +347,9 @@ const FAILED: [(SystemCall, Ask); 11] = [
     (SystemCall::Open, Ask::Replace),
     (SystemCall::Write, Ask::Replace),
     (SystemCall::Rename, Ask::Replace),
+    (SystemCall::Open, Ask::ReplaceJoined),
+    (SystemCall::Write, Ask::ReplaceJoined),
+    (SystemCall::Rename, Ask::ReplaceJoined),
     (SystemCall::Remove, Ask::Remove),
     (SystemCall::List, Ask::List),
 ];

@@ -6,7 +6,7 @@ use crate::formats::{
 };
 use eden_model::{Id, Origin, Outside};
 use eden_overlay::{Files, GetFault, MemoryFiles, Overlay};
-use eden_overlay_format::{Refusal, Spliced, State, StoredEntry};
+use eden_overlay_format::{CONTENT_MOST, Refusal, Spliced, State, StoredEntry};
 use std::alloc::Global;
 use std::process::Abort;
 
@@ -111,6 +111,25 @@ fn files_are_stored(rt: HostRuntime) {
         assert!(rt; bytes.len() == *len);
         assert!(rt; has(&mut files, rt.alloc(), *number, bytes.as_slice()));
     }
+}
+
+// Whether file 2 could be given that content.
+fn is_put(overlay: &mut InMemory, alloc: Global, content: &[u8]) -> bool {
+    content.len() <= CONTENT_MOST && overlay.put_file(alloc, 2, Spliced::whole(content)).is_ok()
+}
+
+// One that is stored as it lies, and the longest that isn't.
+#[test]
+fn long_contents_are_stored(rt: HostRuntime) {
+    let mut overlay = filled(&rt, rt.alloc());
+    for length in [(8 << 20) + 1, 8 << 20] {
+        let long = [7; 1].repeat(rt.alloc(), length).expect(&rt, "memory");
+        assert!(rt; is_put(&mut overlay, rt.alloc(), &long));
+        assert!(rt; overlay.get_len(2) == Ok(length as u64));
+        assert!(rt; has_content(&mut overlay, rt.alloc(), &long));
+    }
+    assert!(rt; is_put(&mut overlay, rt.alloc(), b"hi"));
+    assert!(rt; has_content(&mut overlay, rt.alloc(), b"hi"));
 }
 
 // Takes the root's directory, the state and a file that isn't there out.

@@ -81,8 +81,8 @@ fn memory_may_lie(rt: HostRuntime) {
 const FRAMED: &[u8] = b"blob 10\0version 1\n";
 
 // What is in a folder of objects. By an id's first byte: 83 has an object, 84 has an empty file, 85 a directory in the
-// file's place, 86 a link to nothing, 87 a plain file in the folder's place, 88 a file that is too large, and 89 another
-// object alone.
+// file's place, 86 a link to nothing, 87 a plain file in the folder's place, 88 a file that is too large, and 89
+// another object alone.
 const OBJECTS: &[(&str, Made)] = &[
     ("83", Made::Folder),
     ("84", Made::Folder),
