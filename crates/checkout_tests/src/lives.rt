@@ -1,15 +1,18 @@
 //! A checkout over files in memory, from its opening to its close.
 ghost use Rattle.std.specs.Prelude.{◌≡◌, []};
+ghost use Rattle.eden_cache.specs.Cache.{IsByteBound};
 
 use eden_cache::ObjectCache;
 use eden_checkout::{Checkout, OpenFault, TidyFault, tidy};
 use eden_model::{Attempt, Bytes, Key, Kind, Name, Outside, Path, Reply, Request};
 use eden_mount::Attempts;
 use eden_object::Object;
-use eden_overlay::{Files, MemoryFiles, Overlay, Removed};
+use eden_overlay::{Files, MemoryFiles, Overlay, Removed, StopFiles};
 use eden_overlay_format::Refusal;
 use std::alloc::Global;
+use std::cell::Cell;
 use std::process::Abort;
+use std::rc::Rc;
 use test_samples::{ONE_FILE, Sample, TWO_FILES, VERSION_1};
 
 type Stored = MemoryFiles<Outside>;
@@ -60,11 +63,12 @@ fn key_of(object: Sample) -> Key {
     }
 }
 
-fn cache(rt: &impl Abort, alloc: Global) -> ObjectCache<Global>
+fn cache(rt: &impl Abort, alloc: Global, bytes: u64) -> ObjectCache<Global>
+    requires { IsByteBound bytes }
     ensures objects { result.objects ≡ [] }
     ensures sizes { result.sizes ≡ [] }
 {
-    match ObjectCache::new(alloc, 8, 1 << 20, 8) {
+    match ObjectCache::new(alloc, 8, bytes, 8) {
         Ok(cache) => cache,
         Err(_) => rt.abort(),
     }
@@ -76,7 +80,7 @@ fn open(
     files: Stored,
     root: Sample,
 ) -> Result<Tree, (OpenFault, Stored)> {
-    let cache = cache(rt, alloc);
+    let cache = cache(rt, alloc, 1 << 20);
     Checkout::open(alloc, alloc, files, root.id, cache)
 }
 
@@ -127,7 +131,12 @@ fn is_wanted(attempt: &Attempt, want: Want) -> bool {
 }
 
 /// Whether a request is answered so.
-fn answers(alloc: Global, tree: &mut Tree, request: &Request, want: Want) -> bool {
+fn answers<F: Files<Outside>>(
+    alloc: Global,
+    tree: &mut Checkout<Global, Outside, F>,
+    request: &Request,
+    want: Want,
+) -> bool {
     is_wanted(&tree.attempt(alloc, request, &mut None), want)
 }
 
@@ -165,6 +174,32 @@ fn live(rt: &impl Abort, alloc: Global, files: Stored, steps: &[Step]) -> Stored
 /// What a life over no files leaves.
 fn changed(rt: &impl Abort, alloc: Global) -> Stored {
     live(rt, alloc, MemoryFiles::new(alloc), CHANGED)
+}
+
+/// A checkout of the commit with one file, with room for objects of one byte, over files of which as many calls pass as
+/// the number allows.
+fn stopping(
+    rt: &impl Abort,
+    alloc: Global,
+    files: Stored,
+    allowed: Rc<Cell<u64>>,
+) -> Checkout<Global, Outside, StopFiles<Stored>> {
+    let files = StopFiles::new(files, allowed);
+    let tree = Checkout::open(alloc, alloc, files, ONE_FILE.id, cache(rt, alloc, 1)).ok();
+    tree.expect(rt, "files that are opened")
+}
+
+/// It is read again after the device stopped.
+#[test]
+fn the_last_own_file_stays_whatever_its_length(rt: HostRuntime) {
+    let alloc = rt.alloc();
+    let allowed = Rc::new(alloc, Cell::new(u64::MAX)).expect(&rt, "memory");
+    let shared = allowed.clone().expect(&rt, "memory");
+    let mut tree = stopping(&rt, alloc, changed(&rt, alloc), shared);
+    let want = Want::Data(b"version 1\n\0\0!");
+    assert!(rt; answers(alloc, &mut tree, &read(&rt, alloc), want));
+    allowed.set(0);
+    assert!(rt; answers(alloc, &mut tree, &read(&rt, alloc), want));
 }
 
 /// The size of a file.

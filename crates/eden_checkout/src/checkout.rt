@@ -23,6 +23,7 @@ use eden_inode::Inodes;
 use eden_model::{Id, World};
 use eden_ops::{Place, let_go};
 use eden_overlay::{Files, FilesFault, Overlay};
+use eden_overlay_format::CONTENT_MOST;
 use std::alloc::{Allocator, Global};
 use std::marker::Model;
 
@@ -52,9 +53,10 @@ impl<A: Allocator + Clone, W: World, F: Files<W>> Model for Checkout<A, W, F> {
 }
 
 impl<A: Allocator + Clone, W: World, F: Files<W>> Checkout<A, W, F> {
-    /// Opens an overlay over a commit's tree, with a cache in which nothing is yet. Over no files nothing has changed since
-    /// the commit; else they are those that a checkout of the same commit was closed to, and the state among them is removed
-    /// as the last act. An own content stays in memory if it has at most as many bytes as the cache may hold.
+    /// Opens an overlay over a commit's tree, with a cache in which nothing is yet. Over no files nothing has changed
+    /// since the commit; else they are those that a checkout of the same commit was closed to, and the state among them
+    /// is removed as the last act. An own content stays in memory if it has at most as many bytes as the cache may
+    /// hold.
     ///
     /// Errors: `NotClean` where there are files and no state, `OtherRoot`, `Damaged` of the state alone, `Device` and
     /// `Memory`. The files come back as they were.
@@ -85,9 +87,9 @@ impl<A: Allocator + Clone, W: World, F: Files<W>> Checkout<A, W, F> {
     }
 
     /// Opens an overlay over a commit's tree whatever a run left of it, one that was killed too. What is shown is what
-    /// the directories say that are stored from file 1 down. The next number is one more than the greatest that they name,
-    /// and those on tree objects whose numbers were saved, or that a file has. A state is passed over, and removed as the
-    /// last act. The cache is as for `open`.
+    /// the directories say that are stored from file 1 down. The next number is one more than the greatest that they
+    /// name, and those on tree objects whose numbers were saved, or that a file has. A state is passed over, and
+    /// removed as the last act. The cache is as for `open`.
     ///
     /// Errors: `Dangling`, `Twice`, and `Damaged` of any file, the first that is met from file 1 down, or if a file's
     /// number leaves none to give; `Device` and `Memory`. The files come back as they were.
@@ -122,6 +124,9 @@ impl<A: Allocator + Clone, W: World, F: Files<W>> Checkout<A, W, F> {
     }
 
     /// Opens an overlay over a commit's tree as `open` does, or as `open_rescan` does, with its errors.
+    ///
+    /// The own file that was read or changed last stays in memory, whatever its length, as the object does that came
+    /// last: so one that is read in pieces is read from the files once.
     pub fn open_by(
         alloc: Global,
         dirs: A,
@@ -146,7 +151,7 @@ impl<A: Allocator + Clone, W: World, F: Files<W>> Checkout<A, W, F> {
             (λ e. IsRefusal opening W.honest root (F.stored files) (F.failures files) (F.failures e.1) e.0) }
         ensures unchanged { W.honest → IfErr result (λ e. F.stored e.1 ≡ F.stored files) }
     {
-        let mut overlay = Overlay::new(files).keeping(cache.most_bytes());
+        let mut overlay = Overlay::new(files).keeping(CONTENT_MOST as u64);
         match begin(alloc, &mut overlay, root, opening) {
             Err(fault) => Err((fault, overlay.into_files())),
             Ok(Start { origin, next }) => Ok(Checkout {
@@ -190,9 +195,9 @@ impl<A: Allocator + Clone, W: World, F: Files<W>> Checkout<A, W, F> {
         Ok(inodes.into_overlay().into_files())
     }
 
-    /// What holds of every checkout's files, so also of those that a run leaves without a close: no name in them dangles,
-    /// and where no loaded directory is unsaved they show what the checkout shows, from file 1 down, or the commit's tree
-    /// where there is no file 1.
+    /// What holds of every checkout's files, so also of those that a run leaves without a close: no name in them
+    /// dangles, and where no loaded directory is unsaved they show what the checkout shows, from file 1 down, or the
+    /// commit's tree where there is no file 1.
     pub fn holds(&self)
         ensures sound { W.honest → AreSound (F.stored self.now.inodes.files) }
         ensures shown { W.honest → AreSaved self.now.inodes.root
