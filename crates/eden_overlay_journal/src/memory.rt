@@ -1,5 +1,6 @@
-ghost use Rattle.std.specs.Prelude.{◌≡◌, IfOk};
-ghost use Rattle.eden_overlay_journal.specs.Changes.{IsHeadIn, ListsChanges, change_of, changes_in, unchanged};
+ghost use Rattle.std.specs.Prelude.{◌≡◌, Some, IfOk, IfErr, OnOk, OnErr, IsOk};
+ghost use Rattle.eden_overlay.specs.declared.files.FilesFault.TheVariants as fault;
+ghost use Rattle.eden_overlay_journal.specs.Changes.{IsHeadIn, ListsChanges, change_of, changes_in, noted, unchanged};
 ghost use Rattle.std.specs.Option.{option_copied};
 ghost use Rattle.eden_overlay_format.specs.Content.{IsHead};
 
@@ -41,7 +42,11 @@ impl<W: World> Journal<W> for MemoryJournal<W> {
         false
     }
 
-    fn read(&mut self, alloc: Global, number: u64) -> Result<Option<Option<Vec<u8>>>, FilesFault> {
+    fn read(&mut self, alloc: Global, number: u64) -> Result<Option<Option<Vec<u8>>>, FilesFault>
+        ensures found { IfOk result (λ o. change_of o ≡ changes_in self.old.files number) }
+        ensures unchanged { changes_in self.new.files ≡ changes_in self.old.files }
+        ensures fault { IfErr result (λ f. f ≡ fault.Memory) }
+    {
         Ok(copied(alloc, self.files.get(&number))?)
     }
 
@@ -49,7 +54,12 @@ impl<W: World> Journal<W> for MemoryJournal<W> {
         Ok(head_in(self.files.get(&number)))
     }
 
-    fn store(&mut self, alloc: Global, number: u64, bytes: &[u8]) -> Result<(), FilesFault> {
+    fn store(&mut self, alloc: Global, number: u64, bytes: &[u8]) -> Result<(), FilesFault>
+        ensures ok { OnOk result
+            (changes_in self.new.files ≡ noted (changes_in self.old.files) number (Some (Some bytes.now))) }
+        ensures err { OnErr result (changes_in self.new.files ≡ changes_in self.old.files) }
+        ensures fault { IfErr result (λ f. f ≡ fault.Memory) }
+    {
         let bytes = Vec::from_slice(alloc, bytes)?;
         self.files.insert(number, Some(bytes))?;
         Ok(())
@@ -71,11 +81,18 @@ impl<W: World> Journal<W> for MemoryJournal<W> {
 
     fn date(&mut self, _number: u64) {}
 
-    fn numbers(&mut self, alloc: Global) -> Result<Vec<u64>, FilesFault> {
+    fn numbers(&mut self, alloc: Global) -> Result<Vec<u64>, FilesFault>
+        ensures all { IfOk result (λ v. ListsChanges v.items (changes_in self.old.files)) }
+        ensures unchanged { changes_in self.new.files ≡ changes_in self.old.files }
+        ensures fault { IfErr result (λ f. f ≡ fault.Memory) }
+    {
         Ok(numbers(alloc, &self.files)?)
     }
 
-    fn empty(&mut self) -> Result<(), FilesFault> {
+    fn empty(&mut self) -> Result<(), FilesFault>
+        ensures empty { changes_in self.new.files ≡ unchanged }
+        ensures done { IsOk result }
+    {
         self.files = BTreeMap::new(self.alloc);
         Ok(())
     }
