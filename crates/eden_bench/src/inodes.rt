@@ -1,4 +1,5 @@
-// The table of inodes: directories that are loaded, beside the reading of their entries, and unloaded; looks along paths.
+// The table of inodes: directories that are loaded, beside the reading of their entries, and unloaded; looks along
+// paths.
 ghost use Rattle.std.specs.Prelude.{IfOk};
 ghost use Rattle.eden_coupling.specs.Loading.{IsAt};
 ghost use Rattle.eden_model.specs.declared.id.Id as id;

@@ -1,6 +1,8 @@
-ghost use Rattle.eden_coupling.specs.Laws.{TiesSound, NumbersBelow, RowsNumbered, RowsOnce, GoesTied, StraysTied, ChildrenTied, RootTied};
+ghost use Rattle.eden_coupling.specs.Laws.{TiesSound, NumbersBelow, RowsNumbered, RowsOnce, GoesTied, StraysTied};
+ghost use Rattle.eden_coupling.specs.Laws.{ChildrenTied, RootTied};
 ghost use Rattle.eden_coupling.specs.Materialising.{MarkedIs, ChainSound, ChainTied};
-ghost use Rattle.eden_coupling.specs.Changing.{ChangesTied, UnstoredTied, LeftOutTied, EntryTied, DropTied, MoveTied, NewFileTied, MovesKept, NewEntryTied};
+ghost use Rattle.eden_coupling.specs.Changing.{ChangesTied, UnstoredTied, LeftOutTied, EntryTied, DropTied, MoveTied};
+ghost use Rattle.eden_coupling.specs.Changing.{NewFileTied, MovesKept, NewEntryTied};
 
 /// What ties a table to its files, and what keeps it tied.
 pub fn tie_laws()

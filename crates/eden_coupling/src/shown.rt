@@ -1,4 +1,5 @@
-ghost use Rattle.eden_coupling.specs.ShownLaws.{ShowsFull, ShowsAway, ShowsFiles, LoadsAlike, ObjectLoadsAlike, StampsAlike, ChangesGraft, ShowsBelow, ShowsAbsent};
+ghost use Rattle.eden_coupling.specs.ShownLaws.{ShowsFull, ShowsAway, ShowsFiles, LoadsAlike, ObjectLoadsAlike};
+ghost use Rattle.eden_coupling.specs.ShownLaws.{StampsAlike, ChangesGraft, ShowsBelow, ShowsAbsent};
 
 /// What a table shows, and what keeps that.
 pub fn shown_laws()

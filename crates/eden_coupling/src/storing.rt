@@ -1,4 +1,5 @@
-ghost use Rattle.eden_coupling.specs.Filing.{ContentShows, FileShows, EmptyShows, LooseElsewhere, EntryElsewhere, ContentSound, ContentKept, ContentGrafts};
+ghost use Rattle.eden_coupling.specs.Filing.{ContentShows, FileShows, EmptyShows, LooseElsewhere, EntryElsewhere};
+ghost use Rattle.eden_coupling.specs.Filing.{ContentSound, ContentKept, ContentGrafts};
 
 /// What the own file of an entry shows, and what is kept while it is stored.
 pub fn file_laws()

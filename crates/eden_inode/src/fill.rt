@@ -81,8 +81,8 @@ fn fill<A: Allocator>(
     Ok(dir)
 }
 
-/// The directory of a tree object's entries, in any order: numbered from `next` on in byte order of their names. The only
-/// error is want of memory.
+/// The directory of a tree object's entries, in any order: numbered from `next` on in byte order of their names. The
+/// only error is want of memory.
 pub(crate) fn from_object<A: Allocator>(
     alloc: Global,
     dirs: A,

@@ -1,4 +1,5 @@
-ghost use Rattle.std.specs.Prelude.{◌≡◌, ◌≢◌, ◌≤◌, ◌+◌, ◌⊎◌, ℕ, min, Err, OnOk, OnErr, IfOk, IfErr, IfSome, IfNone, IsTrue, IsFalse, Option, Some, None, option_map};
+ghost use Rattle.std.specs.Prelude.{◌≡◌, ◌≢◌, ◌≤◌, ◌+◌, ◌⊎◌, ℕ, min, Err, OnOk, OnErr, IfOk, IfErr, IfSome, IfNone};
+ghost use Rattle.std.specs.Prelude.{IsTrue, IsFalse, Option, Some, None, option_map};
 ghost use Rattle.eden_model.specs.declared.kind.Kind.TheVariants as kind;
 ghost use Rattle.eden_model.specs.declared.kind.Origin as declared;
 ghost use Rattle.eden_model.specs.declared.kind.Origin.TheVariants as origin;
@@ -235,8 +236,8 @@ impl<A: Allocator + Clone, W: World, F: Files<W>> Inodes<A, W, F> {
         self.clock = self.clock.saturating_add(1);
     }
 
-    /// Whether numbers are saved for the tree object of a directory that isn't loaded: then it is loaded with these, and
-    /// without the object. Its file is read. Errors: `Memory`, and `Overlay` where the device failed or the numbers
+    /// Whether numbers are saved for the tree object of a directory that isn't loaded: then it is loaded with these,
+    /// and without the object. Its file is read. Errors: `Memory`, and `Overlay` where the device failed or the numbers
     /// can't be read.
     pub fn numbered(&mut self, alloc: Global, path: &[Name]) -> Result<bool, Fault>
         requires { (i : id.Id) × IsAt path.now self.old.root (origin.Object i) }
@@ -366,8 +367,9 @@ impl<A: Allocator + Clone, W: World, F: Files<W>> Inodes<A, W, F> {
         Ok(())
     }
 
-    /// The content of an own file or link, as it is stored. Where the overlay keeps it in memory it is handed out without a
-    /// read; `keep` gives it back. Errors: `Memory`, and `Overlay` where the device failed or the stored file is none.
+    /// The content of an own file or link, as it is stored. Where the overlay keeps it in memory it is handed out
+    /// without a read; `keep` gives it back. Errors: `Memory`, and `Overlay` where the device failed or the stored file
+    /// is none.
     pub fn content(&mut self, alloc: Global, path: &[Name]) -> Result<Content, Fault>
         requires { (y : Row)
             × ((row_at path.now self.old.root ≡ Some y) × ((y.origin ≡ origin.Own) × (y.kind ≢ kind.Dir))) }
@@ -388,8 +390,9 @@ impl<A: Allocator + Clone, W: World, F: Files<W>> Inodes<A, W, F> {
         own_content(alloc, &mut self.overlay, number)
     }
 
-    /// The length of the content of an own file or link. Its body isn't read: that this has another digest than its header
-    /// says is told by `content`. Error: `Overlay`, where the device failed or the stored file is none by its header.
+    /// The length of the content of an own file or link. Its body isn't read: that this has another digest than its
+    /// header says is told by `content`. Error: `Overlay`, where the device failed or the stored file is none by its
+    /// header.
     pub fn content_len(&mut self, path: &[Name]) -> Result<u64, Fault>
         requires { (y : Row)
             × ((row_at path.now self.old.root ≡ Some y) × ((y.origin ≡ origin.Own) × (y.kind ≢ kind.Dir))) }
@@ -410,8 +413,8 @@ impl<A: Allocator + Clone, W: World, F: Files<W>> Inodes<A, W, F> {
         own_len(&mut self.overlay, number)
     }
 
-    /// Keeps the content of an own file or link in memory, in place of any other, if the overlay keeps contents of its length:
-    /// who asks for it next has it without the files.
+    /// Keeps the content of an own file or link in memory, in place of any other, if the overlay keeps contents of its
+    /// length: who asks for it next has it without the files.
     pub fn keep(&mut self, path: &[Name], content: Content)
         requires { W.honest → (y : Row) → row_at path.now self.old.root ≡ Some y
             → HoldsContent (F.stored self.old.files) y.number content }
@@ -491,11 +494,12 @@ impl<A: Allocator + Clone, W: World, F: Files<W>> Inodes<A, W, F> {
         }
     }
 
-    /// Does a change to the root's entry and to the overlay at once: a directory that is stored and then is so in memory, an
-    /// entry that moves, a chain that becomes the mount's own. Each is a type of its own, in the crates above.
+    /// Does a change to the root's entry and to the overlay at once: a directory that is stored and then is so in
+    /// memory, an entry that moves, a chain that becomes the mount's own. Each is a type of its own, in the crates
+    /// above.
     ///
-    /// Within it memory and files may differ; whoever asks for it shows that they are tied once it is done. It counts as
-    /// one change of names, whatever it does; one that moves none is `change_in_place`.
+    /// Within it memory and files may differ; whoever asks for it shows that they are tied once it is done. It counts
+    /// as one change of names, whatever it does; one that moves none is `change_in_place`.
     pub fn change<C: Change<A, Overlay<W, F>> + Drop>(&mut self, change: C) -> C::Output
         requires may { C.may change self.old.files self.old.root }
         requires table { (files : F) → (root : Row) → (answer : C.Output)

@@ -1,7 +1,7 @@
 //! Inodes: the loaded part of a mount's tree over its stored files, with numbers.
 //!
-//! A table has the root's entry with all that is loaded below it, and the overlay. Directories are loaded where they are
-//! needed, and unloaded where they are old; what both show together stays the same. `eden_coupling` has the words.
+//! A table has the root's entry with all that is loaded below it, and the overlay. Directories are loaded where they
+//! are needed, and unloaded where they are old; what both show together stays the same. `eden_coupling` has the words.
 #![tactic(auto)]
 
 mod along;

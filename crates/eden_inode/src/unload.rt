@@ -1,5 +1,6 @@
 //! Loaded directories that go.
-ghost use Rattle.std.specs.Prelude.{◌≡◌, ◌≤◌, ◌-◌, ◌+◌, ◌↔◌, ◌⊎◌, ℕ, Ok, Err, Some, None, OnOk, OnErr, min, IsTrue, IsFalse, true, false};
+ghost use Rattle.std.specs.Prelude.{◌≡◌, ◌≤◌, ◌-◌, ◌+◌, ◌↔◌, ◌⊎◌, ℕ, Ok, Err, Some, None, OnOk, OnErr, min, IsTrue};
+ghost use Rattle.std.specs.Prelude.{IsFalse, true, false};
 ghost use Rattle.eden_model.specs.declared.id.Id as id;
 ghost use Rattle.eden_model.specs.declared.kind.Origin.TheVariants as origins;
 ghost use Rattle.eden_model.specs.Failures.{Counted};
@@ -39,8 +40,9 @@ pub fn has_none_inside<A: Allocator>(dir: &Dir<A>) -> bool
     true
 }
 
-/// Stores what has to be before a loaded directory of that number and origin goes: one that is the mount's own, where it
-/// is unsaved, and the numbers of one on a tree object, where they aren't saved yet. After an error nothing has changed.
+/// Stores what has to be before a loaded directory of that number and origin goes: one that is the mount's own, where
+/// it is unsaved, and the numbers of one on a tree object, where they aren't saved yet. After an error nothing has
+/// changed.
 fn put_away<A: Allocator, W: World, F: Files<W>>(
     dir: &Dir<A>,
     number: u64,

@@ -18,7 +18,8 @@ use Rattle.eden_coupling.specs.Chains.{StaysLoaded, NoneMarked}
 use Rattle.eden_coupling.specs.Moving.{CanMove}
 use Rattle.eden_coupling.specs.Shown.{shown_in}
 use Rattle.eden_coupling.specs.Ties.{IsAway, Tied}
-use Rattle.eden_coupling.proofs.CallerLemmas.{ties_sound, replaces_there, moved_table, moved_kept, moved_shown, marked_table, marked_kept, marked_shown, replaced_tied, replaced_kept, replaced_shown, moved_stays, marked_stays, moved_marks, left_elsewhere, moved_elsewhere}
+use Rattle.eden_coupling.proofs.CallerLemmas.{ties_sound, replaces_there, moved_table, moved_kept, moved_shown, marked_table, marked_kept, marked_shown, replaced_tied, replaced_kept, replaced_shown}
+use Rattle.eden_coupling.proofs.CallerLemmas.{moved_stays, marked_stays, moved_marks, left_elsewhere, moved_elsewhere}
 use Rattle.eden_materialise.specs.EntryMoves.{may_have_file, own_number, Clears, nothing, removed, failed, MovesIn, IsMoved, MovesEntry}
 use Rattle.eden_materialise.specs.Puts.{AtDirectory}
 

@@ -17,7 +17,8 @@ use Rattle.eden_coupling.specs.Listings.{listing_of}
 use Rattle.eden_coupling.specs.Shown.{shown_in}
 use Rattle.eden_coupling.specs.ShownLaws.{shown_from}
 use Rattle.eden_coupling.specs.Standing.{MayStand}
-use Rattle.eden_coupling.proofs.CallerLemmas.{at_changed, loaded_there, above_back, unfinished_back, refused_kept, refused_alike, stands_sound, put_sound, stands_table, stands_marks, stands_stays, stands_kept, stands_grafts}
+use Rattle.eden_coupling.proofs.CallerLemmas.{at_changed, loaded_there, above_back, unfinished_back, refused_kept, refused_alike, stands_sound, put_sound, stands_table, stands_marks, stands_stays}
+use Rattle.eden_coupling.proofs.CallerLemmas.{stands_kept, stands_grafts}
 use Rattle.eden_materialise.specs.Chains.{StaySound}
 use Rattle.eden_materialise.specs.Listings.{IsHeldFor, ChangesEntry}
 use Rattle.eden_materialise.specs.Moves.{changed_in, IsPutAt}

@@ -8,7 +8,8 @@ use Rattle.eden_model.specs.Named.{AreRising}
 use Rattle.eden_tree.specs.Directory.{Row, Directory, child_of, with_child, change_rows}
 use Rattle.eden_tree.specs.Rows.{find_row, change_row, set_row}
 use Rattle.eden_tree.specs.Paths.{row_at, edit_row}
-use Rattle.eden_tree.proofs.CallerLemmas.{same-≡, same-refl, same-sym, find_row-change_row, find_row-drop_row, change_row-twice, change_row-found, child_of-with_child, child_of-change_child, change_rows-held, steps_down}
+use Rattle.eden_tree.proofs.CallerLemmas.{same-≡, same-refl, same-sym, find_row-change_row, find_row-drop_row, change_row-twice, change_row-found, child_of-with_child, child_of-change_child}
+use Rattle.eden_tree.proofs.CallerLemmas.{change_rows-held, steps_down}
 use Rattle.eden_coupling.specs.Listings.{stored_entry, listing_of}
 use Rattle.eden_coupling.specs.Changing.{changed, MayGo}
 use Rattle.eden_coupling.proofs.CallerLemmas.{and_then_some, number_kept, kind_stays, origin_kept}

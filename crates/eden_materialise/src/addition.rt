@@ -1,6 +1,7 @@
 //! An entry added to the table of a mount.
 
-ghost use Rattle.std.specs.Prelude.{◌≡◌, ◌⊎◌, ◌<◌, ◌^◌, ◌∷◌, [], ◌++◌, ◌+◌, min, true, Err, Some, length, MatchBool, OnOk, OnErr};
+ghost use Rattle.std.specs.Prelude.{◌≡◌, ◌⊎◌, ◌<◌, ◌^◌, ◌∷◌, [], ◌++◌, ◌+◌, min, true, Err, Some, length, MatchBool};
+ghost use Rattle.std.specs.Prelude.{OnOk, OnErr};
 ghost use Rattle.eden_model.specs.declared.fault.Fault.TheVariants as fault;
 ghost use Rattle.eden_model.specs.Limits.{number_end};
 ghost use Rattle.eden_model.specs.Trees.{graft};
@@ -12,7 +13,8 @@ ghost use Rattle.eden_coupling.specs.Listings.{listing_of};
 ghost use Rattle.eden_inode.specs.Tables.{shows, ShowsSameNumbers};
 ghost use Rattle.eden_materialise.specs.Renumbering.{PutsNumber};
 ghost use Rattle.eden_materialise.specs.Atomic.{IsAtomic};
-ghost use Rattle.eden_materialise.specs.Filing.{node_as, with_own, own_row, IsShort, LacksEntry, MayAdd, FilesEntry, RefusedBy, IsAddFault};
+ghost use Rattle.eden_materialise.specs.Filing.{node_as, with_own, own_row, IsShort, LacksEntry, MayAdd, FilesEntry};
+ghost use Rattle.eden_materialise.specs.Filing.{RefusedBy, IsAddFault};
 ghost use Rattle.eden_materialise.specs.Puts.{AtDirectory};
 
 use crate::entry_change::put_in;
@@ -77,12 +79,13 @@ impl<A: Allocator, W: World, F: Files<W>> Change<A, Overlay<W, F>> for Addition<
 }
 
 /// Adds an entry of a name that the loaded directory at a path lacks. It is given the next number, and its own file is
-/// stored under that, which nothing names yet; then the directory is stored with the entry, and the chain above it as far
-/// as it isn't the mount's own; then memory is so.
+/// stored under that, which nothing names yet; then the directory is stored with the entry, and the chain above it as
+/// far as it isn't the mount's own; then memory is so.
 ///
-/// The tree that is shown has the new file, link or empty directory there, and is as before elsewhere. Errors: `Memory`,
-/// first of all where the directory has no room for one entry more; `Numbers` where no number is left, and then nothing has
-/// changed; and `Overlay` where the device failed. Memory is as it was then, and so is what is shown; the number stays given.
+/// The tree that is shown has the new file, link or empty directory there, and is as before elsewhere. Errors:
+/// `Memory`, first of all where the directory has no room for one entry more; `Numbers` where no number is left, and
+/// then nothing has changed; and `Overlay` where the device failed. Memory is as it was then, and so is what is shown;
+/// the number stays given.
 pub fn add_entry<A: Allocator + Clone, W: World, F: Files<W>>(
     inodes: &mut Inodes<A, W, F>,
     alloc: Global,

@@ -1,6 +1,7 @@
 //! A chain of directories made the mount's own: stored from the lowest up, and then marked in memory.
 
-ghost use Rattle.std.specs.Prelude.{◌≡◌, ◌⊎◌, Bool, Err, Some, false, true, if◌then◌else◌, MatchBool, IfSome, OnOk, OnErr};
+ghost use Rattle.std.specs.Prelude.{◌≡◌, ◌⊎◌, Bool, Err, Some, false, true, if◌then◌else◌, MatchBool, IfSome, OnOk};
+ghost use Rattle.std.specs.Prelude.{OnErr};
 ghost use Rattle.eden_model.specs.Failures.{Counted};
 ghost use Rattle.eden_overlay_format.specs.Directory.{AreStorable, is_own};
 ghost use Rattle.eden_overlay.specs.Files.{Stored};
@@ -133,8 +134,8 @@ fn store_above<A: Allocator, W: World, F: Files<W>>(
     }
 }
 
-/// Stores the chain of loaded directories along a path, from the lowest up: that one so, and each above it that isn't the
-/// mount's own or stands above one that isn't.
+/// Stores the chain of loaded directories along a path, from the lowest up: that one so, and each above it that isn't
+/// the mount's own or stands above one that isn't.
 ///
 /// Where the device fails or there is no memory, some of them may have been stored, the lowest first.
 pub(crate) fn store_chain<A: Allocator, W: World, F: Files<W>>(

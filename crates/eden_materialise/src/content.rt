@@ -1,6 +1,7 @@
 //! A content stored for a file in the table of a mount.
 
-ghost use Rattle.std.specs.Prelude.{◌≡◌, ◌≤◌, ◌∷◌, [], ◌++◌, false, if◌then◌else◌, Some, MatchBool, length, OnOk, OnErr};
+ghost use Rattle.std.specs.Prelude.{◌≡◌, ◌≤◌, ◌∷◌, [], ◌++◌, false, if◌then◌else◌, Some, MatchBool, length, OnOk};
+ghost use Rattle.std.specs.Prelude.{OnErr};
 ghost use Rattle.eden_model.specs.Shown.{node_from};
 ghost use Rattle.eden_model.specs.Trees.{graft};
 ghost use Rattle.eden_overlay_format.specs.Content.{content_most};
@@ -123,10 +124,10 @@ impl<A: Allocator, W: World, F: Files<W>> Change<A, Overlay<W, F>> for Filling<'
     }
 }
 
-/// Stores a content of at most 2^30 bytes for a file or a link of the loaded directory at a path, under the entry's number.
-/// Where the entry is the mount's own already, nothing else is stored, and memory is as before. Else the file is one that
-/// nothing names yet; then the entry becomes the mount's own: the directory is stored with it so, and the chain above it as
-/// far as it isn't the mount's own; then memory is so.
+/// Stores a content of at most 2^30 bytes for a file or a link of the loaded directory at a path, under the entry's
+/// number. Where the entry is the mount's own already, nothing else is stored, and memory is as before. Else the file
+/// is one that nothing names yet; then the entry becomes the mount's own: the directory is stored with it so, and the
+/// chain above it as far as it isn't the mount's own; then memory is so.
 ///
 /// The tree that is shown has the content there, and is as before elsewhere; no name moves in memory. Errors: `Overlay`
 /// where the device failed, and `Memory`. Memory is as it was then, and so is what is shown.

@@ -51,8 +51,8 @@ pub(crate) fn take_out<A: Allocator, W: World, F: Files<W>>(
     Ok(())
 }
 
-/// Puts an entry under a name of the directory at a path, in place of one that is there: into memory first, and then the
-/// chain is stored so. It is taken back where a store is refused.
+/// Puts an entry under a name of the directory at a path, in place of one that is there: into memory first, and then
+/// the chain is stored so. It is taken back where a store is refused.
 pub(crate) fn put_in<A: Allocator, W: World, F: Files<W>>(
     alloc: Global,
     root: &mut Entry<A>,
@@ -133,8 +133,8 @@ impl<A: Allocator, W: World, F: Files<W>> Change<A, Overlay<W, F>> for EntryChan
 /// above one that isn't, the lowest first; then memory is so, and the chain the mount's own.
 ///
 /// The tree that is shown has what the entry shows at and below the name, and is as before elsewhere. Errors: `Overlay`
-/// where the device failed, and `Memory`. Memory is as it was then, and so is what is shown; of the directories that were
-/// not the mount's own some may have been stored, which nothing shows.
+/// where the device failed, and `Memory`. Memory is as it was then, and so is what is shown; of the directories that
+/// were not the mount's own some may have been stored, which nothing shows.
 pub fn change_entry<A: Allocator + Clone, W: World, F: Files<W>>(
     inodes: &mut Inodes<A, W, F>,
     alloc: Global,

@@ -1,6 +1,7 @@
 //! An entry moved in the table of a mount.
 
-ghost use Rattle.std.specs.Prelude.{◌≡◌, ◌≢◌, ◌≤◌, ◌∷◌, [], ◌++◌, ◌+◌, ℕ, min, true, Err, Some, None, MatchBool, IsSome, IsSomeAnd, IfSome, IfErr, OnOk, OnErr};
+ghost use Rattle.std.specs.Prelude.{◌≡◌, ◌≢◌, ◌≤◌, ◌∷◌, [], ◌++◌, ◌+◌, ℕ, min, true, Err, Some, None, MatchBool};
+ghost use Rattle.std.specs.Prelude.{IsSome, IsSomeAnd, IfSome, IfErr, OnOk, OnErr};
 ghost use Rattle.eden_model.specs.Failures.{Counted};
 ghost use Rattle.eden_model.specs.Names.{name_refusal};
 ghost use Rattle.eden_model.specs.Operations.{move};
@@ -191,12 +192,13 @@ impl<A: Allocator, W: World, F: Files<W>> Change<A, Overlay<W, F>> for EntryMove
 /// Moves an entry that isn't loaded from a name of the directory at one path to a name of that at another, or within
 /// one, in place of one that isn't loaded either. Both directories are loaded and the mount's own: the first is stored
 /// without the entry, then the other with it, and then both are so in memory, saved; one directory is stored once. The
-/// file of an entry that was replaced, its own or that of its numbers, is removed last; where the device fails at that it
-/// is left, and the answer is Ok all the same.
+/// file of an entry that was replaced, its own or that of its numbers, is removed last; where the device fails at that
+/// it is left, and the answer is Ok all the same.
 ///
 /// The tree that is shown has at and below the new path what stood at and below the old one, and nothing there. Errors:
-/// `Overlay` where the device failed, and `Memory`, also where a directory has no room for one more entry. Memory and files
-/// are as before then; or the first directory is stored without the entry, and marked unsaved. What is shown is as before.
+/// `Overlay` where the device failed, and `Memory`, also where a directory has no room for one more entry. Memory and
+/// files are as before then; or the first directory is stored without the entry, and marked unsaved. What is shown is
+/// as before.
 pub fn move_entry<A: Allocator + Clone, W: World, F: Files<W>>(
     inodes: &mut Inodes<A, W, F>,
     alloc: Global,

@@ -1,5 +1,5 @@
-//! The steps that make a mount's directories its own, change their listings and store the files of their entries: stored
-//! first, and then so in memory.
+//! The steps that make a mount's directories its own, change their listings and store the files of their entries:
+//! stored first, and then so in memory.
 //!
 //! They work on an entry in memory with what is loaded below it (`eden_tree`) and on the stored files of the mount
 //! (`eden_overlay`). Each owns its stores and its change in memory, so that a contract compares before and after alone;

@@ -1,6 +1,7 @@
 //! An entry moved from one directory to another: both are stored, and then memory is so.
 
-ghost use Rattle.std.specs.Prelude.{◌≡◌, ◌≢◌, ◌⊎◌, Err, Some, None, if◌then◌else◌, IsSome, IsSomeAnd, IfOk, OnOk, OnErr};
+ghost use Rattle.std.specs.Prelude.{◌≡◌, ◌≢◌, ◌⊎◌, Err, Some, None, if◌then◌else◌, IsSome, IsSomeAnd, IfOk, OnOk};
+ghost use Rattle.std.specs.Prelude.{OnErr};
 ghost use Rattle.eden_model.specs.Failures.{Counted};
 ghost use Rattle.eden_model.specs.Named.{AreRising};
 ghost use Rattle.eden_overlay_format.specs.Directory.{AreStorable};

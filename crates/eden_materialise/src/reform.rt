@@ -77,8 +77,8 @@ impl<A: Allocator, W: World, F: Files<W>> Change<A, Overlay<W, F>> for KindChang
     }
 }
 
-/// Gives a file of the loaded directory at a path another kind, in place: its number, its origin and its content stay. The
-/// directory is stored so, and the chain above it as far as it isn't the mount's own; then memory is so.
+/// Gives a file of the loaded directory at a path another kind, in place: its number, its origin and its content stay.
+/// The directory is stored so, and the chain above it as far as it isn't the mount's own; then memory is so.
 ///
 /// The tree that is shown has the file so, with the content that it had, and is as before elsewhere; no name moves in
 /// memory. Errors: `Overlay` where the device failed, and `Memory`. Memory is as it was then, and so is what is shown.

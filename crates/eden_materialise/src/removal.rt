@@ -52,12 +52,12 @@ impl<A: Allocator, W: World, F: Files<W>> Change<A, Overlay<W, F>> for Removal<'
 }
 
 /// Removes an entry that isn't loaded from the loaded directory at a path. The directory is stored without it, and the
-/// chain above it as far as it isn't the mount's own; then memory is so. The entry's file, if it may have one, its own or
-/// that of its numbers, is removed last. If the device fails at that it is left, which nothing shows, and the answer is
-/// Ok all the same.
+/// chain above it as far as it isn't the mount's own; then memory is so. The entry's file, if it may have one, its own
+/// or that of its numbers, is removed last. If the device fails at that it is left, which nothing shows, and the answer
+/// is Ok all the same.
 ///
-/// The tree that is shown has nothing at and below the name, and is as before elsewhere. Errors: `Overlay` where the device
-/// failed, and `Memory`. Memory is as it was then, and so is what is shown.
+/// The tree that is shown has nothing at and below the name, and is as before elsewhere. Errors: `Overlay` where the
+/// device failed, and `Memory`. Memory is as it was then, and so is what is shown.
 pub fn remove_entry<A: Allocator + Clone, W: World, F: Files<W>>(
     inodes: &mut Inodes<A, W, F>,
     alloc: Global,

@@ -128,8 +128,8 @@ fn is_unsaved_above<A: Allocator + Clone, W: World, F: Files<W>>(
     }
 }
 
-/// Stores the loaded directories above the entry at a path that are unsaved, from the root down, and takes their marks off.
-/// Where none is, nothing is done.
+/// Stores the loaded directories above the entry at a path that are unsaved, from the root down, and takes their marks
+/// off. Where none is, nothing is done.
 ///
 /// The tree that is shown is as before, and no name moves. Errors: `Overlay` where the device failed, and `Memory`; the
 /// directories below the one that was refused are as they were then.

@@ -1,5 +1,6 @@
 -- One caller's request, driven to its reply.
-use Rattle.std.proofs.Common.{Bool, ◌≡◌, ◌≤◌, ◌<◌, ◌+◌, ◌-◌, ◌*◌, ◌||◌, ◌⊎◌, not, ℕ, cond, List, [], ◌∷◌, ◌++◌, length, drop, Option, Some, None, Ok, Err, slice_index_or, slice_get, nat_lt, true, lt-ltb, inl, inr, refl, sym, ap, ◌∙◌, subst, ⊎_elim, arith}
+use Rattle.std.proofs.Common.{Bool, ◌≡◌, ◌≤◌, ◌<◌, ◌+◌, ◌-◌, ◌*◌, ◌||◌, ◌⊎◌, not, ℕ, cond, List, [], ◌∷◌, ◌++◌, length, drop, Option, Some, None, Ok, Err, slice_index_or, slice_get, nat_lt, true}
+use Rattle.std.proofs.Common.{lt-ltb, inl, inr, refl, sym, ap, ◌∙◌, subst, ⊎_elim, arith}
 use Rattle.std.proofs.Math.ListN.{set}
 use Rattle.std.specs.Option.{option_map_or}
 use Rattle.std.proofs.lemmas.List.{get_or-set_same}
@@ -21,7 +22,8 @@ use Rattle.eden_object.specs.Objects.{Body}
 use Rattle.eden_source.specs.Asking.{Asked}
 use Rattle.eden_source.specs.Fetching.{Answer}
 use Rattle.eden_import.specs.Keys.{has_key, without}
-use Rattle.eden_import.specs.Queue.{Queue, Mark, IsQueue, IsPass, want_of, mark_of, wants_key, next_key, after_want, after_leave, after_await, after_quit, after_take, after_done, after_failed, after_failure}
+use Rattle.eden_import.specs.Queue.{Queue, Mark, IsQueue, IsPass, want_of, mark_of, wants_key, next_key, after_want, after_leave, after_await, after_quit, after_take, after_done, after_failed}
+use Rattle.eden_import.specs.Queue.{after_failure}
 use Rattle.eden_import.proofs.CallerLemmas.{all_are_met, wanters_are_marked}
 use Rattle.eden_mount.specs.declared.seats.Pending.{Pending}
 use Rattle.eden_mount.specs.declared.events.Turned.TheVariants.{Done, Wait}

@@ -30,7 +30,8 @@ impl Config {
     ghost use Rattle.eden_mount.specs.Settings.{settings_from};
 
     /// How many passes and objects in flight there may be, 1 to 64 each; how long the history may become, at least 1;
-    /// how many objects are cached, 1 to 65,536, of how many bytes together, 1 to 2^40; and how many sizes, 1 to 65,536.
+    /// how many objects are cached, 1 to 65,536, of how many bytes together, 1 to 2^40; and how many sizes, 1 to
+    /// 65,536.
     ///
     /// None exactly where one of them is outside its limits.
     pub fn new(

@@ -1,4 +1,5 @@
-ghost use Rattle.std.specs.Prelude.{◌≡◌, ◌<◌, ◌≤◌, ◌++◌, ℕ, true, false, [], length, Some, IfOk, IfErr, OnOk, OnErr, IfSome, IfNone};
+ghost use Rattle.std.specs.Prelude.{◌≡◌, ◌<◌, ◌≤◌, ◌++◌, ℕ, true, false, [], length, Some, IfOk, IfErr, OnOk, OnErr};
+ghost use Rattle.std.specs.Prelude.{IfSome, IfNone};
 ghost use Rattle.eden_model.specs.declared.id.Key as keys;
 ghost use Rattle.eden_model.specs.Backing.{Backs};
 ghost use Rattle.eden_model.specs.Histories.{Legal, replay};
@@ -9,7 +10,8 @@ ghost use Rattle.eden_mount.specs.Core.{Pends, IsFree, IsLeastBusy, pending_coun
 ghost use Rattle.eden_mount.specs.Steps.{IsRefused, Starts, Asks, Turns, GoesOn, Takes};
 ghost use Rattle.eden_mount.specs.Steps.{Arrives, Fails, LetsGo};
 ghost use Rattle.eden_mount.specs.Events.{IsHonestEvent, AreHonest, Steps};
-ghost use Rattle.eden_mount.specs.Spans.{request_of, since_of, waits_of, heard_by, flies_in, told, asked_after, waits_after, AreAnswered, AreNumbered, AreBlamed, AreFlown};
+ghost use Rattle.eden_mount.specs.Spans.{request_of, since_of, waits_of, heard_by, flies_in, told, asked_after};
+ghost use Rattle.eden_mount.specs.Spans.{waits_after, AreAnswered, AreNumbered, AreBlamed, AreFlown};
 ghost use Rattle.eden_mount.specs.Kept.{IsMount, core_from};
 ghost use Rattle.eden_mount.specs.Serving.{IsAtRest};
 ghost use Rattle.eden_mount.specs.declared.seats.Pending as declared;
@@ -30,8 +32,8 @@ use std::marker::{Model, PhantomData};
 ///
 /// A pass is a caller's seat, numbered from 1, with at most one pending request. Each call that may change the mount is
 /// one atomic step. Where the outside is honest, the history is at every moment one that the whole tree has, changed by
-/// one caller at a time, with the inode numbers that its replies told, and the table shows the tree after it. That is so
-/// whether the history keeps its entries or only counts them.
+/// one caller at a time, with the inode numbers that its replies told, and the table shows the tree after it. That is
+/// so whether the history keeps its entries or only counts them.
 #[derive(Drop)]
 pub struct Mount<W: World, T: Attempts<W> + Drop, A: Allocator, H: History> {
     alloc: Global,
@@ -349,10 +351,10 @@ impl<W: World, T: Attempts<W> + Drop, A: Allocator, H: History> Mount<W, T, A, H
     /// Makes these events happen, one after another; the outcomes are the answers of the calls.
     ///
     /// The history goes on with one entry for each finished request, in order, at the number that was told, behind the
-    /// start of its span; where the outside is honest it is legal, and the table shows the tree after it, and numbers that
-    /// back those that it gave. What is pending is what was asked, less what is done. Each fetch fault has its failure,
-    /// which its pass heard while it waited for that key; some pending request waits for each queued key; and a key is
-    /// taken again only after it arrived or failed.
+    /// start of its span; where the outside is honest it is legal, and the table shows the tree after it, and numbers
+    /// that back those that it gave. What is pending is what was asked, less what is done. Each fetch fault has its
+    /// failure, which its pass heard while it waited for that key; some pending request waits for each queued key; and
+    /// a key is taken again only after it arrived or failed.
     ///
     /// The only error is want of memory for the outcomes, before any event.
     pub fn run(&mut self, events: Vec<Event>) -> Result<Vec<Outcome>, AllocError>

@@ -143,7 +143,8 @@ module _ {W F : Type 0} (w : Ghosts W) (f : Files F W) (p : Path) (s t u : Table
     places = places;
   }
 
-  leaves_went : (v : Table F) → LeavesOn f (IsOutside p) t v → v.next ≡ t.next → NoneMarked u.root v.root → NamesAfter a t.root v.root → (¬ IsFault a → IsSavedAbove p v.root) → LeavesAfter w f (ask.Rmdir p) s v a
+  leaves_went : (v : Table F) → LeavesOn f (IsOutside p) t v → v.next ≡ t.next → NoneMarked u.root v.root → NamesAfter a t.root v.root → (¬ IsFault a → IsSavedAbove p v.root) → LeavesAfter w f
+      (ask.Rmdir p) s v a
   leaves_went v l next marks names stands =
       record {
         on = leaves_on f (IsOutside p) s t v (leaves_some f (IsOutside p) s t (keeps_leaves w f _ s t keeps)) l;

@@ -1,5 +1,6 @@
 -- The listing of a loaded directory, and its pages.
-use Rattle.std.proofs.Common.{◌≡◌, ℕ, zero, suc, ◌+◌, ◌-◌, ◌<◌, ◌==◌, ◌++◌, Bool, true, false, cond, nat_lt, min, List, [], ◌∷◌, length, map, take, drop, filter, get_or, Option, Some, None, Result, Ok, Err, IfOk, MatchBool, sym, refl, ◌∙◌, ap, subst, arith}
+use Rattle.std.proofs.Common.{◌≡◌, ℕ, zero, suc, ◌+◌, ◌-◌, ◌<◌, ◌==◌, ◌++◌, Bool, true, false, cond, nat_lt, min, List, [], ◌∷◌, length, map, take, drop, filter, get_or, Option, Some, None, Result}
+use Rattle.std.proofs.Common.{Ok, Err, IfOk, MatchBool, sym, refl, ◌∙◌, ap, subst, arith}
 use Rattle.std.proofs.Math.Dec.{eqb-suc-zero}
 use Rattle.std.specs.List.{slice_get}
 use Rattle.std.specs.List.Sorted.{IsStrictlySortedBy}

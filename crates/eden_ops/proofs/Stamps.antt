@@ -56,7 +56,8 @@ is_stamp s k (Some v) is = by v.loaded is where
 -- it has the stamp that it had, or it stands on the path
 stamped_or : (p : Path) (s : ℕ) (x : Row) (q : Path) (k : ℕ) → stamp_at q (stamped_along p s x) ≡ Some k → (stamp_at q x ≡ Some k) ⊎ ((is_front q p ≡ true) × (k ≡ s))
 stamped_or p s x q k is = by (behind_of q p) refl (sym (ap stamp_of (stamps_along p s x q)) ∙ standing_stamp q (stamped_along p s x) k is) where
-  by : (o : Option Path) → behind_of q p ≡ o → stamp_of (grafted o (λ r. option_map (stamped s) (standing_at q x)) (standing_at q x)) ≡ Some k → (stamp_at q x ≡ Some k) ⊎ ((is_front q p ≡ true) × (k ≡ s))
+  by : (o : Option Path) → behind_of q p ≡ o → stamp_of (grafted o (λ r. option_map (stamped s) (standing_at q x)) (standing_at q x)) ≡ Some k → (stamp_at q x ≡ Some k) ⊎
+      ((is_front q p ≡ true) × (k ≡ s))
   by None at now = inl (stamped_standing q x k now)
   by (Some r) at now = inr (ap (λ (o : Option Path). is_some o) at, is_stamp s k (standing_at q x) now)
 

@@ -56,7 +56,8 @@ module _ {W F : Type 0} (w : Ghosts W) (f : Files F W) (p : Path) (s t : Table F
   pub met_content : seen.kind ≢ kind.Dir → HasContent p t.root seen.origin
   met_content other = has_content p t.root seen at t.root refl other
 
-  module _ (q : Request) (here : Tree → Node → Reply → Type 0) (asks : Asks q p here) (c : Cache) (same : w.honest → shows w f t ≡ shows w f s) (keeps : Keeps w f (paths_of q) s t) (cache : FindsTheSame c d)
+  module _ (q : Request) (here : Tree → Node → Reply → Type 0) (asks : Asks q p here) (c : Cache) (same : w.honest → shows w f t ≡ shows w f s) (keeps : Keeps w f (paths_of q) s t)
+      (cache : FindsTheSame c d)
       (shown : w.honest → MeetsShown w f p s t (Ok o)) where
     abbrev there : w.honest → IsShown w.repository (f.stored t.files) (row_at p t.root) (reach (shows w f s) p)
     there = shown_at w f p s t d o seen is shown

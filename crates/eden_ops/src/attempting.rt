@@ -31,7 +31,8 @@ use eden_model::{Attempt, Request, World, backing_laws};
 use eden_overlay::Files;
 use std::alloc::{Allocator, Global};
 
-/// One attempt of a change at one path: a `write`, `patch`, `truncate`, `create`, `setexec`, `mkdir`, `symlink`, `unlink` or `rmdir`.
+/// One attempt of a change at one path: a `write`, `patch`, `truncate`, `create`, `setexec`, `mkdir`, `symlink`,
+/// `unlink` or `rmdir`.
 pub fn change<A: Allocator + Clone, W: World, F: Files<W>, C: Allocator + Clone>(
     inodes: &mut Inodes<A, W, F>,
     cache: &mut Stock<W, C>,
@@ -82,8 +83,8 @@ pub fn change<A: Allocator + Clone, W: World, F: Files<W>, C: Allocator + Clone>
     }
 }
 
-/// One attempt of a request: it is answered as the table of operations answers it on what is shown, or ends in a fault, or
-/// needs an object that the cache lacks. Nothing is fetched. Where it asks for what is so already nothing is stored.
+/// One attempt of a request: it is answered as the table of operations answers it on what is shown, or ends in a fault,
+/// or needs an object that the cache lacks. Nothing is fetched. Where it asks for what is so already nothing is stored.
 /// One that moves no name, as a `write`, leaves the count of changes.
 pub fn attempt<A: Allocator + Clone, W: World, F: Files<W>, C: Allocator + Clone>(
     inodes: &mut Inodes<A, W, F>,

@@ -21,8 +21,8 @@ use std::alloc::{Allocator, Global};
 
 /// Whether a directory, or else a file or a link, may go to a path: nothing stands there, or what it may replace.
 ///
-/// Errors: those of the walk over the directories above; `ENOTDIR` for a directory over what is none, `EISDIR` for a file
-/// or a link over a directory, and `ENOTEMPTY` for a directory over one with entries, which is loaded for that.
+/// Errors: those of the walk over the directories above; `ENOTDIR` for a directory over what is none, `EISDIR` for a
+/// file or a link over a directory, and `ENOTEMPTY` for a directory over one with entries, which is loaded for that.
 pub(crate) fn land<A: Allocator + Clone, W: World, F: Files<W>, C: Allocator + Clone>(
     inodes: &mut Inodes<A, W, F>,
     cache: &mut Stock<W, C>,

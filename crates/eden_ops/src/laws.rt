@@ -9,8 +9,8 @@ use eden_overlay::Files;
 
 /// What an attempt that changes nothing keeps: what is shown, and where the outside is honest the stored files; each
 /// entry, and what is loaded, and no directory becomes unsaved; the clock and the count of changes; the stamp of each
-/// directory that is loaded, unless it leads to a path of the request; and each number that is shown. Numbers are given,
-/// and the device's failures rise.
+/// directory that is loaded, unless it leads to a path of the request; and each number that is shown. Numbers are
+/// given, and the device's failures rise.
 pub fn keeps_laws<W: World, F: Files<W>>()
     ensures shown { KeepsShown W.World F.Files }
     ensures files { KeepsFiles W.World F.Files }
@@ -31,8 +31,8 @@ pub fn wait_laws()
 {}
 
 /// How many objects a request may still need, and how that falls: at most one for each place of its paths, never more
-/// than before, one less for each needed object that comes; and what was needed is needed still, or the request has come
-/// further.
+/// than before, one less for each needed object that comes; and what was needed is needed still, or the request has
+/// come further.
 pub fn need_laws()
     ensures few { FewAreLeft }
     ensures some { SomeAreLeft }

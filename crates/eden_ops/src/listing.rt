@@ -50,8 +50,8 @@ pub(crate) fn bring_seen<A: Allocator + Clone, W: World, F: Files<W>, C: Allocat
     bring(inodes, cache, alloc, path.as_slice(), seen.origin)
 }
 
-/// The entries of a directory whose names come after the given one, each with its kind: at most so many, 1 to 1,000, and
-/// whether others come after them.
+/// The entries of a directory whose names come after the given one, each with its kind: at most so many, 1 to 1,000,
+/// and whether others come after them.
 pub fn list<A: Allocator + Clone, W: World, F: Files<W>, C: Allocator + Clone>(
     inodes: &mut Inodes<A, W, F>,
     cache: &mut Stock<W, C>,

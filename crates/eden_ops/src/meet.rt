@@ -18,8 +18,8 @@ use eden_model::{Errno, Kind, Name, Path, World};
 use eden_overlay::Files;
 use std::alloc::{Allocator, Global};
 
-/// The entry at a path, or None where the directory above it has none of that name; else why the walk over the directories
-/// above it ends before. Those that aren't loaded are loaded, where that can be.
+/// The entry at a path, or None where the directory above it has none of that name; else why the walk over the
+/// directories above it ends before. Those that aren't loaded are loaded, where that can be.
 ///
 /// One look over the whole path, and one more for each directory that is loaded. None of them compares names where the
 /// trail has positions.

@@ -135,7 +135,8 @@ fn settle_both<A: Allocator + Clone, W: World, F: Files<W>>(
 
 /// Moves the entry at one path to another, in place of what stands there. What is unsaved above both is stored first,
 /// what is loaded below it and at and below the other path is let go, and the directories above both become the mount's
-/// own. A loaded directory stays so, with its entries and their numbers: at the new path, or after a fault where it was.
+/// own. A loaded directory stays so, with its entries and their numbers: at the new path, or after a fault where it
+/// was.
 ///
 /// Errors: `Overlay` where the device failed, and `Memory`, also where there is no room for one more entry. What is
 /// shown is as before then; the directory above the entry may be left unsaved.

@@ -116,13 +116,13 @@ fn meet_first<A: Allocator + Clone, W: World, F: Files<W>, C: Allocator + Clone>
     met
 }
 
-/// Moves an entry, with all that stands below it, to another path, where it replaces a file or a link, or as a directory
-/// one without entries. Both paths the same change nothing.
+/// Moves an entry, with all that stands below it, to another path, where it replaces a file or a link, or as a
+/// directory one without entries. Both paths the same change nothing.
 ///
-/// Errors, in the order of the checks: `EBUSY` from or to the root; those of the walk to the entry, and `ENOENT`; `EINVAL`
-/// for a directory to below itself; `ENOTEMPTY` to above itself; those of the walk to the other path; and there `ENOTDIR` for
-/// a directory over what is none, `EISDIR` for a file or a link over a directory, and `ENOTEMPTY` over one with entries.
-/// After a fault the directory above the entry may be left unsaved.
+/// Errors, in the order of the checks: `EBUSY` from or to the root; those of the walk to the entry, and `ENOENT`;
+/// `EINVAL` for a directory to below itself; `ENOTEMPTY` to above itself; those of the walk to the other path; and
+/// there `ENOTDIR` for a directory over what is none, `EISDIR` for a file or a link over a directory, and `ENOTEMPTY`
+/// over one with entries. After a fault the directory above the entry may be left unsaved.
 pub fn rename<A: Allocator + Clone, W: World, F: Files<W>, C: Allocator + Clone>(
     inodes: &mut Inodes<A, W, F>,
     cache: &mut Stock<W, C>,

@@ -10,8 +10,8 @@ use eden_model::{Fault, Name, World};
 use eden_overlay::Files;
 use std::alloc::{Allocator, Global};
 
-/// Stores the loaded directories above the entry at a path that are unsaved, so that what changes there next stands in the
-/// files once it is answered. Where none is unsaved, nothing is done.
+/// Stores the loaded directories above the entry at a path that are unsaved, so that what changes there next stands in
+/// the files once it is answered. Where none is unsaved, nothing is done.
 ///
 /// Errors: `Overlay` where the device failed, and `Memory`. All but the marks is as it was then.
 pub(crate) fn settle<A: Allocator + Clone, W: World, F: Files<W>>(

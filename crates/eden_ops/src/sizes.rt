@@ -70,7 +70,8 @@ fn object_size<W: World, C: Allocator + Clone>(cache: &mut Stock<W, C>, id: Id) 
     }
 }
 
-/// The length of the content of the file or link at a path, which comes from that origin. No body of an own file is read.
+/// The length of the content of the file or link at a path, which comes from that origin. No body of an own file is
+/// read.
 fn size<A: Allocator + Clone, W: World, F: Files<W>, C: Allocator + Clone>(
     inodes: &mut Inodes<A, W, F>,
     cache: &mut Stock<W, C>,

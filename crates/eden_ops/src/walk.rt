@@ -12,7 +12,8 @@ use eden_model::{Path, World};
 use eden_overlay::Files;
 use std::alloc::{Allocator, Global};
 
-/// The walk over the directories above a path, the shortest first: each that isn't loaded is loaded, or the walk ends there.
+/// The walk over the directories above a path, the shortest first: each that isn't loaded is loaded, or the walk ends
+/// there.
 ///
 /// Where they are loaded already, it takes one look-up for each name and no memory.
 pub fn reach<A: Allocator + Clone, W: World, F: Files<W>, C: Allocator + Clone>(

@@ -19,8 +19,8 @@ use eden_overlay::Files;
 use eden_overlay_format::Spliced;
 use std::alloc::{Allocator, Global};
 
-/// Cuts a file to a size in bytes, or fills it up with zeros; over 2^30 is refused. To size 0 its content isn't fetched. A fault
-/// leaves the file as it was.
+/// Cuts a file to a size in bytes, or fills it up with zeros; over 2^30 is refused. To size 0 its content isn't
+/// fetched. A fault leaves the file as it was.
 pub fn truncate<A: Allocator + Clone, W: World, F: Files<W>, C: Allocator + Clone>(
     inodes: &mut Inodes<A, W, F>,
     cache: &mut Stock<W, C>,
@@ -64,9 +64,10 @@ pub fn truncate<A: Allocator + Clone, W: World, F: Files<W>, C: Allocator + Clon
     }
 }
 
-/// Puts bytes into a file, from the offset on, and answers how many; over 2^30 are refused, and what would end past 2^30.
-/// A gap between its old end and the offset is filled with zeros. Where there are no bytes to put, its content isn't fetched
-/// and nothing changes. A fault leaves the file as it was. The file is stored once, however many bytes there are.
+/// Puts bytes into a file, from the offset on, and answers how many; over 2^30 are refused, and what would end past
+/// 2^30. A gap between its old end and the offset is filled with zeros. Where there are no bytes to put, its content
+/// isn't fetched and nothing changes. A fault leaves the file as it was. The file is stored once, however many bytes
+/// there are.
 pub fn patch<A: Allocator + Clone, W: World, F: Files<W>, C: Allocator + Clone>(
     inodes: &mut Inodes<A, W, F>,
     cache: &mut Stock<W, C>,

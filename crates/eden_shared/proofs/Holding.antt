@@ -59,7 +59,8 @@ tied_on A names lanes lanes' m n stays tied named valued =
     record { named = named ∙ tied.named; terms = tied.terms; valued = valued; kept = meets_on A tied.terms m n stays tied.kept }
 
 -- .. which they are where seats and history are the same
-pub tied_still : {T : Type 0} (A : Table T) (names : List ℕ) (lanes : List Lane) (m n : Core T) → Stays A m n → IsTied A names lanes m → n.seats ≡ m.seats → n.history ≡ m.history → IsTied A names lanes n
+pub tied_still : {T : Type 0} (A : Table T) (names : List ℕ) (lanes : List Lane) (m n : Core T) → Stays A m n → IsTied A names lanes m → n.seats ≡ m.seats → n.history ≡ m.history → IsTied A names
+    lanes n
 tied_still A names lanes m n stays tied seats history =
     tied_on A names lanes lanes m n stays tied refl (tied.valued ∙ (λ i. accounts tied.terms 1 (sym seats i) (sym history i)))
 

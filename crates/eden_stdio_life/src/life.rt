@@ -53,7 +53,8 @@ fn first_fault(
     }
 }
 
-/// Closes the checkout of a served caller, however the session ended. Where that fails, the files are left as they stand.
+/// Closes the checkout of a served caller, however the session ended. Where that fails, the files are left as they
+/// stand.
 fn end<W: World, S: Drop, A: Allocator + Clone, F: Files<W>>(
     alloc: Global,
     served: Served<Checkout<A, W, F>, S>,
@@ -76,14 +77,14 @@ fn end<W: World, S: Drop, A: Allocator + Clone, F: Files<W>>(
 
 /// Opens an overlay over a commit's tree, answers each line of the reader on the writer over it, and closes it.
 ///
-/// The session ends where the input does, or at a line that is no request. The overlay is closed after a session's fault
-/// too; only where the close fails are the files left without their state. What was told are the replies of the commit's
-/// whole tree, changed by one request after another, with the inode numbers that a `stat` may tell; files that were
-/// closed show the tree after them, and back those numbers. A request that isn't taken is told that the history is full
-/// at its limit, or that there is no memory.
+/// The session ends where the input does, or at a line that is no request. The overlay is closed after a session's
+/// fault too; only where the close fails are the files left without their state. What was told are the replies of the
+/// commit's whole tree, changed by one request after another, with the inode numbers that a `stat` may tell; files that
+/// were closed show the tree after them, and back those numbers. A request that isn't taken is told that the history is
+/// full at its limit, or that there is no memory.
 ///
-/// Errors are told in `outcome`, the first in the order opening, session, close. Where the overlay isn't opened, nothing
-/// is read or written.
+/// Errors are told in `outcome`, the first in the order opening, session, close. Where the overlay isn't opened,
+/// nothing is read or written.
 pub fn live<
     W: World,
     S: Source<W> + Drop,

@@ -43,8 +43,8 @@ fn room<A: Allocator + Clone>(
     Ok((room, cache))
 }
 
-/// Opens an overlay over a commit's tree, for a mount of these settings. Memory for its queue, its seats and the cache is
-/// made first, so that the state among the files is removed only once nothing more can be refused. What is queued,
+/// Opens an overlay over a commit's tree, for a mount of these settings. Memory for its queue, its seats and the cache
+/// is made first, so that the state among the files is removed only once nothing more can be refused. What is queued,
 /// cached and loaded lies in `memory`.
 ///
 /// Errors: those of `Checkout::open`, or of `Checkout::open_rescan`, and `Memory`. The files come back as they were.

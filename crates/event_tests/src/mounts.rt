@@ -24,8 +24,8 @@ pub(crate) type Tree = Checkout<Global, Outside, StopFiles<Stored>>;
 
 pub(crate) type Mounted = Mount<Outside, Tree, Global, Kept>;
 
-/// What a mount is opened with: the commit's tree, how its files are opened, how many objects are cached, 1 to 8, and the
-/// history's limit.
+/// What a mount is opened with: the commit's tree, how its files are opened, how many objects are cached, 1 to 8, and
+/// the history's limit.
 #[derive(Clone, Copy)]
 pub(crate) struct Settings {
     pub(crate) root: Id,

@@ -1,5 +1,5 @@
-//! All changes on a mount whose device stops at each call in turn: it works again for the next request, or never. What is
-//! left is opened by a rescan, and also, where the device works again, after a close.
+//! All changes on a mount whose device stops at each call in turn: it works again for the next request, or never. What
+//! is left is opened by a rescan, and also, where the device works again, after a close.
 
 use crate::grounds::Ground;
 use crate::mounts::{Mounted, Settings, Stored, Unopened, close, open};

@@ -1,4 +1,5 @@
-//! Calls that change a table, where the table as it stands allows them: None where it doesn't, and nothing is tried then.
+//! Calls that change a table, where the table as it stands allows them: None where it doesn't, and nothing is tried
+//! then.
 
 ghost use Rattle.std.specs.Prelude.{◌≡◌, ◌≢◌, IsTrue};
 ghost use Rattle.eden_tree.specs.Directory.{Row, child_of};

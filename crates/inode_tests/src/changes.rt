@@ -275,8 +275,8 @@ fn change_somewhere<A: Allocator + Clone>(
     stopped
 }
 
-/// A random step, at every fourth of which the device stops after a few calls, and is mended. What it touched shows what
-/// it must; where the device stopped, all does, and every other time the files alone do.
+/// A random step, at every fourth of which the device stops after a few calls, and is mended. What it touched shows
+/// what it must; where the device stopped, all does, and every other time the files alone do.
 fn step<A: Allocator + Clone>(
     rt: &impl Abort,
     mount: Mount<A>,

@@ -150,8 +150,8 @@ fn unload_over(rt: &impl Abort, mount: &mut Mount<Global>, calls: u64) -> u64 {
     mount.unload(rt, &[], 0)
 }
 
-/// Unloads all that can be while the device has stopped, and then the rest. An unsaved directory stays loaded till it is
-/// stored.
+/// Unloads all that can be while the device has stopped, and then the rest. An unsaved directory stays loaded till it
+/// is stored.
 fn unload(rt: &impl Abort, mount: &mut Mount<Global>, row: Row) {
     assert!(rt; unload_over(rt, mount, 0) == row.unloaded[0]);
     assert!(rt; mount.is_unsaved(rt, b"a") == row.is_marked);

@@ -1,5 +1,6 @@
 -- A walk that no step of which fails gives values to each option that it meets.
-use Rattle.std.proofs.Common.{◌≡◌, subst, refl, inl, inr, ◌⊎◌, arith, ℕ, zero, suc, ◌<◌, Bool, true, false, cond, ◌&&◌, List, [], ◌∷◌, ◌++◌, length, drop, Option, Some, None, fold, lt-ltb, length-append}
+use Rattle.std.proofs.Common.{◌≡◌, subst, refl, inl, inr, ◌⊎◌, arith, ℕ, zero, suc, ◌<◌, Bool, true, false, cond, ◌&&◌, List, [], ◌∷◌, ◌++◌, length, drop, Option, Some, None, fold, lt-ltb}
+use Rattle.std.proofs.Common.{length-append}
 use Rattle.std.specs.Prelude.{find, encode_utf8, slice_get, is_some, option_and_then}
 use Rattle.std.specs.Option.{option_map_or}
 use Rattle.std.specs.Str.{bytes_eq, chars}
@@ -8,8 +9,13 @@ use Rattle.clap.specs.Lexer.{long_of, short_of}
 use Rattle.clap.specs.Facts.{explicit_source, unwrap_or_range}
 use Rattle.clap.specs.Takes.{is_given}
 use Rattle.clap.specs.Kinds.{Kinds, or_else, range_kinds, request_kinds}
-use Rattle.clap.specs.Faults.{bundle_fault, bundle_step_fault, flag_word_fault, flags_fault, long_fault, option_fault, react_fault, positional_fault, other_fault, word_fault, step_fault, settle_fault, short_fault, stray_fault, turn_fault, use_fault, walk_fault}
-use Rattle.clap.specs.Walk.{Held, used_by_id, Names, Outcome, Row, Rule, Step, Text, Waiting, Walk, action_of, after_flag, after_step, arg_by_id, arg_by_index, arg_by_long, arg_by_short, at_row, attached_value, bundle, first_of, next, subcommand, bundle_met, bundle_step, default_rows, done, finished, flag_met, has_row, idle, is_pending, long_met, long_or_other, more_values, most_values, nothing_held, option, option_met, option_word, plain, plain_word, positional, reacted, refused, settled, settled_rows, short_met, short_or_plain, subcommand_met, subcommand_or_other, takes_several, takes_values, to_positional, trailing, used, used_as, value, waits, walk, walk_from, walked, walked_from, with_default, with_values, without, word_met}
+use Rattle.clap.specs.Faults.{bundle_fault, bundle_step_fault, flag_word_fault, flags_fault, long_fault, option_fault, react_fault, positional_fault, other_fault, word_fault, step_fault, settle_fault}
+use Rattle.clap.specs.Faults.{short_fault, stray_fault, turn_fault, use_fault, walk_fault}
+use Rattle.clap.specs.Walk.{Held, used_by_id, Names, Outcome, Row, Rule, Step, Text, Waiting, Walk, action_of, after_flag, after_step, arg_by_id, arg_by_index, arg_by_long, arg_by_short, at_row}
+use Rattle.clap.specs.Walk.{attached_value, bundle, first_of, next, subcommand, bundle_met, bundle_step, default_rows, done, finished, flag_met, has_row, idle, is_pending, long_met, long_or_other}
+use Rattle.clap.specs.Walk.{more_values, most_values, nothing_held, option, option_met, option_word, plain, plain_word, positional, reacted, refused, settled, settled_rows, short_met, short_or_plain}
+use Rattle.clap.specs.Walk.{subcommand_met, subcommand_or_other, takes_several, takes_values, to_positional, trailing, used, used_as, value, waits, walk, walk_from, walked, walked_from, with_default}
+use Rattle.clap.specs.Walk.{with_values, without, word_met}
 use Rattle.clap.specs.declared.builder.action.ArgAction.TheVariants.{Set, SetTrue, Help}
 use Rattle.clap.specs.declared.parser.matches.ValueSource.{ValueSource}
 use Rattle.clap.specs.declared.builder.value_parser.Reading.{Reading}

@@ -18,7 +18,8 @@ use Rattle.clap.specs.Faults.{fault_of}
 use Rattle.clap.specs.Values.{kind_of}
 use Rattle.clap.specs.declared.error.Error.{Error}
 use Rattle.clap.specs.declared.error.kind.ErrorKind.TheVariants.{OutOfMemory}
-use Rattle.mountd_options.specs.CommandLine.{IsTaken, NamesItsSource, NamesMount, NamesServed, Refuses, RefusesNumber, RefusesServed, RefusesServer, RefusesValues, changes, command_name, fuse, import, mountd_line, named, objects, serve, server_name, snapshot, stdio, subcommands, tidy, value_of}
+use Rattle.mountd_options.specs.CommandLine.{IsTaken, NamesItsSource, NamesMount, NamesServed, Refuses, RefusesNumber, RefusesServed, RefusesServer, RefusesValues, changes, command_name, fuse, import}
+use Rattle.mountd_options.specs.CommandLine.{mountd_line, named, objects, serve, server_name, snapshot, stdio, subcommands, tidy, value_of}
 use Rattle.mountd_options.specs.Grammar.{HasRequired, Subcommand, value_in}
 use Rattle.mountd_options.specs.Numbers.{IsNoNumber, IsNoValue, number_name}
 use Rattle.mountd_options.specs.declared.numbers.NumberOption.{NumberOption}

@@ -10,7 +10,8 @@ use Rattle.std.proofs.lemmas.Slice.Eq.{bytes_eq-Decides}
 use Rattle.clap.specs.Kinds.{Kinds, check_kinds}
 use Rattle.clap.specs.Faults.{check_fault, entered_fault, fault_of, level_fault}
 use Rattle.clap.specs.Takes.{is_given}
-use Rattle.clap.specs.Simple.{Shape, argument_words, built, built_leaf, entered, filled_from, help_rule, help_shape, inherited, label_of, marked_built, names_of, rows_at, subcommand_of, with_leaf_noted}
+use Rattle.clap.specs.Simple.{Shape, argument_words, built, built_leaf, entered, filled_from, help_rule, help_shape, inherited, label_of, marked_built, names_of, rows_at, subcommand_of}
+use Rattle.clap.specs.Simple.{with_leaf_noted}
 use Rattle.clap.specs.Walk.{Row, Rule, Text, answers_to, finished, nothing_held, rows_after, walk, walk_from}
 use Rattle.mountd_options.proofs.FilledRows.{AllValued, Filled, Filled-finished, given_value}
 use Rattle.mountd_options.proofs.TakenLines.{is_help, level_parts, walk_stop}

@@ -1,9 +1,11 @@
 //! What the program is asked for.
-ghost use Rattle.std.specs.Prelude.{◌≡◌, ◌≤◌, ◌⊎◌, ◌↔◌, IsTrue, IfErr, IfOk, OnOk, Ok, Some, codes, map, option_map, string_bytes};
+ghost use Rattle.std.specs.Prelude.{◌≡◌, ◌≤◌, ◌⊎◌, ◌↔◌, IsTrue, IfErr, IfOk, OnOk, Ok, Some, codes, map, option_map};
+ghost use Rattle.std.specs.Prelude.{string_bytes};
 ghost use Rattle.clap.specs.declared.error.kind.ErrorKind.TheVariants.{OutOfMemory};
 ghost use Rattle.clap.specs.Words.{first_value, found_of, kind_of, rows_of, subcommand_of, subcommand_rows_of};
 ghost use Rattle.mountd_options.specs.Addresses.{IsAddress, IsNoAddress, address_name};
-ghost use Rattle.mountd_options.specs.CommandLine.{AreServed, AsksFor, AsksVersion, IsFolder, IsGiven, IsImport, IsMount};
+ghost use Rattle.mountd_options.specs.CommandLine.{AreServed, AsksFor, AsksVersion, IsFolder, IsGiven, IsImport};
+ghost use Rattle.mountd_options.specs.CommandLine.{IsMount};
 ghost use Rattle.mountd_options.specs.CommandLine.{IsServed, IsTaken, IsTidy, KeepsNone, NamesMount, NamesServed};
 ghost use Rattle.mountd_options.specs.CommandLine.{Refuses, RefusesNumber, RefusesObjects, RefusesServed};
 ghost use Rattle.mountd_options.specs.CommandLine.{RefusesServer, RefusesValues, SaysLimits, SaysObjects, SaysPasses};

@@ -199,7 +199,7 @@ fn with_kept_options<'a>(
         alloc,
         line,
         ("history", "N"),
-        "How many entries the history holds; with none it keeps none [default: 1000000]",
+        "How many entries the history holds; with none it keeps none [default: 1000000; of fuse none]",
     )?;
     let line = with_optional(
         alloc,

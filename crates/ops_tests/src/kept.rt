@@ -29,8 +29,8 @@ const IN_PAGES: Row = Row {
     files: &[(1, 131), (3, 76), (4, 68)],
 };
 
-/// A piece that is written is one store and no read, and is read without one. What couldn't be written isn't read, and of a
-/// file that has gone nothing is.
+/// A piece that is written is one store and no read, and is read without one. What couldn't be written isn't read, and
+/// of a file that has gone nothing is.
 const WRITTEN_IN_PIECES: Row = Row {
     root: ONE_FILE,
     objects: 8,

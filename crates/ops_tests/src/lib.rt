@@ -1,5 +1,5 @@
-//! Worked rows of attempts, and random requests beside the slow oracle, so that no library below is proved a second time
-//! for them.
+//! Worked rows of attempts, and random requests beside the slow oracle, so that no library below is proved a second
+//! time for them.
 #![tactic(auto)]
 
 #[cfg(test)]

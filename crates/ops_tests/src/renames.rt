@@ -190,8 +190,8 @@ const UNKNOWN: Row = Row {
     files: &[(1, 179)],
 };
 
-/// After its first store the device stops: nothing has moved, and the directory that lacks the entry stays loaded till it
-/// is stored again.
+/// After its first store the device stops: nothing has moved, and the directory that lacks the entry stays loaded till
+/// it is stored again.
 const STOPPED: Row = Row {
     root: ONE_FILE,
     objects: 8,

@@ -208,8 +208,8 @@ fn answer(
     reply
 }
 
-/// Whether the tree answers so what is asked of a path. Here and above the owned values go by a call, so that what drops
-/// each variant of a request or a reply is proved once, and not in each body.
+/// Whether the tree answers so what is asked of a path. Here and above the owned values go by a call, so that what
+/// drops each variant of a request or a reply is proved once, and not in each body.
 fn answers_so(
     rt: &impl Abort,
     alloc: Global,

@@ -1,5 +1,5 @@
-//! Clients in memory: each says its lines one after another, and notes when a line was handed out and when the last byte of
-//! its reply was written. All go on about as fast as each other.
+//! Clients in memory: each says its lines one after another, and notes when a line was handed out and when the last
+//! byte of its reply was written. All go on about as fast as each other.
 
 use eden_host::Accepts;
 use std::alloc::Global;

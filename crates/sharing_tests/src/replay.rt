@@ -171,8 +171,8 @@ fn spans(rt: &impl Abort, alloc: Global, logs: &mut Vec<Log>, history: &[Entry])
     spans
 }
 
-/// No entry's reply was written before an earlier entry's line was handed out. How many entries were asked before the one
-/// in front of them.
+/// No entry's reply was written before an earlier entry's line was handed out. How many entries were asked before the
+/// one in front of them.
 fn check_order(rt: &impl Abort, spans: &[Span]) -> u32 {
     let mut first_told = u64::MAX;
     let mut later_asked = 0;

@@ -11,8 +11,8 @@ fn kind_in(reply: &Option<Reply>) -> Option<Kind> {
     }
 }
 
-/// What stands at a path. None where nothing does that the oracle knows. The request and the reply go by a call, so that
-/// what drops each variant of them is not written out here.
+/// What stands at a path. None where nothing does that the oracle knows. The request and the reply go by a call, so
+/// that what drops each variant of them is not written out here.
 pub fn kind_at(alloc: Global, tree: &mut WholeTree, places: &[u8]) -> Result<Option<Kind>, Unmade> {
     let request = Request::Kind(path_of(alloc, places)?);
     let reply = tree.step(alloc, &request);

@@ -68,7 +68,8 @@ returns-in-Err-settle-clause-leaves g c q adding =
     let v = c.settle.new.inodes in
     let x = c.in-Err-settle.ensures.settles in
     leaves_changed g.W.World g.F.Files q c.args.inodes.now t
-    (adds_keeps g.W.World g.F.Files c.args.path.now q c.args.new adding c.args.inodes.now c.meet.new.inodes c.meet.ensures.keeps) v (Finished (say.Fault c.in-Err-settle.fault)) (λ e is. cc) (λ e is. x.readies.names)
+    (adds_keeps g.W.World g.F.Files c.args.path.now q c.args.new adding c.args.inodes.now c.meet.new.inodes c.meet.ensures.keeps) v (Finished (say.Fault c.in-Err-settle.fault)) (λ e is. cc)
+    (λ e is. x.readies.names)
     (settles_leaves g.W.World g.F.Files t v _ x) (none_given t.next v.next (given q) x.readies.next) (λ no. absurd (no (c.in-Err-settle.fault, refl)))
 
 pub add_entry-requires-clause-lacks : goal.add_entry-requires-clause-lacks

@@ -120,7 +120,8 @@ returns-in-Err-bring_seen-clause-attempts g c =
 
 pub returns-in-Err-bring_seen-clause-leaves : goal.returns-in-Err-bring_seen-clause-leaves
 returns-in-Err-bring_seen-clause-leaves g c =
-    leaves_kept g.W.World g.F.Files (ask.Rmdir c.args.path.now) c.args.inodes.now c.bring_seen.new.inodes (keeps_on g.W.World g.F.Files c.args.inodes.now c.meet.new.inodes c.bring_seen.new.inodes c.meet.ensures.keeps c.bring_seen.ensures.keeps) _
+    leaves_kept g.W.World g.F.Files (ask.Rmdir c.args.path.now) c.args.inodes.now c.bring_seen.new.inodes (keeps_on g.W.World g.F.Files c.args.inodes.now c.meet.new.inodes c.bring_seen.new.inodes
+    c.meet.ensures.keeps c.bring_seen.ensures.keeps) _
 
 -- ---- it has entries
 
@@ -142,7 +143,8 @@ returns-then-not-is_empty-clause-attempts g c =
 
 pub returns-then-not-is_empty-clause-leaves : goal.returns-then-not-is_empty-clause-leaves
 returns-then-not-is_empty-clause-leaves g c =
-    leaves_kept g.W.World g.F.Files (ask.Rmdir c.args.path.now) c.args.inodes.now c.bring_seen.new.inodes (keeps_on g.W.World g.F.Files c.args.inodes.now c.meet.new.inodes c.bring_seen.new.inodes c.meet.ensures.keeps c.bring_seen.ensures.keeps) _
+    leaves_kept g.W.World g.F.Files (ask.Rmdir c.args.path.now) c.args.inodes.now c.bring_seen.new.inodes (keeps_on g.W.World g.F.Files c.args.inodes.now c.meet.new.inodes c.bring_seen.new.inodes
+    c.meet.ensures.keeps c.bring_seen.ensures.keeps) _
 
 -- ---- it is let go of
 

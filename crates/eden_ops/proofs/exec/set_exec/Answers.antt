@@ -122,7 +122,8 @@ returns-in-Err-settle-clause-leaves g c =
     let t = c.meet_file.new.inodes in
     let v = c.settle.new.inodes in
     let x = c.in-Err-settle.ensures.settles in
-    leaves_changed g.W.World g.F.Files (ask.SetExec c.args.path.now c.args.exec) c.args.inodes.now t c.meet_file.ensures.keeps v (Finished (say.Fault c.in-Err-settle.fault)) (λ e is. cc) (λ e is. x.readies.names)
+    leaves_changed g.W.World g.F.Files (ask.SetExec c.args.path.now c.args.exec) c.args.inodes.now t c.meet_file.ensures.keeps v (Finished (say.Fault c.in-Err-settle.fault)) (λ e is. cc)
+    (λ e is. x.readies.names)
     (settles_leaves g.W.World g.F.Files t v _ x) (none_given t.next v.next 0 x.readies.next) (λ no. absurd (no (c.in-Err-settle.fault, refl)))
 
 pub returns-in-Ok-set_kind-clause-attempts : goal.returns-in-Ok-set_kind-clause-attempts
@@ -196,7 +197,8 @@ returns-in-Ok-set_kind-clause-leaves g c =
     let has = has_file p above name v.root seen.row (sym c.as_slice-2.ensures ∙ c.in-Some.ensures.cases.0) still off (plain_other seen.row.kind plain) in
     let root = root_chained above v.root u.root (λ d. changed_listing d name (Some (of_kind c.exec_kind-kind.result seen.row)))
     (loaded_there above v.root has.row has.directory has.at has.holds) (x.ok seen.row has) in
-    let l = leaves_by g.F.Files v u x.atomic.stays root x.atomic.marks (no_less v.next u.next x.next) x.atomic.clock (no_less (g.F.Files.failures v.files) (g.F.Files.failures u.files) x.counted) (places_same v u x.changes x.names) in
+    let l = leaves_by g.F.Files v u x.atomic.stays root x.atomic.marks (no_less v.next u.next x.next) x.atomic.clock (no_less (g.F.Files.failures v.files) (g.F.Files.failures u.files) x.counted)
+    (places_same v u x.changes x.names) in
     let saved = subst (λ (r : Path). IsSavedAbove r v.root) c.as_slice.ensures c.in_default.ensures.saved in
     leaves_changed g.W.World g.F.Files (ask.SetExec p c.args.exec) c.args.inodes.now t c.meet_file.ensures.keeps u (Finished say.Ok) (λ e is. cc) (λ e is. cc)
     (leaves_then g.W.World g.F.Files t v u (settles_leaves g.W.World g.F.Files t v _ st) l)

@@ -41,7 +41,8 @@ pub returns-in-Stat-clause-walked : goal.returns-in-Stat-clause-walked
 returns-in-Stat-clause-walked g c within = subst (λ (q : Request). AreWalked (paths_of q) c.stat.new.inodes.clock c.stat.new.inodes.root) (sym c.in-Stat.is) (c.stat.ensures.walked, tt)
 
 pub returns-in-ReadLink-clause-walked : goal.returns-in-ReadLink-clause-walked
-returns-in-ReadLink-clause-walked g c within = subst (λ (q : Request). AreWalked (paths_of q) c.readlink.new.inodes.clock c.readlink.new.inodes.root) (sym c.in-ReadLink.is) (c.readlink.ensures.walked, tt)
+returns-in-ReadLink-clause-walked g c within = subst (λ (q : Request). AreWalked (paths_of q) c.readlink.new.inodes.clock c.readlink.new.inodes.root) (sym c.in-ReadLink.is)
+    (c.readlink.ensures.walked, tt)
 
 pub returns-in-Read-clause-walked : goal.returns-in-Read-clause-walked
 returns-in-Read-clause-walked g c =

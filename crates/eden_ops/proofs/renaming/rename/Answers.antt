@@ -94,7 +94,8 @@ returns-in-Ok-relocate-clause-attempts g c =
     (sym c.is_root.ensures ∙ c.if-is_root.false)
     (sym c.is_root-else-is_root.ensures ∙ c.if-is_root-2.false) e.meets e.shown e.same e.keeps e.cache c.is_dir-dir.ensures in
     let l = c.in-Ok.ensures in
-    went g.W.World g.F.Files c.args.from.now c.args.to.now s t c.args.cache.now c.meet_first.new.cache c.in-Ok-Some.seen c.is_dir-dir.result began c.in-None.ensures.told c.land.new.inodes c.land.new.cache l.same
+    went g.W.World g.F.Files c.args.from.now c.args.to.now s t c.args.cache.now c.meet_first.new.cache c.in-Ok-Some.seen c.is_dir-dir.result began c.in-None.ensures.told c.land.new.inodes
+    c.land.new.cache l.same
     l.keeps l.cache c.relocate.new.inodes l.shown c.in-Ok-relocate.ensures.relocates.ok
 
 pub returns-in-Err-relocate-clause-attempts : goal.returns-in-Err-relocate-clause-attempts
@@ -107,7 +108,8 @@ returns-in-Err-relocate-clause-attempts g c =
     (sym c.is_root-else-is_root.ensures ∙ c.if-is_root-2.false) e.meets e.shown e.same e.keeps e.cache c.is_dir-dir.ensures in
     let l = c.in-Ok.ensures in
     let x = c.in-Err-relocate.ensures.relocates in
-    stayed g.W.World g.F.Files c.args.from.now c.args.to.now s t c.args.cache.now c.meet_first.new.cache c.in-Ok-Some.seen c.is_dir-dir.result began c.in-None.ensures.told c.land.new.inodes c.land.new.cache
+    stayed g.W.World g.F.Files c.args.from.now c.args.to.now s t c.args.cache.now c.meet_first.new.cache c.in-Ok-Some.seen c.is_dir-dir.result began c.in-None.ensures.told c.land.new.inodes
+    c.land.new.cache
     l.same l.keeps l.cache c.relocate.new.inodes c.in-Err-relocate.fault x.fault x.err
 
 pub returns-then-is_root-clause-leaves : goal.returns-then-is_root-clause-leaves
@@ -127,7 +129,8 @@ returns-in-Some-clause-leaves g c = leaves_kept g.W.World g.F.Files (ask.Rename 
 
 pub returns-in-Err-land-clause-leaves : goal.returns-in-Err-land-clause-leaves
 returns-in-Err-land-clause-leaves g c =
-    leaves_kept g.W.World g.F.Files (ask.Rename c.args.from.now c.args.to.now) c.args.inodes.now c.land.new.inodes (keeps_both g.W.World g.F.Files c.args.from.now c.args.to.now c.args.inodes.now c.meet_first.new.inodes c.land.new.inodes c.meet_first.ensures.keeps c.land.ensures.keeps) _
+    leaves_kept g.W.World g.F.Files (ask.Rename c.args.from.now c.args.to.now) c.args.inodes.now c.land.new.inodes
+    (keeps_both g.W.World g.F.Files c.args.from.now c.args.to.now c.args.inodes.now c.meet_first.new.inodes c.land.new.inodes c.meet_first.ensures.keeps c.land.ensures.keeps) _
 
 pub returns-in-Ok-relocate-clause-leaves : goal.returns-in-Ok-relocate-clause-leaves
 returns-in-Ok-relocate-clause-leaves g c =

@@ -147,10 +147,12 @@ pub returns-in-Err-clause-leaves : goal.returns-in-Err-clause-leaves
 returns-in-Err-clause-leaves g c = leaves_kept g.W.World g.F.Files (ask.Patch c.args.path.now c.args.offset c.args.bytes.now) c.args.inodes.now c.meet_file.new.inodes c.meet_file.ensures.keeps _
 
 pub returns-then-count-eq0-clause-leaves : goal.returns-then-count-eq0-clause-leaves
-returns-then-count-eq0-clause-leaves g c = leaves_kept g.W.World g.F.Files (ask.Patch c.args.path.now c.args.offset c.args.bytes.now) c.args.inodes.now c.meet_file.new.inodes c.meet_file.ensures.keeps _
+returns-then-count-eq0-clause-leaves g c = leaves_kept g.W.World g.F.Files (ask.Patch c.args.path.now c.args.offset c.args.bytes.now) c.args.inodes.now c.meet_file.new.inodes c.meet_file.ensures.keeps
+    _
 
 pub returns-then-offset-count-clause-leaves : goal.returns-then-offset-count-clause-leaves
-returns-then-offset-count-clause-leaves g c = leaves_kept g.W.World g.F.Files (ask.Patch c.args.path.now c.args.offset c.args.bytes.now) c.args.inodes.now c.meet_file.new.inodes c.meet_file.ensures.keeps _
+returns-then-offset-count-clause-leaves g c = leaves_kept g.W.World g.F.Files (ask.Patch c.args.path.now c.args.offset c.args.bytes.now) c.args.inodes.now c.meet_file.new.inodes
+    c.meet_file.ensures.keeps _
 
 pub returns-in-Ok-stored-clause-leaves : goal.returns-in-Ok-stored-clause-leaves
 returns-in-Ok-stored-clause-leaves g c =
@@ -158,7 +160,8 @@ returns-in-Ok-stored-clause-leaves g c =
     let x =
     subst (λ (a : Result (Unit {0}) Fault). Fills g.W.World g.F.Files c.args.path.now r.table c.refill.new.inodes (written c.args.offset c.args.bytes.now r.content) a) c.in-Ok-stored.is r.fills in
     leaves_changed g.W.World g.F.Files (ask.Patch c.args.path.now c.args.offset c.args.bytes.now) c.args.inodes.now r.table
-    (keeps_on g.W.World g.F.Files c.args.inodes.now c.meet_file.new.inodes r.table c.meet_file.ensures.keeps r.asks.keeps) c.refill.new.inodes (Finished (say.Count (length c.args.bytes.now))) (λ e is. cc) (λ e is. cc) r.fills.leaves
+    (keeps_on g.W.World g.F.Files c.args.inodes.now c.meet_file.new.inodes r.table c.meet_file.ensures.keeps r.asks.keeps) c.refill.new.inodes (Finished (say.Count (length c.args.bytes.now)))
+    (λ e is. cc) (λ e is. cc) r.fills.leaves
     (none_given r.table.next c.refill.new.inodes.next 0 r.fills.next) (λ no. (x.saved, tt))
 
 pub returns-in-Err-stored-clause-leaves : goal.returns-in-Err-stored-clause-leaves
@@ -167,7 +170,8 @@ returns-in-Err-stored-clause-leaves g c =
     let x =
     subst (λ (a : Result (Unit {0}) Fault). Fills g.W.World g.F.Files c.args.path.now r.table c.refill.new.inodes (written c.args.offset c.args.bytes.now r.content) a) c.in-Err-stored.is r.fills in
     leaves_changed g.W.World g.F.Files (ask.Patch c.args.path.now c.args.offset c.args.bytes.now) c.args.inodes.now r.table
-    (keeps_on g.W.World g.F.Files c.args.inodes.now c.meet_file.new.inodes r.table c.meet_file.ensures.keeps r.asks.keeps) c.refill.new.inodes (Finished (say.Fault c.in-Err-stored.fault)) (λ e is. cc) (λ e is. x.names) r.fills.leaves
+    (keeps_on g.W.World g.F.Files c.args.inodes.now c.meet_file.new.inodes r.table c.meet_file.ensures.keeps r.asks.keeps) c.refill.new.inodes (Finished (say.Fault c.in-Err-stored.fault)) (λ e is. cc)
+    (λ e is. x.names) r.fills.leaves
     (none_given r.table.next c.refill.new.inodes.next 0 r.fills.next) (λ no. absurd (no (c.in-Err-stored.fault, refl)))
 
 pub returns-then-count-gt-MAX_FILE-clause-leaves : goal.returns-then-count-gt-MAX_FILE-clause-leaves

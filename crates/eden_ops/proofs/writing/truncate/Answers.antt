@@ -159,12 +159,14 @@ returns-then-size-gt-MAX_FILE-clause-leaves g c = leaves_kept g.W.World g.F.File
 
 pub returns-in-Ok-fill-clause-leaves : goal.returns-in-Ok-fill-clause-leaves
 returns-in-Ok-fill-clause-leaves g c =
-    leaves_changed g.W.World g.F.Files (ask.Truncate c.args.path.now c.args.size) c.args.inodes.now c.meet_file.new.inodes c.meet_file.ensures.keeps c.fill.new.inodes (Finished say.Ok) (λ e is. cc) (λ e is. cc) c.fill.ensures.leaves
+    leaves_changed g.W.World g.F.Files (ask.Truncate c.args.path.now c.args.size) c.args.inodes.now c.meet_file.new.inodes c.meet_file.ensures.keeps c.fill.new.inodes (Finished say.Ok) (λ e is. cc)
+    (λ e is. cc) c.fill.ensures.leaves
     (none_given c.meet_file.new.inodes.next c.fill.new.inodes.next 0 c.fill.ensures.next) (λ no. (c.in-Ok-fill.ensures.saved, tt))
 
 pub returns-in-Err-fill-clause-leaves : goal.returns-in-Err-fill-clause-leaves
 returns-in-Err-fill-clause-leaves g c =
-    leaves_changed g.W.World g.F.Files (ask.Truncate c.args.path.now c.args.size) c.args.inodes.now c.meet_file.new.inodes c.meet_file.ensures.keeps c.fill.new.inodes (Finished (say.Fault c.in-Err-fill.fault)) (λ e is. cc) (λ e is. c.in-Err-fill.ensures.names) c.fill.ensures.leaves
+    leaves_changed g.W.World g.F.Files (ask.Truncate c.args.path.now c.args.size) c.args.inodes.now c.meet_file.new.inodes c.meet_file.ensures.keeps c.fill.new.inodes
+    (Finished (say.Fault c.in-Err-fill.fault)) (λ e is. cc) (λ e is. c.in-Err-fill.ensures.names) c.fill.ensures.leaves
     (none_given c.meet_file.new.inodes.next c.fill.new.inodes.next 0 c.fill.ensures.next) (λ no. absurd (no (c.in-Err-fill.fault, refl)))
 
 pub returns-in-Ok-stored-clause-leaves : goal.returns-in-Ok-stored-clause-leaves
@@ -173,7 +175,8 @@ returns-in-Ok-stored-clause-leaves g c =
     let x =
     subst (λ (a : Result (Unit {0}) Fault). Fills g.W.World g.F.Files c.args.path.now r.table c.refill.new.inodes (resized c.args.size r.content) a) c.in-Ok-stored.is r.fills in
     leaves_changed g.W.World g.F.Files (ask.Truncate c.args.path.now c.args.size) c.args.inodes.now r.table
-    (keeps_on g.W.World g.F.Files c.args.inodes.now c.meet_file.new.inodes r.table c.meet_file.ensures.keeps r.asks.keeps) c.refill.new.inodes (Finished say.Ok) (λ e is. cc) (λ e is. cc) r.fills.leaves
+    (keeps_on g.W.World g.F.Files c.args.inodes.now c.meet_file.new.inodes r.table c.meet_file.ensures.keeps r.asks.keeps) c.refill.new.inodes (Finished say.Ok) (λ e is. cc) (λ e is. cc)
+    r.fills.leaves
     (none_given r.table.next c.refill.new.inodes.next 0 r.fills.next) (λ no. (x.saved, tt))
 
 pub returns-in-Err-stored-clause-leaves : goal.returns-in-Err-stored-clause-leaves
@@ -182,7 +185,8 @@ returns-in-Err-stored-clause-leaves g c =
     let x =
     subst (λ (a : Result (Unit {0}) Fault). Fills g.W.World g.F.Files c.args.path.now r.table c.refill.new.inodes (resized c.args.size r.content) a) c.in-Err-stored.is r.fills in
     leaves_changed g.W.World g.F.Files (ask.Truncate c.args.path.now c.args.size) c.args.inodes.now r.table
-    (keeps_on g.W.World g.F.Files c.args.inodes.now c.meet_file.new.inodes r.table c.meet_file.ensures.keeps r.asks.keeps) c.refill.new.inodes (Finished (say.Fault c.in-Err-stored.fault)) (λ e is. cc) (λ e is. x.names) r.fills.leaves
+    (keeps_on g.W.World g.F.Files c.args.inodes.now c.meet_file.new.inodes r.table c.meet_file.ensures.keeps r.asks.keeps) c.refill.new.inodes (Finished (say.Fault c.in-Err-stored.fault)) (λ e is. cc)
+    (λ e is. x.names) r.fills.leaves
     (none_given r.table.next c.refill.new.inodes.next 0 r.fills.next) (λ no. absurd (no (c.in-Err-stored.fault, refl)))
 
 pub returns-in-Err-clause-stamps : goal.returns-in-Err-clause-stamps

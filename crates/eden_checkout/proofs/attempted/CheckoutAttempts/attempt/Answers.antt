@@ -24,7 +24,8 @@ returns-clause-tries g c =
     let k = c.keeps_laws.ensures in
     let n = c.need_laws.ensures in
     subst (λ (u : Checkout _). Tries (attempted g.W.World g.F.Files) g.W.World.honest u c.args.request.now c.attempt_at.result t) c.self.view_is
-    (tries g.W.World g.F.Files k.shown k.entries n.some n.stay s t c.args.request.now c.attempt_at.result (record { attempts = e.attempts; leaves = e.leaves; looks = e.looks; refused = e.refused; root = refl })
+    (tries g.W.World g.F.Files k.shown k.entries n.some n.stay s t c.args.request.now c.attempt_at.result (record
+    { attempts = e.attempts; leaves = e.leaves; looks = e.looks; refused = e.refused; root = refl })
     e.renumbers)
 
 pub attempt_at-requires : goal.attempt_at-requires

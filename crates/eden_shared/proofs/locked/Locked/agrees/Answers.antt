@@ -9,7 +9,8 @@ returns-then-len-count-clause-count g c = as_many g.T.Attempts.table c.self.insi
     (λ l. l.mount.queue.passes) c.self.view_is
 
 pub returns-clause-count : goal.returns-clause-count
-returns-clause-count g c = as_many g.T.Attempts.table c.self.inside.mount c.self.inside.lanes.items g.J.Naming.names c.self.invariant c.holds.ensures.seats ∙ ap (λ l. l.mount.queue.passes) c.self.view_is
+returns-clause-count g c = as_many g.T.Attempts.table c.self.inside.mount c.self.inside.lanes.items g.J.Naming.names c.self.invariant c.holds.ensures.seats ∙ ap (λ l. l.mount.queue.passes)
+    c.self.view_is
 
 pub returns-clause-yes : goal.returns-clause-yes
 returns-clause-yes g c = λ whole.

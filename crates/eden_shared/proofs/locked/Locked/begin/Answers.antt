@@ -6,7 +6,8 @@ use Rattle.eden_shared.proofs.locked.Locked.begin.Goals as goal
 
 pub returns-in-Err-clause-why : goal.returns-in-Err-clause-why
 returns-in-Err-clause-why g c =
-    refusal c.self.inside.mount _ c.self.invariant.terms c.args.number c.args.end.now.value c.requires.lane.0 c.self.invariant.valued c.look.ensures.lane g.T.Attempts.table g.W.World.honest g.W.World.opening g.W.World.numbers
+    refusal c.self.inside.mount _ c.self.invariant.terms c.args.number c.args.end.now.value c.requires.lane.0 c.self.invariant.valued c.look.ensures.lane g.T.Attempts.table g.W.World.honest
+    g.W.World.opening g.W.World.numbers
     c.holds.ensures c.self.invariant.kept c.requires.free c.in-Err.fault c.in-Err.ensures.0
 
 pub invariant_of-self-in-Ok : goal.invariant_of-self-in-Ok

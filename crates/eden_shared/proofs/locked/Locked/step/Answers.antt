@@ -9,8 +9,10 @@ use Rattle.eden_shared.proofs.locked.Locked.step.Goals as goal
 pub returns-in-Done-clause-answers : goal.returns-in-Done-clause-answers
 returns-in-Done-clause-answers g c =
     let m = c.self.inside.mount in let n = c.args.number in let done = c.in-Done.ensures in
-    let pending = answered m _ c.self.invariant.terms n c.args.end.now.value c.requires.0 c.self.invariant.valued c.look.ensures.lane g.T.Attempts.table g.W.World.honest g.H.History.copies c.in-Done.number c.in-Done.reply c.turn.new.self done in
-    let is = grown m _ c.self.invariant.terms n c.args.end.now.value c.requires.0 c.self.invariant.valued c.look.ensures.lane g.T.Attempts.table g.W.World.honest g.H.History.copies c.in-Done.number c.in-Done.reply c.turn.new.self done in
+    let pending = answered m _ c.self.invariant.terms n c.args.end.now.value c.requires.0 c.self.invariant.valued c.look.ensures.lane g.T.Attempts.table g.W.World.honest g.H.History.copies
+    c.in-Done.number c.in-Done.reply c.turn.new.self done in
+    let is = grown m _ c.self.invariant.terms n c.args.end.now.value c.requires.0 c.self.invariant.valued c.look.ensures.lane g.T.Attempts.table g.W.World.honest g.H.History.copies c.in-Done.number
+    c.in-Done.reply c.turn.new.self done in
     let since : done.0.since < c.in-Done.number = (let begun = c.holds.ensures.since n done.0 done.1 in let number = done.2 in omega arith) in
     let N = g.W.World.numbers in
     subst (λ o. IfSome o (AnswersTo g.W.World.honest g.W.World.opening N n (record { number = c.in-Done.number; reply = c.in-Done.reply }))) (sym pending)
