@@ -45,7 +45,7 @@ soak: ## a million random requests: the slow oracle beside the second table of o
 	seq 25 | xargs -P 2 -I SEED tests/commits crates/mountd/out/mountd SEED 40000 -k test_random
 	seq 25 | xargs -P 2 -I SEED tests/git-repositories crates/mountd/out/mountd 4000 SEED -k Damaged
 	tests/long-session crates/mountd/out/mountd 10000000 1000000 600
-	tests/mounted crates/mountd/out/mountd 1 3000000 -k test_long_mount -k test_random_files -k OverMessages -k test_kills_at_work
+	tests/mounted crates/mountd/out/mountd 1 3000000 -k test_long_folder -k test_users -k test_random_files -k OverMessages -k test_kills_at_work
 
 bench: ## times the work that grows with its input, at full size, and writes docs/measured/speed.md
 	@scripts/bench

@@ -125,5 +125,5 @@ DIFFERENCES = [
     Difference(NAMELESS, "names: open O_TMPFILE: .*", A_SUCCESS, "ENOTSUP"),
     Difference(SPECIAL, "names: mkfifo: .*", None, "EPERM"),
     Difference(MORE_NAMES, "names: link .*", None, "EPERM"),
-    Difference(FLAGS, "names: rename RENAME_(NOREPLACE|EXCHANGE): .*", 0, "EINVAL"),
+    Difference(FLAGS, "names: rename RENAME_EXCHANGE: .*", 0, "EINVAL"),
 ]

@@ -1,8 +1,8 @@
 """Shows a commit of a Git repository as a folder, through FUSE, without checking it out.
 
 What is read is fetched when it is first read. What is changed is kept in the overlay, a folder from which the next
-mount goes on; without one, changes are gone with the mount. Ctrl-C, SIGTERM and `fusermount3 -u FOLDER` end it. What a
-killed mount left on the folder is unmounted first.
+mount goes on; without one, changes are gone with the mount. Ctrl-C, SIGTERM, SIGHUP and `fusermount3 -u FOLDER` end
+it. What a killed mount left on the folder is unmounted first.
 
 It needs Debian's package fuse3, and mountd, which `make run` builds.
 """
@@ -318,8 +318,8 @@ def parser() -> argparse.ArgumentParser:
     found.add_argument("--kernel", action="store_true",
                        help="has no effect any more: mountd always speaks the kernel's protocol itself")
     found.add_argument("--threads", metavar="N", type=number_of_threads,
-                       help="how many requests are answered at once; if left out 1, and "
-                            f"{THREADS} where objects may be elsewhere")
+                       help=f"how many requests are answered at once; if left out {THREADS} of a partial clone, "
+                            "with --log and for a path that is no UTF-8, and else 1")
     found.add_argument("--log", action="store_true", help="tell each object that is fetched on standard error")
     return found
 
