@@ -55,8 +55,9 @@ impl<A: Allocator + Clone, W: World, F: Files<W>> Model for Checkout<A, W, F> {
 impl<A: Allocator + Clone, W: World, F: Files<W>> Checkout<A, W, F> {
     /// Opens an overlay over a commit's tree, with a cache in which nothing is yet. Over no files nothing has changed
     /// since the commit; else they are those that a checkout of the same commit was closed to, and the state among them
-    /// is removed as the last act. An own content stays in memory if it has at most as many bytes as the cache may
-    /// hold.
+    /// is removed as the last act. The own file that was read or changed last stays in memory, whatever its length, as
+    /// the object does that came last; one of over 8 MiB that was written whole does once it is read. So a file that is
+    /// read in pieces is read from the files once.
     ///
     /// Errors: `NotClean` where there are files and no state, `OtherRoot`, `Damaged` of the state alone, `Device` and
     /// `Memory`. The files come back as they were.
@@ -124,9 +125,6 @@ impl<A: Allocator + Clone, W: World, F: Files<W>> Checkout<A, W, F> {
     }
 
     /// Opens an overlay over a commit's tree as `open` does, or as `open_rescan` does, with its errors.
-    ///
-    /// The own file that was read or changed last stays in memory, whatever its length, as the object does that came
-    /// last: so one that is read in pieces is read from the files once.
     pub fn open_by(
         alloc: Global,
         dirs: A,
