@@ -129,8 +129,8 @@ impl<J: Naming> Recording<J> {
         Ok(())
     }
 
-    /// As `Pass::call`, and what it was told lies here from then on. Where there is no memory to keep it, the request
-    /// isn't asked, and the fault says so.
+    /// As `Pass::call`, and what it was told lies here from then on. After a fault, as for want of memory to keep it,
+    /// there is no more here than before.
     pub fn call<W: World, T: Attempts<W> + Drop, A: Allocator, H: History, R: Wait>(
         &mut self,
         shared: &Shared<W, T, A, J, H>,
