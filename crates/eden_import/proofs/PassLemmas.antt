@@ -6,7 +6,8 @@ use Rattle.std.proofs.lemmas.Bool.{eq-eqb}
 use Rattle.eden_model.specs.declared.id.Key.{Key}
 use Rattle.eden_model.specs.Keys.{same_key}
 use Rattle.eden_import.specs.Keys.{has_key, without}
-use Rattle.eden_import.specs.Queue.{Queue, Mark, IsQueue, IsPass, WantsNoOther, want_of, mark_of, stands, is_wanted, wants_key, unqueue_unwanted, after_want, after_leave, after_leave_own, after_await, after_quit}
+use Rattle.eden_import.specs.Queue.{Queue, Mark, IsQueue, IsPass, WantsNoOther, want_of, mark_of, stands, is_wanted, wants_key, unqueue_unwanted, after_want, after_leave, after_leave_own, after_await}
+use Rattle.eden_import.specs.Queue.{after_quit}
 use Rattle.eden_import.specs.Laws.{OneAwaits, OneQuits, KeepsFlight, ForgettingKeeps}
 use Rattle.eden_import.proofs.KeyLemmas.{same_key-equiv, same_key-refl, has_key-without}
 use Rattle.eden_import.proofs.StepLemmas.{leave_wanted, leave_dropped}

@@ -1,5 +1,6 @@
 -- Each step keeps what every queue keeps.
-use Rattle.std.proofs.Common.{◌≡◌, ◌≤◌, ◌<◌, ◌-◌, ℕ, zero, suc, Bool, true, false, not, ◌&&◌, ◌||◌, cond, List, [], ◌∷◌, ◌++◌, length, replicate, Option, Some, None, nat_lt, slice_get, length-append, append_assoc, ltb-true, lt-ltb, refl, sym, ap, ◌∙◌, subst, ⊎_elim, arith}
+use Rattle.std.proofs.Common.{◌≡◌, ◌≤◌, ◌<◌, ◌-◌, ℕ, zero, suc, Bool, true, false, not, ◌&&◌, ◌||◌, cond, List, [], ◌∷◌, ◌++◌, length, replicate, Option, Some, None, nat_lt, slice_get, length-append}
+use Rattle.std.proofs.Common.{append_assoc, ltb-true, lt-ltb, refl, sym, ap, ◌∙◌, subst, ⊎_elim, arith}
 use Rattle.std.proofs.Math.ListN.{set, length-set}
 use Rattle.std.specs.List.{IsDistinct}
 use Rattle.std.specs.Option.{IfSome}
@@ -8,7 +9,8 @@ use Rattle.std.proofs.lemmas.Map.Keys.{IsDistinct-push, IsDistinct-tail}
 use Rattle.eden_model.specs.declared.id.Key.{Key}
 use Rattle.eden_model.specs.Keys.{same_key}
 use Rattle.eden_import.specs.Keys.{has_key, without}
-use Rattle.eden_import.specs.Queue.{Queue, Mark, IsQueue, IsPassCount, IsFlightCount, IsPass, WantsNoOther, want_of, stands, wants_key, is_wanted, empty, after_want, unqueue_unwanted, after_take, end_wants, after_done}
+use Rattle.eden_import.specs.Queue.{Queue, Mark, IsQueue, IsPassCount, IsFlightCount, IsPass, WantsNoOther, want_of, stands, wants_key, is_wanted, empty, after_want, unqueue_unwanted, after_take}
+use Rattle.eden_import.specs.Queue.{end_wants, after_done}
 use Rattle.eden_model.proofs.CallerLemmas.{same_key-Decides}
 use Rattle.eden_import.proofs.KeyLemmas.{same_key-equiv, has_key-append, has_key-without, without_absent, length-without-le, apart, distinct_without_left, distinct_without_right}
 use Rattle.eden_import.proofs.WantLemmas.{is_wanted-set_some, is_wanted-set_none, is_wanted-set_none_le, is_wanted-end_wants, length-end_wants, length-le_from_wanted}

@@ -1,7 +1,9 @@
 ghost use Rattle.std.specs.Prelude.{◌≡◌, ◌↔◌, IsTrue, IfOk, if◌then◌else◌, replicate, None};
 ghost use Rattle.eden_import.specs.Keys.{has_key};
-ghost use Rattle.eden_import.specs.Queue.{Queue, IsQueue, IsPassCount, IsFlightCount, IsPass, WantsNoOther, want_of, mark_of, stands, next_key};
-ghost use Rattle.eden_import.specs.Queue.{empty, after_want, after_leave, after_leave_own, after_await, after_quit, after_take, after_done, after_failed, after_failure};
+ghost use Rattle.eden_import.specs.Queue.{Queue, IsQueue, IsPassCount, IsFlightCount, IsPass, WantsNoOther, want_of};
+ghost use Rattle.eden_import.specs.Queue.{mark_of, stands, next_key};
+ghost use Rattle.eden_import.specs.Queue.{empty, after_want, after_leave, after_leave_own, after_await, after_quit};
+ghost use Rattle.eden_import.specs.Queue.{after_take, after_done, after_failed, after_failure};
 ghost use Rattle.eden_import.specs.declared.imports.Wanted.{Wanted};
 
 use crate::keys::{drop_key, end_wants, is_for, is_wanted, put_marks, unqueue};

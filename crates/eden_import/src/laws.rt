@@ -1,9 +1,10 @@
 ghost use Rattle.eden_import.specs.Laws.{HasIsContains, EachStandsOnce, FewAreQueued, QueuedAreWanted, WantedStand};
-ghost use Rattle.eden_import.specs.Laws.{OneWants, OneLeaves, OneAwaits, OneQuits, AllAreMet, WantersAreMarked, OneForgets, MarksStay, WantsStay};
+ghost use Rattle.eden_import.specs.Laws.{OneWants, OneLeaves, OneAwaits, OneQuits, AllAreMet, WantersAreMarked};
+ghost use Rattle.eden_import.specs.Laws.{OneForgets, MarksStay, WantsStay};
 ghost use Rattle.eden_import.specs.Laws.{OneIsTaken, OneLands, PassesKeepFlight, ForgettingKeeps};
 
-/// What follows from the queue's definitions: what every queue keeps, and what each call does to the want and the mark of
-/// each pass and to the flight.
+/// What follows from the queue's definitions: what every queue keeps, and what each call does to the want and the mark
+/// of each pass and to the flight.
 pub fn queue_laws()
     ensures has { HasIsContains }
 

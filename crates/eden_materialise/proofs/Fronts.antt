@@ -84,7 +84,8 @@ idle_here honest F x d holds here = record {
 -- what a table allows
 pub can_save : (honest : Type 0) (R : Repository) (F : Stored) (x : Row) (next : ℕ) (p : Path) → IsTable x next → (honest → IsKept R F x next) → CanSave honest p F x
 can_save honest R F x next p table kept y d at holds unsaved =
-    let stored = λ (h : honest). saves_kept honest R F x next p _ _ h table (kept h) (record { row = y; directory = d; at = at; holds = holds; unsaved = unsaved; stored = λ u. refl; then = refl }) in (
+    let stored = λ (h : honest). saves_kept honest R F x next p _ _ h table (kept h)
+    (record { row = y; directory = d; at = at; holds = holds; unsaved = unsaved; stored = λ u. refl; then = refl }) in (
       table.listed y d (place_at p x y at) holds,
       λ h. (let k = stored h in ties_sound _ k.full _ next k.ties),
     )

@@ -1,5 +1,6 @@
 -- What each change does, path by path.
-use Rattle.std.proofs.Common.{◌≡◌, ◌≢◌, ◌⊎◌, ℕ, List, [], ◌∷◌, ◌++◌, length, take, drop, sym, refl, ◌∙◌, ap, subst, inl, inr, Option, Some, None, Bool, true, false, cond, eqb, nat_lt, append_assoc, replicate, ◌-◌, arith, length-append}
+use Rattle.std.proofs.Common.{◌≡◌, ◌≢◌, ◌⊎◌, ℕ, List, [], ◌∷◌, ◌++◌, length, take, drop, sym, refl, ◌∙◌, ap, subst, inl, inr, Option, Some, None, Bool, true, false, cond, eqb, nat_lt, append_assoc}
+use Rattle.std.proofs.Common.{replicate, ◌-◌, arith, length-append}
 use Rattle.std.specs.Prelude.{◌||◌, ◌&&◌, ◌↔◌, ◌≤◌}
 use Rattle.std.specs.Str.{bytes_eq}
 use Rattle.std.specs.Option.{is_some, option_map}
@@ -20,7 +21,8 @@ use Rattle.eden_model.specs.Requests.{paths_of}
 use Rattle.eden_model.specs.Operations.{edit, with_content, Replies, Writes, Puts}
 use Rattle.eden_model.specs.Operations.{put, done, after, move, is_front, is_dir, written, resized, Moves, Meets, Says, Refuses, Whether, Unless, Into, At, Reads, Replaces}
 use Rattle.eden_model.specs.ChangeLaws.{Putting, PutSets, PatchIsWrite, PutReadsBack}
-use Rattle.eden_model.specs.ChangeLaws.{OthersStay, TruncateSets, TruncateEmpties, SetExecSets, CreateAdds, MkdirAdds, SymlinkAdds, UnlinkTakesAway, RmdirTakesAway, RenameMoves, RenameLeavesNothing, RenameKeeps}
+use Rattle.eden_model.specs.ChangeLaws.{OthersStay, TruncateSets, TruncateEmpties, SetExecSets, CreateAdds, MkdirAdds, SymlinkAdds, UnlinkTakesAway, RmdirTakesAway, RenameMoves, RenameLeavesNothing}
+use Rattle.eden_model.specs.ChangeLaws.{RenameKeeps}
 use Rattle.eden_model.proofs.AfterTrees.{passed, met_here, else_of, here_of, lands}
 use Rattle.eden_model.proofs.Behinds.{behind_sound}
 use Rattle.eden_model.proofs.Maps.{put_here, other_by, put_there, moved_here, moved_apart, absent_of, kept_beside}

@@ -1,5 +1,6 @@
 -- The bytes of a content that is written or resized.
-use Rattle.std.proofs.Common.{◌≡◌, ◌<◌, ◌≤◌, ◌+◌, ◌-◌, ◌⊎◌, ℕ, max, List, [], ◌∷◌, ◌++◌, length, take, drop, get_or, replicate, nat_lt, sym, refl, ◌∙◌, ap, inl, inr, append_assoc, arith, length-append, length-drop}
+use Rattle.std.proofs.Common.{◌≡◌, ◌<◌, ◌≤◌, ◌+◌, ◌-◌, ◌⊎◌, ℕ, max, List, [], ◌∷◌, ◌++◌, length, take, drop, get_or, replicate, nat_lt, sym, refl, ◌∙◌, ap, inl, inr, append_assoc, arith}
+use Rattle.std.proofs.Common.{length-append, length-drop}
 use Rattle.std.proofs.lemmas.Bool.{cases_Bool, ltb-true, ltb-false}
 use Rattle.std.proofs.lemmas.List.{length-take, length-replicate, get_or_append_left, get_or-append_right, get_or-take, get_or-drop, get_or_past, get_or-replicate}
 use Rattle.eden_model.specs.Operations.{resized}

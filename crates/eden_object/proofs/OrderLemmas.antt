@@ -1,6 +1,8 @@
 -- Lemmas on Git's order of entries.
-use Rattle.std.proofs.Common.{Bool, true, false, None, replicate, set, take, slice_index_or, length-set, ◌≡◌, ◌≢◌, ℕ, ◌<◌, ◌≤◌, List, [], ◌∷◌, length, slice_index, sym, ap, ◌∙◌, subst, arith, ◌⊎◌, inl, inr, refl, zero, suc, ◌++◌, ◌-◌}
-use Rattle.std.proofs.lemmas.List.{get_or-append_right, get_or_append_left, get_or-set_other, get_or-set_same, get_or-take, get_or-replicate, get_or_past, length-replicate, length-take-le, take_all, ext_get_or}
+use Rattle.std.proofs.Common.{Bool, true, false, None, replicate, set, take, slice_index_or, length-set, ◌≡◌, ◌≢◌, ℕ, ◌<◌, ◌≤◌, List, [], ◌∷◌, length, slice_index, sym, ap, ◌∙◌, subst, arith, ◌⊎◌}
+use Rattle.std.proofs.Common.{inl, inr, refl, zero, suc, ◌++◌, ◌-◌}
+use Rattle.std.proofs.lemmas.List.{get_or-append_right, get_or_append_left, get_or-set_other, get_or-set_same, get_or-take, get_or-replicate, get_or_past, length-replicate, length-take-le, take_all}
+use Rattle.std.proofs.lemmas.List.{ext_get_or}
 use Rattle.std.proofs.lemmas.Bool.{cases_order, cases_lt}
 use Rattle.eden_model.specs.declared.tree_entry.TreeEntry.{TreeEntry}
 use Rattle.eden_object.specs.Order.{key_of, key_end, IsBelow, IsOrdered}

@@ -20,8 +20,8 @@ fn is_body(room: Option<Global>, kind: ObjKind, body: &[u8]) -> bool
     }
 }
 
-/// The body of the object, or the first test of `check` that the bytes fail. With room the names of a tree that isn't in
-/// Git's order are sorted.
+/// The body of the object, or the first test of `check` that the bytes fail. With room the names of a tree that isn't
+/// in Git's order are sorted.
 pub(crate) fn body_of(
     room: Option<Global>,
     id: Id,

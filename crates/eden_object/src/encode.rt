@@ -106,8 +106,8 @@ pub fn encode_blob(alloc: Global, content: &[u8]) -> Result<Vec<u8>, AllocError>
     framed(alloc, Word::Blob, content)
 }
 
-/// Whether the entries are a tree that can be written: their names differ, and its body has at most 2^30 bytes. The only
-/// error is want of memory.
+/// Whether the entries are a tree that can be written: their names differ, and its body has at most 2^30 bytes. The
+/// only error is want of memory.
 pub fn is_encodable(alloc: Global, entries: &[TreeEntry]) -> Result<bool, AllocError>
     ensures { IfOk result (λ is. IsTrue is ↔ (NamesDiffer entries.now × (length (tree_text entries.now) ≤ 2 ^ 30))) }
 {
@@ -124,8 +124,9 @@ pub fn is_encodable(alloc: Global, entries: &[TreeEntry]) -> Result<bool, AllocE
     Ok(differ_sorted(names))
 }
 
-/// The framed tree of the entries, whose id `id_of` tells. They are written in Git's order: by the bytes of their names,
-/// a directory's name as if it ended with `/`. `is_encodable` tells what it takes. The only error is want of memory.
+/// The framed tree of the entries, whose id `id_of` tells. They are written in Git's order: by the bytes of their
+/// names, a directory's name as if it ended with `/`. `is_encodable` tells what it takes. The only error is want of
+/// memory.
 pub fn encode_tree(alloc: Global, entries: &[TreeEntry]) -> Result<Vec<u8>, AllocError>
     requires differ { NamesDiffer entries.now }
     requires short { length (tree_text entries.now) ≤ 2 ^ 30 }

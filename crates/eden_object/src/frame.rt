@@ -1,5 +1,6 @@
 // Framed objects: the digest, the header and the body.
-ghost use Rattle.std.specs.Prelude.{◌≡◌, ◌≢◌, ◌^◌, ◌<◌, ◌≤◌, ◌↔◌, ℕ, List, length, MatchOption, IfSome, IfNone, IsTrue, decimal};
+ghost use Rattle.std.specs.Prelude.{◌≡◌, ◌≢◌, ◌^◌, ◌<◌, ◌≤◌, ◌↔◌, ℕ, List, length, MatchOption, IfSome, IfNone, IsTrue};
+ghost use Rattle.std.specs.Prelude.{decimal};
 ghost use Rattle.sha1.specs.Sha1.{sha1};
 ghost use Rattle.eden_object.specs.declared.word.Word.{Word};
 ghost use Rattle.eden_object.specs.declared.word.Word.TheVariants as word;

@@ -1,5 +1,6 @@
 // The order in which Git writes the entries of a tree.
-ghost use Rattle.std.specs.Prelude.{◌≡◌, ◌≢◌, ◌↔◌, List, ℕ, ◌<◌, ◌≤◌, false, true, length, slice_index, slice_index_or, IsTrue, IfSome, IfNone};
+ghost use Rattle.std.specs.Prelude.{◌≡◌, ◌≢◌, ◌↔◌, List, ℕ, ◌<◌, ◌≤◌, false, true, length, slice_index, slice_index_or};
+ghost use Rattle.std.specs.Prelude.{IsTrue, IfSome, IfNone};
 ghost use Rattle.std.specs.Cmp.Lexicographic.{slice_cmp};
 ghost use Rattle.std.specs.Ordering.{nat_cmp};
 ghost use Rattle.eden_model.specs.declared.tree_entry.TreeEntry.{TreeEntry};
@@ -70,8 +71,8 @@ fn mark_fronts(fronts: &mut [bool], shared: usize, last: usize, own: usize)
 
 /// Whether the body is a tree's, where its entries stand in Git's order; `None` where they don't.
 ///
-/// In that order a name comes again only behind names that begin with it. So it is enough to know of which earlier names
-/// the last one begins with, and their lengths tell them.
+/// In that order a name comes again only behind names that begin with it. So it is enough to know of which earlier
+/// names the last one begins with, and their lengths tell them.
 pub(crate) fn is_tree_in_order(body: &[u8]) -> Option<bool>
     ensures found { IfSome result (λ is. IsTrue is ↔ ((es : List TreeEntry) × IsTreeBody es body.now)) }
     ensures none { IfNone result ((es : List TreeEntry) → AreEntries es body.now → IsOrdered es → ⊥) }

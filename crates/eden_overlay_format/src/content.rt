@@ -57,8 +57,8 @@ pub fn decode_file(bytes: &[u8]) -> Result<&[u8], Refusal>
     Ok(content)
 }
 
-/// The length of the content that a file with that head stores, or the first refusal. The body is neither read nor needed:
-/// whether it has the digest that its header says is for `decode_file` to tell.
+/// The length of the content that a file with that head stores, or the first refusal. The body is neither read nor
+/// needed: whether it has the digest that its header says is for `decode_file` to tell.
 #[tactic(auto, unfolding(crate::specs::Content::content_length))]
 pub fn content_len(head: &Head) -> Result<u64, Refusal>
     ensures { result ≡ content_length head.now.first head.now.len }

@@ -1,7 +1,8 @@
 //! The fields of a body, each with the bytes behind it. What can't be read is `BadBody`.
 
 ghost use Rattle.std.specs.Int.{w32, w64};
-ghost use Rattle.eden_overlay_format.specs.Reading.{Reaches, Gives, byte_at, bytes_at, number_at, kind_at, entry_number_at, origin_at, name_at, row_at};
+ghost use Rattle.eden_overlay_format.specs.Reading.{Reaches, Gives, byte_at, bytes_at, number_at, kind_at};
+ghost use Rattle.eden_overlay_format.specs.Reading.{entry_number_at, origin_at, name_at, row_at};
 
 use crate::refusal::{DecodeFault, Refusal};
 use crate::stored_entry::StoredEntry;

@@ -2,7 +2,8 @@
 
 ghost use Rattle.std.specs.Prelude.{◌≡◌, ◌≤◌, ◌<◌, ◌+◌, Some, None, length, drop, replicate, IfOk, OnErr, MatchResult};
 ghost use Rattle.std.specs.Vec.{vec_capacity};
-ghost use Rattle.eden_overlay_format.specs.Stored.{body_in, digest_refusal, head_refusal, header, header_refusal, identifier_bytes, version_refusal, written};
+ghost use Rattle.eden_overlay_format.specs.Stored.{body_in, digest_refusal, head_refusal, header, header_refusal};
+ghost use Rattle.eden_overlay_format.specs.Stored.{identifier_bytes, version_refusal, written};
 
 use crate::refusal::Refusal;
 use sha1::Sha1;

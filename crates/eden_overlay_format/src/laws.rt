@@ -1,7 +1,8 @@
-ghost use Rattle.eden_overlay_format.specs.Laws.{ContentsFound, StatesFound, EntriesFound, NumbersFound, WrittenFound, OneIdentifier, LengthsTold, LengthsFound, LengthsRefused};
+ghost use Rattle.eden_overlay_format.specs.Laws.{ContentsFound, StatesFound, EntriesFound, NumbersFound, WrittenFound};
+ghost use Rattle.eden_overlay_format.specs.Laws.{OneIdentifier, LengthsTold, LengthsFound, LengthsRefused};
 
-/// The laws of the grammars: what is read is what the grammars say, what is written is read again, no bytes are read under
-/// two identifiers, and the length that a file's head tells is its content's.
+/// The laws of the grammars: what is read is what the grammars say, what is written is read again, no bytes are read
+/// under two identifiers, and the length that a file's head tells is its content's.
 pub fn format_laws()
     ensures contents { ContentsFound }
     ensures states { StatesFound }

@@ -4,7 +4,8 @@ use Rattle.std.specs.Option.{option_map, option_and_then}
 use Rattle.eden_model.specs.declared.kind.Kind.{Kind}
 use Rattle.eden_model.specs.declared.kind.Origin.{Origin}
 use Rattle.eden_model.specs.Trees.{Name}
-use Rattle.eden_tree.specs.Directory.{Child, unloaded, loaded, Rows, end, row, Row, Directory, rows_of, listed, directory_in, child_from, child_of, with_child, child_size, rows_size, row_size, directory_size}
+use Rattle.eden_tree.specs.Directory.{Child, unloaded, loaded, Rows, end, row, Row, Directory, rows_of, listed, directory_in, child_from, child_of, with_child, child_size, rows_size, row_size}
+use Rattle.eden_tree.specs.Directory.{directory_size}
 use Rattle.eden_tree.specs.Seen.{row_from}
 
 pub listed-rows_of : (es : List (Name × Row)) → listed (rows_of es) ≡ es

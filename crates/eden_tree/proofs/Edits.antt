@@ -7,7 +7,8 @@ use Rattle.eden_model.specs.Paths.{behind_of}
 use Rattle.eden_tree.specs.Directory.{Row, Directory, child_of, with_child, change_child, change_rows}
 use Rattle.eden_tree.specs.Rows.{find_row, put_row, drop_row, change_row, set_row}
 use Rattle.eden_tree.specs.Paths.{row_at, edit_row, stamped_along, Standing, standing, standing_at, stamped}
-use Rattle.eden_tree.specs.Laws.{PutsOne, DropsOne, ChangesOne, ReadsOn, EditsOn, EditsThere, EditsNotBeside, EditsOne, EditsNothing, EditsSame, EditsAlike, EditsTwice, PutsAt, DropsAt, StampsAlong, HoldsWhatWasPut, PutsBackChild, StepsDown, StepsBack}
+use Rattle.eden_tree.specs.Laws.{PutsOne, DropsOne, ChangesOne, ReadsOn, EditsOn, EditsThere, EditsNotBeside, EditsOne, EditsNothing, EditsSame, EditsAlike, EditsTwice, PutsAt, DropsAt, StampsAlong}
+use Rattle.eden_tree.specs.Laws.{HoldsWhatWasPut, PutsBackChild, StepsDown, StepsBack}
 use Rattle.eden_tree.proofs.NameOrder.{same-≡, same-refl, same-both}
 use Rattle.eden_tree.proofs.RowLemmas.{set_row-same, change_row-found, change_row-absent}
 use Rattle.eden_tree.proofs.Lookups.{find_row-put_row, find_row-drop_row, find_row-change_row, change_row-twice}

@@ -1,6 +1,8 @@
-ghost use Rattle.eden_tree.specs.Laws.{PutsOne, DropsOne, ChangesOne, ReadsOn, EditsOn, EditsThere, EditsNotBeside, EditsOne, EditsNothing, EditsSame, EditsTwice};
+ghost use Rattle.eden_tree.specs.Laws.{PutsOne, DropsOne, ChangesOne, ReadsOn, EditsOn, EditsThere, EditsNotBeside};
+ghost use Rattle.eden_tree.specs.Laws.{EditsOne, EditsNothing, EditsSame, EditsTwice};
 ghost use Rattle.eden_tree.specs.Laws.{PutsUndone, DropsUndone, SetsUndone, Splits, PutsBetween, EditsAlike};
-ghost use Rattle.eden_tree.specs.Laws.{PutsAt, DropsAt, StampsAlong, HoldsWhatWasPut, PutsBackChild, StepsDown, StepsBack};
+ghost use Rattle.eden_tree.specs.Laws.{PutsAt, DropsAt, StampsAlong, HoldsWhatWasPut, PutsBackChild, StepsDown};
+ghost use Rattle.eden_tree.specs.Laws.{StepsBack};
 
 /// What the equations of a directory's calls say path by path: one entry changes, and every other path is as before.
 ///

@@ -1,5 +1,6 @@
 -- Lemmas on the fields of a line: they hold no space, so that a text spells them in one way.
-use Rattle.std.proofs.Common.{◌≡◌, ◌≢◌, ℕ, ◌<◌, ◌^◌, List, [], ◌∷◌, ◌++◌, append-nil, length, Bool, true, false, cond, Option, Some, None, codes, decimal, get_or, take, drop, ◌-◌, ◌≤◌, MatchOption, Result, Ok, Err, IfOk, sym, ap, ◌∙◌, subst, refl, arith}
+use Rattle.std.proofs.Common.{◌≡◌, ◌≢◌, ℕ, ◌<◌, ◌^◌, List, [], ◌∷◌, ◌++◌, append-nil, length, Bool, true, false, cond, Option, Some, None, codes, decimal, get_or, take, drop, ◌-◌, ◌≤◌, MatchOption}
+use Rattle.std.proofs.Common.{Result, Ok, Err, IfOk, sym, ap, ◌∙◌, subst, refl, arith}
 use Rattle.std.proofs.lemmas.Bool.{false≢true}
 use Rattle.std.specs.List.{flat_map}
 use Rattle.std.proofs.lemmas.List.{take_all}

@@ -1,5 +1,6 @@
 -- Lemmas on bytes that are cut at a mark.
-use Rattle.std.proofs.Common.{inl, inr, ◌≡◌, ◌≢◌, ℕ, ◌+◌, ◌<◌, ◌≤◌, List, [], ◌∷◌, ◌++◌, true, take, drop, length, suc, sym, ap, ◌∙◌, subst, append_assoc, take-append-drop, get_or, get_or-take, length-take-le, length-drop, drop-cons, arith}
+use Rattle.std.proofs.Common.{inl, inr, ◌≡◌, ◌≢◌, ℕ, ◌+◌, ◌<◌, ◌≤◌, List, [], ◌∷◌, ◌++◌, true, take, drop, length, suc, sym, ap, ◌∙◌, subst, append_assoc, take-append-drop, get_or, get_or-take}
+use Rattle.std.proofs.Common.{length-take-le, length-drop, drop-cons, arith}
 use Rattle.std.proofs.Math.Seq.{drop-length, take-add}
 use Rattle.std.proofs.lemmas.Bool.{false≢true, and_parts, eq-eqb, eqb-true, cases_lt}
 use Rattle.std.specs.List.{list_all}

@@ -1,8 +1,9 @@
 //! The line protocol of a mount: requests come in as lines, and the texts of their answers go out.
 //!
-//! A request has one spelling. A line that isn't a request is answered `err 71 EPROTO` and ends the session; a line whose
-//! names aren't names is refused without asking the mount. What a reader and a writer report of their failures is not
-//! told further: a session ends with `Read`, `Write` or `Memory`. Nothing here knows what a mount is: it is a `Service`.
+//! A request has one spelling. A line that isn't a request is answered `err 71 EPROTO` and ends the session; a line
+//! whose names aren't names is refused without asking the mount. What a reader and a writer report of their failures is
+//! not told further: a session ends with `Read`, `Write` or `Memory`. Nothing here knows what a mount is: it is a
+//! `Service`.
 #![tactic(auto)]
 
 mod escape;

@@ -4,7 +4,10 @@ ghost use Rattle.std.specs.List.{flat_map};
 ghost use Rattle.hex.specs.Hex.{encode_lower};
 ghost use Rattle.eden_wire.specs.Writing.{Writes, Grows};
 ghost use Rattle.eden_wire.specs.Names.{name_text};
-ghost use Rattle.eden_wire.specs.Replies.{kind_word, data_field, entry_text, more_word, line_feed, kind_text, stat_text, count_text, data_text, entries_text, error_text, cause_word, fetch_text, fault_text, call_fault_text, history_text, foreign_text, start_fault_text, reply_text};
+ghost use Rattle.eden_wire.specs.Replies.{kind_word, data_field, entry_text, more_word, line_feed, kind_text};
+ghost use Rattle.eden_wire.specs.Replies.{stat_text, count_text, data_text, entries_text, error_text, cause_word};
+ghost use Rattle.eden_wire.specs.Replies.{fetch_text, fault_text, call_fault_text, history_text, foreign_text};
+ghost use Rattle.eden_wire.specs.Replies.{start_fault_text, reply_text};
 
 use crate::escape::plain_len;
 use crate::hex_text::encode;

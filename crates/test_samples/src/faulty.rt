@@ -137,7 +137,8 @@ impl<'a, R: Files> Files for FaultySystem<'a, R> {
         self.files.remove_dir_all(alloc, path)
     }
 
-    // No test calls what follows. It is passed on, since the trait's own bodies, which refuse, take longer to prove here.
+    // No test calls what follows. It is passed on, since the trait's own bodies, which refuse, take longer to prove
+    // here.
     fn canonicalize<B: Allocator>(&self, alloc: B, path: &str) -> io::Result<PathBuf<B>> {
         self.files.canonicalize(alloc, path)
     }

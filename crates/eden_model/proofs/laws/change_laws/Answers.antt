@@ -2,7 +2,8 @@ use Rattle.std.specs.Prelude.{refl}
 use Rattle.eden_model.specs.Limits.{most_data, most_file}
 use Rattle.eden_model.specs.ChangeLaws.{writes, patches}
 use Rattle.eden_model.proofs.Pieces.{data_is_written, old_bytes_stay, written_length, resized_bytes, resized_length}
-use Rattle.eden_model.proofs.PathLaws.{others_stay, put_sets, patch_is_write, truncate_sets, truncate_empties, set_exec_sets, create_adds, mkdir_adds, symlink_adds, unlink_takes_away, rmdir_takes_away, rename_moves, rename_leaves_nothing, rename_keeps, put_reads_back}
+use Rattle.eden_model.proofs.PathLaws.{others_stay, put_sets, patch_is_write, truncate_sets, truncate_empties, set_exec_sets, create_adds, mkdir_adds, symlink_adds, unlink_takes_away}
+use Rattle.eden_model.proofs.PathLaws.{rmdir_takes_away, rename_moves, rename_leaves_nothing, rename_keeps, put_reads_back}
 use Rattle.eden_model.proofs.laws.change_laws.Goals as goal
 
 pub returns : goal.returns

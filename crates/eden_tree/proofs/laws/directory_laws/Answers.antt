@@ -1,4 +1,5 @@
-use Rattle.eden_tree.proofs.Edits.{puts_one, drops_one, changes_one, reads_on, edits_on, edits_there, edits_not_beside, edits_one, edits_nothing, edits_same, edits_alike, edits_twice, puts_at, drops_at, stamps_along, holds_what_was_put, puts_back_child, steps_down, steps_back}
+use Rattle.eden_tree.proofs.Edits.{puts_one, drops_one, changes_one, reads_on, edits_on, edits_there, edits_not_beside, edits_one, edits_nothing, edits_same, edits_alike, edits_twice, puts_at}
+use Rattle.eden_tree.proofs.Edits.{drops_at, stamps_along, holds_what_was_put, puts_back_child, steps_down, steps_back}
 use Rattle.eden_tree.proofs.Lookups.{puts_undone, drops_undone, sets_undone}
 use Rattle.eden_tree.proofs.Positions.{splits, puts_between}
 use Rattle.eden_tree.proofs.laws.directory_laws.Goals as goal

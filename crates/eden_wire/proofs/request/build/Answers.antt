@@ -1,7 +1,8 @@
 use Rattle.eden_wire.specs.Fields.Field.{of_path, of_number, of_bit, of_data, of_after}
 use Rattle.eden_wire.proofs.RequestLemmas.{next, one_field, two_fields, three_fields}
 use Rattle.eden_wire.proofs.request.build.Goals as goal
-use Rattle.eden_wire.proofs.request.build.Goals.{in-Kind, in-Stat, in-Read, in-ReadLink, in-List+in_ok-after-in-List, in-Write+in_ok-data-in-Write, in-Truncate, in-Create, in-SetExec, in-Mkdir, in-Symlink+in_ok-data-in-Symlink, in-Unlink, in-Rmdir, in-Rename+in_ok-path-in-Rename}
+use Rattle.eden_wire.proofs.request.build.Goals.{in-Kind, in-Stat, in-Read, in-ReadLink, in-List+in_ok-after-in-List, in-Write+in_ok-data-in-Write, in-Truncate, in-Create, in-SetExec, in-Mkdir}
+use Rattle.eden_wire.proofs.request.build.Goals.{in-Symlink+in_ok-data-in-Symlink, in-Unlink, in-Rmdir, in-Rename+in_ok-path-in-Rename}
 
 pub first_path-requires : goal.first_path-requires
 first_path-requires c = rw c.new-fields.ensures c.requires
