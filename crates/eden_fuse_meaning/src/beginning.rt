@@ -23,7 +23,7 @@ ghost use Rattle.eden_fuse_meaning.specs.Steps.{
 use crate::paths::{child_at, path_at};
 use crate::step::{Outcome, Owner, Step, Then};
 use eden_fuse_format::{CreateIn, MkNodIn, Operation, ReadIn, SetAttrIn, WriteIn};
-use eden_model::{Bytes, MAX_ENTRIES, Name, Path, Request};
+use eden_model::{Bytes, MAX_ENTRIES, Name, Path, Request, SharedBytes};
 use std::alloc::{AllocError, Global};
 
 const EPERM: u32 = 1;
@@ -270,7 +270,7 @@ fn write(
     match path_at(alloc, at)? {
         Err(errno) => Ok(refuse(errno)),
         Ok(path) => {
-            let bytes = Bytes::new(Vec::from_slice(alloc, bytes)?);
+            let bytes = SharedBytes::new(alloc, Vec::from_slice(alloc, bytes)?)?;
             Ok(Step::Ask(Request::Patch(path, asked.offset, bytes), Then::Count))
         }
     }

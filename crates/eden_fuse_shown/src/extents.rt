@@ -11,6 +11,7 @@ ghost use Rattle.eden_fuse_shown.specs.Waiting.{
   may_wait,
 };
 
+use eden_model::SharedBytes;
 use std::alloc::{AllocError, Global};
 use std::collections::BTreeMap;
 use std::marker::Model;
@@ -25,7 +26,7 @@ const MOST_FILE: u64 = 1 << 30;
 #[derive(Drop)]
 pub struct Extent {
     from: u64,
-    bytes: Vec<u8>,
+    bytes: SharedBytes,
 }
 
 impl Model for Extent {
@@ -33,7 +34,7 @@ impl Model for Extent {
 
     ghost Value = { Extent };
 
-    ghost view = { λ e. record { from = e.from; bytes = e.bytes.items } };
+    ghost view = { λ e. record { from = e.from; bytes = e.bytes } };
 }
 
 impl Extent {
@@ -43,7 +44,7 @@ impl Extent {
     {
         Ok(Extent {
             from,
-            bytes: Vec::from_slice(alloc, bytes)?,
+            bytes: SharedBytes::new(alloc, Vec::from_slice(alloc, bytes)?)?,
         })
     }
 
@@ -59,6 +60,13 @@ impl Extent {
         ensures { result.now ≡ self.now.bytes }
     {
         self.bytes.as_slice()
+    }
+
+    /// Its bytes, which have one more owner then. The only error is that they have as many as can be counted.
+    pub(crate) fn share(&self) -> Result<SharedBytes, AllocError>
+        ensures { IfOk result (λ b. b ≡ self.now.bytes) }
+    {
+        self.bytes.share()
     }
 
     // How many bytes.
@@ -80,11 +88,11 @@ impl Extent {
     }
 
     // Appends bytes. Without memory nothing changes.
-    fn append(&mut self, bytes: &[u8]) -> Result<(), AllocError>
+    fn append(&mut self, alloc: Global, bytes: &[u8]) -> Result<(), AllocError>
         ensures ok { OnOk result (self.new ≡ longer (Some self.old) self.old.from bytes.now) }
         ensures err { OnErr result (self.new ≡ self.old) }
     {
-        self.bytes.extend_from_slice(bytes)
+        self.bytes.append(alloc, bytes)
     }
 }
 
@@ -113,6 +121,7 @@ fn begin(
 // Bytes go on where a node's extent ends. Without memory nothing changes.
 fn go_on(
     extents: &mut BTreeMap<u64, Extent>,
+    alloc: Global,
     node: u64,
     from: u64,
     bytes: &[u8],
@@ -124,7 +133,7 @@ fn go_on(
 {
     match extents.get_mut(&node) {
         None => Ok(()),
-        Some(extent) => extent.append(bytes),
+        Some(extent) => extent.append(alloc, bytes),
     }
 }
 
@@ -208,7 +217,7 @@ impl Extents {
         ensures err { OnErr result (self.new ≡ self.old) }
     {
         if self.extents.contains_key(&node) {
-            go_on(&mut self.extents, node, from, bytes)?;
+            go_on(&mut self.extents, alloc, node, from, bytes)?;
         } else {
             begin(&mut self.extents, alloc, node, from, bytes)?;
         }

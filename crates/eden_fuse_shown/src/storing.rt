@@ -9,21 +9,21 @@ use crate::naming::path_of;
 use crate::running::run;
 use eden_fuse_meaning::{Outcome, Step, Then};
 use eden_fuse_nodes::Nodes;
-use eden_model::{Bytes, Path, Request};
+use eden_model::{Path, Request};
 use std::alloc::{AllocError, Global};
 
 const EIO: u32 = 5;
 
 const ENOMEM: u32 = 12;
 
-// What is asked at that path. Without memory for the bytes once more nothing is.
-fn storing(alloc: Global, at: Result<Path, u32>, extent: &Extent) -> Result<Step, AllocError>
+// What is asked at that path, if the bytes can have one more owner.
+fn storing(at: Result<Path, u32>, extent: &Extent) -> Result<Step, AllocError>
     ensures { IfOk result (λ step. step ≡ storing at extent.now) }
 {
     match at {
         Err(errno) => Ok(Step::Tell(Outcome::Refused(errno))),
         Ok(path) => {
-            let bytes = Bytes::new(Vec::from_slice(alloc, extent.bytes())?);
+            let bytes = extent.share()?;
             Ok(Step::Ask(Request::Patch(path, extent.from(), bytes), Then::Count))
         }
     }
@@ -41,8 +41,8 @@ fn unstored(end: Result<Outcome, Unheard>) -> Option<u32>
     }
 }
 
-/// Asks the mount to store bytes that wait for a node, at the path at which it lies by now. They are copied, so that
-/// they wait still if the mount doesn't store them: then the number of the error, `ENOMEM` if nothing was asked.
+/// Asks the mount to store bytes that wait for a node, at the path at which it lies by now. They aren't copied,
+/// and wait still if the mount doesn't store them: then the number of the error, `ENOMEM` if nothing was asked.
 pub(crate) fn store<M: Mount>(
     alloc: Global,
     mount: &mut M,
@@ -55,7 +55,7 @@ pub(crate) fn store<M: Mount>(
     let Ok(at) = path_of(alloc, nodes, node) else {
         return Some(ENOMEM);
     };
-    let Ok(step) = storing(alloc, at, extent) else {
+    let Ok(step) = storing(at, extent) else {
         return Some(ENOMEM);
     };
     unstored(run(alloc, mount, step))

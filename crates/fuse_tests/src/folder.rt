@@ -102,7 +102,7 @@ impl Flat {
         Ok(Reply::Entries(Entries::new(rows), false))
     }
 
-    fn write(&mut self, path: &Path, from: u64, bytes: Bytes) -> Result<Reply, AllocError> {
+    fn write(&mut self, path: &Path, from: u64, bytes: &[u8]) -> Result<Reply, AllocError> {
         let Some(at) = self.at(path) else {
             return Ok(Reply::Err(Errno::ENOENT));
         };
@@ -113,7 +113,7 @@ impl Flat {
             if file.name.as_slice() == self.refused {
                 return Ok(Reply::Fault(Fault::Overlay));
             }
-            let (old, new) = (file.bytes.as_slice(), bytes.as_slice());
+            let (old, new) = (file.bytes.as_slice(), bytes);
             file.bytes = content_with(self.alloc, old, from as usize, new)?;
         }
         if self.stores < 1000 {
@@ -179,7 +179,7 @@ impl Flat {
             },
             Request::Read(path, _, _) => self.read(&path),
             Request::List(_, after, _) => self.list(after),
-            Request::Patch(path, from, bytes) => self.write(&path, from, bytes),
+            Request::Patch(path, from, bytes) => self.write(&path, from, bytes.as_slice()),
             Request::Create(path) => self.create(&path),
             Request::Unlink(path) => Ok(self.unlink(&path)),
             Request::Rename(from, to) => self.rename(&from, &to),

@@ -4,7 +4,7 @@ use crate::mount::{KEPT, Mount, key_of};
 use crate::paths::{name, path};
 use crate::whole::bytes;
 use eden_model::{
-    Attempt, Bytes, Entries, Errno, Fault, Kind, Name, Outside, Path, Reply, Request,
+    Attempt, Bytes, Entries, Errno, Fault, Kind, Name, Outside, Path, Reply, Request, SharedBytes,
 };
 use eden_overlay::{Files, MemoryFiles};
 use std::alloc::Global;
@@ -105,6 +105,10 @@ fn entry(rt: &impl Abort, alloc: Global, at: Path, ask: Ask) -> Request {
     }
 }
 
+fn shared(rt: &impl Abort, alloc: Global, bytes: Bytes) -> SharedBytes {
+    SharedBytes::new(alloc, bytes.into_vec()).expect(rt, "memory")
+}
+
 fn long(rt: &impl Abort, alloc: Global) -> Bytes {
     let mut content = Vec::new(alloc);
     content.resize(65_537, b'a').expect(rt, "memory");
@@ -122,9 +126,13 @@ pub(crate) fn request(rt: &impl Abort, alloc: Global, names: Names, ask: Ask) ->
         Ask::SetExec(exec) => Request::SetExec(at, exec),
         Ask::Truncate(size) => Request::Truncate(at, size),
         Ask::Write(offset, new) => Request::Write(at, offset, bytes(rt, alloc, new)),
-        Ask::Patch(offset, new) => Request::Patch(at, offset, bytes(rt, alloc, new)),
+        Ask::Patch(offset, new) => Request::Patch(
+            at,
+            offset,
+            shared(rt, alloc, bytes(rt, alloc, new)),
+        ),
         Ask::WriteLong(offset) => Request::Write(at, offset, long(rt, alloc)),
-        Ask::PatchLong(offset) => Request::Patch(at, offset, long(rt, alloc)),
+        Ask::PatchLong(offset) => Request::Patch(at, offset, shared(rt, alloc, long(rt, alloc))),
         other => entry(rt, alloc, at, other),
     }
 }

@@ -1,5 +1,5 @@
 //! The table of operations in worked rows, as the oracle answers them.
-use eden_model::{Bytes, Errno, Kind, Name, Node, Path, Reply, Request};
+use eden_model::{Bytes, Errno, Kind, Name, Node, Path, Reply, Request, SharedBytes};
 use eden_oracle::WholeTree;
 use std::alloc::Global;
 use std::process::Abort;
@@ -11,6 +11,10 @@ fn owned(rt: &impl Abort, alloc: Global, text: &str) -> Vec<u8> {
 
 fn bytes(rt: &impl Abort, alloc: Global, text: &str) -> Bytes {
     Bytes::new(owned(rt, alloc, text))
+}
+
+fn shared(rt: &impl Abort, alloc: Global, bytes: Bytes) -> SharedBytes {
+    SharedBytes::new(alloc, bytes.into_vec()).expect(rt, "memory")
 }
 
 fn long(rt: &impl Abort, alloc: Global) -> Bytes {
@@ -96,8 +100,12 @@ fn request(rt: &impl Abort, alloc: Global, at: Path, ask: Ask) -> Request {
         Ask::ListAfter(text, limit) => Request::List(at, Some(name(rt, alloc, text)), limit),
         Ask::Write(offset, new) => Request::Write(at, offset, bytes(rt, alloc, new)),
         Ask::WriteLong(offset) => Request::Write(at, offset, long(rt, alloc)),
-        Ask::Patch(offset, new) => Request::Patch(at, offset, bytes(rt, alloc, new)),
-        Ask::PatchLong(offset) => Request::Patch(at, offset, long(rt, alloc)),
+        Ask::Patch(offset, new) => Request::Patch(
+            at,
+            offset,
+            shared(rt, alloc, bytes(rt, alloc, new)),
+        ),
+        Ask::PatchLong(offset) => Request::Patch(at, offset, shared(rt, alloc, long(rt, alloc))),
         Ask::Truncate(size) => Request::Truncate(at, size),
         Ask::Create => Request::Create(at),
         Ask::SetExec(exec) => Request::SetExec(at, exec),

@@ -3,7 +3,7 @@
 use crate::clients::{Client, Line, Pace};
 use crate::flaky::{Failure, Flaky};
 use crate::lines::line_of;
-use eden_model::Request;
+use eden_model::{Bytes, Request};
 use eden_oracle::WholeTree;
 use std::alloc::Global;
 use std::process::Abort;
@@ -49,7 +49,10 @@ fn some_request(rt: &impl Abort, alloc: Global, tree: &mut WholeTree, seed: &mut
         some_look(alloc, tree, seed)
     };
     match made.expect(rt, "a request") {
-        Request::Patch(at, offset, bytes) => Request::Write(at, offset, bytes),
+        Request::Patch(at, offset, bytes) => {
+            let bytes = bytes.as_slice().to_vec(alloc).expect(rt, "memory");
+            Request::Write(at, offset, Bytes::new(bytes))
+        }
         spelled => spelled,
     }
 }

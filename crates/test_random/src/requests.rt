@@ -1,7 +1,7 @@
 use crate::looks::{kind_at, look_at};
 use crate::names::{Places, bytes, name, name_at, path_of, some_place};
 use crate::unmade::Unmade;
-use eden_model::{Bytes, Kind, Name, Path, Request};
+use eden_model::{Bytes, Kind, Name, Path, Request, SharedBytes};
 use eden_oracle::WholeTree;
 use std::alloc::{AllocError, Global};
 use test_samples::random;
@@ -54,6 +54,10 @@ fn some_bytes(alloc: Global, seed: &mut u64) -> Result<Bytes, AllocError> {
     bytes(alloc, &text[..(word % MOST) as usize])
 }
 
+fn shared(alloc: Global, bytes: Bytes) -> Result<SharedBytes, AllocError> {
+    SharedBytes::new(alloc, bytes.into_vec())
+}
+
 fn after(alloc: Global, word: u32) -> Result<Option<Name>, Unmade> {
     if word % 2 == 0 {
         return Ok(None);
@@ -79,7 +83,7 @@ fn edit(alloc: Global, at: Path, seed: &mut u64) -> Result<Request, Unmade> {
     let few = u64::from(word % 16);
     Ok(match random(seed) % 6 {
         0..=1 => Request::Write(at, few, some_bytes(alloc, seed)?),
-        2 => Request::Patch(at, few, some_bytes(alloc, seed)?),
+        2 => Request::Patch(at, few, shared(alloc, some_bytes(alloc, seed)?)?),
         3..=4 => Request::Truncate(at, few),
         _ => Request::SetExec(at, word % 2 == 0),
     })
