@@ -300,7 +300,7 @@ fn tidied(
     mut files: Stored,
 ) -> (Result<Removed, TidyFault>, Stored) {
     files.replace(alloc, 77, b"orphan").expect(rt, "memory");
-    let mut overlay = Overlay::<Outside, _>::new(files);
+    let mut overlay = Overlay::<Outside, _>::new(alloc, files);
     let answer = tidy(alloc, &mut overlay);
     (answer, overlay.into_files())
 }
@@ -335,6 +335,6 @@ fn files_with_a_damaged_state_are_not_tidied(rt: HostRuntime) {
 
 #[test]
 fn no_files_have_no_orphans(rt: HostRuntime) {
-    let mut overlay = Overlay::<Outside, _>::new(Stored::new(rt.alloc()));
+    let mut overlay = Overlay::<Outside, _>::new(rt.alloc(), Stored::new(rt.alloc()));
     assert!(rt; tidy(rt.alloc(), &mut overlay) == Ok(Removed { files: 0, bytes: 0 }));
 }

@@ -73,7 +73,7 @@ pub fn tables<F: Files<Outside>, K: Keeps<F>>(
 ) -> Result<Vec<Table<F>>, AllocError> {
     let mut tables = Vec::new(alloc);
     for _ in 0..count {
-        let overlay = Overlay::new(keeps.files(alloc)?);
+        let overlay = Overlay::new(alloc, keeps.files(alloc)?);
         tables.push(Inodes::new(alloc, overlay, Origin::Object(ID), FIRST))?;
     }
     Ok(tables)

@@ -123,7 +123,7 @@ fn store_all<F: Files<Outside>>(
 
 /// As many files of that size, stored one after another.
 fn measure_stores<F: Files<Outside>>(bench: Bench, files: F, count: u32) -> io::Result<()> {
-    let mut overlay = Overlay::new(files);
+    let mut overlay = Overlay::new(bench.alloc(), files);
     let content = [0x2a; SIZE - HEADER];
     let start = bench.start();
     let stored = store_all(bench.alloc(), &mut overlay, &content, count);

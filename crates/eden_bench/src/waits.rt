@@ -57,7 +57,7 @@ struct Ground {
 
 /// A table of a commit of that root. None where there is no memory for a cache.
 fn fresh(alloc: Global, root: Id) -> Option<Ground> {
-    let overlay = Overlay::new(MemoryFiles::new(alloc));
+    let overlay = Overlay::new(alloc, MemoryFiles::new(alloc));
     let cache = ObjectCache::new(alloc, 8, CACHE_BYTES, 8).ok()?;
     Some(Ground {
         table: Inodes::new(alloc, overlay, Origin::Object(root), 2),

@@ -108,6 +108,13 @@ impl<A: Allocator + Clone> ObjectCache<A> {
         }
     }
 
+    /// The bound on what the objects weigh together, in bytes.
+    pub fn most_bytes(&self) -> u64
+        ensures { result ≡ self.now.most_bytes }
+    {
+        self.bytes
+    }
+
     /// The length of the blob of that id, if it is kept. It is then the newest size.
     pub fn size_of(&mut self, id: Id) -> Option<u64>
         ensures value { result ≡ lookup (same_id id) self.old.sizes }

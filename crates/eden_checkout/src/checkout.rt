@@ -23,7 +23,6 @@ use eden_inode::Inodes;
 use eden_model::{Id, World};
 use eden_ops::{Place, let_go};
 use eden_overlay::{Files, FilesFault, Overlay};
-use eden_overlay_format::CONTENT_MOST;
 use std::alloc::{Allocator, Global};
 use std::marker::Model;
 
@@ -55,9 +54,10 @@ impl<A: Allocator + Clone, W: World, F: Files<W>> Model for Checkout<A, W, F> {
 impl<A: Allocator + Clone, W: World, F: Files<W>> Checkout<A, W, F> {
     /// Opens an overlay over a commit's tree, with a cache in which nothing is yet. Over no files nothing has changed
     /// since the commit; else they are those that a checkout of the same commit was closed to, and the state among them
-    /// is removed as the last act. The own file that was read or changed last stays in memory, whatever its length, as
-    /// the object does that came last; one of over 8 MiB that was written whole does once it is read. So a file that is
-    /// read in pieces is read from the files once.
+    /// is removed as the last act. The own files that were read or changed last stay in memory, eight at
+    /// most, of as many bytes together as the cache may hold, or the last one alone if it is longer; one of over 8 MiB
+    /// that was written whole does once it is read. So a few files that are read in pieces are each read from the files
+    /// once.
     ///
     /// Errors: `NotClean` where there are files and no state, `OtherRoot`, `Damaged` of the state alone, `Device` and
     /// `Memory`. The files come back as they were.
@@ -149,7 +149,7 @@ impl<A: Allocator + Clone, W: World, F: Files<W>> Checkout<A, W, F> {
             (λ e. IsRefusal opening W.honest root (F.stored files) (F.failures files) (F.failures e.1) e.0) }
         ensures unchanged { W.honest → IfErr result (λ e. F.stored e.1 ≡ F.stored files) }
     {
-        let mut overlay = Overlay::new(files).keeping(CONTENT_MOST as u64);
+        let mut overlay = Overlay::new(alloc, files).keeping(cache.most_bytes());
         match begin(alloc, &mut overlay, root, opening) {
             Err(fault) => Err((fault, overlay.into_files())),
             Ok(Start { origin, next }) => Ok(Checkout {

@@ -1,8 +1,7 @@
 -- What a stored file's head tells, of its content and of one that is kept.
-use Rattle.std.proofs.Common.{◌≡◌, ℕ, ◌==◌, List, length, take, Option, Some, None, Ok, Err, IfOk, IfErr, IsSomeAnd, refl, sym, subst, ◌∙◌}
-use Rattle.std.specs.Option.{option_and_then}
+use Rattle.std.proofs.Common.{◌≡◌, ℕ, ◌==◌, Bool, true, false, cond, List, [], ◌∷◌, length, take, Option, Some, None, Ok, Err, IfOk, IfErr, IsSomeAnd, refl, sym, subst, ◌∙◌}
+use Rattle.std.specs.Option.{option_and_then, option_map}
 use Rattle.std.proofs.lemmas.Bool.{eqb-true}
-use Rattle.std.proofs.lemmas.Option.{cond_some}
 use Rattle.eden_overlay_format.specs.declared.header.Head.{Head}
 use Rattle.eden_overlay_format.specs.declared.refusal.Refusal.{Refusal}
 use Rattle.eden_overlay_format.specs.Content.{IsHead, content_length}
@@ -12,7 +11,7 @@ use Rattle.eden_overlay.specs.declared.recent.Kept.{Kept}
 use Rattle.eden_overlay.specs.Files.{Stored, IsHeadOf}
 use Rattle.eden_overlay.specs.Getting.{ExplainsLength, told_by, length_of}
 use Rattle.eden_overlay.specs.Held.{HoldsContent, HeadTells, TellsLength}
-use Rattle.eden_overlay.specs.Keeping.{IsKeptOf, kept_length}
+use Rattle.eden_overlay.specs.Keeping.{AreKeptOf, kept_length, kept_of}
 
 -- ---- what is answered for a head
 
@@ -45,12 +44,16 @@ content_tells (Some bytes) content held =
     let is : IsHead head bytes = record { first = λ long. refl; len = refl } in
     record { head = head; is = is; tells = lengths_told head bytes content is held }
 
-pub kept_tells : (F : Stored) (kept : Option Kept) (k len : ℕ) → IsKeptOf F kept → kept_length k kept ≡ Some len → TellsLength F k len
-kept_tells F None k len held told = absurd cc
-kept_tells F (Some q) k len held told =
-    let is = cond_some (q.number == k) (length q.content) len told in
-    subst (TellsLength F k) is.1
-    (subst (λ (n : ℕ). TellsLength F n (length q.content)) (eqb-true q.number k is.0) (content_tells (F q.number) q.content held))
+pub kept_tells : (F : Stored) (kept : List Kept) (k len : ℕ) → AreKeptOf F kept → kept_length k kept ≡ Some len → TellsLength F k len
+unfolding AreKeptOf
+kept_tells F [] k len held told = absurd cc
+kept_tells F (q ∷ kept) k len held told =
+    elim (q.number == k) as (λ b. (q.number == k) ≡ b → option_map (λ k. length k.content) (cond b (Some q) (kept_of k kept)) ≡ Some len → TellsLength F k len) [
+      | true ↦ λ is told. (let e : length q.content ≡ len = cc in
+          subst (TellsLength F k) e
+          (subst (λ (n : ℕ). TellsLength F n (length q.content)) (eqb-true q.number k is) (content_tells (F q.number) q.content held.0)))
+      | false ↦ λ is told. kept_tells F kept k len held.1 told
+    ] refl told
 
 same_length : (file : Option (List ℕ)) (len : ℕ) (content : List ℕ) → IsSomeAnd file (λ bytes. HeadTells bytes (Ok len)) → option_and_then content_in file ≡ Some content → len ≡ length content
 same_length None len content told held = absurd told

@@ -16,4 +16,5 @@ pub mod Walks
 pub mod Nexts
 pub mod Accusing
 pub mod Tidied
+mod Kept
 mod Lengths

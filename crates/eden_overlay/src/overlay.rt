@@ -18,7 +18,7 @@ ghost use Rattle.eden_overlay.specs.Tidying.{bytes_at};
 ghost use Rattle.eden_overlay.specs.Getting.{Explains, ExplainsLength, ExplainsNumbers, length_of, of_numbers};
 ghost use Rattle.std.specs.Option.{is_some};
 ghost use Rattle.eden_overlay_format.specs.Numbers.{none_is_own};
-ghost use Rattle.eden_overlay.specs.Keeping.{IsKeptOf};
+ghost use Rattle.eden_overlay.specs.Keeping.{AreKeptOf};
 ghost use Rattle.eden_overlay.specs.declared.files.FilesFault.TheVariants as files;
 ghost use Rattle.eden_overlay.specs.declared.fault.GetFault.TheVariants as get;
 
@@ -65,32 +65,29 @@ impl<W: World, F: Files<W>> Model for Overlay<W, F> {
 
     ghost view = { λ o. o.files };
 
-    ghost invariant = { λ o. W.honest → IsKeptOf (F.stored o.files) o.recent.kept };
+    ghost invariant = { λ o. W.honest → AreKeptOf (F.stored o.files) o.recent.kept.items };
 }
 
 impl<W: World, F: Files<W>> Overlay<W, F> {
-    /// An overlay over those files, which keeps no content of a byte or more in memory.
-    pub fn new(files: F) -> Self
+    /// An overlay over those files, which keeps the content that was last used in memory. It takes no memory itself.
+    pub fn new(alloc: Global, files: F) -> Self
         ensures { result ≡ files }
     {
         Overlay {
             files,
-            recent: Recent::new(0),
+            recent: Recent::new(alloc, 0),
             room: Room::new(),
             world: PhantomData,
         }
     }
 
-    /// The same overlay, which from now on keeps a content of at most so many bytes in memory.
-    pub fn keeping(self, most: u64) -> Self
+    /// The same overlay, which from now on keeps the contents that were used last, eight at most, of so many bytes
+    /// together, and the last one if it is longer.
+    pub fn keeping(mut self, most: u64) -> Self
         ensures { result ≡ self }
     {
-        Overlay {
-            files: self.files,
-            recent: Recent::new(most),
-            room: self.room,
-            world: PhantomData,
-        }
+        self.recent.most = most;
+        self
     }
 
     /// The files.
@@ -127,13 +124,13 @@ impl<W: World, F: Files<W>> Overlay<W, F> {
                 return self.put_long(alloc, number, bytes);
             }
         }
-        // First, so that memory never holds what is kept beside the new file.
-        let room = self.recent.room(alloc);
+        // First, so that memory never holds what is kept of the file beside the new one.
+        let room = self.recent.room(alloc, number);
         let bytes = encode_file_in(room, content)?;
         match self.files.replace(alloc, number, &bytes) {
             Err(fault) => Err(fault),
             Ok(()) => {
-                self.recent.keep(number, Content::of_encoded(bytes));
+                let _kept = self.recent.keep(number, Content::of_encoded(bytes));
                 Ok(())
             }
         }
@@ -236,7 +233,7 @@ impl<W: World, F: Files<W>> Overlay<W, F> {
         requires { W.honest → HoldsContent (F.stored self.old) number content }
         ensures { self.new ≡ self.old }
     {
-        self.recent.keep(number, content);
+        let _kept = self.recent.keep(number, content);
     }
 
     /// Takes back a content that was got and is wanted no more: its room is there for the next one that is stored.

@@ -1,11 +1,15 @@
-//! The content that stays in memory.
+//! The contents that stay in memory.
 
-ghost use Rattle.std.specs.Prelude.{◌≡◌, ◌≢◌, ◌≤◌, ◌<◌, Some, None, length, IfSome, IfNone};
-ghost use Rattle.eden_overlay.specs.Keeping.{kept_length};
+ghost use Rattle.std.specs.Prelude.{◌≡◌, ◌≤◌, ◌<◌, ◌++◌, ◌+◌, ◌⊎◌, ◌^◌, ◌-◌, ℕ, length, min, OnOk, OnErr, IsTrue};
+ghost use Rattle.std.specs.Prelude.{List, [], ◌∷◌, drop, position};
+ghost use Rattle.eden_overlay.specs.Keeping.{Fits, IsEndOf, is_of, kept_bytes, kept_content, kept_length, of_others};
 
 use crate::content::Content;
 use crate::room::Room;
-use std::alloc::Global;
+use std::alloc::{AllocError, Global};
+
+/// How many contents are kept at most.
+const CONTENTS_MOST: usize = 8;
 
 /// A content in memory, and the number of the file that holds it.
 #[derive(Drop)]
@@ -14,95 +18,117 @@ pub(crate) struct Kept {
     pub(crate) content: Content,
 }
 
-/// The content that was last read or stored, if it isn't too long: whoever reads or writes a file in pieces then has it
-/// from the files once.
+impl Kept {
+    // How many bytes it is.
+    fn len(&self) -> u64
+        ensures { result ≡ length self.now.content }
+    {
+        self.content.as_slice().len() as u64
+    }
+}
+
+/// The contents that were read or stored last, the one that was last used behind: whoever reads or writes a few files
+/// in pieces then has each from the files once.
 #[derive(Drop)]
 pub(crate) struct Recent {
-    pub(crate) kept: Option<Kept>,
-    /// The longest content that is kept, in bytes.
+    pub(crate) kept: Vec<Kept>,
+    /// How many bytes are kept at most, of all together where there are several.
     pub(crate) most: u64,
     /// The room of a content that went.
     pub(crate) room: Room,
 }
 
 impl Recent {
-    /// Nothing yet, and later contents of at most so many bytes.
-    pub(crate) fn new(most: u64) -> Recent
-        ensures kept { result.kept ≡ None }
+    /// Nothing yet, and later contents of at most so many bytes together, or one that is longer. It takes no memory.
+    pub(crate) fn new(alloc: Global, most: u64) -> Recent
+        ensures kept { result.kept.items ≡ [] }
         ensures most { result.most ≡ most }
     {
         Recent {
-            kept: None,
+            kept: Vec::new(alloc),
             most,
             room: Room::new(),
         }
     }
 
-    /// Takes the content of that file out, if it is the one; another file's is dropped.
+    /// Takes the content of that file out, if it is kept; those of other files stay.
     pub(crate) fn take(&mut self, number: u64) -> Option<Content>
-        ensures found { IfSome result
-            (λ content. self.old.kept ≡ Some (record { number = number; content = content })) }
-        ensures missed { IfNone result (IfSome self.old.kept (λ k. k.number ≢ number)) }
-        ensures empty { self.new.kept ≡ None }
+        ensures found { result ≡ kept_content number self.old.kept.items }
+        ensures others { self.new.kept.items ≡ of_others number self.old.kept.items }
         ensures most { self.new.most ≡ self.old.most }
     {
-        match self.kept.take() {
-            Some(kept) => {
-                if kept.number == number {
-                    return Some(kept.content);
-                }
-                self.room.keep(kept.content.into_file());
-                None
-            }
-            None => None,
-        }
+        let at = place_of(&self.kept, number)?;
+        let kept = self.kept.remove(at);
+        drop_of(&mut self.kept, number);
+        Some(kept.content)
     }
 
-    /// The length of the content of that file, if it is the one that is kept. It stays.
+    /// The length of the content of that file, if it is kept. It stays.
     pub(crate) fn len_of(&self, number: u64) -> Option<u64>
-        ensures { result ≡ kept_length number self.now.kept }
+        ensures { result ≡ kept_length number self.now.kept.items }
     {
-        match &self.kept {
-            Some(kept) if kept.number == number => Some(kept.content.as_slice().len() as u64),
-            _ => None,
-        }
+        let kept = self.kept.iter().find(|kept| kept.number == number)?;
+        Some(kept.len())
     }
 
-    /// Keeps the content of that file, if it isn't too long; what was kept before is dropped.
-    pub(crate) fn keep(&mut self, number: u64, content: Content)
-        ensures kept { length content ≤ self.old.most
-            → self.new.kept ≡ Some (record { number = number; content = content }) }
-        ensures too_long { self.old.most < length content → self.new.kept ≡ None }
+    /// Keeps the content of that file as the last one, in place of any other of the file. Those that were used longest
+    /// ago go until it has room beside the others. The only error is want of memory: then it isn't kept.
+    pub(crate) fn keep(&mut self, number: u64, content: Content) -> Result<(), AllocError>
+        ensures kept { OnOk result ((rest : List Kept) × (IsEndOf rest (of_others number self.old.kept.items)
+            × (self.new.kept.items ≡ rest ++ (record { number = number; content = content }) ∷ []))) }
+        ensures err { OnErr result (IsEndOf self.new.kept.items (of_others number self.old.kept.items)) }
+        ensures fits { OnOk result (Fits self.old.most self.new.kept.items) }
         ensures most { self.new.most ≡ self.old.most }
     {
-        if content.as_slice().len() as u64 <= self.most {
-            self.kept = Some(Kept { number, content });
-        } else {
-            self.kept = None;
-            self.room.keep(content.into_file());
-        }
+        self.forget(number);
+        let kept = Kept { number, content };
+        self.make_room(kept.len());
+        Ok(self.kept.push(kept)?)
     }
 
-    /// Drops the content of that file; another file's stays.
+    /// Drops the content of that file; those of other files stay.
     pub(crate) fn forget(&mut self, number: u64)
-        ensures others { IfSome self.new.kept (λ k. (k.number ≢ number) × (self.old.kept ≡ Some k)) }
-        ensures stays { IfSome self.old.kept (λ k. k.number ≢ number → self.new.kept ≡ self.old.kept) }
+        ensures kept { self.new.kept.items ≡ of_others number self.old.kept.items }
         ensures most { self.new.most ≡ self.old.most }
     {
-        if let Some(kept) = &self.kept {
-            if kept.number == number {
-                self.clear();
-            }
+        if let Some(content) = self.take(number) {
+            self.spare(content);
         }
     }
 
-    /// Drops what is kept, but its room.
-    fn clear(&mut self)
-        ensures kept { self.new.kept ≡ None }
+    // Drops contents, those that were used longest ago first, until there is room for one of that length.
+    fn make_room(&mut self, len: u64)
+        ensures rest { IsEndOf self.new.kept.items self.old.kept.items }
+        ensures room { (self.new.kept.items ≡ [])
+            ⊎ ((length self.new.kept.items < 8) × (kept_bytes self.new.kept.items + len ≤ self.old.most)) }
         ensures most { self.new.most ≡ self.old.most }
     {
-        if let Some(kept) = self.kept.take() {
-            self.room.keep(kept.content.into_file());
+        for _ in 0..self.kept.len() {
+            if self.has_room(len) {
+                return;
+            }
+            self.drop_oldest();
+        }
+    }
+
+    // Whether a content of that length has room beside what is kept.
+    fn has_room(&self, len: u64) -> bool
+        ensures { IsTrue result
+            → ((length self.now.kept.items < 8) × (kept_bytes self.now.kept.items + len ≤ self.now.most)) }
+    {
+        let Some(room) = self.most.checked_sub(len) else {
+            return false;
+        };
+        self.kept.len() < CONTENTS_MOST && are_within(&self.kept, room)
+    }
+
+    fn drop_oldest(&mut self)
+        ensures kept { self.new.kept.items ≡ drop 1 self.old.kept.items }
+        ensures most { self.new.most ≡ self.old.most }
+    {
+        if !self.kept.is_empty() {
+            let oldest = self.kept.remove(0);
+            self.spare(oldest.content);
         }
     }
 
@@ -114,12 +140,41 @@ impl Recent {
         self.room.keep(content.into_file());
     }
 
-    /// Room for a content that is to be stored. What is kept is dropped, and so is what its room holds.
-    pub(crate) fn room(&mut self, alloc: Global) -> Vec<u8>
-        ensures kept { self.new.kept ≡ None }
+    /// Room for a content that is to be stored as that file. The one that is kept of it is dropped, and so is what its
+    /// room holds.
+    pub(crate) fn room(&mut self, alloc: Global, number: u64) -> Vec<u8>
+        ensures kept { self.new.kept.items ≡ of_others number self.old.kept.items }
         ensures most { self.new.most ≡ self.old.most }
     {
-        self.clear();
+        self.forget(number);
         self.room.take(alloc)
     }
+}
+
+// Where the content of that file is kept.
+fn place_of(kept: &[Kept], number: u64) -> Option<usize>
+    ensures { result ≡ position (is_of number) kept.now }
+{
+    kept.iter().position(|one| one.number == number)
+}
+
+// Drops what is kept of that file.
+fn drop_of(kept: &mut Vec<Kept>, number: u64)
+    ensures { kept.new.items ≡ of_others number kept.old.items }
+{
+    kept.retain(|one| one.number != number);
+}
+
+// Whether these have at most so many bytes together.
+fn are_within(kept: &[Kept], most: u64) -> bool
+    ensures { IsTrue result → kept_bytes kept.now ≤ most }
+{
+    let mut room = most;
+    for one in kept {
+        match room.checked_sub(one.len()) {
+            Some(rest) => room = rest,
+            None => return false,
+        }
+    }
+    true
 }

@@ -121,7 +121,7 @@ fn numbers_are_got_for_their_tree(rt: HostRuntime) {
     let mut files = MemoryFiles::<Outside>::new(rt.alloc());
     let stored = told(&rt, rt.alloc(), &NEW_NUMBERS, &DIGEST, 0, BODY);
     files.replace(rt.alloc(), 1, &stored).expect(&rt, "memory");
-    let mut overlay = Overlay::<Outside, _>::new(files);
+    let mut overlay = Overlay::<Outside, _>::new(rt.alloc(), files);
     let tree = Id { bytes: TREE };
     let found = overlay
         .get_numbers(rt.alloc(), 1, tree)
@@ -140,7 +140,7 @@ fn damaged_numbers_are_told(rt: HostRuntime) {
     let mut files = MemoryFiles::<Outside>::new(rt.alloc());
     let other = told(&rt, rt.alloc(), &NEW_NUMBERS, &TREE, 0, BODY);
     files.replace(rt.alloc(), 1, &other).expect(&rt, "memory");
-    let mut overlay = Overlay::<Outside, _>::new(files);
+    let mut overlay = Overlay::<Outside, _>::new(rt.alloc(), files);
     let damaged = Some(GetFault::Damaged(Refusal::BadDigest));
     assert!(rt; fault_of(&mut overlay, rt.alloc(), 1, TREE) == damaged);
     assert!(rt; fault_of(&mut overlay, rt.alloc(), 1, BLOB) == damaged);
@@ -153,7 +153,7 @@ fn numbers_are_written_and_stored(rt: HostRuntime) {
     let want = told(&rt, rt.alloc(), &NEW_NUMBERS, &DIGEST, 0, BODY);
     let file = encode_numbers(rt.alloc(), tree, &entries).expect(&rt, "memory");
     assert!(rt; file == want);
-    let mut overlay = Overlay::<Outside, _>::new(MemoryFiles::<Outside>::new(rt.alloc()));
+    let mut overlay = Overlay::<Outside, _>::new(rt.alloc(), MemoryFiles::<Outside>::new(rt.alloc()));
     let listing = Listing::of(overlay.room(rt.alloc()), &entries).expect(&rt, "memory");
     overlay
         .put_numbers(rt.alloc(), 1, tree, listing)

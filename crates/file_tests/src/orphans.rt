@@ -63,7 +63,7 @@ fn removed<F: Files<Outside>>(
 #[test]
 fn orphans_are_removed_and_counted(rt: HostRuntime) {
     let files = files_with(&rt, rt.alloc(), true);
-    let mut overlay = Overlay::<Outside, _>::new(files);
+    let mut overlay = Overlay::<Outside, _>::new(rt.alloc(), files);
     assert!(rt;
         removed(&mut overlay, rt.alloc())
             == Ok(Removed {
@@ -79,7 +79,7 @@ fn orphans_are_removed_and_counted(rt: HostRuntime) {
 fn without_a_root_every_file_is_an_orphan(rt: HostRuntime) {
     let mut files = files_with(&rt, rt.alloc(), true);
     files.remove(1).expect(&rt, "removed");
-    let mut overlay = Overlay::<Outside, _>::new(files);
+    let mut overlay = Overlay::<Outside, _>::new(rt.alloc(), files);
     assert!(rt;
         removed(&mut overlay, rt.alloc())
             == Ok(Removed {
@@ -93,7 +93,7 @@ fn without_a_root_every_file_is_an_orphan(rt: HostRuntime) {
 #[test]
 fn a_name_that_dangles_is_told(rt: HostRuntime) {
     let files = files_with(&rt, rt.alloc(), false);
-    let mut overlay = Overlay::<Outside, _>::new(files);
+    let mut overlay = Overlay::<Outside, _>::new(rt.alloc(), files);
     assert!(rt; removed(&mut overlay, rt.alloc()) == Err(RescanFault::Dangling(2)));
     assert!(rt; lists(&mut overlay.into_files(), rt.alloc(), &[0, 1, 7, 9, 10]));
 }
@@ -116,7 +116,7 @@ const FAILING: &[(u64, &[u64])] = &[
 fn what_was_removed_stays_so(rt: HostRuntime) {
     for (call, left) in FAILING {
         let files = FailingFiles::new(files_with(&rt, rt.alloc(), true), *call);
-        let mut overlay = Overlay::<Outside, _>::new(files);
+        let mut overlay = Overlay::<Outside, _>::new(rt.alloc(), files);
         assert!(rt;
             removed(&mut overlay, rt.alloc()) == Err(RescanFault::Device),
             "at {call}"

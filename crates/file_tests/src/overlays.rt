@@ -24,7 +24,7 @@ const STATE_BODY: &[u8] =
 fn filled_with(rt: &impl Abort, alloc: Global, entries: &[StoredEntry]) -> InMemory
     requires { AreStorable entries.now }
 {
-    let mut overlay = Overlay::<Outside, _>::new(MemoryFiles::<Outside>::new(alloc));
+    let mut overlay = Overlay::<Outside, _>::new(alloc, MemoryFiles::<Outside>::new(alloc));
     overlay
         .put_file(alloc, 2, Spliced::whole(b"hello"))
         .expect(rt, "memory");
@@ -160,7 +160,7 @@ fn is_told(
     if files.replace(alloc, 3, bytes).is_err() {
         return false;
     }
-    let mut overlay = Overlay::<Outside, _>::new(files);
+    let mut overlay = Overlay::<Outside, _>::new(alloc, files);
     overlay.get_dir(alloc, 3).err() == as_directory.map(GetFault::Damaged)
         && overlay.get_file(alloc, 3).err() == as_file.map(GetFault::Damaged)
 }

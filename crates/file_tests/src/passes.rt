@@ -123,7 +123,7 @@ fn overlay_of(
         let file = stored(rt, alloc, *front, 0, body);
         memory.replace(alloc, *number, &file).expect(rt, "memory");
     }
-    Overlay::new(memory)
+    Overlay::new(alloc, memory)
 }
 
 #[test]
@@ -138,7 +138,7 @@ fn what_a_pass_finds(rt: HostRuntime) {
 fn a_file_without_a_header_has_no_numbers(rt: HostRuntime) {
     let mut files = overlay_of(&rt, rt.alloc(), &[(1, &NUMBERS, ROOT_NUMBERS)]).into_files();
     files.replace(rt.alloc(), 3, b"OVDN").expect(&rt, "memory");
-    let mut overlay = Overlay::<Outside, _>::new(files);
+    let mut overlay = Overlay::<Outside, _>::new(rt.alloc(), files);
     assert!(rt; overlay.rescan(rt.alloc(), ROOT) == Ok(4));
 }
 

@@ -96,7 +96,7 @@ pub(crate) fn table(alloc: Global, tree: Sample, next: u64) -> Table
     requires least { number_least ≤ next }
     requires most { next ≤ number_end }
 {
-    let overlay = Overlay::new(MemoryFiles::<Outside>::new(alloc));
+    let overlay = Overlay::new(alloc, MemoryFiles::<Outside>::new(alloc));
     Inodes::new(alloc, overlay, Origin::Object(tree.id), next)
 }
 
@@ -271,7 +271,7 @@ type Failing = FailingFiles<MemoryFiles<Outside>>;
 // The mount's own root, stored; the call of that number on the files fails.
 fn own_files(rt: &impl Abort, alloc: Global, call: u64) -> Overlay<Outside, Failing> {
     let files = FailingFiles::new(MemoryFiles::<Outside>::new(alloc), call);
-    let mut overlay = Overlay::<Outside, _>::new(files);
+    let mut overlay = Overlay::<Outside, _>::new(alloc, files);
     let entries = one(rt, alloc);
     assert!(rt; overlay.put_dir(alloc, 1, &entries).is_ok());
     overlay

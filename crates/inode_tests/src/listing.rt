@@ -216,7 +216,7 @@ fn put_empty<F: Files<Outside>>(
 
 /// Files with an own root, which has no entries.
 pub(crate) fn first_files(alloc: Global) -> Result<MemoryFiles<Outside>, FilesFault> {
-    let mut overlay = Overlay::new(MemoryFiles::<Outside>::new(alloc));
+    let mut overlay = Overlay::new(alloc, MemoryFiles::<Outside>::new(alloc));
     put_empty(alloc, &mut overlay, 1)?;
     Ok(overlay.into_files())
 }

@@ -184,7 +184,7 @@ impl<A: Allocator + Clone> Mount<A> {
     {
         let calls = Rc::new(alloc, Cell::new(u64::MAX)).expect(rt, "memory");
         let shared = calls.clone().expect(rt, "memory");
-        let overlay = Overlay::new(StopFiles::new(files, shared));
+        let overlay = Overlay::new(alloc, StopFiles::new(files, shared));
         Mount {
             alloc,
             table: Inodes::new(dirs, overlay, root, next),

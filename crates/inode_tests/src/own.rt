@@ -20,7 +20,7 @@ const FILES: &[(&[u8], &[u8])] = &[
 
 /// A table whose root is its own, loaded and without entries.
 fn table(rt: &impl Abort, alloc: Global) -> Table {
-    let overlay = Overlay::new(first_files(alloc).expect(rt, "files"));
+    let overlay = Overlay::new(alloc, first_files(alloc).expect(rt, "files"));
     let mut table = Inodes::new(alloc, overlay, Origin::Own, 2);
     assert!(rt; table.load(alloc, &[], None).is_ok());
     table

@@ -82,7 +82,7 @@ fn tell<S: Source<Outside> + Drop>(
 ) -> Result<io::Result<()>, TakeFault> {
     let Closed { root, files } = closed;
     let alloc = rt.alloc();
-    let mut overlay = Overlay::<Outside, _>::new(files);
+    let mut overlay = Overlay::<Outside, _>::new(alloc, files);
     expect_closed(alloc, root, &mut overlay)?;
     let mut sink = match LineSink::new(alloc, rt.stdout()) {
         Ok(sink) => sink,

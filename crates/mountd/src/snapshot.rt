@@ -117,7 +117,7 @@ fn take<S: Source<Outside> + Drop>(
         mut sink,
     } = work;
     let alloc = rt.alloc();
-    let mut overlay = Overlay::<Outside, _>::new(files);
+    let mut overlay = Overlay::<Outside, _>::new(alloc, files);
     expect_closed(alloc, root, &mut overlay)?;
     let mut submodules = CommitSubmodules::new(source, root);
     let id = eden_snapshot::snapshot(alloc, root, &mut overlay, &mut sink, &mut submodules)?;

@@ -31,7 +31,7 @@ fn tidy_files<R: Files + Alloc + Clone + Drop>(
     alloc: Global,
     files: FolderFiles<R>,
 ) -> Result<Removed, TidyFault> {
-    let mut overlay = Overlay::<Outside, _>::new(files);
+    let mut overlay = Overlay::<Outside, _>::new(alloc, files);
     let orphans = eden_checkout::tidy(alloc, &mut overlay)?;
     let mut files = overlay.into_files();
     match files.remove_unfinished(alloc) {

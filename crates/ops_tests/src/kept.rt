@@ -9,8 +9,10 @@ const A: Names = &[b"a"];
 
 const B: Names = &[b"b"];
 
-/// Two pages and the length are one read. Another file's turn drops the content, also a turn that fails.
-const IN_PAGES: Row = Row {
+const C: Names = &[b"c"];
+
+/// Two files in turn, two pages and a length of each, are one read each: here none, since both were just written.
+const IN_TURN: Row = Row {
     root: ONE_FILE,
     objects: 8,
     steps: &[
@@ -19,12 +21,13 @@ const IN_PAGES: Row = Row {
         Step::Ask(A, Ask::Write(0, b"content of a"), Want::Count(12)),
         Step::Ask(B, Ask::Create, Want::Ok),
         Step::Ask(B, Ask::Write(0, b"of b"), Want::Count(4)),
-        Step::Pass(1),
+        Step::Pass(0),
         Step::Ask(A, Ask::Read(0, 7), Want::Data(b"content")),
+        Step::Ask(B, Ask::Read(0, 2), Want::Data(b"of")),
         Step::Ask(A, Ask::Read(7, 7), Want::Data(b" of a")),
+        Step::Ask(B, Ask::Read(2, 9), Want::Data(b" b")),
         Step::Ask(A, Ask::Stat, Want::Stat(Kind::File, 12, 3)),
-        Step::Ask(B, Ask::Read(0, 9), Want::Fault(Fault::Overlay)),
-        Step::Ask(A, Ask::Read(0, 7), Want::Fault(Fault::Overlay)),
+        Step::Ask(B, Ask::Stat, Want::Stat(Kind::File, 4, 4)),
     ],
     files: &[(1, 131), (3, 76), (4, 68)],
 };
@@ -72,7 +75,7 @@ const UNLOADED_BETWEEN: Row = Row {
     files: &[(1, 119), (3, 71)],
 };
 
-/// With room for four bytes, a content of five is read each time, and one of four once.
+/// With room for four bytes, a content of five stays alone, until another is used.
 const TOO_LONG: Row = Row {
     root: ONE_FILE,
     objects: 8,
@@ -84,18 +87,39 @@ const TOO_LONG: Row = Row {
         Step::Ask(B, Ask::Write(0, b"abcd"), Want::Count(4)),
         Step::Pass(1),
         Step::Ask(A, Ask::Read(0, 2), Want::Data(b"ab")),
-        Step::Ask(A, Ask::Read(2, 2), Want::Fault(Fault::Overlay)),
-        Step::Pass(1),
-        Step::Ask(B, Ask::Read(0, 2), Want::Data(b"ab")),
-        Step::Ask(B, Ask::Read(2, 2), Want::Data(b"cd")),
+        Step::Ask(A, Ask::Read(2, 2), Want::Data(b"cd")),
+        Step::Ask(B, Ask::Read(0, 2), Want::Fault(Fault::Overlay)),
     ],
     files: &[(1, 131), (3, 69), (4, 68)],
 };
 
+/// Of two contents that have no room together the one goes that was used first.
+const LAST_USED: Row = Row {
+    root: ONE_FILE,
+    objects: 8,
+    steps: &[
+        Step::Need(A, Ask::Create, ONE_FILE),
+        Step::Ask(A, Ask::Create, Want::Ok),
+        Step::Ask(A, Ask::Write(0, b"ab"), Want::Count(2)),
+        Step::Ask(B, Ask::Create, Want::Ok),
+        Step::Ask(B, Ask::Write(0, b"cd"), Want::Count(2)),
+        Step::Ask(A, Ask::Read(0, 9), Want::Data(b"ab")),
+        Step::Ask(C, Ask::Create, Want::Ok),
+        Step::Ask(C, Ask::Write(0, b"ef"), Want::Count(2)),
+        Step::Pass(0),
+        Step::Ask(A, Ask::Read(0, 9), Want::Data(b"ab")),
+        Step::Ask(C, Ask::Read(0, 9), Want::Data(b"ef")),
+        Step::Ask(B, Ask::Read(0, 9), Want::Fault(Fault::Overlay)),
+    ],
+    files: &[(1, 143), (3, 66), (4, 66), (5, 66)],
+};
+
 #[test]
 fn a_content_that_was_read_or_stored_is_not_read_again(rt: HostRuntime) {
-    for row in [IN_PAGES, WRITTEN_IN_PIECES, UNLOADED_BETWEEN] {
+    for row in [IN_TURN, WRITTEN_IN_PIECES, UNLOADED_BETWEEN] {
         check(&rt, rt.alloc(), row, KEPT);
     }
-    check(&rt, rt.alloc(), TOO_LONG, 4);
+    for row in [TOO_LONG, LAST_USED] {
+        check(&rt, rt.alloc(), row, 4);
+    }
 }

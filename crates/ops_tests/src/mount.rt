@@ -73,7 +73,7 @@ impl Mount {
         let calls = Rc::new(alloc, Cell::new(u64::MAX)).expect(rt, "memory");
         let shared = calls.clone().expect(rt, "memory");
         let files = StopFiles::new(MemoryFiles::<Outside>::new(alloc), shared);
-        let overlay = Overlay::new(files).keeping(kept);
+        let overlay = Overlay::new(alloc, files).keeping(kept);
         let cache = ObjectCache::new(alloc, objects, 1 << 20, 8).expect(rt, "memory");
         Mount {
             alloc,

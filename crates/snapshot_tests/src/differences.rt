@@ -150,7 +150,7 @@ fn told(
     room: usize,
 ) -> (Result<(), SnapshotFault>, Vec<(Vec<u8>, Change)>) {
     let alloc = rt.alloc();
-    let mut overlay: InMemory = Overlay::<Outside, _>::new(files);
+    let mut overlay: InMemory = Overlay::<Outside, _>::new(alloc, files);
     let mut heard = Heard {
         changes: Vec::new(alloc),
         room,

@@ -141,7 +141,7 @@ fn taken(
     files: MemoryFiles<Outside>,
     submodules: &mut impl Submodules<Outside>,
 ) -> (Result<Id, SnapshotFault>, MemorySink) {
-    let mut overlay: InMemory = Overlay::<Outside, _>::new(files);
+    let mut overlay: InMemory = Overlay::<Outside, _>::new(rt.alloc(), files);
     let mut sink = MemorySink::new(rt.alloc());
     let commit = named(rt, COMMIT);
     let answer = snapshot(rt.alloc(), commit, &mut overlay, &mut sink, submodules);

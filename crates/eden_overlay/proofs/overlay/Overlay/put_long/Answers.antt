@@ -1,0 +1,7 @@
+use Rattle.eden_overlay.proofs.Kept.{kept_beside}
+use Rattle.eden_overlay.proofs.overlay.Overlay.put_long.Goals as goal
+
+pub invariant_of-self : goal.invariant_of-self
+invariant_of-self g c = λ honest.
+    kept_beside (g.F.Files.stored c.self.inside.files) (g.F.Files.stored c.replace_joined.new.self) c.args.number _ c.self.inside.recent.kept.items c.forget.new.self.kept.items
+    (c.self.invariant honest) c.forget.ensures.kept c.replace_joined.result (c.replace_joined.ensures.ok honest) (c.replace_joined.ensures.err honest)
