@@ -54,10 +54,9 @@ impl<A: Allocator + Clone, W: World, F: Files<W>> Model for Checkout<A, W, F> {
 impl<A: Allocator + Clone, W: World, F: Files<W>> Checkout<A, W, F> {
     /// Opens an overlay over a commit's tree, with a cache in which nothing is yet. Over no files nothing has changed
     /// since the commit; else they are those that a checkout of the same commit was closed to, and the state among them
-    /// is removed as the last act. The own files that were read or changed last stay in memory, eight at
-    /// most, of as many bytes together as the cache may hold, or the last one alone if it is longer; one of over 8 MiB
-    /// that was written whole does once it is read. So a few files that are read in pieces are each read from the files
-    /// once.
+    /// is removed as the last act. The own files that were read or changed last stay in memory: at most eight, of as
+    /// many bytes together as the cache may hold, or the last one alone if it is longer. One of over 8 MiB that was
+    /// written whole does once it is read. So a few files that are read in pieces are each read from the files once.
     ///
     /// Errors: `NotClean` where there are files and no state, `OtherRoot`, `Damaged` of the state alone, `Device` and
     /// `Memory`. The files come back as they were.

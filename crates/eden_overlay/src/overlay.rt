@@ -47,9 +47,9 @@ const LONG: usize = 8 << 20;
 /// The stored files of a mount, in which no name dangles: whoever stores or removes a file shows first that it will be
 /// so. Contracts see the files.
 ///
-/// The content that was last stored, or was got and given back, stays in memory, if it isn't too long; one of over 8
-/// MiB that is stored in one piece doesn't, since that would be a copy. Under an honest outside it is what its file
-/// holds.
+/// The contents that were last stored, or were got and given back, stay in memory, as many as `keeping` says. One of
+/// over 8 MiB that is stored in one piece doesn't, since that would be a copy. Under an honest outside each is what its
+/// file holds.
 /// The room that a file was written in stays too, at most 1 MiB of it for contents and for directories each: a store
 /// that needs no more takes no memory for its file.
 #[derive(Drop)]
@@ -69,7 +69,7 @@ impl<W: World, F: Files<W>> Model for Overlay<W, F> {
 }
 
 impl<W: World, F: Files<W>> Overlay<W, F> {
-    /// An overlay over those files, which keeps the content that was last used in memory. It takes no memory itself.
+    /// An overlay over those files, which keeps the content in memory that was used last. It takes no memory itself.
     pub fn new(alloc: Global, files: F) -> Self
         ensures { result ≡ files }
     {
@@ -81,8 +81,8 @@ impl<W: World, F: Files<W>> Overlay<W, F> {
         }
     }
 
-    /// The same overlay, which from now on keeps the contents that were used last, eight at most, of so many bytes
-    /// together, and the last one if it is longer.
+    /// The same overlay, which from now on keeps in memory the contents that were used last: at most eight, of at most
+    /// so many bytes together, or the last one alone if it is longer.
     pub fn keeping(mut self, most: u64) -> Self
         ensures { result ≡ self }
     {
@@ -228,7 +228,7 @@ impl<W: World, F: Files<W>> Overlay<W, F> {
         len_told(head)
     }
 
-    /// Keeps a content that was got in memory, in place of any other, if it isn't too long.
+    /// Keeps a content that was got in memory, as the one that was used last. Others go where it needs their room.
     pub fn keep(&mut self, number: u64, content: Content)
         requires { W.honest → HoldsContent (F.stored self.old) number content }
         ensures { self.new ≡ self.old }

@@ -39,7 +39,8 @@ pub(crate) struct Recent {
 }
 
 impl Recent {
-    /// Nothing yet, and later contents of at most so many bytes together, or one that is longer. It takes no memory.
+    /// Nothing yet, and later at most eight contents, of at most so many bytes together, or one that is longer. It
+    /// takes no memory.
     pub(crate) fn new(alloc: Global, most: u64) -> Recent
         ensures kept { result.kept.items ≡ [] }
         ensures most { result.most ≡ most }
