@@ -153,7 +153,10 @@ fn numbers_are_written_and_stored(rt: HostRuntime) {
     let want = told(&rt, rt.alloc(), &NEW_NUMBERS, &DIGEST, 0, BODY);
     let file = encode_numbers(rt.alloc(), tree, &entries).expect(&rt, "memory");
     assert!(rt; file == want);
-    let mut overlay = Overlay::<Outside, _>::new(rt.alloc(), MemoryFiles::<Outside>::new(rt.alloc()));
+    let mut overlay = Overlay::<Outside, _>::new(
+        rt.alloc(),
+        MemoryFiles::<Outside>::new(rt.alloc()),
+    );
     let listing = Listing::of(overlay.room(rt.alloc()), &entries).expect(&rt, "memory");
     overlay
         .put_numbers(rt.alloc(), 1, tree, listing)
