@@ -54,6 +54,12 @@ def most_memory_of(process: int) -> int:
     return int(found[1]) * 1024 if found else 0
 
 
+def most_own_memory(process: Process) -> int:
+    """.. without the pages of files, of which the kernel maps some more or fewer around each that is used."""
+    found = re.search(r"^RssFile:\s+(\d+) kB$", pathlib.Path(f"/proc/{process.pid}/status").read_text(), re.M)
+    return most_memory(process) - int(found[1]) * 1024 if found else 0
+
+
 def kill_hung(process: Process) -> None:
     global hung
     hung += 1
