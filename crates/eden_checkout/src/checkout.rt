@@ -55,8 +55,8 @@ impl<A: Allocator + Clone, W: World, F: Files<W>> Checkout<A, W, F> {
     /// Opens an overlay over a commit's tree, with a cache in which nothing is yet. Over no files nothing has changed
     /// since the commit; else they are those that a checkout of the same commit was closed to, and the state among them
     /// is removed as the last act. The own files that were read or changed last stay in memory: at most eight, of as
-    /// many bytes together as the cache may hold, or the last one alone if it is longer. One of over 8 MiB that was
-    /// written whole does once it is read. So a few files that are read in pieces are each read from the files once.
+    /// many bytes together as the cache may hold, or the last one alone if it is longer. One of over 1 MiB that is read
+    /// doesn't: it is read whole once, unless it was stored whole since, and then in the parts that are asked for.
     ///
     /// Errors: `NotClean` where there are files and no state, `OtherRoot`, `Damaged` of the state alone, `Device` and
     /// `Memory`. The files come back as they were.

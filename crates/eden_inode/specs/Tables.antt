@@ -97,6 +97,10 @@ pub record HasTree (R : Repository) (honest : Type 0) (F : Stored) (p : Path) (x
 abbrev pub HasNoTree : Type 0 → Stored → Path → Row → Type 0
 HasNoTree honest F p x = IsAt p x origin.Own ⊎ IsAt p x origin.Empty ⊎ HasNumbers honest F p x
 
+-- the entry at the path is a file or a link of the mount's own
+abbrev pub HasOwnContent : Path → Row → Type 0
+HasOwnContent p x = (y : Row) × ((row_at p x ≡ Some y) × ((y.origin ≡ origin.Own) × (y.kind ≢ kind.Dir)))
+
 -- then it has what is stored for it, with the numbers stored, or nothing
 pub record LoadsStored (honest : Type 0) (clock : ℕ) (F : Stored) (x : Row) (p : Path) (z : Row) : Type 0 where
   pub loads : LoadsOwn honest clock F x p z

@@ -8,7 +8,7 @@ ghost use Rattle.eden_model.specs.declared.id.ObjKind.TheVariants as object;
 ghost use Rattle.eden_model.specs.Limits.{number_least, number_end};
 ghost use Rattle.eden_model.specs.Backing.{Gains};
 ghost use Rattle.eden_model.specs.Failures.{Counted};
-ghost use Rattle.eden_overlay.specs.Held.{HoldsContent};
+ghost use Rattle.eden_overlay.specs.Held.{HoldsContent, HoldsPart};
 ghost use Rattle.eden_overlay.specs.declared.files.FilesFault.TheVariants as files;
 ghost use Rattle.std.specs.Coded.{codes};
 ghost use Rattle.eden_tree.specs.Coding.{child_code};
@@ -23,13 +23,13 @@ ghost use Rattle.eden_coupling.specs.NumberUnloads.{UnloadsAway};
 ghost use Rattle.eden_coupling.specs.Unloading.{IsSettled};
 ghost use Rattle.eden_inode.specs.Saved.{AreSavedAt, HasNumbers, LacksNumbers, StoresNumbers};
 ghost use Rattle.eden_inode.specs.Tables.{Table, fresh_root, CanStart, IsLast, HasTree, HasNoTree, LoadsStored};
-ghost use Rattle.eden_inode.specs.Tables.{IsNumberedFault, IsLoadFault, IsContentFault, HoldsLength};
+ghost use Rattle.eden_inode.specs.Tables.{HasOwnContent, IsNumberedFault, IsLoadFault, IsContentFault, HoldsLength};
 ghost use Rattle.eden_inode.specs.Tables.{shows, shows_numbers, ShowsSameNumbers};
 
 use crate::along::follow;
 use crate::fill::from_object;
 use crate::gone::{Gone, NOTHING};
-use crate::load::{own_content, own_len, put_loaded, stored_directory};
+use crate::load::{own_content, own_len, own_part, put_loaded, stored_directory};
 use crate::look::{look, unloaded};
 use crate::numbers::{has_numbers, save_entry};
 use crate::seen::Seen;
@@ -368,11 +368,10 @@ impl<A: Allocator + Clone, W: World, F: Files<W>> Inodes<A, W, F> {
     }
 
     /// The content of an own file or link, as it is stored. Where the overlay keeps it in memory it is handed out
-    /// without a read; `keep` gives it back. Errors: `Memory`, and `Overlay` where the device failed or the stored file
-    /// is none.
+    /// without a read; `spare` gives its room back. Errors: `Memory`, and `Overlay` where the device failed or the
+    /// stored file is none.
     pub fn content(&mut self, alloc: Global, path: &[Name]) -> Result<Content, Fault>
-        requires { (y : Row)
-            × ((row_at path.now self.old.root ≡ Some y) × ((y.origin ≡ origin.Own) × (y.kind ≢ kind.Dir))) }
+        requires { HasOwnContent path.now self.old.root }
         ensures ok { W.honest
             → IfOk result (λ content. (y : Row) → row_at path.now self.old.root ≡ Some y
             → HoldsContent (F.stored self.old.files) y.number content) }
@@ -390,12 +389,39 @@ impl<A: Allocator + Clone, W: World, F: Files<W>> Inodes<A, W, F> {
         own_content(alloc, &mut self.overlay, number)
     }
 
+    /// Bytes of the content of an own file or link, from a place on and at most so many. The overlay keeps a short one
+    /// in memory, and reads a long one in parts once it has seen all of it. Errors: `Memory`, and `Overlay` where the
+    /// device failed or the stored file is none.
+    pub fn content_part(
+        &mut self,
+        alloc: Global,
+        path: &[Name],
+        from: u64,
+        most: u64,
+    ) -> Result<Vec<u8>, Fault>
+        requires { HasOwnContent path.now self.old.root }
+        ensures ok { W.honest
+            → IfOk result (λ v. (y : Row) → row_at path.now self.old.root ≡ Some y
+            → HoldsPart (F.stored self.old.files) y.number from most v.items) }
+        ensures fault { IfErr result
+            (IsContentFault W.honest (F.failures self.old.files) (F.failures self.new.files)
+            (F.stored self.old.files) path.now self.old.root) }
+        ensures files { W.honest → F.stored self.new.files ≡ F.stored self.old.files }
+        ensures counted { (F.failures self.old.files) ≤ (F.failures self.new.files) }
+        ensures rest { self.new ≡ record self.old { files = self.new.files } }
+    {
+        let Some(entry) = self.root.walk(path) else {
+            unreachable!()
+        };
+        let number = entry.number;
+        own_part(alloc, &mut self.overlay, number, from, most)
+    }
+
     /// The length of the content of an own file or link. Its body isn't read: that this has another digest than its
     /// header says is told by `content`. Error: `Overlay`, where the device failed or the stored file is none by its
     /// header.
     pub fn content_len(&mut self, path: &[Name]) -> Result<u64, Fault>
-        requires { (y : Row)
-            × ((row_at path.now self.old.root ≡ Some y) × ((y.origin ≡ origin.Own) × (y.kind ≢ kind.Dir))) }
+        requires { HasOwnContent path.now self.old.root }
         ensures ok { W.honest
             → IfOk result (λ len. (y : Row) → row_at path.now self.old.root ≡ Some y
             → HoldsLength (F.stored self.old.files) y.number len) }
@@ -411,19 +437,6 @@ impl<A: Allocator + Clone, W: World, F: Files<W>> Inodes<A, W, F> {
         };
         let number = entry.number;
         own_len(&mut self.overlay, number)
-    }
-
-    /// Keeps the content of an own file or link in memory, in place of any other, if the overlay keeps contents of its
-    /// length: who asks for it next has it without the files.
-    pub fn keep(&mut self, path: &[Name], content: Content)
-        requires { W.honest → (y : Row) → row_at path.now self.old.root ≡ Some y
-            → HoldsContent (F.stored self.old.files) y.number content }
-        ensures { self.new ≡ self.old }
-    {
-        if let Some(entry) = self.root.walk(path) {
-            let number = entry.number;
-            self.overlay.keep(number, content);
-        }
     }
 
     /// Takes back a content that is wanted no more: its room is there for the next one that is stored.

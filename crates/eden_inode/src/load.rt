@@ -5,7 +5,8 @@ ghost use Rattle.eden_model.specs.declared.kind.Kind.TheVariants as kind;
 ghost use Rattle.eden_model.specs.declared.kind.Origin as declared;
 ghost use Rattle.eden_model.specs.declared.kind.Origin.TheVariants as origins;
 ghost use Rattle.eden_overlay_format.specs.Directory.{AreStorable};
-ghost use Rattle.eden_overlay.specs.Held.{HoldsEntries, HoldsContent, TellsLength, entries_at, content_at, saved_at};
+ghost use Rattle.eden_overlay.specs.Held.{HoldsEntries, HoldsContent, HoldsPart, TellsLength, entries_at, content_at};
+ghost use Rattle.eden_overlay.specs.Held.{saved_at};
 ghost use Rattle.eden_tree.specs.Directory.{with_child};
 ghost use Rattle.eden_coupling.specs.Listings.{listing_of};
 ghost use Rattle.eden_coupling.specs.Loading.{IsAt, IsNew, with_loaded};
@@ -158,6 +159,27 @@ pub(crate) fn own_content<W: World, F: Files<W>>(
 {
     match overlay.get_file(alloc, number) {
         Ok(content) => Ok(content),
+        Err(fault) => Err(told(fault)),
+    }
+}
+
+/// Bytes of the content that the file of that number stores, from a place on and at most so many.
+pub(crate) fn own_part<W: World, F: Files<W>>(
+    alloc: Global,
+    overlay: &mut Overlay<W, F>,
+    number: u64,
+    from: u64,
+    most: u64,
+) -> Result<Vec<u8>, Fault>
+    ensures held { W.honest → IfOk result (λ v. HoldsPart (F.stored overlay.old) number from most v.items) }
+    ensures fault { IfErr result
+        (IsGetFault W.honest (F.failures overlay.old) (F.failures overlay.new)
+        (content_at (F.stored overlay.old) number)) }
+    ensures files { W.honest → F.stored overlay.new ≡ F.stored overlay.old }
+    ensures counted { F.failures overlay.old ≤ F.failures overlay.new }
+{
+    match overlay.get_part(alloc, number, from, most) {
+        Ok(bytes) => Ok(bytes),
         Err(fault) => Err(told(fault)),
     }
 }

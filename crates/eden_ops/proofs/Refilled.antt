@@ -8,11 +8,11 @@ use Rattle.eden_model.specs.Limits.{most_file}
 use Rattle.eden_model.specs.Repository.{source_of, content_with}
 use Rattle.eden_model.specs.Trees.{Path}
 use Rattle.eden_overlay.specs.declared.files.Files.{Ghosts as Files}
-use Rattle.eden_overlay.specs.Held.{HoldsContent, own_files}
+use Rattle.eden_overlay.specs.Held.{HoldsContent, own_files, HoldsPart}
 use Rattle.eden_tree.specs.Directory.{Row}
 use Rattle.eden_tree.specs.Paths.{row_at}
 use Rattle.eden_inode.specs.Tables.{Table, shows}
-use Rattle.eden_ops.specs.Contents.{HasContent, IsContent}
+use Rattle.eden_ops.specs.Contents.{HasContent, IsContent, IsPart}
 use Rattle.eden_ops.specs.Keeping.{Keeps, same}
 use Rattle.eden_ops.specs.Refilling.{AsksContent}
 use Rattle.eden_ops.proofs.Steps.{reads}
@@ -46,3 +46,10 @@ module _ {W F : Type 0} (w : Ghosts W) (f : Files F W) (p : Path) (s : Table F) 
     shown = λ h y at. ap (λ (z : Origin). content_with w.repository (own_files (f.stored s.files)) (source_of y.number z)) (from_there y at ∙ is) ∙ had h y at;
     short = short;
   }
+
+module _ {W F : Type 0} (w : Ghosts W) (f : Files F W) (p : Path) (s : Table F) (o : Origin) (has : HasContent p s.root o) (offset count : ℕ) (bytes : List ℕ) where
+  pub part_is : o ≡ origin.Own → (w.honest → (y : Row) → row_at p s.root ≡ Some y → HoldsPart (f.stored s.files) y.number offset count bytes) → IsPart w f p s offset count bytes
+  part_is is had = λ h y at.
+      let held = had h y at in
+      let there = from_there w f p s o has held.content held.short y at ∙ is in
+      (held.content, (ap (λ (z : Origin). content_with w.repository (own_files (f.stored s.files)) (source_of y.number z)) there ∙ held.held, (held.short, held.is)))

@@ -181,8 +181,3 @@ module _ {W F : Type 0} (w : Ghosts W) (f : Files F W) where
   reads s t is stored counted =
       loads_none s t (ap (λ (u : Table F). u.root) is) (ap (λ (u : Table F). u.next) is)
       (record { stored = stored; failures = counted; clock = ap (λ (u : Table F). u.clock) is; changes = ap (λ (u : Table F). u.changes) is })
-
-  -- .. and then `Inodes::keep`
-  pub reads_keeping : {ps : List Path} (s t u : Table F) → u ≡ t → t ≡ record s { files = t.files } → (w.honest → f.stored t.files ≡ f.stored s.files) → f.failures s.files ≤ f.failures t.files → Keeps
-      w f ps s u
-  reads_keeping {ps = ps} s t u kept is stored counted = subst (λ (v : Table F). Keeps w f ps s v) (sym kept) (reads s t is stored counted)

@@ -1,5 +1,5 @@
 -- The content of a file or a link, and what is made of it.
-use Rattle.std.specs.Prelude.{◌≡◌, ◌≢◌, ◌≤◌, ◌<◌, ◌+◌, ℕ, List, length, take, drop, Some, None}
+use Rattle.std.specs.Prelude.{◌≡◌, ◌≢◌, ◌≤◌, ◌<◌, ◌+◌, ℕ, List, length, Some, None}
 use Rattle.eden_model.specs.declared.kind.Kind.TheVariants as kind
 use Rattle.eden_model.specs.declared.kind.Origin.{Origin}
 use Rattle.eden_model.specs.declared.world.World.{Ghosts}
@@ -8,6 +8,7 @@ use Rattle.eden_model.specs.Operations.{resized, written}
 use Rattle.eden_model.specs.Repository.{source_of, content_with}
 use Rattle.eden_model.specs.Trees.{Path}
 use Rattle.eden_overlay.specs.declared.files.Files.{Ghosts as Files}
+use Rattle.eden_overlay.specs.Files.{part}
 use Rattle.eden_overlay.specs.Held.{own_files}
 use Rattle.eden_tree.specs.Directory.{Row, child_of}
 use Rattle.eden_tree.specs.Paths.{row_at}
@@ -28,10 +29,6 @@ pub record IsFileAt (p : Path) (x y : Row) : Type 0 where
   pub unloaded : child_of y ≡ None
   pub file : y.kind ≢ kind.Dir
 
--- the bytes from an offset on, at most so many
-abbrev pub part : ℕ → ℕ → List ℕ → List ℕ
-part offset count content = take count (drop offset content)
-
 -- what a content becomes
 abbrev pub made : Form → List ℕ → List ℕ
 made (form.Written offset bytes) content = written offset bytes.now content
@@ -49,11 +46,11 @@ module _ {W F : Type 0} (w : Ghosts W) (f : Files F W) where
         → content_with w.repository (own_files (f.stored t.files)) (source_of y.number y.origin) ≡ Some content
     pub short : length content ≤ most_file
 
-  -- the bytes of it from an offset on, at most so many
-  pub record IsPart (p : Path) (t : Table F) (offset count : ℕ) (bytes : List ℕ) : Type 0 where
-    pub content : List ℕ
-    pub is : IsContent p t content
-    pub made : bytes ≡ part offset count content
+  -- these are bytes of that content, from an offset on and at most so many
+  abbrev pub IsPart : Path → Table F → ℕ → ℕ → List ℕ → Type 0
+  IsPart p t offset count bytes = w.honest → (y : Row) → row_at p t.root ≡ Some y
+      → (content : List ℕ) × ((content_with w.repository (own_files (f.stored t.files)) (source_of y.number y.origin) ≡ Some content)
+      × ((length content ≤ most_file) × (bytes ≡ part offset count content)))
 
   -- the length of the content that the entry at the path shows, where the outside is honest
   abbrev pub HasLength : Path → Table F → ℕ → Type 0

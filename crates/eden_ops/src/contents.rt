@@ -5,7 +5,8 @@ ghost use Rattle.eden_model.specs.Limits.{most_file};
 ghost use Rattle.eden_inode.specs.Tables.{shows};
 ghost use Rattle.eden_ops.specs.Attempts.{Lacks};
 ghost use Rattle.eden_cache.specs.Stock.{FindsTheSame, object_at};
-ghost use Rattle.eden_ops.specs.Contents.{HasContent, part, IsPart};
+ghost use Rattle.eden_overlay.specs.Files.{part};
+ghost use Rattle.eden_ops.specs.Contents.{HasContent, IsPart};
 ghost use Rattle.eden_ops.specs.Keeping.{Keeps};
 
 use crate::answer::Stop;
@@ -13,18 +14,8 @@ use crate::laws::keeps_laws;
 use eden_cache::{Stock, cache_laws};
 use eden_inode::Inodes;
 use eden_model::{Bytes, Id, Key, ObjKind, Origin, Path, World};
-use eden_overlay::Files;
+use eden_overlay::{Files, part_of};
 use std::alloc::{AllocError, Allocator, Global};
-
-/// The bytes from an offset on, at most so many.
-fn copied(alloc: Global, content: &[u8], offset: u64, count: u64) -> Result<Vec<u8>, AllocError>
-    ensures { IfOk result (λ v. v.items ≡ part offset count content.now) }
-{
-    let from = (content.len() as u64).min(offset) as usize;
-    let rest = &content[from..];
-    let to = (rest.len() as u64).min(count) as usize;
-    Vec::from_slice(alloc, &rest[..to])
-}
 
 /// The bytes of a cached blob from an offset on, at most so many.
 fn cached_part<W: World, C: Allocator + Clone>(
@@ -45,7 +36,7 @@ fn cached_part<W: World, C: Allocator + Clone>(
     let kind = ObjKind::Blob;
     match cache.get(Key { kind, id }) {
         None => Ok(None),
-        Some(object) => Ok(Some(Bytes::new(copied(alloc, object.body(), offset, count)?))),
+        Some(object) => Ok(Some(Bytes::new(part_of(alloc, object.body(), offset, count)?))),
     }
 }
 
@@ -73,9 +64,7 @@ pub(crate) fn part<A: Allocator + Clone, W: World, F: Files<W>, C: Allocator + C
     match origin {
         Origin::Empty => unreachable!(),
         Origin::Own => {
-            let content = inodes.content(alloc, path.as_slice())?;
-            let bytes = copied(alloc, content.as_slice(), offset, count)?;
-            inodes.keep(path.as_slice(), content);
+            let bytes = inodes.content_part(alloc, path.as_slice(), offset, count)?;
             Ok(Bytes::new(bytes))
         }
         Origin::Object(id) => match cached_part(cache, alloc, id, offset, count)? {

@@ -18,3 +18,5 @@ pub mod Accusing
 pub mod Tidied
 mod Kept
 mod Lengths
+mod Whole
+mod Parts

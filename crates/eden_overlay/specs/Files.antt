@@ -1,5 +1,5 @@
 -- Files by their numbers, as contracts see them.
-use Rattle.std.specs.Prelude.{ℕ, ◌==◌, List, Option, Some, None, if◌then◌else◌, IsSome, All, Contains}
+use Rattle.std.specs.Prelude.{ℕ, ◌==◌, List, Option, Some, None, if◌then◌else◌, take, drop, IsSome, All, Contains}
 use Rattle.eden_overlay_format.specs.declared.header.Head.{Head}
 use Rattle.eden_overlay_format.specs.Content.{IsHead}
 
@@ -9,6 +9,10 @@ Stored = ℕ → Option (List ℕ)
 -- f, with w at k
 abbrev pub put : Stored → ℕ → Option (List ℕ) → Stored
 put f k w = λ q. if k == q then w else f q
+
+-- the bytes from a place on, at most so many
+abbrev pub part : ℕ → ℕ → List ℕ → List ℕ
+part from most bytes = take most (drop from bytes)
 
 -- the numbers of the files, and no others
 pub record Lists (ks : List ℕ) (f : Stored) : Type 0 where

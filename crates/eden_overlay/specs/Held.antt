@@ -1,5 +1,5 @@
 -- What a file holds, and the files with one of them put in or taken out.
-use Rattle.std.specs.Prelude.{◌≡◌, ℕ, List, Option, Some, None, Result, Ok, IsSomeAnd, if◌then◌else◌}
+use Rattle.std.specs.Prelude.{◌≡◌, ◌≤◌, ℕ, List, length, Option, Some, None, Result, Ok, IsSomeAnd, if◌then◌else◌}
 use Rattle.std.specs.Option.{option_map, option_and_then}
 use Rattle.eden_model.specs.declared.id.Id.{Id}
 use Rattle.eden_model.specs.Keys.{same_id}
@@ -12,12 +12,12 @@ use Rattle.eden_overlay_format.specs.declared.refusal.Refusal.{Refusal}
 use Rattle.eden_overlay_format.specs.declared.state.State.{State}
 use Rattle.eden_overlay_format.specs.declared.stored_entry.StoredEntry.{StoredEntry}
 use Rattle.eden_overlay_format.specs.Stored.{written}
-use Rattle.eden_overlay_format.specs.Content.{IsHead, content_length}
+use Rattle.eden_overlay_format.specs.Content.{IsHead, content_length, content_most}
 use Rattle.eden_overlay_format.specs.Directory.{directory_body}
 use Rattle.eden_overlay_format.specs.Numbers.{numbers_body, has_numbers}
 use Rattle.eden_overlay_format.specs.State.{state_body}
 use Rattle.eden_overlay_format.specs.Values.{content_in, state_in, entries_in, numbers_in}
-use Rattle.eden_overlay.specs.Files.{Stored, put}
+use Rattle.eden_overlay.specs.Files.{Stored, part, put}
 
 -- the content of file k, or none where it isn't stored or is no content; likewise the entries; and the state of file 0
 abbrev pub content_at : Stored → ℕ → Option (List ℕ)
@@ -65,6 +65,13 @@ pub record HeadTells (bytes : List ℕ) (told : Result ℕ Refusal) : Type 0 whe
 
 abbrev pub TellsLength : Stored → ℕ → ℕ → Type 0
 TellsLength F k len = IsSomeAnd (F k) (λ bytes. HeadTells bytes (Ok len))
+
+-- bytes of the content of file k, from a place on and at most so many
+pub record HoldsPart (F : Stored) (k from most : ℕ) (bytes : List ℕ) : Type 0 where
+  pub content : List ℕ
+  pub held : HoldsContent F k content
+  pub short : length content ≤ content_most
+  pub is : bytes ≡ part from most content
 
 -- ---- what own files show
 

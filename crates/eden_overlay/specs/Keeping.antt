@@ -1,8 +1,9 @@
--- What is kept of stored files in memory.
-use Rattle.std.specs.Prelude.{ℕ, ◌≡◌, ◌≤◌, ◌==◌, ◌+◌, ◌++◌, ◌⊎◌, Bool, not, List, [], ◌∷◌, find, filter, Option, option_map, length}
+-- What is kept of stored files in memory, and known of them.
+use Rattle.std.specs.Prelude.{ℕ, ◌≡◌, ◌≤◌, ◌==◌, ◌+◌, ◌++◌, ◌⊎◌, Bool, true, not, List, [], ◌∷◌, find, filter, Option, option_map, length, IsSome}
+use Rattle.std.specs.List.{list_any}
 use Rattle.eden_overlay.specs.declared.recent.Kept.{Kept}
 use Rattle.eden_overlay.specs.Files.{Stored}
-use Rattle.eden_overlay.specs.Held.{HoldsContent}
+use Rattle.eden_overlay.specs.Held.{HoldsContent, content_at}
 
 -- each content that is kept is the one that its file holds
 unfoldable pub AreKeptOf : Stored → List Kept → Type 0
@@ -38,3 +39,23 @@ kept_bytes (k ∷ kept) = length k.content + kept_bytes kept
 -- at most eight, of so many bytes together, or one that is longer
 abbrev pub Fits : ℕ → List Kept → Type 0
 Fits most kept = (length kept ≤ 8) × ((kept_bytes kept ≤ most) ⊎ (length kept ≤ 1))
+
+-- whether it is one of the numbers
+abbrev pub is_one_of : ℕ → List ℕ → Bool
+is_one_of number numbers = list_any (λ k. k == number) numbers
+
+-- each of them is the number of a file that holds a content, whatever that is
+abbrev pub AreWhole : Stored → List ℕ → Type 0
+AreWhole F numbers = (k : ℕ) → is_one_of k numbers ≡ true → IsSome (content_at F k)
+
+-- the others
+abbrev pub other_numbers : ℕ → List ℕ → List ℕ
+other_numbers number numbers = filter (λ k. not (k == number)) numbers
+
+-- at most that one came
+abbrev pub AddsOne : ℕ → List ℕ → List ℕ → Type 0
+AddsOne number old new = (k : ℕ) → is_one_of k new ≡ true → (k ≡ number) ⊎ (is_one_of k old ≡ true)
+
+-- all that is kept and known of the files is so
+abbrev pub AreKnownOf : Stored → List Kept → List ℕ → Type 0
+AreKnownOf F kept numbers = AreKeptOf F kept × AreWhole F numbers

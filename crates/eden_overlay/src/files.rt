@@ -52,11 +52,12 @@ impl<T: Drop> From<AllocFailed<T>> for FilesFault {
 /// What is stored is promised where the World is honest. After an error nothing has changed. Each answer `Device`
 /// raises the count of failures, and no other answer touches it.
 pub trait Files<W: World>: Drop {
-    ghost use Rattle.std.specs.Prelude.{◌≡◌, ◌++◌, ℕ, None, Some, Err, IfOk, IfErr, OnOk, OnErr, option_map};
+    ghost use Rattle.std.specs.Prelude.{◌≡◌, ◌≤◌, ◌++◌, ℕ, None, Some, Err, IfOk, IfErr, IfSome, OnOk, OnErr, length};
+    ghost use Rattle.std.specs.Prelude.{option_map};
     ghost use Rattle.std.specs.Ordering.{nat_cmp};
     ghost use Rattle.std.specs.List.Sorted.{IsStrictlySortedBy};
     ghost use Rattle.eden_model.specs.Failures.{Counted};
-    ghost use Rattle.eden_overlay.specs.Files.{Stored, put, IsHeadOf, Lists};
+    ghost use Rattle.eden_overlay.specs.Files.{Stored, put, part, IsHeadOf, Lists};
     ghost use Rattle.eden_overlay.specs.declared.files.FilesFault.TheVariants.{Device};
 
     /// The files, by their numbers.
@@ -81,6 +82,21 @@ pub trait Files<W: World>: Drop {
         ensures found { W.honest → IfOk result (IsHeadOf (stored self.old number)) }
         ensures unchanged { W.honest → stored self.new ≡ stored self.old }
         ensures fault { IfErr result (λ f. f ≡ Device) }
+        ensures counted { Counted (result ≡ Err Device) (failures self.old) (failures self.new) };
+
+    /// The bytes of the file with that number from `from` on, at most `most` of them: none where it ends before. None
+    /// where there is no file. The rest isn't read.
+    fn read_part(
+        &mut self,
+        alloc: Global,
+        number: u64,
+        from: u64,
+        most: u64,
+    ) -> Result<Option<Vec<u8>>, FilesFault>
+        ensures found { W.honest → IfOk result
+            (λ o. option_map (λ v. v.items) o ≡ option_map (part from most) (stored self.old number)) }
+        ensures bounded { IfOk result (λ o. IfSome o (λ v. length v.items ≤ most)) }
+        ensures unchanged { W.honest → stored self.new ≡ stored self.old }
         ensures counted { Counted (result ≡ Err Device) (failures self.old) (failures self.new) };
 
     /// Stores the bytes as the whole file of that number, in place of any that was there.

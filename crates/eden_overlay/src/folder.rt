@@ -12,7 +12,7 @@ use crate::tidy::Removed;
 use eden_model::Outside;
 use eden_overlay_format::Head;
 use eden_plain_files::{
-    FolderFault, Links, entry_in, read_file, read_front, remove_file, replace_file,
+    FolderFault, Links, entry_in, read_file, read_front, read_part, remove_file, replace_file,
 };
 use std::alloc::{Alloc, AllocError, Allocator, Global};
 use std::collections::BTreeSet;
@@ -102,6 +102,23 @@ impl<R: rt::Files + Alloc + Clone + Drop> Files<Outside> for FolderFiles<R> {
         ensures bounded { IfOk result (λ o. IfSome o (λ head. head.len ≤ longest_stored)) }
     {
         let answer = head_number(&self.files, &self.folder, number);
+        self.failures = count(self.failures, &answer);
+        answer
+    }
+
+    /// `Device` too where the name isn't a plain file's, or the file is over 2^30 + 64 bytes.
+    fn read_part(
+        &mut self,
+        alloc: Global,
+        number: u64,
+        from: u64,
+        most: u64,
+    ) -> Result<Option<Vec<u8>>, FilesFault>
+        ensures counted { Counted (result ≡ Err fault.Device) self.old.failures self.new.failures }
+        ensures path { self.new.path ≡ self.old.path }
+        ensures bounded { IfOk result (λ o. IfSome o (λ v. length v.items ≤ most)) }
+    {
+        let answer = part_number(&self.files, alloc, &self.folder, number, from, most);
         self.failures = count(self.failures, &answer);
         answer
     }
@@ -201,6 +218,25 @@ fn head_number<R: rt::Files>(
         }
         Err(FolderFault::Missing) => Ok(None),
         Err(_) => Err(FilesFault::Device),
+    }
+}
+
+fn part_number<R: rt::Files>(
+    files: &R,
+    alloc: Global,
+    folder: &PathBuf,
+    number: u64,
+    from: u64,
+    most: u64,
+) -> Result<Option<Vec<u8>>, FilesFault>
+    ensures { IfOk result (λ o. IfSome o (λ v. length v.items ≤ most)) }
+{
+    let path = file_path(folder, number)?;
+    let (path, links) = (path.as_str(), Links::Refused);
+    match read_part(files, alloc, path, links, LONGEST_FILE, from, most) {
+        Ok(bytes) => Ok(Some(bytes)),
+        Err(FolderFault::Missing) => Ok(None),
+        Err(fault) => Err(FilesFault::from(fault)),
     }
 }
 

@@ -1,11 +1,12 @@
 //! Files that fail where a test wants it.
 
-ghost use Rattle.std.specs.Prelude.{◌≡◌, ◌++◌, None, Some, Err, IfOk, IfErr, OnOk, OnErr, option_map};
+ghost use Rattle.std.specs.Prelude.{◌≡◌, ◌≤◌, ◌++◌, None, Some, Err, IfOk, IfErr, IfSome, OnOk, OnErr, length};
+ghost use Rattle.std.specs.Prelude.{option_map};
 ghost use Rattle.std.specs.Ordering.{nat_cmp};
 ghost use Rattle.std.specs.List.Sorted.{IsStrictlySortedBy};
 ghost use Rattle.eden_model.specs.Failures.{Counted};
 ghost use Rattle.eden_overlay.specs.Gates.{Calls};
-ghost use Rattle.eden_overlay.specs.Files.{IsHeadOf, Lists, put};
+ghost use Rattle.eden_overlay.specs.Files.{IsHeadOf, Lists, part, put};
 ghost use Rattle.eden_overlay.specs.declared.files.FilesFault.TheVariants as fault;
 
 use crate::files::{Files, FilesFault, count};
@@ -164,6 +165,29 @@ impl<W: World, F: Files<W>, G: Gate> Files<W> for GatedFiles<F, G> {
     {
         let answer = if self.gate.passes() {
             self.files.head(number)
+        } else {
+            Err(FilesFault::Device)
+        };
+        self.failures = count(self.failures, &answer);
+        answer
+    }
+
+    fn read_part(
+        &mut self,
+        alloc: Global,
+        number: u64,
+        from: u64,
+        most: u64,
+    ) -> Result<Option<Vec<u8>>, FilesFault>
+        ensures found { W.honest → IfOk result
+            (λ o. option_map (λ v. v.items) o ≡ option_map (part from most) (F.stored self.old.files number)) }
+        ensures bounded { IfOk result (λ o. IfSome o (λ v. length v.items ≤ most)) }
+        ensures unchanged { W.honest → F.stored self.new.files ≡ F.stored self.old.files }
+        ensures counted { Counted (result ≡ Err fault.Device) self.old.failures self.new.failures }
+        ensures calls { Calls G.passed self.old result self.new }
+    {
+        let answer = if self.gate.passes() {
+            self.files.read_part(alloc, number, from, most)
         } else {
             Err(FilesFault::Device)
         };

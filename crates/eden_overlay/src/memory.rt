@@ -1,12 +1,13 @@
-ghost use Rattle.std.specs.Prelude.{◌≡◌, ◌++◌, [], IfOk};
+ghost use Rattle.std.specs.Prelude.{◌≡◌, ◌≤◌, ◌++◌, [], length, IfOk, IfSome};
 ghost use Rattle.std.specs.Option.{option_copied, option_map};
 ghost use Rattle.std.specs.Ordering.{nat_cmp};
 ghost use Rattle.std.specs.List.Sorted.{IsStrictlySortedBy};
 ghost use Rattle.eden_overlay_format.specs.Content.{IsHead};
-ghost use Rattle.eden_overlay.specs.Files.{IsHeadOf, Lists};
+ghost use Rattle.eden_overlay.specs.Files.{IsHeadOf, Lists, part};
 ghost use Rattle.eden_overlay.specs.InMemory.{files_of, stored_in};
 
 use crate::files::{Files, FilesFault};
+use crate::part::part_of;
 use eden_model::World;
 use eden_overlay_format::{HEADER_LEN, Head};
 use std::alloc::{AllocError, Global};
@@ -62,6 +63,16 @@ impl<W: World> Files<W> for MemoryFiles<W> {
         Ok(head_in(self.files.get(&number)))
     }
 
+    fn read_part(
+        &mut self,
+        alloc: Global,
+        number: u64,
+        from: u64,
+        most: u64,
+    ) -> Result<Option<Vec<u8>>, FilesFault> {
+        Ok(part_in(alloc, self.files.get(&number), from, most)?)
+    }
+
     fn replace(&mut self, alloc: Global, number: u64, bytes: &[u8]) -> Result<(), FilesFault> {
         let bytes = Vec::from_slice(alloc, bytes)?;
         self.files.insert(number, bytes)?;
@@ -107,6 +118,23 @@ fn copied(alloc: Global, bytes: Option<&Vec<u8>>) -> Result<Option<Vec<u8>>, All
     match bytes {
         None => Ok(None),
         Some(bytes) => Ok(Some(Vec::from_slice(alloc, bytes.as_slice())?)),
+    }
+}
+
+// A part of the bytes, if there are any.
+fn part_in(
+    alloc: Global,
+    bytes: Option<&Vec<u8>>,
+    from: u64,
+    most: u64,
+) -> Result<Option<Vec<u8>>, AllocError>
+    ensures part { IfOk result (λ o. option_map (λ v. v.items) o
+        ≡ option_map (part from most) (option_map (λ v. v.items) (option_copied bytes.entry))) }
+    ensures bounded { IfOk result (λ o. IfSome o (λ v. length v.items ≤ most)) }
+{
+    match bytes {
+        None => Ok(None),
+        Some(bytes) => Ok(Some(part_of(alloc, bytes.as_slice(), from, most)?)),
     }
 }
 

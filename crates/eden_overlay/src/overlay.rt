@@ -1,6 +1,6 @@
 //! The files of an overlay, stored and got as what they hold.
 
-ghost use Rattle.std.specs.Prelude.{◌≡◌, ◌≢◌, ◌≤◌, Err, Some, true, length, OnOk, OnErr, IfOk, IfErr};
+ghost use Rattle.std.specs.Prelude.{◌≡◌, ◌≢◌, ◌≤◌, Err, Some, true, length, OnOk, OnErr, IfOk, IfErr, IsSome};
 ghost use Rattle.std.specs.Ordering.{nat_cmp};
 ghost use Rattle.std.specs.List.Sorted.{IsStrictlySortedBy};
 ghost use Rattle.eden_model.specs.Limits.{number_least, number_end};
@@ -11,28 +11,32 @@ ghost use Rattle.eden_overlay_format.specs.Directory.{AreStorable};
 ghost use Rattle.eden_overlay_format.specs.State.{IsGoodState};
 ghost use Rattle.eden_overlay_format.specs.Values.{content_in, state_in, entries_in};
 ghost use Rattle.eden_overlay.specs.Files.{Lists};
-ghost use Rattle.eden_overlay.specs.Held.{HoldsContent, HoldsEntries, HoldsState, TellsLength, root_file, saved_at};
+ghost use Rattle.eden_overlay.specs.Held.{HoldsContent, HoldsEntries, HoldsPart, HoldsState, TellsLength};
+ghost use Rattle.eden_overlay.specs.Held.{content_at, root_file, saved_at};
 ghost use Rattle.eden_overlay.specs.Held.{with_content, with_entries, with_numbers, with_state, without};
 ghost use Rattle.eden_overlay.specs.Soundness.{AreSound};
 ghost use Rattle.eden_overlay.specs.Tidying.{bytes_at};
 ghost use Rattle.eden_overlay.specs.Getting.{Explains, ExplainsLength, ExplainsNumbers, length_of, of_numbers};
 ghost use Rattle.std.specs.Option.{is_some};
 ghost use Rattle.eden_overlay_format.specs.Numbers.{none_is_own};
-ghost use Rattle.eden_overlay.specs.Keeping.{AreKeptOf};
+ghost use Rattle.eden_overlay.specs.Keeping.{AreKnownOf};
+ghost use Rattle.eden_overlay.specs.Files.{part};
 ghost use Rattle.eden_overlay.specs.declared.files.FilesFault.TheVariants as files;
 ghost use Rattle.eden_overlay.specs.declared.fault.GetFault.TheVariants as get;
 
 use crate::content::Content;
 use crate::fault::GetFault;
 use crate::files::{Files, FilesFault};
+use crate::part::part_of;
 use crate::recent::Recent;
 use crate::room::Room;
 use eden_model::{Id, World};
 use eden_overlay_format::{
-    DecodeFault, Head, Listing, Refusal, Spliced, State, StoredEntry, content_len, decode_dir,
-    decode_numbers, decode_state, encode_file_in, encode_state, file_header, has_numbers,
+    DecodeFault, HEADER_LEN, Head, Listing, Refusal, Spliced, State, StoredEntry, content_len,
+    decode_dir, decode_numbers, decode_state, encode_file_in, encode_state, file_header,
+    has_numbers,
 };
-use std::alloc::Global;
+use std::alloc::{AllocError, Global};
 use std::marker::{Model, PhantomData};
 
 /// The number of the state's file.
@@ -44,12 +48,16 @@ pub(crate) const ROOT_NUMBER: u64 = 1;
 /// A content of more bytes, 8 MiB, is stored without a copy where it is lent in one piece.
 const LONG: usize = 8 << 20;
 
+/// A content of more bytes, 1 MiB, that was only read stays in the files: its parts are read there.
+const LARGE: usize = 1 << 20;
+
 /// The stored files of a mount, in which no name dangles: whoever stores or removes a file shows first that it will be
 /// so. Contracts see the files.
 ///
-/// The contents that were last stored, or were got and given back, stay in memory, as many as `keeping` says. One of
-/// over 8 MiB that is stored in one piece doesn't, since that would be a copy. Under an honest outside each is what its
-/// file holds.
+/// The contents that were last stored, or of which parts were got, stay in memory, as many as `keeping` says. One of
+/// over 8 MiB that is stored in one piece doesn't, since that would be a copy, nor one of over 1 MiB that was read:
+/// that its file holds a content is known then, so that its parts are read there. Under an honest outside each content
+/// is what its file holds.
 /// The room that a file was written in stays too, at most 1 MiB of it for contents and for directories each: a store
 /// that needs no more takes no memory for its file.
 #[derive(Drop)]
@@ -65,7 +73,7 @@ impl<W: World, F: Files<W>> Model for Overlay<W, F> {
 
     ghost view = { λ o. o.files };
 
-    ghost invariant = { λ o. W.honest → AreKeptOf (F.stored o.files) o.recent.kept.items };
+    ghost invariant = { λ o. W.honest → AreKnownOf (F.stored o.files) o.recent.kept.items o.recent.whole.items };
 }
 
 impl<W: World, F: Files<W>> Overlay<W, F> {
@@ -138,6 +146,7 @@ impl<W: World, F: Files<W>> Overlay<W, F> {
 
     /// Stores a content in one piece, of which no copy is made: so it isn't kept in memory.
     fn put_long(&mut self, alloc: Global, number: u64, content: &[u8]) -> Result<(), FilesFault>
+        requires short { length content.now ≤ content_most }
         requires sound { W.honest → AreSound (with_content (F.stored self.old) number content.now) }
         ensures ok { W.honest
             → OnOk result (F.stored self.new ≡ with_content (F.stored self.old) number content.now) }
@@ -146,7 +155,9 @@ impl<W: World, F: Files<W>> Overlay<W, F> {
     {
         self.recent.forget(number);
         let header = file_header(content);
-        self.files.replace_joined(alloc, number, &header, content)
+        self.files.replace_joined(alloc, number, &header, content)?;
+        self.recent.note_whole(number);
+        Ok(())
     }
 
     /// Stores a directory as the file of that number, in place of any that was there: the root's is 1. After an error
@@ -211,6 +222,81 @@ impl<W: World, F: Files<W>> Overlay<W, F> {
         }
     }
 
+    /// Bytes of the content of the file of that number, from a place on and at most so many, or why there are none.
+    ///
+    /// The files aren't asked for a content that is kept. One of at most 1 MiB that is read is kept. A longer one is
+    /// read whole once, for its digest, unless it was stored here whole; from then on its parts alone are read, until
+    /// it changes.
+    pub fn get_part(
+        &mut self,
+        alloc: Global,
+        number: u64,
+        from: u64,
+        most: u64,
+    ) -> Result<Vec<u8>, GetFault>
+        ensures found { W.honest → IfOk result (λ v. HoldsPart (F.stored self.old) number from most v.items) }
+        ensures bounded { IfOk result (λ v. length v.items ≤ most) }
+        ensures refused { W.honest → IfErr result (Explains identifier.File content_in (F.stored self.old number)) }
+        ensures unchanged { W.honest → F.stored self.new ≡ F.stored self.old }
+        ensures counted { Counted (result ≡ Err get.Device) (F.failures self.old) (F.failures self.new) }
+    {
+        if let Some(content) = self.recent.take(number) {
+            return Ok(self.part_kept(alloc, number, content, from, most)?);
+        }
+        if self.recent.is_whole(number) {
+            return self.part_stored(alloc, number, from, most);
+        }
+        let content = self.get_file(alloc, number)?;
+        if content.as_slice().len() <= LARGE {
+            return Ok(self.part_kept(alloc, number, content, from, most)?);
+        }
+        let part = part_of(alloc, content.as_slice(), from, most)?;
+        self.recent.note_whole(number);
+        Ok(part)
+    }
+
+    // Bytes of a content, which is kept as the one that was used last: others go where it needs their room.
+    fn part_kept(
+        &mut self,
+        alloc: Global,
+        number: u64,
+        content: Content,
+        from: u64,
+        most: u64,
+    ) -> Result<Vec<u8>, AllocError>
+        requires { W.honest → HoldsContent (F.stored self.old) number content }
+        ensures part { IfOk result (λ v. v.items ≡ part from most content) }
+        ensures same { self.new ≡ self.old }
+    {
+        let part = part_of(alloc, content.as_slice(), from, most);
+        let _kept = self.recent.keep(number, content);
+        part
+    }
+
+    // Bytes of a content that the file is known to hold, from there.
+    fn part_stored(
+        &mut self,
+        alloc: Global,
+        number: u64,
+        from: u64,
+        most: u64,
+    ) -> Result<Vec<u8>, GetFault>
+        requires { W.honest → IsSome (content_at (F.stored self.old) number) }
+        ensures found { W.honest → IfOk result (λ v. HoldsPart (F.stored self.old) number from most v.items) }
+        ensures bounded { IfOk result (λ v. length v.items ≤ most) }
+        ensures refused { W.honest → IfErr result (Explains identifier.File content_in (F.stored self.old number)) }
+        ensures unchanged { W.honest → F.stored self.new ≡ F.stored self.old }
+        ensures counted { Counted (result ≡ Err get.Device) (F.failures self.old) (F.failures self.new) }
+    {
+        let Some(from) = from.checked_add(HEADER_LEN as u64) else {
+            return Ok(Vec::new(alloc));
+        };
+        match self.files.read_part(alloc, number, from, most)? {
+            Some(bytes) => Ok(bytes),
+            None => Err(GetFault::Absent),
+        }
+    }
+
     /// The length of the content of the file of that number, or why it tells none: by its first 64 bytes and its
     /// length. The content isn't read: that it has another digest than its header says is told by `get_file`. The files
     /// aren't asked where the content is kept. It takes no memory.
@@ -226,14 +312,6 @@ impl<W: World, F: Files<W>> Overlay<W, F> {
         }
         let head = self.files.head(number)?;
         len_told(head)
-    }
-
-    /// Keeps a content that was got in memory, as the one that was used last. Others go where it needs their room.
-    pub fn keep(&mut self, number: u64, content: Content)
-        requires { W.honest → HoldsContent (F.stored self.old) number content }
-        ensures { self.new ≡ self.old }
-    {
-        let _kept = self.recent.keep(number, content);
     }
 
     /// Takes back a content that was got and is wanted no more: its room is there for the next one that is stored.

@@ -1,8 +1,9 @@
-//! The contents that stay in memory.
+//! The contents that stay in memory, and what is known of others.
 
 ghost use Rattle.std.specs.Prelude.{◌≡◌, ◌≤◌, ◌<◌, ◌++◌, ◌+◌, ◌⊎◌, ◌^◌, ◌-◌, ℕ, length, min, OnOk, OnErr, IsTrue};
 ghost use Rattle.std.specs.Prelude.{List, [], ◌∷◌, drop, position};
 ghost use Rattle.eden_overlay.specs.Keeping.{Fits, IsEndOf, is_of, kept_bytes, kept_content, kept_length, of_others};
+ghost use Rattle.eden_overlay.specs.Keeping.{AddsOne, is_one_of, other_numbers};
 
 use crate::content::Content;
 use crate::room::Room;
@@ -10,6 +11,9 @@ use std::alloc::{AllocError, Global};
 
 /// How many contents are kept at most.
 const CONTENTS_MOST: usize = 8;
+
+/// How many files are known to be whole at most.
+const WHOLE_MOST: usize = 256;
 
 /// A content in memory, and the number of the file that holds it.
 #[derive(Drop)]
@@ -34,6 +38,9 @@ pub(crate) struct Recent {
     pub(crate) kept: Vec<Kept>,
     /// How many bytes are kept at most, of all together where there are several.
     pub(crate) most: u64,
+    /// The numbers of files that hold a content, as a read of all of it or a store showed: parts of them need no
+    /// digest.
+    pub(crate) whole: Vec<u64>,
     /// The room of a content that went.
     pub(crate) room: Room,
 }
@@ -43,11 +50,13 @@ impl Recent {
     /// takes no memory.
     pub(crate) fn new(alloc: Global, most: u64) -> Recent
         ensures kept { result.kept.items ≡ [] }
+        ensures whole { result.whole.items ≡ [] }
         ensures most { result.most ≡ most }
     {
         Recent {
             kept: Vec::new(alloc),
             most,
+            whole: Vec::new(alloc),
             room: Room::new(),
         }
     }
@@ -56,6 +65,7 @@ impl Recent {
     pub(crate) fn take(&mut self, number: u64) -> Option<Content>
         ensures found { result ≡ kept_content number self.old.kept.items }
         ensures others { self.new.kept.items ≡ of_others number self.old.kept.items }
+        ensures whole { self.new.whole ≡ self.old.whole }
         ensures most { self.new.most ≡ self.old.most }
     {
         let at = place_of(&self.kept, number)?;
@@ -79,17 +89,48 @@ impl Recent {
             × (self.new.kept.items ≡ rest ++ (record { number = number; content = content }) ∷ []))) }
         ensures err { OnErr result (IsEndOf self.new.kept.items (of_others number self.old.kept.items)) }
         ensures fits { OnOk result (Fits self.old.most self.new.kept.items) }
+        ensures whole { self.new.whole ≡ self.old.whole }
         ensures most { self.new.most ≡ self.old.most }
     {
-        self.forget(number);
+        self.let_go(number);
         let kept = Kept { number, content };
         self.make_room(kept.len());
         Ok(self.kept.push(kept)?)
     }
 
-    /// Drops the content of that file; those of other files stay.
+    /// Whether the file of that number is known to hold a content.
+    pub(crate) fn is_whole(&self, number: u64) -> bool
+        ensures { result ≡ is_one_of number self.now.whole.items }
+    {
+        self.whole.contains(&number)
+    }
+
+    /// Knows that the file of that number holds a content, if there is room to know it.
+    pub(crate) fn note_whole(&mut self, number: u64)
+        ensures kept { self.new.kept ≡ self.old.kept }
+        ensures whole { AddsOne number self.old.whole.items self.new.whole.items }
+        ensures most { self.new.most ≡ self.old.most }
+    {
+        if self.whole.len() >= WHOLE_MOST {
+            self.whole.clear();
+        }
+        let _noted = self.whole.push(number);
+    }
+
+    /// Drops the content of that file, and knows nothing of it any more; what is of other files stays.
     pub(crate) fn forget(&mut self, number: u64)
         ensures kept { self.new.kept.items ≡ of_others number self.old.kept.items }
+        ensures whole { self.new.whole.items ≡ other_numbers number self.old.whole.items }
+        ensures most { self.new.most ≡ self.old.most }
+    {
+        self.let_go(number);
+        drop_number(&mut self.whole, number);
+    }
+
+    // Drops the content of that file; those of other files stay.
+    fn let_go(&mut self, number: u64)
+        ensures kept { self.new.kept.items ≡ of_others number self.old.kept.items }
+        ensures whole { self.new.whole ≡ self.old.whole }
         ensures most { self.new.most ≡ self.old.most }
     {
         if let Some(content) = self.take(number) {
@@ -102,6 +143,7 @@ impl Recent {
         ensures rest { IsEndOf self.new.kept.items self.old.kept.items }
         ensures room { (self.new.kept.items ≡ [])
             ⊎ ((length self.new.kept.items < 8) × (kept_bytes self.new.kept.items + len ≤ self.old.most)) }
+        ensures whole { self.new.whole ≡ self.old.whole }
         ensures most { self.new.most ≡ self.old.most }
     {
         for _ in 0..self.kept.len() {
@@ -125,6 +167,7 @@ impl Recent {
 
     fn drop_oldest(&mut self)
         ensures kept { self.new.kept.items ≡ drop 1 self.old.kept.items }
+        ensures whole { self.new.whole ≡ self.old.whole }
         ensures most { self.new.most ≡ self.old.most }
     {
         if !self.kept.is_empty() {
@@ -136,6 +179,7 @@ impl Recent {
     /// Keeps the room of a content that is wanted no more.
     pub(crate) fn spare(&mut self, content: Content)
         ensures kept { self.new.kept ≡ self.old.kept }
+        ensures whole { self.new.whole ≡ self.old.whole }
         ensures most { self.new.most ≡ self.old.most }
     {
         self.room.keep(content.into_file());
@@ -145,6 +189,7 @@ impl Recent {
     /// room holds.
     pub(crate) fn room(&mut self, alloc: Global, number: u64) -> Vec<u8>
         ensures kept { self.new.kept.items ≡ of_others number self.old.kept.items }
+        ensures whole { self.new.whole.items ≡ other_numbers number self.old.whole.items }
         ensures most { self.new.most ≡ self.old.most }
     {
         self.forget(number);
@@ -164,6 +209,13 @@ fn drop_of(kept: &mut Vec<Kept>, number: u64)
     ensures { kept.new.items ≡ of_others number kept.old.items }
 {
     kept.retain(|one| one.number != number);
+}
+
+// Drops that number.
+fn drop_number(numbers: &mut Vec<u64>, number: u64)
+    ensures { numbers.new.items ≡ other_numbers number numbers.old.items }
+{
+    numbers.retain(|one| *one != number);
 }
 
 // Whether these have at most so many bytes together.

@@ -5,7 +5,7 @@ ghost use Rattle.eden_overlay_journal.specs.Changes.{at_opening, unchanged};
 
 use crate::journal::Journal;
 use crate::pouring::{STATE_NUMBER, take_in};
-use crate::seen::{head, list, read, remove, replace, replace_joined};
+use crate::seen::{head, list, read, read_part, remove, replace, replace_joined};
 use eden_model::World;
 use eden_overlay::{Files, FilesFault};
 use eden_overlay_format::Head;
@@ -75,6 +75,19 @@ impl<W: World, F: Files<W>, J: Journal<W>> Files<W> for Journaled<F, J> {
 
     fn head(&mut self, number: u64) -> Result<Option<Head>, FilesFault> {
         let answer = head::<W, _, _>(&mut self.files, &mut self.journal, number);
+        self.failures = count(self.failures, &answer);
+        answer
+    }
+
+    fn read_part(
+        &mut self,
+        alloc: Global,
+        number: u64,
+        from: u64,
+        most: u64,
+    ) -> Result<Option<Vec<u8>>, FilesFault> {
+        let (files, journal) = (&mut self.files, &mut self.journal);
+        let answer = read_part::<W, _, _>(alloc, files, journal, number, from, most);
         self.failures = count(self.failures, &answer);
         answer
     }

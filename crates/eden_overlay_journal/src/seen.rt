@@ -1,15 +1,15 @@
 // How files with a journal over them are read and changed.
-ghost use Rattle.std.specs.Prelude.{◌≡◌, ◌++◌, None, Some, IfOk, IfErr, OnOk, OnErr, option_map};
+ghost use Rattle.std.specs.Prelude.{◌≡◌, ◌≤◌, ◌++◌, None, Some, IfOk, IfErr, IfSome, OnOk, OnErr, length, option_map};
 ghost use Rattle.std.specs.Ordering.{nat_cmp};
 ghost use Rattle.std.specs.List.Sorted.{IsStrictlySortedBy};
-ghost use Rattle.eden_overlay.specs.Files.{IsHeadOf, Lists, put};
+ghost use Rattle.eden_overlay.specs.Files.{IsHeadOf, Lists, part, put};
 ghost use Rattle.eden_overlay.specs.declared.files.FilesFault.TheVariants as fault;
 ghost use Rattle.eden_overlay_journal.specs.Changes.{changed};
 
 use crate::journal::Journal;
 use crate::pouring::{STATE_NUMBER, pour};
 use eden_model::World;
-use eden_overlay::{Files, FilesFault};
+use eden_overlay::{Files, FilesFault, part_of};
 use eden_overlay_format::Head;
 use std::alloc::{AllocError, Global};
 
@@ -47,6 +47,29 @@ pub(crate) fn head<W: World, F: Files<W>, J: Journal<W>>(
     match journal.head(number)? {
         Some(said) => Ok(said),
         None => files.head(number),
+    }
+}
+
+// What is noted is short, and is read whole.
+pub(crate) fn read_part<W: World, F: Files<W>, J: Journal<W>>(
+    alloc: Global,
+    files: &mut F,
+    journal: &mut J,
+    number: u64,
+    from: u64,
+    most: u64,
+) -> Result<Option<Vec<u8>>, FilesFault>
+    ensures found { W.honest → IfOk result (λ o. option_map (λ v. v.items) o
+        ≡ option_map (part from most) (changed (J.changes journal.old) (F.stored files.old) number)) }
+    ensures bounded { IfOk result (λ o. IfSome o (λ v. length v.items ≤ most)) }
+    ensures files { W.honest → F.stored files.new ≡ F.stored files.old }
+    ensures journal { W.honest → J.changes journal.new ≡ J.changes journal.old }
+{
+    let said = journal.read(alloc, number)?;
+    match said {
+        Some(None) => Ok(None),
+        Some(Some(bytes)) => Ok(Some(part_of(alloc, &bytes, from, most)?)),
+        None => files.read_part(alloc, number, from, most),
     }
 }
 

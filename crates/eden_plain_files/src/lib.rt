@@ -1,4 +1,4 @@
-//! Plain files of a folder: read within a bound, whole or their first bytes alone, replaced, removed.
+//! Plain files of a folder: read within a bound, whole or in part, replaced, removed.
 //!
 //! Nothing is known of what lies in a real folder, so that contracts say here what a reader gives, how long an answer
 //! may be and which error stands for which; that the system was asked is shown by tests. Want of memory is told from
@@ -19,5 +19,5 @@ mod write;
 
 pub use fault::FolderFault;
 pub use names::entry_in;
-pub use read::{Links, front_of, read_file, read_front, read_within};
+pub use read::{Links, front_of, read_file, read_front, read_part, read_within};
 pub use write::{remove_file, replace_file};

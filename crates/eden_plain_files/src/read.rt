@@ -6,7 +6,7 @@ ghost use Rattle.eden_plain_files.specs.declared.fault.FolderFault.TheVariants a
 use crate::fault::{FolderFault, not_found};
 use std::alloc::Global;
 use std::fs::{self, File, Metadata, OpenFile, OpenOptions};
-use std::io::Read;
+use std::io::{Read, Seek, SeekFrom};
 use std::rt;
 
 /// Whether a link that stands in a file's place leads to it.
@@ -55,6 +55,34 @@ pub fn read_front<R: rt::Files, const N: usize>(
         return Ok(([0; N], len));
     }
     Ok((front_of(&mut file)?, len))
+}
+
+/// The bytes of the plain file at the path from `at` on, at most `most` of them: none where it ends before. No others
+/// are read.
+///
+/// The errors are those of `read_file`; `Device` too where the file ends before the length that it was said to have.
+pub fn read_part<R: rt::Files>(
+    files: &R,
+    alloc: Global,
+    path: &str,
+    links: Links,
+    longest: u64,
+    at: u64,
+    most: u64,
+) -> Result<Vec<u8>, FolderFault>
+    ensures { IfOk result (λ v. length v.items ≤ most) }
+{
+    let mut file = open_plain(files, path, links)?;
+    let len = plain_len(&file.metadata()?, longest)?;
+    let count = len.saturating_sub(at).min(most);
+    let mut bytes = Vec::new(alloc);
+    // No system goes to a place behind 2^63.
+    if count > 0 {
+        bytes.resize(count as usize, 0)?;
+        file.seek(SeekFrom::Start(at))?;
+        file.read_exact(bytes.as_mut_slice())?;
+    }
+    Ok(bytes)
 }
 
 /// The first `N` bytes that the reader gives; `Device` too where it gives fewer.

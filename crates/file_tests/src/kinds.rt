@@ -16,6 +16,8 @@ use test_samples::{Call as SystemCall, FaultySystem};
 pub enum Call {
     Read(u64),
     Head(u64),
+    // From there on, and at most so many.
+    Part(u64, u64, u64),
     Replace(u64, &'static [u8]),
     ReplaceJoined(u64, &'static [u8], &'static [u8]),
     Remove(u64),
@@ -37,6 +39,9 @@ fn gives<F: Files<Outside>>(files: &mut F, alloc: Global, call: Call, want: Answ
     match call {
         Call::Read(number) => is_read(&files.read(alloc, number), want),
         Call::Head(number) => is_head(files.head(number), want),
+        Call::Part(number, from, most) => {
+            is_read(&files.read_part(alloc, number, from, most), want)
+        }
         Call::Replace(number, bytes) => is_done(files.replace(alloc, number, bytes), want),
         Call::ReplaceJoined(number, front, behind) => {
             is_done(files.replace_joined(alloc, number, front, behind), want)
@@ -121,14 +126,23 @@ pub const BEHAVIOUR: &[(Call, Answer)] = &[
     (Call::Replace(10, b"ten"), Answer::Done),
     (Call::Read(10), Answer::Bytes(Some(b"ten"))),
     (Call::Head(10), Answer::Head(Some((b"", 3)))),
+    (Call::Part(10, 0, 3), Answer::Bytes(Some(b"ten"))),
+    (Call::Part(10, 1, 1), Answer::Bytes(Some(b"e"))),
+    (Call::Part(10, 2, 9), Answer::Bytes(Some(b"n"))),
+    (Call::Part(10, 1, u64::MAX), Answer::Bytes(Some(b"en"))),
+    (Call::Part(10, 0, 0), Answer::Bytes(Some(b""))),
+    (Call::Part(10, 3, 1), Answer::Bytes(Some(b""))),
+    (Call::Part(10, u64::MAX, u64::MAX), Answer::Bytes(Some(b""))),
     (Call::Read(1), Answer::Bytes(None)),
     (Call::Head(1), Answer::Head(None)),
+    (Call::Part(1, 0, 9), Answer::Bytes(None)),
     (Call::Replace(5, SIXTY_FOUR), Answer::Done),
     (Call::Head(5), Answer::Head(Some((SIXTY_FOUR, 64)))),
     (Call::Replace(5, SIXTY_SIX), Answer::Done),
     (Call::Head(5), Answer::Head(Some((SIXTY_FOUR, 66)))),
     (Call::Remove(5), Answer::Done),
     (Call::Head(5), Answer::Head(None)),
+    (Call::Part(5, 0, 9), Answer::Bytes(None)),
     (Call::Replace(2, b""), Answer::Done),
     (Call::Head(2), Answer::Head(Some((b"", 0)))),
     (Call::Read(2), Answer::Bytes(Some(b""))),
@@ -140,6 +154,7 @@ pub const BEHAVIOUR: &[(Call, Answer)] = &[
     (Call::ReplaceJoined(10, b"", b""), Answer::Done),
     (Call::Read(10), Answer::Bytes(Some(b""))),
     (Call::ReplaceJoined(10, SIXTY_FOUR, b".."), Answer::Done),
+    (Call::Part(10, 63, 2), Answer::Bytes(Some(b"f."))),
     (Call::Read(10), Answer::Bytes(Some(SIXTY_SIX))),
     (Call::Replace(u64::MAX, b"\0\xff"), Answer::Done),
     (Call::Replace(0, b"zero"), Answer::Done),

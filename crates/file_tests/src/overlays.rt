@@ -7,7 +7,7 @@ use crate::formats::{
 use eden_model::{Id, Origin, Outside};
 use eden_overlay::{Files, GetFault, MemoryFiles, Overlay};
 use eden_overlay_format::{CONTENT_MOST, Refusal, Spliced, State, StoredEntry};
-use std::alloc::Global;
+use std::alloc::{AllocError, Global};
 use std::process::Abort;
 
 type InMemory = Overlay<Outside, MemoryFiles<Outside>>;
@@ -130,6 +130,75 @@ fn long_contents_are_stored(rt: HostRuntime) {
     }
     assert!(rt; is_put(&mut overlay, rt.alloc(), b"hi"));
     assert!(rt; has_content(&mut overlay, rt.alloc(), b"hi"));
+}
+
+// Whether these bytes are got of file 2, from there on and at most so many.
+fn is_part(overlay: &mut InMemory, alloc: Global, from: u64, most: u64, want: &[u8]) -> bool {
+    match overlay.get_part(alloc, 2, from, most) {
+        Ok(bytes) => bytes.as_slice() == want,
+        Err(_) => false,
+    }
+}
+
+// A content of that length, whose last three bytes are `end`.
+fn content_of(alloc: Global, length: usize) -> Result<Vec<u8>, AllocError> {
+    let mut content = [7; 1].repeat(alloc, length.saturating_sub(3))?;
+    content.extend_from_slice(b"end")?;
+    Ok(content)
+}
+
+// Whether parts of file 2 are got, which has so many bytes, the last three of them `end`.
+fn gives_parts(overlay: &mut InMemory, alloc: Global, length: u64) -> bool {
+    let end = length.saturating_sub(3);
+    is_part(overlay, alloc, 0, 2, &[7, 7])
+        && is_part(overlay, alloc, end, 3, b"end")
+        && is_part(overlay, alloc, end.saturating_add(1), u64::MAX, b"nd")
+        && is_part(overlay, alloc, end, 0, b"")
+        && is_part(overlay, alloc, length, 9, b"")
+        && is_part(overlay, alloc, u64::MAX, u64::MAX, b"")
+}
+
+// A short one, the longest that is kept once it is read, one that isn't, and one that is stored as it lies. Each is
+// asked of the overlay that stored it, of one that finds it, and again after a change.
+#[test]
+fn parts_are_got(rt: HostRuntime) {
+    let alloc = rt.alloc();
+    for length in [9, 1 << 20, (1 << 20) + 1, (8 << 20) + 1] {
+        let content = content_of(alloc, length).expect(&rt, "memory");
+        let mut overlay = filled(&rt, alloc);
+        assert!(rt; is_put(&mut overlay, alloc, &content));
+        assert!(rt; gives_parts(&mut overlay, alloc, length as u64));
+        let mut overlay = Overlay::<Outside, _>::new(alloc, overlay.into_files());
+        assert!(rt; gives_parts(&mut overlay, alloc, length as u64));
+        assert!(rt; gives_parts(&mut overlay, alloc, length as u64));
+        assert!(rt; is_put(&mut overlay, alloc, b"hi"));
+        assert!(rt; is_part(&mut overlay, alloc, 1, 9, b"i"));
+    }
+}
+
+// What isn't there, was removed, or has another digest than its header says gives no parts.
+#[test]
+fn no_parts_are_got_of_what_is_none(rt: HostRuntime) {
+    let alloc = rt.alloc();
+    let mut overlay = filled(&rt, alloc);
+    assert!(rt; overlay.get_part(alloc, 7, 0, 1) == Err(GetFault::Absent));
+    let content = content_of(alloc, 2 << 20).expect(&rt, "memory");
+    assert!(rt; is_put(&mut overlay, alloc, &content));
+    let mut files = overlay.into_files();
+    let mut bytes = files
+        .read(alloc, 2)
+        .expect(&rt, "memory")
+        .expect(&rt, "a file");
+    let last = bytes.pop().expect(&rt, "a byte");
+    bytes.push(last ^ 1).expect(&rt, "memory");
+    files.replace(alloc, 2, &bytes).expect(&rt, "memory");
+    let mut overlay = Overlay::<Outside, _>::new(alloc, files);
+    let damaged = Err(GetFault::Damaged(Refusal::BadDigest));
+    assert!(rt; overlay.get_part(alloc, 2, 9, 1) == damaged);
+    assert!(rt; overlay.get_part(alloc, 1, 0, 1) == Err(GetFault::Damaged(Refusal::BadIdentifier)));
+    assert!(rt; is_put(&mut overlay, alloc, &content));
+    overlay.remove(2).expect(&rt, "removed");
+    assert!(rt; overlay.get_part(alloc, 2, 0, 1) == Err(GetFault::Absent));
 }
 
 // Takes the root's directory, the state and a file that isn't there out.

@@ -93,6 +93,26 @@ const TOO_LONG: Row = Row {
     files: &[(1, 131), (3, 69), (4, 68)],
 };
 
+/// A content of over 1 MiB that isn't kept is read whole once, and then a part with each request.
+const IN_PARTS: Row = Row {
+    root: ONE_FILE,
+    objects: 8,
+    steps: &[
+        Step::Need(A, Ask::Create, ONE_FILE),
+        Step::Ask(A, Ask::Create, Want::Ok),
+        Step::Ask(A, Ask::Truncate(2 << 20), Want::Ok),
+        Step::Ask(B, Ask::Create, Want::Ok),
+        Step::Pass(2),
+        Step::Ask(A, Ask::Read(1 << 20, 2), Want::Data(b"\0\0")),
+        Step::Ask(A, Ask::Read((2 << 20) - 1, 9), Want::Data(b"\0")),
+        Step::Ask(B, Ask::Read(0, 9), Want::Data(b"")),
+        Step::Ask(A, Ask::Read(0, 2), Want::Fault(Fault::Overlay)),
+        Step::Pass(1),
+        Step::Ask(A, Ask::Read(2 << 20, 9), Want::Data(b"")),
+    ],
+    files: &[(1, 131), (3, (2 << 20) + 64), (4, 64)],
+};
+
 /// Of two contents that have no room together the one goes that was used first.
 const LAST_USED: Row = Row {
     root: ONE_FILE,
@@ -119,7 +139,7 @@ fn a_content_that_was_read_or_stored_is_not_read_again(rt: HostRuntime) {
     for row in [IN_TURN, WRITTEN_IN_PIECES, UNLOADED_BETWEEN] {
         check(&rt, rt.alloc(), row, KEPT);
     }
-    for row in [TOO_LONG, LAST_USED] {
+    for row in [TOO_LONG, IN_PARTS, LAST_USED] {
         check(&rt, rt.alloc(), row, 4);
     }
 }

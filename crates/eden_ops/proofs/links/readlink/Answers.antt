@@ -95,8 +95,9 @@ returns-in-Ok-clause-attempts g c =
     content_tells g.W.World g.F.Files c.args.path.now c.args.inodes.now c.meet.new.inodes c.meet.new.cache _ c.in-Ok-Some.seen c.in-Ok-Some.field-0-is e.meets
     (ask.ReadLink c.args.path.now) reads_target (asks_target c.args.path.now) c.args.cache.now e.same e.keeps e.cache e.shown c.part.new.inodes c.part.new.cache b.same b.keeps b.still b.cache
     (say.Data c.in-Ok.bytes) refl (λ T. refl)
-    (λ h y at listed is. subst (λ a. ReadsLink (shown_node R F y listed) (say.Data a)) (sym (had.made ∙ take_all 1073741824 had.content had.is.short))
-    (target_some y.kind (content_with R (own_files F) (source_of y.number y.origin)) listed had.content (is ∙ other.1 ∙ c.in-Link.is) (had.is.shown h y at)))
+    (λ h y at listed is. let told = had h y at in
+    subst (λ a. ReadsLink (shown_node R F y listed) (say.Data a)) (sym (told.1.1.1 ∙ take_all 1073741824 told.0 told.1.1.0))
+    (target_some y.kind (content_with R (own_files F) (source_of y.number y.origin)) listed told.0 (is ∙ other.1 ∙ c.in-Link.is) told.1.0))
 
 pub part-requires : goal.part-requires
 part-requires g c =

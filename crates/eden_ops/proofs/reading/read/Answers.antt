@@ -67,9 +67,10 @@ returns-in-Ok-part-clause-attempts g c =
     (ask.Read c.args.path.now c.args.offset c.args.count) (reads c.args.offset c.args.count)
     (asks_read c.args.path.now c.args.offset c.args.count (le-ltb 65536 c.args.count c.if-count-gt-MAX_DATA.false)) c.args.cache.now e.same e.keeps e.cache e.shown c.part.new.inodes c.part.new.cache
     b.same b.keeps b.still b.cache (say.Data c.in-Ok-part.bytes) refl (λ T. refl)
-    (λ h y at l is. subst (λ a. Reads c.args.offset c.args.count (shown_node R F y l) (say.Data a)) (sym had.made)
-    (reads_some c.args.offset c.args.count y.kind (content_with R (own_files F) (source_of y.number y.origin)) l had.content (subst IsPlain (sym is) e.file.plain)
-    (ne_eqb c.args.count 0 c.if-count-eq0.false) (had.is.shown h y at)))
+    (λ h y at l is. let told = had h y at in
+    subst (λ a. Reads c.args.offset c.args.count (shown_node R F y l) (say.Data a)) (sym told.1.1.1)
+    (reads_some c.args.offset c.args.count y.kind (content_with R (own_files F) (source_of y.number y.origin)) l told.0 (subst IsPlain (sym is) e.file.plain)
+    (ne_eqb c.args.count 0 c.if-count-eq0.false) told.1.0))
 
 pub returns-in-Err-part-clause-keeps : goal.returns-in-Err-part-clause-keeps
 returns-in-Err-part-clause-keeps g c = keeps_on g.W.World g.F.Files c.args.inodes.now c.meet_file.new.inodes c.part.new.inodes c.meet_file.ensures.keeps c.part.ensures.keeps

@@ -1,9 +1,9 @@
-use Rattle.std.proofs.Common.{sym, subst}
-use Rattle.eden_overlay.specs.Keeping.{AreKeptOf}
-use Rattle.eden_overlay.proofs.Kept.{none_kept}
+use Rattle.std.proofs.Common.{[], sym, subst}
+use Rattle.eden_overlay.specs.Keeping.{AreKnownOf}
+use Rattle.eden_overlay.proofs.Whole.{none_known}
 use Rattle.eden_overlay.proofs.overlay.Overlay.new.Goals as goal
 
 pub invariant_of-result : goal.invariant_of-result
 invariant_of-result g c = λ honest.
     let F = g.F.Files.stored c.args.files in
-    subst (AreKeptOf F) (sym c.new.ensures.kept) (none_kept F)
+    subst (λ kept. AreKnownOf F kept c.new.result.whole.items) (sym c.new.ensures.kept) (subst (λ ks. AreKnownOf F [] ks) (sym c.new.ensures.whole) (none_known F))

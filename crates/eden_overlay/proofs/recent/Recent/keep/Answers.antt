@@ -9,5 +9,5 @@ returns-clause-fits c =
     let x : Kept = record { number = c.args.number; content = c.args.content } in
     let rest = c.make_room.new.self.kept.items in
     subst (Fits c.args.self.now.most) (sym c.in_ok-push.ensures.items)
-    (subst (λ m. Fits m (rest ++ x ∷ [])) c.forget.ensures.most
-    (pushed_fits c.forget.new.self.most c.len.result rest x c.len.ensures c.make_room.ensures.room))
+    (subst (λ m. Fits m (rest ++ x ∷ [])) c.let_go.ensures.most
+    (pushed_fits c.let_go.new.self.most c.len.result rest x c.len.ensures c.make_room.ensures.room))

@@ -8,5 +8,6 @@ returns-then-has_room-clause-rest c = behind c.loop.counter c.loop.self.kept.ite
 pub loop-preserved : goal.loop-preserved
 loop-preserved c = record {
   rest = c.drop_oldest.ensures.kept ∙ ap (drop 1) c.loop.invariant.rest ∙ one_more_gone c.args.self.now.kept.items c.loop.counter;
+  whole = c.drop_oldest.ensures.whole ∙ c.loop.invariant.whole;
   most = c.drop_oldest.ensures.most ∙ c.loop.invariant.most;
 }

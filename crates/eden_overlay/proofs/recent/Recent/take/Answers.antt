@@ -1,4 +1,4 @@
-use Rattle.std.proofs.Common.{◌≡◌, ◌∙◌, Option, not, position, sym, ap}
+use Rattle.std.proofs.Common.{◌∙◌, not, position, sym, ap}
 use Rattle.std.specs.Option.{option_map}
 use Rattle.eden_overlay.specs.Keeping.{is_of, of_others}
 use Rattle.eden_overlay.proofs.Kept.{all_stay, found_at, found_passes, nothing_found, others_same}
