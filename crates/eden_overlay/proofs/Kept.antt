@@ -1,8 +1,8 @@
 -- What is kept of files, while some change.
 use Rattle.std.proofs.Common.{◌≡◌, ◌≢◌, ℕ, ◌==◌, ◌++◌, Bool, true, false, not, cond, List, [], ◌∷◌, length, take, drop, get_or, filter, find, position, nat_lt, ◌<◌, ◌+◌, zero, suc, add-one}
-use Rattle.std.proofs.Common.{arith, ◌≤◌, ◌⊎◌, inl, inr, length-append, Result, Ok, Err, OnOk, OnErr, Option, Some, None, option_map, refl, sym, ap, subst, ◌∙◌}
+use Rattle.std.proofs.Common.{arith, ◌≤◌, ◌⊎◌, inl, inr, length-append, length-drop, Result, Ok, Err, OnOk, OnErr, Option, Some, None, option_map, refl, sym, ap, subst, ◌∙◌}
 use Rattle.std.specs.Option.{option_and_then}
-use Rattle.std.proofs.lemmas.List.{take-append-drop}
+use Rattle.std.proofs.lemmas.List.{drop_at, take-append-drop}
 use Rattle.std.proofs.lemmas.Bool.{eqb-true, eqb-false, ltb-true, ltb-false}
 use Rattle.std.specs.List.{position_or_len, slice_get}
 use Rattle.std.proofs.lemmas.List.Folds.{find_at}
@@ -14,7 +14,7 @@ use Rattle.eden_overlay.specs.declared.files.FilesFault.{FilesFault}
 use Rattle.eden_overlay.specs.Files.{Stored, put}
 use Rattle.eden_overlay.proofs.Puts.{put_apart}
 use Rattle.eden_overlay.specs.Held.{HoldsContent}
-use Rattle.eden_overlay.specs.Keeping.{AreKeptOf, Fits, IsEndOf, is_of, kept_bytes, kept_content, kept_of, of_others}
+use Rattle.eden_overlay.specs.Keeping.{AreKeptOf, Fits, HasRoom, IsEndOf, IsLast, IsLeft, is_of, kept_bytes, kept_content, kept_of, of_others}
 
 -- the contents of other files, where at most that one changed
 pub others_kept : (F G : Stored) (k : ℕ) → ((q : ℕ) → k ≢ q → G q ≡ F q) → (kept : List Kept) → AreKeptOf F kept → AreKeptOf G (of_others k kept)
@@ -104,6 +104,14 @@ pub one_more_counted : (xs : List Kept) (i : ℕ) (x : Kept) → i < length xs �
 one_more_counted xs i x within is =
     ap (λ j. kept_bytes (take j xs)) (add-one i) ∙ more_bytes xs i x (slice_get_read xs (length xs) i x refl within is)
 
+-- those in front have no more bytes than all
+pub bytes_within : (xs : List Kept) (i : ℕ) → kept_bytes (take i xs) ≤ kept_bytes xs
+unfolding kept_bytes
+bytes_within [] zero = omega (arith)
+bytes_within [] (suc i) = omega (arith)
+bytes_within (x ∷ xs) zero = omega (arith)
+bytes_within (x ∷ xs) (suc i) = let within = bytes_within xs i in omega (arith, within)
+
 pub no_bytes : kept_bytes [] ≡ 0
 unfolding kept_bytes
 no_bytes = refl
@@ -132,12 +140,40 @@ one_more_gone xs i = drop_more xs i ∙ ap (λ j. drop j xs) (sym (add-one i))
 pub behind : (i : ℕ) (rest xs : List Kept) → rest ≡ drop i xs → IsEndOf rest xs
 behind i rest xs is = (take i xs, sym (take-append-drop i xs) ∙ ap (λ r. take i xs ++ r) (sym is))
 
+-- two ends of one length are one
+same_end : (first second kept : List Kept) → IsEndOf first kept → IsEndOf second kept → length first ≡ length second → first ≡ second
+same_end first second kept one two long =
+    let all_one = ap (λ l. length l) one.1 ∙ length-append one.0 first in
+    let all_two = ap (λ l. length l) two.1 ∙ length-append two.0 second in
+    let gone : length one.0 ≡ length two.0 = omega (arith, all_one, all_two, long) in
+    sym (drop_at one.0 first (length one.0) refl) ∙ ap (drop (length one.0)) (sym one.1) ∙ ap (λ n. drop n kept) gone ∙ ap (drop (length two.0)) two.1 ∙ drop_at two.0 second (length two.0) refl
+
+-- where an end has no room, none that has is longer than the one after it
+pub none_before : (most long i : ℕ) (rest kept : List Kept) → rest ≡ drop i kept → ¬ HasRoom most long rest
+    → ((more : List Kept) → IsEndOf more kept → HasRoom most long more → length more ≤ length rest)
+    → (more : List Kept) → IsEndOf more kept → HasRoom most long more → length more ≤ length (drop 1 rest)
+none_before most long i rest kept is none before more end room =
+    elim (length more == length rest) as (λ b. (length more == length rest) ≡ b → length more ≤ length (drop 1 rest)) [
+      | true ↦ λ same. absurd (none (subst (HasRoom most long) (same_end more rest kept end (behind i rest kept is) (eqb-true (length more) (length rest) same)) room))
+      | false ↦ λ apart.
+          (let other = eqb-false (length more) (length rest) apart in
+          let most = before more end room in
+          let one = length-drop 1 rest in
+          omega (arith, other, most, one))
+    ] refl
+
+-- an end is no longer than the list
+pub ends_within : (rest kept : List Kept) → IsEndOf rest kept → length rest ≤ length kept
+ends_within rest kept end =
+    let all = ap (λ l. length l) end.1 ∙ length-append end.0 rest in
+    omega (arith, all)
+
 bytes_pushed : (rest : List Kept) (x : Kept) → kept_bytes (rest ++ x ∷ []) ≡ kept_bytes rest + length x.content
 unfolding kept_bytes
 bytes_pushed [] x = omega (arith)
 bytes_pushed (y ∷ rest) x = let more = bytes_pushed rest x in omega (arith, more)
 
-pub pushed_fits : (most long : ℕ) (rest : List Kept) (x : Kept) → long ≡ length x.content → (rest ≡ []) ⊎ ((length rest < 8) × (kept_bytes rest + long ≤ most)) → Fits most (rest ++ x ∷ [])
+pub pushed_fits : (most long : ℕ) (rest : List Kept) (x : Kept) → long ≡ length x.content → (rest ≡ []) ⊎ HasRoom most long rest → Fits most (rest ++ x ∷ [])
 pushed_fits most long rest x is (inl none) =
     let one = length-append rest (x ∷ []) in let empty = ap (λ l. length l) none in
     (omega (arith, one, empty), inr (omega (arith, one, empty)))
@@ -150,12 +186,12 @@ pub kept_still : (F G : Stored) (k : ℕ) (kept rest : List Kept) → AreKeptOf 
 kept_still F G k kept rest held is same = subst (λ X. AreKeptOf X rest) (sym same) (subst (AreKeptOf F) (sym is) (others_stay F k kept held))
 
 -- with one that is kept now
-pub kept_with : (F : Stored) (x : Kept) (kept new : List Kept) (result : Result (Unit {0}) AllocError) → AreKeptOf F kept → HoldsContent F x.number x.content
-    → OnOk result ((rest : List Kept) × (IsEndOf rest (of_others x.number kept) × (new ≡ rest ++ x ∷ []))) → OnErr result (IsEndOf new (of_others x.number kept)) → AreKeptOf F new
-kept_with F x kept new (Ok u) held there ok err =
+pub kept_with : (F : Stored) (most : ℕ) (x : Kept) (kept new : List Kept) (result : Result (Unit {0}) AllocError) → AreKeptOf F kept → HoldsContent F x.number x.content
+    → OnOk result (IsLast most x new kept) → OnErr result (IsLeft most (length x.content) new (of_others x.number kept)) → AreKeptOf F new
+kept_with F most x kept new (Ok u) held there ok err =
     let others = of_others x.number kept in
-    subst (AreKeptOf F) (sym ok.1.1) (one_more F ok.0 x (end_kept F ok.0 others ok.1.0 (others_stay F x.number kept held)) there)
-kept_with F x kept new (Err e) held there ok end = end_kept F new (of_others x.number kept) end (others_stay F x.number kept held)
+    subst (AreKeptOf F) (sym ok.1.1) (one_more F ok.0 x (end_kept F ok.0 others ok.1.0.end (others_stay F x.number kept held)) there)
+kept_with F most x kept new (Err e) held there ok left = end_kept F new (of_others x.number kept) left.end (others_stay F x.number kept held)
 
 pub none_kept : (F : Stored) → AreKeptOf F []
 unfolding AreKeptOf

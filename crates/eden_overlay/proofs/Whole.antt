@@ -1,6 +1,6 @@
 -- What is kept and known of files, while some change.
-use Rattle.std.proofs.Common.{◌≡◌, ◌≢◌, ℕ, ◌==◌, ◌++◌, ◌&&◌, Bool, true, false, not, cond, List, [], ◌∷◌, filter, ◌⊎◌, inl, inr, Result, Ok, Err, OnOk, OnErr, Option, Some, None, IsSome, refl, sym}
-use Rattle.std.proofs.Common.{ap, subst, ◌∙◌}
+use Rattle.std.proofs.Common.{◌≡◌, ◌≢◌, ℕ, ◌==◌, ◌++◌, ◌&&◌, Bool, true, false, not, cond, List, [], ◌∷◌, filter, length, ◌⊎◌, inl, inr}
+use Rattle.std.proofs.Common.{Result, Ok, Err, OnOk, OnErr, Option, Some, None, IsSome, refl, sym, ap, subst, ◌∙◌}
 use Rattle.std.specs.List.{list_any}
 use Rattle.std.specs.Option.{option_and_then}
 use Rattle.std.proofs.lemmas.Bool.{eqb-true, eqb-false, not-true}
@@ -11,7 +11,7 @@ use Rattle.eden_overlay.specs.declared.recent.Kept.{Kept}
 use Rattle.eden_overlay.specs.declared.files.FilesFault.{FilesFault}
 use Rattle.eden_overlay.specs.Files.{Stored, put}
 use Rattle.eden_overlay.specs.Held.{HoldsContent, content_at}
-use Rattle.eden_overlay.specs.Keeping.{AreKeptOf, AreKnownOf, AreWhole, AddsOne, IsEndOf, is_one_of, of_others, other_numbers}
+use Rattle.eden_overlay.specs.Keeping.{AreKeptOf, AreKnownOf, AreWhole, AddsOne, IsLast, IsLeft, is_one_of, of_others, other_numbers}
 use Rattle.eden_overlay.proofs.Kept.{kept_beside, kept_still, kept_with, none_kept}
 use Rattle.eden_overlay.proofs.Puts.{put_apart}
 
@@ -65,6 +65,7 @@ known_still F G n kept rest ks left held is all same =
     (kept_still F G n kept rest held.0 is same, subst (AreWhole G) (sym all) (subst (λ X. AreWhole X ks) (sym same) held.1))
 
 -- with a content that is kept now
-pub known_with : (F : Stored) (x : Kept) (kept new : List Kept) (ks left : List ℕ) (result : Result (Unit {0}) AllocError) → AreKnownOf F kept ks → HoldsContent F x.number x.content
-    → OnOk result ((rest : List Kept) × (IsEndOf rest (of_others x.number kept) × (new ≡ rest ++ x ∷ []))) → OnErr result (IsEndOf new (of_others x.number kept)) → left ≡ ks → AreKnownOf F new left
-known_with F x kept new ks left result held there ok err all = (kept_with F x kept new result held.0 there ok err, subst (AreWhole F) (sym all) held.1)
+pub known_with : (F : Stored) (most : ℕ) (x : Kept) (kept new : List Kept) (ks left : List ℕ) (result : Result (Unit {0}) AllocError)
+    → AreKnownOf F kept ks → HoldsContent F x.number x.content → OnOk result (IsLast most x new kept)
+    → OnErr result (IsLeft most (length x.content) new (of_others x.number kept)) → left ≡ ks → AreKnownOf F new left
+known_with F most x kept new ks left result held there ok err all = (kept_with F most x kept new result held.0 there ok err, subst (AreWhole F) (sym all) held.1)

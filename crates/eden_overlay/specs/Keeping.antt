@@ -1,5 +1,5 @@
 -- What is kept of stored files in memory, and known of them.
-use Rattle.std.specs.Prelude.{ℕ, ◌≡◌, ◌≤◌, ◌==◌, ◌+◌, ◌++◌, ◌⊎◌, Bool, true, not, List, [], ◌∷◌, find, filter, Option, option_map, length, IsSome}
+use Rattle.std.specs.Prelude.{ℕ, ◌≡◌, ◌≤◌, ◌<◌, ◌==◌, ◌+◌, ◌++◌, ◌⊎◌, Bool, true, not, List, [], ◌∷◌, find, filter, Option, option_map, length, IsSome}
 use Rattle.std.specs.List.{list_any}
 use Rattle.eden_overlay.specs.declared.recent.Kept.{Kept}
 use Rattle.eden_overlay.specs.Files.{Stored}
@@ -39,6 +39,20 @@ kept_bytes (k ∷ kept) = length k.content + kept_bytes kept
 -- at most eight, of so many bytes together, or one that is longer
 abbrev pub Fits : ℕ → List Kept → Type 0
 Fits most kept = (length kept ≤ 8) × ((kept_bytes kept ≤ most) ⊎ (length kept ≤ 1))
+
+-- a content of that length has room beside them
+abbrev pub HasRoom : ℕ → ℕ → List Kept → Type 0
+HasRoom most long kept = (length kept < 8) × (kept_bytes kept + long ≤ most)
+
+-- What is left of them once there is room for a content of that length: no more than has to go went, those in front first.
+pub record IsLeft (most long : ℕ) (rest kept : List Kept) : Type 0 where
+  pub end : IsEndOf rest kept
+  pub room : (rest ≡ []) ⊎ HasRoom most long rest
+  pub no_more : (more : List Kept) → IsEndOf more kept → HasRoom most long more → length more ≤ length rest
+
+-- that one is the last of them now, behind what is left of the others
+abbrev pub IsLast : ℕ → Kept → List Kept → List Kept → Type 0
+IsLast most x new kept = (rest : List Kept) × (IsLeft most (length x.content) rest (of_others x.number kept) × (new ≡ rest ++ x ∷ []))
 
 -- whether it is one of the numbers
 abbrev pub is_one_of : ℕ → List ℕ → Bool

@@ -1,9 +1,9 @@
 //! The contents that stay in memory, and what is known of others.
 
-ghost use Rattle.std.specs.Prelude.{◌≡◌, ◌≤◌, ◌<◌, ◌++◌, ◌+◌, ◌⊎◌, ◌^◌, ◌-◌, ℕ, length, min, OnOk, OnErr, IsTrue};
-ghost use Rattle.std.specs.Prelude.{List, [], ◌∷◌, drop, position};
-ghost use Rattle.eden_overlay.specs.Keeping.{Fits, IsEndOf, is_of, kept_bytes, kept_content, kept_length, of_others};
-ghost use Rattle.eden_overlay.specs.Keeping.{AddsOne, is_one_of, other_numbers};
+ghost use Rattle.std.specs.Prelude.{◌≡◌, ◌≤◌, ◌^◌, ◌-◌, ℕ, length, min, OnOk, OnErr, IsTrue, true, false};
+ghost use Rattle.std.specs.Prelude.{[], drop, position};
+ghost use Rattle.eden_overlay.specs.Keeping.{Fits, HasRoom, IsLast, IsLeft, is_of, kept_bytes, kept_content};
+ghost use Rattle.eden_overlay.specs.Keeping.{AddsOne, is_one_of, kept_length, of_others, other_numbers};
 
 use crate::content::Content;
 use crate::room::Room;
@@ -85,9 +85,10 @@ impl Recent {
     /// Keeps the content of that file as the last one, in place of any other of the file. Those that were used longest
     /// ago go until it has room beside the others. The only error is want of memory: then it isn't kept.
     pub(crate) fn keep(&mut self, number: u64, content: Content) -> Result<(), AllocError>
-        ensures kept { OnOk result ((rest : List Kept) × (IsEndOf rest (of_others number self.old.kept.items)
-            × (self.new.kept.items ≡ rest ++ (record { number = number; content = content }) ∷ []))) }
-        ensures err { OnErr result (IsEndOf self.new.kept.items (of_others number self.old.kept.items)) }
+        ensures kept { OnOk result (IsLast self.old.most (record { number = number; content = content })
+            self.new.kept.items self.old.kept.items) }
+        ensures err { OnErr result
+            (IsLeft self.old.most (length content) self.new.kept.items (of_others number self.old.kept.items)) }
         ensures fits { OnOk result (Fits self.old.most self.new.kept.items) }
         ensures whole { self.new.whole ≡ self.old.whole }
         ensures most { self.new.most ≡ self.old.most }
@@ -138,11 +139,9 @@ impl Recent {
         }
     }
 
-    // Drops contents, those that were used longest ago first, until there is room for one of that length.
+    // Drops contents, those that were used longest ago first, until there is room for one of that length, and no more.
     fn make_room(&mut self, len: u64)
-        ensures rest { IsEndOf self.new.kept.items self.old.kept.items }
-        ensures room { (self.new.kept.items ≡ [])
-            ⊎ ((length self.new.kept.items < 8) × (kept_bytes self.new.kept.items + len ≤ self.old.most)) }
+        ensures left { IsLeft self.old.most len self.new.kept.items self.old.kept.items }
         ensures whole { self.new.whole ≡ self.old.whole }
         ensures most { self.new.most ≡ self.old.most }
     {
@@ -156,8 +155,8 @@ impl Recent {
 
     // Whether a content of that length has room beside what is kept.
     fn has_room(&self, len: u64) -> bool
-        ensures { IsTrue result
-            → ((length self.now.kept.items < 8) × (kept_bytes self.now.kept.items + len ≤ self.now.most)) }
+        ensures room { result ≡ true → HasRoom self.now.most len self.now.kept.items }
+        ensures none { result ≡ false → ¬ HasRoom self.now.most len self.now.kept.items }
     {
         let Some(room) = self.most.checked_sub(len) else {
             return false;
@@ -220,7 +219,8 @@ fn drop_number(numbers: &mut Vec<u64>, number: u64)
 
 // Whether these have at most so many bytes together.
 fn are_within(kept: &[Kept], most: u64) -> bool
-    ensures { IsTrue result → kept_bytes kept.now ≤ most }
+    ensures within { result ≡ true → kept_bytes kept.now ≤ most }
+    ensures beyond { result ≡ false → ¬ (kept_bytes kept.now ≤ most) }
 {
     let mut room = most;
     for one in kept {

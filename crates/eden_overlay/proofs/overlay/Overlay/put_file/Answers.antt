@@ -32,5 +32,6 @@ invariant_of-self-in-Ok g c = λ honest.
     (c.self.invariant honest) c.room-room.ensures.kept c.room-room.ensures.whole c.replace.result (c.replace.ensures.ok honest) (c.replace.ensures.err honest) in
     let there = ap (option_and_then content_in) (ap (λ f. f k) (c.in-Ok.ensures.ok honest) ∙ put_here F k k (Some c.deref.result.now) refl)
     ∙ ap content_in c.deref.ensures.value ∙ c.of_encoded.ensures in
-    known_with G x c.room-room.new.self.kept.items c.keep-kept.new.self.kept.items c.room-room.new.self.whole.items c.keep-kept.new.self.whole.items c.keep-kept.result beside there
+    known_with G c.room-room.new.self.most x c.room-room.new.self.kept.items c.keep-kept.new.self.kept.items
+    c.room-room.new.self.whole.items c.keep-kept.new.self.whole.items c.keep-kept.result beside there
     c.keep-kept.ensures.kept c.keep-kept.ensures.err (ap (λ v. v.items) c.keep-kept.ensures.whole)

@@ -10,4 +10,4 @@ returns-clause-fits c =
     let rest = c.make_room.new.self.kept.items in
     subst (Fits c.args.self.now.most) (sym c.in_ok-push.ensures.items)
     (subst (λ m. Fits m (rest ++ x ∷ [])) c.let_go.ensures.most
-    (pushed_fits c.let_go.new.self.most c.len.result rest x c.len.ensures c.make_room.ensures.room))
+    (pushed_fits c.let_go.new.self.most c.len.result rest x c.len.ensures c.make_room.ensures.left.room))
