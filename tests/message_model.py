@@ -61,7 +61,7 @@ SHAPES = {
     "flush": Shape(25, "QIIQ"), "init": Shape(26, "IIII"), "opendir": Shape(27, "II"), "readdir": Shape(28, READS),
     "releasedir": Shape(29, "QIIQ"), "fsyncdir": Shape(30, "QII"), "access": Shape(34, "II"),
     "create": Shape(35, "IIII", 1), "interrupt": Shape(36, "Q"), "destroy": Shape(38), "batch_forget": Shape(42, "II"),
-    "readdirplus": Shape(44, READS), "rename2": Shape(45, "QII", 2),
+    "fallocate": Shape(43, "QQQII"), "readdirplus": Shape(44, READS), "rename2": Shape(45, "QII", 2),
 }
 LAYOUTS = {word: shape.layout() for word, shape in SHAPES.items()}
 WORDS = {shape.number: word for word, shape in SHAPES.items()}
@@ -374,6 +374,15 @@ class FolderModel:
         else:
             self.tree.patch(self.path(node), offset, data)
         return WRITTEN.pack(size, 0)
+
+    def fallocate(self, node: int, handle: int, offset: int, length: int, mode: int, _: int) -> None:
+        """A file that ends before is filled with zeros up to there."""
+        self.settle(node)
+        path = self.path(node)
+        need(mode == 0, "ENOTSUP")
+        need(offset + length <= LONGEST_FILE, "EFBIG")
+        if int(self.tree.stat(path).split()[2]) < offset + length:
+            self.tree.truncate(path, offset + length)
 
     def release(self, node: int, *_: int) -> None:
         count = self.opens.pop(node, 0)

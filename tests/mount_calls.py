@@ -360,6 +360,11 @@ def copies(top: pathlib.Path) -> Steps:
         yield "posix_fallocate", tried(os.posix_fallocate, target, 104_000, 20_000)
         yield "size after it", os.fstat(target).st_size
         yield "read after it", os.pread(target, 200_000, 0)
+        yield "fallocate", tried(fallocate, target, 0, 130_000, 5_000)
+        yield "fallocate of what is there", tried(fallocate, target, 0, 10, 100)
+        yield "fallocate of nothing", tried(fallocate, target, 0, 10, 0)
+        yield "size after these", os.fstat(target).st_size
+        yield "read after these", os.pread(target, 200_000, 0)
     yield "read at the end", two.read_bytes()
 
 

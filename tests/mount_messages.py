@@ -122,7 +122,7 @@ UNFRAMED = [
 # Operations that aren't known, by their numbers in the kernel's header.
 UNKNOWN = [("none", 0), ("none, 7", 7), ("setxattr", 21), ("getxattr", 22), ("listxattr", 23), ("removexattr", 24),
            ("getlk", 31), ("setlk", 32), ("bmap", 37), ("ioctl", 39), ("poll", 40), ("notify_reply", 41),
-           ("fallocate", 43), ("lseek", 46), ("copy_file_range", 47), ("none, 999", 999), ("CUSE's start", 4_096),
+           ("lseek", 46), ("copy_file_range", 47), ("none, 999", 999), ("CUSE's start", 4_096),
            ("the last number", (1 << 32) - 1)]
 
 MALFORMED = [
@@ -149,13 +149,14 @@ OF_NODES: list[tuple[str, tuple[Any, ...]]] = [
     ("read", (0, 0, 9, 0, 0, 0, 0)), ("readdir", (0, 0, 99, 0, 0, 0, 0)),
     ("lookup", (b"a",)), ("mknod", (0o100644, 0, 0, 0, b"a")), ("mkdir", (0o755, 0, b"a")), ("unlink", (b"a",)),
     ("rmdir", (b"a",)), ("symlink", (b"a", b"b")), ("create", (0, 0o644, 0, 0, b"a")), ("rename", (ROOT, b"a", b"b")),
-    ("rename2", (ROOT, 1, 0, b"a", b"b")),
+    ("rename2", (ROOT, 1, 0, b"a", b"b")), ("fallocate", (0, 0, 9, 0, 0)),
 ]
 LAST_NUMBER = (1 << 64) - 1
 NODES = [0, 2, 99, LAST_NUMBER]
 # What is written waits, and isn't looked for until it is stored: so these are refused once something was written.
 AFTER_A_WRITE: list[tuple[str, tuple[Any, ...]]] = [
     ("flush", (0, 0, 0, 0)), ("fsync", (0, 0, 0)), ("getattr", (0, 0, 0)), ("write", (0, 9, 1, 0, 0, 0, 0, b"x")),
+    ("fallocate", (0, 0, 9, 0, 0)),
 ]
 
 
@@ -228,7 +229,8 @@ BAD = [b"", b".", b"..", b"a/b", b"m" * 256, HIDDEN, hidden_name(7)]
 MOST_NODES = 60
 LOOKING = ["lookup", "lookup", "lookup", "getattr", "readlink", "read", "read", "readdir", "readdir", "statfs", "open",
            "open", "opendir", "access", "readdirplus", "link"]
-CHANGING = ["setattr", "setattr", "write", "write", "write", "mknod", "mkdir", "symlink", "create", "create"]
+CHANGING = ["setattr", "setattr", "fallocate", "write", "write", "write", "mknod", "mkdir", "symlink", "create",
+            "create"]
 REMOVING = ["unlink", "rmdir", "rename", "rename", "rename", "rename2"]
 CLOSING = ["forget", "batch_forget", "release", "release", "releasedir", "flush", "fsync", "fsyncdir", "interrupt"]
 RARE = ["init", "destroy"]
@@ -408,6 +410,12 @@ class RandomMessages:
         offset = self.model.waits[node].end() if goes_on else self.offset()
         return node, (0, offset, len(data), 0, 0, 0, 0, data)
 
+    def fallocate(self, _: str) -> Asked:
+        node = self.file() if self.random.random() < 0.9 else self.node()
+        ends = [0, 1, self.random.randrange(900), 70_000, LONGEST_FILE, LAST_NUMBER]
+        return node, (0, self.random.choice([0, self.offset()]), self.random.choice(ends),
+                      self.random.choice([0, 0, 0, 1, 3, 16]), 0)
+
     def waiting(self) -> int:
         """A node for which something waits, if there is one."""
         return self.random.choice(list(self.model.waits) or [self.file()])
@@ -491,7 +499,7 @@ def is_dear(data: bytes) -> bool:
     message = read_message(data)
     if message is None or message.fields is None:
         return False
-    if message.word == "write":
+    if message.word in ("write", "fallocate"):
         return message.fields[1] + message.fields[2] in DEAR
     return message.word == "setattr" and message.fields[3] in DEAR
 

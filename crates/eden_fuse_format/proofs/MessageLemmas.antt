@@ -16,7 +16,7 @@ abbrev opcodes : List Opcode
 opcodes =
     op.Lookup ∷ op.Forget ∷ op.GetAttr ∷ op.SetAttr ∷ op.ReadLink ∷ op.Symlink ∷ op.MkNod ∷ op.MkDir ∷ op.Unlink ∷ op.RmDir ∷ op.Rename
     ∷ op.Link ∷ op.Open ∷ op.Read ∷ op.Write ∷ op.StatFs ∷ op.Release ∷ op.FSync ∷ op.Flush ∷ op.Init ∷ op.OpenDir ∷ op.ReadDir
-    ∷ op.ReleaseDir ∷ op.FSyncDir ∷ op.Access ∷ op.Create ∷ op.Interrupt ∷ op.Destroy ∷ op.BatchForget ∷ op.ReadDirPlus ∷ op.Rename2 ∷ []
+    ∷ op.ReleaseDir ∷ op.FSyncDir ∷ op.Access ∷ op.Create ∷ op.Interrupt ∷ op.Destroy ∷ op.BatchForget ∷ op.Fallocate ∷ op.ReadDirPlus ∷ op.Rename2 ∷ []
 
 abbrev opcode_in : ℕ → Option Opcode
 opcode_in n = find (λ o. n == number_of o) opcodes
@@ -51,6 +51,7 @@ opcode_found op.Create = refl
 opcode_found op.Interrupt = refl
 opcode_found op.Destroy = refl
 opcode_found op.BatchForget = refl
+opcode_found op.Fallocate = refl
 opcode_found op.ReadDirPlus = refl
 opcode_found op.Rename2 = refl
 

@@ -27,14 +27,16 @@ use Rattle.eden_fuse_format.specs.declared.structs.FlushIn.{FlushIn}
 use Rattle.eden_fuse_format.specs.declared.structs.InitIn.{InitIn}
 use Rattle.eden_fuse_format.specs.declared.structs.AccessIn.{AccessIn}
 use Rattle.eden_fuse_format.specs.declared.structs.InterruptIn.{InterruptIn}
+use Rattle.eden_fuse_format.specs.declared.structs.FallocateIn.{FallocateIn}
 use Rattle.eden_fuse_format.specs.Members.{of_size, behind, cut, name_in, names_in, members_text, Fits, u32_at}
 use Rattle.eden_fuse_format.specs.Opcodes.{number_of}
 use Rattle.eden_fuse_format.specs.Structs.{forget_in, getattr_in, setattr_in, mknod_in, mkdir_in, rename_in, rename2_in, link_in, open_in, create_in}
-use Rattle.eden_fuse_format.specs.Structs.{read_in, write_in, release_in, fsync_in, flush_in, init_in, access_in, interrupt_in}
+use Rattle.eden_fuse_format.specs.Structs.{read_in, write_in, release_in, fsync_in, flush_in, init_in, access_in, interrupt_in, fallocate_in}
 use Rattle.eden_fuse_format.specs.Asked.{Asked, asked_by}
 use Rattle.eden_fuse_format.specs.Asked.{Asked as asked}
 use Rattle.eden_fuse_format.specs.Spelling.{forget_members, getattr_members, setattr_members, mknod_members, mkdir_members, rename_members, rename2_members, link_members, open_members}
-use Rattle.eden_fuse_format.specs.Spelling.{create_members, read_members, write_members, release_members, fsync_members, flush_members, init_members, access_members, interrupt_members, batch_members}
+use Rattle.eden_fuse_format.specs.Spelling.{create_members, read_members, write_members, release_members, fsync_members, flush_members}
+use Rattle.eden_fuse_format.specs.Spelling.{init_members, access_members, interrupt_members, batch_members, fallocate_members}
 use Rattle.eden_fuse_format.specs.Spelling.{opcode_of, ended, request_body, header_members, request_len, IsSpelled}
 use Rattle.eden_fuse_format.specs.Laws.{SpelledIsRead}
 
@@ -257,6 +259,15 @@ written_there s b p whole =
     ∙ rw (eq-eqb (length b) s.size whole) refl
 
 -- a count, and behind it a batch
+fallocate_there : (s : FallocateIn) (rest : List ℕ) → AllByRecursion Fits (fallocate_members s) → fallocate_in (members_text (fallocate_members s) ++ rest) ≡ Some s
+unfolding members_text
+fallocate_there s rest p = there 32 (members_text (fallocate_members s)) rest refl _ ∙ (λ i. Some (record {
+  fh = n8 s.fh p.0 i;
+  offset = n8 s.offset p.1.0 i;
+  length = n8 s.length p.1.1.0 i;
+  mode = n4 s.mode p.1.1.1.0 i;
+}))
+
 batch_there : (b : List ℕ) → AllByRecursion Fits (batch_members b) → length b ≡ length b / 16 * 16
     → asked_by op.BatchForget (members_text (batch_members b) ++ b) ≡ Some (asked.BatchForget b)
 unfolding members_text
@@ -298,6 +309,7 @@ read_again h (asked.Create s n) k = λ i. option_and_then (λ t. option_map (ask
 read_again h (asked.Interrupt s) k = ap (option_map asked.Interrupt) (interrupt_there s [] k.members)
 read_again h asked.Destroy k = refl
 read_again h (asked.BatchForget b) k = batch_there b k.members k.whole
+read_again h (asked.Fallocate s) k = ap (option_map asked.Fallocate) (fallocate_there s [] k.members)
 read_again h (asked.ReadDirPlus s) k = ap (option_map asked.ReadDirPlus) (read_there s [] k.members)
 read_again h (asked.Rename2 s n m) k = λ i. option_and_then (λ t. option_map (λ ns. asked.Rename2 t ns.0 ns.1) (names_behind 16 (members_text (rename2_members s)) n m refl k.names.0 k.names.1.0 i))
     (rename2_there s (ended n ++ ended m) k.members i)

@@ -23,9 +23,10 @@ use Rattle.eden_fuse_format.specs.declared.structs.FlushIn.{FlushIn}
 use Rattle.eden_fuse_format.specs.declared.structs.InitIn.{InitIn}
 use Rattle.eden_fuse_format.specs.declared.structs.AccessIn.{AccessIn}
 use Rattle.eden_fuse_format.specs.declared.structs.InterruptIn.{InterruptIn}
+use Rattle.eden_fuse_format.specs.declared.structs.FallocateIn.{FallocateIn}
 use Rattle.eden_fuse_format.specs.Members.{u32_at, u64_at, behind, name_in, names_in}
 use Rattle.eden_fuse_format.specs.Structs.{forget_in, getattr_in, setattr_in, mknod_in, mkdir_in, rename_in, rename2_in, link_in, open_in, create_in}
-use Rattle.eden_fuse_format.specs.Structs.{read_in, write_in, release_in, fsync_in, flush_in, init_in, access_in, interrupt_in}
+use Rattle.eden_fuse_format.specs.Structs.{read_in, write_in, release_in, fsync_in, flush_in, init_in, access_in, interrupt_in, fallocate_in}
 
 -- what is asked, without where its bytes lie in memory
 pub data Asked : Type 0 where
@@ -58,6 +59,7 @@ pub data Asked : Type 0 where
   Interrupt : InterruptIn → Asked
   Destroy : Asked
   BatchForget : (batch : List ℕ) → Asked
+  Fallocate : FallocateIn → Asked
   ReadDirPlus : ReadIn → Asked
   Rename2 : Rename2In → (name : List ℕ) → (new_name : List ℕ) → Asked
 
@@ -97,6 +99,7 @@ seen (operation.Create s n) = Create s n.now
 seen (operation.Interrupt s) = Interrupt s
 seen operation.Destroy = Destroy
 seen (operation.BatchForget b) = BatchForget b.now
+seen (operation.Fallocate s) = Fallocate s
 seen (operation.ReadDirPlus s) = ReadDirPlus s
 seen (operation.Rename2 s n m) = Rename2 s n.now m.now
 
@@ -146,5 +149,6 @@ asked_by op.Create b = with_name 16 b (create_in b) Create
 asked_by op.Interrupt b = option_map Interrupt (interrupt_in b)
 asked_by op.Destroy b = Some Destroy
 asked_by op.BatchForget b = forgotten b
+asked_by op.Fallocate b = option_map Fallocate (fallocate_in b)
 asked_by op.ReadDirPlus b = option_map ReadDirPlus (read_in b)
 asked_by op.Rename2 b = with_names 16 b (rename2_in b) Rename2

@@ -33,5 +33,6 @@ number_of op.Create = 35
 number_of op.Interrupt = 36
 number_of op.Destroy = 38
 number_of op.BatchForget = 42
+number_of op.Fallocate = 43
 number_of op.ReadDirPlus = 44
 number_of op.Rename2 = 45

@@ -25,6 +25,7 @@ use Rattle.eden_fuse_format.specs.declared.structs.FlushIn.{FlushIn}
 use Rattle.eden_fuse_format.specs.declared.structs.InitIn.{InitIn}
 use Rattle.eden_fuse_format.specs.declared.structs.AccessIn.{AccessIn}
 use Rattle.eden_fuse_format.specs.declared.structs.InterruptIn.{InterruptIn}
+use Rattle.eden_fuse_format.specs.declared.structs.FallocateIn.{FallocateIn}
 use Rattle.eden_fuse_format.specs.Members.{members_text, Fits}
 use Rattle.eden_fuse_format.specs.Opcodes.{number_of}
 use Rattle.eden_fuse_format.specs.Asked.{Asked}
@@ -60,6 +61,7 @@ opcode_of (asked.Create s n) = op.Create
 opcode_of (asked.Interrupt s) = op.Interrupt
 opcode_of asked.Destroy = op.Destroy
 opcode_of (asked.BatchForget b) = op.BatchForget
+opcode_of (asked.Fallocate s) = op.Fallocate
 opcode_of (asked.ReadDirPlus s) = op.ReadDirPlus
 opcode_of (asked.Rename2 s n m) = op.Rename2
 
@@ -121,6 +123,9 @@ access_members s = U32 s.mask ∷ U32 0 ∷ []
 abbrev pub interrupt_members : InterruptIn → List Member
 interrupt_members s = U64 s.unique ∷ []
 
+abbrev pub fallocate_members : FallocateIn → List Member
+fallocate_members s = U64 s.fh ∷ U64 s.offset ∷ U64 s.length ∷ U32 s.mode ∷ U32 0 ∷ []
+
 -- .. of a batch, which counts what stands behind it
 abbrev pub batch_members : List ℕ → List Member
 batch_members batch = U32 (length batch / 16) ∷ U32 0 ∷ []
@@ -149,6 +154,7 @@ members_of (asked.Access s) = access_members s
 members_of (asked.Create s n) = create_members s
 members_of (asked.Interrupt s) = interrupt_members s
 members_of (asked.BatchForget b) = batch_members b
+members_of (asked.Fallocate s) = fallocate_members s
 members_of (asked.ReadDirPlus s) = read_members s
 members_of (asked.Rename2 s n m) = rename2_members s
 members_of a = []

@@ -19,6 +19,7 @@ use Rattle.eden_fuse_format.specs.declared.structs.FlushIn.{FlushIn}
 use Rattle.eden_fuse_format.specs.declared.structs.InitIn.{InitIn}
 use Rattle.eden_fuse_format.specs.declared.structs.AccessIn.{AccessIn}
 use Rattle.eden_fuse_format.specs.declared.structs.InterruptIn.{InterruptIn}
+use Rattle.eden_fuse_format.specs.declared.structs.FallocateIn.{FallocateIn}
 use Rattle.eden_fuse_format.specs.Members.{u32_at, u64_at, of_size}
 
 abbrev pub forget_in : List ℕ → Option ForgetIn
@@ -103,3 +104,6 @@ access_in b = of_size 8 b (record { mask = u32_at 0 b })
 
 abbrev pub interrupt_in : List ℕ → Option InterruptIn
 interrupt_in b = of_size 8 b (record { unique = u64_at 0 b })
+
+abbrev pub fallocate_in : List ℕ → Option FallocateIn
+fallocate_in b = of_size 32 b (record { fh = u64_at 0 b; offset = u64_at 8 b; length = u64_at 16 b; mode = u32_at 24 b })

@@ -24,6 +24,7 @@ pub use opcode::{Opcode, read_opcode};
 pub use operation::{Operation, forget_at};
 pub use row::{Dirent, put_dirent, put_direntplus, row_len};
 pub use structs::{
-    AccessIn, CreateIn, FSyncIn, FlushIn, ForgetIn, ForgetOne, GetAttrIn, InitIn, InterruptIn,
-    LinkIn, MkDirIn, MkNodIn, OpenIn, ReadIn, ReleaseIn, Rename2In, RenameIn, SetAttrIn, WriteIn,
+    AccessIn, CreateIn, FSyncIn, FallocateIn, FlushIn, ForgetIn, ForgetOne, GetAttrIn, InitIn,
+    InterruptIn, LinkIn, MkDirIn, MkNodIn, OpenIn, ReadIn, ReleaseIn, Rename2In, RenameIn,
+    SetAttrIn, WriteIn,
 };

@@ -34,6 +34,7 @@ pub enum Opcode {
     Interrupt = 36,
     Destroy = 38,
     BatchForget = 42,
+    Fallocate = 43,
     ReadDirPlus = 44,
     Rename2 = 45,
 }
@@ -72,6 +73,7 @@ pub fn read_opcode(number: u32) -> Option<Opcode>
         36 => Opcode::Interrupt,
         38 => Opcode::Destroy,
         42 => Opcode::BatchForget,
+        43 => Opcode::Fallocate,
         44 => Opcode::ReadDirPlus,
         45 => Opcode::Rename2,
         _ => return None,

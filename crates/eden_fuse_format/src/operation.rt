@@ -5,11 +5,11 @@ ghost use Rattle.eden_fuse_format.specs.Asked.{seen, asked_by, written, forgotte
 use crate::members::{behind, name_in, names_in, u32_at, u64_at};
 use crate::opcode::Opcode;
 use crate::structs::{
-    AccessIn, CreateIn, FSyncIn, FlushIn, ForgetIn, ForgetOne, GetAttrIn, InitIn, InterruptIn,
-    LinkIn, MkDirIn, MkNodIn, OpenIn, ReadIn, ReleaseIn, Rename2In, RenameIn, SetAttrIn, WriteIn,
-    access_in, create_in, flush_in, forget_in, fsync_in, getattr_in, init_in, interrupt_in,
-    link_in, mkdir_in, mknod_in, open_in, read_in, release_in, rename_in, rename2_in, setattr_in,
-    write_in,
+    AccessIn, CreateIn, FSyncIn, FallocateIn, FlushIn, ForgetIn, ForgetOne, GetAttrIn, InitIn,
+    InterruptIn, LinkIn, MkDirIn, MkNodIn, OpenIn, ReadIn, ReleaseIn, Rename2In, RenameIn,
+    SetAttrIn, WriteIn, access_in, create_in, fallocate_in, flush_in, forget_in, fsync_in,
+    getattr_in, init_in, interrupt_in, link_in, mkdir_in, mknod_in, open_in, read_in, release_in,
+    rename_in, rename2_in, setattr_in, write_in,
 };
 
 /// What a message asks for, of the node that its header names. Names and bytes are the message's own; a name is any
@@ -49,6 +49,7 @@ pub enum Operation<'a> {
     Destroy,
     /// What `forget_at` finds, 16 bytes each.
     BatchForget(&'a [u8]),
+    Fallocate(FallocateIn),
     ReadDirPlus(ReadIn),
     /// A name, and its new one.
     Rename2(Rename2In, &'a [u8], &'a [u8]),
@@ -146,6 +147,7 @@ pub(crate) fn read_operation(opcode: Opcode, body: &[u8]) -> Option<Operation<'_
         Opcode::Interrupt => Some(Operation::Interrupt(interrupt_in(body)?)),
         Opcode::Destroy => Some(Operation::Destroy),
         Opcode::BatchForget => forgotten(body),
+        Opcode::Fallocate => Some(Operation::Fallocate(fallocate_in(body)?)),
         Opcode::ReadDirPlus => Some(Operation::ReadDirPlus(read_in(body)?)),
         Opcode::Rename2 => {
             let head = rename2_in(body)?;

@@ -19,6 +19,7 @@ ghost use Rattle.eden_fuse_format.specs.Structs.{
   init_in,
   access_in,
   interrupt_in,
+  fallocate_in,
 };
 
 use crate::members::{u32_at, u64_at};
@@ -175,6 +176,15 @@ pub struct AccessIn {
 #[derive(Clone, Copy)]
 pub struct InterruptIn {
     pub unique: u64,
+}
+
+/// The bytes of an open file for which there is to be room, from an offset on. `mode` is that of fallocate(2).
+#[derive(Clone, Copy)]
+pub struct FallocateIn {
+    pub fh: u64,
+    pub offset: u64,
+    pub length: u64,
+    pub mode: u32,
 }
 
 pub(crate) fn forget_in(body: &[u8]) -> Option<ForgetIn>
@@ -411,5 +421,19 @@ pub(crate) fn interrupt_in(body: &[u8]) -> Option<InterruptIn>
     }
     Some(InterruptIn {
         unique: u64_at(body, 0),
+    })
+}
+
+pub(crate) fn fallocate_in(body: &[u8]) -> Option<FallocateIn>
+    ensures { result ≡ fallocate_in body.now }
+{
+    if body.len() < 32 {
+        return None;
+    }
+    Some(FallocateIn {
+        fh: u64_at(body, 0),
+        offset: u64_at(body, 8),
+        length: u64_at(body, 16),
+        mode: u32_at(body, 24),
     })
 }

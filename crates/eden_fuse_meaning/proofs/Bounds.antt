@@ -1,5 +1,5 @@
 -- How many requests may follow.
-use Rattle.std.proofs.Common.{◌≤◌, ◌==◌, ◌&&◌, ℕ, Bool, true, false, Result, Ok, Err, arith, if◌then◌else◌}
+use Rattle.std.proofs.Common.{◌≤◌, ◌+◌, nat_le, nat_lt, not, ◌==◌, ◌&&◌, ℕ, Bool, true, false, Result, Ok, Err, arith, if◌then◌else◌}
 use Rattle.eden_model.specs.declared.errno.Errno.{Errno}
 use Rattle.eden_model.specs.declared.errno.Errno.TheVariants as errno
 use Rattle.eden_model.specs.declared.kind.Kind.{Kind}
@@ -9,8 +9,9 @@ use Rattle.eden_model.specs.declared.request.Request.TheVariants as ask
 use Rattle.eden_model.specs.declared.reply.Reply.{Reply}
 use Rattle.eden_model.specs.declared.reply.Reply.TheVariants as say
 use Rattle.eden_model.specs.Faults.{errno_number}
-use Rattle.eden_model.specs.Limits.{most_entries}
+use Rattle.eden_model.specs.Limits.{most_entries, most_file}
 use Rattle.eden_model.specs.Trees.{Name, Path}
+use Rattle.eden_fuse_format.specs.declared.structs.FallocateIn.{FallocateIn}
 use Rattle.eden_fuse_format.specs.declared.structs.MkNodIn.{MkNodIn}
 use Rattle.eden_fuse_format.specs.declared.structs.SetAttrIn.{SetAttrIn}
 use Rattle.eden_fuse_format.specs.Asked.{Asked as asked}
@@ -21,7 +22,7 @@ use Rattle.eden_fuse_meaning.specs.declared.step.Then.TheVariants as after
 use Rattle.eden_fuse_meaning.specs.declared.step.Step.{Step}
 use Rattle.eden_fuse_meaning.specs.declared.step.Step.TheVariants.{Ask, Tell}
 use Rattle.eden_fuse_meaning.specs.Steps.{refuse, refused, on_path, on_child, child_at, gives_away, set_mode, set_size, show, has, is_exec, is_exclusive, is_file}
-use Rattle.eden_fuse_meaning.specs.Steps.{makes_file, moves, renames, on_ok, on_stat, on_kind, or_if, give, count, rows, mark, open_made, open_file, open_dir}
+use Rattle.eden_fuse_meaning.specs.Steps.{makes_file, moves, reach, renames, reserve, on_ok, on_stat, on_kind, or_if, give, count, rows, mark, open_made, open_file, open_dir}
 use Rattle.eden_fuse_meaning.specs.Laws.{most_then, most_asked, EndIsNear, AsksThrice}
 
 -- at most so many
@@ -170,6 +171,7 @@ end_is_near after.OpenFile r = within_kind 0 open_file r within_file
 end_is_near after.OpenDir r = within_kind 0 open_dir r within_dir
 end_is_near (after.Free p q) r =
     within_or 1 errno.ENOENT (Ask (ask.Rename p q) after.Finish) (on_kind (λ k. refuse 17)) r (omega arith) (within_kind 1 (λ k. refuse 17) r (λ k. omega arith))
+end_is_near (after.Reach p end) r = within_stat 1 (λ k m i. reach p end m) r (λ k m i. within_if 1 (nat_lt m end) (Ask (ask.Truncate p end) after.Finish) (Tell Done) (omega arith) (omega arith))
 end_is_near after.Finish r = within_ok 0 (Tell Done) r (omega arith)
 
 -- ---- what a message begins with
@@ -197,6 +199,12 @@ within_settings owner s p = within_if 3 (gives_away owner s) (refuse 1) (set_siz
 
 within_node : (s : MkNodIn) (p : Path) → Within 3 (if makes_file s.mode then Ask (ask.Create p) (after.Make p (is_exec s.mode)) else refuse 1)
 within_node s p = within_if 3 (makes_file s.mode) (Ask (ask.Create p) (after.Make p (is_exec s.mode))) (refuse 1) (omega arith) (omega arith)
+
+within_room : (s : FallocateIn) (p : Path) → Within 3 (reserve s p)
+within_room s p =
+    let asks = Ask (ask.Stat p) (after.Reach p (s.offset + s.length)) in
+    within_if 3 (not (s.mode == 0)) (refuse 95) (if nat_le (s.offset + s.length) most_file then asks else refuse 27) (omega arith)
+    (within_if 3 (nat_le (s.offset + s.length) most_file) asks (refuse 27) (omega arith) (omega arith))
 
 pub asks_thrice : AsksThrice
 asks_thrice owner at to last (asked.Lookup n) = within_asked (child_at at n) (λ p. ask.Stat p) (λ p. after.Look) (λ p. omega arith)
@@ -230,5 +238,6 @@ asks_thrice owner at to last (asked.Create s n) =
 asks_thrice owner at to last (asked.Interrupt s) = omega arith
 asks_thrice owner at to last asked.Destroy = omega arith
 asks_thrice owner at to last (asked.BatchForget b) = omega arith
+asks_thrice owner at to last (asked.Fallocate s) = within_path 3 at (reserve s) (within_room s)
 asks_thrice owner at to last (asked.ReadDirPlus s) = omega arith
 asks_thrice owner at to last (asked.Rename2 s n m) = within_moves at to n m s.flags

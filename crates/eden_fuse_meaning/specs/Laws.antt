@@ -28,6 +28,7 @@ most_then after.List = 0
 most_then after.OpenFile = 0
 most_then after.OpenDir = 0
 most_then (after.Free p q) = 1
+most_then (after.Reach p end) = 1
 most_then after.Finish = 0
 
 -- .. and with what is to be asked next

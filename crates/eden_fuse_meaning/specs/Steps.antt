@@ -1,5 +1,6 @@
 -- What each message of the kernel asks of a mount, request by request, and what it comes to. Errors have Linux's numbers.
 use Rattle.std.specs.Prelude.{ℕ, ◌==◌, ◌&&◌, ◌||◌, not, bit_and, Bool, true, false, [], ◌∷◌, ◌++◌, Option, Some, None, Result, Ok, Err, if◌then◌else◌}
+use Rattle.std.specs.Prelude.{◌+◌, nat_le, nat_lt}
 use Rattle.std.specs.Option.{option_or}
 use Rattle.eden_model.specs.declared.errno.Errno.{Errno}
 use Rattle.eden_model.specs.declared.errno.Errno.TheVariants as errno
@@ -9,10 +10,11 @@ use Rattle.eden_model.specs.declared.request.Request.TheVariants as ask
 use Rattle.eden_model.specs.declared.reply.Reply.{Reply}
 use Rattle.eden_model.specs.declared.reply.Reply.TheVariants as say
 use Rattle.eden_model.specs.Faults.{errno_number}
-use Rattle.eden_model.specs.Limits.{most_entries}
+use Rattle.eden_model.specs.Limits.{most_entries, most_file}
 use Rattle.eden_model.specs.Names.{name_refusal}
 use Rattle.eden_model.specs.Paths.{path_refusal}
 use Rattle.eden_model.specs.Trees.{Name, Path}
+use Rattle.eden_fuse_format.specs.declared.structs.FallocateIn.{FallocateIn}
 use Rattle.eden_fuse_format.specs.declared.structs.SetAttrIn.{SetAttrIn}
 use Rattle.eden_fuse_format.specs.Asked.{Asked}
 use Rattle.eden_fuse_format.specs.Asked.{Asked as asked}
@@ -100,6 +102,13 @@ is_exclusive flags = has flags 128
 abbrev pub moves : Result Path ℕ → Result Path ℕ → Name → Name → (Path → Path → Step) → Step
 moves at to n m f = on_child at n (λ p. on_child to m (λ q. f p q))
 
+-- Room for bytes of a file as by posix_fallocate(3): a shorter one grows to their end, by zeros. Where no file is so long that is
+-- EFBIG (27), and all else that fallocate(2) knows EOPNOTSUPP (95)
+abbrev pub reserve : FallocateIn → Path → Step
+reserve s p =
+    if not (s.mode == 0) then refuse 95
+    else (if nat_le (s.offset + s.length) most_file then Ask (ask.Stat p) (after.Reach p (s.offset + s.length)) else refuse 27)
+
 -- RENAME_NOREPLACE is 1; what else renameat2(2) knows is refused with EINVAL (22)
 abbrev pub renames : ℕ → Path → Path → Step
 renames flags p q =
@@ -140,6 +149,7 @@ first owner at to last (asked.Create s n) = on_child at n (λ p. Ask (ask.Create
 first owner at to last (asked.Interrupt s) = Tell Silent
 first owner at to last asked.Destroy = Tell Done
 first owner at to last (asked.BatchForget b) = Tell Silent
+first owner at to last (asked.Fallocate s) = on_path at (reserve s)
 first owner at to last (asked.ReadDirPlus s) = refuse 38
 first owner at to last (asked.Rename2 s n m) = moves at to n m (renames s.flags)
 
@@ -161,6 +171,10 @@ abbrev pub open_made : Kind → ℕ → ℕ → Step
 open_made kinds.Link n i = refuse 40
 open_made kinds.Dir n i = refuse 21
 open_made k n i = Tell (Made k n i)
+
+-- of a length: a file that ends before
+abbrev pub reach : Path → ℕ → ℕ → Step
+reach p end n = if nat_lt n end then Ask (ask.Truncate p end) after.Finish else Tell Done
 
 -- a reply that such a request has, or a refusal
 abbrev pub on_ok : Step → Reply → Step
@@ -216,4 +230,5 @@ next after.List r = rows r
 next after.OpenFile r = on_kind open_file r
 next after.OpenDir r = on_kind open_dir r
 next (after.Free p q) r = or_if errno.ENOENT (Ask (ask.Rename p q) after.Finish) (on_kind (λ k. refuse 17)) r
+next (after.Reach p end) r = on_stat (λ k n i. reach p end n) r
 next after.Finish r = on_ok (Tell Done) r

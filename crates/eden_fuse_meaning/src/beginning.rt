@@ -15,6 +15,7 @@ ghost use Rattle.eden_fuse_meaning.specs.Steps.{
   on_path,
   refuse,
   renames,
+  reserve,
   set_mode,
   set_size,
   show,
@@ -22,15 +23,19 @@ ghost use Rattle.eden_fuse_meaning.specs.Steps.{
 
 use crate::paths::{child_at, path_at};
 use crate::step::{Outcome, Owner, Step, Then};
-use eden_fuse_format::{CreateIn, MkNodIn, Operation, ReadIn, SetAttrIn, WriteIn};
-use eden_model::{Bytes, MAX_ENTRIES, Name, Path, Request, SharedBytes};
+use eden_fuse_format::{CreateIn, FallocateIn, MkNodIn, Operation, ReadIn, SetAttrIn, WriteIn};
+use eden_model::{Bytes, MAX_ENTRIES, MAX_FILE, Name, Path, Request, SharedBytes};
 use std::alloc::{AllocError, Global};
 
 const EPERM: u32 = 1;
 
 const EINVAL: u32 = 22;
 
+const EFBIG: u32 = 27;
+
 const ENOSYS: u32 = 38;
+
+const EOPNOTSUPP: u32 = 95;
 
 pub(crate) fn refuse(errno: u32) -> Step
     ensures { result ≡ refuse errno }
@@ -314,6 +319,24 @@ fn create(
     }
 }
 
+fn make_room(alloc: Global, at: &Result<Path, u32>, room: &FallocateIn) -> Result<Step, AllocError>
+    ensures { IfOk result (λ s. s ≡ on_path at.now (reserve room.now)) }
+{
+    let path = match path_at(alloc, at)? {
+        Err(errno) => return Ok(refuse(errno)),
+        Ok(path) => path,
+    };
+    if room.mode != 0 {
+        return Ok(refuse(EOPNOTSUPP));
+    }
+    if room.offset > MAX_FILE || room.length > MAX_FILE - room.offset {
+        return Ok(refuse(EFBIG));
+    }
+    let same = path.copy(alloc)?;
+    let then = Then::Reach(same, room.offset + room.length);
+    Ok(Step::Ask(Request::Stat(path), then))
+}
+
 /// What a message begins with. `at` is the path of its node, and `to` that of the other directory of a rename, or the
 /// error's number if no request can name it; `last` is the name after which a directory is read on. The only error is
 /// want of memory.
@@ -345,6 +368,7 @@ pub fn first(
         Operation::Write(asked, bytes) => write(alloc, at, asked, bytes),
         Operation::ReadDir(_) => read_directory(alloc, at, last),
         Operation::Create(file, name) => create(alloc, at, name, file),
+        Operation::Fallocate(room) => make_room(alloc, at, room),
         Operation::Forget(_) | Operation::BatchForget(_) | Operation::Interrupt(_) => {
             Ok(Step::Tell(Outcome::Silent))
         }

@@ -17,6 +17,7 @@ ghost use Rattle.eden_fuse_meaning.specs.Steps.{
   open_file,
   open_made,
   or_if,
+  reach,
   refuse,
   refused,
   rows,
@@ -229,6 +230,21 @@ fn rows(reply: Reply) -> Step
     }
 }
 
+fn reach(path: Path, end: u64, reply: &Reply) -> Step
+    ensures { result ≡ on_stat (λ k n i. reach path end n) reply.now }
+{
+    match reply {
+        Reply::Stat(_, size, _) => {
+            if *size < end {
+                Step::Ask(Request::Truncate(path, end), Then::Finish)
+            } else {
+                Step::Tell(Outcome::Done)
+            }
+        }
+        _ => refused(reply),
+    }
+}
+
 /// What is made of a reply. The only error is want of memory.
 pub fn next(alloc: Global, awaited: Then, reply: Reply) -> Result<Step, AllocError>
     ensures { IfOk result (λ s. s ≡ next awaited reply) }
@@ -250,6 +266,7 @@ pub fn next(alloc: Global, awaited: Then, reply: Reply) -> Result<Step, AllocErr
         Then::OpenFile => open_file(&reply),
         Then::OpenDir => open_directory(&reply),
         Then::Free(from, to) => move_if_free(from, to, &reply),
+        Then::Reach(path, end) => reach(path, end, &reply),
         Then::Finish => finish(&reply),
     })
 }

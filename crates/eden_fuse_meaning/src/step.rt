@@ -75,6 +75,8 @@ pub enum Then {
     OpenDir,
     /// Of `kind`: whether a name is free, to which another is to be moved.
     Free(Path, Path),
+    /// Of `stat`: whether a file has to grow to that end.
+    Reach(Path, u64),
     /// Of a change: that it was done.
     Finish,
 }

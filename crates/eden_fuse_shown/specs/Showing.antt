@@ -232,6 +232,7 @@ sort_of (asked.SetAttr s) = sort.Look
 sort_of (asked.Read s) = sort.Look
 sort_of (asked.Flush s) = sort.Look
 sort_of (asked.FSync s) = sort.Look
+sort_of (asked.Fallocate s) = sort.Look
 sort_of (asked.Lookup n) = sort.LookUp
 sort_of (asked.Create s n) = sort.LookUp
 sort_of (asked.Init s) = sort.Start

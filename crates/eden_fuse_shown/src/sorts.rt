@@ -46,7 +46,8 @@ pub(crate) fn sort_of(operation: &Operation<'_>) -> Sort
         | Operation::SetAttr(_)
         | Operation::Read(_)
         | Operation::Flush(_)
-        | Operation::FSync(_) => Sort::Look,
+        | Operation::FSync(_)
+        | Operation::Fallocate(_) => Sort::Look,
         Operation::Lookup(_) | Operation::Create(_, _) => Sort::LookUp,
         Operation::Init(_) => Sort::Start,
         Operation::Unlink(_) => Sort::Remove,

@@ -163,7 +163,8 @@ impl Times {
                 | Operation::MkNod(_, _)
                 | Operation::MkDir(_, _)
                 | Operation::Create(_, _)
-                | Operation::RmDir(_) => self.change(node, now),
+                | Operation::RmDir(_)
+                | Operation::Fallocate(_) => self.change(node, now),
                 Operation::Unlink(name) => self.change_at(node, name, now),
                 Operation::SetAttr(setting) => self.set_by(node, setting, now),
                 Operation::Rename(head, name, new) => {

@@ -1,7 +1,7 @@
 //! What messages ask of a mount, request by request, and what they come to.
 use eden_fuse_format::{
-    AccessIn, CreateIn, ForgetIn, GetAttrIn, LinkIn, MkDirIn, MkNodIn, OpenIn, Operation, ReadIn,
-    Rename2In, RenameIn, SetAttrIn, WriteIn,
+    AccessIn, CreateIn, FallocateIn, ForgetIn, GetAttrIn, LinkIn, MkDirIn, MkNodIn, OpenIn,
+    Operation, ReadIn, Rename2In, RenameIn, SetAttrIn, WriteIn,
 };
 use eden_fuse_meaning::{Outcome, Owner, Step, first, next};
 use eden_model::{Bytes, Entries, Errno, Fault, Kind, Name, Path, Reply, Request};
@@ -356,6 +356,42 @@ const EXCHANGING: Rename2In = Rename2In {
     flags: 2,
 };
 
+// Room in a file of 5 bytes: for its last three, for more, for more than a file may have, and for room that isn't seen.
+const ROOM: FallocateIn = FallocateIn {
+    fh: 0,
+    offset: 2,
+    length: 3,
+    mode: 0,
+};
+
+const MORE_ROOM: FallocateIn = FallocateIn {
+    fh: 0,
+    offset: 2,
+    length: (1 << 30) - 2,
+    mode: 0,
+};
+
+const MOST_ROOM: FallocateIn = FallocateIn {
+    fh: 0,
+    offset: 2,
+    length: (1 << 30) - 1,
+    mode: 0,
+};
+
+const ENDLESS_ROOM: FallocateIn = FallocateIn {
+    fh: 0,
+    offset: u64::MAX,
+    length: u64::MAX,
+    mode: 0,
+};
+
+const KEPT_ROOM: FallocateIn = FallocateIn {
+    fh: 0,
+    offset: 2,
+    length: 3,
+    mode: 1,
+};
+
 // The name of a node, an operation on it, and what that asks and comes to.
 const TOLD: &[(&str, Operation<'static>, &str)] = &[
     (
@@ -417,6 +453,17 @@ const TOLD: &[(&str, Operation<'static>, &str)] = &[
         "refused 1",
     ),
     ("file", Operation::Open(OPENING), "kind /file; opened"),
+    ("file", Operation::Fallocate(ROOM), "stat /file; done"),
+    (
+        "file",
+        Operation::Fallocate(MORE_ROOM),
+        "stat /file; truncate /file 1073741824; done",
+    ),
+    ("file", Operation::Fallocate(MOST_ROOM), "refused 27"),
+    ("file", Operation::Fallocate(ENDLESS_ROOM), "refused 27"),
+    ("file", Operation::Fallocate(KEPT_ROOM), "refused 95"),
+    ("lost", Operation::Fallocate(ROOM), "stat /lost; refused 5"),
+    ("?", Operation::Fallocate(ROOM), "refused 116"),
     ("link", Operation::Open(OPENING), "kind /link; refused 40"),
     ("dir", Operation::Open(OPENING), "kind /dir; refused 21"),
     ("none", Operation::Open(OPENING), "kind /none; refused 2"),

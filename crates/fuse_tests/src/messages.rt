@@ -2,8 +2,8 @@
 use crate::none::{MALFORMED, UNFRAMED, UNKNOWN};
 use crate::sent::{BATCH, FORGOTTEN, Row, SENT, SPELLED};
 use eden_fuse_format::{
-    CreateIn, Header, InitIn, Message, MkNodIn, OpenIn, Operation, ReadIn, ReleaseIn, SetAttrIn,
-    WriteIn, forget_at, read_message,
+    CreateIn, FallocateIn, Header, InitIn, Message, MkNodIn, OpenIn, Operation, ReadIn, ReleaseIn,
+    SetAttrIn, WriteIn, forget_at, read_message,
 };
 use std::process::Abort;
 
@@ -84,6 +84,10 @@ fn of_release(s: &ReleaseIn) -> Members {
     ])
 }
 
+fn of_fallocate(s: &FallocateIn) -> Members {
+    padded(&[s.fh, s.offset, s.length, u64::from(s.mode)])
+}
+
 fn of_init(s: &InitIn) -> Members {
     padded(&[
         u64::from(s.major),
@@ -130,6 +134,7 @@ fn parts_of<'a>(operation: &Operation<'a>) -> (u32, Members, &'a [u8], &'a [u8])
         Operation::Interrupt(s) => (36, padded(&[s.unique]), b"", b""),
         Operation::Destroy => (38, [0; 13], b"", b""),
         Operation::BatchForget(batch) => (42, [0; 13], batch, b""),
+        Operation::Fallocate(s) => (43, of_fallocate(s), b"", b""),
         Operation::ReadDirPlus(s) => (44, of_read(s), b"", b""),
         Operation::Rename2(s, name, other) => (
             45,
