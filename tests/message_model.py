@@ -153,6 +153,11 @@ class Extent(NamedTuple):
     def end(self) -> int:
         return self.start + len(self.data)
 
+    def joined(self, offset: int, data: bytes) -> "Extent":
+        """With bytes that begin in it or where it ends."""
+        at = offset - self.start
+        return Extent(self.start, self.data[:at] + data + self.data[at + len(data):])
+
 
 class FolderModel:
     def __init__(self, tree: WholeTree, owner: tuple[int, int]) -> None:
@@ -203,10 +208,10 @@ class FolderModel:
     # ---- what waits to be stored
 
     def may_wait(self, node: int, offset: int, data: bytes) -> bool:
-        """Bytes wait where they go on behind what waits for their node, and where there is room for them."""
+        """Bytes wait where they begin in what waits for their node, or at its end, and where there is room for them."""
         held = self.waits.get(node, Extent(offset, b""))
         room = MOST_WAITING - sum(len(extent.data) for extent in self.waits.values())
-        return held.end() == offset and offset + len(data) <= LONGEST_FILE and len(data) <= room
+        return held.start <= offset <= held.end() and offset + len(data) <= LONGEST_FILE and len(data) <= room
 
     def settle(self, node: int) -> None:
         """What waits for a node is stored. Where that is refused, it waits still."""
@@ -369,8 +374,7 @@ class FolderModel:
         if not self.may_wait(node, offset, data):
             self.settle(node)
         if self.may_wait(node, offset, data):
-            held = self.waits.get(node, Extent(offset, b""))
-            self.waits[node] = Extent(held.start, held.data + data)
+            self.waits[node] = self.waits.get(node, Extent(offset, b"")).joined(offset, data)
         else:
             self.tree.patch(self.path(node), offset, data)
         return WRITTEN.pack(size, 0)

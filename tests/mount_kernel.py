@@ -311,8 +311,9 @@ class Stores:
 
 
 def check_stores(folder: pathlib.Path, repository: pathlib.Path) -> None:
-    """A file that is written from its beginning to its end is stored at most 2 times, and once more for each 128 MiB;
-    and what was closed or synchronised is in the overlay, so that a kill loses none of it."""
+    """A file that is written from its beginning to its end is stored at most 2 times, and once more for each 128 MiB,
+    also if parts of it are written again; and what was closed or synchronised is in the overlay, so that a kill loses
+    none of it."""
     overlay = folder / "overlay"
     data = random.Random(1).randbytes(100 << 20)
     with MountGit(repository, "HEAD", folder / "mounted", "--overlay", overlay) as mount:
@@ -328,6 +329,9 @@ def check_stores(folder: pathlib.Path, repository: pathlib.Path) -> None:
             for part in range(1_000):
                 for number, descriptor in enumerate(descriptors):
                     os.write(descriptor, b"%d %d\n" % (number, part))
+            for number, descriptor in enumerate(descriptors):
+                for part in range(100, 110):
+                    os.pwrite(descriptor, b"%d %d!" % (number, part), sum(len(f"{number} {n}\n") for n in range(part)))
             check("stores: none while it is written", stores.most(), 0)
             os.fsync(descriptors[0])
             check("stores: once it is synchronised", stores.most(), 1)
@@ -337,7 +341,9 @@ def check_stores(folder: pathlib.Path, repository: pathlib.Path) -> None:
         check("stores: what was closed", (mount.folder / "large").read_bytes() == data, True)
         for number in range(4):
             lines = (mount.folder / f"small {number}").read_text().splitlines()
-            check(f"stores: what was closed, {number}", lines, [f"{number} {part}" for part in range(1_000)])
+            parts = [f"{number} {part}" for part in range(1_000)]
+            parts[100:111] = ["!".join([*parts[100:110], parts[110]])]
+            check(f"stores: what was closed, {number}", lines, parts)
         check("stores: the end", (mount.end("SIGTERM"), mount.said()), (0, []))
 
 

@@ -404,10 +404,11 @@ class RandomMessages:
         return self.file(), (0, self.offset(), self.size(), 0, 0, 0, 0)
 
     def write(self, _: str) -> Asked:
-        """Of those to a file for which something waits half go on behind it."""
+        """Of those to a file for which something waits half begin in it or go on behind it."""
         node, data = self.waiting() if self.random.random() < 0.3 else self.file(), self.data()
-        goes_on = node in self.model.waits and self.random.random() < 0.5
-        offset = self.model.waits[node].end() if goes_on else self.offset()
+        offset, held = self.offset(), self.model.waits.get(node)
+        if held and self.random.random() < 0.5:
+            offset = self.random.choice([held.end(), held.end(), self.random.randint(held.start, held.end())])
         return node, (0, offset, len(data), 0, 0, 0, 0, data)
 
     def fallocate(self, _: str) -> Asked:

@@ -1,6 +1,7 @@
 -- What waits at a path, and what is seen there.
-use Rattle.std.proofs.Common.{◌≡◌, ◌==◌, ◌&&◌, ◌+◌, ℕ, nat_lt, Bool, true, false, cond, List, [], ◌∷◌, ◌++◌, length, reverse, Option, Some, None, option_map, inl, inr, refl, sym, ap, subst, ◌∙◌}
-use Rattle.std.proofs.lemmas.Bool.{cases_Bool, eqb-true, eq-eqb, false≢true}
+use Rattle.std.proofs.Common.{◌≡◌, ◌==◌, ◌&&◌, ◌+◌, ◌-◌, ◌≤◌, ℕ, nat_le, nat_lt, Bool, true, false, cond, List, [], ◌∷◌, ◌++◌, length}
+use Rattle.std.proofs.Common.{reverse, Option, Some, None, option_map, inl, inr, refl, sym, ap, subst, ◌∙◌}
+use Rattle.std.proofs.lemmas.Bool.{cases_Bool, eqb-true, leb-true, eq-eqb, false≢true}
 use Rattle.std.specs.Cmp.{nat_cmp_is}
 use Rattle.std.proofs.lemmas.Slice.Eq.{bytes_eq-Decides}
 use Rattle.std.specs.BTreeMap.{is_at}
@@ -19,10 +20,10 @@ use Rattle.eden_fuse_nodes.specs.Laws.{OneNode}
 use Rattle.eden_fuse_nodes.specs.Tables.{IsTable, place_of, root}
 use Rattle.eden_fuse_nodes.specs.Tables.{Table as Nodes}
 use Rattle.eden_fuse_nodes.specs.Ways.{LeadsUp, LiesAt}
-use Rattle.eden_fuse_shown.specs.Waiting.{Extent, extent_of, goes_on, longer}
+use Rattle.eden_fuse_shown.specs.Waiting.{Extent, can_join, extent_of, joined}
 use Rattle.eden_fuse_shown.specs.Waiting.{Table as Waits}
 use Rattle.eden_fuse_shown.specs.Seeing.{goes_up, leads_up, lies_at, waits_at, with_waiting, LiesAsTold}
-use Rattle.eden_fuse_shown.proofs.Contents.{written_on, written_again}
+use Rattle.eden_fuse_shown.proofs.Contents.{written_again, written_into}
 
 -- ---- the node at a path
 
@@ -117,23 +118,26 @@ module _ (one : OneNode) (nodes : Nodes) (whole : IsTable nodes) where
 -- ---- what is seen at a path
 
 module _ (put : DataIsWritten) (stay : OldBytesStay) (long : WrittenLength) where
-  content_on : (f g : ℕ) (a b : List ℕ) (o : Option (List ℕ)) → f + length a ≡ g
-      → option_map (written g b) (option_map (written f a) o) ≡ option_map (written f (a ++ b)) o
-  content_on f g a b None is = refl
-  content_on f g a b (Some c) is = ap (λ (x : List ℕ). Some x) (ap (λ (k : ℕ). written k b (written f a c)) (sym is) ∙ written_on put stay long f a b c)
+  content_into : (f g : ℕ) (a b : List ℕ) (o : Option (List ℕ)) → f ≤ g → g ≤ f + length a
+      → option_map (written g b) (option_map (written f a) o) ≡ option_map (written f (written (g - f) b a)) o
+  content_into f g a b None low high = refl
+  content_into f g a b (Some c) low high = ap (λ (x : List ℕ). Some x) (written_into put stay long f g a b c low high)
 
-  node_on : (f g : ℕ) (a b : List ℕ) (o : Option Node) → f + length a ≡ g
-      → option_map (with_content (option_map (written g b))) (option_map (with_content (option_map (written f a))) o) ≡ option_map (with_content (option_map (written f (a ++ b)))) o
-  node_on f g a b None is = refl
-  node_on f g a b (Some (File x c)) is = ap (λ (y : Option (List ℕ)). Some (File x y)) (content_on f g a b c is)
-  node_on f g a b (Some (Link c)) is = refl
-  node_on f g a b (Some (Dir l)) is = refl
+  node_into : (f g : ℕ) (a b : List ℕ) (o : Option Node) → f ≤ g → g ≤ f + length a
+      → option_map (with_content (option_map (written g b))) (option_map (with_content (option_map (written f a))) o)
+      ≡ option_map (with_content (option_map (written f (written (g - f) b a)))) o
+  node_into f g a b None low high = refl
+  node_into f g a b (Some (File x c)) low high = ap (λ (y : Option (List ℕ)). Some (File x y)) (content_into f g a b c low high)
+  node_into f g a b (Some (Link c)) low high = refl
+  node_into f g a b (Some (Dir l)) low high = refl
 
-  -- bytes more wait, or what is seen is written
-  pub longer_seen : (w : Option Extent) (from : ℕ) (b : List ℕ) (o : Option Node) → goes_on w from ≡ true
-      → with_waiting (Some (longer w from b)) o ≡ option_map (with_content (option_map (written from b))) (with_waiting w o)
-  longer_seen None from b o goes = refl
-  longer_seen (Some e) from b o goes = sym (node_on e.from from e.bytes b o (eqb-true (e.from + length e.bytes) from goes))
+  -- bytes wait too, or what is seen is written
+  pub joined_seen : (w : Option Extent) (from : ℕ) (b : List ℕ) (o : Option Node) → can_join w from ≡ true
+      → with_waiting (Some (joined w from b)) o ≡ option_map (with_content (option_map (written from b))) (with_waiting w o)
+  joined_seen None from b o joins = refl
+  joined_seen (Some e) from b o joins =
+      let parts = both (nat_le e.from from) (nat_le from (e.from + length e.bytes)) joins in
+      sym (node_into e.from from e.bytes b o (leb-true e.from from parts.0) (leb-true from (e.from + length e.bytes) parts.1))
 
   content_again : (f : ℕ) (a : List ℕ) (o : Option (List ℕ)) → option_map (written f a) (option_map (written f a) o) ≡ option_map (written f a) o
   content_again f a None = refl

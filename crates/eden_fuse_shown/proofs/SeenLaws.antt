@@ -14,10 +14,10 @@ use Rattle.eden_fuse_nodes.specs.Tables.{Table as Nodes}
 use Rattle.eden_fuse_nodes.specs.Ways.{LiesAt}
 use Rattle.eden_fuse_shown.specs.Running.{Replying}
 use Rattle.eden_fuse_shown.specs.Showing.{Showing, Leaves, SettlesWith, Stores}
-use Rattle.eden_fuse_shown.specs.Waiting.{Extent, Ends, extent_of, longer}
+use Rattle.eden_fuse_shown.specs.Waiting.{Extent, Ends, extent_of, joined}
 use Rattle.eden_fuse_shown.specs.Waiting.{Table as Waits}
 use Rattle.eden_fuse_shown.specs.Seeing.{Follows, IsThereOnceStored, StoresUnseen, WaitsAsWritten, seen, seen_tree, waits_at, with_waiting}
-use Rattle.eden_fuse_shown.proofs.Seen.{again_seen, at_node, longer_seen, same_there}
+use Rattle.eden_fuse_shown.proofs.Seen.{again_seen, at_node, joined_seen, same_there}
 use Rattle.eden_fuse_shown.proofs.Stores.{stored_made}
 
 -- ---- a tree that is edited at a path
@@ -68,19 +68,19 @@ module _ {S : Type 0} (answers : Replying S) (tree : S → Tree) (one : OneNode)
   waits_as_written node offset b old new t p q whole goes joins lies =
       let F : Tree = tree old.mount in
       let f : Node → Node = with_content (option_map (written offset b)) in
-      let longer_by : Option Extent → Option Extent = λ w. Some (longer w offset b) in
+      let joined_by : Option Extent → Option Extent = λ w. Some (joined w offset b) in
       let now = apart old new q F new.waits joins.nodes refl (ap tree joins.mount) in
       elim (cases_Bool (path_eq p q)) [
         | inl so ↦
             let at_p : seen_tree F old.nodes new.waits p ≡ edit (seen answers tree old) p f p =
-            ap (λ (w : Option Extent). with_waiting w (F p)) (there one lone old.nodes whole node p lies old.waits new.waits longer_by joins.waits)
-            ∙ longer_seen put stay long (extent_of old.waits node) offset b (F p) goes
+            ap (λ (w : Option Extent). with_waiting w (F p)) (there one lone old.nodes whole node p lies old.waits new.waits joined_by joins.waits)
+            ∙ joined_seen put stay long (extent_of old.waits node) offset b (F p) goes
             ∙ ap (λ (w : Option Extent). option_map f (with_waiting w (F p))) (sym (at_node one old.nodes whole old.waits node p lies))
             ∙ sym (edited_there (seen answers tree old) p f) in
             now ∙ subst (λ (x : Path). seen_tree F old.nodes new.waits x ≡ edit (seen answers tree old) p f x) ((path_eq-Decides p q).0 so) at_p
         | inr differs ↦
             now
-            ∙ ap (λ (w : Option Extent). with_waiting w (F q)) (elsewhere one lone old.nodes whole node p lies old.waits new.waits longer_by q joins.waits differs)
+            ∙ ap (λ (w : Option Extent). with_waiting w (F q)) (elsewhere one lone old.nodes whole node p lies old.waits new.waits joined_by q joins.waits differs)
             ∙ sym (edited_elsewhere (seen answers tree old) p f q differs)
       ]
 

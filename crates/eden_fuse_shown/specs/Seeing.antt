@@ -17,7 +17,7 @@ use Rattle.eden_fuse_nodes.specs.Ways.{LiesAt}
 use Rattle.eden_fuse_session.specs.Turns.{Told}
 use Rattle.eden_fuse_shown.specs.Running.{Replying}
 use Rattle.eden_fuse_shown.specs.Showing.{Showing, Joins, Settles}
-use Rattle.eden_fuse_shown.specs.Waiting.{Extent, extent_of, goes_on}
+use Rattle.eden_fuse_shown.specs.Waiting.{Extent, can_join, extent_of}
 use Rattle.eden_fuse_shown.specs.Waiting.{Table as Waits}
 
 -- ---- the node at a path
@@ -72,7 +72,7 @@ module _ {S : Type 0} (answers : Replying S) (tree : S → Tree) where
   -- a write that waits makes of what is seen what a mount's patch makes of its tree
   abbrev pub WaitsAsWritten : Type 0
   WaitsAsWritten = (node offset : ℕ) (b : List ℕ) (old new : Showing S) (t : Told) (p q : Path) → IsTable old.nodes
-      → goes_on (extent_of old.waits node) offset ≡ true → Joins answers node offset b old t new → LiesAt old.nodes node p
+      → can_join (extent_of old.waits node) offset ≡ true → Joins answers node offset b old t new → LiesAt old.nodes node p
       → seen new q ≡ after (seen old) (ask.Patch p offset b) (say.Count (length b)) q
 
   -- to store what waits changes nothing that is seen, whether the mount does it, refuses it, or isn't heard

@@ -332,7 +332,7 @@ module _ {S : Type 0} (answers : Replying S) where
 
   -- ---- what is written
 
-  -- bytes wait behind those of their node
+  -- bytes wait with those of their node
   pub record Joins (node offset : ℕ) (b : List ℕ) (old : Showing S) (t : Told) (new : Showing S) : Type 0 where
     pub waits : Adds old.waits new.waits node offset b
     pub told : t ≡ count (length b)
@@ -350,7 +350,7 @@ module _ {S : Type 0} (answers : Replying S) where
   abbrev pub WaitsElse : ℕ → ℕ → List ℕ → (Showing S → Told → Showing S → Type 0) → Showing S → Told → Showing S → Type 0
   WaitsElse node offset b Else old t new = WaitsIf (may_wait old.waits node offset b) node offset b Else old t new
 
-  -- what is written waits behind what waits; if it doesn't go on there, that is stored first; and what can't wait by itself
+  -- what is written waits with what waits; if it doesn't begin in that or at its end, that is stored first; and what can't wait by itself
   -- either is stored at once
   abbrev pub WritesAnew : ℕ → ℕ → Asked → Showing S → Told → Showing S → Type 0
   WritesAnew node offset a old t new = WaitsElse node offset (data_of a) (Runs node a None) old t new

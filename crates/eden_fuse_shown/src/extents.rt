@@ -1,13 +1,14 @@
 // Bytes that wait to be stored.
-ghost use Rattle.std.specs.Prelude.{◌≡◌, ◌+◌, ℕ, None, Some, true, length, IfOk, IsSome, OnErr, OnOk};
+ghost use Rattle.std.specs.Prelude.{◌≡◌, ◌≤◌, ◌+◌, ℕ, None, Some, true, length, IfOk, IsSome, OnErr, OnOk};
 ghost use Rattle.std.specs.Option.{option_map};
+ghost use Rattle.eden_model.specs.Operations.{written};
 ghost use Rattle.eden_fuse_shown.specs.Waiting.{
   Adds,
   Ends,
   all_of,
+  can_join,
   extent_of,
-  goes_on,
-  longer,
+  joined,
   may_wait,
 };
 
@@ -40,7 +41,7 @@ impl Model for Extent {
 impl Extent {
     /// The bytes from that offset on. The only error is want of memory.
     fn new(alloc: Global, from: u64, bytes: &[u8]) -> Result<Extent, AllocError>
-        ensures { IfOk result (λ e. e ≡ longer None from bytes.now) }
+        ensures { IfOk result (λ e. e ≡ joined None from bytes.now) }
     {
         Ok(Extent {
             from,
@@ -76,24 +77,45 @@ impl Extent {
         self.bytes.len() as u64
     }
 
-    // Whether bytes at an offset go on where it ends.
-    fn goes_on(&self, from: u64) -> bool
-        ensures { result ≡ goes_on (Some self.now) from }
+    // Whether bytes at an offset begin in it, or where it ends.
+    fn can_join(&self, from: u64) -> bool
+        ensures { result ≡ can_join (Some self.now) from }
     {
-        let held = self.len();
-        if from < held || from - held != self.from {
-            return false;
-        }
-        true
+        from >= self.from && from - self.from <= self.len()
     }
 
-    // Appends bytes. Without memory nothing changes.
-    fn append(&mut self, alloc: Global, bytes: &[u8]) -> Result<(), AllocError>
-        ensures ok { OnOk result (self.new ≡ longer (Some self.old) self.old.from bytes.now) }
+    // Writes bytes into it, from an offset in it or its end on; how many bytes more it has then. Without memory nothing
+    // changes.
+    fn write(&mut self, alloc: Global, from: u64, bytes: &[u8]) -> Result<u64, AllocError>
+        requires { can_join (Some self.old) from ≡ true }
+        ensures ok { OnOk result (self.new ≡ joined (Some self.old) from bytes.now) }
+        ensures more { IfOk result (λ n. length self.new.bytes ≡ length self.old.bytes + n) }
+        ensures most { IfOk result (λ n. n ≤ length bytes.now) }
         ensures err { OnErr result (self.new ≡ self.old) }
     {
-        self.bytes.append(alloc, bytes)
+        let before = self.len();
+        let at = (from - self.from) as usize;
+        if at == self.bytes.len() {
+            self.bytes.append(alloc, bytes)?;
+        } else {
+            let content = overwritten(alloc, self.bytes.as_slice(), at, bytes)?;
+            self.bytes = SharedBytes::new(alloc, content)?;
+        }
+        Ok(self.len() - before)
     }
+}
+
+// Other bytes from a place on that isn't behind the end, and behind them what was there.
+fn overwritten(alloc: Global, old: &[u8], at: usize, bytes: &[u8]) -> Result<Vec<u8>, AllocError>
+    requires { at ≤ length old.now }
+    ensures { IfOk result (λ v. v.items ≡ written at bytes.now old.now) }
+{
+    let end = at.saturating_add(bytes.len()).min(old.len());
+    let mut content = Vec::with_capacity(alloc, old.len().saturating_add(bytes.len()))?;
+    content.extend_from_slice(&old[..at])?;
+    content.extend_from_slice(bytes)?;
+    content.extend_from_slice(&old[end..])?;
+    Ok(content)
 }
 
 // What waits of each node is changed at one node.
@@ -118,22 +140,24 @@ fn begin(
     }
 }
 
-// Bytes go on where a node's extent ends. Without memory nothing changes.
-fn go_on(
+// Bytes are written into a node's extent; how many bytes more it has then. Without memory nothing changes.
+fn write_into(
     extents: &mut BTreeMap<u64, Extent>,
     alloc: Global,
     node: u64,
     from: u64,
     bytes: &[u8],
-) -> Result<(), AllocError>
-    requires { IsSome (extent_of extents.old.entries node) }
+) -> Result<u64, AllocError>
+    requires there { IsSome (extent_of extents.old.entries node) }
+    requires joins { can_join (extent_of extents.old.entries node) from ≡ true }
     ensures ok { OnOk result (Adds extents.old.entries extents.new.entries node from bytes.now) }
-    ensures more { OnOk result (all_of extents.new.entries ≡ all_of extents.old.entries + length bytes.now) }
+    ensures more { IfOk result (λ n. all_of extents.new.entries ≡ all_of extents.old.entries + n) }
+    ensures most { IfOk result (λ n. n ≤ length bytes.now) }
     ensures err { OnErr result (extents.new.entries ≡ extents.old.entries) }
 {
     match extents.get_mut(&node) {
-        None => Ok(()),
-        Some(extent) => extent.append(alloc, bytes),
+        None => Ok(0),
+        Some(extent) => extent.write(alloc, from, bytes),
     }
 }
 
@@ -186,8 +210,8 @@ impl Extents {
         self.extents.get(&node)
     }
 
-    /// Whether bytes from an offset on may wait: they go on where the node's extent ends, or begin one, and there is
-    /// room for them.
+    /// Whether bytes from an offset on may wait: they begin in the node's extent, or where it ends, or there is none;
+    /// and there is room for them.
     pub fn may_wait(&self, node: u64, from: u64, bytes: &[u8]) -> bool
         ensures { result ≡ may_wait self.now node from bytes.now }
     {
@@ -200,11 +224,11 @@ impl Extents {
         }
         match self.extents.get(&node) {
             None => true,
-            Some(extent) => extent.goes_on(from),
+            Some(extent) => extent.can_join(from),
         }
     }
 
-    /// Bytes wait behind those of the node. Without memory nothing changes.
+    /// Bytes wait with those of the node, in place of those that they are written over. Without memory nothing changes.
     pub fn add(
         &mut self,
         alloc: Global,
@@ -217,11 +241,11 @@ impl Extents {
         ensures err { OnErr result (self.new ≡ self.old) }
     {
         if self.extents.contains_key(&node) {
-            go_on(&mut self.extents, alloc, node, from, bytes)?;
+            self.all += write_into(&mut self.extents, alloc, node, from, bytes)?;
         } else {
             begin(&mut self.extents, alloc, node, from, bytes)?;
+            self.all += bytes.len() as u64;
         }
-        self.all += bytes.len() as u64;
         Ok(())
     }
 

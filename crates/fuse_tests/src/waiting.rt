@@ -85,14 +85,27 @@ fn what_waits_is_seen(rt: HostRuntime) {
     assert!(rt; folder.reads(node, b"hello world!!") && stores(folder) == 3);
 }
 
-// What doesn't go on begins anew, once what waits is stored.
+// What is written over what waits waits in its place, also past its end and at its beginning.
+#[test]
+fn what_is_written_over_what_waits_is_stored_with_it(rt: HostRuntime) {
+    let mut folder = make_folder(&rt, &[b"a"], b"");
+    let node = folder.begin(b"a");
+    assert!(rt; folder.write_at(node, 2, b"one two three") && folder.write_at(node, 6, b"TWO"));
+    assert!(rt; folder.write_at(node, 10, b"four and more") && folder.write_at(node, 2, b"O"));
+    assert!(rt;
+        folder.write_at(node, 23, b"!") && folder.write_at(node, 23, b"") && folder.flush(node) == 0
+    );
+    assert!(rt; folder.reads(node, b"heOne TWO four and more!") && stores(folder) == 1);
+}
+
+// What begins before it or behind its end begins anew, once what waits is stored.
 #[test]
 fn what_does_not_go_on_begins_anew(rt: HostRuntime) {
     let mut folder = make_folder(&rt, &[b"a"], b"");
     let node = folder.begin(b"a");
-    assert!(rt; folder.write_at(node, 0, b"HEL") && folder.write_at(node, 1, b"EL"));
+    assert!(rt; folder.write_at(node, 1, b"EL") && folder.write_at(node, 0, b"HE"));
     assert!(rt; folder.write_at(node, 3, b"LO") && folder.write_at(node, 7, b"!"));
-    assert!(rt; folder.reads(node, b"HELLO\0\0!") && stores(folder) == 3);
+    assert!(rt; folder.reads(node, b"HELLO\0\0!") && stores(folder) == 4);
 }
 
 // Past the longest file nothing waits, and the error is told at once.
@@ -111,7 +124,8 @@ fn what_is_not_stored_waits_until_it_is_closed(rt: HostRuntime) {
     let node = folder.begin(b"a");
     assert!(rt; folder.open(node) && folder.write_at(node, 0, b"HEL"));
     assert!(rt; folder.flush(node) == 5 && folder.sync(node) == 5 && folder.size(node) == 1000);
-    assert!(rt; !folder.write_at(node, 0, b"hel") && folder.write_at(node, 3, b"LO"));
+    assert!(rt; !folder.write_at(node, 4, b"o") && folder.write_at(node, 0, b"hEL"));
+    assert!(rt; folder.write_at(node, 3, b"LO") && folder.flush(node) == 5);
     assert!(rt; folder.close(node) == 0 && folder.flush(node) == 5 && folder.close(node) == 0);
     assert!(rt; folder.flush(node) == 0 && folder.reads(node, b"hello") && stores(folder) == 0);
 }
