@@ -9,6 +9,7 @@ ghost use Rattle.eden_overlay.specs.declared.files.FilesFault.TheVariants as fau
 use crate::files::{Files, FilesFault, count};
 use crate::names::{Sought, file_path, number_sought, unfinished_path};
 use crate::tidy::Removed;
+use crate::unsynced::{Unsynced, sync_all};
 use eden_model::Outside;
 use eden_overlay_format::Head;
 use eden_plain_files::{
@@ -32,6 +33,7 @@ pub struct FolderFiles<R> {
     files: R,
     folder: PathBuf,
     failures: u64,
+    unsynced: Unsynced,
 }
 
 impl<R> Model for FolderFiles<R> {
@@ -52,6 +54,7 @@ impl<R> FolderFiles<R> {
             files,
             folder,
             failures: 0,
+            unsynced: Unsynced::anything(),
         }
     }
 }
@@ -123,11 +126,12 @@ impl<R: rt::Files + Alloc + Clone + Drop> Files<Outside> for FolderFiles<R> {
         answer
     }
 
-    /// Writes `NUMBER.new` whole, and then renames it. Nothing waits for the disk to have it.
+    /// Writes `NUMBER.new` whole, and then renames it. It doesn't wait for the disk: `sync` does.
     fn replace(&mut self, alloc: Global, number: u64, bytes: &[u8]) -> Result<(), FilesFault>
         ensures counted { Counted (result ≡ Err fault.Device) self.old.failures self.new.failures }
         ensures path { self.new.path ≡ self.old.path }
     {
+        self.unsynced.stores(number);
         let answer = replace_number(&self.files, alloc, &self.folder, number, &[bytes]);
         self.failures = count(self.failures, &answer);
         answer
@@ -144,6 +148,7 @@ impl<R: rt::Files + Alloc + Clone + Drop> Files<Outside> for FolderFiles<R> {
         ensures path { self.new.path ≡ self.old.path }
     {
         let pieces = [front, behind];
+        self.unsynced.stores(number);
         let answer = replace_number(&self.files, alloc, &self.folder, number, &pieces);
         self.failures = count(self.failures, &answer);
         answer
@@ -154,7 +159,19 @@ impl<R: rt::Files + Alloc + Clone + Drop> Files<Outside> for FolderFiles<R> {
         ensures counted { Counted (result ≡ Err fault.Device) self.old.failures self.new.failures }
         ensures path { self.new.path ≡ self.old.path }
     {
+        self.unsynced.removes(number);
         let answer = remove_number(&self.files, &self.folder, number);
+        self.failures = count(self.failures, &answer);
+        answer
+    }
+
+    /// Waits for the files that were stored since the last time, and for their names; the first time for all files.
+    /// From a failure of the disk on it is `Device`: whether the disk has what was stored before isn't known any more.
+    fn sync(&mut self, alloc: Global) -> Result<(), FilesFault>
+        ensures counted { Counted (result ≡ Err fault.Device) self.old.failures self.new.failures }
+        ensures path { self.new.path ≡ self.old.path }
+    {
+        let answer = sync_folder(&self.files, alloc, &self.folder, &mut self.unsynced);
         self.failures = count(self.failures, &answer);
         answer
     }
@@ -289,6 +306,19 @@ fn list_folder<R: rt::Files + Alloc + Clone + Drop>(
         }
     }
     Ok(rising(alloc, &numbers)?)
+}
+
+fn sync_folder<R: rt::Files + Alloc + Clone + Drop>(
+    files: &R,
+    alloc: Global,
+    folder: &PathBuf,
+    unsynced: &mut Unsynced,
+) -> Result<(), FilesFault> {
+    let numbers = match unsynced.numbers() {
+        Some(numbers) => rising(alloc, numbers)?,
+        None => list_folder(files, alloc, folder, Sought::Files)?,
+    };
+    sync_all(files, alloc, folder, &numbers, unsynced)
 }
 
 fn remove_all_unfinished<R: rt::Files + Alloc + Clone + Drop>(

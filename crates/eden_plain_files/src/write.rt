@@ -7,7 +7,8 @@ use std::io::{self, ErrorKind, Write};
 use std::rt;
 
 /// Makes the bytes of the pieces, one behind the other, the whole of the file at the path, in place of any that is
-/// there: they are written to `PATH.new`, which then takes the path's name. Nothing waits for the disk to have them.
+/// there: they are written to `PATH.new`, which then takes the path's name. It doesn't wait for the disk to have them:
+/// `sync_file` does, and `sync_names` for the name.
 ///
 /// `PATH.new` is always a new file: one that is there, as a failure left it, is removed first, or a link or a pipe,
 /// and nothing is written to what it was. `Device` too where a folder is in the way. After an error the file at the
