@@ -1,7 +1,7 @@
 ghost use Rattle.std.specs.Prelude.{◌≡◌, Some, IfOk, IfErr, OnOk, OnErr, IsOk};
 ghost use Rattle.eden_overlay.specs.declared.files.FilesFault.TheVariants as fault;
 ghost use Rattle.eden_overlay_journal.specs.Changes.{IsHeadIn, ListsChanges, change_of, changes_in, noted, unchanged};
-ghost use Rattle.std.specs.Option.{option_copied};
+ghost use Rattle.std.specs.Option.{is_some, option_copied};
 ghost use Rattle.eden_overlay_format.specs.Content.{IsHead};
 
 use crate::journal::Journal;
@@ -77,7 +77,18 @@ impl<W: World> Journal<W> for MemoryJournal<W> {
         Ok(())
     }
 
-    fn settle(&mut self) {}
+    fn says(&self, number: u64) -> bool
+        ensures { result ≡ is_some (changes_in self.now.files number) }
+    {
+        self.files.contains_key(&number)
+    }
+
+    fn settle(&mut self) -> Result<(), FilesFault>
+        ensures unchanged { changes_in self.new.files ≡ changes_in self.old.files }
+        ensures done { IsOk result }
+    {
+        Ok(())
+    }
 
     fn date(&mut self, _number: u64) {}
 
