@@ -13,7 +13,8 @@ use crate::unsynced::{Unsynced, sync_all};
 use eden_model::Outside;
 use eden_overlay_format::Head;
 use eden_plain_files::{
-    FolderFault, Links, entry_in, read_file, read_front, read_part, remove_file, replace_file,
+    Durability, FolderFault, Links, entry_in, read_file, read_front, read_part, remove_file,
+    replace_file,
 };
 use std::alloc::{Alloc, AllocError, Allocator, Global};
 use std::collections::BTreeSet;
@@ -126,17 +127,26 @@ impl<R: rt::Files + Alloc + Clone + Drop> Files<Outside> for FolderFiles<R> {
         answer
     }
 
-    /// Writes `NUMBER.new` whole, and then renames it. It doesn't wait for the disk: `sync` does.
+    /// Writes `NUMBER.new` whole, and then renames it. Once `sync` was called it waits in between until the disk has the
+    /// bytes: so a loss of power leaves what was there or what is stored now, and no name without its bytes.
     fn replace(&mut self, alloc: Global, number: u64, bytes: &[u8]) -> Result<(), FilesFault>
         ensures counted { Counted (result ≡ Err fault.Device) self.old.failures self.new.failures }
         ensures path { self.new.path ≡ self.old.path }
     {
-        self.unsynced.stores(number);
-        let answer = replace_number(&self.files, alloc, &self.folder, number, &[bytes]);
+        let durability = self.unsynced.replaces(number);
+        let answer = replace_number(
+            &self.files,
+            alloc,
+            &self.folder,
+            number,
+            &[bytes],
+            durability,
+        );
         self.failures = count(self.failures, &answer);
         answer
     }
 
+    /// As `replace`, but it never waits: what is so long is a content, of which only a later `sync` promises something.
     fn replace_joined(
         &mut self,
         alloc: Global,
@@ -149,7 +159,14 @@ impl<R: rt::Files + Alloc + Clone + Drop> Files<Outside> for FolderFiles<R> {
     {
         let pieces = [front, behind];
         self.unsynced.stores(number);
-        let answer = replace_number(&self.files, alloc, &self.folder, number, &pieces);
+        let answer = replace_number(
+            &self.files,
+            alloc,
+            &self.folder,
+            number,
+            &pieces,
+            Durability::Written,
+        );
         self.failures = count(self.failures, &answer);
         answer
     }
@@ -263,9 +280,10 @@ fn replace_number<R: rt::Files>(
     folder: &PathBuf,
     number: u64,
     pieces: &[&[u8]],
+    durability: Durability,
 ) -> Result<(), FilesFault> {
     let path = file_path(folder, number)?;
-    replace_file(files, alloc, path.as_str(), pieces)?;
+    replace_file(files, alloc, path.as_str(), pieces, durability)?;
     Ok(())
 }
 

@@ -1,7 +1,7 @@
 // Which files of a folder the disk may not have yet.
 use crate::files::FilesFault;
 use crate::names::file_path;
-use eden_plain_files::{FolderFault, sync_file, sync_names};
+use eden_plain_files::{Durability, FolderFault, sync_file, sync_names};
 use std::alloc::Global;
 use std::collections::BTreeSet;
 use std::path::PathBuf;
@@ -19,6 +19,8 @@ pub(crate) struct Unsynced {
     has_other_names: bool,
     /// Whether the disk may never get something.
     is_lost: bool,
+    /// Whether somebody asked for the disk before.
+    is_promised: bool,
 }
 
 impl Unsynced {
@@ -28,6 +30,7 @@ impl Unsynced {
             numbers: None,
             has_other_names: true,
             is_lost: false,
+            is_promised: false,
         }
     }
 
@@ -37,10 +40,22 @@ impl Unsynced {
             numbers: Some(BTreeSet::new(alloc)),
             has_other_names: false,
             is_lost: false,
+            is_promised: true,
         }
     }
 
-    /// A file of that number is being stored. Without memory for that it may be any.
+    /// A file of that number is being stored, with its bytes on the disk before its name if something was promised: it
+    /// may be a directory's, whose other entries were waited for.
+    pub(crate) fn replaces(&mut self, number: u64) -> Durability {
+        if self.is_promised {
+            self.has_other_names = true;
+            return Durability::Synced;
+        }
+        self.stores(number);
+        Durability::Written
+    }
+
+    /// A file of that number is being stored, and isn't waited for. Without memory for that it may be any.
     pub(crate) fn stores(&mut self, number: u64) {
         self.has_other_names = true;
         let is_noted = match &mut self.numbers {
@@ -75,6 +90,7 @@ pub(crate) fn sync_all<R: rt::Files>(
     numbers: &[u64],
     unsynced: &mut Unsynced,
 ) -> Result<(), FilesFault> {
+    unsynced.is_promised = true;
     if unsynced.is_lost {
         return Err(FilesFault::Device);
     }

@@ -23,4 +23,4 @@ pub use fault::FolderFault;
 pub use names::entry_in;
 pub use read::{Links, front_of, read_file, read_front, read_part, read_within};
 pub use sync::{sync_file, sync_names};
-pub use write::{remove_file, replace_file};
+pub use write::{Durability, remove_file, replace_file};
