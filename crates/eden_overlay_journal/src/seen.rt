@@ -181,7 +181,7 @@ fn replace_long<W: World, F: Files<W>, J: Journal<W>>(
         ≡ changed (J.changes journal.old) (F.stored files.old)) }
 {
     make_room::<W, _, _>(alloc, files, journal, standing)?;
-    put_past_joined::<W, _, _>(alloc, files, journal, standing, number, front, behind)
+    put_past_joined::<W, _, _>(alloc, files, journal, number, front, behind)
 }
 
 // Stores both past the journal, which says nothing of the file any more.
@@ -189,7 +189,6 @@ fn put_past_joined<W: World, F: Files<W>, J: Journal<W>>(
     alloc: Global,
     files: &mut F,
     journal: &mut J,
-    standing: Standing,
     number: u64,
     front: &[u8],
     behind: &[u8],
@@ -200,7 +199,7 @@ fn put_past_joined<W: World, F: Files<W>, J: Journal<W>>(
         ≡ changed (J.changes journal.old) (F.stored files.old)) }
 {
     files.replace_joined(alloc, number, front, behind)?;
-    pass::<W, _, _>(alloc, files, journal, standing, number)
+    journal.pass(number)
 }
 
 // The bytes of both.
@@ -249,7 +248,8 @@ fn put_past<W: World, F: Files<W>, J: Journal<W>>(
 }
 
 // The journal says nothing of the file any more, which was changed past it. Where something was promised, and the
-// journal says something of the file, the disk has that change first.
+// journal says something of the file, the disk has that change first: it may be a directory's, whose other entries were
+// waited for.
 fn pass<W: World, F: Files<W>, J: Journal<W>>(
     alloc: Global,
     files: &mut F,
