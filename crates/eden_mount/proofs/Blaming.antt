@@ -28,7 +28,7 @@ use Rattle.eden_mount.specs.Tables.{Table}
 use Rattle.eden_mount.specs.Core.{Core, seat_of, Pends}
 use Rattle.eden_mount.specs.Replying.{Replied, attempted, uncopied, failed}
 use Rattle.eden_mount.specs.Kept.{IsMount}
-use Rattle.eden_mount.specs.Events.{Steps, starts, turns, takes, arrives, fails, unloads}
+use Rattle.eden_mount.specs.Events.{Steps, starts, turns, takes, arrives, fails, unloads, syncs}
 use Rattle.eden_mount.specs.Spans.{waits_of, flies_in, Blames, heard_by, with_pass, then_waits, waits_after, or_failed, but_for, then_heard, IsBlamed, AreBlamed, then_flies, IsFlown, AreFlown}
 use Rattle.eden_mount.specs.Laws.{WaitsStand, MarkedWaitNoMore}
 use Rattle.eden_mount.proofs.Keeping.{pass_of}
@@ -141,6 +141,7 @@ module _ {T : Type 0} (A : Table T) (honest : Type 0) (copies : Bool) (opening :
   hears w P m k _ _ h l (fails j x true p) = key_failed w P m k j x h l (ap (λ (x : Core T). x.queue) p.1 ∙ ap (λ b. cond b (after_failed j x m.queue) m.queue) (sym p.0))
   hears w P m k _ _ h l (fails j x false p) = same_all w P m k (ap (λ (x : Core T). x.queue) p.1 ∙ ap (λ b. cond b (after_failed j x m.queue) m.queue) (sym p.0)) l
   hears w P m k _ _ h l (unloads q age gone p) = same_all w P m k (ap (λ (x : Core T). x.queue) p.1) l
+  hears w P m k _ _ h l (syncs y p) = same_all w P m k (ap (λ (x : Core T). x.queue) p.1) l
 
   -- ---- fetch faults
 
@@ -179,6 +180,7 @@ module _ {T : Type 0} (A : Table T) (honest : Type 0) (copies : Bool) (opening :
   blamed w P m k _ _ h l (arrives j bytes a p) = tt
   blamed w P m k _ _ h l (fails j x b p) = tt
   blamed w P m k _ _ h l (unloads q age gone p) = tt
+  blamed w P m k _ _ h l (syncs y p) = tt
 
   all_blamed : (w : ℕ → Option Key) (P : Blames) (m m' : Core T) (es : List Event) (os : List Outcome) → Hears w P m → IsMount A honest opening N m → Runs A honest copies opening N m es os m'
       → AreBlamed w P es os
@@ -252,6 +254,7 @@ module _ {T : Type 0} (A : Table T) (honest : Type 0) (copies : Bool) (opening :
   flown g m k _ _ h l (fails j x true p) = (p.0 ∙ l.flies j, left_flight g m k j (ap (λ (x : Core T). x.queue.flight) p.1 ∙ ap (λ b. (cond b (after_failed j x m.queue) m.queue).flight) (sym p.0)) l)
   flown g m k _ _ h l (fails j x false p) = (p.0 ∙ l.flies j, same_flight g m k (ap (λ (x : Core T). x.queue.flight) p.1 ∙ ap (λ b. (cond b (after_failed j x m.queue) m.queue).flight) (sym p.0)) l)
   flown g m k _ _ h l (unloads q age gone p) = (tt, same_flight g m k (ap (λ (x : Core T). x.queue.flight) p.1) l)
+  flown g m k _ _ h l (syncs y p) = (tt, same_flight g m k (ap (λ (x : Core T). x.queue.flight) p.1) l)
 
   all_flown : (g : Key → Bool) (m m' : Core T) (es : List Event) (os : List Outcome) → Flies g m → IsMount A honest opening N m → Runs A honest copies opening N m es os m' → AreFlown g es os
   all_flown g m m' [] os l h r = tt

@@ -16,7 +16,7 @@ use Rattle.eden_mount.specs.declared.events.Arrived.TheVariants.{Stored, Refused
 use Rattle.eden_mount.specs.Tables.{Table}
 use Rattle.eden_mount.specs.Core.{Core}
 use Rattle.eden_mount.specs.Replying.{Replied, attempted, uncopied, failed}
-use Rattle.eden_mount.specs.Steps.{Starts, Turns, Takes, Arrives, Fails, LetsGo}
+use Rattle.eden_mount.specs.Steps.{Starts, Turns, Takes, Arrives, Fails, LetsGo, IsSynced}
 use Rattle.eden_mount.specs.Serving.{Stays}
 
 -- no number is lost where the next one is the same
@@ -119,6 +119,14 @@ module _ {T : Type 0} (A : Table T) where
   unload_stays honest m n p age gone (unloads, is) = record {
     commit = unloads.commit;
     next = same_next (A.next m.table) (A.next n.table) unloads.next;
+    passes = ap (λ (x : Core T). x.queue.passes) is;
+    limit = ap (λ (x : Core T). x.limit) is;
+  }
+
+  pub sync_stays : (honest : Type 0) (m n : Core T) → IsSynced A honest m n → Stays A m n
+  sync_stays honest m n (syncs, is) = record {
+    commit = syncs.commit;
+    next = same_next (A.next m.table) (A.next n.table) syncs.next;
     passes = ap (λ (x : Core T). x.queue.passes) is;
     limit = ap (λ (x : Core T). x.limit) is;
   }

@@ -23,7 +23,7 @@ use Rattle.eden_import.specs.Queue as imports
 use Rattle.eden_import.specs.Queue.{Queue, Mark, IsQueue, IsPass, want_of, mark_of, after_await, after_quit, after_failed, after_failure}
 use Rattle.eden_import.proofs.CallerLemmas.{quit_rest, passes_keep_flight}
 use Rattle.eden_mount.specs.declared.seats.Pending.{Pending}
-use Rattle.eden_mount.specs.Tables.{Table, Ticks, Unloads}
+use Rattle.eden_mount.specs.Tables.{Table, Ticks, Unloads, Syncs}
 use Rattle.eden_mount.specs.Core.{Core, seat_of, Pends, IsFree, taken_room}
 use Rattle.eden_mount.specs.Replying.{Replied, attempted, uncopied, failed, Awaits}
 use Rattle.eden_mount.specs.Kept.{IsMount, core_from}
@@ -170,6 +170,10 @@ module _ {T : Type 0} (A : Table T) (honest : Type 0) (opening : Tree) (N : Numb
 
   pub unload_keeps : (m : Core T) (p : Path) (age gone : ℕ) (t : T) → IsMount A honest opening N m → Unloads A honest m.table p age gone t → IsMount A honest opening N (record m { table = t })
   unload_keeps m p age gone t h unloads = retable m t h unloads.tree (λ honestly. same_backs m.table t (fun_ext (unloads.numbers honestly)) unloads.next)
+
+  -- .. one whose files are on the disk
+  pub sync_keeps : (m : Core T) (t : T) → IsMount A honest opening N m → Syncs A honest m.table t → IsMount A honest opening N (record m { table = t })
+  sync_keeps m t h syncs = retable m t h syncs.tree (λ honestly. same_backs m.table t (fun_ext (syncs.numbers honestly)) syncs.next)
 
   -- a reply of a turn is the table's at what the mount showed, and so is what it shows then; a fault leaves it
   abbrev IsTold : T → T → Request → Reply → Type 0

@@ -19,7 +19,7 @@ use Rattle.eden_mount.specs.declared.events.Outcome.{Outcome}
 use Rattle.eden_mount.specs.Tables.{Table}
 use Rattle.eden_mount.specs.Core.{Core, seat_of, Pends}
 use Rattle.eden_mount.specs.Kept.{IsMount}
-use Rattle.eden_mount.specs.Events.{Steps, starts, turns, takes, arrives, fails, unloads}
+use Rattle.eden_mount.specs.Events.{Steps, starts, turns, takes, arrives, fails, unloads, syncs}
 use Rattle.eden_mount.specs.Spans.{request_of, since_of, with_pass, then_asked, asked_after, entry_of, then_told, told, IsAnswered, AreAnswered, then_length, then_begun, IsNumbered, AreNumbered}
 use Rattle.eden_mount.proofs.SeatLemmas.{write_one, within_if_some}
 
@@ -141,6 +141,9 @@ module _ {T : Type 0} (A : Table T) (honest : Type 0) (copies : Bool) (opening :
   follows f b m k _ _ h l (unloads q age gone p) =
       let w = quiet f b m k l (ap (λ (x : Core T). x.seats) p.1) (ap (λ (x : Core T). x.history) p.1) in
       record { links = w.0; history = w.1; grown = w.2; numbered = tt }
+  follows f b m k _ _ h l (syncs y p) =
+      let w = quiet f b m k l (ap (λ (x : Core T). x.seats) p.1) (ap (λ (x : Core T). x.history) p.1) in
+      record { links = w.0; history = w.1; grown = w.2; numbered = tt }
 
   grows : (f : ℕ → Option Request) (b : ℕ → Option ℕ) (m m' : Core T) (es : List Event) (os : List Outcome) → Links f b m → IsMount A honest opening N m → Runs m es os m'
       → m'.history ≡ m.history ++ told f es os
@@ -186,6 +189,7 @@ module _ {T : Type 0} (A : Table T) (honest : Type 0) (copies : Bool) (opening :
   passes_stay m k _ _ (fails j x true p) = ap (λ (x : Core T). x.queue.passes) p.1 ∙ ap (λ b. (cond b (after_failed j x m.queue) m.queue).passes) (sym p.0)
   passes_stay m k _ _ (fails j x false p) = ap (λ (x : Core T). x.queue.passes) p.1 ∙ ap (λ b. (cond b (after_failed j x m.queue) m.queue).passes) (sym p.0)
   passes_stay m k _ _ (unloads q age gone p) = ap (λ (x : Core T). x.queue.passes) p.1
+  passes_stay m k _ _ (syncs y p) = ap (λ (x : Core T). x.queue.passes) p.1
 
   module _ (f : ℕ → Option Request) (b : ℕ → Option ℕ) (m : Core T) (l : Links f b m) where
     asks_none : (c : ℕ) → 1 ≤ c → seat_of c m ≡ None → f c ≡ None
@@ -214,6 +218,7 @@ module _ {T : Type 0} (A : Table T) (honest : Type 0) (copies : Bool) (opening :
     answered k _ _ (arrives j bytes a p) = tt
     answered k _ _ (fails j x y p) = tt
     answered k _ _ (unloads q age gone p) = tt
+    answered k _ _ (syncs y p) = tt
 
   all_answered : (f : ℕ → Option Request) (b : ℕ → Option ℕ) (m m' : Core T) (es : List Event) (os : List Outcome) → Links f b m → IsMount A honest opening N m → Runs m es os m'
       → AreAnswered m.queue.passes f es os

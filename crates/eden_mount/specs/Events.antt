@@ -15,7 +15,7 @@ use Rattle.eden_mount.specs.declared.events.Outcome.{Outcome}
 use Rattle.eden_mount.specs.declared.events.Outcome.TheVariants as outcome
 use Rattle.eden_mount.specs.Tables.{Table}
 use Rattle.eden_mount.specs.Core.{Core}
-use Rattle.eden_mount.specs.Steps.{Starts, Turns, Takes, Arrives, Fails, LetsGo}
+use Rattle.eden_mount.specs.Steps.{Starts, Turns, Takes, Arrives, Fails, LetsGo, IsSynced}
 
 -- bytes that arrive agree with the repository
 abbrev pub IsHonestEvent : Repository → Event → Type 0
@@ -25,6 +25,7 @@ IsHonestEvent R event.Take = Unit {0}
 IsHonestEvent R (event.Arrive k bytes) = IsHonest R k.id bytes
 IsHonestEvent R (event.Fail k x) = Unit {0}
 IsHonestEvent R (event.Unload p age) = Unit {0}
+IsHonestEvent R event.Sync = Unit {0}
 
 abbrev pub AreHonest : Repository → List Event → Type 0
 AreHonest R [] = Unit {0}
@@ -42,3 +43,4 @@ module _ {T : Type 0} (A : Table T) (honest : Type 0) (copies : Bool) where
     fails : (k : Key) (x : Cause) (b : Bool) → Fails m k x b m' → Steps m m' (event.Fail k x) (outcome.Fail b)
     unloads : (p : Path) (age gone : ℕ) → LetsGo A honest m p age gone m'
         → Steps m m' (event.Unload p age) (outcome.Unload gone)
+    syncs : (b : Bool) → IsSynced A honest m m' → Steps m m' event.Sync (outcome.Sync b)

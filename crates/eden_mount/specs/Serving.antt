@@ -20,7 +20,7 @@ use Rattle.eden_mount.specs.declared.events.Turned.TheVariants.{Wait}
 use Rattle.eden_mount.specs.Tables.{Table, Stores, KeepsBytes, Unloads}
 use Rattle.eden_mount.specs.Core.{Core, seat_of, Pends, IsFree, after_start}
 use Rattle.eden_mount.specs.Replying.{ToldBy, WaitsBy}
-use Rattle.eden_mount.specs.Steps.{IsUseless, IsRefused, Turns, Takes}
+use Rattle.eden_mount.specs.Steps.{IsUseless, IsRefused, Turns, Takes, IsSynced}
 
 -- ---- what the source was asked for
 
@@ -164,6 +164,10 @@ pub record Desk (T S : Type 0) : Type 0 where
 -- a request wasn't taken, and nothing changed
 abbrev pub Declines : {T S : Type 0} → Desk T S → StartFault → Desk T S → Type 0
 Declines d f d' = IsRefused d.core 1 f × (d' ≡ d)
+
+-- the mount waited for the disk, and source and last reply stay
+abbrev pub SyncsDesk : {T S : Type 0} → Table T → Type 0 → Desk T S → Desk T S → Type 0
+SyncsDesk A honest d d' = IsSynced A honest d.core d'.core × (d' ≡ record d { core = d'.core })
 
 module _ {S : Type 0} (fetched : S → Id → Answer → S → Type 0) {T : Type 0} (A : Table T) (honest : Type 0) (copies : Bool) (q : Request) where
   -- a request was served, and its reply lies there

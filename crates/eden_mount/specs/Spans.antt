@@ -83,6 +83,7 @@ IsAnswered n f event.Take (outcome.Take o) = Unit {0}
 IsAnswered n f (event.Arrive k bytes) (outcome.Arrive a) = Unit {0}
 IsAnswered n f (event.Fail k x) (outcome.Fail b) = Unit {0}
 IsAnswered n f (event.Unload p age) (outcome.Unload gone) = Unit {0}
+IsAnswered n f event.Sync (outcome.Sync b) = Unit {0}
 IsAnswered n f e o = ⊥
 
 abbrev pub AreAnswered : ℕ → (ℕ → Option Request) → List Event → List Outcome → Type 0

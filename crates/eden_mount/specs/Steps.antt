@@ -17,7 +17,7 @@ use Rattle.eden_mount.specs.declared.events.Turned.{Turned}
 use Rattle.eden_mount.specs.declared.events.Turned.TheVariants.{Done, Wait, Idle}
 use Rattle.eden_mount.specs.declared.events.Arrived.{Arrived}
 use Rattle.eden_mount.specs.declared.events.Arrived.TheVariants.{Stored, Refused, Stray}
-use Rattle.eden_mount.specs.Tables.{Table, Ticks, KeepsBytes, Unloads}
+use Rattle.eden_mount.specs.Tables.{Table, Ticks, KeepsBytes, Unloads, Syncs}
 use Rattle.eden_mount.specs.Core.{Core, Pends, IsFree, taken_room, after_start, after_done, after_wait}
 use Rattle.eden_mount.specs.Replying.{Replied, Awaits, ToldBy, WaitsBy}
 
@@ -101,3 +101,8 @@ Fails m k x b m' = (b ≡ has_key k m.queue.flight)
 
 abbrev pub LetsGo : {T : Type 0} → Table T → Type 0 → Core T → Path → ℕ → ℕ → Core T → Type 0
 LetsGo A honest m p age gone m' = Unloads A honest m.table p age gone m'.table × (m' ≡ record m { table = m'.table })
+
+-- ---- sync
+
+abbrev pub IsSynced : {T : Type 0} → Table T → Type 0 → Core T → Core T → Type 0
+IsSynced A honest m m' = Syncs A honest m.table m'.table × (m' ≡ record m { table = m'.table })

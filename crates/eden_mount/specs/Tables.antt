@@ -40,6 +40,8 @@ pub record Table (T : Type 0) : Type 1 where
   pub kept : T → Key → Body → T → Type 0
   -- .. of an unload of a path, by age, in which so many directories went
   pub unloaded : T → Path → ℕ → ℕ → T → Type 0
+  -- .. of a sync
+  pub synced : T → T → Type 0
 
 module _ {T : Type 0} (A : Table T) where
   -- one more turn: nothing else changed
@@ -104,6 +106,15 @@ module _ {T : Type 0} (A : Table T) (honest : Type 0) where
   -- so many directories went, each number is shown still, and no object left the cache
   pub record Unloads (t : T) (p : Path) (age gone : ℕ) (u : T) : Type 0 where
     pub unloaded : A.unloaded t p age gone u
+    pub tree : honest → A.shown u ≡ A.shown t
+    pub numbers : honest → (x : Path) → A.numbers u x ≡ A.numbers t x
+    pub commit : A.commit u ≡ A.commit t
+    pub next : A.next u ≡ A.next t
+    pub cache : (k : Key) → A.caches u k ≡ A.caches t k
+
+  -- somebody waited for the disk: the same is shown, and no object left the cache
+  pub record Syncs (t u : T) : Type 0 where
+    pub synced : A.synced t u
     pub tree : honest → A.shown u ≡ A.shown t
     pub numbers : honest → (x : Path) → A.numbers u x ≡ A.numbers t x
     pub commit : A.commit u ≡ A.commit t

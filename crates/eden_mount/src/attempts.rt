@@ -9,7 +9,7 @@ pub trait Attempts<W: World> {
     ghost use Rattle.eden_model.specs.Requests.{most_objects};
     ghost use Rattle.eden_object.specs.Objects.{IsFetched};
     ghost use Rattle.eden_mount.specs.Places.{LeadStill};
-    ghost use Rattle.eden_mount.specs.Tables.{Table, Tries, Ticks, Stores, Unloads};
+    ghost use Rattle.eden_mount.specs.Tables.{Table, Tries, Ticks, Stores, Unloads, Syncs};
 
     /// Where an attempt waits, so that the next one of the same request goes on there.
     type Place: Drop;
@@ -52,5 +52,11 @@ pub trait Attempts<W: World> {
     /// Lets go of the loaded directories at and below the path that weren't used for so many turns. How many went.
     fn unload(&mut self, alloc: Global, path: &Path, older_than: u64) -> u64
         ensures unloads { Unloads table W.honest self.old path.now older_than result self.new }
+        ensures places { LeadStill leads self.old self.new };
+
+    /// Waits until a loss of power would take nothing of what is stored. False where the device failed, or where there
+    /// was no memory: then that isn't known.
+    fn sync(&mut self, alloc: Global) -> bool
+        ensures syncs { Syncs table W.honest self.old self.new }
         ensures places { LeadStill leads self.old self.new };
 }

@@ -37,6 +37,8 @@ pub enum Event {
     Fail(Key, Cause),
     /// Loaded directories go: at and below the path, not used for so many turns.
     Unload(Path, u64),
+    /// Somebody waits until a loss of power would take nothing of what is stored.
+    Sync,
 }
 
 /// What an event answers.
@@ -48,4 +50,5 @@ pub enum Outcome {
     Arrive(Arrived),
     Fail(bool),
     Unload(u64),
+    Sync(bool),
 }

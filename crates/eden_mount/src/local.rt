@@ -5,7 +5,7 @@ ghost use Rattle.eden_model.specs.declared.request.Request.{Request};
 ghost use Rattle.eden_model.specs.Histories.{Legal};
 ghost use Rattle.eden_import.specs.Keys.{has_key};
 ghost use Rattle.eden_mount.specs.Serving.{IsDriven, IsAtRest, WaitsAlone, Hands, FetchesOne, DrivesOn, Finishes};
-ghost use Rattle.eden_mount.specs.Serving.{MayLetGo, Answers, IsServed, Lends, Declines};
+ghost use Rattle.eden_mount.specs.Serving.{MayLetGo, Answers, IsServed, Lends, Declines, SyncsDesk};
 ghost use Rattle.eden_mount.specs.contracts.local.Local.{the_row};
 
 use crate::attempts::Attempts;
@@ -230,6 +230,14 @@ impl<W: World, S: Source<W> + Drop, T: Attempts<W> + Drop, A: Allocator, H: Hist
             Err(fault) => Err(fault),
             Ok(()) => Ok(self.reply()),
         }
+    }
+
+    /// Waits until a loss of power would take nothing of what the table stored. False where that isn't known. The last
+    /// reply stays.
+    pub fn sync(&mut self) -> bool
+        ensures { SyncsDesk T.table W.honest self.old self.new }
+    {
+        self.mount.sync()
     }
 }
 

@@ -8,7 +8,7 @@ ghost use Rattle.eden_import.specs.Keys.{has_key};
 ghost use Rattle.eden_object.specs.Objects.{IsHonest};
 ghost use Rattle.eden_mount.specs.Core.{Pends, IsFree, IsLeastBusy, pending_count, taken_room};
 ghost use Rattle.eden_mount.specs.Steps.{IsRefused, Starts, Asks, Turns, GoesOn, Takes};
-ghost use Rattle.eden_mount.specs.Steps.{Arrives, Fails, LetsGo};
+ghost use Rattle.eden_mount.specs.Steps.{Arrives, Fails, LetsGo, IsSynced};
 ghost use Rattle.eden_mount.specs.Events.{IsHonestEvent, AreHonest, Steps};
 ghost use Rattle.eden_mount.specs.Spans.{request_of, since_of, waits_of, heard_by, flies_in, told, asked_after};
 ghost use Rattle.eden_mount.specs.Spans.{waits_after, AreAnswered, AreNumbered, AreBlamed, AreFlown};
@@ -333,6 +333,13 @@ impl<W: World, T: Attempts<W> + Drop, A: Allocator, H: History> Mount<W, T, A, H
         self.table.unload(self.alloc, path, older_than)
     }
 
+    /// Waits until a loss of power would take nothing of what the table stored. False where that isn't known.
+    pub fn sync(&mut self) -> bool
+        ensures { IsSynced T.table W.honest self.old self.new }
+    {
+        self.table.sync(self.alloc)
+    }
+
     /// Makes one event happen.
     fn apply(&mut self, event: Event) -> Outcome
         requires { W.honest → IsHonestEvent W.repository event }
@@ -345,6 +352,7 @@ impl<W: World, T: Attempts<W> + Drop, A: Allocator, H: History> Mount<W, T, A, H
             Event::Arrive(key, framed) => Outcome::Arrive(self.arrive(key, framed.into_vec())),
             Event::Fail(key, cause) => Outcome::Fail(self.fail(key, cause)),
             Event::Unload(path, older_than) => Outcome::Unload(self.unload(&path, older_than)),
+            Event::Sync => Outcome::Sync(self.sync()),
         }
     }
 

@@ -2,7 +2,7 @@ use Rattle.std.proofs.Common.{ℕ, List, sym, subst}
 use Rattle.eden_mount.specs.declared.events.Event.{Event}
 use Rattle.eden_mount.specs.declared.events.Outcome.TheVariants as outcome
 use Rattle.eden_mount.specs.Steps.{Arrives}
-use Rattle.eden_mount.specs.Events.{Steps, starts, turns, takes, arrives, fails, unloads}
+use Rattle.eden_mount.specs.Events.{Steps, starts, turns, takes, arrives, fails, unloads, syncs}
 use Rattle.eden_mount.proofs.mount.Mount.apply.Goals as goal
 
 pub returns-in-Start : goal.returns-in-Start
@@ -35,3 +35,8 @@ pub returns-in-Unload : goal.returns-in-Unload
 returns-in-Unload g c =
     let P : Event → Type 0 = λ e. Steps g.T.Attempts.table g.W.World.honest g.H.History.copies c.args.self.now c.unload.new.self e (outcome.Unload c.unload.result) in
     subst P (sym c.in-Unload.is) (unloads c.in-Unload.path c.in-Unload.older_than c.unload.result c.unload.ensures)
+
+pub returns-in-Sync : goal.returns-in-Sync
+returns-in-Sync g c =
+    let P : Event → Type 0 = λ e. Steps g.T.Attempts.table g.W.World.honest g.H.History.copies c.args.self.now c.sync.new.self e (outcome.Sync c.sync.result) in
+    subst P (sym c.in-Sync.is) (syncs c.sync.result c.sync.ensures)
