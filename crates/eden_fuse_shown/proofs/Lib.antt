@@ -5,3 +5,4 @@ mod Contents
 mod Seen
 mod Stores
 mod SeenLaws
+mod Syncing

@@ -1,5 +1,5 @@
 -- What a message comes to: each step's request is made of the mount, and its reply leads to the next step.
-use Rattle.std.specs.Prelude.{◌≡◌, ◌⊎◌, List, [], ◌∷◌, Result, Ok, Err}
+use Rattle.std.specs.Prelude.{◌≡◌, ◌⊎◌, Bool, List, [], ◌∷◌, Result, Ok, Err}
 use Rattle.eden_model.specs.declared.fault.CallFault.{CallFault}
 use Rattle.eden_model.specs.declared.request.Request.{Request}
 use Rattle.eden_model.specs.declared.reply.Reply.{Reply}
@@ -13,6 +13,10 @@ use Rattle.eden_fuse_shown.specs.declared.mount.Unheard.TheVariants as unheard
 -- what a mount may reply: its state before, the request, what it said, its state after
 abbrev pub Replying : Type 0 → Type 1
 Replying S = S → Request → Result Reply CallFault → S → Type 0
+
+-- how it may wait for the disk: its state before, whether nothing that it replied to could be lost any more, its state after
+abbrev pub Syncing : Type 0 → Type 1
+Syncing S = S → Bool → S → Type 0
 
 module _ {S : Type 0} (answers : Replying S) where
   -- what was heard of a request: the reply, a fault in its place, or nothing, since there was no memory for the reply

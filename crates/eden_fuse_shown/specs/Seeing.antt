@@ -10,13 +10,16 @@ use Rattle.eden_model.specs.declared.request.Request.{Request}
 use Rattle.eden_model.specs.declared.request.Request.TheVariants as ask
 use Rattle.eden_model.specs.Operations.{after, with_content, written}
 use Rattle.eden_model.specs.Trees.{Name, Path, Tree}
+use Rattle.eden_fuse_format.specs.declared.message.Header.{Header}
+use Rattle.eden_fuse_format.specs.declared.structs.FSyncIn.{FSyncIn}
+use Rattle.eden_fuse_format.specs.Asked.{Asked as asked}
 use Rattle.eden_fuse_nodes.specs.declared.place.Place.{Place}
 use Rattle.eden_fuse_nodes.specs.Tables.{IsTable, place_of, root}
 use Rattle.eden_fuse_nodes.specs.Tables.{Table as Nodes}
 use Rattle.eden_fuse_nodes.specs.Ways.{LiesAt}
 use Rattle.eden_fuse_session.specs.Turns.{Told}
-use Rattle.eden_fuse_shown.specs.Running.{Replying}
-use Rattle.eden_fuse_shown.specs.Showing.{Showing, Joins, Settles}
+use Rattle.eden_fuse_shown.specs.Running.{Replying, Syncing}
+use Rattle.eden_fuse_shown.specs.Showing.{Showing, Joins, Settles, Shows, failed}
 use Rattle.eden_fuse_shown.specs.Waiting.{Extent, can_join, extent_of}
 use Rattle.eden_fuse_shown.specs.Waiting.{Table as Waits}
 
@@ -84,3 +87,9 @@ module _ {S : Type 0} (answers : Replying S) (tree : S → Tree) where
   abbrev pub IsThereOnceStored : Type 0
   IsThereOnceStored = Follows → (node : ℕ) (old new : Showing S) (p : Path) → IsTable old.nodes → Settles answers node old None new
       → LiesAt old.nodes node p → tree new.mount p ≡ seen old p
+
+  -- where an `fsync` of a file was told no error, the mount had what was seen at its path, and waited for the disk after that
+  abbrev pub IsSyncedAsSeen : Syncing S → Type 0
+  IsSyncedAsSeen syncs = Follows → (h : Header) (s : FSyncIn) (old new : Showing S) (t : Told) (p : Path) → IsTable old.nodes
+      → Shows answers syncs old h (asked.FSync s) t new → failed t ≡ false → LiesAt old.nodes h.nodeid p
+      → (mid : S) × (tree mid p ≡ seen old p) × syncs mid true new.mount

@@ -43,7 +43,7 @@ use Rattle.eden_fuse_shown.specs.Naming.{named, goal_of, other_node, veiled_name
 use Rattle.eden_fuse_shown.specs.Opens.{Raises, Lowers, opens_of, is_last}
 use Rattle.eden_fuse_shown.specs.Opens.{Table as Opens}
 use Rattle.eden_fuse_shown.specs.Opens.{IsSame as IsSameOpens}
-use Rattle.eden_fuse_shown.specs.Running.{Replying, Comes}
+use Rattle.eden_fuse_shown.specs.Running.{Replying, Syncing, Comes}
 use Rattle.eden_fuse_shown.specs.Waiting.{Extent, Adds, Ends, extent_of, may_wait}
 use Rattle.eden_fuse_shown.specs.Waiting.{Table as Waits}
 
@@ -152,6 +152,11 @@ abbrev pub IsListed : ℕ → Asked → Option Name → List Entry → Pages →
 IsListed node (asked.ReadDir s) last rows old new t = Lists node s last rows old new t
 IsListed node a last rows old new t = IsSamePages old new × (t ≡ refuse 5)
 
+-- .. of a mount that waited for the disk; where that failed, EIO (5)
+abbrev pub synced : Bool → Told
+synced true = say answer.Done
+synced false = refuse 5
+
 abbrev pub start : Asked → Told
 start (asked.Init i) = say (started i)
 start a = refuse 5
@@ -220,7 +225,7 @@ pub record Begins (owner : Owner) (nodes : Nodes) (node : ℕ) (a : Asked) (last
   pub is : step ≡ first owner at to last a
 
 -- what has to be done for a message beside what it asks. Those that tell of a file's content, or set it, and those by which a
--- program learns that it is stored, look at what waits
+-- program learns that it is stored, look at what waits; those by which it learns that no loss of power takes it wait for the disk
 abbrev pub sort_of : Asked → Sort
 sort_of (asked.Forget s) = sort.One s.nlookup
 sort_of (asked.BatchForget b) = sort.Batch
@@ -231,7 +236,8 @@ sort_of (asked.GetAttr s) = sort.Look
 sort_of (asked.SetAttr s) = sort.Look
 sort_of (asked.Read s) = sort.Look
 sort_of (asked.Flush s) = sort.Look
-sort_of (asked.FSync s) = sort.Look
+sort_of (asked.FSync s) = sort.Sync
+sort_of (asked.FSyncDir s) = sort.Sync
 sort_of (asked.Fallocate s) = sort.Look
 sort_of (asked.Lookup n) = sort.LookUp
 sort_of (asked.Create s n) = sort.LookUp
@@ -462,16 +468,31 @@ module _ {S : Type 0} (answers : Replying S) where
   StoresAll nodes [] s t = t ≡ s
   StoresAll nodes (w ∷ ws) s t = (why : Option ℕ) × (u : S) × IsStored nodes w.0 w.1 s why u × StoresAll nodes ws u t
 
-  -- ---- each message
+-- ---- the disk
 
+-- the mount was asked to wait for the disk, and nothing else was done
+pub record Syncs {S : Type 0} (syncs : Syncing S) (old : Showing S) (t : Told) (new : Showing S) : Type 0 where
+  pub went : Bool
+  pub asked : syncs old.mount went new.mount
+  pub told : t ≡ synced went
+  pub manner : new.manner ≡ old.manner
+  pub nodes : new.nodes ≡ old.nodes
+  pub pages : new.pages ≡ old.pages
+  pub opens : new.opens ≡ old.opens
+  pub waits : new.waits ≡ old.waits
+
+-- ---- each message
+
+module _ {S : Type 0} (answers : Replying S) (syncs : Syncing S) where
   abbrev pub Serves : Sort → ℕ → Asked → Showing S → Told → Showing S → Type 0
-  Serves sort.Look node a old t new = Once (Some node) (Runs node a None) old t new
-  Serves sort.LookUp node a old t new = LooksUp node a old t new
-  Serves (sort.Write offset) node a old t new = Writes node offset a old t new
-  Serves sort.Remove node a old t new = RemovesHeld node a old t new
-  Serves (sort.Replace dir) node a old t new = ReplacesHeld dir node a old t new
-  Serves sort.Start node a old t new = Starts node a old t new
-  Serves s node a old t new = Runs node a None old t new
+  Serves sort.Look node a old t new = Once answers (Some node) (Runs answers node a None) old t new
+  Serves sort.Sync node a old t new = Once answers (Some node) (Syncs syncs) old t new
+  Serves sort.LookUp node a old t new = LooksUp answers node a old t new
+  Serves (sort.Write offset) node a old t new = Writes answers node offset a old t new
+  Serves sort.Remove node a old t new = RemovesHeld answers node a old t new
+  Serves (sort.Replace dir) node a old t new = ReplacesHeld answers dir node a old t new
+  Serves sort.Start node a old t new = Starts answers node a old t new
+  Serves s node a old t new = Runs answers node a None old t new
 
   -- what names what nobody sees is refused
   abbrev pub Heeds : Bool → Sort → ℕ → Asked → Showing S → Told → Showing S → Type 0
@@ -479,13 +500,13 @@ module _ {S : Type 0} (answers : Replying S) where
   Heeds false s node a old t new = Serves s node a old t new
 
   abbrev pub Takes : Sort → ℕ → Asked → Showing S → Told → Showing S → Type 0
-  Takes s node a old t new = Starves old t new ⊎ Heeds (is_reserved node a) s node a old t new
+  Takes s node a old t new = Starves answers old t new ⊎ Heeds (is_reserved node a) s node a old t new
 
   abbrev pub ShowsBy : Sort → Showing S → ℕ → Asked → Told → Showing S → Type 0
-  ShowsBy (sort.One n) old node a t new = Loses old t new (Forgets old.nodes new.nodes node n)
-  ShowsBy sort.Batch old node a t new = Loses old t new (ForgetsRows (length (batch_of a) / 16) (batch_of a) old.nodes new.nodes)
-  ShowsBy (sort.On s) old node a t new = Reads node a s old t new
-  ShowsBy sort.Close old node a t new = ClosesFile node old t new
+  ShowsBy (sort.One n) old node a t new = Loses answers old t new (Forgets old.nodes new.nodes node n)
+  ShowsBy sort.Batch old node a t new = Loses answers old t new (ForgetsRows (length (batch_of a) / 16) (batch_of a) old.nodes new.nodes)
+  ShowsBy (sort.On s) old node a t new = Reads answers node a s old t new
+  ShowsBy sort.Close old node a t new = ClosesFile answers node old t new
   ShowsBy s old node a t new = Takes s node a old t new
 
   -- the message was answered so

@@ -24,6 +24,7 @@ ghost use Rattle.eden_fuse_shown.specs.Showing.{
   refuse,
   say,
   start,
+  synced,
 };
 
 use crate::attributes::{attributes_of, entry_of, open_directory, open_file, started};
@@ -62,6 +63,18 @@ pub(crate) fn failed(said: &Said) -> bool
     match said {
         Said::Answers(Answer::Refused(errno)) => *errno != 0,
         _ => false,
+    }
+}
+
+/// What is answered once the mount waited for the disk; an error where that failed.
+pub(crate) fn synced(went: bool) -> Said
+    ensures told { (bytes : List ℕ) → told result bytes ≡ synced went }
+    ensures brief { (bytes : List ℕ) → IsBriefly result bytes }
+{
+    if went {
+        Said::Answers(Answer::Done)
+    } else {
+        refuse(EIO)
     }
 }
 

@@ -11,8 +11,9 @@
 //!
 //! What is written waits: a write is answered at once, and the bytes of one after another are stored together, before
 //! anyone looks at the file, at `close` and `fsync`, and where there are too many of them. If that fails, whoever
-//! looked is told the error, and they wait still; only the last close drops them. Which times are told isn't promised.
-//! Nothing here reads or writes a descriptor.
+//! looked is told the error, and they wait still; only the last close drops them. An `fsync`, of a file or a directory,
+//! asks the mount then to wait for the disk, and is told an error where the mount doesn't know that nothing could be
+//! lost. Which times are told isn't promised. Nothing here reads or writes a descriptor.
 #![tactic(auto)]
 
 mod attributes;

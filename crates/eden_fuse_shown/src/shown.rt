@@ -33,6 +33,7 @@ ghost use Rattle.eden_fuse_shown.specs.Showing.{
   Starts,
   Starves,
   StoresAll,
+  Syncs,
   Takes,
   Writes,
   WritesAnew,
@@ -41,7 +42,7 @@ ghost use Rattle.eden_fuse_shown.specs.Showing.{
 ghost use Rattle.eden_fuse_shown.specs.Waiting.{may_wait};
 
 use crate::changing::forget_all;
-use crate::concluding::{conclude, count, failed, refuse};
+use crate::concluding::{conclude, count, failed, refuse, synced};
 use crate::extents::Extents;
 use crate::listing::rows_in;
 use crate::looking::look_before;
@@ -224,7 +225,7 @@ impl<M: Mount + Drop, K: Clock + Drop> Shown<M, K> {
         why
     }
 
-    // What is written waits behind what waits.
+    // What is written waits with what waits.
     fn join(&mut self, node: u64, offset: u64, bytes: &[u8], room: &mut Vec<u8>) -> Said
         requires { may_wait self.old.waits node offset bytes.now ≡ true }
         ensures joins { Joins M.answers node offset bytes.now self.old (told result room.new.items) self.new
@@ -327,6 +328,25 @@ impl<M: Mount + Drop, K: Clock + Drop> Shown<M, K> {
         match standing(&self.nodes, &place) {
             None => self.go(node, operation, place, goal, None, room),
             Some(looked) => self.look(looked, node, operation, place, goal, room),
+        }
+    }
+
+    // Waits for the disk.
+    fn wait_for_disk(&mut self, room: &mut Vec<u8>) -> Said
+        ensures syncs { Syncs M.syncs self.old (told result room.new.items) self.new }
+        ensures brief { IsBriefly result room.new.items }
+    {
+        synced(self.mount.sync())
+    }
+
+    // Stores what waits for a node, and then waits for the disk.
+    fn sync(&mut self, node: u64, room: &mut Vec<u8>) -> Said
+        ensures syncs { Once M.answers (Some node) (Syncs M.syncs) self.old (told result room.new.items) self.new }
+        ensures brief { IsBriefly result room.new.items }
+    {
+        match self.settle(node) {
+            Some(errno) => refuse(errno),
+            None => self.wait_for_disk(room),
         }
     }
 
@@ -579,7 +599,8 @@ impl<M: Mount + Drop, K: Clock + Drop> Shown<M, K> {
 
     // Answers a message of that sort, unless it names what nobody sees.
     fn take(&mut self, sort: Sort, node: u64, operation: &Operation<'_>, room: &mut Vec<u8>) -> Said
-        ensures takes { Takes M.answers sort node (seen operation.now) self.old (told result room.new.items) self.new }
+        ensures takes { Takes M.answers M.syncs sort node (seen operation.now) self.old
+            (told result room.new.items) self.new }
         ensures brief { IsBriefly result room.new.items }
     {
         let Ok(place) = named(self.alloc, node, operation) else {
@@ -599,6 +620,7 @@ impl<M: Mount + Drop, K: Clock + Drop> Shown<M, K> {
             }
             Sort::Write(offset) => self.write(node, offset, operation, place, goal, room),
             Sort::Look => self.look(node, node, operation, place, goal, room),
+            Sort::Sync => self.sync(node, room),
             Sort::LookUp => self.look_up(node, operation, place, goal, room),
             Sort::One(_) | Sort::Batch | Sort::On(_) | Sort::Close | Sort::Plain => {
                 self.go(node, operation, place, goal, None, room)
@@ -610,7 +632,7 @@ impl<M: Mount + Drop, K: Clock + Drop> Shown<M, K> {
 impl<M: Mount + Drop, K: Clock + Drop> Service for Shown<M, K> {
     ghost use Rattle.eden_fuse_shown.specs.Showing.{Shows};
 
-    ghost answers = { Shows M.answers };
+    ghost answers = { Shows M.answers M.syncs };
 
     fn call(&mut self, header: Header, operation: Operation<'_>, room: &mut Vec<u8>) -> Said {
         let node = header.nodeid;
@@ -631,6 +653,7 @@ impl<M: Mount + Drop, K: Clock + Drop> Service for Shown<M, K> {
             | Sort::Replace(_)
             | Sort::Write(_)
             | Sort::Look
+            | Sort::Sync
             | Sort::LookUp
             | Sort::Plain => self.take(sort, node, &operation, room),
         }

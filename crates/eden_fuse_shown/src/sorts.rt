@@ -20,6 +20,8 @@ pub enum Sort {
     Write(u64),
     /// What waits for its node is stored first.
     Look,
+    /// .. and then the mount waits for the disk.
+    Sync,
     /// .. for the node of the name.
     LookUp,
     /// What another run left is removed first.
@@ -46,8 +48,8 @@ pub(crate) fn sort_of(operation: &Operation<'_>) -> Sort
         | Operation::SetAttr(_)
         | Operation::Read(_)
         | Operation::Flush(_)
-        | Operation::FSync(_)
         | Operation::Fallocate(_) => Sort::Look,
+        Operation::FSync(_) | Operation::FSyncDir(_) => Sort::Sync,
         Operation::Lookup(_) | Operation::Create(_, _) => Sort::LookUp,
         Operation::Init(_) => Sort::Start,
         Operation::Unlink(_) => Sort::Remove,

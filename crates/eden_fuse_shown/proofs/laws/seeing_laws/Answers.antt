@@ -1,5 +1,6 @@
 use Rattle.eden_fuse_shown.proofs.Seen.{lies_as_told}
 use Rattle.eden_fuse_shown.proofs.SeenLaws.{waits_as_written, stores_unseen, is_there_once_stored}
+use Rattle.eden_fuse_shown.proofs.Syncing.{is_synced_as_seen}
 use Rattle.eden_fuse_shown.proofs.laws.seeing_laws.Goals as goal
 
 pub returns-clause-lies : goal.returns-clause-lies
@@ -15,4 +16,8 @@ returns-clause-stores g c = λ tree. stores_unseen g.M.Mount.answers tree c.node
 
 pub returns-clause-stored : goal.returns-clause-stored
 returns-clause-stored g c = λ tree. is_there_once_stored g.M.Mount.answers tree c.node_laws.ensures.one_node c.node_laws.ensures.one_path
+    c.change_laws.ensures.data_is_written c.change_laws.ensures.old_bytes_stay c.change_laws.ensures.written_length
+
+pub returns-clause-synced : goal.returns-clause-synced
+returns-clause-synced g c = λ tree. is_synced_as_seen g.M.Mount.answers g.M.Mount.syncs tree c.node_laws.ensures.one_node c.node_laws.ensures.one_path
     c.change_laws.ensures.data_is_written c.change_laws.ensures.old_bytes_stay c.change_laws.ensures.written_length
