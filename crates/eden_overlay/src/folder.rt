@@ -133,7 +133,7 @@ impl<R: rt::Files + Alloc + Clone + Drop> Files<Outside> for FolderFiles<R> {
         ensures counted { Counted (result ≡ Err fault.Device) self.old.failures self.new.failures }
         ensures path { self.new.path ≡ self.old.path }
     {
-        let durability = self.unsynced.replaces(number);
+        let durability = self.unsynced.replaces();
         let answer = replace_number(
             &self.files,
             alloc,
@@ -146,7 +146,6 @@ impl<R: rt::Files + Alloc + Clone + Drop> Files<Outside> for FolderFiles<R> {
         answer
     }
 
-    /// As `replace`, but it never waits: what is so long is a content, of which only a later `sync` promises something.
     fn replace_joined(
         &mut self,
         alloc: Global,
@@ -158,7 +157,7 @@ impl<R: rt::Files + Alloc + Clone + Drop> Files<Outside> for FolderFiles<R> {
         ensures path { self.new.path ≡ self.old.path }
     {
         let pieces = [front, behind];
-        self.unsynced.stores(number);
+        let durability = self.unsynced.replaces();
         let answer = replace_number(
             &self.files,
             alloc,
@@ -176,14 +175,15 @@ impl<R: rt::Files + Alloc + Clone + Drop> Files<Outside> for FolderFiles<R> {
         ensures counted { Counted (result ≡ Err fault.Device) self.old.failures self.new.failures }
         ensures path { self.new.path ≡ self.old.path }
     {
-        self.unsynced.removes(number);
+        self.unsynced.removes();
         let answer = remove_number(&self.files, &self.folder, number);
         self.failures = count(self.failures, &answer);
         answer
     }
 
-    /// Waits for the files that were stored since the last time, and for their names; the first time for all files.
-    /// From a failure of the disk on it is `Device`: whether the disk has what was stored before isn't known any more.
+    /// Waits for all files and their names the first time, and then for the names that came or went: the files that are
+    /// stored from then on have their bytes on the disk. From a failure of the disk on it is `Device`: whether the disk
+    /// has what was stored before isn't known any more.
     fn sync(&mut self, alloc: Global) -> Result<(), FilesFault>
         ensures counted { Counted (result ≡ Err fault.Device) self.old.failures self.new.failures }
         ensures path { self.new.path ≡ self.old.path }
@@ -332,11 +332,12 @@ fn sync_folder<R: rt::Files + Alloc + Clone + Drop>(
     folder: &PathBuf,
     unsynced: &mut Unsynced,
 ) -> Result<(), FilesFault> {
-    let numbers = match unsynced.numbers() {
-        Some(numbers) => rising(alloc, numbers)?,
-        None => list_folder(files, alloc, folder, Sought::Files)?,
-    };
-    sync_all(files, alloc, folder, &numbers, unsynced)
+    unsynced.promise();
+    if unsynced.has_files {
+        let numbers = list_folder(files, alloc, folder, Sought::Files)?;
+        return sync_all(files, folder, &numbers, unsynced);
+    }
+    sync_all(files, folder, &[], unsynced)
 }
 
 fn remove_all_unfinished<R: rt::Files + Alloc + Clone + Drop>(

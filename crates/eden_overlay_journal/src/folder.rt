@@ -235,10 +235,6 @@ impl<R: Files + Clock + Drop> Journal<Outside> for FolderJournal<R> {
         Ok(())
     }
 
-    fn says(&self, number: u64) -> bool {
-        self.pieces.contains_key(&number)
-    }
-
     /// From a failure of the disk on it fails until the journal is emptied: whether the disk has what was written
     /// before isn't known any more.
     fn settle(&mut self) -> Result<(), FilesFault> {

@@ -8,7 +8,6 @@ use std::alloc::Global;
 /// What it says is promised where the World is honest. After an error nothing has changed.
 pub trait Journal<W: World>: Drop {
     ghost use Rattle.std.specs.Prelude.{◌≡◌, ◌≢◌, true, false, None, Some, Ok, IfOk, IfErr, IsSome, OnOk, OnErr};
-    ghost use Rattle.std.specs.Option.{is_some};
     ghost use Rattle.eden_overlay.specs.declared.files.FilesFault.TheVariants.{Device};
     ghost use Rattle.eden_overlay_journal.specs.Changes.{Changes, IsHeadIn, ListsChanges, change_of, noted, unchanged};
 
@@ -53,10 +52,6 @@ pub trait Journal<W: World>: Drop {
         ensures err { W.honest → OnErr result (changes self.new ≡ changes self.old) }
         ensures said { W.honest → OnErr result (IsSome (changes self.old number)) }
         ensures fault { IfErr result (λ f. f ≡ Device) };
-
-    /// Whether it says something of that number.
-    fn says(&self, number: u64) -> bool
-        ensures { W.honest → result ≡ is_some (changes self.now number) };
 
     /// Waits until a loss of power would take nothing of the journal, as far as it is kept where it could. Its one
     /// error is the device's: then that isn't known, and nothing has changed.

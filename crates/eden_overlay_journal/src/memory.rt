@@ -1,7 +1,7 @@
 ghost use Rattle.std.specs.Prelude.{◌≡◌, Some, IfOk, IfErr, OnOk, OnErr, IsOk};
 ghost use Rattle.eden_overlay.specs.declared.files.FilesFault.TheVariants as fault;
 ghost use Rattle.eden_overlay_journal.specs.Changes.{IsHeadIn, ListsChanges, change_of, changes_in, noted, unchanged};
-ghost use Rattle.std.specs.Option.{is_some, option_copied};
+ghost use Rattle.std.specs.Option.{option_copied};
 ghost use Rattle.eden_overlay_format.specs.Content.{IsHead};
 
 use crate::journal::Journal;
@@ -75,12 +75,6 @@ impl<W: World> Journal<W> for MemoryJournal<W> {
     fn pass(&mut self, number: u64) -> Result<(), FilesFault> {
         self.files.remove(&number);
         Ok(())
-    }
-
-    fn says(&self, number: u64) -> bool
-        ensures { result ≡ is_some (changes_in self.now.files number) }
-    {
-        self.files.contains_key(&number)
     }
 
     fn settle(&mut self) -> Result<(), FilesFault>

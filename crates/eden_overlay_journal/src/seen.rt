@@ -1,11 +1,11 @@
 // How files with a journal over them are read and changed.
-ghost use Rattle.std.specs.Prelude.{◌≡◌, ◌≤◌, ◌++◌, None, Some, IfOk, IfErr, IfSome, IsSome, OnOk, OnErr};
+ghost use Rattle.std.specs.Prelude.{◌≡◌, ◌≤◌, ◌++◌, None, Some, IfOk, IfErr, IfSome, OnOk, OnErr};
 ghost use Rattle.std.specs.Prelude.{length, option_map};
 ghost use Rattle.std.specs.Ordering.{nat_cmp};
 ghost use Rattle.std.specs.List.Sorted.{IsStrictlySortedBy};
 ghost use Rattle.eden_overlay.specs.Files.{IsHeadOf, Lists, part, put};
 ghost use Rattle.eden_overlay.specs.declared.files.FilesFault.TheVariants as fault;
-ghost use Rattle.eden_overlay_journal.specs.Changes.{changed, noted};
+ghost use Rattle.eden_overlay_journal.specs.Changes.{changed};
 
 use crate::journal::Journal;
 use crate::pouring::{STATE_NUMBER, pour};
@@ -181,7 +181,7 @@ fn replace_long<W: World, F: Files<W>, J: Journal<W>>(
         ≡ changed (J.changes journal.old) (F.stored files.old)) }
 {
     make_room::<W, _, _>(alloc, files, journal, standing)?;
-    put_past_joined::<W, _, _>(alloc, files, journal, number, front, behind)
+    put_past_joined::<W, _, _>(alloc, files, journal, standing, number, front, behind)
 }
 
 // Stores both past the journal, which says nothing of the file any more.
@@ -189,6 +189,7 @@ fn put_past_joined<W: World, F: Files<W>, J: Journal<W>>(
     alloc: Global,
     files: &mut F,
     journal: &mut J,
+    standing: Standing,
     number: u64,
     front: &[u8],
     behind: &[u8],
@@ -199,6 +200,7 @@ fn put_past_joined<W: World, F: Files<W>, J: Journal<W>>(
         ≡ changed (J.changes journal.old) (F.stored files.old)) }
 {
     files.replace_joined(alloc, number, front, behind)?;
+    wait_past::<W, _>(alloc, files, standing);
     journal.pass(number)
 }
 
@@ -244,28 +246,19 @@ fn put_past<W: World, F: Files<W>, J: Journal<W>>(
         ≡ changed (J.changes journal.old) (F.stored files.old)) }
 {
     files.replace(alloc, number, bytes)?;
-    pass::<W, _, _>(alloc, files, journal, standing, number)
+    wait_past::<W, _>(alloc, files, standing);
+    journal.pass(number)
 }
 
-// The journal says nothing of the file any more, which was changed past it. Where something was promised, and the
-// journal says something of the file, the disk has that change first: it may be a directory's, whose other entries were
-// waited for.
-fn pass<W: World, F: Files<W>, J: Journal<W>>(
-    alloc: Global,
-    files: &mut F,
-    journal: &mut J,
-    standing: Standing,
-    number: u64,
-) -> Result<(), FilesFault>
-    ensures files { W.honest → F.stored files.new ≡ F.stored files.old }
-    ensures ok { W.honest → OnOk result (J.changes journal.new ≡ noted (J.changes journal.old) number None) }
-    ensures err { W.honest → OnErr result (J.changes journal.new ≡ J.changes journal.old) }
-    ensures said { W.honest → OnErr result (IsSome (J.changes journal.old number)) }
+// Once something was promised, what went past the journal is on the disk before a record can be there that names it:
+// so whatever a loss of power leaves can be opened. Where the disk fails, the files tell it to whoever waits for them
+// next.
+fn wait_past<W: World, F: Files<W>>(alloc: Global, files: &mut F, standing: Standing)
+    ensures { W.honest → F.stored files.new ≡ F.stored files.old }
 {
-    if standing.is_promised && journal.says(number) {
-        files.sync(alloc)?;
+    if standing.is_promised {
+        let _ = files.sync(alloc);
     }
-    journal.pass(number)
 }
 
 pub(crate) fn remove<W: World, F: Files<W>, J: Journal<W>>(
