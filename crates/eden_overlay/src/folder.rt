@@ -127,8 +127,8 @@ impl<R: rt::Files + Alloc + Clone + Drop> Files<Outside> for FolderFiles<R> {
         answer
     }
 
-    /// Writes `NUMBER.new` whole, and then renames it. Once `sync` was called it waits in between until the disk has the
-    /// bytes: so a loss of power leaves what was there or what is stored now, and no name without its bytes.
+    /// Writes `NUMBER.new` whole, and then renames it. Once `sync` was called it waits in between until the disk has
+    /// the bytes: so a loss of power leaves what was there or what is stored now, and no name without its bytes.
     fn replace(&mut self, alloc: Global, number: u64, bytes: &[u8]) -> Result<(), FilesFault>
         ensures counted { Counted (result ≡ Err fault.Device) self.old.failures self.new.failures }
         ensures path { self.new.path ≡ self.old.path }
