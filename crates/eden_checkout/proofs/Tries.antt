@@ -10,16 +10,19 @@ use Rattle.eden_model.specs.declared.world.World.{Ghosts}
 use Rattle.eden_model.specs.Trees.{Path}
 use Rattle.eden_object.specs.Objects.{Body}
 use Rattle.eden_overlay.specs.declared.files.Files.{Ghosts as Files}
+use Rattle.eden_overlay.specs.Files.{Stored}
 use Rattle.eden_cache.specs.Cache.{Cache, KeepsObject, KeepsSize}
 use Rattle.eden_tree.specs.Directory.{Row}
+use Rattle.eden_coupling.specs.Numberings.{in_files, numbers}
+use Rattle.eden_coupling.specs.Shown.{shown_in}
 use Rattle.eden_inode.specs.Tables.{Table, shows, shows_numbers, ShowsSameNumbers}
-use Rattle.eden_mount.specs.Tables.{Tries, Ticks, Stores, Unloads}
+use Rattle.eden_mount.specs.Tables.{Tries, Ticks, Stores, Unloads, Syncs}
 use Rattle.eden_ops.specs.Attempts.{IsRealNeed}
 use Rattle.eden_cache.specs.Stock.{FindsTheSame, object_at}
 use Rattle.eden_ops.specs.Laws.{KeepsShown, KeepsEntries}
 use Rattle.eden_ops.specs.Left.{left, SomeAreLeft, NeedsStay, LeftFalls}
 use Rattle.eden_ops.specs.Renumbering.{Renumbered}
-use Rattle.eden_checkout.specs.Attempted.{IsTicked, IsTried, IsPut, IsUnloaded, attempted}
+use Rattle.eden_checkout.specs.Attempted.{IsTicked, IsTried, IsPut, IsUnloaded, IsSynced, attempted}
 use Rattle.eden_checkout.specs.Checkouts.{Checkout}
 
 module _ {W F : Type 0} (w : Ghosts W) (f : Files F W) (shown : KeepsShown w f) (entries : KeepsEntries w f) (some : SomeAreLeft) (stay : NeedsStay) (s t : Checkout F) (q : Request) where
@@ -99,3 +102,15 @@ module _ {W F : Type 0} (w : Ghosts W) (f : Files F W) where
     next = is.rest.0;
     cache = λ k. ap (λ (c : Cache). is_some (object_at c k)) is.cache;
   }
+
+  pub syncs : (s t : Checkout F) → IsSynced w f s t → Syncs (attempted w f) w.honest s t
+  syncs s t is =
+      let root : t.inodes.root ≡ s.inodes.root = ap (λ (u : Table F). u.root) is.inodes in
+      record {
+        synced = is;
+        tree = λ h. ap (λ (G : Stored). shown_in w.repository G t.inodes.root) (is.files h) ∙ ap (shown_in w.repository (f.stored s.inodes.files)) root;
+        numbers = λ h p. ap (λ (G : Stored). numbers (in_files G) t.inodes.root p) (is.files h) ∙ ap (λ (x : Row). numbers (in_files (f.stored s.inodes.files)) x p) root;
+        commit = is.root;
+        next = ap (λ (u : Table F). u.next) is.inodes;
+        cache = λ k. ap (λ (c : Cache). is_some (object_at c k)) is.cache;
+      }

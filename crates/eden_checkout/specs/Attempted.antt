@@ -62,6 +62,13 @@ module _ {W F : Type 0} (w : Ghosts W) (f : Files F W) where
     pub cache : t.cache ≡ s.cache
     pub root : t.root ≡ s.root
 
+  -- the files were waited for, and what they hold, what is loaded and what is cached stay as they are
+  pub record IsSynced (s t : Checkout F) : Type 0 where
+    pub files : w.honest → f.stored t.inodes.files ≡ f.stored s.inodes.files
+    pub inodes : t.inodes ≡ record s.inodes { files = t.inodes.files }
+    pub cache : t.cache ≡ s.cache
+    pub root : t.root ≡ s.root
+
   abbrev pub attempted : Table (Checkout F)
   attempted = record {
     shown = λ t. shows w f t.inodes;
@@ -75,4 +82,5 @@ module _ {W F : Type 0} (w : Ghosts W) (f : Files F W) where
     tried = IsTried;
     kept = IsPut;
     unloaded = IsUnloaded;
+    synced = IsSynced;
   }

@@ -60,6 +60,10 @@ impl<A: Allocator + Clone, W: World, F: Files<W>> Attempts<W> for Checkout<A, W,
         place_laws::<W, F>();
         self.inodes.unload(alloc, path.as_slice(), older_than).count
     }
+
+    fn sync(&mut self, alloc: Global) -> bool {
+        self.inodes.sync(alloc).is_ok()
+    }
 }
 
 /// One attempt, from the place where an earlier one of the request waited, or from the root if there is none. Where it

@@ -1,5 +1,6 @@
 //! Contents of files and links.
-ghost use Rattle.std.specs.Prelude.{◌≡◌, ◌≤◌, ◌^◌, ℕ, List, length, Some, None, IfOk, IfErr, MatchOption, ◌∷◌, []};
+ghost use Rattle.std.specs.Prelude.{◌≡◌, ◌≤◌, ◌^◌, ◌∷◌, [], ℕ, List, length, Some, None, IfOk, IfErr, IfSome};
+ghost use Rattle.std.specs.Prelude.{MatchOption};
 ghost use Rattle.eden_model.specs.declared.id.ObjKind.TheVariants as objects;
 ghost use Rattle.eden_model.specs.Limits.{most_file};
 ghost use Rattle.eden_inode.specs.Tables.{shows};
@@ -31,6 +32,7 @@ fn cached_part<W: World, C: Allocator + Clone>(
         (λ b. (content : List ℕ)
         × ((W.honest → W.repository.blob id ≡ Some content)
         × ((length content ≤ most_file) × (b ≡ part offset count content))))) }
+    ensures bounded { IfOk result (λ o. IfSome o (λ b. length b ≤ count)) }
 {
     cache_laws();
     let kind = ObjKind::Blob;
@@ -52,6 +54,7 @@ pub(crate) fn part<A: Allocator + Clone, W: World, F: Files<W>, C: Allocator + C
 ) -> Result<Bytes, Stop>
     requires { HasContent path.now inodes.old.root origin }
     ensures ok { IfOk result (IsPart W.World F.Files path.now inodes.old offset count) }
+    ensures bounded { IfOk result (λ b. length b ≤ count) }
     ensures lacks { IfErr result (Lacks W.World F.Files path.now inodes.old inodes.new cache.new) }
     ensures still { inodes.new.root ≡ inodes.old.root }
     ensures changes { inodes.new.changes ≡ inodes.old.changes }

@@ -220,7 +220,13 @@ fn holds(rt: &HostRuntime, path: &str, bytes: &[u8]) -> bool {
 // Whether a file is replaced while a link to that target stands under the new file's name.
 fn replaces_over_link(rt: &HostRuntime, file: &str, new: &PathBuf, target: &str) -> bool {
     symlink(rt, target, new.as_path()).is_ok()
-        && replace_file(rt, rt.alloc(), file, &[target.as_bytes()], Durability::Synced) == Ok(())
+        && replace_file(
+            rt,
+            rt.alloc(),
+            file,
+            &[target.as_bytes()],
+            Durability::Synced,
+        ) == Ok(())
         && holds(rt, file, target.as_bytes())
 }
 
@@ -236,7 +242,13 @@ fn replaces_over_links(rt: &HostRuntime, file: &str, new: &PathBuf) -> bool {
 
 // Whether the file stays as it is where it can't be replaced.
 fn stays(rt: &HostRuntime, file: &str, bytes: &[u8]) -> bool {
-    replace_file(rt, rt.alloc(), file, &[b"new".as_slice()], Durability::Written) == Err(FolderFault::Device)
+    replace_file(
+        rt,
+        rt.alloc(),
+        file,
+        &[b"new".as_slice()],
+        Durability::Written,
+    ) == Err(FolderFault::Device)
         && holds(rt, file, bytes)
 }
 
@@ -296,7 +308,15 @@ fn is_removed(rt: &HostRuntime, path: &str) -> bool {
 fn failed_changes_are_told(rt: HostRuntime) {
     let folder = folder_of(&rt, "failed-changes", &[]).expect(&rt, "a folder");
     let file = folder.join(rt.alloc(), "file").expect(&rt, "memory");
-    assert!(rt; replace_file(&rt, rt.alloc(), file.as_str(), &[b"old".as_slice()], Durability::Written) == Ok(()));
+    assert!(rt;
+        replace_file(
+            &rt,
+            rt.alloc(),
+            file.as_str(),
+            &[b"old".as_slice()],
+            Durability::Written
+        ) == Ok(())
+    );
     for (kind, fault) in KINDS {
         assert!(rt; changes_fail(&rt, file.as_str(), *kind, *fault));
     }

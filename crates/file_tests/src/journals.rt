@@ -307,6 +307,33 @@ fn a_failing_device_is_told_and_counted(rt: HostRuntime) {
     }
 }
 
+// A wait that the disk refuses is told, by the files and by their journal, each time; what is stored stays so.
+#[test]
+fn a_wait_that_fails_is_told(rt: HostRuntime) {
+    let alloc = rt.alloc();
+    for (of_files, of_journal) in [
+        (SystemCall::Sync, SystemCall::None),
+        (SystemCall::None, SystemCall::Sync),
+    ] {
+        let folder = folder_of(&rt, "journal-waits", FIVE).expect(&rt, "a folder");
+        let journal = FolderJournal::open(failing(&rt, of_journal), alloc, &folder);
+        let journal = journal.expect(&rt, "a journal");
+        let path = folder.clone().expect(&rt, "memory");
+        let mut files = Journaled::new(FolderFiles::new(failing(&rt, of_files), path), journal);
+        assert!(rt; gives_all(&mut files, alloc, WAITS));
+        assert!(rt; Files::<Outside>::failures(&files) == 2);
+        fs::remove_dir_all(&rt, folder.as_path()).expect(&rt, "a folder");
+    }
+}
+
+const WAITS: &[(Call, Answer)] = &[
+    (Call::Replace(7, b"7"), Answer::Done),
+    (Call::Sync, Answer::Device),
+    (Call::Read(7), Answer::Bytes(Some(b"7"))),
+    (Call::Sync, Answer::Device),
+    (Call::Read(5), Answer::Bytes(Some(b"5"))),
+];
+
 // Where the journal can't be written, what it had goes into the files, and the change too.
 #[test]
 fn a_change_goes_past_a_failing_journal(rt: HostRuntime) {

@@ -21,6 +21,7 @@ pub enum Call {
     Replace(u64, &'static [u8]),
     ReplaceJoined(u64, &'static [u8], &'static [u8]),
     Remove(u64),
+    Sync,
     List,
 }
 
@@ -47,6 +48,7 @@ fn gives<F: Files<Outside>>(files: &mut F, alloc: Global, call: Call, want: Answ
             is_done(files.replace_joined(alloc, number, front, behind), want)
         }
         Call::Remove(number) => is_done(files.remove(number), want),
+        Call::Sync => is_done(files.sync(alloc), want),
         Call::List => is_listed(&files.list(alloc), want),
     }
 }
@@ -123,6 +125,7 @@ pub const SIXTY_SIX: &[u8] = b"0123456789abcdef0123456789abcdef0123456789abcdef0
 pub const BEHAVIOUR: &[(Call, Answer)] = &[
     (Call::List, Answer::Numbers(&[])),
     (Call::Read(10), Answer::Bytes(None)),
+    (Call::Sync, Answer::Done),
     (Call::Replace(10, b"ten"), Answer::Done),
     (Call::Read(10), Answer::Bytes(Some(b"ten"))),
     (Call::Head(10), Answer::Head(Some((b"", 3)))),
@@ -148,6 +151,7 @@ pub const BEHAVIOUR: &[(Call, Answer)] = &[
     (Call::Read(2), Answer::Bytes(Some(b""))),
     (Call::List, Answer::Numbers(&[2, 10])),
     (Call::Replace(10, b"x"), Answer::Done),
+    (Call::Sync, Answer::Done),
     (Call::Read(10), Answer::Bytes(Some(b"x"))),
     (Call::ReplaceJoined(10, b"one, ", b"two"), Answer::Done),
     (Call::Read(10), Answer::Bytes(Some(b"one, two"))),
@@ -163,6 +167,7 @@ pub const BEHAVIOUR: &[(Call, Answer)] = &[
     (Call::Remove(10), Answer::Done),
     (Call::Read(10), Answer::Bytes(None)),
     (Call::Remove(10), Answer::Done),
+    (Call::Sync, Answer::Done),
     (Call::List, Answer::Numbers(&[0, 2, u64::MAX])),
     (Call::Read(0), Answer::Bytes(Some(b"zero"))),
 ];
@@ -336,6 +341,7 @@ enum Ask {
     Replace,
     ReplaceJoined,
     Remove,
+    Sync,
     List,
 }
 
@@ -347,12 +353,13 @@ fn fault_of<F: Files<Outside>>(files: &mut F, alloc: Global, ask: Ask) -> Option
         Ask::Replace => files.replace(alloc, 5, b"new").err(),
         Ask::ReplaceJoined => files.replace_joined(alloc, 5, b"n", b"ew").err(),
         Ask::Remove => files.remove(5).err(),
+        Ask::Sync => files.sync(alloc).err(),
         Ask::List => files.list(alloc).err(),
     }
 }
 
-// No removal, no replacement and no listing that the device refused is told as done.
-const FAILED: [(SystemCall, Ask); 14] = [
+// No removal, no replacement, no wait and no listing that the device refused is told as done.
+const FAILED: [(SystemCall, Ask); 17] = [
     (SystemCall::Look, Ask::Head),
     (SystemCall::Open, Ask::Head),
     (SystemCall::LookAtOpen, Ask::Head),
@@ -366,6 +373,9 @@ const FAILED: [(SystemCall, Ask); 14] = [
     (SystemCall::Write, Ask::ReplaceJoined),
     (SystemCall::Rename, Ask::ReplaceJoined),
     (SystemCall::Remove, Ask::Remove),
+    (SystemCall::List, Ask::Sync),
+    (SystemCall::Open, Ask::Sync),
+    (SystemCall::Sync, Ask::Sync),
     (SystemCall::List, Ask::List),
 ];
 
