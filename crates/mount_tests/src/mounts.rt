@@ -25,6 +25,7 @@ enum Call {
     Arrive(&'static [u8]),
     Fail(Cause),
     Unload,
+    Sync,
 }
 
 /// What an event must answer.
@@ -43,12 +44,14 @@ enum Answer {
     Arrives(Arrived),
     Fails(bool),
     Goes,
+    IsSafe(bool),
 }
 
 use Answer::{
-    Arrives, Began, Fails, Faults, Goes, Idle, IsRoot, Not, Reads, TakesIt, TakesNone, Waits,
+    Arrives, Began, Fails, Faults, Goes, Idle, IsRoot, IsSafe, Not, Reads, TakesIt, TakesNone,
+    Waits,
 };
-use Call::{Arrive, Fail as FailKey, Start, StartRoot, Take, Turn, Unload};
+use Call::{Arrive, Fail as FailKey, Start, StartRoot, Sync, Take, Turn, Unload};
 
 fn key() -> Key {
     Key {
@@ -78,6 +81,7 @@ fn event(rt: &impl Abort, alloc: Global, call: &Call) -> Event {
         Arrive(framed) => Event::Arrive(key(), bytes(rt, alloc, framed)),
         FailKey(cause) => Event::Fail(key(), *cause),
         Unload => Event::Unload(root(rt, alloc), 3),
+        Sync => Event::Sync,
     }
 }
 
@@ -124,6 +128,7 @@ fn is_answer(answer: &Answer, outcome: &Outcome) -> bool {
         (Arrives(want), Outcome::Arrive(arrived)) => *arrived == *want,
         (Fails(want), Outcome::Fail(failed)) => *failed == *want,
         (Goes, Outcome::Unload(gone)) => *gone == UNLOADED,
+        (IsSafe(want), Outcome::Sync(safe)) => *safe == *want,
         _ => false,
     }
 }
@@ -139,9 +144,23 @@ fn mount(
     ensures unused { IsUnused result }
     ensures passes { result.queue.passes ≡ 3 }
 {
+    mount_over(rt, alloc, history, Shelf::new(key(), wide))
+}
+
+/// .. over this shelf.
+fn mount_over(
+    rt: &impl Abort,
+    alloc: Global,
+    history: u32,
+    shelf: Shelf,
+) -> Mount<Outside, Shelf, Global, Kept>
+    ensures rest { IsAtRest result }
+    ensures unused { IsUnused result }
+    ensures passes { result.queue.passes ≡ 3 }
+{
     let config = Config::new(3, 1, history, 1, 1, 1).expect(rt, "within the limits");
     let room = Room::new(alloc, alloc, &config).expect(rt, "memory");
-    Mount::new(room, Shelf::new(key(), wide), Kept::new(alloc, history))
+    Mount::new(room, shelf, Kept::new(alloc, history))
 }
 
 fn events_of(rt: &impl Abort, alloc: Global, rows: &[(Call, Answer)]) -> Vec<Event> {
@@ -289,16 +308,64 @@ fn turns_go_on_where_their_request_waited(rt: HostRuntime) {
     assert!(rt; handed(&rt, alloc, &WAITS_AGAIN) == Some(3));
 }
 
+/// A shelf that has room, and whose disk works or doesn't.
+fn shelf_on_disk(safe: bool) -> Shelf {
+    let mut shelf = Shelf::new(key(), true);
+    shelf.safe = safe;
+    shelf
+}
+
+/// The rows, with a sync before each.
+fn among_syncs(
+    rt: &impl Abort,
+    alloc: Global,
+    rows: &[(Call, Answer)],
+    safe: bool,
+) -> Vec<(Call, Answer)> {
+    let mut all = Vec::new(alloc);
+    for row in rows {
+        all.push((Sync, IsSafe(safe))).expect(rt, "memory");
+        all.push(*row).expect(rt, "memory");
+    }
+    all
+}
+
+/// Whoever waits for the disk is told what the table says of it, and no other is told anything else for that.
+#[test]
+fn syncs_change_no_answer(rt: HostRuntime) {
+    let alloc = rt.alloc();
+    for safe in [true, false] {
+        let rows = among_syncs(&rt, alloc, &WAITS, safe);
+        let mut mount = mount_over(&rt, alloc, 9, shelf_on_disk(safe));
+        run(&rt, alloc, &mut mount, rows.as_slice());
+        assert!(rt; mount.history().len() == 3 && mount.busy().is_none());
+        assert!(rt; mount.sync() == safe);
+        let table = mount.into_table();
+        assert!(rt; table.turns == 7 && table.handed == Some(4) && table.syncs == 13);
+    }
+}
+
 /// One caller over a source that has these bytes under the one key.
 fn caller(
     rt: &impl Abort,
     alloc: Global,
     framed: &[u8],
 ) -> Local<Outside, MemorySource<Outside>, Shelf, Global, Kept> {
+    caller_over(rt, alloc, framed, Shelf::new(key(), true))
+}
+
+/// .. and over this shelf.
+fn caller_over(
+    rt: &impl Abort,
+    alloc: Global,
+    framed: &[u8],
+    shelf: Shelf,
+) -> Local<Outside, MemorySource<Outside>, Shelf, Global, Kept> {
     let mut source = MemorySource::new(alloc);
     let framed = bytes(rt, alloc, framed).into_vec();
     source.insert(key().id, framed).expect(rt, "memory");
-    Local::new(alloc, mount(rt, alloc, 2, true), source, Unloading::usual())
+    let mount = mount_over(rt, alloc, 2, shelf);
+    Local::new(alloc, mount, source, Unloading::usual())
 }
 
 /// Whether a call is told that, and the next that the root is a directory, and the third that the history is full.
@@ -319,6 +386,22 @@ fn tells(rt: &impl Abort, alloc: Global, framed: &[u8], answer: &Answer) -> bool
 fn one_caller_is_told(rt: HostRuntime) {
     assert!(rt; tells(&rt, rt.alloc(), b"blob 0\0", &Reads(1)));
     assert!(rt; tells(&rt, rt.alloc(), b"blob 0", &Faults(1, Cause::BadDigest)));
+}
+
+/// A caller who waits for the disk is told what the table says of it. The last reply stays, and the next is as ever.
+#[test]
+fn one_caller_syncs(rt: HostRuntime) {
+    let alloc = rt.alloc();
+    for safe in [true, false] {
+        let mut caller = caller_over(&rt, alloc, b"blob 0\0", shelf_on_disk(safe));
+        assert!(rt; caller.sync() == safe);
+        assert!(rt; caller.serve(read(&rt, alloc)).is_ok());
+        assert!(rt; caller.sync() == safe && is_reply(&Reads(1), caller.reply()));
+        assert!(rt; caller.serve(Request::Kind(root(&rt, alloc))).is_ok());
+        assert!(rt; caller.sync() == safe && is_reply(&IsRoot(2), caller.reply()));
+        let (mount, _source) = caller.into_parts();
+        assert!(rt; mount.history().len() == 2 && mount.into_table().syncs == 3);
+    }
 }
 
 /// How often directories are let go after every so many of twelve requests, of which one more is refused.

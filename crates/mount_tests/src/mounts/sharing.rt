@@ -4,7 +4,7 @@ ghost use Rattle.eden_shared.specs.Lanes.{names_of};
 ghost use Rattle.eden_shared.specs.Opening.{AreTied};
 
 use crate::mounts::shelf::Shelf;
-use crate::mounts::{bytes, key, mount, read, root};
+use crate::mounts::{bytes, key, mount, mount_over, read, root, shelf_on_disk};
 use eden_history::Kept;
 use eden_model::{CallFault, Cause, Outside, Reply, Request};
 use eden_shared::{Fetched, Naming, Pass, Recording, Shared, Ties};
@@ -317,6 +317,33 @@ fn meet<J: Naming + Send + Sync, R: Threads + Wait + Abort + Sync>(
             || fetch_next(rt, alloc, lock, has, comes),
         );
         assert!(rt; read == has);
+    }
+}
+
+/// Whoever waits for the disk is told what the table says of it, and the passes are told what they are told without.
+fn sync<J: Naming, R: Wait + Abort>(rt: &R, alloc: Global, ties: Ties, safe: bool)
+    requires ties { AreTied ties.lanes.items ties.ends.items 3 }
+    requires names { names_of ties.lanes.items ≡ J.names }
+{
+    let mount = mount_over(rt, alloc, 9, shelf_on_disk(safe));
+    let Ok((shared, passes)) = Held::<J>::open(alloc, mount, ties) else {
+        rt.abort();
+    };
+    let mut three = three_of(rt, alloc, passes);
+    assert!(rt; shared.sync(rt) == safe);
+    assert!(rt; ask_root(rt, alloc, &shared, &mut three.first) == Ok(1));
+    assert!(rt; shared.sync(rt) == safe);
+    assert!(rt; ask_root(rt, alloc, &shared, &mut three.second) == Ok(2));
+    let ended = shared.finish(backwards(rt, alloc, three));
+    let mount = ended.ok().expect(rt, "each pass");
+    assert!(rt; mount.history().len() == 2 && mount.into_table().syncs == 2);
+}
+
+#[test]
+fn shared_mounts_sync(rt: HostRuntime) {
+    for safe in [true, false] {
+        let ties = Ties::new(rt.alloc(), 3).expect(&rt, "memory");
+        sync::<Brand, HostRuntime>(&rt, rt.alloc(), ties, safe);
     }
 }
 

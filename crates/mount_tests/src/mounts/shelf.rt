@@ -22,6 +22,10 @@ pub(crate) struct Shelf {
     pub handed: Option<u64>,
     /// How often directories were let go.
     pub unloads: usize,
+    /// Whether the disk has all that was stored.
+    pub safe: bool,
+    /// How often somebody waited for the disk.
+    pub syncs: usize,
 }
 
 impl Shelf {
@@ -33,6 +37,8 @@ impl Shelf {
             turns: 0,
             handed: None,
             unloads: 0,
+            safe: true,
+            syncs: 0,
         }
     }
 }
@@ -66,6 +72,7 @@ impl Attempts<Outside> for Shelf {
       tried = λ t q a u. Unit {0};
       kept = λ t k o u. Unit {0};
       unloaded = λ t p age gone u. Unit {0};
+      synced = λ t u. Unit {0};
     } };
 
     /// A place is the turn at which a request waited.
@@ -102,5 +109,10 @@ impl Attempts<Outside> for Shelf {
     fn unload(&mut self, _alloc: Global, _path: &Path, _older_than: u64) -> u64 {
         self.unloads = self.unloads.saturating_add(1);
         UNLOADED
+    }
+
+    fn sync(&mut self, _alloc: Global) -> bool {
+        self.syncs = self.syncs.saturating_add(1);
+        self.safe
     }
 }
