@@ -203,6 +203,11 @@ impl<W: World, T: Attempts<W> + Drop, A: Allocator, J: Naming, H: History> Locke
         self.mount.unload(path, older_than)
     }
 
+    /// Waits for the disk. False where it isn't known that all is there.
+    pub(crate) fn sync(&mut self) -> bool {
+        self.mount.sync()
+    }
+
     /// Looks at a pass: it has nothing pending, and was told its entries and nothing else.
     fn check(&mut self, pass: &mut Pass<J>)
         ensures lock { self.new ≡ self.old }

@@ -114,4 +114,10 @@ impl<W: World, T: Attempts<W> + Drop, A: Allocator, J: Naming, H: History> Share
     pub fn unload<R: Wait>(&self, rt: &R, path: &Path, older_than: u64) -> u64 {
         self.lock.lock(rt).unload(path, older_than)
     }
+
+    /// Waits until a loss of power would take nothing of what the mount stored, and holds the lock meanwhile. False
+    /// where that isn't known.
+    pub fn sync<R: Wait>(&self, rt: &R) -> bool {
+        self.lock.lock(rt).sync()
+    }
 }
