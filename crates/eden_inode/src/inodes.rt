@@ -1,5 +1,5 @@
 ghost use Rattle.std.specs.Prelude.{◌≡◌, ◌≢◌, ◌≤◌, ◌+◌, ◌⊎◌, ℕ, min, Err, OnOk, OnErr, IfOk, IfErr, IfSome, IfNone};
-ghost use Rattle.std.specs.Prelude.{IsTrue, IsFalse, Option, Some, None, option_map};
+ghost use Rattle.std.specs.Prelude.{IsTrue, IsFalse, length, Option, Some, None, option_map};
 ghost use Rattle.eden_model.specs.declared.kind.Kind.TheVariants as kind;
 ghost use Rattle.eden_model.specs.declared.kind.Origin as declared;
 ghost use Rattle.eden_model.specs.declared.kind.Origin.TheVariants as origin;
@@ -403,6 +403,7 @@ impl<A: Allocator + Clone, W: World, F: Files<W>> Inodes<A, W, F> {
         ensures ok { W.honest
             → IfOk result (λ v. (y : Row) → row_at path.now self.old.root ≡ Some y
             → HoldsPart (F.stored self.old.files) y.number from most v.items) }
+        ensures bounded { IfOk result (λ v. length v.items ≤ most) }
         ensures fault { IfErr result
             (IsContentFault W.honest (F.failures self.old.files) (F.failures self.new.files)
             (F.stored self.old.files) path.now self.old.root) }
@@ -505,6 +506,17 @@ impl<A: Allocator + Clone, W: World, F: Files<W>> Inodes<A, W, F> {
             None => Ok(()),
             Some(entry) => save_entry(alloc, &mut self.overlay, entry),
         }
+    }
+
+    /// Waits until a loss of power would take nothing of what is stored, as far as the files can. After an error that
+    /// isn't known. What is loaded stays so, and what is stored is what it was.
+    pub fn sync(&mut self, alloc: Global) -> Result<(), FilesFault>
+        ensures files { W.honest → F.stored self.new.files ≡ F.stored self.old.files }
+        ensures counted { Counted (result ≡ Err files.Device) (F.failures self.old.files)
+            (F.failures self.new.files) }
+        ensures rest { self.new ≡ record self.old { files = self.new.files } }
+    {
+        self.overlay.sync(alloc)
     }
 
     /// Does a change to the root's entry and to the overlay at once: a directory that is stored and then is so in

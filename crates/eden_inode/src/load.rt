@@ -1,5 +1,5 @@
 //! What is loaded at a path, and from where.
-ghost use Rattle.std.specs.Prelude.{◌≡◌, ◌≢◌, ◌≤◌, [], Some, IsOkAnd, IfOk, IfErr, OnOk, OnErr};
+ghost use Rattle.std.specs.Prelude.{◌≡◌, ◌≢◌, ◌≤◌, [], Some, IsOkAnd, IfOk, IfErr, OnOk, OnErr, length};
 ghost use Rattle.eden_model.specs.declared.id.Id as id;
 ghost use Rattle.eden_model.specs.declared.kind.Kind.TheVariants as kind;
 ghost use Rattle.eden_model.specs.declared.kind.Origin as declared;
@@ -172,6 +172,7 @@ pub(crate) fn own_part<W: World, F: Files<W>>(
     most: u64,
 ) -> Result<Vec<u8>, Fault>
     ensures held { W.honest → IfOk result (λ v. HoldsPart (F.stored overlay.old) number from most v.items) }
+    ensures bounded { IfOk result (λ v. length v.items ≤ most) }
     ensures fault { IfErr result
         (IsGetFault W.honest (F.failures overlay.old) (F.failures overlay.new)
         (content_at (F.stored overlay.old) number)) }

@@ -5,7 +5,7 @@ ghost use Rattle.hex.specs.Hex.{encode_lower};
 
 use crate::fault::ImportFault;
 use eden_object::{Id, id_of};
-use eden_plain_files::replace_file;
+use eden_plain_files::{Durability, replace_file};
 use std::alloc::{AllocError, Global};
 use std::fs;
 use std::io::ErrorKind;
@@ -60,7 +60,13 @@ impl<R: Files + Eprint> Store<R> {
         let path = folder.join(alloc, hex::encode(alloc, &id.bytes[1..])?.as_str())?;
         if !self.is_there(&path)? {
             fs::create_dir_all(&self.rt, folder.as_path())?;
-            replace_file(&self.rt, alloc, path.as_str(), &[framed])?;
+            replace_file(
+                &self.rt,
+                alloc,
+                path.as_str(),
+                &[framed],
+                Durability::Written,
+            )?;
         }
         self.tell_one();
         Ok(id)

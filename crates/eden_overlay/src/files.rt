@@ -126,6 +126,12 @@ pub trait Files<W: World>: Drop {
         ensures fault { IfErr result (λ f. f ≡ Device) }
         ensures counted { Counted (result ≡ Err Device) (failures self.old) (failures self.new) };
 
+    /// Waits until a loss of power would take nothing of what is stored, as far as these files are kept where it could.
+    /// Where they can't be, or that isn't known, it is an error; nothing has changed then either.
+    fn sync(&mut self, alloc: Global) -> Result<(), FilesFault>
+        ensures unchanged { W.honest → stored self.new ≡ stored self.old }
+        ensures counted { Counted (result ≡ Err Device) (failures self.old) (failures self.new) };
+
     /// The numbers of all files, rising.
     fn list(&mut self, alloc: Global) -> Result<Vec<u64>, FilesFault>
         ensures rising { IfOk result (λ v. IsStrictlySortedBy nat_cmp v.items) }

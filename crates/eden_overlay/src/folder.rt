@@ -9,10 +9,12 @@ ghost use Rattle.eden_overlay.specs.declared.files.FilesFault.TheVariants as fau
 use crate::files::{Files, FilesFault, count};
 use crate::names::{Sought, file_path, number_sought, unfinished_path};
 use crate::tidy::Removed;
+use crate::unsynced::{Unsynced, sync_all};
 use eden_model::Outside;
 use eden_overlay_format::Head;
 use eden_plain_files::{
-    FolderFault, Links, entry_in, read_file, read_front, read_part, remove_file, replace_file,
+    Durability, FolderFault, Links, entry_in, read_file, read_front, read_part, remove_file,
+    replace_file,
 };
 use std::alloc::{Alloc, AllocError, Allocator, Global};
 use std::collections::BTreeSet;
@@ -32,6 +34,7 @@ pub struct FolderFiles<R> {
     files: R,
     folder: PathBuf,
     failures: u64,
+    unsynced: Unsynced,
 }
 
 impl<R> Model for FolderFiles<R> {
@@ -52,6 +55,7 @@ impl<R> FolderFiles<R> {
             files,
             folder,
             failures: 0,
+            unsynced: Unsynced::anything(),
         }
     }
 }
@@ -123,12 +127,21 @@ impl<R: rt::Files + Alloc + Clone + Drop> Files<Outside> for FolderFiles<R> {
         answer
     }
 
-    /// Writes `NUMBER.new` whole, and then renames it. Nothing waits for the disk to have it.
+    /// Writes `NUMBER.new` whole, and then renames it. Once `sync` was called it waits in between until the disk has
+    /// the bytes: so a loss of power leaves what was there or what is stored now, and no name without its bytes.
     fn replace(&mut self, alloc: Global, number: u64, bytes: &[u8]) -> Result<(), FilesFault>
         ensures counted { Counted (result ≡ Err fault.Device) self.old.failures self.new.failures }
         ensures path { self.new.path ≡ self.old.path }
     {
-        let answer = replace_number(&self.files, alloc, &self.folder, number, &[bytes]);
+        let durability = self.unsynced.replaces();
+        let answer = replace_number(
+            &self.files,
+            alloc,
+            &self.folder,
+            number,
+            &[bytes],
+            durability,
+        );
         self.failures = count(self.failures, &answer);
         answer
     }
@@ -144,7 +157,15 @@ impl<R: rt::Files + Alloc + Clone + Drop> Files<Outside> for FolderFiles<R> {
         ensures path { self.new.path ≡ self.old.path }
     {
         let pieces = [front, behind];
-        let answer = replace_number(&self.files, alloc, &self.folder, number, &pieces);
+        let durability = self.unsynced.replaces();
+        let answer = replace_number(
+            &self.files,
+            alloc,
+            &self.folder,
+            number,
+            &pieces,
+            Durability::Written,
+        );
         self.failures = count(self.failures, &answer);
         answer
     }
@@ -154,7 +175,20 @@ impl<R: rt::Files + Alloc + Clone + Drop> Files<Outside> for FolderFiles<R> {
         ensures counted { Counted (result ≡ Err fault.Device) self.old.failures self.new.failures }
         ensures path { self.new.path ≡ self.old.path }
     {
+        self.unsynced.removes();
         let answer = remove_number(&self.files, &self.folder, number);
+        self.failures = count(self.failures, &answer);
+        answer
+    }
+
+    /// Waits for all files and their names the first time, and then for the names that came or went: the files that are
+    /// stored from then on have their bytes on the disk. From a failure of the disk on it is `Device`: whether the disk
+    /// has what was stored before isn't known any more.
+    fn sync(&mut self, alloc: Global) -> Result<(), FilesFault>
+        ensures counted { Counted (result ≡ Err fault.Device) self.old.failures self.new.failures }
+        ensures path { self.new.path ≡ self.old.path }
+    {
+        let answer = sync_folder(&self.files, alloc, &self.folder, &mut self.unsynced);
         self.failures = count(self.failures, &answer);
         answer
     }
@@ -246,9 +280,10 @@ fn replace_number<R: rt::Files>(
     folder: &PathBuf,
     number: u64,
     pieces: &[&[u8]],
+    durability: Durability,
 ) -> Result<(), FilesFault> {
     let path = file_path(folder, number)?;
-    replace_file(files, alloc, path.as_str(), pieces)?;
+    replace_file(files, alloc, path.as_str(), pieces, durability)?;
     Ok(())
 }
 
@@ -289,6 +324,20 @@ fn list_folder<R: rt::Files + Alloc + Clone + Drop>(
         }
     }
     Ok(rising(alloc, &numbers)?)
+}
+
+fn sync_folder<R: rt::Files + Alloc + Clone + Drop>(
+    files: &R,
+    alloc: Global,
+    folder: &PathBuf,
+    unsynced: &mut Unsynced,
+) -> Result<(), FilesFault> {
+    unsynced.promise();
+    if unsynced.has_files {
+        let numbers = list_folder(files, alloc, folder, Sought::Files)?;
+        return sync_all(files, folder, &numbers, unsynced);
+    }
+    sync_all(files, folder, &[], unsynced)
 }
 
 fn remove_all_unfinished<R: rt::Files + Alloc + Clone + Drop>(

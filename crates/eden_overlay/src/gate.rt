@@ -249,6 +249,20 @@ impl<W: World, F: Files<W>, G: Gate> Files<W> for GatedFiles<F, G> {
         answer
     }
 
+    fn sync(&mut self, alloc: Global) -> Result<(), FilesFault>
+        ensures unchanged { W.honest → F.stored self.new.files ≡ F.stored self.old.files }
+        ensures counted { Counted (result ≡ Err fault.Device) self.old.failures self.new.failures }
+        ensures calls { Calls G.passed self.old result self.new }
+    {
+        let answer = if self.gate.passes() {
+            self.files.sync(alloc)
+        } else {
+            Err(FilesFault::Device)
+        };
+        self.failures = count(self.failures, &answer);
+        answer
+    }
+
     fn list(&mut self, alloc: Global) -> Result<Vec<u64>, FilesFault>
         ensures rising { IfOk result (λ v. IsStrictlySortedBy nat_cmp v.items) }
         ensures all { W.honest → IfOk result (λ v. Lists v.items (F.stored self.old.files)) }

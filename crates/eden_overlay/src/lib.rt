@@ -32,6 +32,7 @@ mod recent;
 mod rescan;
 mod room;
 mod tidy;
+mod unsynced;
 
 pub use content::Content;
 pub use fault::GetFault;

@@ -96,6 +96,11 @@ impl<W: World> Files<W> for MemoryFiles<W> {
         Ok(())
     }
 
+    /// Nothing in memory outlasts a loss of power, and nobody expects that of it.
+    fn sync(&mut self, _alloc: Global) -> Result<(), FilesFault> {
+        Ok(())
+    }
+
     fn list(&mut self, alloc: Global) -> Result<Vec<u64>, FilesFault> {
         Ok(numbers(alloc, &self.files)?)
     }

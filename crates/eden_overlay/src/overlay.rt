@@ -468,6 +468,15 @@ impl<W: World, F: Files<W>> Overlay<W, F> {
         self.files.list(alloc)
     }
 
+    /// Waits until a loss of power would take nothing of what is stored, as far as the files can. After an error that
+    /// isn't known, and nothing has changed.
+    pub fn sync(&mut self, alloc: Global) -> Result<(), FilesFault>
+        ensures unchanged { W.honest → F.stored self.new ≡ F.stored self.old }
+        ensures counted { Counted (result ≡ Err files.Device) (F.failures self.old) (F.failures self.new) }
+    {
+        self.files.sync(alloc)
+    }
+
     /// How many bytes the file of that number has; 0 where there is none. It takes no memory: its one error is the
     /// device's.
     pub fn bytes_at(&mut self, number: u64) -> Result<u64, FilesFault>

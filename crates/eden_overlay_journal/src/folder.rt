@@ -183,7 +183,7 @@ impl<R: Files + Clock + Drop> Journal<Outside> for FolderJournal<R> {
         }
     }
 
-    /// The record is written at once, header and bytes together. Nothing waits for the disk to have it.
+    /// The record is written at once, header and bytes together. It doesn't wait for the disk: `settle` does.
     fn store(&mut self, alloc: Global, number: u64, bytes: &[u8]) -> Result<(), FilesFault> {
         let when = now(self.log.files());
         write_record(&mut self.room, number, when, bytes)?;
@@ -235,8 +235,13 @@ impl<R: Files + Clock + Drop> Journal<Outside> for FolderJournal<R> {
         Ok(())
     }
 
-    fn settle(&mut self) {
-        self.log.settle();
+    /// From a failure of the disk on it fails until the journal is emptied: whether the disk has what was written
+    /// before isn't known any more.
+    fn settle(&mut self) -> Result<(), FilesFault> {
+        match self.log.settle(&self.folder) {
+            Ok(()) => Ok(()),
+            Err(_) => Err(FilesFault::Device),
+        }
     }
 
     /// A time that can't be set, or wasn't told, is that of the storing.

@@ -53,9 +53,11 @@ pub trait Journal<W: World>: Drop {
         ensures said { W.honest → OnErr result (IsSome (changes self.old number)) }
         ensures fault { IfErr result (λ f. f ≡ Device) };
 
-    /// Waits until the disk has the journal, where it can: whoever calls is about to do elsewhere what it says.
-    fn settle(&mut self)
-        ensures { W.honest → changes self.new ≡ changes self.old };
+    /// Waits until a loss of power would take nothing of the journal, as far as it is kept where it could. Its one
+    /// error is the device's: then that isn't known, and nothing has changed.
+    fn settle(&mut self) -> Result<(), FilesFault>
+        ensures unchanged { W.honest → changes self.new ≡ changes self.old }
+        ensures fault { IfErr result (λ f. f ≡ Device) };
 
     /// Gives the file of that number, which was stored elsewhere as it says, the time of that change, where it can.
     fn date(&mut self, number: u64)

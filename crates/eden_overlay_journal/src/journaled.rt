@@ -5,7 +5,7 @@ ghost use Rattle.eden_overlay_journal.specs.Changes.{at_opening, unchanged};
 
 use crate::journal::Journal;
 use crate::pouring::{STATE_NUMBER, take_in};
-use crate::seen::{head, list, read, read_part, remove, replace, replace_joined};
+use crate::seen::{Standing, head, list, read, read_part, remove, replace, replace_joined, sync};
 use eden_model::World;
 use eden_overlay::{Files, FilesFault};
 use eden_overlay_format::Head;
@@ -19,8 +19,7 @@ use std::marker::Model;
 pub struct Journaled<F, J> {
     files: F,
     journal: J,
-    /// Whether the state is stored, or may be.
-    is_closed: bool,
+    standing: Standing,
     failures: u64,
 }
 
@@ -40,7 +39,10 @@ impl<F, J> Journaled<F, J> {
         Journaled {
             files,
             journal,
-            is_closed: false,
+            standing: Standing {
+                is_closed: false,
+                is_promised: false,
+            },
             failures: 0,
         }
     }
@@ -93,10 +95,10 @@ impl<W: World, F: Files<W>, J: Journal<W>> Files<W> for Journaled<F, J> {
     }
 
     fn replace(&mut self, alloc: Global, number: u64, bytes: &[u8]) -> Result<(), FilesFault> {
-        self.is_closed = self.is_closed || number == STATE_NUMBER;
-        let is_closed = self.is_closed;
+        self.standing.is_closed = self.standing.is_closed || number == STATE_NUMBER;
+        let standing = self.standing;
         let (files, journal) = (&mut self.files, &mut self.journal);
-        let answer = replace::<W, _, _>(alloc, files, journal, is_closed, number, bytes);
+        let answer = replace::<W, _, _>(alloc, files, journal, standing, number, bytes);
         self.failures = count(self.failures, &answer);
         answer
     }
@@ -108,11 +110,11 @@ impl<W: World, F: Files<W>, J: Journal<W>> Files<W> for Journaled<F, J> {
         front: &[u8],
         behind: &[u8],
     ) -> Result<(), FilesFault> {
-        self.is_closed = self.is_closed || number == STATE_NUMBER;
-        let is_closed = self.is_closed;
+        self.standing.is_closed = self.standing.is_closed || number == STATE_NUMBER;
+        let standing = self.standing;
         let (files, journal) = (&mut self.files, &mut self.journal);
         let answer = replace_joined::<W, _, _>(
-            alloc, files, journal, is_closed, number, front, behind,
+            alloc, files, journal, standing, number, front, behind,
         );
         self.failures = count(self.failures, &answer);
         answer
@@ -120,16 +122,25 @@ impl<W: World, F: Files<W>, J: Journal<W>> Files<W> for Journaled<F, J> {
 
     fn remove(&mut self, number: u64) -> Result<(), FilesFault> {
         let (files, journal) = (&mut self.files, &mut self.journal);
-        let answer = remove::<W, _, _>(files, journal, self.is_closed, number);
+        let answer = remove::<W, _, _>(files, journal, self.standing.is_closed, number);
         if number == STATE_NUMBER && answer.is_ok() {
-            self.is_closed = false;
+            self.standing.is_closed = false;
         }
         self.failures = count(self.failures, &answer);
         answer
     }
 
+    /// From now on the journal is let go only once the disk has what it said, since that was promised.
+    fn sync(&mut self, alloc: Global) -> Result<(), FilesFault> {
+        self.standing.is_promised = true;
+        let answer = sync::<W, _, _>(alloc, &mut self.files, &mut self.journal);
+        self.failures = count(self.failures, &answer);
+        answer
+    }
+
     fn list(&mut self, alloc: Global) -> Result<Vec<u64>, FilesFault> {
-        let answer = list::<W, _, _>(alloc, &mut self.files, &mut self.journal);
+        let (files, journal) = (&mut self.files, &mut self.journal);
+        let answer = list::<W, _, _>(alloc, files, journal, self.standing.is_promised);
         self.failures = count(self.failures, &answer);
         answer
     }
@@ -154,7 +165,10 @@ pub fn taken_in<W: World, F: Files<W>, J: Journal<W>>(
     Ok(Journaled {
         files,
         journal,
-        is_closed,
+        standing: Standing {
+            is_closed,
+            is_promised: false,
+        },
         failures: 0,
     })
 }

@@ -1,9 +1,22 @@
 // A journal's file: records are written behind each other, and read where they lie.
-use eden_plain_files::{FolderFault, remove_file};
+use eden_plain_files::{FolderFault, remove_file, sync_names};
 use std::fs::{self, OpenFile, OpenOptions};
 use std::io::{ErrorKind, Read, Seek, SeekFrom, Write};
 use std::path::PathBuf;
 use std::rt::Files;
+
+/// How much of a file the disk is known to have.
+#[derive(Clone, Copy, PartialEq, Eq)]
+enum Synced {
+    /// Perhaps not even its name.
+    Nothing,
+    /// Its name, and what it had once.
+    Name,
+    /// All of it.
+    All,
+    /// It may never get what was written, since it failed once.
+    Lost,
+}
 
 /// The file, where there is one.
 #[derive(Drop)]
@@ -15,6 +28,8 @@ pub(crate) struct Log<R: Files> {
     end: u64,
     /// Whether something may lie behind them.
     is_torn: bool,
+    /// What the disk is known to have.
+    synced: Synced,
 }
 
 impl<R: Files + Drop> Log<R> {
@@ -27,6 +42,7 @@ impl<R: Files + Drop> Log<R> {
             file,
             end: 0,
             is_torn: true,
+            synced: Synced::Nothing,
         })
     }
 
@@ -56,6 +72,7 @@ impl<R: Files + Drop> Log<R> {
     pub(crate) fn append(&mut self, record: &[u8]) -> Result<(), FolderFault> {
         if self.file.is_none() {
             self.file = Some(made(&self.files, &self.path)?);
+            self.synced = Synced::Nothing;
         }
         let Some(file) = &mut self.file else {
             return Err(FolderFault::Device);
@@ -64,6 +81,9 @@ impl<R: Files + Drop> Log<R> {
             file.set_len(self.end)?;
         }
         self.is_torn = true;
+        if self.synced == Synced::All {
+            self.synced = Synced::Name;
+        }
         write_at(file, self.end, record)?;
         self.is_torn = false;
         self.end = self.end.saturating_add(record.len() as u64);
@@ -78,11 +98,23 @@ impl<R: Files + Drop> Log<R> {
         }
     }
 
-    /// Waits until the disk has what was written.
-    pub(crate) fn settle(&self) {
-        if let Some(file) = &self.file {
-            // Only after a power loss it matters, and no later write is better off without it.
-            let _ = file.sync_data();
+    /// Waits until the disk has what was written, and the name of the file in that folder.
+    pub(crate) fn settle(&mut self, folder: &PathBuf) -> Result<(), FolderFault> {
+        let Some(file) = &self.file else {
+            return Ok(());
+        };
+        if self.synced == Synced::All {
+            return Ok(());
+        }
+        let has_all = self.synced != Synced::Lost
+            && file.sync_data().is_ok()
+            && (self.synced == Synced::Name || sync_names(&self.files, folder.as_str())?);
+        if has_all {
+            self.synced = Synced::All;
+            Ok(())
+        } else {
+            self.synced = Synced::Lost;
+            Err(FolderFault::Device)
         }
     }
 

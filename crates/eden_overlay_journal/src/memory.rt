@@ -77,7 +77,12 @@ impl<W: World> Journal<W> for MemoryJournal<W> {
         Ok(())
     }
 
-    fn settle(&mut self) {}
+    fn settle(&mut self) -> Result<(), FilesFault>
+        ensures unchanged { changes_in self.new.files ≡ changes_in self.old.files }
+        ensures done { IsOk result }
+    {
+        Ok(())
+    }
 
     fn date(&mut self, _number: u64) {}
 

@@ -44,20 +44,40 @@ fn store_one<W: World, F: Files<W>, J: Journal<W>>(
     Ok(())
 }
 
-// Does to the files all that the journal says, and empties it.
+// Does to the files all that the journal says, and empties it; where somebody was promised that the disk has it, once
+// it has the files.
 pub(crate) fn pour<W: World, F: Files<W>, J: Journal<W>>(
     alloc: Global,
     files: &mut F,
     journal: &mut J,
+    is_promised: bool,
 ) -> Result<(), FilesFault>
     ensures same { W.honest → changed (J.changes journal.new) (F.stored files.new)
         ≡ changed (J.changes journal.old) (F.stored files.old) }
     ensures empty { W.honest → OnOk result (J.changes journal.new ≡ unchanged) }
 {
     let numbers = journal.numbers(alloc)?;
-    // Else a power loss could leave files that name others of which only the journal's lost end knows.
-    journal.settle();
+    // Else a power loss could leave files that name others of which only the journal's lost end knows. Where the disk
+    // fails, no later write is better off without the earlier ones.
+    let _ = journal.settle();
     pour_all::<W, _, _>(alloc, files, journal, &numbers)?;
+    empty_poured::<W, _, _>(alloc, files, journal, is_promised && !numbers.is_empty())
+}
+
+// Empties the journal, of which all lies in the files, once the disk has them where that is to be waited for.
+fn empty_poured<W: World, F: Files<W>, J: Journal<W>>(
+    alloc: Global,
+    files: &mut F,
+    journal: &mut J,
+    waits: bool,
+) -> Result<(), FilesFault>
+    ensures files { W.honest → F.stored files.new ≡ F.stored files.old }
+    ensures ok { W.honest → OnOk result (J.changes journal.new ≡ unchanged) }
+    ensures err { W.honest → OnErr result (J.changes journal.new ≡ J.changes journal.old) }
+{
+    if waits {
+        files.sync(alloc)?;
+    }
     journal.empty()
 }
 
@@ -100,7 +120,8 @@ pub(crate) fn take_in<W: World, F: Files<W>, J: Journal<W>>(
             Ok(true)
         }
         None => {
-            pour::<W, _, _>(alloc, files, journal)?;
+            // The run that left the journal may have promised what it says.
+            pour::<W, _, _>(alloc, files, journal, true)?;
             Ok(false)
         }
     }

@@ -1,5 +1,6 @@
 // How files with a journal over them are read and changed.
-ghost use Rattle.std.specs.Prelude.{◌≡◌, ◌≤◌, ◌++◌, None, Some, IfOk, IfErr, IfSome, OnOk, OnErr, length, option_map};
+ghost use Rattle.std.specs.Prelude.{◌≡◌, ◌≤◌, ◌++◌, None, Some, IfOk, IfErr, IfSome, OnOk, OnErr};
+ghost use Rattle.std.specs.Prelude.{length, option_map};
 ghost use Rattle.std.specs.Ordering.{nat_cmp};
 ghost use Rattle.std.specs.List.Sorted.{IsStrictlySortedBy};
 ghost use Rattle.eden_overlay.specs.Files.{IsHeadOf, Lists, part, put};
@@ -15,6 +16,15 @@ use std::alloc::{AllocError, Global};
 
 /// The longest file that is noted in a journal, in bytes. A longer one goes to the files at once.
 pub const LONGEST_RECORD: usize = 128 << 10;
+
+/// What stands in the way of a note in the journal, and of letting it go.
+#[derive(Clone, Copy)]
+pub(crate) struct Standing {
+    /// Whether the state is stored, or may be.
+    pub(crate) is_closed: bool,
+    /// Whether somebody was told that a loss of power takes nothing of what was stored.
+    pub(crate) is_promised: bool,
+}
 
 pub(crate) fn read<W: World, F: Files<W>, J: Journal<W>>(
     alloc: Global,
@@ -78,13 +88,13 @@ fn make_room<W: World, F: Files<W>, J: Journal<W>>(
     alloc: Global,
     files: &mut F,
     journal: &mut J,
-    is_closed: bool,
+    standing: Standing,
 ) -> Result<(), FilesFault>
     ensures { W.honest → changed (J.changes journal.new) (F.stored files.new)
         ≡ changed (J.changes journal.old) (F.stored files.old) }
 {
-    if is_closed || journal.is_full() {
-        return pour::<W, _, _>(alloc, files, journal);
+    if standing.is_closed || journal.is_full() {
+        return pour::<W, _, _>(alloc, files, journal, standing.is_promised);
     }
     Ok(())
 }
@@ -94,7 +104,7 @@ pub(crate) fn replace<W: World, F: Files<W>, J: Journal<W>>(
     alloc: Global,
     files: &mut F,
     journal: &mut J,
-    is_closed: bool,
+    standing: Standing,
     number: u64,
     bytes: &[u8],
 ) -> Result<(), FilesFault>
@@ -103,8 +113,8 @@ pub(crate) fn replace<W: World, F: Files<W>, J: Journal<W>>(
     ensures err { W.honest → OnErr result (changed (J.changes journal.new) (F.stored files.new)
         ≡ changed (J.changes journal.old) (F.stored files.old)) }
 {
-    make_room::<W, _, _>(alloc, files, journal, is_closed)?;
-    put_in::<W, _, _>(alloc, files, journal, is_closed, number, bytes)
+    make_room::<W, _, _>(alloc, files, journal, standing)?;
+    put_in::<W, _, _>(alloc, files, journal, standing, number, bytes)
 }
 
 // Notes the file, or stores it where it is too long, or nothing is noted.
@@ -112,7 +122,7 @@ fn put_in<W: World, F: Files<W>, J: Journal<W>>(
     alloc: Global,
     files: &mut F,
     journal: &mut J,
-    is_closed: bool,
+    standing: Standing,
     number: u64,
     bytes: &[u8],
 ) -> Result<(), FilesFault>
@@ -121,12 +131,14 @@ fn put_in<W: World, F: Files<W>, J: Journal<W>>(
     ensures err { W.honest → OnErr result (changed (J.changes journal.new) (F.stored files.new)
         ≡ changed (J.changes journal.old) (F.stored files.old)) }
 {
-    if is_closed || bytes.len() > LONGEST_RECORD {
-        return put_past::<W, _, _>(alloc, files, journal, number, bytes);
+    if standing.is_closed || bytes.len() > LONGEST_RECORD {
+        return put_past::<W, _, _>(alloc, files, journal, standing, number, bytes);
     }
     match journal.store(alloc, number, bytes) {
         // As on a full disk, on which there may be room once the journal is gone, and what it says was removed.
-        Err(FilesFault::Device) => put_poured::<W, _, _>(alloc, files, journal, number, bytes),
+        Err(FilesFault::Device) => {
+            put_poured::<W, _, _>(alloc, files, journal, standing, number, bytes)
+        }
         answer => answer,
     }
 }
@@ -136,7 +148,7 @@ pub(crate) fn replace_joined<W: World, F: Files<W>, J: Journal<W>>(
     alloc: Global,
     files: &mut F,
     journal: &mut J,
-    is_closed: bool,
+    standing: Standing,
     number: u64,
     front: &[u8],
     behind: &[u8],
@@ -147,10 +159,10 @@ pub(crate) fn replace_joined<W: World, F: Files<W>, J: Journal<W>>(
         ≡ changed (J.changes journal.old) (F.stored files.old)) }
 {
     if front.len().saturating_add(behind.len()) > LONGEST_RECORD {
-        return replace_long::<W, _, _>(alloc, files, journal, is_closed, number, front, behind);
+        return replace_long::<W, _, _>(alloc, files, journal, standing, number, front, behind);
     }
     let bytes = joined(alloc, front, behind)?;
-    replace::<W, _, _>(alloc, files, journal, is_closed, number, &bytes)
+    replace::<W, _, _>(alloc, files, journal, standing, number, &bytes)
 }
 
 // What is too long for the journal goes to the files as it lies.
@@ -158,7 +170,7 @@ fn replace_long<W: World, F: Files<W>, J: Journal<W>>(
     alloc: Global,
     files: &mut F,
     journal: &mut J,
-    is_closed: bool,
+    standing: Standing,
     number: u64,
     front: &[u8],
     behind: &[u8],
@@ -168,8 +180,8 @@ fn replace_long<W: World, F: Files<W>, J: Journal<W>>(
     ensures err { W.honest → OnErr result (changed (J.changes journal.new) (F.stored files.new)
         ≡ changed (J.changes journal.old) (F.stored files.old)) }
 {
-    make_room::<W, _, _>(alloc, files, journal, is_closed)?;
-    put_past_joined::<W, _, _>(alloc, files, journal, number, front, behind)
+    make_room::<W, _, _>(alloc, files, journal, standing)?;
+    put_past_joined::<W, _, _>(alloc, files, journal, standing, number, front, behind)
 }
 
 // Stores both past the journal, which says nothing of the file any more.
@@ -177,6 +189,7 @@ fn put_past_joined<W: World, F: Files<W>, J: Journal<W>>(
     alloc: Global,
     files: &mut F,
     journal: &mut J,
+    standing: Standing,
     number: u64,
     front: &[u8],
     behind: &[u8],
@@ -187,6 +200,7 @@ fn put_past_joined<W: World, F: Files<W>, J: Journal<W>>(
         ≡ changed (J.changes journal.old) (F.stored files.old)) }
 {
     files.replace_joined(alloc, number, front, behind)?;
+    wait_past::<W, _>(alloc, files, standing);
     journal.pass(number)
 }
 
@@ -204,6 +218,7 @@ fn put_poured<W: World, F: Files<W>, J: Journal<W>>(
     alloc: Global,
     files: &mut F,
     journal: &mut J,
+    standing: Standing,
     number: u64,
     bytes: &[u8],
 ) -> Result<(), FilesFault>
@@ -212,8 +227,8 @@ fn put_poured<W: World, F: Files<W>, J: Journal<W>>(
     ensures err { W.honest → OnErr result (changed (J.changes journal.new) (F.stored files.new)
         ≡ changed (J.changes journal.old) (F.stored files.old)) }
 {
-    pour::<W, _, _>(alloc, files, journal)?;
-    put_past::<W, _, _>(alloc, files, journal, number, bytes)
+    pour::<W, _, _>(alloc, files, journal, standing.is_promised)?;
+    put_past::<W, _, _>(alloc, files, journal, standing, number, bytes)
 }
 
 // Stores the file past the journal, which says nothing of it any more.
@@ -221,6 +236,7 @@ fn put_past<W: World, F: Files<W>, J: Journal<W>>(
     alloc: Global,
     files: &mut F,
     journal: &mut J,
+    standing: Standing,
     number: u64,
     bytes: &[u8],
 ) -> Result<(), FilesFault>
@@ -230,7 +246,19 @@ fn put_past<W: World, F: Files<W>, J: Journal<W>>(
         ≡ changed (J.changes journal.old) (F.stored files.old)) }
 {
     files.replace(alloc, number, bytes)?;
+    wait_past::<W, _>(alloc, files, standing);
     journal.pass(number)
+}
+
+// Once something was promised, what went past the journal is on the disk before a record can be there that names it:
+// so whatever a loss of power leaves can be opened. Where the disk fails, the files tell it to whoever waits for them
+// next.
+fn wait_past<W: World, F: Files<W>>(alloc: Global, files: &mut F, standing: Standing)
+    ensures { W.honest → F.stored files.new ≡ F.stored files.old }
+{
+    if standing.is_promised {
+        let _ = files.sync(alloc);
+    }
 }
 
 pub(crate) fn remove<W: World, F: Files<W>, J: Journal<W>>(
@@ -270,11 +298,25 @@ fn remove_past<W: World, F: Files<W>, J: Journal<W>>(
     journal.pass(number)
 }
 
+// The files come first, since the journal says of some that they were changed past it.
+pub(crate) fn sync<W: World, F: Files<W>, J: Journal<W>>(
+    alloc: Global,
+    files: &mut F,
+    journal: &mut J,
+) -> Result<(), FilesFault>
+    ensures files { W.honest → F.stored files.new ≡ F.stored files.old }
+    ensures journal { W.honest → J.changes journal.new ≡ J.changes journal.old }
+{
+    files.sync(alloc)?;
+    journal.settle()
+}
+
 // The journal is emptied first: files are listed where an overlay is opened, and it is small then.
 pub(crate) fn list<W: World, F: Files<W>, J: Journal<W>>(
     alloc: Global,
     files: &mut F,
     journal: &mut J,
+    is_promised: bool,
 ) -> Result<Vec<u64>, FilesFault>
     ensures rising { IfOk result (λ v. IsStrictlySortedBy nat_cmp v.items) }
     ensures all { W.honest → IfOk result (λ v.
@@ -282,6 +324,6 @@ pub(crate) fn list<W: World, F: Files<W>, J: Journal<W>>(
     ensures unchanged { W.honest → changed (J.changes journal.new) (F.stored files.new)
         ≡ changed (J.changes journal.old) (F.stored files.old) }
 {
-    pour::<W, _, _>(alloc, files, journal)?;
+    pour::<W, _, _>(alloc, files, journal, is_promised)?;
     files.list(alloc)
 }

@@ -1,4 +1,5 @@
-//! Plain files of a folder: read within a bound, whole or in part, replaced, removed.
+//! Plain files of a folder: read within a bound, whole or in part, replaced, removed, and waited for until the disk has
+//! them.
 //!
 //! Nothing is known of what lies in a real folder, so that contracts say here what a reader gives, how long an answer
 //! may be and which error stands for which; that the system was asked is shown by tests. Want of memory is told from
@@ -15,9 +16,11 @@
 mod fault;
 mod names;
 mod read;
+mod sync;
 mod write;
 
 pub use fault::FolderFault;
 pub use names::entry_in;
 pub use read::{Links, front_of, read_file, read_front, read_part, read_within};
-pub use write::{remove_file, replace_file};
+pub use sync::{sync_file, sync_names};
+pub use write::{Durability, remove_file, replace_file};

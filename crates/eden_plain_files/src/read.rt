@@ -120,7 +120,11 @@ pub fn read_within<R: Read + Drop>(
 }
 
 // Opening for reading and writing doesn't wait for a pipe's other end, should one have come after the look.
-fn open_plain<R: rt::Files>(files: &R, path: &str, links: Links) -> Result<R::File, FolderFault> {
+pub(crate) fn open_plain<R: rt::Files>(
+    files: &R,
+    path: &str,
+    links: Links,
+) -> Result<R::File, FolderFault> {
     look(files, path, links)?;
     match OpenOptions::new().read(true).write(true).open(files, path) {
         Ok(file) => Ok(file),

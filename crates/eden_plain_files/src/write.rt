@@ -2,12 +2,21 @@ ghost use Rattle.std.specs.Prelude.{◌≡◌, ◌++◌, IfOk, codes, string_byt
 
 use crate::fault::FolderFault;
 use std::alloc::{AllocError, Global};
-use std::fs::{self, File};
+use std::fs::{self, File, OpenFile};
 use std::io::{self, ErrorKind, Write};
 use std::rt;
 
+/// Whether a file's bytes are on the disk before it takes its name.
+#[derive(Clone, Copy, Debug, PartialEq, Eq)]
+pub enum Durability {
+    /// They may come there later, so that a loss of power may leave the name without them. `sync_file` waits for them.
+    Written,
+    /// They are: a loss of power leaves what the name had before, or them. Which of both, `sync_names` decides.
+    Synced,
+}
+
 /// Makes the bytes of the pieces, one behind the other, the whole of the file at the path, in place of any that is
-/// there: they are written to `PATH.new`, which then takes the path's name. Nothing waits for the disk to have them.
+/// there: they are written to `PATH.new`, which then takes the path's name.
 ///
 /// `PATH.new` is always a new file: one that is there, as a failure left it, is removed first, or a link or a pipe,
 /// and nothing is written to what it was. `Device` too where a folder is in the way. After an error the file at the
@@ -17,11 +26,15 @@ pub fn replace_file<R: rt::Files>(
     alloc: Global,
     path: &str,
     pieces: &[&[u8]],
+    durability: Durability,
 ) -> Result<(), FolderFault> {
     let beside = beside(alloc, path)?;
     let mut file = create_new(files, beside.as_str())?;
     for piece in pieces {
         file.write_all(piece)?;
+    }
+    if durability == Durability::Synced {
+        file.sync_data()?;
     }
     drop(file);
     fs::rename(files, beside.as_str(), path)?;

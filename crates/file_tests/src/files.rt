@@ -3,7 +3,7 @@ ghost use Rattle.std.specs.Prelude.{◌≤◌};
 
 use crate::folders::{Made, folder_of, make};
 use eden_plain_files::{
-    FolderFault, Links, entry_in, read_file, read_within, remove_file, replace_file,
+    Durability, FolderFault, Links, entry_in, read_file, read_within, remove_file, replace_file,
 };
 use std::alloc::{AllocError, Global};
 use std::fs;
@@ -220,7 +220,7 @@ fn holds(rt: &HostRuntime, path: &str, bytes: &[u8]) -> bool {
 // Whether a file is replaced while a link to that target stands under the new file's name.
 fn replaces_over_link(rt: &HostRuntime, file: &str, new: &PathBuf, target: &str) -> bool {
     symlink(rt, target, new.as_path()).is_ok()
-        && replace_file(rt, rt.alloc(), file, &[target.as_bytes()]) == Ok(())
+        && replace_file(rt, rt.alloc(), file, &[target.as_bytes()], Durability::Synced) == Ok(())
         && holds(rt, file, target.as_bytes())
 }
 
@@ -236,7 +236,7 @@ fn replaces_over_links(rt: &HostRuntime, file: &str, new: &PathBuf) -> bool {
 
 // Whether the file stays as it is where it can't be replaced.
 fn stays(rt: &HostRuntime, file: &str, bytes: &[u8]) -> bool {
-    replace_file(rt, rt.alloc(), file, &[b"new".as_slice()]) == Err(FolderFault::Device)
+    replace_file(rt, rt.alloc(), file, &[b"new".as_slice()], Durability::Written) == Err(FolderFault::Device)
         && holds(rt, file, bytes)
 }
 
@@ -272,13 +272,14 @@ fn keeps_old(
         rt.alloc(),
         path,
         &[b"new".as_slice()],
+        Durability::Synced,
     );
     answer == Err(fault) && holds(rt, path, b"old")
 }
 
 // Whether each step of a change of that file, which has `old`, fails so and leaves it.
 fn changes_fail(rt: &HostRuntime, path: &str, kind: ErrorKind, fault: FolderFault) -> bool {
-    for call in [Call::Open, Call::Write, Call::Rename] {
+    for call in [Call::Open, Call::Write, Call::Sync, Call::Rename] {
         if !keeps_old(rt, path, call, kind, fault) {
             return false;
         }
@@ -295,7 +296,7 @@ fn is_removed(rt: &HostRuntime, path: &str) -> bool {
 fn failed_changes_are_told(rt: HostRuntime) {
     let folder = folder_of(&rt, "failed-changes", &[]).expect(&rt, "a folder");
     let file = folder.join(rt.alloc(), "file").expect(&rt, "memory");
-    assert!(rt; replace_file(&rt, rt.alloc(), file.as_str(), &[b"old".as_slice()]) == Ok(()));
+    assert!(rt; replace_file(&rt, rt.alloc(), file.as_str(), &[b"old".as_slice()], Durability::Written) == Ok(()));
     for (kind, fault) in KINDS {
         assert!(rt; changes_fail(&rt, file.as_str(), *kind, *fault));
     }

@@ -24,6 +24,8 @@ pub enum Call {
     Read,
     /// Writing to an open file.
     Write,
+    /// Waiting until the disk has an open file, or a folder's names.
+    Sync,
     Rename,
     Remove,
     /// Reading a folder, once its names have been given.
@@ -223,10 +225,12 @@ impl<F: OpenFile> OpenFile for FaultyFile<F> {
     }
 
     fn sync_all(&self) -> io::Result<()> {
+        check(self.call, Call::Sync, self.kind)?;
         self.file.sync_all()
     }
 
     fn sync_data(&self) -> io::Result<()> {
+        check(self.call, Call::Sync, self.kind)?;
         self.file.sync_data()
     }
 }

@@ -12,9 +12,11 @@ returns-clause-same g c = λ honest.
     let f = g.F.Files.stored c.pour_all.new.files in
     let t : Stored = changed C F in
     let ks = c.deref.result.now in
-    let was = c.settle.ensures honest ∙ c.in_ok-numbers.ensures.unchanged honest in
+    let was = c.settle.ensures.unchanged honest ∙ c.in_ok-numbers.ensures.unchanged honest in
     let seen : changed C f ≡ t = subst (λ (x : Changes). changed x f ≡ changed x F) was (c.in_ok-pour_all.ensures.same honest) in
     let done : All (λ k. f k ≡ t k) ks = subst (λ (x : Changes). All (λ k. f k ≡ changed x F k) ks) was (c.in_ok-pour_all.ensures.ok honest) in
     let lists : ListsChanges ks C = subst (λ (l : List ℕ). ListsChanges l C) (sym c.deref.ensures.value) (c.in_ok-numbers.ensures.all honest) in
-    emptied c.empty.result D (g.J.Journal.changes c.empty.new.self) f t (c.empty.ensures.ok honest) (c.empty.ensures.err honest) (all_done C f t ks seen lists done)
+    let said = g.J.Journal.changes c.empty_poured.new.journal in
+    ap (changed said) (c.empty_poured.ensures.files honest)
+    ∙ emptied c.empty_poured.result D said f t (c.empty_poured.ensures.ok honest) (c.empty_poured.ensures.err honest) (all_done C f t ks seen lists done)
     (ap (λ (x : Changes). changed x f) (c.in_ok-pour_all.ensures.journal honest ∙ was) ∙ seen)
