@@ -398,16 +398,14 @@ class FolderModel:
             if place is not None and is_veiled(place):
                 self.remove(place)
 
-    def fsync(self, node: int, *_: int) -> None:
+    def flush(self, node: int, *_: int) -> None:
         """All that was written of it is stored."""
         self.settle(node)
 
-    flush = fsync
+    fsync = fsyncdir = flush
 
-    def fsyncdir(self, node: int, *_: int) -> None:
-        """All that was answered of a directory is stored."""
-
-    destroy = fsyncdir
+    def destroy(self, node: int, *_: int) -> None:
+        """All that was answered is stored as the session ends."""
 
     def readlink(self, node: int) -> bytes:
         return data_in(self.tree.readlink(self.path(node)))

@@ -1,5 +1,5 @@
 -- What a shared mount says through a pass, and a pass with which looks alone were made.
-use Rattle.std.specs.Prelude.{◌≡◌, ◌++◌, List, Result, Ok, Err}
+use Rattle.std.specs.Prelude.{◌≡◌, ◌++◌, Bool, List, Result, Ok, Err}
 use Rattle.std.specs.List.{AllByRecursion}
 use Rattle.eden_model.specs.declared.fault.CallFault.{CallFault}
 use Rattle.eden_model.specs.declared.request.Request.{Request}
@@ -17,6 +17,10 @@ module _ (honest : Type 0) (opening : Tree) (numbers : Numbers) where
   abbrev pub PassAnswers : Carried → Request → Result Reply CallFault → Carried → Type 0
   PassAnswers p q (Ok reply) p' = (a : Answered) × Gives honest opening numbers p q a p' × (reply ≡ a.reply)
   PassAnswers p q (Err fault) p' = IsLawful honest opening numbers p fault × (p' ≡ p)
+
+-- a pass is told nothing of a wait for the disk
+abbrev pub PassSyncs : Carried → Bool → Carried → Type 0
+PassSyncs p went p' = p' ≡ p
 
 -- the pass of the same number of the same mount
 abbrev pub IsSameSeat : Carried → Carried → Type 0

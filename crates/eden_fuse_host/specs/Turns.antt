@@ -9,7 +9,7 @@ use Rattle.eden_fuse_session.specs.Turns.{Told}
 use Rattle.eden_fuse_shown.specs.declared.manner.Manner.{Manner}
 use Rattle.eden_fuse_shown.specs.Beginning.{IsBlank}
 use Rattle.eden_fuse_shown.specs.Showing.{Showing, Shows, StoresAll, refuse}
-use Rattle.eden_fuse_host.specs.Passing.{IsSameSeat, PassAnswers}
+use Rattle.eden_fuse_host.specs.Passing.{IsSameSeat, PassAnswers, PassSyncs}
 
 -- what a folder begins with: the pass with which its turns ask the mount, and how it is shown
 pub record Beginning : Type 0 where
@@ -32,7 +32,7 @@ pub record Exchange : Type 0 where
 module _ (honest : Type 0) (opening : Tree) (numbers : Numbers) where
   -- a request is answered by its turn; or with EIO (5), since what it needs can't be had, and nothing changes
   abbrev pub Heeds : Showing Carried → Header → Asked → Told → Showing Carried → Type 0
-  Heeds old h a t new = Shows (PassAnswers honest opening numbers) old h a t new ⊎ ((new ≡ old) × (t ≡ refuse 5))
+  Heeds old h a t new = Shows (PassAnswers honest opening numbers) PassSyncs old h a t new ⊎ ((new ≡ old) × (t ≡ refuse 5))
 
   -- these were answered one after another
   abbrev pub Exchanges : List Exchange → Showing Carried → Showing Carried → Type 0

@@ -25,6 +25,9 @@ pub(crate) trait Asking<W: World, J: Naming> {
 
     /// Lets go of the loaded directories at and below the path that weren't used for so many turns. How many went.
     fn let_go<R: Wait>(&self, rt: &R, path: &Path, older_than: u64) -> u64;
+
+    /// Waits until a loss of power would take nothing that was replied to. False where that isn't known.
+    fn sync<R: Wait>(&self, rt: &R) -> bool;
 }
 
 impl<W: World, T: Attempts<W> + Drop, A: Allocator, J: Naming, H: History> Asking<W, J>
@@ -42,6 +45,10 @@ impl<W: World, T: Attempts<W> + Drop, A: Allocator, J: Naming, H: History> Askin
     fn let_go<R: Wait>(&self, rt: &R, path: &Path, older_than: u64) -> u64 {
         self.unload(rt, path, older_than)
     }
+
+    fn sync<R: Wait>(&self, rt: &R) -> bool {
+        self.sync(rt)
+    }
 }
 
 impl<W: World, J: Naming, C: Asking<W, J>> Asking<W, J> for &C {
@@ -57,5 +64,9 @@ impl<W: World, J: Naming, C: Asking<W, J>> Asking<W, J> for &C {
 
     fn let_go<R: Wait>(&self, rt: &R, path: &Path, older_than: u64) -> u64 {
         (**self).let_go(rt, path, older_than)
+    }
+
+    fn sync<R: Wait>(&self, rt: &R) -> bool {
+        (**self).sync(rt)
     }
 }

@@ -88,9 +88,11 @@ impl<
     R: Wait + Drop,
     B: Begun,
 > Mount for Calling<W, J, C, S, R, B> {
-    ghost use Rattle.eden_fuse_host.specs.Passing.{PassAnswers};
+    ghost use Rattle.eden_fuse_host.specs.Passing.{PassAnswers, PassSyncs};
 
     ghost answers = { PassAnswers W.honest W.opening W.numbers };
+
+    ghost syncs = { PassSyncs };
 
     fn ask(&mut self, request: Request) -> Result<Reply, Unheard> {
         match self
@@ -100,5 +102,9 @@ impl<
             Err(fault) => Err(Unheard::Fault(fault)),
             Ok(answer) => Ok(answer.reply),
         }
+    }
+
+    fn sync(&mut self) -> bool {
+        self.shared.sync(&self.rt)
     }
 }

@@ -26,8 +26,13 @@ pub(crate) struct Flat {
     alloc: Global,
     pub(crate) files: Vec<File>,
     refused: &'static [u8],
+    // Whether the disk can be waited for.
+    has_disk: bool,
     // How often bytes were put into a file.
     pub(crate) stores: usize,
+    // How often the disk was to be waited for, and how often bytes had been put into a file by the last time.
+    pub(crate) syncs: usize,
+    pub(crate) stores_by_sync: usize,
 }
 
 // A content with bytes from an offset on in the place of what is there, and zeros in a gap.
@@ -191,11 +196,21 @@ impl Flat {
 impl Mount for Flat {
     ghost answers = { λ s request reply t. Unit {0} };
 
+    ghost syncs = { λ s went t. Unit {0} };
+
     fn ask(&mut self, request: Request) -> Result<Reply, Unheard> {
         match self.reply(request) {
             Ok(reply) => Ok(reply),
             Err(_) => Ok(Reply::Fault(Fault::Memory)),
         }
+    }
+
+    fn sync(&mut self) -> bool {
+        if self.syncs < 1000 {
+            self.syncs += 1;
+        }
+        self.stores_by_sync = self.stores;
+        self.has_disk
     }
 }
 
@@ -243,6 +258,16 @@ pub(crate) fn make_folder(
     names: &[&'static [u8]],
     refused: &'static [u8],
 ) -> Folder {
+    make_folder_on(rt, true, names, refused)
+}
+
+// .. whose disk can be waited for, or can't.
+pub(crate) fn make_folder_on(
+    rt: &(impl AllocGlobal + Abort),
+    has_disk: bool,
+    names: &[&'static [u8]],
+    refused: &'static [u8],
+) -> Folder {
     let mut files = Vec::new(rt.alloc());
     for name in names {
         let name = Vec::from_slice(rt.alloc(), name).expect(rt, "memory");
@@ -254,7 +279,10 @@ pub(crate) fn make_folder(
         alloc: rt.alloc(),
         files,
         refused,
+        has_disk,
         stores: 0,
+        syncs: 0,
+        stores_by_sync: 0,
     };
     let since = Time {
         seconds: 1,

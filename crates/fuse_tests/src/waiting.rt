@@ -1,5 +1,5 @@
 //! What is written waits, and when it is stored, over files in memory.
-use crate::folder::{Folder, make_folder};
+use crate::folder::{Flat, Folder, make_folder, make_folder_on};
 use eden_fuse_format::{Answer, FSyncIn, FlushIn, GetAttrIn, Operation};
 use eden_fuse_session::Said;
 
@@ -18,6 +18,14 @@ impl Folder {
             fsync_flags: 0,
         };
         self.errno(node, Operation::FSync(syncing))
+    }
+
+    fn sync_directory(&mut self, node: u64) -> u32 {
+        let syncing = FSyncIn {
+            fh: 0,
+            fsync_flags: 0,
+        };
+        self.errno(node, Operation::FSyncDir(syncing))
     }
 
     // The size that is told of a node; 1,000 where none is.
@@ -47,10 +55,15 @@ impl Folder {
     }
 }
 
+// The files, once the folder is no more.
+fn files_of(folder: Folder) -> Flat {
+    let Folder { shown, .. } = folder;
+    shown.into_mount()
+}
+
 // How often bytes were put into files, once the folder is no more.
 fn stores(folder: Folder) -> usize {
-    let Folder { shown, .. } = folder;
-    shown.into_mount().stores
+    files_of(folder).stores
 }
 
 // Writes one after another are stored by one request, at `close` or `fsync`.
@@ -128,4 +141,52 @@ fn what_is_not_stored_waits_until_it_is_closed(rt: HostRuntime) {
     assert!(rt; folder.write_at(node, 3, b"LO") && folder.flush(node) == 5);
     assert!(rt; folder.close(node) == 0 && folder.flush(node) == 5 && folder.close(node) == 0);
     assert!(rt; folder.flush(node) == 0 && folder.reads(node, b"hello") && stores(folder) == 0);
+}
+
+// `fsync` stores what waits, and then waits for the disk once, whether anything waited or not.
+#[test]
+fn what_is_synced_is_stored_first(rt: HostRuntime) {
+    let mut folder = make_folder(&rt, &[b"a"], b"");
+    let node = folder.begin(b"a");
+    assert!(rt; folder.write_at(node, 0, b"one, ") && folder.write_at(node, 5, b"two"));
+    assert!(rt; folder.sync(node) == 0);
+    let files = files_of(folder);
+    assert!(rt; files.syncs == 1 && files.stores == 1 && files.stores_by_sync == 1);
+    let mut folder = make_folder(&rt, &[b"a"], b"");
+    let node = folder.begin(b"a");
+    assert!(rt; folder.sync(node) == 0 && folder.sync(node) == 0 && files_of(folder).syncs == 2);
+}
+
+// .. and of a directory too, for which nothing waits. What waits for its files waits still.
+#[test]
+fn directories_are_synced(rt: HostRuntime) {
+    let mut folder = make_folder(&rt, &[b"a"], b"");
+    let node = folder.begin(b"a");
+    assert!(rt; folder.write_at(node, 0, b"one") && folder.sync_directory(1) == 0);
+    let files = files_of(folder);
+    assert!(rt; files.syncs == 1 && files.stores == 1 && files.stores_by_sync == 0);
+}
+
+// Where the disk can't be waited for, that is told, and what waited is stored.
+#[test]
+fn what_is_not_synced_is_told(rt: HostRuntime) {
+    let mut folder = make_folder_on(&rt, false, &[b"a"], b"");
+    let node = folder.begin(b"a");
+    assert!(rt; folder.write_at(node, 0, b"HEL") && folder.sync(node) == 5);
+    assert!(rt; folder.sync_directory(1) == 5 && folder.reads(node, b"HELlo"));
+    let files = files_of(folder);
+    assert!(rt; files.syncs == 2 && files.stores == 1 && files.stores_by_sync == 1);
+}
+
+// What can't be stored isn't waited for; and neither is it at `close`.
+#[test]
+fn only_what_is_stored_is_synced(rt: HostRuntime) {
+    let mut folder = make_folder(&rt, &[b"a"], b"a");
+    let node = folder.begin(b"a");
+    assert!(rt; folder.write_at(node, 0, b"HEL") && folder.sync(node) == 5);
+    assert!(rt; files_of(folder).syncs == 0);
+    let mut folder = make_folder(&rt, &[b"a"], b"");
+    let node = folder.begin(b"a");
+    assert!(rt; folder.write_at(node, 0, b"HEL") && folder.flush(node) == 0);
+    assert!(rt; folder.close(node) == 0 && files_of(folder).syncs == 0);
 }
