@@ -172,20 +172,21 @@ fn stopped(rt: &HostRuntime, folder: &PathBuf, allowed: Rc<Cell<u64>>) -> Result
     Ok(())
 }
 
-// A look at the state is a call, and the three numbers of which the journal says something are three more.
+// A look at the state is a call, the three numbers of which the journal says something are three more, and the wait
+// until the disk has them is the last.
 #[test]
 fn a_taking_in_that_stops_is_done_again(rt: HostRuntime) {
     let journal = changes_left(&rt).expect(&rt, "a journal");
-    for calls in 0..5 {
+    for calls in 0..6 {
         let folder = left(&rt, "journal-stopped", &journal).expect(&rt, "a journal");
         let allowed = Rc::new(rt.alloc(), Cell::new(calls)).expect(&rt, "memory");
-        let want = if calls < 4 {
+        let want = if calls < 5 {
             Err(FilesFault::Device)
         } else {
             Ok(())
         };
         assert!(rt; stopped(&rt, &folder, allowed) == want);
-        assert!(rt; has(&rt, &folder, "journal") == Some(calls < 4));
+        assert!(rt; has(&rt, &folder, "journal") == Some(calls < 5));
         let mut files = opened(&rt, &folder).expect(&rt, "files");
         assert!(rt; gives_all(&mut files, rt.alloc(), &after(5)));
         fs::remove_dir_all(&rt, folder.as_path()).expect(&rt, "a folder");
