@@ -123,8 +123,8 @@ module _ {T : Type 0} (A : Table T) where
     limit = ap (λ (x : Core T). x.limit) is;
   }
 
-  pub sync_stays : (honest : Type 0) (m n : Core T) → IsSynced A honest m n → Stays A m n
-  sync_stays honest m n (syncs, is) = record {
+  pub sync_stays : (honest : Type 0) (m n : Core T) (went : Bool) → IsSynced A honest m went n → Stays A m n
+  sync_stays honest m n went (syncs, is) = record {
     commit = syncs.commit;
     next = same_next (A.next m.table) (A.next n.table) syncs.next;
     passes = ap (λ (x : Core T). x.queue.passes) is;

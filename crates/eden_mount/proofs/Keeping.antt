@@ -172,8 +172,8 @@ module _ {T : Type 0} (A : Table T) (honest : Type 0) (opening : Tree) (N : Numb
   unload_keeps m p age gone t h unloads = retable m t h unloads.tree (λ honestly. same_backs m.table t (fun_ext (unloads.numbers honestly)) unloads.next)
 
   -- .. one whose files are on the disk
-  pub sync_keeps : (m : Core T) (t : T) → IsMount A honest opening N m → Syncs A honest m.table t → IsMount A honest opening N (record m { table = t })
-  sync_keeps m t h syncs = retable m t h syncs.tree (λ honestly. same_backs m.table t (fun_ext (syncs.numbers honestly)) syncs.next)
+  pub sync_keeps : (m : Core T) (went : Bool) (t : T) → IsMount A honest opening N m → Syncs A honest m.table went t → IsMount A honest opening N (record m { table = t })
+  sync_keeps m went t h syncs = retable m t h syncs.tree (λ honestly. same_backs m.table t (fun_ext (syncs.numbers honestly)) syncs.next)
 
   -- a reply of a turn is the table's at what the mount showed, and so is what it shows then; a fault leaves it
   abbrev IsTold : T → T → Request → Reply → Type 0

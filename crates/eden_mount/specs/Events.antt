@@ -43,4 +43,4 @@ module _ {T : Type 0} (A : Table T) (honest : Type 0) (copies : Bool) where
     fails : (k : Key) (x : Cause) (b : Bool) → Fails m k x b m' → Steps m m' (event.Fail k x) (outcome.Fail b)
     unloads : (p : Path) (age gone : ℕ) → LetsGo A honest m p age gone m'
         → Steps m m' (event.Unload p age) (outcome.Unload gone)
-    syncs : (b : Bool) → IsSynced A honest m m' → Steps m m' event.Sync (outcome.Sync b)
+    syncs : (went : Bool) → IsSynced A honest m went m' → Steps m m' event.Sync (outcome.Sync went)

@@ -165,9 +165,9 @@ pub record Desk (T S : Type 0) : Type 0 where
 abbrev pub Declines : {T S : Type 0} → Desk T S → StartFault → Desk T S → Type 0
 Declines d f d' = IsRefused d.core 1 f × (d' ≡ d)
 
--- the mount waited for the disk, and source and last reply stay
-abbrev pub SyncsDesk : {T S : Type 0} → Table T → Type 0 → Desk T S → Desk T S → Type 0
-SyncsDesk A honest d d' = IsSynced A honest d.core d'.core × (d' ≡ record d { core = d'.core })
+-- the mount waited for the disk, which went or didn't, and source and last reply stay
+abbrev pub SyncsDesk : {T S : Type 0} → Table T → Type 0 → Desk T S → Bool → Desk T S → Type 0
+SyncsDesk A honest d went d' = IsSynced A honest d.core went d'.core × (d' ≡ record d { core = d'.core })
 
 module _ {S : Type 0} (fetched : S → Id → Answer → S → Type 0) {T : Type 0} (A : Table T) (honest : Type 0) (copies : Bool) (q : Request) where
   -- a request was served, and its reply lies there

@@ -104,5 +104,5 @@ LetsGo A honest m p age gone m' = Unloads A honest m.table p age gone m'.table �
 
 -- ---- sync
 
-abbrev pub IsSynced : {T : Type 0} → Table T → Type 0 → Core T → Core T → Type 0
-IsSynced A honest m m' = Syncs A honest m.table m'.table × (m' ≡ record m { table = m'.table })
+abbrev pub IsSynced : {T : Type 0} → Table T → Type 0 → Core T → Bool → Core T → Type 0
+IsSynced A honest m went m' = Syncs A honest m.table went m'.table × (m' ≡ record m { table = m'.table })

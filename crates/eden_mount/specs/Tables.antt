@@ -40,8 +40,8 @@ pub record Table (T : Type 0) : Type 1 where
   pub kept : T → Key → Body → T → Type 0
   -- .. of an unload of a path, by age, in which so many directories went
   pub unloaded : T → Path → ℕ → ℕ → T → Type 0
-  -- .. of a sync
-  pub synced : T → T → Type 0
+  -- .. of a sync, and whether it went
+  pub synced : T → Bool → T → Type 0
 
 module _ {T : Type 0} (A : Table T) where
   -- one more turn: nothing else changed
@@ -112,9 +112,9 @@ module _ {T : Type 0} (A : Table T) (honest : Type 0) where
     pub next : A.next u ≡ A.next t
     pub cache : (k : Key) → A.caches u k ≡ A.caches t k
 
-  -- somebody waited for the disk: the same is shown, and no object left the cache
-  pub record Syncs (t u : T) : Type 0 where
-    pub synced : A.synced t u
+  -- somebody waited for the disk, which went or didn't: the same is shown, and no object left the cache
+  pub record Syncs (t : T) (went : Bool) (u : T) : Type 0 where
+    pub synced : A.synced t went u
     pub tree : honest → A.shown u ≡ A.shown t
     pub numbers : honest → (x : Path) → A.numbers u x ≡ A.numbers t x
     pub commit : A.commit u ≡ A.commit t

@@ -57,6 +57,6 @@ pub trait Attempts<W: World> {
     /// Waits until a loss of power would take nothing of what is stored. False where the device failed, or where there
     /// was no memory: then that isn't known.
     fn sync(&mut self, alloc: Global) -> bool
-        ensures syncs { Syncs table W.honest self.old self.new }
+        ensures syncs { Syncs table W.honest self.old result self.new }
         ensures places { LeadStill leads self.old self.new };
 }

@@ -235,7 +235,7 @@ impl<W: World, S: Source<W> + Drop, T: Attempts<W> + Drop, A: Allocator, H: Hist
     /// Waits until a loss of power would take nothing of what the table stored. False where that isn't known. The last
     /// reply stays.
     pub fn sync(&mut self) -> bool
-        ensures { SyncsDesk T.table W.honest self.old self.new }
+        ensures { SyncsDesk T.table W.honest self.old result self.new }
     {
         self.mount.sync()
     }

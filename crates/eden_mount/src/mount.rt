@@ -335,7 +335,7 @@ impl<W: World, T: Attempts<W> + Drop, A: Allocator, H: History> Mount<W, T, A, H
 
     /// Waits until a loss of power would take nothing of what the table stored. False where that isn't known.
     pub fn sync(&mut self) -> bool
-        ensures { IsSynced T.table W.honest self.old self.new }
+        ensures { IsSynced T.table W.honest self.old result self.new }
     {
         self.table.sync(self.alloc)
     }
