@@ -1,15 +1,19 @@
 -- A checkout as a mount knows it.
-use Rattle.std.proofs.Common.{length, Result, Ok, Err, OnOk, ◌≡◌, ◌<◌, ℕ, true, Some, sym, ◌∙◌, ap, subst}
+use Rattle.std.proofs.Common.{length, Result, Ok, Err, OnOk, ◌≡◌, ◌<◌, ℕ, Bool, true, false, Some, sym, ◌∙◌, ap, subst}
 use Rattle.std.specs.Option.{is_some}
+use Rattle.std.specs.Result.{is_ok}
 use Rattle.eden_model.specs.declared.attempt.Attempt.{Attempt}
 use Rattle.eden_model.specs.declared.attempt.Attempt.TheVariants.{Finished, Need}
 use Rattle.eden_model.specs.declared.fault.Fault.TheVariants as fault
 use Rattle.eden_model.specs.declared.id.Key.{Key}
 use Rattle.eden_model.specs.declared.request.Request.{Request}
 use Rattle.eden_model.specs.declared.world.World.{Ghosts}
+use Rattle.eden_model.specs.Failures.{Counted}
 use Rattle.eden_model.specs.Trees.{Path}
 use Rattle.eden_object.specs.Objects.{Body}
 use Rattle.eden_overlay.specs.declared.files.Files.{Ghosts as Files}
+use Rattle.eden_overlay.specs.declared.files.FilesFault.{FilesFault}
+use Rattle.eden_overlay.specs.declared.files.FilesFault.TheVariants as files
 use Rattle.eden_overlay.specs.Files.{Stored}
 use Rattle.eden_cache.specs.Cache.{Cache, KeepsObject, KeepsSize}
 use Rattle.eden_tree.specs.Directory.{Row}
@@ -24,6 +28,11 @@ use Rattle.eden_ops.specs.Left.{left, SomeAreLeft, NeedsStay, LeftFalls}
 use Rattle.eden_ops.specs.Renumbering.{Renumbered}
 use Rattle.eden_checkout.specs.Attempted.{IsTicked, IsTried, IsPut, IsUnloaded, IsSynced, attempted}
 use Rattle.eden_checkout.specs.Checkouts.{Checkout}
+
+-- where a call succeeded the device didn't fail
+pub unfailed : (r : Result (Unit {0}) FilesFault) (went : Bool) (a b : ℕ) → went ≡ is_ok r → Counted (r ≡ Err files.Device) a b → went ≡ true → b ≡ a
+unfailed (Ok x) went a b is counted yes = counted.same (λ e. absurd (let y : Ok x ≡ Err files.Device = e in cc y))
+unfailed (Err x) went a b is counted yes = absurd (let y : false ≡ true = sym is ∙ yes in cc y)
 
 module _ {W F : Type 0} (w : Ghosts W) (f : Files F W) (shown : KeepsShown w f) (entries : KeepsEntries w f) (some : SomeAreLeft) (stay : NeedsStay) (s t : Checkout F) (q : Request) where
   found_still : FindsTheSame s.cache t.cache → (k : Key) → is_some (object_at s.cache k) ≡ true → is_some (object_at t.cache k) ≡ true
@@ -103,8 +112,8 @@ module _ {W F : Type 0} (w : Ghosts W) (f : Files F W) where
     cache = λ k. ap (λ (c : Cache). is_some (object_at c k)) is.cache;
   }
 
-  pub syncs : (s t : Checkout F) → IsSynced w f s t → Syncs (attempted w f) w.honest s t
-  syncs s t is =
+  pub syncs : (s t : Checkout F) (went : Bool) → IsSynced w f s went t → Syncs (attempted w f) w.honest s went t
+  syncs s t went is =
       let root : t.inodes.root ≡ s.inodes.root = ap (λ (u : Table F). u.root) is.inodes in
       record {
         synced = is;

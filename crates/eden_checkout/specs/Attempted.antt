@@ -1,5 +1,5 @@
 -- What a mount knows of a checkout.
-use Rattle.std.specs.Prelude.{◌≡◌, ◌+◌, ◌-◌, ◌^◌, ℕ, Option, Some, min, length}
+use Rattle.std.specs.Prelude.{◌≡◌, ◌+◌, ◌-◌, ◌^◌, ℕ, Bool, true, Option, Some, min, length}
 use Rattle.std.specs.Option.{is_some}
 use Rattle.eden_model.specs.declared.attempt.Attempt.{Attempt}
 use Rattle.eden_model.specs.declared.id.Key.{Key}
@@ -62,8 +62,10 @@ module _ {W F : Type 0} (w : Ghosts W) (f : Files F W) where
     pub cache : t.cache ≡ s.cache
     pub root : t.root ≡ s.root
 
-  -- the files were waited for, and what they hold, what is loaded and what is cached stay as they are
-  pub record IsSynced (s t : Checkout F) : Type 0 where
+  -- the files were waited for, and what they hold, what is loaded and what is cached stay as they are; it went only if the device
+  -- didn't fail
+  pub record IsSynced (s : Checkout F) (went : Bool) (t : Checkout F) : Type 0 where
+    pub failures : went ≡ true → f.failures t.inodes.files ≡ f.failures s.inodes.files
     pub files : w.honest → f.stored t.inodes.files ≡ f.stored s.inodes.files
     pub inodes : t.inodes ≡ record s.inodes { files = t.inodes.files }
     pub cache : t.cache ≡ s.cache

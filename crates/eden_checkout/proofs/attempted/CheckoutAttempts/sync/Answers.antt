@@ -7,7 +7,7 @@ use Rattle.eden_inode.specs.Tables.{Table}
 use Rattle.eden_mount.specs.Tables.{Syncs}
 use Rattle.eden_checkout.specs.Attempted.{attempted}
 use Rattle.eden_checkout.specs.Checkouts.{Checkout}
-use Rattle.eden_checkout.proofs.Tries.{syncs}
+use Rattle.eden_checkout.proofs.Tries.{syncs, unfailed}
 use Rattle.eden_checkout.proofs.attempted.CheckoutAttempts.sync.Goals as goal
 
 pub returns-clause-syncs : goal.returns-clause-syncs
@@ -16,8 +16,14 @@ returns-clause-syncs g c =
     let e = c.sync.ensures in
     let s : Checkout _ = record { inodes = x.inodes; cache = x.cache; root = x.root } in
     let t : Checkout _ = record { inodes = c.sync.new.self; cache = x.cache; root = x.root } in
-    subst (λ (u : Checkout _). Syncs (attempted g.W.World g.F.Files) g.W.World.honest u t) c.self.view_is
-    (syncs g.W.World g.F.Files s t (record { files = e.files; inodes = e.rest; cache = refl; root = refl }))
+    subst (λ (u : Checkout _). Syncs (attempted g.W.World g.F.Files) g.W.World.honest u c.is_ok.result t) c.self.view_is
+    (syncs g.W.World g.F.Files s t c.is_ok.result (record {
+      failures = λ went. unfailed c.sync.result c.is_ok.result _ _ c.is_ok.ensures.value e.counted went;
+      files = e.files;
+      inodes = e.rest;
+      cache = refl;
+      root = refl;
+    }))
 
 pub returns-clause-places : goal.returns-clause-places
 returns-clause-places g c =
