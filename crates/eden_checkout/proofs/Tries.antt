@@ -31,8 +31,8 @@ use Rattle.eden_checkout.specs.Checkouts.{Checkout}
 
 -- where a call succeeded the device didn't fail
 pub unfailed : (r : Result (Unit {0}) FilesFault) (went : Bool) (a b : ℕ) → went ≡ is_ok r → Counted (r ≡ Err files.Device) a b → went ≡ true → b ≡ a
-unfailed (Ok x) went a b is counted yes = counted.same (λ e. absurd (let y : Ok x ≡ Err files.Device = e in cc y))
-unfailed (Err x) went a b is counted yes = absurd (let y : false ≡ true = sym is ∙ yes in cc y)
+unfailed (Ok x) went a b is counted done = counted.same (λ e. absurd (let y : Ok x ≡ Err files.Device = e in cc y))
+unfailed (Err x) went a b is counted done = absurd (let y : false ≡ true = sym is ∙ done in cc y)
 
 module _ {W F : Type 0} (w : Ghosts W) (f : Files F W) (shown : KeepsShown w f) (entries : KeepsEntries w f) (some : SomeAreLeft) (stay : NeedsStay) (s t : Checkout F) (q : Request) where
   found_still : FindsTheSame s.cache t.cache → (k : Key) → is_some (object_at s.cache k) ≡ true → is_some (object_at t.cache k) ≡ true

@@ -76,7 +76,7 @@ fn empty_poured<W: World, F: Files<W>, J: Journal<W>>(
     ensures err { W.honest → OnErr result (J.changes journal.new ≡ J.changes journal.old) }
 {
     if waits {
-        files.remove(STATE_NUMBER)?;
+        files.sync(alloc)?;
     }
     journal.empty()
 }
