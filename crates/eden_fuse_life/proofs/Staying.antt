@@ -9,7 +9,7 @@ use Rattle.eden_model.specs.Trees.{Name}
 use Rattle.eden_source.specs.Fetching.{Answer}
 use Rattle.eden_mount.specs.Tables.{Table}
 use Rattle.eden_mount.specs.Serving.{Desk, Stays}
-use Rattle.eden_mount.proofs.CallerLemmas.{stays_same, stays_on}
+use Rattle.eden_mount.proofs.CallerLemmas.{stays_same, stays_on, sync_stays}
 use Rattle.eden_stdio_life.specs.Calls.{CallAnswers}
 use Rattle.eden_fuse_format.specs.declared.message.Message.{Message}
 use Rattle.eden_fuse_format.specs.declared.message.Message.TheVariants.{Request as Asks, Unknown, Malformed, Unframed}
@@ -36,12 +36,16 @@ use Rattle.eden_fuse_shown.specs.Waiting.{Extent, extent_of, may_wait}
 use Rattle.eden_fuse_shown.specs.Waiting.{Table as Waits}
 use Rattle.eden_fuse_shown.specs.Showing.{Showing, Runs, RunsFrom, Reads, RemovesBy, Restores, MovesOver, ReplacesBy, LetsGo, LetsGoLast, ClosesFile}
 use Rattle.eden_fuse_shown.specs.Showing.{storing, data_of, IsStored, SettlesWith, Unless, Once, LooksUp, WaitsIf, WritesAnew, Writes, Empties, StoresAll}
-use Rattle.eden_fuse_shown.specs.Showing.{ClearsIf, ClearsRow, ClearsRows, Clears, Starts, Heeds, Takes, rows_in, Shows, ShowsBy, sort_of}
+use Rattle.eden_fuse_shown.specs.Showing.{ClearsIf, ClearsRow, ClearsRows, Clears, Starts, Heeds, Takes, rows_in, Shows, Syncs, ShowsBy, sort_of}
 use Rattle.eden_fuse_shown.specs.Showing.{Serves as ServesAs}
+use Rattle.eden_fuse_life.specs.Asking.{CallSyncs}
 
 module _ {S : Type 0} (fetched : S → Id → Answer → S → Type 0) {T : Type 0} (A : Table T) (honest : Type 0) (copies : Bool) where
   abbrev answers : Desk T S → Request → Result Reply CallFault → Desk T S → Type 0
   answers = CallAnswers fetched A honest copies
+
+  abbrev syncs : Desk T S → Bool → Desk T S → Type 0
+  syncs = CallSyncs A honest
 
   abbrev Kept : Desk T S → Desk T S → Type 0
   Kept d e = Stays A d.core e.core
@@ -198,14 +202,20 @@ module _ {S : Type 0} (fetched : S → Id → Answer → S → Type 0) {T : Type
       either (λ s. folder_same old new s.0)
       (λ g. kept_on old.mount g.0.mount new.mount (clears_keep old g.0 g.1) (runs_keep node a None g.0 new t g.2)) r
 
+  -- ---- the disk
+
+  syncs_keep : (old new : Folder) (t : Told) → Syncs syncs old t new → Kept old.mount new.mount
+  syncs_keep old new t r = sync_stays A honest old.mount.core new.mount.core r.asked.0
+
   -- ---- each message
 
-  serves_one_keep : (s : Sort) (node : ℕ) (a : Asked) (old new : Folder) (t : Told) → ServesAs answers s node a old t new → Kept old.mount new.mount
+  serves_one_keep : (s : Sort) (node : ℕ) (a : Asked) (old new : Folder) (t : Told) → ServesAs answers syncs s node a old t new → Kept old.mount new.mount
   serves_one_keep sort.Remove node a old new t (held, is, r) = removes_keep held node a old new t r
   serves_one_keep (sort.Replace dir) node a old new t (held, is, r) = replaces_keep held dir node a old new t r
   serves_one_keep sort.Start node a old new t r = starts_keep node a old new t r
   serves_one_keep (sort.Write offset) node a old new t r = writes_keep node offset a old new t r
   serves_one_keep sort.Look node a old new t r = looks_keep node node a old new t r
+  serves_one_keep sort.Sync node a old new t r = once_keeps (Syncs syncs) syncs_keep (Some node) old new t r
   serves_one_keep sort.LookUp node a old new t r = looks_up_keep node a old new t r
   serves_one_keep (sort.One n) node a old new t r = runs_keep node a None old new t r
   serves_one_keep sort.Batch node a old new t r = runs_keep node a None old new t r
@@ -213,14 +223,14 @@ module _ {S : Type 0} (fetched : S → Id → Answer → S → Type 0) {T : Type
   serves_one_keep sort.Close node a old new t r = runs_keep node a None old new t r
   serves_one_keep sort.Plain node a old new t r = runs_keep node a None old new t r
 
-  heeds_keep : (b : Bool) (s : Sort) (node : ℕ) (a : Asked) (old new : Folder) (t : Told) → Heeds answers b s node a old t new → Kept old.mount new.mount
+  heeds_keep : (b : Bool) (s : Sort) (node : ℕ) (a : Asked) (old new : Folder) (t : Told) → Heeds answers syncs b s node a old t new → Kept old.mount new.mount
   heeds_keep true s node a old new t (same, is) = folder_same old new same
   heeds_keep false s node a old new t r = serves_one_keep s node a old new t r
 
-  takes_keep : (s : Sort) (node : ℕ) (a : Asked) (old new : Folder) (t : Told) → Takes answers s node a old t new → Kept old.mount new.mount
+  takes_keep : (s : Sort) (node : ℕ) (a : Asked) (old new : Folder) (t : Told) → Takes answers syncs s node a old t new → Kept old.mount new.mount
   takes_keep s node a old new t r = either (λ e. folder_same old new e.0) (λ g. heeds_keep (is_reserved node a) s node a old new t g) r
 
-  shows_keep : (sort : Sort) (node : ℕ) (a : Asked) (old new : Folder) (t : Told) → ShowsBy answers sort old node a t new → Kept old.mount new.mount
+  shows_keep : (sort : Sort) (node : ℕ) (a : Asked) (old new : Folder) (t : Told) → ShowsBy answers syncs sort old node a t new → Kept old.mount new.mount
   shows_keep (sort.One n) node a old new t loses = kept_same old.mount new.mount loses.mount
   shows_keep sort.Batch node a old new t loses = kept_same old.mount new.mount loses.mount
   shows_keep (sort.On s) node a old new t r = reads_keep node a s old new t r
@@ -230,22 +240,25 @@ module _ {S : Type 0} (fetched : S → Id → Answer → S → Type 0) {T : Type
   shows_keep (sort.Replace dir) node a old new t r = takes_keep (sort.Replace dir) node a old new t r
   shows_keep (sort.Write offset) node a old new t r = takes_keep (sort.Write offset) node a old new t r
   shows_keep sort.Look node a old new t r = takes_keep sort.Look node a old new t r
+  shows_keep sort.Sync node a old new t r = takes_keep sort.Sync node a old new t r
   shows_keep sort.LookUp node a old new t r = takes_keep sort.LookUp node a old new t r
   shows_keep sort.Plain node a old new t r = takes_keep sort.Plain node a old new t r
 
-  does_keep : (m : Message) (old new : Folder) (l k : Line) (room : ℕ) (r : Turned) → Does (Shows answers) m old new l k room r → Kept old.mount new.mount
+  does_keep : (m : Message) (old new : Folder) (l k : Line) (room : ℕ) (r : Turned) → Does (Shows answers syncs) m old new l k room r → Kept old.mount new.mount
   does_keep (Asks header operation) old new l k room r (told, shows, is) = shows_keep (sort_of (seen operation)) header.nodeid (seen operation) old new told shows
   does_keep (Unknown unique) old new l k room r (same, is) = folder_same old new same
   does_keep (Malformed unique) old new l k room r (same, is) = folder_same old new same
   does_keep Unframed old new l k room r d = folder_same old new d.0
 
   -- from the first message to the last
-  serves_keep : (messages : List (List ℕ)) (s t : Serving (Showing (Desk T S))) → Serves (Shows (CallAnswers fetched A honest copies)) messages s t → Stays A s.0.mount.core t.0.mount.core
+  serves_keep : (messages : List (List ℕ)) (s t : Serving (Showing (Desk T S))) → Serves (Shows (CallAnswers fetched A honest copies) (CallSyncs A honest)) messages s t
+      → Stays A s.0.mount.core t.0.mount.core
   serves_keep [] s t is = folder_same s.0 t.0 (ap (λ (x : Serving Folder). x.0) (sym is))
   serves_keep (m ∷ ms) s t (u, room, r, turn, rest) =
       kept_on s.0.mount u.0.mount t.0.mount (does_keep turn.0 s.0 u.0 s.1 u.1 room r turn.2) (serves_keep ms u t rest)
 
   -- .. and all that waited was stored
-  pub serves_and_stores_keep : (messages : List (List ℕ)) (s t : Serving (Showing (Desk T S))) (h : Desk T S) → Serves (Shows (CallAnswers fetched A honest copies)) messages s t
+  pub serves_and_stores_keep : (messages : List (List ℕ)) (s t : Serving (Showing (Desk T S))) (h : Desk T S)
+      → Serves (Shows (CallAnswers fetched A honest copies) (CallSyncs A honest)) messages s t
       → StoresAll (CallAnswers fetched A honest copies) t.0.nodes t.0.waits t.0.mount h → Stays A s.0.mount.core h.core
   serves_and_stores_keep messages s t h served stored = kept_on s.0.mount t.0.mount h (serves_keep messages s t served) (stores_all_keep t.0 t.0.waits t.0.mount h stored)

@@ -25,6 +25,7 @@ use Rattle.eden_fuse_session.specs.Sessions.{Session}
 use Rattle.eden_fuse_shown.specs.declared.manner.Manner.{Manner}
 use Rattle.eden_fuse_shown.specs.Beginning.{IsBlank}
 use Rattle.eden_fuse_shown.specs.Showing.{Showing, Shows, StoresAll}
+use Rattle.eden_fuse_life.specs.Asking.{CallSyncs}
 use Rattle.eden_fuse_life.specs.declared.fault.FolderFault.{FolderFault}
 use Rattle.eden_fuse_life.specs.declared.fault.FolderFault.TheVariants as life
 use Rattle.eden_fuse_life.specs.declared.life.FolderEnding.{FolderEnding}
@@ -66,7 +67,8 @@ module _ {W F : Type 0} (w : Ghosts W) (f : Files F W) where
       pub opened : IsOpened w f base settings backing.files begun.mount.core.table
       pub ended : Showing (Desk (Checkout F) S)
       pub said : Result ⊤ SessionFault
-      pub session : Session (Shows (CallAnswers fetched (attempted w f) w.honest copies)) (begun, line) (ended, line') waiting unread said
+      pub session : Session (Shows (CallAnswers fetched (attempted w f) w.honest copies) (CallSyncs (attempted w f) w.honest)) (begun, line)
+          (ended, line') waiting unread said
       pub last : Desk (Checkout F) S
       pub stored : StoresAll (CallAnswers fetched (attempted w f) w.honest copies) ended.nodes ended.waits ended.mount last
       pub stays : Stays (attempted w f) begun.mount.core last.core
