@@ -8,7 +8,7 @@ use Rattle.eden_model.specs.declared.reply.Reply.{Reply}
 use Rattle.eden_model.specs.Trees.{Name}
 use Rattle.eden_source.specs.Fetching.{Answer}
 use Rattle.eden_mount.specs.Tables.{Table}
-use Rattle.eden_mount.specs.Serving.{Desk, Stays}
+use Rattle.eden_mount.specs.Serving.{Desk, Stays, SyncsDesk}
 use Rattle.eden_mount.proofs.CallerLemmas.{stays_same, stays_on, sync_stays}
 use Rattle.eden_stdio_life.specs.Calls.{CallAnswers}
 use Rattle.eden_fuse_format.specs.declared.message.Message.{Message}
@@ -38,14 +38,13 @@ use Rattle.eden_fuse_shown.specs.Showing.{Showing, Runs, RunsFrom, Reads, Remove
 use Rattle.eden_fuse_shown.specs.Showing.{storing, data_of, IsStored, SettlesWith, Unless, Once, LooksUp, WaitsIf, WritesAnew, Writes, Empties, StoresAll}
 use Rattle.eden_fuse_shown.specs.Showing.{ClearsIf, ClearsRow, ClearsRows, Clears, Starts, Heeds, Takes, rows_in, Shows, Syncs, ShowsBy, sort_of}
 use Rattle.eden_fuse_shown.specs.Showing.{Serves as ServesAs}
-use Rattle.eden_fuse_life.specs.Asking.{CallSyncs}
 
 module _ {S : Type 0} (fetched : S → Id → Answer → S → Type 0) {T : Type 0} (A : Table T) (honest : Type 0) (copies : Bool) where
   abbrev answers : Desk T S → Request → Result Reply CallFault → Desk T S → Type 0
   answers = CallAnswers fetched A honest copies
 
   abbrev syncs : Desk T S → Bool → Desk T S → Type 0
-  syncs = CallSyncs A honest
+  syncs = SyncsDesk A honest
 
   abbrev Kept : Desk T S → Desk T S → Type 0
   Kept d e = Stays A d.core e.core
@@ -205,7 +204,7 @@ module _ {S : Type 0} (fetched : S → Id → Answer → S → Type 0) {T : Type
   -- ---- the disk
 
   syncs_keep : (old new : Folder) (t : Told) → Syncs syncs old t new → Kept old.mount new.mount
-  syncs_keep old new t r = sync_stays A honest old.mount.core new.mount.core r.asked.0
+  syncs_keep old new t r = sync_stays A honest old.mount.core new.mount.core r.went r.asked.0
 
   -- ---- each message
 
@@ -251,7 +250,7 @@ module _ {S : Type 0} (fetched : S → Id → Answer → S → Type 0) {T : Type
   does_keep Unframed old new l k room r d = folder_same old new d.0
 
   -- from the first message to the last
-  serves_keep : (messages : List (List ℕ)) (s t : Serving (Showing (Desk T S))) → Serves (Shows (CallAnswers fetched A honest copies) (CallSyncs A honest)) messages s t
+  serves_keep : (messages : List (List ℕ)) (s t : Serving (Showing (Desk T S))) → Serves (Shows (CallAnswers fetched A honest copies) (SyncsDesk A honest)) messages s t
       → Stays A s.0.mount.core t.0.mount.core
   serves_keep [] s t is = folder_same s.0 t.0 (ap (λ (x : Serving Folder). x.0) (sym is))
   serves_keep (m ∷ ms) s t (u, room, r, turn, rest) =
@@ -259,6 +258,6 @@ module _ {S : Type 0} (fetched : S → Id → Answer → S → Type 0) {T : Type
 
   -- .. and all that waited was stored
   pub serves_and_stores_keep : (messages : List (List ℕ)) (s t : Serving (Showing (Desk T S))) (h : Desk T S)
-      → Serves (Shows (CallAnswers fetched A honest copies) (CallSyncs A honest)) messages s t
+      → Serves (Shows (CallAnswers fetched A honest copies) (SyncsDesk A honest)) messages s t
       → StoresAll (CallAnswers fetched A honest copies) t.0.nodes t.0.waits t.0.mount h → Stays A s.0.mount.core h.core
   serves_and_stores_keep messages s t h served stored = kept_on s.0.mount t.0.mount h (serves_keep messages s t served) (stores_all_keep t.0 t.0.waits t.0.mount h stored)

@@ -1,3 +1,2 @@
-pub mod Asking
 pub mod Serving
 pub mod Lives

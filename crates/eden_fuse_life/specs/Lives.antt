@@ -8,7 +8,7 @@ use Rattle.eden_model.specs.Trees.{Tree}
 use Rattle.eden_source.specs.Fetching.{Answer}
 use Rattle.eden_overlay.specs.declared.files.Files.{Ghosts as Files}
 use Rattle.eden_overlay.specs.declared.files.FilesFault.{FilesFault}
-use Rattle.eden_mount.specs.Serving.{Desk, Stays}
+use Rattle.eden_mount.specs.Serving.{Desk, Stays, SyncsDesk}
 use Rattle.eden_mount.specs.Settings.{Settings, room_for}
 use Rattle.eden_checkout.specs.declared.fault.OpenFault.{OpenFault}
 use Rattle.eden_checkout.specs.Attempted.{attempted}
@@ -25,7 +25,6 @@ use Rattle.eden_fuse_session.specs.Sessions.{Session}
 use Rattle.eden_fuse_shown.specs.declared.manner.Manner.{Manner}
 use Rattle.eden_fuse_shown.specs.Beginning.{IsBlank}
 use Rattle.eden_fuse_shown.specs.Showing.{Showing, Shows, StoresAll}
-use Rattle.eden_fuse_life.specs.Asking.{CallSyncs}
 use Rattle.eden_fuse_life.specs.declared.fault.FolderFault.{FolderFault}
 use Rattle.eden_fuse_life.specs.declared.fault.FolderFault.TheVariants as life
 use Rattle.eden_fuse_life.specs.declared.life.FolderEnding.{FolderEnding}
@@ -67,7 +66,7 @@ module _ {W F : Type 0} (w : Ghosts W) (f : Files F W) where
       pub opened : IsOpened w f base settings backing.files begun.mount.core.table
       pub ended : Showing (Desk (Checkout F) S)
       pub said : Result ⊤ SessionFault
-      pub session : Session (Shows (CallAnswers fetched (attempted w f) w.honest copies) (CallSyncs (attempted w f) w.honest)) (begun, line)
+      pub session : Session (Shows (CallAnswers fetched (attempted w f) w.honest copies) (SyncsDesk (attempted w f) w.honest)) (begun, line)
           (ended, line') waiting unread said
       pub last : Desk (Checkout F) S
       pub stored : StoresAll (CallAnswers fetched (attempted w f) w.honest copies) ended.nodes ended.waits ended.mount last

@@ -6,7 +6,7 @@ use Rattle.eden_model.specs.Backing.{Backs}
 use Rattle.eden_model.specs.Histories.{Legal, replay}
 use Rattle.eden_model.specs.Numbers.{replay_numbers}
 use Rattle.eden_source.specs.Fetching.{Answer}
-use Rattle.eden_mount.specs.Serving.{Desk, Stays}
+use Rattle.eden_mount.specs.Serving.{Desk, Stays, SyncsDesk}
 use Rattle.eden_mount.specs.Settings.{Room}
 use Rattle.eden_mount.specs.Tables.{Table}
 use Rattle.eden_stdio_life.specs.Calls.{CallAnswers}
@@ -18,7 +18,6 @@ use Rattle.eden_fuse_session.specs.Sessions.{Session}
 use Rattle.eden_fuse_shown.specs.declared.manner.Manner.{Manner}
 use Rattle.eden_fuse_shown.specs.Beginning.{IsBlank}
 use Rattle.eden_fuse_shown.specs.Showing.{Showing, Shows, StoresAll}
-use Rattle.eden_fuse_life.specs.Asking.{CallSyncs}
 use Rattle.eden_fuse_life.specs.declared.serving.ServedFolder.{ServedFolder}
 
 -- what a sender took, and how often it failed
@@ -36,7 +35,7 @@ module _ {W : Type 0} (w : Ghosts W) {S : Type 0} (fetched : S → Id → Answer
     pub manner : begun.manner ≡ m
     pub blank : IsBlank begun
     pub ended : Showing (Desk T S)
-    pub session : Session (Shows (CallAnswers fetched A w.honest copies) (CallSyncs A w.honest)) (begun, line) (ended, line') waiting left x.said
+    pub session : Session (Shows (CallAnswers fetched A w.honest copies) (SyncsDesk A w.honest)) (begun, line) (ended, line') waiting left x.said
     pub last : Desk T S
     pub stored : StoresAll (CallAnswers fetched A w.honest copies) ended.nodes ended.waits ended.mount last
     pub stays : Stays A begun.mount.core last.core

@@ -53,11 +53,11 @@ impl<W: World, S: Source<W> + Drop, T: Attempts<W> + Drop, A: Allocator, H: Hist
 impl<W: World, S: Source<W> + Drop, T: Attempts<W> + Drop, A: Allocator, H: History> Mount
     for Asking<W, S, T, A, H> {
     ghost use Rattle.eden_stdio_life.specs.Calls.{CallAnswers};
-    ghost use Rattle.eden_fuse_life.specs.Asking.{CallSyncs};
+    ghost use Rattle.eden_mount.specs.Serving.{SyncsDesk};
 
     ghost answers = { CallAnswers S.fetched T.table W.honest H.copies };
 
-    ghost syncs = { CallSyncs T.table W.honest };
+    ghost syncs = { SyncsDesk T.table W.honest };
 
     fn ask(&mut self, request: Request) -> Result<Reply, Unheard> {
         match self.local.serve(request) {
