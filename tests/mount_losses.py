@@ -61,7 +61,7 @@ class Run(Kernel):
 
     def fsync(self, path: Path) -> None:
         with self.folder.opened(path, os.O_RDONLY) as node:
-            self.folder.ask("fsync", node, 0, 0)
+            self.folder.ask("fsync", node, 0, 0, 0)
 
     def store(self, path: Path, length: int) -> None:
         if path not in self.made:

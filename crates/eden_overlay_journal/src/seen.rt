@@ -245,9 +245,21 @@ fn put_past<W: World, F: Files<W>, J: Journal<W>>(
     ensures err { W.honest → OnErr result (changed (J.changes journal.new) (F.stored files.new)
         ≡ changed (J.changes journal.old) (F.stored files.old)) }
 {
+    settle_first::<W, _>(journal, standing);
     files.replace(alloc, number, bytes)?;
     wait_past::<W, _>(alloc, files, standing);
     journal.pass(number)
+}
+
+// Once something was promised, the disk has what the journal says before a file that goes past it can be there: that
+// may be a directory's, which names what only the journal knows. Where the disk fails, the journal tells it to whoever
+// waits for it next.
+fn settle_first<W: World, J: Journal<W>>(journal: &mut J, standing: Standing)
+    ensures { W.honest → J.changes journal.new ≡ J.changes journal.old }
+{
+    if standing.is_promised {
+        let _ = journal.settle();
+    }
 }
 
 // Once something was promised, what went past the journal is on the disk before a record can be there that names it:
