@@ -33,9 +33,13 @@ enum Row {
     Fails(Sample, Cause, bool),
     /// Everything may go, and so many directories do.
     Unloads(u64),
+    /// The files are waited for, which goes or doesn't.
+    Syncs(bool),
 }
 
-use Row::{Arrives, Declines, Done, Fails, Idle, Lies, Start, Takes, TakesNone, Unloads, Waits};
+use Row::{
+    Arrives, Declines, Done, Fails, Idle, Lies, Start, Syncs, Takes, TakesNone, Unloads, Waits,
+};
 
 fn key_of(object: Sample) -> Key {
     Key {
@@ -82,6 +86,7 @@ fn event(rt: &impl Abort, alloc: Global, row: Row) -> Event {
         Lies(object, framed) => arrival(rt, alloc, object, framed),
         Fails(object, cause, _) => Event::Fail(key_of(object), cause),
         Unloads(_) => unloading(rt, alloc),
+        Syncs(_) => Event::Sync,
     }
 }
 
@@ -139,6 +144,7 @@ fn is_answer(rt: &impl Abort, alloc: Global, row: Row, outcome: &Outcome) -> boo
         Outcome::Arrive(arrived) => is_arrival(row, *arrived),
         Outcome::Fail(failed) => matches!(row, Fails(_, _, want) if want == *failed),
         Outcome::Unload(gone) => matches!(row, Unloads(want) if want == *gone),
+        Outcome::Sync(went) => matches!(row, Syncs(want) if want == *went),
     }
 }
 
@@ -194,6 +200,7 @@ const MOVED_AWAY: Worked = (
         Waits(1, ONE_FILE),
         Start(2, "rename /bak /old"),
         Done(2, 1, "ok\n"),
+        Syncs(true),
         Takes(ONE_FILE),
         Arrives(ONE_FILE, Arrived::Stored),
         Done(1, 2, "err 2 ENOENT\n"),
@@ -479,10 +486,12 @@ const HALF_A_MOVE: &[Row] = &[
     Start(1, "list /e - 9"),
     Done(1, 7, "entries 0 end\n"),
     Unloads(1),
+    Syncs(false),
 ];
 
 /// The device works again.
 const MENDED: &[Row] = &[
+    Syncs(true),
     Unloads(2),
     Start(1, "list /d - 9"),
     Done(1, 8, "entries 1 file a end\n"),
