@@ -3,15 +3,15 @@ own would have after a loss of power is written down whenever the program waits 
 
     python3 tests/losing_disk.py FOLDER RECORD PROGRAM [WORD ..]
 
-After each `fsync` and `fdatasync` RECORD has a `Kept`, pickled: the bytes of each file that was waited for, and which
-files have names in FOLDER, as they were when that folder was waited for. Standard input and output are the program's,
-and so is the status. It needs ptrace.
+After each `fsync` and `fdatasync` the folder RECORD has the bytes of each file that was waited for, under its inode
+number, and which files have names in FOLDER, as they were when that folder was waited for: `Kept` reads it. Standard
+input and output are the program's, and so is the status. It needs ptrace.
 """
 
 import ctypes
+import json
 import os
 import pathlib
-import pickle
 import signal
 import sys
 from collections.abc import Iterator
@@ -40,11 +40,20 @@ class Info(ctypes.Structure):
                 ("words", ctypes.c_uint64 * 6)]
 
 
+NAMES = "names"
+
+
 class Kept(NamedTuple):
     """What the disk has: the bytes of files by their inode numbers, and such a number for each name."""
 
     bytes: dict[int, bytes]
     names: dict[str, int]
+
+
+def kept_in(record: pathlib.Path) -> Kept:
+    files = {int(file.name): file.read_bytes() for file in record.iterdir() if file.name != NAMES}
+    names = record / NAMES
+    return Kept(files, json.loads(names.read_text()) if names.exists() else {})
 
 
 def ptrace(request: int, task: int, place: object = None, data: object = None) -> int:
@@ -69,7 +78,6 @@ class Disk:
 
     def __init__(self, folder: pathlib.Path, record: pathlib.Path) -> None:
         self.folder, self.record = folder, record
-        self.kept = Kept({}, {})
         # Each task's call that goes on.
         self.calls: dict[int, Info] = {}
 
@@ -88,18 +96,17 @@ class Disk:
             self.waited(pathlib.Path(f"/proc/{task}/fd/{call.words[0]}"))
         elif call.number in MAKES and call.words[MAKES[call.number]] & MADE == MADE:
             # A file that was there before may have had the same number.
-            self.kept.bytes.pop(os.stat(f"/proc/{task}/fd/{returned}").st_ino, None)
+            self.place(pathlib.Path(f"/proc/{task}/fd/{returned}")).unlink(missing_ok=True)
+
+    def place(self, file: pathlib.Path) -> pathlib.Path:
+        return self.record / str(file.stat().st_ino)
 
     def waited(self, file: pathlib.Path) -> None:
         """The program waited for an open file, or for the folder's names."""
-        if file.is_dir():
-            if file.samefile(self.folder):
-                self.kept = self.kept._replace(names=names_in(self.folder))
-        else:
-            self.kept.bytes[file.stat().st_ino] = file.read_bytes()
-        beside = self.record.with_suffix(".new")
-        beside.write_bytes(pickle.dumps(tuple(self.kept)))
-        beside.rename(self.record)
+        if not file.is_dir():
+            self.place(file).write_bytes(file.read_bytes())
+        elif file.samefile(self.folder):
+            (self.record / NAMES).write_text(json.dumps(names_in(self.folder)))
 
 
 def stops() -> Iterator[tuple[int, int]]:

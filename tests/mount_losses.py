@@ -6,15 +6,16 @@ be there or not: of names, those that came or went since, and of files, the byte
 
 import os
 import pathlib
-import pickle
 import random
+import shutil
 import sys
+import tempfile
 from collections.abc import Iterator
 
 import losing_disk
 from checks import check
 from folder_operations import shown
-from losing_disk import Kept, names_in
+from losing_disk import Kept, kept_in, names_in
 from message_folder import MessageFolder
 from mount_messages import Kernel, showing
 from overlays import Place
@@ -26,7 +27,9 @@ LONG, SHORT = 150_000, 40_000
 WIDE = b"w" * 180
 NAMES = 760
 # Changes behind the fsync, and how many of them lie between two losses. They fill the journal several times.
-CHANGES, BETWEEN = 700, 60
+CHANGES, BETWEEN = 700, 100
+# A directory in memory, where waits for the disk take no time.
+IN_MEMORY = pathlib.Path("/dev/shm")
 
 
 def can_watch() -> bool:
@@ -48,7 +51,7 @@ class Run(Kernel):
         self.place = Place(SAMPLE_ROOT, SAMPLE_OBJECTS, folder / "overlay")
         self.place.overlay.mkdir()
         self.record = folder / "record"
-        self.record.write_bytes(pickle.dumps(({}, {})))
+        self.record.mkdir()
         super().__init__([sys.executable, losing_disk.__file__, self.place.overlay, self.record, MOUNTD, "fuse",
                           "--root", self.place.root, "--objects", self.place.objects, "--overlay", self.place.overlay])
         self.folder = MessageFolder(self)
@@ -57,7 +60,7 @@ class Run(Kernel):
 
     def kept(self) -> Kept:
         """What the disk has for sure."""
-        return Kept(*pickle.loads(self.record.read_bytes()))
+        return kept_in(self.record)
 
     def fsync(self, path: Path) -> None:
         with self.folder.opened(path, os.O_RDONLY) as node:
@@ -145,9 +148,10 @@ def check_loss(name: str, place: Place, left: dict[str, bytes], wanted: Nodes) -
         check(f"{name}: it closes", kernel.end(), (0, b""))
 
 
-def check_losses(folder: pathlib.Path, seed: int) -> None:
+def check_losses(seed: int) -> None:
     """A folder is filled, waited for and changed on, and the power is lost again and again."""
-    with Run(folder, seed) as run:
+    beside = IN_MEMORY if os.access(IN_MEMORY, os.W_OK) else None
+    with tempfile.TemporaryDirectory(dir=beside) as made, Run(folder := pathlib.Path(made), seed) as run:
         fill(run)
         run.fsync((b"kept", b"1"))
         wanted = shown(run.folder)
@@ -159,6 +163,7 @@ def check_losses(folder: pathlib.Path, seed: int) -> None:
                     count += 1
                     lost = Place(run.place.root, run.place.objects, folder / f"lost{count}")
                     check_loss(f"loss of power, seed {seed}, {number + 1} changes on: {name}", lost, left, wanted)
+                    shutil.rmtree(lost.overlay)
 
 
 def check_waits(folder: pathlib.Path) -> None:
