@@ -72,7 +72,7 @@ impl Attempts<Outside> for Shelf {
       tried = λ t q a u. Unit {0};
       kept = λ t k o u. Unit {0};
       unloaded = λ t p age gone u. Unit {0};
-      synced = λ t u. Unit {0};
+      synced = λ t went u. Unit {0};
     } };
 
     /// A place is the turn at which a request waited.
