@@ -164,7 +164,7 @@ impl<R: rt::Files + Alloc + Clone + Drop> Files<Outside> for FolderFiles<R> {
             &self.folder,
             number,
             &pieces,
-            Durability::Written,
+            durability,
         );
         self.failures = count(self.failures, &answer);
         answer
