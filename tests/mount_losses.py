@@ -24,6 +24,8 @@ from yakembi.tree_model import Nodes, Path
 
 # More than the journal notes of one file, and so many names that a directory's listing is longer than that too.
 LONG, SHORT = 150_000, 40_000
+# A content of over 8 MiB is stored without a copy.
+HUGE = 9 << 20
 WIDE = b"w" * 180
 NAMES = 760
 # Changes behind the fsync, and how many of them lie between two losses. They fill the journal several times.
@@ -166,14 +168,24 @@ def check_losses(seed: int) -> None:
                     shutil.rmtree(lost.overlay)
 
 
+def check_has_all(name: str, run: Run) -> None:
+    """The disk has all of the overlay but the lock, which has no bytes."""
+    kept = run.kept()
+    check(f"{name}: names", kept.names, names_in(run.place.overlay))
+    check(f"{name}: bytes", {**bytes_in(run.place.overlay), **kept.bytes} == bytes_in(run.place.overlay), True)
+    lacking = [file for file, number in kept.names.items() if number not in kept.bytes]
+    check(f"{name}: names without bytes", lacking, ["lock"])
+
+
 def check_waits(folder: pathlib.Path) -> None:
-    """What was changed isn't on the disk for sure before an fsync, and all of it is after one of any file."""
+    """What was changed isn't on the disk for sure before an fsync, and all of it is after one of any file, the first
+    and each later one, whatever way its files were stored in."""
     with Run(folder, 1) as run:
         run.store((b"new",), SHORT)
         check("nobody waited: names", run.kept().names, {})
         run.fsync((b"test.txt",))
-        kept = run.kept()
-        check("after an fsync: names", kept.names, names_in(run.place.overlay))
-        check("after an fsync: bytes", {**bytes_in(run.place.overlay), **kept.bytes}, bytes_in(run.place.overlay))
-        lacking = [name for name, file in kept.names.items() if file not in kept.bytes]
-        check("after an fsync: names without bytes", lacking, ["lock"])
+        check_has_all("after the first fsync", run)
+        for length in (SHORT, LONG, HUGE):
+            run.store((b"%d" % length,), length)
+            run.fsync((b"test.txt",))
+            check_has_all(f"after an fsync behind a file of {length} bytes", run)
