@@ -7,7 +7,7 @@ pub(crate) const TEXT: &[u8] =
     What was read once is kept, and what is kept isn't asked for again, until it is the oldest.\n";
 
 /// By several levels, strategies and flushes, in hexadecimal digits.
-pub(crate) const OF_TEXT: [(&str, &str); 9] = [
+pub(crate) const OF_TEXT: &[(&str, &str)] = &[
     (
         "stored",
         "780101ab0054ff41206469726563746f727920697320726561642061732069747320656e747269657320636f6d653b20616e\
@@ -66,7 +66,7 @@ pub(crate) const OF_TEXT: [(&str, &str); 9] = [
 ];
 
 /// A byte of which stream is changed, by which bits, and why zlib then refuses it.
-pub(crate) const CHANGED: [(usize, usize, u8, Refusal); 30] = [
+pub(crate) const CHANGED: &[(usize, usize, u8, Refusal)] = &[
     (4, 2, 90, Refusal::BlockKind),
     (4, 2, 2, Refusal::BlockKind),
     (6, 21, 128, Refusal::Checksum),
