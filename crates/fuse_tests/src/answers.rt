@@ -222,80 +222,110 @@ fn is_brief(answer: &Answer<'_>) -> bool
     }
 }
 
+fn is_behind(bytes: &[u8], front: &[u8], back: &[u8]) -> bool {
+    match bytes.strip_prefix(front) {
+        Some(rest) => rest == back,
+        None => false,
+    }
+}
+
 // Whether the answer is written as these bytes, behind others.
-fn is_written(rt: &(impl AllocGlobal + Abort), answer: &Answer<'_>, want: &[u8]) -> bool {
+fn is_written(rt: &impl Abort, out: &mut Vec<u8>, answer: &Answer<'_>, want: &[u8]) -> bool {
     assert!(rt; is_brief(answer));
-    let mut out = Vec::new(rt.alloc());
+    out.clear();
     out.extend_from_slice(b"before").expect(rt, "memory");
-    put_answer(&mut out, UNIQUE, answer).expect(rt, "memory");
-    let (front, back) = out.split_at(6);
-    front == b"before".as_slice() && back == want && answer_len(answer) == want.len()
+    put_answer(out, UNIQUE, answer).expect(rt, "memory");
+    is_behind(out.as_slice(), b"before", want) && answer_len(answer) == want.len()
 }
 
 #[test]
 fn answers_are_written(rt: HostRuntime) {
+    let mut out = Vec::new(rt.alloc());
     for (index, (answer, digits)) in ANSWERS.iter().enumerate() {
         let want = decoded(&rt, digits);
-        assert!(rt; is_written(&rt, answer, &want), "row {index}");
+        assert!(rt; is_written(&rt, &mut out, answer, &want), "row {index}");
     }
 }
 
 // Appends a row within the size, and says whether it fits.
-fn put(rt: &(impl AllocGlobal + Abort), out: &mut Vec<u8>, size: usize, row: &Dirent<'_>) -> bool {
+fn put(rt: &impl Abort, out: &mut Vec<u8>, size: usize, row: &Dirent<'_>) -> bool {
     assert!(rt; row.name.len() < 256);
     put_dirent(out, size, row).expect(rt, "memory")
 }
 
 // Appends a row with its entry within the size, and says whether it fits.
-fn put_plus(
-    rt: &(impl AllocGlobal + Abort),
-    out: &mut Vec<u8>,
-    size: usize,
-    row: &Dirent<'_>,
-) -> bool {
+fn put_plus(rt: &impl Abort, out: &mut Vec<u8>, size: usize, row: &Dirent<'_>) -> bool {
     assert!(rt; row.name.len() < 256);
     put_direntplus(out, size, &ENTRY, row).expect(rt, "memory")
 }
 
 // Whether the row is written as these bytes, if they may be just as many.
-fn is_row(rt: &(impl AllocGlobal + Abort), row: &Dirent<'_>, want: &[u8]) -> bool {
+fn is_row(rt: &impl Abort, out: &mut Vec<u8>, row: &Dirent<'_>, want: &[u8]) -> bool {
     assert!(rt; row.name.len() < 256);
-    let mut out = Vec::new(rt.alloc());
-    put(rt, &mut out, want.len(), row) && out.as_slice() == want && row_len(row) == want.len()
+    out.clear();
+    put(rt, out, want.len(), row) && out.as_slice() == want && row_len(row) == want.len()
 }
 
 // Whether the row is written as these bytes behind its entry.
-fn is_row_with_entry(rt: &(impl AllocGlobal + Abort), row: &Dirent<'_>, want: &[u8]) -> bool {
+fn is_row_with_entry(
+    rt: &impl Abort,
+    out: &mut Vec<u8>,
+    row: &Dirent<'_>,
+    entry: &[u8],
+    want: &[u8],
+) -> bool {
     assert!(rt; want.len() < 1000);
-    let mut out = Vec::new(rt.alloc());
-    if !put_plus(rt, &mut out, 128 + want.len(), row) || out.len() < 128 {
-        return false;
-    }
-    let entry = decoded(rt, ENTRY_DIGITS);
-    let (front, back) = out.split_at(128);
-    front == entry.as_slice() && back == want && entry_len(&ENTRY) == 128
+    out.clear();
+    put_plus(rt, out, 128 + want.len(), row)
+        && is_behind(out.as_slice(), entry, want)
+        && entry_len(&ENTRY) == 128
+}
+
+// Whether the row is written as these digits, alone and behind its entry.
+fn is_right(
+    rt: &(impl AllocGlobal + Abort),
+    out: &mut Vec<u8>,
+    entry: &[u8],
+    row: &Dirent<'_>,
+    digits: &[&str],
+) -> bool {
+    let want = decoded(rt, digits);
+    is_row(rt, out, row, &want) && is_row_with_entry(rt, out, row, entry, &want)
 }
 
 #[test]
 fn rows_are_written(rt: HostRuntime) {
+    let mut out = Vec::new(rt.alloc());
+    let entry = decoded(&rt, ENTRY_DIGITS);
     for (index, (row, digits)) in ROWS.iter().enumerate() {
-        let want = decoded(&rt, digits);
-        assert!(rt; is_row(&rt, row, &want), "row {index}");
-        assert!(rt; is_row_with_entry(&rt, row, &want), "row {index}");
+        assert!(rt; is_right(&rt, &mut out, &entry, row, digits), "row {index}");
     }
 }
 
-// Rows are written while they stay within the size that was asked for, here of two rows of 32 bytes each, and one with
-// its entry.
+// Whether rows of 32 bytes fit twice into 64 bytes.
+fn fit_twice(rt: &impl Abort, out: &mut Vec<u8>, row: &Dirent<'_>, want: &[u8]) -> bool {
+    put(rt, out, 64, row)
+        && !put(rt, out, 63, row)
+        && out.as_slice() == want
+        && put(rt, out, 64, row)
+        && out.len() == 64
+        && !put(rt, out, 65, row)
+        && out.len() == 64
+}
+
+// Whether one with its entry fits behind them into 224 bytes, and not into less.
+fn fits_behind(rt: &impl Abort, out: &mut Vec<u8>, row: &Dirent<'_>) -> bool {
+    !put_plus(rt, out, 223, row)
+        && out.len() == 64
+        && put_plus(rt, out, 224, row)
+        && out.len() == 224
+}
+
+// Rows are written while they stay within the size that was asked for.
 #[test]
 fn rows_stay_within_the_size(rt: HostRuntime) {
     let (row, digits) = &ROWS[0];
-    let want = decoded(&rt, digits);
     let mut out = Vec::new(rt.alloc());
-    assert!(rt; put(&rt, &mut out, 64, row));
-    assert!(rt; !put(&rt, &mut out, 63, row) && out == want);
-    assert!(rt; put(&rt, &mut out, 64, row) && out.len() == 64);
-    assert!(rt; !put(&rt, &mut out, 65, row) && out.len() == 64);
-    assert!(rt; !put_plus(&rt, &mut out, 223, row) && out.len() == 64);
-    assert!(rt; put_plus(&rt, &mut out, 224, row) && out.len() == 224);
+    assert!(rt; fit_twice(&rt, &mut out, row, &decoded(&rt, digits)));
+    assert!(rt; fits_behind(&rt, &mut out, row));
 }

@@ -6,6 +6,10 @@
 #[cfg(test)]
 mod answers;
 #[cfg(test)]
+mod calls;
+#[cfg(test)]
+mod flat;
+#[cfg(test)]
 mod folder;
 #[cfg(test)]
 mod meanings;

@@ -3,7 +3,7 @@ use eden_fuse_format::{
     AccessIn, CreateIn, FallocateIn, ForgetIn, GetAttrIn, LinkIn, MkDirIn, MkNodIn, OpenIn,
     Operation, ReadIn, Rename2In, RenameIn, SetAttrIn, WriteIn,
 };
-use eden_fuse_meaning::{Outcome, Owner, Step, first, next};
+use eden_fuse_meaning::{Outcome, Owner, Step, Then, first, next};
 use eden_model::{Bytes, Entries, Errno, Fault, Kind, Name, Path, Reply, Request};
 use std::process::Abort;
 
@@ -17,16 +17,22 @@ fn name(rt: &(impl AllocGlobal + Abort), text: &str) -> Name {
     Name::new(data(rt, text.as_bytes())).expect(rt, "a name")
 }
 
-// The path of a name in the root, or the root's for none; `?` is nowhere.
-fn path(rt: &(impl AllocGlobal + Abort), text: &str) -> Result<Path, u32> {
-    if text == "?" {
-        return Err(116);
-    }
+// The path of a name in the root, or the root's for none.
+fn path_of(rt: &(impl AllocGlobal + Abort), text: &str) -> Path {
     let mut names = Vec::new(rt.alloc());
     if !text.is_empty() {
         names.push(name(rt, text)).expect(rt, "memory");
     }
-    Ok(Path::new(names).expect(rt, "a path"))
+    Path::new(names).expect(rt, "a path")
+}
+
+// .. or nowhere, for `?`.
+fn path(rt: &(impl AllocGlobal + Abort), text: &str) -> Result<Path, u32> {
+    if text == "?" {
+        Err(116)
+    } else {
+        Ok(path_of(rt, text))
+    }
 }
 
 fn put(rt: &impl Abort, text: &mut Vec<u8>, word: &[u8]) {
@@ -35,68 +41,77 @@ fn put(rt: &impl Abort, text: &mut Vec<u8>, word: &[u8]) {
 
 fn put_number(rt: &(impl AllocGlobal + Abort), text: &mut Vec<u8>, number: u64) {
     let word = format!(in rt.alloc(); " {number}").expect(rt, "memory");
-    put(rt, text, &word.into_bytes());
+    put(rt, text, word.as_bytes());
 }
 
-// A word, and a path behind it, each name behind a slash.
-fn put_at(rt: &(impl AllocGlobal + Abort), text: &mut Vec<u8>, word: &[u8], path: &Path) {
-    put(rt, text, word);
-    put(rt, text, b" ");
+// Each name of a path behind a slash.
+fn put_path(rt: &impl Abort, text: &mut Vec<u8>, path: &Path) {
     for name in path.as_slice() {
         put(rt, text, b"/");
         put(rt, text, name.as_slice());
     }
 }
 
-fn put_request(rt: &(impl AllocGlobal + Abort), text: &mut Vec<u8>, request: &Request) {
+// The word of a request, and its path.
+fn word_and_path(request: &Request) -> (&'static [u8], &Path) {
     match request {
-        Request::Kind(path) => put_at(rt, text, b"kind", path),
-        Request::Stat(path) => put_at(rt, text, b"stat", path),
-        Request::Read(path, offset, count) => {
-            put_at(rt, text, b"read", path);
+        Request::Kind(path) => (b"kind ", path),
+        Request::Stat(path) => (b"stat ", path),
+        Request::Read(path, _, _) => (b"read ", path),
+        Request::ReadLink(path) => (b"readlink ", path),
+        Request::List(path, _, _) => (b"list ", path),
+        Request::Write(path, _, _) => (b"write ", path),
+        Request::Patch(path, _, _) => (b"patch ", path),
+        Request::Truncate(path, _) => (b"truncate ", path),
+        Request::Create(path) => (b"create ", path),
+        Request::SetExec(path, true) => (b"mark ", path),
+        Request::SetExec(path, false) => (b"unmark ", path),
+        Request::Mkdir(path) => (b"mkdir ", path),
+        Request::Symlink(path, _) => (b"symlink ", path),
+        Request::Unlink(path) => (b"unlink ", path),
+        Request::Rmdir(path) => (b"rmdir ", path),
+        Request::Rename(path, _) => (b"rename ", path),
+    }
+}
+
+fn put_bytes(rt: &(impl AllocGlobal + Abort), text: &mut Vec<u8>, offset: u64, bytes: &[u8]) {
+    put_number(rt, text, offset);
+    put(rt, text, b" ");
+    put(rt, text, bytes);
+}
+
+fn put_after(rt: &impl Abort, text: &mut Vec<u8>, after: &Option<Name>) {
+    if let Some(name) = after {
+        put(rt, text, b" after ");
+        put(rt, text, name.as_slice());
+    }
+}
+
+fn put_request(rt: &(impl AllocGlobal + Abort), text: &mut Vec<u8>, request: &Request) {
+    let (word, path) = word_and_path(request);
+    put(rt, text, word);
+    put_path(rt, text, path);
+    match request {
+        Request::Read(_, offset, count) => {
             put_number(rt, text, *offset);
             put_number(rt, text, *count);
         }
-        Request::ReadLink(path) => put_at(rt, text, b"readlink", path),
-        Request::List(path, after, most) => {
-            put_at(rt, text, b"list", path);
-            if let Some(name) = after {
-                put(rt, text, b" after ");
-                put(rt, text, name.as_slice());
-            }
+        Request::List(_, after, most) => {
+            put_after(rt, text, after);
             put_number(rt, text, *most);
         }
-        Request::Write(path, offset, bytes) => {
-            put_at(rt, text, b"write", path);
-            put_number(rt, text, *offset);
-            put(rt, text, b" ");
-            put(rt, text, bytes.as_slice());
-        }
-        Request::Patch(path, offset, bytes) => {
-            put_at(rt, text, b"patch", path);
-            put_number(rt, text, *offset);
-            put(rt, text, b" ");
-            put(rt, text, bytes.as_slice());
-        }
-        Request::Truncate(path, size) => {
-            put_at(rt, text, b"truncate", path);
-            put_number(rt, text, *size);
-        }
-        Request::Create(path) => put_at(rt, text, b"create", path),
-        Request::SetExec(path, true) => put_at(rt, text, b"mark", path),
-        Request::SetExec(path, false) => put_at(rt, text, b"unmark", path),
-        Request::Mkdir(path) => put_at(rt, text, b"mkdir", path),
-        Request::Symlink(path, target) => {
-            put_at(rt, text, b"symlink", path);
+        Request::Write(_, offset, bytes) => put_bytes(rt, text, *offset, bytes.as_slice()),
+        Request::Patch(_, offset, bytes) => put_bytes(rt, text, *offset, bytes.as_slice()),
+        Request::Truncate(_, size) => put_number(rt, text, *size),
+        Request::Symlink(_, target) => {
             put(rt, text, b" ");
             put(rt, text, target.as_slice());
         }
-        Request::Unlink(path) => put_at(rt, text, b"unlink", path),
-        Request::Rmdir(path) => put_at(rt, text, b"rmdir", path),
-        Request::Rename(from, to) => {
-            put_at(rt, text, b"rename", from);
-            put_at(rt, text, b"", to);
+        Request::Rename(_, to) => {
+            put(rt, text, b" ");
+            put_path(rt, text, to);
         }
+        _ => {}
     }
     put(rt, text, b"; ");
 }
@@ -113,62 +128,47 @@ fn word_of(kind: Kind) -> &'static [u8] {
 fn put_node(
     rt: &(impl AllocGlobal + Abort),
     text: &mut Vec<u8>,
-    word: &[u8],
     kind: Kind,
     size: u64,
     inode: u64,
 ) {
-    put(rt, text, word);
     put(rt, text, word_of(kind));
     put_number(rt, text, size);
     put_number(rt, text, inode);
 }
 
-fn put_outcome(rt: &(impl AllocGlobal + Abort), text: &mut Vec<u8>, outcome: &Outcome) {
+fn word_of_outcome(outcome: &Outcome) -> &'static [u8] {
     match outcome {
-        Outcome::Silent => put(rt, text, b"silent"),
-        Outcome::Refused(errno) => {
-            put(rt, text, b"refused");
-            put_number(rt, text, u64::from(*errno));
-        }
-        Outcome::Done => put(rt, text, b"done"),
-        Outcome::Absent => put(rt, text, b"absent"),
-        Outcome::Found(kind, size, inode) => put_node(rt, text, b"found", *kind, *size, *inode),
-        Outcome::Attributes(kind, size, inode) => put_node(
-            rt, text, b"shown", *kind, *size, *inode,
-        ),
-        Outcome::Opened => put(rt, text, b"opened"),
-        Outcome::Made(kind, size, inode) => put_node(rt, text, b"made", *kind, *size, *inode),
-        Outcome::Bytes(bytes) => {
-            put(rt, text, b"bytes ");
-            put(rt, text, bytes.as_slice());
-        }
-        Outcome::Written(count) => {
-            put(rt, text, b"written");
-            put_number(rt, text, *count);
-        }
-        Outcome::Rows(entries, more) => {
-            put(rt, text, b"rows");
-            put_number(rt, text, entries.len() as u64);
-            if *more {
-                put(rt, text, b" of more");
-            }
-        }
-        Outcome::Space => put(rt, text, b"space"),
-        Outcome::Started => put(rt, text, b"started"),
+        Outcome::Silent => b"silent",
+        Outcome::Refused(_) => b"refused",
+        Outcome::Done => b"done",
+        Outcome::Absent => b"absent",
+        Outcome::Found(_, _, _) => b"found",
+        Outcome::Attributes(_, _, _) => b"shown",
+        Outcome::Opened => b"opened",
+        Outcome::Made(_, _, _) => b"made",
+        Outcome::Bytes(_) => b"bytes ",
+        Outcome::Written(_) => b"written",
+        Outcome::Rows(_, _) => b"rows",
+        Outcome::Space => b"space",
+        Outcome::Started => b"started",
     }
 }
 
-// What stands at a path, by its last name.
-fn kind_at(path: &Path) -> Option<Kind> {
-    match path.as_slice().last() {
-        None => Some(Kind::Dir),
-        Some(name) => match name.as_slice() {
-            b"file" => Some(Kind::File),
-            b"link" => Some(Kind::Link),
-            b"dir" => Some(Kind::Dir),
-            _ => None,
-        },
+fn put_outcome(rt: &(impl AllocGlobal + Abort), text: &mut Vec<u8>, outcome: &Outcome) {
+    put(rt, text, word_of_outcome(outcome));
+    match outcome {
+        Outcome::Refused(errno) => put_number(rt, text, u64::from(*errno)),
+        Outcome::Found(kind, size, inode)
+        | Outcome::Attributes(kind, size, inode)
+        | Outcome::Made(kind, size, inode) => put_node(rt, text, *kind, *size, *inode),
+        Outcome::Bytes(bytes) => put(rt, text, bytes.as_slice()),
+        Outcome::Written(count) => put_number(rt, text, *count),
+        Outcome::Rows(entries, more) => {
+            put_number(rt, text, entries.len() as u64);
+            put(rt, text, if *more { b" of more" } else { b"" });
+        }
+        _ => {}
     }
 }
 
@@ -179,6 +179,38 @@ fn is_named(path: &Path, name: &[u8]) -> bool {
     }
 }
 
+// What stands at a path, by its last name.
+fn kind_at(path: &Path) -> Option<Kind> {
+    if path.is_root() || is_named(path, b"dir") {
+        Some(Kind::Dir)
+    } else if is_named(path, b"file") {
+        Some(Kind::File)
+    } else if is_named(path, b"link") {
+        Some(Kind::Link)
+    } else {
+        None
+    }
+}
+
+fn stat_of(path: &Path) -> Reply {
+    if let Some(kind) = kind_at(path) {
+        Reply::Stat(kind, 5, 70)
+    } else if is_named(path, b"made") {
+        Reply::Stat(Kind::Exec, 0, 71)
+    } else if is_named(path, b"lost") {
+        Reply::Fault(Fault::Overlay)
+    } else {
+        Reply::Err(Errno::ENOENT)
+    }
+}
+
+fn entries(rt: &(impl AllocGlobal + Abort)) -> Entries {
+    let mut rows = Vec::new(rt.alloc());
+    let row = (name(rt, "file"), Kind::File);
+    rows.push(row).expect(rt, "memory");
+    Entries::new(rows)
+}
+
 // What a mount replies in which `made` is seen only once it was made, and which fails at `lost`.
 fn reply(rt: &(impl AllocGlobal + Abort), request: &Request) -> Reply {
     match request {
@@ -186,47 +218,80 @@ fn reply(rt: &(impl AllocGlobal + Abort), request: &Request) -> Reply {
             Some(kind) => Reply::Kind(kind),
             None => Reply::Err(Errno::ENOENT),
         },
-        Request::Stat(path) => match kind_at(path) {
-            Some(kind) => Reply::Stat(kind, 5, 70),
-            None if is_named(path, b"made") => Reply::Stat(Kind::Exec, 0, 71),
-            None if is_named(path, b"lost") => Reply::Fault(Fault::Overlay),
-            None => Reply::Err(Errno::ENOENT),
-        },
+        Request::Stat(path) => stat_of(path),
         Request::Create(path) if kind_at(path).is_some() => Reply::Err(Errno::EEXIST),
         Request::Read(_, _, _) => Reply::Data(Bytes::new(data(rt, b"hello"))),
         Request::ReadLink(_) => Reply::Data(Bytes::new(data(rt, b"target"))),
-        Request::List(_, _, _) => {
-            let mut rows = Vec::new(rt.alloc());
-            rows.push((name(rt, "file"), Kind::File))
-                .expect(rt, "memory");
-            Reply::Entries(Entries::new(rows), true)
-        }
+        Request::List(_, _, _) => Reply::Entries(entries(rt), true),
         Request::Patch(_, _, bytes) => Reply::Count(bytes.len() as u64),
         _ => Reply::Ok,
     }
 }
 
-// The requests of an operation on the node of that name, and what it comes to. A directory is read on after `file`, and
-// a rename goes to `dir`.
-fn told(rt: &(impl AllocGlobal + Abort), at: &str, operation: &Operation<'_>) -> Vec<u8> {
-    let mut text = Vec::new(rt.alloc());
+// The first step of an operation on the node of that name. A directory is read on after `file`, and a rename goes to
+// `dir`.
+fn first_of(rt: &(impl AllocGlobal + Abort), at: &str, operation: &Operation<'_>) -> Step {
     let last = Some(name(rt, "file"));
     let node = path(rt, at);
     let to = path(rt, "dir");
-    let mut step = first(rt.alloc(), OWNER, &node, &to, &last, operation).expect(rt, "memory");
-    for _ in 0..8 {
-        step = match step {
-            Step::Tell(outcome) => {
-                put_outcome(rt, &mut text, &outcome);
-                return text;
-            }
-            Step::Ask(request, then) => {
-                put_request(rt, &mut text, &request);
-                next(rt.alloc(), then, reply(rt, &request)).expect(rt, "memory")
-            }
-        };
+    first(rt.alloc(), OWNER, &node, &to, &last, operation).expect(rt, "memory")
+}
+
+// What an operation asks and comes to, and whether it came to that.
+#[derive(Drop)]
+struct Course {
+    text: Vec<u8>,
+    is_over: bool,
+}
+
+impl Course {
+    fn tell(&mut self, rt: &(impl AllocGlobal + Abort), outcome: &Outcome) {
+        if !self.is_over {
+            put_outcome(rt, &mut self.text, outcome);
+            self.is_over = true;
+        }
     }
-    text
+
+    fn ask(&mut self, rt: &(impl AllocGlobal + Abort), request: Request, then: Then) -> Step {
+        put_request(rt, &mut self.text, &request);
+        let reply = reply(rt, &request);
+        drop(request);
+        next(rt.alloc(), then, reply).expect(rt, "memory")
+    }
+
+    // The step behind one that asks; one that tells is the last.
+    fn go(&mut self, rt: &(impl AllocGlobal + Abort), step: Step) -> Step {
+        match step {
+            Step::Tell(outcome) => {
+                self.tell(rt, &outcome);
+                Step::Tell(outcome)
+            }
+            Step::Ask(request, then) => self.ask(rt, request, then),
+        }
+    }
+
+    fn run(&mut self, rt: &(impl AllocGlobal + Abort), first: Step) {
+        let mut step = first;
+        for _ in 0..8 {
+            step = self.go(rt, step);
+        }
+        drop(step);
+    }
+}
+
+// Whether these are the requests of an operation on the node of that name, and what it comes to.
+fn is_told(
+    rt: &(impl AllocGlobal + Abort),
+    at: &str,
+    operation: &Operation<'_>,
+    want: &str,
+) -> bool {
+    let mut course = Course {
+        text: Vec::new(rt.alloc()),
+        is_over: false,
+    };
+    course.run(rt, first_of(rt, at, operation));
+    course.text.as_slice() == want.as_bytes()
 }
 
 fn setting(valid: u32, mode: u32, uid: u32) -> SetAttrIn {
@@ -280,10 +345,7 @@ const SET: &[(&str, u32, u32, u32, &str)] = &[
 fn attributes_are_set(rt: HostRuntime) {
     for (at, valid, mode, uid, want) in SET {
         let operation = Operation::SetAttr(setting(*valid, *mode, *uid));
-        assert!(rt;
-            told(&rt, at, &operation).as_slice() == want.as_bytes(),
-            "{want}"
-        );
+        assert!(rt; is_told(&rt, at, &operation, want), "{want}");
     }
 }
 
@@ -521,14 +583,11 @@ const TOLD: &[(&str, Operation<'static>, &str)] = &[
 #[test]
 fn operations_ask_and_are_told(rt: HostRuntime) {
     for (at, operation, want) in TOLD {
-        assert!(rt;
-            told(&rt, at, operation).as_slice() == want.as_bytes(),
-            "{want}"
-        );
+        assert!(rt; is_told(&rt, at, operation, want), "{want}");
     }
     let node = Operation::GetAttr(GetAttrIn {
         getattr_flags: 0,
         fh: 0,
     });
-    assert!(rt; told(&rt, "", &node).as_slice() == b"stat ; shown dir 5 70".as_slice());
+    assert!(rt; is_told(&rt, "", &node, "stat ; shown dir 5 70"));
 }

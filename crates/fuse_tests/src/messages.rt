@@ -1,4 +1,5 @@
 //! What messages of the kernel are read as.
+use crate::answers::decoded;
 use crate::none::{MALFORMED, UNFRAMED, UNKNOWN};
 use crate::sent::{BATCH, FORGOTTEN, Row, SENT, SPELLED};
 use eden_fuse_format::{
@@ -97,65 +98,90 @@ fn of_init(s: &InitIn) -> Members {
     ])
 }
 
-// The kernel's number of an operation, the members of its struct, its name or bytes, and its other name.
-fn parts_of<'a>(operation: &Operation<'a>) -> (u32, Members, &'a [u8], &'a [u8]) {
+// The kernel's number of an operation.
+fn opcode_of(operation: &Operation<'_>) -> u32 {
     match operation {
-        Operation::Lookup(name) => (1, [0; 13], name, b""),
-        Operation::Forget(s) => (2, padded(&[s.nlookup]), b"", b""),
-        Operation::GetAttr(s) => (3, padded(&[u64::from(s.getattr_flags), s.fh]), b"", b""),
-        Operation::SetAttr(s) => (4, of_setattr(s), b"", b""),
-        Operation::ReadLink => (5, [0; 13], b"", b""),
-        Operation::Symlink(name, target) => (6, [0; 13], name, target),
-        Operation::MkNod(s, name) => (8, of_mknod(s), name, b""),
-        Operation::MkDir(s, name) => (
-            9,
-            padded(&[u64::from(s.mode), u64::from(s.umask)]),
-            name,
-            b"",
-        ),
-        Operation::Unlink(name) => (10, [0; 13], name, b""),
-        Operation::RmDir(name) => (11, [0; 13], name, b""),
-        Operation::Rename(s, name, other) => (12, padded(&[s.newdir]), name, other),
-        Operation::Link(s, name) => (13, padded(&[s.oldnodeid]), name, b""),
-        Operation::Open(s) => (14, of_open(s), b"", b""),
-        Operation::Read(s) => (15, of_read(s), b"", b""),
-        Operation::Write(s, bytes) => (16, of_write(s), bytes, b""),
-        Operation::StatFs => (17, [0; 13], b"", b""),
-        Operation::Release(s) => (18, of_release(s), b"", b""),
-        Operation::FSync(s) => (20, padded(&[s.fh, u64::from(s.fsync_flags)]), b"", b""),
-        Operation::Flush(s) => (25, padded(&[s.fh, s.lock_owner]), b"", b""),
-        Operation::Init(s) => (26, of_init(s), b"", b""),
-        Operation::OpenDir(s) => (27, of_open(s), b"", b""),
-        Operation::ReadDir(s) => (28, of_read(s), b"", b""),
-        Operation::ReleaseDir(s) => (29, of_release(s), b"", b""),
-        Operation::FSyncDir(s) => (30, padded(&[s.fh, u64::from(s.fsync_flags)]), b"", b""),
-        Operation::Access(s) => (34, padded(&[u64::from(s.mask)]), b"", b""),
-        Operation::Create(s, name) => (35, of_create(s), name, b""),
-        Operation::Interrupt(s) => (36, padded(&[s.unique]), b"", b""),
-        Operation::Destroy => (38, [0; 13], b"", b""),
-        Operation::BatchForget(batch) => (42, [0; 13], batch, b""),
-        Operation::Fallocate(s) => (43, of_fallocate(s), b"", b""),
-        Operation::ReadDirPlus(s) => (44, of_read(s), b"", b""),
-        Operation::Rename2(s, name, other) => (
-            45,
-            padded(&[s.newdir, u64::from(s.flags)]),
-            name,
-            other,
-        ),
+        Operation::Lookup(_) => 1,
+        Operation::Forget(_) => 2,
+        Operation::GetAttr(_) => 3,
+        Operation::SetAttr(_) => 4,
+        Operation::ReadLink => 5,
+        Operation::Symlink(_, _) => 6,
+        Operation::MkNod(_, _) => 8,
+        Operation::MkDir(_, _) => 9,
+        Operation::Unlink(_) => 10,
+        Operation::RmDir(_) => 11,
+        Operation::Rename(_, _, _) => 12,
+        Operation::Link(_, _) => 13,
+        Operation::Open(_) => 14,
+        Operation::Read(_) => 15,
+        Operation::Write(_, _) => 16,
+        Operation::StatFs => 17,
+        Operation::Release(_) => 18,
+        Operation::FSync(_) => 20,
+        Operation::Flush(_) => 25,
+        Operation::Init(_) => 26,
+        Operation::OpenDir(_) => 27,
+        Operation::ReadDir(_) => 28,
+        Operation::ReleaseDir(_) => 29,
+        Operation::FSyncDir(_) => 30,
+        Operation::Access(_) => 34,
+        Operation::Create(_, _) => 35,
+        Operation::Interrupt(_) => 36,
+        Operation::Destroy => 38,
+        Operation::BatchForget(_) => 42,
+        Operation::Fallocate(_) => 43,
+        Operation::ReadDirPlus(_) => 44,
+        Operation::Rename2(_, _, _) => 45,
     }
 }
 
-fn bytes_of(rt: &(impl AllocGlobal + Abort), pieces: &[&str]) -> Vec<u8> {
-    let mut bytes = Vec::new(rt.alloc());
-    for piece in pieces {
-        let more = hex::decode(rt.alloc(), *piece).expect(rt, "digits");
-        bytes.extend_from_slice(&more).expect(rt, "memory");
+fn members_of(operation: &Operation<'_>) -> Members {
+    match operation {
+        Operation::Forget(s) => padded(&[s.nlookup]),
+        Operation::GetAttr(s) => padded(&[u64::from(s.getattr_flags), s.fh]),
+        Operation::SetAttr(s) => of_setattr(s),
+        Operation::MkNod(s, _) => of_mknod(s),
+        Operation::MkDir(s, _) => padded(&[u64::from(s.mode), u64::from(s.umask)]),
+        Operation::Rename(s, _, _) => padded(&[s.newdir]),
+        Operation::Link(s, _) => padded(&[s.oldnodeid]),
+        Operation::Open(s) | Operation::OpenDir(s) => of_open(s),
+        Operation::Read(s) | Operation::ReadDir(s) | Operation::ReadDirPlus(s) => of_read(s),
+        Operation::Write(s, _) => of_write(s),
+        Operation::Release(s) | Operation::ReleaseDir(s) => of_release(s),
+        Operation::FSync(s) | Operation::FSyncDir(s) => {
+            padded(&[s.fh, u64::from(s.fsync_flags)])
+        }
+        Operation::Flush(s) => padded(&[s.fh, s.lock_owner]),
+        Operation::Init(s) => of_init(s),
+        Operation::Access(s) => padded(&[u64::from(s.mask)]),
+        Operation::Create(s, _) => of_create(s),
+        Operation::Interrupt(s) => padded(&[s.unique]),
+        Operation::Fallocate(s) => of_fallocate(s),
+        Operation::Rename2(s, _, _) => padded(&[s.newdir, u64::from(s.flags)]),
+        _ => padded(&[]),
     }
-    bytes
+}
+
+// The name or the bytes of an operation, and its other name.
+fn names_of<'a>(operation: &Operation<'a>) -> (&'a [u8], &'a [u8]) {
+    match operation {
+        Operation::Lookup(name) | Operation::Unlink(name) | Operation::RmDir(name) => (name, b""),
+        Operation::MkNod(_, name) => (name, b""),
+        Operation::MkDir(_, name) => (name, b""),
+        Operation::Link(_, name) => (name, b""),
+        Operation::Create(_, name) => (name, b""),
+        Operation::Write(_, bytes) => (bytes, b""),
+        Operation::BatchForget(batch) => (batch, b""),
+        Operation::Symlink(name, other) => (name, other),
+        Operation::Rename(_, name, other) => (name, other),
+        Operation::Rename2(_, name, other) => (name, other),
+        _ => (b"", b""),
+    }
 }
 
 fn is_read(row: &Row, header: &Header, operation: &Operation<'_>) -> bool {
-    let (opcode, members, name, other) = parts_of(operation);
+    let (name, other) = names_of(operation);
     let told = [
         header.unique,
         header.nodeid,
@@ -164,20 +190,23 @@ fn is_read(row: &Row, header: &Header, operation: &Operation<'_>) -> bool {
         u64::from(header.pid),
     ];
     told == row.header
-        && opcode == row.opcode
-        && members.starts_with(row.members)
+        && opcode_of(operation) == row.opcode
+        && members_of(operation).starts_with(row.members)
         && name == row.name
         && other == row.other
 }
 
+// Whether the message of a row is read as its request.
+fn is_request(rt: &(impl AllocGlobal + Abort), row: &Row) -> bool {
+    match read_message(&decoded(rt, row.sent)) {
+        Message::Request(header, operation) => is_read(row, &header, &operation),
+        _ => false,
+    }
+}
+
 fn check_rows(rt: &(impl AllocGlobal + Abort), rows: &[Row]) {
     for (index, row) in rows.iter().enumerate() {
-        let bytes = bytes_of(rt, row.sent);
-        let is_right = match read_message(&bytes) {
-            Message::Request(header, operation) => is_read(row, &header, &operation),
-            _ => false,
-        };
-        assert!(rt; is_right, "row {index}");
+        assert!(rt; is_request(rt, row), "row {index}");
     }
 }
 
@@ -187,56 +216,68 @@ fn messages_that_are_requests(rt: HostRuntime) {
     check_rows(&rt, SPELLED);
 }
 
+// In what way a message is no request.
+#[derive(Clone, Copy)]
+enum Lack {
+    Unknown,
+    Malformed,
+    Unframed,
+}
+
+// Whether a message lacks that, and is number 5 where it has a number.
+fn lacks(rt: &(impl AllocGlobal + Abort), sent: &[&str], lack: Lack) -> bool {
+    match (read_message(&decoded(rt, sent)), lack) {
+        (Message::Unknown(unique), Lack::Unknown) => unique == 5,
+        (Message::Malformed(unique), Lack::Malformed) => unique == 5,
+        (Message::Unframed, Lack::Unframed) => true,
+        _ => false,
+    }
+}
+
+fn check_lacks(rt: &(impl AllocGlobal + Abort), rows: &[&[&str]], lack: Lack) {
+    for (index, sent) in rows.iter().enumerate() {
+        assert!(rt; lacks(rt, sent, lack), "row {index}");
+    }
+}
+
 #[test]
 fn messages_that_are_none(rt: HostRuntime) {
-    for (index, sent) in UNKNOWN.iter().enumerate() {
-        let bytes = bytes_of(&rt, sent);
+    check_lacks(&rt, UNKNOWN, Lack::Unknown);
+    check_lacks(&rt, MALFORMED, Lack::Malformed);
+    check_lacks(&rt, UNFRAMED, Lack::Unframed);
+}
+
+// Cut anywhere, the message of that row isn't framed any more.
+fn check_cut(rt: &impl Abort, index: usize, bytes: &[u8]) {
+    for len in 0..bytes.len() {
         assert!(rt;
-            matches!(read_message(&bytes), Message::Unknown(5)),
-            "row {index}"
-        );
-    }
-    for (index, sent) in MALFORMED.iter().enumerate() {
-        let bytes = bytes_of(&rt, sent);
-        assert!(rt;
-            matches!(read_message(&bytes), Message::Malformed(5)),
-            "row {index}"
-        );
-    }
-    for (index, sent) in UNFRAMED.iter().enumerate() {
-        let bytes = bytes_of(&rt, sent);
-        assert!(rt;
-            matches!(read_message(&bytes), Message::Unframed),
-            "row {index}"
+            matches!(read_message(&bytes[..len]), Message::Unframed),
+            "{len} bytes of row {index}"
         );
     }
 }
 
-// Cut anywhere, a message isn't framed any more.
 #[test]
 fn messages_that_are_cut(rt: HostRuntime) {
     for (index, row) in SENT.iter().enumerate() {
-        let bytes = bytes_of(&rt, row.sent);
-        for len in 0..bytes.len() {
-            let (front, _) = bytes.split_at(len);
-            assert!(rt;
-                matches!(read_message(front), Message::Unframed),
-                "{len} bytes of row {index}"
-            );
-        }
+        check_cut(&rt, index, &decoded(&rt, row.sent));
+    }
+}
+
+// Whether the batch forgets that node so often, at that place.
+fn is_forgotten(index: usize, nodeid: u64, nlookup: u64) -> bool {
+    match forget_at(BATCH, index) {
+        Some(one) => one.nodeid == nodeid && one.nlookup == nlookup,
+        None => false,
     }
 }
 
 #[test]
 fn a_batch_is_forgotten(rt: HostRuntime) {
     for (index, (nodeid, nlookup)) in FORGOTTEN.iter().enumerate() {
-        let is_there = match forget_at(&BATCH, index) {
-            Some(one) => one.nodeid == *nodeid && one.nlookup == *nlookup,
-            None => false,
-        };
-        assert!(rt; is_there, "row {index}");
+        assert!(rt; is_forgotten(index, *nodeid, *nlookup), "row {index}");
     }
-    assert!(rt; forget_at(&BATCH, FORGOTTEN.len()).is_none());
+    assert!(rt; forget_at(BATCH, FORGOTTEN.len()).is_none());
     assert!(rt; forget_at(&BATCH[..15], 0).is_none());
-    assert!(rt; forget_at(&BATCH, usize::MAX).is_none());
+    assert!(rt; forget_at(BATCH, usize::MAX).is_none());
 }

@@ -331,7 +331,7 @@ pub(crate) const SENT: &[Row] = &[
         header: [138, 0, 0, 0, 0],
         opcode: 42,
         members: &[],
-        name: &BATCH,
+        name: BATCH,
         other: b"",
     },
     Row {
@@ -477,10 +477,10 @@ pub(crate) const SPELLED: &[Row] = &[
 ];
 
 // The nodes of a batch, and how often each is forgotten.
-pub(crate) const FORGOTTEN: [(u64, u64); 6] = [(4, 1), (6, 1), (7, 1), (3, 3), (5, 2), (2, 10)];
+pub(crate) const FORGOTTEN: &[(u64, u64)] = &[(4, 1), (6, 1), (7, 1), (3, 3), (5, 2), (2, 10)];
 
 // Their bytes.
-pub(crate) const BATCH: [u8; 96] = [
+pub(crate) const BATCH: &[u8] = &[
     4, 0, 0, 0, 0, 0, 0, 0, 1, 0, 0, 0, 0, 0, 0, 0, 6, 0, 0, 0, 0, 0, 0, 0, 1, 0, 0, 0, 0, 0, 0, 0,
     7, 0, 0, 0, 0, 0, 0, 0, 1, 0, 0, 0, 0, 0, 0, 0, 3, 0, 0, 0, 0, 0, 0, 0, 3, 0, 0, 0, 0, 0, 0, 0,
     5, 0, 0, 0, 0, 0, 0, 0, 2, 0, 0, 0, 0, 0, 0, 0, 2, 0, 0, 0, 0, 0, 0, 0, 10, 0, 0, 0, 0, 0, 0,

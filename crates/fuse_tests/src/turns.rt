@@ -110,11 +110,6 @@ impl Session {
         )
     }
 
-    // .. of a message that is spelled so.
-    fn take(&mut self, rt: &(impl AllocGlobal + Abort), sent: &[&str]) -> Turned {
-        self.turn(&decoded(rt, sent))
-    }
-
     // Whether so many calls of the line, and of the service, were made, and these bytes came.
     fn is_at(&self, calls: u32, asked: u32, got: &[u8]) -> bool {
         self.line.calls == calls && self.service.asked == asked && self.line.got.as_slice() == got
@@ -217,20 +212,39 @@ fn answer_of(rt: &(impl AllocGlobal + Abort), row: &Row) -> Vec<u8> {
     bytes
 }
 
+// How a turn ends, and how often the line and the service were called by then.
+#[derive(Clone, Copy)]
+struct End(Turned, u32, u32);
+
+impl Session {
+    // Whether a message's turn ends so, and these bytes came by then.
+    fn ends(
+        &mut self,
+        rt: &(impl AllocGlobal + Abort),
+        sent: &[&str],
+        end: End,
+        got: &[u8],
+    ) -> bool {
+        let End(turned, calls, asked) = end;
+        self.turn(&decoded(rt, sent)) == turned && self.is_at(calls, asked, got)
+    }
+
+    // Whether a row's message is answered, as one of so many.
+    fn answers(&mut self, rt: &(impl AllocGlobal + Abort), row: &Row, turns: u32) -> bool {
+        let end = End(Turned::Answered, turns, turns);
+        self.ends(rt, row.sent, end, &answer_of(rt, row))
+    }
+}
+
 // Over one session, whose rooms have in them what the turn before left.
 #[test]
 fn each_message_is_answered_by_one(rt: HostRuntime) {
     let mut session = make_session(&rt, 0);
     let mut turns = 0u32;
-    for (index, row) in ANSWERED.iter().enumerate() {
+    for row in ANSWERED {
         session.line.got.clear();
         turns = turns.saturating_add(1);
-        assert!(rt;
-            session.take(&rt, row.sent) == Turned::Answered,
-            "row {index}"
-        );
-        let want = answer_of(&rt, row);
-        assert!(rt; session.is_at(turns, turns, &want), "row {index}");
+        assert!(rt; session.answers(&rt, row, turns), "message {turns}");
     }
 }
 
@@ -238,84 +252,104 @@ fn each_message_is_answered_by_one(rt: HostRuntime) {
 fn what_wants_no_answer_has_none(rt: HostRuntime) {
     let mut session = make_session(&rt, 1);
     let mut turns = 0u32;
-    for (index, sent) in SILENT.iter().enumerate() {
+    for sent in SILENT {
         turns = turns.saturating_add(1);
-        assert!(rt; session.take(&rt, sent) == Turned::Silent, "row {index}");
-        assert!(rt; session.is_at(0, turns, b""), "row {index}");
+        let end = End(Turned::Silent, 0, turns);
+        assert!(rt; session.ends(&rt, sent, end, b""), "message {turns}");
     }
 }
 
-// Each is refused by one message with these digits, and the service isn't asked.
-fn check_refusals(rt: &(impl AllocGlobal + Abort), rows: &[&[&str]], digits: &str) {
-    let want = decoded(rt, &[digits]);
+// Whether the first message's turn ends so, and these bytes came, where the line fails at that call.
+fn ends_first(
+    rt: &(impl AllocGlobal + Abort),
+    bad: u32,
+    sent: &[&str],
+    end: End,
+    got: &[u8],
+) -> bool {
+    make_session(rt, bad).ends(rt, sent, end, got)
+}
+
+// Each is the first of a session and ends so, with one message of these digits or with none.
+fn check_first(
+    rt: &(impl AllocGlobal + Abort),
+    bad: u32,
+    rows: &[&[&str]],
+    end: End,
+    digits: &str,
+) {
+    let got = decoded(rt, &[digits]);
     for (index, sent) in rows.iter().enumerate() {
-        let mut session = make_session(rt, 0);
-        assert!(rt; session.take(rt, sent) == Turned::Answered, "row {index}");
-        assert!(rt; session.is_at(1, 0, &want), "row {index}");
+        assert!(rt; ends_first(rt, bad, sent, end, &got), "row {index}");
     }
 }
 
 #[test]
 fn messages_are_refused_without_the_service(rt: HostRuntime) {
-    check_refusals(&rt, UNKNOWN, "10000000daffffff0500000000000000");
-    check_refusals(&rt, MALFORMED, "10000000eaffffff0500000000000000");
-    for (index, sent) in UNFRAMED.iter().enumerate() {
-        let mut session = make_session(&rt, 0);
-        assert!(rt; session.take(&rt, sent) == Turned::Unframed, "row {index}");
-        assert!(rt; session.is_at(0, 0, b""), "row {index}");
-    }
+    let refused = End(Turned::Answered, 1, 0);
+    check_first(&rt, 0, UNKNOWN, refused, "10000000daffffff0500000000000000");
+    check_first(
+        &rt,
+        0,
+        MALFORMED,
+        refused,
+        "10000000eaffffff0500000000000000",
+    );
+    check_first(&rt, 0, UNFRAMED, End(Turned::Unframed, 0, 0), "");
 }
 
-// Nothing came, the service was asked once, and the next message is answered.
+// Whether nothing comes of a row's message whose service was asked once, and the next one is answered.
+fn fails_once(rt: &(impl AllocGlobal + Abort), row: &Row) -> bool {
+    let mut session = make_session(rt, 1);
+    session.ends(rt, row.sent, End(Turned::NotSent, 1, 1), b"")
+        && session.line.failures == 1
+        && session.answers(rt, row, 2)
+}
+
 #[test]
 fn a_line_fails(rt: HostRuntime) {
     for (index, row) in ANSWERED.iter().enumerate() {
-        let mut session = make_session(&rt, 1);
-        assert!(rt;
-            session.take(&rt, row.sent) == Turned::NotSent,
-            "row {index}"
-        );
-        assert!(rt;
-            session.is_at(1, 1, b"") && session.line.failures == 1,
-            "row {index}"
-        );
-        assert!(rt;
-            session.take(&rt, row.sent) == Turned::Answered,
-            "row {index}"
-        );
-        assert!(rt; session.is_at(2, 2, &answer_of(&rt, row)), "row {index}");
+        assert!(rt; fails_once(&rt, row), "row {index}");
     }
-    for (index, sent) in UNKNOWN.iter().enumerate() {
-        let mut session = make_session(&rt, 1);
-        assert!(rt; session.take(&rt, sent) == Turned::NotSent, "row {index}");
-        assert!(rt; session.is_at(1, 0, b""), "row {index}");
+    check_first(&rt, 1, UNKNOWN, End(Turned::NotSent, 1, 0), "");
+}
+
+// A session with so much room for answers, and a line with room for an answer of that length.
+fn make_narrow(rt: &(impl AllocGlobal + Abort), room: usize, len: usize) -> Session {
+    let mut session = make_session(rt, 0);
+    session.line.got.reserve(len).expect(rt, "memory");
+    session.out = Vec::with_capacity(rt.alloc(), room).expect(rt, "memory");
+    session
+}
+
+impl Session {
+    // Whether a turn finds no memory for its answer. Then nothing is sent, and the next one answers; so does the first,
+    // if the room was large enough.
+    fn wants_memory(&mut self, rt: &impl Abort, message: &[u8], want: &[u8], room: usize) -> bool {
+        if self.turn(message) == Turned::Answered {
+            assert!(rt; self.is_at(1, 1, want));
+            return false;
+        }
+        assert!(rt; room < want.len() && self.is_at(0, 1, b""));
+        assert!(rt; self.turn(message) == Turned::Answered && self.is_at(1, 2, want));
+        true
     }
 }
 
-// Whether a turn finds no memory for its answer. Then nothing is sent, and the next one answers; so does the first, if
-// the room was large enough.
-fn wants_memory(rt: &(impl AllocGlobal + Abort), row: &Row, room: usize) -> bool {
+// .. of a row, with a room that lacks so much, if it isn't as large as that.
+fn wants_memory(rt: &(impl AllocGlobal + Abort), row: &Row, lack: usize) -> bool {
     let message = decoded(rt, row.sent);
     let want = answer_of(rt, row);
-    let mut session = make_session(rt, 0);
-    session.line.got.reserve(want.len()).expect(rt, "memory");
-    session.out = Vec::with_capacity(rt.alloc(), room).expect(rt, "memory");
-    if session.turn(&message) == Turned::Answered {
-        assert!(rt; session.is_at(1, 1, &want));
-        return false;
-    }
-    assert!(rt; room < want.len() && session.is_at(0, 1, b""));
-    assert!(rt; session.turn(&message) == Turned::Answered && session.is_at(1, 2, &want));
-    true
+    let room = want.len() - want.len().min(lack);
+    make_narrow(rt, room, want.len()).wants_memory(rt, &message, &want, room)
 }
 
 // Memory is refused only where these tests are run so.
 #[test]
 fn rooms_grow(rt: HostRuntime) {
     for row in ANSWERED {
-        let len = answer_of(&rt, row).len();
-        assert!(rt; !wants_memory(&rt, row, len));
-        wants_memory(&rt, row, len - len.min(1));
-        wants_memory(&rt, row, 0);
+        assert!(rt; !wants_memory(&rt, row, 0));
+        wants_memory(&rt, row, 1);
+        wants_memory(&rt, row, usize::MAX);
     }
 }
