@@ -2,12 +2,19 @@
 use crate::loose::bytes_of;
 use std::process::Abort;
 
-/// The ids of all objects that the repository has.
-pub(crate) const IDS: [&str; 13] = [
-    "01551faa5dd8da4351f7737aece6c2a3757099b7",
-    "052133078ad4da2eaa90cecc60982fec710961be",
+/// The ids of some objects of the repository.
+pub(crate) const FIRST: &str = "01551faa5dd8da4351f7737aece6c2a3757099b7";
+
+pub(crate) const SECOND: &str = "052133078ad4da2eaa90cecc60982fec710961be";
+
+pub(crate) const FOURTH: &str = "451f86796a9974d1d7f52956c48ffad83a88d431";
+
+/// The ids of all.
+pub(crate) const IDS: &[&str] = &[
+    FIRST,
+    SECOND,
     "36940fc7f40ca47f6df3e92cadb962d845838983",
-    "451f86796a9974d1d7f52956c48ffad83a88d431",
+    FOURTH,
     "5bca31163b828b72fcc86d49b40299aef5ce88ee",
     "6cc495e46860f315583f33cbdd5210cde96ed2a9",
     "73b0810bdfb086e40aee0fa30809b4beaddc2373",
@@ -99,8 +106,8 @@ impl Packed {
 }
 
 fn add(rt: &(impl AllocGlobal + Abort), bytes: &mut Vec<u8>, digits: &str) {
-    let added = bytes.extend_from_slice(&bytes_of(rt, digits));
-    assert!(rt; added.is_ok());
+    let added = bytes_of(rt, digits);
+    bytes.extend_from_slice(&added).expect(rt, "memory");
 }
 
 // The index that begins so before the counts and ends so behind the ids.
@@ -173,3 +180,5 @@ pub(crate) const BY_NAMES: Packed = Packed {
          000000b000000000000002df000000000000017000000000000002b7000000000000034f00000000000003cf00000000000001ec\
          3cf091c718e8d5bd9f860769e3b9de1703f67136",
 };
+
+pub(crate) const PACKS: &[Packed] = &[BY_OFFSETS, LONG_PLACES, BY_NAMES];

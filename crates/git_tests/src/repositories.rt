@@ -1,12 +1,12 @@
 //! Where a repository's objects are.
-use crate::loose::{bytes_of, put};
-use crate::written::WRITTEN;
+use crate::loose::{put, put_object, remove_folder};
+use crate::packs::gives;
+use crate::written::BLOB;
 use eden_git::{GitFault, GitSource};
-use eden_object::parse_id;
-use eden_source::Source;
-use std::fs;
+use std::fs::Files;
 use std::path::PathBuf;
-use test_samples::{VERSION_2, empty_folder};
+use std::process::Abort;
+use test_samples::empty_folder;
 
 /// A file of a repository, with what is in it.
 struct Put {
@@ -14,33 +14,23 @@ struct Put {
     text: &'static [u8],
 }
 
-const NOTHING: Put = Put {
-    place: "beside",
-    text: b"",
-};
+/// A name, files, and whether the repository `here` is opened over the objects of `there`.
+type Case = (&'static str, &'static [Put], Result<&'static str, GitFault>);
 
-/// Files, and whether the repository `here` is opened over the objects of `there`.
-const CASES: [(&str, [Put; 2], Result<&'static str, GitFault>); 10] = [
-    ("bare", [NOTHING, NOTHING], Ok("here/objects")),
-    (
-        "a working directory",
-        [NOTHING, NOTHING],
-        Ok("here/.git/objects"),
-    ),
+const CASES: &[Case] = &[
+    ("bare", &[], Ok("here/objects")),
+    ("a working directory", &[], Ok("here/.git/objects")),
     (
         "a file .git",
-        [
-            Put {
-                place: "here/.git",
-                text: b"gitdir: ../there\n",
-            },
-            NOTHING,
-        ],
+        &[Put {
+            place: "here/.git",
+            text: b"gitdir: ../there\n",
+        }],
         Ok("there/objects"),
     ),
     (
         "a working directory beside another",
-        [
+        &[
             Put {
                 place: "here/.git",
                 text: b"gitdir: ../there/worktrees/here\n",
@@ -54,60 +44,45 @@ const CASES: [(&str, [Put; 2], Result<&'static str, GitFault>); 10] = [
     ),
     (
         "SHA-1 by its name",
-        [
-            Put {
-                place: "here/config",
-                text: b"[core]\n\trepositoryformatversion = 1\n[extensions]\n\tobjectFormat = sha1\n",
-            },
-            NOTHING,
-        ],
+        &[Put {
+            place: "here/config",
+            text: b"[core]\n\trepositoryformatversion = 1\n[extensions]\n\tobjectFormat = sha1\n",
+        }],
         Ok("here/objects"),
     ),
     (
         "SHA-256",
-        [
-            Put {
-                place: "here/config",
-                text: b"[core]\n\trepositoryformatversion = 1\n[extensions]\n\tobjectformat = sha256\n",
-            },
-            NOTHING,
-        ],
+        &[Put {
+            place: "here/config",
+            text: b"[core]\n\trepositoryformatversion = 1\n[extensions]\n\tobjectformat = sha256\n",
+        }],
         Err(GitFault::Format),
     ),
     (
         "SHA-256 on one line",
-        [
-            Put {
-                place: "here/config",
-                text: b"[Extensions] ObjectFormat = \"sha256\" # new",
-            },
-            NOTHING,
-        ],
+        &[Put {
+            place: "here/config",
+            text: b"[Extensions] ObjectFormat = \"sha256\" # new",
+        }],
         Err(GitFault::Format),
     ),
     (
         "a newer version",
-        [
-            Put {
-                place: "here/config",
-                text: b"[core]\n\trepositoryformatversion = 2\n",
-            },
-            NOTHING,
-        ],
+        &[Put {
+            place: "here/config",
+            text: b"[core]\n\trepositoryformatversion = 2\n",
+        }],
         Err(GitFault::Format),
     ),
     (
         "a file that leads nowhere",
-        [
-            Put {
-                place: "here/.git",
-                text: b"gitdir: ../nowhere\n",
-            },
-            NOTHING,
-        ],
+        &[Put {
+            place: "here/.git",
+            text: b"gitdir: ../nowhere\n",
+        }],
         Err(GitFault::Missing),
     ),
-    ("nothing", [NOTHING, NOTHING], Err(GitFault::Missing)),
+    ("nothing", &[], Err(GitFault::Missing)),
 ];
 
 // Where an object is put: where it is to be found, or, if none is, below `here`.
@@ -119,28 +94,52 @@ fn place_of(expected: &Result<&'static str, GitFault>) -> &'static str {
     }
 }
 
-fn is_as_expected(rt: &HostRuntime, here: PathBuf, expected: &Result<&str, GitFault>) -> bool {
-    let id = parse_id(WRITTEN[0].id).unwrap_or(VERSION_2.id);
-    match GitSource::open(rt.alloc(), rt, here) {
-        Ok(mut source) => expected.is_ok() && source.fetch(rt.alloc(), id).is_ok(),
-        Err(fault) => *expected == Err(fault),
+fn is_fault(expected: &Result<&str, GitFault>, fault: GitFault) -> bool {
+    match expected {
+        Ok(_) => false,
+        Err(want) => *want == fault,
     }
+}
+
+fn opens(
+    rt: &(impl AllocGlobal + Abort + Files),
+    here: PathBuf,
+    expected: &Result<&str, GitFault>,
+) -> bool {
+    match GitSource::open(rt.alloc(), rt, here) {
+        Ok(mut source) => expected.is_ok() && gives(&mut source, rt.alloc(), BLOB.id),
+        Err(fault) => is_fault(expected, fault),
+    }
+}
+
+// Whether the repository `here` is opened as expected, over these files.
+fn is_found(
+    rt: &(impl AllocGlobal + Abort + Files),
+    folder: &PathBuf,
+    files: &[Put],
+    expected: &Result<&'static str, GitFault>,
+) -> bool {
+    for file in files {
+        put(rt, folder, file.place, file.text);
+    }
+    let place = place_of(expected);
+    put_object(
+        rt,
+        &folder.join(rt.alloc(), place).expect(rt, "memory"),
+        &BLOB,
+    );
+    opens(
+        rt,
+        folder.join(rt.alloc(), "here").expect(rt, "memory"),
+        expected,
+    )
 }
 
 #[test]
 fn repositories_are_found(rt: HostRuntime) {
-    let object = bytes_of(&rt, WRITTEN[0].file);
-    for (name, files, expected) in &CASES {
+    for (name, files, expected) in CASES {
         let folder = empty_folder(&rt, "repository").expect(&rt, "a folder");
-        let objects = folder
-            .join(rt.alloc(), place_of(expected))
-            .expect(&rt, "memory");
-        put(&rt, &objects, WRITTEN[0].place, &object).expect(&rt, "a file");
-        for file in files {
-            put(&rt, &folder, file.place, file.text).expect(&rt, "a file");
-        }
-        let here = folder.join(rt.alloc(), "here").expect(&rt, "memory");
-        assert!(rt; is_as_expected(&rt, here, expected), "{name}");
-        fs::remove_dir_all(&rt, folder.as_path()).expect(&rt, "a folder");
+        assert!(rt; is_found(&rt, &folder, files, expected), "{name}");
+        remove_folder(&rt, &folder);
     }
 }

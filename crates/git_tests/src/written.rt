@@ -2,6 +2,7 @@
 use eden_model::Cause;
 
 /// An object of a repository that Git made: its id, its loose file and its framed bytes, in hexadecimal digits.
+#[derive(Clone, Copy)]
 pub(crate) struct Written {
     pub(crate) id: &'static str,
     /// Where Git keeps it below its directory of objects.
@@ -10,14 +11,17 @@ pub(crate) struct Written {
     pub(crate) framed: &'static str,
 }
 
+/// A blob.
+pub(crate) const BLOB: Written = Written {
+    id: "83baae61804e65cc73a7201a7252750c76066a30",
+    place: "83/baae61804e65cc73a7201a7252750c76066a30",
+    file: "78014bcac94f52303460284b2d2acecccf5330e4020037500582",
+    framed: "626c6f622031300076657273696f6e20310a",
+};
+
 /// Two blobs, a tree, a commit and a tag. The framed bytes are those of `git cat-file`, behind their header.
-pub(crate) const WRITTEN: [Written; 5] = [
-    Written {
-        id: "83baae61804e65cc73a7201a7252750c76066a30",
-        place: "83/baae61804e65cc73a7201a7252750c76066a30",
-        file: "78014bcac94f52303460284b2d2acecccf5330e4020037500582",
-        framed: "626c6f622031300076657273696f6e20310a",
-    },
+pub(crate) const WRITTEN: &[Written] = &[
+    BLOB,
     Written {
         id: "e69de29bb2d1d6434b8b29ae775ad8c2e48c5391",
         place: "e6/9de29bb2d1d6434b8b29ae775ad8c2e48c5391",
@@ -53,7 +57,7 @@ pub(crate) const WRITTEN: [Written; 5] = [
 ];
 
 /// The streams of what is no object, and what is answered.
-pub(crate) const BAD: [(&str, &str, Cause); 13] = [
+pub(crate) const BAD: &[(&str, &str, Cause)] = &[
     (
         "a size that is too small",
         "789c4bcac94f523061c848cdc9c9070019a30408",
