@@ -126,15 +126,31 @@ fn is_answer(answer: &Result<Vec<u8>, Cause>, want: &Result<&[u8], Cause>) -> bo
     }
 }
 
+// Whether that is answered, and there are so many failures then.
+fn answers(
+    alloc: Global,
+    source: &mut impl Source<Outside>,
+    want: &Result<&[u8], Cause>,
+    failures: u64,
+) -> bool {
+    is_answer(&source.fetch(alloc, VERSION_1.id), want) && source.failures() == failures
+}
+
+fn check_answers(rt: &(impl AllocGlobal + Abort), source: &mut impl Source<Outside>) {
+    for (number, (want, failures)) in ANSWERS.iter().enumerate() {
+        assert!(rt;
+            answers(rt.alloc(), source, want, *failures),
+            "number {number}"
+        );
+    }
+}
+
 #[test]
 fn a_source_connects_anew_after_a_fault(rt: HostRuntime) {
     let lines = Lines(Cell::new(0));
-    let mut source = SocketSource::new(rt.alloc(), lines, Address::Port(1), Duration::from_secs(1));
-    for (number, (want, failures)) in ANSWERS.iter().enumerate() {
-        let answer = source.fetch(rt.alloc(), VERSION_1.id);
-        assert!(rt; is_answer(&answer, want), "number {number}");
-        assert!(rt; source.failures() == *failures, "number {number}");
-    }
+    let patience = Duration::from_secs(1);
+    let mut source = SocketSource::new(rt.alloc(), lines, Address::Port(1), patience);
+    check_answers(&rt, &mut source);
 }
 
 // The ends of one connection.
@@ -166,35 +182,42 @@ fn hears(alloc: Global, client: &mut TcpStream, want: Result<&[u8], Refusal>) ->
     is_heard(&read_answer(alloc, client), want)
 }
 
+// Whether the answers to both come.
+fn hears_both(alloc: Global, client: &mut TcpStream) -> bool {
+    hears(alloc, client, Ok(VERSION_1.framed)) && hears(alloc, client, Err(Refusal::Missing))
+}
+
+fn asks_both(client: &mut TcpStream) -> bool {
+    is_asked(client, VERSION_1.id) && is_asked(client, EMPTY_TREE.id)
+}
+
+fn check_both(rt: &(impl AllocGlobal + Abort), client: &mut TcpStream, server: &TcpStream) {
+    assert!(rt; asks_both(client));
+    client.shutdown(Shutdown::Write).expect(rt, "an end");
+    assert!(rt; is_served(rt, server) && hears_both(rt.alloc(), client));
+}
+
 #[test]
 fn both_ends_meet(rt: HostRuntime) {
     let mut ends = connected(&rt).expect(&rt, "a connection");
-    assert!(rt; is_asked(&mut ends.client, VERSION_1.id));
-    assert!(rt; is_asked(&mut ends.client, EMPTY_TREE.id));
-    ends.client.shutdown(Shutdown::Write).expect(&rt, "an end");
-    assert!(rt; is_served(&rt, &ends.server));
-    assert!(rt; hears(rt.alloc(), &mut ends.client, Ok(VERSION_1.framed)));
-    assert!(rt; hears(rt.alloc(), &mut ends.client, Err(Refusal::Missing)));
+    check_both(&rt, &mut ends.client, &ends.server);
 }
 
-// Whether an object can't be had, by a failure of the connection.
-fn fails(alloc: Global, source: &mut impl Source<Outside>) -> bool {
-    matches!(source.fetch(alloc, VERSION_1.id), Err(Cause::Device))
+fn check_failure(
+    rt: &(impl AllocGlobal + Abort),
+    source: &mut impl Source<Outside>,
+    failures: u64,
+) {
+    assert!(rt; answers(rt.alloc(), source, &Err(Cause::Device), failures));
 }
 
 #[test]
 fn a_silent_server_is_a_failure(rt: HostRuntime) {
     let listener = TcpListener::bind(&rt, "127.0.0.1:0").expect(&rt, "a port");
     let port = listener.local_addr().expect(&rt, "an address").port();
-    let mut source = SocketSource::new(
-        rt.alloc(),
-        &rt,
-        Address::Port(port),
-        Duration::from_millis(20),
-    );
-    assert!(rt; fails(rt.alloc(), &mut source));
-    assert!(rt; source.failures() == 1);
+    let patience = Duration::from_millis(20);
+    let mut source = SocketSource::new(rt.alloc(), &rt, Address::Port(port), patience);
+    check_failure(&rt, &mut source, 1);
     drop(listener);
-    assert!(rt; fails(rt.alloc(), &mut source));
-    assert!(rt; source.failures() == 2);
+    check_failure(&rt, &mut source, 2);
 }

@@ -1,9 +1,10 @@
 //! Readers and writers that fail.
+use crate::answers::is_heard;
 use crate::lines::{ANSWER, ASKS, samples};
 use eden_remote::{AnswerFault, Refusal, answer_objects, read_answer};
+use std::alloc::Global;
 use std::io::{self, ErrorKind, Read, Write};
 use std::process::Abort;
-use std::test::Fail;
 
 // Gives a byte a call. Of so many calls every second one is interrupted, and the last passes.
 #[derive(Drop)]
@@ -51,12 +52,15 @@ impl Write for Narrow {
     }
 }
 
+// How it ends, and what came.
+#[derive(Drop)]
+struct Outcome {
+    ended: Result<(), AnswerFault>,
+    got: Vec<u8>,
+}
+
 // Two lines are answered, with so many calls of each kind.
-fn served(
-    rt: &(impl AllocGlobal + Abort),
-    reads: usize,
-    writes: usize,
-) -> (Result<(), AnswerFault>, Vec<u8>) {
+fn served(rt: &(impl AllocGlobal + Abort), reads: usize, writes: usize) -> Outcome {
     let said = [ASKS, ASKS].concat(rt.alloc()).expect(rt, "memory");
     let mut reader = Trickle {
         left: &said,
@@ -67,46 +71,61 @@ fn served(
         calls: writes,
     };
     let ended = answer_objects(rt.alloc(), &mut reader, &mut writer, &mut samples(rt));
-    (ended, writer.got)
+    let Narrow { got, .. } = writer;
+    Outcome { ended, got }
+}
+
+// Whether so many reads end it after so many whole answers.
+fn ends_after(rt: &(impl AllocGlobal + Abort), reads: usize, answers: usize) -> bool {
+    let Outcome { ended, got } = served(rt, reads, 1_000);
+    ended == Err(AnswerFault::Read)
+        && got.len() % ANSWER.len() == 0
+        && got.len() / ANSWER.len() == answers
+}
+
+fn is_served(rt: &(impl AllocGlobal + Abort), reads: usize) -> bool {
+    served(rt, reads, 1_000).ended == Ok(())
 }
 
 #[test]
 fn failed_reads_end_it_after_the_answers(rt: HostRuntime) {
     for reads in 0..181 {
-        let (ended, got) = served(&rt, reads, 1_000);
-        let answers = got.len() / ANSWER.len();
-        assert!(rt; ended == Err(AnswerFault::Read), "after {reads}");
-        assert!(rt; got.len() % ANSWER.len() == 0, "after {reads}");
-        assert!(rt; answers == (reads + 1) / 90, "after {reads}");
+        assert!(rt; ends_after(&rt, reads, (reads + 1) / 90), "after {reads}");
     }
-    assert!(rt; served(&rt, 181, 1_000).0 == Ok(()));
+    assert!(rt; is_served(&rt, 181));
+}
+
+// Whether so many writes end it in an answer.
+fn ends_in(rt: &(impl AllocGlobal + Abort), writes: usize, whole: &[u8]) -> bool {
+    let Outcome { ended, got } = served(rt, 1_000, writes);
+    ended == Err(AnswerFault::Write) && whole.starts_with(&got) && got.len() < whole.len()
+}
+
+fn gives(rt: &(impl AllocGlobal + Abort), writes: usize, whole: &[u8]) -> bool {
+    served(rt, 1_000, writes).got.as_slice() == whole
 }
 
 #[test]
-fn failed_writes_end_it_in_an_answer(rt: HostRuntime) -> Result<(), Fail> {
-    let whole = [ANSWER, ANSWER].concat(rt.alloc())?;
+fn failed_writes_end_it_in_an_answer(rt: HostRuntime) {
+    let whole = [ANSWER, ANSWER].concat(rt.alloc()).expect(&rt, "memory");
     for writes in 0..39 {
-        let (ended, got) = served(&rt, 1_000, writes);
-        assert!(rt; ended == Err(AnswerFault::Write), "after {writes}");
-        assert!(rt;
-            whole.starts_with(&got) && got.len() < whole.len(),
-            "after {writes}"
-        );
+        assert!(rt; ends_in(&rt, writes, &whole), "after {writes}");
     }
-    assert!(rt; served(&rt, 1_000, 39).1 == whole);
-    Ok(())
+    assert!(rt; gives(&rt, 39, &whole));
+}
+
+// Whether an answer isn't heard after so many reads.
+fn fails_after(alloc: Global, reads: usize) -> bool {
+    let mut reader = Trickle {
+        left: ANSWER,
+        calls: reads,
+    };
+    is_heard(&read_answer(alloc, &mut reader), Err(Refusal::Failed))
 }
 
 #[test]
 fn failed_reads_end_an_answer(rt: HostRuntime) {
     for reads in 0..55 {
-        let mut reader = Trickle {
-            left: ANSWER,
-            calls: reads,
-        };
-        assert!(rt;
-            read_answer(rt.alloc(), &mut reader) == Err(Refusal::Failed),
-            "after {reads}"
-        );
+        assert!(rt; fails_after(rt.alloc(), reads), "after {reads}");
     }
 }
