@@ -1,6 +1,6 @@
 //! Changes of stored files against a commit's tree. Both trees' objects and the letters are Git's: those of
 //! `git cat-file tree` and `git diff-tree --no-renames` for the same two directories.
-use crate::snapshots::{CONTENT, DIRECTORY, InMemory, named, put};
+use crate::snapshots::{CONTENT, DIRECTORY, InMemory, joined, named, put};
 use eden_model::{Cause, Mode, Name, Outside};
 use eden_overlay::{Files, MemoryFiles, Overlay};
 use eden_snapshot::{Change, ChangeSink, How, SinkFault, SnapshotFault, changes};
@@ -81,11 +81,43 @@ const TOLD: &[(&[u8], How, Mode, bool)] = &[
     (b"z/f", How::Added, Mode::File, false),
 ];
 
-// Keeps the changes with their paths, as many as it has room for.
+// Counts the changes, up to as many as it has room for, and those of them that are the next of the table.
 #[derive(Drop)]
 struct Heard {
-    changes: Vec<(Vec<u8>, Change)>,
+    count: usize,
+    right: usize,
     room: usize,
+}
+
+// Whether a path has that text, with a slash between two names.
+fn is_text(path: &[Name], text: &[u8]) -> bool {
+    let mut rest = text;
+    for (index, name) in path.iter().enumerate() {
+        let between: &[u8] = if index == 0 { b"" } else { b"/" };
+        match behind(rest, between, name.as_slice()) {
+            Some(behind) => rest = behind,
+            None => return false,
+        }
+    }
+    rest.is_empty()
+}
+
+// What stands behind two texts.
+fn behind<'a>(text: &'a [u8], first: &[u8], second: &[u8]) -> Option<&'a [u8]> {
+    text.strip_prefix(first)?.strip_prefix(second)
+}
+
+// Whether the change of that number is told so.
+fn is_told(index: usize, path: &[Name], change: Change) -> bool {
+    match TOLD.get(index) {
+        Some((text, how, mode, whole)) => {
+            is_text(path, text)
+                && change.how == *how
+                && change.mode == *mode
+                && change.whole == *whole
+        }
+        None => false,
+    }
 }
 
 impl ChangeSink<Outside> for Heard {
@@ -95,18 +127,14 @@ impl ChangeSink<Outside> for Heard {
 
     ghost failures = { λ _. 0 };
 
-    fn tell(&mut self, alloc: Global, path: &[Name], change: Change) -> Result<(), SinkFault> {
-        if self.changes.len() == self.room {
+    fn tell(&mut self, _alloc: Global, path: &[Name], change: Change) -> Result<(), SinkFault> {
+        if self.count == self.room {
             return Err(SinkFault::Memory);
         }
-        let mut text = Vec::new(alloc);
-        for name in path {
-            if !text.is_empty() {
-                text.push(b'/')?;
-            }
-            text.extend_from_slice(name.as_slice())?;
+        if is_told(self.count, path, change) {
+            self.right = self.right.saturating_add(1);
         }
-        self.changes.push((text, change))?;
+        self.count = self.count.saturating_add(1);
         Ok(())
     }
 }
@@ -128,83 +156,97 @@ fn insert(
     id: &str,
     parts: &[&[u8]],
 ) {
-    let mut framed = Vec::new(rt.alloc());
-    for part in parts {
-        framed.extend_from_slice(part).expect(rt, "memory");
-    }
+    let framed = joined(rt, b"", parts);
     objects.insert(named(rt, id), framed).expect(rt, "memory");
 }
 
-fn trees(rt: &(impl AllocGlobal + Abort)) -> MemorySource<Outside> {
+// The tree of the commit alone.
+fn top(rt: &(impl AllocGlobal + Abort)) -> MemorySource<Outside> {
     let mut objects = MemorySource::<Outside>::new(rt.alloc());
     insert(rt, &mut objects, COMMIT, COMMIT_OBJECT);
+    objects
+}
+
+fn trees(rt: &(impl AllocGlobal + Abort)) -> MemorySource<Outside> {
+    let mut objects = top(rt);
     insert(rt, &mut objects, DIR, DIR_OBJECT);
     objects
 }
 
-// The answer over these files, and the changes that were told.
-fn told(
+// The answer over these files.
+fn answer(
     rt: &(impl AllocGlobal + Abort),
     files: MemoryFiles<Outside>,
     mut objects: MemorySource<Outside>,
-    room: usize,
-) -> (Result<(), SnapshotFault>, Vec<(Vec<u8>, Change)>) {
-    let alloc = rt.alloc();
-    let mut overlay: InMemory = Overlay::<Outside, _>::new(alloc, files);
-    let mut heard = Heard {
-        changes: Vec::new(alloc),
-        room,
-    };
-    let commit = named(rt, COMMIT);
-    let answer = changes(alloc, commit, &mut overlay, &mut objects, &mut heard);
-    (answer, heard.changes)
+    heard: &mut Heard,
+) -> Result<(), SnapshotFault> {
+    let mut overlay: InMemory = Overlay::<Outside, _>::new(rt.alloc(), files);
+    changes(
+        rt.alloc(),
+        named(rt, COMMIT),
+        &mut overlay,
+        &mut objects,
+        heard,
+    )
 }
 
-// These are the first so many of the changes.
-fn expect_first(rt: &impl Abort, changes: &[(Vec<u8>, Change)], count: usize) {
-    assert!(rt; changes.len() == count);
-    for ((path, change), (wanted, how, mode, whole)) in changes.iter().zip(TOLD) {
-        assert!(rt; path.as_slice() == *wanted);
-        assert!(rt; change.how == *how && change.mode == *mode && change.whole == *whole);
-    }
+// Over these files that is answered, and the first so many of the changes are told, where there is so much room.
+fn check(
+    rt: &(impl AllocGlobal + Abort),
+    files: MemoryFiles<Outside>,
+    objects: MemorySource<Outside>,
+    room: usize,
+    want: Result<(), SnapshotFault>,
+    count: usize,
+) {
+    let mut heard = Heard {
+        count: 0,
+        right: 0,
+        room,
+    };
+    assert!(rt; answer(rt, files, objects, &mut heard) == want);
+    assert!(rt; heard.count == count && heard.right == count);
 }
 
 #[test]
 fn each_change_is_told_at_its_path(rt: HostRuntime) {
-    let (answer, changes) = told(&rt, changed(&rt), trees(&rt), 100);
-    assert!(rt; answer == Ok(()));
-    expect_first(&rt, changes.as_slice(), TOLD.len());
+    check(&rt, changed(&rt), trees(&rt), 100, Ok(()), TOLD.len());
 }
 
 #[test]
 fn an_untouched_tree_has_no_changes(rt: HostRuntime) {
     let files = MemoryFiles::<Outside>::new(rt.alloc());
     let objects = MemorySource::<Outside>::new(rt.alloc());
-    let (answer, changes) = told(&rt, files, objects, 100);
-    assert!(rt; answer == Ok(()) && changes.is_empty());
+    check(&rt, files, objects, 100, Ok(()), 0);
 }
 
 #[test]
 fn a_tree_that_is_missing_ends_the_telling(rt: HostRuntime) {
-    let mut objects = MemorySource::<Outside>::new(rt.alloc());
-    insert(&rt, &mut objects, COMMIT, COMMIT_OBJECT);
-    let (answer, changes) = told(&rt, changed(&rt), objects, 100);
-    assert!(rt; answer == Err(SnapshotFault::Object(Cause::Missing)));
-    expect_first(&rt, changes.as_slice(), 1);
+    let missing = SnapshotFault::Object(Cause::Missing);
+    check(&rt, changed(&rt), top(&rt), 100, Err(missing), 1);
+}
+
+// The changed files, of which one is missing.
+fn with_a_missing(rt: &(impl AllocGlobal + Abort)) -> MemoryFiles<Outside> {
+    let mut files = changed(rt);
+    files.remove(6).expect(rt, "memory");
+    files
 }
 
 #[test]
 fn a_file_that_is_missing_is_named(rt: HostRuntime) {
-    let mut files = changed(&rt);
-    files.remove(6).expect(&rt, "memory");
-    let (answer, changes) = told(&rt, files, trees(&rt), 100);
-    assert!(rt; answer == Err(SnapshotFault::Dangling(6)));
-    expect_first(&rt, changes.as_slice(), 5);
+    let dangling = SnapshotFault::Dangling(6);
+    check(&rt, with_a_missing(&rt), trees(&rt), 100, Err(dangling), 5);
 }
 
 #[test]
 fn a_sink_that_is_full_ends_the_telling(rt: HostRuntime) {
-    let (answer, changes) = told(&rt, changed(&rt), trees(&rt), 3);
-    assert!(rt; answer == Err(SnapshotFault::Memory));
-    expect_first(&rt, changes.as_slice(), 3);
+    check(
+        &rt,
+        changed(&rt),
+        trees(&rt),
+        3,
+        Err(SnapshotFault::Memory),
+        3,
+    );
 }

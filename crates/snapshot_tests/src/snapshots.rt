@@ -49,8 +49,11 @@ const HANDED: &[&str] = &[
     "a2373c722dedbf05f6669eba1ea044484213d03d",
     "1de565933b05f74c75ff9a6520af5f9f8a5a2f1d",
     "167f07b1dc29e8455b827e1f94253279500fcf26",
-    "f964f86521e6f6659c4b6caf0f832cc5856faf10",
+    TREE,
 ];
+
+// The last of them, the root's tree.
+const TREE: &str = "f964f86521e6f6659c4b6caf0f832cc5856faf10";
 
 // The same tree, with the commit of the submodule `sub`.
 const WITH_SUBMODULE: &str = "7bbbb05ab3bfb99897df2c4c747630a08258cc60";
@@ -87,6 +90,15 @@ impl Submodules<Outside> for NoTrees {
     }
 }
 
+// These parts, one behind another.
+pub(crate) fn joined(rt: &(impl AllocGlobal + Abort), head: &[u8], parts: &[&[u8]]) -> Vec<u8> {
+    let mut bytes = Vec::from_slice(rt.alloc(), head).expect(rt, "memory");
+    for part in parts {
+        bytes.extend_from_slice(part).expect(rt, "memory");
+    }
+    bytes
+}
+
 // The file of that number, of a header and these parts behind it.
 pub(crate) fn put(
     rt: &(impl AllocGlobal + Abort),
@@ -95,138 +107,177 @@ pub(crate) fn put(
     head: &[u8],
     parts: &[&[u8]],
 ) {
-    let alloc = rt.alloc();
-    let mut bytes = Vec::from_slice(alloc, head).expect(rt, "memory");
-    bytes.extend_from_slice(&[0; 56]).expect(rt, "memory");
-    for part in parts {
-        bytes.extend_from_slice(part).expect(rt, "memory");
-    }
-    files.replace(alloc, number, &bytes).expect(rt, "memory");
+    let content = joined(rt, &[0; 56], parts);
+    let bytes = joined(rt, head, &[content.as_slice()]);
+    files
+        .replace(rt.alloc(), number, &bytes)
+        .expect(rt, "memory");
 }
+
+// The changed files, by their numbers: what each begins with, and what is in it.
+const CHANGED: &[(u64, &[u8], &[u8])] = &[
+    (2, CONTENT, b"hello\n"),
+    (3, DIRECTORY, b"\0\0\0\x01\0\x01\0\0\0\0\0\0\0\x09\x01f"),
+    (9, CONTENT, b"in b\n"),
+    (4, CONTENT, b"dot\n"),
+    (5, DIRECTORY, b"\0\0\0\x01\x02\x01\0\0\0\0\0\0\0\x0a\x01x"),
+    (10, CONTENT, b"target"),
+    (6, DIRECTORY, b"\0\0\0\0"),
+];
 
 fn changed(rt: &(impl AllocGlobal + Abort)) -> MemoryFiles<Outside> {
     let mut files = MemoryFiles::<Outside>::new(rt.alloc());
     put(rt, &mut files, 1, DIRECTORY, ROOT);
-    put(rt, &mut files, 2, CONTENT, &[b"hello\n"]);
-    put(
-        rt,
-        &mut files,
-        3,
-        DIRECTORY,
-        &[b"\0\0\0\x01\0\x01\0\0\0\0\0\0\0\x09\x01f"],
-    );
-    put(rt, &mut files, 9, CONTENT, &[b"in b\n"]);
-    put(rt, &mut files, 4, CONTENT, &[b"dot\n"]);
-    put(
-        rt,
-        &mut files,
-        5,
-        DIRECTORY,
-        &[b"\0\0\0\x01\x02\x01\0\0\0\0\0\0\0\x0a\x01x"],
-    );
-    put(rt, &mut files, 10, CONTENT, &[b"target"]);
-    put(rt, &mut files, 6, DIRECTORY, &[b"\0\0\0\0"]);
+    for (number, head, content) in CHANGED {
+        put(rt, &mut files, *number, head, &[*content]);
+    }
     files
 }
 
 pub(crate) fn named(rt: &(impl AllocGlobal + Abort), text: &str) -> Id {
-    let id = parse_id(text);
-    assert!(rt; id.is_some(), "{}", text);
-    id.unwrap_or(Id { bytes: [0; 20] })
+    parse_id(text).expect(rt, "an id")
 }
 
-// The answer over these files, and what the sink has then.
+// The answer over these files, whose objects and omissions the sink has then.
 fn taken(
     rt: &(impl AllocGlobal + Abort),
     files: MemoryFiles<Outside>,
     submodules: &mut impl Submodules<Outside>,
-) -> (Result<Id, SnapshotFault>, MemorySink) {
+    sink: &mut MemorySink,
+) -> Result<Id, SnapshotFault> {
     let mut overlay: InMemory = Overlay::<Outside, _>::new(rt.alloc(), files);
+    snapshot(
+        rt.alloc(),
+        named(rt, COMMIT),
+        &mut overlay,
+        sink,
+        submodules,
+    )
+}
+
+// The answer is the tree of that id.
+fn check_tree(
+    rt: &(impl AllocGlobal + Abort),
+    files: MemoryFiles<Outside>,
+    submodules: &mut impl Submodules<Outside>,
+    sink: &mut MemorySink,
+    tree: &str,
+) {
+    assert!(rt; taken(rt, files, submodules, sink) == Ok(named(rt, tree)));
+}
+
+// The answer is a fault.
+fn check_fault(
+    rt: &(impl AllocGlobal + Abort),
+    files: MemoryFiles<Outside>,
+    submodules: &mut impl Submodules<Outside>,
+    fault: SnapshotFault,
+) {
     let mut sink = MemorySink::new(rt.alloc());
-    let commit = named(rt, COMMIT);
-    let answer = snapshot(rt.alloc(), commit, &mut overlay, &mut sink, submodules);
-    (answer, sink)
+    let answer = taken(rt, files, submodules, &mut sink);
+    drop(sink);
+    assert!(rt; answer == Err(fault));
+}
+
+// These are the objects, by their ids.
+fn check_objects(rt: &(impl AllocGlobal + Abort), sink: &MemorySink, ids: &[&str]) {
+    assert!(rt; sink.objects().len() == ids.len());
+    for (object, id) in sink.objects().iter().zip(ids) {
+        assert!(rt; id_of(object) == named(rt, id), "{id}");
+    }
 }
 
 #[test]
 fn what_is_shown_is_written_as_git_writes_it(rt: HostRuntime) {
-    let (answer, sink) = taken(&rt, changed(&rt), &mut NoSubmodules);
-    assert!(rt; answer == Ok(named(&rt, HANDED[6])));
-    assert!(rt; sink.objects().len() == HANDED.len());
-    for (object, id) in sink.objects().iter().zip(HANDED) {
-        assert!(rt; id_of(object) == named(&rt, id), "{}", id);
+    let mut sink = MemorySink::new(rt.alloc());
+    check_tree(&rt, changed(&rt), &mut NoSubmodules, &mut sink, TREE);
+    check_objects(&rt, &sink, HANDED);
+}
+
+fn is_left_out(path: &[Name], why: LeftOut, name: &[u8], reason: LeftOut) -> bool {
+    path.len() == 1 && path[0].as_slice() == name && why == reason
+}
+
+fn check_left_out(rt: &impl Abort, told: &[(Vec<Name>, LeftOut)]) {
+    assert!(rt; told.len() == 2);
+    for ((path, why), (name, reason)) in told.iter().zip(LEFT_OUT) {
+        assert!(rt; is_left_out(path.as_slice(), *why, name, *reason));
     }
 }
 
 #[test]
 fn what_is_left_out_is_told(rt: HostRuntime) {
-    let (_, sink) = taken(&rt, changed(&rt), &mut NoSubmodules);
-    let told = sink.omissions();
-    assert!(rt; told.len() == 2);
-    for ((path, why), (name, reason)) in told.iter().zip(LEFT_OUT) {
-        assert!(rt; path.len() == 1 && path[0].as_slice() == *name);
-        assert!(rt; why == reason);
-    }
+    let mut sink = MemorySink::new(rt.alloc());
+    check_tree(&rt, changed(&rt), &mut NoSubmodules, &mut sink, TREE);
+    check_left_out(&rt, sink.omissions());
 }
 
 #[test]
 fn a_submodule_keeps_its_commit(rt: HostRuntime) {
-    let (answer, sink) = taken(&rt, changed(&rt), &mut OneSubmodule);
-    assert!(rt; answer == Ok(named(&rt, WITH_SUBMODULE)));
+    let mut sink = MemorySink::new(rt.alloc());
+    check_tree(
+        &rt,
+        changed(&rt),
+        &mut OneSubmodule,
+        &mut sink,
+        WITH_SUBMODULE,
+    );
     assert!(rt; sink.omissions().len() == 1);
-    let (answer, _) = taken(&rt, changed(&rt), &mut NoTrees);
-    assert!(rt; answer == Err(SnapshotFault::Object(Cause::Missing)));
+    let missing = SnapshotFault::Object(Cause::Missing);
+    check_fault(&rt, changed(&rt), &mut NoTrees, missing);
 }
 
 #[test]
 fn an_untouched_tree_is_the_commits(rt: HostRuntime) {
-    let (answer, sink) = taken(
-        &rt,
-        MemoryFiles::<Outside>::new(rt.alloc()),
-        &mut NoSubmodules,
-    );
-    assert!(rt; answer == Ok(named(&rt, COMMIT)));
+    let files = MemoryFiles::<Outside>::new(rt.alloc());
+    let mut sink = MemorySink::new(rt.alloc());
+    check_tree(&rt, files, &mut NoSubmodules, &mut sink, COMMIT);
     assert!(rt; sink.objects().is_empty());
+}
+
+// Files of the root alone, with these entries.
+fn root_alone(rt: &(impl AllocGlobal + Abort), entries: &[u8]) -> MemoryFiles<Outside> {
+    let mut files = MemoryFiles::<Outside>::new(rt.alloc());
+    put(rt, &mut files, 1, DIRECTORY, &[entries]);
+    files
 }
 
 #[test]
 fn an_empty_root_is_the_empty_tree(rt: HostRuntime) {
-    let mut files = MemoryFiles::<Outside>::new(rt.alloc());
-    put(&rt, &mut files, 1, DIRECTORY, &[b"\0\0\0\0"]);
-    let (answer, sink) = taken(&rt, files, &mut NoSubmodules);
-    assert!(rt; answer == Ok(named(&rt, EMPTY_TREE)));
+    let mut sink = MemorySink::new(rt.alloc());
+    let files = root_alone(&rt, b"\0\0\0\0");
+    check_tree(&rt, files, &mut NoSubmodules, &mut sink, EMPTY_TREE);
     assert!(rt; sink.objects().len() == 1);
+}
+
+// The changed files, of which one is missing.
+fn with_a_missing(rt: &(impl AllocGlobal + Abort)) -> MemoryFiles<Outside> {
+    let mut files = changed(rt);
+    files.remove(9).expect(rt, "memory");
+    files
+}
+
+// .. of which one isn't what its entry says.
+fn with_a_damaged(rt: &(impl AllocGlobal + Abort)) -> MemoryFiles<Outside> {
+    let mut files = changed(rt);
+    put(rt, &mut files, 5, CONTENT, &[b"no directory"]);
+    files
 }
 
 #[test]
 fn files_that_are_missing_or_damaged_are_named(rt: HostRuntime) {
-    let mut files = changed(&rt);
-    files.remove(9).expect(&rt, "memory");
-    assert!(rt; taken(&rt, files, &mut NoSubmodules).0 == Err(SnapshotFault::Dangling(9)));
-    let mut files = changed(&rt);
-    put(&rt, &mut files, 5, CONTENT, &[b"no directory"]);
-    assert!(rt;
-        taken(&rt, files, &mut NoSubmodules).0
-            == Err(SnapshotFault::Damaged(5, Refusal::BadIdentifier))
-    );
+    let missing = SnapshotFault::Dangling(9);
+    check_fault(&rt, with_a_missing(&rt), &mut NoSubmodules, missing);
+    let damaged = SnapshotFault::Damaged(5, Refusal::BadIdentifier);
+    check_fault(&rt, with_a_damaged(&rt), &mut NoSubmodules, damaged);
 }
+
+// The one entry of a directory: a directory, which is file 2.
+const ITSELF: &[u8] = b"\0\0\0\x01\x03\x01\0\0\0\0\0\0\0\x02\x01d";
 
 #[test]
 fn a_directory_in_itself_lies_too_deep(rt: HostRuntime) {
-    let mut files = MemoryFiles::<Outside>::new(rt.alloc());
-    put(
-        &rt,
-        &mut files,
-        1,
-        DIRECTORY,
-        &[b"\0\0\0\x01\x03\x01\0\0\0\0\0\0\0\x02\x01d"],
-    );
-    put(
-        &rt,
-        &mut files,
-        2,
-        DIRECTORY,
-        &[b"\0\0\0\x01\x03\x01\0\0\0\0\0\0\0\x02\x01d"],
-    );
-    assert!(rt; taken(&rt, files, &mut NoSubmodules).0 == Err(SnapshotFault::TooDeep(2)));
+    let mut files = root_alone(&rt, ITSELF);
+    put(&rt, &mut files, 2, DIRECTORY, &[ITSELF]);
+    check_fault(&rt, files, &mut NoSubmodules, SnapshotFault::TooDeep(2));
 }
