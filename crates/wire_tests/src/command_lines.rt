@@ -91,73 +91,158 @@ fn served(rt: &impl Abort, alloc: Global, words: &[&str]) -> ServeOptions {
     }
 }
 
-/// Whether objects come from the folder.
-fn lie_in_the_folder(objects: &Objects) -> bool {
-    match objects {
-        Objects::Folder(folder) => folder.as_str() == FOLDER,
+/// Where a server is.
+#[derive(Clone, Copy)]
+enum At {
+    Port(u16),
+    Socket(&'static str),
+}
+
+fn is_at(address: &Address, want: At) -> bool {
+    match (address, want) {
+        (Address::Port(port), At::Port(want)) => *port == want,
+        (Address::Socket(path), At::Socket(want)) => path.as_str() == want,
         _ => false,
     }
 }
 
-/// Whether these are a mount's numbers of entries of the history and of cached objects, and its cache's bytes.
-fn has_limits(limits: &Config, history: u32, objects: usize, bytes: u64) -> bool {
+/// Where objects come from: the folder, as one of objects or as a repository, or a server.
+#[derive(Clone, Copy)]
+enum Origin {
+    Folder,
+    Repository,
+    Server(At),
+    RepositoryAndServer(At),
+}
+
+fn is_origin(objects: &Objects, want: Origin) -> bool {
+    match (objects, want) {
+        (Objects::Folder(folder), Origin::Folder) => folder.as_str() == FOLDER,
+        (Objects::Repository(folder), Origin::Repository) => folder.as_str() == FOLDER,
+        (Objects::Server(address), Origin::Server(at)) => is_at(address, at),
+        (Objects::RepositoryAndServer(folder, address), Origin::RepositoryAndServer(at)) => {
+            folder.as_str() == FOLDER && is_at(address, at)
+        }
+        _ => false,
+    }
+}
+
+/// What a line asks a mount of the root for, with the numbers of entries of the history and of cached objects, and the
+/// cache's bytes.
+#[derive(Clone, Copy)]
+struct Wanted {
+    origin: Origin,
+    overlay: Option<&'static str>,
+    rescan: bool,
+    history: HistoryOption,
+    limits: (u32, usize, u64),
+}
+
+fn has_limits(limits: &Config, want: (u32, usize, u64)) -> bool {
+    let (history, objects, bytes) = want;
     limits.history() == history && limits.entries() == objects && limits.bytes() == bytes
 }
 
-fn is_text(given: &Option<String>, want: &str) -> bool {
-    match given {
-        Some(text) => text.as_str() == want,
-        None => false,
+fn is_text(given: &Option<String>, want: Option<&str>) -> bool {
+    match (given, want) {
+        (Some(text), Some(want)) => text.as_str() == want,
+        (None, None) => true,
+        _ => false,
+    }
+}
+
+fn is_wanted(given: &MountOptions, want: &Wanted) -> bool {
+    given.root.bytes == ROOT_BYTES
+        && is_origin(&given.objects, want.origin)
+        && is_text(&given.overlay, want.overlay)
+        && given.rescan == want.rescan
+        && given.history == want.history
+        && has_limits(&given.limits, want.limits)
+}
+
+/// The words ask `stdio` for that.
+fn check_asked(rt: &impl Abort, alloc: Global, words: &[&str], want: Wanted) {
+    assert!(rt; is_wanted(&asked(rt, alloc, words), &want));
+}
+
+const LIMITS: (u32, usize, u64) = (1_000_000, 1024, 1 << 28);
+
+/// What a line asks for that says no more than where objects come from.
+fn plain(origin: Origin) -> Wanted {
+    Wanted {
+        origin,
+        overlay: None,
+        rescan: false,
+        history: HistoryOption::Kept,
+        limits: LIMITS,
     }
 }
 
 #[test]
 fn takes_a_good_line(rt: HostRuntime) {
-    let given = asked(&rt, rt.alloc(), GOOD);
-    assert!(rt; given.root.bytes == ROOT_BYTES);
-    assert!(rt; lie_in_the_folder(&given.objects));
-    assert!(rt; given.overlay.is_none() && !given.rescan);
-    assert!(rt; given.history == HistoryOption::Kept);
-    assert!(rt; has_limits(&given.limits, 1_000_000, 1024, 1 << 28));
+    check_asked(&rt, rt.alloc(), GOOD, plain(Origin::Folder));
 }
+
+const FULL_WANTED: Wanted = Wanted {
+    origin: Origin::Folder,
+    overlay: Some("changes"),
+    rescan: true,
+    history: HistoryOption::Kept,
+    limits: (1, 65_536, 1 << 40),
+};
 
 #[test]
 fn takes_a_line_with_all_options(rt: HostRuntime) {
-    let given = asked(&rt, rt.alloc(), FULL);
-    assert!(rt; given.root.bytes == ROOT_BYTES);
-    assert!(rt; lie_in_the_folder(&given.objects));
-    assert!(rt; is_text(&given.overlay, "changes") && given.rescan);
-    assert!(rt; has_limits(&given.limits, 1, 65_536, 1 << 40));
+    check_asked(&rt, rt.alloc(), FULL, FULL_WANTED);
 }
+
+const UNKEPT_WANTED: Wanted = Wanted {
+    origin: Origin::Folder,
+    overlay: None,
+    rescan: false,
+    history: HistoryOption::Counted,
+    limits: LIMITS,
+};
 
 #[test]
 fn takes_a_line_without_a_history(rt: HostRuntime) {
-    let given = asked(&rt, rt.alloc(), UNKEPT);
-    assert!(rt; given.history == HistoryOption::Counted);
-    assert!(rt; has_limits(&given.limits, 1_000_000, 1024, 1 << 28));
+    check_asked(&rt, rt.alloc(), UNKEPT, UNKEPT_WANTED);
 }
 
-/// Whether a server has this port and so many fetchers, and its mount so many passes and entries of the history.
-fn has_numbers(given: &ServeOptions, port: u16, fetchers: u32, passes: u32, history: u32) -> bool {
+/// A server's port, and so many fetchers, passes and entries of the history.
+type Numbers = (u16, u32, u32, u32);
+
+fn has_numbers(given: &ServeOptions, want: Numbers) -> bool {
+    let (port, fetchers, passes, history) = want;
     let limits = &given.mount.limits;
-    given.address == Address::Port(port)
+    is_at(&given.address, At::Port(port))
         && given.fetchers == fetchers
         && limits.passes() == passes
         && limits.history() == history
 }
 
+fn is_served(given: &ServeOptions, origin: Origin, numbers: Numbers) -> bool {
+    given.mount.root.bytes == ROOT_BYTES
+        && is_origin(&given.mount.objects, origin)
+        && has_numbers(given, numbers)
+}
+
+/// The words ask `serve` for that.
+fn check_served(rt: &impl Abort, alloc: Global, words: &[&str], origin: Origin, numbers: Numbers) {
+    assert!(rt; is_served(&served(rt, alloc, words), origin, numbers));
+}
+
 #[test]
 fn takes_a_line_that_serves(rt: HostRuntime) {
-    let given = served(&rt, rt.alloc(), SERVED);
-    assert!(rt; given.mount.root.bytes == ROOT_BYTES);
-    assert!(rt; has_numbers(&given, 0, 2, 1, 1_000_000));
+    let numbers = (0, 2, 1, 1_000_000);
+    check_served(&rt, rt.alloc(), SERVED, Origin::Folder, numbers);
 }
 
 #[test]
 fn takes_a_full_line_that_serves(rt: HostRuntime) {
-    let given = served(&rt, rt.alloc(), SERVED_FULL);
-    assert!(rt; matches!(given.mount.objects, Objects::Server(Address::Port(1))));
-    assert!(rt; has_numbers(&given, 65_535, 16, 64, 1));
+    let origin = Origin::Server(At::Port(1));
+    let numbers = (65_535, 16, 64, 1);
+    check_served(&rt, rt.alloc(), SERVED_FULL, origin, numbers);
 }
 
 fn text_of(rt: &impl Abort, alloc: Global, error: OptionsError) -> String {
@@ -299,16 +384,38 @@ const NO_ROOTS: &[&str] = &[
 /// The whole text that refuses a root.
 const NO_ROOT: &str = "mountd: --root takes 40 lower-case hexadecimal digits";
 
-fn is_no_root(rt: &impl Abort, alloc: Global, root: &str) -> bool {
-    let words = ["mountd", "stdio", "--root", root, "--objects", FOLDER];
-    refusal(rt, alloc, words.as_slice()).as_str() == NO_ROOT
+/// A line of `stdio` up to the root.
+const UP_TO_THE_ROOT: &[&str] = &["mountd", "stdio", "--objects", FOLDER, "--root"];
+
+/// Whether a line that ends in that word is refused by that text.
+fn is_refused_for(
+    rt: &impl Abort,
+    alloc: Global,
+    line: &[&'static str],
+    word: &'static str,
+    text: &str,
+) -> bool {
+    let mut line = Vec::from_slice(alloc, line).expect(rt, "memory");
+    line.push(word).expect(rt, "memory");
+    refusal(rt, alloc, line.as_slice()).as_str() == text
+}
+
+/// Tries each of the words as the last of a line.
+fn check_last(
+    rt: &impl Abort,
+    alloc: Global,
+    line: &[&'static str],
+    words: &[&'static str],
+    text: &str,
+) {
+    for word in words {
+        assert!(rt; is_refused_for(rt, alloc, line, word, text), "{word}");
+    }
 }
 
 #[test]
 fn refuses_what_is_no_root(rt: HostRuntime) {
-    for root in NO_ROOTS {
-        assert!(rt; is_no_root(&rt, rt.alloc(), root));
-    }
+    check_last(&rt, rt.alloc(), UP_TO_THE_ROOT, NO_ROOTS, NO_ROOT);
 }
 
 /// What follows a good line of `stdio`, and how the text begins that refuses it.
@@ -373,16 +480,12 @@ const NO_SERVERS: &[&str] = &["0", "65536", "01", "x", "", LONG_PATH];
 const NO_SERVER: &str =
     "mountd: --remote takes a number from 1 to 65535, or a path with a slash, of at most 107 bytes";
 
+/// A line of `stdio` up to the server.
+const UP_TO_THE_SERVER: &[&str] = &["mountd", "stdio", "--root", ROOT, "--remote"];
+
 #[test]
 fn refuses_what_is_no_server(rt: HostRuntime) {
-    for server in NO_SERVERS {
-        assert!(rt; is_no_server(&rt, rt.alloc(), server));
-    }
-}
-
-fn is_no_server(rt: &impl Abort, alloc: Global, server: &str) -> bool {
-    let words = ["mountd", "stdio", "--root", ROOT, "--remote", server];
-    refusal(rt, alloc, words.as_slice()).as_str() == NO_SERVER
+    check_last(&rt, rt.alloc(), UP_TO_THE_SERVER, NO_SERVERS, NO_SERVER);
 }
 
 /// .. and a good line of `serve`.
@@ -486,22 +589,15 @@ const FROM_A_REPOSITORY_AND_A_SERVER: &[&str] = &[
 
 #[test]
 fn takes_a_repository(rt: HostRuntime) {
-    let given = asked(&rt, rt.alloc(), FROM_A_REPOSITORY);
-    match &given.objects {
-        Objects::Repository(folder) => assert!(rt; folder.as_str() == FOLDER),
-        _ => rt.abort(),
-    }
+    let want = plain(Origin::Repository);
+    check_asked(&rt, rt.alloc(), FROM_A_REPOSITORY, want);
 }
 
 #[test]
 fn takes_a_server_beside_a_repository(rt: HostRuntime) {
-    let given = served(&rt, rt.alloc(), FROM_A_REPOSITORY_AND_A_SERVER);
-    match &given.mount.objects {
-        Objects::RepositoryAndServer(folder, address) => {
-            assert!(rt; folder.as_str() == FOLDER && is_path(address, "./1"));
-        }
-        _ => rt.abort(),
-    }
+    let words = FROM_A_REPOSITORY_AND_A_SERVER;
+    let origin = Origin::RepositoryAndServer(At::Socket("./1"));
+    check_served(&rt, rt.alloc(), words, origin, (0, 2, 1, 1_000_000));
 }
 
 /// What follows a line of `stdio` with a repository, and how the text begins that refuses it.
@@ -554,26 +650,25 @@ fn given_out(rt: &impl Abort, alloc: Global, words: &[&str]) -> ObjectsOptions {
     }
 }
 
-#[test]
-fn takes_a_folder_to_give_out(rt: HostRuntime) {
-    let given = given_out(&rt, rt.alloc(), AT_A_SOCKET);
-    match &given.objects {
-        Served::Folder(folder) => assert!(rt; folder.as_str() == FOLDER),
-        Served::Repository(_) => rt.abort(),
+/// Whether given-out objects are in the folder, as a repository or not.
+fn is_in(objects: &Served, is_repository: bool) -> bool {
+    match objects {
+        Served::Folder(folder) => !is_repository && folder.as_str() == FOLDER,
+        Served::Repository(folder) => is_repository && folder.as_str() == FOLDER,
     }
 }
 
 /// The words of `objects` with a repository.
 const OF_A_REPOSITORY: &[&str] = &["mountd", "objects", "--port", "1", "--git", FOLDER];
 
+fn is_repository_at(given: &ObjectsOptions, at: At) -> bool {
+    is_in(&given.objects, true) && is_at(&given.address, at)
+}
+
 #[test]
 fn takes_a_repository_to_give_out(rt: HostRuntime) {
     let given = given_out(&rt, rt.alloc(), OF_A_REPOSITORY);
-    assert!(rt; given.address == Address::Port(1));
-    match &given.objects {
-        Served::Repository(folder) => assert!(rt; folder.as_str() == FOLDER),
-        Served::Folder(_) => rt.abort(),
-    }
+    assert!(rt; is_repository_at(&given, At::Port(1)));
 }
 
 /// Lines of `objects` that don't say whose, and the texts that refuse them.
@@ -611,11 +706,14 @@ fn refuses_what_says_not_whose_to_give_out(rt: HostRuntime) {
 const AT_A_SOCKET: &[&str] = &["mountd", "objects", "--dir", FOLDER, "--socket", "socket"];
 
 #[test]
+fn takes_a_folder_to_give_out(rt: HostRuntime) {
+    assert!(rt; is_in(&given_out(&rt, rt.alloc(), AT_A_SOCKET).objects, false));
+}
+
+#[test]
 fn takes_a_socket_to_listen_at(rt: HostRuntime) {
-    match options(rt.alloc(), AT_A_SOCKET) {
-        Ok(Command::Objects(given)) => assert!(rt; is_path(&given.address, "socket")),
-        _ => rt.abort(),
-    }
+    let at = At::Socket("socket");
+    assert!(rt; is_at(&given_out(&rt, rt.alloc(), AT_A_SOCKET).address, at));
 }
 
 /// A line that asks a server at a socket.
@@ -623,16 +721,6 @@ const FROM_A_SOCKET: &[&str] = &["mountd", "stdio", "--root", ROOT, "--remote", 
 
 #[test]
 fn takes_a_socket_to_ask(rt: HostRuntime) {
-    let given = asked(&rt, rt.alloc(), FROM_A_SOCKET);
-    match &given.objects {
-        Objects::Server(address) => assert!(rt; is_path(address, "./1")),
-        _ => rt.abort(),
-    }
-}
-
-fn is_path(address: &Address, want: &str) -> bool {
-    match address {
-        Address::Socket(path) => path.as_str() == want,
-        Address::Port(_) => false,
-    }
+    let want = plain(Origin::Server(At::Socket("./1")));
+    check_asked(&rt, rt.alloc(), FROM_A_SOCKET, want);
 }

@@ -26,6 +26,10 @@ fn reads(rt: &impl Abort, alloc: Global, reply: &Reply, want: &[u8]) -> bool {
     writer.got.as_slice() == want
 }
 
+fn check(rt: &impl Abort, alloc: Global, reply: Reply, want: &[u8]) {
+    assert!(rt; reads(rt, alloc, &reply, want));
+}
+
 // A kind, a length and an inode number, and how they are spelled.
 const STATS: &[(Kind, u64, u64, &[u8])] = &[
     (Kind::File, 7, 2, b"stat file 7 2\n"),
@@ -48,9 +52,9 @@ const STATS: &[(Kind, u64, u64, &[u8])] = &[
 fn texts_of_kinds_and_stats(rt: HostRuntime) {
     for (kind, size, number, want) in STATS {
         let reply = Reply::Stat(*kind, *size, *number);
-        assert!(rt; reads(&rt, rt.alloc(), &reply, want));
+        check(&rt, rt.alloc(), reply, want);
     }
-    assert!(rt; reads(&rt, rt.alloc(), &Reply::Kind(Kind::Exec), b"kind exec\n"));
+    check(&rt, rt.alloc(), Reply::Kind(Kind::Exec), b"kind exec\n");
 }
 
 const FAULTS: &[(Fault, &[u8])] = &[
@@ -66,7 +70,7 @@ const FAULTS: &[(Fault, &[u8])] = &[
 #[test]
 fn texts_of_faults(rt: HostRuntime) {
     for (fault, want) in FAULTS {
-        assert!(rt; reads(&rt, rt.alloc(), &Reply::Fault(*fault), want));
+        check(&rt, rt.alloc(), Reply::Fault(*fault), want);
     }
 }
 
@@ -77,10 +81,10 @@ const ERRORS: &[(Errno, &[u8])] = &[
 
 #[test]
 fn texts_of_other_replies(rt: HostRuntime) {
-    assert!(rt; reads(&rt, rt.alloc(), &Reply::Ok, b"ok\n"));
-    assert!(rt; reads(&rt, rt.alloc(), &Reply::Count(65_536), b"count 65536\n"));
+    check(&rt, rt.alloc(), Reply::Ok, b"ok\n");
+    check(&rt, rt.alloc(), Reply::Count(65_536), b"count 65536\n");
     for (error, want) in ERRORS {
-        assert!(rt; reads(&rt, rt.alloc(), &Reply::Err(*error), want));
+        check(&rt, rt.alloc(), Reply::Err(*error), want);
     }
 }
 
@@ -93,21 +97,15 @@ const PAYLOADS: &[(&[u8], &[u8])] = &[
 #[test]
 fn texts_of_payloads(rt: HostRuntime) {
     for (bytes, want) in PAYLOADS {
-        assert!(rt; reads(&rt, rt.alloc(), &data(&rt, rt.alloc(), bytes), want));
+        check(&rt, rt.alloc(), data(&rt, rt.alloc(), bytes), want);
     }
 }
 
 #[test]
 fn text_of_an_odd_entry(rt: HostRuntime) {
     let odd = entry(&rt, rt.alloc(), b"-a %\n\xff", Kind::Link, true);
-    assert!(rt;
-        reads(
-            &rt,
-            rt.alloc(),
-            &odd,
-            b"entries 1 link %2Da%20%25%0A%FF more\n"
-        )
-    );
+    let want = b"entries 1 link %2Da%20%25%0A%FF more\n";
+    check(&rt, rt.alloc(), odd, want);
 }
 
 // So many times that byte.
@@ -116,17 +114,18 @@ pub(crate) fn repeated(rt: &impl Abort, alloc: Global, byte: u8, count: usize) -
     Reply::Data(Bytes::new(bytes))
 }
 
+// Whether that is the text of 65,536 times that byte, in few calls.
+fn is_much(writer: &Sink) -> bool {
+    writer.got.starts_with(b"data 65536 a5a5")
+        && writer.got.ends_with(b"a5a5\n")
+        && writer.got.len() == 131_084
+        && writer.calls < 300
+}
+
 #[test]
 fn much_data_in_few_writes(rt: HostRuntime) {
     let mut writer = make_sink(rt.alloc(), MOST);
-    write(
-        &rt,
-        rt.alloc(),
-        &mut writer,
-        &repeated(&rt, rt.alloc(), 0xa5, 65_536),
-    );
-    assert!(rt; writer.got.starts_with(b"data 65536 a5a5"));
-    assert!(rt; writer.got.ends_with(b"a5a5\n"));
-    assert!(rt; writer.got.len() == 131_084);
-    assert!(rt; writer.calls < 300);
+    let much = repeated(&rt, rt.alloc(), 0xa5, 65_536);
+    write(&rt, rt.alloc(), &mut writer, &much);
+    assert!(rt; is_much(&writer));
 }

@@ -3,7 +3,7 @@ ghost use Rattle.std.specs.Prelude.{◌≡◌};
 
 use crate::replies::repeated;
 use eden_model::{Bytes, CallFault, Entries, Kind, Name, Reply, Request, StartFault};
-use eden_wire::{LONGEST_LINE, Service, SessionFault, read_request, session};
+use eden_wire::{Item, LONGEST_LINE, Service, SessionFault, read_request, session};
 use std::alloc::Global;
 use std::cell::Cell;
 use std::io;
@@ -225,34 +225,34 @@ fn ended(
     serve(rt, alloc, None, &mut reader, writer)
 }
 
-// The reader fails at that call: all whole lines before are answered.
-fn fail_read(rt: &impl Abort, alloc: Global, bad: u32) {
+// Whether a reader that fails at that call ends it, with all whole lines before answered.
+fn fails_read(rt: &impl Abort, alloc: Global, bad: u32) -> bool {
     let mut writer = make_sink(alloc, 1);
-    assert!(rt; ended(rt, alloc, bad, &mut writer) == Err(SessionFault::Read));
-    assert!(rt; TEXTS.starts_with(writer.got.as_slice()));
-    assert!(rt; writer.got.ends_with(b"\n") == (bad > 7));
+    ended(rt, alloc, bad, &mut writer) == Err(SessionFault::Read)
+        && TEXTS.starts_with(writer.got.as_slice())
+        && writer.got.ends_with(b"\n") == (bad > 7)
 }
 
 #[test]
 fn each_failed_read(rt: HostRuntime) {
     for bad in 1..=LINES.len() as u32 {
-        fail_read(&rt, rt.alloc(), bad);
+        assert!(rt; fails_read(&rt, rt.alloc(), bad), "call {bad}");
     }
 }
 
-// The writer fails at that call, and is called no more.
-fn fail_write(rt: &impl Abort, alloc: Global, bad: u32) {
+// Whether a writer that fails at that call ends it, and is called no more.
+fn fails_write(rt: &impl Abort, alloc: Global, bad: u32) -> bool {
     let mut writer = make_sink(alloc, 1);
     writer.bad = bad;
-    assert!(rt; ended(rt, alloc, 0, &mut writer) == Err(SessionFault::Write));
-    assert!(rt; TEXTS.starts_with(writer.got.as_slice()));
-    assert!(rt; writer.calls == bad);
+    ended(rt, alloc, 0, &mut writer) == Err(SessionFault::Write)
+        && TEXTS.starts_with(writer.got.as_slice())
+        && writer.calls == bad
 }
 
 #[test]
 fn each_failed_write(rt: HostRuntime) {
     for bad in 1..=TEXTS.len() as u32 + 6 {
-        fail_write(&rt, rt.alloc(), bad);
+        assert!(rt; fails_write(&rt, rt.alloc(), bad), "call {bad}");
     }
 }
 
@@ -300,13 +300,16 @@ fn make_interrupted(alloc: Global, bytes: &[u8]) -> Interrupted<'_> {
     }
 }
 
+// Whether all is answered over a reader and a writer that are interrupted.
+fn is_answered(rt: &impl Abort, alloc: Global, writer: &mut Interrupted<'_>) -> bool {
+    let mut reader = make_interrupted(alloc, LINES);
+    serve(rt, alloc, None, &mut reader, writer) == Ok(())
+}
+
 #[test]
 fn interrupted_reads_and_writes_are_made_again(rt: HostRuntime) {
-    let mut reader = make_interrupted(rt.alloc(), LINES);
     let mut writer = make_interrupted(rt.alloc(), b"");
-    let ended = serve(&rt, rt.alloc(), None, &mut reader, &mut writer);
-    assert!(rt; ended == Ok(()));
-    assert!(rt; writer.writer.got.as_slice() == TEXTS);
+    assert!(rt; is_answered(&rt, rt.alloc(), &mut writer) && writer.writer.got.as_slice() == TEXTS);
 }
 
 // Inputs, and what a session says to them.
@@ -466,10 +469,14 @@ const SPELLINGS: &[(&[u8], &str, &str)] = &[
     (b"rename /a /", "Rename", ", Path { names: [] }"),
 ];
 
-// What a line is read as.
-fn item(rt: &impl Abort, alloc: Global, line: &[u8]) -> String {
-    let item = read_request(alloc, line).expect(rt, "memory");
+fn text_of(rt: &impl Abort, alloc: Global, item: &Item) -> String {
     format!(in alloc; "{item:?}").expect(rt, "memory")
+}
+
+// What a line is read as.
+fn read(rt: &impl Abort, alloc: Global, line: &[u8]) -> String {
+    let item = read_request(alloc, line).expect(rt, "memory");
+    text_of(rt, alloc, &item)
 }
 
 // How a request of the path `/a` is told.
@@ -478,10 +485,17 @@ fn request(rt: &impl Abort, alloc: Global, name: &str, rest: &str) -> String {
     format!(in alloc; "Asks({name}({path}{rest}))").expect(rt, "memory")
 }
 
+fn is_spelled(rt: &impl Abort, alloc: Global, line: &[u8], name: &str, rest: &str) -> bool {
+    read(rt, alloc, line) == request(rt, alloc, name, rest)
+}
+
 #[test]
 fn spellings_of_requests(rt: HostRuntime) {
     for (line, name, rest) in SPELLINGS {
-        assert!(rt; item(&rt, rt.alloc(), line) == request(&rt, rt.alloc(), name, rest));
+        assert!(rt;
+            is_spelled(&rt, rt.alloc(), line, name, rest),
+            "{name}{rest}"
+        );
     }
 }
 
@@ -500,31 +514,34 @@ fn long_data_is_a_request(rt: HostRuntime) {
     assert!(rt; is_reply(&rt, rt.alloc(), line.as_slice(), b"ok\n"));
 }
 
+// Whether the line has as many bytes as a line may have, and is answered so.
+fn is_longest(rt: &impl Abort, alloc: Global, line: &[u8], want: &[u8]) -> bool {
+    line.len() == LONGEST_LINE + 1 && says(rt, alloc, line, 1, want)
+}
+
 #[test]
 fn the_longest_line(rt: HostRuntime) {
     let mut line = deep(&rt, rt.alloc(), 1, 149_994);
-    assert!(rt; line.len() == LONGEST_LINE);
     line.push(b'\n').expect(&rt, "memory");
-    assert!(rt;
-        says(
-            &rt,
-            rt.alloc(),
-            line.as_slice(),
-            1,
-            b"err 36 ENAMETOOLONG\n"
-        )
-    );
+    let want = b"err 36 ENAMETOOLONG\n";
+    assert!(rt; is_longest(&rt, rt.alloc(), line.as_slice(), want));
+}
+
+// Whether so long a line is answered once it is too long, with one call more to read.
+fn is_answered_early(rt: &impl Abort, alloc: Global, line: &[u8], want: &[u8]) -> bool {
+    let mut reader = make_pieces(line, 1);
+    reader.bad = 150_002;
+    let mut writer = make_sink(alloc, MOST);
+    serve(rt, alloc, None, &mut reader, &mut writer) == Ok(())
+        && writer.got.as_slice() == want
+        && reader.calls == 150_001
 }
 
 #[test]
 fn a_longer_line_is_answered_at_once(rt: HostRuntime) {
     let line = deep(&rt, rt.alloc(), 1, 149_995);
-    let mut reader = make_pieces(line.as_slice(), 1);
-    reader.bad = 150_002;
-    let mut writer = make_sink(rt.alloc(), MOST);
-    assert!(rt; serve(&rt, rt.alloc(), None, &mut reader, &mut writer) == Ok(()));
-    assert!(rt; writer.got.as_slice() == b"err 71 EPROTO\n".as_slice());
-    assert!(rt; reader.calls == 150_001);
+    let want = b"err 71 EPROTO\n";
+    assert!(rt; is_answered_early(&rt, rt.alloc(), line.as_slice(), want));
 }
 
 #[test]
@@ -533,8 +550,7 @@ fn many_replies_in_few_writes(rt: HostRuntime) {
     let input = input.expect(&rt, "memory");
     let mut writer = make_sink(rt.alloc(), MOST);
     answer(&rt, rt.alloc(), input.as_slice(), 65_536, &mut writer);
-    assert!(rt; writer.got.len() == 900_000);
-    assert!(rt; writer.calls < 1_000);
+    assert!(rt; writer.got.len() == 900_000 && writer.calls < 1_000);
 }
 
 // Sends a line once the reply to the one before is there, and fails otherwise.
@@ -620,8 +636,8 @@ const CALL_FAULTS: &[(CallFault, &[u8])] = &[
 fn says_of(rt: &impl Abort, alloc: Global, fault: CallFault, want: &[u8]) -> bool {
     let mut reader = make_pieces(b"kind /\n", MOST);
     let mut writer = make_sink(alloc, MOST);
-    assert!(rt; serve(rt, alloc, Some(fault), &mut reader, &mut writer) == Ok(()));
-    writer.got.as_slice() == want
+    serve(rt, alloc, Some(fault), &mut reader, &mut writer) == Ok(())
+        && writer.got.as_slice() == want
 }
 
 #[test]
