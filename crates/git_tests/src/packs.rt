@@ -121,8 +121,9 @@ fn a_bad_multi_pack_index_is_passed_over(rt: HostRuntime) {
     remove_folder(&rt, &folder);
 }
 
-fn put_loose(rt: &(impl AllocGlobal + Abort + Files), folder: &PathBuf) {
-    let objects = folder.join(rt.alloc(), "objects").expect(rt, "memory");
+/// Puts the blob's file below a directory of objects, which is there in the folder.
+pub(crate) fn put_blob(rt: &(impl AllocGlobal + Abort + Files), folder: &PathBuf, place: &str) {
+    let objects = folder.join(rt.alloc(), place).expect(rt, "memory");
     put_object(rt, &objects, &BLOB);
 }
 
@@ -135,7 +136,7 @@ fn check_later<S: Source<Outside>>(
     check(rt, source, FIRST, false);
     put_pack(rt, folder, &BY_NAMES);
     check(rt, source, FIRST, true);
-    put_loose(rt, folder);
+    put_blob(rt, folder, "objects");
     check(rt, source, BLOB.id, true);
     remove_folder(rt, folder);
     check(rt, source, SECOND, true);
@@ -189,9 +190,9 @@ fn put_alternates(rt: &(impl AllocGlobal + Abort + Files), folder: &PathBuf) {
         "second/objects/info/alternates",
         b"../../last/objects\n../../first/objects",
     );
+    put_blob(rt, folder, "last/objects");
     let last = folder.join(rt.alloc(), "last").expect(rt, "memory");
     put_pack(rt, &last, &BY_OFFSETS);
-    put_loose(rt, &last);
 }
 
 // An object of the pack and a loose one are given.

@@ -1,6 +1,6 @@
 //! Where a repository's objects are.
-use crate::loose::{put, put_object, remove_folder};
-use crate::packs::gives;
+use crate::loose::{put, remove_folder};
+use crate::packs::{gives, put_blob};
 use crate::written::BLOB;
 use eden_git::{GitFault, GitSource};
 use std::fs::Files;
@@ -107,7 +107,11 @@ fn opens(
     expected: &Result<&str, GitFault>,
 ) -> bool {
     match GitSource::open(rt.alloc(), rt, here) {
-        Ok(mut source) => expected.is_ok() && gives(&mut source, rt.alloc(), BLOB.id),
+        Ok(mut source) => {
+            let is_it = expected.is_ok() && gives(&mut source, rt.alloc(), BLOB.id);
+            drop(source);
+            is_it
+        }
         Err(fault) => is_fault(expected, fault),
     }
 }
@@ -122,17 +126,9 @@ fn is_found(
     for file in files {
         put(rt, folder, file.place, file.text);
     }
-    let place = place_of(expected);
-    put_object(
-        rt,
-        &folder.join(rt.alloc(), place).expect(rt, "memory"),
-        &BLOB,
-    );
-    opens(
-        rt,
-        folder.join(rt.alloc(), "here").expect(rt, "memory"),
-        expected,
-    )
+    put_blob(rt, folder, place_of(expected));
+    let here = folder.join(rt.alloc(), "here").expect(rt, "memory");
+    opens(rt, here, expected)
 }
 
 #[test]

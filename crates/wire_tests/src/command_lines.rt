@@ -162,7 +162,10 @@ fn is_wanted(given: &MountOptions, want: &Wanted) -> bool {
 
 /// The words ask `stdio` for that.
 fn check_asked(rt: &impl Abort, alloc: Global, words: &[&str], want: Wanted) {
-    assert!(rt; is_wanted(&asked(rt, alloc, words), &want));
+    let given = asked(rt, alloc, words);
+    let is_it = is_wanted(&given, &want);
+    drop(given);
+    assert!(rt; is_it);
 }
 
 const LIMITS: (u32, usize, u64) = (1_000_000, 1024, 1 << 28);
@@ -229,7 +232,10 @@ fn is_served(given: &ServeOptions, origin: Origin, numbers: Numbers) -> bool {
 
 /// The words ask `serve` for that.
 fn check_served(rt: &impl Abort, alloc: Global, words: &[&str], origin: Origin, numbers: Numbers) {
-    assert!(rt; is_served(&served(rt, alloc, words), origin, numbers));
+    let given = served(rt, alloc, words);
+    let is_it = is_served(&given, origin, numbers);
+    drop(given);
+    assert!(rt; is_it);
 }
 
 #[test]
@@ -661,14 +667,21 @@ fn is_in(objects: &Served, is_repository: bool) -> bool {
 /// The words of `objects` with a repository.
 const OF_A_REPOSITORY: &[&str] = &["mountd", "objects", "--port", "1", "--git", FOLDER];
 
-fn is_repository_at(given: &ObjectsOptions, at: At) -> bool {
-    is_in(&given.objects, true) && is_at(&given.address, at)
+fn is_given_out(given: &ObjectsOptions, is_repository: bool, at: At) -> bool {
+    is_in(&given.objects, is_repository) && is_at(&given.address, at)
+}
+
+/// The words ask `objects` for that.
+fn check_given_out(rt: &impl Abort, alloc: Global, words: &[&str], is_repository: bool, at: At) {
+    let given = given_out(rt, alloc, words);
+    let is_it = is_given_out(&given, is_repository, at);
+    drop(given);
+    assert!(rt; is_it);
 }
 
 #[test]
 fn takes_a_repository_to_give_out(rt: HostRuntime) {
-    let given = given_out(&rt, rt.alloc(), OF_A_REPOSITORY);
-    assert!(rt; is_repository_at(&given, At::Port(1)));
+    check_given_out(&rt, rt.alloc(), OF_A_REPOSITORY, true, At::Port(1));
 }
 
 /// Lines of `objects` that don't say whose, and the texts that refuse them.
@@ -705,15 +718,18 @@ fn refuses_what_says_not_whose_to_give_out(rt: HostRuntime) {
 /// The words of `objects` at a socket.
 const AT_A_SOCKET: &[&str] = &["mountd", "objects", "--dir", FOLDER, "--socket", "socket"];
 
+/// .. and at a port.
+const AT_A_PORT: &[&str] = &["mountd", "objects", "--dir", FOLDER, "--port", "0"];
+
 #[test]
 fn takes_a_folder_to_give_out(rt: HostRuntime) {
-    assert!(rt; is_in(&given_out(&rt, rt.alloc(), AT_A_SOCKET).objects, false));
+    check_given_out(&rt, rt.alloc(), AT_A_PORT, false, At::Port(0));
 }
 
 #[test]
 fn takes_a_socket_to_listen_at(rt: HostRuntime) {
     let at = At::Socket("socket");
-    assert!(rt; is_at(&given_out(&rt, rt.alloc(), AT_A_SOCKET).address, at));
+    check_given_out(&rt, rt.alloc(), AT_A_SOCKET, false, at);
 }
 
 /// A line that asks a server at a socket.

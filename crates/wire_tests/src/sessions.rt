@@ -101,7 +101,9 @@ fn serve<R: Read, W: Write>(
     writer: &mut W,
 ) -> Result<(), SessionFault> {
     let mut service = make_small(rt, alloc, refused);
-    session(alloc, reader, writer, &mut service)
+    let ended = session(alloc, reader, writer, &mut service);
+    drop(service);
+    ended
 }
 
 // Gives at most `size` bytes a call; call number `bad` fails.
@@ -476,7 +478,9 @@ fn text_of(rt: &impl Abort, alloc: Global, item: &Item) -> String {
 // What a line is read as.
 fn read(rt: &impl Abort, alloc: Global, line: &[u8]) -> String {
     let item = read_request(alloc, line).expect(rt, "memory");
-    text_of(rt, alloc, &item)
+    let text = text_of(rt, alloc, &item);
+    drop(item);
+    text
 }
 
 // How a request of the path `/a` is told.
