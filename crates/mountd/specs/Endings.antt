@@ -6,6 +6,8 @@ use Rattle.eden_checkout.specs.declared.fault.OpenFault.{OpenFault}
 use Rattle.eden_checkout.specs.declared.fault.OpenFault.TheVariants as opens
 use Rattle.eden_checkout.specs.declared.tidying.TidyFault.{TidyFault}
 use Rattle.eden_checkout.specs.declared.tidying.TidyFault.TheVariants as tidy
+use Rattle.eden_overlay.specs.declared.rescan.RescanFault.{RescanFault}
+use Rattle.eden_overlay.specs.declared.rescan.RescanFault.TheVariants as rescan
 use Rattle.eden_fuse_life.specs.declared.fault.FolderFault.{FolderFault}
 use Rattle.eden_fuse_life.specs.declared.fault.FolderFault.TheVariants as folder
 use Rattle.eden_fuse_session.specs.declared.serving.SessionFault.{SessionFault}
@@ -98,6 +100,14 @@ import_status (Err fault) = 5
 abbrev pub tidy_status : TidyFault → ℕ
 tidy_status (tidy.Open fault) = 3
 tidy_status (tidy.Remove fault) = 4
+
+-- .. and of one that a rescan refuses though it was repaired, or that wasn't repaired to the end
+abbrev pub repair_status : RescanFault → ℕ
+repair_status (rescan.Dangling k) = 3
+repair_status (rescan.Twice k) = 3
+repair_status (rescan.Damaged k refusal) = 3
+repair_status rescan.Device = 4
+repair_status rescan.Memory = 4
 
 -- .. and of what was done, and could be told or not
 abbrev pub IsToldStatus : ℕ → Type 0

@@ -9,6 +9,7 @@ mod lines;
 mod look;
 mod overlay_files;
 mod path_text;
+mod repair;
 mod report;
 mod serve;
 mod server;
@@ -24,6 +25,7 @@ use changes::changes;
 use eden_object_writer::{ImportFault, Progress, Store};
 use folder::folder;
 use mountd_options::{Command, ImportOptions, options};
+use repair::repair;
 use serve::serve;
 use server::serve_objects;
 use snapshot::snapshot;
@@ -72,6 +74,7 @@ fn main(rt: HostRuntime) -> ExitCode {
         Ok(Command::Objects(options)) => report::server(&rt, serve_objects(&rt, &rt, options)),
         Ok(Command::Import(options)) => report::import(&rt, import(&rt, options)),
         Ok(Command::Tidy(options)) => tidy(&rt, options),
+        Ok(Command::Repair(options)) => repair(&rt, options),
         Ok(Command::Snapshot(options)) => snapshot(&rt, options),
         Ok(Command::Changes(options)) => changes(&rt, options),
         Ok(Command::Version) => version(&rt),

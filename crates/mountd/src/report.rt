@@ -4,7 +4,7 @@
 ghost use Rattle.std.specs.Prelude.{◌≡◌, IfErr, IsErr, IsOk};
 ghost use Rattle.std.specs.Process.{exit_status};
 ghost use Rattle.mountd.specs.Endings.{IsToldStatus, close_name, folder_status, import_status, open_name};
-ghost use Rattle.mountd.specs.Endings.{repository_name, session_name};
+ghost use Rattle.mountd.specs.Endings.{repair_status, repository_name, session_name};
 ghost use Rattle.mountd.specs.Endings.{server_status, shared_status, status_of, tidy_status};
 
 use crate::server::ServerFault;
@@ -13,7 +13,7 @@ use eden_fuse_life::FolderFault;
 use eden_fuse_session::SessionFault;
 use eden_git::GitFault;
 use eden_object_writer::ImportFault;
-use eden_overlay::{FilesFault, Removed};
+use eden_overlay::{FilesFault, Removed, RescanFault};
 use eden_serve_life::SharedLifeFault;
 use eden_stdio_life::LifeFault;
 use mountd_options::OptionsError;
@@ -157,6 +157,32 @@ pub fn tidied<R: Print + Eprint>(rt: &R, outcome: Result<Removed, TidyFault>) ->
         }
         Err(TidyFault::Open(fault)) => unopened(rt, open_name(fault)),
         Err(TidyFault::Remove(fault)) => ended(rt, "tidy", close_name(fault)),
+    }
+}
+
+/// Tells how the repair of an overlay ended, once what was found was written, or could not be.
+///
+/// Status 0; 3, where a rescan refuses the overlay still; 4, where the device or memory failed, or a line can't be
+/// written.
+pub fn repaired<R: Eprint>(
+    rt: &R,
+    outcome: Result<u64, RescanFault>,
+    stored: Result<(), FilesFault>,
+    written: io::Result<()>,
+) -> ExitCode
+    ensures told { IsOk outcome → IsOk stored → IsToldStatus (exit_status result) }
+    ensures fault { IfErr outcome (λ fault. exit_status result ≡ repair_status fault) }
+    ensures unstored { IsOk outcome → IsErr stored → exit_status result ≡ 4 }
+    ensures unwritten { IsOk outcome → IsErr written → exit_status result ≡ 4 }
+{
+    match (outcome, stored) {
+        (Ok(_), Ok(())) => told(rt, "repair", written),
+        (Ok(_), Err(fault)) => ended(rt, "repair", close_name(fault)),
+        (Err(RescanFault::Dangling(_)), _) => unopened(rt, "Dangling"),
+        (Err(RescanFault::Twice(_)), _) => unopened(rt, "Twice"),
+        (Err(RescanFault::Damaged(_, _)), _) => unopened(rt, "Damaged"),
+        (Err(RescanFault::Device), _) => ended(rt, "repair", "Device"),
+        (Err(RescanFault::Memory), _) => ended(rt, "repair", "Memory"),
     }
 }
 

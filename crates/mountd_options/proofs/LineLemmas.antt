@@ -18,8 +18,8 @@ use Rattle.clap.specs.Faults.{fault_of}
 use Rattle.clap.specs.Values.{kind_of}
 use Rattle.clap.specs.declared.error.Error.{Error}
 use Rattle.clap.specs.declared.error.kind.ErrorKind.TheVariants.{OutOfMemory}
-use Rattle.mountd_options.specs.CommandLine.{IsTaken, NamesItsSource, NamesMount, NamesServed, Refuses, RefusesNumber, RefusesServed, RefusesServer, RefusesValues, changes, command_name, fuse, import}
-use Rattle.mountd_options.specs.CommandLine.{mountd_line, named, objects, serve, server_name, snapshot, stdio, subcommands, tidy, value_of}
+use Rattle.mountd_options.specs.CommandLine.{IsTaken, NamesItsSource, NamesMount, NamesServed, Refuses, RefusesNumber, RefusesRepair, RefusesServed, RefusesServer, RefusesValues}
+use Rattle.mountd_options.specs.CommandLine.{changes, command_name, fuse, import, mountd_line, named, objects, repair, serve, server_name, snapshot, stdio, subcommands, tidy, value_of}
 use Rattle.mountd_options.specs.Grammar.{HasRequired, Subcommand, value_in}
 use Rattle.mountd_options.specs.Numbers.{IsNoNumber, IsNoValue, number_name}
 use Rattle.mountd_options.specs.declared.numbers.NumberOption.{NumberOption}
@@ -108,10 +108,13 @@ required_met (subcommand ∷ rest) one rows apart (inr among) (inr later) = requ
 
 apart : AreApart subcommands
 apart = (
-  (refl, (refl, (refl, (refl, (refl, (refl, (refl, tt))))))),
+  (refl, (refl, (refl, (refl, (refl, (refl, (refl, (refl, tt)))))))),
   (
-    (refl, (refl, (refl, (refl, (refl, (refl, tt)))))),
-    ((refl, (refl, (refl, (refl, (refl, tt))))), ((refl, (refl, (refl, (refl, tt)))), ((refl, (refl, (refl, tt))), ((refl, (refl, tt)), ((refl, tt), (tt, tt)))))),
+    (refl, (refl, (refl, (refl, (refl, (refl, (refl, tt))))))),
+    (
+      (refl, (refl, (refl, (refl, (refl, (refl, tt)))))),
+      ((refl, (refl, (refl, (refl, (refl, tt))))), ((refl, (refl, (refl, (refl, tt)))), ((refl, (refl, (refl, tt))), ((refl, (refl, tt)), ((refl, tt), (tt, tt)))))),
+    ),
   ),
 )
 
@@ -125,20 +128,21 @@ required-taken one words f among taken met =
 pub import-named : (words : List Text) (m : ArgMatches) → IsTaken words → subcommand_rows_of m ≡ subcommand_of mountd_line words
     → (subcommand_name_of m ≡ Some stdio.0 → false ≡ true) → (subcommand_name_of m ≡ Some serve.0 → false ≡ true)
     → (subcommand_name_of m ≡ Some objects.0 → false ≡ true) → (subcommand_name_of m ≡ Some tidy.0 → false ≡ true)
-    → (subcommand_name_of m ≡ Some snapshot.0 → false ≡ true) → (subcommand_name_of m ≡ Some fuse.0 → false ≡ true)
-    → (subcommand_name_of m ≡ Some changes.0 → false ≡ true)
+    → (subcommand_name_of m ≡ Some repair.0 → false ≡ true) → (subcommand_name_of m ≡ Some snapshot.0 → false ≡ true)
+    → (subcommand_name_of m ≡ Some fuse.0 → false ≡ true) → (subcommand_name_of m ≡ Some changes.0 → false ≡ true)
     → subcommand_name_of m ≡ Some import.0
-import-named words m taken rows no_stdio no_serve no_objects no_tidy no_snapshot no_fuse no_changes =
+import-named words m taken rows no_stdio no_serve no_objects no_tidy no_repair no_snapshot no_fuse no_changes =
     elim (Meets-taken (codes "mountd") subcommands words taken) [
       | inl is ↦ absurd (true≢false (sym (no_stdio (named_by m words stdio.0 is.0 rows is.1))))
       | inr (inl is) ↦ absurd (true≢false (sym (no_serve (named_by m words serve.0 is.0 rows is.1))))
       | inr (inr (inl is)) ↦ absurd (true≢false (sym (no_objects (named_by m words objects.0 is.0 rows is.1))))
       | inr (inr (inr (inl is))) ↦ named_by m words import.0 is.0 rows is.1
       | inr (inr (inr (inr (inl is)))) ↦ absurd (true≢false (sym (no_tidy (named_by m words tidy.0 is.0 rows is.1))))
-      | inr (inr (inr (inr (inr (inl is))))) ↦ absurd (true≢false (sym (no_snapshot (named_by m words snapshot.0 is.0 rows is.1))))
-      | inr (inr (inr (inr (inr (inr (inl is)))))) ↦ absurd (true≢false (sym (no_fuse (named_by m words fuse.0 is.0 rows is.1))))
-      | inr (inr (inr (inr (inr (inr (inr (inl is))))))) ↦ absurd (true≢false (sym (no_changes (named_by m words changes.0 is.0 rows is.1))))
-      | inr (inr (inr (inr (inr (inr (inr (inr none))))))) ↦ absurd none
+      | inr (inr (inr (inr (inr (inl is))))) ↦ absurd (true≢false (sym (no_repair (named_by m words repair.0 is.0 rows is.1))))
+      | inr (inr (inr (inr (inr (inr (inl is)))))) ↦ absurd (true≢false (sym (no_snapshot (named_by m words snapshot.0 is.0 rows is.1))))
+      | inr (inr (inr (inr (inr (inr (inr (inl is))))))) ↦ absurd (true≢false (sym (no_fuse (named_by m words fuse.0 is.0 rows is.1))))
+      | inr (inr (inr (inr (inr (inr (inr (inr (inl is)))))))) ↦ absurd (true≢false (sym (no_changes (named_by m words changes.0 is.0 rows is.1))))
+      | inr (inr (inr (inr (inr (inr (inr (inr (inr none)))))))) ↦ absurd none
     ]
 
 pub named-met : (words : List Text) (f : Found) (name : Text) → subcommand_of mountd_line words ≡ Some (name, rows_of f) → named words ≡ Some name
@@ -224,6 +228,23 @@ objects_refuse words f why taken met refused =
         (taken, named_so, sources why.1, why.2)
     by_fault (error.Address option) why = (taken, sources why.0, why.1)
     by_fault (error.Number option) why = (taken, sources why.0, why.1)
+    by_fault error.Memory why = tt
+
+-- .. and that `repair` refuses
+pub repair_refuses : (words : List Text) (f : Found) (why : OptionsError) → IsTaken words
+    → subcommand_of mountd_line words ≡ Some (repair.0, rows_of f) → RefusesRepair (first_value f) why → Refuses words why
+repair_refuses words f why taken met refused =
+    by_fault why (by_words (λ value. RefusesRepair value why) words f repair.0 met refused)
+  where
+    by_fault : (e : OptionsError) → RefusesRepair (value_of words) e → Refuses words e
+    by_fault (error.Refused reason) why = absurd why
+    by_fault error.Root why = (taken, why)
+    by_fault (error.Source command) why = absurd why
+    by_fault (error.Repository command) why = absurd why
+    by_fault error.Served why = absurd why
+    by_fault (error.Place refusing) why = absurd why
+    by_fault (error.Address option) why = absurd why
+    by_fault (error.Number option) why = absurd why
     by_fault error.Memory why = tt
 
 -- what `objects` refuses of where it is to listen, where it is named whose objects

@@ -35,6 +35,7 @@ use Rattle.mountd_options.specs.declared.command.Served.TheVariants as of
 use Rattle.mountd_options.specs.declared.command.ServerCommand.{ServerCommand}
 use Rattle.mountd_options.specs.declared.command.ServerCommand.TheVariants as server
 use Rattle.mountd_options.specs.declared.command.TidyOptions.{TidyOptions}
+use Rattle.mountd_options.specs.declared.repair.RepairOptions.{RepairOptions}
 
 -- the name of a command over a commit's tree
 abbrev pub command_name : MountCommand → Text
@@ -93,6 +94,13 @@ tidy_options = required (codes "overlay") ∷ []
 abbrev pub tidy : Subcommand
 tidy = (codes "tidy", tidy_options)
 
+abbrev pub repair_options : List LineOption
+repair_options = required (codes "root") ∷ required (codes "overlay") ∷ []
+
+-- `repair --root ID --overlay DIR`
+abbrev pub repair : Subcommand
+repair = (codes "repair", repair_options)
+
 -- `--root ID --overlay DIR [--objects DIR] [--git DIR] [--remote SERVER]`, of whatever looks at a closed overlay
 abbrev pub closed_options : List LineOption
 closed_options = required (codes "root") ∷ required (codes "overlay") ∷ optional (codes "objects") ∷ optional (codes "git")
@@ -117,7 +125,7 @@ abbrev pub changes : Subcommand
 changes = (command_name by.Changes, closed_options)
 
 abbrev pub subcommands : List Subcommand
-subcommands = stdio ∷ serve ∷ objects ∷ import ∷ tidy ∷ snapshot ∷ fuse ∷ changes ∷ []
+subcommands = stdio ∷ serve ∷ objects ∷ import ∷ tidy ∷ repair ∷ snapshot ∷ fuse ∷ changes ∷ []
 
 abbrev pub mountd_line : App
 mountd_line = program (codes "mountd") subcommands
@@ -255,6 +263,11 @@ pub record IsImport (value : Text → Option Text) (options : ImportOptions) : T
 abbrev pub IsTidy : (Text → Option Text) → TidyOptions → Type 0
 IsTidy value options = value (codes "overlay") ≡ Some (string_bytes options.overlay)
 
+-- which overlay is to be repaired, and over which tree, is what these values say
+pub record IsRepair (value : Text → Option Text) (options : RepairOptions) : Type 0 where
+  pub root : value (codes "root") ≡ Some (encode_lower options.root.bytes)
+  pub overlay : value (codes "overlay") ≡ Some (string_bytes options.overlay)
+
 -- which closed overlay is to be looked at is what these values say
 pub record IsClosed (value : Text → Option Text) (options : ClosedOptions) : Type 0 where
   pub root : value (codes "root") ≡ Some (encode_lower options.root.bytes)
@@ -278,6 +291,7 @@ AsksFor words (command.Fuse options) = (named words ≡ Some fuse.0) × IsFolder
 AsksFor words (command.Objects options) = (named words ≡ Some objects.0) × AreServed (value_of words) options
 AsksFor words (command.Import options) = (named words ≡ Some import.0) × IsImport (value_of words) options
 AsksFor words (command.Tidy options) = (named words ≡ Some tidy.0) × IsTidy (value_of words) options
+AsksFor words (command.Repair options) = (named words ≡ Some repair.0) × IsRepair (value_of words) options
 AsksFor words (command.Snapshot options) = (named words ≡ Some snapshot.0) × IsSnapshot (value_of words) options
 AsksFor words (command.Changes options) = (named words ≡ Some changes.0) × IsClosed (value_of words) options
 AsksFor words command.Version = AsksVersion words
@@ -317,6 +331,18 @@ RefusesServed value (error.Place refusing) = (refusing ≡ server.Objects) × Na
 RefusesServed value (error.Address option) = NamesServed value × RefusesAddress value option
 RefusesServed value (error.Number option) = NamesServed value × RefusesNumber value option
 RefusesServed value error.Memory = ⊤
+
+-- why `repair` refuses such values: the root
+abbrev pub RefusesRepair : (Text → Option Text) → OptionsError → Type 0
+RefusesRepair value (error.Refused why) = ⊥
+RefusesRepair value error.Root = NamesNoRoot value
+RefusesRepair value (error.Source refusing) = ⊥
+RefusesRepair value (error.Repository refusing) = ⊥
+RefusesRepair value error.Served = ⊥
+RefusesRepair value (error.Place refusing) = ⊥
+RefusesRepair value (error.Address option) = ⊥
+RefusesRepair value (error.Number option) = ⊥
+RefusesRepair value error.Memory = ⊤
 
 -- why it is refused where the objects are to come from
 abbrev pub RefusesObjects : MountCommand → (Text → Option Text) → OptionsError → Type 0

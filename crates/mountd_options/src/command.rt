@@ -24,6 +24,7 @@ use crate::addresses::AddressOption;
 use crate::closed::{ClosedOptions, SnapshotOptions, changes_options, snapshot_options};
 use crate::grammar::command_line;
 use crate::numbers::NumberOption;
+use crate::repair::{RepairOptions, repair_options};
 use clap::ArgMatches;
 use clap::error::ErrorKind;
 use eden_model::Id;
@@ -232,6 +233,7 @@ pub enum Command {
     Objects(ObjectsOptions),
     Import(ImportOptions),
     Tidy(TidyOptions),
+    Repair(RepairOptions),
     Snapshot(SnapshotOptions),
     Changes(ClosedOptions),
     /// Which program this is.
@@ -309,6 +311,9 @@ pub fn options<S: AsStr>(alloc: Global, words: &[S]) -> Result<Command, OptionsE
     }
     if let Some(given) = matches.subcommand_matches("tidy") {
         return Ok(Command::Tidy(tidy_options(alloc, given)?));
+    }
+    if let Some(given) = matches.subcommand_matches("repair") {
+        return Ok(Command::Repair(repair_options(alloc, given)?));
     }
     if let Some(given) = matches.subcommand_matches("snapshot") {
         return Ok(Command::Snapshot(snapshot_options(alloc, given)?));

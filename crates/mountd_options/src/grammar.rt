@@ -3,7 +3,7 @@ ghost use Rattle.std.specs.Prelude.{◌≡◌, ◌∷◌, [], IfOk, false};
 ghost use Rattle.clap.specs.declared.builder.command.Command.TheViews.{out-Command as fields_of};
 ghost use Rattle.clap.specs.Words.{app_of, rule_of, shape_of};
 ghost use Rattle.mountd_options.specs.CommandLine.{fuse, import, kept_options, mount_options, mountd_line, objects};
-ghost use Rattle.mountd_options.specs.CommandLine.{serve, stdio, tidy};
+ghost use Rattle.mountd_options.specs.CommandLine.{repair, serve, stdio, tidy};
 ghost use Rattle.mountd_options.specs.Grammar.{flag, option_rule, optional, required, subcommand_shape, with_options};
 
 use crate::closed::{changes_line, snapshot_line};
@@ -32,6 +32,8 @@ pub(crate) fn command_line<'a>(alloc: Global) -> Result<clap::Command<'a>, Alloc
     let line = line.subcommand(import)?;
     let tidy = tidy_line(alloc)?;
     let line = line.subcommand(tidy)?;
+    let repair = repair_line(alloc)?;
+    let line = line.subcommand(repair)?;
     let snapshot = snapshot_line(alloc)?;
     let line = line.subcommand(snapshot)?;
     let fuse = fuse_line(alloc)?;
@@ -171,6 +173,22 @@ fn tidy_line<'a>(alloc: Global) -> Result<clap::Command<'a>, AllocError>
     ensures local { IfOk result (λ line. (fields_of line).has_globals ≡ false) }
 {
     let line = clap::Command::new(alloc, "tidy").about("Removes orphans from a closed overlay");
+    with_required(alloc, line, ("overlay", "DIR"), "The folder of the overlay")
+}
+
+fn repair_line<'a>(alloc: Global) -> Result<clap::Command<'a>, AllocError>
+    ensures shape { IfOk result (λ line. shape_of line ≡ subcommand_shape repair) }
+    ensures local { IfOk result (λ line. (fields_of line).has_globals ≡ false) }
+{
+    let line = clap::Command::new(alloc, "repair").about(
+        "Takes out of an overlay what can't be read",
+    );
+    let line = with_required(
+        alloc,
+        line,
+        ("root", "ID"),
+        "The tree that the overlay stands on: 40 lower-case hexadecimal digits",
+    )?;
     with_required(alloc, line, ("overlay", "DIR"), "The folder of the overlay")
 }
 

@@ -10,6 +10,7 @@ mod closed;
 mod command;
 mod grammar;
 mod numbers;
+mod repair;
 
 pub use addresses::AddressOption;
 pub use closed::{ClosedOptions, SnapshotOptions};
@@ -18,3 +19,4 @@ pub use command::{
     ObjectsOptions, OptionsError, ServeOptions, Served, ServerCommand, TidyOptions, options,
 };
 pub use numbers::NumberOption;
+pub use repair::RepairOptions;

@@ -1,10 +1,10 @@
 use Rattle.std.proofs.Common.{rules, ◌≡◌, refl, inl, inr, Some, map}
 use Rattle.clap.specs.Matches.{found_of, subcommand_name_of}
 use Rattle.clap.specs.Simple.{subcommand_of, subcommand_rows_of}
-use Rattle.mountd_options.specs.CommandLine.{AreServed, IsClosed, IsFolder, IsImport, IsMount, IsServed, IsSnapshot, IsTaken, IsTidy}
-use Rattle.mountd_options.specs.CommandLine.{Refuses, changes, fuse, import, mountd_line, objects, serve, snapshot, stdio, tidy}
+use Rattle.mountd_options.specs.CommandLine.{AreServed, IsClosed, IsFolder, IsImport, IsMount, IsRepair, IsServed, IsSnapshot, IsTaken, IsTidy}
+use Rattle.mountd_options.specs.CommandLine.{Refuses, changes, fuse, import, mountd_line, objects, repair, serve, snapshot, stdio, tidy}
 use Rattle.mountd_options.specs.declared.command.MountCommand.TheVariants as by
-use Rattle.mountd_options.proofs.LineLemmas.{by_words, import-named, met-named, named-met, objects_refuse, required-taken, values_refuse}
+use Rattle.mountd_options.proofs.LineLemmas.{by_words, import-named, met-named, named-met, objects_refuse, repair_refuses, required-taken, values_refuse}
 use Rattle.mountd_options.proofs.command.options.Goals as goal
 
 pub mount_options-requires : goal.mount_options-requires
@@ -110,26 +110,26 @@ returns-in-Some-subcommand_matches-3-clause-ok g c =
     let asked = c.in_ok-tidy_options.field-0 in
     (named-met words f tidy.0 met, by_words (λ value. IsTidy value asked) words f tidy.0 met c.in_ok-tidy_options.ensures)
 
-pub snapshot_options-requires : goal.snapshot_options-requires
-snapshot_options-requires g c =
+pub repair_options-requires : goal.repair_options-requires
+repair_options-requires g c =
     let words = map g.S.AsStr.text c.args.words.now in
     let f = found_of c.in-Some-subcommand_matches-4.given.now in
     let taken : IsTaken words = search rules in
     let rows : subcommand_rows_of c.in_ok-matches.matches ≡ subcommand_of mountd_line words = search rules in
-    let name : subcommand_name_of c.in_ok-matches.matches ≡ Some snapshot.0 = c.in-Some-subcommand_matches-4.ensures.found.0 refl in
-    required-taken snapshot words f (inr (inr (inr (inr (inr (inl refl)))))) taken
-    (met-named words c.in_ok-matches.matches f snapshot.0 rows name c.in-Some-subcommand_matches-4.ensures.rows)
+    let name : subcommand_name_of c.in_ok-matches.matches ≡ Some repair.0 = c.in-Some-subcommand_matches-4.ensures.found.0 refl in
+    required-taken repair words f (inr (inr (inr (inr (inr (inl refl)))))) taken
+    (met-named words c.in_ok-matches.matches f repair.0 rows name c.in-Some-subcommand_matches-4.ensures.rows)
 
-pub returns-in_err-snapshot_options-clause-err : goal.returns-in_err-snapshot_options-clause-err
-returns-in_err-snapshot_options-clause-err g c =
+pub returns-in_err-repair_options-clause-err : goal.returns-in_err-repair_options-clause-err
+returns-in_err-repair_options-clause-err g c =
     let words = map g.S.AsStr.text c.args.words.now in
     let f = found_of c.in-Some-subcommand_matches-4.given.now in
-    let why = c.in_err-snapshot_options.field-0.0 in
+    let why = c.in_err-repair_options.field-0.0 in
     let taken : IsTaken words = search rules in
     let rows : subcommand_rows_of c.in_ok-matches.matches ≡ subcommand_of mountd_line words = search rules in
-    let name : subcommand_name_of c.in_ok-matches.matches ≡ Some snapshot.0 = c.in-Some-subcommand_matches-4.ensures.found.0 refl in
-    let met = met-named words c.in_ok-matches.matches f snapshot.0 rows name c.in-Some-subcommand_matches-4.ensures.rows in
-    let refused : Refuses words why = values_refuse by.Snapshot words f why taken met c.in_err-snapshot_options.ensures.err in
+    let name : subcommand_name_of c.in_ok-matches.matches ≡ Some repair.0 = c.in-Some-subcommand_matches-4.ensures.found.0 refl in
+    let met = met-named words c.in_ok-matches.matches f repair.0 rows name c.in-Some-subcommand_matches-4.ensures.rows in
+    let refused : Refuses words why = repair_refuses words f why taken met c.in_err-repair_options.ensures.err in
     search rules
 
 pub returns-in-Some-subcommand_matches-4-clause-ok : goal.returns-in-Some-subcommand_matches-4-clause-ok
@@ -137,31 +137,31 @@ returns-in-Some-subcommand_matches-4-clause-ok g c =
     let words = map g.S.AsStr.text c.args.words.now in
     let f = found_of c.in-Some-subcommand_matches-4.given.now in
     let rows : subcommand_rows_of c.in_ok-matches.matches ≡ subcommand_of mountd_line words = search rules in
-    let name : subcommand_name_of c.in_ok-matches.matches ≡ Some snapshot.0 = c.in-Some-subcommand_matches-4.ensures.found.0 refl in
-    let met = met-named words c.in_ok-matches.matches f snapshot.0 rows name c.in-Some-subcommand_matches-4.ensures.rows in
-    let asked = c.in_ok-snapshot_options.field-0 in
-    (named-met words f snapshot.0 met, by_words (λ value. IsSnapshot value asked) words f snapshot.0 met c.in_ok-snapshot_options.ensures.ok)
+    let name : subcommand_name_of c.in_ok-matches.matches ≡ Some repair.0 = c.in-Some-subcommand_matches-4.ensures.found.0 refl in
+    let met = met-named words c.in_ok-matches.matches f repair.0 rows name c.in-Some-subcommand_matches-4.ensures.rows in
+    let asked = c.in_ok-repair_options.field-0 in
+    (named-met words f repair.0 met, by_words (λ value. IsRepair value asked) words f repair.0 met c.in_ok-repair_options.ensures.ok)
 
-pub fuse_options-requires : goal.fuse_options-requires
-fuse_options-requires g c =
+pub snapshot_options-requires : goal.snapshot_options-requires
+snapshot_options-requires g c =
     let words = map g.S.AsStr.text c.args.words.now in
     let f = found_of c.in-Some-subcommand_matches-5.given.now in
     let taken : IsTaken words = search rules in
     let rows : subcommand_rows_of c.in_ok-matches.matches ≡ subcommand_of mountd_line words = search rules in
-    let name : subcommand_name_of c.in_ok-matches.matches ≡ Some fuse.0 = c.in-Some-subcommand_matches-5.ensures.found.0 refl in
-    required-taken fuse words f (inr (inr (inr (inr (inr (inr (inl refl))))))) taken
-    (met-named words c.in_ok-matches.matches f fuse.0 rows name c.in-Some-subcommand_matches-5.ensures.rows)
+    let name : subcommand_name_of c.in_ok-matches.matches ≡ Some snapshot.0 = c.in-Some-subcommand_matches-5.ensures.found.0 refl in
+    required-taken snapshot words f (inr (inr (inr (inr (inr (inr (inl refl))))))) taken
+    (met-named words c.in_ok-matches.matches f snapshot.0 rows name c.in-Some-subcommand_matches-5.ensures.rows)
 
-pub returns-in_err-fuse_options-clause-err : goal.returns-in_err-fuse_options-clause-err
-returns-in_err-fuse_options-clause-err g c =
+pub returns-in_err-snapshot_options-clause-err : goal.returns-in_err-snapshot_options-clause-err
+returns-in_err-snapshot_options-clause-err g c =
     let words = map g.S.AsStr.text c.args.words.now in
     let f = found_of c.in-Some-subcommand_matches-5.given.now in
-    let why = c.in_err-fuse_options.field-0.0 in
+    let why = c.in_err-snapshot_options.field-0.0 in
     let taken : IsTaken words = search rules in
     let rows : subcommand_rows_of c.in_ok-matches.matches ≡ subcommand_of mountd_line words = search rules in
-    let name : subcommand_name_of c.in_ok-matches.matches ≡ Some fuse.0 = c.in-Some-subcommand_matches-5.ensures.found.0 refl in
-    let met = met-named words c.in_ok-matches.matches f fuse.0 rows name c.in-Some-subcommand_matches-5.ensures.rows in
-    let refused : Refuses words why = values_refuse by.Fuse words f why taken met c.in_err-fuse_options.ensures.err in
+    let name : subcommand_name_of c.in_ok-matches.matches ≡ Some snapshot.0 = c.in-Some-subcommand_matches-5.ensures.found.0 refl in
+    let met = met-named words c.in_ok-matches.matches f snapshot.0 rows name c.in-Some-subcommand_matches-5.ensures.rows in
+    let refused : Refuses words why = values_refuse by.Snapshot words f why taken met c.in_err-snapshot_options.ensures.err in
     search rules
 
 pub returns-in-Some-subcommand_matches-5-clause-ok : goal.returns-in-Some-subcommand_matches-5-clause-ok
@@ -169,31 +169,31 @@ returns-in-Some-subcommand_matches-5-clause-ok g c =
     let words = map g.S.AsStr.text c.args.words.now in
     let f = found_of c.in-Some-subcommand_matches-5.given.now in
     let rows : subcommand_rows_of c.in_ok-matches.matches ≡ subcommand_of mountd_line words = search rules in
-    let name : subcommand_name_of c.in_ok-matches.matches ≡ Some fuse.0 = c.in-Some-subcommand_matches-5.ensures.found.0 refl in
-    let met = met-named words c.in_ok-matches.matches f fuse.0 rows name c.in-Some-subcommand_matches-5.ensures.rows in
-    let asked = c.in_ok-fuse_options.field-0 in
-    (named-met words f fuse.0 met, by_words (λ value. IsFolder value asked) words f fuse.0 met c.in_ok-fuse_options.ensures.ok)
+    let name : subcommand_name_of c.in_ok-matches.matches ≡ Some snapshot.0 = c.in-Some-subcommand_matches-5.ensures.found.0 refl in
+    let met = met-named words c.in_ok-matches.matches f snapshot.0 rows name c.in-Some-subcommand_matches-5.ensures.rows in
+    let asked = c.in_ok-snapshot_options.field-0 in
+    (named-met words f snapshot.0 met, by_words (λ value. IsSnapshot value asked) words f snapshot.0 met c.in_ok-snapshot_options.ensures.ok)
 
-pub changes_options-requires : goal.changes_options-requires
-changes_options-requires g c =
+pub fuse_options-requires : goal.fuse_options-requires
+fuse_options-requires g c =
     let words = map g.S.AsStr.text c.args.words.now in
     let f = found_of c.in-Some-subcommand_matches-6.given.now in
     let taken : IsTaken words = search rules in
     let rows : subcommand_rows_of c.in_ok-matches.matches ≡ subcommand_of mountd_line words = search rules in
-    let name : subcommand_name_of c.in_ok-matches.matches ≡ Some changes.0 = c.in-Some-subcommand_matches-6.ensures.found.0 refl in
-    required-taken changes words f (inr (inr (inr (inr (inr (inr (inr (inl refl)))))))) taken
-    (met-named words c.in_ok-matches.matches f changes.0 rows name c.in-Some-subcommand_matches-6.ensures.rows)
+    let name : subcommand_name_of c.in_ok-matches.matches ≡ Some fuse.0 = c.in-Some-subcommand_matches-6.ensures.found.0 refl in
+    required-taken fuse words f (inr (inr (inr (inr (inr (inr (inr (inl refl)))))))) taken
+    (met-named words c.in_ok-matches.matches f fuse.0 rows name c.in-Some-subcommand_matches-6.ensures.rows)
 
-pub returns-in_err-changes_options-clause-err : goal.returns-in_err-changes_options-clause-err
-returns-in_err-changes_options-clause-err g c =
+pub returns-in_err-fuse_options-clause-err : goal.returns-in_err-fuse_options-clause-err
+returns-in_err-fuse_options-clause-err g c =
     let words = map g.S.AsStr.text c.args.words.now in
     let f = found_of c.in-Some-subcommand_matches-6.given.now in
-    let why = c.in_err-changes_options.field-0.0 in
+    let why = c.in_err-fuse_options.field-0.0 in
     let taken : IsTaken words = search rules in
     let rows : subcommand_rows_of c.in_ok-matches.matches ≡ subcommand_of mountd_line words = search rules in
-    let name : subcommand_name_of c.in_ok-matches.matches ≡ Some changes.0 = c.in-Some-subcommand_matches-6.ensures.found.0 refl in
-    let met = met-named words c.in_ok-matches.matches f changes.0 rows name c.in-Some-subcommand_matches-6.ensures.rows in
-    let refused : Refuses words why = values_refuse by.Changes words f why taken met c.in_err-changes_options.ensures.err in
+    let name : subcommand_name_of c.in_ok-matches.matches ≡ Some fuse.0 = c.in-Some-subcommand_matches-6.ensures.found.0 refl in
+    let met = met-named words c.in_ok-matches.matches f fuse.0 rows name c.in-Some-subcommand_matches-6.ensures.rows in
+    let refused : Refuses words why = values_refuse by.Fuse words f why taken met c.in_err-fuse_options.ensures.err in
     search rules
 
 pub returns-in-Some-subcommand_matches-6-clause-ok : goal.returns-in-Some-subcommand_matches-6-clause-ok
@@ -201,8 +201,40 @@ returns-in-Some-subcommand_matches-6-clause-ok g c =
     let words = map g.S.AsStr.text c.args.words.now in
     let f = found_of c.in-Some-subcommand_matches-6.given.now in
     let rows : subcommand_rows_of c.in_ok-matches.matches ≡ subcommand_of mountd_line words = search rules in
-    let name : subcommand_name_of c.in_ok-matches.matches ≡ Some changes.0 = c.in-Some-subcommand_matches-6.ensures.found.0 refl in
-    let met = met-named words c.in_ok-matches.matches f changes.0 rows name c.in-Some-subcommand_matches-6.ensures.rows in
+    let name : subcommand_name_of c.in_ok-matches.matches ≡ Some fuse.0 = c.in-Some-subcommand_matches-6.ensures.found.0 refl in
+    let met = met-named words c.in_ok-matches.matches f fuse.0 rows name c.in-Some-subcommand_matches-6.ensures.rows in
+    let asked = c.in_ok-fuse_options.field-0 in
+    (named-met words f fuse.0 met, by_words (λ value. IsFolder value asked) words f fuse.0 met c.in_ok-fuse_options.ensures.ok)
+
+pub changes_options-requires : goal.changes_options-requires
+changes_options-requires g c =
+    let words = map g.S.AsStr.text c.args.words.now in
+    let f = found_of c.in-Some-subcommand_matches-7.given.now in
+    let taken : IsTaken words = search rules in
+    let rows : subcommand_rows_of c.in_ok-matches.matches ≡ subcommand_of mountd_line words = search rules in
+    let name : subcommand_name_of c.in_ok-matches.matches ≡ Some changes.0 = c.in-Some-subcommand_matches-7.ensures.found.0 refl in
+    required-taken changes words f (inr (inr (inr (inr (inr (inr (inr (inr (inl refl))))))))) taken
+    (met-named words c.in_ok-matches.matches f changes.0 rows name c.in-Some-subcommand_matches-7.ensures.rows)
+
+pub returns-in_err-changes_options-clause-err : goal.returns-in_err-changes_options-clause-err
+returns-in_err-changes_options-clause-err g c =
+    let words = map g.S.AsStr.text c.args.words.now in
+    let f = found_of c.in-Some-subcommand_matches-7.given.now in
+    let why = c.in_err-changes_options.field-0.0 in
+    let taken : IsTaken words = search rules in
+    let rows : subcommand_rows_of c.in_ok-matches.matches ≡ subcommand_of mountd_line words = search rules in
+    let name : subcommand_name_of c.in_ok-matches.matches ≡ Some changes.0 = c.in-Some-subcommand_matches-7.ensures.found.0 refl in
+    let met = met-named words c.in_ok-matches.matches f changes.0 rows name c.in-Some-subcommand_matches-7.ensures.rows in
+    let refused : Refuses words why = values_refuse by.Changes words f why taken met c.in_err-changes_options.ensures.err in
+    search rules
+
+pub returns-in-Some-subcommand_matches-7-clause-ok : goal.returns-in-Some-subcommand_matches-7-clause-ok
+returns-in-Some-subcommand_matches-7-clause-ok g c =
+    let words = map g.S.AsStr.text c.args.words.now in
+    let f = found_of c.in-Some-subcommand_matches-7.given.now in
+    let rows : subcommand_rows_of c.in_ok-matches.matches ≡ subcommand_of mountd_line words = search rules in
+    let name : subcommand_name_of c.in_ok-matches.matches ≡ Some changes.0 = c.in-Some-subcommand_matches-7.ensures.found.0 refl in
+    let met = met-named words c.in_ok-matches.matches f changes.0 rows name c.in-Some-subcommand_matches-7.ensures.rows in
     let asked = c.in_ok-changes_options.field-0 in
     (named-met words f changes.0 met, by_words (λ value. IsClosed value asked) words f changes.0 met c.in_ok-changes_options.ensures.ok)
 
@@ -211,10 +243,10 @@ unwrap-given-requires g c =
     let words = map g.S.AsStr.text c.args.words.now in
     let taken : IsTaken words = search rules in
     let rows : subcommand_rows_of c.in_ok-matches.matches ≡ subcommand_of mountd_line words = search rules in
-    c.subcommand_matches-8.ensures.found.1 (import-named words c.in_ok-matches.matches taken rows c.in_default.ensures.found.1
+    c.subcommand_matches-9.ensures.found.1 (import-named words c.in_ok-matches.matches taken rows c.in_default.ensures.found.1
     c.in_default-subcommand_matches.ensures.found.1 c.in_default-subcommand_matches-2.ensures.found.1 c.in_default-subcommand_matches-3.ensures.found.1
     c.in_default-subcommand_matches-4.ensures.found.1 c.in_default-subcommand_matches-5.ensures.found.1
-    c.in_default-subcommand_matches-6.ensures.found.1)
+    c.in_default-subcommand_matches-6.ensures.found.1 c.in_default-subcommand_matches-7.ensures.found.1)
 
 pub import_options-requires : goal.import_options-requires
 import_options-requires g c =
@@ -225,7 +257,7 @@ import_options-requires g c =
     let name = import-named words c.in_ok-matches.matches taken rows c.in_default.ensures.found.1 c.in_default-subcommand_matches.ensures.found.1
     c.in_default-subcommand_matches-2.ensures.found.1 c.in_default-subcommand_matches-3.ensures.found.1
     c.in_default-subcommand_matches-4.ensures.found.1 c.in_default-subcommand_matches-5.ensures.found.1
-    c.in_default-subcommand_matches-6.ensures.found.1 in
+    c.in_default-subcommand_matches-6.ensures.found.1 c.in_default-subcommand_matches-7.ensures.found.1 in
     required-taken import words f (inr (inr (inr (inl refl)))) taken (met-named words c.in_ok-matches.matches f import.0 rows name (search rules))
 
 pub returns-clause-ok : goal.returns-clause-ok
@@ -237,7 +269,7 @@ returns-clause-ok g c =
     let name = import-named words c.in_ok-matches.matches taken rows c.in_default.ensures.found.1 c.in_default-subcommand_matches.ensures.found.1
     c.in_default-subcommand_matches-2.ensures.found.1 c.in_default-subcommand_matches-3.ensures.found.1
     c.in_default-subcommand_matches-4.ensures.found.1 c.in_default-subcommand_matches-5.ensures.found.1
-    c.in_default-subcommand_matches-6.ensures.found.1 in
+    c.in_default-subcommand_matches-6.ensures.found.1 c.in_default-subcommand_matches-7.ensures.found.1 in
     let met = met-named words c.in_ok-matches.matches f import.0 rows name (search rules) in
     let asked = c.in_ok-import_options.field-0 in
     (named-met words f import.0 met, by_words (λ value. IsImport value asked) words f import.0 met c.in_ok-import_options.ensures)

@@ -1,6 +1,6 @@
 use Rattle.std.proofs.Common.{◌≡◌, ◌∙◌, ap, true, [], ◌∷◌, codes}
 use Rattle.clap.specs.Simple.{App, Shape, app_of, app_of_fields, new_app, on_top, shape_of, with_subcommand}
-use Rattle.mountd_options.specs.CommandLine.{fuse, import, objects, serve, snapshot, stdio, tidy}
+use Rattle.mountd_options.specs.CommandLine.{fuse, import, objects, repair, serve, snapshot, stdio, tidy}
 use Rattle.mountd_options.specs.Grammar.{program}
 use Rattle.mountd_options.proofs.grammar.command_line.Goals as goal
 
@@ -34,14 +34,18 @@ returns c =
     c.in_ok-line-5.ensures.shape c.in_ok-tidy.ensures.local
     ∙ (ap (λ (a : App). with_subcommand a (shape_of c.in_ok-tidy.tidy)) four
     ∙ ap (λ (s : Shape). with_subcommand (program name (stdio ∷ serve ∷ objects ∷ import ∷ [])) s) c.in_ok-tidy.ensures.shape) in
-    let six : app_of c.in_ok-line-6.line ≡ program name (stdio ∷ serve ∷ objects ∷ import ∷ tidy ∷ snapshot ∷ []) =
-    c.in_ok-line-6.ensures.shape c.in_ok-snapshot.ensures.local
-    ∙ (ap (λ (a : App). with_subcommand a (shape_of c.in_ok-snapshot.snapshot)) five
-    ∙ ap (λ (s : Shape). with_subcommand (program name (stdio ∷ serve ∷ objects ∷ import ∷ tidy ∷ [])) s) c.in_ok-snapshot.ensures.shape) in
-    let seven : app_of c.in_ok-line-7.line ≡ program name (stdio ∷ serve ∷ objects ∷ import ∷ tidy ∷ snapshot ∷ fuse ∷ []) =
-    c.in_ok-line-7.ensures.shape c.in_ok-fuse.ensures.local
-    ∙ (ap (λ (a : App). with_subcommand a (shape_of c.in_ok-fuse.fuse)) six
-    ∙ ap (λ (s : Shape). with_subcommand (program name (stdio ∷ serve ∷ objects ∷ import ∷ tidy ∷ snapshot ∷ [])) s) c.in_ok-fuse.ensures.shape) in
-    c.in_ok-line-8.ensures.shape c.in_ok-changes.ensures.local
-    ∙ (ap (λ (a : App). with_subcommand a (shape_of c.in_ok-changes.changes)) seven
-    ∙ ap (λ (s : Shape). with_subcommand (program name (stdio ∷ serve ∷ objects ∷ import ∷ tidy ∷ snapshot ∷ fuse ∷ [])) s) c.in_ok-changes.ensures.shape)
+    let six : app_of c.in_ok-line-6.line ≡ program name (stdio ∷ serve ∷ objects ∷ import ∷ tidy ∷ repair ∷ []) =
+    c.in_ok-line-6.ensures.shape c.in_ok-repair.ensures.local
+    ∙ (ap (λ (a : App). with_subcommand a (shape_of c.in_ok-repair.repair)) five
+    ∙ ap (λ (s : Shape). with_subcommand (program name (stdio ∷ serve ∷ objects ∷ import ∷ tidy ∷ [])) s) c.in_ok-repair.ensures.shape) in
+    let seven : app_of c.in_ok-line-7.line ≡ program name (stdio ∷ serve ∷ objects ∷ import ∷ tidy ∷ repair ∷ snapshot ∷ []) =
+    c.in_ok-line-7.ensures.shape c.in_ok-snapshot.ensures.local
+    ∙ (ap (λ (a : App). with_subcommand a (shape_of c.in_ok-snapshot.snapshot)) six
+    ∙ ap (λ (s : Shape). with_subcommand (program name (stdio ∷ serve ∷ objects ∷ import ∷ tidy ∷ repair ∷ [])) s) c.in_ok-snapshot.ensures.shape) in
+    let eight : app_of c.in_ok-line-8.line ≡ program name (stdio ∷ serve ∷ objects ∷ import ∷ tidy ∷ repair ∷ snapshot ∷ fuse ∷ []) =
+    c.in_ok-line-8.ensures.shape c.in_ok-fuse.ensures.local
+    ∙ (ap (λ (a : App). with_subcommand a (shape_of c.in_ok-fuse.fuse)) seven
+    ∙ ap (λ (s : Shape). with_subcommand (program name (stdio ∷ serve ∷ objects ∷ import ∷ tidy ∷ repair ∷ snapshot ∷ [])) s) c.in_ok-fuse.ensures.shape) in
+    c.in_ok-line-9.ensures.shape c.in_ok-changes.ensures.local
+    ∙ (ap (λ (a : App). with_subcommand a (shape_of c.in_ok-changes.changes)) eight
+    ∙ ap (λ (s : Shape). with_subcommand (program name (stdio ∷ serve ∷ objects ∷ import ∷ tidy ∷ repair ∷ snapshot ∷ fuse ∷ [])) s) c.in_ok-changes.ensures.shape)

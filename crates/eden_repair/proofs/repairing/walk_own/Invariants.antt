@@ -1,0 +1,17 @@
+use Rattle.std.proofs.Common.{◌≡◌, ◌≤◌, ◌+◌, ◌*◌, ◌-◌, ℕ, IsTrue, length, nat_cmp, btree_set_len}
+use Rattle.std.specs.BTreeSet.{contains}
+use Rattle.eden_model.specs.Limits.{number_end}
+use Rattle.eden_model.specs.Numbers.{IsNumber}
+use Rattle.eden_repair.specs.Surveying.{Mended}
+use Rattle.eden_repair.proofs.repairing.walk_own.Given as goal
+
+abbrev pub invariant-loop-directory : goal.invariant-loop-directory
+invariant-loop-directory g l = record {
+  mended : g.W.World.honest → Mended (g.F.Files.stored l.fn.files) l.found.items (g.F.Files.stored l.files) (contains nat_cmp l.met) (contains nat_cmp l.seen);
+  range : (k : ℕ) → IsTrue (contains nat_cmp l.met k) → IsNumber k;
+  few : btree_set_len l.met ≤ number_end;
+  counted : g.F.Files.failures l.files ≡ g.F.Files.failures l.fn.files;
+}
+
+abbrev pub decreases-loop-directory : goal.decreases-loop-directory
+decreases-loop-directory g l = 2 * (number_end - btree_set_len l.met) + length l.pending.items

@@ -1,0 +1,88 @@
+-- What a repair takes out of an overlay's files, and why.
+use Rattle.std.specs.Prelude.{◌≡◌, ◌++◌, ℕ, true, List, [], ◌∷◌, None, IsSomeAnd, Contains}
+use Rattle.eden_model.specs.Trees.{Name}
+use Rattle.eden_model.specs.declared.kind.Kind.{Kind}
+use Rattle.eden_model.specs.declared.kind.Origin.TheVariants as origin
+use Rattle.eden_overlay_format.specs.declared.stored_entry.StoredEntry.{StoredEntry}
+use Rattle.eden_overlay_format.specs.declared.header.Identifier.TheVariants as identifier
+use Rattle.eden_overlay_format.specs.Numbers.{has_numbers}
+use Rattle.eden_overlay_format.specs.Stored.{Refuses}
+use Rattle.eden_overlay_format.specs.Values.{numbers_in}
+use Rattle.eden_overlay.specs.declared.fault.GetFault.TheVariants as get
+use Rattle.eden_overlay.specs.Files.{Stored}
+use Rattle.eden_overlay.specs.Held.{HoldsEntries, with_entries, without}
+use Rattle.eden_overlay.specs.Rescanning.{ExplainsKind}
+use Rattle.eden_overlay.specs.Soundness.{HasOwn}
+use Rattle.eden_repair.specs.declared.damage.Damage.{Damage}
+use Rattle.eden_repair.specs.declared.damage.Damage.TheVariants as damage
+use Rattle.eden_repair.specs.declared.finding.Finding.{Finding}
+
+-- that is wrong with file k, as the own one of an inode of that kind
+abbrev pub IsDamagedSo : Stored → ℕ → Kind → Damage → Type 0
+IsDamagedSo F k t damage.Missing = F k ≡ None
+IsDamagedSo F k t (damage.Damaged refusal) = ExplainsKind F k t (get.Damaged refusal)
+IsDamagedSo F k t damage.Twice = ⊥
+
+-- one of the entries has the number
+pub record HasNumber (entries : List StoredEntry) (k : ℕ) : Type 0 where
+  pub entry : StoredEntry
+  pub there : Contains entries entry
+  pub number : entry.number ≡ k
+
+-- what is told of an entry that goes, of a directory at that path
+pub record TellsOf (at : List Name) (e : StoredEntry) (d : Damage) (f : Finding) : Type 0 where
+  pub path : f.path.items ≡ at ++ e.name ∷ []
+  pub number : f.number ≡ e.number
+  pub damage : f.damage ≡ d
+
+-- Of a directory's entries, one after another, some stay, and of each other is told why it goes: its own file isn't there, or is damaged;
+-- or it has the number of one that stays, in this directory or in one that was looked at before.
+pub data Sorts (F : Stored) (at : List Name) (before : List StoredEntry) : List StoredEntry → List StoredEntry → List Finding → Type 0 where
+  none : Sorts F at before [] [] []
+  stays : (entries kept : List StoredEntry) (cut : List Finding) (e : StoredEntry) → Sorts F at before entries kept cut → HasOwn F e
+      → Sorts F at before (entries ++ e ∷ []) (kept ++ e ∷ []) cut
+  lost : (entries kept : List StoredEntry) (cut : List Finding) (e : StoredEntry) (d : Damage) (f : Finding) → Sorts F at before entries kept cut
+      → e.origin ≡ origin.Own → IsDamagedSo F e.number e.kind d → TellsOf at e d f → Sorts F at before (entries ++ e ∷ []) kept (cut ++ f ∷ [])
+  twice : (entries kept : List StoredEntry) (cut : List Finding) (e : StoredEntry) (f : Finding) → Sorts F at before entries kept cut
+      → HasNumber (before ++ kept) e.number → TellsOf at e damage.Twice f → Sorts F at before (entries ++ e ∷ []) kept (cut ++ f ∷ [])
+
+-- file k has the numbers of a directory on a tree object, and nothing else
+abbrev pub HasNumbersAlone : Stored → ℕ → Type 0
+HasNumbersAlone F k = IsSomeAnd (F k) (λ bytes. has_numbers bytes ≡ true)
+
+-- the directory of file d is stored with the entries that stay, unless none was taken out of it
+abbrev pub Stores : Stored → ℕ → List StoredEntry → List Finding → Stored → Type 0
+Stores G d kept [] H = H ≡ G
+Stores G d kept (f ∷ cut) H = H ≡ with_entries G d kept
+
+-- The files F became G, by one own directory after another, each once: its entries are sorted, and those that stay are stored if others
+-- go, which are told in order. Listed are the directories that were looked at, and the entries that stay.
+pub data Mends (F : Stored) : List ℕ → List StoredEntry → List Finding → Stored → Type 0 where
+  begun : Mends F [] [] [] F
+  own : (looked : List ℕ) (stayed entries kept : List StoredEntry) (told cut : List Finding) (G H : Stored) (d : ℕ) (at : List Name)
+      → Mends F looked stayed told G → ¬ Contains looked d → HoldsEntries G d entries → Sorts G at stayed entries kept cut → Stores G d kept cut H
+      → Mends F (d ∷ looked) (stayed ++ kept) (told ++ cut) H
+
+-- Numbers of a directory on a tree object that stand alone in file k can't be used: they can't be read, for that reason, or one of them is
+-- an entry's that was met before.
+abbrev pub AreOfNoUse : Stored → ℕ → Damage → Type 0
+AreOfNoUse F k damage.Missing = ⊥
+AreOfNoUse F k (damage.Damaged refusal) = HasNumbersAlone F k × IsSomeAnd (F k) (λ bytes. Refuses identifier.Numbers numbers_in bytes refusal)
+AreOfNoUse F k damage.Twice = HasNumbersAlone F k
+
+-- the files F became G, by one file of such numbers after another, which is told, and is gone
+pub data Forgets (F : Stored) : List Finding → Stored → Type 0 where
+  begun : Forgets F [] F
+  forgotten : (told : List Finding) (G : Stored) (f : Finding) → Forgets F told G → AreOfNoUse G f.number f.damage → f.is_numbers ≡ true
+      → Forgets F (told ++ f ∷ []) (without G f.number)
+
+-- the files F became G, and all that was taken out is told: first own directories were mended, and then numbers forgotten
+pub record IsRepaired (F : Stored) (told : List Finding) (G : Stored) : Type 0 where
+  pub looked : List ℕ
+  pub stayed : List StoredEntry
+  pub cut : List Finding
+  pub between : Stored
+  pub forgotten : List Finding
+  pub mends : Mends F looked stayed cut between
+  pub forgets : Forgets between forgotten G
+  pub all : told ≡ cut ++ forgotten

@@ -1,0 +1,77 @@
+-- How far a repair has come.
+use Rattle.std.specs.Prelude.{[], ◌∷◌, ◌≡◌, ◌⊎◌, ◌++◌, ℕ, Bool, true, List, Contains, Option, Some, None}
+use Rattle.eden_model.specs.declared.kind.Origin.TheVariants as origin
+use Rattle.eden_overlay_format.specs.declared.stored_entry.StoredEntry.{StoredEntry}
+use Rattle.eden_overlay.specs.Files.{Stored}
+use Rattle.eden_repair.specs.declared.damage.Damage.{Damage}
+use Rattle.eden_repair.specs.declared.damage.Damage.TheVariants as damage
+use Rattle.eden_repair.specs.declared.finding.Finding.{Finding}
+use Rattle.eden_repair.specs.declared.survey.Sorted.{Sorted}
+use Rattle.eden_repair.specs.declared.saved.Numbers.{Numbers}
+use Rattle.eden_repair.specs.declared.saved.Numbers.TheVariants as numbers
+use Rattle.eden_overlay_format.specs.Directory.{AreStorable}
+use Rattle.eden_repair.specs.Repairing.{AreOfNoUse, Forgets, HasNumber, HasNumbersAlone, IsDamagedSo, Mends, Sorts}
+use Rattle.eden_model.specs.Trees.{Name}
+
+-- each number that was met is one of these entries'
+abbrev pub AreOf : (ℕ → Bool) → List StoredEntry → Type 0
+AreOf was_met entries = (k : ℕ) → was_met k ≡ true → HasNumber entries k
+
+-- the entry goes for that reason: its own file is damaged, or its number was met
+abbrev pub Goes : Stored → (ℕ → Bool) → StoredEntry → Damage → Type 0
+Goes F was_met e d = ((e.origin ≡ origin.Own) × IsDamagedSo F e.number e.kind d) ⊎ ((d ≡ damage.Twice) × (was_met e.number ≡ true))
+
+-- each directory that was looked at was seen
+abbrev pub WereSeen : List ℕ → (ℕ → Bool) → Type 0
+WereSeen looked was_seen = (d : ℕ) → Contains looked d → was_seen d ≡ true
+
+-- own directories were mended so far; the numbers that were met are those of entries that stay, and each directory that was looked at was seen
+pub record Mended (F : Stored) (told : List Finding) (G : Stored) (was_met was_seen : ℕ → Bool) : Type 0 where
+  pub looked : List ℕ
+  pub stayed : List StoredEntry
+  pub mends : Mends F looked stayed told G
+  pub met : AreOf was_met stayed
+  pub seen : WereSeen looked was_seen
+
+-- whatever was mended before, more is mended now
+abbrev pub MendsOn : List Finding → Stored → (ℕ → Bool) → (ℕ → Bool) → List Finding → Stored → (ℕ → Bool) → (ℕ → Bool) → Type 0
+MendsOn told F was_met was_seen told_then G is_met is_seen = (begun : Stored) → Mended begun told F was_met was_seen → Mended begun told_then G is_met is_seen
+
+-- own directories were mended so far
+pub record IsMended (F : Stored) (told : List Finding) (G : Stored) : Type 0 where
+  pub looked : List ℕ
+  pub stayed : List StoredEntry
+  pub mends : Mends F looked stayed told G
+
+-- what was told grew by numbers that were forgotten
+pub record ForgetsMore (F : Stored) (before : List Finding) (G : Stored) (after : List Finding) : Type 0 where
+  pub forgotten : List Finding
+  pub forgets : Forgets F forgotten G
+  pub told : after ≡ before ++ forgotten
+
+-- the numbers that are met then: one more if the entry stays
+abbrev pub IsMetThen : ℕ → Option Damage → (ℕ → Bool) → (ℕ → Bool) → Type 0
+IsMetThen k None was is = (q : ℕ) → is q ≡ true → (q ≡ k) ⊎ (was q ≡ true)
+IsMetThen k (Some d) was is = (q : ℕ) → is q ≡ true → was q ≡ true
+
+-- these entries are sorted so, and the numbers that were met are those of entries that stay
+pub record SortsOn (F : Stored) (at : List Name) (before entries : List StoredEntry) (s : Sorted) (was_met : ℕ → Bool) : Type 0 where
+  pub sorts : Sorts F at before entries s.listing s.cut.items
+  pub met : AreOf was_met (before ++ s.listing)
+
+-- whatever was sorted before, one entry more is sorted now
+abbrev pub SortsOneMore : Stored → List Name → StoredEntry → Sorted → Sorted → (ℕ → Bool) → (ℕ → Bool) → Type 0
+SortsOneMore F at e s t was_met is_met =
+    (stayed entries : List StoredEntry) → AreOf was_met (stayed ++ s.listing) → Sorts F at stayed entries s.listing s.cut.items
+    → SortsOn F at stayed (entries ++ e ∷ []) t is_met
+
+-- what was had of the numbers in file k, of whatever tree object: they stand alone in it, and if they were refused it is for that reason
+abbrev pub AreNumbers : Stored → ℕ → Numbers → Type 0
+AreNumbers F k numbers.None = Unit {0}
+AreNumbers F k (numbers.Entries entries) = HasNumbersAlone F k
+AreNumbers F k (numbers.Refused refusal) = AreOfNoUse F k (damage.Damaged refusal)
+
+abbrev pub AreStorableToo : Numbers → Type 0
+AreStorableToo numbers.None = Unit {0}
+AreStorableToo (numbers.Entries entries) = AreStorable entries.items
+AreStorableToo (numbers.Refused refusal) = Unit {0}

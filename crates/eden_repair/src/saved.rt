@@ -1,0 +1,184 @@
+//! Directories on tree objects: numbers that can't be read are forgotten.
+ghost use Rattle.std.specs.Prelude.{◌≡◌, ◌≤◌, ◌+◌, ℕ, Err, IfOk, IfSome, IsTrue, OnOk, length};
+ghost use Rattle.std.specs.Ordering.{nat_cmp};
+ghost use Rattle.std.specs.BTreeSet.{contains, btree_set_len};
+ghost use Rattle.eden_model.specs.Failures.{Counted};
+ghost use Rattle.eden_model.specs.Limits.{number_end};
+ghost use Rattle.eden_model.specs.Numbers.{IsNumber};
+ghost use Rattle.eden_overlay_format.specs.Directory.{AreStorable, IsStorable};
+ghost use Rattle.eden_overlay.specs.declared.files.FilesFault.TheVariants as fault;
+ghost use Rattle.eden_repair.specs.Repairing.{AreOfNoUse, HasNumbersAlone};
+ghost use Rattle.eden_repair.specs.Surveying.{AreNumbers, AreStorableToo, ForgetsMore};
+
+use crate::damage::Damage;
+use crate::finding::Finding;
+use crate::survey::{Directory, directory_below};
+use eden_model::{Id, Kind, Name, World};
+use eden_overlay::{Files, FilesFault};
+use eden_overlay_format::{DecodeFault, Refusal, StoredEntry, decode_numbers, has_numbers};
+use std::alloc::{AllocError, Global};
+use std::collections::BTreeSet;
+
+/// What a file has of the numbers of a directory.
+#[derive(Drop)]
+enum Numbers {
+    /// It isn't there, is no file of numbers, or has those of another tree object.
+    None,
+    /// The entries, with their numbers.
+    Entries(Vec<StoredEntry>),
+    /// They can't be read, for that reason.
+    Refused(Refusal),
+}
+
+// Whether the file of that number has numbers alone.
+fn has_numbers_at<W: World, F: Files<W>>(files: &mut F, number: u64) -> Result<bool, FilesFault>
+    ensures told { W.honest → IfOk result (λ b. IsTrue b → HasNumbersAlone (F.stored files.old) number) }
+    ensures unchanged { W.honest → F.stored files.new ≡ F.stored files.old }
+    ensures counted { Counted (result ≡ Err fault.Device) (F.failures files.old) (F.failures files.new) }
+{
+    match files.head(number)? {
+        Some(head) => Ok(has_numbers(&head)),
+        None => Ok(false),
+    }
+}
+
+// The numbers in the file of that number, of a directory on that tree object.
+fn numbers_at<W: World, F: Files<W>>(
+    alloc: Global,
+    files: &mut F,
+    number: u64,
+    tree: Id,
+) -> Result<Numbers, FilesFault>
+    ensures held { W.honest → IfOk result (AreNumbers (F.stored files.old) number) }
+    ensures storable { IfOk result AreStorableToo }
+    ensures unchanged { W.honest → F.stored files.new ≡ F.stored files.old }
+    ensures counted { Counted (result ≡ Err fault.Device) (F.failures files.old) (F.failures files.new) }
+{
+    if !has_numbers_at(files, number)? {
+        return Ok(Numbers::None);
+    }
+    match files.read(alloc, number)? {
+        None => Ok(Numbers::None),
+        Some(file) => match decode_numbers(alloc, &file) {
+            Ok(stored) => {
+                if stored.tree == tree {
+                    Ok(Numbers::Entries(stored.entries))
+                } else {
+                    Ok(Numbers::None)
+                }
+            }
+            Err(DecodeFault::Refused(refusal)) => Ok(Numbers::Refused(refusal)),
+            Err(DecodeFault::Memory) => Err(FilesFault::Memory),
+        },
+    }
+}
+
+// A number is met. Whether it wasn't before.
+fn meet(met: &mut BTreeSet<u64>, number: u64) -> Result<bool, AllocError>
+    requires range { IsNumber number }
+    requires met { (k : ℕ) → IsTrue (contains nat_cmp met.old k) → IsNumber k }
+    requires few { btree_set_len met.old ≤ number_end }
+    ensures new { IfOk result (λ new. IsTrue new → btree_set_len met.new ≡ btree_set_len met.old + 1) }
+    ensures least { OnOk result (btree_set_len met.old ≤ btree_set_len met.new) }
+    ensures range { OnOk result ((k : ℕ) → IsTrue (contains nat_cmp met.new k) → IsNumber k) }
+    ensures few { OnOk result (btree_set_len met.new ≤ number_end) }
+{
+    if met.insert(number)? {
+        return Ok(true);
+    }
+    Ok(false)
+}
+
+// The numbers of these entries are met. The directories among them; None if a number was met before.
+fn take_in(
+    alloc: Global,
+    met: &mut BTreeSet<u64>,
+    path: &[Name],
+    entries: Vec<StoredEntry>,
+) -> Result<Option<Vec<Directory>>, AllocError>
+    requires storable { AreStorable entries.items }
+    requires met { (k : ℕ) → IsTrue (contains nat_cmp met.old k) → IsNumber k }
+    requires few { btree_set_len met.old ≤ number_end }
+    ensures more { IfOk result
+        (λ o. IfSome o (λ v. btree_set_len met.old + length v.items ≤ btree_set_len met.new)) }
+    ensures least { OnOk result (btree_set_len met.old ≤ btree_set_len met.new) }
+    ensures range { OnOk result ((k : ℕ) → IsTrue (contains nat_cmp met.new k) → IsNumber k) }
+    ensures few { OnOk result (btree_set_len met.new ≤ number_end) }
+{
+    let mut below = Vec::new(alloc);
+    let mut are_new = true;
+    'entries: for entry in entries {
+        if !meet(met, entry.number)? {
+            are_new = false;
+        } else if entry.kind == Kind::Dir {
+            below.push(directory_below(alloc, path, &entry)?)?;
+        }
+    }
+    if are_new { Ok(Some(below)) } else { Ok(None) }
+}
+
+// Forgets the numbers of a directory, and tells it. After an error nothing has changed, and nothing more is told.
+fn forget<W: World, F: Files<W>>(
+    files: &mut F,
+    directory: Directory,
+    damage: Damage,
+    found: &mut Vec<Finding>,
+) -> Result<(), FilesFault>
+    requires { W.honest → AreOfNoUse (F.stored files.old) directory.number damage }
+    ensures forgets { W.honest
+        → ForgetsMore (F.stored files.old) found.old.items (F.stored files.new) found.new.items }
+    ensures counted { Counted (result ≡ Err fault.Device) (F.failures files.old) (F.failures files.new) }
+{
+    let number = directory.number;
+    let before = found.len();
+    found.push(Finding {
+        path: directory.path,
+        number,
+        damage,
+        is_numbers: true,
+    })?;
+    match files.remove(number) {
+        Ok(()) => Ok(()),
+        Err(fault) => {
+            found.truncate(before);
+            Err(fault)
+        }
+    }
+}
+
+/// Looks at the numbers of a directory on that tree object: they are met, or are forgotten if they can't be read, or if
+/// one was met before. The directories among its entries that are to be looked at.
+///
+/// After an error the numbers are there as they were.
+pub(crate) fn mend_saved<W: World, F: Files<W>>(
+    alloc: Global,
+    files: &mut F,
+    met: &mut BTreeSet<u64>,
+    directory: Directory,
+    tree: Id,
+    found: &mut Vec<Finding>,
+) -> Result<Vec<Directory>, FilesFault>
+    requires met { (k : ℕ) → IsTrue (contains nat_cmp met.old k) → IsNumber k }
+    requires few { btree_set_len met.old ≤ number_end }
+    ensures forgets { W.honest
+        → ForgetsMore (F.stored files.old) found.old.items (F.stored files.new) found.new.items }
+    ensures more { IfOk result (λ v. btree_set_len met.old + length v.items ≤ btree_set_len met.new) }
+    ensures range { OnOk result ((k : ℕ) → IsTrue (contains nat_cmp met.new k) → IsNumber k) }
+    ensures few { OnOk result (btree_set_len met.new ≤ number_end) }
+    ensures counted { Counted (result ≡ Err fault.Device) (F.failures files.old) (F.failures files.new) }
+{
+    match numbers_at(alloc, files, directory.number, tree)? {
+        Numbers::None => Ok(Vec::new(alloc)),
+        Numbers::Refused(refusal) => {
+            forget(files, directory, Damage::Damaged(refusal), found)?;
+            Ok(Vec::new(alloc))
+        }
+        Numbers::Entries(entries) => match take_in(alloc, met, &directory.path, entries)? {
+            Some(below) => Ok(below),
+            None => {
+                forget(files, directory, Damage::Twice, found)?;
+                Ok(Vec::new(alloc))
+            }
+        },
+    }
+}
