@@ -2,8 +2,8 @@
 use eden_mount::Config;
 use eden_sockets::Address;
 use mountd_options::{
-    Command, HistoryOption, MountOptions, Objects, ObjectsOptions, OptionsError, ServeOptions,
-    Served, options,
+    Command, HistoryOption, MountOptions, Objects, ObjectsOptions, OptionsError, RepairOptions,
+    ServeOptions, Served, options,
 };
 use std::alloc::Global;
 use std::process::Abort;
@@ -75,10 +75,20 @@ const SERVED_FULL: &[&str] = &[
     ROOT,
 ];
 
+const REPAIRING: &[&str] = &["mountd", "repair", "--overlay=changes", "--root", ROOT];
+
 /// What the words ask `stdio` for.
 fn asked(rt: &impl Abort, alloc: Global, words: &[&str]) -> MountOptions {
     match options(alloc, words) {
         Ok(Command::Stdio(given)) => given,
+        _ => rt.abort(),
+    }
+}
+
+/// What the words ask `repair` for.
+fn repaired(rt: &impl Abort, alloc: Global, words: &[&str]) -> RepairOptions {
+    match options(alloc, words) {
+        Ok(Command::Repair(given)) => given,
         _ => rt.abort(),
     }
 }
@@ -251,6 +261,13 @@ fn takes_a_full_line_that_serves(rt: HostRuntime) {
     check_served(&rt, rt.alloc(), SERVED_FULL, origin, numbers);
 }
 
+#[test]
+fn takes_a_line_that_repairs(rt: HostRuntime) {
+    let given = repaired(&rt, rt.alloc(), REPAIRING);
+    assert!(rt; given.root.bytes == ROOT_BYTES);
+    assert!(rt; given.overlay.as_str() == "changes");
+}
+
 fn text_of(rt: &impl Abort, alloc: Global, error: OptionsError) -> String {
     format!(in alloc; "{error}").expect(rt, "memory")
 }
@@ -335,6 +352,18 @@ const NO_LINES: &[Refused] = &[
         "mountd: serve takes one of --objects and --remote",
     ),
     (
+        &["mountd", "repair", "--overlay", "changes"],
+        "error: the following required arguments were not provided:\n  --root <ID>",
+    ),
+    (
+        &["mountd", "repair", "--root", ROOT],
+        "error: the following required arguments were not provided:\n  --overlay <DIR>",
+    ),
+    (
+        &["mountd", "repair", "--root", "0", "--overlay", "changes"],
+        "mountd: --root takes 40 lower-case hexadecimal digits",
+    ),
+    (
         &["mountd", "mount"],
         "error: unrecognized subcommand 'mount'",
     ),
@@ -366,12 +395,16 @@ const STDIO_HELP: &str =
 const SERVE_HELP: &str =
     "Serves a session to each connection\n\nUsage: mountd serve [OPTIONS] --root <ID>\n";
 
+const REPAIR_HELP: &str =
+    "Takes out of an overlay what can't be read\n\nUsage: mountd repair --root <ID> --overlay <DIR>\n";
+
 const HELP: &[Refused] = &[
     (&["mountd", "--help"], TOP_HELP),
     (&["mountd", "help"], TOP_HELP),
     (&["mountd", "stdio", "--help"], STDIO_HELP),
     (&["mountd", "help", "stdio"], STDIO_HELP),
     (&["mountd", "serve", "--help"], SERVE_HELP),
+    (&["mountd", "repair", "--help"], REPAIR_HELP),
 ];
 
 #[test]
