@@ -13,7 +13,7 @@ import zlib
 from collections import Counter
 from collections.abc import Callable, Iterable
 
-from checks import PATIENCE, check, git, make_repository
+from checks import PATIENCE, check, finished, git, make_repository
 from clones import FILES, FOLDER, MOST_QUESTIONS, Clone, blobs_in, make_far_repository, trees_on_the_way
 from folder_operations import Folder, compare, outcome, shown
 from helpers.git import DEEP, environment
@@ -22,6 +22,7 @@ from mount_folder import (BUILDS, CHANGES, COPIES, ENDINGS, LOOKS, Both, Large, 
                           checkout, children, make_many_files, renamed, said_by)
 from programs import MOUNT_GIT, MOUNTD
 from yakembi import client
+from yakembi.overlay_files import DIRECTORY, OWN, PLAIN, directory_body, entry_bytes, file_bytes
 from yakembi.tree_model import Values
 
 
@@ -191,11 +192,27 @@ def check_refusals(folder: pathlib.Path, repository: pathlib.Path) -> None:
         status, lines = said_by(*MountGit.words(*words))
         check(f"refused: {name}", (status, len(lines), lines[0].startswith("mount-git: ")), (1, 1, True))
         check(f"refused: {name}: nothing is mounted", os.path.ismount(empty), False)
-    (folder / "damaged/mount-git").write_text(git(repository, "rev-parse", "HEAD^{tree}") + " 17\n")
-    told = said_by(*MountGit.words(repository, "HEAD", empty, "--overlay", folder / "damaged"))
-    line = f"mount-git: the overlay {folder / 'damaged'} can't be opened: Damaged, a file of it is damaged"
-    check("refused: a damaged overlay", (told, os.path.ismount(empty)), ((1, [line]), False))
+    check_damaged(repository, empty, folder / "damaged")
     check("refused: the folder is as it was", list(empty.iterdir()), [])
+
+
+def check_damaged(repository: pathlib.Path, empty: pathlib.Path, overlay: pathlib.Path) -> None:
+    """An overlay whose root can't be read, and one of which a file is missing, which the command that is told mends."""
+    root = git(repository, "rev-parse", "HEAD^{tree}")
+    (overlay / "mount-git").write_text(f"{root} 17\n")
+    words = MountGit.words(repository, "HEAD", empty, "--overlay", overlay)
+    repair = f"{MOUNTD} repair --root {root} --overlay {overlay}"
+    ending = f"; this takes out what can't be read, and tells it: {repair}"
+    line = f"mount-git: the overlay {overlay} can't be opened: Damaged, a file of it is damaged{ending}"
+    check("refused: a damaged overlay", (said_by(*words), os.path.ismount(empty)), ((1, [line]), False))
+    (overlay / "1").write_bytes(file_bytes(DIRECTORY, directory_body(entry_bytes(PLAIN, OWN, 2, b"gone"))))
+    line = f"mount-git: the overlay {overlay} can't be opened: Dangling, a file of it is missing{ending}"
+    check("refused: a missing file", said_by(*words), (1, [line]))
+    done = finished(repair.split(), capture_output=True)
+    check("refused: it is repaired", (done.returncode, done.stdout, done.stderr), (0, b"cut /gone: missing\n", b""))
+    with MountGit(repository, "HEAD", empty, "--overlay", overlay) as mount:
+        check("repaired: what is shown", os.listdir(mount.folder), [])
+        check("repaired: the end", (mount.end("SIGTERM"), mount.said()), (0, []))
 
 
 def check_moved_revision(folder: pathlib.Path) -> None:

@@ -12,6 +12,7 @@ import contextlib
 import errno
 import os
 import pathlib
+import shlex
 import signal
 import subprocess
 import sys
@@ -49,6 +50,8 @@ UNOPENED = {
     "Device": "it can't be read or written",
     "Memory": "there is no memory to open it",
 }
+# What `mountd repair` is for.
+REPAIRED = ("Damaged", "Dangling", "Twice")
 
 
 # ---- what has to be there
@@ -269,7 +272,8 @@ def show(words: argparse.Namespace, repository: Repository, noted: Noted, source
         try:
             showing.open()
         except Unopened as refusal:
-            raise unopened(str(refusal), overlay.path) from None
+            repair = [str(words.mountd), "repair", "--root", noted.tree, "--overlay", overlay.path]
+            raise unopened(str(refusal), overlay.path, shlex.join(repair)) from None
         except FileNotFoundError as problem:
             raise Refusal(f"{words.mountd} can't be run ({problem.strerror}): `make run` builds it") from None
         with reachable(folder, answers):
@@ -277,10 +281,11 @@ def show(words: argparse.Namespace, repository: Repository, noted: Noted, source
             return showing.wait()
 
 
-def unopened(word: str, overlay: str) -> Refusal:
-    if word in UNOPENED:
-        return Refusal(f"the overlay {overlay} can't be opened: {word}, {UNOPENED[word]}")
-    return Refusal(f"mountd didn't start: {word}")
+def unopened(word: str, overlay: str, repair: str) -> Refusal:
+    if word not in UNOPENED:
+        return Refusal(f"mountd didn't start: {word}")
+    line = f"the overlay {overlay} can't be opened: {word}, {UNOPENED[word]}"
+    return Refusal(f"{line}; this takes out what can't be read, and tells it: {repair}" if word in REPAIRED else line)
 
 
 def run(words: argparse.Namespace) -> None:
