@@ -30,8 +30,10 @@ pub use Rattle.eden_overlay.proofs.Counting.{listed_from_two, live_counted, stat
 pub use Rattle.eden_overlay.proofs.Lengths.{length_held, no_length}
 -- files without orphans
 pub use Rattle.eden_overlay.proofs.Tidied.{root_stays, counted_stays, named_stays, live_before, named_before, still_sound}
--- a count that rose later rose
-pub use Rattle.eden_overlay.proofs.Accusing.{risen}
+-- a count that rose later rose, and a fault that is told later is one of the whole pass
+pub use Rattle.eden_overlay.proofs.Accusing.{risen, earlier}
+-- a set of the numbers that were met, and one more
+pub use Rattle.eden_overlay.proofs.Walks.{OneMore, one_more_key, few_keys, was_absent}
 
 module _ (W : RattleType) (w : Ghosts W.Denot) where
   -- an overlay may go to another thread where its files may

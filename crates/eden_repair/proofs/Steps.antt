@@ -7,9 +7,7 @@ use Rattle.std.proofs.Common.{BTreeSet, nat_cmp, false, cond, ◌==◌, eq-eqb, 
 use Rattle.std.proofs.Common.{take}
 use Rattle.std.proofs.Math.Seq.{take-append_seam}
 use Rattle.std.proofs.lemmas.Bool.{ne_eqb}
-use Rattle.eden_overlay.proofs.Puts.{same_or_apart}
-use Rattle.eden_overlay.proofs.Places.{contains_cases, contains_none}
-use Rattle.eden_overlay.proofs.Walks.{OneMore}
+use Rattle.eden_overlay.proofs.CallerLemmas.{OneMore, same_or_apart, contains_cases, contains_none}
 use Rattle.std.proofs.lemmas.List.{append_assoc, append-nil}
 use Rattle.std.proofs.lemmas.List.Elements.{Contains-append_left, Contains-push}
 use Rattle.eden_model.specs.Trees.{Name}

@@ -5,7 +5,7 @@ use Rattle.std.specs.BTreeSet.{contains}
 use Rattle.eden_overlay_format.specs.declared.stored_entry.StoredEntry.{StoredEntry}
 use Rattle.eden_overlay.specs.Files.{Stored}
 use Rattle.eden_overlay.specs.Held.{HoldsEntries, with_entries}
-use Rattle.eden_overlay.proofs.Walks.{one_more_key, was_absent}
+use Rattle.eden_overlay.proofs.CallerLemmas.{one_more_key, was_absent}
 use Rattle.eden_repair.specs.Surveying.{AreOf, Mended, SortsOn}
 use Rattle.eden_repair.proofs.Steps.{directory_sorted, stores_none, stores_some}
 use Rattle.eden_repair.proofs.own.mend_own.Goals as goal

@@ -1,7 +1,7 @@
 use Rattle.std.proofs.Common.{Result, Ok, Err, IfErr, ◌≡◌, ◌≤◌, ◌∙◌, ℕ, sym, ap, subst, arith}
 use Rattle.eden_overlay.specs.declared.rescan.RescanFault.{RescanFault}
 use Rattle.eden_overlay.specs.Rescanning.{IsRescanFault}
-use Rattle.eden_overlay.proofs.Accusing.{earlier}
+use Rattle.eden_overlay.proofs.CallerLemmas.{earlier}
 use Rattle.eden_repair.proofs.repairing.repair.Goals as goal
 
 each_fault : (r : Result ℕ RescanFault) (P Q : RescanFault → Type 0) → ((f : RescanFault) → P f → Q f) → IfErr r P → IfErr r Q

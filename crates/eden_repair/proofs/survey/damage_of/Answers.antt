@@ -1,4 +1,4 @@
-use Rattle.eden_overlay.proofs.Walks.{few_keys}
+use Rattle.eden_overlay.proofs.CallerLemmas.{few_keys}
 use Rattle.eden_repair.proofs.survey.damage_of.Goals as goal
 
 pub returns-then-branch-clause-few : goal.returns-then-branch-clause-few
