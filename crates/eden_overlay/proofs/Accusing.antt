@@ -148,7 +148,7 @@ refuses i value None r x why held = why
 refuses i value (Some bytes) r x why held = none-some x (sym why.0 ∙ held)
 
 -- a file that isn't as it was asked for doesn't hold what it was asked for
-not_held : (F : Stored) (k : ℕ) (t : Kind) (r : Refusal) → ExplainsKind F k t (get.Damaged r) → HoldsKind F k t → ⊥
+pub not_held : (F : Stored) (k : ℕ) (t : Kind) (r : Refusal) → ExplainsKind F k t (get.Damaged r) → HoldsKind F k t → ⊥
 not_held F k kind.Dir r why h = refuses identifier.Directory entries_in (F k) r h.0 why h.1
 not_held F k kind.File r why h = refuses identifier.File content_in (F k) r h.0 why h.1
 not_held F k kind.Exec r why h = refuses identifier.File content_in (F k) r h.0 why h.1
@@ -167,7 +167,7 @@ root_there F s r why = elim s.top [
 ]
 
 -- numbers that are refused aren't in their grammar
-numbers_there : (tree : Id) (file : Option (List ℕ)) (r : Refusal) → HasGoodNumbers file → ExplainsNumbers tree file (get.Damaged r) → ⊥
+pub numbers_there : (tree : Id) (file : Option (List ℕ)) (r : Refusal) → HasGoodNumbers file → ExplainsNumbers tree file (get.Damaged r) → ⊥
 numbers_there tree None r good why = why
 numbers_there tree (Some bytes) r good why =
     let wrong : false ≡ true = subst (λ (o : Option (Id × List StoredEntry)). IsSome o) why.1.0 (good bytes refl why.0) in absurd (cc)

@@ -12,7 +12,7 @@ pub use Rattle.eden_overlay.proofs.Puts.{put_here, put_apart, same_or_apart, mov
 pub use Rattle.eden_overlay.proofs.Directories.{apart, named, kind_kept, was_named}
 pub use Rattle.eden_overlay.proofs.Cycles.{joined, no_cycle}
 -- where one of two lists has an item, and none has
-pub use Rattle.eden_overlay.proofs.Places.{contains_first, contains_cases, contains_none}
+pub use Rattle.eden_overlay.proofs.Places.{contains_first, contains_rest, contains_cases, contains_none}
 -- the clauses of `overlay_laws`, for lemmas
 pub use Rattle.eden_overlay.proofs.Puts.{contents_held, entries_held}
 pub use Rattle.eden_overlay.proofs.Strays.{numbers_from_two, rootless_sound, strays_stay, live_stay, state_stays}
@@ -20,7 +20,7 @@ pub use Rattle.eden_overlay.proofs.Contents.{contents_stay}
 pub use Rattle.eden_overlay.proofs.Directories.{dropped_stay, dropped_unnamed}
 pub use Rattle.eden_overlay.proofs.Entering.{added_stay, entered_stay}
 pub use Rattle.eden_overlay.proofs.Moving.{renamed_stay, moved_stay}
-pub use Rattle.eden_overlay.proofs.Accusing.{accused_unsound}
+pub use Rattle.eden_overlay.proofs.Accusing.{accused_unsound, not_held, numbers_there}
 -- what is saved of numbers
 pub use Rattle.eden_overlay.proofs.Saves.{numbers_held, other_tree_has_none, entries_have_none, root_has_numbers}
 pub use Rattle.eden_overlay.proofs.Roots.{root_stands}
