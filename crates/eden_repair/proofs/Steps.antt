@@ -12,6 +12,7 @@ use Rattle.std.proofs.lemmas.List.{append_assoc, append-nil}
 use Rattle.std.proofs.lemmas.List.Elements.{Contains-append_left, Contains-push}
 use Rattle.eden_model.specs.Trees.{Name}
 use Rattle.eden_overlay_format.specs.declared.stored_entry.StoredEntry.{StoredEntry}
+use Rattle.eden_overlay_format.specs.Directory.{AreStorable}
 use Rattle.eden_overlay.specs.Files.{Stored}
 use Rattle.eden_repair.specs.declared.damage.Damage.{Damage}
 use Rattle.eden_repair.specs.declared.finding.Finding.{Finding}
@@ -33,13 +34,15 @@ has_more xs ys k has = record { entry = has.entry; there = Contains-append_left 
 
 -- an entry that stays
 pub one_stays : (before kept : List StoredEntry) (e : StoredEntry) (was is : ℕ → Bool) → AreOf was (before ++ kept) → IsMetThen e.number None was is → AreOf is (before ++ (kept ++ e ∷ []))
-one_stays before kept e was is met then k has = at (then k has) where
+one_stays before kept e was is met then k has = at (same_or_apart e.number k) where
   all : (before ++ kept) ++ e ∷ [] ≡ before ++ (kept ++ e ∷ [])
   all = append_assoc before kept (e ∷ [])
 
-  at : (k ≡ e.number) ⊎ (was k ≡ true) → HasNumber (before ++ (kept ++ e ∷ [])) k
-  at (inl own) = subst (λ l. HasNumber l k) all (record { entry = e; there = Contains-push (before ++ kept) e; number = sym own })
-  at (inr old) = subst (λ l. HasNumber l k) all (has_more (before ++ kept) (e ∷ []) k (met k old))
+  at : (e.number ≡ k) ⊎ (e.number ≢ k) → HasNumber (before ++ (kept ++ e ∷ [])) k
+  at (inl own) = subst (λ l. HasNumber l k) all (record { entry = e; there = Contains-push (before ++ kept) e; number = own })
+  at (inr other) =
+      let old : was k ≡ true = sym (then.1 k ∙ ap (λ b. cond b true (was k)) (ne_eqb e.number k other)) ∙ has in
+      subst (λ l. HasNumber l k) all (has_more (before ++ kept) (e ∷ []) k (met k old))
 
 -- what holds of each holds of one
 pub each_at : {X : Type 0} (P : X → Type 0) (xs : List X) (i : ℕ) (d : X) → AllByRecursion P xs → i < length xs → P (get_or xs i d)
@@ -59,17 +62,21 @@ looks_on looked d was is seen more k there = more k ∙ at (contains_cases d k l
     | inr ne ↦ ap (λ b. cond b true (was k)) (ne_eqb d k ne) ∙ seen k old
   ]
 
--- an own directory whose entries were sorted, with all of them or with those that stay
-pub directory_sorted : (begun F G : Stored) (told : List Finding) (was is was_seen is_seen : ℕ → Bool) (d : ℕ) (at : List Name) (entries : List StoredEntry) (s : Sorted)
-    → Mended begun told F was was_seen → was_seen d ≡ false → OneMore d was_seen is_seen → HoldsEntries F d entries
-    → ((stayed : List StoredEntry) → AreOf was stayed → SortsOn F at stayed entries s is) → Stores F d s.listing s.cut.items G
-    → Mended begun (told ++ s.cut.items) G is is_seen
-directory_sorted begun F G told was is was_seen is_seen d at entries s m first more held sorts stores =
-    let on = sorts m.stayed m.met in
+-- an own directory was read, its entries were sorted, and those that stay are stored
+pub record IsKept (F G : Stored) (d : ℕ) (at : List Name) (entries : List StoredEntry) (s : Sorted) (was is : ℕ → Bool) : Type 0 where
+  pub held : HoldsEntries F d entries
+  pub are : AreStorable entries
+  pub sorts : (stayed : List StoredEntry) → AreOf was stayed → SortsOn F at stayed entries s is
+  pub stores : Stores F d s.listing s.cut.items G
+
+pub directory_kept : (begun F G : Stored) (told : List Finding) (was is was_seen is_seen : ℕ → Bool) (d : ℕ) (at : List Name) (entries : List StoredEntry) (s : Sorted)
+    → Mended begun told F was was_seen → was_seen d ≡ false → OneMore d was_seen is_seen → IsKept F G d at entries s was is → Mended begun (told ++ s.cut.items) G is is_seen
+directory_kept begun F G told was is was_seen is_seen d at entries s m first more k =
+    let on = k.sorts m.stayed m.met in
     record {
       looked = d ∷ m.looked;
       stayed = m.stayed ++ s.listing;
-      mends = Mends.own m.looked m.stayed entries s.listing told s.cut.items F G d at m.mends (λ old. let wrong : true ≡ false = sym (m.seen d old) ∙ first in absurd (cc)) held on.sorts stores;
+      mends = Mends.own m.looked m.stayed entries s.listing told s.cut.items F G d at m.mends (λ old. let wrong : true ≡ false = sym (m.seen d old) ∙ first in absurd (cc)) k.held on.sorts k.stores;
       met = on.met;
       seen = looks_on m.looked d was_seen is_seen m.seen more;
     }
@@ -85,13 +92,17 @@ stores_none F G d kept (f ∷ cut) none same = absurd (cc)
 pub so_far : (F G : Stored) (told : List Finding) (was was_seen : ℕ → Bool) → Mended F told G was was_seen → IsMended F told G
 so_far F G told was was_seen m = record { looked = m.looked; stayed = m.stayed; mends = m.mends }
 
+-- nothing is in a set without keys
+pub none_there : (s : BTreeSet ℕ) → s.keys ≡ [] → (k : ℕ) → contains nat_cmp s k ≡ false
+none_there s empty k = ap (list_any (is_at (nat_cmp k))) empty
+
 -- at the beginning no number was met
 pub begins : (F : Stored) (told : List Finding) (met seen : BTreeSet ℕ) → told ≡ [] → met.keys ≡ [] → seen.keys ≡ [] → Mended F told F (contains nat_cmp met) (contains nat_cmp seen)
 begins F told met seen none empty unseen = record {
   looked = [];
   stayed = [];
   mends = subst (λ l. Mends F [] [] l F) (sym none) Mends.begun;
-  met = λ k has. let wrong : false ≡ true = ap (list_any (is_at (nat_cmp k))) (sym empty) ∙ has in absurd (cc);
+  met = λ k has. let wrong : false ≡ true = sym (none_there met empty k) ∙ has in absurd (cc);
   seen = λ d there. absurd (contains_none d there);
 }
 

@@ -1,2 +1,3 @@
+pub mod Covering
 pub mod Repairing
 pub mod Surveying

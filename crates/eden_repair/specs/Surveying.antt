@@ -2,14 +2,20 @@
 use Rattle.std.specs.Prelude.{[], ◌∷◌, ◌≡◌, ◌⊎◌, ◌++◌, ℕ, Bool, true, List, Contains, Option, Some, None}
 use Rattle.eden_model.specs.declared.kind.Origin.TheVariants as origin
 use Rattle.eden_overlay_format.specs.declared.stored_entry.StoredEntry.{StoredEntry}
+use Rattle.eden_overlay.specs.Counting.{HasGoodNumbers}
 use Rattle.eden_overlay.specs.Files.{Stored}
+use Rattle.eden_overlay.specs.Held.{saved_at}
 use Rattle.eden_repair.specs.declared.damage.Damage.{Damage}
 use Rattle.eden_repair.specs.declared.damage.Damage.TheVariants as damage
 use Rattle.eden_repair.specs.declared.finding.Finding.{Finding}
+use Rattle.eden_repair.specs.declared.survey.Directory.{Directory}
 use Rattle.eden_repair.specs.declared.survey.Sorted.{Sorted}
 use Rattle.eden_repair.specs.declared.saved.Numbers.{Numbers}
 use Rattle.eden_repair.specs.declared.saved.Numbers.TheVariants as numbers
+use Rattle.eden_model.specs.declared.id.Id.{Id}
 use Rattle.eden_overlay_format.specs.Directory.{AreStorable}
+use Rattle.eden_overlay_format.specs.Numbers.{none_is_own}
+use Rattle.eden_repair.specs.Covering.{CoversOn, IsNewThen}
 use Rattle.eden_repair.specs.Repairing.{AreOfNoUse, Forgets, HasNumber, HasNumbersAlone, IsDamagedSo, Mends, Sorts}
 use Rattle.eden_model.specs.Trees.{Name}
 
@@ -51,8 +57,13 @@ pub record ForgetsMore (F : Stored) (before : List Finding) (G : Stored) (after 
 
 -- the numbers that are met then: one more if the entry stays
 abbrev pub IsMetThen : ℕ → Option Damage → (ℕ → Bool) → (ℕ → Bool) → Type 0
-IsMetThen k None was is = (q : ℕ) → is q ≡ true → (q ≡ k) ⊎ (was q ≡ true)
-IsMetThen k (Some d) was is = (q : ℕ) → is q ≡ true → was q ≡ true
+IsMetThen k None was is = IsNewThen k was is
+IsMetThen k (Some d) was is = (q : ℕ) → is q ≡ was q
+
+-- an own directory takes the survey on, if each number that was met is an entry's
+abbrev pub CoversOwn : Directory → Stored → (ℕ → Bool) → (ℕ → Bool) → List Directory → Stored → (ℕ → Bool) → (ℕ → Bool) → Type 0
+CoversOwn x F was_met was_seen below G is_met is_seen =
+    x.origin ≡ origin.Own → (entries : List StoredEntry) → AreOf was_met entries → CoversOn x F was_met was_seen below G is_met is_seen
 
 -- these entries are sorted so, and the numbers that were met are those of entries that stay
 pub record SortsOn (F : Stored) (at : List Name) (before entries : List StoredEntry) (s : Sorted) (was_met : ℕ → Bool) : Type 0 where
@@ -65,13 +76,15 @@ SortsOneMore F at e s t was_met is_met =
     (stayed entries : List StoredEntry) → AreOf was_met (stayed ++ s.listing) → Sorts F at stayed entries s.listing s.cut.items
     → SortsOn F at stayed (entries ++ e ∷ []) t is_met
 
--- what was had of the numbers in file k, of whatever tree object: they stand alone in it, and if they were refused it is for that reason
-abbrev pub AreNumbers : Stored → ℕ → Numbers → Type 0
-AreNumbers F k numbers.None = Unit {0}
-AreNumbers F k (numbers.Entries entries) = HasNumbersAlone F k
-AreNumbers F k (numbers.Refused refusal) = AreOfNoUse F k (damage.Damaged refusal)
+-- What was had of the numbers in file k: none of that tree object are saved; or these are, and stand alone in it; or they are refused, for
+-- that reason.
+abbrev pub AreNumbers : Stored → ℕ → Id → Numbers → Type 0
+AreNumbers F k tree numbers.None = (saved_at F k tree ≡ None) × HasGoodNumbers (F k)
+AreNumbers F k tree (numbers.Entries entries) = HasNumbersAlone F k × ((saved_at F k tree ≡ Some entries.items) × HasGoodNumbers (F k))
+AreNumbers F k tree (numbers.Refused refusal) = AreOfNoUse F k (damage.Damaged refusal)
 
-abbrev pub AreStorableToo : Numbers → Type 0
-AreStorableToo numbers.None = Unit {0}
-AreStorableToo (numbers.Entries entries) = AreStorable entries.items
-AreStorableToo (numbers.Refused refusal) = Unit {0}
+-- the entries that were had are those of a directory on a tree object
+abbrev pub AreOfTree : Numbers → Type 0
+AreOfTree numbers.None = Unit {0}
+AreOfTree (numbers.Entries entries) = AreStorable entries.items × (none_is_own entries.items ≡ true)
+AreOfTree (numbers.Refused refusal) = Unit {0}

@@ -1,5 +1,5 @@
 //! Own directories: what can't be had is taken out of them.
-ghost use Rattle.std.specs.Prelude.{◌≡◌, ◌≤◌, ◌+◌, ◌++◌, ℕ, Err, IfOk, IfSome, IsTrue, OnOk, OnErr, length};
+ghost use Rattle.std.specs.Prelude.{◌≡◌, ◌≤◌, ◌+◌, ◌++◌, ℕ, None, Err, IfOk, IfSome, IsTrue, OnOk, OnErr, length};
 ghost use Rattle.std.specs.Ordering.{nat_cmp};
 ghost use Rattle.std.specs.BTreeSet.{contains, btree_set_len};
 ghost use Rattle.eden_model.specs.Failures.{Counted};
@@ -7,9 +7,10 @@ ghost use Rattle.eden_model.specs.Limits.{number_end};
 ghost use Rattle.eden_model.specs.Numbers.{IsNumber};
 ghost use Rattle.eden_overlay_format.specs.Directory.{AreStorable};
 ghost use Rattle.eden_overlay.specs.Files.{Stored};
-ghost use Rattle.eden_overlay.specs.Held.{HoldsEntries, with_entries};
+ghost use Rattle.eden_overlay.specs.Held.{HoldsEntries, entries_at};
 ghost use Rattle.eden_overlay.specs.declared.files.FilesFault.TheVariants as fault;
-ghost use Rattle.eden_repair.specs.Surveying.{IsMended, MendsOn};
+ghost use Rattle.eden_repair.specs.Repairing.{Stores};
+ghost use Rattle.eden_repair.specs.Surveying.{CoversOwn, IsMended, MendsOn};
 
 use crate::finding::Finding;
 use crate::survey::{Directory, Sorted, sort_out};
@@ -20,13 +21,14 @@ use std::alloc::Global;
 use std::collections::BTreeSet;
 
 // The entries of the directory of that number; None if its file isn't there, or holds none.
-fn entries_at<W: World, F: Files<W>>(
+fn entries_of<W: World, F: Files<W>>(
     alloc: Global,
     files: &mut F,
     number: u64,
 ) -> Result<Option<Vec<StoredEntry>>, FilesFault>
     ensures held { W.honest
         → IfOk result (λ o. IfSome o (λ v. HoldsEntries (F.stored files.old) number v.items)) }
+    ensures none { W.honest → IfOk result (λ o. o ≡ None → entries_at (F.stored files.old) number ≡ None) }
     ensures storable { IfOk result (λ o. IfSome o (λ v. AreStorable v.items)) }
     ensures unchanged { W.honest → F.stored files.new ≡ F.stored files.old }
     ensures counted { Counted (result ≡ Err fault.Device) (F.failures files.old) (F.failures files.new) }
@@ -41,7 +43,8 @@ fn entries_at<W: World, F: Files<W>>(
     }
 }
 
-// Stores what stays of a directory, and tells what goes. After an error nothing has changed, and nothing more is told.
+// Stores what stays of a directory if anything goes, which is told. After an error nothing has changed, and nothing
+// more is told.
 fn store<W: World, F: Files<W>>(
     alloc: Global,
     files: &mut F,
@@ -50,12 +53,16 @@ fn store<W: World, F: Files<W>>(
     mut cut: Vec<Finding>,
     found: &mut Vec<Finding>,
 ) -> Result<(), FilesFault>
-    ensures ok { W.honest → OnOk result (F.stored files.new ≡ with_entries (F.stored files.old) number listing) }
+    ensures ok { W.honest
+        → OnOk result (Stores (F.stored files.old) number listing cut.items (F.stored files.new)) }
     ensures told { OnOk result (found.new.items ≡ found.old.items ++ cut.items) }
     ensures err { W.honest → OnErr result (F.stored files.new ≡ F.stored files.old) }
     ensures untold { OnErr result (found.new.items ≡ found.old.items) }
     ensures counted { Counted (result ≡ Err fault.Device) (F.failures files.old) (F.failures files.new) }
 {
+    if cut.is_empty() {
+        return Ok(());
+    }
     let before = found.len();
     found.append(&mut cut)?;
     match files.replace(alloc, number, &listing.into_file()) {
@@ -83,6 +90,9 @@ pub(crate) fn mend_own<W: World, F: Files<W>>(
     ensures mended { W.honest → OnOk result (MendsOn
         found.old.items (F.stored files.old) (contains nat_cmp met.old) (contains nat_cmp seen.old)
         found.new.items (F.stored files.new) (contains nat_cmp met.new) (contains nat_cmp seen.new)) }
+    ensures covered { W.honest → IfOk result (λ v. CoversOwn directory.now
+        (F.stored files.old) (contains nat_cmp met.old) (contains nat_cmp seen.old) v.items
+        (F.stored files.new) (contains nat_cmp met.new) (contains nat_cmp seen.new)) }
     ensures so_far { W.honest → OnErr result ((begun : Stored)
         → IsMended begun found.old.items (F.stored files.old)
         → IsMended begun found.new.items (F.stored files.new)) }
@@ -94,7 +104,7 @@ pub(crate) fn mend_own<W: World, F: Files<W>>(
     if !seen.insert(directory.number)? {
         return Ok(Vec::new(alloc));
     }
-    let Some(entries) = entries_at(alloc, files, directory.number)? else {
+    let Some(entries) = entries_of(alloc, files, directory.number)? else {
         return Ok(Vec::new(alloc));
     };
     let sorted = sort_out(alloc, files, met, &directory.path, entries)?;
@@ -103,9 +113,6 @@ pub(crate) fn mend_own<W: World, F: Files<W>>(
         below,
         cut,
     } = sorted;
-    if cut.is_empty() {
-        return Ok(below);
-    }
     store(alloc, files, directory.number, listing, cut, found)?;
     Ok(below)
 }

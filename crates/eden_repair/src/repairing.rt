@@ -5,10 +5,12 @@ ghost use Rattle.std.specs.BTreeSet.{contains, btree_set_len};
 ghost use Rattle.eden_model.specs.Failures.{Counted};
 ghost use Rattle.eden_model.specs.Limits.{number_end};
 ghost use Rattle.eden_model.specs.Numbers.{IsNumber};
-ghost use Rattle.eden_overlay.specs.Counting.{NumbersAreSound};
+ghost use Rattle.eden_overlay.specs.Counting.{NumbersAreSound, root_from};
+ghost use Rattle.eden_overlay.specs.Held.{root_file};
 ghost use Rattle.eden_overlay.specs.Rescanning.{IsNextOf, IsRescanFault};
 ghost use Rattle.eden_overlay.specs.Soundness.{AreSound};
 ghost use Rattle.eden_overlay.specs.declared.files.FilesFault.TheVariants as fault;
+ghost use Rattle.eden_repair.specs.Covering.{CantBeMended, CoversThen, IsWhole, NoneIsOwn};
 ghost use Rattle.eden_repair.specs.Repairing.{IsRepaired};
 ghost use Rattle.eden_repair.specs.Surveying.{ForgetsMore, IsMended};
 
@@ -43,12 +45,15 @@ pub struct Repaired<F> {
 /// can't be read. Each content is read, and once more by the rescan. The state, file 0, isn't looked at.
 ///
 /// The outcome is what the rescan says, or the fault of the device or of memory that ended the repair before; what was
-/// found until then is told and done. A root that can't be read stays, and is a rescan's `Damaged`.
+/// found until then is told and done. A repair leaves nothing damaged below the root: but for these faults, a rescan
+/// refuses only a root that can't be read, and files after which no number is left to give. Both are its `Damaged`, of
+/// file 1.
 pub fn repair<W: World, F: Files<W>>(alloc: Global, mut files: F, root: Id) -> Repaired<F>
     ensures repaired { W.honest → IsRepaired (F.stored files) result.found.items (F.stored result.files) }
     ensures sound { W.honest → OnOk result.outcome (AreSound (F.stored result.files)) }
     ensures numbers { W.honest → OnOk result.outcome (NumbersAreSound (F.stored result.files) root) }
     ensures next { W.honest → IfOk result.outcome (IsNextOf (F.stored result.files) root) }
+    ensures mended { W.honest → IfErr result.outcome (CantBeMended (F.stored result.files)) }
     ensures refused { IfErr result.outcome
         (IsRescanFault W.honest (F.stored result.files) root (F.failures files) (F.failures result.files)) }
     ensures counted { F.failures files ≤ F.failures result.files }
@@ -77,6 +82,9 @@ fn top<W: World, F: Files<W>>(
     files: &mut F,
     root: Id,
 ) -> Result<Directory, FilesFault>
+    ensures number { IfOk result (λ x. x.number ≡ 1) }
+    ensures from { W.honest
+        → IfOk result (λ x. x.origin ≡ root_from root (root_file (F.stored files.old))) }
     ensures unchanged { W.honest → F.stored files.new ≡ F.stored files.old }
     ensures counted { Counted (result ≡ Err fault.Device) (F.failures files.old) (F.failures files.new) }
 {
@@ -100,6 +108,7 @@ fn walk<W: World, F: Files<W>>(
 ) -> Result<(), FilesFault>
     requires { found.old.items ≡ [] }
     ensures repaired { W.honest → IsRepaired (F.stored files.old) found.new.items (F.stored files.new) }
+    ensures whole { W.honest → OnOk result (IsWhole (F.stored files.new) root) }
     ensures counted { Counted (result ≡ Err fault.Device) (F.failures files.old) (F.failures files.new) }
 {
     let mut met = BTreeSet::new(alloc);
@@ -120,6 +129,10 @@ fn walk_own<W: World, F: Files<W>>(
     requires met { met.old.keys ≡ [] }
     requires found { found.old.items ≡ [] }
     ensures mended { W.honest → IsMended (F.stored files.old) found.new.items (F.stored files.new) }
+    ensures covered { W.honest → IfOk result (λ saved. CoversThen
+        pending.items (F.stored files.old) (contains nat_cmp met.old)
+        saved.items (F.stored files.new) (contains nat_cmp met.new)) }
+    ensures none_own { IfOk result (λ saved. NoneIsOwn saved.items) }
     ensures range { OnOk result ((k : ℕ) → IsTrue (contains nat_cmp met.new k) → IsNumber k) }
     ensures few { OnOk result (btree_set_len met.new ≤ number_end) }
     ensures counted { Counted (result ≡ Err fault.Device) (F.failures files.old) (F.failures files.new) }
@@ -148,9 +161,13 @@ fn walk_saved<W: World, F: Files<W>>(
     found: &mut Vec<Finding>,
 ) -> Result<(), FilesFault>
     requires met { (k : ℕ) → IsTrue (contains nat_cmp met.old k) → IsNumber k }
+    requires none_own { NoneIsOwn pending.items }
     requires few { btree_set_len met.old ≤ number_end }
     ensures forgets { W.honest
         → ForgetsMore (F.stored files.old) found.old.items (F.stored files.new) found.new.items }
+    ensures covered { W.honest → OnOk result (CoversThen
+        pending.items (F.stored files.old) (contains nat_cmp met.old)
+        [] (F.stored files.new) (contains nat_cmp met.new)) }
     ensures counted { Counted (result ≡ Err fault.Device) (F.failures files.old) (F.failures files.new) }
 {
     while let Some(directory) = pending.pop() {

@@ -1,19 +1,22 @@
 //! Directories on tree objects: numbers that can't be read are forgotten.
-ghost use Rattle.std.specs.Prelude.{◌≡◌, ◌≤◌, ◌+◌, ℕ, Err, IfOk, IfSome, IsTrue, OnOk, length};
+ghost use Rattle.std.specs.Prelude.{◌≡◌, false, ◌≤◌, ◌+◌, ℕ, Err, IfOk, IfSome, IsTrue, OnOk, length};
 ghost use Rattle.std.specs.Ordering.{nat_cmp};
 ghost use Rattle.std.specs.BTreeSet.{contains, btree_set_len};
 ghost use Rattle.eden_model.specs.Failures.{Counted};
 ghost use Rattle.eden_model.specs.Limits.{number_end};
 ghost use Rattle.eden_model.specs.Numbers.{IsNumber};
 ghost use Rattle.eden_overlay_format.specs.Directory.{AreStorable, IsStorable};
+ghost use Rattle.eden_model.specs.declared.kind.Origin.TheVariants as origin;
+ghost use Rattle.eden_overlay.specs.Held.{without};
 ghost use Rattle.eden_overlay.specs.declared.files.FilesFault.TheVariants as fault;
+ghost use Rattle.eden_repair.specs.Covering.{AreBelow, AreNew, CoversOn, IsNewThen, NoneIsOwn, none_seen};
 ghost use Rattle.eden_repair.specs.Repairing.{AreOfNoUse, HasNumbersAlone};
-ghost use Rattle.eden_repair.specs.Surveying.{AreNumbers, AreStorableToo, ForgetsMore};
+ghost use Rattle.eden_repair.specs.Surveying.{AreNumbers, AreOfTree, ForgetsMore};
 
 use crate::damage::Damage;
 use crate::finding::Finding;
-use crate::survey::{Directory, directory_below};
-use eden_model::{Id, Kind, Name, World};
+use crate::survey::{Directory, with_directory};
+use eden_model::{Id, Name, World};
 use eden_overlay::{Files, FilesFault};
 use eden_overlay_format::{DecodeFault, Refusal, StoredEntry, decode_numbers, has_numbers};
 use std::alloc::{AllocError, Global};
@@ -33,6 +36,7 @@ enum Numbers {
 // Whether the file of that number has numbers alone.
 fn has_numbers_at<W: World, F: Files<W>>(files: &mut F, number: u64) -> Result<bool, FilesFault>
     ensures told { W.honest → IfOk result (λ b. IsTrue b → HasNumbersAlone (F.stored files.old) number) }
+    ensures none { W.honest → IfOk result (λ b. b ≡ false → ¬ HasNumbersAlone (F.stored files.old) number) }
     ensures unchanged { W.honest → F.stored files.new ≡ F.stored files.old }
     ensures counted { Counted (result ≡ Err fault.Device) (F.failures files.old) (F.failures files.new) }
 {
@@ -49,8 +53,8 @@ fn numbers_at<W: World, F: Files<W>>(
     number: u64,
     tree: Id,
 ) -> Result<Numbers, FilesFault>
-    ensures held { W.honest → IfOk result (AreNumbers (F.stored files.old) number) }
-    ensures storable { IfOk result AreStorableToo }
+    ensures held { W.honest → IfOk result (AreNumbers (F.stored files.old) number tree) }
+    ensures rows { IfOk result AreOfTree }
     ensures unchanged { W.honest → F.stored files.new ≡ F.stored files.old }
     ensures counted { Counted (result ≡ Err fault.Device) (F.failures files.old) (F.failures files.new) }
 {
@@ -78,7 +82,10 @@ fn meet(met: &mut BTreeSet<u64>, number: u64) -> Result<bool, AllocError>
     requires range { IsNumber number }
     requires met { (k : ℕ) → IsTrue (contains nat_cmp met.old k) → IsNumber k }
     requires few { btree_set_len met.old ≤ number_end }
-    ensures new { IfOk result (λ new. IsTrue new → btree_set_len met.new ≡ btree_set_len met.old + 1) }
+    ensures met { IfOk result
+        (λ new. IsTrue new → IsNewThen number (contains nat_cmp met.old) (contains nat_cmp met.new)) }
+    ensures stay { OnOk result ((k : ℕ) → IsTrue (contains nat_cmp met.old k) → IsTrue (contains nat_cmp met.new k)) }
+    ensures more { IfOk result (λ new. IsTrue new → btree_set_len met.new ≡ btree_set_len met.old + 1) }
     ensures least { OnOk result (btree_set_len met.old ≤ btree_set_len met.new) }
     ensures range { OnOk result ((k : ℕ) → IsTrue (contains nat_cmp met.new k) → IsNumber k) }
     ensures few { OnOk result (btree_set_len met.new ≤ number_end) }
@@ -99,6 +106,10 @@ fn take_in(
     requires storable { AreStorable entries.items }
     requires met { (k : ℕ) → IsTrue (contains nat_cmp met.old k) → IsNumber k }
     requires few { btree_set_len met.old ≤ number_end }
+    ensures new { IfOk result
+        (λ o. IfSome o (λ _. AreNew entries.items (contains nat_cmp met.old) (contains nat_cmp met.new))) }
+    ensures below { IfOk result (λ o. IfSome o (λ v. AreBelow entries.items v.items)) }
+    ensures stay { OnOk result ((k : ℕ) → IsTrue (contains nat_cmp met.old k) → IsTrue (contains nat_cmp met.new k)) }
     ensures more { IfOk result
         (λ o. IfSome o (λ v. btree_set_len met.old + length v.items ≤ btree_set_len met.new)) }
     ensures least { OnOk result (btree_set_len met.old ≤ btree_set_len met.new) }
@@ -110,9 +121,9 @@ fn take_in(
     'entries: for entry in entries {
         if !meet(met, entry.number)? {
             are_new = false;
-        } else if entry.kind == Kind::Dir {
-            below.push(directory_below(alloc, path, &entry)?)?;
+            continue;
         }
+        below = with_directory(alloc, path, &entry, below)?;
     }
     if are_new { Ok(Some(below)) } else { Ok(None) }
 }
@@ -125,6 +136,8 @@ fn forget<W: World, F: Files<W>>(
     found: &mut Vec<Finding>,
 ) -> Result<(), FilesFault>
     requires { W.honest → AreOfNoUse (F.stored files.old) directory.number damage }
+    ensures gone { W.honest
+        → OnOk result (F.stored files.new ≡ without (F.stored files.old) directory.number) }
     ensures forgets { W.honest
         → ForgetsMore (F.stored files.old) found.old.items (F.stored files.new) found.new.items }
     ensures counted { Counted (result ≡ Err fault.Device) (F.failures files.old) (F.failures files.new) }
@@ -162,6 +175,10 @@ pub(crate) fn mend_saved<W: World, F: Files<W>>(
     requires few { btree_set_len met.old ≤ number_end }
     ensures forgets { W.honest
         → ForgetsMore (F.stored files.old) found.old.items (F.stored files.new) found.new.items }
+    ensures none_own { IfOk result (λ below. NoneIsOwn below.items) }
+    ensures covered { W.honest → IfOk result (λ below. directory.origin ≡ origin.Object tree → CoversOn directory
+        (F.stored files.old) (contains nat_cmp met.old) none_seen below.items
+        (F.stored files.new) (contains nat_cmp met.new) none_seen) }
     ensures more { IfOk result (λ v. btree_set_len met.old + length v.items ≤ btree_set_len met.new) }
     ensures range { OnOk result ((k : ℕ) → IsTrue (contains nat_cmp met.new k) → IsNumber k) }
     ensures few { OnOk result (btree_set_len met.new ≤ number_end) }

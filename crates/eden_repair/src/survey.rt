@@ -1,5 +1,6 @@
 //! One directory after another: which of its entries stay.
-ghost use Rattle.std.specs.Prelude.{◌≡◌, ◌≤◌, ◌<◌, ◌+◌, ℕ, List, None, Err, IfOk, IfSome, IsTrue, OnOk, length};
+ghost use Rattle.std.specs.Prelude.{[], ◌∷◌, ◌≡◌, ◌≤◌, ◌<◌, ◌+◌, ◌++◌, ℕ, Bool, List, length};
+ghost use Rattle.std.specs.Prelude.{None, Err, IfOk, IfSome, IsTrue, OnOk};
 ghost use Rattle.std.specs.Ordering.{nat_cmp};
 ghost use Rattle.std.specs.BTreeSet.{contains, btree_set_len};
 ghost use Rattle.eden_model.specs.Failures.{Counted};
@@ -10,6 +11,7 @@ ghost use Rattle.eden_overlay_format.specs.declared.stored_entry.StoredEntry.{St
 ghost use Rattle.eden_overlay.specs.Files.{Stored};
 ghost use Rattle.eden_overlay.specs.Soundness.{HasOwn};
 ghost use Rattle.eden_overlay.specs.declared.files.FilesFault.TheVariants as fault;
+ghost use Rattle.eden_repair.specs.Covering.{AreBelow, AreNew};
 ghost use Rattle.eden_repair.specs.Repairing.{TellsOf};
 ghost use Rattle.eden_repair.specs.Surveying.{AreOf, Goes, IsMetThen, SortsOn, SortsOneMore};
 
@@ -83,6 +85,8 @@ pub(crate) fn sort_out<W: World, F: Files<W>>(
     requires storable { AreStorable entries.items }
     requires met { (k : ℕ) → IsTrue (contains nat_cmp met.old k) → IsNumber k }
     requires few { btree_set_len met.old ≤ number_end }
+    ensures new { IfOk result (λ s. AreNew s.listing (contains nat_cmp met.old) (contains nat_cmp met.new)) }
+    ensures below { IfOk result (λ s. AreBelow s.listing s.below.items) }
     ensures sorts { W.honest → IfOk result (λ s. (stayed : List StoredEntry)
         → AreOf (contains nat_cmp met.old) stayed
         → SortsOn (F.stored files.old) path.now stayed entries.items s (contains nat_cmp met.new)) }
@@ -116,6 +120,11 @@ fn sort_one<W: World, F: Files<W>>(
     requires room { length sorted.listing < u32.MAX }
     requires met { (k : ℕ) → IsTrue (contains nat_cmp met.old k) → IsNumber k }
     requires few { btree_set_len met.old ≤ number_end }
+    ensures new { IfOk result (λ s. (first : ℕ → Bool)
+        → AreNew sorted.listing first (contains nat_cmp met.old)
+        → AreNew s.listing first (contains nat_cmp met.new)) }
+    ensures below { IfOk result
+        (λ s. AreBelow sorted.listing sorted.below.items → AreBelow s.listing s.below.items) }
     ensures sorts { W.honest → IfOk result (λ s. SortsOneMore (F.stored files.old) path.now entry sorted s
         (contains nat_cmp met.old) (contains nat_cmp met.new)) }
     ensures more { IfOk result (λ s. btree_set_len met.old + length s.below.items
@@ -128,7 +137,7 @@ fn sort_one<W: World, F: Files<W>>(
 {
     let Sorted {
         listing,
-        mut below,
+        below,
         mut cut,
     } = sorted;
     if let Some(damage) = damage_of(alloc, files, met, &entry)? {
@@ -139,9 +148,7 @@ fn sort_one<W: World, F: Files<W>>(
             cut,
         });
     }
-    if entry.kind == Kind::Dir {
-        below.push(directory_below(alloc, path, &entry)?)?;
-    }
+    let below = with_directory(alloc, path, &entry, below)?;
     let listing = listing.push(&entry.name, entry.kind, entry.origin, entry.number)?;
     Ok(Sorted {
         listing,
@@ -167,12 +174,36 @@ fn finding(
     })
 }
 
-/// The directory that an entry of the one at that path names.
-pub(crate) fn directory_below(
+/// The directories that are left to look at, and the one that the entry of the directory at that path is, if it is one.
+pub(crate) fn with_directory(
     alloc: Global,
     path: &[Name],
     entry: &StoredEntry,
-) -> Result<Directory, AllocError> {
+    mut below: Vec<Directory>,
+) -> Result<Vec<Directory>, AllocError>
+    ensures below { IfOk result (λ v. (entries : List StoredEntry)
+        → AreBelow entries below.items
+        → AreBelow (entries ++ entry.now ∷ []) v.items) }
+    ensures short { IfOk result (λ v. length v.items ≤ length below.items + 1) }
+{
+    match entry.kind {
+        Kind::Dir => {
+            below.push(directory_below(alloc, path, entry)?)?;
+            Ok(below)
+        }
+        Kind::File | Kind::Exec | Kind::Link => Ok(below),
+    }
+}
+
+// The directory that an entry of the one at that path names.
+fn directory_below(
+    alloc: Global,
+    path: &[Name],
+    entry: &StoredEntry,
+) -> Result<Directory, AllocError>
+    ensures number { IfOk result (λ x. x.number ≡ entry.now.number) }
+    ensures from { IfOk result (λ x. x.origin ≡ entry.now.origin) }
+{
     Ok(Directory {
         path: path_below(alloc, path, &entry.name)?,
         number: entry.number,

@@ -1,59 +1,71 @@
-use Rattle.std.proofs.Common.{◌≡◌, ◌≢◌, ◌∙◌, ◌++◌, List, IfSome, length, sym, ap, subst, nat_cmp}
-use Rattle.std.proofs.lemmas.Bool.{eqb-true, eqb-false}
-use Rattle.std.proofs.lemmas.List.{append-nil, nil_from_length}
+use Rattle.std.proofs.Common.{◌≡◌, ◌∙◌, [], None, IfSome, sym, subst, nat_cmp}
 use Rattle.std.specs.BTreeSet.{contains}
-use Rattle.eden_overlay_format.specs.declared.stored_entry.StoredEntry.{StoredEntry}
 use Rattle.eden_overlay.specs.Files.{Stored}
-use Rattle.eden_overlay.specs.Held.{HoldsEntries, with_entries}
+use Rattle.eden_overlay.specs.Held.{HoldsEntries, entries_at}
 use Rattle.eden_overlay.proofs.CallerLemmas.{one_more_key, was_absent}
-use Rattle.eden_repair.specs.Surveying.{AreOf, Mended, SortsOn}
-use Rattle.eden_repair.proofs.Steps.{directory_sorted, stores_none, stores_some}
+use Rattle.eden_overlay_format.specs.Directory.{AreStorable}
+use Rattle.eden_repair.specs.Covering.{CoversOn}
+use Rattle.eden_repair.specs.Repairing.{Stores}
+use Rattle.eden_repair.specs.Surveying.{Mended, SortsOn}
+use Rattle.eden_repair.proofs.Looking.{looks_cover, own_looks, seen_looks, unread_looks, was_there}
+use Rattle.eden_repair.proofs.Steps.{IsKept, directory_kept}
+use Rattle.eden_repair.proofs.own.mend_own.Given as given
 use Rattle.eden_repair.proofs.own.mend_own.Goals as goal
 
-pub returns-then-is_empty-clause-mended : goal.returns-then-is_empty-clause-mended
-returns-then-is_empty-clause-mended g c = λ honest begun m.
+kept : (g : given.Over) (c : goal.In_ok-store g) → g.W.World.honest → IsKept (g.F.Files.stored c.args.files.now) (g.F.Files.stored c.store.new.files) c.args.directory.now.number
+    c.deref.result.now c.in-Some.entries.items c.in_ok-sorted.sorted (contains nat_cmp c.args.met.now) (contains nat_cmp c.sort_out.new.met)
+kept g c honest =
     let F = g.F.Files.stored c.args.files.now in
-    let G = g.F.Files.stored c.entries_at.new.files in
-    let H = g.F.Files.stored c.sort_out.new.files in
     let d = c.args.directory.now.number in
-    let at = c.deref.result.now in
     let s = c.in_ok-sorted.sorted in
-    let told = c.args.found.now.items in
-    let was = contains nat_cmp c.args.met.now in
+    let entries = c.in-Some.entries.items in
     let is = contains nat_cmp c.sort_out.new.met in
-    let was_seen = contains nat_cmp c.args.seen.now in
-    let is_seen = contains nat_cmp c.insert.new.self in
-    let read : G ≡ F = c.entries_at.ensures.unchanged honest in
-    let held : HoldsEntries F d c.in-Some.entries.items =
-    subst (λ o. IfSome o (λ v. HoldsEntries F d v.items)) c.in-Some.is (c.in_ok-entries.ensures.held honest) in
-    let sorts : (stayed : List StoredEntry) → AreOf was stayed → SortsOn F at stayed c.in-Some.entries.items s is = λ stayed met.
-    subst (λ (X : Stored). SortsOn X at stayed c.in-Some.entries.items s is) read (c.in_ok-sorted.ensures.sorts honest stayed met) in
-    let none : length s.cut.items ≡ 0 = sym s.cut.ok.0 ∙ eqb-true s.cut.len 0 (sym c.if-is_empty.ensures) in
-    subst (λ l. Mended begun l H is is_seen) (ap (λ l. told ++ l) (nil_from_length s.cut.items none) ∙ append-nil told)
-    (directory_sorted begun F H told was is was_seen is_seen d at c.in-Some.entries.items s m (was_absent _ _ c.in_ok-insert.ensures.added c.if-not-branch.false)
-    (one_more_key c.args.seen.now c.insert.new.self d c.in_ok-insert.ensures.updates) held sorts
-    (stores_none F H d s.listing s.cut.items none (c.sort_out.ensures.unchanged honest ∙ read)))
+    let read : g.F.Files.stored c.entries_of.new.files ≡ F = c.entries_of.ensures.unchanged honest in
+    record {
+      held = subst (λ o. IfSome o (λ v. HoldsEntries F d v.items)) c.in-Some.is (c.in_ok-entries.ensures.held honest);
+      are = subst (λ o. IfSome o (λ v. AreStorable v.items)) c.in-Some.is c.in_ok-entries.ensures.storable;
+      sorts = λ stayed met. subst (λ (X : Stored). SortsOn X c.deref.result.now stayed entries s is) read (c.in_ok-sorted.ensures.sorts honest stayed met);
+      stores = subst (λ (X : Stored). Stores X d s.listing s.cut.items (g.F.Files.stored c.store.new.files)) (c.sort_out.ensures.unchanged honest ∙ read) (c.in_ok-store.ensures.ok honest);
+    }
 
 pub returns-clause-mended : goal.returns-clause-mended
 returns-clause-mended g c = λ honest begun m.
-    let F = g.F.Files.stored c.args.files.now in
-    let G = g.F.Files.stored c.entries_at.new.files in
-    let H = g.F.Files.stored c.store.new.files in
     let d = c.args.directory.now.number in
-    let at = c.deref.result.now in
-    let s = c.in_ok-sorted.sorted in
-    let told = c.args.found.now.items in
+    let seen = c.args.seen.now in
+    subst (λ l. Mended begun l (g.F.Files.stored c.store.new.files) (contains nat_cmp c.sort_out.new.met) (contains nat_cmp c.insert.new.self)) (sym c.in_ok-store.ensures.told)
+    (directory_kept begun _ _ c.args.found.now.items _ _ (contains nat_cmp seen) (contains nat_cmp c.insert.new.self) d _ _ c.in_ok-sorted.sorted m
+    (was_absent _ _ c.in_ok-insert.ensures.added c.if-not-branch.false) (one_more_key seen c.insert.new.self d c.in_ok-insert.ensures.updates) (kept g c honest))
+
+pub returns-then-not-branch-clause-covered : goal.returns-then-not-branch-clause-covered
+returns-then-not-branch-clause-covered g c = λ honest own stayed met.
+    let F = g.F.Files.stored c.args.files.now in
+    let x = c.args.directory.now in
     let was = contains nat_cmp c.args.met.now in
-    let is = contains nat_cmp c.sort_out.new.met in
     let was_seen = contains nat_cmp c.args.seen.now in
     let is_seen = contains nat_cmp c.insert.new.self in
-    let read : G ≡ F = c.entries_at.ensures.unchanged honest in
-    let held : HoldsEntries F d c.in-Some.entries.items =
-    subst (λ o. IfSome o (λ v. HoldsEntries F d v.items)) c.in-Some.is (c.in_ok-entries.ensures.held honest) in
-    let sorts : (stayed : List StoredEntry) → AreOf was stayed → SortsOn F at stayed c.in-Some.entries.items s is = λ stayed met.
-    subst (λ (X : Stored). SortsOn X at stayed c.in-Some.entries.items s is) read (c.in_ok-sorted.ensures.sorts honest stayed met) in
-    let some : length s.cut.items ≢ 0 = λ zero. eqb-false s.cut.len 0 (sym c.if-is_empty.ensures) (s.cut.ok.0 ∙ zero) in
-    let stored : H ≡ with_entries F d s.listing = c.in_ok-store.ensures.ok honest ∙ ap (λ (X : Stored). with_entries X d s.listing) (c.sort_out.ensures.unchanged honest ∙ read) in
-    subst (λ l. Mended begun l H is is_seen) (sym c.in_ok-store.ensures.told)
-    (directory_sorted begun F H told was is was_seen is_seen d at c.in-Some.entries.items s m (was_absent _ _ c.in_ok-insert.ensures.added c.if-not-branch.false)
-    (one_more_key c.args.seen.now c.insert.new.self d c.in_ok-insert.ensures.updates) held sorts (stores_some F H d s.listing s.cut.items some stored))
+    subst (λ l. CoversOn x F was was_seen l F was is_seen) (sym c.new.ensures.items)
+    (looks_cover F F was was_seen was is_seen x [] []
+    (seen_looks F x was was_seen is_seen own c.requires.met (was_there _ _ c.in_ok-insert.ensures.added c.if-not-branch.true)
+    (one_more_key c.args.seen.now c.insert.new.self x.number c.in_ok-insert.ensures.updates)))
+
+pub returns-in_default-clause-covered : goal.returns-in_default-clause-covered
+returns-in_default-clause-covered g c = λ honest own stayed met.
+    let F = g.F.Files.stored c.args.files.now in
+    let d = c.args.directory.now.number in
+    let was = contains nat_cmp c.args.met.now in
+    let was_seen = contains nat_cmp c.args.seen.now in
+    let is_seen = contains nat_cmp c.insert.new.self in
+    let none : entries_at F d ≡ None = c.in_ok-entries.ensures.none honest c.in_default.is in
+    subst (λ l. CoversOn c.args.directory.now F was was_seen l (g.F.Files.stored c.entries_of.new.files) was is_seen) (sym c.new-in_default.ensures.items)
+    (looks_cover F (g.F.Files.stored c.entries_of.new.files) was was_seen was is_seen c.args.directory.now [] []
+    (unread_looks F (g.F.Files.stored c.entries_of.new.files) c.args.directory.now was_seen is_seen own was c.requires.met none (c.entries_of.ensures.unchanged honest)
+    (one_more_key c.args.seen.now c.insert.new.self d c.in_ok-insert.ensures.updates)))
+
+pub returns-clause-covered : goal.returns-clause-covered
+returns-clause-covered g c = λ honest own stayed met.
+    let s = c.in_ok-sorted.sorted in
+    let x = c.args.directory.now in
+    let seen = c.args.seen.now in
+    looks_cover _ _ _ (contains nat_cmp seen) _ (contains nat_cmp c.insert.new.self) x s.listing s.below.items
+    (own_looks _ _ x (contains nat_cmp seen) (contains nat_cmp c.insert.new.self) own c.deref.result.now stayed c.in-Some.entries.items s _ _ (kept g c honest) met
+    c.in_ok-sorted.ensures.new c.in_ok-sorted.ensures.below c.in_ok-sorted.ensures.range (one_more_key seen c.insert.new.self x.number c.in_ok-insert.ensures.updates))

@@ -1,13 +1,82 @@
-use Rattle.std.proofs.Common.{rules, ◌≡◌, ◌∙◌, true, false, refl, sym, ap, nat_cmp}
+use Rattle.std.proofs.Common.{rules, ◌≡◌, ◌∙◌, ◌++◌, true, false, refl, sym, ap, subst, nat_cmp}
 use Rattle.std.specs.List.{list_any}
 use Rattle.std.specs.BTreeMap.{is_at}
-use Rattle.eden_repair.proofs.Steps.{begins}
+use Rattle.std.specs.BTreeSet.{contains}
+use Rattle.eden_repair.specs.Covering.{IsCovered, NoneIsOwn, none_seen}
+use Rattle.eden_repair.proofs.Steps.{begins, none_there}
+use Rattle.eden_repair.proofs.Whole.{below_up, empty_done, next_up, none_left, one_more, put_aside, unseen}
 use Rattle.eden_repair.proofs.repairing.walk_own.Goals as goal
 
 pub loop-directory-init : goal.loop-directory-init
 loop-directory-init g c = record {
   mended = λ honest. begins (g.F.Files.stored c.args.files.now) c.args.found.now.items c.args.met.now c.new-seen.result c.requires.found c.requires.met c.new-seen.ensures.empty;
+  covered = λ honest root first.
+      let F = g.F.Files.stored c.args.files.now in
+      let met = contains nat_cmp c.args.met.now in
+      let left = c.args.pending.items in
+      subst (λ l. IsCovered F root (l ++ left) met (contains nat_cmp c.new-seen.result)) (sym c.new-saved.ensures.items)
+      (unseen F root left met none_seen (contains nat_cmp c.new-seen.result) (none_there c.new-seen.result c.new-seen.ensures.empty) first);
+  none_own = none_left c.new-saved.result.items c.new-saved.ensures.items;
   range = λ k has. let wrong : false ≡ true = ap (list_any (is_at (nat_cmp k))) (sym c.requires.met) ∙ has in absurd (cc);
   few = search rules;
   counted = refl;
+}
+
+pub loop-directory-preserved-in-Some : goal.loop-directory-preserved-in-Some
+loop-directory-preserved-in-Some g c = record {
+  mended = search rules;
+  covered = λ honest root first.
+      let F = g.F.Files.stored c.loop-directory.files in
+      let G = g.F.Files.stored c.mend_own.new.files in
+      let x = c.in-Some.directory in
+      let aside = c.loop-directory.saved.items in
+      let before = c.pop.new.self.items in
+      let met = contains nat_cmp c.loop-directory.met in
+      let seen = contains nat_cmp c.loop-directory.seen in
+      let m = c.loop-directory.invariant.mended honest in
+      let up = next_up F root met seen aside c.loop-directory.pending.items before x c.in-Some.ensures.items (c.loop-directory.invariant.covered honest root first) in
+      subst (λ l. IsCovered G root (aside ++ l) (contains nat_cmp c.mend_own.new.met) (contains nat_cmp c.mend_own.new.seen)) (sym c.in_ok-append-in-Own.ensures.items)
+      (below_up G root (contains nat_cmp c.mend_own.new.met) (contains nat_cmp c.mend_own.new.seen) c.in_ok-below-in-Own.below.items aside before
+      (c.in_ok-below-in-Own.ensures.covered honest c.in-Own.is m.stayed m.met root (aside ++ before) up));
+  none_own = c.loop-directory.invariant.none_own;
+  range = search rules;
+  few = search rules;
+  counted = search rules;
+}
+
+pub loop-directory-preserved-in-Continue-branch-3 : goal.loop-directory-preserved-in-Continue-branch-3
+loop-directory-preserved-in-Continue-branch-3 g c = record {
+  mended = search rules;
+  covered = λ honest root first.
+      let F = g.F.Files.stored c.loop-directory.files in
+      let x = c.in-Some.directory in
+      let aside = c.loop-directory.saved.items in
+      let before = c.pop.new.self.items in
+      let met = contains nat_cmp c.loop-directory.met in
+      let seen = contains nat_cmp c.loop-directory.seen in
+      subst (λ l. IsCovered F root (l ++ before) met seen) (sym c.in_ok-push-in-Object.ensures.items) (put_aside F root met seen aside before x
+      (next_up F root met seen aside c.loop-directory.pending.items before x c.in-Some.ensures.items (c.loop-directory.invariant.covered honest root first)));
+  none_own = subst NoneIsOwn (sym c.in_ok-push-in-Object.ensures.items)
+      (one_more c.loop-directory.saved.items c.in-Some.directory c.in-Object.field-0 c.in-Object.is c.loop-directory.invariant.none_own);
+  range = search rules;
+  few = search rules;
+  counted = search rules;
+}
+
+pub loop-directory-preserved : goal.loop-directory-preserved
+loop-directory-preserved g c = record {
+  mended = search rules;
+  covered = λ honest root first.
+      let F = g.F.Files.stored c.loop-directory.files in
+      let x = c.in-Some.directory in
+      let aside = c.loop-directory.saved.items in
+      let before = c.pop.new.self.items in
+      let met = contains nat_cmp c.loop-directory.met in
+      let seen = contains nat_cmp c.loop-directory.seen in
+      empty_done F root x (aside ++ before) met seen c.in-Empty.is
+      (next_up F root met seen aside c.loop-directory.pending.items before x c.in-Some.ensures.items (c.loop-directory.invariant.covered honest root first));
+  none_own = c.loop-directory.invariant.none_own;
+  range = search rules;
+  few = search rules;
+  counted = search rules;
 }

@@ -7,6 +7,8 @@ use Rattle.eden_overlay_format.specs.Directory.{IsStorable}
 use Rattle.eden_overlay.specs.Files.{Stored}
 use Rattle.eden_repair.specs.Repairing.{Sorts}
 use Rattle.eden_repair.specs.Surveying.{AreOf, SortsOn}
+use Rattle.eden_repair.specs.Covering.{AreBelow, AreNew}
+use Rattle.eden_repair.proofs.Covered.{below_none, new_none}
 use Rattle.eden_repair.proofs.Steps.{each_at}
 use Rattle.eden_repair.proofs.survey.sort_out.Goals as goal
 
@@ -16,6 +18,8 @@ entries-init g c =
     let at = c.args.path.now in
     let was = contains nat_cmp c.args.met.now in
     record {
+      new = subst (λ l. AreNew l was was) (sym c.in_ok-new.ensures) (new_none was was (λ k had. had));
+      below = subst (λ l. AreBelow l c.new-3.result.items) (sym c.in_ok-new.ensures) (subst (AreBelow []) (sym c.new-3.ensures.items) below_none);
       sorts = λ honest stayed met. record {
         sorts = subst (λ l. Sorts F at stayed [] l c.new-4.result.items) (sym c.in_ok-new.ensures) (subst (λ l. Sorts F at stayed [] [] l) (sym c.new-4.ensures.items) Sorts.none);
         met = subst (λ l. AreOf was (stayed ++ l)) (sym c.in_ok-new.ensures) (subst (AreOf was) (sym (append-nil stayed)) met);
@@ -39,6 +43,8 @@ sort_one-requires-clause-storable g c =
 
 pub entries-preserved : goal.entries-preserved
 entries-preserved g c = record {
+  new = c.in_ok-sorted.ensures.new (contains nat_cmp c.args.met.now) c.entries.invariant.new;
+  below = c.in_ok-sorted.ensures.below c.entries.invariant.below;
   sorts = λ honest stayed met.
       let at = c.args.path.now in
       let yielded = c.entries.yielded in

@@ -1,0 +1,17 @@
+use Rattle.std.proofs.Common.{◌∷◌, ◌++◌, [], sym, subst, inl, inr}
+use Rattle.eden_repair.specs.Covering.{AreBelow}
+use Rattle.eden_repair.proofs.Covered.{no_directory, one_below}
+use Rattle.eden_repair.proofs.survey.with_directory.Goals as goal
+
+pub returns-in_ok-push-in-Dir-clause-below : goal.returns-in_ok-push-in-Dir-clause-below
+returns-in_ok-push-in-Dir-clause-below c = λ entries lower.
+    let made = c.in_ok-directory_below-in-Dir in
+    subst (AreBelow (entries ++ c.args.entry.now ∷ [])) (sym c.in_ok-push-in-Dir.ensures.items)
+    (one_below entries c.args.below.items c.args.entry.now lower made.field-0 c.in-Dir.is made.ensures.number made.ensures.from)
+
+pub returns-in-File-clause-below : goal.returns-in-File-clause-below
+returns-in-File-clause-below c = λ entries lower. no_directory entries c.args.below.items c.args.entry.now lower (λ dir. elim c.in-File.is [
+  | inl file ↦ absurd (cc)
+  | inr (inl executable) ↦ absurd (cc)
+  | inr (inr link) ↦ absurd (cc)
+])
