@@ -1,6 +1,6 @@
 -- What holds once a survey has nothing left to look at.
 use Rattle.std.proofs.Common.{◌≡◌, ◌∙◌, ◌++◌, ℕ, Bool, true, false, List, [], ◌∷◌, Contains, refl, sym, ap, subst, inl, inr}
-use Rattle.std.proofs.lemmas.List.Elements.{Contains-append_left, Contains-append_right, Contains-append_cases, Contains-push, Contains-push_cases}
+use Rattle.std.proofs.lemmas.List.Elements.{Contains-append_left, Contains-append_cases, Contains-push, Contains-push_cases}
 use Rattle.eden_model.specs.declared.id.Id.{Id}
 use Rattle.eden_model.specs.declared.kind.Origin.{Origin}
 use Rattle.eden_model.specs.declared.kind.Origin.TheVariants as origin
@@ -14,15 +14,15 @@ use Rattle.eden_overlay.specs.Soundness.{HoldsKind}
 use Rattle.eden_overlay.specs.Walking.{Place}
 use Rattle.eden_overlay.proofs.CallerLemmas.{contains_cases, contains_first, contains_none, contains_rest, not_held, nothing_there, numbers_there}
 use Rattle.eden_repair.specs.declared.survey.Directory.{Directory}
+use Rattle.eden_repair.proofs.Left.{AreAmong, aside_back, aside_to, below_back, below_to, next_back, next_to}
 use Rattle.eden_repair.specs.Covering.{CantBeMended, IsCovered, IsDone, IsKnown, IsLeft, IsWhole, NoneIsOwn, place}
 
 -- ---- what is left to look at, in another order
 
-left_there : (xs ys : List Directory) → ((x : Directory) → Contains xs x → Contains ys x) → (d : ℕ) (o : Origin) → IsLeft xs d o → IsLeft ys d o
+left_there : (xs ys : List Directory) → AreAmong xs ys → (d : ℕ) (o : Origin) → IsLeft xs d o → IsLeft ys d o
 left_there xs ys there d o l = record { directory = l.directory; there = there l.directory l.there; number = l.number; from = l.from }
 
-pub reordered : (F : Stored) (root : Id) (xs ys : List Directory) (met seen : ℕ → Bool) → ((x : Directory) → Contains xs x → Contains ys x) → ((x : Directory) → Contains ys x → Contains xs x)
-    → IsCovered F root xs met seen → IsCovered F root ys met seen
+pub reordered : (F : Stored) (root : Id) (xs ys : List Directory) (met seen : ℕ → Bool) → AreAmong xs ys → AreAmong ys xs → IsCovered F root xs met seen → IsCovered F root ys met seen
 reordered F root xs ys met seen to back c = record {
   from = c.from;
   stay = c.stay;
@@ -72,68 +72,15 @@ unseen F root left met was_seen is_seen none c = record {
   seen = λ d has. (let wrong : true ≡ false = sym has ∙ none d in absurd (cc));
 }
 
--- the last one of those that are left is the next, those below it come behind them, and it may be put aside
 module _ (F : Stored) (root : Id) (met seen : ℕ → Bool) where
-  one_of : (x : Directory) (xs ys : List Directory) (y : Directory) → Contains (x ∷ xs) y → ((x ≡ y) → Contains ys y) → (Contains xs y → Contains ys y) → Contains ys y
-  one_of x xs ys y there first rest = elim (contains_cases x y xs there) [ inl is ↦ first is | inr later ↦ rest later ]
-
   pub next_up : (aside left before : List Directory) (x : Directory) → left ≡ before ++ x ∷ [] → IsCovered F root (aside ++ left) met seen → IsCovered F root (x ∷ (aside ++ before)) met seen
-  next_up aside left before x is c = reordered F root (aside ++ left) (x ∷ (aside ++ before)) met seen to back c where
-    to : (y : Directory) → Contains (aside ++ left) y → Contains (x ∷ (aside ++ before)) y
-    to y there = elim (Contains-append_cases aside left y there) [
-      | inl a ↦ contains_rest x y (aside ++ before) (Contains-append_left aside before y a)
-      | inr l ↦ elim (Contains-push_cases before x y (subst (λ ys. Contains ys y) is l)) [
-        | inl b ↦ contains_rest x y (aside ++ before) (Contains-append_right aside before y b)
-        | inr same ↦ subst (Contains (x ∷ (aside ++ before))) same (contains_first x (aside ++ before))
-      ]
-    ]
-
-    back : (y : Directory) → Contains (x ∷ (aside ++ before)) y → Contains (aside ++ left) y
-    back y there = one_of x (aside ++ before) (aside ++ left) y there
-        (λ same. Contains-append_right aside left y (subst (λ ys. Contains ys y) (sym is) (subst (Contains (before ++ x ∷ [])) same (Contains-push before x))))
-        (λ later. elim (Contains-append_cases aside before y later) [
-          | inl a ↦ Contains-append_left aside left y a
-          | inr b ↦ Contains-append_right aside left y (subst (λ ys. Contains ys y) (sym is) (Contains-append_left before (x ∷ []) y b))
-        ])
+  next_up aside left before x is = reordered F root _ _ met seen (next_to aside left before x is) (next_back aside left before x is)
 
   pub below_up : (below aside before : List Directory) → IsCovered F root (below ++ (aside ++ before)) met seen → IsCovered F root (aside ++ (before ++ below)) met seen
-  below_up below aside before c = reordered F root (below ++ (aside ++ before)) (aside ++ (before ++ below)) met seen to back c where
-    to : (y : Directory) → Contains (below ++ (aside ++ before)) y → Contains (aside ++ (before ++ below)) y
-    to y there = elim (Contains-append_cases below (aside ++ before) y there) [
-      | inl new ↦ Contains-append_right aside (before ++ below) y (Contains-append_right before below y new)
-      | inr old ↦ elim (Contains-append_cases aside before y old) [
-        | inl a ↦ Contains-append_left aside (before ++ below) y a
-        | inr b ↦ Contains-append_right aside (before ++ below) y (Contains-append_left before below y b)
-      ]
-    ]
-
-    back : (y : Directory) → Contains (aside ++ (before ++ below)) y → Contains (below ++ (aside ++ before)) y
-    back y there = elim (Contains-append_cases aside (before ++ below) y there) [
-      | inl a ↦ Contains-append_right below (aside ++ before) y (Contains-append_left aside before y a)
-      | inr later ↦ elim (Contains-append_cases before below y later) [
-        | inl b ↦ Contains-append_right below (aside ++ before) y (Contains-append_right aside before y b)
-        | inr new ↦ Contains-append_left below (aside ++ before) y new
-      ]
-    ]
+  below_up below aside before = reordered F root _ _ met seen (below_to below aside before) (below_back below aside before)
 
   pub put_aside : (aside before : List Directory) (x : Directory) → IsCovered F root (x ∷ (aside ++ before)) met seen → IsCovered F root ((aside ++ x ∷ []) ++ before) met seen
-  put_aside aside before x c = reordered F root (x ∷ (aside ++ before)) ((aside ++ x ∷ []) ++ before) met seen to back c where
-    to : (y : Directory) → Contains (x ∷ (aside ++ before)) y → Contains ((aside ++ x ∷ []) ++ before) y
-    to y there = one_of x (aside ++ before) ((aside ++ x ∷ []) ++ before) y there
-        (λ same. Contains-append_left (aside ++ x ∷ []) before y (subst (Contains (aside ++ x ∷ [])) same (Contains-push aside x)))
-        (λ later. elim (Contains-append_cases aside before y later) [
-          | inl a ↦ Contains-append_left (aside ++ x ∷ []) before y (Contains-append_left aside (x ∷ []) y a)
-          | inr b ↦ Contains-append_right (aside ++ x ∷ []) before y b
-        ])
-
-    back : (y : Directory) → Contains ((aside ++ x ∷ []) ++ before) y → Contains (x ∷ (aside ++ before)) y
-    back y there = elim (Contains-append_cases (aside ++ x ∷ []) before y there) [
-      | inr b ↦ contains_rest x y (aside ++ before) (Contains-append_right aside before y b)
-      | inl front ↦ elim (Contains-push_cases aside x y front) [
-        | inl a ↦ contains_rest x y (aside ++ before) (Contains-append_left aside before y a)
-        | inr same ↦ subst (Contains (x ∷ (aside ++ before))) same (contains_first x (aside ++ before))
-      ]
-    ]
+  put_aside aside before x = reordered F root _ _ met seen (aside_to aside before x) (aside_back aside before x)
 
 -- ---- no own one is left
 

@@ -1,5 +1,6 @@
 -- What a repair takes out of an overlay's files, and why.
-use Rattle.std.specs.Prelude.{◌≡◌, ◌++◌, ℕ, true, List, [], ◌∷◌, None, IsSomeAnd, Contains}
+use Rattle.std.specs.Prelude.{◌≡◌, ◌++◌, ℕ, true, List, [], ◌∷◌, map, Some, None, IsSomeAnd, Contains}
+use Rattle.eden_model.specs.declared.id.Id.{Id}
 use Rattle.eden_model.specs.Trees.{Name}
 use Rattle.eden_model.specs.declared.kind.Kind.{Kind}
 use Rattle.eden_model.specs.declared.kind.Origin.TheVariants as origin
@@ -10,7 +11,7 @@ use Rattle.eden_overlay_format.specs.Stored.{Refuses}
 use Rattle.eden_overlay_format.specs.Values.{numbers_in}
 use Rattle.eden_overlay.specs.declared.fault.GetFault.TheVariants as get
 use Rattle.eden_overlay.specs.Files.{Stored}
-use Rattle.eden_overlay.specs.Held.{HoldsEntries, with_entries, without}
+use Rattle.eden_overlay.specs.Held.{HoldsEntries, saved_at, with_entries, without}
 use Rattle.eden_overlay.specs.Rescanning.{ExplainsKind}
 use Rattle.eden_overlay.specs.Soundness.{HasOwn}
 use Rattle.eden_repair.specs.declared.damage.Damage.{Damage}
@@ -55,13 +56,26 @@ abbrev pub Stores : Stored → ℕ → List StoredEntry → List Finding → Sto
 Stores G d kept [] H = H ≡ G
 Stores G d kept (f ∷ cut) H = H ≡ with_entries G d kept
 
+-- inodes, each by its number and a path
+abbrev pub Paths : Type 0
+Paths = List (ℕ × List Name)
+
+-- of each of these entries its number, and its path, of a directory at that path
+abbrev pub paths_below : List Name → List StoredEntry → Paths
+paths_below at entries = map (λ (e : StoredEntry). (e.number, at ++ e.name ∷ [])) entries
+
+-- the root's number and path
+abbrev pub root_path : Paths
+root_path = (1, []) ∷ []
+
 -- The files F became G, by one own directory after another, each once: its entries are sorted, and those that stay are stored if others
--- go, which are told in order. Listed are the directories that were looked at, and the entries that stay.
-pub data Mends (F : Stored) : List ℕ → List StoredEntry → List Finding → Stored → Type 0 where
-  begun : Mends F [] [] [] F
-  own : (looked : List ℕ) (stayed entries kept : List StoredEntry) (told cut : List Finding) (G H : Stored) (d : ℕ) (at : List Name)
-      → Mends F looked stayed told G → ¬ Contains looked d → HoldsEntries G d entries → Sorts G at stayed entries kept cut → Stores G d kept cut H
-      → Mends F (d ∷ looked) (stayed ++ kept) (told ++ cut) H
+-- go, which are told in order. Listed are the directories that were looked at; the numbers and paths of the root and of the entries that
+-- stay, one of which is the directory's; and these entries.
+pub data Mends (F : Stored) : List ℕ → Paths → List StoredEntry → List Finding → Stored → Type 0 where
+  begun : Mends F [] root_path [] [] F
+  own : (looked : List ℕ) (paths : Paths) (stayed entries kept : List StoredEntry) (told cut : List Finding) (G H : Stored) (d : ℕ) (at : List Name)
+      → Mends F looked paths stayed told G → ¬ Contains looked d → Contains paths (d, at) → HoldsEntries G d entries → Sorts G at stayed entries kept cut
+      → Stores G d kept cut H → Mends F (d ∷ looked) (paths ++ paths_below at kept) (stayed ++ kept) (told ++ cut) H
 
 -- Numbers of a directory on a tree object that stand alone in file k can't be used: they can't be read, for that reason, or one of them is
 -- an entry's that was met before.
@@ -70,19 +84,24 @@ AreOfNoUse F k damage.Missing = ⊥
 AreOfNoUse F k (damage.Damaged refusal) = HasNumbersAlone F k × IsSomeAnd (F k) (λ bytes. Refuses identifier.Numbers numbers_in bytes refusal)
 AreOfNoUse F k damage.Twice = HasNumbersAlone F k
 
--- the files F became G, by one file of such numbers after another, which is told, and is gone
-pub data Forgets (F : Stored) : List Finding → Stored → Type 0 where
-  begun : Forgets F [] F
-  forgotten : (told : List Finding) (G : Stored) (f : Finding) → Forgets F told G → AreOfNoUse G f.number f.damage → f.is_numbers ≡ true
-      → Forgets F (told ++ f ∷ []) (without G f.number)
+-- The files F became G, by one directory with such numbers after another: they are saved for its tree object, and their entries stay, with
+-- their paths; or they are of no use, which is told, and are gone. The paths are first those of entries that stay in own directories.
+pub data Forgets (F : Stored) (first : Paths) : Paths → List Finding → Stored → Type 0 where
+  begun : Forgets F first first [] F
+  saved : (paths : Paths) (told : List Finding) (G : Stored) (d : ℕ) (at : List Name) (tree : Id) (entries : List StoredEntry) → Forgets F first paths told G
+      → Contains paths (d, at) → saved_at G d tree ≡ Some entries → Forgets F first (paths ++ paths_below at entries) told G
+  forgotten : (paths : Paths) (told : List Finding) (G : Stored) (f : Finding) → Forgets F first paths told G → Contains paths (f.number, f.path.items)
+      → AreOfNoUse G f.number f.damage → f.is_numbers ≡ true → Forgets F first paths (told ++ f ∷ []) (without G f.number)
 
 -- the files F became G, and all that was taken out is told: first own directories were mended, and then numbers forgotten
 pub record IsRepaired (F : Stored) (told : List Finding) (G : Stored) : Type 0 where
   pub looked : List ℕ
+  pub paths : Paths
   pub stayed : List StoredEntry
   pub cut : List Finding
   pub between : Stored
+  pub last : Paths
   pub forgotten : List Finding
-  pub mends : Mends F looked stayed cut between
-  pub forgets : Forgets between forgotten G
+  pub mends : Mends F looked paths stayed cut between
+  pub forgets : Forgets between paths last forgotten G
   pub all : told ≡ cut ++ forgotten

@@ -1,5 +1,5 @@
 //! Own directories: what can't be had is taken out of them.
-ghost use Rattle.std.specs.Prelude.{◌≡◌, ◌≤◌, ◌+◌, ◌++◌, ℕ, None, Err, IfOk, IfSome, IsTrue, OnOk, OnErr, length};
+ghost use Rattle.std.specs.Prelude.{[], ◌≡◌, ◌≤◌, ◌+◌, ◌++◌, ℕ, None, Err, IfOk, IfSome, IsTrue, OnOk, OnErr, length};
 ghost use Rattle.std.specs.Ordering.{nat_cmp};
 ghost use Rattle.std.specs.BTreeSet.{contains, btree_set_len};
 ghost use Rattle.eden_model.specs.Failures.{Counted};
@@ -87,15 +87,15 @@ pub(crate) fn mend_own<W: World, F: Files<W>>(
 ) -> Result<Vec<Directory>, FilesFault>
     requires met { (k : ℕ) → IsTrue (contains nat_cmp met.old k) → IsNumber k }
     requires few { btree_set_len met.old ≤ number_end }
-    ensures mended { W.honest → OnOk result (MendsOn
-        found.old.items (F.stored files.old) (contains nat_cmp met.old) (contains nat_cmp seen.old)
-        found.new.items (F.stored files.new) (contains nat_cmp met.new) (contains nat_cmp seen.new)) }
+    ensures mended { W.honest → IfOk result (λ v. MendsOn directory.now
+        found.old.items (F.stored files.old) met.old seen.old
+        found.new.items (F.stored files.new) met.new seen.new v.items) }
     ensures covered { W.honest → IfOk result (λ v. CoversOwn directory.now
         (F.stored files.old) (contains nat_cmp met.old) (contains nat_cmp seen.old) v.items
         (F.stored files.new) (contains nat_cmp met.new) (contains nat_cmp seen.new)) }
     ensures so_far { W.honest → OnErr result ((begun : Stored)
-        → IsMended begun found.old.items (F.stored files.old)
-        → IsMended begun found.new.items (F.stored files.new)) }
+        → IsMended begun found.old.items (F.stored files.old) []
+        → IsMended begun found.new.items (F.stored files.new) []) }
     ensures more { IfOk result (λ v. btree_set_len met.old + length v.items ≤ btree_set_len met.new) }
     ensures range { OnOk result ((k : ℕ) → IsTrue (contains nat_cmp met.new k) → IsNumber k) }
     ensures few { OnOk result (btree_set_len met.new ≤ number_end) }

@@ -1,18 +1,19 @@
 //! The repair of an overlay.
-ghost use Rattle.std.specs.Prelude.{◌≡◌, ◌≤◌, ℕ, [], Err, IfErr, IfOk, IsTrue, OnOk};
+ghost use Rattle.std.specs.Prelude.{◌≡◌, ◌≤◌, ℕ, [], List, Err, IfErr, IfOk, IsTrue, OnOk};
 ghost use Rattle.std.specs.Ordering.{nat_cmp};
 ghost use Rattle.std.specs.BTreeSet.{contains, btree_set_len};
 ghost use Rattle.eden_model.specs.Failures.{Counted};
 ghost use Rattle.eden_model.specs.Limits.{number_end};
 ghost use Rattle.eden_model.specs.Numbers.{IsNumber};
+ghost use Rattle.eden_model.specs.Trees.{Name};
 ghost use Rattle.eden_overlay.specs.Counting.{NumbersAreSound, root_from};
 ghost use Rattle.eden_overlay.specs.Held.{root_file};
 ghost use Rattle.eden_overlay.specs.Rescanning.{IsNextOf, IsRescanFault};
 ghost use Rattle.eden_overlay.specs.Soundness.{AreSound};
 ghost use Rattle.eden_overlay.specs.declared.files.FilesFault.TheVariants as fault;
 ghost use Rattle.eden_repair.specs.Covering.{CantBeMended, CoversThen, IsWhole, NoneIsOwn};
-ghost use Rattle.eden_repair.specs.Repairing.{IsRepaired};
-ghost use Rattle.eden_repair.specs.Surveying.{ForgetsMore, IsMended};
+ghost use Rattle.eden_repair.specs.Repairing.{Paths, IsRepaired, root_path};
+ghost use Rattle.eden_repair.specs.Surveying.{AreLed, ForgetsMore, IsMended};
 
 use crate::finding::Finding;
 use crate::own::mend_own;
@@ -83,6 +84,7 @@ fn top<W: World, F: Files<W>>(
     root: Id,
 ) -> Result<Directory, FilesFault>
     ensures number { IfOk result (λ x. x.number ≡ 1) }
+    ensures path { IfOk result (λ x. x.path.items ≡ []) }
     ensures from { W.honest
         → IfOk result (λ x. x.origin ≡ root_from root (root_file (F.stored files.old))) }
     ensures unchanged { W.honest → F.stored files.new ≡ F.stored files.old }
@@ -128,7 +130,10 @@ fn walk_own<W: World, F: Files<W>>(
 ) -> Result<Vec<Directory>, FilesFault>
     requires met { met.old.keys ≡ [] }
     requires found { found.old.items ≡ [] }
-    ensures mended { W.honest → IsMended (F.stored files.old) found.new.items (F.stored files.new) }
+    requires led { AreLed root_path pending.items }
+    ensures mended { W.honest → IsMended (F.stored files.old) found.new.items (F.stored files.new) [] }
+    ensures led { W.honest
+        → IfOk result (λ saved. IsMended (F.stored files.old) found.new.items (F.stored files.new) saved.items) }
     ensures covered { W.honest → IfOk result (λ saved. CoversThen
         pending.items (F.stored files.old) (contains nat_cmp met.old)
         saved.items (F.stored files.new) (contains nat_cmp met.new)) }
@@ -163,8 +168,9 @@ fn walk_saved<W: World, F: Files<W>>(
     requires met { (k : ℕ) → IsTrue (contains nat_cmp met.old k) → IsNumber k }
     requires none_own { NoneIsOwn pending.items }
     requires few { btree_set_len met.old ≤ number_end }
-    ensures forgets { W.honest
-        → ForgetsMore (F.stored files.old) found.old.items (F.stored files.new) found.new.items }
+    ensures forgets { W.honest → (first : Paths)
+        → AreLed first pending.items
+        → ForgetsMore (F.stored files.old) first found.old.items (F.stored files.new) found.new.items [] }
     ensures covered { W.honest → OnOk result (CoversThen
         pending.items (F.stored files.old) (contains nat_cmp met.old)
         [] (F.stored files.new) (contains nat_cmp met.new)) }

@@ -1,5 +1,5 @@
 //! Directories on tree objects: numbers that can't be read are forgotten.
-ghost use Rattle.std.specs.Prelude.{◌≡◌, false, ◌≤◌, ◌+◌, ℕ, Err, IfOk, IfSome, IsTrue, OnOk, length};
+ghost use Rattle.std.specs.Prelude.{[], ◌≡◌, false, ◌≤◌, ◌+◌, ℕ, Err, IfOk, IfSome, IsTrue, OnOk, OnErr, length};
 ghost use Rattle.std.specs.Ordering.{nat_cmp};
 ghost use Rattle.std.specs.BTreeSet.{contains, btree_set_len};
 ghost use Rattle.eden_model.specs.Failures.{Counted};
@@ -10,8 +10,8 @@ ghost use Rattle.eden_model.specs.declared.kind.Origin.TheVariants as origin;
 ghost use Rattle.eden_overlay.specs.Held.{without};
 ghost use Rattle.eden_overlay.specs.declared.files.FilesFault.TheVariants as fault;
 ghost use Rattle.eden_repair.specs.Covering.{AreBelow, AreNew, CoversOn, IsNewThen, NoneIsOwn, none_seen};
-ghost use Rattle.eden_repair.specs.Repairing.{AreOfNoUse, HasNumbersAlone};
-ghost use Rattle.eden_repair.specs.Surveying.{AreNumbers, AreOfTree, ForgetsMore};
+ghost use Rattle.eden_repair.specs.Repairing.{AreOfNoUse, HasNumbersAlone, paths_below};
+ghost use Rattle.eden_repair.specs.Surveying.{AreLed, AreNumbers, AreOfTree, ForgetsOn};
 
 use crate::damage::Damage;
 use crate::finding::Finding;
@@ -109,6 +109,7 @@ fn take_in(
     ensures new { IfOk result
         (λ o. IfSome o (λ _. AreNew entries.items (contains nat_cmp met.old) (contains nat_cmp met.new))) }
     ensures below { IfOk result (λ o. IfSome o (λ v. AreBelow entries.items v.items)) }
+    ensures led { IfOk result (λ o. IfSome o (λ v. AreLed (paths_below path.now entries.items) v.items)) }
     ensures stay { OnOk result ((k : ℕ) → IsTrue (contains nat_cmp met.old k) → IsTrue (contains nat_cmp met.new k)) }
     ensures more { IfOk result
         (λ o. IfSome o (λ v. btree_set_len met.old + length v.items ≤ btree_set_len met.new)) }
@@ -139,7 +140,7 @@ fn forget<W: World, F: Files<W>>(
     ensures gone { W.honest
         → OnOk result (F.stored files.new ≡ without (F.stored files.old) directory.number) }
     ensures forgets { W.honest
-        → ForgetsMore (F.stored files.old) found.old.items (F.stored files.new) found.new.items }
+        → ForgetsOn directory (F.stored files.old) found.old.items (F.stored files.new) found.new.items [] }
     ensures counted { Counted (result ≡ Err fault.Device) (F.failures files.old) (F.failures files.new) }
 {
     let number = directory.number;
@@ -173,8 +174,10 @@ pub(crate) fn mend_saved<W: World, F: Files<W>>(
 ) -> Result<Vec<Directory>, FilesFault>
     requires met { (k : ℕ) → IsTrue (contains nat_cmp met.old k) → IsNumber k }
     requires few { btree_set_len met.old ≤ number_end }
-    ensures forgets { W.honest
-        → ForgetsMore (F.stored files.old) found.old.items (F.stored files.new) found.new.items }
+    ensures forgets { W.honest → IfOk result (λ v.
+        ForgetsOn directory (F.stored files.old) found.old.items (F.stored files.new) found.new.items v.items) }
+    ensures so_far { W.honest → OnErr result
+        (ForgetsOn directory (F.stored files.old) found.old.items (F.stored files.new) found.new.items []) }
     ensures none_own { IfOk result (λ below. NoneIsOwn below.items) }
     ensures covered { W.honest → IfOk result (λ below. directory.origin ≡ origin.Object tree → CoversOn directory
         (F.stored files.old) (contains nat_cmp met.old) none_seen below.items

@@ -1,15 +1,20 @@
-use Rattle.std.proofs.Common.{rules, ◌≡◌, ◌∙◌, ◌++◌, true, false, refl, sym, ap, subst, nat_cmp}
+use Rattle.std.proofs.Common.{rules, [], ◌≡◌, ◌∙◌, ◌++◌, true, false, refl, sym, ap, subst, nat_cmp}
 use Rattle.std.specs.List.{list_any}
 use Rattle.std.specs.BTreeMap.{is_at}
 use Rattle.std.specs.BTreeSet.{contains}
 use Rattle.eden_repair.specs.Covering.{IsCovered, NoneIsOwn, none_seen}
-use Rattle.eden_repair.proofs.Steps.{begins, none_there}
+use Rattle.eden_overlay.proofs.CallerLemmas.{contains_none, contains_rest}
+use Rattle.eden_repair.specs.Repairing.{root_path}
+use Rattle.eden_repair.specs.Surveying.{AreLed}
+use Rattle.eden_repair.proofs.Left.{aside_there, below_there, next_back}
+use Rattle.eden_repair.proofs.Steps.{begins, mended_less, none_there, so_far}
 use Rattle.eden_repair.proofs.Whole.{below_up, empty_done, next_up, none_left, one_more, put_aside, unseen}
 use Rattle.eden_repair.proofs.repairing.walk_own.Goals as goal
 
 pub loop-directory-init : goal.loop-directory-init
 loop-directory-init g c = record {
-  mended = λ honest. begins (g.F.Files.stored c.args.files.now) c.args.found.now.items c.args.met.now c.new-seen.result c.requires.found c.requires.met c.new-seen.ensures.empty;
+  mended = λ honest. begins (g.F.Files.stored c.args.files.now) c.args.found.now.items c.args.met.now c.new-seen.result (c.new-saved.result.items ++ c.args.pending.items) c.requires.found
+      c.requires.met c.new-seen.ensures.empty (subst (λ l. AreLed root_path (l ++ c.args.pending.items)) (sym c.new-saved.ensures.items) c.requires.led);
   covered = λ honest root first.
       let F = g.F.Files.stored c.args.files.now in
       let met = contains nat_cmp c.args.met.now in
@@ -24,7 +29,12 @@ loop-directory-init g c = record {
 
 pub loop-directory-preserved-in-Some : goal.loop-directory-preserved-in-Some
 loop-directory-preserved-in-Some g c = record {
-  mended = search rules;
+  mended = λ honest.
+      let aside = c.loop-directory.saved.items in
+      let before = c.pop.new.self.items in
+      let up = mended_less _ _ _ _ _ _ _ (next_back aside c.loop-directory.pending.items before c.in-Some.directory c.in-Some.ensures.items) (c.loop-directory.invariant.mended honest) in
+      mended_less _ _ _ _ _ _ _ (below_there c.in_ok-below-in-Own.below.items aside before c.append.new.self.items c.in_ok-append-in-Own.ensures.items)
+      (c.in_ok-below-in-Own.ensures.mended honest _ (aside ++ before) up);
   covered = λ honest root first.
       let F = g.F.Files.stored c.loop-directory.files in
       let G = g.F.Files.stored c.mend_own.new.files in
@@ -46,7 +56,12 @@ loop-directory-preserved-in-Some g c = record {
 
 pub loop-directory-preserved-in-Continue-branch-3 : goal.loop-directory-preserved-in-Continue-branch-3
 loop-directory-preserved-in-Continue-branch-3 g c = record {
-  mended = search rules;
+  mended = λ honest.
+      let aside = c.loop-directory.saved.items in
+      let before = c.pop.new.self.items in
+      let x = c.in-Some.directory in
+      let all = aside_there aside before x c.push.new.self.items c.in_ok-push-in-Object.ensures.items in
+      mended_less _ _ _ _ _ _ _ (λ y there. next_back aside c.loop-directory.pending.items before x c.in-Some.ensures.items y (all y there)) (c.loop-directory.invariant.mended honest);
   covered = λ honest root first.
       let F = g.F.Files.stored c.loop-directory.files in
       let x = c.in-Some.directory in
@@ -65,7 +80,12 @@ loop-directory-preserved-in-Continue-branch-3 g c = record {
 
 pub loop-directory-preserved : goal.loop-directory-preserved
 loop-directory-preserved g c = record {
-  mended = search rules;
+  mended = λ honest.
+      let aside = c.loop-directory.saved.items in
+      let before = c.pop.new.self.items in
+      let x = c.in-Some.directory in
+      mended_less _ _ _ _ _ _ _ (λ y there. next_back aside c.loop-directory.pending.items before x c.in-Some.ensures.items y (contains_rest x y (aside ++ before) there))
+      (c.loop-directory.invariant.mended honest);
   covered = λ honest root first.
       let F = g.F.Files.stored c.loop-directory.files in
       let x = c.in-Some.directory in
@@ -80,3 +100,10 @@ loop-directory-preserved g c = record {
   few = search rules;
   counted = search rules;
 }
+
+pub returns-in_err-append-in-Own-clause-mended : goal.returns-in_err-append-in-Own-clause-mended
+returns-in_err-append-in-Own-clause-mended g c = λ honest.
+    let aside = c.loop-directory.saved.items in
+    let before = c.pop.new.self.items in
+    let up = mended_less _ _ _ _ _ _ _ (next_back aside c.loop-directory.pending.items before c.in-Some.directory c.in-Some.ensures.items) (c.loop-directory.invariant.mended honest) in
+    so_far _ _ _ _ _ _ [] (λ y there. absurd (contains_none y there)) (c.in_ok-below-in-Own.ensures.mended honest _ (aside ++ before) up)

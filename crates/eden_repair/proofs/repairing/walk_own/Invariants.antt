@@ -9,7 +9,8 @@ use Rattle.eden_repair.proofs.repairing.walk_own.Given as goal
 
 abbrev pub invariant-loop-directory : goal.invariant-loop-directory
 invariant-loop-directory g l = record {
-  mended : g.W.World.honest → Mended (g.F.Files.stored l.fn.files) l.found.items (g.F.Files.stored l.files) (contains nat_cmp l.met) (contains nat_cmp l.seen);
+  mended : g.W.World.honest → Mended (g.F.Files.stored l.fn.files) l.found.items (g.F.Files.stored l.files) (contains nat_cmp l.met) (contains nat_cmp l.seen)
+      (l.saved.items ++ l.pending.items);
   covered : g.W.World.honest → (root : Id) → IsCovered (g.F.Files.stored l.fn.files) root l.fn.pending.items (contains nat_cmp l.fn.met) none_seen
       → IsCovered (g.F.Files.stored l.files) root (l.saved.items ++ l.pending.items) (contains nat_cmp l.met) (contains nat_cmp l.seen);
   none_own : NoneIsOwn l.saved.items;

@@ -1,15 +1,18 @@
-use Rattle.std.proofs.Common.{◌≡◌, ◌≤◌, ◌+◌, ◌*◌, ◌-◌, ℕ, IsTrue, length, nat_cmp, btree_set_len}
+use Rattle.std.proofs.Common.{◌≡◌, ◌≤◌, ◌+◌, ◌*◌, ◌-◌, ℕ, List, IsTrue, length, nat_cmp, btree_set_len}
 use Rattle.std.specs.BTreeSet.{contains}
 use Rattle.eden_model.specs.Limits.{number_end}
 use Rattle.eden_model.specs.Numbers.{IsNumber}
 use Rattle.eden_model.specs.declared.id.Id.{Id}
 use Rattle.eden_repair.specs.Covering.{IsCovered, NoneIsOwn, none_seen}
-use Rattle.eden_repair.specs.Surveying.{ForgetsMore}
+use Rattle.eden_model.specs.Trees.{Name}
+use Rattle.eden_repair.specs.Repairing.{Paths}
+use Rattle.eden_repair.specs.Surveying.{AreLed, ForgetsMore}
 use Rattle.eden_repair.proofs.repairing.walk_saved.Given as goal
 
 abbrev pub invariant-loop-directory : goal.invariant-loop-directory
 invariant-loop-directory g l = record {
-  forgets : g.W.World.honest → ForgetsMore (g.F.Files.stored l.fn.files) l.fn.found.items (g.F.Files.stored l.files) l.found.items;
+  forgets : g.W.World.honest → (first : Paths) → AreLed first l.fn.pending.items
+      → ForgetsMore (g.F.Files.stored l.fn.files) first l.fn.found.items (g.F.Files.stored l.files) l.found.items l.pending.items;
   covered : g.W.World.honest → (root : Id) → IsCovered (g.F.Files.stored l.fn.files) root l.fn.pending.items (contains nat_cmp l.fn.met) none_seen
       → IsCovered (g.F.Files.stored l.files) root l.pending.items (contains nat_cmp l.met) none_seen;
   none_own : NoneIsOwn l.pending.items;

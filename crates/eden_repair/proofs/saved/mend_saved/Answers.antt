@@ -4,31 +4,40 @@ use Rattle.eden_overlay.specs.Files.{Stored}
 use Rattle.eden_overlay.specs.Held.{without}
 use Rattle.eden_repair.specs.declared.saved.Numbers.TheVariants as numbers
 use Rattle.eden_repair.specs.Covering.{AreBelow, AreNew, CoversOn, none_seen}
-use Rattle.eden_repair.specs.Surveying.{AreNumbers, AreOfTree}
+use Rattle.eden_repair.specs.Repairing.{paths_below}
+use Rattle.eden_repair.specs.Surveying.{AreLed, AreNumbers, AreOfTree, ForgetsOn}
 use Rattle.eden_repair.proofs.Looking.{bare_looks, forgotten_looks, looks_cover, none_below, saved_looks}
-use Rattle.eden_repair.proofs.Steps.{forgets_none}
+use Rattle.eden_repair.proofs.Steps.{forgets_bare, forgets_saved, on_err}
 use Rattle.eden_repair.proofs.saved.mend_saved.Goals as goal
 
-pub returns-in_err-numbers_at-clause-forgets : goal.returns-in_err-numbers_at-clause-forgets
-returns-in_err-numbers_at-clause-forgets g c = λ honest.
+pub returns-in_err-numbers_at-clause-so_far : goal.returns-in_err-numbers_at-clause-so_far
+returns-in_err-numbers_at-clause-so_far g c = λ honest.
     let told = c.args.found.now.items in
-    forgets_none (g.F.Files.stored c.args.files.now) (g.F.Files.stored c.numbers_at.new.files) told told (c.in_err-numbers_at.ensures.unchanged honest) refl
+    on_err _ _ (forgets_bare (g.F.Files.stored c.args.files.now) (g.F.Files.stored c.numbers_at.new.files) told told c.args.directory [] (c.in_err-numbers_at.ensures.unchanged honest) refl refl)
 
-pub returns-in_err-below-in-Entries-clause-forgets :
-    goal.returns-in_err-below-in-Entries-clause-forgets
-returns-in_err-below-in-Entries-clause-forgets g c = λ honest.
+pub returns-in_err-below-in-Entries-clause-so_far :
+    goal.returns-in_err-below-in-Entries-clause-so_far
+returns-in_err-below-in-Entries-clause-so_far g c = λ honest.
     let told = c.args.found.now.items in
-    forgets_none (g.F.Files.stored c.args.files.now) (g.F.Files.stored c.numbers_at.new.files) told told (c.numbers_at.ensures.unchanged honest) refl
+    on_err _ _ (forgets_bare (g.F.Files.stored c.args.files.now) (g.F.Files.stored c.numbers_at.new.files) told told c.args.directory [] (c.numbers_at.ensures.unchanged honest) refl refl)
 
 pub returns-in-None-clause-forgets : goal.returns-in-None-clause-forgets
 returns-in-None-clause-forgets g c = λ honest.
     let told = c.args.found.now.items in
-    forgets_none (g.F.Files.stored c.args.files.now) (g.F.Files.stored c.numbers_at.new.files) told told (c.numbers_at.ensures.unchanged honest) refl
+    forgets_bare (g.F.Files.stored c.args.files.now) (g.F.Files.stored c.numbers_at.new.files) told told c.args.directory c.new.result.items
+    (c.numbers_at.ensures.unchanged honest) refl c.new.ensures.items
 
 pub returns-in-Some-clause-forgets : goal.returns-in-Some-clause-forgets
 returns-in-Some-clause-forgets g c = λ honest.
     let told = c.args.found.now.items in
-    forgets_none (g.F.Files.stored c.args.files.now) (g.F.Files.stored c.numbers_at.new.files) told told (c.numbers_at.ensures.unchanged honest) refl
+    let F = g.F.Files.stored c.args.files.now in
+    let x = c.args.directory in
+    let entries = c.in-Entries.entries.items in
+    let found : AreNumbers F x.number c.args.tree (numbers.Entries c.in-Entries.entries) = subst (AreNumbers F x.number c.args.tree) c.in-Entries.is (c.in_ok-numbers_at.ensures.held honest) in
+    let led : AreLed (paths_below c.deref.result.now entries) c.in-Some.below.items =
+    subst (λ o. IfSome o (λ v. AreLed (paths_below c.deref.result.now entries) v.items)) c.in-Some.is c.in_ok-below-in-Entries.ensures.led in
+    let led : AreLed (paths_below x.path.items entries) c.in-Some.below.items = subst (λ at. AreLed (paths_below at entries) c.in-Some.below.items) c.deref.ensures.value led in
+    forgets_saved F (g.F.Files.stored c.numbers_at.new.files) told told x c.args.tree entries c.in-Some.below.items (c.numbers_at.ensures.unchanged honest) refl found.1.0 led
 
 pub returns-in-None-clause-covered : goal.returns-in-None-clause-covered
 returns-in-None-clause-covered g c = λ honest object.
@@ -83,6 +92,15 @@ returns-in_ok-forget-in-None-2-clause-covered g c = λ honest object.
     subst (λ l. CoversOn x F was none_seen l G is none_seen) (sym c.new-in-None-2.ensures.items)
     (looks_cover F G was none_seen is none_seen x [] []
     (forgotten_looks F G x c.args.tree object was is c.in_ok-below-in-Entries.ensures.range c.in_ok-below-in-Entries.ensures.stay found.0 gone))
+
+pub returns-in_ok-forget-in-None-2-clause-forgets :
+    goal.returns-in_ok-forget-in-None-2-clause-forgets
+returns-in_ok-forget-in-None-2-clause-forgets g c = λ honest.
+    let G = g.F.Files.stored c.forget-in-None-2.new.files in
+    let told = c.args.found.now.items in
+    let after = c.forget-in-None-2.new.found.items in
+    subst (λ l. ForgetsOn c.args.directory (g.F.Files.stored c.args.files.now) told G after l) (sym c.new-in-None-2.ensures.items)
+    (subst (λ (X : Stored). ForgetsOn c.args.directory X told G after []) (c.numbers_at.ensures.unchanged honest) (c.in_ok-forget-in-None-2.ensures.forgets honest))
 
 pub returns-in-Some-clause-none_own : goal.returns-in-Some-clause-none_own
 returns-in-Some-clause-none_own g c =

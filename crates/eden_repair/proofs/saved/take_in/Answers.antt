@@ -1,6 +1,7 @@
 use Rattle.std.proofs.Common.{rules, nat_cmp}
 use Rattle.std.specs.BTreeSet.{contains}
 use Rattle.eden_repair.proofs.Covered.{one_new}
+use Rattle.eden_repair.proofs.Steps.{none_led}
 use Rattle.eden_repair.proofs.saved.take_in.Goals as goal
 
 pub entries-preserved-in_ok-below : goal.entries-preserved-in_ok-below
@@ -8,6 +9,7 @@ entries-preserved-in_ok-below c = record {
   new = λ are. one_new c.entries.yielded c.in-Some.entry (contains nat_cmp c.args.met.now) (contains nat_cmp c.entries.met) (contains nat_cmp c.meet.new.met)
       (c.entries.invariant.new are) (c.in_ok-meet.ensures.met c.if-not-branch.false);
   below = λ are. c.in_ok-below.ensures.below c.entries.yielded (c.entries.invariant.below are);
+  led = c.in_ok-below.ensures.led c.entries.yielded c.entries.invariant.led;
   stay = search rules;
   more = search rules;
   range = search rules;
@@ -19,6 +21,18 @@ entries-preserved c = record {
   new = λ are. one_new c.entries.yielded c.in-Some.entry (contains nat_cmp c.args.met.now) (contains nat_cmp c.entries.met) (contains nat_cmp c.meet.new.met)
       (c.entries.invariant.new are) (c.in_ok-meet.ensures.met c.if-not-branch.false);
   below = λ are. c.in_ok-below.ensures.below c.entries.yielded (c.entries.invariant.below are);
+  led = c.in_ok-below.ensures.led c.entries.yielded c.entries.invariant.led;
+  stay = search rules;
+  more = search rules;
+  range = search rules;
+  few = search rules;
+}
+
+pub entries-preserved-then-not-branch : goal.entries-preserved-then-not-branch
+entries-preserved-then-not-branch c = record {
+  new = search rules;
+  below = search rules;
+  led = none_led c.args.path.now c.entries.yielded c.entries.below.items c.in-Some.entry c.entries.invariant.led;
   stay = search rules;
   more = search rules;
   range = search rules;

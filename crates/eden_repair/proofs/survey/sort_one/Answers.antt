@@ -1,7 +1,7 @@
 use Rattle.std.proofs.Common.{◌≡◌, ◌∙◌, ◌++◌, true, ◌∷◌, [], ℕ, Some, None, IfSome, sym, subst, nat_cmp}
 use Rattle.std.specs.BTreeSet.{contains}
-use Rattle.eden_repair.specs.Repairing.{HasNumber, Sorts}
-use Rattle.eden_repair.specs.Surveying.{Goes, IsMetThen}
+use Rattle.eden_repair.specs.Repairing.{HasNumber, Sorts, paths_below}
+use Rattle.eden_repair.specs.Surveying.{AreLed, Goes, IsMetThen}
 use Rattle.eden_repair.specs.Covering.{AreBelow, AreNew}
 use Rattle.eden_repair.proofs.Covered.{new_still, one_new}
 use Rattle.eden_repair.proofs.Steps.{one_goes, one_stays}
@@ -58,3 +58,7 @@ pub returns-clause-below : goal.returns-clause-below
 returns-clause-below g c = λ lower.
     let e = c.args.entry in
     subst (λ l. AreBelow l c.in_ok-below.below.items) (sym c.in_ok-listing.ensures) (c.in_ok-below.ensures.below c.args.sorted.listing lower)
+
+pub returns-clause-led : goal.returns-clause-led
+returns-clause-led g c = λ led.
+    subst (λ l. AreLed (paths_below c.args.path.now l) c.in_ok-below.below.items) (sym c.in_ok-listing.ensures) (c.in_ok-below.ensures.led c.args.sorted.listing led)
