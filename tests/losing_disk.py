@@ -4,11 +4,13 @@ own would have after a loss of power is written down whenever the program waits 
     python3 tests/losing_disk.py FOLDER RECORD PROGRAM [WORD ..]
 
 After each `fsync` and `fdatasync` the folder RECORD has the bytes of each file that was waited for, under its inode
-number, and which files have names in FOLDER, as they were when that folder was waited for: `Kept` reads it. Standard
-input and output are the program's, and so is the status. It needs ptrace.
+number, and which files have names in FOLDER, as they were when that folder was waited for: `Kept` reads it. While
+RECORD has a file `fails` each of these calls is EIO, and nothing is waited for. Standard input and output are the
+program's, and so is the status. It needs ptrace.
 """
 
 import ctypes
+import errno
 import json
 import os
 import pathlib
@@ -21,12 +23,14 @@ LIBC = ctypes.CDLL(None, use_errno=True)
 LIBC.ptrace.argtypes = [ctypes.c_long, ctypes.c_long, ctypes.c_void_p, ctypes.c_void_p]
 LIBC.ptrace.restype = ctypes.c_long
 # ptrace(2): requests, options, and the flag of a stop at a call.
-TRACE_ME, CALL, SET_OPTIONS, CALL_INFO = 0, 24, 0x4200, 0x420E
+TRACE_ME, SET_WORD, CALL, SET_OPTIONS, CALL_INFO = 0, 6, 24, 0x4200, 0x420E
 MARK_CALLS, WATCH_THREADS, KILL_TOO = 1, 8, 1 << 20
 MARK = 0x80
 # What `CALL_INFO` tells, and the numbers of the calls (x86-64).
 ENTRY, EXIT = 1, 2
 FSYNC, FDATASYNC = 74, 75
+# Where `struct user` has what a call returns, and its number; no call has that one.
+RETURNED_AT, NUMBER_AT, NO_CALL = 80, 120, -1
 # `open` and `openat`, and where their flags stand.
 MAKES = {2: 1, 257: 2}
 MADE = os.O_CREAT | os.O_EXCL
@@ -40,7 +44,7 @@ class Info(ctypes.Structure):
                 ("words", ctypes.c_uint64 * 6)]
 
 
-NAMES = "names"
+NAMES, FAILS = "names", "fails"
 
 
 class Kept(NamedTuple):
@@ -51,7 +55,7 @@ class Kept(NamedTuple):
 
 
 def kept_in(record: pathlib.Path) -> Kept:
-    files = {int(file.name): file.read_bytes() for file in record.iterdir() if file.name != NAMES}
+    files = {int(file.name): file.read_bytes() for file in record.iterdir() if file.name not in (NAMES, FAILS)}
     names = record / NAMES
     return Kept(files, json.loads(names.read_text()) if names.exists() else {})
 
@@ -80,16 +84,28 @@ class Disk:
         self.folder, self.record = folder, record
         # Each task's call that goes on.
         self.calls: dict[int, Info] = {}
+        # Those whose call is to fail.
+        self.failing: set[int] = set()
 
     def stopped(self, task: int) -> None:
         """The task stands before a call or behind it."""
         info = call_of(task)
         if info.op == ENTRY:
             self.calls[task] = info
+            if self.is_failing(info):
+                ptrace(SET_WORD, task, NUMBER_AT, NO_CALL)
+                self.failing.add(task)
+        elif task in self.failing:
+            self.failing.remove(task)
+            del self.calls[task]
+            ptrace(SET_WORD, task, RETURNED_AT, -errno.EIO)
         elif info.op == EXIT and (call := self.calls.pop(task, None)):
             returned = ctypes.c_int64(info.number).value
             if returned >= 0:
                 self.done(task, call, returned)
+
+    def is_failing(self, call: Info) -> bool:
+        return call.number in (FSYNC, FDATASYNC) and (self.record / FAILS).exists()
 
     def done(self, task: int, call: Info, returned: int) -> None:
         if call.number in (FSYNC, FDATASYNC):

@@ -4,6 +4,7 @@ The disk is made up by `losing_disk`, which watches what mountd waits for. It ha
 be there or not: of names, those that came or went since, and of files, the bytes behind those that were waited for.
 """
 
+import errno
 import os
 import pathlib
 import random
@@ -15,7 +16,7 @@ from collections.abc import Iterator
 import losing_disk
 from checks import check
 from folder_operations import shown
-from losing_disk import Kept, kept_in, names_in
+from losing_disk import FAILS, Kept, kept_in, names_in
 from message_folder import MessageFolder
 from mount_messages import Kernel, showing
 from overlays import Place
@@ -67,6 +68,14 @@ class Run(Kernel):
     def fsync(self, path: Path) -> None:
         with self.folder.opened(path, os.O_RDONLY) as node:
             self.folder.ask("fsync", node, 0, 0, 0)
+
+    def fsync_error(self, path: Path) -> int:
+        """The error of an fsync, or 0."""
+        try:
+            self.fsync(path)
+        except OSError as error:
+            return error.errno or 0
+        return 0
 
     def store(self, path: Path, length: int) -> None:
         if path not in self.made:
@@ -189,3 +198,27 @@ def check_waits(folder: pathlib.Path) -> None:
             run.store((b"%d" % length,), length)
             run.fsync((b"test.txt",))
             check_has_all(f"after an fsync behind a file of {length} bytes", run)
+
+
+def check_failing(folder: pathlib.Path) -> None:
+    """Once a wait failed no fsync says any more that the disk has all, though the disk works again. Nothing that was
+    shown is lost by that: a close stores it anew, in files that the disk takes, and the next run's fsync is good."""
+    with Run(folder, 2) as run:
+        run.store((b"kept",), SHORT)
+        check("before the disk fails", run.fsync_error((b"kept",)), 0)
+        for length in (SHORT, LONG):
+            run.store((b"%d" % length,), length)
+        (run.record / FAILS).touch()
+        check("the disk fails", run.fsync_error((b"kept",)), errno.EIO)
+        (run.record / FAILS).unlink()
+        check("it works again", run.fsync_error((b"kept",)), errno.EIO)
+        run.store((b"later",), SHORT)
+        check("behind another store", run.fsync_error((b"later",)), errno.EIO)
+        wanted = shown(run.folder)
+        check("the disk failed: how it ends", run.end(), (0, b""))
+    with showing(run.place) as kernel:
+        again = MessageFolder(kernel)
+        check("the next run: what is shown", shown(again), wanted)
+        with again.opened((b"kept",), os.O_RDONLY) as node:
+            check("the next run: an fsync", again.ask("fsync", node, 0, 0, 0), b"")
+        check("the next run: how it ends", kernel.end(), (0, b""))
